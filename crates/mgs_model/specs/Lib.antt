@@ -1,0 +1,11 @@
+pub mod Names
+pub mod Stored
+pub mod Rights
+pub mod Access
+pub mod Text
+pub mod Cells
+pub mod Lines
+pub mod Commands
+pub mod Messages
+pub mod Rows
+pub mod Picture
