@@ -9,3 +9,11 @@ pub mod Commands
 pub mod Messages
 pub mod Rows
 pub mod Picture
+pub mod World
+pub mod View
+pub mod Outcome
+pub mod Plans
+pub mod Apply
+pub mod Events
+pub mod Seen
+pub mod Draw

@@ -1,0 +1,288 @@
+-- ACT: what is decided from the view is done to the world.
+use Rattle.std.specs.Prelude.{ℕ, zero, suc, ◌+◌, Bool, true, false, not, List, [], ◌∷◌, ◌++◌, map, filter, find, length, take, Option, Some, None, cond, if◌then◌else◌}
+use Rattle.std.specs.List.{list_any}
+use Rattle.std.specs.Option.{option_map}
+use Rattle.mgs_model.specs.Names.{same_name}
+use Rattle.mgs_model.specs.Text.{edited, removed, shift}
+use Rattle.mgs_model.specs.World.{World, Buffer, Session, Window, Place, Search, Own, Shows, Nothing, Buffer_of, List_of, is_named, has_id, find_session}
+use Rattle.mgs_model.specs.View.{view}
+use Rattle.mgs_model.specs.Outcome.{Outcome, PointPlan, Keep, At, At_origin, MarkPlan, Keep_mark, Mark_at, SearchPlan, Keep_search, No_search, Search_at, Source, Old, Come, Slot, is_old, Arrange, Stay, Adjust, Slots, Effect, No_effect, Edit, Unmodified, Relist, Reown, Create, Kill, Save, Quit}
+use Rattle.mgs_model.specs.Plans.{outcome}
+use Rattle.mgs_model.specs.declared.entry.Entry.{Entry}
+use Rattle.mgs_model.specs.declared.entry.EntryType.TheVariants.{Allow}
+use Rattle.mgs_model.specs.declared.entry.Who.TheVariants.{Owner}
+use Rattle.mgs_model.specs.declared.session.Command.{Command}
+use Rattle.mgs_model.specs.declared.session.Mode.{Mode}
+use Rattle.mgs_model.specs.declared.session.Mode.TheVariants.{Plain}
+
+-- the first element that passes, changed
+abbrev pub change_first : {A : Type 0} → (A → Bool) → (A → A) → List A → List A
+change_first p f [] = []
+change_first p f (x ∷ xs) = if p x then f x ∷ xs else x ∷ change_first p f xs
+
+-- the element at an index, changed
+abbrev pub change_at : {A : Type 0} → ℕ → (A → A) → List A → List A
+change_at n f [] = []
+change_at zero f (x ∷ xs) = f x ∷ xs
+change_at (suc n) f (x ∷ xs) = x ∷ change_at n f xs
+
+-- BUFFERS
+
+-- at most 1,000 items are kept
+abbrev pub buffer_edited : ℕ → ℕ → List ℕ → Buffer → Buffer
+buffer_edited a b put x =
+    record x {
+      text = edited a b put x.text;
+      items = record { serial = x.serial + 1; place = a; removed = removed a b x.text; put = length put } ∷ take 999 x.items;
+      serial = x.serial + 1;
+      modified = true;
+    }
+
+abbrev pub buffer_unmodified : Buffer → Buffer
+buffer_unmodified x = record x { modified = false }
+
+-- everything to the owner
+abbrev pub first_entries : List Entry
+first_entries = record { entry_type = Allow; who = Owner; mask = 983175 } ∷ []
+
+abbrev pub new_buffer : List ℕ → List ℕ → Buffer
+new_buffer name owner = record { name = name; owner = owner; entries = first_entries; text = []; items = []; serial = 0; modified = false; file = false }
+
+abbrev pub without_buffer : List ℕ → List Buffer → List Buffer
+without_buffer name buffers = filter (λ b. not (is_named name b)) buffers
+
+abbrev pub buffers_after : Effect → List Buffer → List Buffer
+buffers_after No_effect buffers = buffers
+buffers_after (Edit name a b put) buffers = change_first (is_named name) (buffer_edited a b put) buffers
+buffers_after (Unmodified name) buffers = change_first (is_named name) buffer_unmodified buffers
+buffers_after (Relist name entries) buffers = change_first (is_named name) (λ x. record x { entries = entries }) buffers
+buffers_after (Reown name owner) buffers = change_first (is_named name) (λ x. record x { owner = owner }) buffers
+buffers_after (Create name owner) buffers = buffers ++ new_buffer name owner ∷ []
+buffers_after (Kill name) buffers = without_buffer name buffers
+buffers_after (Save name text) buffers = change_first (is_named name) buffer_unmodified buffers
+buffers_after Quit buffers = buffers
+
+-- POSITIONS OF EVERY SESSION
+
+abbrev pub is_in : List ℕ → Shows → Bool
+is_in name (Buffer_of other) = same_name name other
+is_in name _ = false
+
+abbrev pub window_moved_if : Bool → (ℕ → ℕ) → Window → Window
+window_moved_if f move x =
+    record { shows = x.shows; point = cond f (move x.point) x.point; mark = cond f (option_map move x.mark) x.mark; top = cond f (move x.top) x.top; row = x.row; height = x.height }
+
+abbrev pub window_moved : List ℕ → (ℕ → ℕ) → Window → Window
+window_moved name move x = window_moved_if (is_in name x.shows) move x
+
+abbrev pub place_moved : List ℕ → (ℕ → ℕ) → Place → Place
+place_moved name move x =
+    record { name = x.name; point = cond (same_name name x.name) (move x.point) x.point; mark = cond (same_name name x.name) (option_map move x.mark) x.mark }
+
+abbrev pub search_moved : List ℕ → (ℕ → ℕ) → Search → Search
+search_moved name move x =
+    record { name = x.name; origin = cond (same_name name x.name) (move x.origin) x.origin; anchor = cond (same_name name x.name) (move x.anchor) x.anchor }
+
+-- every position in the buffer goes by the shift
+abbrev pub session_moved : List ℕ → (ℕ → ℕ) → Session → Session
+session_moved name move x =
+    record x {
+      windows = map (window_moved name move) x.windows;
+      places = map (place_moved name move) x.places;
+      search = option_map (search_moved name move) x.search;
+    }
+
+-- the buffer or its list is shown
+abbrev pub is_of : List ℕ → Shows → Bool
+is_of name (Buffer_of other) = same_name name other
+is_of name (List_of other) = same_name name other
+is_of name _ = false
+
+abbrev pub window_bereft_if : Bool → Window → Window
+window_bereft_if f x =
+    record { shows = cond f Nothing x.shows; point = cond f 0 x.point; mark = cond f None x.mark; top = cond f 0 x.top; row = cond f 0 x.row; height = x.height }
+
+abbrev pub window_bereft : List ℕ → Window → Window
+window_bereft name x = window_bereft_if (is_of name x.shows) x
+
+abbrev pub is_searched : List ℕ → Option Search → Bool
+is_searched name None = false
+is_searched name (Some x) = same_name name x.name
+
+-- the buffer is gone: windows that show it or its list show nothing, places in it go, a search in it ends
+abbrev pub session_bereft : List ℕ → Session → Session
+session_bereft name x =
+    record x {
+      windows = map (window_bereft name) x.windows;
+      places = filter (λ p. not (same_name name p.name)) x.places;
+      search = cond (is_searched name x.search) None x.search;
+      own = record x.own { mode = cond (is_searched name x.search) Plain x.own.mode };
+    }
+
+-- what an effect does to each session, the acting one too
+abbrev pub session_after : Effect → Session → Session
+session_after (Edit name a b put) x = session_moved name (shift a b (length put)) x
+session_after (Kill name) x = session_bereft name x
+session_after _ x = x
+
+-- THE ACTING SESSION
+
+abbrev pub set_place : Place → List Place → List Place
+set_place p [] = p ∷ []
+set_place p (q ∷ qs) = cond (same_name p.name q.name) (p ∷ qs) (q ∷ set_place p qs)
+
+-- a window that leaves a buffer leaves its point and mark as the session's place there
+abbrev pub left_places : Shows → ℕ → Option ℕ → List Place → List Place
+left_places (Buffer_of name) point mark places = set_place (record { name = name; point = point; mark = mark }) places
+left_places _ point mark places = places
+
+-- the windows that no slot names leave, from the top down
+abbrev pub places_left : ℕ → List Slot → List Window → List Place → List Place
+places_left i slots [] places = places
+places_left i slots (x ∷ xs) places =
+    places_left (suc i) slots xs (cond (list_any (is_old i) slots) places (left_places x.shows x.point x.mark places))
+
+abbrev pub place_in : List ℕ → List Place → Option Place
+place_in name places = find (λ p. same_name name p.name) places
+
+abbrev pub place_point : Option Place → ℕ
+place_point None = 0
+place_point (Some p) = p.point
+
+abbrev pub place_mark : Option Place → Option ℕ
+place_mark None = None
+place_mark (Some p) = p.mark
+
+-- a window that comes to a buffer takes the session's place there
+abbrev pub comer : Shows → List Place → Window
+comer (Buffer_of name) places =
+    record { shows = Buffer_of name; point = place_point (place_in name places); mark = place_mark (place_in name places); top = 0; row = 0; height = 0 }
+comer shows places = record { shows = shows; point = 0; mark = None; top = 0; row = 0; height = 0 }
+
+abbrev pub empty_window : Window
+empty_window = record { shows = Nothing; point = 0; mark = None; top = 0; row = 0; height = 0 }
+
+abbrev pub window_at : ℕ → List Window → Window
+window_at i [] = empty_window
+window_at zero (x ∷ xs) = x
+window_at (suc i) (x ∷ xs) = window_at i xs
+
+abbrev pub source_window : Source → List Window → List Place → Window
+source_window (Old i) windows places = window_at i windows
+source_window (Come shows) windows places = comer shows places
+
+-- a window that shows no buffer has no positions
+abbrev pub has_spots : Shows → Bool
+has_spots (Buffer_of name) = true
+has_spots _ = false
+
+abbrev pub origin_or : Shows → Option Search → ℕ → ℕ
+origin_or shows None old = old
+origin_or shows (Some x) old = cond (is_in x.name shows) x.origin old
+
+abbrev pub point_after : Shows → Option Search → PointPlan → ℕ → ℕ
+point_after shows search Keep old = old
+point_after shows search (At p) old = cond (has_spots shows) p old
+point_after shows search At_origin old = origin_or shows search old
+
+abbrev pub mark_after : Shows → MarkPlan → Option ℕ → Option ℕ
+mark_after shows Keep_mark old = old
+mark_after shows (Mark_at p) old = cond (has_spots shows) (Some p) old
+
+abbrev pub row_after : Option ℕ → ℕ → ℕ
+row_after None old = old
+row_after (Some r) old = r
+
+abbrev pub window_adjusted : Option Search → PointPlan → MarkPlan → PointPlan → Window → Window
+window_adjusted search point mark top x =
+    record {
+      shows = x.shows;
+      point = point_after x.shows search point x.point;
+      mark = mark_after x.shows mark x.mark;
+      top = point_after x.shows search top x.top;
+      row = x.row;
+      height = x.height;
+    }
+
+abbrev pub window_put : Slot → Option Search → Window → Window
+window_put slot search x =
+    record {
+      shows = x.shows;
+      point = point_after x.shows search slot.point x.point;
+      mark = mark_after x.shows slot.mark x.mark;
+      top = point_after x.shows search slot.top x.top;
+      row = row_after slot.row x.row;
+      height = slot.height;
+    }
+
+abbrev pub windows_arranged : Arrange → Session → List Window
+windows_arranged Stay x = x.windows
+windows_arranged (Adjust point mark top sought) x = change_at x.selected (window_adjusted x.search point mark top) x.windows
+windows_arranged (Slots slots selected sought) x =
+    map (λ slot. window_put slot x.search (source_window slot.source x.windows (places_left 0 slots x.windows x.places))) slots
+
+abbrev pub places_arranged : Arrange → Session → List Place
+places_arranged (Slots slots selected sought) x = places_left 0 slots x.windows x.places
+places_arranged _ x = x.places
+
+abbrev pub selected_arranged : Arrange → Session → ℕ
+selected_arranged (Slots slots selected sought) x = selected
+selected_arranged _ x = x.selected
+
+abbrev pub search_after : SearchPlan → Option Search → Option Search
+search_after Keep_search old = old
+search_after No_search old = None
+search_after (Search_at name origin anchor) old = Some (record { name = name; origin = origin; anchor = anchor })
+
+abbrev pub search_arranged : Arrange → Session → Option Search
+search_arranged Stay x = x.search
+search_arranged (Adjust point mark top sought) x = search_after sought x.search
+search_arranged (Slots slots selected sought) x = search_after sought x.search
+
+-- the positions of a search go with its mode
+abbrev pub searches : Mode → Bool
+searches Plain = false
+
+abbrev pub session_arranged : Arrange → Own → Session → Session
+session_arranged arrange own x =
+    record {
+      id = x.id;
+      user = x.user;
+      rows = x.rows;
+      cols = x.cols;
+      windows = windows_arranged arrange x;
+      selected = selected_arranged arrange x;
+      places = places_arranged arrange x;
+      search = cond (searches own.mode) (search_arranged arrange x) None;
+      own = own;
+    }
+
+-- THE WORLD
+
+abbrev pub without_session : ℕ → List Session → List Session
+without_session id sessions = filter (λ x. not (has_id id x)) sessions
+
+abbrev pub after_quit : Effect → ℕ → List Session → List Session
+after_quit Quit id sessions = without_session id sessions
+after_quit _ id sessions = sessions
+
+-- first every position of every session goes by the effect, then the acting session's go by its plan
+abbrev pub sessions_after : ℕ → Outcome → List Session → List Session
+sessions_after id o sessions =
+    after_quit o.effect id (change_first (has_id id) (session_arranged o.arrange o.own) (map (session_after o.effect) sessions))
+
+-- APPLY: buffers and sessions each go by themselves
+abbrev pub apply : World → ℕ → Outcome → World
+apply w id o = record w { buffers = buffers_after o.effect w.buffers; sessions = sessions_after id o w.sessions }
+
+-- the outcome of a command of a session, where it is open
+abbrev pub outcome_of : World → Session → Command → Bool → Outcome
+outcome_of w x c stored = outcome (view w x) c stored
+
+abbrev pub act_of : World → Option Session → ℕ → Command → Bool → World
+act_of w None id c stored = w
+act_of w (Some x) id c stored = apply w id (outcome_of w x c stored)
+
+-- ACT of a session: what it does is decided from its view alone
+abbrev pub act : World → ℕ → Command → Bool → World
+act w id c stored = act_of w (find_session id w.sessions) id c stored
