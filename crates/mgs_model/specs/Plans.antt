@@ -26,8 +26,8 @@ failed_own message own = record own { echo = message; argument = None; keys = []
 abbrev pub acted_own : Own → Own
 acted_own own = record own { argument = None; keys = []; kind = Other }
 
-abbrev pub fails : View → Message → Outcome
-fails v message = record { own = failed_own message v.session.own; arrange = Stay; effect = No_effect; after = Stops }
+abbrev pub fails : Own → Message → Outcome
+fails own message = record { own = failed_own message own; arrange = Stay; effect = No_effect; after = Stops }
 
 -- WHERE A COMMAND ACTS
 
@@ -83,32 +83,33 @@ plan Unbound size p = Fails KeyNotBound
 abbrev pub is_full : ℕ → ℕ → ℕ → ℕ → Bool
 is_full size serial out put = nat_lt 1048576 (size - out + put) || (serial == 18446744073709551615)
 
-abbrev pub planned : View → List ℕ → ℕ → ℕ → Plan → Outcome
-planned v name size serial (Fails message) = fails v message
-planned v name size serial (Edits a b put p) =
-    if is_full size serial (b - a) (length put) then fails v BufferFull
-    else record { own = acted_own v.session.own; arrange = Adjust (At p) Keep_mark Keep Keep_search; effect = Edit name a b put; after = Goes_on }
-planned v name size serial (Goes p) =
-    record { own = acted_own v.session.own; arrange = Adjust (At p) Keep_mark Keep Keep_search; effect = No_effect; after = Goes_on }
+-- a command that goes this way; `own` is what its session has
+abbrev pub planned : Own → List ℕ → ℕ → ℕ → Plan → Outcome
+planned own name size serial (Fails message) = fails own message
+planned own name size serial (Edits a b put p) =
+    if is_full size serial (b - a) (length put) then fails own BufferFull
+    else record { own = acted_own own; arrange = Adjust (At p) Keep_mark Keep Keep_search; effect = Edit name a b put; after = Goes_on }
+planned own name size serial (Goes p) =
+    record { own = acted_own own; arrange = Adjust (At p) Keep_mark Keep Keep_search; effect = No_effect; after = Goes_on }
 
-abbrev pub permitted : View → Decision → Outcome → Outcome
-permitted v Granted o = o
-permitted v (DeniedBy n right) o = fails v (Denied (DeniedBy n right))
-permitted v (NotGranted right) o = fails v (Denied (NotGranted right))
+abbrev pub permitted : Own → Decision → Outcome → Outcome
+permitted own Granted o = o
+permitted own (DeniedBy n right) o = fails own (Denied (DeniedBy n right))
+permitted own (NotGranted right) o = fails own (Denied (NotGranted right))
 
--- first the rights, then the command's own failures, then want of room
-abbrev pub outcome_at : View → Command → BufferSeen → ℕ → ℕ → Outcome
-outcome_at v c b size p =
-    permitted v (decision_by b.deciders (needs c (p == size))) (planned v b.name size (serial_told b.told) (plan c size p))
+-- in a buffer of so many characters, at a place: first the rights, then the command's own failures, then want of room
+abbrev pub outcome_at : Own → Command → BufferSeen → ℕ → ℕ → Outcome
+outcome_at own c b size p =
+    permitted own (decision_by b.deciders (needs c (p == size))) (planned own b.name size (serial_told b.told) (plan c size p))
 
-abbrev pub outcome_on : View → Command → Option Target → Outcome
-outcome_on v c None = fails v NoBuffer
-outcome_on v c (Some t) = outcome_at v c t.buffer (size_told t.buffer.told) (acts_at t.window.spots (size_told t.buffer.told))
+abbrev pub outcome_on : Own → Command → Option Target → Outcome
+outcome_on own c None = fails own NoBuffer
+outcome_on own c (Some t) = outcome_at own c t.buffer (size_told t.buffer.told) (acts_at t.window.spots (size_told t.buffer.told))
 
 -- OUTCOME of a command, by the view and the store's answer to a save
 unfoldable pub outcome : View → Command → Bool → Outcome
-outcome v Unbound stored = fails v KeyNotBound
-outcome v (SelfInsert c) stored = outcome_on v (SelfInsert c) (target v)
-outcome v Newline stored = outcome_on v Newline (target v)
-outcome v ForwardChar stored = outcome_on v ForwardChar (target v)
-outcome v BackwardChar stored = outcome_on v BackwardChar (target v)
+outcome v Unbound stored = fails v.session.own KeyNotBound
+outcome v (SelfInsert c) stored = outcome_on v.session.own (SelfInsert c) (target v)
+outcome v Newline stored = outcome_on v.session.own Newline (target v)
+outcome v ForwardChar stored = outcome_on v.session.own ForwardChar (target v)
+outcome v BackwardChar stored = outcome_on v.session.own BackwardChar (target v)
