@@ -20,6 +20,11 @@ abbrev pub change_first : {A : Type 0} → (A → Bool) → (A → A) → List A
 change_first p f [] = []
 change_first p f (x ∷ xs) = if p x then f x ∷ xs else x ∷ change_first p f xs
 
+-- the first that passes, taken out
+abbrev pub remove_first : {A : Type 0} → (A → Bool) → List A → List A
+remove_first p [] = []
+remove_first p (x ∷ xs) = if p x then xs else x ∷ remove_first p xs
+
 -- the element at an index, changed
 abbrev pub change_at : {A : Type 0} → ℕ → (A → A) → List A → List A
 change_at n f [] = []
@@ -49,7 +54,7 @@ abbrev pub new_buffer : List ℕ → List ℕ → Buffer
 new_buffer name owner = record { name = name; owner = owner; entries = first_entries; text = []; items = []; serial = 0; modified = false; file = false }
 
 abbrev pub without_buffer : List ℕ → List Buffer → List Buffer
-without_buffer name buffers = filter (λ b. not (is_named name b)) buffers
+without_buffer name buffers = remove_first (is_named name) buffers
 
 abbrev pub buffers_after : Effect → List Buffer → List Buffer
 buffers_after No_effect buffers = buffers
@@ -260,7 +265,7 @@ session_arranged arrange own x =
 -- THE WORLD
 
 abbrev pub without_session : ℕ → List Session → List Session
-without_session id sessions = filter (λ x. not (has_id id x)) sessions
+without_session id sessions = remove_first (has_id id) sessions
 
 abbrev pub after_quit : Effect → ℕ → List Session → List Session
 after_quit Quit id sessions = without_session id sessions

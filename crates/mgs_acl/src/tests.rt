@@ -1,0 +1,70 @@
+use super::*;
+use mgs_model::{Mask, Name};
+use std::test::Fail;
+
+fn entry(entry_type: EntryType, who: Who, bits: u32) -> Entry {
+    Entry {
+        entry_type,
+        who,
+        mask: Mask::from_bits(bits),
+    }
+}
+
+#[test]
+fn reads_all_letters(rt: HostRuntime) {
+    assert_eq!(rt;
+        read_entry("ALLOW OWNER@ rwatdcCo"),
+        Ok(entry(EntryType::Allow, Who::Owner, 0xf_0087))
+    );
+}
+
+#[test]
+fn reads_names_and_spaces(rt: HostRuntime) -> Result<(), Fail> {
+    let ann = Name::read("ann").ok_or("no name")?;
+    assert_eq!(rt;
+        read_entry(" DENY  ann  awr "),
+        Ok(entry(EntryType::Deny, Who::User(ann), 0x7))
+    );
+    assert_eq!(rt;
+        read_entry("ALLOW EVERYONE@ rrr"),
+        Ok(entry(EntryType::Allow, Who::Everyone, 0x1))
+    );
+    assert_eq!(rt; user_named("ann"), Some(ann));
+    assert_eq!(rt; user_named("Ann"), None);
+    Ok(())
+}
+
+#[test]
+fn names_the_first_fault(rt: HostRuntime) {
+    assert_eq!(rt; read_entry("deny ann r"), Err(EntryFault::Kind));
+    assert_eq!(rt; read_entry(""), Err(EntryFault::Kind));
+    assert_eq!(rt; read_entry("ALLOW Ann r"), Err(EntryFault::Who));
+    assert_eq!(rt; read_entry("DENY group:staff r"), Err(EntryFault::Who));
+    assert_eq!(rt; read_entry("ALLOW ann"), Err(EntryFault::Letters));
+    assert_eq!(rt; read_entry("ALLOW ann x"), Err(EntryFault::Letters));
+    assert_eq!(rt; read_entry("ALLOW ann r w"), Err(EntryFault::Trailing));
+}
+
+#[test]
+fn keeps_order_and_limit(rt: HostRuntime) {
+    let mut list = List::new();
+    assert!(rt; list.is_empty());
+    let read = entry(EntryType::Allow, Who::Everyone, 0x1);
+    let write = entry(EntryType::Deny, Who::Owner, 0x2);
+    assert_eq!(rt; list.insert(1, read), Err(ListFault::NoSuchEntry));
+    assert_eq!(rt; list.insert(0, read), Ok(()));
+    assert_eq!(rt; list.insert(0, write), Ok(()));
+    assert_eq!(rt; list.insert(2, write), Ok(()));
+    assert_eq!(rt; list.len(), 3);
+    assert_eq!(rt; list.as_slice()[0], write);
+    assert_eq!(rt; list.as_slice()[1], read);
+    assert_eq!(rt; list.as_slice()[2], write);
+    for _ in 3..64 {
+        assert_eq!(rt; list.insert(0, read), Ok(()));
+    }
+    assert_eq!(rt; list.insert(0, read), Err(ListFault::Full));
+    assert_eq!(rt; list.insert(65, read), Err(ListFault::NoSuchEntry));
+    let copy = list.copy();
+    assert_eq!(rt; copy.len(), 64);
+    assert_eq!(rt; copy.as_slice(), list.as_slice());
+}

@@ -1,0 +1,3 @@
+pub mod KeptLemmas
+pub mod Changes
+pub mod Limits

@@ -1,0 +1,47 @@
+-- No text passes its limit.
+use Rattle.std.proofs.Common.{◌≡◌, ◌+◌, ◌-◌, ◌≤◌, ◌∙◌, ℕ, Bool, true, false, cond, List, [], ◌∷◌, ◌++◌, take, drop, length, length-append, Option, Some, None, refl, sym, ap, subst, arith}
+use Rattle.std.proofs.lemmas.List.{length-take, length-drop}
+use Rattle.std.specs.Prelude.{find, Result, Ok, Err, OnOk, OnErr}
+use Rattle.mgs_model.specs.Text.{edited}
+use Rattle.mgs_model.specs.Apply.{change_first}
+use Rattle.mgs_buffers.specs.Kept.{Kept, kept_named, kept_at, kept_or_none, kept_edited, AreWithinLimit}
+
+abbrev size : Kept → ℕ
+size k = length k.buffer.text
+
+-- the kept text is within the limit
+pub limit-at : (name : List ℕ) (ks : List Kept) → AreWithinLimit ks → size (kept_at name ks) ≤ 1048576
+limit-at name [] h = omega arith
+limit-at name (k ∷ ks) h =
+    let goal : Bool → Type 0 = λ b. size (kept_or_none (cond b (Some k) (find (kept_named name) ks))) ≤ 1048576 in
+    elim (kept_named name k) as goal [ true ↦ h.0 | false ↦ limit-at name ks h.1 ]
+
+-- a change that leaves the size of the text that it changes within the limit
+pub limit-changed : (name : List ℕ) (f : Kept → Kept) (ks : List Kept) → AreWithinLimit ks → size (f (kept_at name ks)) ≤ 1048576 → AreWithinLimit (change_first (kept_named name) f ks)
+limit-changed name f [] h room = tt
+limit-changed name f (k ∷ ks) h room =
+    let goal : Bool → Type 0 = λ b. size (f (kept_or_none (cond b (Some k) (find (kept_named name) ks)))) ≤ 1048576 → AreWithinLimit (cond b (f k ∷ ks) (k ∷ change_first (kept_named name) f ks)) in
+    let go : (b : Bool) → goal b = λ b. elim b as goal [ true ↦ λ r. (r, h.1) | false ↦ λ r. (h.0, limit-changed name f ks h.1 r) ] in
+    go (kept_named name k) room
+
+-- a change that keeps the text
+pub limit-same : (name : List ℕ) (f : Kept → Kept) (ks : List Kept) → ((k : Kept) → (f k).buffer.text ≡ k.buffer.text) → AreWithinLimit ks → AreWithinLimit (change_first (kept_named name) f ks)
+limit-same name f ks same h =
+    let e : size (f (kept_at name ks)) ≡ size (kept_at name ks) = ap length (same (kept_at name ks)) in
+    limit-changed name f ks h (omega (arith, e, limit-at name ks h))
+
+-- an edit with room
+pub limit-edited : (name : List ℕ) (a b : ℕ) (put : List ℕ) (ks : List Kept) → AreWithinLimit ks → a ≤ b → b ≤ size (kept_at name ks) → size (kept_at name ks) + length put ≤ 1048576 + (b - a) → AreWithinLimit (change_first (kept_named name) (kept_edited a b put) ks)
+limit-edited name a b put ks h order within room =
+    let t = (kept_at name ks).buffer.text in
+    limit-changed name (kept_edited a b put) ks h
+    (omega (arith, order, within, room, length-append (take a t ++ put) (drop b t), length-append (take a t) put, length-take a t, length-drop b t))
+
+pub limit-added : (ks : List Kept) (k : Kept) → AreWithinLimit ks → size k ≤ 1048576 → AreWithinLimit (ks ++ k ∷ [])
+limit-added [] k h room = (room, tt)
+limit-added (x ∷ xs) k h room = (h.0, limit-added xs k h.1 room)
+
+-- however a call ended
+pub ended : {A E P Q X : Type 0} (r : Result A E) → OnOk r P → OnErr r Q → (P → X) → (Q → X) → X
+ended (Ok x) p q on_ok on_err = on_ok p
+ended (Err e) p q on_ok on_err = on_err q

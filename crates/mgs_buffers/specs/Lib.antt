@@ -1,0 +1,3 @@
+pub mod Kept
+pub mod Adding
+pub mod Shelves

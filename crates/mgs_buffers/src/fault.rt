@@ -1,0 +1,23 @@
+// Why a buffer was not added.
+use thiserror::Error;
+
+/// Why a buffer was not added, in the order in which the faults are judged.
+#[derive(Clone, Copy, Debug, PartialEq, Eq, Error)]
+pub enum AddFault {
+    /// The name is none of a buffer (1 to 32 visible ASCII characters), or the owner's none of a user (of them, lower-case
+    /// letters, digits, `-` and `_`).
+    #[error("it is no name")]
+    Name,
+    /// There is a buffer of that name.
+    #[error("there is a buffer of that name")]
+    Twice,
+    /// There are 256 buffers.
+    #[error("there are too many buffers")]
+    Full,
+    /// The text has more than 1,048,576 characters.
+    #[error("the text is too long")]
+    Long,
+    /// Memory was refused.
+    #[error("no memory")]
+    Short,
+}

@@ -1,0 +1,11 @@
+//! The buffers of a server, in order of creation: each a text with marks, its access list, its owner and its latest edits.
+#![tactic(auto)]
+
+mod buffers;
+mod fault;
+mod shelf;
+#[cfg(test)]
+mod tests;
+
+pub use buffers::Buffers;
+pub use fault::AddFault;

@@ -1,0 +1,30 @@
+use Rattle.std.proofs.Common.{◌≡◌, ◌<◌, ◌∙◌, length, ap, sym, subst, List, arith}
+use Rattle.std.specs.Prelude.{remove}
+use Rattle.std.specs.List.{position_or_len}
+use Rattle.mgs_session.specs.declared.Session.{Session}
+use Rattle.mgs_core.specs.Worlds.{session_id, is_size_of, sizes_in}
+use Rattle.mgs_core.specs.Sound.{IsSound}
+use Rattle.mgs_core.proofs.Acts.{session_sound}
+use Rattle.mgs_core.proofs.Sizes.{closed_sound, sizes_removed, none_removed, no_size}
+use Rattle.mgs_core.proofs.server.close_in.Goals as goal
+
+pub drop_spots-requires : goal.drop_spots-requires
+drop_spots-requires g c =
+    let within : c.place_of-at.result < length c.args.sessions.now.items = omega (arith, c.place_of-at.ensures.within, ap length c.deref.ensures.value, c.len.ensures, c.if-at-len.false) in
+    session_sound c.args.buffers.now c.args.sessions.now.items c.place_of-at.result c.remove-session.result c.requires c.remove-session.ensures.value within
+
+pub settle-requires : goal.settle-requires
+settle-requires g c =
+    let within : c.place_of-at.result < length c.args.sessions.now.items = omega (arith, c.place_of-at.ensures.within, ap length c.deref.ensures.value, c.len.ensures, c.if-at-len.false) in
+    subst (λ (xs : List Session). IsSound c.drop_spots.new.buffers xs) (sym (c.deref-2.ensures.value ∙ c.remove-session.ensures.items))
+    (closed_sound c.args.buffers.now c.drop_spots.new.buffers c.args.sessions.now.items c.place_of-at.result c.remove-session.result c.requires c.remove-session.ensures.value within c.drop_spots.ensures.uses)
+
+pub returns-clause-sizes : goal.returns-clause-sizes
+returns-clause-sizes g c =
+    ap sizes_in c.remove-session.ensures.items ∙ sizes_removed c.args.id c.place_of-at.result c.args.sessions.now.items (c.place_of-at.ensures.value ∙ ap (position_or_len (session_id c.args.id)) c.deref.ensures.value)
+
+pub returns-then-at-len-clause-sizes : goal.returns-then-at-len-clause-sizes
+returns-then-at-len-clause-sizes g c =
+    let past : c.place_of-at.result ≡ length c.args.sessions.now.items = omega (arith, c.if-at-len.true, c.len.ensures, c.deref.ensures.len, ap length c.deref.ensures.value) in
+    none_removed (is_size_of c.args.id) (sizes_in c.args.sessions.now.items)
+    (no_size c.args.id c.place_of-at.result c.args.sessions.now.items (c.place_of-at.ensures.value ∙ ap (position_or_len (session_id c.args.id)) c.deref.ensures.value) past)

@@ -1,0 +1,5 @@
+pub mod Worlds
+pub mod Sound
+pub mod Spots
+pub mod Deeds
+pub mod Screens

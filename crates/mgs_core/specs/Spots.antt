@@ -1,0 +1,31 @@
+-- Marks of a window come and go.
+use Rattle.std.specs.Prelude.{◌≡◌, ℕ, ◌+◌, ◌≤◌, List, Option, Some, None}
+use Rattle.mgs_buffers.specs.Kept.{Kept, mark_at}
+use Rattle.mgs_windows.specs.declared.Spot.{Spot}
+use Rattle.mgs_core.specs.Worlds.{buffers_of}
+use Rattle.mgs_core.specs.Sound.{in_use, spot_uses}
+
+-- other marks stay where they are
+abbrev pub MarksStay : List Kept → List Kept → Type 0
+MarksStay old new = (m : List ℕ) (i : ℕ) → 1 ≤ in_use m i old → 1 ≤ in_use m i new → mark_at m new i ≡ mark_at m old i
+
+-- the marks of a spot are added: point and top at the start of the text, and no mark
+pub record SpotAdded (name : List ℕ) (x : Spot) (old new : List Kept) : Type 0 where
+  pub buffers : buffers_of new ≡ buffers_of old
+  pub uses : (m : List ℕ) (i : ℕ) → in_use m i new ≡ in_use m i old + spot_uses m i (Some x)
+  pub stay : MarksStay old new
+  pub named : x.name ≡ name
+  pub mark : x.mark ≡ None
+  pub point : mark_at name new x.point ≡ 0
+  pub top : mark_at name new x.top ≡ 0
+
+-- the marks of what a window showed are given up
+pub record SpotDropped (o : Option Spot) (old new : List Kept) : Type 0 where
+  pub buffers : buffers_of new ≡ buffers_of old
+  pub uses : (m : List ℕ) (i : ℕ) → in_use m i old ≡ in_use m i new + spot_uses m i o
+  pub stay : MarksStay old new
+
+-- what the first window of a session shows: a spot that was added, or nothing
+abbrev pub FirstSpot : Option Spot → List Kept → List Kept → Type 0
+FirstSpot None old new = SpotDropped None old new
+FirstSpot (Some x) old new = SpotAdded x.name x old new

@@ -1,0 +1,86 @@
+-- Rows that are put into a picture leave a picture.
+use Rattle.std.proofs.Common.{◌≡◌, ℕ, zero, suc, ◌+◌, ◌<◌, ◌≤◌, List, [], ◌∷◌, ◌++◌, length, take, drop, set, refl, sym, ap, ◌∙◌, arith, All, append_assoc, length-append, length-take, length-drop, add-one}
+use Rattle.std.proofs.lemmas.List.{set_split, length-replicate}
+use Rattle.std.proofs.Math.Seq.{take-append_seam}
+use Rattle.std.proofs.lemmas.List.Elements.{All-nil, All-cons, All-append, All-take, All-drop, All-replicate, All-same}
+use Rattle.mgs_model.specs.declared.entry.Decision.{Decision}
+use Rattle.mgs_model.specs.Lines.{is_feed}
+use Rattle.std.specs.List.{after_first}
+use Rattle.mgs_model.specs.Rows.{Row, plain_row, mode_row, blank_rows, rows_put, text_rows, unread_rows, unread_text}
+use Rattle.mgs_model.specs.Picture.{IsPrintable, IsRow, IsSize, Picture, IsPicture, blank_picture}
+use Rattle.mgs_grid.specs.Pen.{HasWidth}
+use Rattle.mgs_grid.proofs.Fits.{length-fitted, fitted_none}
+use Rattle.mgs_grid.proofs.Printable.{fitted_printable}
+
+pub blank_width : (cols : ℕ) → length (plain_row cols []).text ≡ cols
+blank_width cols = ap length (fitted_none 32 cols) ∙ length-replicate {A = ℕ} cols 32
+
+pub plain_is : (cols : ℕ) (xs : List ℕ) → 0 < cols → All IsPrintable xs → IsRow cols (plain_row cols xs)
+plain_is cols xs some all = record { width = length-fitted 32 cols xs some; printable = fitted_printable 32 cols xs (omega arith, omega arith) all }
+
+pub mode_is : (cols : ℕ) (xs : List ℕ) → 0 < cols → All IsPrintable xs → IsRow cols (mode_row cols xs)
+mode_is cols xs some all = record { width = length-fitted 45 cols xs some; printable = fitted_printable 45 cols xs (omega arith, omega arith) all }
+
+pub blanks_are : (cols n : ℕ) → 0 < cols → All (IsRow cols) (blank_rows cols n)
+blanks_are cols n some = All-replicate (IsRow cols) n (plain_row cols []) (plain_is cols [] some (All-nil IsPrintable))
+
+pub one_is : (cols : ℕ) (r : Row) → IsRow cols r → All (IsRow cols) (r ∷ [])
+one_is cols r h = All-cons (IsRow cols) r [] h (All-nil (IsRow cols))
+
+pub unread_are : (cols n : ℕ) (d : Decision) → 0 < cols → All IsPrintable (unread_text d) → All (IsRow cols) (unread_rows cols n d)
+unread_are cols zero d some all = All-nil (IsRow cols)
+unread_are cols (suc n) d some all = All-cons (IsRow cols) (plain_row cols (unread_text d)) (blank_rows cols n) (plain_is cols (unread_text d) some all) (blanks_are cols n some)
+
+-- how many they are
+pub length-text_rows : (cols : ℕ) (shift : ℕ → ℕ) (i h : ℕ) (rest : List ℕ) → length (text_rows cols shift i h rest) ≡ h
+length-text_rows cols shift i zero rest = refl
+length-text_rows cols shift i (suc h) rest = ap suc (length-text_rows cols shift (i + 1) h (after_first is_feed rest))
+
+pub length-blank_rows : (cols n : ℕ) → length (blank_rows cols n) ≡ n
+length-blank_rows cols n = length-replicate n (plain_row cols [])
+
+pub length-unread_rows : (cols n : ℕ) (d : Decision) → length (unread_rows cols n d) ≡ n
+length-unread_rows cols zero d = refl
+length-unread_rows cols (suc n) d = ap suc (length-blank_rows cols n)
+
+-- blank rows, of which the first is drawn over
+pub blanks_wide : (cols n : ℕ) (lines : List Row) → lines ≡ blank_rows cols n → All (HasWidth cols) lines
+blanks_wide cols n lines is = All-same (HasWidth cols) lines (blank_rows cols n) is (All-replicate (HasWidth cols) n (plain_row cols []) (blank_width cols))
+
+pub refused : (cols n : ℕ) (d : Decision) (lines : List Row) (r : Row) → 0 < n → lines ≡ blank_rows cols n → r ≡ plain_row cols (unread_text d) → set lines 0 r ≡ unread_rows cols n d
+refused cols zero d lines r some is new = absurd (omega arith)
+refused cols (suc n) d lines r some is new = ap (λ (k : List Row). set k 0 r) is ∙ ap (λ (k : Row). k ∷ blank_rows cols n) new
+
+-- one row
+pub set_put : (rows : List Row) (i : ℕ) (r new : Row) → i < length rows → new ≡ r → set rows i new ≡ rows_put i (r ∷ []) rows
+set_put rows i r new within is =
+    ap (λ (k : Row). set rows i k) is
+    ∙ set_split rows i r within
+    ∙ sym (rw (add-one) (append_assoc (take i rows) (r ∷ []) (drop (suc i) rows)))
+
+put_all : (P : Row → Type 0) (first : ℕ) (new old : List Row) → All P old → All P new → All P (rows_put first new old)
+put_all P first new old all more =
+    All-append P (take first old ++ new) (drop (first + length new) old) (All-append P (take first old) new (All-take P first old all) more) (All-drop P (first + length new) old all)
+
+length-put : (first : ℕ) (new old : List Row) → first + length new ≤ length old → length (rows_put first new old) ≡ length old
+length-put first new old fits =
+    omega (arith, length-append (take first old ++ new) (drop (first + length new) old), length-append (take first old) new, length-take first old, length-drop (first + length new) old)
+
+-- the rows as they are written back
+pub put_picture : (p : Picture) (first n : ℕ) (more lines new : List Row) → IsPicture p → lines ≡ p.lines → length lines ≡ n → new ≡ rows_put first more lines → first + length more ≤ p.rows → All (IsRow p.cols) more → IsPicture (record p { lines = take n (new ++ drop (length new) p.lines) })
+put_picture p first n more lines new is same count put fits each =
+    let long : length lines ≡ p.rows = ap length same ∙ is.count in
+    let old : All (IsRow p.cols) lines = All-same (IsRow p.cols) lines p.lines same is.each in
+    let size : length new ≡ n = ap length put ∙ length-put first more lines (omega arith) ∙ count in
+    let back : take n (new ++ drop (length new) p.lines) ≡ new = ap (λ k. take k (new ++ drop (length new) p.lines)) (sym size) ∙ take-append_seam new (drop (length new) p.lines) in
+    record {
+      size = is.size;
+      count = ap length back ∙ size ∙ sym count ∙ long;
+      each = All-same (IsRow p.cols) (take n (new ++ drop (length new) p.lines)) new back (All-same (IsRow p.cols) new (rows_put first more lines) put (put_all (IsRow p.cols) first more lines old each));
+      row = is.row;
+      col = is.col;
+    }
+
+pub blank_is : (rows cols : ℕ) → IsSize rows cols → IsPicture (blank_picture rows cols)
+blank_is rows cols h =
+    record { size = h; count = length-blank_rows cols rows; each = blanks_are cols rows (omega arith); row = omega arith; col = omega arith }

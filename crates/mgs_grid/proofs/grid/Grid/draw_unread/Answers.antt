@@ -1,0 +1,17 @@
+use Rattle.std.proofs.Common.{◌≡◌, ℕ, ◌+◌, ◌<◌, ◌≤◌, List, length, arith, ap, All}
+use Rattle.mgs_model.specs.Rows.{Row, unread_rows}
+use Rattle.mgs_model.specs.Picture.{Picture, IsRow}
+use Rattle.mgs_grid.proofs.Pictures.{put_picture, unread_are, length-unread_rows}
+use Rattle.mgs_grid.proofs.grid.Grid.draw_unread.Goals as goal
+
+pub invariant_of-self : goal.invariant_of-self
+invariant_of-self c =
+    let old : Picture = record { rows = c.self.inside.rows; cols = c.self.inside.cols; lines = c.self.inside.lines.items; row = c.self.inside.row; col = c.self.inside.col } in
+    let rows_is : c.self.inside.rows ≡ c.args.self.now.rows = ap (λ (p : Picture). p.rows) c.self.view_is in
+    let cols : ℕ = c.self.inside.cols in
+    let some : 0 < cols = omega (arith, c.self.invariant.size.some_cols) in
+    let more : List Row = unread_rows cols c.args.height c.args.decision in
+    let size : length more ≡ c.args.height = length-unread_rows cols c.args.height c.args.decision in
+    let each : All (IsRow cols) more = unread_are cols c.args.height c.args.decision some c.put_unread.ensures.printable in
+    let fits : c.args.first + length more ≤ c.self.inside.rows = omega (arith, c.requires.rows, size, rows_is) in
+    put_picture old c.args.first c.self.inside.lines.len more c.deref_mut.result.now c.put_unread.new.lines c.self.invariant c.deref_mut.ensures.value c.deref_mut.ensures.len c.put_unread.ensures.rows fits each

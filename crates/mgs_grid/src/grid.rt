@@ -1,0 +1,172 @@
+// The rows of a screen, and a cursor.
+ghost use Rattle.std.specs.Prelude.{◌≡◌, ℕ, ◌+◌, ◌<◌, ◌≤◌, ◌^◌, List, [], ◌∷◌, length, drop, IfOk};
+ghost use Rattle.mgs_model.specs.Rows.{text_rows, shift_at, blank_rows, unread_rows, mode_row, buffer_mode, none_mode, echo_row, rows_put};
+ghost use Rattle.mgs_model.specs.Picture.{Picture, IsPicture, IsSize, blank_picture};
+
+use crate::line::Line;
+use crate::window::{put_blank, put_echo, put_mode, put_none_mode, put_text, put_unread};
+use mgs_model::{Decision, Message, Name, Short};
+use mgs_text::Text;
+use std::alloc::Global;
+use std::marker::Model;
+
+/// What a screen is to show: its rows, from the top, and its cursor.
+#[derive(Drop)]
+pub struct Grid {
+    rows: usize,
+    cols: usize,
+    lines: Vec<Line>,
+    row: usize,
+    col: usize,
+}
+
+impl Model for Grid {
+    ghost Value = { Picture };
+
+    ghost view = { λ g. record { rows = g.rows; cols = g.cols; lines = g.lines.items; row = g.row; col = g.col } };
+
+    ghost invariant = { λ g. IsPicture (record { rows = g.rows; cols = g.cols; lines = g.lines.items; row = g.row; col = g.col }) };
+}
+
+impl Grid {
+    /// A screen of 6 to 64 rows and 20 to 160 columns: plain blanks, the cursor in the first cell.
+    ///
+    /// # Errors
+    ///
+    /// `Short` where memory for the rows was refused.
+    pub fn new(alloc: Global, rows: usize, cols: usize) -> Result<Grid, Short>
+        requires { IsSize rows cols }
+        ensures { IfOk result (λ g. g ≡ blank_picture rows cols) }
+    {
+        let mut lines = Vec::new(alloc);
+        for _ in 0..rows {
+            let line = Line::blank(alloc, cols)?;
+            if lines.push(line).is_err() {
+                return Err(Short);
+            }
+        }
+        Ok(Grid {
+            rows,
+            cols,
+            lines,
+            row: 0,
+            col: 0,
+        })
+    }
+
+    /// The number of rows.
+    pub fn rows(&self) -> usize
+        ensures value { result ≡ self.now.rows }
+        ensures picture { IsPicture self.now }
+    {
+        self.rows
+    }
+
+    /// The number of columns.
+    pub fn cols(&self) -> usize
+        ensures value { result ≡ self.now.cols }
+        ensures picture { IsPicture self.now }
+    {
+        self.cols
+    }
+
+    /// The rows, from the top.
+    pub fn lines(&self) -> &[Line]
+        ensures value { result.now ≡ self.now.lines }
+        ensures picture { IsPicture self.now }
+    {
+        &self.lines
+    }
+
+    /// The cursor's row and column, from 0.
+    pub fn cursor(&self) -> (usize, usize)
+        ensures value { result ≡ (self.now.row, self.now.col) }
+        ensures picture { IsPicture self.now }
+    {
+        (self.row, self.col)
+    }
+
+    /// Moves the cursor.
+    pub fn set_cursor(&mut self, row: usize, col: usize)
+        requires row { row < self.old.rows }
+        requires col { col < self.old.cols }
+        ensures { self.new ≡ record self.old { row = row; col = col } }
+    {
+        self.row = row;
+        self.col = col;
+    }
+
+    /// Draws a text into `height` rows from row `first` on, one line in each, from the line that starts at
+    /// `top` on. A line that is too long is cut with a `$`. Row `row` of these is shown from column `shift`,
+    /// behind a `$` unless that is 0. Rows past the text are blank.
+    pub fn draw_text<T: Text>(
+        &mut self,
+        first: usize,
+        height: usize,
+        text: &T,
+        top: usize,
+        row: usize,
+        shift: usize,
+    )
+        requires rows { first + height ≤ self.old.rows }
+        requires within { top ≤ length (T.text text.now) }
+        requires short { length (T.text text.now) < 2 ^ 32 }
+        requires shift { shift < 2 ^ 62 }
+        ensures { self.new ≡ record self.old { lines = rows_put first (text_rows self.old.cols (shift_at row shift) 0 height (drop top (T.text text.now))) self.old.lines } }
+    {
+        let cols = self.cols;
+        put_text(&mut self.lines, first, height, cols, text, top, row, shift);
+    }
+
+    /// Draws `height` rows from row `first` on, of which the first says why a text may not be read.
+    pub fn draw_unread(&mut self, first: usize, height: usize, decision: Decision)
+        requires rows { first + height ≤ self.old.rows }
+        requires height { 0 < height }
+        ensures { self.new ≡ record self.old { lines = rows_put first (unread_rows self.old.cols height decision) self.old.lines } }
+    {
+        let cols = self.cols;
+        put_unread(&mut self.lines, first, height, cols, decision);
+    }
+
+    /// Clears `height` rows from row `first` on.
+    pub fn draw_blank(&mut self, first: usize, height: usize)
+        requires { first + height ≤ self.old.rows }
+        ensures { self.new ≡ record self.old { lines = rows_put first (blank_rows self.old.cols height) self.old.lines } }
+    {
+        let cols = self.cols;
+        put_blank(&mut self.lines, first, height, cols);
+    }
+
+    /// Draws the mode line of a window that shows a buffer: the buffer's name and whether it is modified, and
+    /// the point's line, from 1, and column, from 0. `None` stands for what may not be told.
+    pub fn draw_mode(
+        &mut self,
+        row: usize,
+        heading: Option<(Name, bool)>,
+        place: Option<(usize, usize)>,
+    )
+        requires { row < self.old.rows }
+        ensures { self.new ≡ record self.old { lines = rows_put row (mode_row self.old.cols (buffer_mode heading place) ∷ []) self.old.lines } }
+    {
+        let cols = self.cols;
+        put_mode(&mut self.lines, row, cols, heading, place);
+    }
+
+    /// Draws the mode line of a window that shows no buffer.
+    pub fn draw_none_mode(&mut self, row: usize)
+        requires { row < self.old.rows }
+        ensures { self.new ≡ record self.old { lines = rows_put row (mode_row self.old.cols none_mode ∷ []) self.old.lines } }
+    {
+        let cols = self.cols;
+        put_none_mode(&mut self.lines, row, cols);
+    }
+
+    /// Draws the echo row.
+    pub fn draw_echo(&mut self, row: usize, message: &Message)
+        requires { row < self.old.rows }
+        ensures { self.new ≡ record self.old { lines = rows_put row (echo_row self.old.cols message.now ∷ []) self.old.lines } }
+    {
+        let cols = self.cols;
+        put_echo(&mut self.lines, row, cols, message);
+    }
+}

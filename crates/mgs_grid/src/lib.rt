@@ -1,0 +1,19 @@
+//! What a screen is to show: rows of characters, each plain or in reverse, and a cursor.
+//!
+//! A [`Grid`] is made once for a screen. Each drawing call fills whole rows of it and takes no memory.
+//! Rows and columns count from 0.
+#![tactic(auto)]
+
+mod grid;
+mod line;
+mod pen;
+mod row;
+mod window;
+mod words;
+
+pub use grid::Grid;
+pub use line::Line;
+pub use row::shift_for;
+
+#[cfg(test)]
+mod tests;

@@ -1,0 +1,24 @@
+-- The words of a text, parted by single spaces.
+use Rattle.std.specs.Prelude.{ℕ, ◌+◌, ◌==◌, nat_le, Bool, ◌&&◌, List, length, drop, position, Option}
+use Rattle.std.specs.Option.{option_map}
+use Rattle.std.specs.List.{slice_split, before_first, list_all}
+use Rattle.mgs_model.specs.Names.{is_visible}
+
+abbrev pub is_space : ℕ → Bool
+is_space b = b == 32
+
+-- a text is at least one word; between two spaces that touch stands an empty one
+abbrev pub words_of : List ℕ → List (List ℕ)
+words_of t = slice_split is_space t
+
+-- the first word
+abbrev pub word_of : List ℕ → List ℕ
+word_of t = before_first is_space t
+
+-- what stands behind the first space, if there is one
+abbrev pub rest_of : List ℕ → Option (List ℕ)
+rest_of t = option_map (λ i. drop (i + 1) t) (position is_space t)
+
+-- one or more characters, each of them visible
+abbrev pub is_quotable : List ℕ → Bool
+is_quotable bs = nat_le 1 (length bs) && list_all is_visible bs

@@ -1,0 +1,174 @@
+//! Lines and columns of a text.
+//!
+//! Positions, lines and columns count from 0. A line ends before its line feed or where the text ends.
+#![tactic(auto)]
+
+ghost use Rattle.std.specs.Prelude.{◌≡◌, ℕ, ◌+◌, ◌*◌, ◌<◌, ◌≤◌, ◌^◌, List, length};
+ghost use Rattle.std.specs.Int.Digits.{digits_of};
+ghost use Rattle.mgs_model.specs.Cells.{glyph};
+ghost use Rattle.mgs_model.specs.Lines.{line_of, line_start, line_end, column, settled_top};
+
+use mgs_text::Text;
+
+/// Where the line of a position starts: behind the line feed before it, or at the text's start.
+///
+/// It walks back over that part of the line alone.
+pub fn line_start<T: Text>(text: &T, p: usize) -> usize
+    requires { p ≤ length (T.text text.now) }
+    ensures value { result ≡ line_start (T.text text.now) p }
+    ensures within { result ≤ p }
+{
+    let mut start = p;
+    while start > 0 {
+        if text.at(start - 1) == '\n' {
+            break;
+        }
+        start -= 1;
+    }
+    start
+}
+
+/// Where the line of a position ends: at the line feed from there on, or at the text's end.
+///
+/// It walks over that part of the line alone.
+pub fn line_end<T: Text>(text: &T, p: usize) -> usize
+    requires { p ≤ length (T.text text.now) }
+    ensures value { result ≡ line_end (T.text text.now) p }
+    ensures from { p ≤ result }
+    ensures within { result ≤ length (T.text text.now) }
+{
+    for i in p..text.len() {
+        if text.at(i) == '\n' {
+            return i;
+        }
+    }
+    text.len()
+}
+
+fn hex_len(n: u32) -> usize
+    ensures value { result ≡ length (digits_of 16 n) }
+    ensures few { result ≤ 8 }
+{
+    if n == 0 { 0 } else { hex_len(n / 16) + 1 }
+}
+
+/// How many cells a character takes in a column, 1 to 12: a tab goes to the next multiple of eight,
+/// other control characters take two (`^A`), visible ASCII one, and all else is written `\u{hex}`.
+pub fn width(column: usize, c: char) -> usize
+    ensures value { result ≡ length (glyph column c) }
+    ensures some { 0 < result }
+    ensures few { result ≤ 12 }
+{
+    if c == '\t' {
+        8 - column % 8
+    } else if c < ' ' {
+        2
+    } else if c < '\x7f' {
+        1
+    } else if c == '\x7f' {
+        2
+    } else {
+        4 + hex_len(c as u32)
+    }
+}
+
+/// The number of cells before a position in its line.
+pub fn column<T: Text>(text: &T, p: usize) -> usize
+    requires within { p ≤ length (T.text text.now) }
+    requires short { length (T.text text.now) < 2 ^ 32 }
+    ensures value { result ≡ column (T.text text.now) p }
+    ensures few { result ≤ 12 * p }
+{
+    let start = line_start(text, p);
+    let mut at = 0;
+    for i in start..p {
+        at += width(at, text.at(i));
+    }
+    at
+}
+
+#[tactic(auto, using(crate::proofs::Walks::back_within))]
+/// The position whose line a window of `height` rows shows first, so that it shows the point's line:
+/// `top` where it does already, and else the start of the line that lies half the height above the point's,
+/// or of the first line.
+pub fn settled_top<T: Text>(text: &T, height: usize, top: usize, point: usize) -> usize
+    requires top { top ≤ length (T.text text.now) }
+    requires point { point ≤ length (T.text text.now) }
+    requires some { 0 < height }
+    ensures value { result ≡ settled_top height top point (T.text text.now) }
+    ensures within { result ≤ length (T.text text.now) }
+    ensures settled { settled_top height result point (T.text text.now) ≡ result }
+    ensures above { line_of (T.text text.now) result ≤ line_of (T.text text.now) point }
+    ensures below { line_of (T.text text.now) point < line_of (T.text text.now) result + height }
+{
+    let first = text.line_of(top);
+    let line = text.line_of(point);
+    if first <= line && line - first < height {
+        top
+    } else {
+        text.start_of(line.saturating_sub(height / 2))
+    }
+}
+
+#[cfg(test)]
+mod tests {
+    use super::*;
+    use mgs_text::PlainText;
+    use std::process::Abort;
+    use std::test::Fail;
+
+    // Lines `ab`, a tab and `c` and e acute, and `d`.
+    fn parted<T: Text + Drop>(rt: &impl Abort, text: T) -> Result<(), Fail>
+        requires { length (T.text text) ≡ 8 }
+    {
+        assert_eq!(rt; line_start(&text, 2), 0);
+        assert_eq!(rt; line_start(&text, 3), 3);
+        assert_eq!(rt; line_start(&text, 5), 3);
+        assert_eq!(rt; line_end(&text, 0), 2);
+        assert_eq!(rt; line_end(&text, 3), 6);
+        assert_eq!(rt; line_end(&text, 7), 8);
+        assert_eq!(rt; column(&text, 3), 0);
+        assert_eq!(rt; column(&text, 5), 9);
+        assert_eq!(rt; column(&text, 6), 15);
+        Ok(())
+    }
+
+    fn settled<T: Text + Drop>(rt: &impl Abort, text: T) -> Result<(), Fail>
+        requires { length (T.text text) ≡ 8 }
+    {
+        assert_eq!(rt; settled_top(&text, 2, 0, 4), 0);
+        assert_eq!(rt; settled_top(&text, 2, 0, 7), 3);
+        assert_eq!(rt; settled_top(&text, 2, 7, 0), 0);
+        Ok(())
+    }
+
+    #[test]
+    fn parts_lines(rt: HostRuntime) -> Result<(), Fail> {
+        let text = PlainText::of(
+            rt.alloc(),
+            &['a', 'b', '\n', '\t', 'c', '\u{e9}', '\n', 'd'],
+        )?;
+        parted(&rt, text)
+    }
+
+    #[test]
+    fn settles_tops(rt: HostRuntime) -> Result<(), Fail> {
+        let text = PlainText::of(
+            rt.alloc(),
+            &['a', 'b', '\n', '\t', 'c', '\u{e9}', '\n', 'd'],
+        )?;
+        settled(&rt, text)
+    }
+
+    #[test]
+    fn counts_cells(rt: HostRuntime) -> Result<(), Fail> {
+        assert_eq!(rt; width(3, '\t'), 5);
+        assert_eq!(rt; width(8, '\t'), 8);
+        assert_eq!(rt; width(0, '\x01'), 2);
+        assert_eq!(rt; width(0, '~'), 1);
+        assert_eq!(rt; width(0, '\x7f'), 2);
+        assert_eq!(rt; width(0, '\u{e9}'), 6);
+        assert_eq!(rt; width(0, '\u{1f600}'), 9);
+        Ok(())
+    }
+}

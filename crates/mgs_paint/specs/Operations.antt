@@ -1,0 +1,24 @@
+-- The operations of a whole paint.
+use Rattle.std.specs.Prelude.{ℕ, ◌+◌, List, [], ◌∷◌, ◌++◌, map, flat_map, cond}
+use Rattle.mgs_model.specs.Rows.{Row}
+use Rattle.mgs_model.specs.Picture.{Picture}
+use Rattle.mgs_term.specs.declared.operation.Operation.{Operation}
+use Rattle.mgs_term.specs.declared.operation.Operation.TheVariants.{Goto, Reverse, Plain, Unwrap, Print}
+use Rattle.mgs_term.specs.Sequences.{spelling}
+
+-- the bytes that spell operations
+abbrev pub bytes_of : List Operation → List ℕ
+bytes_of = flat_map spelling
+
+-- one row
+abbrev pub row_operations : ℕ → Row → List Operation
+row_operations i r = Goto i 0 ∷ cond r.reversed Reverse Plain ∷ map Print r.text
+
+-- rows, the first of which is the i-th
+abbrev pub rows_operations : ℕ → List Row → List Operation
+rows_operations i [] = []
+rows_operations i (r ∷ rs) = row_operations i r ++ rows_operations (i + 1) rs
+
+-- wrap off, each row, reverse off, and the cursor
+abbrev pub whole_operations : Picture → List Operation
+whole_operations p = Unwrap ∷ (rows_operations 0 p.lines ++ (Plain ∷ Goto p.row p.col ∷ []))

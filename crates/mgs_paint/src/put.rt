@@ -1,0 +1,102 @@
+// The bytes of each operation. Each call needs room for what it appends, and takes no memory.
+ghost use Rattle.std.specs.Prelude.{◌≡◌, ℕ, ◌+◌, ◌*◌, ◌<◌, ◌≤◌, ◌++◌, [], ◌∷◌, length, vec_len, vec_capacity, cond, All};
+ghost use Rattle.mgs_term.specs.Sequences.{number, spelling};
+ghost use Rattle.mgs_term.specs.declared.operation.Operation.TheVariants.{Goto, Reverse, Plain, Unwrap, Print};
+ghost use Rattle.mgs_paint.specs.Operations.{bytes_of, row_operations};
+ghost use Rattle.mgs_model.specs.Picture.{IsPrintable};
+
+use mgs_grid::Line;
+
+const ESCAPE: u8 = 0x1b;
+
+/// A number in decimal, without leading zeros.
+pub fn put_number(out: &mut Vec<u8>, n: usize)
+    requires small { n < 1000 }
+    requires room { vec_len out.old + 3 ≤ vec_capacity out.old }
+    ensures items { out.new.items ≡ out.old.items ++ number n }
+    ensures capacity { vec_capacity out.new ≡ vec_capacity out.old }
+    ensures len { vec_len out.new ≤ vec_len out.old + 3 }
+{
+    if n < 10 {
+        out.push_reserved(b'0' + n as u8);
+    } else if n < 100 {
+        out.push_reserved(b'0' + (n / 10) as u8);
+        out.push_reserved(b'0' + (n % 10) as u8);
+    } else {
+        out.push_reserved(b'0' + (n / 100) as u8);
+        out.push_reserved(b'0' + (n / 10 % 10) as u8);
+        out.push_reserved(b'0' + (n % 10) as u8);
+    }
+}
+
+/// `ESC [ r ; c H`, for a row and a column from 0.
+pub fn put_goto(out: &mut Vec<u8>, row: usize, col: usize)
+    requires row { row < 999 }
+    requires col { col < 999 }
+    requires room { vec_len out.old + 10 ≤ vec_capacity out.old }
+    ensures items { out.new.items ≡ out.old.items ++ spelling (Goto row col) }
+    ensures capacity { vec_capacity out.new ≡ vec_capacity out.old }
+    ensures len { vec_len out.new ≤ vec_len out.old + 10 }
+{
+    out.push_reserved(ESCAPE);
+    out.push_reserved(b'[');
+    put_number(out, row + 1);
+    out.push_reserved(b';');
+    put_number(out, col + 1);
+    out.push_reserved(b'H');
+}
+
+/// `ESC [ 7 m` or `ESC [ m`: what follows is in reverse or plain.
+pub fn put_reverse(out: &mut Vec<u8>, reversed: bool)
+    requires room { vec_len out.old + 4 ≤ vec_capacity out.old }
+    ensures items { out.new.items ≡ out.old.items ++ spelling (cond reversed Reverse Plain) }
+    ensures capacity { vec_capacity out.new ≡ vec_capacity out.old }
+    ensures len { vec_len out.new ≤ vec_len out.old + 4 }
+{
+    out.push_reserved(ESCAPE);
+    out.push_reserved(b'[');
+    if reversed {
+        out.push_reserved(b'7');
+    }
+    out.push_reserved(b'm');
+}
+
+/// `ESC [ ? 7 l`: the cursor stays in the last column.
+pub fn put_unwrap(out: &mut Vec<u8>)
+    requires room { vec_len out.old + 5 ≤ vec_capacity out.old }
+    ensures items { out.new.items ≡ out.old.items ++ spelling Unwrap }
+    ensures capacity { vec_capacity out.new ≡ vec_capacity out.old }
+    ensures len { vec_len out.new ≤ vec_len out.old + 5 }
+{
+    out.push_reserved(ESCAPE);
+    out.push_reserved(b'[');
+    out.push_reserved(b'?');
+    out.push_reserved(b'7');
+    out.push_reserved(b'l');
+}
+
+/// The characters themselves.
+pub fn put_text(out: &mut Vec<u8>, text: &[char])
+    requires printable { All IsPrintable text.now }
+    requires room { vec_len out.old + length text.now ≤ vec_capacity out.old }
+    ensures items { out.new.items ≡ out.old.items ++ text.now }
+    ensures capacity { vec_capacity out.new ≡ vec_capacity out.old }
+{
+    for c in text {
+        out.push_reserved(*c as u8);
+    }
+}
+
+/// One row, from its first column on.
+pub fn put_row(out: &mut Vec<u8>, row: usize, line: &Line)
+    requires row { row < 64 }
+    requires printable { All IsPrintable line.now.text }
+    requires room { vec_len out.old + 14 + length line.now.text ≤ vec_capacity out.old }
+    ensures items { out.new.items ≡ out.old.items ++ bytes_of (row_operations row line.now) }
+    ensures capacity { vec_capacity out.new ≡ vec_capacity out.old }
+    ensures len { vec_len out.new ≤ vec_len out.old + 14 + length line.now.text }
+{
+    put_goto(out, row, 0);
+    put_reverse(out, line.is_reversed());
+    put_text(out, line.text());
+}

@@ -1,0 +1,112 @@
+use super::*;
+use mgs_acl::{Entry, List, read_entry};
+use mgs_model::{Decision, Mask, Name, Right};
+use std::process::Abort;
+use std::test::Fail;
+
+fn named(rt: &impl Abort, text: &str) -> Name {
+    match Name::read(text) {
+        Some(name) => name,
+        None => panic!(rt; "no name"),
+    }
+}
+
+fn put(rt: &impl Abort, list: &mut List, text: &str) {
+    match read_entry(text) {
+        Ok(entry) => assert_eq!(rt; list.insert(list.len(), entry), Ok(())),
+        Err(_) => panic!(rt; "no entry"),
+    }
+}
+
+#[test]
+fn decides_by_the_first_entry(rt: HostRuntime) {
+    let directory = Directory::new(rt.alloc());
+    let (ann, bob, cat) = (named(&rt, "ann"), named(&rt, "bob"), named(&rt, "cat"));
+    let mut list = List::new();
+    put(&rt, &mut list, "ALLOW ann r");
+    put(&rt, &mut list, "DENY ann rw");
+    put(&rt, &mut list, "ALLOW EVERYONE@ w");
+    let read = Mask::of(Right::ReadData);
+    let write = Mask::of(Right::WriteData);
+    assert_eq!(rt;
+        decide(&list, &cat, &ann, &directory, read),
+        Decision::Granted
+    );
+    assert_eq!(rt;
+        decide(&list, &cat, &bob, &directory, read),
+        Decision::NotGranted {
+            bit: Right::ReadData
+        }
+    );
+    assert_eq!(rt;
+        decide(&list, &cat, &ann, &directory, write),
+        Decision::DeniedBy {
+            entry: 2,
+            bit: Right::WriteData
+        }
+    );
+    assert_eq!(rt;
+        decide(&list, &cat, &bob, &directory, write),
+        Decision::Granted
+    );
+    assert_eq!(rt;
+        decide(&list, &cat, &bob, &directory, Mask::none()),
+        Decision::Granted
+    );
+    assert!(rt; is_granted(&list, &cat, &bob, &directory, Right::WriteData));
+    assert!(rt; !is_granted(&list, &cat, &bob, &directory, Right::ReadData));
+}
+
+#[test]
+fn denies_by_the_entry_of_the_right(rt: HostRuntime) {
+    let directory = Directory::new(rt.alloc());
+    let (ann, cat) = (named(&rt, "ann"), named(&rt, "cat"));
+    let mut list = List::new();
+    put(&rt, &mut list, "DENY ann w");
+    put(&rt, &mut list, "DENY ann r");
+    assert_eq!(rt;
+        decide_right(&list, &cat, &ann, &directory, Right::WriteData),
+        Decision::DeniedBy {
+            entry: 1,
+            bit: Right::WriteData
+        }
+    );
+}
+
+#[test]
+fn knows_the_owner(rt: HostRuntime) {
+    let directory = Directory::new(rt.alloc());
+    let (ann, bob) = (named(&rt, "ann"), named(&rt, "bob"));
+    let mut list = List::new();
+    put(&rt, &mut list, "ALLOW OWNER@ r");
+    assert_eq!(rt;
+        decide_right(&list, &ann, &ann, &directory, Right::ReadData),
+        Decision::Granted
+    );
+    assert_eq!(rt;
+        decide_right(&list, &ann, &bob, &directory, Right::ReadData),
+        Decision::NotGranted {
+            bit: Right::ReadData
+        }
+    );
+}
+
+#[test]
+fn adds_users(rt: HostRuntime) -> Result<(), Fail> {
+    let mut directory = Directory::new(rt.alloc());
+    let ann = named(&rt, "ann");
+    assert!(rt; !directory.has_user(&ann));
+    assert_eq!(rt; directory.add_user("ann"), Ok(()));
+    assert!(rt; directory.has_user(&ann));
+    assert_eq!(rt; directory.user("ann"), Some(ann));
+    assert_eq!(rt; directory.user("bob"), None);
+    assert_eq!(rt; directory.add_user("Ann"), Err(DirectoryFault::Name));
+    assert_eq!(rt; directory.add_user("ann"), Err(DirectoryFault::Twice));
+    for i in 1..256u16 {
+        let name = format!(in rt.alloc(); "u{i}")?;
+        assert_eq!(rt; directory.add_user(name.as_str()), Ok(()));
+    }
+    assert_eq!(rt; directory.add_user("ann"), Err(DirectoryFault::Twice));
+    assert_eq!(rt; directory.add_user("bob"), Err(DirectoryFault::Full));
+    Ok(())
+}

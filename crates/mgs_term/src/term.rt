@@ -1,0 +1,130 @@
+ghost use Rattle.std.specs.Prelude.{◌≡◌, ℕ, ◌+◌, ◌*◌, ◌≤◌, ◌++◌, ◌↔◌, false, true, IsOk, IfOk, OnOk, OnErr, List, [], ◌∷◌, length, All};
+ghost use Rattle.mgs_model.specs.Picture.{IsSize};
+ghost use Rattle.mgs_term.specs.Screen.{Screen, IsScreen, IsPrintableCell, blank_screen};
+ghost use Rattle.mgs_term.specs.Sequences.{after};
+ghost use Rattle.mgs_term.specs.Drawing.{Draws, Anything};
+ghost use Rattle.mgs_term.specs.Terminal.{Terminal, Continues, TakesAll, RefusesSome, resting, refusing};
+ghost use Rattle.mgs_term.specs.Automaton.{terminal_of};
+ghost use Rattle.mgs_term.specs.declared.operation.Operation.{Operation};
+
+use crate::cell::Cell;
+use crate::machine::{Machine, OutOfProfile};
+use mgs_model::Short;
+use std::alloc::Global;
+use std::marker::Model;
+
+/// A terminal of a fixed number of rows and columns, by the bytes that came to it.
+///
+/// It takes a byte exactly where one of the accepted sequences has it (`Operation` lists them), with numbers in
+/// decimal and without leading zeros, rows and columns counted from 1 and within the screen. Any other byte is
+/// refused, and so is every later one.
+#[derive(Drop)]
+pub struct Term {
+    machine: Machine,
+}
+
+impl Model for Term {
+    ghost Value = { Terminal };
+
+    ghost view = { λ t. terminal_of t.machine };
+}
+
+impl Term {
+    /// A terminal that shows blanks, with the cursor in the first cell, reverse off and wrap on.
+    /// It has 6 to 64 rows and 20 to 160 columns. `Short` is want of memory.
+    pub fn new(alloc: Global, rows: usize, cols: usize) -> Result<Term, Short>
+        requires { IsSize rows cols }
+        ensures { IfOk result (λ t. t ≡ resting (blank_screen rows cols)) }
+    {
+        let machine = Machine::new(alloc, rows, cols)?;
+        Ok(Term { machine })
+    }
+
+    /// Takes one byte. `OutOfProfile`: no accepted sequence has it there. Nothing that is shown changes then, and
+    /// each later byte is refused.
+    pub fn feed(&mut self, byte: u8) -> Result<(), OutOfProfile>
+        // It is taken exactly where some accepted sequence has it at this place.
+        ensures taken { IsOk result ↔ (o : Operation) × (rest : List ℕ) × Continues self.old byte rest o }
+        // The last byte of a sequence does what the sequence does.
+        ensures last { (o : Operation) → Continues self.old byte [] o → self.new ≡ resting (after o self.old.screen) }
+        // Any other byte that is taken changes nothing, and the next has to go on behind it.
+        ensures inner { IsOk result → ((o : Operation) → Continues self.old byte [] o → ⊥) → self.new ≡ record { screen = self.old.screen; begun = self.old.begun ++ byte ∷ []; refused = false } }
+        // A byte that is refused changes nothing, and each later one is refused.
+        ensures refused { OnErr result (self.new ≡ refusing self.old.screen) }
+    {
+        self.machine.feed(byte)
+    }
+
+    /// Takes bytes up to the first that is refused, as `feed` does one after another.
+    pub fn feed_all(&mut self, bytes: &[u8]) -> Result<(), OutOfProfile>
+        ensures ok { OnOk result (TakesAll self.old bytes.now self.new) }
+        ensures err { OnErr result (RefusesSome self.old bytes.now self.new) }
+        // Bytes that draw, between two sequences, are all taken, and leave the screen to which they lead.
+        ensures drawn { (s t : Screen) → self.old ≡ resting s → Draws Anything bytes.now s t → IsOk result × (self.new ≡ resting t) }
+    {
+        self.machine.feed_all(bytes)
+    }
+
+    /// The number of rows.
+    pub fn rows(&self) -> usize
+        ensures { result ≡ self.now.screen.rows }
+    {
+        self.machine.rows()
+    }
+
+    /// The number of columns.
+    pub fn cols(&self) -> usize
+        ensures { result ≡ self.now.screen.cols }
+    {
+        self.machine.cols()
+    }
+
+    /// The cells, row by row: as many as rows times columns.
+    pub fn grid(&self) -> &[Cell]
+        ensures cells { result.now ≡ self.now.screen.cells }
+        ensures count { length result.now ≡ self.now.screen.rows * self.now.screen.cols }
+        ensures printable { All IsPrintableCell result.now }
+        ensures screen { IsScreen self.now.screen }
+    {
+        self.machine.grid()
+    }
+
+    /// The cursor's row and column, counted from 1.
+    pub fn cursor(&self) -> (usize, usize)
+        ensures place { result ≡ (self.now.screen.row + 1, self.now.screen.col + 1) }
+        ensures screen { IsScreen self.now.screen }
+    {
+        self.machine.cursor()
+    }
+}
+
+#[cfg(test)]
+mod tests {
+    use super::*;
+    use std::test::Fail;
+
+    #[test]
+    fn last_column_stays(rt: HostRuntime) -> Result<(), Fail> {
+        let mut term = Term::new(rt.alloc(), 6, 20).map_err(|_| "no memory")?;
+        assert_eq!(rt; term.feed_all(b"\x1b[?7l"), Ok(()));
+        assert_eq!(rt; term.feed_all(b"\x1b[1;19H"), Ok(()));
+        assert_eq!(rt; term.feed_all(b"abc"), Ok(()));
+        assert_eq!(rt; term.grid().get(18).map(|cell| cell.character), Some('a'));
+        assert_eq!(rt; term.grid().get(19).map(|cell| cell.character), Some('c'));
+        assert_eq!(rt; term.cursor(), (1, 20));
+        assert_eq!(rt; (term.rows(), term.cols(), term.grid().len()), (6, 20, 120));
+        assert_eq!(rt; term.feed_all(b"\x1b[7"), Ok(()));
+        assert_eq!(rt; term.feed(b'H'), Err(OutOfProfile));
+        assert_eq!(rt; term.feed(b'm'), Err(OutOfProfile));
+        assert_eq!(rt; term.feed(0x1b), Err(OutOfProfile));
+        assert_eq!(rt; term.cursor(), (1, 20));
+        Ok(())
+    }
+
+    #[test]
+    fn wrap_has_to_be_off(rt: HostRuntime) -> Result<(), Fail> {
+        let mut term = Term::new(rt.alloc(), 6, 20).map_err(|_| "no memory")?;
+        assert_eq!(rt; term.feed(b'a'), Err(OutOfProfile));
+        Ok(())
+    }
+}

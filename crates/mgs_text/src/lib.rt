@@ -1,0 +1,120 @@
+//! Texts: lists of characters, of which a part is put in another's place.
+#![tactic(auto)]
+
+ghost use Rattle.std.specs.Prelude.{◌≡◌, ℕ, ◌<◌, ◌≤◌, ◌^◌, [], List, Option, length, slice_index, slice_range, OnOk, OnErr, IfOk};
+ghost use Rattle.mgs_model.specs.Text.{edited, shift_all};
+ghost use Rattle.mgs_model.specs.Lines.{line_of, start_of};
+
+mod plain;
+
+use mgs_model::Short;
+pub use plain::PlainText;
+use std::alloc::Global;
+
+/// A list of characters. A position is the number of characters before it.
+pub trait Text {
+    ghost text: { Self → List ℕ };
+
+    // slot number to position; a text without marks has none
+    ghost marks: { Self → List (Option ℕ) };
+
+    /// A text of these characters, without marks, that takes its memory from `alloc`. `Short`: it was refused.
+    fn of(alloc: Global, chars: &[char]) -> Result<Self, Short>
+        ensures text { IfOk result (λ t. text t ≡ chars.now) }
+        ensures marks { IfOk result (λ t. marks t ≡ []) };
+
+    /// The number of characters.
+    fn len(&self) -> usize
+        ensures value { result ≡ length (text self.now) }
+        ensures fits { result < 2 ^ 61 };
+
+    /// The character behind a position.
+    fn at(&self, i: usize) -> char
+        requires { i < length (text self.now) }
+        ensures { result ≡ slice_index (text self.now) i };
+
+    /// The characters from `a` up to `b`. `Short`: memory was refused.
+    fn copy(&self, a: usize, b: usize) -> Result<Vec<char>, Short>
+        requires order { a ≤ b }
+        requires within { b ≤ length (text self.now) }
+        ensures { IfOk result (λ v. v.items ≡ slice_range (text self.now) a b) };
+
+    /// Puts characters in place of those from `a` up to `b`, and moves each mark with the text around it.
+    /// `Short`: memory was refused, and all is as it was.
+    fn replace(&mut self, a: usize, b: usize, put: &[char]) -> Result<(), Short>
+        requires order { a ≤ b }
+        requires within { b ≤ length (text self.old) }
+        ensures text { OnOk result (text self.new ≡ edited a b put.now (text self.old)) }
+        ensures marks { OnOk result (marks self.new ≡ shift_all a b (length put.now) (marks self.old)) }
+        ensures err_text { OnErr result (text self.new ≡ text self.old) }
+        ensures err_marks { OnErr result (marks self.new ≡ marks self.old) };
+
+    /// The number of the line of a position, from 0.
+    fn line_of(&self, p: usize) -> usize
+        requires { p ≤ length (text self.now) }
+        ensures { result ≡ line_of (text self.now) p }
+    {
+        let mut line = 0;
+        for i in 0..p {
+            if self.at(i) == '\n' {
+                line += 1;
+            }
+        }
+        line
+    }
+
+    /// Where the line of a number starts: the text's end where there is none.
+    fn start_of(&self, line: usize) -> usize
+        ensures value { result ≡ start_of line (text self.now) }
+        ensures within { result ≤ length (text self.now) }
+    {
+        let mut left = line;
+        for i in 0..self.len() {
+            if left == 0 {
+                return i;
+            }
+            if self.at(i) == '\n' {
+                left -= 1;
+            }
+        }
+        self.len()
+    }
+}
+
+#[cfg(test)]
+mod tests {
+    use super::*;
+    use std::process::Abort;
+    use std::test::Fail;
+
+    fn edit<T: Text + Drop>(alloc: Global, rt: &impl Abort) -> Result<(), Fail> {
+        let mut text = T::of(alloc, &['a', 'b', 'c'])?;
+        assert_eq!(rt; text.len(), 3);
+        assert_eq!(rt; text.copy(1, 3)?.as_slice(), ['b', 'c'].as_slice());
+        text.replace(1, 2, &['X', 'Y'])?;
+        assert!(rt; text.copy(0, text.len())?.as_slice() == ['a', 'X', 'Y', 'c'].as_slice());
+        assert_eq!(rt; text.at(3), 'c');
+        Ok(())
+    }
+
+    fn count_lines<T: Text + Drop>(alloc: Global, rt: &impl Abort) -> Result<(), Fail> {
+        let text = T::of(alloc, &['a', '\n', '\n', 'b'])?;
+        assert_eq!(rt; text.line_of(1), 0);
+        assert_eq!(rt; text.line_of(2), 1);
+        assert_eq!(rt; text.line_of(4), 2);
+        for (line, start) in [(0, 0), (1, 2), (2, 3), (3, 4)] {
+            assert_eq!(rt; text.start_of(line), start, "line {line}");
+        }
+        Ok(())
+    }
+
+    #[test]
+    fn edits_plain_text(rt: HostRuntime) -> Result<(), Fail> {
+        edit::<PlainText>(rt.alloc(), &rt)
+    }
+
+    #[test]
+    fn counts_lines_of_plain_text(rt: HostRuntime) -> Result<(), Fail> {
+        count_lines::<PlainText>(rt.alloc(), &rt)
+    }
+}

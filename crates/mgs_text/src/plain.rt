@@ -1,0 +1,76 @@
+// A text as a vector of its characters.
+ghost use Rattle.std.specs.Prelude.{◌≡◌, ℕ, ◌≤◌, [], length, IfOk};
+ghost use Rattle.mgs_model.specs.Text.{edited};
+
+use crate::Text;
+use mgs_model::Short;
+use std::alloc::Global;
+use std::marker::Model;
+
+/// A text as a vector of its characters. An edit copies it.
+#[derive(Drop)]
+pub struct PlainText {
+    chars: Vec<char>,
+    alloc: Global,
+}
+
+impl Model for PlainText {
+    ghost use Rattle.std.specs.Prelude.{ℕ, List};
+
+    ghost Value = { List ℕ };
+
+    ghost view = { λ t. t.chars.items };
+}
+
+fn copied(alloc: Global, chars: &[char]) -> Result<Vec<char>, Short>
+    ensures { IfOk result (λ v. v.items ≡ chars.now) }
+{
+    Vec::from_slice(alloc, chars).map_err(|_| Short)
+}
+
+fn spliced(
+    alloc: Global,
+    chars: &[char],
+    a: usize,
+    b: usize,
+    put: &[char],
+) -> Result<Vec<char>, Short>
+    requires order { a ≤ b }
+    requires within { b ≤ length chars.now }
+    ensures { IfOk result (λ v. v.items ≡ edited a b put.now chars.now) }
+{
+    let mut next = Vec::new(alloc);
+    next.extend_from_slice(&chars[..a]).map_err(|_| Short)?;
+    next.extend_from_slice(put).map_err(|_| Short)?;
+    next.extend_from_slice(&chars[b..]).map_err(|_| Short)?;
+    Ok(next)
+}
+
+impl Text for PlainText {
+    ghost text = { λ t. t };
+
+    ghost marks = { λ _. [] };
+
+    fn of(alloc: Global, chars: &[char]) -> Result<Self, Short> {
+        let chars = copied(alloc, chars)?;
+        Ok(PlainText { chars, alloc })
+    }
+
+    fn len(&self) -> usize {
+        self.chars.as_slice().len()
+    }
+
+    fn at(&self, i: usize) -> char {
+        self.chars[i]
+    }
+
+    fn copy(&self, a: usize, b: usize) -> Result<Vec<char>, Short> {
+        copied(self.alloc, &self.chars[a..b])
+    }
+
+    fn replace(&mut self, a: usize, b: usize, put: &[char]) -> Result<(), Short> {
+        let next = spliced(self.alloc, &self.chars, a, b, put)?;
+        self.chars = next;
+        Ok(())
+    }
+}

@@ -1,0 +1,120 @@
+//! The latest edits of a text, each with its serial: what undo goes by.
+#![tactic(auto)]
+
+ghost use Rattle.std.specs.Prelude.{◌≡◌, ◌+◌, ◌-◌, ◌<◌, ◌^◌, [], ◌∷◌, IfOk, find, slice_get, take};
+ghost use Rattle.std.specs.Option.{option_copied, option_map};
+ghost use Rattle.mgs_undo.specs.History.{has_serial};
+ghost use Rattle.mgs_undo.specs.Numbered.{item_of};
+
+use circular_buffer::HeapCircularBuffer;
+use mgs_model::Short;
+use std::alloc::Global;
+use std::marker::Model;
+
+/// The most edits that are kept.
+const LIMIT: usize = 1000;
+
+/// An edit of a text.
+#[derive(Drop)]
+pub struct Edit {
+    /// Where it was.
+    pub at: usize,
+    /// The characters that it took out.
+    pub removed: Vec<char>,
+    /// How many characters it put in their place.
+    pub added: usize,
+}
+
+/// The latest edits of a text, 1,000 at most. Their serials count up by one, and the first edit's is 1.
+#[derive(Drop)]
+pub struct Record {
+    // the latest first
+    edits: HeapCircularBuffer<Edit>,
+    serial: u64,
+}
+
+impl Model for Record {
+    ghost use Rattle.std.specs.Prelude.{◌≡◌, ◌≤◌, length};
+    ghost use Rattle.mgs_undo.specs.History.{History};
+
+    ghost Value = { History };
+
+    ghost use Rattle.mgs_undo.specs.Numbered.{numbered};
+
+    ghost view = { λ r. record { items = numbered r.serial r.edits.items; serial = r.serial } };
+
+    ghost invariant = { λ r. record { capacity : r.edits.capacity ≡ 1000; fits : length r.edits.items ≤ 1000; counted : length r.edits.items ≤ r.serial } };
+}
+
+impl Record {
+    /// No edit, in one block with room for 1,000. `Short`: memory was refused.
+    pub fn new(alloc: Global) -> Result<Record, Short>
+        ensures { IfOk result (λ r. r ≡ record { items = []; serial = 0 }) }
+    {
+        let edits = HeapCircularBuffer::with_capacity(alloc, LIMIT).map_err(|_| Short)?;
+        Ok(Record { edits, serial: 0 })
+    }
+
+    /// The serial of the last edit: 0 where there was none.
+    pub fn serial(&self) -> u64
+        ensures { result ≡ self.now.serial }
+    {
+        self.serial
+    }
+
+    /// Keeps an edit under the next serial, and gives back the oldest one where 1,000 were kept. It takes no memory.
+    /// The caller sees that the last `u64` is not passed.
+    pub fn push(&mut self, edit: Edit) -> Option<Edit>
+        requires { self.old.serial < 2 ^ 64 - 1 }
+        ensures kept { self.new ≡ record { items = item_of (self.old.serial + 1) edit ∷ take 999 self.old.items; serial = self.old.serial + 1 } }
+        ensures oldest { option_map (item_of (self.old.serial - 999)) result ≡ slice_get self.old.items 999 }
+    {
+        self.serial += 1;
+        self.edits.push_front(edit)
+    }
+
+    /// The edit of a serial, where it is kept.
+    pub fn item(&self, serial: u64) -> Option<&Edit>
+        ensures { option_map (item_of serial) (option_copied result) ≡ find (has_serial serial) self.now.items }
+    {
+        if self.serial < serial {
+            return None;
+        }
+        let behind = self.serial - serial;
+        if behind < LIMIT as u64 {
+            self.edits.get(behind as usize)
+        } else {
+            None
+        }
+    }
+}
+
+#[cfg(test)]
+mod tests {
+    use super::*;
+    use std::test::Fail;
+
+    #[test]
+    fn keeps_the_latest_thousand(rt: HostRuntime) -> Result<(), Fail> {
+        let mut record = Record::new(rt.alloc())?;
+        assert_eq!(rt; record.serial(), 0);
+        assert!(rt; record.item(0).is_none());
+        for at in 0..1001usize {
+            assert!(rt; record.serial() < 2000);
+            let removed = vec![in rt.alloc(); 'a', 'é']?;
+            let oldest = record.push(Edit {
+                at,
+                removed,
+                added: 1,
+            });
+            assert_eq!(rt; oldest.is_some(), at == 1000);
+        }
+        assert_eq!(rt; record.serial(), 1001);
+        assert!(rt; record.item(1).is_none());
+        assert_eq!(rt; record.item(2).map_or(0, |e| e.at), 1);
+        assert_eq!(rt; record.item(1001).map_or(0, |e| e.at), 1000);
+        assert_eq!(rt; record.item(1001).map_or(0, |e| e.removed.len()), 2);
+        assert!(rt; record.item(1002).is_none());
+        Ok(())
+    }
+}
