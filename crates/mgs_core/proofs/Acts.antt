@@ -1,7 +1,7 @@
 -- Soundness: each mark that a session uses is in use, through edits, placements and changes of a session.
-use Rattle.std.proofs.Common.{◌≡◌, ℕ, zero, suc, ◌+◌, ◌<◌, ◌≤◌, Bool, true, false, cond, List, [], ◌∷◌, ◌++◌, take, drop, length, length-append, get_or, map, Option, Some, None, refl, sym, ap, subst, ◌∙◌, arith}
+use Rattle.std.proofs.Common.{◌≡◌, ℕ, zero, suc, ◌+◌, ◌<◌, ◌≤◌, Bool, true, false, List, [], ◌∷◌, ◌++◌, take, drop, length, length-append, get_or, Option, Some, None, refl, sym, ap, subst, ◌∙◌, arith}
 use Rattle.std.proofs.lemmas.List.{length-take, length-drop}
-use Rattle.std.specs.Prelude.{find, slice_get, slice_set, IsSome, is_some, nat_eq}
+use Rattle.std.specs.Prelude.{find, slice_get, slice_set, IsSome, is_some}
 use Rattle.std.specs.Option.{option_map, option_and_then}
 use Rattle.std.proofs.lemmas.Option.{slice_get-get_or}
 use Rattle.mgs_model.specs.Names.{same_name}
@@ -13,7 +13,7 @@ use Rattle.mgs_session.specs.Told.{spot_of}
 use Rattle.mgs_windows.specs.declared.Spot.{Spot}
 use Rattle.mgs_windows.specs.declared.Window.{Window}
 use Rattle.mgs_session.specs.declared.Session.{Session}
-use Rattle.mgs_core.specs.Sound.{IsSound, IsSessionSound, IsWindowSound, in_use, one_if, option_uses, sum_of, uses, session_uses, window_uses, spot_uses}
+use Rattle.mgs_core.specs.Sound.{IsSound, IsSessionSound, IsWindowSound, in_use, one_if, option_uses, sum_of, session_uses, window_uses, spot_uses}
 use Rattle.mgs_core.specs.Worlds.{size_in, sizes_in}
 use Rattle.mgs_core.proofs.Marks.{is_same, found_same, found_other, slice_get-map}
 use Rattle.mgs_core.proofs.Worlds.{selected_window, spot_once, one_use, sum_at}

@@ -1,5 +1,5 @@
 -- Steps over a list, each of which changes only what its own element uses.
-use Rattle.std.proofs.Common.{◌≡◌, ℕ, zero, suc, ◌+◌, ◌<◌, ◌≤◌, List, [], ◌∷◌, map, refl, sym, ap, ◌∙◌, arith}
+use Rattle.std.proofs.Common.{◌≡◌, ℕ, ◌≤◌, List, [], ◌∷◌, map, refl, ap, ◌∙◌, arith}
 use Rattle.mgs_core.specs.Sound.{sum_of, steps}
 
 -- what none of the elements uses stays

@@ -1,6 +1,6 @@
 -- Where the marks of a buffer are, after its text was edited, a mark was placed, or another buffer changed.
-use Rattle.std.proofs.Common.{◌≡◌, ℕ, zero, suc, ◌+◌, ◌<◌, ◌≤◌, Bool, true, false, cond, List, [], ◌∷◌, length, map, Option, Some, None, refl, sym, ap, subst, ◌∙◌, arith, eq-eqb}
-use Rattle.std.specs.Prelude.{find, slice_get, slice_set, IsSome, is_some, nat_eq}
+use Rattle.std.proofs.Common.{◌≡◌, ℕ, zero, suc, Bool, true, false, List, [], ◌∷◌, length, map, Option, Some, None, refl, sym, ap, subst, ◌∙◌, arith, eq-eqb}
+use Rattle.std.specs.Prelude.{find, slice_get, slice_set, IsSome, nat_eq}
 use Rattle.std.specs.Option.{option_map, option_and_then}
 use Rattle.std.proofs.lemmas.Slice.Eq.{bytes_eq-Decides}
 use Rattle.std.proofs.lemmas.Bool.Decides.{nat_tests}
@@ -10,7 +10,7 @@ use Rattle.mgs_model.specs.Apply.{change_first}
 use Rattle.mgs_model.proofs.Firsts.{find-change_first, find-change_first_other}
 use Rattle.mgs_marks.specs.Marks.{mark_in, position_in, or_zero}
 use Rattle.mgs_buffers.specs.Kept.{Kept, kept_named, kept_at, kept_or_none, mark_at, kept_edited, kept_placed}
-use Rattle.mgs_core.specs.Sound.{one_if, option_uses, in_use}
+use Rattle.mgs_core.specs.Sound.{one_if, option_uses}
 
 -- NAMES
 

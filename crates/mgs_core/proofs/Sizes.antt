@@ -1,5 +1,5 @@
 -- Sessions by their sizes.
-use Rattle.std.proofs.Common.{◌≡◌, ◌+◌, ◌<◌, ◌≤◌, ◌∙◌, ℕ, zero, suc, not, Bool, true, false, cond, List, [], ◌∷◌, ◌++◌, length, get_or, map, Option, Some, None, refl, sym, ap, subst, arith, one-add}
+use Rattle.std.proofs.Common.{◌≡◌, ◌+◌, ◌<◌, ◌≤◌, ◌∙◌, ℕ, zero, suc, not, Bool, true, false, cond, List, [], ◌∷◌, ◌++◌, length, get_or, Option, Some, None, refl, sym, ap, arith, one-add}
 use Rattle.std.specs.Prelude.{find, remove, nat_eq}
 use Rattle.std.specs.Option.{option_map}
 use Rattle.std.specs.Cmp.{unsigned_Decides}
@@ -13,7 +13,7 @@ use Rattle.mgs_session.specs.Told.{session_opened}
 use Rattle.mgs_windows.specs.declared.Spot.{Spot}
 use Rattle.mgs_core.specs.Spots.{FirstSpot}
 use Rattle.mgs_core.proofs.Spots.{sum_append}
-use Rattle.mgs_core.specs.Worlds.{Size, size_in, sizes_in, size_of, sizes, session_of, world_of, session_id, is_size_of, find_size}
+use Rattle.mgs_core.specs.Worlds.{Size, size_in, sizes_in, sizes, world_of, session_id, is_size_of, find_size}
 use Rattle.mgs_core.specs.Sound.{AreBelow, IsSound, in_use, sum_of, session_uses}
 
 pub sizes_world : (d : Directory) (ks : List Kept) (xs : List Session) (n : Option ℕ) → sizes (world_of d ks xs n) ≡ sizes_in xs

@@ -1,12 +1,12 @@
 -- What is in use after a mark is added or dropped.
-use Rattle.std.proofs.Common.{◌≡◌, ℕ, zero, suc, ◌+◌, ◌<◌, ◌≤◌, ◌≢◌, Bool, true, false, cond, List, [], ◌∷◌, ◌++◌, length, Option, Some, None, refl, sym, ap, subst, ◌∙◌, arith, eq-eqb}
+use Rattle.std.proofs.Common.{◌≡◌, ℕ, ◌+◌, ◌≤◌, ◌≢◌, Bool, true, false, cond, List, [], ◌∷◌, ◌++◌, Option, Some, None, refl, sym, ap, subst, ◌∙◌, arith, eq-eqb}
 use Rattle.std.specs.Prelude.{find, IsSome, is_some, nat_eq}
 use Rattle.std.specs.Option.{option_map}
 use Rattle.std.specs.Cmp.{unsigned_Decides}
 use Rattle.mgs_model.specs.Names.{same_name}
 use Rattle.mgs_model.specs.Apply.{change_first}
 use Rattle.mgs_marks.specs.Marks.{mark_in, or_zero}
-use Rattle.mgs_buffers.specs.Kept.{Kept, kept_named, kept_at, kept_or_none, IsKept, IsMark, mark_at, kept_marked, MarkAdded, MarkDropped}
+use Rattle.mgs_buffers.specs.Kept.{Kept, kept_named, kept_at, kept_or_none, IsKept, IsMark, kept_marked, MarkAdded, MarkDropped}
 use Rattle.mgs_windows.specs.declared.Spot.{Spot}
 use Rattle.mgs_session.specs.declared.Session.{Session}
 use Rattle.mgs_core.specs.Worlds.{buffers_of}

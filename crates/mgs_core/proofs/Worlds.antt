@@ -1,10 +1,9 @@
 -- How the world changes when what is kept does.
-use Rattle.std.proofs.Common.{◌≡◌, ℕ, zero, suc, ◌+◌, ◌<◌, ◌≤◌, Bool, true, false, cond, List, [], ◌∷◌, length, map, Option, Some, None, refl, sym, ap, subst, ◌∙◌, arith, eq-eqb}
-use Rattle.std.specs.Prelude.{find, slice_get, slice_set, IsSome, is_some, nat_eq}
+use Rattle.std.proofs.Common.{◌≡◌, ℕ, zero, suc, ◌+◌, ◌≤◌, Bool, true, false, cond, List, [], ◌∷◌, length, map, Option, Some, None, refl, sym, ap, ◌∙◌, arith, eq-eqb}
+use Rattle.std.specs.Prelude.{find, slice_get, IsSome, nat_eq}
 use Rattle.std.specs.Option.{option_map, option_and_then}
 use Rattle.mgs_model.specs.Names.{same_name}
-use Rattle.mgs_model.specs.Access.{Directory}
-use Rattle.mgs_model.specs.Text.{shift, shift_all}
+use Rattle.mgs_model.specs.Text.{shift}
 use Rattle.mgs_model.specs.World.{World, Buffer, Shows, Nothing, Buffer_of, is_named, has_id}
 use Rattle.mgs_model.specs.World as model
 use Rattle.mgs_model.specs.Outcome.{At, Keep, Keep_mark}
@@ -16,10 +15,10 @@ use Rattle.mgs_windows.specs.declared.Spot.{Spot}
 use Rattle.mgs_windows.specs.declared.Window.{Window}
 use Rattle.mgs_session.specs.declared.Session.{Session}
 use Rattle.mgs_session.specs.Told.{spot_of}
-use Rattle.mgs_core.specs.Worlds.{window_shown, window_of, session_of, buffers_of, own_of, session_id}
+use Rattle.mgs_core.specs.Worlds.{window_shown, window_of, session_of, buffers_of, session_id}
 use Rattle.mgs_core.specs.Sound.{sum_of, one_if, option_uses, spot_uses, window_uses, session_uses, uses}
 use Rattle.mgs_core.proofs.Uses.{map_unused, map_used_at, map_used_first}
-use Rattle.mgs_core.proofs.Marks.{same_is, is_same, mark_edited, mark_kept, mark_unused, marks_unused, mark_placed, apart_from}
+use Rattle.mgs_core.proofs.Marks.{is_same, mark_edited, mark_kept, mark_unused, marks_unused, mark_placed, apart_from}
 
 -- CONGRUENCE
 

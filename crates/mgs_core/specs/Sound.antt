@@ -1,7 +1,6 @@
 -- Each mark in use is that of one place of one session.
-use Rattle.std.specs.Prelude.{◌≡◌, ℕ, ◌+◌, ◌<◌, ◌≤◌, Bool, true, false, List, [], ◌∷◌, Option, Some, None, nat_eq, is_some, if◌then◌else◌, All, length}
+use Rattle.std.specs.Prelude.{ℕ, ◌+◌, ◌<◌, ◌≤◌, Bool, true, false, List, [], ◌∷◌, Option, Some, None, nat_eq, is_some, if◌then◌else◌}
 use Rattle.mgs_model.specs.Names.{same_name}
-use Rattle.mgs_model.specs.Picture.{IsSize}
 use Rattle.mgs_marks.specs.Marks.{mark_in}
 use Rattle.mgs_buffers.specs.Kept.{Kept, kept_at}
 use Rattle.mgs_windows.specs.declared.Spot.{Spot}

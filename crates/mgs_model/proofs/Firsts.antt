@@ -1,5 +1,5 @@
 -- The first element that passes: look-ups and changes.
-use Rattle.std.proofs.Common.{◌≡◌, ℕ, zero, suc, ◌+◌, ◌<◌, ◌≤◌, not, one-add, Bool, true, false, cond, List, [], ◌∷◌, length, get_or, set, map, Option, Some, None, refl, sym, ap, ◌∙◌, arith}
+use Rattle.std.proofs.Common.{◌≡◌, ℕ, zero, suc, ◌+◌, ◌<◌, ◌≤◌, not, one-add, Bool, true, false, cond, List, [], ◌∷◌, length, get_or, set, map, Some, None, refl, sym, ap, ◌∙◌, arith}
 use Rattle.std.specs.Prelude.{find, IsSome}
 use Rattle.std.proofs.lemmas.List.{map-set, length-map}
 use Rattle.std.specs.List.{position_or_len}
@@ -11,9 +11,10 @@ pub find-change_first : {A : Type 0} (p : A → Bool) (f : A → A) → ((x : A)
 find-change_first p f same [] = refl
 find-change_first p f same (x ∷ xs) =
     let go : (b : Bool) → p x ≡ b → find p (cond b (f x ∷ xs) (x ∷ change_first p f xs)) ≡ option_map f (cond b (Some x) (find p xs)) =
-      λ b. elim b as (λ b. p x ≡ b → find p (cond b (f x ∷ xs) (x ∷ change_first p f xs)) ≡ option_map f (cond b (Some x) (find p xs))) [
-        true ↦ λ e. rw (same x, e) refl
-      | false ↦ λ e. rw e (find-change_first p f same xs) ]
+    λ b. elim b as (λ b. p x ≡ b → find p (cond b (f x ∷ xs) (x ∷ change_first p f xs)) ≡ option_map f (cond b (Some x) (find p xs))) [
+      | true ↦ λ e. rw (same x, e) refl
+      | false ↦ λ e. rw e (find-change_first p f same xs)
+    ]
     in go (p x) refl
 
 -- a look-up by a test that fails where the change is
@@ -21,9 +22,10 @@ pub find-change_first_other : {A : Type 0} (p q : A → Bool) (f : A → A) → 
 find-change_first_other p q f same apart [] = refl
 find-change_first_other p q f same apart (x ∷ xs) =
     let go : (b : Bool) → p x ≡ b → find q (cond b (f x ∷ xs) (x ∷ change_first p f xs)) ≡ cond (q x) (Some x) (find q xs) =
-      λ b. elim b as (λ b. p x ≡ b → find q (cond b (f x ∷ xs) (x ∷ change_first p f xs)) ≡ cond (q x) (Some x) (find q xs)) [
-        true ↦ λ e. rw (same x, apart x e) refl
-      | false ↦ λ e. ap (cond (q x) (Some x)) (find-change_first_other p q f same apart xs) ]
+    λ b. elim b as (λ b. p x ≡ b → find q (cond b (f x ∷ xs) (x ∷ change_first p f xs)) ≡ cond (q x) (Some x) (find q xs)) [
+      | true ↦ λ e. rw (same x, apart x e) refl
+      | false ↦ λ e. ap (cond (q x) (Some x)) (find-change_first_other p q f same apart xs)
+    ]
     in go (p x) refl
 
 -- a map of both
@@ -31,18 +33,20 @@ pub map-change_first : {A B : Type 0} (h : A → B) (p : A → Bool) (q : B → 
 map-change_first h p q f g same does [] = refl
 map-change_first h p q f g same does (x ∷ xs) =
     let go : (b : Bool) → p x ≡ b → map h (cond b (f x ∷ xs) (x ∷ change_first p f xs)) ≡ cond b (g (h x) ∷ map h xs) (h x ∷ change_first q g (map h xs)) =
-      λ b. elim b as (λ b. p x ≡ b → map h (cond b (f x ∷ xs) (x ∷ change_first p f xs)) ≡ cond b (g (h x) ∷ map h xs) (h x ∷ change_first q g (map h xs))) [
-        true ↦ λ e. ap (λ y. y ∷ map h xs) (does x e)
-      | false ↦ λ e. ap (λ ys. h x ∷ ys) (map-change_first h p q f g same does xs) ]
+    λ b. elim b as (λ b. p x ≡ b → map h (cond b (f x ∷ xs) (x ∷ change_first p f xs)) ≡ cond b (g (h x) ∷ map h xs) (h x ∷ change_first q g (map h xs))) [
+      | true ↦ λ e. ap (λ y. y ∷ map h xs) (does x e)
+      | false ↦ λ e. ap (λ ys. h x ∷ ys) (map-change_first h p q f g same does xs)
+    ]
     in go (p x) refl ∙ ap (λ b. cond b (g (h x) ∷ map h xs) (h x ∷ change_first q g (map h xs))) (sym (same x))
 
 pub find-map : {A B : Type 0} (h : A → B) (p : A → Bool) (q : B → Bool) → ((x : A) → q (h x) ≡ p x) → (xs : List A) → find q (map h xs) ≡ option_map h (find p xs)
 find-map h p q same [] = refl
 find-map h p q same (x ∷ xs) =
     let go : (b : Bool) → p x ≡ b → cond b (Some (h x)) (find q (map h xs)) ≡ option_map h (cond b (Some x) (find p xs)) =
-      λ b. elim b as (λ b. p x ≡ b → cond b (Some (h x)) (find q (map h xs)) ≡ option_map h (cond b (Some x) (find p xs))) [
-        true ↦ λ e. refl
-      | false ↦ λ e. find-map h p q same xs ]
+    λ b. elim b as (λ b. p x ≡ b → cond b (Some (h x)) (find q (map h xs)) ≡ option_map h (cond b (Some x) (find p xs))) [
+      | true ↦ λ e. refl
+      | false ↦ λ e. find-map h p q same xs
+    ]
     in ap (λ b. cond b (Some (h x)) (find q (map h xs))) (same x) ∙ go (p x) refl
 
 -- the change is a write at the first place
@@ -52,9 +56,10 @@ change_first-set {A = A} p f (x ∷ xs) d h =
     let n : ℕ = position_or_len p xs in
     let goal : Bool → Type 0 = λ b. cond (not b) (1 + n) 0 < length (x ∷ xs) → cond b (f x ∷ xs) (x ∷ change_first p f xs) ≡ set (x ∷ xs) (cond (not b) (1 + n) 0) (f (get_or (x ∷ xs) (cond (not b) (1 + n) 0) d)) in
     let go : (b : Bool) → goal b =
-      λ b. elim b as goal [
-        true ↦ λ l. refl
-      | false ↦ λ l. rw one-add (ap (λ ys. x ∷ ys) (change_first-set p f xs d (omega arith))) ]
+    λ b. elim b as goal [
+      | true ↦ λ l. refl
+      | false ↦ λ l. rw one-add (ap (λ ys. x ∷ ys) (change_first-set p f xs d (omega arith)))
+    ]
     in go (p x) h
 
 -- where something is found
@@ -63,7 +68,7 @@ place_found p [] h = cc
 place_found {A = A} p (x ∷ xs) h =
     let goal : Bool → Type 0 = λ b. IsSome (cond b (Some x) (find p xs)) → cond (not b) (1 + position_or_len p xs) 0 < length (x ∷ xs) in
     let go : (b : Bool) → goal b =
-      λ b. elim b as goal [ true ↦ λ s. omega arith | false ↦ λ s. omega (arith, place_found p xs s) ]
+    λ b. elim b as goal [ true ↦ λ s. omega arith | false ↦ λ s. omega (arith, place_found p xs s) ]
     in go (p x) h
 
 -- what is found
@@ -73,9 +78,10 @@ find_at_place {A = A} p (x ∷ xs) d h =
     let n : ℕ = position_or_len p xs in
     let goal : Bool → Type 0 = λ b. cond (not b) (1 + n) 0 < length (x ∷ xs) → cond b (Some x) (find p xs) ≡ Some (get_or (x ∷ xs) (cond (not b) (1 + n) 0) d) in
     let go : (b : Bool) → goal b =
-      λ b. elim b as goal [
-        true ↦ λ l. refl
-      | false ↦ λ l. rw one-add (find_at_place p xs d (omega arith)) ]
+    λ b. elim b as goal [
+      | true ↦ λ l. refl
+      | false ↦ λ l. rw one-add (find_at_place p xs d (omega arith))
+    ]
     in go (p x) h
 
 pub position_or_len-map : {A B : Type 0} (h : A → B) (p : B → Bool) (xs : List A) → position_or_len p (map h xs) ≡ position_or_len (λ x. p (h x)) xs

@@ -1,8 +1,9 @@
 -- Worked rows, computed by the definitions.
-use Rattle.std.proofs.Common.{◌≡◌, ℕ, true, false, List, [], ◌∷◌, Option, Some, None, refl}
+use Rattle.std.proofs.Common.{◌≡◌, ℕ, true, false, List, [], ◌∷◌, ◌++◌, Option, Some, None, refl}
 use Rattle.std.specs.Prelude.{codes, replicate}
+use Rattle.mgs_model.specs.Access.{Directory, decision}
 use Rattle.mgs_model.specs.Commands.{command_of}
-use Rattle.mgs_model.specs.Rows.{Row, fitted, shown_row}
+use Rattle.mgs_model.specs.Rows.{Row, fitted, shown_row, shift_for}
 use Rattle.mgs_model.specs.Cells.{glyph}
 use Rattle.mgs_model.specs.Picture.{Picture}
 use Rattle.mgs_model.specs.World.{World, Buffer, find_session}
@@ -11,9 +12,11 @@ use Rattle.mgs_model.specs.Events.{Event, Open, Byte, run, turns, most_turns}
 use Rattle.mgs_model.specs.Draw.{draw, screen}
 use Rattle.std.specs.Option.{option_map}
 use Rattle.std.specs.Fmt.{digits}
+use Rattle.mgs_model.specs.declared.right.Right.TheVariants.{ReadData, WriteData}
+use Rattle.mgs_model.specs.declared.entry.Decision.TheVariants.{Granted, DeniedBy, NotGranted}
 use Rattle.mgs_model.specs.declared.entry.Entry.{Entry}
-use Rattle.mgs_model.specs.declared.entry.EntryType.TheVariants.{Allow}
-use Rattle.mgs_model.specs.declared.entry.Who.TheVariants.{Owner}
+use Rattle.mgs_model.specs.declared.entry.EntryType.TheVariants.{Allow, Deny}
+use Rattle.mgs_model.specs.declared.entry.Who.TheVariants.{Owner, Everyone, User}
 
 ann : List ℕ
 ann = codes "ann"
@@ -47,3 +50,90 @@ stored_run : screen_after (world_with (buffer_with [] full ∷ [])) (Open 1 (cod
     })
 unfolding digits draw outcome turns most_turns command_of glyph fitted shown_row
 stored_run = refl
+
+abbrev reversed : List ℕ → Row
+reversed xs = record { text = xs; reversed = true }
+
+-- five line feeds: the point is on line 6, the top on line 3
+five_lines : screen_after (world_with (buffer_with [] full ∷ [])) (Open 1 (codes "ann") 6 20 ∷ Byte 1 13 true None ∷ Byte 1 13 true None ∷ Byte 1 13 true None ∷ Byte 1 13 true None ∷ Byte 1 13 true None ∷ []) 1 ≡
+    Some (record { rows = 6; cols = 20; lines = blank ∷ blank ∷ blank ∷ blank ∷ reversed (codes "-**-notes-L6-C0-----") ∷ blank ∷ []; row = 3; col = 0 })
+unfolding digits draw outcome turns most_turns command_of glyph fitted shown_row
+five_lines = refl
+
+-- a reader who may neither write nor append
+refused_insertion : screen_after (world_with (buffer_with [] (record { entry_type = Allow; who = User (codes "ann"); mask = 129 } ∷ []) ∷ [])) (Open 1 (codes "ann") 6 20 ∷ Byte 1 120 true None ∷ []) 1 ≡
+    Some (record { rows = 6; cols = 20; lines = blank ∷ blank ∷ blank ∷ blank ∷ reversed (codes "----notes-L1-C0-----") ∷ row (codes "Denied: no entry gr$") ∷ []; row = 0; col = 0 })
+unfolding digits draw outcome turns most_turns command_of glyph fitted shown_row
+refused_insertion = refl
+
+-- C-f at the end, and C-b
+at_the_end : screen_after (world_with (buffer_with (codes "hi") full ∷ [])) (Open 1 (codes "ann") 6 20 ∷ Byte 1 6 true None ∷ Byte 1 6 true None ∷ Byte 1 6 true None ∷ []) 1 ≡
+    Some (record { rows = 6; cols = 20; lines = row (codes "hi                  ") ∷ blank ∷ blank ∷ blank ∷ reversed (codes "----notes-L1-C2-----") ∷ row (codes "End of buffer       ") ∷ []; row = 0; col = 2 })
+unfolding digits draw outcome turns most_turns command_of glyph fitted shown_row
+at_the_end = refl
+
+back_once : screen_after (world_with (buffer_with (codes "hi") full ∷ [])) (Open 1 (codes "ann") 6 20 ∷ Byte 1 6 true None ∷ Byte 1 6 true None ∷ Byte 1 2 true None ∷ []) 1 ≡
+    Some (record { rows = 6; cols = 20; lines = row (codes "hi                  ") ∷ blank ∷ blank ∷ blank ∷ reversed (codes "----notes-L1-C1-----") ∷ blank ∷ []; row = 0; col = 1 })
+unfolding digits draw outcome turns most_turns command_of glyph fitted shown_row
+back_once = refl
+
+-- no memory for the act: it is not done, and the session is told
+no_memory : screen_after (world_with (buffer_with [] full ∷ [])) (Open 1 (codes "ann") 6 20 ∷ Byte 1 104 true (Some 0) ∷ Byte 1 105 true None ∷ Byte 1 104 true (Some 0) ∷ []) 1 ≡
+    Some (record { rows = 6; cols = 20; lines = row (codes "i                   ") ∷ blank ∷ blank ∷ blank ∷ reversed (codes "-**-notes-L1-C1-----") ∷ row (codes "No memory           ") ∷ []; row = 0; col = 1 })
+unfolding digits draw outcome turns most_turns command_of glyph fitted shown_row
+no_memory = refl
+
+-- one who may only append sees no text, acts at its end, and sees no position
+append_without_reading : screen_after (world_with (buffer_with (codes "abc") (record { entry_type = Allow; who = User (codes "bob"); mask = 132 } ∷ []) ∷ [])) (Open 1 (codes "bob") 6 20 ∷ Byte 1 120 true None ∷ []) 1 ≡
+    Some (record { rows = 6; cols = 20; lines = row (codes "[no read: no entry] ") ∷ blank ∷ blank ∷ blank ∷ reversed (codes "-**-notes-(no read)-") ∷ blank ∷ []; row = 0; col = 0 })
+unfolding digits draw outcome turns most_turns command_of glyph fitted shown_row
+append_without_reading = refl
+
+-- DECISIONS
+
+people : Directory
+people = record { users = codes "ann" ∷ codes "bob" ∷ codes "cat" ∷ []; groups = [] }
+
+three : List Entry
+three =
+    record { entry_type = Allow; who = User (codes "ann"); mask = 1 }
+    ∷ record { entry_type = Deny; who = User (codes "ann"); mask = 3 }
+    ∷ record { entry_type = Allow; who = Everyone; mask = 2 } ∷ []
+
+ann_both : decision people (codes "cat") (codes "ann") three 3 ≡ DeniedBy 2 WriteData
+unfolding people three
+ann_both = refl
+
+ann_reads : decision people (codes "cat") (codes "ann") three 1 ≡ Granted
+unfolding people three
+ann_reads = refl
+
+bob_both : decision people (codes "cat") (codes "bob") three 3 ≡ NotGranted ReadData
+unfolding people three
+bob_both = refl
+
+-- the least entry that denies, and its lowest right
+two_denials : decision people (codes "cat") (codes "ann") (record { entry_type = Deny; who = User (codes "ann"); mask = 2 } ∷ record { entry_type = Deny; who = User (codes "ann"); mask = 1 } ∷ []) 3 ≡ DeniedBy 1 WriteData
+unfolding people
+two_denials = refl
+
+one_denial : decision people (codes "cat") (codes "ann") (record { entry_type = Deny; who = User (codes "ann"); mask = 3 } ∷ []) 3 ≡ DeniedBy 1 ReadData
+unfolding people
+one_denial = refl
+
+-- LONG LINES
+
+xs_of : ℕ → List ℕ
+xs_of n = replicate n 120
+
+at_column_18 : shown_row 20 (shift_for 20 18) (xs_of 300) ≡ replicate 19 120 ++ 36 ∷ []
+unfolding shown_row fitted xs_of
+at_column_18 = refl
+
+at_column_19 : shown_row 20 (shift_for 20 19) (xs_of 300) ≡ 36 ∷ replicate 18 120 ++ 36 ∷ []
+unfolding shown_row fitted xs_of
+at_column_19 = refl
+
+at_column_299 : shown_row 20 (shift_for 20 299) (xs_of 300) ≡ 36 ∷ replicate 11 120 ++ replicate 8 32
+unfolding shown_row fitted xs_of
+at_column_299 = refl

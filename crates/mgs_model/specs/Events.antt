@@ -67,9 +67,10 @@ is_size rows cols = nat_le 6 rows && (nat_le rows 64 && (nat_le 20 cols && nat_l
 abbrev pub is_open : ℕ → World → Bool
 is_open id w = is_some (find_session id w.sessions)
 
+-- a user of the directory, a screen that is neither too small nor too large, fewer than 64 sessions, and the next id, a u64
 abbrev pub can_open : World → ℕ → List ℕ → ℕ → ℕ → Bool
 can_open w id user rows cols =
-    is_among user w.directory.users && (is_size rows cols && (nat_lt (length w.sessions) 64 && (id == w.next_id)))
+    is_among user w.directory.users && (is_size rows cols && (nat_lt (length w.sessions) 64 && ((id == w.next_id) && nat_lt id 18446744073709551616)))
 
 abbrev pub opened : World → ℕ → List ℕ → ℕ → ℕ → World
 opened w id user rows cols =

@@ -1,4 +1,4 @@
-use Rattle.std.proofs.Common.{◌≡◌, ◌∙◌, get_or, refl, ap, sym}
+use Rattle.std.proofs.Common.{◌∙◌, get_or, refl, ap, sym}
 use Rattle.std.specs.Option.{option_and_then}
 use Rattle.std.proofs.lemmas.Option.{slice_get-get_or}
 use Rattle.mgs_session.specs.Told.{spot_of}

@@ -1,5 +1,4 @@
-use Rattle.std.proofs.Common.{◌≡◌, ◌+◌, ◌∷◌, ◌≤◌, ◌∙◌, [], ℕ, List, length, get_or, refl, ap, sym, subst, arith}
-use Rattle.mgs_buffers.specs.Kept.{Kept, IsKept, IsMark, kept_at}
+use Rattle.std.proofs.Common.{◌+◌, ◌∷◌, [], get_or, refl, ap, subst, arith}
 use Rattle.mgs_core.specs.Deeds.{CanBeDone}
 use Rattle.mgs_core.proofs.Acts.{mark_is_kept, acting_mark, mark_edited_used, text_edited, sound_set, sound_edited, sound_placed, sizes_set}
 use Rattle.mgs_core.proofs.act.perform.Goals as goal

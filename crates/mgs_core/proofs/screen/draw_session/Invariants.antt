@@ -1,4 +1,4 @@
-use Rattle.std.proofs.Common.{◌≡◌, ◌+◌, ◌<◌, ℕ, List, drop}
+use Rattle.std.proofs.Common.{◌≡◌, ◌+◌, ◌<◌, ℕ, drop}
 use Rattle.mgs_windows.specs.Panes.{room_of}
 use Rattle.mgs_core.proofs.screen.draw_session.Given as goal
 

@@ -1,6 +1,4 @@
-use Rattle.std.proofs.Common.{◌≤◌, ℕ, List, length, take, ap, arith}
-use Rattle.std.proofs.lemmas.List.{length-take}
-use Rattle.mgs_model.specs.Lines.{is_feed, line_of}
+use Rattle.std.proofs.Common.{arith}
 use Rattle.mgs_core.proofs.Screens.{line_within}
 use Rattle.mgs_core.proofs.screen.draw_text.Goals as goal
 

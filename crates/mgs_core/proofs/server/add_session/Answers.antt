@@ -1,8 +1,5 @@
-use Rattle.std.proofs.Common.{◌≡◌, ◌∙◌, ◌++◌, ◌∷◌, [], ℕ, List, Option, Some, None, ap, sym, subst, refl, arith}
-use Rattle.mgs_windows.specs.declared.Spot.{Spot}
+use Rattle.std.proofs.Common.{◌∙◌, ◌++◌, ◌∷◌, [], List, ap, sym, subst}
 use Rattle.mgs_session.specs.declared.Session.{Session}
-use Rattle.mgs_session.specs.Told.{session_opened}
-use Rattle.mgs_buffers.specs.Kept.{Kept}
 use Rattle.mgs_core.specs.Sound.{IsSound}
 use Rattle.mgs_core.proofs.Sizes.{opened_sound}
 use Rattle.mgs_core.proofs.server.add_session.Goals as goal

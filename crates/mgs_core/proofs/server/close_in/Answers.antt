@@ -1,5 +1,4 @@
 use Rattle.std.proofs.Common.{◌≡◌, ◌<◌, ◌∙◌, length, ap, sym, subst, List, arith}
-use Rattle.std.specs.Prelude.{remove}
 use Rattle.std.specs.List.{position_or_len}
 use Rattle.mgs_session.specs.declared.Session.{Session}
 use Rattle.mgs_core.specs.Worlds.{session_id, is_size_of, sizes_in}

@@ -1,6 +1,6 @@
-use Rattle.std.proofs.Common.{◌≡◌, ◌∙◌, ◌<◌, ap, sym, Option, Some, get_or}
+use Rattle.std.proofs.Common.{◌≡◌, ◌∙◌, ap, sym, Some}
 use Rattle.mgs_session.specs.declared.Session.{Session}
-use Rattle.mgs_core.specs.Worlds.{Size, size_in}
+use Rattle.mgs_core.specs.Worlds.{Size}
 use Rattle.mgs_core.proofs.Acts.{session_sound}
 use Rattle.mgs_core.proofs.Sizes.{size_within, some_size}
 use Rattle.mgs_core.proofs.server.draw_in.Goals as goal

@@ -1,4 +1,4 @@
-use Rattle.std.proofs.Common.{◌≡◌, ◌<◌, ◌∙◌, get_or, length, refl, ap, sym, arith}
+use Rattle.std.proofs.Common.{◌∙◌, get_or, refl, ap, arith}
 use Rattle.mgs_core.proofs.Acts.{sound_set, sizes_set}
 use Rattle.mgs_core.proofs.Sizes.{no_size, some_size, not_none}
 use Rattle.mgs_core.proofs.server.key_in.Goals as goal

@@ -30,5 +30,5 @@ invariant_of-self g c =
     let size : length k.buffer.text ≡ length c.args.text.now = ap (λ (k : Kept). length k.buffer.text) (c.in-Ok.ensures c.in-Some.name) in
     ended c.put_last.result c.put_last.ensures.ok c.put_last.ensures.err
     (λ more. subst AreWithinLimit (sym (kept-added g.T.Text.text g.T.Text.marks c.self.inside.all.entries c.put_last.new.all.entries c.args.self.now c.in-Some.name c.in-Ok.shelf k c.self.view_is more refl))
-      (limit-added c.args.self.now k old (omega (arith, size))))
+    (limit-added c.args.self.now k old (omega (arith, size))))
     (λ same. subst AreWithinLimit (sym (ap (kept_all g.T.Text.text g.T.Text.marks) same ∙ c.self.view_is)) old)

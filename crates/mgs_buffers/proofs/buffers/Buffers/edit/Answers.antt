@@ -32,5 +32,5 @@ invariant_of-self g c =
     let old = subst AreWithinLimit c.self.view_is c.self.invariant in
     ended c.edit.result c.edit.ensures.ok c.edit.ensures.err
     (λ does. subst AreWithinLimit (sym (kept-written g.T.Text.text g.T.Text.marks c.args.name.now (kept_edited c.args.a c.args.b c.args.put.now) c.self.inside.all.entries c.args.self.now c.place_of-at.result _ c.pair_mut-shelf.result.1.now c.edit.new.self c.self.view_is c.place_of-at.ensures.value c.pair_mut-shelf.ensures.value does))
-      (limit-edited c.args.name.now c.args.a c.args.b c.args.put.now c.args.self.now old c.requires.order c.requires.within c.requires.room))
+    (limit-edited c.args.name.now c.args.a c.args.b c.args.put.now c.args.self.now old c.requires.order c.requires.within c.requires.room))
     (λ same. subst AreWithinLimit (sym (kept-same g.T.Text.text g.T.Text.marks c.self.inside.all.entries c.args.self.now c.place_of-at.result _ c.pair_mut-shelf.result.1.now c.edit.new.self c.self.view_is c.pair_mut-shelf.ensures.value same)) old)

@@ -1,6 +1,6 @@
-use Rattle.std.proofs.Common.{◌∙◌, ap, sym, subst, List}
+use Rattle.std.proofs.Common.{◌∙◌, ap, sym, subst}
 use Rattle.mgs_model.specs.Apply.{remove_first}
-use Rattle.mgs_core.specs.Worlds.{Size, sizes, is_size_of, id_after}
+use Rattle.mgs_core.specs.Worlds.{sizes, is_size_of, id_after}
 use Rattle.mgs_core.specs.Sound.{AreBelow}
 use Rattle.mgs_core.proofs.Sizes.{sizes_world, below_removed}
 use Rattle.mgs_core.proofs.server.Core.close.Goals as goal

@@ -1,8 +1,7 @@
-use Rattle.std.proofs.Common.{◌≡◌, ◌∙◌, ap, sym, subst, List, Option, None, arith}
+use Rattle.std.proofs.Common.{◌≡◌, ◌∙◌, ap, sym, arith}
 use Rattle.std.specs.Vec.{with_items}
 use Rattle.std.proofs.lemmas.List.{with_items_is}
-use Rattle.mgs_session.specs.declared.Session.{Session}
-use Rattle.mgs_core.specs.Worlds.{Size, sizes, sizes_in, find_size}
+use Rattle.mgs_core.specs.Worlds.{sizes, sizes_in, find_size}
 use Rattle.mgs_core.proofs.Sizes.{sizes_world}
 use Rattle.mgs_core.proofs.server.Core.key.Goals as goal
 

@@ -1,4 +1,4 @@
-use Rattle.std.proofs.Common.{◌≡◌, ◌+◌, ◌<◌, ◌^◌, ◌∙◌, ◌++◌, ◌∷◌, [], ℕ, List, Option, Some, None, ap, sym, subst, arith}
+use Rattle.std.proofs.Common.{◌+◌, ◌∙◌, ◌++◌, ◌∷◌, [], ℕ, List, Option, ap, sym, subst, arith}
 use Rattle.mgs_core.specs.Worlds.{Size, sizes, sizes_in, id_after}
 use Rattle.mgs_core.specs.Sound.{AreBelow}
 use Rattle.mgs_core.proofs.Sizes.{sizes_world, below_more, below_added, fresh}
