@@ -1,0 +1,19 @@
+use Rattle.std.proofs.Common.{◌≡◌, map, ap, ◌∙◌, arith}
+use Rattle.std.proofs.lemmas.Bool.{ltb-true, lt-ltb}
+use Rattle.std.specs.List.{position_or_len}
+use Rattle.mgs_core.specs.Worlds.{sizes}
+use Rattle.mgs_engine.specs.Serving.{Serving}
+use Rattle.mgs_engine.specs.Screens.{screen_id, size_of}
+use Rattle.mgs_engine.proofs.Screens.{open_place}
+use Rattle.mgs_engine.proofs.engine.Engine.is_open.Goals as goal
+
+pub returns : goal.returns
+returns g c =
+    let v : map size_of c.self.inside.screens.items ≡ sizes c.args.self.now.world =
+    c.self.invariant.sizes_are ∙ ap (λ (s : Serving). sizes s.world) c.self.view_is in
+    let e : c.place_of.result ≡ position_or_len (screen_id c.args.id) c.self.inside.screens.items =
+    c.place_of.ensures.value ∙ ap (position_or_len (screen_id c.args.id)) c.deref.ensures.value in
+    let o = open_place c.args.id (sizes c.args.self.now.world) c.self.inside.screens.items c.place_of.result v e in (
+      λ h. o.0 (omega (arith, ltb-true c.place_of.result c.len.result h, c.len.ensures, c.self.inside.screens.ok.0)),
+      λ h. lt-ltb c.place_of.result c.len.result (omega (arith, o.1 h, c.len.ensures, c.self.inside.screens.ok.0)),
+    )

@@ -1,0 +1,17 @@
+//! What turns events of sessions into bytes for their terminals.
+//!
+//! An [`Engine`] holds a world, and a screen for each open session. After each event it draws the screens again, and
+//! where one has changed, the bytes that paint it wait to be taken.
+#![tactic(auto)]
+
+mod draw;
+mod engine;
+mod place;
+mod screen;
+mod take;
+
+pub use engine::Engine;
+pub use take::Taker;
+
+#[cfg(test)]
+mod tests;

@@ -1,0 +1,70 @@
+ghost use Rattle.std.specs.Prelude.{◌≡◌, []};
+ghost use Rattle.mgs_core.specs.Worlds.{sizes};
+
+use super::*;
+use mgs_acl::{List, read_entry};
+use mgs_buffers::Buffers;
+use mgs_core::Core;
+use mgs_marks::PlainMarked;
+use mgs_model::{Keyed, SessionId};
+use mgs_policy::Directory;
+use std::alloc::Global;
+use std::process::Abort;
+use std::test::Fail;
+
+// Whether anything was taken.
+#[derive(Drop)]
+struct Seen {
+    any: bool,
+}
+
+impl Taker for Seen {
+    fn take(&mut self, _id: SessionId, bytes: &[u8]) {
+        self.any = self.any || !bytes.is_empty();
+    }
+}
+
+// The world of ann, and of a buffer that she may read and write.
+fn world(alloc: Global, rt: &impl Abort) -> Core<PlainMarked>
+    ensures { sizes result ≡ [] }
+{
+    let mut directory = Directory::new(alloc);
+    assert!(rt; directory.add_user("ann").is_ok());
+    let mut list = List::new();
+    match read_entry("ALLOW OWNER@ rwt") {
+        Ok(entry) => assert!(rt; list.insert(0, entry).is_ok()),
+        Err(_) => panic!(rt; "no entry"),
+    }
+    let mut buffers = Buffers::new(alloc);
+    assert!(rt;
+        buffers
+            .add("notes", "ann", list, &['a', 'b'], false)
+            .is_ok()
+    );
+    Core::new(alloc, directory, buffers)
+}
+
+#[test]
+fn a_session_is_painted(rt: HostRuntime) -> Result<(), Fail> {
+    let alloc = rt.alloc();
+    let core = world(alloc, &rt);
+    let Ok(mut engine) = Engine::new(alloc, core) else {
+        panic!(rt; "no memory");
+    };
+    let id = engine.open("ann", 6, 20).map_err(|_| "not opened")?;
+    assert!(rt; engine.is_open(id));
+    let waiting = engine.pending(id).len();
+    assert!(rt; waiting > 0);
+    engine.took(id, 1);
+    assert_eq!(rt; engine.pending(id).len(), waiting - 1);
+    let mut seen = Seen { any: false };
+    engine.take_all(&mut seen);
+    assert!(rt; seen.any);
+    assert!(rt; engine.pending(id).is_empty());
+    assert_eq!(rt; engine.byte(id, b'x'), Keyed::Done);
+    assert!(rt; !engine.pending(id).is_empty());
+    engine.take_all(&mut seen);
+    engine.close(id);
+    assert!(rt; !engine.is_open(id));
+    Ok(())
+}
