@@ -1,0 +1,5 @@
+pub mod Feeds
+pub mod Utf8
+pub mod Taking
+pub mod Rows
+pub mod Mapped

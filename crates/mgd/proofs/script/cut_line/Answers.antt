@@ -1,0 +1,15 @@
+use Rattle.std.proofs.Common.{◌≡◌, ◌+◌, ◌-◌, take, drop, length, arith}
+use Rattle.std.proofs.lemmas.Grind.{common_steps}
+use Rattle.mgs_model.specs.Lines.{is_feed}
+use Rattle.mgd.proofs.Feeds.{cut_some, cut_none}
+use Rattle.mgd.proofs.script.cut_line.Goals as goal
+
+pub returns-in-None-clause-lines : goal.returns-in-None-clause-lines
+returns-in-None-clause-lines c = cut_none is_feed c.args.script.now c.in-None.ensures.at
+
+pub returns-in-Some-clause-lines : goal.returns-in-Some-clause-lines
+returns-in-Some-clause-lines c =
+    let t = c.args.script.now in
+    let i = c.in-Some.at in
+    let whole : take (length t - (i + 1)) (drop (i + 1) t) ≡ drop (i + 1) t = grind (arith, common_steps) in
+    rw whole (cut_some is_feed t i c.in-Some.ensures.at)

@@ -1,0 +1,24 @@
+-- Why a line ends a replay.
+use Rattle.std.specs.Prelude.{ℕ, Result, Ok, Err}
+use Rattle.mgd.specs.declared.line.LineFault.{LineFault}
+use Rattle.mgd.specs.declared.line.LineFault.TheVariants as lines
+use Rattle.mgd.specs.declared.play.TurnFault.{TurnFault}
+use Rattle.mgd.specs.declared.play.TurnFault.TheVariants as turns
+use Rattle.mgd.specs.declared.replay.ReplayFault.{ReplayFault}
+use Rattle.mgd.specs.declared.replay.ReplayFault.TheVariants as ends
+
+-- a refused line, or want of memory
+abbrev pub fault_of : LineFault → TurnFault
+fault_of lines.Bad = turns.Refused
+fault_of lines.Short = turns.Short
+
+-- how a replay ends by a fault of the line of that number
+abbrev pub end_at : ℕ → TurnFault → ReplayFault
+end_at n turns.Refused = ends.Line n
+end_at n turns.Write = ends.Write
+end_at n turns.Short = ends.Short
+
+-- printing fails only for want of memory
+abbrev pub short_or : {E : Type 0} → Result (Unit {0}) E → Result (Unit {0}) LineFault
+short_or (Ok done) = Ok done
+short_or (Err e) = Err lines.Short

@@ -1,0 +1,195 @@
+-- What the lines of a script say.
+use Rattle.std.specs.Prelude.{◌≡◌, ℕ, ◌+◌, ◌-◌, ◌*◌, ◌==◌, nat_le, Bool, ◌&&◌, ◌||◌, not, is_some, List, [], ◌∷◌, length, codes, slice_index, Option, Some, None, Result, Ok, Err, if◌then◌else◌}
+use Rattle.std.specs.Option.{option_map, option_and_then}
+use Rattle.std.specs.List.{list_all}
+use Rattle.std.specs.Str.{bytes_eq, is_utf8}
+use Rattle.mgs_model.specs.Names.{is_name, is_user_name}
+use Rattle.mgs_keys.specs.Words.{word_of, rest_of, words_of}
+use Rattle.mgs_keys.specs.Tokens.{keys_of, quoted_of, spelled_by}
+use Rattle.mgd.specs.declared.line.Line.{Line}
+use Rattle.mgd.specs.declared.line.Line.TheVariants as code
+use Rattle.mgd.specs.declared.line.LineFault.{LineFault}
+use Rattle.mgd.specs.declared.line.LineFault.TheVariants.{Bad, Short}
+use Rattle.mgd.specs.declared.kind.Kind.{Kind}
+use Rattle.mgd.specs.declared.kind.Kind.TheVariants as kinds
+
+-- what a line says
+pub data Said : Type 0 where
+  Nothing : Said
+  User : (name : List ℕ) → Said
+  Buffer : (name owner : List ℕ) → Said
+  Entry : (buffer entry : List ℕ) → Said
+  Text : (buffer text : List ℕ) → Said
+  Open : (label user : List ℕ) → (rows cols : ℕ) → Said
+  Keys : (label keys : List ℕ) → Said
+  Show : (label : List ℕ) → Said
+  Close : (label : List ℕ) → Said
+
+infixl 10 ◌>>=◌
+abbrev pub ◌>>=◌ : {A B : Type 0} → Option A → (A → Option B) → Option B
+o >>= f = option_and_then f o
+
+-- WORDS
+
+-- a label or a buffer's name
+abbrev pub name_of : List ℕ → Option (List ℕ)
+name_of w = if is_name w then Some w else None
+
+-- a user's name
+abbrev pub owner_of : List ℕ → Option (List ℕ)
+owner_of w = if is_name w && is_user_name w then Some w else None
+
+-- any word: one or more bytes without a carriage return; a cut leaves no space in it
+abbrev pub is_word : List ℕ → Bool
+is_word w = nat_le 1 (length w) && list_all (λ b. not (b == 13)) w
+
+abbrev pub any_word_of : List ℕ → Option (List ℕ)
+any_word_of w = if is_word w then Some w else None
+
+-- a text that is one word
+abbrev pub only_word_of : List ℕ → Option (List ℕ)
+only_word_of t = if is_some (rest_of t) then None else any_word_of t
+
+-- a decimal digit, and one that a longer number may begin with
+abbrev pub is_digit : ℕ → Bool
+is_digit b = nat_le 48 b && nat_le b 57
+
+abbrev pub is_first_digit : ℕ → Bool
+is_first_digit b = nat_le 49 b && nat_le b 57
+
+-- a number of 1 to 3 digits without leading zeros
+abbrev pub number_of : List ℕ → Option ℕ
+number_of w =
+    if (length w == 1) && is_digit (slice_index w 0) then Some (slice_index w 0 - 48)
+    else if (length w == 2) && (is_first_digit (slice_index w 0) && is_digit (slice_index w 1))
+    then Some ((slice_index w 0 - 48) * 10 + (slice_index w 1 - 48))
+    else if (length w == 3) && (is_first_digit (slice_index w 0) && (is_digit (slice_index w 1) && is_digit (slice_index w 2)))
+    then Some ((slice_index w 0 - 48) * 100 + (slice_index w 1 - 48) * 10 + (slice_index w 2 - 48))
+    else None
+
+-- the characters of one token of a text
+unfoldable pub token_characters : List ℕ → Option (List ℕ)
+token_characters t =
+    if bytes_eq t (codes "RET") then Some (10 ∷ [])
+    else if bytes_eq t (codes "SPC") then Some (32 ∷ [])
+    else quoted_of t
+
+-- the characters that a text of tokens spells
+abbrev pub text_of : List ℕ → Option (List ℕ)
+text_of t = spelled_by token_characters (words_of t)
+
+-- LINES
+
+-- the first word of a line
+abbrev pub kind_named : List ℕ → Option Kind
+kind_named w =
+    if bytes_eq w (codes "user") then Some kinds.User
+    else if bytes_eq w (codes "buffer") then Some kinds.Buffer
+    else if bytes_eq w (codes "entry") then Some kinds.Entry
+    else if bytes_eq w (codes "text") then Some kinds.Text
+    else if bytes_eq w (codes "open") then Some kinds.Open
+    else if bytes_eq w (codes "keys") then Some kinds.Keys
+    else if bytes_eq w (codes "show") then Some kinds.Show
+    else if bytes_eq w (codes "close") then Some kinds.Close
+    else None
+
+-- a user's name, whose form is judged where the user is added
+unfoldable pub user_said : List ℕ → Option Said
+user_said t = option_map User (only_word_of t)
+
+-- a buffer's name and its owner's
+unfoldable pub buffer_said : List ℕ → Option Said
+buffer_said t = do
+  name ← name_of (word_of t)
+  rest ← rest_of t
+  owner ← owner_of rest
+  Some (Buffer name owner)
+
+-- a buffer's name and the text of an entry, in which more spaces may stand
+unfoldable pub entry_said : List ℕ → Option Said
+entry_said t = do
+  buffer ← name_of (word_of t)
+  entry ← rest_of t
+  Some (Entry buffer entry)
+
+-- a buffer's name and tokens
+unfoldable pub text_said : List ℕ → Option Said
+text_said t = do
+  buffer ← name_of (word_of t)
+  rest ← rest_of t
+  text ← text_of rest
+  Some (Text buffer text)
+
+-- rows and columns
+abbrev pub size_of : List ℕ → Option (ℕ × ℕ)
+size_of t = do
+  rows ← number_of (word_of t)
+  rest ← rest_of t
+  cols ← number_of rest
+  Some (rows, cols)
+
+-- a label, a user who need not be known, and a size that need not be one of a screen
+unfoldable pub open_said : List ℕ → Option Said
+open_said t = do
+  label ← name_of (word_of t)
+  rest ← rest_of t
+  user ← any_word_of (word_of rest)
+  sizes ← rest_of rest
+  size ← size_of sizes
+  Some (Open label user size.0 size.1)
+
+-- a label and tokens
+unfoldable pub keys_said : List ℕ → Option Said
+keys_said t = do
+  label ← name_of (word_of t)
+  rest ← rest_of t
+  keys ← keys_of rest
+  Some (Keys label keys)
+
+-- what stands behind the first word, by what the word says
+abbrev pub said_as : Kind → List ℕ → Option Said
+said_as kinds.User t = user_said t
+said_as kinds.Buffer t = buffer_said t
+said_as kinds.Entry t = entry_said t
+said_as kinds.Text t = text_said t
+said_as kinds.Open t = open_said t
+said_as kinds.Keys t = keys_said t
+said_as kinds.Show t = option_map Show (name_of t)
+said_as kinds.Close t = option_map Close (name_of t)
+
+-- what a line says by its first word
+unfoldable pub said_by_kind : List ℕ → Option Said
+said_by_kind t = do
+  kind ← kind_named (word_of t)
+  rest ← rest_of t
+  said_as kind rest
+
+-- empty lines, and those that begin with `#`
+abbrev pub is_passed_over : List ℕ → Bool
+is_passed_over t = (length t == 0) || (slice_index t 0 == 35)
+
+-- bytes that are UTF-8
+abbrev pub utf8_of : List ℕ → Option (List ℕ)
+utf8_of t = if is_utf8 t then Some t else None
+
+-- what a line says; one that is passed over may hold any bytes
+abbrev pub said_in : List ℕ → Option Said
+said_in t = if is_passed_over t then Some Nothing else (utf8_of t >>= said_by_kind)
+
+-- the line as the code holds it
+abbrev pub view : Line → Said
+view code.Nothing = Nothing
+view (code.User name) = User name.now
+view (code.Buffer name owner) = Buffer name.now owner.now
+view (code.Entry buffer entry) = Entry buffer entry.now
+view (code.Text buffer text) = Text buffer text.items
+view (code.Open label user rows cols) = Open label user.now rows cols
+view (code.Keys label keys) = Keys label keys.items
+view (code.Show label) = Show label
+view (code.Close label) = Close label
+
+-- exactly what the line says; Bad exactly where it says nothing that is known
+abbrev pub GivesLine : Result Line LineFault → Option Said → Type 0
+GivesLine (Ok l) said = said ≡ Some (view l)
+GivesLine (Err Bad) said = said ≡ None
+GivesLine (Err Short) said = Unit {0}

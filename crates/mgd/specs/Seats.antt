@@ -1,0 +1,46 @@
+-- What stands behind each label.
+use Rattle.std.specs.Prelude.{◌≡◌, ℕ, List, map, find, Bool, Option, Some, None, Result, Ok, Err, ◌++◌, if◌then◌else◌}
+use Rattle.std.specs.Option.{option_map}
+use Rattle.mgs_model.specs.Names.{same_name}
+use Rattle.mgd.specs.declared.seat.Labelled.{Labelled}
+use Rattle.mgd.specs.declared.seat.Seat.{Seat}
+use Rattle.mgd.specs.declared.seat.Seat.TheVariants.{Never, Open, Ended}
+use Rattle.mgd.specs.declared.seat.Cause.{Cause}
+use Rattle.mgd.specs.declared.line.LineFault.{LineFault}
+use Rattle.mgd.specs.declared.line.LineFault.TheVariants.{Bad, Short}
+use Rattle.mgd.specs.Prints.{screen_text, ended_text}
+
+abbrev pub is_labelled : List ℕ → Labelled → Bool
+is_labelled label x = same_name label x.label
+
+-- what stands behind a label, if it was used
+abbrev pub seat_of : List ℕ → List Labelled → Option Seat
+seat_of label xs = option_map (λ (x : Labelled). x.seat) (find (is_labelled label) xs)
+
+-- a label's session has ended
+abbrev pub ended_by : List ℕ → Cause → Labelled → Labelled
+ended_by label cause x = if is_labelled label x then record { label = x.label; seat = Ended cause } else x
+
+-- the labels that were used
+abbrev pub labels_of : List Labelled → List (List ℕ)
+labels_of xs = map (λ (x : Labelled). x.label) xs
+
+-- the open session of a label, or none where it ended; a label without a session is refused
+abbrev pub session_in : Option Seat → Result (Option ℕ) LineFault
+session_in None = Err Bad
+session_in (Some Never) = Err Bad
+session_in (Some (Open id term)) = Ok (Some id)
+session_in (Some (Ended cause)) = Ok None
+
+-- what a `show` line prints; none where it is refused
+abbrev pub shown_text : List ℕ → Option Seat → Option (List ℕ)
+shown_text label None = None
+shown_text label (Some Never) = None
+shown_text label (Some (Open id term)) = Some (screen_text label term.screen)
+shown_text label (Some (Ended cause)) = Some (ended_text label cause)
+
+-- exactly the text was printed; the line is refused exactly where there is none
+abbrev pub Prints : Result (Unit {0}) LineFault → List ℕ → List ℕ → Option (List ℕ) → Type 0
+Prints (Ok done) old new text = option_map (λ (t : List ℕ). old ++ t) text ≡ Some new
+Prints (Err Bad) old new text = text ≡ None
+Prints (Err Short) old new text = Unit {0}

@@ -1,0 +1,52 @@
+// The kinds of a script's lines.
+ghost use Rattle.std.specs.Prelude.{◌≡◌};
+ghost use Rattle.mgd.specs.Lines.{kind_named};
+
+/// What a script's line begins with.
+#[derive(Clone, Copy, Debug, PartialEq, Eq)]
+pub enum Kind {
+    User,
+    Buffer,
+    Entry,
+    Text,
+    Open,
+    Keys,
+    Show,
+    Close,
+}
+
+/// The kind of line that a word begins.
+pub fn kind_of(word: &str) -> Option<Kind>
+    ensures { result ≡ kind_named word.now }
+{
+    if word == "user" {
+        Some(Kind::User)
+    } else if word == "buffer" {
+        Some(Kind::Buffer)
+    } else if word == "entry" {
+        Some(Kind::Entry)
+    } else if word == "text" {
+        Some(Kind::Text)
+    } else if word == "open" {
+        Some(Kind::Open)
+    } else if word == "keys" {
+        Some(Kind::Keys)
+    } else if word == "show" {
+        Some(Kind::Show)
+    } else if word == "close" {
+        Some(Kind::Close)
+    } else {
+        None
+    }
+}
+
+#[cfg(test)]
+mod tests {
+    use super::{Kind, kind_of};
+
+    #[test]
+    fn kinds_are_named(rt: HostRuntime) {
+        assert_eq!(rt; kind_of("entry"), Some(Kind::Entry));
+        assert_eq!(rt; kind_of("group"), None);
+    }
+}

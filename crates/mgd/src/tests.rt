@@ -1,0 +1,298 @@
+// Whole scripts, over readers and writers in memory.
+use crate::replay::{ReplayFault, replay};
+use mgs_model::SCRIPT_LIMIT;
+use std::alloc::Global;
+use std::io::{self, ErrorKind, Read, Write};
+use std::process::Abort;
+use std::test::Fail;
+
+const NOTES: &str = "user ann\nbuffer notes ann\nentry notes ALLOW OWNER@ rwatdcCo\n";
+
+// A script gives this output and this end.
+fn gives(
+    rt: &impl Abort,
+    alloc: Global,
+    script: &[u8],
+    output: &str,
+    end: Result<(), ReplayFault>,
+) {
+    let mut reader = script;
+    let mut written = Vec::new(alloc);
+    let outcome = replay(alloc, &mut reader, &mut written);
+    assert_eq!(rt; outcome, end);
+    assert!(rt; written.as_slice() == output.as_bytes());
+}
+
+// The same of lines behind the user, the buffer and the entry of `NOTES`.
+fn plays(
+    rt: &impl Abort,
+    alloc: Global,
+    lines: &str,
+    output: &str,
+    end: Result<(), ReplayFault>,
+) -> Result<(), Fail> {
+    let mut script = Vec::from_slice(alloc, NOTES.as_bytes())?;
+    script.extend_from_slice(lines.as_bytes())?;
+    gives(rt, alloc, &script, output, end);
+    Ok(())
+}
+
+#[test]
+fn the_first_screen_is_printed(rt: HostRuntime) -> Result<(), Fail> {
+    let lines = "open a ann 6 20\nkeys a 'hi\nshow a\nclose a\n";
+    let output = "screen a\n\
+        |hi                  |\n\
+        |                    |\n\
+        |                    |\n\
+        |                    |\n\
+        !-**-notes-L1-C2-----!\n\
+        |                    |\n\
+        cursor 1 3\n";
+    plays(&rt, rt.alloc(), lines, output, Ok(()))
+}
+
+#[test]
+fn screens_follow_the_point(rt: HostRuntime) -> Result<(), Fail> {
+    let lines = "open a ann 6 20\nkeys a RET RET RET RET RET\nshow a\n";
+    let output = "screen a\n\
+        |                    |\n\
+        |                    |\n\
+        |                    |\n\
+        |                    |\n\
+        !-**-notes-L6-C0-----!\n\
+        |                    |\n\
+        cursor 4 1\n";
+    plays(&rt, rt.alloc(), lines, output, Ok(()))
+}
+
+#[test]
+fn the_point_moves(rt: HostRuntime) -> Result<(), Fail> {
+    let lines = "open a ann 6 20\nkeys a 'hi C-f\nshow a\nkeys a C-b\nshow a\n";
+    let output = "screen a\n\
+        |hi                  |\n\
+        |                    |\n\
+        |                    |\n\
+        |                    |\n\
+        !-**-notes-L1-C2-----!\n\
+        |End of buffer       |\n\
+        cursor 1 3\n\
+        screen a\n\
+        |hi                  |\n\
+        |                    |\n\
+        |                    |\n\
+        |                    |\n\
+        !-**-notes-L1-C1-----!\n\
+        |                    |\n\
+        cursor 1 2\n";
+    plays(&rt, rt.alloc(), lines, output, Ok(()))
+}
+
+#[test]
+fn denials_are_shown(rt: HostRuntime) {
+    let script =
+        b"user ann\nbuffer notes ann\nentry notes ALLOW ann rt\nopen a ann 6 20\nkeys a 'x\nshow a";
+    let output = "screen a\n\
+        |                    |\n\
+        |                    |\n\
+        |                    |\n\
+        |                    |\n\
+        !----notes-L1-C0-----!\n\
+        |Denied: no entry gr$|\n\
+        cursor 1 1\n";
+    gives(&rt, rt.alloc(), script, output, Ok(()));
+}
+
+#[test]
+fn other_keys_are_not_bound(rt: HostRuntime) -> Result<(), Fail> {
+    let output = "screen a\n\
+        |                    |\n\
+        |                    |\n\
+        |                    |\n\
+        |                    |\n\
+        !----notes-L1-C0-----!\n\
+        |Key not bound       |\n\
+        cursor 1 1\n";
+    for token in [
+        "C-a", "C-c", "C-d", "C-e", "C-g", "C-h", "C-i", "C-j", "C-k", "C-l", "C-n", "C-o", "C-p",
+        "C-q", "C-r", "C-s", "C-t", "C-u", "C-v", "C-w", "C-x", "C-y", "C-z", "C-SPC", "C-_",
+        "ESC", "DEL",
+    ] {
+        let mut lines = String::from_str(rt.alloc(), "open a ann 6 20\nkeys a ")?;
+        lines.push_str(token)?;
+        lines.push_str("\nshow a\n")?;
+        plays(&rt, rt.alloc(), &lines, output, Ok(()))?;
+    }
+    Ok(())
+}
+
+#[test]
+fn what_one_types_the_other_sees(rt: HostRuntime) -> Result<(), Fail> {
+    let lines =
+        "text notes 'ab\nopen a ann 6 20\nopen b ann 6 20\nkeys b C-f C-f\nkeys a 'x\nshow a\nshow b\n";
+    let output = "screen a\n\
+        |xab                 |\n\
+        |                    |\n\
+        |                    |\n\
+        |                    |\n\
+        !-**-notes-L1-C1-----!\n\
+        |                    |\n\
+        cursor 1 2\n\
+        screen b\n\
+        |xab                 |\n\
+        |                    |\n\
+        |                    |\n\
+        |                    |\n\
+        !-**-notes-L1-C3-----!\n\
+        |                    |\n\
+        cursor 1 4\n";
+    plays(&rt, rt.alloc(), lines, output, Ok(()))
+}
+
+#[test]
+fn lines_before_a_refused_one_have_printed(rt: HostRuntime) -> Result<(), Fail> {
+    let mut reader = b"user ann\nfrob\nopen a ann 6 20\n".as_slice();
+    let mut written = Vec::new(rt.alloc());
+    let outcome = replay(rt.alloc(), &mut reader, &mut written);
+    assert_eq!(rt; outcome, Err(ReplayFault::Line(2)));
+    assert!(rt; written.is_empty());
+    let lines = "open a ann 0 20\nopen b bob 6 20\n# a remark\n\nfrob\nshow a\n";
+    let output = "refused a 2 Size\nrefused b 1 NoUser\n";
+    plays(&rt, rt.alloc(), lines, output, Err(ReplayFault::Line(8)))
+}
+
+#[test]
+fn lines_of_other_forms_are_refused(rt: HostRuntime) -> Result<(), Fail> {
+    for line in [
+        "user",
+        "user ann",
+        "user Ann",
+        "group all ann",
+        "buffer notes ann",
+        "buffer more bob",
+        "buffer more",
+        "entry more ALLOW ann r",
+        "entry notes ALLOW ann x",
+        "text more 'a",
+        "text notes TAB",
+        "open a ann 06 20",
+        "open a ann 6",
+        "keys a 'x",
+        "show a",
+        "close a",
+        " ",
+        "show a\r",
+    ] {
+        plays(&rt, rt.alloc(), line, "", Err(ReplayFault::Line(4)))?;
+    }
+    Ok(())
+}
+
+#[test]
+fn lines_behind_an_open_are_refused(rt: HostRuntime) -> Result<(), Fail> {
+    for lines in [
+        "open a bob 6 20\nopen a ann 6 20",
+        "open a bob 6 20\nkeys a 'x",
+        "open a bob 6 20\nshow a",
+        "open a bob 6 20\nclose a",
+        "open a bob 6 20\nuser bob",
+        "open a bob 6 20\nbuffer more ann",
+        "open a bob 6 20\nentry notes ALLOW ann r",
+        "open a bob 6 20\ntext notes 'a",
+        "open a bob 6 20\nkeys b 'x",
+    ] {
+        let output = "refused a 1 NoUser\n";
+        plays(&rt, rt.alloc(), lines, output, Err(ReplayFault::Line(5)))?;
+    }
+    Ok(())
+}
+
+#[test]
+fn sessions_are_closed(rt: HostRuntime) -> Result<(), Fail> {
+    let lines = "open a ann 6 20\nclose a\nshow a\nkeys a 'x\nclose a\nshow a\n";
+    let output = "ended a Closed\nended a Closed\n";
+    plays(&rt, rt.alloc(), lines, output, Ok(()))?;
+    let lines = "open a ann 6 20\nclose a\nkeys a TAB\n";
+    plays(&rt, rt.alloc(), lines, "", Err(ReplayFault::Line(6)))?;
+    let lines = "open a ann 6 20\nclose a\nopen a ann 6 20\n";
+    plays(&rt, rt.alloc(), lines, "", Err(ReplayFault::Line(6)))
+}
+
+#[test]
+fn lists_are_full_at_64_entries(rt: HostRuntime) -> Result<(), Fail> {
+    let mut lines = Vec::new(rt.alloc());
+    for _ in 0..63 {
+        lines.extend_from_slice(b"entry notes ALLOW ann r\n")?;
+    }
+    let mut script = Vec::from_slice(rt.alloc(), NOTES.as_bytes())?;
+    script.extend_from_slice(lines.as_slice())?;
+    let mut reader = script.as_slice();
+    let mut written = Vec::new(rt.alloc());
+    assert_eq!(rt; replay(rt.alloc(), &mut reader, &mut written), Ok(()));
+    script.extend_from_slice(b"entry notes ALLOW ann r")?;
+    let mut reader = script.as_slice();
+    assert_eq!(rt;
+        replay(rt.alloc(), &mut reader, &mut written),
+        Err(ReplayFault::Line(67))
+    );
+    Ok(())
+}
+
+// A reader that fails, and a writer that fails.
+#[derive(Drop)]
+struct Broken;
+
+impl Read for Broken {
+    fn read(&mut self, _buf: &mut [u8]) -> io::Result<usize> {
+        Err(io::Error::from(ErrorKind::Other))
+    }
+}
+
+impl Write for Broken {
+    fn write(&mut self, _buf: &[u8]) -> io::Result<usize> {
+        Err(io::Error::from(ErrorKind::Other))
+    }
+
+    fn flush(&mut self) -> io::Result<()> {
+        Ok(())
+    }
+}
+
+// A writer that takes all and cannot flush.
+#[derive(Drop)]
+struct Clogged;
+
+impl Write for Clogged {
+    fn write(&mut self, buf: &[u8]) -> io::Result<usize> {
+        Ok(buf.len())
+    }
+
+    fn flush(&mut self) -> io::Result<()> {
+        Err(io::Error::from(ErrorKind::Other))
+    }
+}
+
+#[test]
+fn faults_of_readers_and_writers_are_told(rt: HostRuntime) -> Result<(), Fail> {
+    let mut written = Vec::new(rt.alloc());
+    let read = replay(rt.alloc(), &mut Broken, &mut written);
+    assert_eq!(rt; read, Err(ReplayFault::Read));
+    let mut reader = b"open a bob 6 20".as_slice();
+    let wrote = replay(rt.alloc(), &mut reader, &mut Broken);
+    assert_eq!(rt; wrote, Err(ReplayFault::Write));
+    let mut reader = b"frob".as_slice();
+    let flushed = replay(rt.alloc(), &mut reader, &mut Clogged);
+    assert_eq!(rt; flushed, Err(ReplayFault::Write));
+    Ok(())
+}
+
+#[test]
+fn long_scripts_are_not_read(rt: HostRuntime) -> Result<(), Fail> {
+    let script = vec![in rt.alloc(); b'#'; SCRIPT_LIMIT + 1]?;
+    let mut written = Vec::new(rt.alloc());
+    let mut reader = script.as_slice();
+    let long = replay(rt.alloc(), &mut reader, &mut written);
+    assert_eq!(rt; long, Err(ReplayFault::Read));
+    let mut reader = &script.as_slice()[..SCRIPT_LIMIT];
+    assert_eq!(rt; replay(rt.alloc(), &mut reader, &mut written), Ok(()));
+    Ok(())
+}
