@@ -51,6 +51,7 @@ fn moved<T: Marked + Drop>(
     requires kept { IsKept name.now all.old }
     requires within { p ≤ length (kept_at name.now all.old).buffer.text }
     requires serial { (kept_at name.now all.old).buffer.serial < 2 ^ 63 }
+    requires room { length (kept_at name.now all.old).buffer.text + length put.now ≤ 1048576 }
 {
     let id = all.add_mark(name, p)?;
     all.edit(name, 0, 0, put)?;

@@ -1,4 +1,4 @@
-use Rattle.std.proofs.Common.{refl, sym, ap, subst, arith}
+use Rattle.std.proofs.Common.{◌+◌, ◌≤◌, length, refl, sym, ap, subst, arith}
 use Rattle.mgs_buffers.specs.Kept.{Kept, IsKept, kept_edited}
 use Rattle.mgs_buffers.proofs.Changes.{kept_at-added, IsKept-added, IsMark-added, IsMark-edited, IsKept-changed}
 use Rattle.mgs_buffers.proofs.tests.moved.Goals as goal
@@ -9,6 +9,11 @@ edit-requires-clause-kept g c = IsKept-added _ _ _ _ _ c.requires.kept c.in_ok-i
 pub edit-requires-clause-serial : goal.edit-requires-clause-serial
 edit-requires-clause-serial g c =
     omega (arith, ap (λ (k : Kept). k.buffer.serial) (kept_at-added _ _ _ _ _ c.requires.kept c.in_ok-id.ensures.ok), c.requires.serial)
+
+pub edit-requires-clause-room : goal.edit-requires-clause-room
+edit-requires-clause-room g c =
+    subst (λ (k : Kept). length k.buffer.text + length c.args.put.now ≤ 1048576)
+    (sym (kept_at-added _ _ _ _ _ c.requires.kept c.in_ok-id.ensures.ok)) c.requires.room
 
 pub pos-now-requires-clause-kept : goal.pos-now-requires-clause-kept
 pos-now-requires-clause-kept g c =
