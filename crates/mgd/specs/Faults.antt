@@ -1,5 +1,5 @@
 -- Why a line ends a replay.
-use Rattle.std.specs.Prelude.{ℕ, Result, Ok, Err}
+use Rattle.std.specs.Prelude.{ℕ, ◌≤◌, Result, Ok, Err}
 use Rattle.mgd.specs.declared.line.LineFault.{LineFault}
 use Rattle.mgd.specs.declared.line.LineFault.TheVariants as lines
 use Rattle.mgd.specs.declared.play.TurnFault.{TurnFault}
@@ -22,3 +22,11 @@ end_at n turns.Short = ends.Short
 abbrev pub short_or : {E : Type 0} → Result (Unit {0}) E → Result (Unit {0}) LineFault
 short_or (Ok done) = Ok done
 short_or (Err e) = Err lines.Short
+
+-- lines are counted from 1
+abbrev pub IsCounted : {A : Type 0} → Result A ReplayFault → Type 0
+IsCounted (Ok a) = Unit {0}
+IsCounted (Err (ends.Line n)) = 1 ≤ n
+IsCounted (Err ends.Read) = Unit {0}
+IsCounted (Err ends.Write) = Unit {0}
+IsCounted (Err ends.Short) = Unit {0}

@@ -2,7 +2,7 @@
 ghost use Rattle.std.specs.Prelude.{◌≡◌, ◌+◌, ◌≤◌, length, OnOk, IfOk, IfSome};
 ghost use Rattle.mgs_engine.specs.Serving.{AllTaken};
 ghost use Rattle.mgs_model.specs.Picture.{IsSize};
-ghost use Rattle.mgd.specs.Faults.{fault_of, end_at, short_or};
+ghost use Rattle.mgd.specs.Faults.{fault_of, end_at, short_or, IsCounted};
 ghost use Rattle.mgd.specs.Seats.{Prints, seat_of, session_in, shown_text};
 
 use crate::line::{Line, LineFault, read_line};
@@ -236,7 +236,9 @@ fn run_lines<W: Write>(
     writer: &mut W,
 ) -> Result<(), ReplayFault>
     requires taken { AllTaken server.old }
+    requires first { 1 ≤ first }
     requires counted { first + length text.now ≤ SCRIPT_LIMIT + 1 }
+    ensures { IsCounted result }
 {
     let mut seats = Seats::new(alloc);
     let mut out = Vec::new(alloc);
@@ -272,7 +274,9 @@ fn set_up<'a>(
     script: &'a [u8],
 ) -> Result<Option<(usize, &'a [u8])>, ReplayFault>
     requires { length script.now ≤ SCRIPT_LIMIT }
-    ensures { IfOk result (λ o. IfSome o (λ p. p.0 + length p.1.now ≤ SCRIPT_LIMIT + 1)) }
+    ensures line { IsCounted result }
+    ensures first { IfOk result (λ o. IfSome o (λ p. 1 ≤ p.0)) }
+    ensures counted { IfOk result (λ o. IfSome o (λ p. p.0 + length p.1.now ≤ SCRIPT_LIMIT + 1)) }
 {
     let mut rest = Some(script);
     let mut number = 1usize;
@@ -295,6 +299,7 @@ fn set_up<'a>(
 /// is want of memory.
 pub fn play<W: Write>(alloc: Global, script: &[u8], writer: &mut W) -> Result<(), ReplayFault>
     requires { length script.now ≤ SCRIPT_LIMIT }
+    ensures { IsCounted result }
 {
     let mut setup = Setup::new(alloc);
     let first = set_up(alloc, &mut setup, script)?;

@@ -1,6 +1,7 @@
 // Reads a script, and replays it.
 ghost use Rattle.std.specs.Prelude.{◌≡◌, ◌+◌, ◌≤◌, ◌<◌, length, IfOk, IfSome};
 ghost use Rattle.std.specs.Io.KnownBytes.{Keeps};
+ghost use Rattle.mgd.specs.Faults.{IsCounted};
 ghost use Rattle.mgd.specs.Reads.{PieceRead, TakesAtMost};
 
 use crate::play::play;
@@ -74,7 +75,8 @@ pub fn replay<R: Read, W: Write>(
     reader: &mut R,
     writer: &mut W,
 ) -> Result<(), ReplayFault>
-    ensures { TakesAtMost (R.remaining reader.old) (R.remaining reader.new) 16777217 }
+    ensures line { IsCounted result }
+    ensures taken { TakesAtMost (R.remaining reader.old) (R.remaining reader.new) 16777217 }
 {
     let script = match read_script(alloc, reader) {
         Ok(script) => script,

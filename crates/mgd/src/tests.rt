@@ -149,6 +149,80 @@ fn what_one_types_the_other_sees(rt: HostRuntime) -> Result<(), Fail> {
 }
 
 #[test]
+fn who_may_not_read_appends(rt: HostRuntime) {
+    let script =
+        b"user ann\nuser bob\nbuffer notes ann\nentry notes ALLOW bob at\ntext notes 'abc\nopen b bob 6 20\nkeys b 'x\nshow b";
+    let output = "screen b\n\
+        |[no read: no entry] |\n\
+        |                    |\n\
+        |                    |\n\
+        |                    |\n\
+        !-**-notes-(no read)-!\n\
+        |                    |\n\
+        cursor 1 1\n";
+    gives(&rt, rt.alloc(), script, output, Ok(()));
+}
+
+#[test]
+fn who_may_see_nothing_has_no_buffer(rt: HostRuntime) {
+    let script = b"user ann\nbuffer notes ann\nopen a ann 6 20\nkeys a 'x\nshow a";
+    let output = "screen a\n\
+        |                    |\n\
+        |                    |\n\
+        |                    |\n\
+        |                    |\n\
+        !-None---------------!\n\
+        |No buffer           |\n\
+        cursor 1 1\n";
+    gives(&rt, rt.alloc(), script, output, Ok(()));
+}
+
+// On a line of 300 characters, the point goes so many forward.
+fn goes_along(rt: &impl Abort, alloc: Global, count: usize, output: &str) -> Result<(), Fail> {
+    let mut lines = String::from_str(alloc, "text notes '")?;
+    for _ in 0..300 {
+        lines.push_str("x")?;
+    }
+    lines.push_str("\nopen a ann 6 20\nkeys a")?;
+    for _ in 0..count {
+        lines.push_str(" C-f")?;
+    }
+    lines.push_str("\nshow a\n")?;
+    plays(rt, alloc, &lines, output, Ok(()))
+}
+
+#[test]
+fn long_lines_are_shown_around_the_point(rt: HostRuntime) -> Result<(), Fail> {
+    let unshifted = "screen a\n\
+        |xxxxxxxxxxxxxxxxxxx$|\n\
+        |                    |\n\
+        |                    |\n\
+        |                    |\n\
+        !----notes-L1-C18----!\n\
+        |                    |\n\
+        cursor 1 19\n";
+    goes_along(&rt, rt.alloc(), 18, unshifted)?;
+    let shifted = "screen a\n\
+        |$xxxxxxxxxxxxxxxxxx$|\n\
+        |                    |\n\
+        |                    |\n\
+        |                    |\n\
+        !----notes-L1-C19----!\n\
+        |                    |\n\
+        cursor 1 11\n";
+    goes_along(&rt, rt.alloc(), 19, shifted)?;
+    let last = "screen a\n\
+        |$xxxxxxxxxxx        |\n\
+        |                    |\n\
+        |                    |\n\
+        |                    |\n\
+        !----notes-L1-C299---!\n\
+        |                    |\n\
+        cursor 1 12\n";
+    goes_along(&rt, rt.alloc(), 299, last)
+}
+
+#[test]
 fn lines_before_a_refused_one_have_printed(rt: HostRuntime) -> Result<(), Fail> {
     let mut reader = b"user ann\nfrob\nopen a ann 6 20\n".as_slice();
     let mut written = Vec::new(rt.alloc());
@@ -287,12 +361,9 @@ fn faults_of_readers_and_writers_are_told(rt: HostRuntime) -> Result<(), Fail> {
 
 #[test]
 fn long_scripts_are_not_read(rt: HostRuntime) -> Result<(), Fail> {
-    let script = vec![in rt.alloc(); b'#'; SCRIPT_LIMIT + 1]?;
-    let mut written = Vec::new(rt.alloc());
-    let mut reader = script.as_slice();
-    let long = replay(rt.alloc(), &mut reader, &mut written);
-    assert_eq!(rt; long, Err(ReplayFault::Read));
-    let mut reader = &script.as_slice()[..SCRIPT_LIMIT];
-    assert_eq!(rt; replay(rt.alloc(), &mut reader, &mut written), Ok(()));
+    let long = vec![in rt.alloc(); b'#'; SCRIPT_LIMIT + 1]?;
+    gives(&rt, rt.alloc(), &long, "", Err(ReplayFault::Read));
+    let longest = vec![in rt.alloc(); b'#'; SCRIPT_LIMIT]?;
+    gives(&rt, rt.alloc(), &longest, "", Ok(()));
     Ok(())
 }

@@ -7,6 +7,7 @@ use Rattle.mgd.proofs.play.run_lines.Given as goal
 abbrev pub invariant-loop-rest : goal.invariant-loop-rest
 invariant-loop-rest g l = record {
   taken : AllTaken l.server;
+  first : 1 ≤ l.number;
   counted : l.number + length_left l.rest ≤ 16777218;
 }
 
