@@ -17,3 +17,5 @@ pub mod Apply
 pub mod Events
 pub mod Seen
 pub mod Draw
+pub mod Secrecy
+pub mod Purging

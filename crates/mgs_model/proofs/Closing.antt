@@ -1,0 +1,168 @@
+-- What the users do leaves closed buffers closed.
+use Rattle.std.proofs.Common.{◌≡◌, ℕ, List, [], ◌∷◌, ◌++◌, not, refl, sym, ap, ◌∙◌, Bool, true, false, cond, Option, Some, None, is_some}
+use Rattle.std.specs.Option.{option_map}
+use Rattle.mgs_model.specs.Names.{same_name}
+use Rattle.mgs_model.specs.Access.{Directory, decider, any_right}
+use Rattle.mgs_model.specs.World.{World, Buffer, Session, Own, is_named, find_session, find_buffer}
+use Rattle.mgs_model.specs.View.{view, buffer_seen, find_seen}
+use Rattle.mgs_model.specs.Outcome.{Outcome, Effect, No_effect, Edit, Unmodified, Relist, Reown, Create, Kill, Save, Quit}
+use Rattle.mgs_model.specs.Plans.{outcome}
+use Rattle.mgs_model.specs.Apply.{change_first, remove_first, buffers_after, buffer_edited, buffer_unmodified, new_buffer, without_buffer, apply}
+use Rattle.mgs_model.specs.Events.{Doing, Turn, Rest, Do, Refuse, refused_own, with_own, done_by, turn_done}
+use Rattle.mgs_model.specs.Secrecy.{IsOf, has_name}
+use Rattle.mgs_model.specs.Purging.{NoRightsAmong, Closed}
+use Rattle.mgs_model.specs.declared.right.Right.{Right}
+use Rattle.mgs_model.specs.declared.right.Right.TheVariants.{Delete, WriteAcl, WriteOwner}
+use Rattle.mgs_model.specs.declared.session.Command.{Command}
+use Rattle.mgs_model.proofs.Blind.{is_some_map, same_names}
+use Rattle.mgs_model.proofs.Firsts.{find-map}
+use Rattle.mgs_model.proofs.Outcomes.{granted_found, granted_on, lawful, outcome_lawful}
+use Rattle.mgs_model.proofs.Unseen.{found_none}
+
+-- THE USERS LEAVE CLOSED BUFFERS CLOSED
+
+-- what no lawful effect of the users has for its buffer
+Spares : (List ℕ → Bool) → Effect → Type 0
+Spares shut (Relist name entries) = shut name ≡ false
+Spares shut (Reown name owner) = shut name ≡ false
+Spares shut (Create name owner) = shut name ≡ false
+Spares shut (Kill name) = shut name ≡ false
+Spares shut _ = Unit {0}
+
+not_shut : (b c : Bool) → (b ≡ true → c ≡ false) → c ≡ true → b ≡ false
+not_shut true c p e = sym e ∙ p refl
+not_shut false c p e = refl
+
+module _ (users shut : List ℕ → Bool) (w : World) (x : Session) (g : users x.user ≡ true) (h : Closed users shut w) where
+  seen_found : (n : List ℕ) → find_seen n (view w x).buffers ≡ option_map (buffer_seen w.directory x.user) (find_buffer n w.buffers)
+  seen_found n = find-map (buffer_seen w.directory x.user) (is_named n) (λ b. same_name n b.name) (λ b. refl) w.buffers
+
+  grant_seen : (n : List ℕ) (r : Right) → granted_on (view w x) n r ≡ true → shut n ≡ false
+  grant_seen n r e =
+      not_shut (shut n) (granted_on (view w x) n r)
+      (λ q. ap (granted_found r) (seen_found n) ∙ found_none users shut w.directory x.user g r n q w.buffers h.no_rights)
+      e
+
+  name_seen : (n : List ℕ) → is_some (find_seen n (view w x).buffers) ≡ has_name n w.buffers
+  name_seen n = ap is_some (seen_found n) ∙ is_some_map (buffer_seen w.directory x.user) (find_buffer n w.buffers)
+
+  spares : (e : Effect) → lawful (view w x) e ≡ true → Spares shut e
+  unfolding Spares
+  spares (Relist n l) e = grant_seen n WriteAcl e
+  spares (Reown n u) e = grant_seen n WriteOwner e
+  spares (Kill n) e = grant_seen n Delete e
+  spares (Create n u) e = not_shut (shut n) (not (is_some (find_seen n (view w x).buffers))) (λ q. ap not (name_seen n ∙ h.there n q)) e
+  spares (Edit n a b t) e = tt
+  spares (Unmodified n) e = tt
+  spares (Save n t) e = tt
+  spares No_effect e = tt
+  spares Quit e = tt
+
+-- what is asked of one buffer
+NoRights : (List ℕ → Bool) → (List ℕ → Bool) → Directory → Buffer → Type 0
+NoRights users shut d b = shut b.name ≡ true → (u : List ℕ) → users u ≡ true → any_right (decider d b.owner u b.entries) ≡ false
+
+rights-change : (users shut : List ℕ → Bool) (d : Directory) (p : Buffer → Bool) (f : Buffer → Buffer) → ((b : Buffer) → p b ≡ true → NoRights users shut d b → NoRights users shut d (f b)) → (bs : List Buffer) → NoRightsAmong users shut d bs → NoRightsAmong users shut d (change_first p f bs)
+unfolding NoRights
+rights-change users shut d p f q [] h = tt
+rights-change users shut d p f q (b ∷ bs) h = choose (p b) refl (rights-change users shut d p f q bs h.1)
+  where
+    choose : (c : Bool) → p b ≡ c → NoRightsAmong users shut d (change_first p f bs) → NoRightsAmong users shut d (cond c (f b ∷ bs) (b ∷ change_first p f bs))
+    choose true e r = (q b e h.0, h.1)
+    choose false e r = (h.0, r)
+
+rights-remove : (users shut : List ℕ → Bool) (d : Directory) (p : Buffer → Bool) (bs : List Buffer) → NoRightsAmong users shut d bs → NoRightsAmong users shut d (remove_first p bs)
+rights-remove users shut d p [] h = tt
+rights-remove users shut d p (b ∷ bs) h = choose (p b) (rights-remove users shut d p bs h.1)
+  where
+    choose : (c : Bool) → NoRightsAmong users shut d (remove_first p bs) → NoRightsAmong users shut d (cond c bs (b ∷ remove_first p bs))
+    choose true r = h.1
+    choose false r = (h.0, r)
+
+rights-append : (users shut : List ℕ → Bool) (d : Directory) (bs : List Buffer) (b : Buffer) → NoRights users shut d b → NoRightsAmong users shut d bs → NoRightsAmong users shut d (bs ++ (b ∷ []))
+unfolding NoRights
+rights-append users shut d [] b p h = (p, tt)
+rights-append users shut d (x ∷ bs) b p h = (h.0, rights-append users shut d bs b p h.1)
+
+-- a buffer of another name may get any list and any owner
+other_name : (users shut : List ℕ → Bool) (d : Directory) (n : List ℕ) (c : Buffer) → shut n ≡ false → c.name ≡ n → NoRights users shut d c
+unfolding NoRights
+other_name users shut d n c q e s u g = let z : true ≡ false = sym s ∙ ap shut e ∙ q in cc
+
+rights_after : (users shut : List ℕ → Bool) (d : Directory) (e : Effect) (bs : List Buffer) → Spares shut e → NoRightsAmong users shut d bs → NoRightsAmong users shut d (buffers_after e bs)
+unfolding Spares NoRights
+rights_after users shut d No_effect bs q h = h
+rights_after users shut d (Edit n a b t) bs q h = rights-change users shut d (is_named n) (buffer_edited a b t) (λ x e p. p) bs h
+rights_after users shut d (Unmodified n) bs q h = rights-change users shut d (is_named n) buffer_unmodified (λ x e p. p) bs h
+rights_after users shut d (Relist n l) bs q h = rights-change users shut d (is_named n) (λ x. record x { entries = l }) (λ x e p. other_name users shut d n (record x { entries = l }) q (sym (same_names n x.name e))) bs h
+rights_after users shut d (Reown n u) bs q h = rights-change users shut d (is_named n) (λ x. record x { owner = u }) (λ x e p. other_name users shut d n (record x { owner = u }) q (sym (same_names n x.name e))) bs h
+rights_after users shut d (Create n u) bs q h = rights-append users shut d bs (new_buffer n u) (other_name users shut d n (new_buffer n u) q refl) h
+rights_after users shut d (Kill n) bs q h = rights-remove users shut d (is_named n) bs h
+rights_after users shut d (Save n t) bs q h = rights-change users shut d (is_named n) buffer_unmodified (λ x e p. p) bs h
+rights_after users shut d Quit bs q h = h
+
+has-change : (p : Buffer → Bool) (f : Buffer → Buffer) → ((b : Buffer) → (f b).name ≡ b.name) → (m : List ℕ) (bs : List Buffer) → has_name m (change_first p f bs) ≡ has_name m bs
+has-change p f e m [] = refl
+has-change p f e m (x ∷ xs) = choose (p x) (has-change p f e m xs)
+  where
+    choose : (c : Bool) → has_name m (change_first p f xs) ≡ has_name m xs → has_name m (cond c (f x ∷ xs) (x ∷ change_first p f xs)) ≡ is_some (cond (same_name m x.name) (Some x) (find_buffer m xs))
+    choose true ih = by (same_name m x.name) (ap (same_name m) (e x))
+      where
+        by : (k : Bool) → same_name m (f x).name ≡ k → is_some (cond (same_name m (f x).name) (Some (f x)) (find_buffer m xs)) ≡ is_some (cond k (Some x) (find_buffer m xs))
+        by true r = ap (λ k. is_some (cond k (Some (f x)) (find_buffer m xs))) r
+        by false r = ap (λ k. is_some (cond k (Some (f x)) (find_buffer m xs))) r
+    choose false ih = by (same_name m x.name)
+      where
+        by : (k : Bool) → is_some (cond k (Some x) (find_buffer m (change_first p f xs))) ≡ is_some (cond k (Some x) (find_buffer m xs))
+        by true = refl
+        by false = ih
+
+has-append : (m : List ℕ) (bs : List Buffer) (b : Buffer) → has_name m bs ≡ true → has_name m (bs ++ (b ∷ [])) ≡ true
+has-append m [] b h = cc
+has-append m (x ∷ bs) b h = choose (has-append m bs b) (same_name m x.name) h
+  where
+    choose : (has_name m bs ≡ true → has_name m (bs ++ (b ∷ [])) ≡ true) → (c : Bool) → is_some (cond c (Some x) (find_buffer m bs)) ≡ true → is_some (cond c (Some x) (find_buffer m (bs ++ (b ∷ [])))) ≡ true
+    choose ih true e = refl
+    choose ih false e = ih e
+
+has-remove : (shut : List ℕ → Bool) (m n : List ℕ) → shut m ≡ true → shut n ≡ false → (bs : List Buffer) → has_name m bs ≡ true → has_name m (without_buffer n bs) ≡ true
+has-remove shut m n p q [] h = h
+has-remove shut m n p q (x ∷ bs) h = choose (has-remove shut m n p q bs) (same_name n x.name) refl (same_name m x.name) refl h
+  where
+    choose : (has_name m bs ≡ true → has_name m (without_buffer n bs) ≡ true) → (c : Bool) → same_name n x.name ≡ c → (k : Bool) → same_name m x.name ≡ k → is_some (cond k (Some x) (find_buffer m bs)) ≡ true → has_name m (cond c bs (x ∷ without_buffer n bs)) ≡ true
+    choose ih true e true f r = let z : true ≡ false = sym p ∙ ap shut (same_names m x.name f ∙ sym (same_names n x.name e)) ∙ q in cc
+    choose ih true e false f r = r
+    choose ih false e true f r = ap (λ k. is_some (cond k (Some x) (find_buffer m (without_buffer n bs)))) f
+    choose ih false e false f r = ap (λ k. is_some (cond k (Some x) (find_buffer m (without_buffer n bs)))) f ∙ ih r
+
+there_after : (shut : List ℕ → Bool) (e : Effect) (bs : List Buffer) → Spares shut e → (m : List ℕ) → shut m ≡ true → has_name m bs ≡ true → has_name m (buffers_after e bs) ≡ true
+unfolding Spares
+there_after shut No_effect bs q m p h = h
+there_after shut (Edit n a b t) bs q m p h = has-change (is_named n) (buffer_edited a b t) (λ x. refl) m bs ∙ h
+there_after shut (Unmodified n) bs q m p h = has-change (is_named n) buffer_unmodified (λ x. refl) m bs ∙ h
+there_after shut (Relist n l) bs q m p h = has-change (is_named n) (λ x. record x { entries = l }) (λ x. refl) m bs ∙ h
+there_after shut (Reown n u) bs q m p h = has-change (is_named n) (λ x. record x { owner = u }) (λ x. refl) m bs ∙ h
+there_after shut (Create n u) bs q m p h = has-append m bs (new_buffer n u) h
+there_after shut (Kill n) bs q m p h = has-remove shut m n p q bs h
+there_after shut (Save n t) bs q m p h = has-change (is_named n) buffer_unmodified (λ x. refl) m bs ∙ h
+there_after shut Quit bs q m p h = h
+
+closed_apply : (users shut : List ℕ → Bool) (w : World) (id : ℕ) (o : Outcome) → Spares shut o.effect → Closed users shut w → Closed users shut (apply w id o)
+closed_apply users shut w id o q h = record {
+  there = λ m p. there_after shut o.effect w.buffers q m p (h.there m p);
+  no_rights = rights_after users shut w.directory o.effect w.buffers q h.no_rights;
+}
+
+closed_done_by : (users shut : List ℕ → Bool) (id : ℕ) (stored : Bool) (c : Command) (d : Doing) (s : Option Session) → IsOf users s → Closed users shut d.world → Closed users shut (done_by id stored c d s).world
+closed_done_by users shut id stored c d None g h = h
+closed_done_by users shut id stored c d (Some x) g h =
+    closed_apply users shut d.world id (outcome (view d.world x) c stored) (spares users shut d.world x g h (outcome (view d.world x) c stored).effect (outcome_lawful (view d.world x) c stored)) h
+
+-- no session matters to which buffers are closed
+pub closed_with_own : (users shut : List ℕ → Bool) (id : ℕ) (f : Own → Own) (w : World) → Closed users shut w → Closed users shut (with_own id f w)
+closed_with_own users shut id f w h = record { there = h.there; no_rights = h.no_rights }
+
+pub closed_turn : (users shut : List ℕ → Bool) (id : ℕ) (stored : Bool) (t : Turn) (d : Doing) → IsOf users (find_session id d.world.sessions) → Closed users shut d.world → Closed users shut (turn_done id stored t d).world
+closed_turn users shut id stored Rest d g h = h
+closed_turn users shut id stored (Do c) d g h = closed_done_by users shut id stored c d (find_session id d.world.sessions) g h
+closed_turn users shut id stored (Refuse c) d g h = closed_with_own users shut id refused_own d.world h

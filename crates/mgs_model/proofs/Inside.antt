@@ -1,0 +1,174 @@
+-- What others do inside closed buffers leaves the outline.
+use Rattle.std.proofs.Common.{◌≡◌, ℕ, zero, suc, List, [], ◌∷◌, length, map, not, refl, sym, ap, ◌∙◌, Bool, true, false, Option, Some, None}
+use Rattle.std.specs.Option.{option_map}
+use Rattle.mgs_model.specs.Names.{same_name}
+use Rattle.mgs_model.specs.World.{World, Buffer, Session, Window, Place, Search, Own, Shows, Nothing, Buffer_of, Listing, List_of, is_named, has_id, find_session}
+use Rattle.mgs_model.specs.View.{view}
+use Rattle.mgs_model.specs.Outcome.{Outcome, Effect, No_effect, Edit, Unmodified, Relist, Reown, Create, Kill, Save, Quit}
+use Rattle.mgs_model.specs.Plans.{outcome}
+use Rattle.mgs_model.specs.Text.{shift}
+use Rattle.mgs_model.specs.Apply.{change_first, buffers_after, buffer_edited, buffer_unmodified, is_in, session_after, session_arranged, window_moved, window_moved_if, place_moved, search_moved, after_quit, apply}
+use Rattle.mgs_model.specs.Events.{Todo, Doing, Turn, Rest, Do, Refuse, next, refused_own, with_own, done_by, turn_done, turn, turns}
+use Rattle.mgs_model.specs.Purging.{is_other, InsideEffect, InsideAct, InsideTurn, InsideTurns}
+use Rattle.mgs_model.specs.declared.session.Command.{Command}
+use Rattle.mgs_model.proofs.Blind.{change_inside, change_found, map_inside, same_names}
+use Rattle.mgs_model.proofs.Firsts.{find-change_first}
+use Rattle.mgs_model.proofs.Outline.{erase_if, erase, shows_shut, forget_window_if, forget_window, forget_place_if, forget_place, forget_search_if, forget_search, forget_if, forget, outline, place_moved_if, search_moved_if}
+use Rattle.mgs_model.proofs.Stepping.{the_world}
+use Rattle.mgs_model.proofs.After.{user_after, find_moved, find_after}
+use Rattle.mgs_model.proofs.Unseen.{Like}
+
+-- WHAT STAYS INSIDE LEAVES THE OUTLINE
+
+edited_inside : (h : Bool) → h ≡ true → (a b : ℕ) (put : List ℕ) (x : Buffer) → erase_if h (buffer_edited a b put x) ≡ erase_if h x
+edited_inside true p a b put x = refl
+edited_inside false p a b put x = cc
+
+unmodified_inside : (h : Bool) → h ≡ true → (x : Buffer) → erase_if h (buffer_unmodified x) ≡ erase_if h x
+unmodified_inside true p x = refl
+unmodified_inside false p x = cc
+
+inside_name : (shut : List ℕ → Bool) (n : List ℕ) → shut n ≡ true → (m : List ℕ) → same_name n m ≡ true → shut m ≡ true
+inside_name shut n p m e = sym (ap shut (same_names n m e)) ∙ p
+
+buffers_inside : (shut : List ℕ → Bool) (e : Effect) → InsideEffect shut e → (bs : List Buffer) → map (erase shut) (buffers_after e bs) ≡ map (erase shut) bs
+buffers_inside shut No_effect p bs = refl
+buffers_inside shut (Edit n a b put) p bs = change_inside (erase shut) (is_named n) (buffer_edited a b put) bs (λ x e. edited_inside (shut x.name) (inside_name shut n p x.name e) a b put x)
+buffers_inside shut (Unmodified n) p bs = change_inside (erase shut) (is_named n) buffer_unmodified bs (λ x e. unmodified_inside (shut x.name) (inside_name shut n p x.name e) x)
+buffers_inside shut (Save n text) p bs = change_inside (erase shut) (is_named n) buffer_unmodified bs (λ x e. unmodified_inside (shut x.name) (inside_name shut n p x.name e) x)
+buffers_inside shut (Relist n l) p bs = absurd p
+buffers_inside shut (Reown n u) p bs = absurd p
+buffers_inside shut (Create n u) p bs = absurd p
+buffers_inside shut (Kill n) p bs = absurd p
+buffers_inside shut Quit p bs = absurd p
+
+moved_inside : (h f : Bool) → (f ≡ true → h ≡ true) → (move : ℕ → ℕ) (x : Window) → forget_window_if h (window_moved_if f move x) ≡ forget_window_if h x
+moved_inside true f p move x = refl
+moved_inside false false p move x = refl
+moved_inside false true p move x = let z : false ≡ true = p refl in cc
+
+in_shut : (shut : List ℕ → Bool) (n : List ℕ) → shut n ≡ true → (shows : Shows) → is_in n shows ≡ true → shows_shut shut shows ≡ true
+in_shut shut n p (Buffer_of m) e = inside_name shut n p m e
+in_shut shut n p Nothing e = e
+in_shut shut n p Listing e = e
+in_shut shut n p (List_of m) e = e
+
+place_inside : (h f : Bool) → (f ≡ true → h ≡ true) → (move : ℕ → ℕ) (x : Place) → forget_place_if h (place_moved_if f move x) ≡ forget_place_if h x
+place_inside true f p move x = refl
+place_inside false false p move x = refl
+place_inside false true p move x = let z : false ≡ true = p refl in cc
+
+search_inside_if : (h f : Bool) → (f ≡ true → h ≡ true) → (move : ℕ → ℕ) (x : Search) → forget_search_if h (search_moved_if f move x) ≡ forget_search_if h x
+search_inside_if true f p move x = refl
+search_inside_if false false p move x = refl
+search_inside_if false true p move x = let z : false ≡ true = p refl in cc
+
+search_inside : (shut : List ℕ → Bool) (n : List ℕ) (move : ℕ → ℕ) → shut n ≡ true → (o : Option Search) → forget_search shut (option_map (search_moved n move) o) ≡ forget_search shut o
+search_inside shut n move p None = refl
+search_inside shut n move p (Some x) = ap Some (search_inside_if (shut x.name) (same_name n x.name) (inside_name shut n p x.name) move x)
+
+edit_inside : (o : Bool) (shut : List ℕ → Bool) (n : List ℕ) (a b : ℕ) (put : List ℕ) → shut n ≡ true → (x : Session) → forget_if o shut (session_after (Edit n a b put) x) ≡ forget_if o shut x
+edit_inside false shut n a b put p x = refl
+edit_inside true shut n a b put p x =
+    let move : ℕ → ℕ = shift a b (length put) in
+    λ i. record x {
+      windows = map_inside (forget_window shut) (window_moved n move) (λ y. moved_inside (shows_shut shut y.shows) (is_in n y.shows) (in_shut shut n p y.shows) move y) x.windows i;
+      places = map_inside (forget_place shut) (place_moved n move) (λ y. place_inside (shut y.name) (same_name n y.name) (inside_name shut n p y.name) move y) x.places i;
+      search = search_inside shut n move p x.search i;
+    }
+
+session_inside : (users shut : List ℕ → Bool) (e : Effect) → InsideEffect shut e → (x : Session) → forget users shut (session_after e x) ≡ forget users shut x
+session_inside users shut No_effect p x = refl
+session_inside users shut (Edit n a b put) p x = edit_inside (users x.user) shut n a b put p x
+session_inside users shut (Unmodified n) p x = refl
+session_inside users shut (Save n text) p x = refl
+session_inside users shut (Relist n l) p x = absurd p
+session_inside users shut (Reown n u) p x = absurd p
+session_inside users shut (Create n u) p x = absurd p
+session_inside users shut (Kill n) p x = absurd p
+session_inside users shut Quit p x = absurd p
+
+quit_inside : (shut : List ℕ → Bool) (e : Effect) → InsideEffect shut e → (id : ℕ) (xs : List Session) → after_quit e id xs ≡ xs
+quit_inside shut No_effect p id xs = refl
+quit_inside shut (Edit n a b put) p id xs = refl
+quit_inside shut (Unmodified n) p id xs = refl
+quit_inside shut (Save n text) p id xs = refl
+quit_inside shut (Relist n l) p id xs = absurd p
+quit_inside shut (Reown n u) p id xs = absurd p
+quit_inside shut (Create n u) p id xs = absurd p
+quit_inside shut (Kill n) p id xs = absurd p
+quit_inside shut Quit p id xs = absurd p
+
+not_true : (c : Bool) → not c ≡ true → c ≡ false
+not_true true e = sym e
+not_true false e = refl
+
+-- what another's session holds is no part of the outline
+forget_other : (o : Bool) → o ≡ false → (shut : List ℕ → Bool) (x y : Session) → x.id ≡ y.id → x.user ≡ y.user → forget_if o shut x ≡ forget_if o shut y
+forget_other false e shut x y p q = λ i. record (forget_if false shut x) { id = p i; user = q i }
+forget_other true e shut x y p q = cc
+
+found_other : (users : List ℕ → Bool) (o : Option Session) (x : Session) → o ≡ Some x → is_other users o ≡ true → users x.user ≡ false
+found_other users o x e h = not_true (users x.user) (ap (is_other users) (sym e) ∙ h)
+
+other_after : (users : List ℕ → Bool) (e : Effect) (o : Option Session) → is_other users (option_map (session_after e) o) ≡ is_other users o
+other_after users e None = refl
+other_after users e (Some x) = ap (λ u. not (users u)) (user_after e x)
+
+sessions_inside : (users shut : List ℕ → Bool) (id : ℕ) (o : Outcome) → InsideEffect shut o.effect → (xs : List Session) → is_other users (find_session id xs) ≡ true → map (forget users shut) (after_quit o.effect id (change_first (has_id id) (session_arranged o.arrange o.own) (map (session_after o.effect) xs))) ≡ map (forget users shut) xs
+sessions_inside users shut id o p xs h =
+    ap (map (forget users shut)) (quit_inside shut o.effect p id (change_first (has_id id) (session_arranged o.arrange o.own) (map (session_after o.effect) xs)))
+    ∙ change_found (forget users shut) (has_id id) (session_arranged o.arrange o.own) (map (session_after o.effect) xs)
+    (λ y e. forget_other (users y.user) (found_other users (find_session id (map (session_after o.effect) xs)) y e (ap (is_other users) (find_moved id o.effect xs) ∙ other_after users o.effect (find_session id xs) ∙ h)) shut (session_arranged o.arrange o.own y) y refl refl)
+    ∙ map_inside (forget users shut) (session_after o.effect) (session_inside users shut o.effect p) xs
+
+apply_inside : (users shut : List ℕ → Bool) (w : World) (id : ℕ) (o : Outcome) → InsideEffect shut o.effect → is_other users (find_session id w.sessions) ≡ true → outline users shut (apply w id o) ≡ outline users shut w
+apply_inside users shut w id o p h = λ i. record w { buffers = buffers_inside shut o.effect p w.buffers i; sessions = sessions_inside users shut id o p w.sessions h i }
+
+other_arranged : (users : List ℕ → Bool) (o : Outcome) (s : Option Session) → is_other users (option_map (λ x. session_arranged o.arrange o.own (session_after o.effect x)) s) ≡ is_other users s
+other_arranged users o None = refl
+other_arranged users o (Some x) = ap (λ u. not (users u)) (user_after o.effect x)
+
+other_apply : (users shut : List ℕ → Bool) (w : World) (id : ℕ) (o : Outcome) → InsideEffect shut o.effect → is_other users (find_session id w.sessions) ≡ true → is_other users (find_session id (apply w id o).sessions) ≡ true
+other_apply users shut w id o p h =
+    ap (λ xs. is_other users (find_session id xs)) (quit_inside shut o.effect p id (change_first (has_id id) (session_arranged o.arrange o.own) (map (session_after o.effect) w.sessions)))
+    ∙ ap (is_other users) (find_after id o w.sessions)
+    ∙ other_arranged users o (find_session id w.sessions)
+    ∙ h
+
+pub with_own_inside : (users shut : List ℕ → Bool) (id : ℕ) (f : Own → Own) (w : World) → is_other users (find_session id w.sessions) ≡ true → outline users shut (with_own id f w) ≡ outline users shut w
+with_own_inside users shut id f w h =
+    λ i. record w {
+      buffers = map (erase shut) w.buffers;
+      sessions = change_found (forget users shut) (has_id id) (λ x. record x { own = f x.own }) w.sessions (λ y e. forget_other (users y.user) (found_other users (find_session id w.sessions) y e h) shut (record y { own = f y.own }) y refl refl) i;
+    }
+
+pub other_with_own : (users : List ℕ → Bool) (id : ℕ) (f : Own → Own) (w : World) → is_other users (find_session id w.sessions) ≡ true → is_other users (find_session id (with_own id f w).sessions) ≡ true
+other_with_own users id f w h =
+    ap (is_other users) (find-change_first (has_id id) (λ x. record x { own = f x.own }) (λ x. refl) w.sessions) ∙ kept (find_session id w.sessions) ∙ h
+  where
+    kept : (s : Option Session) → is_other users (option_map {T = Session} (λ x. record x { own = f x.own }) s) ≡ is_other users s
+    kept None = refl
+    kept (Some x) = refl
+
+by_inside : (users shut : List ℕ → Bool) (id : ℕ) (stored : Bool) (c : Command) (d : Doing) (s : Option Session) → InsideAct shut d.world s c stored → is_other users (find_session id d.world.sessions) ≡ true → Like users shut (done_by id stored c d s).world d.world × (is_other users (find_session id (done_by id stored c d s).world.sessions) ≡ true)
+by_inside users shut id stored c d None p h = (refl, h)
+by_inside users shut id stored c d (Some x) p h = (apply_inside users shut d.world id (outcome (view d.world x) c stored) p h, other_apply users shut d.world id (outcome (view d.world x) c stored) p h)
+
+turn_inside : (users shut : List ℕ → Bool) (id : ℕ) (stored : Bool) (t : Turn) (d : Doing) → InsideTurn shut id stored t d.world → is_other users (find_session id d.world.sessions) ≡ true → Like users shut (turn_done id stored t d).world d.world × (is_other users (find_session id (turn_done id stored t d).world.sessions) ≡ true)
+turn_inside users shut id stored Rest d p h = (refl, h)
+turn_inside users shut id stored (Do c) d p h = by_inside users shut id stored c d (find_session id d.world.sessions) p h
+turn_inside users shut id stored (Refuse c) d p h = (with_own_inside users shut id refused_own d.world h, other_with_own users id refused_own d.world h)
+
+pub turns_inside : (n : ℕ) (users shut : List ℕ → Bool) (id : ℕ) (stored : Bool) (d : Doing) → InsideTurns shut n id stored d → is_other users (find_session id d.world.sessions) ≡ true → Like users shut (turns n id stored d).world d.world
+unfolding turns InsideTurns
+turns_inside zero users shut id stored d p h = refl
+turns_inside (suc n) users shut id stored d p h = go d.todo p (turns_inside n users shut id stored (turn id stored d))
+  where
+    go : (s : List Todo)
+        → elim s as (λ _. Type 0) [ [] ↦ Unit {0} | x ∷ xs ↦ InsideTurn shut id stored (next d.todo d.memory) d.world × InsideTurns shut n id stored (turn id stored d) ]
+        → (InsideTurns shut n id stored (turn id stored d) → is_other users (find_session id (turn id stored d).world.sessions) ≡ true → Like users shut (turns n id stored (turn id stored d)).world (turn id stored d).world)
+        → Like users shut (the_world (elim s as (λ _. Doing) [ [] ↦ d | x ∷ xs ↦ turns n id stored (turn id stored d) ])) d.world
+    go [] b ih = refl
+    go (x ∷ xs) b ih =
+        ih b.1 (turn_inside users shut id stored (next d.todo d.memory) d b.0 h).1 ∙ (turn_inside users shut id stored (next d.todo d.memory) d b.0 h).0

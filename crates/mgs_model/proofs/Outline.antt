@@ -1,0 +1,432 @@
+-- Erasing closed buffers, and of other users' sessions all but that they are there: what the users' acts do is blind to it.
+use Rattle.std.proofs.Common.{◌≡◌, ℕ, zero, suc, List, [], ◌∷◌, length, map, not, refl, sym, ap, ◌∙◌, Bool, true, false, cond, Option, Some, None}
+use Rattle.std.specs.List.{list_any}
+use Rattle.std.specs.Option.{option_map}
+use Rattle.mgs_model.specs.Names.{same_name}
+use Rattle.mgs_model.specs.Text.{shift}
+use Rattle.mgs_model.specs.World.{World, Buffer, Session, Window, Place, Search, Own, first_own, Shows, Nothing, Buffer_of, Listing, List_of, is_named, has_id}
+use Rattle.mgs_model.specs.Outcome.{Outcome, PointPlan, Keep, At, At_origin, MarkPlan, Keep_mark, Mark_at, SearchPlan, Keep_search, No_search, Search_at, Source, Old, Come, Slot, is_old, Arrange, Stay, Adjust, Slots, Effect, No_effect, Edit, Unmodified, Relist, Reown, Create, Kill, Save, Quit}
+use Rattle.mgs_model.specs.Apply.{change_first, buffers_after, buffer_edited, buffer_unmodified, new_buffer, is_in, is_of, window_moved_if, window_moved, place_moved, search_moved, session_moved, window_bereft_if, window_bereft, is_searched, session_bereft, session_after, set_place, left_places, places_left, place_in, place_point, place_mark, comer, window_at, source_window, has_spots, origin_or, point_after, mark_after, row_after, window_adjusted, window_put, windows_arranged, places_arranged, selected_arranged, search_after, search_arranged, searches, session_arranged, after_quit, sessions_after, apply}
+use Rattle.mgs_model.specs.declared.entry.Entry.{Entry}
+use Rattle.mgs_model.specs.declared.session.Mode.TheVariants.{Plain}
+use Rattle.mgs_model.proofs.After.{user_after}
+use Rattle.mgs_model.proofs.Blind.{Blind-map, Blind-change, Blind-change_at, Blind-append, Blind-remove, Blind-filter, map_both, map_fixed, same_names}
+
+-- THE OUTLINE
+
+abbrev pub erase_if : Bool → Buffer → Buffer
+erase_if h b = record b { text = cond h [] b.text; items = cond h [] b.items; serial = cond h 0 b.serial; modified = cond h false b.modified }
+
+-- a closed buffer without its text, record, last serial and flag
+abbrev pub erase : (List ℕ → Bool) → Buffer → Buffer
+erase shut b = erase_if (shut b.name) b
+
+abbrev pub shows_shut : (List ℕ → Bool) → Shows → Bool
+shows_shut shut (Buffer_of name) = shut name
+shows_shut shut _ = false
+
+abbrev pub forget_window_if : Bool → Window → Window
+forget_window_if f x = record { shows = x.shows; point = cond f 0 x.point; mark = cond f None x.mark; top = cond f 0 x.top; row = x.row; height = x.height }
+
+-- a window without its positions in a closed buffer
+abbrev pub forget_window : (List ℕ → Bool) → Window → Window
+forget_window shut x = forget_window_if (shows_shut shut x.shows) x
+
+abbrev pub forget_place_if : Bool → Place → Place
+forget_place_if f x = record { name = x.name; point = cond f 0 x.point; mark = cond f None x.mark }
+
+abbrev pub forget_place : (List ℕ → Bool) → Place → Place
+forget_place shut x = forget_place_if (shut x.name) x
+
+abbrev pub forget_search_if : Bool → Search → Search
+forget_search_if f x = record { name = x.name; origin = cond f 0 x.origin; anchor = cond f 0 x.anchor }
+
+abbrev pub forget_search : (List ℕ → Bool) → Option Search → Option Search
+forget_search shut None = None
+forget_search shut (Some x) = Some (forget_search_if (shut x.name) x)
+
+-- of a session of the users all but its positions in closed buffers; of another that it is there, and whose it is
+abbrev pub forget_if : Bool → (List ℕ → Bool) → Session → Session
+forget_if o shut x =
+    record {
+      id = x.id;
+      user = x.user;
+      rows = cond o x.rows 0;
+      cols = cond o x.cols 0;
+      windows = cond o (map (forget_window shut) x.windows) [];
+      selected = cond o x.selected 0;
+      places = cond o (map (forget_place shut) x.places) [];
+      search = cond o (forget_search shut x.search) None;
+      own = cond o x.own first_own;
+    }
+
+abbrev pub forget : (List ℕ → Bool) → (List ℕ → Bool) → Session → Session
+forget users shut x = forget_if (users x.user) shut x
+
+abbrev pub outline : (List ℕ → Bool) → (List ℕ → Bool) → World → World
+outline users shut w = record w { buffers = map (erase shut) w.buffers; sessions = map (forget users shut) w.sessions }
+
+-- BUFFERS
+
+erase_erase : (h : Bool) (x : Buffer) → erase_if h (erase_if h x) ≡ erase_if h x
+erase_erase true x = refl
+erase_erase false x = refl
+
+pub erase_same : (shut : List ℕ → Bool) (x : Buffer) → erase shut (erase shut x) ≡ erase shut x
+erase_same shut x = erase_erase (shut x.name) x
+
+erase_edited : (h : Bool) (a b : ℕ) (put : List ℕ) (x : Buffer) → erase_if h (buffer_edited a b put x) ≡ erase_if h (buffer_edited a b put (erase_if h x))
+erase_edited true a b put x = refl
+erase_edited false a b put x = refl
+
+erase_unmodified : (h : Bool) (x : Buffer) → erase_if h (buffer_unmodified x) ≡ erase_if h (buffer_unmodified (erase_if h x))
+erase_unmodified true x = refl
+erase_unmodified false x = refl
+
+erase_relisted : (h : Bool) (entries : List Entry) (x : Buffer) → erase_if h (record x { entries = entries }) ≡ erase_if h (record (erase_if h x) { entries = entries })
+erase_relisted true entries x = refl
+erase_relisted false entries x = refl
+
+erase_reowned : (h : Bool) (owner : List ℕ) (x : Buffer) → erase_if h (record x { owner = owner }) ≡ erase_if h (record (erase_if h x) { owner = owner })
+erase_reowned true owner x = refl
+erase_reowned false owner x = refl
+
+pub erase_effect : (shut : List ℕ → Bool) (e : Effect) (xs : List Buffer) → map (erase shut) (buffers_after e xs) ≡ map (erase shut) (buffers_after e (map (erase shut) xs))
+erase_effect shut No_effect xs = map_fixed (erase shut) (erase_same shut) xs
+erase_effect shut (Edit name a b put) xs = Blind-change (erase shut) (erase_same shut) (is_named name) (λ x. refl) (buffer_edited a b put) (λ x. erase_edited (shut x.name) a b put x) xs
+erase_effect shut (Unmodified name) xs = Blind-change (erase shut) (erase_same shut) (is_named name) (λ x. refl) buffer_unmodified (λ x. erase_unmodified (shut x.name) x) xs
+erase_effect shut (Relist name entries) xs = Blind-change (erase shut) (erase_same shut) (is_named name) (λ x. refl) (λ x. record x { entries = entries }) (λ x. erase_relisted (shut x.name) entries x) xs
+erase_effect shut (Reown name owner) xs = Blind-change (erase shut) (erase_same shut) (is_named name) (λ x. refl) (λ x. record x { owner = owner }) (λ x. erase_reowned (shut x.name) owner x) xs
+erase_effect shut (Create name owner) xs = Blind-append (erase shut) (erase_same shut) xs (new_buffer name owner) (new_buffer name owner) refl
+erase_effect shut (Kill name) xs = Blind-remove (erase shut) (erase_same shut) (is_named name) (λ x. refl) xs
+erase_effect shut (Save name text) xs = Blind-change (erase shut) (erase_same shut) (is_named name) (λ x. refl) buffer_unmodified (λ x. erase_unmodified (shut x.name) x) xs
+erase_effect shut Quit xs = map_fixed (erase shut) (erase_same shut) xs
+
+-- FORGETTING TWICE
+
+forget_window_twice : (f : Bool) (x : Window) → forget_window_if f (forget_window_if f x) ≡ forget_window_if f x
+forget_window_twice true x = refl
+forget_window_twice false x = refl
+
+pub forget_window_same : (shut : List ℕ → Bool) (x : Window) → forget_window shut (forget_window shut x) ≡ forget_window shut x
+forget_window_same shut x = forget_window_twice (shows_shut shut x.shows) x
+
+pub forget_windows : (shut : List ℕ → Bool) (xs : List Window) → map (forget_window shut) xs ≡ map (forget_window shut) (map (forget_window shut) xs)
+forget_windows shut xs = map_fixed (forget_window shut) (forget_window_same shut) xs
+
+forget_place_twice : (f : Bool) (x : Place) → forget_place_if f (forget_place_if f x) ≡ forget_place_if f x
+forget_place_twice true x = refl
+forget_place_twice false x = refl
+
+forget_place_same : (shut : List ℕ → Bool) (x : Place) → forget_place shut (forget_place shut x) ≡ forget_place shut x
+forget_place_same shut x = forget_place_twice (shut x.name) x
+
+pub forget_places : (shut : List ℕ → Bool) (xs : List Place) → map (forget_place shut) xs ≡ map (forget_place shut) (map (forget_place shut) xs)
+forget_places shut xs = map_fixed (forget_place shut) (forget_place_same shut) xs
+
+forget_search_twice : (f : Bool) (x : Search) → forget_search_if f (forget_search_if f x) ≡ forget_search_if f x
+forget_search_twice true x = refl
+forget_search_twice false x = refl
+
+pub forget_search_same : (shut : List ℕ → Bool) (o : Option Search) → forget_search shut (forget_search shut o) ≡ forget_search shut o
+forget_search_same shut None = refl
+forget_search_same shut (Some x) = ap Some (forget_search_twice (shut x.name) x)
+
+pub forget_twice : (o : Bool) (shut : List ℕ → Bool) (x : Session) → forget_if o shut x ≡ forget_if o shut (forget_if o shut x)
+forget_twice true shut x =
+    λ i. record x {
+      windows = forget_windows shut x.windows i;
+      places = forget_places shut x.places i;
+      search = sym (forget_search_same shut x.search) i;
+    }
+forget_twice false shut x = refl
+
+pub forget_same : (users shut : List ℕ → Bool) (x : Session) → forget users shut (forget users shut x) ≡ forget users shut x
+forget_same users shut x = sym (forget_twice (users x.user) shut x)
+
+-- POSITIONS THAT GO BY AN EFFECT
+
+forget_moved : (h f : Bool) (move : ℕ → ℕ) (x : Window) → forget_window_if h (window_moved_if f move x) ≡ forget_window_if h (window_moved_if f move (forget_window_if h x))
+forget_moved true f move x = refl
+forget_moved false f move x = refl
+
+abbrev pub place_moved_if : Bool → (ℕ → ℕ) → Place → Place
+place_moved_if f move x = record { name = x.name; point = cond f (move x.point) x.point; mark = cond f (option_map move x.mark) x.mark }
+
+forget_place_moved : (h f : Bool) (move : ℕ → ℕ) (x : Place) → forget_place_if h (place_moved_if f move x) ≡ forget_place_if h (place_moved_if f move (forget_place_if h x))
+forget_place_moved true f move x = refl
+forget_place_moved false f move x = refl
+
+abbrev pub search_moved_if : Bool → (ℕ → ℕ) → Search → Search
+search_moved_if f move x = record { name = x.name; origin = cond f (move x.origin) x.origin; anchor = cond f (move x.anchor) x.anchor }
+
+forget_search_moved_if : (h f : Bool) (move : ℕ → ℕ) (x : Search) → forget_search_if h (search_moved_if f move x) ≡ forget_search_if h (search_moved_if f move (forget_search_if h x))
+forget_search_moved_if true f move x = refl
+forget_search_moved_if false f move x = refl
+
+forget_search_moved : (shut : List ℕ → Bool) (name : List ℕ) (move : ℕ → ℕ) (o : Option Search) → forget_search shut (option_map (search_moved name move) o) ≡ forget_search shut (option_map (search_moved name move) (forget_search shut o))
+forget_search_moved shut name move None = refl
+forget_search_moved shut name move (Some x) = ap Some (forget_search_moved_if (shut x.name) (same_name name x.name) move x)
+
+-- a window whose buffer is gone shows nothing
+forget_bereft : (shut : List ℕ → Bool) (f : Bool) (x : Window) → forget_window shut (window_bereft_if f x) ≡ forget_window shut (window_bereft_if f (forget_window shut x))
+forget_bereft shut true x = refl
+forget_bereft shut false x = sym (forget_window_same shut x)
+
+searched_forget : (shut : List ℕ → Bool) (name : List ℕ) (o : Option Search) → is_searched name o ≡ is_searched name (forget_search shut o)
+searched_forget shut name None = refl
+searched_forget shut name (Some x) = refl
+
+forget_search_bereft : (shut : List ℕ → Bool) (f : Bool) (o : Option Search) → forget_search shut (cond f None o) ≡ forget_search shut (cond f None (forget_search shut o))
+forget_search_bereft shut true o = refl
+forget_search_bereft shut false o = sym (forget_search_same shut o)
+
+forget_moved_session : (o : Bool) (shut : List ℕ → Bool) (name : List ℕ) (move : ℕ → ℕ) (x : Session) → forget_if o shut (session_moved name move x) ≡ forget_if o shut (session_moved name move (forget_if o shut x))
+forget_moved_session false shut name move x = refl
+forget_moved_session true shut name move x =
+    λ i. record x {
+      windows = Blind-map (forget_window shut) (forget_window shut) (window_moved name move) (λ y. forget_moved (shows_shut shut y.shows) (is_in name y.shows) move y) x.windows i;
+      places = Blind-map (forget_place shut) (forget_place shut) (place_moved name move) (λ y. forget_place_moved (shut y.name) (same_name name y.name) move y) x.places i;
+      search = forget_search_moved shut name move x.search i;
+    }
+
+forget_bereft_session : (o : Bool) (shut : List ℕ → Bool) (name : List ℕ) (x : Session) → forget_if o shut (session_bereft name x) ≡ forget_if o shut (session_bereft name (forget_if o shut x))
+forget_bereft_session false shut name x = refl
+forget_bereft_session true shut name x =
+    λ i. record x {
+      windows = Blind-map (forget_window shut) (forget_window shut) (window_bereft name) (λ y. forget_bereft shut (is_of name y.shows) y) x.windows i;
+      places = Blind-filter (forget_place shut) (forget_place_same shut) (λ p. not (same_name name p.name)) (λ p. refl) x.places i;
+      search = (forget_search_bereft shut (is_searched name x.search) x.search ∙ ap (λ f. forget_search shut (cond f None (forget_search shut x.search))) (searched_forget shut name x.search)) i;
+      own = record x.own { mode = cond (searched_forget shut name x.search i) Plain x.own.mode };
+    }
+
+forget_after : (o : Bool) (shut : List ℕ → Bool) (e : Effect) (x : Session) → forget_if o shut (session_after e x) ≡ forget_if o shut (session_after e (forget_if o shut x))
+forget_after o shut (Edit name a b put) x = forget_moved_session o shut name (shift a b (length put)) x
+forget_after o shut (Kill name) x = forget_bereft_session o shut name x
+forget_after o shut No_effect x = forget_twice o shut x
+forget_after o shut (Unmodified name) x = forget_twice o shut x
+forget_after o shut (Relist name entries) x = forget_twice o shut x
+forget_after o shut (Reown name owner) x = forget_twice o shut x
+forget_after o shut (Create name owner) x = forget_twice o shut x
+forget_after o shut (Save name text) x = forget_twice o shut x
+forget_after o shut Quit x = forget_twice o shut x
+
+-- THE ACTING SESSION
+
+set_place_forget : (shut : List ℕ → Bool) (q : Place) (ps : List Place) → map (forget_place shut) (set_place q ps) ≡ set_place (forget_place shut q) (map (forget_place shut) ps)
+set_place_forget shut q [] = refl
+set_place_forget shut q (p ∷ ps) = put (same_name q.name p.name) (set_place_forget shut q ps)
+  where
+    put : (c : Bool) → map (forget_place shut) (set_place q ps) ≡ set_place (forget_place shut q) (map (forget_place shut) ps) → map (forget_place shut) (cond c (q ∷ ps) (p ∷ set_place q ps)) ≡ cond c (forget_place shut q ∷ map (forget_place shut) ps) (forget_place shut p ∷ set_place (forget_place shut q) (map (forget_place shut) ps))
+    put true ih = refl
+    put false ih = ap (λ r. forget_place shut p ∷ r) ih
+
+left_forget : (shut : List ℕ → Bool) (x : Window) (ps qs : List Place) → map (forget_place shut) ps ≡ map (forget_place shut) qs → map (forget_place shut) (left_places x.shows x.point x.mark ps) ≡ map (forget_place shut) (left_places x.shows (forget_window shut x).point (forget_window shut x).mark qs)
+left_forget shut x ps qs e = by_shows x.shows
+  where
+    by_shows : (shows : Shows) → map (forget_place shut) (left_places shows x.point x.mark ps) ≡ map (forget_place shut) (left_places shows (cond (shows_shut shut shows) 0 x.point) (cond (shows_shut shut shows) None x.mark) qs)
+    by_shows (Buffer_of n) =
+        set_place_forget shut (record { name = n; point = x.point; mark = x.mark }) ps
+        ∙ (λ i. set_place (sym (forget_place_twice (shut n) (record { name = n; point = x.point; mark = x.mark })) i) (e i))
+        ∙ sym (set_place_forget shut (record { name = n; point = cond (shut n) 0 x.point; mark = cond (shut n) None x.mark }) qs)
+    by_shows Nothing = e
+    by_shows Listing = e
+    by_shows (List_of n) = e
+
+places_left_forget : (shut : List ℕ → Bool) (i : ℕ) (slots : List Slot) (xs : List Window) (ps qs : List Place) → map (forget_place shut) ps ≡ map (forget_place shut) qs → map (forget_place shut) (places_left i slots xs ps) ≡ map (forget_place shut) (places_left i slots (map (forget_window shut) xs) qs)
+places_left_forget shut i slots [] ps qs e = e
+places_left_forget shut i slots (x ∷ xs) ps qs e =
+    places_left_forget shut (suc i) slots xs (cond (list_any (is_old i) slots) ps (left_places x.shows x.point x.mark ps)) (cond (list_any (is_old i) slots) qs (left_places x.shows (forget_window shut x).point (forget_window shut x).mark qs)) (choose (list_any (is_old i) slots))
+  where
+    choose : (c : Bool) → map (forget_place shut) (cond c ps (left_places x.shows x.point x.mark ps)) ≡ map (forget_place shut) (cond c qs (left_places x.shows (forget_window shut x).point (forget_window shut x).mark qs))
+    choose true = e
+    choose false = left_forget shut x ps qs e
+
+cond_twice : {A : Type 0} (f : Bool) (z x : A) → cond f z x ≡ cond f z (cond f z x)
+cond_twice true z x = refl
+cond_twice false z x = refl
+
+cond_same : {A : Type 0} (f g : Bool) (z x : A) → g ≡ f → cond f z x ≡ cond f z (cond g z x)
+cond_same true true z x e = refl
+cond_same true false z x e = refl
+cond_same false true z x e = cc
+cond_same false false z x e = refl
+
+point_forget : (shut : List ℕ → Bool) (n : List ℕ) (ps : List Place) → cond (shut n) 0 (place_point (place_in n ps)) ≡ cond (shut n) 0 (place_point (place_in n (map (forget_place shut) ps)))
+point_forget shut n [] = refl
+point_forget shut n (p ∷ ps) = look (same_name n p.name) refl (point_forget shut n ps)
+  where
+    look : (c : Bool) → same_name n p.name ≡ c → cond (shut n) 0 (place_point (place_in n ps)) ≡ cond (shut n) 0 (place_point (place_in n (map (forget_place shut) ps))) → cond (shut n) 0 (place_point (cond c (Some p) (place_in n ps))) ≡ cond (shut n) 0 (place_point (cond c (Some (forget_place shut p)) (place_in n (map (forget_place shut) ps))))
+    look true e ih = cond_same (shut n) (shut p.name) 0 p.point (sym (ap shut (same_names n p.name e)))
+    look false e ih = ih
+
+mark_forget : (shut : List ℕ → Bool) (n : List ℕ) (ps : List Place) → cond (shut n) None (place_mark (place_in n ps)) ≡ cond (shut n) None (place_mark (place_in n (map (forget_place shut) ps)))
+mark_forget shut n [] = refl
+mark_forget shut n (p ∷ ps) = look (same_name n p.name) refl (mark_forget shut n ps)
+  where
+    look : (c : Bool) → same_name n p.name ≡ c → cond (shut n) None (place_mark (place_in n ps)) ≡ cond (shut n) None (place_mark (place_in n (map (forget_place shut) ps))) → cond (shut n) None (place_mark (cond c (Some p) (place_in n ps))) ≡ cond (shut n) None (place_mark (cond c (Some (forget_place shut p)) (place_in n (map (forget_place shut) ps))))
+    look true e ih = cond_same (shut n) (shut p.name) None p.mark (sym (ap shut (same_names n p.name e)))
+    look false e ih = ih
+
+comer_one : (shut : List ℕ → Bool) (shows : Shows) (ps : List Place) → forget_window shut (comer shows ps) ≡ forget_window shut (comer shows (map (forget_place shut) ps))
+comer_one shut (Buffer_of n) ps = λ i. record { shows = Buffer_of n; point = point_forget shut n ps i; mark = mark_forget shut n ps i; top = cond (shut n) 0 0; row = 0; height = 0 }
+comer_one shut Nothing ps = refl
+comer_one shut Listing ps = refl
+comer_one shut (List_of n) ps = refl
+
+comer_forget : (shut : List ℕ → Bool) (shows : Shows) (ps qs : List Place) → map (forget_place shut) ps ≡ map (forget_place shut) qs → forget_window shut (comer shows ps) ≡ forget_window shut (comer shows qs)
+comer_forget shut shows ps qs e = comer_one shut shows ps ∙ ap (λ r. forget_window shut (comer shows r)) e ∙ sym (comer_one shut shows qs)
+
+origin_one : (f g e : Bool) (s : Search) (old : ℕ) → (e ≡ true → f ≡ g) → cond f 0 (cond e s.origin old) ≡ cond f 0 (cond e (cond g 0 s.origin) (cond f 0 old))
+origin_one true g e s old p = refl
+origin_one false g false s old p = refl
+origin_one false false true s old p = refl
+origin_one false true true s old p = let q : false ≡ true = p refl in cc
+
+origin_forget : (shut : List ℕ → Bool) (shows : Shows) (search : Option Search) (old : ℕ) → cond (shows_shut shut shows) 0 (origin_or shows search old) ≡ cond (shows_shut shut shows) 0 (origin_or shows (forget_search shut search) (cond (shows_shut shut shows) 0 old))
+origin_forget shut shows None old = cond_twice (shows_shut shut shows) 0 old
+origin_forget shut (Buffer_of m) (Some s) old = origin_one (shut m) (shut s.name) (same_name s.name m) s old (λ e. sym (ap shut (same_names s.name m e)))
+origin_forget shut Nothing (Some s) old = refl
+origin_forget shut Listing (Some s) old = refl
+origin_forget shut (List_of m) (Some s) old = refl
+
+spot_forget : (shut : List ℕ → Bool) (shows : Shows) (search : Option Search) (plan : PointPlan) (old : ℕ) → cond (shows_shut shut shows) 0 (point_after shows search plan old) ≡ cond (shows_shut shut shows) 0 (point_after shows (forget_search shut search) plan (cond (shows_shut shut shows) 0 old))
+spot_forget shut shows search Keep old = cond_twice (shows_shut shut shows) 0 old
+spot_forget shut shows search (At p) old = at_one (shows_shut shut shows) (has_spots shows)
+  where
+    at_one : (f c : Bool) → cond f 0 (cond c p old) ≡ cond f 0 (cond c p (cond f 0 old))
+    at_one true c = refl
+    at_one false c = refl
+spot_forget shut shows search At_origin old = origin_forget shut shows search old
+
+mark_spot_forget : (shut : List ℕ → Bool) (shows : Shows) (plan : MarkPlan) (old : Option ℕ) → cond (shows_shut shut shows) None (mark_after shows plan old) ≡ cond (shows_shut shut shows) None (mark_after shows plan (cond (shows_shut shut shows) None old))
+mark_spot_forget shut shows Keep_mark old = cond_twice (shows_shut shut shows) None old
+mark_spot_forget shut shows (Mark_at p) old = at_one (shows_shut shut shows) (has_spots shows)
+  where
+    at_one : (f c : Bool) → cond f None (cond c (Some p) old) ≡ cond f None (cond c (Some p) (cond f None old))
+    at_one true c = refl
+    at_one false c = refl
+
+put_forget : (shut : List ℕ → Bool) (slot : Slot) (search : Option Search) (x : Window) → forget_window shut (window_put slot search x) ≡ forget_window shut (window_put slot (forget_search shut search) (forget_window shut x))
+put_forget shut slot search x =
+    λ i. record {
+      shows = x.shows;
+      point = spot_forget shut x.shows search slot.point x.point i;
+      mark = mark_spot_forget shut x.shows slot.mark x.mark i;
+      top = spot_forget shut x.shows search slot.top x.top i;
+      row = row_after slot.row x.row;
+      height = slot.height;
+    }
+
+adjusted_forget : (shut : List ℕ → Bool) (search : Option Search) (point : PointPlan) (mark : MarkPlan) (top : PointPlan) (x : Window) → forget_window shut (window_adjusted search point mark top x) ≡ forget_window shut (window_adjusted (forget_search shut search) point mark top (forget_window shut x))
+adjusted_forget shut search point mark top x =
+    λ i. record {
+      shows = x.shows;
+      point = spot_forget shut x.shows search point x.point i;
+      mark = mark_spot_forget shut x.shows mark x.mark i;
+      top = spot_forget shut x.shows search top x.top i;
+      row = x.row;
+      height = x.height;
+    }
+
+window_at_forget : (shut : List ℕ → Bool) (i : ℕ) (xs : List Window) → forget_window shut (window_at i xs) ≡ window_at i (map (forget_window shut) xs)
+window_at_forget shut i [] = refl
+window_at_forget shut zero (x ∷ xs) = refl
+window_at_forget shut (suc i) (x ∷ xs) = window_at_forget shut i xs
+
+source_forget : (shut : List ℕ → Bool) (source : Source) (xs : List Window) (ps qs : List Place) → map (forget_place shut) ps ≡ map (forget_place shut) qs → forget_window shut (source_window source xs ps) ≡ forget_window shut (source_window source (map (forget_window shut) xs) qs)
+source_forget shut (Old i) xs ps qs e = sym (forget_window_same shut (window_at i xs)) ∙ ap (forget_window shut) (window_at_forget shut i xs)
+source_forget shut (Come shows) xs ps qs e = comer_forget shut shows ps qs e
+
+slot_forget : (shut : List ℕ → Bool) (slot : Slot) (search : Option Search) (xs : List Window) (ps qs : List Place) → map (forget_place shut) ps ≡ map (forget_place shut) qs → forget_window shut (window_put slot search (source_window slot.source xs ps)) ≡ forget_window shut (window_put slot (forget_search shut search) (source_window slot.source (map (forget_window shut) xs) qs))
+slot_forget shut slot search xs ps qs e =
+    put_forget shut slot search (source_window slot.source xs ps)
+    ∙ (λ i. forget_window shut (window_put slot (sym (forget_search_same shut search) i) (source_forget shut slot.source xs ps qs e i)))
+    ∙ sym (put_forget shut slot (forget_search shut search) (source_window slot.source (map (forget_window shut) xs) qs))
+
+windows_forget : (shut : List ℕ → Bool) (arrange : Arrange) (x : Session) → map (forget_window shut) (windows_arranged arrange x) ≡ map (forget_window shut) (windows_arranged arrange (forget_if true shut x))
+windows_forget shut Stay x = forget_windows shut x.windows
+windows_forget shut (Adjust point mark top sought) x =
+    Blind-change_at (forget_window shut) (forget_window_same shut) (window_adjusted x.search point mark top) (window_adjusted (forget_search shut x.search) point mark top) (adjusted_forget shut x.search point mark top) x.selected x.windows
+windows_forget shut (Slots slots selected sought) x =
+    map_both (forget_window shut)
+    (λ slot. window_put slot x.search (source_window slot.source x.windows (places_left 0 slots x.windows x.places)))
+    (λ slot. window_put slot (forget_search shut x.search) (source_window slot.source (map (forget_window shut) x.windows) (places_left 0 slots (map (forget_window shut) x.windows) (map (forget_place shut) x.places))))
+    (λ slot. slot_forget shut slot x.search x.windows (places_left 0 slots x.windows x.places) (places_left 0 slots (map (forget_window shut) x.windows) (map (forget_place shut) x.places)) (places_left_forget shut 0 slots x.windows x.places (map (forget_place shut) x.places) (forget_places shut x.places)))
+    slots
+
+places_forget : (shut : List ℕ → Bool) (arrange : Arrange) (x : Session) → map (forget_place shut) (places_arranged arrange x) ≡ map (forget_place shut) (places_arranged arrange (forget_if true shut x))
+places_forget shut (Slots slots selected sought) x = places_left_forget shut 0 slots x.windows x.places (map (forget_place shut) x.places) (forget_places shut x.places)
+places_forget shut Stay x = forget_places shut x.places
+places_forget shut (Adjust point mark top sought) x = forget_places shut x.places
+
+selected_forget : (shut : List ℕ → Bool) (arrange : Arrange) (x : Session) → selected_arranged arrange x ≡ selected_arranged arrange (forget_if true shut x)
+selected_forget shut (Slots slots selected sought) x = refl
+selected_forget shut Stay x = refl
+selected_forget shut (Adjust point mark top sought) x = refl
+
+search_after_forget : (shut : List ℕ → Bool) (plan : SearchPlan) (o : Option Search) → forget_search shut (search_after plan o) ≡ forget_search shut (search_after plan (forget_search shut o))
+search_after_forget shut Keep_search o = sym (forget_search_same shut o)
+search_after_forget shut No_search o = refl
+search_after_forget shut (Search_at n p a) o = refl
+
+search_arranged_forget : (shut : List ℕ → Bool) (arrange : Arrange) (x : Session) → forget_search shut (search_arranged arrange x) ≡ forget_search shut (search_arranged arrange (forget_if true shut x))
+search_arranged_forget shut Stay x = sym (forget_search_same shut x.search)
+search_arranged_forget shut (Adjust point mark top sought) x = search_after_forget shut sought x.search
+search_arranged_forget shut (Slots slots selected sought) x = search_after_forget shut sought x.search
+
+search_if_forget : (c : Bool) (shut : List ℕ → Bool) (x y : Option Search) → forget_search shut x ≡ forget_search shut y → forget_search shut (cond c x None) ≡ forget_search shut (cond c y None)
+search_if_forget true shut x y e = e
+search_if_forget false shut x y e = refl
+
+forget_arranged : (o : Bool) (shut : List ℕ → Bool) (arrange : Arrange) (own : Own) (x : Session) → forget_if o shut (session_arranged arrange own x) ≡ forget_if o shut (session_arranged arrange own (forget_if o shut x))
+forget_arranged false shut arrange own x = refl
+forget_arranged true shut arrange own x =
+    λ i. record {
+      id = x.id;
+      user = x.user;
+      rows = x.rows;
+      cols = x.cols;
+      windows = windows_forget shut arrange x i;
+      selected = selected_forget shut arrange x i;
+      places = places_forget shut arrange x i;
+      search = search_if_forget (searches own.mode) shut (search_arranged arrange x) (search_arranged arrange (forget_if true shut x)) (search_arranged_forget shut arrange x) i;
+      own = own;
+    }
+
+-- EVERY SESSION
+
+forget_session_after : (users shut : List ℕ → Bool) (e : Effect) (x : Session) → forget users shut (session_after e x) ≡ forget users shut (session_after e (forget users shut x))
+forget_session_after users shut e x =
+    ap (λ u. forget_if (users u) shut (session_after e x)) (user_after e x)
+    ∙ forget_after (users x.user) shut e x
+    ∙ ap (λ u. forget_if (users u) shut (session_after e (forget users shut x))) (sym (user_after e (forget users shut x)))
+
+forget_quit : (users shut : List ℕ → Bool) (e : Effect) (id : ℕ) (xs : List Session) → map (forget users shut) (after_quit e id xs) ≡ map (forget users shut) (after_quit e id (map (forget users shut) xs))
+forget_quit users shut Quit id xs = Blind-remove (forget users shut) (forget_same users shut) (has_id id) (λ x. refl) xs
+forget_quit users shut _ id xs = map_fixed (forget users shut) (forget_same users shut) xs
+
+forget_sessions : (users shut : List ℕ → Bool) (id : ℕ) (o : Outcome) (xs : List Session) → map (forget users shut) (sessions_after id o xs) ≡ map (forget users shut) (sessions_after id o (map (forget users shut) xs))
+forget_sessions users shut id o xs =
+    forget_quit users shut o.effect id (change_first (has_id id) (session_arranged o.arrange o.own) (map (session_after o.effect) xs))
+    ∙ ap (λ ys. map (forget users shut) (after_quit o.effect id ys)) same
+    ∙ sym (forget_quit users shut o.effect id (change_first (has_id id) (session_arranged o.arrange o.own) (map (session_after o.effect) (map (forget users shut) xs))))
+  where
+    blind : (ys : List Session) → map (forget users shut) (change_first (has_id id) (session_arranged o.arrange o.own) ys) ≡ map (forget users shut) (change_first (has_id id) (session_arranged o.arrange o.own) (map (forget users shut) ys))
+    blind ys = Blind-change (forget users shut) (forget_same users shut) (has_id id) (λ x. refl) (session_arranged o.arrange o.own) (λ x. forget_arranged (users x.user) shut o.arrange o.own x) ys
+
+    same : map (forget users shut) (change_first (has_id id) (session_arranged o.arrange o.own) (map (session_after o.effect) xs)) ≡ map (forget users shut) (change_first (has_id id) (session_arranged o.arrange o.own) (map (session_after o.effect) (map (forget users shut) xs)))
+    same =
+        blind (map (session_after o.effect) xs)
+        ∙ ap (λ ys. map (forget users shut) (change_first (has_id id) (session_arranged o.arrange o.own) ys)) (Blind-map (forget users shut) (forget users shut) (session_after o.effect) (forget_session_after users shut o.effect) xs)
+        ∙ sym (blind (map (session_after o.effect) (map (forget users shut) xs)))
+
+pub outline_apply : (users shut : List ℕ → Bool) (w : World) (id : ℕ) (o : Outcome) → outline users shut (apply w id o) ≡ outline users shut (apply (outline users shut w) id o)
+outline_apply users shut w id o = λ i. record w { buffers = erase_effect shut o.effect w.buffers i; sessions = forget_sessions users shut id o w.sessions i }
+
+pub outline_same : (users shut : List ℕ → Bool) (w : World) → outline users shut w ≡ outline users shut (outline users shut w)
+outline_same users shut w =
+    λ i. record w {
+      buffers = map_fixed (erase shut) (erase_same shut) w.buffers i;
+      sessions = map_fixed (forget users shut) (forget_same users shut) w.sessions i;
+    }
