@@ -1,16 +1,16 @@
 -- How an entry is written: `TYPE WHO LETTERS`, its words parted by spaces.
-use Rattle.std.specs.Prelude.{ℕ, ◌==◌, nat_lt, not, Bool, true, false, ◌&&◌, List, [], ◌∷◌, length, filter, find, fold, codes, Option, Some, None, is_some, Result, Ok, Err, slice_get, if◌then◌else◌}
+use Rattle.std.specs.Prelude.{◌≡◌, ℕ, ◌<◌, ◌==◌, nat_eq, nat_lt, not, Bool, true, false, ◌&&◌, List, [], ◌∷◌, length, filter, find, fold, codes, Option, Some, None, is_some, Result, Ok, Err, drop, slice_get, if◌then◌else◌}
 use Rattle.std.specs.Int.Bits.{bit_or}
-use Rattle.std.specs.Option.{option_and_then}
-use Rattle.std.specs.List.{slice_split, list_all}
+use Rattle.std.specs.Option.{option_map, option_and_then}
+use Rattle.std.specs.List.{slice_split, list_all, starts_with}
 use Rattle.std.specs.Str.{bytes_eq}
 use Rattle.mgs_model.specs.Names.{is_user_name}
-use Rattle.mgs_model.specs.Rights.{bit_of, letter_of, all_rights}
+use Rattle.mgs_model.specs.Rights.{bit_of, letter_of, all_rights, rights_in}
 use Rattle.mgs_model.specs.declared.right.Right.{Right}
 use Rattle.mgs_model.specs.declared.entry.EntryType.{EntryType}
 use Rattle.mgs_model.specs.declared.entry.EntryType.TheVariants.{Allow, Deny}
 use Rattle.mgs_model.specs.declared.entry.Who.{Who}
-use Rattle.mgs_model.specs.declared.entry.Who.TheVariants.{Owner, Everyone, User}
+use Rattle.mgs_model.specs.declared.entry.Who.TheVariants.{Owner, Everyone, User, Group}
 use Rattle.mgs_model.specs.declared.entry.Entry.{Entry}
 use Rattle.mgs_acl.specs.declared.spelling.EntryFault.{EntryFault}
 use Rattle.mgs_acl.specs.declared.spelling.EntryFault.TheVariants as faults
@@ -41,16 +41,24 @@ type_named word =
     else if bytes_eq word (codes "DENY") then Some Deny
     else None
 
--- a user's name
+-- the name of a user or a group
 abbrev pub user_named : List ℕ → Option (List ℕ)
 user_named word = if is_user_name word then Some word else None
+
+-- what stands behind `group:`, where a word begins so
+abbrev pub behind_group : List ℕ → Option (List ℕ)
+behind_group word = if starts_with nat_eq word (codes "group:") then Some (drop 6 word) else None
+
+-- a group where a name stands behind `group:`, and else a user
+abbrev pub named_who : List ℕ → Option (List ℕ) → Option Who
+named_who word (Some name) = option_map Group (user_named name)
+named_who word None = option_map User (user_named word)
 
 abbrev pub who_named : List ℕ → Option Who
 who_named word =
     if bytes_eq word (codes "OWNER@") then Some Owner
     else if bytes_eq word (codes "EVERYONE@") then Some Everyone
-    else if is_user_name word then Some (User word)
-    else None
+    else named_who word (behind_group word)
 
 -- the right of a letter
 abbrev pub right_lettered : ℕ → Option Right
@@ -91,3 +99,22 @@ entry_said ws = judged (said type_named 0 ws) (said who_named 1 ws) (said mask_l
 -- what a text says
 abbrev pub entry_in : List ℕ → Result Entry EntryFault
 entry_in text = entry_said (words text)
+
+-- WHAT CAN BE WRITTEN
+
+-- a name that an entry has is one of a user or a group
+abbrev pub is_spelled_who : Who → Bool
+is_spelled_who Owner = true
+is_spelled_who Everyone = true
+is_spelled_who (User name) = is_user_name name
+is_spelled_who (Group name) = is_user_name name
+
+-- the mask of these rights
+abbrev pub mask_of : List Right → ℕ
+mask_of rights = fold (λ mask right. bit_or mask (bit_of right)) 0 rights
+
+-- an entry that can be written: its mask has a right, and no bit but those of rights
+pub record IsSpelled (e : Entry) : Type 0 where
+  pub who : is_spelled_who e.who ≡ true
+  pub some : 0 < e.mask
+  pub rights : mask_of (rights_in e.mask) ≡ e.mask

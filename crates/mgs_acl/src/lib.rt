@@ -8,4 +8,4 @@ mod tests;
 
 pub use list::{List, ListFault};
 pub use mgs_model::{Entry, EntryType, Who};
-pub use spelling::{EntryFault, read_entry, user_named};
+pub use spelling::{EntryFault, print_entry, read_entry, user_named};

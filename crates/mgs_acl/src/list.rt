@@ -1,5 +1,5 @@
 // Access lists.
-ghost use Rattle.std.specs.Prelude.{◌≡◌, ◌<◌, ◌≤◌, ◌↔◌, ◌==◌, [], length, insert, OnOk, OnErr, IsErrOf};
+ghost use Rattle.std.specs.Prelude.{◌≡◌, ◌<◌, ◌≤◌, ◌↔◌, ◌==◌, [], length, insert, remove, slice_set, OnOk, OnErr, IsOk, IsErrOf};
 ghost use Rattle.mgs_acl.specs.declared.list.ListFault.TheVariants.{Full, NoSuchEntry};
 
 use arrayvec::ArrayVec;
@@ -52,6 +52,22 @@ fn put(entries: &mut ArrayVec<Entry, 64>, n: usize, entry: Entry)
             mask,
         },
     );
+}
+
+fn set(entries: &mut ArrayVec<Entry, 64>, n: usize, entry: Entry)
+    requires { n < length entries.old.items }
+    ensures { entries.new.items ≡ slice_set entries.old.items n entry }
+{
+    let Entry {
+        entry_type,
+        who,
+        mask,
+    } = entry;
+    entries[n] = Entry {
+        entry_type,
+        who,
+        mask,
+    };
 }
 
 impl List {
@@ -113,6 +129,38 @@ impl List {
             return Err(ListFault::Full);
         }
         put(&mut self.entries, n, entry);
+        Ok(())
+    }
+
+    /// Takes out the entry at index `n`, counted from 0. Those behind it move up.
+    ///
+    /// The fault is `NoSuchEntry`, where there are `n` entries or fewer, and changes nothing.
+    pub fn delete(&mut self, n: usize) -> Result<(), ListFault>
+        ensures ok { OnOk result (self.new ≡ remove self.old n) }
+        ensures done { IsOk result ↔ (n < length self.old) }
+        ensures absent { IsErrOf result NoSuchEntry ↔ (length self.old ≤ n) }
+        ensures err { OnErr result (self.new ≡ self.old) }
+    {
+        if n >= self.entries.len() {
+            return Err(ListFault::NoSuchEntry);
+        }
+        self.entries.remove(n);
+        Ok(())
+    }
+
+    /// Puts an entry in the place of the one at index `n`, counted from 0. A list that is full takes it too.
+    ///
+    /// The fault is `NoSuchEntry`, where there are `n` entries or fewer, and changes nothing.
+    pub fn replace(&mut self, n: usize, entry: Entry) -> Result<(), ListFault>
+        ensures ok { OnOk result (self.new ≡ slice_set self.old n entry) }
+        ensures done { IsOk result ↔ (n < length self.old) }
+        ensures absent { IsErrOf result NoSuchEntry ↔ (length self.old ≤ n) }
+        ensures err { OnErr result (self.new ≡ self.old) }
+    {
+        if n >= self.entries.len() {
+            return Err(ListFault::NoSuchEntry);
+        }
+        set(&mut self.entries, n, entry);
         Ok(())
     }
 }

@@ -1,10 +1,13 @@
 // How an entry is written.
-ghost use Rattle.std.specs.Prelude.{◌≡◌, ℕ, List, MatchOption};
+ghost use Rattle.std.specs.Prelude.{◌≡◌, ℕ, ◌+◌, ◌<◌, ◌≤◌, List, [], ◌∷◌, ◌++◌, map, Ok};
 ghost use Rattle.std.specs.Option.{option_map};
 ghost use Rattle.std.specs.List.{before_first, after_first};
-ghost use Rattle.mgs_model.specs.Rights.{letter_of};
-ghost use Rattle.mgs_acl.specs.Spelling.{is_space, words, words_cut, type_named, user_named, who_named, right_lettered, mask_lettered, entry_in};
+ghost use Rattle.arrayvec.specs.ArrayString.{array_string_len};
+ghost use Rattle.mgs_model.specs.Rights.{letter_of, rights_in};
+ghost use Rattle.mgs_model.specs.Draw.{type_text, who_text, entry_text};
+ghost use Rattle.mgs_acl.specs.Spelling.{is_space, words, words_cut, type_named, user_named, behind_group, named_who, who_named, right_lettered, mask_lettered, entry_in, IsSpelled};
 
+use arrayvec::ArrayString;
 use mgs_model::{Entry, EntryType, Mask, Name, Right, Who};
 use thiserror::Error;
 
@@ -14,7 +17,7 @@ pub enum EntryFault {
     /// The first word is neither `ALLOW` nor `DENY`, or there is none.
     #[error("the type is neither ALLOW nor DENY")]
     Kind,
-    /// The second word is neither `OWNER@` nor `EVERYONE@` nor a user's name, or there is none.
+    /// The second word is neither `OWNER@` nor `EVERYONE@` nor a user's name nor `group:` and a group's name, or there is none.
     #[error("nobody is named so")]
     Who,
     /// The third word is not made of letters of rights, or there is none.
@@ -63,13 +66,35 @@ fn type_named(word: &str) -> Option<EntryType>
 }
 
 #[tactic(auto, using(crate::proofs::NameLemmas::user_named_no_name))]
-/// The user's name that is written so, if it is one: 1 to 32 lower-case letters, digits, `-` and `_`.
+/// The name of a user or a group that is written so, if it is one: 1 to 32 lower-case letters, digits, `-` and `_`.
 pub fn user_named(word: &str) -> Option<Name>
     ensures { result ≡ user_named word.now }
 {
     match Name::read(word) {
         Some(name) if name.is_user_name() => Some(name),
         _ => None,
+    }
+}
+
+/// What stands behind `group:`, where a word begins so.
+fn behind_group(word: &str) -> Option<&str>
+    ensures { option_map (λ name. name.now) result ≡ behind_group word.now }
+{
+    word.strip_prefix("group:")
+}
+
+fn named_who(word: &str) -> Option<Who>
+    ensures { result ≡ named_who word.now (behind_group word.now) }
+{
+    match behind_group(word) {
+        Some(name) => match user_named(name) {
+            Some(name) => Some(Who::Group(name)),
+            None => None,
+        },
+        None => match user_named(word) {
+            Some(name) => Some(Who::User(name)),
+            None => None,
+        },
     }
 }
 
@@ -81,15 +106,13 @@ fn who_named(word: &str) -> Option<Who>
     } else if word == "EVERYONE@" {
         Some(Who::Everyone)
     } else {
-        match user_named(word) {
-            Some(name) => Some(Who::User(name)),
-            None => None,
-        }
+        named_who(word)
     }
 }
 
 fn letter_of(right: Right) -> u8
-    ensures { result ≡ letter_of right }
+    ensures value { result ≡ letter_of right }
+    ensures ascii { result < 128 }
 {
     match right {
         Right::ReadData => b'r',
@@ -126,7 +149,7 @@ fn mask_lettered(word: &str) -> Option<Mask>
 }
 
 /// The entry that is written so: `TYPE WHO LETTERS`, the words parted by one or more spaces, with any number of spaces before and behind them.
-/// TYPE is `ALLOW` or `DENY`. WHO is `OWNER@`, `EVERYONE@` or a user's name. LETTERS are one or more of r (READ_DATA), w (WRITE_DATA),
+/// TYPE is `ALLOW` or `DENY`. WHO is `OWNER@`, `EVERYONE@`, a user's name, or `group:` and a group's name. LETTERS are one or more of r (READ_DATA), w (WRITE_DATA),
 /// a (APPEND_DATA), t (READ_ATTRIBUTES), d (DELETE), c (READ_ACL), C (WRITE_ACL) and o (WRITE_OWNER), in any order, also more than once.
 ///
 /// The faults are judged from left to right: the first word that is missing or is none of these is named, and then `Trailing` a fourth word.
@@ -159,4 +182,81 @@ pub fn read_entry(text: &str) -> Result<Entry, EntryFault>
         }),
         Some(_) => Err(EntryFault::Trailing),
     }
+}
+
+fn type_text(entry_type: EntryType) -> &'static str
+    ensures { result.now ≡ type_text entry_type }
+{
+    match entry_type {
+        EntryType::Allow => "ALLOW",
+        EntryType::Deny => "DENY",
+    }
+}
+
+fn push_name(text: &mut ArrayString<64>, name: &Name)
+    requires { array_string_len text.old ≤ 32 }
+    ensures value { text.new.bytes ≡ text.old.bytes ++ name.now }
+    ensures room { array_string_len text.new ≤ array_string_len text.old + 32 }
+{
+    for byte in name.as_bytes() {
+        text.push(*byte as char);
+    }
+}
+
+fn push_who(text: &mut ArrayString<64>, who: &Who)
+    requires { array_string_len text.old ≤ 6 }
+    ensures value { text.new.bytes ≡ text.old.bytes ++ who_text who.now }
+    ensures room { array_string_len text.new ≤ array_string_len text.old + 38 }
+{
+    match who {
+        Who::Owner => text.push_str("OWNER@"),
+        Who::Everyone => text.push_str("EVERYONE@"),
+        Who::User(name) => push_name(text, name),
+        Who::Group(name) => {
+            text.push_str("group:");
+            push_name(text, name);
+        }
+    }
+}
+
+fn push_letter(text: &mut ArrayString<64>, right: Right)
+    requires { array_string_len text.old < 64 }
+    ensures value { text.new.bytes ≡ text.old.bytes ++ letter_of right ∷ [] }
+    ensures room { array_string_len text.new ≡ array_string_len text.old + 1 }
+{
+    text.push(letter_of(right) as char);
+}
+
+fn push_letters(text: &mut ArrayString<64>, mask: Mask)
+    requires { array_string_len text.old ≤ 56 }
+    ensures { text.new.bytes ≡ text.old.bytes ++ map letter_of (rights_in mask) }
+{
+    for right in Right::ALL {
+        if mask.has(right) {
+            push_letter(text, right);
+        }
+    }
+}
+
+fn printed(entry: &Entry) -> ArrayString<64>
+    ensures { result.bytes ≡ entry_text entry.now }
+{
+    let mut text = ArrayString::new();
+    text.push_str(type_text(entry.entry_type));
+    text.push(' ');
+    push_who(&mut text, &entry.who);
+    text.push(' ');
+    push_letters(&mut text, entry.mask);
+    text
+}
+
+/// The printed form of an entry: `TYPE WHO LETTERS` with single spaces, each letter once and in the order of the rights. It takes no memory.
+///
+/// An entry that can be written is read back from it. So what `read_entry` made of any text is what it makes of the printed form.
+pub fn print_entry(entry: &Entry) -> ArrayString<64>
+    ensures text { result.bytes ≡ entry_text entry.now }
+    ensures read_back { IsSpelled entry.now → entry_in result.bytes ≡ Ok entry.now }
+    ensures canonical { (text : List ℕ) → entry_in text ≡ Ok entry.now → entry_in result.bytes ≡ Ok entry.now }
+{
+    printed(entry)
 }

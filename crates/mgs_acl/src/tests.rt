@@ -1,5 +1,6 @@
 use super::*;
 use mgs_model::{Mask, Name};
+use std::process::Abort;
 use std::test::Fail;
 
 fn entry(entry_type: EntryType, who: Who, bits: u32) -> Entry {
@@ -21,6 +22,11 @@ fn reads_all_letters(rt: HostRuntime) {
 #[test]
 fn reads_names_and_spaces(rt: HostRuntime) -> Result<(), Fail> {
     let ann = Name::read("ann").ok_or("no name")?;
+    let staff = Name::read("staff").ok_or("no name")?;
+    assert_eq!(rt;
+        read_entry(" DENY  group:staff  awr "),
+        Ok(entry(EntryType::Deny, Who::Group(staff), 0x7))
+    );
     assert_eq!(rt;
         read_entry(" DENY  ann  awr "),
         Ok(entry(EntryType::Deny, Who::User(ann), 0x7))
@@ -39,10 +45,62 @@ fn names_the_first_fault(rt: HostRuntime) {
     assert_eq!(rt; read_entry("deny ann r"), Err(EntryFault::Kind));
     assert_eq!(rt; read_entry(""), Err(EntryFault::Kind));
     assert_eq!(rt; read_entry("ALLOW Ann r"), Err(EntryFault::Who));
-    assert_eq!(rt; read_entry("DENY group:staff r"), Err(EntryFault::Who));
+    assert_eq!(rt; read_entry("DENY group: r"), Err(EntryFault::Who));
+    assert_eq!(rt; read_entry("DENY group:Staff r"), Err(EntryFault::Who));
+    assert_eq!(rt; read_entry("DENY groups:staff r"), Err(EntryFault::Who));
+    assert_eq!(rt; read_entry("ALLOW GROUP@ r"), Err(EntryFault::Who));
     assert_eq!(rt; read_entry("ALLOW ann"), Err(EntryFault::Letters));
     assert_eq!(rt; read_entry("ALLOW ann x"), Err(EntryFault::Letters));
     assert_eq!(rt; read_entry("ALLOW ann r w"), Err(EntryFault::Trailing));
+}
+
+fn prints_as(rt: &impl Abort, text: &str, printed: &str) {
+    match read_entry(text) {
+        Ok(entry) => assert_eq!(rt; print_entry(&entry).as_str(), printed),
+        Err(_) => panic!(rt; "no entry"),
+    }
+}
+
+#[test]
+fn prints_the_canonical_spelling(rt: HostRuntime) {
+    prints_as(&rt, " DENY  group:staff  awr ", "DENY group:staff rwa");
+    prints_as(&rt, "ALLOW OWNER@ oCcdtawr", "ALLOW OWNER@ rwatdcCo");
+    prints_as(&rt, "ALLOW EVERYONE@ trt", "ALLOW EVERYONE@ rt");
+    prints_as(&rt, "DENY ann C", "DENY ann C");
+    prints_as(
+        &rt,
+        "ALLOW group:abcdefghijklmnopqrstuvwxyz-_0123 rwatdcCo",
+        "ALLOW group:abcdefghijklmnopqrstuvwxyz-_0123 rwatdcCo",
+    );
+}
+
+fn has_at(rt: &impl Abort, list: &List, i: usize, wanted: &Entry) {
+    match list.as_slice().get(i) {
+        Some(entry) => assert_eq!(rt; *entry, *wanted),
+        None => panic!(rt; "no entry"),
+    }
+}
+
+#[test]
+fn takes_out_and_replaces(rt: HostRuntime) {
+    let mut list = List::new();
+    let read = entry(EntryType::Allow, Who::Everyone, 0x1);
+    let write = entry(EntryType::Deny, Who::Owner, 0x2);
+    assert_eq!(rt; list.delete(0), Err(ListFault::NoSuchEntry));
+    assert_eq!(rt; list.replace(0, read), Err(ListFault::NoSuchEntry));
+    for _ in 0..64 {
+        assert_eq!(rt; list.insert(0, read), Ok(()));
+    }
+    assert_eq!(rt; list.replace(64, write), Err(ListFault::NoSuchEntry));
+    assert_eq!(rt; list.replace(1, write), Ok(()));
+    has_at(&rt, &list, 0, &read);
+    has_at(&rt, &list, 1, &write);
+    has_at(&rt, &list, 2, &read);
+    assert_eq!(rt; list.delete(64), Err(ListFault::NoSuchEntry));
+    assert_eq!(rt; list.delete(0), Ok(()));
+    assert_eq!(rt; list.len(), 63);
+    has_at(&rt, &list, 0, &write);
+    has_at(&rt, &list, 1, &read);
 }
 
 #[test]

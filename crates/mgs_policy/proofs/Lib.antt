@@ -1,1 +1,3 @@
 pub mod DecisionLemmas
+pub mod Walks
+pub mod UserLemmas

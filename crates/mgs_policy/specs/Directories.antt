@@ -1,9 +1,10 @@
--- What adding a user does to a directory.
-use Rattle.std.specs.Prelude.{◌≡◌, ℕ, nat_le, not, List, [], ◌∷◌, ◌++◌, length, Option, Some, None, Result, Ok, Err, if◌then◌else◌}
-use Rattle.mgs_model.specs.Names.{is_user_name}
-use Rattle.mgs_model.specs.Access.{Directory, is_among}
+-- What adding a user or a group does to a directory.
+use Rattle.std.specs.Prelude.{◌≡◌, ℕ, nat_le, not, Bool, ◌&&◌, List, [], ◌∷◌, ◌++◌, length, Option, Some, None, Result, Ok, Err, if◌then◌else◌}
+use Rattle.std.specs.List.{list_any, list_all}
+use Rattle.mgs_model.specs.Names.{is_user_name, same_name}
+use Rattle.mgs_model.specs.Access.{Directory, UserGroup, is_among}
 use Rattle.mgs_policy.specs.declared.directory.DirectoryFault.{DirectoryFault}
-use Rattle.mgs_policy.specs.declared.directory.DirectoryFault.TheVariants.{Name, Twice, Full, Short}
+use Rattle.mgs_policy.specs.declared.directory.DirectoryFault.TheVariants.{Name, Twice, Unknown, Full, Short}
 
 -- why a user of this name must not be added
 abbrev pub user_fault : Directory → List ℕ → Option DirectoryFault
@@ -17,10 +18,36 @@ user_fault directory name =
 abbrev pub with_user : Directory → List ℕ → Directory
 with_user directory name = record directory { users = directory.users ++ name ∷ [] }
 
+-- a group has this name
+abbrev pub is_group_named : List ℕ → List UserGroup → Bool
+is_group_named name groups = list_any (λ g. same_name name g.name) groups
+
+-- it is the group of this name, and the user is in it
+abbrev pub has_member : List ℕ → List ℕ → UserGroup → Bool
+has_member group user g = same_name group g.name && is_among user g.members
+
+-- all of these are users
+abbrev pub are_users : List (List ℕ) → List (List ℕ) → Bool
+are_users users members = list_all (λ member. is_among member users) members
+
+-- why a group of this name and these members must not be added
+abbrev pub group_fault : Directory → List ℕ → List (List ℕ) → Option DirectoryFault
+group_fault directory name members =
+    if not (is_user_name name) then Some Name
+    else if is_group_named name directory.groups then Some Twice
+    else if not (are_users directory.users members) then Some Unknown
+    else if nat_le 64 (length directory.groups) then Some Full
+    else None
+
+-- the directory with a group more, which is its last
+abbrev pub with_group : Directory → List ℕ → List (List ℕ) → Directory
+with_group directory name members = record directory { groups = directory.groups ++ record { name = name; members = members } ∷ [] }
+
 -- what is answered: each fault exactly where it is due, and want of memory only where none is
 abbrev pub Answers : Result (Unit {0}) DirectoryFault → Option DirectoryFault → Type 0
 Answers (Ok done) due = due ≡ None
 Answers (Err Short) due = due ≡ None
 Answers (Err Name) due = due ≡ Some Name
 Answers (Err Twice) due = due ≡ Some Twice
+Answers (Err Unknown) due = due ≡ Some Unknown
 Answers (Err Full) due = due ≡ Some Full

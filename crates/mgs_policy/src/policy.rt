@@ -1,5 +1,5 @@
 // What an access list decides.
-ghost use Rattle.std.specs.Prelude.{◌≡◌, ◌≤◌, ◌∷◌, [], length, find};
+ghost use Rattle.std.specs.Prelude.{◌≡◌, ◌∷◌, ◌&&◌, [], find, filter, not};
 ghost use Rattle.mgs_model.specs.Rights.{rights_in, has_right, all_rights};
 ghost use Rattle.mgs_model.specs.Access.{allows, matches, concerns, decider, decision, decision_by};
 
@@ -73,13 +73,50 @@ fn first_right(mask: Mask) -> Option<Right>
     Right::ALL.iter().copied().find(|right| mask.has(*right))
 }
 
-/// What a list decides on a mask of at most one right: `Granted` where there is none.
+/// The first right that both masks have.
+fn first_of_both(mask: Mask, other: Mask) -> Option<Right>
+    ensures { result ≡ find (λ right. has_right mask right && has_right other right) all_rights }
+{
+    Right::ALL
+        .iter()
+        .copied()
+        .find(|right| mask.has(*right) && other.has(*right))
+}
+
+/// The rights of a mask that the other has not.
+fn without(mask: Mask, other: Mask) -> Mask
+    ensures { rights_in result ≡ filter (λ right. not (has_right other right)) (rights_in mask) }
+{
+    Mask::from_bits(mask.bits() & !other.bits())
+}
+
+/// What a list decides on all rights of a mask (RFC 8881, section 6.2.1), in one walk over the list and without memory.
+///
+/// `DeniedBy` names the least entry that denies one of them, counted from 1, and the lowest right that it denies. Where none denies,
+/// `NotGranted` names the lowest right that no entry grants. A mask of no right is `Granted`.
 pub fn decide(list: &List, owner: &Name, user: &Name, directory: &Directory, mask: Mask) -> Decision
-    requires one { length (rights_in mask) ≤ 1 }
     ensures { result ≡ decision directory.now owner.now user.now list.now mask }
 {
-    match first_right(mask) {
-        Some(right) => decide_right(list, owner, user, directory, right),
+    // The rights of the mask that no entry so far has decided.
+    let mut left = mask;
+    for (place, entry) in list.as_slice().iter().enumerate() {
+        if matches(directory, owner, user, &entry.who) {
+            match entry.entry_type {
+                EntryType::Allow => left = without(left, entry.mask),
+                EntryType::Deny => match first_of_both(left, entry.mask) {
+                    Some(right) => {
+                        return Decision::DeniedBy {
+                            entry: place + 1,
+                            bit: right,
+                        };
+                    }
+                    None => {}
+                },
+            }
+        }
+    }
+    match first_right(left) {
+        Some(right) => Decision::NotGranted { bit: right },
         None => Decision::Granted,
     }
 }

@@ -28,6 +28,20 @@ fn decides_by_the_first_entry(rt: HostRuntime) {
     put(&rt, &mut list, "ALLOW EVERYONE@ w");
     let read = Mask::of(Right::ReadData);
     let write = Mask::of(Right::WriteData);
+    let both = Mask::from_bits(0x3);
+    assert_eq!(rt;
+        decide(&list, &cat, &ann, &directory, both),
+        Decision::DeniedBy {
+            entry: 2,
+            bit: Right::WriteData
+        }
+    );
+    assert_eq!(rt;
+        decide(&list, &cat, &bob, &directory, both),
+        Decision::NotGranted {
+            bit: Right::ReadData
+        }
+    );
     assert_eq!(rt;
         decide(&list, &cat, &ann, &directory, read),
         Decision::Granted
@@ -74,6 +88,32 @@ fn denies_by_the_entry_of_the_right(rt: HostRuntime) {
 }
 
 #[test]
+fn names_the_least_denier_and_its_lowest_right(rt: HostRuntime) {
+    let directory = Directory::new(rt.alloc());
+    let (ann, cat) = (named(&rt, "ann"), named(&rt, "cat"));
+    let both = Mask::from_bits(0x3);
+    let mut apart = List::new();
+    put(&rt, &mut apart, "DENY ann w");
+    put(&rt, &mut apart, "DENY ann r");
+    assert_eq!(rt;
+        decide(&apart, &cat, &ann, &directory, both),
+        Decision::DeniedBy {
+            entry: 1,
+            bit: Right::WriteData
+        }
+    );
+    let mut together = List::new();
+    put(&rt, &mut together, "DENY ann wr");
+    assert_eq!(rt;
+        decide(&together, &cat, &ann, &directory, both),
+        Decision::DeniedBy {
+            entry: 1,
+            bit: Right::ReadData
+        }
+    );
+}
+
+#[test]
 fn knows_the_owner(rt: HostRuntime) {
     let directory = Directory::new(rt.alloc());
     let (ann, bob) = (named(&rt, "ann"), named(&rt, "bob"));
@@ -89,6 +129,90 @@ fn knows_the_owner(rt: HostRuntime) {
             bit: Right::ReadData
         }
     );
+}
+
+#[test]
+fn knows_groups(rt: HostRuntime) {
+    let mut directory = Directory::new(rt.alloc());
+    let (ann, bob, cat) = (named(&rt, "ann"), named(&rt, "bob"), named(&rt, "cat"));
+    let (staff, guests) = (named(&rt, "staff"), named(&rt, "guests"));
+    for name in ["ann", "bob", "cat"] {
+        assert_eq!(rt; directory.add_user(name), Ok(()));
+    }
+    assert!(rt; !directory.has_group(&staff));
+    assert_eq!(rt; directory.add_group("staff", &["ann", "bob"]), Ok(()));
+    assert!(rt; directory.has_group(&staff));
+    assert!(rt; !directory.has_group(&ann));
+    assert!(rt; directory.is_member(&staff, &bob));
+    assert!(rt; !directory.is_member(&staff, &cat));
+    assert!(rt; !directory.is_member(&guests, &bob));
+    let mut list = List::new();
+    put(&rt, &mut list, "ALLOW OWNER@ rwa");
+    put(&rt, &mut list, "DENY group:staff w");
+    assert_eq!(rt;
+        decide(&list, &ann, &ann, &directory, Mask::from_bits(0x7)),
+        Decision::Granted
+    );
+    assert_eq!(rt;
+        decide(&list, &ann, &bob, &directory, Mask::from_bits(0x2)),
+        Decision::DeniedBy {
+            entry: 2,
+            bit: Right::WriteData
+        }
+    );
+    assert_eq!(rt;
+        decide(&list, &ann, &bob, &directory, Mask::from_bits(0x1)),
+        Decision::NotGranted {
+            bit: Right::ReadData
+        }
+    );
+    assert_eq!(rt;
+        decide(&list, &ann, &cat, &directory, Mask::from_bits(0x2)),
+        Decision::NotGranted {
+            bit: Right::WriteData
+        }
+    );
+}
+
+#[test]
+fn adds_groups(rt: HostRuntime) -> Result<(), Fail> {
+    let mut directory = Directory::new(rt.alloc());
+    assert_eq!(rt; directory.add_user("ann"), Ok(()));
+    assert_eq!(rt;
+        directory.add_group("Staff", &["eve"]),
+        Err(DirectoryFault::Name)
+    );
+    assert_eq!(rt;
+        directory.add_group("staff", &["ann", "eve"]),
+        Err(DirectoryFault::Unknown)
+    );
+    assert_eq!(rt;
+        directory.add_group("staff", &["ann", "Ann"]),
+        Err(DirectoryFault::Unknown)
+    );
+    assert_eq!(rt; directory.add_group("staff", &["ann", "ann"]), Ok(()));
+    assert_eq!(rt;
+        directory.add_group("staff", &["eve"]),
+        Err(DirectoryFault::Twice)
+    );
+    assert_eq!(rt; directory.add_group("ann", &[]), Ok(()));
+    for i in 2..64u16 {
+        let name = format!(in rt.alloc(); "g{i}")?;
+        assert_eq!(rt; directory.add_group(name.as_str(), &["ann"]), Ok(()));
+    }
+    assert_eq!(rt;
+        directory.add_group("staff", &["ann"]),
+        Err(DirectoryFault::Twice)
+    );
+    assert_eq!(rt;
+        directory.add_group("guests", &["eve"]),
+        Err(DirectoryFault::Unknown)
+    );
+    assert_eq!(rt;
+        directory.add_group("guests", &["ann"]),
+        Err(DirectoryFault::Full)
+    );
+    Ok(())
 }
 
 #[test]

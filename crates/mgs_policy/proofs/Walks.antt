@@ -1,0 +1,272 @@
+-- One walk over a list of entries decides on all wanted rights together: what is decided by the entries from one on, after that entry.
+use Rattle.std.proofs.Common.{◌≡◌, ℕ, ◌+◌, ◌<◌, ◌≤◌, refl, sym, ap, ◌∙◌, Bool, true, false, cond, eqb, w32, List, [], ◌∷◌, length, get_or, drop, Option, Some, None, arith}
+use Rattle.std.specs.Prelude.{find, filter, not, ◌&&◌, nat_lt, min, ◌-◌, ◌^◌}
+use Rattle.std.specs.Int.{bit_at}
+use Rattle.std.specs.Int.Bits.{bit_and}
+use Rattle.std.proofs.lemmas.Nat.Bits.{bit_at_and, bit_at_not, bit_at-lt}
+use Rattle.std.proofs.lemmas.Bool.Decides.{nat_tests}
+use Rattle.std.proofs.lemmas.List.{at_drop_more}
+use Rattle.mgs_model.specs.Rights.{has_right, all_rights, rights_in}
+use Rattle.mgs_model.specs.declared.right.Right.{Right}
+use Rattle.mgs_model.specs.declared.right.Right.TheVariants.{ReadData, WriteData, AppendData, ReadAttributes, Delete, ReadAcl, WriteAcl, WriteOwner}
+use Rattle.mgs_model.specs.declared.entry.Entry.{Entry}
+use Rattle.mgs_model.specs.declared.entry.EntryType.{EntryType}
+use Rattle.mgs_model.specs.declared.entry.EntryType.TheVariants.{Allow, Deny}
+use Rattle.mgs_model.specs.declared.entry.Decision.{Decision}
+use Rattle.mgs_model.specs.declared.entry.Decision.TheVariants.{Granted, DeniedBy, NotGranted}
+use Rattle.mgs_model.specs.Access.{Directory, Decider, Nobody, Allows, Denies, matches, concerns, decider_of, decider_from, decision_by, with_denier, with_denial, with_gap, denial, gap}
+
+-- who decides, where the rights that pass are decided by one, and the others by the rest
+abbrev first : (Right → Bool) → Decider → (Right → Decider) → Right → Decider
+first p d rest right = cond (p right) d (rest right)
+
+-- RIGHTS THAT ARE ALLOWED NEED NO MORE
+
+denial-allowed : (p : Right → Bool) (n : ℕ) (rest : Right → Decider) (rights : List Right) (d : Decision) → denial (first p (Allows n) rest) rights d ≡ denial rest (filter (λ right. not (p right)) rights) d
+denial-allowed p n rest [] d = refl
+denial-allowed p n rest (right ∷ rights) d =
+    elim (p right) as (λ b. denial (first p (Allows n) rest) rights (with_denial (cond b (Allows n) (rest right)) right d) ≡ denial rest (cond (not b) (right ∷ filter (λ x. not (p x)) rights) (filter (λ x. not (p x)) rights)) d) [
+      | true ↦ denial-allowed p n rest rights d
+      | false ↦ denial-allowed p n rest rights (with_denial (rest right) right d)
+    ]
+
+gap-allowed : (p : Right → Bool) (n : ℕ) (rest : Right → Decider) (rights : List Right) (d : Decision) → gap (first p (Allows n) rest) rights d ≡ gap rest (filter (λ right. not (p right)) rights) d
+gap-allowed p n rest [] d = refl
+gap-allowed p n rest (right ∷ rights) d =
+    elim (p right) as (λ b. gap (first p (Allows n) rest) rights (with_gap (cond b (Allows n) (rest right)) right d) ≡ gap rest (cond (not b) (right ∷ filter (λ x. not (p x)) rights) (filter (λ x. not (p x)) rights)) d) [
+      | true ↦ gap-allowed p n rest rights d
+      | false ↦ gap-allowed p n rest rights (with_gap (rest right) right d)
+    ]
+
+decision_by-allowed : (p : Right → Bool) (n : ℕ) (rest : Right → Decider) (rights : List Right) → decision_by (first p (Allows n) rest) rights ≡ decision_by rest (filter (λ right. not (p right)) rights)
+decision_by-allowed p n rest rights =
+    gap-allowed p n rest rights (denial (first p (Allows n) rest) rights Granted)
+    ∙ ap (gap rest (filter (λ right. not (p right)) rights)) (denial-allowed p n rest rights Granted)
+
+-- AN ENTRY THAT HAS NO WANTED RIGHT DECIDES NOTHING
+
+some_not_none : (right : Right) → Some right ≡ None → ⊥
+some_not_none right e = cc
+
+denial-unmet : (p : Right → Bool) (x : Decider) (rest : Right → Decider) (rights : List Right) (d : Decision) → find p rights ≡ None → denial (first p x rest) rights d ≡ denial rest rights d
+denial-unmet p x rest [] d h = refl
+denial-unmet p x rest (right ∷ rights) d h =
+    let go : (b : Bool) → cond b (Some right) (find p rights) ≡ None → denial (first p x rest) rights (with_denial (cond b x (rest right)) right d) ≡ denial rest rights (with_denial (rest right) right d) =
+    λ b. elim b as (λ b. cond b (Some right) (find p rights) ≡ None → denial (first p x rest) rights (with_denial (cond b x (rest right)) right d) ≡ denial rest rights (with_denial (rest right) right d)) [
+      | true ↦ λ e. absurd (some_not_none right e)
+      | false ↦ λ e. denial-unmet p x rest rights (with_denial (rest right) right d) e
+    ]
+    in go (p right) h
+
+gap-unmet : (p : Right → Bool) (x : Decider) (rest : Right → Decider) (rights : List Right) (d : Decision) → find p rights ≡ None → gap (first p x rest) rights d ≡ gap rest rights d
+gap-unmet p x rest [] d h = refl
+gap-unmet p x rest (right ∷ rights) d h =
+    let go : (b : Bool) → cond b (Some right) (find p rights) ≡ None → gap (first p x rest) rights (with_gap (cond b x (rest right)) right d) ≡ gap rest rights (with_gap (rest right) right d) =
+    λ b. elim b as (λ b. cond b (Some right) (find p rights) ≡ None → gap (first p x rest) rights (with_gap (cond b x (rest right)) right d) ≡ gap rest rights (with_gap (rest right) right d)) [
+      | true ↦ λ e. absurd (some_not_none right e)
+      | false ↦ λ e. gap-unmet p x rest rights (with_gap (rest right) right d) e
+    ]
+    in go (p right) h
+
+decision_by-unmet : (p : Right → Bool) (x : Decider) (rest : Right → Decider) (rights : List Right) → find p rights ≡ None → decision_by (first p x rest) rights ≡ decision_by rest rights
+decision_by-unmet p x rest rights h =
+    gap-unmet p x rest rights (denial (first p x rest) rights Granted) h
+    ∙ ap (gap rest rights) (denial-unmet p x rest rights Granted h)
+
+-- A DENIAL BY THE FIRST ENTRY IS THE LEAST
+
+-- what denies does so behind the n-th entry
+abbrev Behind : ℕ → Decider → Type 0
+Behind n Nobody = Unit {0}
+Behind n (Allows m) = Unit {0}
+Behind n (Denies m) = n < m
+
+-- the same of what is decided so far
+abbrev DecidedBehind : ℕ → Decision → Type 0
+DecidedBehind n Granted = Unit {0}
+DecidedBehind n (DeniedBy m right) = n < m
+DecidedBehind n (NotGranted right) = ⊥
+
+with_denier-first : (n : ℕ) (right : Right) (d : Decision) → DecidedBehind n d → with_denier d n right ≡ DeniedBy n right
+with_denier-first n right Granted h = refl
+with_denier-first n right (DeniedBy m earlier) h = grind (arith, nat_tests)
+with_denier-first n right (NotGranted earlier) h = absurd h
+
+with_denier-behind : (n m : ℕ) (right : Right) (d : Decision) → n < m → DecidedBehind n d → DecidedBehind n (with_denier d m right)
+with_denier-behind n m right Granted h k = h
+with_denier-behind n m right (DeniedBy j earlier) h k = elim (nat_lt m j) as (λ b. DecidedBehind n (cond b (DeniedBy m right) (DeniedBy j earlier))) [ true ↦ h | false ↦ k ]
+with_denier-behind n m right (NotGranted earlier) h k = absurd k
+
+with_denial-behind : (n : ℕ) (x : Decider) (right : Right) (d : Decision) → Behind n x → DecidedBehind n d → DecidedBehind n (with_denial x right d)
+with_denial-behind n Nobody right d h k = k
+with_denial-behind n (Allows m) right d h k = k
+with_denial-behind n (Denies m) right d h k = with_denier-behind n m right d h k
+
+not_less : (n m : ℕ) (a b : Decision) → n ≤ m → cond (nat_lt m n) a b ≡ b
+not_less n m a b h = grind (arith, nat_tests)
+
+with_denial-kept : (n : ℕ) (b : Bool) (x : Decider) (right denied : Right) → Behind n x → with_denial (cond b (Denies n) x) right (DeniedBy n denied) ≡ DeniedBy n denied
+with_denial-kept n true x right denied h = not_less n n (DeniedBy n right) (DeniedBy n denied) (omega arith)
+with_denial-kept n false Nobody right denied h = refl
+with_denial-kept n false (Allows m) right denied h = refl
+with_denial-kept n false (Denies m) right denied h = not_less n m (DeniedBy m right) (DeniedBy n denied) (omega arith)
+
+denial-kept : (p : Right → Bool) (n : ℕ) (rest : Right → Decider) (rights : List Right) (denied : Right) → ((right : Right) → Behind n (rest right)) → denial (first p (Denies n) rest) rights (DeniedBy n denied) ≡ DeniedBy n denied
+denial-kept p n rest [] denied h = refl
+denial-kept p n rest (right ∷ rights) denied h =
+    ap (denial (first p (Denies n) rest) rights) (with_denial-kept n (p right) (rest right) right denied (h right)) ∙ denial-kept p n rest rights denied h
+
+with_gap-kept : (x : Decider) (right : Right) (n : ℕ) (denied : Right) → with_gap x right (DeniedBy n denied) ≡ DeniedBy n denied
+with_gap-kept Nobody right n denied = refl
+with_gap-kept (Allows m) right n denied = refl
+with_gap-kept (Denies m) right n denied = refl
+
+gap-kept : (deciders : Right → Decider) (rights : List Right) (n : ℕ) (denied : Right) → gap deciders rights (DeniedBy n denied) ≡ DeniedBy n denied
+gap-kept deciders [] n denied = refl
+gap-kept deciders (right ∷ rights) n denied = ap (gap deciders rights) (with_gap-kept (deciders right) right n denied) ∙ gap-kept deciders rights n denied
+
+denial-met : (p : Right → Bool) (n : ℕ) (rest : Right → Decider) (rights : List Right) (d : Decision) (denied : Right) → ((right : Right) → Behind n (rest right)) → DecidedBehind n d → find p rights ≡ Some denied → denial (first p (Denies n) rest) rights d ≡ DeniedBy n denied
+denial-met p n rest [] d denied h k e = absurd (some_not_none denied (sym e))
+denial-met p n rest (right ∷ rights) d denied h k e =
+    let go : (b : Bool) → cond b (Some right) (find p rights) ≡ Some denied → denial (first p (Denies n) rest) rights (with_denial (cond b (Denies n) (rest right)) right d) ≡ DeniedBy n denied =
+    λ b. elim b as (λ b. cond b (Some right) (find p rights) ≡ Some denied → denial (first p (Denies n) rest) rights (with_denial (cond b (Denies n) (rest right)) right d) ≡ DeniedBy n denied) [
+      | true ↦ λ found.
+          let same : right ≡ denied = cc in
+          ap (denial (first p (Denies n) rest) rights) (with_denier-first n right d k ∙ ap (DeniedBy n) same) ∙ denial-kept p n rest rights denied h
+      | false ↦ λ found. denial-met p n rest rights (with_denial (rest right) right d) denied h (with_denial-behind n (rest right) right d (h right) k) found
+    ]
+    in go (p right) e
+
+decision_by-met : (p : Right → Bool) (n : ℕ) (rest : Right → Decider) (rights : List Right) (denied : Right) → ((right : Right) → Behind n (rest right)) → find p rights ≡ Some denied → decision_by (first p (Denies n) rest) rights ≡ DeniedBy n denied
+decision_by-met p n rest rights denied h e =
+    ap (gap (first p (Denies n) rest) rights) (denial-met p n rest rights Granted denied h tt e) ∙ gap-kept (first p (Denies n) rest) rights n denied
+
+-- ONE ENTRY OF A LIST
+
+behind_of : (n m : ℕ) (e : Entry) → n < m → (type : EntryType) → Behind n (decider_of type m)
+behind_of n m e h Allow = tt
+behind_of n m e h Deny = h
+
+behind_from : (n m : ℕ) (directory : Directory) (owner user : List ℕ) (right : Right) (es : List Entry) → n < m → Behind n (decider_from m directory owner user right es)
+behind_from n m directory owner user right [] h = tt
+behind_from n m directory owner user right (e ∷ es) h =
+    elim (concerns directory owner user right e) as (λ b. Behind n (cond b (decider_of e.entry_type m) (decider_from (m + 1) directory owner user right es))) [
+      | true ↦ behind_of n m e h e.entry_type
+      | false ↦ behind_from n (m + 1) directory owner user right es (omega arith)
+    ]
+
+-- what the entries decide, where the first is the n-th
+abbrev pub decided_from : ℕ → Directory → List ℕ → List ℕ → List Entry → List Right → Decision
+decided_from n directory owner user es rights = decision_by (λ right. decider_from n directory owner user right es) rights
+
+and-false : (a b : Bool) (x y : Decider) → a ≡ false → cond (a && b) x y ≡ y
+and-false a b x y h = rw h refl
+
+and-true : (a b : Bool) (x y : Decider) → a ≡ true → cond (a && b) x y ≡ cond b x y
+and-true a b x y h = rw h refl
+
+-- the entry at a place, and those behind it
+pub decided-turn : (n : ℕ) (directory : Directory) (owner user : List ℕ) (es : List Entry) (i : ℕ) (e : Entry) (rights : List Right) → i < length es → e ≡ get_or es i e → decided_from n directory owner user (drop i es) rights ≡ decided_from n directory owner user (e ∷ drop (i + 1) es) rights
+decided-turn n directory owner user es i e rights h is =
+    at_drop_more (λ xs. decided_from n directory owner user xs rights) es i e h
+    ∙ ap (λ x. decided_from n directory owner user (x ∷ drop (i + 1) es) rights) (sym is)
+
+-- an entry that does not match is passed over
+pub decided-passed : (n : ℕ) (directory : Directory) (owner user : List ℕ) (e : Entry) (es : List Entry) (rights : List Right) → matches directory owner user e.who ≡ false → decided_from n directory owner user (e ∷ es) rights ≡ decided_from (n + 1) directory owner user es rights
+decided-passed n directory owner user e es rights h =
+    ap (λ f. decision_by f rights)
+    (λ i right. and-false (matches directory owner user e.who) (has_right e.mask right) (decider_of e.entry_type n) (decider_from (n + 1) directory owner user right es) h i)
+
+-- of an entry that matches the rights of its mask are decided, and the rest decides the others
+decided-matched : (n : ℕ) (directory : Directory) (owner user : List ℕ) (e : Entry) (es : List Entry) (rights : List Right) → matches directory owner user e.who ≡ true → decided_from n directory owner user (e ∷ es) rights ≡ decision_by (first (has_right e.mask) (decider_of e.entry_type n) (λ right. decider_from (n + 1) directory owner user right es)) rights
+decided-matched n directory owner user e es rights h =
+    ap (λ f. decision_by f rights)
+    (λ i right. and-true (matches directory owner user e.who) (has_right e.mask right) (decider_of e.entry_type n) (decider_from (n + 1) directory owner user right es) h i)
+
+-- what an ALLOW entry that matches allows is wanted no more
+pub decided-allowed : (n : ℕ) (directory : Directory) (owner user : List ℕ) (e : Entry) (es : List Entry) (rights : List Right) → matches directory owner user e.who ≡ true → e.entry_type ≡ Allow → decided_from n directory owner user (e ∷ es) rights ≡ decided_from (n + 1) directory owner user es (filter (λ right. not (has_right e.mask right)) rights)
+decided-allowed n directory owner user e es rights h is =
+    decided-matched n directory owner user e es rights h
+    ∙ ap (λ type. decision_by (first (has_right e.mask) (decider_of type n) (λ right. decider_from (n + 1) directory owner user right es)) rights) is
+    ∙ decision_by-allowed (has_right e.mask) n (λ right. decider_from (n + 1) directory owner user right es) rights
+
+-- a matching entry with no right that is wanted is passed over
+pub decided-unmet : (n : ℕ) (directory : Directory) (owner user : List ℕ) (e : Entry) (es : List Entry) (rights : List Right) → matches directory owner user e.who ≡ true → find (has_right e.mask) rights ≡ None → decided_from n directory owner user (e ∷ es) rights ≡ decided_from (n + 1) directory owner user es rights
+decided-unmet n directory owner user e es rights h none =
+    decided-matched n directory owner user e es rights h
+    ∙ decision_by-unmet (has_right e.mask) (decider_of e.entry_type n) (λ right. decider_from (n + 1) directory owner user right es) rights none
+
+-- a DENY entry that matches denies the first right that is wanted and that it has
+pub decided-denied : (n : ℕ) (directory : Directory) (owner user : List ℕ) (e : Entry) (es : List Entry) (rights : List Right) (denied : Right) → matches directory owner user e.who ≡ true → e.entry_type ≡ Deny → find (has_right e.mask) rights ≡ Some denied → decided_from n directory owner user (e ∷ es) rights ≡ DeniedBy n denied
+decided-denied n directory owner user e es rights denied h is found =
+    decided-matched n directory owner user e es rights h
+    ∙ ap (λ type. decision_by (first (has_right e.mask) (decider_of type n) (λ right. decider_from (n + 1) directory owner user right es)) rights) is
+    ∙ decision_by-met (has_right e.mask) n (λ right. decider_from (n + 1) directory owner user right es) rights denied (λ right. behind_from n (n + 1) directory owner user right es (omega arith)) found
+
+-- AT THE END OF THE LIST
+
+-- what no entry decides is granted where nothing is wanted, and else the first right is not
+abbrev pub at_end : Option Right → Decision
+at_end None = Granted
+at_end (Some right) = NotGranted right
+
+gap-nobody : (rights : List Right) (right : Right) → gap (λ r. Nobody) rights (NotGranted right) ≡ NotGranted right
+gap-nobody [] right = refl
+gap-nobody (r ∷ rights) right = gap-nobody rights right
+
+denial-nobody : (rights : List Right) (d : Decision) → denial (λ r. Nobody) rights d ≡ d
+denial-nobody [] d = refl
+denial-nobody (r ∷ rights) d = denial-nobody rights d
+
+undecided : (p : Right → Bool) (rights : List Right) → gap (λ r. Nobody) (filter p rights) Granted ≡ at_end (find p rights)
+undecided p [] = refl
+undecided p (right ∷ rights) =
+    elim (p right) as (λ b. gap (λ r. Nobody) (cond b (right ∷ filter p rights) (filter p rights)) Granted ≡ at_end (cond b (Some right) (find p rights))) [
+      | true ↦ gap-nobody (filter p rights) right
+      | false ↦ undecided p rights
+    ]
+
+pub decided-end : (n : ℕ) (directory : Directory) (owner user : List ℕ) (mask : ℕ) → decided_from n directory owner user [] (rights_in mask) ≡ at_end (find (has_right mask) all_rights)
+decided-end n directory owner user mask =
+    ap (gap (λ r. Nobody) (rights_in mask)) (denial-nobody (rights_in mask) Granted) ∙ undecided (has_right mask) all_rights
+
+-- MASKS
+
+pub find-filter : {X : Type 0} (p q : X → Bool) (xs : List X) → find p (filter q xs) ≡ find (λ x. q x && p x) xs
+find-filter p q [] = refl
+find-filter p q (x ∷ xs) =
+    elim (q x) as (λ b. find p (cond b (x ∷ filter q xs) (filter q xs)) ≡ cond (b && p x) (Some x) (find (λ y. q y && p y) xs)) [
+      | true ↦ ap (cond (p x) (Some x)) (find-filter p q xs)
+      | false ↦ find-filter p q xs
+    ]
+
+filter-filter : {X : Type 0} (p q : X → Bool) (xs : List X) → filter p (filter q xs) ≡ filter (λ x. q x && p x) xs
+filter-filter p q [] = refl
+filter-filter p q (x ∷ xs) =
+    elim (q x) as (λ b. filter p (cond b (x ∷ filter q xs) (filter q xs)) ≡ cond (b && p x) (x ∷ filter (λ y. q y && p y) xs) (filter (λ y. q y && p y) xs)) [
+      | true ↦ ap (λ ys. cond (p x) (x ∷ ys) ys) (filter-filter p q xs)
+      | false ↦ filter-filter p q xs
+    ]
+
+bits_apart : (a b : ℕ) → a < 2 → b < 2 → eqb (min a (1 - b)) 1 ≡ eqb a 1 && not (eqb b 1)
+bits_apart a b h k = grind (arith, nat_tests)
+
+bit_without : (a b i : ℕ) → b < 2 ^ 32 → i < 32 → eqb (bit_at (bit_and a (2 ^ 32 - 1 - b)) i) 1 ≡ eqb (bit_at a i) 1 && not (eqb (bit_at b i) 1)
+bit_without a b i h k =
+    ap (λ n. eqb n 1) (bit_at_and a (2 ^ 32 - 1 - b) i ∙ ap (min (bit_at a i)) (bit_at_not w32 b i h k)) ∙ bits_apart (bit_at a i) (bit_at b i) (bit_at-lt a i) (bit_at-lt b i)
+
+has_right-without : (a b : ℕ) (right : Right) → b < 2 ^ 32 → has_right (bit_and a (2 ^ 32 - 1 - b)) right ≡ has_right a right && not (has_right b right)
+has_right-without a b ReadData h = bit_without a b 0 h (omega arith)
+has_right-without a b WriteData h = bit_without a b 1 h (omega arith)
+has_right-without a b AppendData h = bit_without a b 2 h (omega arith)
+has_right-without a b ReadAttributes h = bit_without a b 7 h (omega arith)
+has_right-without a b Delete h = bit_without a b 16 h (omega arith)
+has_right-without a b ReadAcl h = bit_without a b 17 h (omega arith)
+has_right-without a b WriteAcl h = bit_without a b 18 h (omega arith)
+has_right-without a b WriteOwner h = bit_without a b 19 h (omega arith)
+
+-- the rights of `a & !b`
+pub rights_in-without : (a b : ℕ) → b < 2 ^ 32 → rights_in (bit_and a (2 ^ 32 - 1 - b)) ≡ filter (λ right. not (has_right b right)) (rights_in a)
+rights_in-without a b h =
+    ap (λ p. filter p all_rights) (λ i right. has_right-without a b right h i)
+    ∙ sym (filter-filter (λ right. not (has_right b right)) (has_right a) all_rights)
