@@ -1,6 +1,10 @@
 -- The first line of a script.
-use Rattle.std.proofs.Common.{◌≡◌, ℕ, ◌+◌, List, [], ◌∷◌, length, take, drop, Some, None, sym, ap, ◌∙◌, arith, inl, inr, Bool}
+use Rattle.std.proofs.Common.{◌≡◌, ℕ, ◌+◌, List, [], ◌∷◌, length, take, drop, Option, Some, None, sym, ap, ◌∙◌, arith, inl, inr, Bool}
 use Rattle.std.specs.Prelude.{position}
+use Rattle.std.specs.Option.{option_map}
+use Rattle.std.proofs.lemmas.List.{take_all}
+use Rattle.mgs_model.specs.Lines.{is_feed}
+use Rattle.mgd.specs.Scripts.{lines_of, line_in, behind_line, lines_behind}
 use Rattle.std.specs.List.{slice_split, position_or_len}
 use Rattle.std.proofs.lemmas.Bool.{cases_lt}
 use Rattle.std.proofs.lemmas.List.Splits.{slice_split_first, slice_split_none}
@@ -24,4 +28,17 @@ cut_none p t h =
     elim (cases_lt (position_or_len p t) (length t)) [
       | inl lt ↦ let e : None ≡ Some (position_or_len p t) = h ∙ position_at p t lt in cc
       | inr le ↦ slice_split_none p t (λ k d lt. fails_before_first p t k d (omega arith))
+    ]
+
+-- the lines of a script are the first and those behind it
+pub lines_cut : (t : List ℕ) → lines_of t ≡ line_in t ∷ lines_behind (behind_line t)
+lines_cut t =
+    elim (cases_lt (position_or_len is_feed t) (length t)) [
+      | inl lt ↦
+          slice_split_first is_feed t 0 lt
+          ∙ ap (λ (o : Option ℕ). line_in t ∷ lines_behind (option_map (λ i. drop (i + 1) t) o)) (sym (position_at is_feed t lt))
+      | inr le ↦
+          slice_split_none is_feed t (λ k d lt. fails_before_first is_feed t k d (omega arith))
+          ∙ ap (λ (w : List ℕ). w ∷ []) (sym (take_all (position_or_len is_feed t) t le))
+          ∙ ap (λ (o : Option ℕ). line_in t ∷ lines_behind (option_map (λ i. drop (i + 1) t) o)) (sym (position_none is_feed t le))
     ]

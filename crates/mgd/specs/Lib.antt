@@ -4,4 +4,6 @@ pub mod Reads
 pub mod Prints
 pub mod Seats
 pub mod Faults
+pub mod Plays
 pub mod Setups
+pub mod Served

@@ -1,8 +1,19 @@
 -- What the lines before the first session do.
-use Rattle.std.specs.Prelude.{◌≡◌, ℕ, ◌+◌, ◌<◌, ◌≤◌, List, [], ◌∷◌, ◌++◌, length, Option, None, IsSome, Result, Ok, Err}
+use Rattle.std.specs.Prelude.{◌≡◌, ℕ, ◌+◌, ◌<◌, ◌≤◌, Bool, true, false, ◌&&◌, List, [], ◌∷◌, ◌++◌, length, map, All, Option, None, IsSome, Result, Ok, Err}
+use Rattle.mgs_model.specs.Names.{same_name, is_name, is_user_name}
+use Rattle.mgs_buffers.specs.declared.fault.AddFault.{AddFault}
+use Rattle.mgs_buffers.specs.declared.fault.AddFault.TheVariants as adds
+use Rattle.mgd.specs.Lines as said
+use Rattle.mgs_model.specs.Apply.{change_first}
+use Rattle.mgs_model.specs.World.{World, Buffer, is_named}
 use Rattle.mgs_model.specs.declared.entry.Entry.{Entry}
+use Rattle.mgs_buffers.specs.Kept.{Kept, kept_new}
 use Rattle.mgd.specs.declared.line.LineFault.{LineFault}
 use Rattle.mgd.specs.declared.line.LineFault.TheVariants.{Bad, Short}
+use Rattle.mgd.specs.declared.setup.Draft.{Draft}
+use Rattle.mgd.specs.declared.setup.Setup.{Setup}
+use Rattle.mgd.specs.Lines.{Said}
+use Rattle.mgd.specs.Plays.{setting_refused, world_set}
 
 -- a line is refused exactly where there is a fault
 abbrev pub IsRefused : {F : Type 0} → Result (Unit {0}) LineFault → Option F → Type 0
@@ -12,7 +23,7 @@ IsRefused (Err Short) fault = fault ≡ None
 
 -- an entry is put last; what is none is refused, and so is a 65th
 abbrev pub Listed : {F : Type 0} → Result (Unit {0}) LineFault → List Entry → List Entry → Result Entry F → Type 0
-Listed (Ok done) old new (Ok e) = new ≡ old ++ e ∷ []
+Listed (Ok done) old new (Ok e) = (length old < 64) × (new ≡ old ++ e ∷ [])
 Listed (Ok done) old new (Err f) = ⊥
 Listed (Err Bad) old new (Ok e) = (64 ≤ length old) × (new ≡ old)
 Listed (Err Bad) old new (Err f) = new ≡ old
@@ -23,3 +34,74 @@ abbrev pub Lengthened : Result (Unit {0}) LineFault → List ℕ → List ℕ �
 Lengthened (Ok done) old new cs = (new ≡ old ++ cs) × (length new ≤ 1048576)
 Lengthened (Err Bad) old new cs = (1048576 < length old + length cs) × (new ≡ old)
 Lengthened (Err Short) old new cs = new ≡ old
+
+-- what is kept of a buffer that was written down
+abbrev pub kept_of : Draft → Kept
+kept_of d = kept_new d.name.now d.owner.now d.list d.text.items false
+
+abbrev pub buffer_of : Draft → Buffer
+buffer_of d = (kept_of d).buffer
+
+abbrev pub buffers_in : List Draft → List Buffer
+buffers_in ds = map buffer_of ds
+
+abbrev pub is_drafted : List ℕ → Draft → Bool
+is_drafted name d = is_named name (buffer_of d)
+
+-- the world that was set so far
+abbrev pub world_of : Setup → World
+world_of s = record { directory = s.directory; buffers = buffers_in s.drafts.items; sessions = []; next_id = 1 }
+
+-- the buffer of that name is changed, or the line is refused
+abbrev pub Changes : Result (Unit {0}) LineFault → Bool → List ℕ → (Buffer → Buffer) → List Buffer → List Buffer → Type 0
+Changes (Ok done) refused name change old new = (refused ≡ false) × (new ≡ change_first (is_named name) change old)
+Changes (Err Bad) refused name change old new = refused ≡ true
+Changes (Err Short) refused name change old new = Unit {0}
+
+-- a line before the first open: it does what it says, or is refused
+abbrev pub Sets : Result (Unit {0}) LineFault → Said → World → World → Type 0
+Sets (Ok done) said old new = (setting_refused old said ≡ false) × (new ≡ world_set old said)
+Sets (Err Bad) said old new = setting_refused old said ≡ true
+Sets (Err Short) said old new = Unit {0}
+
+-- BUFFERS THAT CAN BE KEPT
+
+-- a buffer's name and its owner's are such names, and its text is within the limit
+pub record IsFit (b : Buffer) : Type 0 where
+  pub named : (is_name b.name && is_user_name b.owner) ≡ true
+  pub short : length b.text ≤ 1048576
+
+abbrev pub buffer_name : Buffer → List ℕ
+buffer_name b = b.name
+
+-- no name stands twice
+abbrev pub AreNew : List (List ℕ) → Type 0
+AreNew [] = Unit {0}
+AreNew (n ∷ ns) = All (λ (m : List ℕ). same_name m n ≡ false) ns × AreNew ns
+
+-- 256 such buffers at most
+pub record AreFit (bs : List Buffer) : Type 0 where
+  pub each : All IsFit bs
+  pub few : length bs ≤ 256
+  pub new : AreNew (map buffer_name bs)
+
+-- a line of a buffer has such names
+abbrev pub IsJudged : Said → Type 0
+IsJudged said.Nothing = Unit {0}
+IsJudged (said.User name) = Unit {0}
+IsJudged (said.Buffer name owner) = (is_name name && is_user_name owner) ≡ true
+IsJudged (said.Entry buffer entry) = Unit {0}
+IsJudged (said.Text buffer cs) = Unit {0}
+IsJudged (said.Open name user rows cols) = Unit {0}
+IsJudged (said.Keys name keys) = Unit {0}
+IsJudged (said.Show name) = Unit {0}
+IsJudged (said.Close name) = Unit {0}
+
+-- no fault but want of memory
+abbrev pub OnlyShort : {A : Type 0} → Result A AddFault → Type 0
+OnlyShort (Ok a) = Unit {0}
+OnlyShort (Err adds.Name) = ⊥
+OnlyShort (Err adds.Twice) = ⊥
+OnlyShort (Err adds.Full) = ⊥
+OnlyShort (Err adds.Long) = ⊥
+OnlyShort (Err adds.Short) = Unit {0}

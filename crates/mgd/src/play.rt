@@ -1,9 +1,18 @@
 // Runs the lines of a script.
-ghost use Rattle.std.specs.Prelude.{◌≡◌, ◌+◌, ◌≤◌, length, OnOk, IfOk, IfSome};
-ghost use Rattle.mgs_engine.specs.Serving.{AllTaken};
+ghost use Rattle.std.specs.Prelude.{◌≡◌, ◌+◌, ◌++◌, ◌∷◌, ◌≤◌, ℕ, List, [], Some, length, OnOk, IfOk, IfSome};
+ghost use Rattle.mgs_engine.specs.Serving.{Serving};
 ghost use Rattle.mgs_model.specs.Picture.{IsSize};
+ghost use Rattle.mgs_term.specs.Screen.{blank_screen};
+ghost use Rattle.mgs_term.specs.Terminal.{resting};
+ghost use Rattle.mgd.specs.declared.seat.Seat.TheVariants as seated;
 ghost use Rattle.mgd.specs.Faults.{fault_of, end_at, short_or, IsCounted};
-ghost use Rattle.mgd.specs.Seats.{Prints, seat_of, session_in, shown_text};
+ghost use Rattle.mgd.specs.Lines.{view, Open, Keys, Close, said_in};
+ghost use Rattle.mgd.specs.Prints.{refusal_text};
+ghost use Rattle.mgd.specs.Scripts.{lines_of};
+ghost use Rattle.mgd.specs.Seats.{Prints, seat_of, shown_text};
+ghost use Rattle.mgd.specs.Plays.{label as called, Has, begun, first_world, standing_of, session_now, had_session, TypesOne, Types, Closes, Written};
+ghost use Rattle.mgd.specs.Setups.{world_of, AreFit};
+ghost use Rattle.mgd.specs.Served.{labels_in, stage_of, seats_keyed, IsReady, IsWaiting, NotBad, Runs, RunsSaid, Turned, PlaysOn, SetsSaid, SetUp};
 
 use crate::line::{Line, LineFault, read_line};
 use crate::print::{print_ended, print_refusal, print_screen};
@@ -14,7 +23,7 @@ use crate::seats::Seats;
 use crate::setup::Setup;
 use mgs_engine::Engine;
 use mgs_marks::PlainMarked;
-use mgs_model::{Keyed, Name, OpenFault, SCRIPT_LIMIT, SessionId};
+use mgs_model::{Keyed, Name, OpenFault, SCRIPT_LIMIT, SessionId, Short};
 use mgs_term::Term;
 use std::alloc::{AllocError, Global};
 use std::io::Write;
@@ -55,15 +64,36 @@ fn printed(outcome: Result<(), AllocError>) -> Result<(), LineFault>
     outcome.map_err(|_| LineFault::Short)
 }
 
-// The open session of a label; none where it ended. A label without a session is refused.
-fn session_of(seats: &Seats, label: &Name) -> Result<Option<SessionId>, LineFault>
-    ensures { result ≡ session_in (seat_of label.now seats.now) }
+// Whether a label has had a session.
+#[tactic(auto, using(crate::proofs::Events::standing_at))]
+fn had_session(seats: &Seats, label: &Name) -> bool
+    ensures { result ≡ had_session (standing_of label.now (labels_in seats.now)) }
 {
     match seats.seat(label) {
-        None | Some(Seat::Never) => Err(LineFault::Bad),
-        Some(Seat::Open { id, .. }) => Ok(Some(*id)),
-        Some(Seat::Ended(_)) => Ok(None),
+        None | Some(Seat::Never) => false,
+        Some(Seat::Open { .. }) | Some(Seat::Ended(_)) => true,
     }
+}
+
+// The open session of a label, if it has one.
+#[tactic(auto, using(crate::proofs::Events::standing_at))]
+fn session_of(seats: &Seats, label: &Name) -> Option<SessionId>
+    ensures { result ≡ session_now (standing_of label.now (labels_in seats.now)) }
+{
+    match seats.seat(label) {
+        Some(Seat::Open { id, .. }) => Some(*id),
+        None | Some(Seat::Never) | Some(Seat::Ended(_)) => None,
+    }
+}
+
+// The terminals take what waits for them.
+fn hand_over(server: &mut Server, seats: &mut Seats)
+    requires { IsWaiting server.old seats.old }
+    ensures ready { IsReady server.new seats.new }
+    ensures world { server.new.world ≡ server.old.world }
+    ensures labels { labels_in seats.new ≡ labels_in seats.old }
+{
+    server.take_all(seats);
 }
 
 // A session that was opened gets its label and its terminal, which takes the first bytes.
@@ -76,8 +106,12 @@ fn seat_session(
     rows: usize,
     cols: usize,
 ) -> Result<(), LineFault>
-    requires { IsSize rows cols }
-    ensures { OnOk result (AllTaken server.new) }
+    requires size { IsSize rows cols }
+    requires waiting { IsWaiting server.old (seats.old ++ record { label = label; seat = seated.Open id (resting (blank_screen rows cols)) } ∷ []) }
+    ensures ready { OnOk result (IsReady server.new seats.new) }
+    ensures world { OnOk result (server.new.world ≡ server.old.world) }
+    ensures labels { OnOk result (labels_in seats.new ≡ labels_in seats.old ++ called label (Has id) ∷ []) }
+    ensures fault { NotBad result }
 {
     let Ok(term) = Term::new(alloc, rows, cols) else {
         return Err(LineFault::Short);
@@ -85,24 +119,24 @@ fn seat_session(
     if seats.add(label, Seat::Open { id, term }).is_err() {
         return Err(LineFault::Short);
     }
-    server.take_all(seats);
+    hand_over(server, seats);
     Ok(())
 }
 
 // An open that was refused uses the label up.
 fn refuse_open(
-    server: &mut Server,
     seats: &mut Seats,
     out: &mut Vec<u8>,
     label: Name,
     fault: OpenFault,
 ) -> Result<(), LineFault>
-    ensures { OnOk result (AllTaken server.new) }
+    ensures seats { OnOk result (seats.new ≡ seats.old ++ record { label = label; seat = seated.Never } ∷ []) }
+    ensures out { OnOk result (out.new.items ≡ out.old.items ++ refusal_text label fault) }
+    ensures fault { NotBad result }
 {
     if seats.add(label, Seat::Never).is_err() {
         return Err(LineFault::Short);
     }
-    server.take_all(seats);
     printed(print_refusal(out, &label, fault))
 }
 
@@ -116,45 +150,60 @@ fn open_line(
     rows: usize,
     cols: usize,
 ) -> Result<(), LineFault>
-    requires { AllTaken server.old }
-    ensures { OnOk result (AllTaken server.new) }
+    requires { IsReady server.old seats.old }
+    ensures ready { OnOk result (IsReady server.new seats.new) }
+    ensures runs { Runs result (stage_of server.old seats.old) (Open label user.now rows cols) (stage_of server.new seats.new) out.old.items out.new.items }
 {
     if seats.seat(&label).is_some() {
         return Err(LineFault::Bad);
     }
     match server.open(user, rows, cols) {
         Ok(id) => seat_session(alloc, server, seats, label, id, rows, cols),
-        Err(fault) => refuse_open(server, seats, out, label, fault),
+        Err(fault) => refuse_open(seats, out, label, fault),
     }
 }
 
-// One byte; none of a session that ended.
+// A byte that ended its session ends the label's.
+fn end_if_quit(seats: &mut Seats, label: &Name, keyed: Keyed)
+    ensures { seats.new ≡ seats_keyed keyed label.now seats.old }
+{
+    match keyed {
+        Keyed::Quit => seats.end(label, Cause::Quit),
+        Keyed::Done | Keyed::NoSession | Keyed::Short => {}
+    }
+}
+
+// One byte of an open session.
 fn type_key(server: &mut Server, seats: &mut Seats, label: &Name, id: SessionId, key: u8)
-    requires { AllTaken server.old }
-    ensures { AllTaken server.new }
+    requires { IsReady server.old seats.old }
+    ensures ready { IsReady server.new seats.new }
+    ensures types { TypesOne (Some id) (stage_of server.old seats.old) label.now key (stage_of server.new seats.new) }
 {
     let keyed = server.byte(id, key);
-    server.take_all(seats);
-    if keyed == Keyed::Quit {
-        seats.end(label, Cause::Quit);
+    end_if_quit(seats, label, keyed);
+    hand_over(server, seats);
+}
+
+// One byte of a label; none where its session ended.
+fn type_one(server: &mut Server, seats: &mut Seats, label: &Name, key: u8)
+    requires { IsReady server.old seats.old }
+    ensures ready { IsReady server.new seats.new }
+    ensures types { TypesOne (session_now (standing_of label.now (labels_in seats.old))) (stage_of server.old seats.old) label.now key (stage_of server.new seats.new) }
+{
+    match session_of(seats, label) {
+        Some(id) => type_key(server, seats, label, id, key),
+        None => {}
     }
 }
 
-fn keys_line(
-    server: &mut Server,
-    seats: &mut Seats,
-    label: &Name,
-    keys: &[u8],
-) -> Result<(), LineFault>
-    requires { AllTaken server.old }
-    ensures { OnOk result (AllTaken server.new) }
+fn type_all(server: &mut Server, seats: &mut Seats, label: &Name, keys: &[u8])
+    requires { IsReady server.old seats.old }
+    ensures ready { IsReady server.new seats.new }
+    ensures types { Types (stage_of server.old seats.old) label.now keys.now (stage_of server.new seats.new) }
 {
     for key in keys {
-        if let Some(id) = session_of(seats, label)? {
-            type_key(server, seats, label, id, *key);
-        }
+        type_one(server, seats, label, *key);
     }
-    Ok(())
 }
 
 fn show_line(seats: &Seats, out: &mut Vec<u8>, label: &Name) -> Result<(), LineFault>
@@ -167,15 +216,55 @@ fn show_line(seats: &Seats, out: &mut Vec<u8>, label: &Name) -> Result<(), LineF
     }
 }
 
-fn close_line(server: &mut Server, seats: &mut Seats, label: &Name) -> Result<(), LineFault>
-    requires { AllTaken server.old }
-    ensures { OnOk result (AllTaken server.new) }
+fn close_session(server: &mut Server, seats: &mut Seats, label: &Name, id: SessionId)
+    requires ready { IsReady server.old seats.old }
+    requires session { session_now (standing_of label.now (labels_in seats.old)) ≡ Some id }
+    ensures ready { IsReady server.new seats.new }
+    ensures closes { Closes (Some id) (stage_of server.old seats.old) label.now (stage_of server.new seats.new) }
 {
-    if let Some(id) = session_of(seats, label)? {
-        server.close(id);
-        server.take_all(seats);
-        seats.end(label, Cause::Closed);
+    server.close(id);
+    seats.end(label, Cause::Closed);
+    hand_over(server, seats);
+}
+
+// Closes the session of a label, where it is open.
+fn close_label(server: &mut Server, seats: &mut Seats, label: &Name)
+    requires { IsReady server.old seats.old }
+    ensures ready { IsReady server.new seats.new }
+    ensures closes { Closes (session_now (standing_of label.now (labels_in seats.old))) (stage_of server.old seats.old) label.now (stage_of server.new seats.new) }
+{
+    match session_of(seats, label) {
+        Some(id) => close_session(server, seats, label, id),
+        None => {}
     }
+}
+
+fn keys_line(
+    server: &mut Server,
+    seats: &mut Seats,
+    label: &Name,
+    keys: &[u8],
+) -> Result<(), LineFault>
+    requires { IsReady server.old seats.old }
+    ensures ready { OnOk result (IsReady server.new seats.new) }
+    ensures runs { (out : List ℕ) → Runs result (stage_of server.old seats.old) (Keys label.now keys.now) (stage_of server.new seats.new) out out }
+{
+    if !had_session(seats, label) {
+        return Err(LineFault::Bad);
+    }
+    type_all(server, seats, label, keys);
+    Ok(())
+}
+
+fn close_line(server: &mut Server, seats: &mut Seats, label: &Name) -> Result<(), LineFault>
+    requires { IsReady server.old seats.old }
+    ensures ready { OnOk result (IsReady server.new seats.new) }
+    ensures runs { (out : List ℕ) → Runs result (stage_of server.old seats.old) (Close label.now) (stage_of server.new seats.new) out out }
+{
+    if !had_session(seats, label) {
+        return Err(LineFault::Bad);
+    }
+    close_label(server, seats, label);
     Ok(())
 }
 
@@ -187,8 +276,9 @@ fn run_line(
     out: &mut Vec<u8>,
     line: &Line,
 ) -> Result<(), LineFault>
-    requires { AllTaken server.old }
-    ensures { OnOk result (AllTaken server.new) }
+    requires { IsReady server.old seats.old }
+    ensures ready { OnOk result (IsReady server.new seats.new) }
+    ensures runs { Runs result (stage_of server.old seats.old) (view line.now) (stage_of server.new seats.new) out.old.items out.new.items }
 {
     match line {
         Line::Nothing => Ok(()),
@@ -207,6 +297,24 @@ fn run_line(
     }
 }
 
+// A line as it stands.
+fn step_line(
+    alloc: Global,
+    server: &mut Server,
+    seats: &mut Seats,
+    out: &mut Vec<u8>,
+    line: &[u8],
+) -> Result<(), LineFault>
+    requires { IsReady server.old seats.old }
+    ensures ready { OnOk result (IsReady server.new seats.new) }
+    ensures runs { RunsSaid result (stage_of server.old seats.old) (said_in line.now) (stage_of server.new seats.new) out.old.items out.new.items }
+{
+    match read_line(alloc, line) {
+        Ok(line) => run_line(alloc, server, seats, out, &line),
+        Err(fault) => Err(fault),
+    }
+}
+
 // A line, and what it prints.
 fn turn<W: Write>(
     alloc: Global,
@@ -216,15 +324,18 @@ fn turn<W: Write>(
     line: &[u8],
     writer: &mut W,
 ) -> Result<(), TurnFault>
-    requires { AllTaken server.old }
-    ensures { OnOk result (AllTaken server.new) }
+    requires { IsReady server.old seats.old }
+    ensures ready { OnOk result (IsReady server.new seats.new) }
+    ensures turned { Turned result (stage_of server.old seats.old) (said_in line.now) (stage_of server.new seats.new) (W.contents writer.old) (W.contents writer.new) }
 {
-    let line = read_line(alloc, line).map_err(turn_fault)?;
     out.clear();
-    run_line(alloc, server, seats, out, &line).map_err(turn_fault)?;
-    writer
-        .write_all(out.as_slice())
-        .map_err(|_| TurnFault::Write)
+    match step_line(alloc, server, seats, out, line) {
+        Ok(()) => match writer.write_all(out.as_slice()) {
+            Ok(()) => Ok(()),
+            Err(_) => Err(TurnFault::Write),
+        },
+        Err(fault) => Err(turn_fault(fault)),
+    }
 }
 
 // The lines from the first `open` on, which is line `first`.
@@ -235,10 +346,12 @@ fn run_lines<W: Write>(
     first: usize,
     writer: &mut W,
 ) -> Result<(), ReplayFault>
-    requires taken { AllTaken server.old }
+    requires queues { server.old.queues ≡ [] }
+    requires sessions { server.old.world.sessions ≡ [] }
     requires first { 1 ≤ first }
     requires counted { first + length text.now ≤ SCRIPT_LIMIT + 1 }
-    ensures { IsCounted result }
+    ensures line { IsCounted result }
+    ensures written { PlaysOn result first (begun server.old.world []) (lines_of text.now) (W.contents writer.old) (W.contents writer.new) }
 {
     let mut seats = Seats::new(alloc);
     let mut out = Vec::new(alloc);
@@ -257,13 +370,18 @@ fn run_lines<W: Write>(
 }
 
 // A line before the first `open`. False: it is that one, and not run.
-fn set_line<'a>(alloc: Global, setup: &mut Setup<'a>, line: &'a [u8]) -> Result<bool, LineFault> {
-    match read_line(alloc, line)? {
-        Line::Open { .. } => Ok(false),
-        line => {
-            setup.run(line)?;
-            Ok(true)
-        }
+fn set_line<'a>(alloc: Global, setup: &mut Setup<'a>, line: &'a [u8]) -> Result<bool, LineFault>
+    requires { AreFit (world_of setup.old).buffers }
+    ensures fit { OnOk result (AreFit (world_of setup.new).buffers) }
+    ensures sets { SetsSaid result (said_in line.now) (world_of setup.old) (world_of setup.new) }
+{
+    match read_line(alloc, line) {
+        Ok(Line::Open { .. }) => Ok(false),
+        Ok(line) => match setup.run(line) {
+            Ok(()) => Ok(true),
+            Err(fault) => Err(fault),
+        },
+        Err(fault) => Err(fault),
     }
 }
 
@@ -273,10 +391,13 @@ fn set_up<'a>(
     setup: &mut Setup<'a>,
     script: &'a [u8],
 ) -> Result<Option<(usize, &'a [u8])>, ReplayFault>
-    requires { length script.now ≤ SCRIPT_LIMIT }
+    requires short { length script.now ≤ SCRIPT_LIMIT }
+    requires fit { AreFit (world_of setup.old).buffers }
     ensures line { IsCounted result }
+    ensures fit { OnOk result (AreFit (world_of setup.new).buffers) }
     ensures first { IfOk result (λ o. IfSome o (λ p. 1 ≤ p.0)) }
     ensures counted { IfOk result (λ o. IfSome o (λ p. p.0 + length p.1.now ≤ SCRIPT_LIMIT + 1)) }
+    ensures sets { SetUp (λ x. x.now) result (world_of setup.old) script.now (world_of setup.new) }
 {
     let mut rest = Some(script);
     let mut number = 1usize;
@@ -296,18 +417,19 @@ fn set_up<'a>(
 /// Runs the lines of a script over a server that has nothing yet, and writes what they print, line by line.
 ///
 /// `Line` is the first line that is refused; what the lines before it print is written. `Write`: writing fails. `Short`
-/// is want of memory.
+/// is want of memory. Nothing is said of what was written at these two.
 pub fn play<W: Write>(alloc: Global, script: &[u8], writer: &mut W) -> Result<(), ReplayFault>
     requires { length script.now ≤ SCRIPT_LIMIT }
-    ensures { IsCounted result }
+    ensures line { IsCounted result }
+    ensures written { Written first_world script.now (W.contents writer.old) (W.contents writer.new) result }
 {
     let mut setup = Setup::new(alloc);
-    let first = set_up(alloc, &mut setup, script)?;
-    let Ok(mut server) = setup.into_engine() else {
-        return Err(ReplayFault::Short);
-    };
-    match first {
-        None => Ok(()),
-        Some((number, text)) => run_lines(alloc, &mut server, text, number, writer),
+    match set_up(alloc, &mut setup, script) {
+        Ok(None) => Ok(()),
+        Ok(Some((number, text))) => match setup.into_engine() {
+            Ok(mut server) => run_lines(alloc, &mut server, text, number, writer),
+            Err(Short) => Err(ReplayFault::Short),
+        },
+        Err(fault) => Err(fault),
     }
 }

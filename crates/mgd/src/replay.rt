@@ -2,6 +2,7 @@
 ghost use Rattle.std.specs.Prelude.{◌≡◌, ◌+◌, ◌≤◌, ◌<◌, length, IfOk, IfSome};
 ghost use Rattle.std.specs.Io.KnownBytes.{Keeps};
 ghost use Rattle.mgd.specs.Faults.{IsCounted};
+ghost use Rattle.mgd.specs.Plays.{first_world, Written};
 ghost use Rattle.mgd.specs.Reads.{PieceRead, TakesAtMost};
 
 use crate::play::play;
@@ -75,6 +76,7 @@ pub fn replay<R: Read, W: Write>(
     reader: &mut R,
     writer: &mut W,
 ) -> Result<(), ReplayFault>
+    ensures written { IfSome (R.remaining reader.old) (λ script. Written first_world script (W.contents writer.old) (W.contents writer.new) result) }
     ensures line { IsCounted result }
     ensures taken { TakesAtMost (R.remaining reader.old) (R.remaining reader.new) 16777217 }
 {

@@ -1,7 +1,7 @@
 // What stands behind each label of a script.
 ghost use Rattle.std.specs.Prelude.{◌≡◌, ◌++◌, ◌∷◌, [], OnOk, OnErr, map, find};
 ghost use Rattle.std.specs.Option.{option_map};
-ghost use Rattle.mgd.specs.Seats.{seat_of, ended_by, labels_of, is_labelled};
+ghost use Rattle.mgd.specs.Seats.{seat_of, ended_by, is_labelled, Fed};
 
 use crate::seat::{Cause, Labelled, Seat};
 use mgs_engine::Taker;
@@ -79,19 +79,21 @@ impl Seats {
 
 // The terminal of a session takes its bytes.
 fn feed(labelled: &mut Labelled, id: SessionId, bytes: &[u8])
-    ensures { labelled.new.label ≡ labelled.old.label }
+    ensures { Fed id bytes.now labelled.old labelled.new }
 {
     if let Seat::Open { id: own, term } = &mut labelled.seat {
-        if *own == id {
+        if id == *own {
             let _ = term.feed_all(bytes);
         }
     }
 }
 
 impl Taker for Seats {
-    fn take(&mut self, id: SessionId, bytes: &[u8])
-        ensures { labels_of self.new ≡ labels_of self.old }
-    {
+    ghost use Rattle.mgd.specs.Seats.{TakenBy};
+
+    ghost takes = { TakenBy };
+
+    fn take(&mut self, id: SessionId, bytes: &[u8]) {
         for labelled in self.all.iter_mut() {
             feed(labelled, id, bytes);
         }

@@ -1,13 +1,16 @@
 // The users and buffers of a script, before its first session.
-ghost use Rattle.std.specs.Prelude.{◌≡◌, IfOk, OnOk, OnErr, [], position};
+ghost use Rattle.std.specs.Prelude.{◌≡◌, ◌<◌, IfOk, IfSome, OnOk, OnErr, [], length, map, position, is_some};
 ghost use Rattle.mgs_acl.specs.Spelling.{entry_in};
+ghost use Rattle.mgs_model.specs.World.{find_buffer};
 ghost use Rattle.mgs_policy.specs.Directories.{user_fault, with_user};
-ghost use Rattle.mgd.specs.Setups.{IsRefused, Listed, Lengthened};
+ghost use Rattle.mgd.specs.Lines.{view, Buffer};
+ghost use Rattle.mgd.specs.Plays.{first_world, buffer_refused, entry_refused, text_refused, with_entry, with_text};
+ghost use Rattle.mgd.specs.Setups.{IsRefused, Listed, Lengthened, Changes, Sets, kept_of, buffers_in, is_drafted, world_of, AreFit, OnlyShort};
 ghost use Rattle.mgs_engine.specs.Serving.{AllTaken};
 
 use crate::line::{Line, LineFault};
 use mgs_acl::{List, read_entry};
-use mgs_buffers::Buffers;
+use mgs_buffers::{AddFault, Buffers};
 use mgs_core::Core;
 use mgs_engine::Engine;
 use mgs_marks::PlainMarked;
@@ -65,27 +68,73 @@ fn add_text(draft: &mut Draft, text: &[char]) -> Result<(), LineFault>
 }
 
 // The place of the buffer of that name.
-fn place_of(drafts: &[Draft], name: &[u8]) -> Option<usize> {
+fn place_of(drafts: &[Draft], name: &[u8]) -> Option<usize>
+    ensures at { result ≡ position (is_drafted name.now) drafts.now }
+    ensures within { IfSome result (λ i. i < length drafts.now) }
+{
     drafts
         .iter()
-        .position(|draft| draft.name.as_bytes() == name)
+        .position(|draft| name == draft.name.as_bytes())
 }
 
-fn buffers_of(alloc: Global, drafts: &[Draft]) -> Result<Buffers<PlainMarked>, Short> {
+fn has_draft(drafts: &[Draft], name: &[u8]) -> bool
+    ensures { result ≡ is_some (find_buffer name.now (buffers_in drafts.now)) }
+{
+    place_of(drafts, name).is_some()
+}
+
+// Puts an entry last in the list of the buffer of that name.
+fn entry_line(drafts: &mut [Draft], name: &Name, entry: &str) -> Result<(), LineFault>
+    ensures { Changes result (entry_refused (find_buffer name.now (buffers_in drafts.old)) (entry_in entry.now)) name.now (with_entry (entry_in entry.now)) (buffers_in drafts.old) (buffers_in drafts.new) }
+{
+    match place_of(drafts, name.as_bytes()) {
+        Some(at) => add_entry(&mut drafts[at], entry),
+        None => Err(LineFault::Bad),
+    }
+}
+
+// Puts characters behind the text of the buffer of that name.
+fn text_line(drafts: &mut [Draft], name: &Name, text: &[char]) -> Result<(), LineFault>
+    ensures { Changes result (text_refused (find_buffer name.now (buffers_in drafts.old)) text.now) name.now (with_text text.now) (buffers_in drafts.old) (buffers_in drafts.new) }
+{
+    match place_of(drafts, name.as_bytes()) {
+        Some(at) => add_text(&mut drafts[at], text),
+        None => Err(LineFault::Bad),
+    }
+}
+
+// Every fault but want of memory was judged at its line.
+fn add_all(alloc: Global, drafts: &[Draft]) -> Result<Buffers<PlainMarked>, AddFault>
+    requires { AreFit (buffers_in drafts.now) }
+    ensures kept { IfOk result (λ b. b ≡ map kept_of drafts.now) }
+    ensures fault { OnlyShort result }
+{
     let mut buffers = Buffers::new(alloc);
     for draft in drafts {
         let list = draft.list.copy();
         match buffers.add(draft.name, draft.owner, list, &draft.text, false) {
             Ok(()) => {}
-            Err(_) => return Err(Short),
+            Err(fault) => return Err(fault),
         }
     }
     Ok(buffers)
 }
 
+fn buffers_of(alloc: Global, drafts: &[Draft]) -> Result<Buffers<PlainMarked>, Short>
+    requires { AreFit (buffers_in drafts.now) }
+    ensures { IfOk result (λ b. b ≡ map kept_of drafts.now) }
+{
+    match add_all(alloc, drafts) {
+        Ok(buffers) => Ok(buffers),
+        Err(_) => Err(Short),
+    }
+}
+
 impl<'a> Setup<'a> {
     /// No user and no buffer.
-    pub fn new(alloc: Global) -> Self {
+    pub fn new(alloc: Global) -> Self
+        ensures { world_of result ≡ first_world }
+    {
         Setup {
             alloc,
             directory: Directory::new(alloc),
@@ -106,13 +155,19 @@ impl<'a> Setup<'a> {
         }
     }
 
-    fn add_buffer(&mut self, name: &'a str, owner: &'a str) -> Result<(), LineFault>
-        ensures { self.new.directory ≡ self.old.directory }
+    // A buffer's owner is a user, its name is new, and there are 256 at most.
+    fn refuses(&self, name: &str, owner: &str) -> bool
+        ensures { result ≡ buffer_refused (world_of self.now) name.now owner.now }
     {
-        if self.directory.user(owner).is_none()
-            || place_of(&self.drafts, name.as_bytes()).is_some()
+        self.directory.user(owner).is_none()
+            || has_draft(&self.drafts, name.as_bytes())
             || self.drafts.len() >= BUFFER_LIMIT
-        {
+    }
+
+    fn add_buffer(&mut self, name: &'a str, owner: &'a str) -> Result<(), LineFault>
+        ensures { Sets result (Buffer name.now owner.now) (world_of self.old) (world_of self.new) }
+    {
+        if self.refuses(name, owner) {
             return Err(LineFault::Bad);
         }
         let draft = Draft {
@@ -127,26 +182,17 @@ impl<'a> Setup<'a> {
         }
     }
 
-    fn draft_mut(&mut self, name: &Name) -> Option<&mut Draft<'a>> {
-        let at = place_of(&self.drafts, name.as_bytes())?;
-        self.drafts.get_mut(at)
-    }
-
     /// Runs a line that stands before the first `open`. `Bad`: it is refused, or it is a line of sessions, of which none
     /// is open yet.
-    pub fn run(&mut self, line: Line<'a>) -> Result<(), LineFault> {
+    pub fn run(&mut self, line: Line<'a>) -> Result<(), LineFault>
+        ensures { Sets result (view line.entry) (world_of self.old) (world_of self.new) }
+    {
         match line {
             Line::Nothing => Ok(()),
             Line::User { name } => self.add_user(name),
             Line::Buffer { name, owner } => self.add_buffer(name, owner),
-            Line::Entry { buffer, entry } => match self.draft_mut(&buffer) {
-                Some(draft) => add_entry(draft, entry),
-                None => Err(LineFault::Bad),
-            },
-            Line::Text { buffer, text } => match self.draft_mut(&buffer) {
-                Some(draft) => add_text(draft, &text),
-                None => Err(LineFault::Bad),
-            },
+            Line::Entry { buffer, entry } => entry_line(&mut self.drafts, &buffer, entry),
+            Line::Text { buffer, text } => text_line(&mut self.drafts, &buffer, &text),
             Line::Open { .. } | Line::Keys { .. } | Line::Show { .. } | Line::Close { .. } => {
                 Err(LineFault::Bad)
             }
@@ -155,7 +201,9 @@ impl<'a> Setup<'a> {
 
     /// The engine over these users and buffers.
     pub fn into_engine(self) -> Result<Engine<PlainMarked>, Short>
-        ensures { IfOk result (λ e. AllTaken e) }
+        requires { AreFit (buffers_in self.drafts.items) }
+        ensures world { IfOk result (λ e. e.world ≡ world_of self.entry) }
+        ensures queues { IfOk result (λ e. e.queues ≡ []) }
     {
         let Setup {
             alloc,

@@ -1,9 +1,9 @@
 -- Soundness: each mark that a session uses is in use, through edits, placements and changes of a session.
 use Rattle.std.proofs.Common.{◌≡◌, ℕ, zero, suc, ◌+◌, ◌<◌, ◌≤◌, Bool, true, false, List, [], ◌∷◌, ◌++◌, take, drop, length, length-append, get_or, Option, Some, None, refl, sym, ap, subst, ◌∙◌, arith}
 use Rattle.std.proofs.lemmas.List.{length-take, length-drop}
-use Rattle.std.specs.Prelude.{find, slice_get, slice_set, IsSome, is_some}
+use Rattle.std.specs.Prelude.{find, slice_get, slice_set, IsSome, is_some, nat_eq}
 use Rattle.std.specs.Option.{option_map, option_and_then}
-use Rattle.std.proofs.lemmas.Option.{slice_get-get_or}
+use Rattle.std.proofs.lemmas.Option.{slice_get-get_or, slice_get-map}
 use Rattle.mgs_model.specs.Names.{same_name}
 use Rattle.mgs_model.specs.Text.{shift, shift_all}
 use Rattle.mgs_model.specs.Apply.{change_first}
@@ -15,8 +15,9 @@ use Rattle.mgs_windows.specs.declared.Window.{Window}
 use Rattle.mgs_session.specs.declared.Session.{Session}
 use Rattle.mgs_core.specs.Sound.{IsSound, IsSessionSound, IsWindowSound, in_use, one_if, option_uses, sum_of, session_uses, window_uses, spot_uses}
 use Rattle.mgs_core.specs.Worlds.{size_in, sizes_in}
-use Rattle.mgs_core.proofs.Marks.{is_same, found_same, found_other, slice_get-map}
-use Rattle.mgs_core.proofs.Worlds.{selected_window, spot_once, one_use, sum_at}
+use Rattle.mgs_core.proofs.Uses.{sum_at}
+use Rattle.mgs_core.proofs.Marks.{is_same, found_same, found_other}
+use Rattle.mgs_core.proofs.Worlds.{selected_window, spot_once, one_use}
 
 pub one_if_most : (b : Bool) → one_if b ≤ 1
 one_if_most true = omega arith
@@ -40,9 +41,7 @@ mark_is_kept n i ks h = kept_from (find (kept_named n) ks) i h
 
 -- a session or a window of a list
 sum_get : {A : Type 0} (used : A → ℕ) (xs : List A) (i : ℕ) (x : A) → x ≡ get_or xs i x → i < length xs → used x ≤ sum_of used xs
-sum_get used [] i x is l = absurd (omega arith)
-sum_get used (y ∷ ys) zero x is l = let u : used x ≡ used y = ap used is in omega (arith, u)
-sum_get used (y ∷ ys) (suc i) x is l = omega (arith, sum_get used ys i x is (omega arith))
+sum_get used xs i x is l = sum_at used x xs i (slice_get-get_or xs i x l ∙ ap (λ y. Some y) (sym is))
 
 pub session_sound : (ks : List Kept) (xs : List Session) (i : ℕ) (x : Session) → IsSound ks xs → x ≡ get_or xs i x → i < length xs → IsSessionSound ks x
 session_sound ks xs i x sound is l = record { once = λ n m. omega (arith, sound.once n m, sum_get (session_uses n m) xs i x is l) }
@@ -51,15 +50,19 @@ pub window_sound : (ks : List Kept) (x : Session) (i : ℕ) (w : Window) → IsS
 window_sound ks x i w sound is l = record { once = λ n m. omega (arith, sound.once n m, sum_get (window_uses n m) x.windows.windows i w is l) }
 
 -- what a window shows is in use
-point_used : (x : Spot) → 1 ≤ spot_uses x.name x.point (Some x)
+pub point_used : (x : Spot) → 1 ≤ spot_uses x.name x.point (Some x)
 point_used x = omega (arith, spot_once x)
 
-top_used : (x : Spot) → 1 ≤ spot_uses x.name x.top (Some x)
-top_used x =
+-- how often a spot uses its top
+pub top_once : (x : Spot) → spot_uses x.name x.top (Some x) ≡ one_if (nat_eq x.point x.top) + option_uses x.top x.mark + 1
+top_once x =
     let s : same_name x.name x.name ≡ true = is_same x.name x.name refl in
-    rw (s, one_use x.top x.top refl) (omega arith)
+    rw (s, one_use x.top x.top refl) refl
 
-mark_used : (x : Spot) (m : ℕ) → x.mark ≡ Some m → 1 ≤ spot_uses x.name m (Some x)
+pub top_used : (x : Spot) → 1 ≤ spot_uses x.name x.top (Some x)
+top_used x = omega (arith, top_once x)
+
+pub mark_used : (x : Spot) (m : ℕ) → x.mark ≡ Some m → 1 ≤ spot_uses x.name m (Some x)
 mark_used x m is =
     let s : same_name x.name x.name ≡ true = is_same x.name x.name refl in
     let u : option_uses m x.mark ≡ 1 = ap (option_uses m) is ∙ one_use m m refl in
@@ -73,29 +76,16 @@ window_point ks w x sound is =
     let u : window_uses x.name x.point w ≡ spot_uses x.name x.point (Some x) = ap (spot_uses x.name x.point) is in
     in_use_mark ks x.name x.point (omega (arith, sound.once x.name x.point, u, point_used x))
 
-pub window_top : (ks : List Kept) (w : Window) (x : Spot) → IsWindowSound ks w → w.shows ≡ Some x → IsMark x.name x.top ks
-window_top ks w x sound is =
-    let u : window_uses x.name x.top w ≡ spot_uses x.name x.top (Some x) = ap (spot_uses x.name x.top) is in
-    in_use_mark ks x.name x.top (omega (arith, sound.once x.name x.top, u, top_used x))
-
-pub window_mark : (ks : List Kept) (w : Window) (x : Spot) (m : ℕ) → IsWindowSound ks w → w.shows ≡ Some x → x.mark ≡ Some m → IsMark x.name m ks
-window_mark ks w x m sound is marked =
-    let u : window_uses x.name m w ≡ spot_uses x.name m (Some x) = ap (spot_uses x.name m) is in
-    in_use_mark ks x.name m (omega (arith, sound.once x.name m, u, mark_used x m marked))
-
 -- the selected window's point
-pub selected_point : (ks : List Kept) (h : Session) (x : Spot) → IsSessionSound ks h → spot_of h ≡ Some x → IsMark x.name x.point ks
+selected_point : (ks : List Kept) (h : Session) (x : Spot) → IsSessionSound ks h → spot_of h ≡ Some x → IsMark x.name x.point ks
 selected_point ks h x sound sel =
     let got = selected_window (slice_get h.windows.windows h.windows.selected) x sel in
     let u : window_uses x.name x.point got.0 ≡ spot_uses x.name x.point (Some x) = ap (spot_uses x.name x.point) got.2 in
     in_use_mark ks x.name x.point (omega (arith, sound.once x.name x.point, u, point_used x, sum_at (window_uses x.name x.point) got.0 h.windows.windows h.windows.selected got.1))
 
-pub point_at_place : (ks : List Kept) (xs : List Session) (at : ℕ) (h : Session) (x : Spot) → IsSound ks xs → at < length xs → h ≡ get_or xs at h → spot_of h ≡ Some x → IsMark x.name x.point ks
-point_at_place ks xs at h x sound within is sel = selected_point ks h x (session_sound ks xs at h sound is within) sel
-
 -- MARKS STAY IN USE
 
-pub in_use_kept : (n m : List ℕ) (i : ℕ) (f : Kept → Kept) (ks : List Kept) → ((k : Kept) → (f k).buffer.name ≡ k.buffer.name) → ((k : Kept) → one_if (is_some (mark_in k.marks i)) ≤ one_if (is_some (mark_in (f k).marks i))) → in_use m i ks ≤ in_use m i (change_first (kept_named n) f ks)
+in_use_kept : (n m : List ℕ) (i : ℕ) (f : Kept → Kept) (ks : List Kept) → ((k : Kept) → (f k).buffer.name ≡ k.buffer.name) → ((k : Kept) → one_if (is_some (mark_in k.marks i)) ≤ one_if (is_some (mark_in (f k).marks i))) → in_use m i ks ≤ in_use m i (change_first (kept_named n) f ks)
 in_use_kept n m i f ks name more =
     let use_of : Option Kept → ℕ = λ o. one_if (is_some (mark_in (kept_or_none o).marks i)) in
     let mapped : (o : Option Kept) → use_of o ≤ use_of (option_map f o) =
@@ -114,14 +104,14 @@ shifted_use a b n ms i =
     let at_slot : (o : Option (Option ℕ)) → goal o = λ o. elim o as goal [ None ↦ omega arith | Some m ↦ elim m as (λ m. goal (Some m)) [ None ↦ omega arith | Some p ↦ omega arith ] ] in
     rw (slice_get-map (option_map (shift a b n)) ms i) (at_slot (slice_get ms i))
 
-pub placed_use : (ms : List (Option ℕ)) (id p i : ℕ) → one_if (is_some (mark_in ms i)) ≤ one_if (is_some (mark_in (slice_set ms id (Some p)) i))
+placed_use : (ms : List (Option ℕ)) (id p i : ℕ) → one_if (is_some (mark_in ms i)) ≤ one_if (is_some (mark_in (slice_set ms id (Some p)) i))
 placed_use [] id p i = omega arith
 placed_use (m ∷ ms) zero p zero = one_if_most (is_some (mark_in (m ∷ ms) 0))
 placed_use (m ∷ ms) zero p (suc i) = omega arith
 placed_use (m ∷ ms) (suc id) p zero = omega arith
 placed_use (m ∷ ms) (suc id) p (suc i) = placed_use ms id p i
 
-pub in_use_edited : (n : List ℕ) (a b : ℕ) (put : List ℕ) (ks : List Kept) (m : List ℕ) (i : ℕ) → in_use m i ks ≤ in_use m i (change_first (kept_named n) (kept_edited a b put) ks)
+in_use_edited : (n : List ℕ) (a b : ℕ) (put : List ℕ) (ks : List Kept) (m : List ℕ) (i : ℕ) → in_use m i ks ≤ in_use m i (change_first (kept_named n) (kept_edited a b put) ks)
 in_use_edited n a b put ks m i = in_use_kept n m i (kept_edited a b put) ks (λ k. refl) (λ k. shifted_use a b (length put) k.marks i)
 
 pub in_use_placed : (n : List ℕ) (id p : ℕ) (ks : List Kept) (m : List ℕ) (i : ℕ) → in_use m i ks ≤ in_use m i (change_first (kept_named n) (kept_placed id p) ks)
@@ -156,10 +146,6 @@ sound_set ks xs at h y is same sound = record {
   once = λ n i. omega (arith, sound.once n i, sum_set (session_uses n i) xs at h y is (same n i));
 }
 
--- what stands at a place
-pub spot_at : (xs : List Session) (at : ℕ) (r : Session) (x : Spot) → at < length xs → option_and_then spot_of (slice_get xs at) ≡ Some x → spot_of (get_or xs at r) ≡ Some x
-spot_at xs at r x within sel = sym (ap (option_and_then spot_of) (slice_get-get_or xs at r within)) ∙ sel
-
 -- the text after an insertion is one longer
 pub text_edited : (n : List ℕ) (p c : ℕ) (ks : List Kept) → IsKept n ks → p ≤ length (kept_at n ks).buffer.text → length (kept_at n (change_first (kept_named n) (kept_edited p p (c ∷ [])) ks)).buffer.text ≡ length (kept_at n ks).buffer.text + 1
 text_edited n p c ks kept within =
@@ -179,7 +165,7 @@ sizes_set [] at h y is same = refl
 sizes_set (x ∷ xs) zero h y is same = ap (λ s. s ∷ sizes_in xs) (same ∙ ap size_in is)
 sizes_set (x ∷ xs) (suc at) h y is same = ap (λ ss. size_in x ∷ ss) (sizes_set xs at h y is same)
 
-session_shown : (o : Option Session) (x : Spot) → option_and_then spot_of o ≡ Some x → (h : Session) × (o ≡ Some h) × (spot_of h ≡ Some x)
+pub session_shown : (o : Option Session) (x : Spot) → option_and_then spot_of o ≡ Some x → (h : Session) × (o ≡ Some h) × (spot_of h ≡ Some x)
 session_shown None x e = cc
 session_shown (Some h) x e = (h, refl, e)
 

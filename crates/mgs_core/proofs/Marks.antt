@@ -1,9 +1,10 @@
 -- Where the marks of a buffer are, after its text was edited, a mark was placed, or another buffer changed.
-use Rattle.std.proofs.Common.{◌≡◌, ℕ, zero, suc, Bool, true, false, List, [], ◌∷◌, length, map, Option, Some, None, refl, sym, ap, subst, ◌∙◌, arith, eq-eqb}
+use Rattle.std.proofs.Common.{◌≡◌, ℕ, zero, suc, Bool, true, false, List, [], ◌∷◌, length, Option, Some, None, refl, sym, ap, subst, ◌∙◌, arith, eq-eqb}
 use Rattle.std.specs.Prelude.{find, slice_get, slice_set, IsSome, nat_eq}
 use Rattle.std.specs.Option.{option_map, option_and_then}
 use Rattle.std.proofs.lemmas.Slice.Eq.{bytes_eq-Decides}
 use Rattle.std.proofs.lemmas.Bool.Decides.{nat_tests}
+use Rattle.std.proofs.lemmas.Option.{slice_get-map}
 use Rattle.mgs_model.specs.Names.{same_name}
 use Rattle.mgs_model.specs.Text.{shift, shift_all}
 use Rattle.mgs_model.specs.Apply.{change_first}
@@ -24,10 +25,10 @@ pub false_from : (b : Bool) → (b ≡ true → ⊥) → b ≡ false
 false_from true h = absurd (h refl)
 false_from false h = refl
 
-not_both : {X : Type 0} (b : Bool) → b ≡ true → b ≡ false → X
+pub not_both : {X : Type 0} (b : Bool) → b ≡ true → b ≡ false → X
 not_both b p q = cc
 
-pub other_name : (n m x : List ℕ) → same_name n m ≡ false → same_name n x ≡ true → same_name m x ≡ false
+other_name : (n m x : List ℕ) → same_name n m ≡ false → same_name n x ≡ true → same_name m x ≡ false
 other_name n m x apart is =
     false_from (same_name m x) (λ e. not_both (same_name n m) (is_same n m (same_is n x is ∙ sym (same_is m x e))) apart)
 
@@ -43,11 +44,6 @@ found_other n m f ks name apart =
     find-change_first_other (kept_named n) (kept_named m) f (λ k. ap (same_name m) (name k)) (λ k e. other_name n m k.buffer.name apart e) ks
 
 -- AN EDIT
-
-pub slice_get-map : {A B : Type 0} (f : A → B) (xs : List A) (i : ℕ) → slice_get (map f xs) i ≡ option_map f (slice_get xs i)
-slice_get-map f [] i = refl
-slice_get-map f (x ∷ xs) zero = refl
-slice_get-map f (x ∷ xs) (suc i) = slice_get-map f xs i
 
 -- the first place stays
 shift_zero : (a b n : ℕ) → shift a b n 0 ≡ 0

@@ -1,27 +1,30 @@
 -- What is in use after a mark is added or dropped.
-use Rattle.std.proofs.Common.{◌≡◌, ℕ, ◌+◌, ◌≤◌, ◌≢◌, Bool, true, false, cond, List, [], ◌∷◌, ◌++◌, Option, Some, None, refl, sym, ap, subst, ◌∙◌, arith, eq-eqb}
+use Rattle.std.proofs.Common.{◌≡◌, ℕ, ◌+◌, ◌≤◌, ◌≢◌, Bool, true, false, cond, List, [], ◌∷◌, ◌++◌, map, Option, Some, None, refl, sym, ap, subst, ◌∙◌, arith, eq-eqb}
 use Rattle.std.specs.Prelude.{find, IsSome, is_some, nat_eq}
 use Rattle.std.specs.Option.{option_map}
 use Rattle.std.specs.Cmp.{unsigned_Decides}
 use Rattle.mgs_model.specs.Names.{same_name}
 use Rattle.mgs_model.specs.Apply.{change_first}
 use Rattle.mgs_marks.specs.Marks.{mark_in, or_zero}
-use Rattle.mgs_buffers.specs.Kept.{Kept, kept_named, kept_at, kept_or_none, IsKept, IsMark, kept_marked, MarkAdded, MarkDropped}
+use Rattle.mgs_buffers.specs.Kept.{Kept, kept_named, kept_at, kept_or_none, IsKept, IsMark, mark_at, kept_marked, MarkAdded, MarkDropped}
+use Rattle.mgs_model.specs.World.{Buffer_of}
 use Rattle.mgs_windows.specs.declared.Spot.{Spot}
+use Rattle.mgs_windows.specs.declared.Window.{Window}
 use Rattle.mgs_session.specs.declared.Session.{Session}
-use Rattle.mgs_core.specs.Worlds.{buffers_of}
-use Rattle.mgs_core.specs.Sound.{IsSound, in_use, one_if, option_uses, sum_of, session_uses, spot_uses}
-use Rattle.mgs_core.specs.Spots.{SpotAdded, SpotDropped}
+use Rattle.mgs_core.specs.Worlds.{buffers_of, session_of, window_of, window_shown}
+use Rattle.mgs_core.specs.Sound.{IsSound, in_use, one_if, option_uses, sum_of, session_uses, spot_uses, window_uses}
+use Rattle.mgs_core.specs.Spots.{MarksStay, SpotAdded, SpotDropped}
+use Rattle.mgs_core.proofs.Frames.{map_local}
 use Rattle.mgs_core.proofs.Marks.{is_same, same_is, false_from, found_same, found_other}
-use Rattle.mgs_core.proofs.Worlds.{map-change_first_same}
-use Rattle.mgs_core.proofs.Acts.{some_from, one_if_is}
+use Rattle.mgs_core.proofs.Worlds.{map-change_first_same, same_window, same_windows}
+use Rattle.mgs_core.proofs.Acts.{some_from, one_if_is, point_used, top_used, mark_used}
 
 -- a mark of this buffer and this number
 abbrev pub this_one : List ℕ → ℕ → List ℕ → ℕ → ℕ
 this_one n id m i = cond (same_name n m) (one_if (nat_eq id i)) 0
 
 -- the marks under a name, where those of one buffer were replaced
-pub marks_under : (n m : List ℕ) (ms : List (Option ℕ)) (ks : List Kept) → IsKept n ks → (kept_at m (change_first (kept_named n) (kept_marked ms) ks)).marks ≡ cond (same_name n m) ms (kept_at m ks).marks
+marks_under : (n m : List ℕ) (ms : List (Option ℕ)) (ks : List Kept) → IsKept n ks → (kept_at m (change_first (kept_named n) (kept_marked ms) ks)).marks ≡ cond (same_name n m) ms (kept_at m ks).marks
 marks_under n m ms ks kept =
     let goal : Bool → Type 0 = λ r. (kept_at m (change_first (kept_named n) (kept_marked ms) ks)).marks ≡ cond r ms (kept_at m ks).marks in
     let go : (r : Bool) → same_name n m ≡ r → goal r =
@@ -65,11 +68,11 @@ shaped : (m : List ℕ) (i : ℕ) (new ks : List Kept) → new ≡ ks → mark_i
 shaped m i new ks e = ap (λ (x : List Kept). mark_in (kept_at m x).marks i) e
 
 -- a mark is looked up after one more was added
-pub mark_after_added : (n : List ℕ) (p id : ℕ) (old new : List Kept) (m : List ℕ) (i : ℕ) → IsKept n old → MarkAdded n p id old new → mark_in (kept_at m new).marks i ≡ cond (same_name n m) (cond (nat_eq id i) (Some p) (mark_in (kept_at m old).marks i)) (mark_in (kept_at m old).marks i)
+mark_after_added : (n : List ℕ) (p id : ℕ) (old new : List Kept) (m : List ℕ) (i : ℕ) → IsKept n old → MarkAdded n p id old new → mark_in (kept_at m new).marks i ≡ cond (same_name n m) (cond (nat_eq id i) (Some p) (mark_in (kept_at m old).marks i)) (mark_in (kept_at m old).marks i)
 mark_after_added n p id old new m i kept h =
     shaped m i new _ h.shape ∙ mark_under n m h.marks old i kept ∙ one_changed n m id i h.marks old (Some p) h.added h.others
 
-pub mark_after_dropped : (n : List ℕ) (id : ℕ) (old new : List Kept) (m : List ℕ) (i : ℕ) → IsKept n old → MarkDropped n id old new → mark_in (kept_at m new).marks i ≡ cond (same_name n m) (cond (nat_eq id i) None (mark_in (kept_at m old).marks i)) (mark_in (kept_at m old).marks i)
+mark_after_dropped : (n : List ℕ) (id : ℕ) (old new : List Kept) (m : List ℕ) (i : ℕ) → IsKept n old → MarkDropped n id old new → mark_in (kept_at m new).marks i ≡ cond (same_name n m) (cond (nat_eq id i) None (mark_in (kept_at m old).marks i)) (mark_in (kept_at m old).marks i)
 mark_after_dropped n id old new m i kept h =
     shaped m i new _ h.shape ∙ mark_under n m h.marks old i kept ∙ one_changed n m id i h.marks old None h.gone h.others
 
@@ -89,7 +92,7 @@ one_is true true = refl
 one_is true false = refl
 one_is false this = refl
 
-pub in_use_added : (n : List ℕ) (p id : ℕ) (old new : List Kept) (m : List ℕ) (i : ℕ) → IsKept n old → MarkAdded n p id old new → in_use m i new ≡ in_use m i old + this_one n id m i
+in_use_added : (n : List ℕ) (p id : ℕ) (old new : List Kept) (m : List ℕ) (i : ℕ) → IsKept n old → MarkAdded n p id old new → in_use m i new ≡ in_use m i old + this_one n id m i
 in_use_added n p id old new m i kept h =
     let x = mark_in (kept_at m old).marks i in
     let free : same_name n m ≡ true → nat_eq id i ≡ true → x ≡ None =
@@ -98,7 +101,7 @@ in_use_added n p id old new m i kept h =
     ∙ counted (same_name n m) (nat_eq id i) x (Some p) 1 (λ same at. let e : one_if (is_some x) ≡ 0 = ap (λ (o : Option ℕ). one_if (is_some o)) (free same at) in omega (arith, e))
     ∙ ap (λ (k : ℕ). one_if (is_some x) + k) (sym (one_is (same_name n m) (nat_eq id i)))
 
-pub in_use_dropped : (n : List ℕ) (id : ℕ) (old new : List Kept) (m : List ℕ) (i : ℕ) → IsKept n old → IsMark n id old → MarkDropped n id old new → in_use m i old ≡ in_use m i new + this_one n id m i
+in_use_dropped : (n : List ℕ) (id : ℕ) (old new : List Kept) (m : List ℕ) (i : ℕ) → IsKept n old → IsMark n id old → MarkDropped n id old new → in_use m i old ≡ in_use m i new + this_one n id m i
 in_use_dropped n id old new m i kept mark h =
     let x = mark_in (kept_at m old).marks i in
     let used : same_name n m ≡ true → nat_eq id i ≡ true → one_if (is_some x) ≡ 1 =
@@ -117,7 +120,7 @@ pub kept_marked_kept : (n : List ℕ) (ms : List (Option ℕ)) (ks new : List Ke
 kept_marked_kept n ms ks new kept e =
     subst (λ (o : Option Kept). IsSome o) (sym (ap (find (kept_named n)) e ∙ found_same n n (kept_marked ms) ks (λ k. refl) (is_same n n refl))) (kept_again (find (kept_named n) ks) (kept_marked ms) kept)
 
-pub buffers_marked : (n : List ℕ) (ms : List (Option ℕ)) (ks new : List Kept) → new ≡ change_first (kept_named n) (kept_marked ms) ks → buffers_of new ≡ buffers_of ks
+buffers_marked : (n : List ℕ) (ms : List (Option ℕ)) (ks new : List Kept) → new ≡ change_first (kept_named n) (kept_marked ms) ks → buffers_of new ≡ buffers_of ks
 buffers_marked n ms ks new e = ap buffers_of e ∙ map-change_first_same (λ (k : Kept). k.buffer) (kept_named n) (kept_marked ms) (λ k. refl) ks
 
 not_used : (x : Option ℕ) → x ≡ None → 1 ≤ one_if (is_some x) → ⊥
@@ -129,13 +132,13 @@ unless true true x got h = absurd (h refl refl)
 unless true false x got h = refl
 unless false this x got h = refl
 
-pub stays_added : (n : List ℕ) (p id : ℕ) (old new : List Kept) (m : List ℕ) (i : ℕ) → IsKept n old → MarkAdded n p id old new → 1 ≤ in_use m i old → mark_in (kept_at m new).marks i ≡ mark_in (kept_at m old).marks i
+stays_added : (n : List ℕ) (p id : ℕ) (old new : List Kept) (m : List ℕ) (i : ℕ) → IsKept n old → MarkAdded n p id old new → 1 ≤ in_use m i old → mark_in (kept_at m new).marks i ≡ mark_in (kept_at m old).marks i
 stays_added n p id old new m i kept h used =
     let x = mark_in (kept_at m old).marks i in
     mark_after_added n p id old new m i kept h
     ∙ unless (same_name n m) (nat_eq id i) x (Some p) (λ same at. not_used x (ap (λ (y : List ℕ). mark_in (kept_at y old).marks i) (sym (same_is n m same)) ∙ ap (mark_in (kept_at n old).marks) (sym (this id i at)) ∙ h.free) used)
 
-pub stays_dropped : (n : List ℕ) (id : ℕ) (old new : List Kept) (m : List ℕ) (i : ℕ) → IsKept n old → MarkDropped n id old new → 1 ≤ in_use m i new → mark_in (kept_at m new).marks i ≡ mark_in (kept_at m old).marks i
+stays_dropped : (n : List ℕ) (id : ℕ) (old new : List Kept) (m : List ℕ) (i : ℕ) → IsKept n old → MarkDropped n id old new → 1 ≤ in_use m i new → mark_in (kept_at m new).marks i ≡ mark_in (kept_at m old).marks i
 stays_dropped n id old new m i kept h used =
     let x = mark_in (kept_at m old).marks i in
     let after = mark_after_dropped n id old new m i kept h in
@@ -191,13 +194,6 @@ spot_added n x a b c kept h g named unmarked =
 pub sum_append : {A : Type 0} (used : A → ℕ) (xs : List A) (y : A) → sum_of used (xs ++ y ∷ []) ≡ sum_of used xs + used y
 sum_append used [] y = omega arith
 sum_append used (x ∷ xs) y = omega (arith, sum_append used xs y)
-
--- a session more, whose window shows the spot
-pub uses_added : (ks ls : List Kept) (xs : List Session) (y : Session) (n : List ℕ) (x : Spot) → IsSound ks xs → SpotAdded n x ks ls → ((m : List ℕ) (i : ℕ) → session_uses m i y ≡ spot_uses m i (Some x)) → IsSound ls (xs ++ y ∷ [])
-uses_added ks ls xs y n x sound added new = record { once = λ m i. omega (arith, sound.once m i, added.uses m i, new m i, sum_append (session_uses m i) xs y) }
-
-pub uses_none : (ks : List Kept) (xs : List Session) (y : Session) → IsSound ks xs → ((m : List ℕ) (i : ℕ) → session_uses m i y ≡ 0) → IsSound ks (xs ++ y ∷ [])
-uses_none ks xs y sound new = record { once = λ m i. omega (arith, sound.once m i, new m i, sum_append (session_uses m i) xs y) }
 
 -- A SPOT GOES
 
@@ -259,5 +255,25 @@ undone n p id a b c d kept h same g = undone_at n p id a b d kept h (subst (λ (
 pub added_mark : (n : List ℕ) (p id : ℕ) (a b : List Kept) → IsKept n a → MarkAdded n p id a b → IsMark n id b
 added_mark n p id a b kept h = ap is_some (found_added n p id a b kept h)
 
-pub nothing_dropped : (a : List Kept) → SpotDropped None a a
-nothing_dropped a = record { buffers = refl; uses = λ m i. omega arith; stay = λ m i used after. refl }
+-- WHAT A SESSION READS: only the marks that it uses
+
+mark_local : (ks ls : List Kept) (x : Spot) (o : Option ℕ) → x.mark ≡ o → ((n : List ℕ) (i : ℕ) → 1 ≤ spot_uses n i (Some x) → mark_at n ks i ≡ mark_at n ls i) → option_map (mark_at x.name ks) o ≡ option_map (mark_at x.name ls) o
+mark_local ks ls x None is same = refl
+mark_local ks ls x (Some k) is same = ap (λ (p : ℕ). Some p) (same x.name k (mark_used x k is))
+
+shown_local : (ks ls : List Kept) (height : ℕ) (o : Option Spot) → ((n : List ℕ) (i : ℕ) → 1 ≤ spot_uses n i o → mark_at n ks i ≡ mark_at n ls i) → window_shown ks height o ≡ window_shown ls height o
+shown_local ks ls height None same = refl
+shown_local ks ls height (Some x) same =
+    same_window (Buffer_of x.name) _ _ _ _ _ _ 0 height (same x.name x.point (point_used x)) (mark_local ks ls x x.mark refl same) (same x.name x.top (top_used x))
+
+pub window_local : (ks ls : List Kept) (w : Window) → ((n : List ℕ) (i : ℕ) → 1 ≤ window_uses n i w → mark_at n ks i ≡ mark_at n ls i) → window_of ks w ≡ window_of ls w
+window_local ks ls w same = shown_local ks ls w.height w.shows same
+
+pub session_local : (ks ls : List Kept) (x : Session) → ((n : List ℕ) (i : ℕ) → 1 ≤ session_uses n i x → mark_at n ks i ≡ mark_at n ls i) → session_of ks x ≡ session_of ls x
+session_local ks ls x same =
+    same_windows (session_of ks x) _ _ (map_local (λ s n i. mark_at n s i) window_uses window_of window_local ks ls x.windows.windows same)
+
+-- sessions whose marks are in use before and after
+pub sessions_stay : (ks ls : List Kept) (xs : List Session) → IsSound ks xs → IsSound ls xs → MarksStay ks ls → map (session_of ls) xs ≡ map (session_of ks) xs
+sessions_stay ks ls xs before after stay =
+    map_local (λ s n i. mark_at n s i) session_uses session_of session_local ls ks xs (λ n i used. stay n i (omega (arith, used, before.once n i)) (omega (arith, used, after.once n i)))

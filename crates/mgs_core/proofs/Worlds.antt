@@ -1,7 +1,8 @@
 -- How the world changes when what is kept does.
-use Rattle.std.proofs.Common.{◌≡◌, ℕ, zero, suc, ◌+◌, ◌≤◌, Bool, true, false, cond, List, [], ◌∷◌, length, map, Option, Some, None, refl, sym, ap, ◌∙◌, arith, eq-eqb}
+use Rattle.std.proofs.Common.{◌≡◌, ℕ, ◌+◌, ◌≤◌, Bool, true, false, cond, List, [], ◌∷◌, length, map, Option, Some, None, refl, sym, ap, ◌∙◌, arith, eq-eqb}
 use Rattle.std.specs.Prelude.{find, slice_get, IsSome, nat_eq}
 use Rattle.std.specs.Option.{option_map, option_and_then}
+use Rattle.mgs_model.specs.Access.{Directory}
 use Rattle.mgs_model.specs.Names.{same_name}
 use Rattle.mgs_model.specs.Text.{shift}
 use Rattle.mgs_model.specs.World.{World, Buffer, Shows, Nothing, Buffer_of, is_named, has_id}
@@ -16,21 +17,21 @@ use Rattle.mgs_windows.specs.declared.Window.{Window}
 use Rattle.mgs_session.specs.declared.Session.{Session}
 use Rattle.mgs_session.specs.Told.{spot_of}
 use Rattle.mgs_core.specs.Worlds.{window_shown, window_of, session_of, buffers_of, session_id}
-use Rattle.mgs_core.specs.Sound.{sum_of, one_if, option_uses, spot_uses, window_uses, session_uses, uses}
-use Rattle.mgs_core.proofs.Uses.{map_unused, map_used_at, map_used_first}
+use Rattle.mgs_core.specs.Sound.{one_if, option_uses, spot_uses, window_uses, session_uses, uses}
+use Rattle.mgs_core.proofs.Uses.{map_unused, map_used_at, map_used_first, sum_at, sum_found}
 use Rattle.mgs_core.proofs.Marks.{is_same, mark_edited, mark_kept, mark_unused, marks_unused, mark_placed, apart_from}
 
 -- CONGRUENCE
 
-pub option_mapped : {A B : Type 0} (f g : A → B) → ((a : A) → f a ≡ g a) → (o : Option A) → option_map f o ≡ option_map g o
+option_mapped : {A B : Type 0} (f g : A → B) → ((a : A) → f a ≡ g a) → (o : Option A) → option_map f o ≡ option_map g o
 option_mapped f g same None = refl
 option_mapped f g same (Some a) = ap (λ b. Some b) (same a)
 
-pub option_mapped_twice : {A B C : Type 0} (f : A → C) (g : B → C) (h : A → B) → ((a : A) → f a ≡ g (h a)) → (o : Option A) → option_map f o ≡ option_map g (option_map h o)
+option_mapped_twice : {A B C : Type 0} (f : A → C) (g : B → C) (h : A → B) → ((a : A) → f a ≡ g (h a)) → (o : Option A) → option_map f o ≡ option_map g (option_map h o)
 option_mapped_twice f g h same None = refl
 option_mapped_twice f g h same (Some a) = ap (λ b. Some b) (same a)
 
-pub mapped_twice : {A B C : Type 0} (f : A → C) (g : B → C) (h : A → B) → ((a : A) → f a ≡ g (h a)) → (xs : List A) → map f xs ≡ map g (map h xs)
+mapped_twice : {A B C : Type 0} (f : A → C) (g : B → C) (h : A → B) → ((a : A) → f a ≡ g (h a)) → (xs : List A) → map f xs ≡ map g (map h xs)
 mapped_twice f g h same [] = refl
 mapped_twice f g h same (x ∷ xs) = ap (λ y. y ∷ map f xs) (same x) ∙ ap (λ ys. g (h x) ∷ ys) (mapped_twice f g h same xs)
 
@@ -42,6 +43,11 @@ same_window s p p' m m' t t' r h ep em et =
 
 pub same_windows : (x : model.Session) (ws ws' : List model.Window) → ws ≡ ws' → Path model.Session (record x { windows = ws }) (record x { windows = ws' })
 same_windows x ws ws' e = ap (λ (q : List model.Window). let s : model.Session = record x { windows = q } in s) e
+
+pub same_world : (directory : Directory) (bs bs' : List Buffer) (ss ss' : List model.Session) (next : ℕ) → bs ≡ bs' → ss ≡ ss' → Path World (record { directory = directory; buffers = bs; sessions = ss; next_id = next }) (record { directory = directory; buffers = bs'; sessions = ss'; next_id = next })
+same_world directory bs bs' ss ss' next eb es =
+    ap (λ (q : List Buffer). let w : World = record { directory = directory; buffers = q; sessions = ss; next_id = next } in w) eb
+    ∙ ap (λ (q : List model.Session). let w : World = record { directory = directory; buffers = bs'; sessions = q; next_id = next } in w) es
 
 -- AN EDIT
 
@@ -92,10 +98,10 @@ spot_unused n id p ks height (Some x) h =
     (marks_unused n x.name id p ks x.mark (λ s. (parts s).1))
     (mark_unused n x.name id p ks x.top (λ s. apart_from x.top id (parts s).2))
 
-pub window_unused : (n : List ℕ) (id p : ℕ) (ks : List Kept) (w : Window) → window_uses n id w ≡ 0 → window_of (change_first (kept_named n) (kept_placed id p) ks) w ≡ window_of ks w
+window_unused : (n : List ℕ) (id p : ℕ) (ks : List Kept) (w : Window) → window_uses n id w ≡ 0 → window_of (change_first (kept_named n) (kept_placed id p) ks) w ≡ window_of ks w
 window_unused n id p ks w h = spot_unused n id p ks w.height w.shows h
 
-pub session_unused : (n : List ℕ) (id p : ℕ) (ks : List Kept) (x : Session) → session_uses n id x ≡ 0 → session_of (change_first (kept_named n) (kept_placed id p) ks) x ≡ session_of ks x
+session_unused : (n : List ℕ) (id p : ℕ) (ks : List Kept) (x : Session) → session_uses n id x ≡ 0 → session_of (change_first (kept_named n) (kept_placed id p) ks) x ≡ session_of ks x
 session_unused n id p ks x none =
     let ks' = change_first (kept_named n) (kept_placed id p) ks in
     same_windows (session_of ks x) _ _ (map_unused (window_uses n id) (window_of ks') (window_of ks) (window_unused n id p ks) x.windows.windows (omega (arith, none)))
@@ -123,21 +129,6 @@ spot_placed p ks height x mark once =
 pub selected_window : (o : Option Window) (x : Spot) → option_and_then (λ (w : Window). w.shows) o ≡ Some x → (w : Window) × (o ≡ Some w) × (w.shows ≡ Some x)
 selected_window None x h = cc
 selected_window (Some w) x h = (w, refl, h)
-
-pub sum_at : {A : Type 0} (used : A → ℕ) (a : A) (xs : List A) (i : ℕ) → slice_get xs i ≡ Some a → used a ≤ sum_of used xs
-sum_at used a [] i is = cc
-sum_at used a (x ∷ xs) zero is = let e : x ≡ a = cc in let u : used x ≡ used a = ap used e in omega (arith, u)
-sum_at used a (x ∷ xs) (suc i) is = omega (arith, sum_at used a xs i is)
-
-pub sum_found : {A : Type 0} (used : A → ℕ) (p : A → Bool) (a : A) (xs : List A) → find p xs ≡ Some a → used a ≤ sum_of used xs
-sum_found used p a [] is = cc
-sum_found used p a (x ∷ xs) is =
-    let goal : Bool → Type 0 = λ b. cond b (Some x) (find p xs) ≡ Some a → used a ≤ used x + sum_of used xs in
-    let go : (b : Bool) → goal b = λ b. elim b as goal [
-      | true ↦ λ is. (let e : x ≡ a = cc in let u : used x ≡ used a = ap used e in omega (arith, u))
-      | false ↦ λ is. omega (arith, sum_found used p a xs is)
-    ]
-    in go (p x) is
 
 -- the selected point of a session goes to p
 abbrev pub point_at : ℕ → model.Session → model.Session

@@ -3,3 +3,5 @@ pub mod Sound
 pub mod Spots
 pub mod Deeds
 pub mod Screens
+pub mod Steps
+pub mod Settling

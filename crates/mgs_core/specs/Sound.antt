@@ -1,12 +1,13 @@
 -- Each mark in use is that of one place of one session.
-use Rattle.std.specs.Prelude.{ℕ, ◌+◌, ◌<◌, ◌≤◌, Bool, true, false, List, [], ◌∷◌, Option, Some, None, nat_eq, is_some, if◌then◌else◌}
+use Rattle.std.specs.Prelude.{ℕ, ◌+◌, ◌<◌, ◌≤◌, Bool, true, false, List, [], ◌∷◌, Option, Some, None, nat_eq, is_some, if◌then◌else◌, All}
 use Rattle.mgs_model.specs.Names.{same_name}
 use Rattle.mgs_marks.specs.Marks.{mark_in}
 use Rattle.mgs_buffers.specs.Kept.{Kept, kept_at}
 use Rattle.mgs_windows.specs.declared.Spot.{Spot}
 use Rattle.mgs_windows.specs.declared.Window.{Window}
 use Rattle.mgs_session.specs.declared.Session.{Session}
-use Rattle.mgs_core.specs.Worlds.{Size, id_after, sizes_in}
+use Rattle.mgs_core.specs.declared.server.Size.{Size}
+use Rattle.mgs_core.specs.Worlds.{id_after, sizes_in, IsOfSize, IsUnique}
 
 abbrev pub one_if : Bool → ℕ
 one_if true = 1
@@ -59,7 +60,10 @@ abbrev pub AreBelow : ℕ → List Size → Type 0
 AreBelow n [] = Unit {0}
 AreBelow n (x ∷ xs) = (x.id < n) × AreBelow n xs
 
--- what a server keeps: every id is below the next, and each mark in use is that of one place
+-- what a server keeps: every id is below the next and stands once, each size is one of a screen, and each mark in use is
+-- that of one place
 pub record IsHeld (ks : List Kept) (xs : List Session) (next : Option ℕ) : Type 0 where
   pub sound : IsSound ks xs
   pub ids : AreBelow (id_after next) (sizes_in xs)
+  pub unique : IsUnique (sizes_in xs)
+  pub each : All IsOfSize (sizes_in xs)

@@ -1,5 +1,5 @@
 -- The world that the kept buffers and the sessions stand for.
-use Rattle.std.specs.Prelude.{ℕ, ◌^◌, Bool, nat_eq, List, [], Option, Some, None, map, find}
+use Rattle.std.specs.Prelude.{◌≡◌, ℕ, ◌^◌, Bool, false, nat_eq, List, [], ◌∷◌, Option, Some, None, map, find, All}
 use Rattle.std.specs.Option.{option_map}
 use Rattle.mgs_model.specs.Access.{Directory}
 use Rattle.mgs_model.specs.World.{World, Buffer, Own, first_own, Nothing, Buffer_of}
@@ -8,7 +8,9 @@ use Rattle.mgs_buffers.specs.Kept.{Kept, mark_at}
 use Rattle.mgs_windows.specs.declared.Spot.{Spot}
 use Rattle.mgs_windows.specs.declared.Window.{Window}
 use Rattle.mgs_session.specs.declared.Session.{Session}
+use Rattle.mgs_model.specs.Picture.{IsSize}
 use Rattle.mgs_model.specs.declared.message.Message.{Message}
+use Rattle.mgs_core.specs.declared.server.Size.{Size}
 
 abbrev pub window_shown : List Kept → ℕ → Option Spot → model.Window
 window_shown ks height None = record { shows = Nothing; point = 0; mark = None; top = 0; row = 0; height = height }
@@ -57,11 +59,6 @@ world_of directory ks sessions next = record {
 }
 
 -- SIZES: the id of each session, and the rows and columns of its screen
-pub record Size : Type 0 where
-  pub id : ℕ
-  pub rows : ℕ
-  pub cols : ℕ
-
 abbrev pub size_of : model.Session → Size
 size_of x = record { id = x.id; rows = x.rows; cols = x.cols }
 
@@ -79,6 +76,18 @@ is_size_of id x = nat_eq x.id id
 
 abbrev pub find_size : ℕ → List Size → Option Size
 find_size id xs = find (is_size_of id) xs
+
+-- the size of a screen
+abbrev pub IsOfSize : Size → Type 0
+IsOfSize x = IsSize x.rows x.cols
+
+abbrev pub IsOther : Size → Size → Type 0
+IsOther x y = nat_eq x.id y.id ≡ false
+
+-- no id stands twice
+abbrev pub IsUnique : List Size → Type 0
+IsUnique [] = Unit {0}
+IsUnique (x ∷ xs) = All (IsOther x) xs × IsUnique xs
 
 abbrev pub session_id : ℕ → Session → Bool
 session_id id x = nat_eq x.id id

@@ -1,11 +1,18 @@
 // One act of a session: it is planned whole, and then done whole or not at all.
-ghost use Rattle.std.specs.Prelude.{◌≡◌, ◌+◌, ◌-◌, ◌<◌, ◌≤◌, ◌^◌, [], ◌∷◌, length, Some, OnOk, OnErr, slice_get};
+ghost use Rattle.std.specs.Prelude.{◌≡◌, ◌<◌, ◌≤◌, ℕ, length, Option, Some, OnOk, OnErr, slice_get, true};
+ghost use Rattle.std.specs.List.{position_or_len};
+ghost use Rattle.mgs_model.specs.Apply.{act, apply};
+ghost use Rattle.mgs_model.specs.Events.{may_be_refused};
+ghost use Rattle.mgs_model.specs.Outcome.{takes_memory};
+ghost use Rattle.mgs_model.specs.World.{Own};
+ghost use Rattle.mgs_model.specs.declared.session.Command.TheVariants.{SelfInsert};
+ghost use Rattle.mgs_core.specs.Steps.{outcome_for};
 ghost use Rattle.std.specs.Option.{option_and_then};
-ghost use Rattle.mgs_buffers.specs.Kept.{IsKept, IsMark, kept_at, mark_at};
+ghost use Rattle.mgs_buffers.specs.Kept.{IsKept, IsMark, kept_at};
 ghost use Rattle.mgs_session.specs.Told.{spot_of};
-ghost use Rattle.mgs_core.specs.Deeds.{acts_in, CanBeDone};
+ghost use Rattle.mgs_core.specs.Deeds.{acts_in, CanBeDone, deed_outcome, plan_in, motion_by, own_at};
 ghost use Rattle.mgs_core.specs.Sound.{IsSound};
-ghost use Rattle.mgs_core.specs.Worlds.{sizes_in};
+ghost use Rattle.mgs_core.specs.Worlds.{sizes_in, session_id, world_of};
 
 use mgs_buffers::Buffers;
 use mgs_marks::Marked;
@@ -54,6 +61,7 @@ fn insertion<T: Marked + Drop>(
 ) -> Deed
     requires kept { IsKept spot.now.name buffers.now }
     requires point { IsMark spot.now.name spot.now.point buffers.now }
+    ensures value { (own : Own) → deed_outcome own spot.now.name result ≡ plan_in directory.now buffers.now own user.now spot.now (SelfInsert put) }
     ensures can { CanBeDone buffers.now spot.now result }
 {
     let at = place_of(buffers, directory, user, spot);
@@ -83,6 +91,7 @@ fn motion<T: Marked + Drop>(
 ) -> Deed
     requires kept { IsKept spot.now.name buffers.now }
     requires point { IsMark spot.now.name spot.now.point buffers.now }
+    ensures value { (own : Own) → deed_outcome own spot.now.name result ≡ plan_in directory.now buffers.now own user.now spot.now (motion_by forward) }
     ensures can { CanBeDone buffers.now spot.now result }
 {
     let decision = buffers.decide(directory, &spot.name, user, Right::ReadData);
@@ -112,6 +121,7 @@ fn plan<T: Marked + Drop>(
 ) -> Deed
     requires kept { IsKept spot.now.name buffers.now }
     requires point { IsMark spot.now.name spot.now.point buffers.now }
+    ensures value { (own : Own) → deed_outcome own spot.now.name result ≡ plan_in directory.now buffers.now own user.now spot.now command }
     ensures can { CanBeDone buffers.now spot.now result }
 {
     match command {
@@ -137,6 +147,9 @@ fn perform<T: Marked + Drop>(
     requires can { CanBeDone buffers.old spot.now deed }
     ensures sound { IsSound buffers.new sessions.new }
     ensures sizes { sizes_in sessions.new ≡ sizes_in sessions.old }
+    ensures ok { OnOk result ((directory : Directory) (id : ℕ) (next : Option ℕ) → at ≡ position_or_len (session_id id) sessions.old → world_of directory buffers.new sessions.new next ≡ apply (world_of directory buffers.old sessions.old next) id (deed_outcome (own_at at sessions.old) spot.now.name deed)) }
+    ensures err { OnErr result ((directory : Directory) (next : Option ℕ) → world_of directory buffers.new sessions.new next ≡ world_of directory buffers.old sessions.old next) }
+    ensures may { OnErr result ((own : Own) → takes_memory (deed_outcome own spot.now.name deed) ≡ true) }
 {
     match deed {
         Deed::Fails(message) => tell(&mut sessions[at], message),
@@ -149,7 +162,8 @@ fn perform<T: Marked + Drop>(
     Ok(())
 }
 
-/// One act of the session at `at`.
+/// One act of the session at `at`. `Short`: memory was refused, the world is as it was, and the act is one that may be
+/// refused.
 pub fn act<T: Marked + Drop>(
     buffers: &mut Buffers<T>,
     directory: &Directory,
@@ -161,6 +175,9 @@ pub fn act<T: Marked + Drop>(
     requires within { at < length sessions.old }
     ensures sound { IsSound buffers.new sessions.new }
     ensures sizes { sizes_in sessions.new ≡ sizes_in sessions.old }
+    ensures ok { OnOk result ((id : ℕ) (next : Option ℕ) → at ≡ position_or_len (session_id id) sessions.old → world_of directory.now buffers.new sessions.new next ≡ act (world_of directory.now buffers.old sessions.old next) id command true) }
+    ensures err { OnErr result ((next : Option ℕ) → world_of directory.now buffers.new sessions.new next ≡ world_of directory.now buffers.old sessions.old next) }
+    ensures may { OnErr result ((id : ℕ) (next : Option ℕ) → at ≡ position_or_len (session_id id) sessions.old → may_be_refused (outcome_for (world_of directory.now buffers.old sessions.old next) id command true) ≡ true) }
 {
     if command == Command::Unbound {
         tell(&mut sessions[at], Message::KeyNotBound);

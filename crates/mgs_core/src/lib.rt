@@ -4,7 +4,9 @@
 mod act;
 mod open;
 mod screen;
+mod secrecy;
 mod server;
 mod settle;
 
-pub use server::Core;
+pub use secrecy::{hidden_act, hidden_text, purged};
+pub use server::{Core, Size};

@@ -1,7 +1,8 @@
 // A session comes and goes: the marks of its window.
-ghost use Rattle.std.specs.Prelude.{◌≡◌, ◌+◌, ◌<◌, ◌≤◌, ℕ, List, length, None, IfOk, OnErr};
+ghost use Rattle.std.specs.Prelude.{◌≡◌, ◌+◌, ℕ, List, None, IfOk, OnErr};
 ghost use Rattle.mgs_buffers.specs.Kept.{IsKept};
-ghost use Rattle.mgs_core.specs.Spots.{SpotAdded, SpotDropped};
+ghost use Rattle.mgs_core.specs.Spots.{MarksStay, SpotAdded, SpotDropped};
+ghost use Rattle.mgs_core.specs.Worlds.{buffers_of};
 ghost use Rattle.mgs_core.specs.Sound.{IsSessionSound, IsWindowSound, in_use, session_uses};
 
 use mgs_buffers::Buffers;
@@ -51,6 +52,8 @@ fn drop_spot<T: Marked + Drop>(buffers: &mut Buffers<T>, window: &Window)
 pub fn drop_spots<T: Marked + Drop>(buffers: &mut Buffers<T>, session: &Session)
     requires { IsSessionSound buffers.old session.now }
     ensures uses { (m : List ℕ) (i : ℕ) → in_use m i buffers.old ≡ in_use m i buffers.new + session_uses m i session.now }
+    ensures buffers { buffers_of buffers.new ≡ buffers_of buffers.old }
+    ensures stay { MarksStay buffers.old buffers.new }
 {
     for window in session.windows.as_slice() {
         drop_spot(buffers, window);

@@ -1,8 +1,12 @@
 // The screen of a session, drawn into a grid that is there.
-ghost use Rattle.std.specs.Prelude.{◌≡◌, ◌+◌, ◌<◌, ◌≤◌, Some, length};
+ghost use Rattle.std.specs.Prelude.{◌≡◌, ◌+◌, ◌-◌, ◌<◌, ◌≤◌, ℕ, true, List, Option, Some};
+ghost use Rattle.mgs_model.specs.Draw.{screen, window_rows, window_cursor};
+ghost use Rattle.mgs_model.specs.Rows.{rows_put, shift_for};
+ghost use Rattle.mgs_session.specs.declared.Session.{Session};
+ghost use Rattle.mgs_core.specs.Worlds.{world_of, session_of};
 ghost use Rattle.mgs_buffers.specs.Kept.{IsKept, IsMark};
-ghost use Rattle.mgs_core.specs.Screens.{point_shift};
-ghost use Rattle.mgs_core.specs.Sound.{IsSound, IsSessionSound, IsWindowSound};
+ghost use Rattle.mgs_core.specs.Screens.{point_shift, shown_to, window_to, heading_to, spot_rows, spot_cursor};
+ghost use Rattle.mgs_core.specs.Sound.{IsSessionSound, IsWindowSound};
 
 use mgs_buffers::Buffers;
 use mgs_grid::{Grid, shift_for};
@@ -14,10 +18,9 @@ use mgs_session::Session;
 use mgs_text::Text;
 use mgs_windows::{Spot, Window};
 
-/// A window on its way to the screen: whose it is, where its first row is, and whether it is the selected one.
+/// A window's place on the screen: where its first row is, and whether it is the selected one.
 #[derive(Clone, Copy)]
-struct Place<'a> {
-    user: &'a Name,
+struct Place {
     first: usize,
     selected: bool,
 }
@@ -30,6 +33,7 @@ fn heading<T: Marked + Drop>(
     name: &Name,
 ) -> Option<(Name, bool)>
     requires { IsKept name.now buffers.now }
+    ensures { result ≡ heading_to directory.now user.now buffers.now name.now }
 {
     if buffers.grants(directory, name, user, Right::ReadAttributes) {
         Some((*name, buffers.is_modified(name)))
@@ -44,6 +48,7 @@ fn shifted(cols: usize, column: usize, selected: bool) -> (usize, usize)
     ensures shift { result.0 ≡ point_shift selected cols column }
     ensures few { result.0 ≤ column }
     ensures col { result.1 < cols }
+    ensures cursor { selected ≡ true → result.1 ≡ column - shift_for cols column }
 {
     if selected {
         let shift = shift_for(cols, column);
@@ -53,7 +58,8 @@ fn shifted(cols: usize, column: usize, selected: bool) -> (usize, usize)
     }
 }
 
-/// Draws a text that may be read, and its mode line. Tells the cursor's row in the window and its column.
+/// Draws a text that may be read, and its mode line. Tells where the cursor is, from the window's first cell, if the
+/// window is the selected one.
 fn draw_text<T: Marked + Drop>(
     buffers: &Buffers<T>,
     heading: Option<(Name, bool)>,
@@ -69,6 +75,8 @@ fn draw_text<T: Marked + Drop>(
     requires room { place.first + height < grid.old.rows }
     ensures rows { grid.new.rows ≡ grid.old.rows }
     ensures cols { grid.new.cols ≡ grid.old.cols }
+    ensures lines { grid.new.lines ≡ rows_put place.first (spot_rows place.selected grid.old.cols height buffers.now heading spot.now) grid.old.lines }
+    ensures cursor { place.selected ≡ true → result ≡ spot_cursor grid.old.cols height buffers.now spot.now }
     ensures row { result.0 < height }
     ensures col { result.1 < grid.old.cols }
 {
@@ -86,10 +94,11 @@ fn draw_text<T: Marked + Drop>(
     (row.min(height - 1), col)
 }
 
-/// Draws a window. Tells where its cursor is, from the window's first cell.
+/// Draws a window. Tells where the cursor is, from the window's first cell, if the window is the selected one.
 fn draw_window<T: Marked + Drop>(
     buffers: &Buffers<T>,
     directory: &Directory,
+    user: &Name,
     window: &Window,
     place: Place,
     grid: &mut Grid,
@@ -99,6 +108,8 @@ fn draw_window<T: Marked + Drop>(
     requires room { place.first + window.now.height < grid.old.rows }
     ensures rows { grid.new.rows ≡ grid.old.rows }
     ensures cols { grid.new.cols ≡ grid.old.cols }
+    ensures lines { grid.new.lines ≡ rows_put place.first (window_rows place.selected grid.old.cols (shown_to directory.now user.now buffers.now) (window_to directory.now user.now buffers.now window.now)) grid.old.lines }
+    ensures cursor { place.selected ≡ true → result ≡ window_cursor grid.old.cols (shown_to directory.now user.now buffers.now) (Some (window_to directory.now user.now buffers.now window.now)) }
     ensures row { result.0 < window.now.height }
     ensures col { result.1 < grid.old.cols }
 {
@@ -109,11 +120,11 @@ fn draw_window<T: Marked + Drop>(
         grid.draw_none_mode(place.first + height);
         return (0, 0);
     };
-    let heading = heading(buffers, directory, place.user, &spot.name);
-    if buffers.grants(directory, &spot.name, place.user, Right::ReadData) {
+    let heading = heading(buffers, directory, user, &spot.name);
+    if buffers.grants(directory, &spot.name, user, Right::ReadData) {
         return draw_text(buffers, heading, &spot, height, place, grid);
     }
-    let decision = buffers.decide(directory, &spot.name, place.user, Right::ReadData);
+    let decision = buffers.decide(directory, &spot.name, user, Right::ReadData);
     grid.draw_unread(place.first, height, decision);
     grid.draw_mode(place.first + height, heading, None);
     (0, 0)
@@ -127,9 +138,9 @@ pub fn draw_session<T: Marked + Drop>(
     grid: &mut Grid,
 )
     requires sound { IsSessionSound buffers.now session.now }
-    requires size { session.now.windows.rows ≡ grid.old.rows }
-    ensures rows { grid.new.rows ≡ grid.old.rows }
-    ensures cols { grid.new.cols ≡ grid.old.cols }
+    requires rows { session.now.windows.rows ≡ grid.old.rows }
+    requires cols { session.now.cols ≡ grid.old.cols }
+    ensures { (sessions : List Session) (next : Option ℕ) → grid.new ≡ screen (world_of directory.now buffers.now sessions next) (session_of buffers.now session.now) }
 {
     let _cols = grid.cols();
     let selected = session.windows.selected();
@@ -137,11 +148,10 @@ pub fn draw_session<T: Marked + Drop>(
     let mut cursor = (0, 0);
     for (i, window) in session.windows.as_slice().iter().enumerate() {
         let place = Place {
-            user: &session.user,
             first,
             selected: i == selected,
         };
-        let (row, col) = draw_window(buffers, directory, window, place, grid);
+        let (row, col) = draw_window(buffers, directory, &session.user, window, place, grid);
         if i == selected {
             cursor = (first + row, col);
         }

@@ -1,6 +1,9 @@
 // The end of an event: each window's top goes where its point can be seen.
-ghost use Rattle.std.specs.Prelude.{◌≡◌, ◌<◌, ◌≤◌, ℕ, List, length};
-ghost use Rattle.mgs_core.specs.Sound.{IsSound, IsSessionSound, IsWindowSound, in_use};
+ghost use Rattle.std.specs.Prelude.{◌≡◌, ◌≤◌, ℕ, Option};
+ghost use Rattle.mgs_model.specs.Events.{settled};
+ghost use Rattle.mgs_core.specs.Worlds.{world_of};
+ghost use Rattle.mgs_core.specs.Sound.{IsSound, IsSessionSound, IsWindowSound};
+ghost use Rattle.mgs_core.specs.Settling.{after_window, after_session};
 
 use mgs_buffers::Buffers;
 use mgs_lines::settled_top;
@@ -18,7 +21,7 @@ fn settle_window<T: Marked + Drop>(
 )
     requires sound { IsWindowSound buffers.old window.now }
     requires some { 1 ≤ window.now.height }
-    ensures more { (m : List ℕ) (i : ℕ) → in_use m i buffers.old ≤ in_use m i buffers.new }
+    ensures { buffers.new ≡ after_window directory.now user.now buffers.old window.now }
 {
     let Some(spot) = window.shows else {
         return;
@@ -37,7 +40,7 @@ fn settle_session<T: Marked + Drop>(
     session: &Session,
 )
     requires { IsSessionSound buffers.old session.now }
-    ensures more { (m : List ℕ) (i : ℕ) → in_use m i buffers.old ≤ in_use m i buffers.new }
+    ensures { buffers.new ≡ after_session directory.now buffers.old session.now }
 {
     for window in session.windows.as_slice() {
         settle_window(buffers, directory, &session.user, window);
@@ -52,6 +55,7 @@ pub fn settle<T: Marked + Drop>(
 )
     requires { IsSound buffers.old sessions.now }
     ensures sound { IsSound buffers.new sessions.now }
+    ensures world { (next : Option ℕ) → world_of directory.now buffers.new sessions.now next ≡ settled (world_of directory.now buffers.old sessions.now next) }
 {
     for session in sessions {
         settle_session(buffers, directory, session);

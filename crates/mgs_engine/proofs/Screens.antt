@@ -11,10 +11,11 @@ use Rattle.mgs_model.proofs.Firsts.{find-map, find_at_place, find_none, place_fo
 use Rattle.mgs_model.specs.Apply.{change_first, remove_first}
 use Rattle.mgs_model.specs.Picture.{IsSize, IsPicture}
 use Rattle.mgs_paint.specs.Painting.{bound_of}
-use Rattle.mgs_core.specs.Worlds.{Size, find_size, is_size_of}
+use Rattle.mgs_core.specs.declared.server.Size.{Size}
+use Rattle.mgs_core.specs.Worlds.{find_size, is_size_of, IsOther, IsUnique}
 use Rattle.mgs_engine.specs.declared.screen.Screen.{Screen}
 use Rattle.mgs_engine.specs.Serving.{Handed, Queue, queue_id, IsTaken, emptied, bytes_of, find_queue, is_queue_of}
-use Rattle.mgs_engine.specs.Screens.{queue_of, queues_of, size_of, screen_id, IsScreen, IsKnown, IsOther, IsUnique}
+use Rattle.mgs_engine.specs.Screens.{queue_of, queues_of, size_of, screen_id, IsScreen, IsKnown}
 
 -- a paint of any screen has room in an empty queue
 mul_most : (a b c d : ℕ) → a ≤ c → b ≤ d → a * b ≤ c * d
@@ -109,14 +110,14 @@ found_past x ss (y ∷ ys) o f =
     (ap (λ b. cond b (Some x) (find_size y.id ss)) e ∙ All-head (IsFound ss) y ys f)
     (found_past x ss ys (All-tail (IsOther x) y ys o) (All-tail (IsFound ss) y ys f))
 
-found_each : (ss : List Size) → IsUnique ss → All (IsFound ss) ss
+pub found_each : (ss : List Size) → IsUnique ss → All (IsFound ss) ss
 found_each [] u = All-nil (IsFound [])
 found_each (x ∷ xs) u =
     All-cons (IsFound (x ∷ xs)) x xs
     (ap (λ b. cond b (Some x) (find_size x.id xs)) (eq-eqb x.id x.id refl))
     (found_past x xs xs u.0 (found_each xs u.1))
 
-All-unmap : {A B : Type 0} (P : B → Type 0) (f : A → B) (xs : List A) → All P (map f xs) → All (λ x. P (f x)) xs
+pub All-unmap : {A B : Type 0} (P : B → Type 0) (f : A → B) (xs : List A) → All P (map f xs) → All (λ x. P (f x)) xs
 All-unmap P f [] h = All-nil (λ x. P (f x))
 All-unmap P f (x ∷ xs) h = All-cons (λ x. P (f x)) x xs (All-head P (f x) (map f xs) h) (All-unmap P f xs (All-tail P (f x) (map f xs) h))
 
@@ -148,15 +149,16 @@ rest_at xs ys i d e =
 pub rest_after : (xs ys : List Screen) (i : ℕ) (x : Screen) → drop i xs ≡ drop i ys → drop (i + 1) (set xs i x) ≡ drop (i + 1) ys
 rest_after xs ys i x e = drop-set-lt (i + 1) xs i x (omega arith) ∙ sym (drop-drop 1 i xs) ∙ ap (drop 1) e ∙ drop-drop 1 i ys
 
-pub sizes_set : (xs : List Screen) (i : ℕ) (d y : Screen) → i < length xs → size_of y ≡ size_of (get_or xs i d) → map size_of (set xs i y) ≡ map size_of xs
-sizes_set [] i d y l e = refl
-sizes_set (z ∷ zs) zero d y l e = ap (λ s. s ∷ map size_of zs) e
-sizes_set (z ∷ zs) (suc i) d y l e = ap (λ ss. size_of z ∷ ss) (sizes_set zs i d y (omega arith) e)
+-- a write that changes nothing of what is asked
+pub same_set : {A : Type 0} (of : Screen → A) (xs : List Screen) (i : ℕ) (d y : Screen) → i < length xs → of y ≡ of (get_or xs i d) → map of (set xs i y) ≡ map of xs
+same_set of [] i d y l e = refl
+same_set of (z ∷ zs) zero d y l e = ap (λ s. s ∷ map of zs) e
+same_set of (z ∷ zs) (suc i) d y l e = ap (λ ss. of z ∷ ss) (same_set of zs i d y (omega arith) e)
 
 -- QUEUES
 
 -- the ids of the queues are those of the sizes
-ids_are : (xs : List Screen) → map queue_id (queues_of xs) ≡ map (λ (x : Size). x.id) (map size_of xs)
+pub ids_are : (xs : List Screen) → map queue_id (queues_of xs) ≡ map (λ (x : Size). x.id) (map size_of xs)
 ids_are [] = refl
 ids_are (x ∷ xs) = ap (λ ys. x.id ∷ ys) (ids_are xs)
 

@@ -1,8 +1,13 @@
--- The screens of the open sessions, beside the sizes that the world tells.
-use Rattle.std.specs.Prelude.{◌≡◌, ℕ, ◌≤◌, Bool, false, nat_eq, List, [], ◌∷◌, Some, map, All, vec_capacity}
-use Rattle.mgs_core.specs.Worlds.{Size, find_size, sizes}
-use Rattle.mgs_model.specs.World.{World}
+-- The screens of the open sessions, beside the world that they show.
+use Rattle.std.specs.Prelude.{◌≡◌, ℕ, ◌≤◌, Bool, nat_eq, List, [], ◌∷◌, ◌++◌, Some, map, All, vec_capacity}
+use Rattle.mgs_core.specs.declared.server.Size.{Size}
+use Rattle.mgs_core.specs.Worlds.{find_size, sizes, IsUnique}
+use Rattle.mgs_model.specs.World.{World, Session, find_session}
+use Rattle.mgs_model.specs.Draw.{screen}
+use Rattle.mgs_model.specs.Picture.{Picture}
 use Rattle.mgs_model.specs.declared.limits.TheConstants.{QUEUE_LIMIT}
+use Rattle.mgs_paint.specs.Painting.{Paints, cells_of, shown}
+use Rattle.mgs_term.specs.Drawing.{Draws, IsFaithful}
 use Rattle.mgs_engine.specs.declared.screen.Screen.{Screen}
 use Rattle.mgs_engine.specs.Serving.{Queue, Serving}
 
@@ -22,6 +27,14 @@ screen_id id x = nat_eq x.id id
 abbrev pub size_of : Screen → Size
 size_of x = record { id = x.id; rows = x.shown.rows; cols = x.shown.cols }
 
+-- what a terminal shows
+pub record Drawn : Type 0 where
+  pub id : ℕ
+  pub picture : Picture
+
+abbrev pub drawn_of : Screen → Drawn
+drawn_of x = record { id = x.id; picture = x.shown }
+
 -- both grids have one size, and the queue has its room
 pub record IsScreen (x : Screen) : Type 0 where
   pub rows : x.next.rows ≡ x.shown.rows
@@ -32,16 +45,39 @@ pub record IsScreen (x : Screen) : Type 0 where
 abbrev pub IsKnown : List Size → Screen → Type 0
 IsKnown ss x = find_size x.id ss ≡ Some (size_of x)
 
-abbrev pub IsOther : Size → Size → Type 0
-IsOther x y = nat_eq x.id y.id ≡ false
+-- the terminal shows what the world has for the session of its id
+pub record IsDrawn (w : World) (x : Screen) : Type 0 where
+  pub session : Session
+  pub found : find_session x.id w.sessions ≡ Some session
+  pub picture : x.shown ≡ screen w session
 
--- no id stands twice
-abbrev pub IsUnique : List Size → Type 0
-IsUnique [] = Unit {0}
-IsUnique (x ∷ xs) = All (IsOther x) xs × IsUnique xs
+-- only what is to be shown next was drawn, for the session of its id
+pub record IsAhead (w : World) (old new : Screen) : Type 0 where
+  pub session : Session
+  pub found : find_session old.id w.sessions ≡ Some session
+  pub same : new ≡ record old { next = screen w session }
 
--- there is a screen for each open session, in their order
+-- what was appended to the bytes draws what is shown now over what was shown before
+pub record IsRepaint (old new : Screen) : Type 0 where
+  pub id : new.id ≡ old.id
+  pub bytes : List ℕ
+  pub appended : new.queue.items ≡ old.queue.items ++ bytes
+  pub draws : Draws (IsFaithful (cells_of new.shown)) bytes (shown old.shown) (shown new.shown)
+
+-- each of the screens
+abbrev pub AreRepaints : List Screen → List Screen → Type 0
+AreRepaints [] [] = Unit {0}
+AreRepaints [] (y ∷ ys) = ⊥
+AreRepaints (x ∷ xs) [] = ⊥
+AreRepaints (x ∷ xs) (y ∷ ys) = IsRepaint x y × AreRepaints xs ys
+
+-- the bytes that wait paint what is shown, whatever the terminal showed
+abbrev pub IsFirst : Screen → Type 0
+IsFirst x = Paints x.shown x.queue.items
+
+-- there is a screen for each open session, in their order, and it is the one that the world has for the session
 pub record IsServed (world : World) (xs : List Screen) : Type 0 where
   pub sizes_are : map size_of xs ≡ sizes world
   pub unique : IsUnique (sizes world)
   pub each : All IsScreen xs
+  pub drawn : All (IsDrawn world) xs

@@ -1,14 +1,20 @@
 // A world and the screens of its open sessions: one call is one event.
-ghost use Rattle.std.specs.Prelude.{◌≡◌, ◌↔◌, ◌++◌, ◌≤◌, ◌<◌, ℕ, List, [], ◌∷◌, None, IfOk, OnErr, IsTrue, IsSome, map, length, is_some, nat_eq};
+ghost use Rattle.std.specs.Prelude.{◌≡◌, ◌↔◌, ◌++◌, ◌≤◌, ◌<◌, ℕ, List, [], ◌∷◌, Some, None, IfOk, OnOk, OnErr, IsTrue, IsSome, map, length, is_some, nat_eq};
 ghost use Rattle.std.specs.List.{position_or_len};
-ghost use Rattle.mgs_core.specs.Worlds.{sizes, Size, find_size, is_size_of};
+ghost use Rattle.mgs_core.specs.declared.server.Size.{Size};
+ghost use Rattle.mgs_core.specs.Worlds.{sizes, find_size, is_size_of};
+ghost use Rattle.mgs_core.specs.Steps.{KeyedBy, OpenedBy};
 ghost use Rattle.mgs_engine.specs.Serving.{Handed, Serving, AllTaken, pending_of, queue_ids, is_queue_of, after_taking, emptied, Queue};
+ghost use Rattle.mgs_engine.specs.Painted.{Painted};
 ghost use Rattle.mgs_engine.specs.Screens.{screen_id};
+ghost use Rattle.mgs_paint.specs.Painting.{Paints};
 ghost use Rattle.mgs_model.specs.Apply.{remove_first, change_first};
 ghost use Rattle.mgs_model.specs.Picture.{IsSize};
-ghost use Rattle.mgs_model.specs.declared.errors.Keyed.TheVariants.{NoSession};
+ghost use Rattle.mgs_model.specs.World.{Session, find_session};
+ghost use Rattle.mgs_model.specs.Draw.{screen};
+ghost use Rattle.mgs_model.specs.Events.{step, Close};
 
-use crate::draw::{draw_first, redraw_all};
+use crate::draw::{draw_first, first_screens, redraw_all};
 use crate::place::{place_of, remove_screen};
 use crate::screen::Screen;
 use crate::take::{Taker, hand_all, take_from};
@@ -39,15 +45,18 @@ impl<T: Marked + Drop> Model for Engine<T> {
 }
 
 impl<T: Marked + Drop> Engine<T> {
-    /// An engine of a world in which no session is open. `Short`: memory was refused.
+    /// An engine of a world. The bytes that paint the whole screen of each open session wait for it. `Short`: memory
+    /// was refused.
     pub fn new(alloc: Global, core: Core<T>) -> Result<Engine<T>, Short>
-        requires { sizes core ≡ [] }
-        ensures { IfOk result (λ e. e ≡ record { world = core; queues = [] }) }
+        ensures world { IfOk result (λ e. e.world ≡ core) }
+        ensures ids { IfOk result (λ e. queue_ids e ≡ map (λ z. z.id) (sizes core)) }
+        ensures first { IfOk result (λ e. (id : ℕ) (x : Session) → find_session id core.sessions ≡ Some x → Paints (screen core x) (pending_of id e)) }
     {
+        let screens = first_screens(alloc, &core)?;
         Ok(Engine {
             alloc,
             core,
-            screens: Vec::new(alloc),
+            screens,
         })
     }
 
@@ -62,12 +71,14 @@ impl<T: Marked + Drop> Engine<T> {
     /// open, or every id was used. `Short`: memory was refused. They are judged in this order, and change nothing.
     pub fn open(&mut self, user: &str, rows: usize, cols: usize) -> Result<SessionId, OpenFault>
         requires { AllTaken self.old }
+        ensures world { OpenedBy self.old.world self.new.world user.now rows cols result }
         ensures opened { IfOk result (λ id. sizes self.new.world ≡ sizes self.old.world ++ record { id = id; rows = rows; cols = cols } ∷ []) }
         ensures queue { IfOk result (λ id. queue_ids self.new ≡ queue_ids self.old ++ id ∷ []) }
         ensures fresh { IfOk result (λ id. find_size id (sizes self.old.world) ≡ None) }
         ensures size { IfOk result (λ id. IsSize rows cols) }
-        ensures err_world { OnErr result (sizes self.new.world ≡ sizes self.old.world) }
-        ensures err_queues { OnErr result (self.new.queues ≡ self.old.queues) }
+        ensures painted { OnOk result (Painted self.old self.new) }
+        ensures first { IfOk result (λ id. (y : Session) × (find_session id self.new.world.sessions ≡ Some y) × Paints (screen self.new.world y) (pending_of id self.new)) }
+        ensures err { OnErr result (self.new ≡ self.old) }
     {
         if let Some(fault) = self.core.refusal(user, rows, cols) {
             return Err(fault);
@@ -92,9 +103,10 @@ impl<T: Marked + Drop> Engine<T> {
     /// The caller has taken all bytes that waited. `NoSession`: none of that id is open.
     pub fn byte(&mut self, id: SessionId, byte: u8) -> Keyed
         requires { AllTaken self.old }
+        ensures world { KeyedBy self.old.world self.new.world id byte result }
         ensures sizes { sizes self.new.world ≡ sizes self.old.world }
         ensures queues { queue_ids self.new ≡ queue_ids self.old }
-        ensures no_session { (result ≡ NoSession) ↔ (find_size id (sizes self.old.world) ≡ None) }
+        ensures painted { Painted self.old self.new }
     {
         let keyed = self.core.key(id, byte);
         redraw_all(&self.core, &mut self.screens);
@@ -106,8 +118,10 @@ impl<T: Marked + Drop> Engine<T> {
     /// The caller has taken all bytes that waited.
     pub fn close(&mut self, id: SessionId)
         requires { AllTaken self.old }
+        ensures world { self.new.world ≡ step self.old.world (Close id) }
         ensures sizes { sizes self.new.world ≡ remove_first (is_size_of id) (sizes self.old.world) }
         ensures queues { queue_ids self.new ≡ remove_first (λ x. nat_eq x id) (queue_ids self.old) }
+        ensures painted { Painted self.old self.new }
     {
         self.core.close(id);
         remove_screen(&mut self.screens, id);

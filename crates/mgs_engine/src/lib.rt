@@ -14,4 +14,6 @@ pub use engine::Engine;
 pub use take::Taker;
 
 #[cfg(test)]
+mod lockstep;
+#[cfg(test)]
 mod tests;

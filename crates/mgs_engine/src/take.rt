@@ -2,7 +2,7 @@
 ghost use Rattle.std.specs.Prelude.{◌≡◌, ◌≤◌, map, All, length};
 ghost use Rattle.mgs_model.specs.Apply.{change_first};
 ghost use Rattle.mgs_engine.specs.Serving.{Handed, after_taking, bytes_of, emptied, find_queue, is_queue_of};
-ghost use Rattle.mgs_engine.specs.Screens.{IsScreen, size_of, queue_of, queues_of};
+ghost use Rattle.mgs_engine.specs.Screens.{IsScreen, drawn_of, queue_of, queues_of};
 
 use crate::place::place_of;
 use crate::screen::Screen;
@@ -25,7 +25,7 @@ fn take_front(screen: &mut Screen, n: usize)
     requires screen { IsScreen screen.old }
     requires within { n ≤ length screen.old.queue.items }
     ensures screen { IsScreen screen.new }
-    ensures size { size_of screen.new ≡ size_of screen.old }
+    ensures drawn { drawn_of screen.new ≡ drawn_of screen.old }
     ensures queue { queue_of screen.new ≡ after_taking n (queue_of screen.old) }
 {
     let rest = screen.queue.len() - n;
@@ -38,7 +38,7 @@ pub fn take_from(screens: &mut Vec<Screen>, id: SessionId, n: usize)
     requires each { All IsScreen screens.old.items }
     requires within { n ≤ length (bytes_of (find_queue id (queues_of screens.old.items))) }
     ensures each { All IsScreen screens.new.items }
-    ensures sizes { map size_of screens.new.items ≡ map size_of screens.old.items }
+    ensures drawn { map drawn_of screens.new.items ≡ map drawn_of screens.old.items }
     ensures queues { queues_of screens.new.items ≡ change_first (is_queue_of id) (after_taking n) (queues_of screens.old.items) }
 {
     let at = place_of(screens, id);
@@ -50,7 +50,7 @@ pub fn take_from(screens: &mut Vec<Screen>, id: SessionId, n: usize)
 fn hand<K: Taker>(screen: &mut Screen, taker: &mut K)
     requires { IsScreen screen.old }
     ensures screen { IsScreen screen.new }
-    ensures size { size_of screen.new ≡ size_of screen.old }
+    ensures drawn { drawn_of screen.new ≡ drawn_of screen.old }
     ensures queue { queue_of screen.new ≡ emptied (queue_of screen.old) }
     ensures handed { K.takes taker.old screen.old.id screen.old.queue.items taker.new }
 {
@@ -61,7 +61,7 @@ fn hand<K: Taker>(screen: &mut Screen, taker: &mut K)
 fn hand_each<K: Taker>(screens: &mut [Screen], taker: &mut K)
     requires { All IsScreen screens.old }
     ensures each { All IsScreen screens.new }
-    ensures sizes { map size_of screens.new ≡ map size_of screens.old }
+    ensures drawn { map drawn_of screens.new ≡ map drawn_of screens.old }
     ensures queues { queues_of screens.new ≡ map emptied (queues_of screens.old) }
     ensures handed { Handed K.takes taker.old (queues_of screens.old) taker.new }
 {
@@ -74,7 +74,7 @@ fn hand_each<K: Taker>(screens: &mut [Screen], taker: &mut K)
 pub fn hand_all<K: Taker>(screens: &mut Vec<Screen>, taker: &mut K)
     requires { All IsScreen screens.old.items }
     ensures each { All IsScreen screens.new.items }
-    ensures sizes { map size_of screens.new.items ≡ map size_of screens.old.items }
+    ensures drawn { map drawn_of screens.new.items ≡ map drawn_of screens.old.items }
     ensures queues { queues_of screens.new.items ≡ map emptied (queues_of screens.old.items) }
     ensures handed { Handed K.takes taker.old (queues_of screens.old.items) taker.new }
 {

@@ -1,6 +1,3 @@
-ghost use Rattle.std.specs.Prelude.{◌≡◌, []};
-ghost use Rattle.mgs_core.specs.Worlds.{sizes};
-
 use super::*;
 use mgs_acl::{List, read_entry};
 use mgs_buffers::Buffers;
@@ -25,9 +22,7 @@ impl Taker for Seen {
 }
 
 // The world of ann, and of a buffer that she may read and write.
-fn world(alloc: Global, rt: &impl Abort) -> Core<PlainMarked>
-    ensures { sizes result ≡ [] }
-{
+fn world(alloc: Global, rt: &impl Abort) -> Core<PlainMarked> {
     let mut directory = Directory::new(alloc);
     assert!(rt; directory.add_user("ann").is_ok());
     let mut list = List::new();
@@ -51,13 +46,15 @@ fn a_session_is_painted(rt: HostRuntime) -> Result<(), Fail> {
     let Ok(mut engine) = Engine::new(alloc, core) else {
         panic!(rt; "no memory");
     };
+    let mut seen = Seen { any: false };
+    engine.take_all(&mut seen);
+    assert!(rt; !seen.any);
     let id = engine.open("ann", 6, 20).map_err(|_| "not opened")?;
     assert!(rt; engine.is_open(id));
     let waiting = engine.pending(id).len();
     assert!(rt; waiting > 0);
     engine.took(id, 1);
     assert_eq!(rt; engine.pending(id).len(), waiting - 1);
-    let mut seen = Seen { any: false };
     engine.take_all(&mut seen);
     assert!(rt; seen.any);
     assert!(rt; engine.pending(id).is_empty());
@@ -66,5 +63,18 @@ fn a_session_is_painted(rt: HostRuntime) -> Result<(), Fail> {
     engine.take_all(&mut seen);
     engine.close(id);
     assert!(rt; !engine.is_open(id));
+    Ok(())
+}
+
+#[test]
+fn an_open_session_is_painted_by_a_new_engine(rt: HostRuntime) -> Result<(), Fail> {
+    let alloc = rt.alloc();
+    let mut core = world(alloc, &rt);
+    let id = core.open("ann", 6, 20).map_err(|_| "not opened")?;
+    let Ok(engine) = Engine::new(alloc, core) else {
+        panic!(rt; "no memory");
+    };
+    assert!(rt; engine.is_open(id));
+    assert!(rt; !engine.pending(id).is_empty());
     Ok(())
 }

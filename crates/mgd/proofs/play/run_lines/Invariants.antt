@@ -1,12 +1,17 @@
-use Rattle.std.proofs.Common.{◌+◌, ◌≤◌}
-use Rattle.mgs_engine.specs.Serving.{AllTaken}
+use Rattle.std.proofs.Common.{◌+◌, ◌≤◌, []}
 use Rattle.mgs_keys.proofs.Cuts.{length_left}
+use Rattle.mgd.specs.Plays.{begun}
+use Rattle.mgd.specs.Served.{IsReady, stage_of}
+use Rattle.mgd.specs.Scripts.{lines_of}
+use Rattle.mgd.proofs.Standing.{Stands, lines_left}
 use Rattle.mgd.proofs.play.run_lines.Given as goal
 
--- all bytes are taken between two lines, and there are no more lines than bytes left
+-- what the lines left may print from here, behind what was written all of them may print, and there are no more lines
+-- than bytes left
 abbrev pub invariant-loop-rest : goal.invariant-loop-rest
 invariant-loop-rest g l = record {
-  taken : AllTaken l.server;
+  ready : IsReady l.server l.seats;
+  stands : Stands l.fn.first (begun l.fn.server.world []) (lines_of l.fn.text) (g.W.Write.contents l.fn.writer) (g.W.Write.contents l.writer) l.number (stage_of l.server l.seats) (lines_left l.rest);
   first : 1 ≤ l.number;
   counted : l.number + length_left l.rest ≤ 16777218;
 }

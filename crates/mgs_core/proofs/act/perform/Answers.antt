@@ -1,6 +1,8 @@
 use Rattle.std.proofs.Common.{◌+◌, ◌∷◌, [], get_or, refl, ap, subst, arith}
+use Rattle.std.proofs.lemmas.Option.{slice_get-get_or}
 use Rattle.mgs_core.specs.Deeds.{CanBeDone}
 use Rattle.mgs_core.proofs.Acts.{mark_is_kept, acting_mark, mark_edited_used, text_edited, sound_set, sound_edited, sound_placed, sizes_set}
+use Rattle.mgs_core.proofs.Performing.{told_so, placed_so, inserted_so}
 use Rattle.mgs_core.proofs.act.perform.Goals as goal
 
 pub edit-requires-clause-kept : goal.edit-requires-clause-kept
@@ -47,3 +49,17 @@ pub returns-in-Goes-clause-sound : goal.returns-in-Goes-clause-sound
 returns-in-Goes-clause-sound g c =
     let x = c.args.spot.now in
     rw c.place-in-Goes.ensures (sound_placed x.name x.point c.in-Goes.place c.args.buffers.now c.args.sessions.now c.requires.sound)
+
+pub returns-in-Fails-clause-ok : goal.returns-in-Fails-clause-ok
+returns-in-Fails-clause-ok g c = λ directory id next place.
+    let xs = c.args.sessions.now in
+    let r = c.index-sessions-at.result in
+    rw c.tell.ensures (told_so directory c.args.buffers.now xs next id c.args.at (get_or xs c.args.at r) c.in-Fails.message c.args.spot.now.name c.args.deed place c.requires.within (slice_get-get_or xs c.args.at r c.requires.within) c.in-Fails.is)
+
+pub returns-in_ok-edit-in-Inserts-clause-ok : goal.returns-in_ok-edit-in-Inserts-clause-ok
+returns-in_ok-edit-in-Inserts-clause-ok g c = λ directory id next place.
+    rw (c.place.ensures, c.in_ok-edit-in-Inserts.ensures.ok) (inserted_so directory c.args.buffers.now c.args.sessions.now next id c.args.at c.args.spot.now c.in-Inserts.place c.in-Inserts.put c.args.deed c.requires.sound place c.requires.within c.requires.spot c.in-Inserts.is)
+
+pub returns-in-Goes-clause-ok : goal.returns-in-Goes-clause-ok
+returns-in-Goes-clause-ok g c = λ directory id next place.
+    rw c.place-in-Goes.ensures (placed_so directory c.args.buffers.now c.args.sessions.now next id c.args.at c.args.spot.now c.in-Goes.place c.args.deed c.requires.sound place c.requires.within c.requires.spot c.in-Goes.is)

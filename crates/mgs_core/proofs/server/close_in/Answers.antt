@@ -1,10 +1,11 @@
 use Rattle.std.proofs.Common.{◌≡◌, ◌<◌, ◌∙◌, length, ap, sym, subst, List, arith}
 use Rattle.std.specs.List.{position_or_len}
 use Rattle.mgs_session.specs.declared.Session.{Session}
-use Rattle.mgs_core.specs.Worlds.{session_id, is_size_of, sizes_in}
+use Rattle.mgs_core.specs.Worlds.{session_id, is_size_of, sizes_in, world_of}
 use Rattle.mgs_core.specs.Sound.{IsSound}
 use Rattle.mgs_core.proofs.Acts.{session_sound}
 use Rattle.mgs_core.proofs.Sizes.{closed_sound, sizes_removed, none_removed, no_size}
+use Rattle.mgs_core.proofs.Steps.{session_none, closed_none, closed_at}
 use Rattle.mgs_core.proofs.server.close_in.Goals as goal
 
 pub drop_spots-requires : goal.drop_spots-requires
@@ -27,3 +28,18 @@ returns-then-at-len-clause-sizes g c =
     let past : c.place_of-at.result ≡ length c.args.sessions.now.items = omega (arith, c.if-at-len.true, c.len.ensures, c.deref.ensures.len, ap length c.deref.ensures.value) in
     none_removed (is_size_of c.args.id) (sizes_in c.args.sessions.now.items)
     (no_size c.args.id c.place_of-at.result c.args.sessions.now.items (c.place_of-at.ensures.value ∙ ap (position_or_len (session_id c.args.id)) c.deref.ensures.value) past)
+
+pub returns-clause-step : goal.returns-clause-step
+returns-clause-step g c next =
+    let xs = c.args.sessions.now.items in
+    let at = c.place_of-at.result in
+    let within : at < length xs = omega (arith, c.place_of-at.ensures.within, ap length c.deref.ensures.value, c.len.ensures, c.if-at-len.false) in
+    ap (λ (ys : List Session). world_of c.args.directory.now c.settle.new.buffers ys next) (sym c.deref-2.ensures.value)
+    ∙ closed_at c.args.directory.now c.args.buffers.now c.drop_spots.new.buffers c.settle.new.buffers xs c.deref-2.result.now next c.args.id at c.remove-session.result
+    c.requires (c.place_of-at.ensures.value ∙ ap (position_or_len (session_id c.args.id)) c.deref.ensures.value) within c.remove-session.ensures.value
+    c.drop_spots.ensures.uses c.drop_spots.ensures.buffers c.drop_spots.ensures.stay (c.deref-2.ensures.value ∙ c.remove-session.ensures.items) (c.settle.ensures.world next)
+
+pub returns-then-at-len-clause-step : goal.returns-then-at-len-clause-step
+returns-then-at-len-clause-step g c next =
+    let past : c.place_of-at.result ≡ length c.args.sessions.now.items = omega (arith, c.if-at-len.true, c.len.ensures, c.deref.ensures.len, ap length c.deref.ensures.value) in
+    closed_none _ c.args.id (session_none c.args.directory.now c.args.buffers.now c.args.sessions.now.items next c.args.id c.place_of-at.result (c.place_of-at.ensures.value ∙ ap (position_or_len (session_id c.args.id)) c.deref.ensures.value) past)

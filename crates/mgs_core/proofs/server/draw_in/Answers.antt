@@ -1,8 +1,11 @@
 use Rattle.std.proofs.Common.{◌≡◌, ◌∙◌, ap, sym, Some}
-use Rattle.mgs_session.specs.declared.Session.{Session}
-use Rattle.mgs_core.specs.Worlds.{Size}
+use Rattle.mgs_model.specs.World as model
+use Rattle.mgs_model.specs.Draw.{screen}
+use Rattle.mgs_core.specs.declared.server.Size.{Size}
+use Rattle.mgs_core.specs.Worlds.{world_of}
 use Rattle.mgs_core.proofs.Acts.{session_sound}
-use Rattle.mgs_core.proofs.Sizes.{size_within, some_size}
+use Rattle.mgs_core.proofs.Sizes.{size_within, size_found}
+use Rattle.mgs_core.proofs.Steps.{session_some}
 use Rattle.mgs_core.proofs.server.draw_in.Goals as goal
 
 pub bounds-sessions-at : goal.bounds-sessions-at
@@ -13,11 +16,20 @@ draw_session-requires-clause-sound g c =
     session_sound c.args.buffers.now c.args.sessions.now c.place_of-at.result c.index-sessions-at.result c.requires.sound c.index-sessions-at.is
     (size_within c.args.id c.place_of-at.result c.args.sessions.now _ c.place_of-at.ensures.value c.requires.open)
 
-pub draw_session-requires-clause-size : goal.draw_session-requires-clause-size
-draw_session-requires-clause-size g c =
+pub draw_session-requires-clause-rows : goal.draw_session-requires-clause-rows
+draw_session-requires-clause-rows g c =
+    ap (λ (z : Size). z.rows) (size_found c.args.id c.place_of-at.result c.args.sessions.now c.index-sessions-at.result _ c.place_of-at.ensures.value c.index-sessions-at.is c.requires.open)
+
+pub draw_session-requires-clause-cols : goal.draw_session-requires-clause-cols
+draw_session-requires-clause-cols g c =
+    ap (λ (z : Size). z.cols) (size_found c.args.id c.place_of-at.result c.args.sessions.now c.index-sessions-at.result _ c.place_of-at.ensures.value c.index-sessions-at.is c.requires.open)
+
+pub returns : goal.returns
+returns g c next x found =
+    let w = world_of c.args.directory.now c.args.buffers.now c.args.sessions.now next in
     let within = size_within c.args.id c.place_of-at.result c.args.sessions.now _ c.place_of-at.ensures.value c.requires.open in
-    let found = sym (some_size c.args.id c.place_of-at.result c.args.sessions.now c.index-sessions-at.result c.place_of-at.ensures.value within) ∙ c.requires.open in
-    ap (λ (s : Session). s.windows.rows) c.index-sessions-at.is ∙ rows_of _ _ found
+    let some = session_some c.args.directory.now c.args.buffers.now c.args.sessions.now next c.args.id c.place_of-at.result c.index-sessions-at.result c.place_of-at.ensures.value within c.index-sessions-at.is in
+    c.draw_session.ensures c.args.sessions.now next ∙ ap (screen w) (same_session _ _ (sym some ∙ found))
   where
-    rows_of : (a b : Size) → Some a ≡ Some b → a.rows ≡ b.rows
-    rows_of a b e = let same : a ≡ b = cc in ap (λ (z : Size). z.rows) same
+    same_session : (a b : model.Session) → Some a ≡ Some b → a ≡ b
+    same_session a b e = cc

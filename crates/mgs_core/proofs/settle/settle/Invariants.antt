@@ -1,5 +1,11 @@
+use Rattle.std.proofs.Common.{◌≡◌, drop}
 use Rattle.mgs_core.specs.Sound.{IsSound}
+use Rattle.mgs_core.specs.Settling.{after_sessions}
 use Rattle.mgs_core.proofs.settle.settle.Given as goal
 
+-- the sessions that are left do to what is kept now what all do to what was kept
 abbrev pub invariant-loop-session : goal.invariant-loop-session
-invariant-loop-session g l = IsSound l.buffers l.sessions
+invariant-loop-session g l = record {
+  sound : IsSound l.buffers l.sessions;
+  rest : after_sessions l.directory l.buffers (drop l.session-index l.sessions) ≡ after_sessions l.directory l.initial.buffers l.sessions;
+}

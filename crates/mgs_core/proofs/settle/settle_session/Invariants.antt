@@ -1,7 +1,11 @@
-use Rattle.std.proofs.Common.{◌≤◌, ℕ, List}
-use Rattle.mgs_core.specs.Sound.{in_use}
+use Rattle.std.proofs.Common.{◌≡◌, drop}
+use Rattle.mgs_core.specs.Sound.{IsSessionSound}
+use Rattle.mgs_core.specs.Settling.{after_windows}
 use Rattle.mgs_core.proofs.settle.settle_session.Given as goal
 
--- what was in use is
+-- the windows that are left do to what is kept now what all do to what was kept
 abbrev pub invariant-loop-window : goal.invariant-loop-window
-invariant-loop-window g l = (m : List ℕ) (i : ℕ) → in_use m i l.initial.buffers ≤ in_use m i l.buffers
+invariant-loop-window g l = record {
+  sound : IsSessionSound l.buffers l.session;
+  rest : after_windows l.directory l.session.user l.buffers (drop l.window-index l.session.windows.windows) ≡ after_windows l.directory l.session.user l.initial.buffers l.session.windows.windows;
+}

@@ -1,7 +1,8 @@
 use Rattle.std.proofs.Common.{◌∙◌, arith}
 use Rattle.std.proofs.lemmas.List.Elements.{All-set}
-use Rattle.mgs_engine.specs.Screens.{IsScreen}
-use Rattle.mgs_engine.proofs.Screens.{rest_at, rest_after, sizes_set, taken_at}
+use Rattle.mgs_engine.specs.Screens.{IsScreen, size_of}
+use Rattle.mgs_engine.proofs.Screens.{rest_at, rest_after, same_set, taken_at}
+use Rattle.mgs_engine.proofs.Painted.{drawn_next, drawn_all, repaints_next, repaints_all}
 use Rattle.mgs_engine.proofs.draw.redraw_each.Goals as goal
 
 pub redraw-requires-clause-known : goal.redraw-requires-clause-known
@@ -17,6 +18,14 @@ redraw-requires-clause-taken g c =
 pub loop-screen-preserved : goal.loop-screen-preserved
 loop-screen-preserved g c = record {
   each = All-set IsScreen c.loop-screen.screens c.loop-screen.screen-index c.redraw.new.screen c.redraw.ensures.screen c.loop-screen.invariant.each;
-  sizes = sizes_set c.loop-screen.screens c.loop-screen.screen-index c.screen-item.result c.redraw.new.screen (omega arith) c.redraw.ensures.size ∙ c.loop-screen.invariant.sizes;
+  sizes = same_set size_of c.loop-screen.screens c.loop-screen.screen-index c.screen-item.result c.redraw.new.screen (omega arith) c.redraw.ensures.size ∙ c.loop-screen.invariant.sizes;
+  drawn = drawn_next c.args.core.now c.loop-screen.screens c.loop-screen.screen-index c.redraw.new.screen (omega arith) c.loop-screen.invariant.drawn c.redraw.ensures.drawn;
+  repaints = repaints_next c.loop-screen.screens c.args.screens.now c.loop-screen.screen-index c.screen-item.result c.redraw.new.screen (omega arith) (omega arith) c.loop-screen.invariant.rest c.loop-screen.invariant.repaints c.redraw.ensures.repaint;
   rest = rest_after c.loop-screen.screens c.args.screens.now c.loop-screen.screen-index c.redraw.new.screen c.loop-screen.invariant.rest;
 }
+
+pub returns-clause-drawn : goal.returns-clause-drawn
+returns-clause-drawn g c = drawn_all c.args.core.now c.loop-screen.screens c.loop-screen.screen-index (omega arith) c.loop-screen.invariant.drawn
+
+pub returns-clause-repaints : goal.returns-clause-repaints
+returns-clause-repaints g c = repaints_all c.loop-screen.screens c.args.screens.now c.loop-screen.screen-index (omega arith) (omega arith) c.loop-screen.invariant.repaints

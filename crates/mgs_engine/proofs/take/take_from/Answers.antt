@@ -3,8 +3,8 @@ use Rattle.std.proofs.lemmas.List.{length-map}
 use Rattle.std.specs.List.{position_or_len}
 use Rattle.mgs_model.proofs.Firsts.{position_or_len-map, written_first}
 use Rattle.mgs_engine.specs.Serving.{after_taking, is_queue_of}
-use Rattle.mgs_engine.specs.Screens.{queue_of, queues_of, screen_id, size_of}
-use Rattle.mgs_engine.proofs.Screens.{change_none, queue_at, sizes_set}
+use Rattle.mgs_engine.specs.Screens.{queue_of, queues_of, screen_id, drawn_of}
+use Rattle.mgs_engine.proofs.Screens.{change_none, queue_at, same_set}
 use Rattle.mgs_engine.proofs.take.take_from.Goals as goal
 
 pub take_front-requires-clause-within : goal.take_front-requires-clause-within
@@ -15,11 +15,11 @@ take_front-requires-clause-within c =
     (omega (arith, c.if-at-len.true, c.len.ensures, c.args.screens.now.ok.0)) c.index_mut.ensures.value)
     c.requires.within
 
-pub returns-then-at-len-clause-sizes : goal.returns-then-at-len-clause-sizes
-returns-then-at-len-clause-sizes c =
-    sizes_set c.args.screens.now.items c.place_of-at.result c.index_mut.result.now c.take_front.new.screen
+pub returns-then-at-len-clause-drawn : goal.returns-then-at-len-clause-drawn
+returns-then-at-len-clause-drawn c =
+    same_set drawn_of c.args.screens.now.items c.place_of-at.result c.index_mut.result.now c.take_front.new.screen
     (omega (arith, c.if-at-len.true, c.len.ensures, c.args.screens.now.ok.0))
-    (c.take_front.ensures.size ∙ ap size_of c.index_mut.ensures.value)
+    (c.take_front.ensures.drawn ∙ ap drawn_of c.index_mut.ensures.value)
 
 pub returns-then-at-len-clause-queues : goal.returns-then-at-len-clause-queues
 returns-then-at-len-clause-queues c =

@@ -1,7 +1,11 @@
-use Rattle.std.proofs.Common.{◌≡◌}
-use Rattle.mgd.specs.Seats.{labels_of}
+use Rattle.std.proofs.Common.{◌≡◌, take, drop}
+use Rattle.std.specs.List.{AllZip}
+use Rattle.mgd.specs.Seats.{Fed}
 use Rattle.mgd.proofs.seats.SeatsTaker.take.Given as goal
 
--- the labels are as they were
+-- those before the index took the bytes, and those behind are as they were
 abbrev pub invariant-loop-labelled : goal.invariant-loop-labelled
-invariant-loop-labelled l = labels_of l.labelled-items ≡ labels_of l.initial.labelled-items
+invariant-loop-labelled l = record {
+  done : AllZip (Fed l.id l.bytes) (take l.labelled-index l.initial.labelled-items) (take l.labelled-index l.labelled-items);
+  rest : drop l.labelled-index l.labelled-items ≡ drop l.labelled-index l.initial.labelled-items;
+}

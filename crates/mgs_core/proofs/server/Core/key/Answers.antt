@@ -1,8 +1,11 @@
-use Rattle.std.proofs.Common.{◌≡◌, ◌∙◌, ap, sym, arith}
+use Rattle.std.proofs.Common.{◌∙◌, List, ap, sym, subst, arith}
 use Rattle.std.specs.Vec.{with_items}
 use Rattle.std.proofs.lemmas.List.{with_items_is}
-use Rattle.mgs_core.specs.Worlds.{sizes, sizes_in, find_size}
-use Rattle.mgs_core.proofs.Sizes.{sizes_world}
+use Rattle.mgs_session.specs.declared.Session.{Session}
+use Rattle.mgs_core.specs.Worlds.{sizes, sizes_in, world_of}
+use Rattle.mgs_core.specs.Sound.{IsSound}
+use Rattle.mgs_core.proofs.Sizes.{sizes_world, held_sized}
+use Rattle.mgs_core.proofs.Steps.{keyed_same}
 use Rattle.mgs_core.proofs.server.Core.key.Goals as goal
 
 pub returns-clause-sizes : goal.returns-clause-sizes
@@ -13,9 +16,19 @@ returns-clause-sizes g c =
     ∙ c.key_in.ensures.sizes ∙ ap sizes_in c.deref_mut.ensures.value
     ∙ sym (sizes_world i.directory i.buffers i.sessions.items i.next_id) ∙ ap sizes c.self.view_is
 
-pub returns-clause-no_session : goal.returns-clause-no_session
-returns-clause-no_session g c =
+pub returns-clause-step : goal.returns-clause-step
+returns-clause-step g c =
     let i = c.self.inside in
-    let e : find_size c.args.id (sizes_in c.deref_mut.result.now) ≡ find_size c.args.id (sizes c.args.self.now) =
-    ap (find_size c.args.id) (ap sizes_in c.deref_mut.ensures.value ∙ sym (sizes_world i.directory i.buffers i.sessions.items i.next_id) ∙ ap sizes c.self.view_is) in
-    (λ r. sym e ∙ c.key_in.ensures.no_session.0 r, λ n. c.key_in.ensures.no_session.1 (e ∙ n))
+    let items = with_items_is i.sessions c.key_in.new.sessions (omega (arith, c.key_in.auto.sessions, c.deref_mut.ensures.len)) in
+    keyed_same _ _ _ _ c.args.id c.args.byte c.key_in.result
+    (ap (λ (xs : List Session). world_of i.directory i.buffers xs i.next_id) c.deref_mut.ensures.value ∙ c.self.view_is)
+    (ap (λ (xs : List Session). world_of i.directory c.key_in.new.buffers xs i.next_id) (sym items))
+    (c.key_in.ensures.step i.next_id)
+
+pub invariant_of-self : goal.invariant_of-self
+invariant_of-self g c =
+    let i = c.self.inside in
+    let items = with_items_is i.sessions c.key_in.new.sessions (omega (arith, c.key_in.auto.sessions, c.deref_mut.ensures.len)) in
+    held_sized i.buffers c.key_in.new.buffers i.sessions.items (with_items i.sessions c.key_in.new.sessions).items i.next_id c.self.invariant
+    (subst (IsSound c.key_in.new.buffers) (sym items) c.key_in.ensures.sound)
+    (ap sizes_in items ∙ c.key_in.ensures.sizes ∙ ap sizes_in c.deref_mut.ensures.value)

@@ -1,17 +1,18 @@
-use Rattle.std.proofs.Common.{◌≡◌, ℕ, List, [], ◌∷◌, ◌++◌, map, Some, sym, ap, ◌∙◌}
+use Rattle.std.proofs.Common.{◌≡◌, ℕ, List, [], ◌∷◌, ◌++◌, map, Some, Ok, sym, ap, subst, ◌∙◌}
 use Rattle.std.proofs.lemmas.List.Elements.{All-push}
-use Rattle.mgs_core.specs.Worlds.{Size, sizes, find_size}
+use Rattle.mgs_core.specs.declared.server.Size.{Size}
+use Rattle.mgs_core.specs.Steps.{OpenedBy}
+use Rattle.mgs_core.specs.Worlds.{sizes, find_size}
 use Rattle.mgs_engine.specs.declared.screen.Screen.{Screen}
-use Rattle.mgs_engine.specs.Serving.{Serving, queue_id, queue_ids}
-use Rattle.mgs_engine.specs.Screens.{IsScreen, queues_of, size_of}
+use Rattle.mgs_engine.specs.Serving.{Serving, pending_of, queue_id, queue_ids}
+use Rattle.mgs_model.specs.World.{Session, find_session}
+use Rattle.mgs_model.specs.Draw.{screen}
+use Rattle.mgs_paint.specs.Painting.{Paints}
+use Rattle.mgs_engine.specs.Painted.{Painted}
+use Rattle.mgs_engine.specs.Screens.{AreRepaints, IsDrawn, IsScreen, queues_of, serving_of, size_of}
 use Rattle.mgs_engine.proofs.Screens.{known_each, known_more, known_last, ids_opened, sizes_opened, unique_opened}
+use Rattle.mgs_engine.proofs.Painted.{same_size, painted_opened, first_opened}
 use Rattle.mgs_engine.proofs.engine.Engine.open.Goals as goal
-
--- a size, by its rows and its columns
-same_size : (id rows cols r c : ℕ) → r ≡ rows → c ≡ cols → let y : Size = record { id = id; rows = rows; cols = cols } in let z : Size = record { id = id; rows = r; cols = c } in z ≡ y
-same_size id rows cols r c e d =
-    let of : ℕ → ℕ → Size = λ a b. record { id = id; rows = a; cols = b } in
-    ap (λ a. of a c) e ∙ ap (λ b. of rows b) d
 
 pub redraw_all-requires-clause-known : goal.redraw_all-requires-clause-known
 redraw_all-requires-clause-known g c =
@@ -39,6 +40,7 @@ invariant_of-self-2 g c =
           ∙ sym c.in_ok-id.ensures.opened;
       unique = rw c.in_ok-id.ensures.opened (unique_opened y (sizes c.self.inside.core) c.in_ok-id.ensures.fresh c.self.invariant.unique);
       each = rw c.push_reserved.ensures.items (All-push IsScreen c.redraw_all.new.screens.items c.draw_first.new.screen c.redraw_all.ensures.each c.draw_first.ensures.screen);
+      drawn = rw c.push_reserved.ensures.items (All-push (IsDrawn c.open.new.self) c.redraw_all.new.screens.items c.draw_first.new.screen c.redraw_all.ensures.drawn c.draw_first.ensures.drawn);
     }
 
 pub returns-clause-queue : goal.returns-clause-queue
@@ -48,3 +50,28 @@ returns-clause-queue g c =
     ∙ ids_opened c.redraw_all.new.screens.items c.self.inside.screens.items c.draw_first.new.screen (c.redraw_all.ensures.sizes ∙ ap (map size_of) c.reserve.ensures.items)
     ∙ ap (λ (i : ℕ). map queue_id (queues_of c.self.inside.screens.items) ++ i ∷ []) is
     ∙ ap (λ (s : Serving). queue_ids s ++ c.in_ok-id.id ∷ []) c.self.view_is
+
+pub returns-clause-world : goal.returns-clause-world
+returns-clause-world g c =
+    subst (λ (s : Serving). OpenedBy s.world c.open.new.self c.args.user.now c.args.rows c.args.cols (Ok c.in_ok-id.id)) c.self.view_is c.in_ok-id.ensures.step
+
+pub returns-clause-painted : goal.returns-clause-painted
+returns-clause-painted g c =
+    subst (λ (s : Serving). Painted s (serving_of c.open.new.self c.push_reserved.new.self.items)) c.self.view_is
+    (subst (λ (xs : List Screen). Painted (serving_of c.self.inside.core c.self.inside.screens.items) (serving_of c.open.new.self xs)) (sym c.push_reserved.ensures.items)
+    (painted_opened c.self.inside.core c.open.new.self c.self.inside.screens.items c.redraw_all.new.screens.items c.draw_first.new.screen
+    c.self.invariant.sizes_are c.self.invariant.drawn
+    (All-push (IsDrawn c.open.new.self) c.redraw_all.new.screens.items c.draw_first.new.screen c.redraw_all.ensures.drawn c.draw_first.ensures.drawn)
+    (subst (λ (xs : List Screen). AreRepaints xs c.redraw_all.new.screens.items) c.reserve.ensures.items c.redraw_all.ensures.repaints)))
+
+pub returns-clause-first : goal.returns-clause-first
+returns-clause-first g c =
+    let sizes_are : map size_of c.redraw_all.new.screens.items ≡ sizes c.self.inside.core = c.redraw_all.ensures.sizes ∙ ap (map size_of) c.reserve.ensures.items ∙ c.self.invariant.sizes_are in
+    subst
+    (λ (xs : List Screen). (y : Session) × (find_session c.in_ok-id.id c.open.new.self.sessions ≡ Some y) × Paints (screen c.open.new.self y) (pending_of c.in_ok-id.id (serving_of c.open.new.self xs)))
+    (sym c.push_reserved.ensures.items)
+    (first_opened c.open.new.self c.redraw_all.new.screens.items c.draw_first.new.screen c.in_ok-id.id
+    (ap (λ (s : Size). s.id) c.draw_first.ensures.size)
+    (ap (find_size c.in_ok-id.id) sizes_are ∙ c.in_ok-id.ensures.fresh)
+    (All-push (IsDrawn c.open.new.self) c.redraw_all.new.screens.items c.draw_first.new.screen c.redraw_all.ensures.drawn c.draw_first.ensures.drawn)
+    c.draw_first.ensures.drawn c.draw_first.ensures.first)

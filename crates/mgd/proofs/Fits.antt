@@ -1,0 +1,271 @@
+-- Buffers that are written down can be kept: no fault but want of memory is left.
+use Rattle.std.proofs.Common.{◌≡◌, ℕ, zero, suc, ◌+◌, ◌<◌, ◌≤◌, not, Bool, true, false, cond, List, [], ◌∷◌, ◌++◌, length, get_or, take, map, Option, Some, None, Result, Ok, Err, refl, sym, ap, subst, ◌∙◌, arith, length-append}
+use Rattle.std.specs.Prelude.{◌&&◌, ◌||◌, find, All, IfSome, is_some, nat_le, nat_lt, if◌then◌else◌}
+use Rattle.std.specs.Option.{option_map}
+use Rattle.std.proofs.lemmas.Bool.Decides.{nat_tests}
+use Rattle.std.proofs.lemmas.List.{map-append, length-map, length-take-le}
+use Rattle.std.proofs.lemmas.List.Elements.{All-nil, All-cons, All-head, All-tail, All-append, All-push, All-get_or}
+use Rattle.mgs_model.proofs.Firsts.{find-map, get_or-map}
+use Rattle.mgs_model.specs.Apply.{change_first}
+use Rattle.mgs_model.specs.Names.{same_name, is_name, is_user_name}
+use Rattle.mgs_model.specs.World.{World, Buffer, is_named, find_buffer}
+use Rattle.mgs_model.specs.declared.entry.Entry.{Entry}
+use Rattle.mgs_model.specs.declared.errors.OpenFault.{OpenFault}
+use Rattle.mgs_keys.specs.Words.{word_of, rest_of}
+use Rattle.mgs_keys.specs.Tokens.{keys_of}
+use Rattle.mgs_acl.specs.Spelling.{entry_in}
+use Rattle.mgs_buffers.specs.Kept.{kept_named, is_kept}
+use Rattle.mgs_buffers.specs.Adding.{add_fault, Answers}
+use Rattle.mgs_buffers.specs.declared.fault.AddFault.{AddFault}
+use Rattle.mgs_buffers.specs.declared.fault.AddFault.TheVariants as adds
+use Rattle.mgd.specs.declared.kind.Kind.{Kind}
+use Rattle.mgd.specs.declared.kind.Kind.TheVariants as kinds
+use Rattle.mgd.specs.declared.setup.Draft.{Draft}
+use Rattle.mgd.specs.Lines.{◌>>=◌, Said, name_of, owner_of, any_word_of, only_word_of, size_of, text_of, utf8_of, kind_named, said_in, said_as, said_by_kind, is_passed_over, user_said, buffer_said, entry_said, text_said, open_said, keys_said}
+use Rattle.mgd.specs.Lines as said
+use Rattle.mgd.specs.Plays.{Stage, Opens, setting, setting_refused, world_set, LineDoes, text_refused, with_entry, with_text, empty_buffer}
+use Rattle.mgd.specs.Setups.{Sets, kept_of, buffer_of, buffers_in, buffer_name, IsFit, AreNew, AreFit, IsJudged, OnlyShort}
+use Rattle.mgd.proofs.Events.{All-unmap}
+
+-- WHAT A LINE SAYS OF NAMES
+
+bind_if : {A B : Type 0} (P : B → Type 0) (o : Option A) (f : A → Option B) → ((x : A) → IfSome (f x) P) → IfSome (o >>= f) P
+bind_if P None f h = tt
+bind_if P (Some x) f h = h x
+
+bind_with : {A B : Type 0} (P : B → Type 0) (o : Option A) (f : A → Option B) → ((x : A) → o ≡ Some x → IfSome (f x) P) → IfSome (o >>= f) P
+bind_with P None f h = tt
+bind_with P (Some x) f h = h x refl
+
+map_if : {A B : Type 0} (P : B → Type 0) (o : Option A) (f : A → B) → ((x : A) → P (f x)) → IfSome (option_map f o) P
+map_if P None f h = tt
+map_if P (Some x) f h = h x
+
+chosen_by : (b : Bool) (w x : List ℕ) → cond b (Some w) None ≡ Some x → (b ≡ true) × (w ≡ x)
+chosen_by true w x e = let f : w ≡ x = cc in (refl, f)
+chosen_by false w x e = absurd cc
+
+both_true : (a b : Bool) → a ≡ true → b ≡ true → (a && b) ≡ true
+both_true a b e f = ap (λ (x : Bool). x && b) e ∙ f
+
+second_true : (a b : Bool) → (a && b) ≡ true → b ≡ true
+second_true true b h = h
+second_true false b h = absurd cc
+
+named_so : (w x : List ℕ) → name_of w ≡ Some x → is_name x ≡ true
+named_so w x e = let h = chosen_by (is_name w) w x e in ap is_name (sym h.1) ∙ h.0
+
+owned_so : (w x : List ℕ) → owner_of w ≡ Some x → is_user_name x ≡ true
+owned_so w x e = let h = chosen_by (is_name w && is_user_name w) w x e in ap is_user_name (sym h.1) ∙ second_true (is_name w) (is_user_name w) h.0
+
+buffer_judged : (t : List ℕ) → IfSome (buffer_said t) IsJudged
+unfolding buffer_said
+buffer_judged t =
+    bind_with IsJudged (name_of (word_of t)) _ (λ n e. bind_if IsJudged (rest_of t) _ (λ rest. bind_with IsJudged (owner_of rest) _ (λ o f.
+    both_true (is_name n) (is_user_name o) (named_so (word_of t) n e) (owned_so rest o f))))
+
+as_judged : (k : Kind) (t : List ℕ) → IfSome (said_as k t) IsJudged
+unfolding user_said entry_said text_said open_said keys_said
+as_judged kinds.User t = map_if IsJudged (only_word_of t) said.User (λ x. tt)
+as_judged kinds.Buffer t = buffer_judged t
+as_judged kinds.Entry t = bind_if IsJudged (name_of (word_of t)) _ (λ b. bind_if IsJudged (rest_of t) _ (λ e. tt))
+as_judged kinds.Text t = bind_if IsJudged (name_of (word_of t)) _ (λ b. bind_if IsJudged (rest_of t) _ (λ r. bind_if IsJudged (text_of r) _ (λ cs. tt)))
+as_judged kinds.Open t =
+    bind_if IsJudged (name_of (word_of t)) _ (λ l. bind_if IsJudged (rest_of t) _ (λ r. bind_if IsJudged (any_word_of (word_of r)) _ (λ u. bind_if IsJudged (rest_of r) _ (λ s. bind_if IsJudged (size_of s) _ (λ z. tt)))))
+as_judged kinds.Keys t = bind_if IsJudged (name_of (word_of t)) _ (λ l. bind_if IsJudged (rest_of t) _ (λ r. bind_if IsJudged (keys_of r) _ (λ ks. tt)))
+as_judged kinds.Show t = map_if IsJudged (name_of t) said.Show (λ x. tt)
+as_judged kinds.Close t = map_if IsJudged (name_of t) said.Close (λ x. tt)
+
+kind_judged : (t : List ℕ) → IfSome (said_by_kind t) IsJudged
+unfolding said_by_kind
+kind_judged t = bind_if IsJudged (kind_named (word_of t)) _ (λ k. bind_if IsJudged (rest_of t) _ (λ r. as_judged k r))
+
+pub judged_in : (t : List ℕ) → IfSome (said_in t) IsJudged
+judged_in t =
+    elim (is_passed_over t) as (λ b. IfSome (cond b (Some said.Nothing) (utf8_of t >>= said_by_kind)) IsJudged) [
+      | true ↦ tt
+      | false ↦ bind_if IsJudged (utf8_of t) said_by_kind kind_judged
+    ]
+
+-- CHANGES KEEP IT
+
+All-changed : {A : Type 0} (P : A → Type 0) (p : A → Bool) (f : A → A) (xs : List A) → All P xs → ((x : A) → find p xs ≡ Some x → P x → P (f x)) → All P (change_first p f xs)
+All-changed P p f [] h does = h
+All-changed {A = A} P p f (x ∷ xs) h does =
+    let goal : Bool → Type 0 = λ b. ((y : A) → cond b (Some x) (find p xs) ≡ Some y → P y → P (f y)) → All P (cond b (f x ∷ xs) (x ∷ change_first p f xs)) in
+    let go : (b : Bool) → goal b =
+    λ b. elim b as goal [
+      | true ↦ λ k. All-cons P (f x) xs (k x refl (All-head P x xs h)) (All-tail P x xs h)
+      | false ↦ λ k. All-cons P x (change_first p f xs) (All-head P x xs h) (All-changed P p f xs (All-tail P x xs h) k)
+    ]
+    in go (p x) does
+
+names_same : (p : Buffer → Bool) (f : Buffer → Buffer) → ((b : Buffer) → (f b).name ≡ b.name) → (bs : List Buffer) → map buffer_name (change_first p f bs) ≡ map buffer_name bs
+names_same p f same [] = refl
+names_same p f same (b ∷ bs) =
+    elim (p b) as (λ t. map buffer_name (cond t (f b ∷ bs) (b ∷ change_first p f bs)) ≡ b.name ∷ map buffer_name bs) [
+      | true ↦ ap (λ (n : List ℕ). n ∷ map buffer_name bs) (same b)
+      | false ↦ ap (λ (ns : List (List ℕ)). b.name ∷ ns) (names_same p f same bs)
+    ]
+
+fit_changed : (n : List ℕ) (f : Buffer → Buffer) (bs : List Buffer) → ((b : Buffer) → (f b).name ≡ b.name) → ((b : Buffer) → (f b).owner ≡ b.owner) → ((b : Buffer) → find_buffer n bs ≡ Some b → length b.text ≤ 1048576 → length (f b).text ≤ 1048576)
+    → AreFit bs → AreFit (change_first (is_named n) f bs)
+fit_changed n f bs names owners texts h =
+    let same = names_same (is_named n) f names bs in
+    let long : length (change_first (is_named n) f bs) ≡ length bs = sym (length-map (change_first (is_named n) f bs) buffer_name) ∙ ap length same ∙ length-map bs buffer_name in
+    record {
+      each = All-changed IsFit (is_named n) f bs h.each (λ b e k. record {
+        named = ap (λ x. is_name x && is_user_name (f b).owner) (names b) ∙ ap (λ x. is_name b.name && is_user_name x) (owners b) ∙ k.named;
+        short = texts b e k.short;
+      });
+      few = omega (arith, long, h.few);
+      new = subst AreNew (sym same) h.new;
+    }
+
+entry_name : {F : Type 0} (o : Result Entry F) (b : Buffer) → (with_entry o b).name ≡ b.name
+entry_name (Ok e) b = refl
+entry_name (Err f) b = refl
+
+entry_owner : {F : Type 0} (o : Result Entry F) (b : Buffer) → (with_entry o b).owner ≡ b.owner
+entry_owner (Ok e) b = refl
+entry_owner (Err f) b = refl
+
+entry_text : {F : Type 0} (o : Result Entry F) (b : Buffer) → (with_entry o b).text ≡ b.text
+entry_text (Ok e) b = refl
+entry_text (Err f) b = refl
+
+-- A BUFFER MORE
+
+new_pushed : (n : List ℕ) (ns : List (List ℕ)) → find (same_name n) ns ≡ None → AreNew ns → AreNew (ns ++ n ∷ [])
+new_pushed n [] e h = (All-nil (λ (m : List ℕ). same_name m n ≡ false), tt)
+new_pushed n (x ∷ xs) e h =
+    let goal : Bool → Type 0 = λ b. same_name n x ≡ b → cond b (Some x) (find (same_name n) xs) ≡ None → AreNew ((x ∷ xs) ++ n ∷ []) in
+    let go : (b : Bool) → goal b =
+    λ b. elim b as goal [
+      | true ↦ λ s f. absurd cc
+      | false ↦ λ s f. (
+        All-append (λ (m : List ℕ). same_name m x ≡ false) xs (n ∷ []) h.0 (All-cons (λ (m : List ℕ). same_name m x ≡ false) n [] s (All-nil (λ (m : List ℕ). same_name m x ≡ false))),
+        new_pushed n xs f h.1,
+      )
+    ]
+    in go (same_name n x) refl e
+
+or_false : (a b : Bool) → (a || b) ≡ false → (a ≡ false) × (b ≡ false)
+or_false true b h = absurd cc
+or_false false b h = (refl, h)
+
+none_is : {A : Type 0} (o : Option A) → is_some o ≡ false → o ≡ None
+none_is None h = refl
+none_is (Some x) h = absurd cc
+
+fit_pushed : (n o : List ℕ) (bs : List Buffer) → (is_name n && is_user_name o) ≡ true → (is_some (find_buffer n bs) || nat_le 256 (length bs)) ≡ false → AreFit bs → AreFit (bs ++ empty_buffer n o ∷ [])
+fit_pushed n o bs judged free h =
+    let b : Buffer = empty_buffer n o in
+    let parts = or_false (is_some (find_buffer n bs)) (nat_le 256 (length bs)) free in
+    let unused : find (same_name n) (map buffer_name bs) ≡ None = find-map buffer_name (is_named n) (same_name n) (λ x. refl) bs ∙ ap (option_map buffer_name) (none_is (find_buffer n bs) parts.0) in
+    let room : nat_le 256 (length bs) ≡ false = parts.1 in
+    let less : length bs < 256 = grind (arith, nat_tests) in
+    record {
+      each = All-push IsFit bs b h.each (record { named = judged; short = omega arith });
+      few = omega (arith, less, length-append bs (b ∷ []));
+      new = subst AreNew (sym (map-append buffer_name bs (b ∷ []))) (new_pushed n (map buffer_name bs) unused h.new);
+    }
+
+-- A LINE
+
+text_room : (n cs : List ℕ) (bs : List Buffer) (b : Buffer) → text_refused (find_buffer n bs) cs ≡ false → find_buffer n bs ≡ Some b → length (b.text ++ cs) ≤ 1048576
+text_room n cs bs b h e =
+    let room : nat_lt 1048576 (length b.text + length cs) ≡ false = ap (λ o. text_refused o cs) (sym e) ∙ h in
+    let le : length b.text + length cs ≤ 1048576 = grind (arith, nat_tests) in
+    omega (arith, le, length-append b.text cs)
+
+set_fit : (w : World) (l : Said) → IsJudged l → setting_refused w l ≡ false → AreFit w.buffers → AreFit (world_set w l).buffers
+set_fit w said.Nothing j r h = h
+set_fit w (said.User name) j r h = h
+set_fit w (said.Buffer name owner) j r h = fit_pushed name owner w.buffers j (or_false _ _ r).1 h
+set_fit w (said.Entry buffer entry) j r h =
+    fit_changed buffer (with_entry (entry_in entry)) w.buffers (entry_name (entry_in entry)) (entry_owner (entry_in entry))
+    (λ b e k. subst (λ (t : List ℕ). length t ≤ 1048576) (sym (entry_text (entry_in entry) b)) k) h
+set_fit w (said.Text buffer cs) j r h = fit_changed buffer (with_text cs) w.buffers (λ b. refl) (λ b. refl) (λ b e k. text_room buffer cs w.buffers b r e) h
+set_fit w (said.Open name user rows cols) j r h = h
+set_fit w (said.Keys name keys) j r h = h
+set_fit w (said.Show name) j r h = h
+set_fit w (said.Close name) j r h = h
+
+world_is : (v w : World) → setting v ≡ setting w → AreFit w.buffers → AreFit v.buffers
+world_is v w e h = subst (λ (s : Stage). AreFit s.world.buffers) (sym e) h
+
+no_open : (w v : World) (name user : List ℕ) (rows cols : ℕ) (answer : Result ℕ OpenFault) → Opens (setting w) name user rows cols answer (setting v) [] → ⊥
+no_open w v name user rows cols (Ok id) h = let e : false ≡ true = ap (λ (s : Stage). s.begun) h.1 in absurd cc
+no_open w v name user rows cols (Err f) h = let e : false ≡ true = ap (λ (s : Stage). s.begun) h.1 in absurd cc
+
+does_fit : (w v : World) (l : Option Said) → IfSome l IsJudged → LineDoes l (setting w) (setting v) [] → AreFit w.buffers → AreFit v.buffers
+does_fit w v None j d h = absurd d
+does_fit w v (Some said.Nothing) j d h = world_is v w d.1.0 h
+does_fit w v (Some (said.User name)) j d h = world_is v (world_set w (said.User name)) d.1.0 (set_fit w (said.User name) j d.0 h)
+does_fit w v (Some (said.Buffer name owner)) j d h = world_is v (world_set w (said.Buffer name owner)) d.1.0 (set_fit w (said.Buffer name owner) j d.0 h)
+does_fit w v (Some (said.Entry buffer entry)) j d h = world_is v (world_set w (said.Entry buffer entry)) d.1.0 (set_fit w (said.Entry buffer entry) j d.0 h)
+does_fit w v (Some (said.Text buffer cs)) j d h = world_is v (world_set w (said.Text buffer cs)) d.1.0 (set_fit w (said.Text buffer cs) j d.0 h)
+does_fit w v (Some (said.Open name user rows cols)) j d h = absurd (no_open w v name user rows cols d.1.0 d.1.1)
+does_fit w v (Some (said.Keys name keys)) j d h = let e : true ≡ false = d.0 in absurd cc
+does_fit w v (Some (said.Show name)) j d h = let e : true ≡ false = d.0 in absurd cc
+does_fit w v (Some (said.Close name)) j d h = let e : true ≡ false = d.0 in absurd cc
+
+-- a line that was set does what it says
+pub set_does : (w v : World) (l : Said) → Sets (Ok tt) l w v → LineDoes (Some l) (setting w) (setting v) []
+set_does w v said.Nothing h = (refl, (ap setting h.1, refl))
+set_does w v (said.User name) h = (h.0, (ap setting h.1, refl))
+set_does w v (said.Buffer name owner) h = (h.0, (ap setting h.1, refl))
+set_does w v (said.Entry buffer entry) h = (h.0, (ap setting h.1, refl))
+set_does w v (said.Text buffer cs) h = (h.0, (ap setting h.1, refl))
+set_does w v (said.Open name user rows cols) h = let e : true ≡ false = h.0 in absurd cc
+set_does w v (said.Keys name keys) h = let e : true ≡ false = h.0 in absurd cc
+set_does w v (said.Show name) h = let e : true ≡ false = h.0 in absurd cc
+set_does w v (said.Close name) h = let e : true ≡ false = h.0 in absurd cc
+
+-- a line before the first open leaves buffers that can be kept
+pub line_fit : (w v : World) (t : List ℕ) → LineDoes (said_in t) (setting w) (setting v) [] → AreFit w.buffers → AreFit v.buffers
+line_fit w v t d h = does_fit w v (said_in t) (judged_in t) d h
+
+pub none_fit : AreFit []
+none_fit = record { each = All-nil IsFit; few = omega arith; new = tt }
+
+-- NO FAULT IS LEFT
+
+no_earlier : (ds : List Draft) (i : ℕ) (d : Draft) → i < length ds → AreNew (map buffer_name (buffers_in ds)) → find (kept_named (get_or ds i d).name.now) (map kept_of (take i ds)) ≡ None
+no_earlier [] i d l h = absurd (omega arith)
+no_earlier (x ∷ xs) zero d l h = refl
+no_earlier (x ∷ xs) (suc i) d l h =
+    let n : List ℕ = (get_or xs i d).name.now in
+    let others : All (λ (y : Draft). same_name y.name.now x.name.now ≡ false) xs =
+    All-unmap (λ (b : Buffer). same_name b.name x.name.now ≡ false) buffer_of xs (All-unmap (λ (m : List ℕ). same_name m x.name.now ≡ false) buffer_name (buffers_in xs) h.0) in
+    let e : same_name n x.name.now ≡ false = All-get_or (λ (y : Draft). same_name y.name.now x.name.now ≡ false) xs i d (omega arith) others in
+    ap (λ b. cond b (Some (kept_of x)) (find (kept_named n) (map kept_of (take i xs)))) e ∙ no_earlier xs i d (omega arith) h.1
+
+fault_by : Bool → Bool → Bool → Bool → Option AddFault
+fault_by a b c d = if not a then Some adds.Name else if b then Some adds.Twice else if c then Some adds.Full else if d then Some adds.Long else None
+
+fault_none : (a b c d : Bool) → a ≡ true → b ≡ false → c ≡ false → d ≡ false → fault_by a b c d ≡ None
+unfolding fault_by
+fault_none a b c d ea eb ec ed =
+    ap (λ x. fault_by x b c d) ea ∙ ap (λ x. fault_by true x c d) eb ∙ ap (λ x. fault_by true false x d) ec ∙ ap (λ x. fault_by true false false x) ed
+
+pub no_fault : (ds : List Draft) (i : ℕ) (d : Draft) → i < length ds → AreFit (buffers_in ds) → add_fault (get_or ds i d).name.now (get_or ds i d).owner.now (length (get_or ds i d).text.items) (map kept_of (take i ds)) ≡ None
+unfolding fault_by
+no_fault ds i d l h =
+    let x : Draft = get_or ds i d in
+    let fit : IsFit (buffer_of x) = subst IsFit (get_or-map buffer_of ds i d) (All-get_or IsFit (buffers_in ds) i (buffer_of d) (omega (arith, length-map ds buffer_of)) h.each) in
+    let long : length (map kept_of (take i ds)) ≡ i = length-map (take i ds) kept_of ∙ length-take-le i ds (omega arith) in
+    let few : length ds ≤ 256 = omega (arith, h.few, length-map ds buffer_of) in
+    let room : nat_le 256 (length (map kept_of (take i ds))) ≡ false = grind (arith, nat_tests) in
+    let size : length x.text.items ≤ 1048576 = fit.short in
+    let fits : nat_lt 1048576 (length x.text.items) ≡ false = grind (arith, nat_tests) in
+    fault_none (is_name x.name.now && is_user_name x.owner.now) (is_kept x.name.now (map kept_of (take i ds))) (nat_le 256 (length (map kept_of (take i ds)))) (nat_lt 1048576 (length x.text.items))
+    fit.named (ap is_some (no_earlier ds i d l h.new)) room fits
+
+pub only_short : (A : Type 0) (f : AddFault) (due : Option AddFault) → Answers (Err f) due → due ≡ None → OnlyShort {A = A} (Err f)
+only_short A adds.Name due h none = let e : None ≡ Some adds.Name = sym none ∙ h in absurd cc
+only_short A adds.Twice due h none = let e : None ≡ Some adds.Twice = sym none ∙ h in absurd cc
+only_short A adds.Full due h none = let e : None ≡ Some adds.Full = sym none ∙ h in absurd cc
+only_short A adds.Long due h none = let e : None ≡ Some adds.Long = sym none ∙ h in absurd cc
+only_short A adds.Short due h none = tt

@@ -1,0 +1,43 @@
+-- What is kept under a name.
+use Rattle.std.proofs.Common.{◌≡◌, ℕ, Bool, true, false, cond, List, [], ◌∷◌, map, Option, Some, refl, sym, ap, ◌∙◌}
+use Rattle.std.specs.Prelude.{find}
+use Rattle.std.specs.Option.{option_map}
+use Rattle.mgs_model.specs.Access.{Directory}
+use Rattle.mgs_model.specs.Names.{same_name}
+use Rattle.mgs_model.specs.World.{is_named, find_buffer}
+use Rattle.mgs_model.specs.View.{BufferSeen, buffer_seen, find_seen}
+use Rattle.mgs_model.proofs.Firsts.{find-map}
+use Rattle.mgs_buffers.specs.Kept.{Kept, IsKept, kept_at, kept_named, kept_or_none}
+use Rattle.mgs_core.specs.Worlds.{buffers_of}
+use Rattle.mgs_core.proofs.Acts.{some_from}
+use Rattle.mgs_core.proofs.Marks.{same_is}
+
+found_passes : {A : Type 0} (p : A → Bool) (xs : List A) (a : A) → find p xs ≡ Some a → p a ≡ true
+found_passes p [] a is = cc
+found_passes p (x ∷ xs) a is =
+    let goal : Bool → Type 0 = λ b. cond b (Some x) (find p xs) ≡ Some a → p a ≡ true in
+    let go : (b : Bool) → p x ≡ b → goal b =
+    λ b. elim b as (λ b. p x ≡ b → goal b) [
+      | true ↦ λ e is. (let same : x ≡ a = cc in ap p (sym same) ∙ e)
+      | false ↦ λ e is. found_passes p xs a is
+    ]
+    in go (p x) refl is
+
+found_kept : (name : List ℕ) (ks : List Kept) → IsKept name ks → find (kept_named name) ks ≡ Some (kept_at name ks)
+found_kept name ks kept =
+    let k = some_from (find (kept_named name) ks) kept in
+    k.1 ∙ ap (λ (o : Option Kept). Some (kept_or_none o)) (sym k.1)
+
+pub name_kept : (name : List ℕ) (ks : List Kept) → IsKept name ks → (kept_at name ks).buffer.name ≡ name
+name_kept name ks kept = sym (same_is name (kept_at name ks).buffer.name (found_passes (kept_named name) ks (kept_at name ks) (found_kept name ks kept)))
+
+pub found_buffer : (name : List ℕ) (ks : List Kept) → IsKept name ks → find_buffer name (buffers_of ks) ≡ Some (kept_at name ks).buffer
+found_buffer name ks kept =
+    find-map (λ (k : Kept). k.buffer) (kept_named name) (is_named name) (λ k. refl) ks
+    ∙ ap (option_map (λ (k : Kept). k.buffer)) (found_kept name ks kept)
+
+-- and as a user sees it
+pub found_seen : (directory : Directory) (user name : List ℕ) (ks : List Kept) → IsKept name ks → find_seen name (map (buffer_seen directory user) (buffers_of ks)) ≡ Some (buffer_seen directory user (kept_at name ks).buffer)
+found_seen directory user name ks kept =
+    find-map (buffer_seen directory user) (is_named name) (λ (b : BufferSeen). same_name name b.name) (λ b. refl) (buffers_of ks)
+    ∙ ap (option_map (buffer_seen directory user)) (found_buffer name ks kept)

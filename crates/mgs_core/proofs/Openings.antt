@@ -1,0 +1,180 @@
+-- A session opens: what its window shows, where others stand, and why it may be refused.
+use Rattle.std.proofs.Common.{◌≡◌, ℕ, ◌+◌, ◌-◌, ◌≤◌, Bool, true, false, not, cond, List, [], ◌∷◌, ◌++◌, length, map, Option, Some, None, Ok, Err, refl, sym, ap, ◌∙◌, arith, eq-eqb}
+use Rattle.std.specs.Prelude.{find, is_some, nat_le, nat_lt, nat_eq, ◌&&◌, ◌||◌, if◌then◌else◌}
+use Rattle.std.specs.Option.{option_map}
+use Rattle.std.proofs.lemmas.List.{length-map, map-append}
+use Rattle.std.proofs.lemmas.Bool.Decides.{nat_tests}
+use Rattle.mgs_model.specs.Names.{same_name}
+use Rattle.mgs_model.specs.Access.{Directory, is_among}
+use Rattle.mgs_model.specs.World.{World, Buffer, Buffer_of, may}
+use Rattle.mgs_model.specs.World as model
+use Rattle.mgs_model.specs.Events.{can_open, first_shows, is_size, new_session, opened, settled}
+use Rattle.mgs_model.specs.declared.errors.OpenFault.{OpenFault}
+use Rattle.mgs_model.specs.declared.errors.OpenFault.TheVariants.{NoUser, Size, Full, Short}
+use Rattle.mgs_buffers.specs.Kept.{Kept, mark_at}
+use Rattle.mgs_windows.specs.declared.Spot.{Spot}
+use Rattle.mgs_session.specs.Told.{session_opened}
+use Rattle.mgs_session.specs.declared.Session.{Session}
+use Rattle.mgs_core.specs.Worlds.{buffers_of, id_after, session_of, window_shown, world_of}
+use Rattle.mgs_core.specs.Sound.{IsSound, in_use}
+use Rattle.mgs_core.specs.Spots.{FirstSpot, MarksStay, SpotDropped, first_name, spot_name}
+use Rattle.mgs_model.specs.declared.right.Right.TheVariants.{ReadAttributes}
+use Rattle.mgs_core.specs.Steps.{Answers, OpenedBy, open_fault}
+use Rattle.mgs_core.proofs.Marks.{same_is}
+use Rattle.mgs_core.proofs.Worlds.{same_window, same_windows, same_world}
+use Rattle.mgs_core.proofs.Acts.{sound_more}
+use Rattle.mgs_core.proofs.Spots.{sessions_stay}
+
+-- WHAT THE FIRST WINDOW SHOWS
+
+first_buffers : (o : Option Spot) (ks ls : List Kept) → FirstSpot o ks ls → buffers_of ls ≡ buffers_of ks
+first_buffers None ks ls h = h.buffers
+first_buffers (Some x) ks ls h = h.buffers
+
+first_stay : (o : Option Spot) (ks ls : List Kept) → FirstSpot o ks ls → MarksStay ks ls
+first_stay None ks ls h = h.stay
+first_stay (Some x) ks ls h = h.stay
+
+first_more : (o : Option Spot) (ks ls : List Kept) → FirstSpot o ks ls → (m : List ℕ) (i : ℕ) → in_use m i ks ≤ in_use m i ls
+first_more None ks ls h m i = omega (arith, h.uses m i)
+first_more (Some x) ks ls h m i = omega (arith, h.uses m i)
+
+first_window : (o : Option Spot) (b : Option Buffer) (ks ls : List Kept) (height : ℕ) → FirstSpot o ks ls → spot_name o ≡ option_map (λ (b : Buffer). b.name) b → window_shown ls height o ≡ record { shows = first_shows b; point = 0; mark = None; top = 0; row = 0; height = height }
+first_window None None ks ls height h e = refl
+first_window None (Some b) ks ls height h e = cc
+first_window (Some x) None ks ls height h e = cc
+first_window (Some x) (Some b) ks ls height h e =
+    let named : x.name ≡ b.name = cc in
+    same_window (Buffer_of x.name) _ 0 _ None _ 0 0 height h.point (ap (option_map (mark_at x.name ls)) h.mark) h.top
+    ∙ ap (λ (n : List ℕ). let w : model.Window = record { shows = Buffer_of n; point = 0; mark = None; top = 0; row = 0; height = height } in w) named
+
+session_new : (d : Directory) (ks ls : List Kept) (id : ℕ) (user : List ℕ) (rows cols : ℕ) (o : Option Spot) → FirstSpot o ks ls → spot_name o ≡ first_name d user ks → session_of ls (session_opened id user rows cols o) ≡ new_session d (buffers_of ks) id user rows cols
+session_new d ks ls id user rows cols o h named =
+    same_windows (session_of ls (session_opened id user rows cols o)) _ _
+    (ap (λ (w : model.Window). w ∷ []) (first_window o (find (may d user ReadAttributes) (buffers_of ks)) ks ls (rows - 2) h named))
+
+-- THE WORLD AFTER
+
+-- where marks of nobody came and went
+world_stays : (d : Directory) (ks ls : List Kept) (xs : List Session) (next : Option ℕ) → IsSound ks xs → IsSound ls xs → buffers_of ls ≡ buffers_of ks → MarksStay ks ls → world_of d ls xs next ≡ world_of d ks xs next
+world_stays d ks ls xs next before after buffers stay = same_world d _ _ _ _ (id_after next) buffers (sessions_stay ks ls xs before after stay)
+
+pub world_undone : (d : Directory) (ks ls : List Kept) (xs : List Session) (next : Option ℕ) → IsSound ks xs → SpotDropped None ks ls → world_of d ls xs next ≡ world_of d ks xs next
+world_undone d ks ls xs next sound h = world_stays d ks ls xs next sound (sound_more ks ls xs (first_more None ks ls h) sound) h.buffers h.stay
+
+-- ys are the sessions with the new one, and settling makes L
+pub opened_at : (d : Directory) (ks ls L : List Kept) (xs ys : List Session) (id : ℕ) (user : List ℕ) (rows cols : ℕ) (o : Option Spot) → IsSound ks xs → FirstSpot o ks ls → spot_name o ≡ first_name d user ks
+    → ys ≡ xs ++ session_opened id user rows cols o ∷ []
+    → ((next : Option ℕ) → world_of d L ys next ≡ settled (world_of d ls ys next))
+    → world_of d L ys (Some (id + 1)) ≡ settled (opened (world_of d ks xs (Some id)) id user rows cols)
+opened_at d ks ls L xs ys id user rows cols o sound h named more settles =
+    let y = session_opened id user rows cols o in
+    let seen : map (session_of ls) (xs ++ y ∷ []) ≡ map (session_of ks) xs ++ new_session d (buffers_of ks) id user rows cols ∷ [] =
+    map-append (session_of ls) xs (y ∷ [])
+    ∙ ap (λ (ss : List model.Session). ss ++ session_of ls y ∷ []) (sessions_stay ks ls xs sound (sound_more ks ls xs (first_more o ks ls h) sound) (first_stay o ks ls h))
+    ∙ ap (λ (s : model.Session). map (session_of ks) xs ++ s ∷ []) (session_new d ks ls id user rows cols o h named) in
+    settles (Some (id + 1))
+    ∙ ap (λ (zs : List Session). settled (world_of d ls zs (Some (id + 1)))) more
+    ∙ ap (λ (bs : List Buffer). settled (record { directory = d; buffers = bs; sessions = map (session_of ls) (xs ++ y ∷ []); next_id = id + 1 })) (first_buffers o ks ls h)
+    ∙ ap (λ (ss : List model.Session). settled (record { directory = d; buffers = buffers_of ks; sessions = ss; next_id = id + 1 })) seen
+
+-- WHY NOT
+
+among : (user : List ℕ) (users : List (List ℕ)) → is_some (find (same_name user) users) ≡ is_among user users
+among user [] = refl
+among user (x ∷ xs) =
+    elim (same_name user x) as (λ b. is_some (cond b (Some x) (find (same_name user) xs)) ≡ (b || is_among user xs)) [ true ↦ refl | false ↦ among user xs ]
+
+-- who is found is the one who was named
+user_found : (user found : List ℕ) (users : List (List ℕ)) → find (same_name user) users ≡ Some found → found ≡ user
+user_found user found [] e = cc
+user_found user found (x ∷ xs) e =
+    let goal : Bool → Type 0 = λ b. cond b (Some x) (find (same_name user) xs) ≡ Some found → found ≡ user in
+    let go : (b : Bool) → same_name user x ≡ b → goal b = λ b. elim b as (λ b. same_name user x ≡ b → goal b) [
+      | true ↦ λ same is. (let named : x ≡ found = cc in sym named ∙ sym (same_is user x same))
+      | false ↦ λ same is. user_found user found xs is
+    ] in
+    go (same_name user x) refl e
+
+-- the four questions in order
+abbrev judged : Bool → Bool → Bool → Bool → Option OpenFault
+judged known fits many used = if not known then Some NoUser else if not fits then Some Size else if many then Some Full else if used then Some Full else None
+
+all_well : (known fits many used : Bool) → judged known fits many used ≡ None → (known ≡ true) × (fits ≡ true) × (many ≡ false) × (used ≡ false)
+all_well false fits many used e = cc
+all_well true false many used e = cc
+all_well true true true used e = cc
+all_well true true false true e = cc
+all_well true true false false e = (refl, refl, refl, refl)
+
+never_short : {X : Type 0} (known fits many used : Bool) → judged known fits many used ≡ Some Short → X
+never_short false fits many used e = cc
+never_short true false many used e = cc
+never_short true true true used e = cc
+never_short true true false true e = cc
+never_short true true false false e = cc
+
+pub no_user : (w : World) (user : List ℕ) (rows cols : ℕ) → is_some (find (same_name user) w.directory.users) ≡ false → open_fault w user rows cols ≡ Some NoUser
+no_user w user rows cols none =
+    ap (λ (b : Bool). judged b (is_size rows cols) (nat_le 64 (length w.sessions)) (nat_le 18446744073709551616 w.next_id)) (sym (among user w.directory.users) ∙ none)
+
+pub no_screen : (w : World) (user : List ℕ) (rows cols : ℕ) → is_some (find (same_name user) w.directory.users) ≡ true → is_size rows cols ≡ false → open_fault w user rows cols ≡ Some Size
+no_screen w user rows cols some small =
+    ap (λ (b : Bool). judged b (is_size rows cols) (nat_le 64 (length w.sessions)) (nat_le 18446744073709551616 w.next_id)) (sym (among user w.directory.users) ∙ some)
+    ∙ ap (λ (b : Bool). judged true b (nat_le 64 (length w.sessions)) (nat_le 18446744073709551616 w.next_id)) small
+
+pub no_room : (w : World) (user : List ℕ) (rows cols : ℕ) (many used : Bool) → is_some (find (same_name user) w.directory.users) ≡ true → is_size rows cols ≡ true → nat_le 64 (length w.sessions) ≡ many → nat_le 18446744073709551616 w.next_id ≡ used → open_fault w user rows cols ≡ cond many (Some Full) (cond used (Some Full) None)
+no_room w user rows cols many used some fits many_is used_is =
+    ap (λ (b : Bool). judged b (is_size rows cols) (nat_le 64 (length w.sessions)) (nat_le 18446744073709551616 w.next_id)) (sym (among user w.directory.users) ∙ some)
+    ∙ ap (λ (b : Bool). judged true b (nat_le 64 (length w.sessions)) (nat_le 18446744073709551616 w.next_id)) fits
+    ∙ ap (λ (b : Bool). judged true true b (nat_le 18446744073709551616 w.next_id)) many_is
+    ∙ ap (λ (b : Bool). judged true true many b) used_is
+
+-- as many sessions as are kept
+pub many_sessions : (d : Directory) (ks : List Kept) (xs : List Session) (next : Option ℕ) (n : ℕ) → n ≡ length xs → nat_le 64 (length (world_of d ks xs next).sessions) ≡ nat_le 64 n
+many_sessions d ks xs next n is = ap (nat_le 64) (length-map xs (session_of ks) ∙ sym is)
+
+-- THE ANSWER
+
+below_from : (a b : ℕ) → nat_le b a ≡ false → nat_lt a b ≡ true
+below_from a b h = grind (arith, nat_tests)
+
+all_five : (a b c d e : Bool) → a ≡ true → b ≡ true → c ≡ true → d ≡ true → e ≡ true → (a && (b && (c && (d && e)))) ≡ true
+all_five a b c d e ia ib ic id ie = rw (ia, ib, ic, id, ie) refl
+
+can_be_opened : (w : World) (id : ℕ) (user : List ℕ) (rows cols : ℕ) → open_fault w user rows cols ≡ None → id ≡ w.next_id → can_open w id user rows cols ≡ true
+can_be_opened w id user rows cols well is =
+    let all = all_well (is_among user w.directory.users) (is_size rows cols) (nat_le 64 (length w.sessions)) (nat_le 18446744073709551616 w.next_id) well in
+    all_five (is_among user w.directory.users) (is_size rows cols) (nat_lt (length w.sessions) 64) (nat_eq id w.next_id) (nat_lt id 18446744073709551616)
+    all.0 all.1 (below_from (length w.sessions) 64 all.2) (eq-eqb id w.next_id is)
+    (ap (λ (n : ℕ). nat_lt n 18446744073709551616) is ∙ below_from w.next_id 18446744073709551616 all.3)
+
+opened_ok : (w v : World) (id : ℕ) (user : List ℕ) (rows cols : ℕ) → open_fault w user rows cols ≡ None → id ≡ w.next_id → v ≡ settled (opened w id user rows cols) → OpenedBy w v user rows cols (Ok id)
+opened_ok w v id user rows cols well is done =
+    let can = can_be_opened w id user rows cols well is in
+    record {
+      ok = (can, done ∙ sym (ap (λ (b : Bool). cond b (settled (opened w id user rows cols)) w) can));
+      err = tt;
+      answer = well;
+    }
+
+answers : (w : World) (user : List ℕ) (rows cols : ℕ) (fault : OpenFault) → open_fault w user rows cols ≡ Some fault → Answers (Err fault) (open_fault w user rows cols)
+answers w user rows cols NoUser e = e
+answers w user rows cols Size e = e
+answers w user rows cols Full e = e
+answers w user rows cols Short e = never_short (is_among user w.directory.users) (is_size rows cols) (nat_le 64 (length w.sessions)) (nat_le 18446744073709551616 w.next_id) e
+
+pub opened_fault : (w : World) (user : List ℕ) (rows cols : ℕ) (fault : OpenFault) → open_fault w user rows cols ≡ Some fault → OpenedBy w w user rows cols (Err fault)
+opened_fault w user rows cols fault e = record { ok = tt; err = refl; answer = answers w user rows cols fault e }
+
+-- the answer of a server that keeps xs and ks, and then ys and L
+pub opened_by : (w : World) (d : Directory) (ks L : List Kept) (xs ys : List Session) (now after : Option ℕ) (id : ℕ) (user found : List ℕ) (rows cols : ℕ) → world_of d ks xs now ≡ w → now ≡ Some id → id_after after ≡ id + 1 → find (same_name user) d.users ≡ Some found → open_fault w user rows cols ≡ None
+    → world_of d L ys (Some (id + 1)) ≡ settled (opened (world_of d ks xs (Some id)) id found rows cols)
+    → OpenedBy w (world_of d L ys after) user rows cols (Ok id)
+opened_by w d ks L xs ys now after id user found rows cols view is behind named well done =
+    opened_ok w (world_of d L ys after) id user rows cols well (sym (ap id_after is) ∙ ap (λ (v : World). v.next_id) view)
+    (ap (λ (n : ℕ). let v : World = record { directory = d; buffers = buffers_of L; sessions = map (session_of L) ys; next_id = n } in v) behind
+    ∙ done
+    ∙ ap (λ (o : Option ℕ). settled (opened (world_of d ks xs o) id found rows cols)) (sym is)
+    ∙ ap (λ (v : World). settled (opened v id found rows cols)) view
+    ∙ ap (λ (u : List ℕ). settled (opened w id u rows cols)) (user_found user found d.users named))

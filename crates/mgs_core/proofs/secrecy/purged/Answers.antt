@@ -1,0 +1,5 @@
+use Rattle.mgs_model.proofs.Purge.{purged}
+use Rattle.mgs_core.proofs.secrecy.purged.Goals as goal
+
+pub returns : goal.returns
+returns c = purged

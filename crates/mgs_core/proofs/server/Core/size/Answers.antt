@@ -1,0 +1,24 @@
+use Rattle.std.proofs.Common.{◌∙◌, ap, sym, subst, List}
+use Rattle.std.specs.Prelude.{All, slice_get}
+use Rattle.mgs_session.specs.declared.Session.{Session}
+use Rattle.mgs_core.specs.declared.server.Size.{Size}
+use Rattle.mgs_core.specs.Worlds.{sizes, sizes_in, IsOfSize, IsUnique}
+use Rattle.mgs_core.proofs.Sizes.{sizes_world}
+use Rattle.mgs_core.proofs.server.Core.size.Goals as goal
+
+pub returns-clause-value : goal.returns-clause-value
+returns-clause-value g c =
+    let i = c.self.inside in
+    c.size_at.ensures
+    ∙ ap (λ (xs : List Session). slice_get (sizes_in xs) c.args.at) c.deref.ensures.value
+    ∙ ap (λ (zs : List Size). slice_get zs c.args.at) (sym (sizes_world i.directory i.buffers i.sessions.items i.next_id) ∙ ap sizes c.self.view_is)
+
+pub returns-clause-each : goal.returns-clause-each
+returns-clause-each g c =
+    let i = c.self.inside in
+    subst (All IsOfSize) (sym (sizes_world i.directory i.buffers i.sessions.items i.next_id) ∙ ap sizes c.self.view_is) c.self.invariant.each
+
+pub returns-clause-unique : goal.returns-clause-unique
+returns-clause-unique g c =
+    let i = c.self.inside in
+    subst IsUnique (sym (sizes_world i.directory i.buffers i.sessions.items i.next_id) ∙ ap sizes c.self.view_is) c.self.invariant.unique
