@@ -12,6 +12,7 @@ use Rattle.mgs_keys.specs.declared.KeysFault.TheVariants.{BadToken, Short}
 abbrev pub named_byte_of : List ℕ → Option ℕ
 named_byte_of t =
     if bytes_eq t (codes "RET") then Some 13
+    else if bytes_eq t (codes "TAB") then Some 9
     else if bytes_eq t (codes "SPC") then Some 32
     else if bytes_eq t (codes "ESC") then Some 27
     else if bytes_eq t (codes "DEL") then Some 127

@@ -33,10 +33,10 @@ mod tests {
             keys.as_slice(),
             [0x09, 0x1B, 0x20, 0x1B, 0x7F, 0x00, 0x1F].as_slice()
         );
-        let keys = read_keys(rt.alloc(), "SPC ESC DEL 'ab' M-~")?;
+        let keys = read_keys(rt.alloc(), "SPC ESC DEL TAB 'ab' M-~")?;
         assert_eq!(rt;
             keys.as_slice(),
-            [0x20, 0x1B, 0x7F, 0x61, 0x62, 0x27, 0x1B, 0x7E].as_slice()
+            [0x20, 0x1B, 0x7F, 0x09, 0x61, 0x62, 0x27, 0x1B, 0x7E].as_slice()
         );
         Ok(())
     }
@@ -44,7 +44,7 @@ mod tests {
     #[test]
     fn other_words_are_refused(rt: HostRuntime) {
         for text in [
-            "", "C-1", "'", "TAB", " RET", "RET ", "RET  RET", "C-A", "M-", "M-ab", "ret",
+            "", "C-1", "'", "Tab", " RET", "RET ", "RET  RET", "C-A", "M-", "M-ab", "ret",
         ] {
             assert!(rt; matches!(&read_keys(rt.alloc(), text), Err(KeysFault::BadToken)));
         }

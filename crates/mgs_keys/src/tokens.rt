@@ -13,6 +13,8 @@ fn named_byte(token: &[u8]) -> Option<u8>
 {
     if token == b"RET".as_slice() {
         Some(13)
+    } else if token == b"TAB".as_slice() {
+        Some(9)
     } else if token == b"SPC".as_slice() {
         Some(32)
     } else if token == b"ESC".as_slice() {
@@ -89,7 +91,7 @@ fn push_token(keys: &mut Vec<u8>, token: &[u8]) -> Result<(), KeysFault>
 
 /// The bytes that a terminal sends for keys that are written as tokens, parted by single spaces.
 ///
-/// A token is `C-a` to `C-z` (the letter AND 0x1F), `C-SPC` (0x00), `C-_` (0x1F), `RET` (0x0D), `SPC` (0x20),
+/// A token is `C-a` to `C-z` (the letter AND 0x1F), `C-SPC` (0x00), `C-_` (0x1F), `RET` (0x0D), `TAB` (0x09), `SPC` (0x20),
 /// `ESC` (0x1B), `DEL` (0x7F), `'chars` (one or more characters 0x21 to 0x7E, each its byte), or `M-` before one
 /// character 0x21 to 0x7E or before `SPC` or `DEL` (0x1B and that byte).
 ///

@@ -80,7 +80,7 @@ pub enum Command {
 pub fn command_of(byte: u8) -> Command
     ensures { result ≡ command_of byte }
 {
-    if 32 <= byte && byte <= 126 {
+    if (32 <= byte && byte <= 126) || byte == 9 {
         Command::SelfInsert(byte as char)
     } else if byte == 13 {
         Command::Newline
