@@ -16,10 +16,10 @@ use Rattle.mgs_core.specs.Worlds.{size_of, sizes, buffers_of}
 use Rattle.mgs_engine.specs.Serving.{Serving, Queue, queue_id, queue_ids}
 use Rattle.mgs_model.specs.World.{World, Session, Buffer, is_named, find_buffer}
 use Rattle.mgs_acl.specs.Spelling.{entry_in}
-use Rattle.mgd.specs.Lines as lines
+use Rattle.mgs_script.specs.Lines as lines
 use Rattle.mgs_model.specs.declared.entry.Entry.{Entry}
-use Rattle.mgd.specs.declared.line.LineFault.{LineFault}
-use Rattle.mgd.specs.declared.line.LineFault.TheVariants.{Bad, Short}
+use Rattle.mgs_script.specs.declared.line.LineFault.{LineFault}
+use Rattle.mgs_script.specs.declared.line.LineFault.TheVariants.{Bad, Short}
 use Rattle.mgd.specs.declared.setup.Draft.{Draft}
 use Rattle.std.proofs.lemmas.List.{map-append}
 use Rattle.mgd.specs.Plays.{entry_refused, text_refused, with_entry, with_text, empty_buffer}

@@ -11,81 +11,18 @@ use Rattle.mgs_model.specs.Names.{same_name, is_name, is_user_name}
 use Rattle.mgs_model.specs.World.{World, Buffer, is_named, find_buffer}
 use Rattle.mgs_model.specs.declared.entry.Entry.{Entry}
 use Rattle.mgs_model.specs.declared.errors.OpenFault.{OpenFault}
-use Rattle.mgs_keys.specs.Words.{word_of, rest_of}
-use Rattle.mgs_keys.specs.Tokens.{keys_of}
 use Rattle.mgs_acl.specs.Spelling.{entry_in}
 use Rattle.mgs_buffers.specs.Kept.{kept_named, is_kept}
 use Rattle.mgs_buffers.specs.Adding.{add_fault, Answers}
 use Rattle.mgs_buffers.specs.declared.fault.AddFault.{AddFault}
 use Rattle.mgs_buffers.specs.declared.fault.AddFault.TheVariants as adds
-use Rattle.mgd.specs.declared.kind.Kind.{Kind}
-use Rattle.mgd.specs.declared.kind.Kind.TheVariants as kinds
 use Rattle.mgd.specs.declared.setup.Draft.{Draft}
-use Rattle.mgd.specs.Lines.{◌>>=◌, Said, name_of, owner_of, any_word_of, only_word_of, size_of, text_of, utf8_of, kind_named, said_in, said_as, said_by_kind, is_passed_over, user_said, buffer_said, entry_said, text_said, open_said, keys_said}
-use Rattle.mgd.specs.Lines as said
+use Rattle.mgs_script.specs.Lines.{Said, IsJudged, said_in}
+use Rattle.mgs_script.specs.Lines as said
 use Rattle.mgd.specs.Plays.{Stage, Opens, setting, setting_refused, world_set, LineDoes, text_refused, with_entry, with_text, empty_buffer}
-use Rattle.mgd.specs.Setups.{Sets, kept_of, buffer_of, buffers_in, buffer_name, IsFit, AreNew, AreFit, IsJudged, OnlyShort}
+use Rattle.mgd.specs.Setups.{Sets, kept_of, buffer_of, buffers_in, buffer_name, IsFit, AreNew, AreFit, OnlyShort}
+use Rattle.mgs_script.proofs.Judged.{judged_in}
 use Rattle.mgd.proofs.Events.{All-unmap}
-
--- WHAT A LINE SAYS OF NAMES
-
-bind_if : {A B : Type 0} (P : B → Type 0) (o : Option A) (f : A → Option B) → ((x : A) → IfSome (f x) P) → IfSome (o >>= f) P
-bind_if P None f h = tt
-bind_if P (Some x) f h = h x
-
-bind_with : {A B : Type 0} (P : B → Type 0) (o : Option A) (f : A → Option B) → ((x : A) → o ≡ Some x → IfSome (f x) P) → IfSome (o >>= f) P
-bind_with P None f h = tt
-bind_with P (Some x) f h = h x refl
-
-map_if : {A B : Type 0} (P : B → Type 0) (o : Option A) (f : A → B) → ((x : A) → P (f x)) → IfSome (option_map f o) P
-map_if P None f h = tt
-map_if P (Some x) f h = h x
-
-chosen_by : (b : Bool) (w x : List ℕ) → cond b (Some w) None ≡ Some x → (b ≡ true) × (w ≡ x)
-chosen_by true w x e = let f : w ≡ x = cc in (refl, f)
-chosen_by false w x e = absurd cc
-
-both_true : (a b : Bool) → a ≡ true → b ≡ true → (a && b) ≡ true
-both_true a b e f = ap (λ (x : Bool). x && b) e ∙ f
-
-second_true : (a b : Bool) → (a && b) ≡ true → b ≡ true
-second_true true b h = h
-second_true false b h = absurd cc
-
-named_so : (w x : List ℕ) → name_of w ≡ Some x → is_name x ≡ true
-named_so w x e = let h = chosen_by (is_name w) w x e in ap is_name (sym h.1) ∙ h.0
-
-owned_so : (w x : List ℕ) → owner_of w ≡ Some x → is_user_name x ≡ true
-owned_so w x e = let h = chosen_by (is_name w && is_user_name w) w x e in ap is_user_name (sym h.1) ∙ second_true (is_name w) (is_user_name w) h.0
-
-buffer_judged : (t : List ℕ) → IfSome (buffer_said t) IsJudged
-unfolding buffer_said
-buffer_judged t =
-    bind_with IsJudged (name_of (word_of t)) _ (λ n e. bind_if IsJudged (rest_of t) _ (λ rest. bind_with IsJudged (owner_of rest) _ (λ o f.
-    both_true (is_name n) (is_user_name o) (named_so (word_of t) n e) (owned_so rest o f))))
-
-as_judged : (k : Kind) (t : List ℕ) → IfSome (said_as k t) IsJudged
-unfolding user_said entry_said text_said open_said keys_said
-as_judged kinds.User t = map_if IsJudged (only_word_of t) said.User (λ x. tt)
-as_judged kinds.Buffer t = buffer_judged t
-as_judged kinds.Entry t = bind_if IsJudged (name_of (word_of t)) _ (λ b. bind_if IsJudged (rest_of t) _ (λ e. tt))
-as_judged kinds.Text t = bind_if IsJudged (name_of (word_of t)) _ (λ b. bind_if IsJudged (rest_of t) _ (λ r. bind_if IsJudged (text_of r) _ (λ cs. tt)))
-as_judged kinds.Open t =
-    bind_if IsJudged (name_of (word_of t)) _ (λ l. bind_if IsJudged (rest_of t) _ (λ r. bind_if IsJudged (any_word_of (word_of r)) _ (λ u. bind_if IsJudged (rest_of r) _ (λ s. bind_if IsJudged (size_of s) _ (λ z. tt)))))
-as_judged kinds.Keys t = bind_if IsJudged (name_of (word_of t)) _ (λ l. bind_if IsJudged (rest_of t) _ (λ r. bind_if IsJudged (keys_of r) _ (λ ks. tt)))
-as_judged kinds.Show t = map_if IsJudged (name_of t) said.Show (λ x. tt)
-as_judged kinds.Close t = map_if IsJudged (name_of t) said.Close (λ x. tt)
-
-kind_judged : (t : List ℕ) → IfSome (said_by_kind t) IsJudged
-unfolding said_by_kind
-kind_judged t = bind_if IsJudged (kind_named (word_of t)) _ (λ k. bind_if IsJudged (rest_of t) _ (λ r. as_judged k r))
-
-pub judged_in : (t : List ℕ) → IfSome (said_in t) IsJudged
-judged_in t =
-    elim (is_passed_over t) as (λ b. IfSome (cond b (Some said.Nothing) (utf8_of t >>= said_by_kind)) IsJudged) [
-      | true ↦ tt
-      | false ↦ bind_if IsJudged (utf8_of t) said_by_kind kind_judged
-    ]
 
 -- CHANGES KEEP IT
 
@@ -182,6 +119,7 @@ text_room n cs bs b h e =
 set_fit : (w : World) (l : Said) → IsJudged l → setting_refused w l ≡ false → AreFit w.buffers → AreFit (world_set w l).buffers
 set_fit w said.Nothing j r h = h
 set_fit w (said.User name) j r h = h
+set_fit w (said.Group name members) j r h = h
 set_fit w (said.Buffer name owner) j r h = fit_pushed name owner w.buffers j (or_false _ _ r).1 h
 set_fit w (said.Entry buffer entry) j r h =
     fit_changed buffer (with_entry (entry_in entry)) w.buffers (entry_name (entry_in entry)) (entry_owner (entry_in entry))
@@ -203,6 +141,7 @@ does_fit : (w v : World) (l : Option Said) → IfSome l IsJudged → LineDoes l 
 does_fit w v None j d h = absurd d
 does_fit w v (Some said.Nothing) j d h = world_is v w d.1.0 h
 does_fit w v (Some (said.User name)) j d h = world_is v (world_set w (said.User name)) d.1.0 (set_fit w (said.User name) j d.0 h)
+does_fit w v (Some (said.Group name members)) j d h = world_is v (world_set w (said.Group name members)) d.1.0 (set_fit w (said.Group name members) j d.0 h)
 does_fit w v (Some (said.Buffer name owner)) j d h = world_is v (world_set w (said.Buffer name owner)) d.1.0 (set_fit w (said.Buffer name owner) j d.0 h)
 does_fit w v (Some (said.Entry buffer entry)) j d h = world_is v (world_set w (said.Entry buffer entry)) d.1.0 (set_fit w (said.Entry buffer entry) j d.0 h)
 does_fit w v (Some (said.Text buffer cs)) j d h = world_is v (world_set w (said.Text buffer cs)) d.1.0 (set_fit w (said.Text buffer cs) j d.0 h)
@@ -215,6 +154,7 @@ does_fit w v (Some (said.Close name)) j d h = let e : true ≡ false = d.0 in ab
 pub set_does : (w v : World) (l : Said) → Sets (Ok tt) l w v → LineDoes (Some l) (setting w) (setting v) []
 set_does w v said.Nothing h = (refl, (ap setting h.1, refl))
 set_does w v (said.User name) h = (h.0, (ap setting h.1, refl))
+set_does w v (said.Group name members) h = (h.0, (ap setting h.1, refl))
 set_does w v (said.Buffer name owner) h = (h.0, (ap setting h.1, refl))
 set_does w v (said.Entry buffer entry) h = (h.0, (ap setting h.1, refl))
 set_does w v (said.Text buffer cs) h = (h.0, (ap setting h.1, refl))

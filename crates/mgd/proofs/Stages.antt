@@ -12,13 +12,13 @@ use Rattle.mgs_core.specs.Steps.{OpenedBy}
 use Rattle.mgs_engine.specs.Serving.{Serving}
 use Rattle.mgs_term.specs.Terminal.{Terminal}
 use Rattle.mgs_paint.specs.Painting.{shown}
-use Rattle.mgd.specs.declared.line.LineFault.{LineFault}
-use Rattle.mgd.specs.declared.line.LineFault.TheVariants.{Bad, Short}
+use Rattle.mgs_script.specs.declared.line.LineFault.{LineFault}
+use Rattle.mgs_script.specs.declared.line.LineFault.TheVariants.{Bad, Short}
 use Rattle.mgd.specs.declared.seat.Labelled.{Labelled}
 use Rattle.mgd.specs.declared.seat.Cause.TheVariants as causes
 use Rattle.mgd.specs.declared.seat.Seat.{Seat}
 use Rattle.mgd.specs.declared.seat.Seat.TheVariants as seats
-use Rattle.mgd.specs.Lines as said
+use Rattle.mgs_script.specs.Lines as said
 use Rattle.mgd.specs.Prints.{refusal_text, screen_text, ended_text}
 use Rattle.mgd.specs.Seats.{is_labelled, seat_of, shown_text, Prints}
 use Rattle.mgd.specs.Plays.{Label, label, Standing, Never, Has, begun, standing_of, session_now, had_session, labels_keyed, Shows}

@@ -4,12 +4,12 @@ use Rattle.std.proofs.lemmas.List.{append-nil}
 use Rattle.std.proofs.KnownBytes.{Appends-nil, Appends-trans}
 use Rattle.std.specs.Option.{option_map}
 use Rattle.std.specs.Prelude.{IfSome}
-use Rattle.mgs_keys.proofs.Cuts.{length_left}
+use Rattle.mgs_script.proofs.Feeds.{length_left}
 use Rattle.std.specs.Io.KnownBytes.{Appends}
 use Rattle.mgs_model.specs.World.{World}
-use Rattle.mgd.specs.Lines.{Said, said_in}
-use Rattle.mgd.specs.Lines as said
-use Rattle.mgd.specs.Scripts.{lines_of, line_in, behind_line, lines_behind}
+use Rattle.mgs_script.specs.Lines.{Said, said_in}
+use Rattle.mgs_script.specs.Lines as said
+use Rattle.mgs_script.specs.Scripts.{lines_of, line_in, behind_line, lines_behind}
 use Rattle.mgd.specs.Plays.{Stage, End, Whole, RefusedAt, LineDoes, LineRefused, Plays, MayPrint, Written, first_world, setting, begun}
 use Rattle.mgd.specs.Served.{IsOpening, Turned, PlaysOn, SetUp}
 use Rattle.mgd.specs.Faults.{end_at}
@@ -60,6 +60,7 @@ opens_does : (l : Option Said) (w : World) (t : Stage) (print : List ℕ) → Is
 opens_does None w t print is h = absurd is
 opens_does (Some said.Nothing) w t print is h = absurd is
 opens_does (Some (said.User name)) w t print is h = absurd is
+opens_does (Some (said.Group name members)) w t print is h = absurd is
 opens_does (Some (said.Buffer name owner)) w t print is h = absurd is
 opens_does (Some (said.Entry buffer entry)) w t print is h = absurd is
 opens_does (Some (said.Text buffer cs)) w t print is h = absurd is
@@ -72,6 +73,7 @@ opens_refused : (l : Option Said) (w : World) → IsOpening l → LineRefused l 
 opens_refused None w is h = absurd is
 opens_refused (Some said.Nothing) w is h = absurd is
 opens_refused (Some (said.User name)) w is h = absurd is
+opens_refused (Some (said.Group name members)) w is h = absurd is
 opens_refused (Some (said.Buffer name owner)) w is h = absurd is
 opens_refused (Some (said.Entry buffer entry)) w is h = absurd is
 opens_refused (Some (said.Text buffer cs)) w is h = absurd is

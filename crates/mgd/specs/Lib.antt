@@ -1,5 +1,3 @@
-pub mod Lines
-pub mod Scripts
 pub mod Reads
 pub mod Prints
 pub mod Seats

@@ -15,7 +15,7 @@ use Rattle.mgs_model.specs.declared.errors.Keyed.{Keyed}
 use Rattle.mgs_model.specs.declared.errors.Keyed.TheVariants as keyed
 use Rattle.mgs_model.specs.declared.errors.OpenFault.{OpenFault}
 use Rattle.mgs_acl.specs.Spelling.{entry_in}
-use Rattle.mgs_policy.specs.Directories.{user_fault, with_user}
+use Rattle.mgs_policy.specs.Directories.{user_fault, with_user, group_fault, with_group}
 use Rattle.mgs_buffers.specs.Kept.{kept_new}
 use Rattle.mgs_core.specs.Steps.{KeyedBy, OpenedBy}
 use Rattle.mgs_paint.specs.Painting.{shown}
@@ -23,9 +23,9 @@ use Rattle.mgd.specs.declared.seat.Cause.{Cause}
 use Rattle.mgd.specs.declared.seat.Cause.TheVariants as causes
 use Rattle.mgd.specs.declared.replay.ReplayFault.{ReplayFault}
 use Rattle.mgd.specs.declared.replay.ReplayFault.TheVariants as ends
-use Rattle.mgd.specs.Lines.{Said, Nothing, User, Buffer, Entry as Listing, Text, Open, Keys, Show, Close, said_in}
+use Rattle.mgs_script.specs.Lines.{Said, Nothing, User, Group, Buffer, Entry as Listing, Text, Open, Keys, Show, Close, said_in}
 use Rattle.mgd.specs.Prints.{refusal_text, ended_text, screen_text}
-use Rattle.mgd.specs.Scripts.{lines_of}
+use Rattle.mgs_script.specs.Scripts.{lines_of}
 
 -- LABELS
 
@@ -105,6 +105,7 @@ with_text cs b = record b { text = b.text ++ cs }
 abbrev pub setting_refused : World → Said → Bool
 setting_refused w Nothing = false
 setting_refused w (User name) = is_some (user_fault w.directory name)
+setting_refused w (Group name members) = is_some (group_fault w.directory name members)
 setting_refused w (Buffer name owner) = buffer_refused w name owner
 setting_refused w (Listing buffer entry) = entry_refused (find_buffer buffer w.buffers) (entry_in entry)
 setting_refused w (Text buffer cs) = text_refused (find_buffer buffer w.buffers) cs
@@ -117,6 +118,7 @@ setting_refused w (Close name) = true
 abbrev pub world_set : World → Said → World
 world_set w Nothing = w
 world_set w (User name) = record w { directory = with_user w.directory name }
+world_set w (Group name members) = record w { directory = with_group w.directory name members }
 world_set w (Buffer name owner) = record w { buffers = w.buffers ++ empty_buffer name owner ∷ [] }
 world_set w (Listing buffer entry) = record w { buffers = change_first (is_named buffer) (with_entry (entry_in entry)) w.buffers }
 world_set w (Text buffer cs) = record w { buffers = change_first (is_named buffer) (with_text cs) w.buffers }
@@ -143,10 +145,11 @@ begun w xs = record { world = w; labels = xs; begun = true }
 
 -- LINES
 
--- the line is refused: users and buffers after the first open, a label that was used, and one that had no session
+-- the line is refused: users, groups and buffers after the first open, a label that was used, and one that had no session
 abbrev pub is_refused : Stage → Said → Bool
 is_refused s Nothing = false
 is_refused s (User name) = s.begun || setting_refused s.world (User name)
+is_refused s (Group name members) = s.begun || setting_refused s.world (Group name members)
 is_refused s (Buffer name owner) = s.begun || setting_refused s.world (Buffer name owner)
 is_refused s (Listing buffer entry) = s.begun || setting_refused s.world (Listing buffer entry)
 is_refused s (Text buffer cs) = s.begun || setting_refused s.world (Text buffer cs)
@@ -198,6 +201,7 @@ Closes (Some id) s name t =
 abbrev pub Does : Stage → Said → Stage → List ℕ → Type 0
 Does s Nothing t print = (t ≡ s) × (print ≡ [])
 Does s (User name) t print = (t ≡ record s { world = world_set s.world (User name) }) × (print ≡ [])
+Does s (Group name members) t print = (t ≡ record s { world = world_set s.world (Group name members) }) × (print ≡ [])
 Does s (Buffer name owner) t print = (t ≡ record s { world = world_set s.world (Buffer name owner) }) × (print ≡ [])
 Does s (Listing buffer entry) t print = (t ≡ record s { world = world_set s.world (Listing buffer entry) }) × (print ≡ [])
 Does s (Text buffer cs) t print = (t ≡ record s { world = world_set s.world (Text buffer cs) }) × (print ≡ [])

@@ -10,8 +10,8 @@ use Rattle.mgd.specs.declared.seat.Labelled.{Labelled}
 use Rattle.mgd.specs.declared.seat.Seat.{Seat}
 use Rattle.mgd.specs.declared.seat.Seat.TheVariants.{Never, Open, Ended}
 use Rattle.mgd.specs.declared.seat.Cause.{Cause}
-use Rattle.mgd.specs.declared.line.LineFault.{LineFault}
-use Rattle.mgd.specs.declared.line.LineFault.TheVariants.{Bad, Short}
+use Rattle.mgs_script.specs.declared.line.LineFault.{LineFault}
+use Rattle.mgs_script.specs.declared.line.LineFault.TheVariants.{Bad, Short}
 use Rattle.mgd.specs.Prints.{screen_text, ended_text}
 
 abbrev pub is_labelled : List ℕ → Labelled → Bool

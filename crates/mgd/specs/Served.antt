@@ -16,15 +16,15 @@ use Rattle.mgd.specs.declared.seat.Seat.TheVariants as seats
 use Rattle.mgs_model.specs.declared.errors.Keyed.{Keyed}
 use Rattle.mgs_model.specs.declared.errors.Keyed.TheVariants as keyed
 use Rattle.mgd.specs.declared.seat.Cause.TheVariants as causes
-use Rattle.mgd.specs.declared.line.LineFault.{LineFault}
-use Rattle.mgd.specs.declared.line.LineFault.TheVariants as lines
+use Rattle.mgs_script.specs.declared.line.LineFault.{LineFault}
+use Rattle.mgs_script.specs.declared.line.LineFault.TheVariants as lines
 use Rattle.mgd.specs.declared.play.TurnFault.{TurnFault}
 use Rattle.mgd.specs.declared.play.TurnFault.TheVariants as turns
 use Rattle.mgd.specs.declared.replay.ReplayFault.{ReplayFault}
 use Rattle.mgd.specs.declared.replay.ReplayFault.TheVariants as ends
-use Rattle.mgd.specs.Lines.{Said, said_in}
-use Rattle.mgd.specs.Scripts.{lines_of, line_in}
-use Rattle.mgd.specs.Lines as said
+use Rattle.mgs_script.specs.Lines.{Said, said_in}
+use Rattle.mgs_script.specs.Scripts.{lines_of, line_in}
+use Rattle.mgs_script.specs.Lines as said
 use Rattle.mgd.specs.Seats.{ended_by}
 use Rattle.mgd.specs.Plays.{Label, label, Standing, Never, Has, Gone, Stage, begun, setting, is_refused, Does, LineDoes, LineRefused, Plays, End, Whole, RefusedAt}
 
@@ -152,6 +152,7 @@ abbrev pub IsOpening : Option Said → Type 0
 IsOpening None = ⊥
 IsOpening (Some said.Nothing) = ⊥
 IsOpening (Some (said.User name)) = ⊥
+IsOpening (Some (said.Group name members)) = ⊥
 IsOpening (Some (said.Buffer name owner)) = ⊥
 IsOpening (Some (said.Entry buffer entry)) = ⊥
 IsOpening (Some (said.Text buffer cs)) = ⊥

@@ -3,16 +3,15 @@ use Rattle.std.specs.Prelude.{◌≡◌, ℕ, ◌+◌, ◌<◌, ◌≤◌, Bool,
 use Rattle.mgs_model.specs.Names.{same_name, is_name, is_user_name}
 use Rattle.mgs_buffers.specs.declared.fault.AddFault.{AddFault}
 use Rattle.mgs_buffers.specs.declared.fault.AddFault.TheVariants as adds
-use Rattle.mgd.specs.Lines as said
 use Rattle.mgs_model.specs.Apply.{change_first}
 use Rattle.mgs_model.specs.World.{World, Buffer, is_named}
 use Rattle.mgs_model.specs.declared.entry.Entry.{Entry}
 use Rattle.mgs_buffers.specs.Kept.{Kept, kept_new}
-use Rattle.mgd.specs.declared.line.LineFault.{LineFault}
-use Rattle.mgd.specs.declared.line.LineFault.TheVariants.{Bad, Short}
+use Rattle.mgs_script.specs.declared.line.LineFault.{LineFault}
+use Rattle.mgs_script.specs.declared.line.LineFault.TheVariants.{Bad, Short}
 use Rattle.mgd.specs.declared.setup.Draft.{Draft}
 use Rattle.mgd.specs.declared.setup.Setup.{Setup}
-use Rattle.mgd.specs.Lines.{Said}
+use Rattle.mgs_script.specs.Lines.{Said}
 use Rattle.mgd.specs.Plays.{setting_refused, world_set}
 
 -- a line is refused exactly where there is a fault
@@ -84,18 +83,6 @@ pub record AreFit (bs : List Buffer) : Type 0 where
   pub each : All IsFit bs
   pub few : length bs ≤ 256
   pub new : AreNew (map buffer_name bs)
-
--- a line of a buffer has such names
-abbrev pub IsJudged : Said → Type 0
-IsJudged said.Nothing = Unit {0}
-IsJudged (said.User name) = Unit {0}
-IsJudged (said.Buffer name owner) = (is_name name && is_user_name owner) ≡ true
-IsJudged (said.Entry buffer entry) = Unit {0}
-IsJudged (said.Text buffer cs) = Unit {0}
-IsJudged (said.Open name user rows cols) = Unit {0}
-IsJudged (said.Keys name keys) = Unit {0}
-IsJudged (said.Show name) = Unit {0}
-IsJudged (said.Close name) = Unit {0}
 
 -- no fault but want of memory
 abbrev pub OnlyShort : {A : Type 0} → Result A AddFault → Type 0

@@ -1,19 +1,14 @@
 //! The editing server's program.
 #![tactic(auto)]
 
-mod kind;
-mod line;
 mod play;
 mod print;
 mod replay;
-mod script;
 mod seat;
 mod seats;
 mod setup;
 #[cfg(test)]
 mod tests;
-mod text;
-mod word;
 
 use crate::replay::{ReplayFault, replay};
 use std::env::{self, Env};

@@ -6,24 +6,23 @@ ghost use Rattle.mgs_term.specs.Screen.{blank_screen};
 ghost use Rattle.mgs_term.specs.Terminal.{resting};
 ghost use Rattle.mgd.specs.declared.seat.Seat.TheVariants as seated;
 ghost use Rattle.mgd.specs.Faults.{fault_of, end_at, short_or, IsCounted};
-ghost use Rattle.mgd.specs.Lines.{view, Open, Keys, Close, said_in};
+ghost use Rattle.mgs_script.specs.Lines.{view, Open, Keys, Close, said_in};
 ghost use Rattle.mgd.specs.Prints.{refusal_text};
-ghost use Rattle.mgd.specs.Scripts.{lines_of};
+ghost use Rattle.mgs_script.specs.Scripts.{lines_of};
 ghost use Rattle.mgd.specs.Seats.{Prints, seat_of, shown_text};
 ghost use Rattle.mgd.specs.Plays.{label as called, Has, begun, first_world, standing_of, session_now, had_session, TypesOne, Types, Closes, Written};
 ghost use Rattle.mgd.specs.Setups.{world_of, AreFit};
 ghost use Rattle.mgd.specs.Served.{labels_in, stage_of, seats_keyed, IsReady, IsWaiting, NotBad, Runs, RunsSaid, Turned, PlaysOn, SetsSaid, SetUp};
 
-use crate::line::{Line, LineFault, read_line};
 use crate::print::{print_ended, print_refusal, print_screen};
 use crate::replay::ReplayFault;
-use crate::script::cut_line;
 use crate::seat::{Cause, Seat};
 use crate::seats::Seats;
 use crate::setup::Setup;
 use mgs_engine::Engine;
 use mgs_marks::PlainMarked;
 use mgs_model::{Keyed, Name, OpenFault, SCRIPT_LIMIT, SessionId, Short};
+use mgs_script::{Line, LineFault, cut_line, read_line};
 use mgs_term::Term;
 use std::alloc::{AllocError, Global};
 use std::io::Write;
@@ -291,9 +290,11 @@ fn run_line(
         Line::Keys { label, keys } => keys_line(server, seats, label, keys),
         Line::Show { label } => show_line(seats, out, label),
         Line::Close { label } => close_line(server, seats, label),
-        Line::User { .. } | Line::Buffer { .. } | Line::Entry { .. } | Line::Text { .. } => {
-            Err(LineFault::Bad)
-        }
+        Line::User { .. }
+        | Line::Group { .. }
+        | Line::Buffer { .. }
+        | Line::Entry { .. }
+        | Line::Text { .. } => Err(LineFault::Bad),
     }
 }
 

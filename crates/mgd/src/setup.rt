@@ -2,13 +2,13 @@
 ghost use Rattle.std.specs.Prelude.{◌≡◌, ◌<◌, IfOk, IfSome, OnOk, OnErr, [], length, map, position, is_some};
 ghost use Rattle.mgs_acl.specs.Spelling.{entry_in};
 ghost use Rattle.mgs_model.specs.World.{find_buffer};
-ghost use Rattle.mgs_policy.specs.Directories.{user_fault, with_user};
-ghost use Rattle.mgd.specs.Lines.{view, Buffer};
+ghost use Rattle.mgs_policy.specs.Directories.{user_fault, with_user, group_fault, with_group};
+ghost use Rattle.mgs_script.specs.Lines.{view, Buffer};
+ghost use Rattle.mgd.specs.Faults.{fault_in};
 ghost use Rattle.mgd.specs.Plays.{first_world, buffer_refused, entry_refused, text_refused, with_entry, with_text};
 ghost use Rattle.mgd.specs.Setups.{IsRefused, Listed, Lengthened, Changes, Sets, kept_of, buffers_in, is_drafted, world_of, AreFit, OnlyShort};
 ghost use Rattle.mgs_engine.specs.Serving.{AllTaken};
 
-use crate::line::{Line, LineFault};
 use mgs_acl::{List, read_entry};
 use mgs_buffers::{AddFault, Buffers};
 use mgs_core::Core;
@@ -16,6 +16,7 @@ use mgs_engine::Engine;
 use mgs_marks::PlainMarked;
 use mgs_model::{BUFFER_LIMIT, Name, Short, TEXT_LIMIT};
 use mgs_policy::{Directory, DirectoryFault};
+use mgs_script::{Line, LineFault};
 use std::alloc::Global;
 
 /// A buffer that is still being written down.
@@ -130,6 +131,16 @@ fn buffers_of(alloc: Global, drafts: &[Draft]) -> Result<Buffers<PlainMarked>, S
     }
 }
 
+// A line that the directory refuses is refused.
+fn line_fault(fault: DirectoryFault) -> LineFault
+    ensures { result ≡ fault_in fault }
+{
+    match fault {
+        DirectoryFault::Short => LineFault::Short,
+        _ => LineFault::Bad,
+    }
+}
+
 impl<'a> Setup<'a> {
     /// No user and no buffer.
     pub fn new(alloc: Global) -> Self
@@ -148,11 +159,16 @@ impl<'a> Setup<'a> {
         ensures err { OnErr result (self.new.directory ≡ self.old.directory) }
         ensures drafts { self.new.drafts.items ≡ self.old.drafts.items }
     {
-        match self.directory.add_user(name) {
-            Ok(()) => Ok(()),
-            Err(DirectoryFault::Short) => Err(LineFault::Short),
-            Err(_) => Err(LineFault::Bad),
-        }
+        self.directory.add_user(name).map_err(line_fault)
+    }
+
+    fn add_group(&mut self, name: &str, members: &[&str]) -> Result<(), LineFault>
+        ensures answer { IsRefused result (group_fault self.old.directory name.now (map (λ member. member.now) members.now)) }
+        ensures ok { OnOk result (self.new.directory ≡ with_group self.old.directory name.now (map (λ member. member.now) members.now)) }
+        ensures err { OnErr result (self.new.directory ≡ self.old.directory) }
+        ensures drafts { self.new.drafts.items ≡ self.old.drafts.items }
+    {
+        self.directory.add_group(name, members).map_err(line_fault)
     }
 
     // A buffer's owner is a user, its name is new, and there are 256 at most.
@@ -190,6 +206,7 @@ impl<'a> Setup<'a> {
         match line {
             Line::Nothing => Ok(()),
             Line::User { name } => self.add_user(name),
+            Line::Group { name, members } => self.add_group(name, &members),
             Line::Buffer { name, owner } => self.add_buffer(name, owner),
             Line::Entry { buffer, entry } => entry_line(&mut self.drafts, &buffer, entry),
             Line::Text { buffer, text } => text_line(&mut self.drafts, &buffer, &text),

@@ -113,9 +113,9 @@ fn other_keys_are_not_bound(rt: HostRuntime) -> Result<(), Fail> {
         |Key not bound       |\n\
         cursor 1 1\n";
     for token in [
-        "C-a", "C-c", "C-d", "C-e", "C-g", "C-h", "C-i", "C-j", "C-k", "C-l", "C-n", "C-o", "C-p",
-        "C-q", "C-r", "C-s", "C-t", "C-u", "C-v", "C-w", "C-x", "C-y", "C-z", "C-SPC", "C-_",
-        "ESC", "DEL",
+        "C-a", "C-c", "C-d", "C-e", "C-g", "C-h", "C-j", "C-k", "C-l", "C-n", "C-o", "C-p", "C-q",
+        "C-r", "C-s", "C-t", "C-u", "C-v", "C-w", "C-x", "C-y", "C-z", "C-SPC", "C-_", "ESC",
+        "DEL",
     ] {
         let mut lines = String::from_str(rt.alloc(), "open a ann 6 20\nkeys a ")?;
         lines.push_str(token)?;
@@ -151,16 +151,84 @@ fn what_one_types_the_other_sees(rt: HostRuntime) -> Result<(), Fail> {
 #[test]
 fn who_may_not_read_appends(rt: HostRuntime) {
     let script =
-        b"user ann\nuser bob\nbuffer notes ann\nentry notes ALLOW bob at\ntext notes 'abc\nopen b bob 6 20\nkeys b 'x\nshow b";
-    let output = "screen b\n\
+        b"user ann\nuser bob\nbuffer notes ann\nentry notes ALLOW ann rwat\nentry notes ALLOW bob at\ntext notes 'abc\nopen a ann 6 20\nopen b bob 6 20\nkeys b 'x\nshow a\nshow b\nkeys b C-f\nshow b";
+    let output = "screen a\n\
+        |abcx                |\n\
+        |                    |\n\
+        |                    |\n\
+        |                    |\n\
+        !-**-notes-L1-C0-----!\n\
+        |                    |\n\
+        cursor 1 1\n\
+        screen b\n\
         |[no read: no entry] |\n\
         |                    |\n\
         |                    |\n\
         |                    |\n\
         !-**-notes-(no read)-!\n\
         |                    |\n\
+        cursor 1 1\n\
+        screen b\n\
+        |[no read: no entry] |\n\
+        |                    |\n\
+        |                    |\n\
+        |                    |\n\
+        !-**-notes-(no read)-!\n\
+        |Denied: no entry gr$|\n\
         cursor 1 1\n";
     gives(&rt, rt.alloc(), script, output, Ok(()));
+}
+
+#[test]
+fn denials_name_their_entry(rt: HostRuntime) {
+    let script =
+        b"user ann\nuser bob\nbuffer notes ann\nentry notes DENY bob r\nentry notes ALLOW bob at\nopen b bob 6 20\nkeys b C-f\nshow b";
+    let output = "screen b\n\
+        |[no read: entry 1]  |\n\
+        |                    |\n\
+        |                    |\n\
+        |                    |\n\
+        !----notes-(no read)-!\n\
+        |Denied: entry 1 den$|\n\
+        cursor 1 1\n";
+    gives(&rt, rt.alloc(), script, output, Ok(()));
+}
+
+#[test]
+fn groups_are_granted(rt: HostRuntime) {
+    let script =
+        b"user ann\nuser bob\nuser cat\ngroup staff ann bob\nbuffer notes ann\nentry notes ALLOW group:staff rt\ntext notes TAB 'abc\nopen b bob 6 20\nopen c cat 6 20\nshow b\nshow c";
+    let output = "screen b\n\
+        |        abc         |\n\
+        |                    |\n\
+        |                    |\n\
+        |                    |\n\
+        !----notes-L1-C0-----!\n\
+        |                    |\n\
+        cursor 1 1\n\
+        screen c\n\
+        |                    |\n\
+        |                    |\n\
+        |                    |\n\
+        |                    |\n\
+        !-None---------------!\n\
+        |                    |\n\
+        cursor 1 1\n";
+    gives(&rt, rt.alloc(), script, output, Ok(()));
+}
+
+#[test]
+fn tabs_insert_themselves(rt: HostRuntime) -> Result<(), Fail> {
+    let lines = "open a ann 6 20\nkeys a TAB 'x C-i\nshow a\n";
+    let output = "screen a\n\
+        |        x           |\n\
+        |                    |\n\
+        |                    |\n\
+        |                    |\n\
+        !-**-notes-L1-C16----!\n\
+        |                    |\n\
+        cursor 1 17\n";
+    plays(&rt, rt.alloc(), lines, output, Ok(()))
 }
 
 #[test]
@@ -240,14 +308,17 @@ fn lines_of_other_forms_are_refused(rt: HostRuntime) -> Result<(), Fail> {
         "user",
         "user ann",
         "user Ann",
-        "group all ann",
+        "group all",
+        "group All ann",
+        "group all ann eve",
+        "group all ann ",
         "buffer notes ann",
         "buffer more bob",
         "buffer more",
         "entry more ALLOW ann r",
         "entry notes ALLOW ann x",
         "text more 'a",
-        "text notes TAB",
+        "text notes Tab",
         "open a ann 06 20",
         "open a ann 6",
         "keys a 'x",
@@ -269,6 +340,7 @@ fn lines_behind_an_open_are_refused(rt: HostRuntime) -> Result<(), Fail> {
         "open a bob 6 20\nshow a",
         "open a bob 6 20\nclose a",
         "open a bob 6 20\nuser bob",
+        "open a bob 6 20\ngroup all ann",
         "open a bob 6 20\nbuffer more ann",
         "open a bob 6 20\nentry notes ALLOW ann r",
         "open a bob 6 20\ntext notes 'a",
@@ -285,7 +357,7 @@ fn sessions_are_closed(rt: HostRuntime) -> Result<(), Fail> {
     let lines = "open a ann 6 20\nclose a\nshow a\nkeys a 'x\nclose a\nshow a\n";
     let output = "ended a Closed\nended a Closed\n";
     plays(&rt, rt.alloc(), lines, output, Ok(()))?;
-    let lines = "open a ann 6 20\nclose a\nkeys a TAB\n";
+    let lines = "open a ann 6 20\nclose a\nkeys a Tab\n";
     plays(&rt, rt.alloc(), lines, "", Err(ReplayFault::Line(6)))?;
     let lines = "open a ann 6 20\nclose a\nopen a ann 6 20\n";
     plays(&rt, rt.alloc(), lines, "", Err(ReplayFault::Line(6)))

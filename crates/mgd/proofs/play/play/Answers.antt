@@ -1,5 +1,5 @@
 use Rattle.mgd.specs.Setups.{world_of}
-use Rattle.mgd.proofs.Feeds.{lines_cut}
+use Rattle.mgs_script.proofs.Feeds.{lines_cut}
 use Rattle.mgd.proofs.Standing.{played, played_none, played_fault}
 use Rattle.mgd.proofs.play.play.Goals as goal
 

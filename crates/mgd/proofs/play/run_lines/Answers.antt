@@ -1,6 +1,6 @@
 use Rattle.std.proofs.Common.{arith, []}
 use Rattle.mgd.specs.Plays.{begun}
-use Rattle.mgd.specs.Scripts.{lines_of}
+use Rattle.mgs_script.specs.Scripts.{lines_of}
 use Rattle.mgd.specs.Served.{stage_of}
 use Rattle.mgd.proofs.Standing.{lines_left, stands_next, stands_end, ends_on, left_cut, left_none, left_shorter}
 use Rattle.mgd.proofs.play.run_lines.Goals as goal

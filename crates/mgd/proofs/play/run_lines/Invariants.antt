@@ -1,8 +1,8 @@
 use Rattle.std.proofs.Common.{◌+◌, ◌≤◌, []}
-use Rattle.mgs_keys.proofs.Cuts.{length_left}
+use Rattle.mgs_script.proofs.Feeds.{length_left}
 use Rattle.mgd.specs.Plays.{begun}
 use Rattle.mgd.specs.Served.{IsReady, stage_of}
-use Rattle.mgd.specs.Scripts.{lines_of}
+use Rattle.mgs_script.specs.Scripts.{lines_of}
 use Rattle.mgd.proofs.Standing.{Stands, lines_left}
 use Rattle.mgd.proofs.play.run_lines.Given as goal
 

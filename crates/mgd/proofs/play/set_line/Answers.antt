@@ -1,5 +1,5 @@
 use Rattle.std.proofs.Common.{[], Option, sym, subst}
-use Rattle.mgd.specs.Lines.{Said, view}
+use Rattle.mgs_script.specs.Lines.{Said, view}
 use Rattle.mgd.specs.Plays.{LineDoes, setting}
 use Rattle.mgd.specs.Setups.{world_of}
 use Rattle.mgd.proofs.Fits.{set_does, line_fit}

@@ -1,7 +1,7 @@
 use Rattle.std.proofs.Common.{ℕ, ◌+◌, ◌≤◌, List}
-use Rattle.mgs_keys.proofs.Cuts.{length_left}
+use Rattle.mgs_script.proofs.Feeds.{length_left}
 use Rattle.mgd.specs.Plays.{Plays, End, setting}
-use Rattle.mgd.specs.Scripts.{lines_of}
+use Rattle.mgs_script.specs.Scripts.{lines_of}
 use Rattle.mgd.specs.Setups.{world_of, AreFit}
 use Rattle.mgd.proofs.Standing.{lines_left}
 use Rattle.mgd.proofs.play.set_up.Given as goal

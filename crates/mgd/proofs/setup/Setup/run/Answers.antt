@@ -1,7 +1,7 @@
 use Rattle.std.proofs.Common.{◌≡◌, List, length, sym, ap, subst, arith}
 use Rattle.std.specs.Vec.{with_items}
 use Rattle.std.proofs.lemmas.List.{with_items_is}
-use Rattle.mgd.specs.Lines as lines
+use Rattle.mgs_script.specs.Lines as lines
 use Rattle.mgd.specs.declared.setup.Draft.{Draft}
 use Rattle.mgd.specs.Setups.{world_of, buffers_in, Sets}
 use Rattle.mgd.proofs.Drafts.{sets_entry}

@@ -1,8 +1,8 @@
 use Rattle.std.proofs.Common.{◌≡◌, ◌+◌, ◌-◌, take, drop, length, arith}
 use Rattle.std.proofs.lemmas.Grind.{common_steps}
 use Rattle.mgs_model.specs.Lines.{is_feed}
-use Rattle.mgd.proofs.Feeds.{cut_some, cut_none}
-use Rattle.mgd.proofs.script.cut_line.Goals as goal
+use Rattle.mgs_script.proofs.Feeds.{cut_some, cut_none}
+use Rattle.mgs_script.proofs.cut.cut_line.Goals as goal
 
 pub returns-in-None-clause-lines : goal.returns-in-None-clause-lines
 returns-in-None-clause-lines c = cut_none is_feed c.args.script.now c.in-None.ensures.at

@@ -1,22 +1,23 @@
 -- What the lines of a script say.
-use Rattle.std.specs.Prelude.{◌≡◌, ℕ, ◌+◌, ◌-◌, ◌*◌, ◌==◌, nat_le, Bool, ◌&&◌, ◌||◌, not, is_some, List, [], ◌∷◌, length, codes, slice_index, Option, Some, None, Result, Ok, Err, if◌then◌else◌}
+use Rattle.std.specs.Prelude.{◌≡◌, ℕ, ◌+◌, ◌-◌, ◌*◌, ◌==◌, nat_le, Bool, true, ◌&&◌, ◌||◌, not, is_some, List, [], ◌∷◌, length, map, codes, slice_index, Option, Some, None, Result, Ok, Err, if◌then◌else◌}
 use Rattle.std.specs.Option.{option_map, option_and_then}
 use Rattle.std.specs.List.{list_all}
 use Rattle.std.specs.Str.{bytes_eq, is_utf8}
 use Rattle.mgs_model.specs.Names.{is_name, is_user_name}
 use Rattle.mgs_keys.specs.Words.{word_of, rest_of, words_of}
 use Rattle.mgs_keys.specs.Tokens.{keys_of, quoted_of, spelled_by}
-use Rattle.mgd.specs.declared.line.Line.{Line}
-use Rattle.mgd.specs.declared.line.Line.TheVariants as code
-use Rattle.mgd.specs.declared.line.LineFault.{LineFault}
-use Rattle.mgd.specs.declared.line.LineFault.TheVariants.{Bad, Short}
-use Rattle.mgd.specs.declared.kind.Kind.{Kind}
-use Rattle.mgd.specs.declared.kind.Kind.TheVariants as kinds
+use Rattle.mgs_script.specs.declared.line.Line.{Line}
+use Rattle.mgs_script.specs.declared.line.Line.TheVariants as code
+use Rattle.mgs_script.specs.declared.line.LineFault.{LineFault}
+use Rattle.mgs_script.specs.declared.line.LineFault.TheVariants.{Bad, Short}
+use Rattle.mgs_script.specs.declared.kind.Kind.{Kind}
+use Rattle.mgs_script.specs.declared.kind.Kind.TheVariants as kinds
 
 -- what a line says
 pub data Said : Type 0 where
   Nothing : Said
   User : (name : List ℕ) → Said
+  Group : (name : List ℕ) → (members : List (List ℕ)) → Said
   Buffer : (name owner : List ℕ) → Said
   Entry : (buffer entry : List ℕ) → Said
   Text : (buffer text : List ℕ) → Said
@@ -71,6 +72,7 @@ number_of w =
 unfoldable pub token_characters : List ℕ → Option (List ℕ)
 token_characters t =
     if bytes_eq t (codes "RET") then Some (10 ∷ [])
+    else if bytes_eq t (codes "TAB") then Some (9 ∷ [])
     else if bytes_eq t (codes "SPC") then Some (32 ∷ [])
     else quoted_of t
 
@@ -84,6 +86,7 @@ text_of t = spelled_by token_characters (words_of t)
 abbrev pub kind_named : List ℕ → Option Kind
 kind_named w =
     if bytes_eq w (codes "user") then Some kinds.User
+    else if bytes_eq w (codes "group") then Some kinds.Group
     else if bytes_eq w (codes "buffer") then Some kinds.Buffer
     else if bytes_eq w (codes "entry") then Some kinds.Entry
     else if bytes_eq w (codes "text") then Some kinds.Text
@@ -96,6 +99,10 @@ kind_named w =
 -- a user's name, whose form is judged where the user is added
 unfoldable pub user_said : List ℕ → Option Said
 user_said t = option_map User (only_word_of t)
+
+-- a group's name and those of its members, which are judged where the group is added
+unfoldable pub group_said : List ℕ → Option Said
+group_said t = option_map (λ rest. Group (word_of t) (words_of rest)) (rest_of t)
 
 -- a buffer's name and its owner's
 unfoldable pub buffer_said : List ℕ → Option Said
@@ -149,6 +156,7 @@ keys_said t = do
 -- what stands behind the first word, by what the word says
 abbrev pub said_as : Kind → List ℕ → Option Said
 said_as kinds.User t = user_said t
+said_as kinds.Group t = group_said t
 said_as kinds.Buffer t = buffer_said t
 said_as kinds.Entry t = entry_said t
 said_as kinds.Text t = text_said t
@@ -176,10 +184,24 @@ utf8_of t = if is_utf8 t then Some t else None
 abbrev pub said_in : List ℕ → Option Said
 said_in t = if is_passed_over t then Some Nothing else (utf8_of t >>= said_by_kind)
 
+-- the names of a line that adds a buffer are those of a buffer and of a user
+abbrev pub IsJudged : Said → Type 0
+IsJudged Nothing = Unit {0}
+IsJudged (User name) = Unit {0}
+IsJudged (Group name members) = Unit {0}
+IsJudged (Buffer name owner) = (is_name name && is_user_name owner) ≡ true
+IsJudged (Entry buffer entry) = Unit {0}
+IsJudged (Text buffer cs) = Unit {0}
+IsJudged (Open name user rows cols) = Unit {0}
+IsJudged (Keys name keys) = Unit {0}
+IsJudged (Show name) = Unit {0}
+IsJudged (Close name) = Unit {0}
+
 -- the line as the code holds it
 abbrev pub view : Line → Said
 view code.Nothing = Nothing
 view (code.User name) = User name.now
+view (code.Group name members) = Group name.now (map (λ m. m.now) members.items)
 view (code.Buffer name owner) = Buffer name.now owner.now
 view (code.Entry buffer entry) = Entry buffer entry.now
 view (code.Text buffer text) = Text buffer text.items

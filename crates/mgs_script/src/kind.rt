@@ -1,11 +1,12 @@
 // The kinds of a script's lines.
 ghost use Rattle.std.specs.Prelude.{◌≡◌};
-ghost use Rattle.mgd.specs.Lines.{kind_named};
+ghost use Rattle.mgs_script.specs.Lines.{kind_named};
 
 /// What a script's line begins with.
 #[derive(Clone, Copy, Debug, PartialEq, Eq)]
 pub enum Kind {
     User,
+    Group,
     Buffer,
     Entry,
     Text,
@@ -21,6 +22,8 @@ pub fn kind_of(word: &str) -> Option<Kind>
 {
     if word == "user" {
         Some(Kind::User)
+    } else if word == "group" {
+        Some(Kind::Group)
     } else if word == "buffer" {
         Some(Kind::Buffer)
     } else if word == "entry" {
@@ -47,6 +50,7 @@ mod tests {
     #[test]
     fn kinds_are_named(rt: HostRuntime) {
         assert_eq!(rt; kind_of("entry"), Some(Kind::Entry));
-        assert_eq!(rt; kind_of("group"), None);
+        assert_eq!(rt; kind_of("group"), Some(Kind::Group));
+        assert_eq!(rt; kind_of("groups"), None);
     }
 }

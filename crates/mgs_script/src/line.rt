@@ -1,13 +1,13 @@
 // What a script's line says.
 ghost use Rattle.std.specs.Prelude.{◌≡◌, Some};
 ghost use Rattle.std.specs.Option.{option_map};
-ghost use Rattle.mgd.specs.Lines.{view, user_said, buffer_said, entry_said, text_said, open_said, keys_said, said_by_kind, said_in, is_passed_over, utf8_of, GivesLine};
+ghost use Rattle.mgs_script.specs.Lines.{view, user_said, group_said, buffer_said, entry_said, text_said, open_said, keys_said, said_by_kind, said_in, is_passed_over, utf8_of, GivesLine};
 
 use crate::kind::{Kind, kind_of};
 use crate::text::read_text;
-use crate::word::{any_word, cut_text, name_in, only_word, owner_in, size};
+use crate::word::{any_word, cut_text, name_in, only_word, owner_in, size, words};
 use mgs_keys::{KeysFault, read_keys};
-use mgs_model::Name;
+use mgs_model::{Name, Short};
 use std::alloc::Global;
 use std::str;
 
@@ -19,6 +19,11 @@ pub enum Line<'a> {
     /// `user NAME`: a user. The form of the name is not judged here.
     User {
         name: &'a str,
+    },
+    /// `group NAME MEMBER ..`: a group of users. Neither the form of the names nor whether the members are users is judged here.
+    Group {
+        name: &'a str,
+        members: Vec<&'a str>,
     },
     /// `buffer NAME OWNER`: a buffer. Both are names.
     Buffer {
@@ -72,6 +77,20 @@ fn user_line(text: &str) -> Option<Line<'_>>
 {
     let name = only_word(text)?;
     Some(Line::User { name })
+}
+
+#[tactic(auto, unfolding(crate::specs::Lines::group_said))]
+fn group_line(alloc: Global, text: &str) -> Result<Line<'_>, LineFault>
+    ensures { GivesLine result (group_said text.now) }
+{
+    let (name, rest) = cut_text(text);
+    let Some(members) = rest else {
+        return Err(LineFault::Bad);
+    };
+    match words(alloc, members) {
+        Ok(members) => Ok(Line::Group { name, members }),
+        Err(Short) => Err(LineFault::Short),
+    }
 }
 
 #[tactic(auto, unfolding(crate::specs::Lines::buffer_said))]
@@ -155,6 +174,7 @@ fn line_by_kind(alloc: Global, text: &str) -> Result<Line<'_>, LineFault>
     };
     match kind {
         Kind::User => user_line(rest).ok_or(LineFault::Bad),
+        Kind::Group => group_line(alloc, rest),
         Kind::Buffer => buffer_line(rest).ok_or(LineFault::Bad),
         Kind::Entry => entry_line(rest).ok_or(LineFault::Bad),
         Kind::Text => text_line(alloc, rest),
@@ -213,6 +233,11 @@ mod tests {
         let alloc = rt.alloc();
         let notes = Name::read("notes").ok_or("no name")?;
         assert_eq!(rt; read_line(alloc, b"user ann")?, Line::User { name: "ann" });
+        let group = Line::Group {
+            name: "staff",
+            members: vec![in alloc; "ann", "bob"]?,
+        };
+        assert_eq!(rt; read_line(alloc, b"group staff ann bob")?, group);
         assert_eq!(rt;
             read_line(alloc, b"buffer notes ann")?,
             Line::Buffer {
@@ -282,15 +307,16 @@ mod tests {
             "show a b",
             "keys a",
             "keys a ",
-            "keys a TAB",
+            "keys a Tab",
             "text notes",
-            "text notes TAB",
+            "text notes Tab",
             "text notes '",
             "buffer notes",
             "buffer notes Ann",
             "user ann bob",
             "entry notes",
-            "group all ann",
+            "group",
+            "group all",
             "frob x",
             " ",
         ] {

@@ -1,7 +1,7 @@
 // Texts written as tokens.
 ghost use Rattle.std.specs.Prelude.{◌≡◌, Some, [], ◌∷◌};
 ghost use Rattle.mgs_keys.specs.Tokens.{PushesToken, GivesKeys};
-ghost use Rattle.mgd.specs.Lines.{token_characters, text_of};
+ghost use Rattle.mgs_script.specs.Lines.{token_characters, text_of};
 
 use mgs_keys::{KeysFault, cut, quoted};
 use std::alloc::Global;
@@ -32,6 +32,9 @@ fn push_token(text: &mut Vec<char>, token: &[u8]) -> Result<(), KeysFault>
     if token == b"RET".as_slice() {
         return push_character(text, '\n');
     }
+    if token == b"TAB".as_slice() {
+        return push_character(text, '\t');
+    }
     if token == b"SPC".as_slice() {
         return push_character(text, ' ');
     }
@@ -41,7 +44,7 @@ fn push_token(text: &mut Vec<char>, token: &[u8]) -> Result<(), KeysFault>
     }
 }
 
-/// The characters of a text that is written as tokens, parted by single spaces: `RET` (a line feed), `SPC` (a space) and
+/// The characters of a text that is written as tokens, parted by single spaces: `RET` (a line feed), `TAB`, `SPC` (a space) and
 /// `'chars` (one or more characters 0x21 to 0x7E).
 ///
 /// `BadToken` is answered where some word is no token, and `Short` for want of memory.
@@ -69,8 +72,8 @@ mod tests {
     #[test]
     fn texts_are_read(rt: HostRuntime) -> Result<(), Fail> {
         assert_eq!(rt;
-            read_text(rt.alloc(), "'a RET SPC")?.as_slice(),
-            ['a', '\n', ' '].as_slice()
+            read_text(rt.alloc(), "'a RET TAB SPC")?.as_slice(),
+            ['a', '\n', '\t', ' '].as_slice()
         );
         assert_eq!(rt; read_text(rt.alloc(), "'a  RET"), Err(KeysFault::BadToken));
         Ok(())

@@ -1,21 +1,39 @@
 // The words of a script's line.
-ghost use Rattle.std.specs.Prelude.{◌≡◌, ◌==◌, not};
+ghost use Rattle.std.specs.Prelude.{◌≡◌, ◌==◌, ◌<◌, not, length, map, IfOk, IfSome};
 ghost use Rattle.std.specs.Option.{option_map};
 ghost use Rattle.std.specs.List.{list_all};
-ghost use Rattle.mgs_keys.specs.Words.{word_of, rest_of};
-ghost use Rattle.mgd.specs.Lines.{name_of, owner_of, any_word_of, only_word_of, number_of, size_of, is_word};
+ghost use Rattle.mgs_keys.specs.Words.{word_of, rest_of, words_of};
+ghost use Rattle.mgs_script.specs.Lines.{name_of, owner_of, any_word_of, only_word_of, number_of, size_of, is_word};
 
-use mgs_model::Name;
+use mgs_model::{Name, Short};
+use std::alloc::Global;
 
 /// The first word of a text, and what stands behind the space after it, if there is one.
 pub fn cut_text(text: &str) -> (&str, Option<&str>)
     ensures word { result.0.now ≡ word_of text.now }
     ensures rest { option_map (λ x. x.now) result.1 ≡ rest_of text.now }
+    ensures shorter { IfSome result.1 (λ x. length x.now < length text.now) }
 {
     match text.split_once(' ') {
         None => (text, None),
         Some((word, rest)) => (word, Some(rest)),
     }
+}
+
+/// The words of a text, parted by single spaces.
+pub fn words(alloc: Global, text: &str) -> Result<Vec<&str>, Short>
+    ensures { IfOk result (λ words. map (λ word. word.now) words.items ≡ words_of text.now) }
+{
+    let mut words = Vec::new(alloc);
+    let mut left = Some(text);
+    while let Some(text) = left {
+        let (word, rest) = cut_text(text);
+        match words.push(word) {
+            Ok(()) => left = rest,
+            Err(_) => return Err(Short),
+        }
+    }
+    Ok(words)
 }
 
 /// The label or buffer's name that is written so, if it is one.

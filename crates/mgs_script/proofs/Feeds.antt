@@ -4,12 +4,13 @@ use Rattle.std.specs.Prelude.{position}
 use Rattle.std.specs.Option.{option_map}
 use Rattle.std.proofs.lemmas.List.{take_all}
 use Rattle.mgs_model.specs.Lines.{is_feed}
-use Rattle.mgd.specs.Scripts.{lines_of, line_in, behind_line, lines_behind}
+use Rattle.mgs_script.specs.Scripts.{lines_of, line_in, behind_line, lines_behind}
 use Rattle.std.specs.List.{slice_split, position_or_len}
 use Rattle.std.proofs.lemmas.Bool.{cases_lt}
 use Rattle.std.proofs.lemmas.List.Splits.{slice_split_first, slice_split_none}
 use Rattle.std.proofs.lemmas.List.Sums.{fails_before_first}
 use Rattle.mgs_keys.proofs.Cuts.{position_at, position_none}
+pub use Rattle.mgs_keys.proofs.Cuts.{length_left}
 
 -- where an element passes, the first part ends there
 pub cut_some : (p : ℕ → Bool) (t : List ℕ) (i : ℕ) → Some i ≡ position p t → slice_split p t ≡ take i t ∷ slice_split p (drop (i + 1) t)

@@ -2,7 +2,7 @@
 use Rattle.std.proofs.Common.{◌≡◌, ℕ, List, Some, None, Bool, true, false, cond, refl, ap}
 use Rattle.std.specs.Str.{IsUtf8, is_utf8}
 use Rattle.std.proofs.lemmas.Str.{IsUtf8-from_is_utf8, is_utf8-from_IsUtf8}
-use Rattle.mgd.specs.Lines.{utf8_of}
+use Rattle.mgs_script.specs.Lines.{utf8_of}
 
 pub utf8_of-text : (bs : List ℕ) → IsUtf8 bs → utf8_of bs ≡ Some bs
 utf8_of-text bs h = ap (λ (b : Bool). cond b (Some bs) None) (is_utf8-from_IsUtf8 bs h)

@@ -1,0 +1,4 @@
+pub mod Feeds
+pub mod Utf8
+pub mod Words
+pub mod Judged
