@@ -57,6 +57,20 @@ changed_draft name change xs i x y e is does =
     let at = placed (is_drafted name) xs i x e in
     written_first buffer_of (is_named name) change xs i x y (sym at.1 ∙ sym (position_or_len-map buffer_of (is_named name) xs)) at.0 is does
 
+-- nothing is changed
+kept_first : (p : Buffer → Bool) (bs : List Buffer) → change_first p (λ b. b) bs ≡ bs
+kept_first p [] = refl
+kept_first p (b ∷ bs) =
+    elim (p b) as (λ t. cond t (b ∷ bs) (b ∷ change_first p (λ x. x) bs) ≡ b ∷ bs) [
+      | true ↦ refl
+      | false ↦ ap (λ (xs : List Buffer). b ∷ xs) (kept_first p bs)
+    ]
+
+-- it stays as it was there
+same_draft : (name : List ℕ) (xs : List Draft) (i : ℕ) (x y : Draft) → Some i ≡ position (is_drafted name) xs → x ≡ get_or xs i x → buffer_of y ≡ buffer_of x
+    → buffers_in (set xs i y) ≡ buffers_in xs
+same_draft name xs i x y e is same = changed_draft name (λ b. b) xs i x y e is same ∙ kept_first (is_named name) (buffers_in xs)
+
 -- none is found
 no_draft : (name : List ℕ) (xs : List Draft) → None ≡ position (is_drafted name) xs → find_buffer name (buffers_in xs) ≡ None
 no_draft name xs e =
@@ -94,9 +108,9 @@ listed (Ok u) (Err f) name xs i x y at is h t n w = absurd h
 listed {F = F} (Err Bad) (Ok e) name xs i x y at is h t n w =
     let there : find_buffer name (buffers_in xs) ≡ Some (buffer_of x) = found_draft name xs i x at is in
     let full : nat_le 64 (length x.list) ≡ true = grind (arith, nat_tests) in
-    ap (λ o. entry_refused {F = F} o (Ok e)) there ∙ full
-listed {F = F} (Err Bad) (Err f) name xs i x y at is h t n w = ap (λ o. entry_refused {F = F} o (Err f)) (found_draft name xs i x at is)
-listed (Err Short) o name xs i x y at is h t n w = tt
+    (ap (λ o. entry_refused {F = F} o (Ok e)) there ∙ full, same_draft name xs i x y at is (cc (h.1)))
+listed {F = F} (Err Bad) (Err f) name xs i x y at is h t n w = (ap (λ o. entry_refused {F = F} o (Err f)) (found_draft name xs i x at is), same_draft name xs i x y at is (cc (h)))
+listed (Err Short) o name xs i x y at is h t n w = absurd h
 
 -- characters are put behind a draft's text
 pub lengthened : (r : Result (Unit {0}) LineFault) (cs : List ℕ) (name : List ℕ) (xs : List Draft) (i : ℕ) (x y : Draft)
@@ -110,15 +124,15 @@ lengthened (Ok u) cs name xs i x y at is h l n w =
 lengthened (Err Bad) cs name xs i x y at is h l n w =
     let there : find_buffer name (buffers_in xs) ≡ Some (buffer_of x) = found_draft name xs i x at is in
     let long : nat_lt 1048576 (length x.text.items + length cs) ≡ true = grind (arith, nat_tests) in
-    ap (λ o. text_refused o cs) there ∙ long
-lengthened (Err Short) cs name xs i x y at is h l n w = tt
+    (ap (λ o. text_refused o cs) there ∙ long, same_draft name xs i x y at is (cc (h.1)))
+lengthened (Err Short) cs name xs i x y at is h l n w = same_draft name xs i x y at is (cc (h))
 
 -- an entry's line
 pub sets_entry : (r : Result (Unit {0}) LineFault) (w : World) (name entry : List ℕ) (bs : List Buffer) → Changes r (entry_refused (find_buffer name w.buffers) (entry_in entry)) name (with_entry (entry_in entry)) w.buffers bs
     → Sets r (lines.Entry name entry) w (record w { buffers = bs })
 sets_entry (Ok u) w name entry bs h = (h.0, ap (λ (xs : List Buffer). record w { buffers = xs }) h.1)
-sets_entry (Err Bad) w name entry bs h = h
-sets_entry (Err Short) w name entry bs h = tt
+sets_entry (Err Bad) w name entry bs h = (h.0, ap (λ (xs : List Buffer). record w { buffers = xs }) h.1)
+sets_entry (Err Short) w name entry bs h = ap (λ (xs : List Buffer). record w { buffers = xs }) h
 
 -- a draft is put last
 pub pushed : (name owner : List ℕ) (ds new : List Draft) (d : Draft) → new ≡ ds ++ d ∷ [] → d.name.now ≡ name → d.owner.now ≡ owner → d.list ≡ [] → d.text.items ≡ [] → buffers_in new ≡ buffers_in ds ++ empty_buffer name owner ∷ []

@@ -1,6 +1,6 @@
 -- Buffers that are written down can be kept: no fault but want of memory is left.
 use Rattle.std.proofs.Common.{◌≡◌, ℕ, zero, suc, ◌+◌, ◌<◌, ◌≤◌, not, Bool, true, false, cond, List, [], ◌∷◌, ◌++◌, length, get_or, take, map, Option, Some, None, Result, Ok, Err, refl, sym, ap, subst, ◌∙◌, arith, length-append}
-use Rattle.std.specs.Prelude.{◌&&◌, ◌||◌, find, All, IfSome, is_some, nat_le, nat_lt, if◌then◌else◌}
+use Rattle.std.specs.Prelude.{◌&&◌, ◌||◌, find, All, is_some, nat_le, nat_lt, if◌then◌else◌}
 use Rattle.std.specs.Option.{option_map}
 use Rattle.std.proofs.lemmas.Bool.Decides.{nat_tests}
 use Rattle.std.proofs.lemmas.List.{map-append, length-map, length-take-le}
@@ -10,18 +10,17 @@ use Rattle.mgs_model.specs.Apply.{change_first}
 use Rattle.mgs_model.specs.Names.{same_name, is_name, is_user_name}
 use Rattle.mgs_model.specs.World.{World, Buffer, is_named, find_buffer}
 use Rattle.mgs_model.specs.declared.entry.Entry.{Entry}
-use Rattle.mgs_model.specs.declared.errors.OpenFault.{OpenFault}
-use Rattle.mgs_acl.specs.Spelling.{entry_in}
 use Rattle.mgs_buffers.specs.Kept.{kept_named, is_kept}
 use Rattle.mgs_buffers.specs.Adding.{add_fault, Answers}
 use Rattle.mgs_buffers.specs.declared.fault.AddFault.{AddFault}
 use Rattle.mgs_buffers.specs.declared.fault.AddFault.TheVariants as adds
 use Rattle.mgd.specs.declared.setup.Draft.{Draft}
-use Rattle.mgs_script.specs.Lines.{Said, IsJudged, said_in}
+use Rattle.mgs_script.specs.Lines.{Said}
 use Rattle.mgs_script.specs.Lines as said
-use Rattle.mgd.specs.Plays.{Stage, Opens, setting, setting_refused, world_set, LineDoes, text_refused, with_entry, with_text, empty_buffer}
-use Rattle.mgd.specs.Setups.{Sets, kept_of, buffer_of, buffers_in, buffer_name, IsFit, AreNew, AreFit, OnlyShort}
-use Rattle.mgs_script.proofs.Judged.{judged_in}
+use Rattle.mgd.specs.Plays.{setting, LineDoes, are_names, buffer_refused, entry_refused, text_refused, with_entry, with_text, empty_buffer}
+use Rattle.mgd.specs.Setups.{Sets, Changes, kept_of, buffer_of, buffers_in, buffer_name, IsFit, AreNew, AreFit, OnlyShort}
+use Rattle.mgs_script.specs.declared.line.LineFault.{LineFault}
+use Rattle.mgs_script.specs.declared.line.LineFault.TheVariants.{Bad, Short}
 use Rattle.mgd.proofs.Events.{All-unmap}
 
 -- CHANGES KEEP IT
@@ -91,6 +90,10 @@ or_false : (a b : Bool) → (a || b) ≡ false → (a ≡ false) × (b ≡ false
 or_false true b h = absurd cc
 or_false false b h = (refl, h)
 
+names_are : (b : Bool) → not b ≡ false → b ≡ true
+names_are true h = refl
+names_are false h = absurd cc
+
 none_is : {A : Type 0} (o : Option A) → is_some o ≡ false → o ≡ None
 none_is None h = refl
 none_is (Some x) h = absurd cc
@@ -108,7 +111,7 @@ fit_pushed n o bs judged free h =
       new = subst AreNew (sym (map-append buffer_name bs (b ∷ []))) (new_pushed n (map buffer_name bs) unused h.new);
     }
 
--- A LINE
+-- LINES
 
 text_room : (n cs : List ℕ) (bs : List Buffer) (b : Buffer) → text_refused (find_buffer n bs) cs ≡ false → find_buffer n bs ≡ Some b → length (b.text ++ cs) ≤ 1048576
 text_room n cs bs b h e =
@@ -116,39 +119,24 @@ text_room n cs bs b h e =
     let le : length b.text + length cs ≤ 1048576 = grind (arith, nat_tests) in
     omega (arith, le, length-append b.text cs)
 
-set_fit : (w : World) (l : Said) → IsJudged l → setting_refused w l ≡ false → AreFit w.buffers → AreFit (world_set w l).buffers
-set_fit w said.Nothing j r h = h
-set_fit w (said.User name) j r h = h
-set_fit w (said.Group name members) j r h = h
-set_fit w (said.Buffer name owner) j r h = fit_pushed name owner w.buffers j (or_false _ _ r).1 h
-set_fit w (said.Entry buffer entry) j r h =
-    fit_changed buffer (with_entry (entry_in entry)) w.buffers (entry_name (entry_in entry)) (entry_owner (entry_in entry))
-    (λ b e k. subst (λ (t : List ℕ). length t ≤ 1048576) (sym (entry_text (entry_in entry) b)) k) h
-set_fit w (said.Text buffer cs) j r h = fit_changed buffer (with_text cs) w.buffers (λ b. refl) (λ b. refl) (λ b e k. text_room buffer cs w.buffers b r e) h
-set_fit w (said.Open name user rows cols) j r h = h
-set_fit w (said.Keys name keys) j r h = h
-set_fit w (said.Show name) j r h = h
-set_fit w (said.Close name) j r h = h
+-- the buffers behind an entry's line
+pub entry_fits : {F : Type 0} (r : Result (Unit {0}) LineFault) (o : Result Entry F) (n : List ℕ) (bs new : List Buffer) → Changes r (entry_refused (find_buffer n bs) o) n (with_entry o) bs new → AreFit bs → AreFit new
+entry_fits (Ok u) o n bs new h fit =
+    subst AreFit (sym h.1) (fit_changed n (with_entry o) bs (entry_name o) (entry_owner o) (λ b e k. subst (λ (t : List ℕ). length t ≤ 1048576) (sym (entry_text o b)) k) fit)
+entry_fits (Err Bad) o n bs new h fit = subst AreFit (sym h.1) fit
+entry_fits (Err Short) o n bs new h fit = subst AreFit (sym h) fit
 
-world_is : (v w : World) → setting v ≡ setting w → AreFit w.buffers → AreFit v.buffers
-world_is v w e h = subst (λ (s : Stage). AreFit s.world.buffers) (sym e) h
+-- and behind a text's
+pub text_fits : (r : Result (Unit {0}) LineFault) (n cs : List ℕ) (bs new : List Buffer) → Changes r (text_refused (find_buffer n bs) cs) n (with_text cs) bs new → AreFit bs → AreFit new
+text_fits (Ok u) n cs bs new h fit = subst AreFit (sym h.1) (fit_changed n (with_text cs) bs (λ b. refl) (λ b. refl) (λ b e k. text_room n cs bs b h.0 e) fit)
+text_fits (Err Bad) n cs bs new h fit = subst AreFit (sym h.1) fit
+text_fits (Err Short) n cs bs new h fit = subst AreFit (sym h) fit
 
-no_open : (w v : World) (name user : List ℕ) (rows cols : ℕ) (answer : Result ℕ OpenFault) → Opens (setting w) name user rows cols answer (setting v) [] → ⊥
-no_open w v name user rows cols (Ok id) h = let e : false ≡ true = ap (λ (s : Stage). s.begun) h.1 in absurd cc
-no_open w v name user rows cols (Err f) h = let e : false ≡ true = ap (λ (s : Stage). s.begun) h.1 in absurd cc
-
-does_fit : (w v : World) (l : Option Said) → IfSome l IsJudged → LineDoes l (setting w) (setting v) [] → AreFit w.buffers → AreFit v.buffers
-does_fit w v None j d h = absurd d
-does_fit w v (Some said.Nothing) j d h = world_is v w d.1.0 h
-does_fit w v (Some (said.User name)) j d h = world_is v (world_set w (said.User name)) d.1.0 (set_fit w (said.User name) j d.0 h)
-does_fit w v (Some (said.Group name members)) j d h = world_is v (world_set w (said.Group name members)) d.1.0 (set_fit w (said.Group name members) j d.0 h)
-does_fit w v (Some (said.Buffer name owner)) j d h = world_is v (world_set w (said.Buffer name owner)) d.1.0 (set_fit w (said.Buffer name owner) j d.0 h)
-does_fit w v (Some (said.Entry buffer entry)) j d h = world_is v (world_set w (said.Entry buffer entry)) d.1.0 (set_fit w (said.Entry buffer entry) j d.0 h)
-does_fit w v (Some (said.Text buffer cs)) j d h = world_is v (world_set w (said.Text buffer cs)) d.1.0 (set_fit w (said.Text buffer cs) j d.0 h)
-does_fit w v (Some (said.Open name user rows cols)) j d h = absurd (no_open w v name user rows cols d.1.0 d.1.1)
-does_fit w v (Some (said.Keys name keys)) j d h = let e : true ≡ false = d.0 in absurd cc
-does_fit w v (Some (said.Show name)) j d h = let e : true ≡ false = d.0 in absurd cc
-does_fit w v (Some (said.Close name)) j d h = let e : true ≡ false = d.0 in absurd cc
+-- and behind a buffer's
+pub buffer_fits : (w : World) (n o : List ℕ) → buffer_refused w n o ≡ false → AreFit w.buffers → AreFit (w.buffers ++ empty_buffer n o ∷ [])
+buffer_fits w n o h fit =
+    let parts = or_false (not (are_names n o)) _ h in
+    fit_pushed n o w.buffers (names_are (are_names n o) parts.0) (or_false _ _ parts.1).1 fit
 
 -- a line that was set does what it says
 pub set_does : (w v : World) (l : Said) → Sets (Ok tt) l w v → LineDoes (Some l) (setting w) (setting v) []
@@ -163,10 +151,7 @@ set_does w v (said.Keys name keys) h = let e : true ≡ false = h.0 in absurd cc
 set_does w v (said.Show name) h = let e : true ≡ false = h.0 in absurd cc
 set_does w v (said.Close name) h = let e : true ≡ false = h.0 in absurd cc
 
--- a line before the first open leaves buffers that can be kept
-pub line_fit : (w v : World) (t : List ℕ) → LineDoes (said_in t) (setting w) (setting v) [] → AreFit w.buffers → AreFit v.buffers
-line_fit w v t d h = does_fit w v (said_in t) (judged_in t) d h
-
+-- no buffer
 pub none_fit : AreFit []
 none_fit = record { each = All-nil IsFit; few = omega arith; new = tt }
 

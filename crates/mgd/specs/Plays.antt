@@ -1,8 +1,8 @@
 -- What a script writes: its lines one after another, over the model's world.
-use Rattle.std.specs.Prelude.{◌≡◌, ℕ, ◌+◌, ◌++◌, ◌⊎◌, nat_le, nat_lt, Bool, true, false, ◌||◌, not, length, List, [], ◌∷◌, map, find, Option, Some, None, is_some, Result, Ok, Err, if◌then◌else◌}
+use Rattle.std.specs.Prelude.{◌≡◌, ℕ, ◌+◌, ◌++◌, ◌⊎◌, nat_le, nat_lt, Bool, true, false, ◌&&◌, ◌||◌, not, length, List, [], ◌∷◌, map, find, Option, Some, None, is_some, Result, Ok, Err, if◌then◌else◌}
 use Rattle.std.specs.Option.{option_map}
 use Rattle.std.specs.Io.KnownBytes.{Appends}
-use Rattle.mgs_model.specs.Names.{same_name}
+use Rattle.mgs_model.specs.Names.{same_name, is_name, is_user_name}
 use Rattle.mgs_model.specs.Access.{Directory}
 use Rattle.mgs_model.specs.Apply.{change_first}
 use Rattle.mgs_model.specs.World.{World, Session, find_session, find_buffer, is_named}
@@ -76,9 +76,13 @@ first_world = record { directory = record { users = []; groups = [] }; buffers =
 abbrev pub is_user : List ℕ → Directory → Bool
 is_user name directory = is_some (find (same_name name) directory.users)
 
--- a buffer is refused to an owner who is no user, and where there is one of its name or there are 256
+-- a buffer's name and a user's
+abbrev pub are_names : List ℕ → List ℕ → Bool
+are_names name owner = is_name name && is_user_name owner
+
+-- a buffer is refused where the names are none, to an owner who is no user, and where there is one of its name or there are 256
 abbrev pub buffer_refused : World → List ℕ → List ℕ → Bool
-buffer_refused w name owner = not (is_user owner w.directory) || (is_some (find_buffer name w.buffers) || nat_le 256 (length w.buffers))
+buffer_refused w name owner = not (are_names name owner) || (not (is_user owner w.directory) || (is_some (find_buffer name w.buffers) || nat_le 256 (length w.buffers)))
 
 -- an entry is refused where there is no such buffer, where it is none, and behind 64 of them
 abbrev pub entry_refused : {F : Type 0} → Option model.Buffer → Result Entry F → Bool

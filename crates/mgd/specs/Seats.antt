@@ -25,13 +25,6 @@ seat_of label xs = option_map (λ (x : Labelled). x.seat) (find (is_labelled lab
 abbrev pub ended_by : List ℕ → Cause → Labelled → Labelled
 ended_by label cause x = if is_labelled label x then record { label = x.label; seat = Ended cause } else x
 
--- the open session of a label, or none where it ended; a label without a session is refused
-abbrev pub session_in : Option Seat → Result (Option ℕ) LineFault
-session_in None = Err Bad
-session_in (Some Never) = Err Bad
-session_in (Some (Open id term)) = Ok (Some id)
-session_in (Some (Ended cause)) = Ok None
-
 -- what a `show` line prints; none where it is refused
 abbrev pub shown_text : List ℕ → Option Seat → Option (List ℕ)
 shown_text label None = None

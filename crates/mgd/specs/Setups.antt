@@ -1,8 +1,9 @@
 -- What the lines before the first session do.
-use Rattle.std.specs.Prelude.{◌≡◌, ℕ, ◌+◌, ◌<◌, ◌≤◌, Bool, true, false, ◌&&◌, List, [], ◌∷◌, ◌++◌, length, map, All, Option, None, IsSome, Result, Ok, Err}
+use Rattle.std.specs.Prelude.{◌≡◌, ℕ, ◌+◌, ◌<◌, ◌≤◌, Bool, true, false, ◌&&◌, List, [], ◌∷◌, ◌++◌, length, map, All, Result, Ok, Err}
 use Rattle.mgs_model.specs.Names.{same_name, is_name, is_user_name}
 use Rattle.mgs_buffers.specs.declared.fault.AddFault.{AddFault}
 use Rattle.mgs_buffers.specs.declared.fault.AddFault.TheVariants as adds
+use Rattle.mgs_model.specs.Access.{Directory}
 use Rattle.mgs_model.specs.Apply.{change_first}
 use Rattle.mgs_model.specs.World.{World, Buffer, is_named}
 use Rattle.mgs_model.specs.declared.entry.Entry.{Entry}
@@ -10,15 +11,8 @@ use Rattle.mgs_buffers.specs.Kept.{Kept, kept_new}
 use Rattle.mgs_script.specs.declared.line.LineFault.{LineFault}
 use Rattle.mgs_script.specs.declared.line.LineFault.TheVariants.{Bad, Short}
 use Rattle.mgd.specs.declared.setup.Draft.{Draft}
-use Rattle.mgd.specs.declared.setup.Setup.{Setup}
 use Rattle.mgs_script.specs.Lines.{Said}
 use Rattle.mgd.specs.Plays.{setting_refused, world_set}
-
--- a line is refused exactly where there is a fault
-abbrev pub IsRefused : {F : Type 0} → Result (Unit {0}) LineFault → Option F → Type 0
-IsRefused (Ok done) fault = fault ≡ None
-IsRefused (Err Bad) fault = IsSome fault
-IsRefused (Err Short) fault = fault ≡ None
 
 -- an entry is put last; what is none is refused, and so is a 65th
 abbrev pub Listed : {F : Type 0} → Result (Unit {0}) LineFault → List Entry → List Entry → Result Entry F → Type 0
@@ -47,21 +41,21 @@ buffers_in ds = map buffer_of ds
 abbrev pub is_drafted : List ℕ → Draft → Bool
 is_drafted name d = is_named name (buffer_of d)
 
--- the world that was set so far
-abbrev pub world_of : Setup → World
-world_of s = record { directory = s.directory; buffers = buffers_in s.drafts.items; sessions = []; next_id = 1 }
+-- the world of a directory and buffers, without sessions
+abbrev pub world_of : Directory → List Buffer → World
+world_of directory buffers = record { directory = directory; buffers = buffers; sessions = []; next_id = 1 }
 
--- the buffer of that name is changed, or the line is refused
+-- the buffer of that name is changed; where the line is refused, or memory is, all is as it was
 abbrev pub Changes : Result (Unit {0}) LineFault → Bool → List ℕ → (Buffer → Buffer) → List Buffer → List Buffer → Type 0
 Changes (Ok done) refused name change old new = (refused ≡ false) × (new ≡ change_first (is_named name) change old)
-Changes (Err Bad) refused name change old new = refused ≡ true
-Changes (Err Short) refused name change old new = Unit {0}
+Changes (Err Bad) refused name change old new = (refused ≡ true) × (new ≡ old)
+Changes (Err Short) refused name change old new = new ≡ old
 
--- a line before the first open: it does what it says, or is refused
+-- a line before the first open: it does what it says; where it is refused, or memory is, all is as it was
 abbrev pub Sets : Result (Unit {0}) LineFault → Said → World → World → Type 0
 Sets (Ok done) said old new = (setting_refused old said ≡ false) × (new ≡ world_set old said)
-Sets (Err Bad) said old new = setting_refused old said ≡ true
-Sets (Err Short) said old new = Unit {0}
+Sets (Err Bad) said old new = (setting_refused old said ≡ true) × (new ≡ old)
+Sets (Err Short) said old new = new ≡ old
 
 -- BUFFERS THAT CAN BE KEPT
 

@@ -11,7 +11,6 @@ ghost use Rattle.mgd.specs.Prints.{refusal_text};
 ghost use Rattle.mgs_script.specs.Scripts.{lines_of};
 ghost use Rattle.mgd.specs.Seats.{Prints, seat_of, shown_text};
 ghost use Rattle.mgd.specs.Plays.{label as called, Has, begun, first_world, standing_of, session_now, had_session, TypesOne, Types, Closes, Written};
-ghost use Rattle.mgd.specs.Setups.{world_of, AreFit};
 ghost use Rattle.mgd.specs.Served.{labels_in, stage_of, seats_keyed, IsReady, IsWaiting, NotBad, Runs, RunsSaid, Turned, PlaysOn, SetsSaid, SetUp};
 
 use crate::print::{print_ended, print_refusal, print_screen};
@@ -372,9 +371,7 @@ fn run_lines<W: Write>(
 
 // A line before the first `open`. False: it is that one, and not run.
 fn set_line<'a>(alloc: Global, setup: &mut Setup<'a>, line: &'a [u8]) -> Result<bool, LineFault>
-    requires { AreFit (world_of setup.old).buffers }
-    ensures fit { OnOk result (AreFit (world_of setup.new).buffers) }
-    ensures sets { SetsSaid result (said_in line.now) (world_of setup.old) (world_of setup.new) }
+    ensures { SetsSaid result (said_in line.now) setup.old setup.new }
 {
     match read_line(alloc, line) {
         Ok(Line::Open { .. }) => Ok(false),
@@ -392,13 +389,11 @@ fn set_up<'a>(
     setup: &mut Setup<'a>,
     script: &'a [u8],
 ) -> Result<Option<(usize, &'a [u8])>, ReplayFault>
-    requires short { length script.now ≤ SCRIPT_LIMIT }
-    requires fit { AreFit (world_of setup.old).buffers }
+    requires { length script.now ≤ SCRIPT_LIMIT }
     ensures line { IsCounted result }
-    ensures fit { OnOk result (AreFit (world_of setup.new).buffers) }
     ensures first { IfOk result (λ o. IfSome o (λ p. 1 ≤ p.0)) }
     ensures counted { IfOk result (λ o. IfSome o (λ p. p.0 + length p.1.now ≤ SCRIPT_LIMIT + 1)) }
-    ensures sets { SetUp (λ x. x.now) result (world_of setup.old) script.now (world_of setup.new) }
+    ensures sets { SetUp (λ x. x.now) result setup.old script.now setup.new }
 {
     let mut rest = Some(script);
     let mut number = 1usize;

@@ -1,15 +1,14 @@
-// The users and buffers of a script, before its first session.
+// The users, groups and buffers of a script, before its first session.
 ghost use Rattle.std.specs.Prelude.{◌≡◌, ◌<◌, IfOk, IfSome, OnOk, OnErr, [], length, map, position, is_some};
 ghost use Rattle.mgs_acl.specs.Spelling.{entry_in};
 ghost use Rattle.mgs_model.specs.World.{find_buffer};
-ghost use Rattle.mgs_policy.specs.Directories.{user_fault, with_user, group_fault, with_group};
-ghost use Rattle.mgs_script.specs.Lines.{view, Buffer};
+ghost use Rattle.mgs_script.specs.Lines.{view, User, Group, Buffer};
 ghost use Rattle.mgd.specs.Faults.{fault_in};
-ghost use Rattle.mgd.specs.Plays.{first_world, buffer_refused, entry_refused, text_refused, with_entry, with_text};
-ghost use Rattle.mgd.specs.Setups.{IsRefused, Listed, Lengthened, Changes, Sets, kept_of, buffers_in, is_drafted, world_of, AreFit, OnlyShort};
+ghost use Rattle.mgd.specs.Plays.{first_world, are_names, buffer_refused, entry_refused, text_refused, with_entry, with_text};
+ghost use Rattle.mgd.specs.Setups.{Listed, Lengthened, Changes, Sets, kept_of, buffers_in, is_drafted, AreFit, OnlyShort};
 ghost use Rattle.mgs_engine.specs.Serving.{AllTaken};
 
-use mgs_acl::{List, read_entry};
+use mgs_acl::{List, read_entry, user_named};
 use mgs_buffers::{AddFault, Buffers};
 use mgs_core::Core;
 use mgs_engine::Engine;
@@ -18,6 +17,7 @@ use mgs_model::{BUFFER_LIMIT, Name, Short, TEXT_LIMIT};
 use mgs_policy::{Directory, DirectoryFault};
 use mgs_script::{Line, LineFault};
 use std::alloc::Global;
+use std::marker::Model;
 
 /// A buffer that is still being written down.
 #[derive(Drop)]
@@ -28,12 +28,24 @@ struct Draft<'a> {
     text: Vec<char>,
 }
 
-/// The users and buffers so far.
+/// The users, groups and buffers so far. All of these can be kept by a server.
 #[derive(Drop)]
 pub struct Setup<'a> {
     alloc: Global,
     directory: Directory,
     drafts: Vec<Draft<'a>>,
+}
+
+impl<'a> Model for Setup<'a> {
+    ghost use Rattle.mgs_model.specs.World.{World};
+
+    ghost Value = { World };
+
+    ghost use Rattle.mgd.specs.Setups.{world_of, buffers_in, AreFit};
+
+    ghost view = { λ s. world_of s.directory (buffers_in s.drafts.items) };
+
+    ghost invariant = { λ s. AreFit (buffers_in s.drafts.items) };
 }
 
 // Puts an entry last in the list.
@@ -131,6 +143,16 @@ fn buffers_of(alloc: Global, drafts: &[Draft]) -> Result<Buffers<PlainMarked>, S
     }
 }
 
+// Whether a buffer and its owner may be called so.
+fn are_names(name: &str, owner: &str) -> bool
+    ensures { result ≡ are_names name.now owner.now }
+{
+    match (Name::read(name), user_named(owner)) {
+        (Some(_), Some(_)) => true,
+        _ => false,
+    }
+}
+
 // A line that the directory refuses is refused.
 fn line_fault(fault: DirectoryFault) -> LineFault
     ensures { result ≡ fault_in fault }
@@ -142,9 +164,9 @@ fn line_fault(fault: DirectoryFault) -> LineFault
 }
 
 impl<'a> Setup<'a> {
-    /// No user and no buffer.
+    /// No user, no group and no buffer.
     pub fn new(alloc: Global) -> Self
-        ensures { world_of result ≡ first_world }
+        ensures { result ≡ first_world }
     {
         Setup {
             alloc,
@@ -154,34 +176,29 @@ impl<'a> Setup<'a> {
     }
 
     fn add_user(&mut self, name: &str) -> Result<(), LineFault>
-        ensures answer { IsRefused result (user_fault self.old.directory name.now) }
-        ensures ok { OnOk result (self.new.directory ≡ with_user self.old.directory name.now) }
-        ensures err { OnErr result (self.new.directory ≡ self.old.directory) }
-        ensures drafts { self.new.drafts.items ≡ self.old.drafts.items }
+        ensures { Sets result (User name.now) self.old self.new }
     {
         self.directory.add_user(name).map_err(line_fault)
     }
 
     fn add_group(&mut self, name: &str, members: &[&str]) -> Result<(), LineFault>
-        ensures answer { IsRefused result (group_fault self.old.directory name.now (map (λ member. member.now) members.now)) }
-        ensures ok { OnOk result (self.new.directory ≡ with_group self.old.directory name.now (map (λ member. member.now) members.now)) }
-        ensures err { OnErr result (self.new.directory ≡ self.old.directory) }
-        ensures drafts { self.new.drafts.items ≡ self.old.drafts.items }
+        ensures { Sets result (Group name.now (map (λ member. member.now) members.now)) self.old self.new }
     {
         self.directory.add_group(name, members).map_err(line_fault)
     }
 
     // A buffer's owner is a user, its name is new, and there are 256 at most.
     fn refuses(&self, name: &str, owner: &str) -> bool
-        ensures { result ≡ buffer_refused (world_of self.now) name.now owner.now }
+        ensures { result ≡ buffer_refused self.now name.now owner.now }
     {
-        self.directory.user(owner).is_none()
+        !are_names(name, owner)
+            || self.directory.user(owner).is_none()
             || has_draft(&self.drafts, name.as_bytes())
             || self.drafts.len() >= BUFFER_LIMIT
     }
 
     fn add_buffer(&mut self, name: &'a str, owner: &'a str) -> Result<(), LineFault>
-        ensures { Sets result (Buffer name.now owner.now) (world_of self.old) (world_of self.new) }
+        ensures { Sets result (Buffer name.now owner.now) self.old self.new }
     {
         if self.refuses(name, owner) {
             return Err(LineFault::Bad);
@@ -199,9 +216,9 @@ impl<'a> Setup<'a> {
     }
 
     /// Runs a line that stands before the first `open`. `Bad`: it is refused, or it is a line of sessions, of which none
-    /// is open yet.
+    /// is open yet. `Short` is want of memory. Both leave all as it was.
     pub fn run(&mut self, line: Line<'a>) -> Result<(), LineFault>
-        ensures { Sets result (view line.entry) (world_of self.old) (world_of self.new) }
+        ensures { Sets result (view line.entry) self.old self.new }
     {
         match line {
             Line::Nothing => Ok(()),
@@ -218,8 +235,8 @@ impl<'a> Setup<'a> {
 
     /// The engine over these users and buffers.
     pub fn into_engine(self) -> Result<Engine<PlainMarked>, Short>
-        requires { AreFit (buffers_in self.drafts.items) }
-        ensures world { IfOk result (λ e. e.world ≡ world_of self.entry) }
+        ensures world { IfOk result (λ e. e.world ≡ self.entry) }
+        ensures sessions { IfOk result (λ e. e.world.sessions ≡ []) }
         ensures queues { IfOk result (λ e. e.queues ≡ []) }
     {
         let Setup {

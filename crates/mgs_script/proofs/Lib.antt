@@ -1,4 +1,3 @@
 pub mod Feeds
 pub mod Utf8
 pub mod Words
-pub mod Judged

@@ -1,9 +1,9 @@
 -- What the lines of a script say.
-use Rattle.std.specs.Prelude.{◌≡◌, ℕ, ◌+◌, ◌-◌, ◌*◌, ◌==◌, nat_le, Bool, true, ◌&&◌, ◌||◌, not, is_some, List, [], ◌∷◌, length, map, codes, slice_index, Option, Some, None, Result, Ok, Err, if◌then◌else◌}
+use Rattle.std.specs.Prelude.{◌≡◌, ℕ, ◌+◌, ◌-◌, ◌*◌, ◌==◌, nat_le, Bool, ◌&&◌, ◌||◌, not, List, [], ◌∷◌, length, map, codes, slice_index, Option, Some, None, Result, Ok, Err, if◌then◌else◌}
 use Rattle.std.specs.Option.{option_map, option_and_then}
 use Rattle.std.specs.List.{list_all}
 use Rattle.std.specs.Str.{bytes_eq, is_utf8}
-use Rattle.mgs_model.specs.Names.{is_name, is_user_name}
+use Rattle.mgs_model.specs.Names.{is_name}
 use Rattle.mgs_keys.specs.Words.{word_of, rest_of, words_of}
 use Rattle.mgs_keys.specs.Tokens.{keys_of, quoted_of, spelled_by}
 use Rattle.mgs_script.specs.declared.line.Line.{Line}
@@ -36,20 +36,12 @@ o >>= f = option_and_then f o
 abbrev pub name_of : List ℕ → Option (List ℕ)
 name_of w = if is_name w then Some w else None
 
--- a user's name
-abbrev pub owner_of : List ℕ → Option (List ℕ)
-owner_of w = if is_name w && is_user_name w then Some w else None
-
 -- any word: one or more bytes without a carriage return; a cut leaves no space in it
 abbrev pub is_word : List ℕ → Bool
 is_word w = nat_le 1 (length w) && list_all (λ b. not (b == 13)) w
 
 abbrev pub any_word_of : List ℕ → Option (List ℕ)
 any_word_of w = if is_word w then Some w else None
-
--- a text that is one word
-abbrev pub only_word_of : List ℕ → Option (List ℕ)
-only_word_of t = if is_some (rest_of t) then None else any_word_of t
 
 -- a decimal digit, and one that a longer number may begin with
 abbrev pub is_digit : ℕ → Bool
@@ -96,21 +88,13 @@ kind_named w =
     else if bytes_eq w (codes "close") then Some kinds.Close
     else None
 
--- a user's name, whose form is judged where the user is added
-unfoldable pub user_said : List ℕ → Option Said
-user_said t = option_map User (only_word_of t)
-
 -- a group's name and those of its members, which are judged where the group is added
 unfoldable pub group_said : List ℕ → Option Said
 group_said t = option_map (λ rest. Group (word_of t) (words_of rest)) (rest_of t)
 
--- a buffer's name and its owner's
+-- a buffer's name and its owner's, which are judged where the buffer is added
 unfoldable pub buffer_said : List ℕ → Option Said
-buffer_said t = do
-  name ← name_of (word_of t)
-  rest ← rest_of t
-  owner ← owner_of rest
-  Some (Buffer name owner)
+buffer_said t = option_map (λ owner. Buffer (word_of t) owner) (rest_of t)
 
 -- a buffer's name and the text of an entry, in which more spaces may stand
 unfoldable pub entry_said : List ℕ → Option Said
@@ -153,9 +137,9 @@ keys_said t = do
   keys ← keys_of rest
   Some (Keys label keys)
 
--- what stands behind the first word, by what the word says
+-- what stands behind the first word, by what the word says; the form of a new user's name is judged where the user is added
 abbrev pub said_as : Kind → List ℕ → Option Said
-said_as kinds.User t = user_said t
+said_as kinds.User t = Some (User t)
 said_as kinds.Group t = group_said t
 said_as kinds.Buffer t = buffer_said t
 said_as kinds.Entry t = entry_said t
@@ -183,19 +167,6 @@ utf8_of t = if is_utf8 t then Some t else None
 -- what a line says; one that is passed over may hold any bytes
 abbrev pub said_in : List ℕ → Option Said
 said_in t = if is_passed_over t then Some Nothing else (utf8_of t >>= said_by_kind)
-
--- the names of a line that adds a buffer are those of a buffer and of a user
-abbrev pub IsJudged : Said → Type 0
-IsJudged Nothing = Unit {0}
-IsJudged (User name) = Unit {0}
-IsJudged (Group name members) = Unit {0}
-IsJudged (Buffer name owner) = (is_name name && is_user_name owner) ≡ true
-IsJudged (Entry buffer entry) = Unit {0}
-IsJudged (Text buffer cs) = Unit {0}
-IsJudged (Open name user rows cols) = Unit {0}
-IsJudged (Keys name keys) = Unit {0}
-IsJudged (Show name) = Unit {0}
-IsJudged (Close name) = Unit {0}
 
 -- the line as the code holds it
 abbrev pub view : Line → Said

@@ -1,11 +1,11 @@
 // What a script's line says.
 ghost use Rattle.std.specs.Prelude.{◌≡◌, Some};
 ghost use Rattle.std.specs.Option.{option_map};
-ghost use Rattle.mgs_script.specs.Lines.{view, user_said, group_said, buffer_said, entry_said, text_said, open_said, keys_said, said_by_kind, said_in, is_passed_over, utf8_of, GivesLine};
+ghost use Rattle.mgs_script.specs.Lines.{view, group_said, buffer_said, entry_said, text_said, open_said, keys_said, said_by_kind, said_in, is_passed_over, utf8_of, GivesLine};
 
 use crate::kind::{Kind, kind_of};
 use crate::text::read_text;
-use crate::word::{any_word, cut_text, name_in, only_word, owner_in, size, words};
+use crate::word::{any_word, cut_text, name_in, size, words};
 use mgs_keys::{KeysFault, read_keys};
 use mgs_model::{Name, Short};
 use std::alloc::Global;
@@ -25,7 +25,7 @@ pub enum Line<'a> {
         name: &'a str,
         members: Vec<&'a str>,
     },
-    /// `buffer NAME OWNER`: a buffer. Both are names.
+    /// `buffer NAME OWNER`: a buffer. Neither name is judged here.
     Buffer {
         name: &'a str,
         owner: &'a str,
@@ -71,14 +71,6 @@ pub enum LineFault {
     Short,
 }
 
-#[tactic(auto, unfolding(crate::specs::Lines::user_said))]
-fn user_line(text: &str) -> Option<Line<'_>>
-    ensures { option_map view result ≡ user_said text.now }
-{
-    let name = only_word(text)?;
-    Some(Line::User { name })
-}
-
 #[tactic(auto, unfolding(crate::specs::Lines::group_said))]
 fn group_line(alloc: Global, text: &str) -> Result<Line<'_>, LineFault>
     ensures { GivesLine result (group_said text.now) }
@@ -99,11 +91,7 @@ fn buffer_line(text: &str) -> Option<Line<'_>>
 {
     let (name, rest) = cut_text(text);
     let owner = rest?;
-    if name_in(name).is_some() && owner_in(owner).is_some() {
-        Some(Line::Buffer { name, owner })
-    } else {
-        None
-    }
+    Some(Line::Buffer { name, owner })
 }
 
 #[tactic(auto, unfolding(crate::specs::Lines::entry_said))]
@@ -173,7 +161,7 @@ fn line_by_kind(alloc: Global, text: &str) -> Result<Line<'_>, LineFault>
         return Err(LineFault::Bad);
     };
     match kind {
-        Kind::User => user_line(rest).ok_or(LineFault::Bad),
+        Kind::User => Ok(Line::User { name: rest }),
         Kind::Group => group_line(alloc, rest),
         Kind::Buffer => buffer_line(rest).ok_or(LineFault::Bad),
         Kind::Entry => entry_line(rest).ok_or(LineFault::Bad),
@@ -312,8 +300,7 @@ mod tests {
             "text notes Tab",
             "text notes '",
             "buffer notes",
-            "buffer notes Ann",
-            "user ann bob",
+            "user",
             "entry notes",
             "group",
             "group all",

@@ -3,7 +3,7 @@ ghost use Rattle.std.specs.Prelude.{◌≡◌, ◌==◌, ◌<◌, not, length, m
 ghost use Rattle.std.specs.Option.{option_map};
 ghost use Rattle.std.specs.List.{list_all};
 ghost use Rattle.mgs_keys.specs.Words.{word_of, rest_of, words_of};
-ghost use Rattle.mgs_script.specs.Lines.{name_of, owner_of, any_word_of, only_word_of, number_of, size_of, is_word};
+ghost use Rattle.mgs_script.specs.Lines.{name_of, any_word_of, number_of, size_of, is_word};
 
 use mgs_model::{Name, Short};
 use std::alloc::Global;
@@ -43,16 +43,6 @@ pub fn name_in(word: &str) -> Option<Name>
     Name::read(word)
 }
 
-/// The user's name that is written so, if it is one.
-pub fn owner_in(word: &str) -> Option<Name>
-    ensures { result ≡ owner_of word.now }
-{
-    match name_in(word) {
-        Some(name) if name.is_user_name() => Some(name),
-        _ => None,
-    }
-}
-
 fn has_no_return(bytes: &[u8]) -> bool
     ensures { result ≡ list_all (λ b. not (b == 13)) bytes.now }
 {
@@ -67,16 +57,6 @@ pub fn any_word(word: &str) -> Option<&str>
         Some(word)
     } else {
         None
-    }
-}
-
-/// The text, if it is one word.
-pub fn only_word(text: &str) -> Option<&str>
-    ensures { option_map (λ x. x.now) result ≡ only_word_of text.now }
-{
-    match cut_text(text) {
-        (_, None) => any_word(text),
-        (_, Some(_)) => None,
     }
 }
 
@@ -116,16 +96,13 @@ pub fn size(text: &str) -> Option<(usize, usize)>
 
 #[cfg(test)]
 mod tests {
-    use super::{any_word, cut_text, name_in, number, only_word, owner_in, size};
+    use super::{any_word, cut_text, name_in, number, size};
 
     #[test]
     fn words_are_read(rt: HostRuntime) {
         assert_eq!(rt; cut_text("a b c"), ("a", Some("b c")));
-        assert_eq!(rt; only_word("ann"), Some("ann"));
         assert_eq!(rt; any_word("Ann"), Some("Ann"));
         assert!(rt; name_in("*notes*").is_some());
-        assert!(rt; owner_in("ann-2").is_some());
-        assert!(rt; owner_in("Ann").is_none());
     }
 
     #[test]

@@ -2,15 +2,13 @@ use Rattle.std.proofs.Common.{ℕ, ◌+◌, ◌≤◌, List}
 use Rattle.mgs_script.proofs.Feeds.{length_left}
 use Rattle.mgd.specs.Plays.{Plays, End, setting}
 use Rattle.mgs_script.specs.Scripts.{lines_of}
-use Rattle.mgd.specs.Setups.{world_of, AreFit}
 use Rattle.mgd.proofs.Standing.{lines_left}
 use Rattle.mgd.proofs.play.set_up.Given as goal
 
 -- what the lines left may print from here, all of them may print, and there are no more lines than bytes left
 abbrev pub invariant-loop-rest : goal.invariant-loop-rest
 invariant-loop-rest l = record {
-  goes : (out : List ℕ) (end : End) → Plays l.number (setting (world_of l.setup)) (lines_left l.rest) out end → Plays 1 (setting (world_of l.fn.setup)) (lines_of l.script) out end;
-  fit : AreFit (world_of l.setup).buffers;
+  goes : (out : List ℕ) (end : End) → Plays l.number (setting l.setup) (lines_left l.rest) out end → Plays 1 (setting l.fn.setup) (lines_of l.script) out end;
   first : 1 ≤ l.number;
   counted : l.number + length_left l.rest ≤ 16777218;
 }

@@ -16,6 +16,8 @@ returns-in-Some c =
 
 pub returns-in-None : goal.returns-in-None
 returns-in-None c =
-    let ds = c.args.drafts.now in
-    not_drafted (λ o. entry_refused o (entry_in c.args.entry.now)) c.args.name.now ds
-    (sym c.in-None.is ∙ c.place_of.ensures.at ∙ ap (λ n. position (is_drafted n) ds) c.as_bytes.ensures.value) refl
+    let ds = c.args.drafts.now in (
+      not_drafted (λ o. entry_refused o (entry_in c.args.entry.now)) c.args.name.now ds
+          (sym c.in-None.is ∙ c.place_of.ensures.at ∙ ap (λ n. position (is_drafted n) ds) c.as_bytes.ensures.value) refl,
+      refl,
+    )

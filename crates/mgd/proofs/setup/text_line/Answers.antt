@@ -15,6 +15,8 @@ returns-in-Some c =
 
 pub returns-in-None : goal.returns-in-None
 returns-in-None c =
-    let ds = c.args.drafts.now in
-    not_drafted (λ o. text_refused o c.args.text.now) c.args.name.now ds
-    (sym c.in-None.is ∙ c.place_of.ensures.at ∙ ap (λ n. position (is_drafted n) ds) c.as_bytes.ensures.value) refl
+    let ds = c.args.drafts.now in (
+      not_drafted (λ o. text_refused o c.args.text.now) c.args.name.now ds
+          (sym c.in-None.is ∙ c.place_of.ensures.at ∙ ap (λ n. position (is_drafted n) ds) c.as_bytes.ensures.value) refl,
+      refl,
+    )

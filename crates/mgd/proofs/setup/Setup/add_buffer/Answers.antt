@@ -1,19 +1,21 @@
-use Rattle.std.proofs.Common.{List, sym, ap, refl, ◌∙◌}
-use Rattle.mgs_model.specs.World.{Buffer}
-use Rattle.mgd.specs.Setups.{world_of}
+use Rattle.std.proofs.Common.{◌≡◌, List, false, sym, ap, subst, refl, ◌∙◌}
+use Rattle.mgs_model.specs.World.{World, Buffer}
+use Rattle.mgd.specs.declared.setup.Draft.{Draft}
+use Rattle.mgd.specs.Plays.{buffer_refused}
+use Rattle.mgd.specs.Setups.{world_of, buffers_in, AreFit}
 use Rattle.mgd.proofs.Drafts.{pushed}
+use Rattle.mgd.proofs.Fits.{buffer_fits}
 use Rattle.mgd.proofs.setup.Setup.add_buffer.Goals.{in-Ok, in-Err}
 use Rattle.mgd.proofs.setup.Setup.add_buffer.Goals as goal
 
-pub returns : goal.returns
-returns c = elim c.match-push.branch [
+pub invariant_of-self : goal.invariant_of-self
+invariant_of-self c = elim c.match-push.branch [
   | in-Ok w ↦
-      let s = c.args.self.now in
-      rw w.result-is (
-        sym c.refuses.ensures ∙ c.if-refuses.false,
-        ap (λ (bs : List Buffer). record (world_of s) { buffers = bs })
-            (pushed c.args.name.now c.args.owner.now s.drafts.items c.push.new.self.items (record { name = c.args.name; owner = c.args.owner; list = c.new.result; text = c.new-2.result })
-            w.in-Ok.ensures.items refl refl c.new.ensures c.new-2.ensures.items),
-      )
-  | in-Err w ↦ rw w.result-is tt
+      let s = c.self.inside in
+      let free : buffer_refused (world_of s.directory (buffers_in s.drafts.items)) c.args.name.now c.args.owner.now ≡ false = ap (λ (v : World). buffer_refused v c.args.name.now c.args.owner.now) c.self.view_is ∙ sym c.refuses.ensures ∙ c.if-refuses.false in
+      subst (λ (bs : List Buffer). AreFit bs)
+      (sym (pushed c.args.name.now c.args.owner.now s.drafts.items c.push.new.self.items (record { name = c.args.name; owner = c.args.owner; list = c.new.result; text = c.new-2.result })
+      w.in-Ok.ensures.items refl refl c.new.ensures c.new-2.ensures.items))
+      (buffer_fits (world_of s.directory (buffers_in s.drafts.items)) c.args.name.now c.args.owner.now free c.self.invariant)
+  | in-Err w ↦ subst (λ (ds : List Draft). AreFit (buffers_in ds)) (sym w.in-Err.ensures.items) c.self.invariant
 ]
