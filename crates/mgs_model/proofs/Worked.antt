@@ -16,7 +16,7 @@ use Rattle.mgs_model.specs.declared.right.Right.TheVariants.{ReadData, WriteData
 use Rattle.mgs_model.specs.declared.entry.Decision.TheVariants.{Granted, DeniedBy, NotGranted}
 use Rattle.mgs_model.specs.declared.entry.Entry.{Entry}
 use Rattle.mgs_model.specs.declared.entry.EntryType.TheVariants.{Allow, Deny}
-use Rattle.mgs_model.specs.declared.entry.Who.TheVariants.{Owner, Everyone, User}
+use Rattle.mgs_model.specs.declared.entry.Who.TheVariants.{Owner, Everyone, User, Group}
 
 ann : List ℕ
 ann = codes "ann"
@@ -89,6 +89,24 @@ append_without_reading : screen_after (world_with (buffer_with (codes "abc") (re
 unfolding digits draw outcome turns most_turns command_of glyph fitted shown_row
 append_without_reading = refl
 
+-- an entry denies the reading, and a motion
+denied_reading : screen_after (world_with (buffer_with [] (record { entry_type = Deny; who = User (codes "bob"); mask = 1 } ∷ record { entry_type = Allow; who = User (codes "bob"); mask = 132 } ∷ []) ∷ [])) (Open 1 (codes "bob") 6 20 ∷ Byte 1 6 true None ∷ []) 1 ≡
+    Some (record { rows = 6; cols = 20; lines = row (codes "[no read: entry 1]  ") ∷ blank ∷ blank ∷ blank ∷ reversed (codes "----notes-(no read)-") ∷ row (codes "Denied: entry 1 den$") ∷ []; row = 0; col = 0 })
+unfolding digits draw outcome turns most_turns command_of glyph fitted shown_row
+denied_reading = refl
+
+-- a user to whom no buffer is shown
+no_buffer : screen_after (world_with (buffer_with (codes "abc") [] ∷ [])) (Open 1 (codes "bob") 6 20 ∷ Byte 1 120 true None ∷ []) 1 ≡
+    Some (record { rows = 6; cols = 20; lines = blank ∷ blank ∷ blank ∷ blank ∷ reversed (codes "-None---------------") ∷ row (codes "No buffer           ") ∷ []; row = 0; col = 0 })
+unfolding digits draw outcome turns most_turns command_of glyph fitted shown_row
+no_buffer = refl
+
+-- a control character, DEL and a character past ASCII, and a TAB that is typed before them
+tab_and_controls : screen_after (world_with (buffer_with (120 ∷ 1 ∷ 127 ∷ 233 ∷ []) full ∷ [])) (Open 1 (codes "ann") 6 20 ∷ Byte 1 9 true None ∷ []) 1 ≡
+    Some (record { rows = 6; cols = 20; lines = row (codes "        x^A^?" ++ 92 ∷ codes "u{e9} ") ∷ blank ∷ blank ∷ blank ∷ reversed (codes "-**-notes-L1-C8-----") ∷ blank ∷ []; row = 0; col = 8 })
+unfolding digits draw outcome turns most_turns command_of glyph fitted shown_row
+tab_and_controls = refl
+
 -- DECISIONS
 
 people : Directory
@@ -120,6 +138,25 @@ two_denials = refl
 one_denial : decision people (codes "cat") (codes "ann") (record { entry_type = Deny; who = User (codes "ann"); mask = 3 } ∷ []) 3 ≡ DeniedBy 1 ReadData
 unfolding people
 one_denial = refl
+
+-- a group
+staffed : Directory
+staffed = record { users = codes "ann" ∷ codes "bob" ∷ []; groups = record { name = codes "staff"; members = codes "ann" ∷ codes "bob" ∷ [] } ∷ [] }
+
+owner_then_staff : List Entry
+owner_then_staff = record { entry_type = Allow; who = Owner; mask = 7 } ∷ record { entry_type = Deny; who = Group (codes "staff"); mask = 2 } ∷ []
+
+owner_of_staff : decision staffed (codes "ann") (codes "ann") owner_then_staff 7 ≡ Granted
+unfolding staffed owner_then_staff
+owner_of_staff = refl
+
+staff_writes : decision staffed (codes "ann") (codes "bob") owner_then_staff 2 ≡ DeniedBy 2 WriteData
+unfolding staffed owner_then_staff
+staff_writes = refl
+
+staff_reads : decision staffed (codes "ann") (codes "bob") owner_then_staff 1 ≡ NotGranted ReadData
+unfolding staffed owner_then_staff
+staff_reads = refl
 
 -- LONG LINES
 
