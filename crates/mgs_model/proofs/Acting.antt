@@ -1,6 +1,7 @@
 -- One act, where the texts of some buffers are hidden from the acting user.
 use Rattle.std.proofs.Common.{◌≡◌, ℕ, List, [], ◌∷◌, length, map, refl, sym, ap, ◌∙◌, Bool, true, false, Option, Some, None}
 use Rattle.std.specs.Option.{option_map}
+use Rattle.std.proofs.lemmas.List.{length-map}
 use Rattle.mgs_model.specs.Access.{Directory, decider, any_right}
 use Rattle.mgs_model.specs.World.{World, Buffer, Session, may, is_named, has_id, find_session, find_buffer}
 use Rattle.mgs_model.specs.View.{view, reads, reads_found, session_seen, buffer_seen, told_if, full_if}
@@ -10,7 +11,7 @@ use Rattle.mgs_model.specs.Apply.{apply, act_of}
 use Rattle.mgs_model.specs.Secrecy.{hide, hide_if, blank_if, veil, veil_if, veil_window, blur, HiddenAmong, Hidden, IsOf}
 use Rattle.mgs_model.specs.declared.right.Right.TheVariants.{ReadData}
 use Rattle.mgs_model.specs.declared.session.Command.{Command}
-use Rattle.mgs_model.proofs.Blind.{map_fixed, map_same, length_of_map}
+use Rattle.mgs_model.proofs.Blind.{map_fixed, map_same}
 use Rattle.mgs_model.proofs.Firsts.{find-map}
 use Rattle.mgs_model.proofs.Hide.{hide_effect, hide_same}
 use Rattle.mgs_model.proofs.Veil.{veil_sessions, veil_same}
@@ -24,7 +25,7 @@ blur_blur users shut w = λ i. record w { buffers = map_fixed (hide shut) (hide_
 -- THE VIEW
 
 length_blank_if : (h : Bool) (text : List ℕ) → length (blank_if h text) ≡ length text
-length_blank_if true text = length_of_map (λ c. 0) text
+length_blank_if true text = length-map text (λ c. 0)
 length_blank_if false text = refl
 
 told_hide : (c h : Bool) (b : Buffer) → told_if c (hide_if h b) ≡ told_if c b

@@ -6,7 +6,8 @@ use Rattle.mgs_model.specs.Outcome.{Effect, No_effect, Edit, Unmodified, Relist,
 use Rattle.mgs_model.specs.Apply.{buffers_after, buffer_edited, buffer_unmodified, new_buffer}
 use Rattle.mgs_model.specs.Secrecy.{blank, blank_item, hide_if, hide}
 use Rattle.mgs_model.specs.declared.entry.Entry.{Entry}
-use Rattle.mgs_model.proofs.Blind.{Blind-change, Blind-append, Blind-remove, map-append, map-take, map-drop, map_fixed}
+use Rattle.std.proofs.lemmas.List.{map-append, take-map, drop-map}
+use Rattle.mgs_model.proofs.Blind.{Blind-change, Blind-append, Blind-remove, map_fixed}
 
 blank_blank : (xs : List ℕ) → blank (blank xs) ≡ blank xs
 blank_blank [] = refl
@@ -17,10 +18,10 @@ blank_items_blank [] = refl
 blank_items_blank (x ∷ xs) = λ i. record { serial = x.serial; place = x.place; removed = blank_blank x.removed i; put = x.put } ∷ blank_items_blank xs i
 
 blank_edited : (a b : ℕ) (put xs : List ℕ) → blank (edited a b put xs) ≡ blank (edited a b put (blank xs))
-blank_edited a b put xs = simp (map-append, map-take, map-drop, blank_blank)
+blank_edited a b put xs = simp (map-append, take-map, drop-map, blank_blank)
 
 blank_removed : (a b : ℕ) (xs : List ℕ) → blank (removed a b xs) ≡ blank (removed a b (blank xs))
-blank_removed a b xs = simp (map-take, map-drop, blank_blank)
+blank_removed a b xs = simp (take-map, drop-map, blank_blank)
 
 hide_edited : (h : Bool) (a b : ℕ) (put : List ℕ) (x : Buffer) → hide_if h (buffer_edited a b put x) ≡ hide_if h (buffer_edited a b put (hide_if h x))
 hide_edited true a b put x =
@@ -32,7 +33,7 @@ hide_edited true a b put x =
     }
   where
     items : map blank_item (take 999 x.items) ≡ map blank_item (take 999 (map blank_item x.items))
-    items = map-take blank_item 999 x.items ∙ ap (take 999) (sym (blank_items_blank x.items)) ∙ sym (map-take blank_item 999 (map blank_item x.items))
+    items = sym (take-map blank_item 999 x.items) ∙ ap (take 999) (sym (blank_items_blank x.items)) ∙ take-map blank_item 999 (map blank_item x.items)
 hide_edited false a b put x = refl
 
 hide_unmodified : (h : Bool) (x : Buffer) → hide_if h (buffer_unmodified x) ≡ hide_if h (buffer_unmodified (hide_if h x))

@@ -1,6 +1,7 @@
 -- Work inside closed buffers leaves no trace for users who have no right on them.
 use Rattle.std.proofs.Common.{◌≡◌, ℕ, zero, suc, ◌+◌, ◌-◌, List, [], ◌∷◌, length, map, find, not, refl, sym, ap, ◌∙◌, Bool, true, false, cond, ◌&&◌, ◌==◌, nat_lt, Option, Some, None, is_some}
 use Rattle.std.specs.Option.{option_map}
+use Rattle.std.proofs.lemmas.List.{length-map}
 use Rattle.mgs_model.specs.Access.{Directory, is_among}
 use Rattle.mgs_model.specs.World.{World, Buffer, Session, Own, may, has_id, find_session, find_buffer}
 use Rattle.mgs_model.specs.View.{view}
@@ -13,7 +14,7 @@ use Rattle.mgs_model.specs.Secrecy.{IsOf}
 use Rattle.mgs_model.specs.Purging.{Closed, is_other, is_outside, purge, Inside, OthersInside, Purged}
 use Rattle.mgs_model.specs.declared.right.Right.TheVariants.{ReadAttributes}
 use Rattle.mgs_model.specs.declared.session.Command.{Command}
-use Rattle.mgs_model.proofs.Blind.{Blind-change, Blind-remove, Blind-append, map_fixed, length_of_map, is_some_map}
+use Rattle.mgs_model.proofs.Blind.{Blind-change, Blind-remove, Blind-append, map_fixed, is_some_map}
 use Rattle.mgs_model.proofs.Firsts.{find-map}
 use Rattle.mgs_model.proofs.Outline.{erase, forget_if, forget, outline, erase_same, forget_windows, forget_places, forget_search_same, forget_same, outline_apply, outline_same}
 use Rattle.mgs_model.proofs.Stepping.{the_world, ActsFor, acts_next, acts_begun, closed}
@@ -121,7 +122,7 @@ is_open_like users shut w v id e = sym (one w) ∙ ap (λ x. is_open id x) e ∙
     one x = ap is_some (find_forget users shut id x.sessions) ∙ is_some_map (forget users shut) (find_session id x.sessions)
 
 length_like : (users shut : List ℕ → Bool) (w v : World) → Like users shut w v → length w.sessions ≡ length v.sessions
-length_like users shut w v e = sym (length_of_map (forget users shut) w.sessions) ∙ ap (λ x. length x.sessions) e ∙ length_of_map (forget users shut) v.sessions
+length_like users shut w v e = sym (length-map w.sessions (forget users shut)) ∙ ap (λ x. length x.sessions) e ∙ length-map v.sessions (forget users shut)
 
 can_open_like : (users shut : List ℕ → Bool) (w v : World) (id : ℕ) (user : List ℕ) (rows cols : ℕ) → Like users shut w v → can_open w id user rows cols ≡ can_open v id user rows cols
 can_open_like users shut w v id user rows cols e =

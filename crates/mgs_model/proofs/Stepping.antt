@@ -1,6 +1,7 @@
 -- Whole events and runs, where the texts of some buffers are hidden from the users.
 use Rattle.std.proofs.Common.{◌≡◌, ℕ, ◌+◌, ◌-◌, List, [], ◌∷◌, ◌++◌, length, map, find, refl, sym, ap, ◌∙◌, subst, Bool, true, false, cond, ◌&&◌, ◌==◌, nat_lt, Option, Some, None, is_some, zero, suc}
 use Rattle.std.specs.Option.{option_map}
+use Rattle.std.proofs.lemmas.List.{length-map}
 use Rattle.mgs_model.specs.Names.{same_name}
 use Rattle.mgs_model.specs.Access.{Directory, is_among}
 use Rattle.mgs_model.specs.Lines.{settled_top}
@@ -15,7 +16,7 @@ use Rattle.mgs_model.specs.Draw.{draw, screen}
 use Rattle.mgs_model.specs.Secrecy.{hide, hide_if, blank_if, veil, veil_if, veil_window, blur, Alike, HiddenAmong, Hidden, IsOf, has_name, still, act_saves, HiddenAct, IsBy, AllBy, shut_turns, HiddenTurns, shut_step, HiddenStep, shut_run, HiddenRun, Same, HiddenText}
 use Rattle.mgs_model.specs.declared.right.Right.TheVariants.{ReadData, ReadAttributes}
 use Rattle.mgs_model.specs.declared.session.Command.{Command}
-use Rattle.mgs_model.proofs.Blind.{Blind-change, Blind-remove, Blind-append, map_fixed, length_of_map, is_some_map, same_names, is_name}
+use Rattle.mgs_model.proofs.Blind.{Blind-change, Blind-remove, Blind-append, map_fixed, is_some_map, same_names, is_name}
 use Rattle.mgs_model.proofs.Firsts.{find-map, find-change_first}
 use Rattle.mgs_model.proofs.Hide.{hide_same}
 use Rattle.mgs_model.proofs.Veil.{veil_same}
@@ -366,7 +367,7 @@ is_open_alike users shut w v id e = sym (one w) ∙ ap (λ x. is_open id x) e �
     one x = ap is_some (find_veil users id x.sessions) ∙ is_some_map (veil users) (find_session id x.sessions)
 
 length_alike : (users shut : List ℕ → Bool) (w v : World) → Alike users shut w v → length w.sessions ≡ length v.sessions
-length_alike users shut w v e = sym (length_of_map (veil users) w.sessions) ∙ ap (λ x. length x.sessions) e ∙ length_of_map (veil users) v.sessions
+length_alike users shut w v e = sym (length-map w.sessions (veil users)) ∙ ap (λ x. length x.sessions) e ∙ length-map v.sessions (veil users)
 
 can_open_alike : (users shut : List ℕ → Bool) (w v : World) (id : ℕ) (user : List ℕ) (rows cols : ℕ) → Alike users shut w v → can_open w id user rows cols ≡ can_open v id user rows cols
 can_open_alike users shut w v id user rows cols e =
