@@ -40,3 +40,19 @@ IsCounted (Err (ends.Line n)) = 1 ≤ n
 IsCounted (Err ends.Read) = Unit {0}
 IsCounted (Err ends.Write) = Unit {0}
 IsCounted (Err ends.Short) = Unit {0}
+
+-- the same of a script that was read
+abbrev pub IsPlayed : {A : Type 0} → Result A ReplayFault → Type 0
+IsPlayed (Ok a) = Unit {0}
+IsPlayed (Err (ends.Line n)) = 1 ≤ n
+IsPlayed (Err ends.Read) = ⊥
+IsPlayed (Err ends.Write) = Unit {0}
+IsPlayed (Err ends.Short) = Unit {0}
+
+-- the same of lines that print nothing
+abbrev pub IsSet : {A : Type 0} → Result A ReplayFault → Type 0
+IsSet (Ok a) = Unit {0}
+IsSet (Err (ends.Line n)) = 1 ≤ n
+IsSet (Err ends.Read) = ⊥
+IsSet (Err ends.Write) = ⊥
+IsSet (Err ends.Short) = Unit {0}

@@ -5,7 +5,7 @@ ghost use Rattle.mgs_model.specs.Picture.{IsSize};
 ghost use Rattle.mgs_term.specs.Screen.{blank_screen};
 ghost use Rattle.mgs_term.specs.Terminal.{resting};
 ghost use Rattle.mgd.specs.declared.seat.Seat.TheVariants as seated;
-ghost use Rattle.mgd.specs.Faults.{fault_of, end_at, short_or, IsCounted};
+ghost use Rattle.mgd.specs.Faults.{fault_of, end_at, short_or, IsPlayed, IsSet};
 ghost use Rattle.mgs_script.specs.Lines.{view, Open, Keys, Close, said_in};
 ghost use Rattle.mgd.specs.Prints.{refusal_text};
 ghost use Rattle.mgs_script.specs.Scripts.{lines_of};
@@ -350,7 +350,7 @@ fn run_lines<W: Write>(
     requires sessions { server.old.world.sessions ≡ [] }
     requires first { 1 ≤ first }
     requires counted { first + length text.now ≤ SCRIPT_LIMIT + 1 }
-    ensures line { IsCounted result }
+    ensures line { IsPlayed result }
     ensures written { PlaysOn result first (begun server.old.world []) (lines_of text.now) (W.contents writer.old) (W.contents writer.new) }
 {
     let mut seats = Seats::new(alloc);
@@ -390,7 +390,7 @@ fn set_up<'a>(
     script: &'a [u8],
 ) -> Result<Option<(usize, &'a [u8])>, ReplayFault>
     requires { length script.now ≤ SCRIPT_LIMIT }
-    ensures line { IsCounted result }
+    ensures line { IsSet result }
     ensures first { IfOk result (λ o. IfSome o (λ p. 1 ≤ p.0)) }
     ensures counted { IfOk result (λ o. IfSome o (λ p. p.0 + length p.1.now ≤ SCRIPT_LIMIT + 1)) }
     ensures sets { SetUp (λ x. x.now) result setup.old script.now setup.new }
@@ -416,7 +416,7 @@ fn set_up<'a>(
 /// is want of memory. Nothing is said of what was written at these two.
 pub fn play<W: Write>(alloc: Global, script: &[u8], writer: &mut W) -> Result<(), ReplayFault>
     requires { length script.now ≤ SCRIPT_LIMIT }
-    ensures line { IsCounted result }
+    ensures line { IsPlayed result }
     ensures written { Written first_world script.now (W.contents writer.old) (W.contents writer.new) result }
 {
     let mut setup = Setup::new(alloc);
