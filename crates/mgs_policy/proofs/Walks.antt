@@ -1,11 +1,11 @@
 -- One walk over a list of entries decides on all wanted rights together: what is decided by the entries from one on, after that entry.
-use Rattle.std.proofs.Common.{◌≡◌, ℕ, ◌+◌, ◌<◌, ◌≤◌, refl, sym, ap, ◌∙◌, Bool, true, false, cond, eqb, w32, List, [], ◌∷◌, length, get_or, drop, Option, Some, None, arith}
-use Rattle.std.specs.Prelude.{find, filter, not, ◌&&◌, nat_lt, min, ◌-◌, ◌^◌}
+use Rattle.std.proofs.Common.{◌≡◌, ℕ, ◌+◌, ◌<◌, ◌≤◌, refl, sym, ap, ◌∙◌, Bool, true, false, cond, eqb, w32, List, [], ◌∷◌, Option, Some, None, arith}
+use Rattle.std.specs.Prelude.{find, filter, not, ◌&&◌, nat_lt, min, slice_get, ◌-◌, ◌^◌}
 use Rattle.std.specs.Int.{bit_at}
 use Rattle.std.specs.Int.Bits.{bit_and}
 use Rattle.std.proofs.lemmas.Nat.Bits.{bit_at_and, bit_at_not, bit_at-lt}
 use Rattle.std.proofs.lemmas.Bool.Decides.{nat_tests}
-use Rattle.std.proofs.lemmas.List.{at_drop_more}
+use Rattle.std.proofs.lemmas.List.{drop_more, drop_all}
 use Rattle.mgs_model.specs.Rights.{has_right, all_rights, rights_in}
 use Rattle.mgs_model.specs.declared.right.Right.{Right}
 use Rattle.mgs_model.specs.declared.right.Right.TheVariants.{ReadData, WriteData, AppendData, ReadAttributes, Delete, ReadAcl, WriteAcl, WriteOwner}
@@ -14,7 +14,8 @@ use Rattle.mgs_model.specs.declared.entry.EntryType.{EntryType}
 use Rattle.mgs_model.specs.declared.entry.EntryType.TheVariants.{Allow, Deny}
 use Rattle.mgs_model.specs.declared.entry.Decision.{Decision}
 use Rattle.mgs_model.specs.declared.entry.Decision.TheVariants.{Granted, DeniedBy, NotGranted}
-use Rattle.mgs_model.specs.Access.{Directory, Decider, Nobody, Allows, Denies, matches, concerns, decider_of, decider_from, decision_by, with_denier, with_denial, with_gap, denial, gap}
+use Rattle.mgs_model.specs.Access.{Directory, Decider, Nobody, Allows, Denies, matches, concerns, decider_of, decider_from, decision_by, with_denier, with_denial, with_gap, denial, gap, decision}
+use Rattle.mgs_policy.specs.Walk.{is_allow, permits, denies, wanted}
 
 -- who decides, where the rights that pass are decided by one, and the others by the rest
 abbrev first : (Right → Bool) → Decider → (Right → Decider) → Right → Decider
@@ -156,7 +157,7 @@ behind_from n m directory owner user right (e ∷ es) h =
     ]
 
 -- what the entries decide, where the first is the n-th
-abbrev pub decided_from : ℕ → Directory → List ℕ → List ℕ → List Entry → List Right → Decision
+unfoldable pub decided_from : ℕ → Directory → List ℕ → List ℕ → List Entry → List Right → Decision
 decided_from n directory owner user es rights = decision_by (λ right. decider_from n directory owner user right es) rights
 
 and-false : (a b : Bool) (x y : Decider) → a ≡ false → cond (a && b) x y ≡ y
@@ -165,39 +166,38 @@ and-false a b x y h = rw h refl
 and-true : (a b : Bool) (x y : Decider) → a ≡ true → cond (a && b) x y ≡ cond b x y
 and-true a b x y h = rw h refl
 
--- the entry at a place, and those behind it
-pub decided-turn : (n : ℕ) (directory : Directory) (owner user : List ℕ) (es : List Entry) (i : ℕ) (e : Entry) (rights : List Right) → i < length es → e ≡ get_or es i e → decided_from n directory owner user (drop i es) rights ≡ decided_from n directory owner user (e ∷ drop (i + 1) es) rights
-decided-turn n directory owner user es i e rights h is =
-    at_drop_more (λ xs. decided_from n directory owner user xs rights) es i e h
-    ∙ ap (λ x. decided_from n directory owner user (x ∷ drop (i + 1) es) rights) (sym is)
-
 -- an entry that does not match is passed over
-pub decided-passed : (n : ℕ) (directory : Directory) (owner user : List ℕ) (e : Entry) (es : List Entry) (rights : List Right) → matches directory owner user e.who ≡ false → decided_from n directory owner user (e ∷ es) rights ≡ decided_from (n + 1) directory owner user es rights
+decided-passed : (n : ℕ) (directory : Directory) (owner user : List ℕ) (e : Entry) (es : List Entry) (rights : List Right) → matches directory owner user e.who ≡ false → decided_from n directory owner user (e ∷ es) rights ≡ decided_from (n + 1) directory owner user es rights
+unfolding decided_from
 decided-passed n directory owner user e es rights h =
     ap (λ f. decision_by f rights)
     (λ i right. and-false (matches directory owner user e.who) (has_right e.mask right) (decider_of e.entry_type n) (decider_from (n + 1) directory owner user right es) h i)
 
 -- of an entry that matches the rights of its mask are decided, and the rest decides the others
 decided-matched : (n : ℕ) (directory : Directory) (owner user : List ℕ) (e : Entry) (es : List Entry) (rights : List Right) → matches directory owner user e.who ≡ true → decided_from n directory owner user (e ∷ es) rights ≡ decision_by (first (has_right e.mask) (decider_of e.entry_type n) (λ right. decider_from (n + 1) directory owner user right es)) rights
+unfolding decided_from
 decided-matched n directory owner user e es rights h =
     ap (λ f. decision_by f rights)
     (λ i right. and-true (matches directory owner user e.who) (has_right e.mask right) (decider_of e.entry_type n) (decider_from (n + 1) directory owner user right es) h i)
 
 -- what an ALLOW entry that matches allows is wanted no more
-pub decided-allowed : (n : ℕ) (directory : Directory) (owner user : List ℕ) (e : Entry) (es : List Entry) (rights : List Right) → matches directory owner user e.who ≡ true → e.entry_type ≡ Allow → decided_from n directory owner user (e ∷ es) rights ≡ decided_from (n + 1) directory owner user es (filter (λ right. not (has_right e.mask right)) rights)
+decided-allowed : (n : ℕ) (directory : Directory) (owner user : List ℕ) (e : Entry) (es : List Entry) (rights : List Right) → matches directory owner user e.who ≡ true → e.entry_type ≡ Allow → decided_from n directory owner user (e ∷ es) rights ≡ decided_from (n + 1) directory owner user es (filter (λ right. not (has_right e.mask right)) rights)
+unfolding decided_from
 decided-allowed n directory owner user e es rights h is =
     decided-matched n directory owner user e es rights h
     ∙ ap (λ type. decision_by (first (has_right e.mask) (decider_of type n) (λ right. decider_from (n + 1) directory owner user right es)) rights) is
     ∙ decision_by-allowed (has_right e.mask) n (λ right. decider_from (n + 1) directory owner user right es) rights
 
 -- a matching entry with no right that is wanted is passed over
-pub decided-unmet : (n : ℕ) (directory : Directory) (owner user : List ℕ) (e : Entry) (es : List Entry) (rights : List Right) → matches directory owner user e.who ≡ true → find (has_right e.mask) rights ≡ None → decided_from n directory owner user (e ∷ es) rights ≡ decided_from (n + 1) directory owner user es rights
+decided-unmet : (n : ℕ) (directory : Directory) (owner user : List ℕ) (e : Entry) (es : List Entry) (rights : List Right) → matches directory owner user e.who ≡ true → find (has_right e.mask) rights ≡ None → decided_from n directory owner user (e ∷ es) rights ≡ decided_from (n + 1) directory owner user es rights
+unfolding decided_from
 decided-unmet n directory owner user e es rights h none =
     decided-matched n directory owner user e es rights h
     ∙ decision_by-unmet (has_right e.mask) (decider_of e.entry_type n) (λ right. decider_from (n + 1) directory owner user right es) rights none
 
 -- a DENY entry that matches denies the first right that is wanted and that it has
-pub decided-denied : (n : ℕ) (directory : Directory) (owner user : List ℕ) (e : Entry) (es : List Entry) (rights : List Right) (denied : Right) → matches directory owner user e.who ≡ true → e.entry_type ≡ Deny → find (has_right e.mask) rights ≡ Some denied → decided_from n directory owner user (e ∷ es) rights ≡ DeniedBy n denied
+decided-denied : (n : ℕ) (directory : Directory) (owner user : List ℕ) (e : Entry) (es : List Entry) (rights : List Right) (denied : Right) → matches directory owner user e.who ≡ true → e.entry_type ≡ Deny → find (has_right e.mask) rights ≡ Some denied → decided_from n directory owner user (e ∷ es) rights ≡ DeniedBy n denied
+unfolding decided_from
 decided-denied n directory owner user e es rights denied h is found =
     decided-matched n directory owner user e es rights h
     ∙ ap (λ type. decision_by (first (has_right e.mask) (decider_of type n) (λ right. decider_from (n + 1) directory owner user right es)) rights) is
@@ -218,17 +218,72 @@ denial-nobody : (rights : List Right) (d : Decision) → denial (λ r. Nobody) r
 denial-nobody [] d = refl
 denial-nobody (r ∷ rights) d = denial-nobody rights d
 
-undecided : (p : Right → Bool) (rights : List Right) → gap (λ r. Nobody) (filter p rights) Granted ≡ at_end (find p rights)
-undecided p [] = refl
-undecided p (right ∷ rights) =
-    elim (p right) as (λ b. gap (λ r. Nobody) (cond b (right ∷ filter p rights) (filter p rights)) Granted ≡ at_end (cond b (Some right) (find p rights))) [
-      | true ↦ gap-nobody (filter p rights) right
-      | false ↦ undecided p rights
+undecided : (rights : List Right) → gap (λ r. Nobody) rights Granted ≡ at_end (slice_get rights 0)
+undecided [] = refl
+undecided (right ∷ rights) = gap-nobody rights right
+
+pub decided-end : (n : ℕ) (directory : Directory) (owner user : List ℕ) (rights : List Right) → decided_from n directory owner user [] rights ≡ at_end (slice_get rights 0)
+unfolding decided_from
+decided-end n directory owner user rights = ap (gap (λ r. Nobody) rights) (denial-nobody rights Granted) ∙ undecided rights
+
+-- the first that passes is the first of all that pass
+find-first : {X : Type 0} (p : X → Bool) (xs : List X) → find p xs ≡ slice_get (filter p xs) 0
+find-first p [] = refl
+find-first p (x ∷ xs) =
+    elim (p x) as (λ b. cond b (Some x) (find p xs) ≡ slice_get (cond b (x ∷ filter p xs) (filter p xs)) 0) [
+      | true ↦ refl
+      | false ↦ find-first p xs
     ]
 
-pub decided-end : (n : ℕ) (directory : Directory) (owner user : List ℕ) (mask : ℕ) → decided_from n directory owner user [] (rights_in mask) ≡ at_end (find (has_right mask) all_rights)
-decided-end n directory owner user mask =
-    ap (gap (λ r. Nobody) (rights_in mask)) (denial-nobody (rights_in mask) Granted) ∙ undecided (has_right mask) all_rights
+pub first-right : (mask : ℕ) → find (has_right mask) all_rights ≡ slice_get (wanted mask) 0
+unfolding wanted
+first-right mask = find-first (has_right mask) all_rights
+
+-- THE WALK
+
+-- all entries
+pub decided-all : (directory : Directory) (owner user : List ℕ) (es : List Entry) (mask : ℕ) → decided_from 1 directory owner user es (wanted mask) ≡ decision directory owner user es mask
+unfolding decided_from wanted
+decided-all directory owner user es mask = refl
+
+-- what is decided with an entry more: whether it matches, what it denies, and what is decided without it, and on the rights that it leaves
+abbrev pub turned : ℕ → Bool → Option Right → Decision → Decision → Decision
+turned n false denied passed left = passed
+turned n true None passed left = left
+turned n true (Some right) passed left = DeniedBy n right
+
+find-never : (rights : List Right) → find (λ right. false) rights ≡ None
+find-never [] = refl
+find-never (right ∷ rights) = find-never rights
+
+filter-all : (rights : List Right) → filter (λ right. true) rights ≡ rights
+filter-all [] = refl
+filter-all (right ∷ rights) = ap (λ xs. right ∷ xs) (filter-all rights)
+
+module _ (n : ℕ) (directory : Directory) (owner user : List ℕ) (e : Entry) (es : List Entry) (rights : List Right) where
+  turned-found : matches directory owner user e.who ≡ true → e.entry_type ≡ Deny → (o : Option Right) → find (has_right e.mask) rights ≡ o
+      → decided_from n directory owner user (e ∷ es) rights ≡ turned n true o (decided_from (n + 1) directory owner user es rights) (decided_from (n + 1) directory owner user es (filter (λ right. true) rights))
+  turned-found h is None none = decided-unmet n directory owner user e es rights h none ∙ ap (decided_from (n + 1) directory owner user es) (sym (filter-all rights))
+  turned-found h is (Some right) found = decided-denied n directory owner user e es rights right h is found
+
+  turned-matched : matches directory owner user e.who ≡ true → (type : EntryType) → e.entry_type ≡ type
+      → decided_from n directory owner user (e ∷ es) rights
+      ≡ turned n true (find (λ right. not (is_allow type) && has_right e.mask right) rights) (decided_from (n + 1) directory owner user es rights) (decided_from (n + 1) directory owner user es (filter (λ right. not (is_allow type && has_right e.mask right)) rights))
+  turned-matched h Allow is =
+      decided-allowed n directory owner user e es rights h is
+      ∙ sym (ap (λ o. turned n true o (decided_from (n + 1) directory owner user es rights) (decided_from (n + 1) directory owner user es (filter (λ right. not (has_right e.mask right)) rights))) (find-never rights))
+  turned-matched h Deny is = turned-found h is (find (has_right e.mask) rights) refl
+
+  turned-entry : (b : Bool) → matches directory owner user e.who ≡ b
+      → decided_from n directory owner user (e ∷ es) rights
+      ≡ turned n b (find (denies e) rights) (decided_from (n + 1) directory owner user es rights) (decided_from (n + 1) directory owner user es (filter (λ right. not (permits e right)) rights))
+  turned-entry false h = decided-passed n directory owner user e es rights h
+  turned-entry true h = turned-matched h e.entry_type refl
+
+pub decided-turned : (n : ℕ) (directory : Directory) (owner user : List ℕ) (e : Entry) (es : List Entry) (rights : List Right)
+    → decided_from n directory owner user (e ∷ es) rights
+    ≡ turned n (matches directory owner user e.who) (find (denies e) rights) (decided_from (n + 1) directory owner user es rights) (decided_from (n + 1) directory owner user es (filter (λ right. not (permits e right)) rights))
+decided-turned n directory owner user e es rights = turned-entry n directory owner user e es rights (matches directory owner user e.who) refl
 
 -- MASKS
 
@@ -270,3 +325,24 @@ pub rights_in-without : (a b : ℕ) → b < 2 ^ 32 → rights_in (bit_and a (2 ^
 rights_in-without a b h =
     ap (λ p. filter p all_rights) (λ i right. has_right-without a b right h i)
     ∙ sym (filter-filter (λ right. not (has_right b right)) (has_right a) all_rights)
+
+-- ONE ENTRY AND A MASK
+
+pub denied-allow : (e : Entry) (mask : ℕ) → e.entry_type ≡ Allow → find (denies e) (wanted mask) ≡ None
+unfolding wanted
+denied-allow e mask is = ap (λ type. find (λ right. not (is_allow type) && has_right e.mask right) (rights_in mask)) is ∙ find-never (rights_in mask)
+
+pub denied-deny : (e : Entry) (mask : ℕ) → e.entry_type ≡ Deny → find (denies e) (wanted mask) ≡ find (λ right. has_right mask right && has_right e.mask right) all_rights
+unfolding wanted
+denied-deny e mask is =
+    ap (λ type. find (λ right. not (is_allow type) && has_right e.mask right) (rights_in mask)) is ∙ find-filter (has_right e.mask) (has_right mask) all_rights
+
+pub left-allow : (e : Entry) (mask : ℕ) → e.entry_type ≡ Allow → filter (λ right. not (permits e right)) (wanted mask) ≡ filter (λ right. not (has_right e.mask right)) (rights_in mask)
+unfolding wanted
+left-allow e mask is = ap (λ type. filter (λ right. not (is_allow type && has_right e.mask right)) (rights_in mask)) is
+
+pub left-deny : (e : Entry) (mask : ℕ) → e.entry_type ≡ Deny → filter (λ right. not (permits e right)) (wanted mask) ≡ wanted mask
+unfolding wanted
+left-deny e mask is = ap (λ type. filter (λ right. not (is_allow type && has_right e.mask right)) (rights_in mask)) is ∙ filter-all (rights_in mask)
+
+pub ruleset walk = (decided-all, decided-turned, decided-end, first-right, drop_more, drop_all)

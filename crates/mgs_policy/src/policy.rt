@@ -2,6 +2,7 @@
 ghost use Rattle.std.specs.Prelude.{◌≡◌, ◌∷◌, ◌&&◌, [], find, filter, not};
 ghost use Rattle.mgs_model.specs.Rights.{rights_in, has_right, all_rights};
 ghost use Rattle.mgs_model.specs.Access.{allows, matches, concerns, decider, decision, decision_by};
+ghost use Rattle.mgs_policy.specs.Walk.{permits, denies, wanted};
 
 use crate::directory::Directory;
 use mgs_acl::List;
@@ -90,29 +91,48 @@ fn without(mask: Mask, other: Mask) -> Mask
     Mask::from_bits(mask.bits() & !other.bits())
 }
 
+/// The first right of a mask that an entry denies.
+fn denied_by(entry: &Entry, mask: Mask) -> Option<Right>
+    ensures { result ≡ find (denies entry.now) (wanted mask) }
+{
+    match entry.entry_type {
+        EntryType::Allow => None,
+        EntryType::Deny => first_of_both(mask, entry.mask),
+    }
+}
+
+/// The rights of a mask that an entry does not allow.
+fn left_by(entry: &Entry, mask: Mask) -> Mask
+    ensures { wanted result ≡ filter (λ right. not (permits entry.now right)) (wanted mask) }
+{
+    match entry.entry_type {
+        EntryType::Allow => without(mask, entry.mask),
+        EntryType::Deny => mask,
+    }
+}
+
 /// What a list decides on all rights of a mask (RFC 8881, section 6.2.1), in one walk over the list and without memory.
 ///
 /// `DeniedBy` names the least entry that denies one of them, counted from 1, and the lowest right that it denies. Where none denies,
 /// `NotGranted` names the lowest right that no entry grants. A mask of no right is `Granted`.
+#[tactic(auto, using(crate::proofs::Walks::walk))]
 pub fn decide(list: &List, owner: &Name, user: &Name, directory: &Directory, mask: Mask) -> Decision
     ensures { result ≡ decision directory.now owner.now user.now list.now mask }
 {
     // The rights of the mask that no entry so far has decided.
     let mut left = mask;
     for (place, entry) in list.as_slice().iter().enumerate() {
-        if matches(directory, owner, user, &entry.who) {
-            match entry.entry_type {
-                EntryType::Allow => left = without(left, entry.mask),
-                EntryType::Deny => match first_of_both(left, entry.mask) {
-                    Some(right) => {
-                        return Decision::DeniedBy {
-                            entry: place + 1,
-                            bit: right,
-                        };
-                    }
-                    None => {}
-                },
+        if !matches(directory, owner, user, &entry.who) {
+            continue;
+        }
+        match denied_by(entry, left) {
+            Some(right) => {
+                return Decision::DeniedBy {
+                    entry: place + 1,
+                    bit: right,
+                };
             }
+            None => left = left_by(entry, left),
         }
     }
     match first_right(left) {

@@ -1,9 +1,9 @@
 use Rattle.std.proofs.Common.{◌≡◌, ◌+◌, drop}
-use Rattle.mgs_model.specs.Rights.{rights_in}
 use Rattle.mgs_model.specs.Access.{decision}
+use Rattle.mgs_policy.specs.Walk.{wanted}
 use Rattle.mgs_policy.proofs.Walks.{decided_from}
 use Rattle.mgs_policy.proofs.policy.decide.Given as goal
 
 -- the entries that are left decide on the rights that are left
 abbrev pub invariant-loop-place : goal.invariant-loop-place
-invariant-loop-place l = decided_from (l.place + 1) l.directory l.owner l.user (drop l.place l.entry-items) (rights_in l.left) ≡ decision l.directory l.owner l.user l.list l.fn.mask
+invariant-loop-place l = decided_from (l.place + 1) l.directory l.owner l.user (drop l.place l.entry-items) (wanted l.left) ≡ decision l.directory l.owner l.user l.list l.fn.mask
