@@ -4,20 +4,14 @@ use Rattle.std.specs.Prelude.{find, is_some, IfSome, Result, Ok, Err, OnOk, OnEr
 use Rattle.std.specs.Option.{option_map, option_copied}
 use Rattle.std.specs.List.{position_or_len}
 use Rattle.std.specs.Map.{lookup, keys_of}
-use Rattle.std.proofs.lemmas.Slice.Eq.{bytes_eq-Decides}
 use Rattle.indexmap.specs.IndexMap.{set_value_at}
 use Rattle.mgs_model.specs.Names.{same_name}
 use Rattle.mgs_model.specs.Apply.{change_first}
 use Rattle.mgs_model.specs.World.{Buffer}
+use Rattle.mgs_model.proofs.Blind.{same_names, is_name}
 use Rattle.mgs_buffers.specs.declared.shelf.Shelf.{Shelf}
 use Rattle.mgs_buffers.specs.Kept.{Kept, kept_named, kept_at, kept_or_none, is_kept, IsKept}
 use Rattle.mgs_buffers.specs.Shelves.{kept_of, kept_all}
-
-pub same_is : (a b : List ℕ) → same_name a b ≡ true → a ≡ b
-same_is a b h = (bytes_eq-Decides a b).0 h
-
-pub same_self : (a : List ℕ) → same_name a a ≡ true
-same_self a = (bytes_eq-Decides a a).1 refl
 
 module _ {T : Type 0} (text : T → List ℕ) (marks : T → List (Option ℕ)) where
   -- the buffer of a name is the shelf of that key
@@ -27,7 +21,7 @@ module _ {T : Type 0} (text : T → List ℕ) (marks : T → List (Option ℕ)) 
       let goal : Bool → Type 0 = λ b. same_name name e.0 ≡ b → cond b (Some (kept_of text marks e.0 e.1)) (find (kept_named name) (kept_all text marks es)) ≡ option_map (kept_of text marks name) (cond b (Some e.1) (lookup (same_name name) es)) in
       let go : (b : Bool) → goal b =
       λ b. elim b as goal [
-        | true ↦ λ t. ap (λ n. Some (kept_of text marks n e.1)) (sym (same_is name e.0 t))
+        | true ↦ λ t. ap (λ n. Some (kept_of text marks n e.1)) (sym (same_names name e.0 t))
         | false ↦ λ t. find-kept name es
       ]
       in go (same_name name e.0) refl
@@ -171,7 +165,7 @@ kept-first p [] = tt
 kept-first p (k ∷ ks) =
     let goal : Bool → Type 0 = λ b. IfSome (option_map (λ (b : Buffer). b.name) (cond b (Some k.buffer) (find p (map (λ (k : Kept). k.buffer) ks)))) (λ n. IsKept n (k ∷ ks)) in
     let go : (b : Bool) → goal b = λ b. elim b as goal [
-      | true ↦ ap (λ t. is_some (cond t (Some k) (find (kept_named k.buffer.name) ks))) (same_self k.buffer.name)
+      | true ↦ ap (λ t. is_some (cond t (Some k) (find (kept_named k.buffer.name) ks))) (is_name k.buffer.name)
       | false ↦ later (option_map (λ (b : Buffer). b.name) (find p (map (λ (k : Kept). k.buffer) ks))) (kept-first p ks)
     ]
     in go (p k.buffer)

@@ -1,8 +1,7 @@
 -- No text passes its limit.
-use Rattle.std.proofs.Common.{◌≡◌, ◌+◌, ◌-◌, ◌≤◌, ◌∙◌, ℕ, Bool, true, false, cond, List, [], ◌∷◌, ◌++◌, take, drop, length, length-append, Option, Some, None, refl, sym, ap, subst, arith}
+use Rattle.std.proofs.Common.{◌≡◌, ◌+◌, ◌-◌, ◌≤◌, ℕ, Bool, true, false, cond, List, [], ◌∷◌, ◌++◌, take, drop, length, length-append, Some, ap, arith}
 use Rattle.std.proofs.lemmas.List.{length-take, length-drop}
 use Rattle.std.specs.Prelude.{find, Result, Ok, Err, OnOk, OnErr}
-use Rattle.mgs_model.specs.Text.{edited}
 use Rattle.mgs_model.specs.Apply.{change_first}
 use Rattle.mgs_buffers.specs.Kept.{Kept, kept_named, kept_at, kept_or_none, kept_edited, AreWithinLimit}
 

@@ -1,10 +1,12 @@
--- Marks stay within the text.
-use Rattle.std.proofs.Common.{◌≡◌, ◌≢◌, ℕ, zero, suc, ◌+◌, ◌-◌, ◌≤◌, Option, Some, None, List, [], ◌∷◌, ◌++◌, take, drop, length, get_or, refl, sym, arith, length-append, inl, inr}
+-- What marks are after an edit and a placing, and that they stay within the text.
+use Rattle.std.proofs.Common.{◌≡◌, ◌≢◌, ℕ, zero, suc, ◌+◌, ◌-◌, ◌≤◌, Option, Some, None, List, [], ◌∷◌, ◌++◌, take, drop, length, get_or, refl, sym, ap, ◌∙◌, arith, length-append, inl, inr}
 use Rattle.std.proofs.lemmas.Bool.{cases_eq}
 use Rattle.std.proofs.lemmas.Bool.Decides.{nat_tests}
 use Rattle.std.proofs.lemmas.List.{length-take, length-drop}
+use Rattle.std.specs.Prelude.{slice_set, IsSome}
+use Rattle.std.specs.Option.{option_map}
 use Rattle.mgs_model.specs.Text.{shift, shift_all, edited}
-use Rattle.mgs_marks.specs.Marks.{mark_in, position_in}
+use Rattle.mgs_marks.specs.Marks.{mark_in, or_zero, position_in}
 
 -- a slot as the slab tells it
 pub mark_in-get : (marks : List (Option ℕ)) (id : ℕ) → mark_in marks id ≡ get_or marks id None
@@ -12,15 +14,29 @@ mark_in-get [] id = refl
 mark_in-get (m ∷ ms) zero = refl
 mark_in-get (m ∷ ms) (suc id) = mark_in-get ms id
 
-shift-zero : (a b n : ℕ) → shift a b n 0 ≡ 0
+-- an edit leaves the first place
+pub shift-zero : (a b n : ℕ) → shift a b n 0 ≡ 0
 shift-zero a b n = grind (arith, nat_tests)
 
 -- a mark moves as its position does
+pub mark_in-shift_all : (a b n : ℕ) (marks : List (Option ℕ)) (id : ℕ) → mark_in (shift_all a b n marks) id ≡ option_map (shift a b n) (mark_in marks id)
+mark_in-shift_all a b n [] id = refl
+mark_in-shift_all a b n (None ∷ ms) zero = refl
+mark_in-shift_all a b n (Some m ∷ ms) zero = refl
+mark_in-shift_all a b n (m ∷ ms) (suc id) = mark_in-shift_all a b n ms id
+
+or_zero-shift : (a b n : ℕ) (o : Option ℕ) → or_zero (option_map (shift a b n) o) ≡ shift a b n (or_zero o)
+or_zero-shift a b n None = sym (shift-zero a b n)
+or_zero-shift a b n (Some m) = refl
+
 pub position_in-shift_all : (a b n : ℕ) (marks : List (Option ℕ)) (id : ℕ) → position_in (shift_all a b n marks) id ≡ shift a b n (position_in marks id)
-position_in-shift_all a b n [] id = sym (shift-zero a b n)
-position_in-shift_all a b n (None ∷ ms) zero = sym (shift-zero a b n)
-position_in-shift_all a b n (Some m ∷ ms) zero = refl
-position_in-shift_all a b n (m ∷ ms) (suc id) = position_in-shift_all a b n ms id
+position_in-shift_all a b n marks id = ap or_zero (mark_in-shift_all a b n marks id) ∙ or_zero-shift a b n (mark_in marks id)
+
+-- a mark in use is where it was placed
+pub mark_in-set : (marks : List (Option ℕ)) (id p : ℕ) → IsSome (mark_in marks id) → mark_in (slice_set marks id (Some p)) id ≡ Some p
+mark_in-set [] id p h = cc
+mark_in-set (m ∷ ms) zero p h = refl
+mark_in-set (m ∷ ms) (suc id) p h = mark_in-set ms id p h
 
 shift_bound : (a b n len m : ℕ) → a ≤ b → b ≤ len → m ≤ len → shift a b n m ≤ len - (b - a) + n
 shift_bound a b n len m order within below = grind (arith, nat_tests)

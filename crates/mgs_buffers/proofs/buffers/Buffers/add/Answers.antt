@@ -1,4 +1,4 @@
-use Rattle.std.proofs.Common.{◌≡◌, ◌≤◌, sym, ap, ◌∙◌, refl, subst, length, arith}
+use Rattle.std.proofs.Common.{◌≡◌, sym, ap, ◌∙◌, refl, subst, length, arith}
 use Rattle.mgs_model.specs.Names.{is_user_name}
 use Rattle.mgs_buffers.proofs.KeptLemmas.{is_kept-lookup, none_of, kept-added, owner_of, OnOk-at, OnOk-err}
 use Rattle.mgs_buffers.specs.Kept.{Kept, kept_new, AreWithinLimit}

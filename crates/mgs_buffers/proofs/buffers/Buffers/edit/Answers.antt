@@ -1,4 +1,4 @@
-use Rattle.std.proofs.Common.{refl, ◌≤◌, ◌<◌, ◌-◌, ◌^◌, sym, subst, length}
+use Rattle.std.proofs.Common.{◌≤◌, ◌<◌, ◌-◌, ◌^◌, sym, subst, length}
 use Rattle.mgs_buffers.specs.Kept.{Kept, kept_edited}
 use Rattle.mgs_buffers.proofs.KeptLemmas.{kept-at_place, kept-written, kept-same, OnOk-map, OnErr-map}
 use Rattle.mgs_buffers.proofs.Limits.{limit-edited, ended}

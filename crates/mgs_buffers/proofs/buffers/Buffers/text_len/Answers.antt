@@ -1,4 +1,4 @@
-use Rattle.std.proofs.Common.{◌≡◌, ◌≤◌, ap, length, arith}
+use Rattle.std.proofs.Common.{ap, length, arith}
 use Rattle.mgs_buffers.specs.Kept.{Kept}
 use Rattle.mgs_buffers.proofs.Limits.{limit-at}
 use Rattle.mgs_buffers.proofs.buffers.Buffers.text_len.Goals as goal
