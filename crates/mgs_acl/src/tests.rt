@@ -92,11 +92,13 @@ fn takes_out_and_replaces(rt: HostRuntime) {
         assert_eq!(rt; list.insert(0, read), Ok(()));
     }
     assert_eq!(rt; list.replace(64, write), Err(ListFault::NoSuchEntry));
+    assert_eq!(rt; list.replace(65, write), Err(ListFault::NoSuchEntry));
     assert_eq!(rt; list.replace(1, write), Ok(()));
     has_at(&rt, &list, 0, &read);
     has_at(&rt, &list, 1, &write);
     has_at(&rt, &list, 2, &read);
     assert_eq!(rt; list.delete(64), Err(ListFault::NoSuchEntry));
+    assert_eq!(rt; list.delete(65), Err(ListFault::NoSuchEntry));
     assert_eq!(rt; list.delete(0), Ok(()));
     assert_eq!(rt; list.len(), 63);
     has_at(&rt, &list, 0, &write);
@@ -121,7 +123,9 @@ fn keeps_order_and_limit(rt: HostRuntime) {
         assert_eq!(rt; list.insert(0, read), Ok(()));
     }
     assert_eq!(rt; list.insert(0, read), Err(ListFault::Full));
+    assert_eq!(rt; list.insert(64, write), Err(ListFault::Full));
     assert_eq!(rt; list.insert(65, read), Err(ListFault::NoSuchEntry));
+    assert_eq!(rt; list.as_slice()[63], write);
     let copy = list.copy();
     assert_eq!(rt; copy.len(), 64);
     assert_eq!(rt; copy.as_slice(), list.as_slice());

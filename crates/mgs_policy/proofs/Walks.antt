@@ -287,7 +287,7 @@ decided-turned n directory owner user e es rights = turned-entry n directory own
 
 -- MASKS
 
-pub find-filter : {X : Type 0} (p q : X → Bool) (xs : List X) → find p (filter q xs) ≡ find (λ x. q x && p x) xs
+find-filter : {X : Type 0} (p q : X → Bool) (xs : List X) → find p (filter q xs) ≡ find (λ x. q x && p x) xs
 find-filter p q [] = refl
 find-filter p q (x ∷ xs) =
     elim (q x) as (λ b. find p (cond b (x ∷ filter q xs) (filter q xs)) ≡ cond (b && p x) (Some x) (find (λ y. q y && p y) xs)) [
@@ -345,4 +345,5 @@ pub left-deny : (e : Entry) (mask : ℕ) → e.entry_type ≡ Deny → filter (�
 unfolding wanted
 left-deny e mask is = ap (λ type. filter (λ right. not (is_allow type && has_right e.mask right)) (rights_in mask)) is ∙ filter-all (rights_in mask)
 
+-- what closes the goals of the walk
 pub ruleset walk = (decided-all, decided-turned, decided-end, first-right, drop_more, drop_all)

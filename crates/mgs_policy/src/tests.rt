@@ -26,8 +26,8 @@ fn decides_by_the_first_entry(rt: HostRuntime) {
     put(&rt, &mut list, "ALLOW ann r");
     put(&rt, &mut list, "DENY ann rw");
     put(&rt, &mut list, "ALLOW EVERYONE@ w");
-    let read = Mask::of(Right::ReadData);
-    let write = Mask::of(Right::WriteData);
+    let read = Mask::from_bits(0x1);
+    let write = Mask::from_bits(0x2);
     let both = Mask::from_bits(0x3);
     assert_eq!(rt;
         decide(&list, &cat, &ann, &directory, both),
