@@ -3,8 +3,8 @@ ghost use Rattle.std.specs.Prelude.{◌≡◌, [], IfSome};
 ghost use Rattle.mgs_core.specs.Worlds.{sizes};
 ghost use Rattle.mgs_engine.specs.Serving.{AllTaken};
 
+use super::fixtures::{Seat, Seats, list_of};
 use super::*;
-use mgs_acl::{List, read_entry};
 use mgs_buffers::Buffers;
 use mgs_core::Core;
 use mgs_grid::Grid;
@@ -15,33 +15,6 @@ use mgs_term::{Cell, Term};
 use std::alloc::Global;
 use std::process::Abort;
 use std::test::Fail;
-
-// A session's terminal, and whether it has refused a byte.
-#[derive(Drop)]
-struct Seat {
-    id: SessionId,
-    term: Term,
-    refused: bool,
-}
-
-#[derive(Drop)]
-struct Seats {
-    all: Vec<Seat>,
-}
-
-fn feed(seat: &mut Seat, id: SessionId, bytes: &[u8]) {
-    if seat.id == id && seat.term.feed_all(bytes).is_err() {
-        seat.refused = true;
-    }
-}
-
-impl Taker for Seats {
-    fn take(&mut self, id: SessionId, bytes: &[u8]) {
-        for seat in self.all.iter_mut() {
-            feed(seat, id, bytes);
-        }
-    }
-}
 
 fn shows_cell(grid: &Grid, i: usize, cell: &Cell) -> bool {
     let cols = grid.cols();
@@ -93,18 +66,6 @@ fn all_show(alloc: Global, core: &Core<PlainMarked>, seats: &Seats) -> bool {
         }
     }
     true
-}
-
-// A list of these entries.
-fn list_of(entries: &[&str], rt: &impl Abort) -> List {
-    let mut list = List::new();
-    for entry in entries {
-        match read_entry(entry) {
-            Ok(entry) => assert!(rt; list.insert(list.len(), entry).is_ok()),
-            Err(_) => panic!(rt; "no entry"),
-        }
-    }
-    list
 }
 
 // Three users and two buffers: bob may add to ann's notes and not read them, and cyn sees her own plan alone.

@@ -1,0 +1,45 @@
+// What the tests share: lists by their entries, and sessions at terminals.
+use super::*;
+use mgs_acl::{List, read_entry};
+use mgs_model::SessionId;
+use mgs_term::Term;
+use std::process::Abort;
+
+// A session's terminal, and whether it has refused a byte.
+#[derive(Drop)]
+pub struct Seat {
+    pub id: SessionId,
+    pub term: Term,
+    pub refused: bool,
+}
+
+#[derive(Drop)]
+pub struct Seats {
+    pub all: Vec<Seat>,
+}
+
+fn feed(seat: &mut Seat, id: SessionId, bytes: &[u8]) {
+    if seat.id == id && seat.term.feed_all(bytes).is_err() {
+        seat.refused = true;
+    }
+}
+
+impl Taker for Seats {
+    fn take(&mut self, id: SessionId, bytes: &[u8]) {
+        for seat in self.all.iter_mut() {
+            feed(seat, id, bytes);
+        }
+    }
+}
+
+// A list of these entries.
+pub fn list_of(entries: &[&str], rt: &impl Abort) -> List {
+    let mut list = List::new();
+    for entry in entries {
+        match read_entry(entry) {
+            Ok(entry) => assert!(rt; list.insert(list.len(), entry).is_ok()),
+            Err(_) => panic!(rt; "no entry"),
+        }
+    }
+    list
+}

@@ -1,0 +1,261 @@
+// What terminals of 6 rows and 20 columns show, row by row.
+use super::fixtures::{Seat, Seats, list_of};
+use super::*;
+use mgs_buffers::Buffers;
+use mgs_core::Core;
+use mgs_marks::PlainMarked;
+use mgs_model::{Keyed, SessionId};
+use mgs_policy::Directory;
+use mgs_term::{Cell, Term};
+use std::alloc::Global;
+use std::process::Abort;
+use std::test::Fail;
+
+const ROWS: usize = 6;
+
+const COLS: usize = 20;
+
+const MODE_ROW: usize = 4;
+
+// The buffer `notes` of ann, with this list and text. The users are ann, bob and cat, and the staff is ann and bob.
+fn serve(alloc: Global, entries: &[&str], text: &[char], rt: &impl Abort) -> Engine<PlainMarked> {
+    let mut directory = Directory::new(alloc);
+    for user in ["ann", "bob", "cat"] {
+        assert!(rt; directory.add_user(user).is_ok());
+    }
+    assert!(rt; directory.add_group("staff", &["ann", "bob"]).is_ok());
+    let mut buffers = Buffers::new(alloc);
+    let list = list_of(entries, rt);
+    assert!(rt; buffers.add("notes", "ann", list, text, false).is_ok());
+    match Engine::new(alloc, Core::new(alloc, directory, buffers)) {
+        Ok(engine) => engine,
+        Err(_) => panic!(rt; "no memory"),
+    }
+}
+
+// A session of a user takes a seat.
+fn sit(
+    alloc: Global,
+    engine: &mut Engine<PlainMarked>,
+    seats: &mut Seats,
+    user: &str,
+    rt: &impl Abort,
+) -> SessionId {
+    engine.take_all(seats);
+    match (engine.open(user, ROWS, COLS), Term::new(alloc, ROWS, COLS)) {
+        (Ok(id), Ok(term)) => {
+            let seat = Seat {
+                id,
+                term,
+                refused: false,
+            };
+            assert!(rt; seats.all.push(seat).is_ok());
+            engine.take_all(seats);
+            id
+        }
+        _ => panic!(rt; "not opened"),
+    }
+}
+
+// Bytes of a session, each of which is done; all that they paint reaches the terminals.
+fn press(
+    engine: &mut Engine<PlainMarked>,
+    seats: &mut Seats,
+    id: SessionId,
+    bytes: &[u8],
+    rt: &impl Abort,
+) {
+    for byte in bytes {
+        engine.take_all(seats);
+        assert_eq!(rt; engine.byte(id, *byte), Keyed::Done);
+    }
+    engine.take_all(seats);
+}
+
+// Whether a cell is that of these rows. Behind the text of a row there are blanks.
+fn is_cell(rows: &[&str], i: usize, cell: &Cell) -> bool {
+    let row = i / COLS;
+    match rows.get(row) {
+        Some(text) => {
+            let character = match text.as_bytes().get(i % COLS) {
+                Some(byte) => *byte as char,
+                None => ' ',
+            };
+            cell.character == character && cell.reversed == (row == MODE_ROW)
+        }
+        None => false,
+    }
+}
+
+// Whether the terminal of a session took all its bytes, and shows these rows and this cursor.
+fn shows(seats: &Seats, id: SessionId, rows: &[&str], cursor: (usize, usize)) -> bool {
+    seats.all.iter().any(|seat| {
+        seat.id == id
+            && !seat.refused
+            && seat.term.cursor() == cursor
+            && seat
+                .term
+                .grid()
+                .iter()
+                .enumerate()
+                .all(|(i, cell)| is_cell(rows, i, cell))
+    })
+}
+
+#[test]
+fn control_characters_take_more_cells(rt: HostRuntime) -> Result<(), Fail> {
+    let alloc = rt.alloc();
+    let text = ['\t', 'x', '\u{1}', '\u{7f}', '\u{e9}'];
+    let mut engine = serve(alloc, &["ALLOW ann rt"], &text, &rt);
+    let mut seats = Seats {
+        all: Vec::new(alloc),
+    };
+    let ann = sit(alloc, &mut engine, &mut seats, "ann", &rt);
+    let rows = [
+        "        x^A^?\\u{e9} ",
+        "                    ",
+        "                    ",
+        "                    ",
+        "----notes-L1-C0-----",
+        "                    ",
+    ];
+    assert!(rt; shows(&seats, ann, &rows, (1, 1)));
+    Ok(())
+}
+
+#[test]
+fn a_tab_reaches_the_next_multiple_of_eight(rt: HostRuntime) -> Result<(), Fail> {
+    let alloc = rt.alloc();
+    let mut engine = serve(alloc, &["ALLOW ann rwat"], &[], &rt);
+    let mut seats = Seats {
+        all: Vec::new(alloc),
+    };
+    let ann = sit(alloc, &mut engine, &mut seats, "ann", &rt);
+    press(&mut engine, &mut seats, ann, b"\tx", &rt);
+    let rows = [
+        "        x           ",
+        "                    ",
+        "                    ",
+        "                    ",
+        "-**-notes-L1-C9-----",
+        "                    ",
+    ];
+    assert!(rt; shows(&seats, ann, &rows, (1, 10)));
+    Ok(())
+}
+
+#[test]
+fn who_may_not_read_writes_at_the_end(rt: HostRuntime) -> Result<(), Fail> {
+    let alloc = rt.alloc();
+    let entries = ["ALLOW bob at", "ALLOW ann rwat"];
+    let mut engine = serve(alloc, &entries, &['a', 'b', 'c'], &rt);
+    let mut seats = Seats {
+        all: Vec::new(alloc),
+    };
+    let ann = sit(alloc, &mut engine, &mut seats, "ann", &rt);
+    let bob = sit(alloc, &mut engine, &mut seats, "bob", &rt);
+    press(&mut engine, &mut seats, bob, b"x", &rt);
+    let masked = [
+        "[no read: no entry] ",
+        "                    ",
+        "                    ",
+        "                    ",
+        "-**-notes-(no read)-",
+        "                    ",
+    ];
+    assert!(rt; shows(&seats, bob, &masked, (1, 1)));
+    let read = [
+        "abcx                ",
+        "                    ",
+        "                    ",
+        "                    ",
+        "-**-notes-L1-C0-----",
+        "                    ",
+    ];
+    assert!(rt; shows(&seats, ann, &read, (1, 1)));
+    press(&mut engine, &mut seats, bob, b"\x06", &rt);
+    let denied = [
+        "[no read: no entry] ",
+        "                    ",
+        "                    ",
+        "                    ",
+        "-**-notes-(no read)-",
+        "Denied: no entry gr$",
+    ];
+    assert!(rt; shows(&seats, bob, &denied, (1, 1)));
+    assert!(rt; shows(&seats, ann, &read, (1, 1)));
+    Ok(())
+}
+
+#[test]
+fn a_denial_names_the_entry(rt: HostRuntime) -> Result<(), Fail> {
+    let alloc = rt.alloc();
+    let entries = ["DENY bob r", "ALLOW bob at"];
+    let mut engine = serve(alloc, &entries, &['a', 'b', 'c'], &rt);
+    let mut seats = Seats {
+        all: Vec::new(alloc),
+    };
+    let bob = sit(alloc, &mut engine, &mut seats, "bob", &rt);
+    let masked = [
+        "[no read: entry 1]  ",
+        "                    ",
+        "                    ",
+        "                    ",
+        "----notes-(no read)-",
+        "                    ",
+    ];
+    assert!(rt; shows(&seats, bob, &masked, (1, 1)));
+    press(&mut engine, &mut seats, bob, b"\x06", &rt);
+    let denied = [
+        "[no read: entry 1]  ",
+        "                    ",
+        "                    ",
+        "                    ",
+        "----notes-(no read)-",
+        "Denied: entry 1 den$",
+    ];
+    assert!(rt; shows(&seats, bob, &denied, (1, 1)));
+    Ok(())
+}
+
+#[test]
+fn a_group_reads_and_others_see_no_buffer(rt: HostRuntime) -> Result<(), Fail> {
+    let alloc = rt.alloc();
+    let entries = ["ALLOW group:staff rt"];
+    let mut engine = serve(alloc, &entries, &['a', 'b', 'c'], &rt);
+    let mut seats = Seats {
+        all: Vec::new(alloc),
+    };
+    let bob = sit(alloc, &mut engine, &mut seats, "bob", &rt);
+    let cat = sit(alloc, &mut engine, &mut seats, "cat", &rt);
+    let read = [
+        "abc                 ",
+        "                    ",
+        "                    ",
+        "                    ",
+        "----notes-L1-C0-----",
+        "                    ",
+    ];
+    assert!(rt; shows(&seats, bob, &read, (1, 1)));
+    let none = [
+        "                    ",
+        "                    ",
+        "                    ",
+        "                    ",
+        "-None---------------",
+        "                    ",
+    ];
+    assert!(rt; shows(&seats, cat, &none, (1, 1)));
+    press(&mut engine, &mut seats, cat, b"x", &rt);
+    let told = [
+        "                    ",
+        "                    ",
+        "                    ",
+        "                    ",
+        "-None---------------",
+        "No buffer           ",
+    ];
+    assert!(rt; shows(&seats, cat, &told, (1, 1)));
+    assert!(rt; shows(&seats, bob, &read, (1, 1)));
+    Ok(())
+}
