@@ -137,7 +137,7 @@ held_sized ks ls xs ys next held sound same = record {
   each = subst (All IsOfSize) (sym same) held.each;
 }
 
-all_removed : (P : Size → Type 0) (p : Size → Bool) (zs : List Size) → All P zs → All P (remove_first p zs)
+pub all_removed : {A : Type 0} (P : A → Type 0) (p : A → Bool) (zs : List A) → All P zs → All P (remove_first p zs)
 all_removed P p [] h = h
 all_removed P p (z ∷ zs) h =
     let rest : All P zs = λ k d l. h (suc k) d (omega (arith, l)) in
@@ -146,7 +146,7 @@ all_removed P p (z ∷ zs) h =
       | false ↦ All-cons P z (remove_first p zs) (h 0 z (omega arith)) (all_removed P p zs rest)
     ]
 
-unique_removed : (p : Size → Bool) (zs : List Size) → IsUnique zs → IsUnique (remove_first p zs)
+pub unique_removed : (p : Size → Bool) (zs : List Size) → IsUnique zs → IsUnique (remove_first p zs)
 unique_removed p [] h = h
 unique_removed p (z ∷ zs) h =
     elim (p z) as (λ b. IsUnique (cond b zs (z ∷ remove_first p zs))) [ true ↦ h.1 | false ↦ (all_removed (IsOther z) p zs h.0, unique_removed p zs h.1) ]

@@ -11,6 +11,7 @@ use Rattle.mgs_model.proofs.Firsts.{find-map, find_at_place, find_none, place_fo
 use Rattle.mgs_model.specs.Apply.{change_first, remove_first}
 use Rattle.mgs_model.specs.Picture.{IsSize, IsPicture}
 use Rattle.mgs_paint.specs.Painting.{bound_of}
+use Rattle.mgs_core.proofs.Sizes.{all_removed}
 use Rattle.mgs_core.specs.declared.server.Size.{Size}
 use Rattle.mgs_core.specs.Worlds.{find_size, is_size_of, IsOther, IsUnique}
 use Rattle.mgs_engine.specs.declared.screen.Screen.{Screen}
@@ -68,23 +69,7 @@ map-remove_first h p q same (x ∷ xs) =
     ]
     in go (p x) ∙ ap (λ b. cond b (map h xs) (h x ∷ remove_first q (map h xs))) (sym (same x))
 
-pub All-remove_first : {A : Type 0} (P : A → Type 0) (p : A → Bool) (xs : List A) → All P xs → All P (remove_first p xs)
-All-remove_first P p [] h = h
-All-remove_first P p (x ∷ xs) h =
-    elim (p x) as (λ b. All P (cond b xs (x ∷ remove_first p xs))) [
-      | true ↦ All-tail P x xs h
-      | false ↦ All-cons P x (remove_first p xs) (All-head P x xs h) (All-remove_first P p xs (All-tail P x xs h))
-    ]
-
 -- UNIQUE IDS
-
-pub unique_removed : (p : Size → Bool) (xs : List Size) → IsUnique xs → IsUnique (remove_first p xs)
-unique_removed p [] h = h
-unique_removed p (x ∷ xs) h =
-    elim (p x) as (λ b. IsUnique (cond b xs (x ∷ remove_first p xs))) [
-      | true ↦ h.1
-      | false ↦ (All-remove_first (IsOther x) p xs h.0, unique_removed p xs h.1)
-    ]
 
 pub unique_opened : (y : Size) (xs : List Size) → find_size y.id xs ≡ None → IsUnique xs → IsUnique (xs ++ y ∷ [])
 unique_opened y [] h u = (All-nil (IsOther y), tt)
@@ -177,7 +162,7 @@ ids_opened xs ys y e =
 
 pub taken_removed : (id : ℕ) (xs : List Screen) → All IsTaken (queues_of xs) → All IsTaken (queues_of (remove_first (screen_id id) xs))
 taken_removed id xs h =
-    rw (map-remove_first queue_of (screen_id id) (is_queue_of id) (λ x. refl) xs) (All-remove_first IsTaken (is_queue_of id) (queues_of xs) h)
+    rw (map-remove_first queue_of (screen_id id) (is_queue_of id) (λ x. refl) xs) (all_removed IsTaken (is_queue_of id) (queues_of xs) h)
 
 pub taken_at : (xs : List Screen) (i : ℕ) (d : Screen) → i < length xs → All IsTaken (queues_of xs) → IsTaken (queue_of (get_or xs i d))
 taken_at xs i d l h = All-unmap IsTaken queue_of xs h i d l

@@ -1,12 +1,13 @@
 use Rattle.std.proofs.Common.{List, map, nat_eq, sym, ap, subst, ◌∙◌}
 use Rattle.std.specs.Prelude.{All}
+use Rattle.mgs_core.proofs.Sizes.{all_removed, unique_removed}
 use Rattle.mgs_core.specs.Worlds.{sizes, is_size_of}
 use Rattle.mgs_model.specs.Apply.{remove_first}
 use Rattle.mgs_engine.specs.declared.screen.Screen.{Screen}
 use Rattle.mgs_engine.specs.Serving.{Serving, IsTaken, queue_id, queue_ids}
 use Rattle.mgs_engine.specs.Painted.{Painted}
 use Rattle.mgs_engine.specs.Screens.{AreRepaints, IsScreen, queues_of, serving_of, size_of, screen_id}
-use Rattle.mgs_engine.proofs.Screens.{All-remove_first, known_each, ids_same, ids_removed, sizes_removed, taken_removed, unique_removed}
+use Rattle.mgs_engine.proofs.Screens.{known_each, ids_same, ids_removed, sizes_removed, taken_removed}
 use Rattle.mgs_engine.proofs.Painted.{painted_closed}
 use Rattle.mgs_engine.proofs.engine.Engine.close.Goals as goal
 
@@ -18,7 +19,7 @@ redraw_all-requires-clause-known g c =
 
 pub redraw_all-requires-clause-each : goal.redraw_all-requires-clause-each
 redraw_all-requires-clause-each g c =
-    rw c.remove_screen.ensures (All-remove_first IsScreen (screen_id c.args.id) c.self.inside.screens.items c.self.invariant.each)
+    rw c.remove_screen.ensures (all_removed IsScreen (screen_id c.args.id) c.self.inside.screens.items c.self.invariant.each)
 
 pub redraw_all-requires-clause-taken : goal.redraw_all-requires-clause-taken
 redraw_all-requires-clause-taken g c =
