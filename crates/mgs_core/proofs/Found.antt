@@ -12,7 +12,8 @@ use Rattle.mgs_core.specs.Worlds.{buffers_of}
 use Rattle.mgs_core.proofs.Acts.{some_from}
 use Rattle.mgs_core.proofs.Marks.{same_is}
 
-found_passes : {A : Type 0} (p : A → Bool) (xs : List A) (a : A) → find p xs ≡ Some a → p a ≡ true
+-- what is found passes the test
+pub found_passes : {A : Type 0} (p : A → Bool) (xs : List A) (a : A) → find p xs ≡ Some a → p a ≡ true
 found_passes p [] a is = cc
 found_passes p (x ∷ xs) a is =
     let goal : Bool → Type 0 = λ b. cond b (Some x) (find p xs) ≡ Some a → p a ≡ true in

@@ -17,6 +17,7 @@ use Rattle.mgs_model.specs.Draw.{screen, draw}
 use Rattle.mgs_term.specs.Screen as term
 use Rattle.mgs_term.specs.Drawing.{Draws, IsFaithful}
 use Rattle.mgs_paint.specs.Painting.{Paints, cell_of, row_cells, cells_of, shown}
+use Rattle.mgs_core.proofs.Found.{found_passes}
 use Rattle.mgs_core.specs.declared.server.Size.{Size}
 use Rattle.mgs_core.specs.Worlds.{find_size, sizes, is_size_of, IsOfSize, IsOther, IsUnique}
 use Rattle.mgs_core.specs.Worlds as core
@@ -61,14 +62,6 @@ none_of f (Some a) e = cc
 
 some_same : {A : Type 0} (o : Option A) (a b : A) → o ≡ Some a → o ≡ Some b → a ≡ b
 some_same o a b e f = cc
-
--- what is found passes the test
-found_passes : {A : Type 0} (p : A → Bool) (xs : List A) (x : A) → find p xs ≡ Some x → p x ≡ true
-found_passes p [] x e = cc
-found_passes p (y ∷ ys) x e =
-    let go : (b : Bool) → p y ≡ b → cond b (Some y) (find p ys) ≡ Some x → p x ≡ true =
-    λ b. elim b as (λ b. p y ≡ b → cond b (Some y) (find p ys) ≡ Some x → p x ≡ true) [ true ↦ λ q f. cc | false ↦ λ q f. found_passes p ys x f ]
-    in go (p y) refl e
 
 -- what holds of each holds of the one that is found
 All-found : {A : Type 0} (P : A → Type 0) (p : A → Bool) (xs : List A) (x : A) → All P xs → find p xs ≡ Some x → P x
