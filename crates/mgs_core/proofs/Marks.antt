@@ -1,15 +1,14 @@
 -- Where the marks of a buffer are, after its text was edited, a mark was placed, or another buffer changed.
-use Rattle.std.proofs.Common.{◌≡◌, ℕ, zero, suc, Bool, true, false, List, [], ◌∷◌, length, Option, Some, None, refl, sym, ap, subst, ◌∙◌, arith, eq-eqb}
-use Rattle.std.specs.Prelude.{find, slice_get, slice_set, IsSome, nat_eq}
-use Rattle.std.specs.Option.{option_map, option_and_then}
+use Rattle.std.proofs.Common.{◌≡◌, ℕ, zero, suc, Bool, true, false, List, [], ◌∷◌, length, Option, Some, None, refl, sym, ap, subst, ◌∙◌, eq-eqb}
+use Rattle.std.specs.Prelude.{find, slice_set, IsSome, nat_eq}
+use Rattle.std.specs.Option.{option_map}
 use Rattle.std.proofs.lemmas.Slice.Eq.{bytes_eq-Decides}
-use Rattle.std.proofs.lemmas.Bool.Decides.{nat_tests}
-use Rattle.std.proofs.lemmas.Option.{slice_get-map}
 use Rattle.mgs_model.specs.Names.{same_name}
-use Rattle.mgs_model.specs.Text.{shift, shift_all}
+use Rattle.mgs_model.specs.Text.{shift}
 use Rattle.mgs_model.specs.Apply.{change_first}
 use Rattle.mgs_model.proofs.Firsts.{find-change_first, find-change_first_other}
 use Rattle.mgs_marks.specs.Marks.{mark_in, position_in, or_zero}
+use Rattle.mgs_marks.proofs.Moves.{shift-zero, position_in-shift_all, mark_in-set}
 use Rattle.mgs_buffers.specs.Kept.{Kept, kept_named, kept_at, kept_or_none, mark_at, kept_edited, kept_placed}
 use Rattle.mgs_core.specs.Sound.{one_if, option_uses}
 
@@ -45,21 +44,9 @@ found_other n m f ks name apart =
 
 -- AN EDIT
 
--- the first place stays
-shift_zero : (a b n : ℕ) → shift a b n 0 ≡ 0
-shift_zero a b n = grind (arith, nat_tests)
-
-shift_slot : (a b n : ℕ) (o : Option (Option ℕ)) → or_zero (option_and_then (λ m. m) (option_map (option_map (shift a b n)) o)) ≡ shift a b n (or_zero (option_and_then (λ m. m) o))
-shift_slot a b n None = sym (shift_zero a b n)
-shift_slot a b n (Some None) = sym (shift_zero a b n)
-shift_slot a b n (Some (Some p)) = refl
-
-position_shift : (a b n : ℕ) (ms : List (Option ℕ)) (id : ℕ) → position_in (shift_all a b n ms) id ≡ shift a b n (position_in ms id)
-position_shift a b n ms id = ap (λ o. or_zero (option_and_then (λ m. m) o)) (slice_get-map (option_map (shift a b n)) ms id) ∙ shift_slot a b n (slice_get ms id)
-
 kept_shift : (a b : ℕ) (put : List ℕ) (o : Option Kept) (id : ℕ) → position_in (kept_or_none (option_map (kept_edited a b put) o)).marks id ≡ shift a b (length put) (position_in (kept_or_none o).marks id)
-kept_shift a b put None id = sym (shift_zero a b (length put))
-kept_shift a b put (Some k) id = position_shift a b (length put) k.marks id
+kept_shift a b put None id = sym (shift-zero a b (length put))
+kept_shift a b put (Some k) id = position_in-shift_all a b (length put) k.marks id
 
 pub mark_edited : (n m : List ℕ) (a b : ℕ) (put : List ℕ) (ks : List Kept) (id : ℕ) → same_name n m ≡ true → mark_at m (change_first (kept_named n) (kept_edited a b put) ks) id ≡ shift a b (length put) (mark_at m ks id)
 mark_edited n m a b put ks id same =
@@ -72,9 +59,7 @@ mark_kept n m f ks id name apart = ap (λ o. position_in (kept_or_none o).marks 
 -- A MARK IS PLACED
 
 placed_here : (ms : List (Option ℕ)) (id p : ℕ) → IsSome (mark_in ms id) → position_in (slice_set ms id (Some p)) id ≡ p
-placed_here [] id p h = cc
-placed_here (m ∷ ms) zero p h = refl
-placed_here (m ∷ ms) (suc id) p h = placed_here ms id p h
+placed_here ms id p h = ap or_zero (mark_in-set ms id p h)
 
 placed_other : (ms : List (Option ℕ)) (id i p : ℕ) → (id ≡ i → ⊥) → position_in (slice_set ms id (Some p)) i ≡ position_in ms i
 placed_other [] id i p h = refl
