@@ -22,6 +22,7 @@ use Rattle.mgs_term.proofs.Drawing.{Draws-weaken, Draws-at}
 use Rattle.mgs_paint.specs.Painting.{Paints, shown, cells_of}
 use Rattle.mgs_engine.specs.Serving.{Serving, Queue, AllTaken, IsTaken, pending_of, queue_ids, bytes_of, find_queue}
 use Rattle.mgs_engine.specs.Painted.{Painted, PaintedBy}
+use Rattle.mgs_engine.proofs.Screens.{All-unmap}
 use Rattle.mgd.specs.declared.seat.Labelled.{Labelled}
 use Rattle.mgd.specs.declared.seat.Cause.{Cause}
 use Rattle.mgd.specs.declared.seat.Seat.{Seat}
@@ -327,10 +328,6 @@ All-found P p (x ∷ xs) z h e =
       | false ↦ λ f. All-found P p xs z (All-tail P x xs h) f
     ]
     in go (p x) e
-
-pub All-unmap : {A B : Type 0} (P : B → Type 0) (f : A → B) (xs : List A) → All P (map f xs) → All (λ x. P (f x)) xs
-All-unmap P f [] h = All-nil (λ x. P (f x))
-All-unmap P f (x ∷ xs) h = All-cons (λ x. P (f x)) x xs (All-head P (f x) (map f xs) h) (All-unmap P f xs (All-tail P (f x) (map f xs) h))
 
 some_found : (o : Option Labelled) (s : Seat) → option_map (λ (x : Labelled). x.seat) o ≡ Some s → (z : Labelled) × (o ≡ Some z) × (z.seat ≡ s)
 some_found None s h = absurd cc

@@ -21,7 +21,7 @@ use Rattle.mgd.specs.Plays.{setting, LineDoes, are_names, buffer_refused, entry_
 use Rattle.mgd.specs.Setups.{Sets, Changes, kept_of, buffer_of, buffers_in, buffer_name, IsFit, AreNew, AreFit, OnlyShort}
 use Rattle.mgs_script.specs.declared.line.LineFault.{LineFault}
 use Rattle.mgs_script.specs.declared.line.LineFault.TheVariants.{Bad, Short}
-use Rattle.mgd.proofs.Events.{All-unmap}
+use Rattle.mgs_engine.proofs.Screens.{All-unmap}
 
 -- CHANGES KEEP IT
 

@@ -12,6 +12,7 @@ use Rattle.std.proofs.lemmas.List.Splits.{slice_split_at, slice_split_none}
 use Rattle.std.proofs.lemmas.Nat.{le_or_l, le_or_r}
 use Rattle.std.proofs.lemmas.List.{at_drop_more}
 use Rattle.std.proofs.lemmas.List.Sums.{AllPass-from_list_all}
+use Rattle.mgs_model.proofs.Firsts.{found_passes}
 use Rattle.mgs_model.specs.Names.{is_user_char, is_user_name}
 use Rattle.mgs_model.specs.Rights.{bit_of, letter_of, has_right, rights_in, all_rights}
 use Rattle.mgs_model.specs.Draw.{type_text, who_text, entry_text}
@@ -226,17 +227,9 @@ who_named-spelled word who h = by (bytes_eq word (codes "OWNER@")) (bytes_eq wor
     by false false e = named_who-spelled word (behind_group word) who e
 
 -- the right of a letter
-find_passes : (p : Right → Bool) (rights : List Right) (right : Right) → find p rights ≡ Some right → p right ≡ true
-find_passes p [] right h = absurd (cc)
-find_passes p (r ∷ rights) right h = by (p r) refl h (find_passes p rights right)
-  where
-    by : (b : Bool) → p r ≡ b → cond b (Some r) (find p rights) ≡ Some right → (find p rights ≡ Some right → p right ≡ true) → p right ≡ true
-    by true is e later = let same : right ≡ r = cc in ap p same ∙ is
-    by false is e later = later e
-
 right_of : (c : ℕ) (o : Option Right) → right_lettered c ≡ o → is_some o ≡ true → (right : Right) × (c ≡ letter_of right)
 right_of c None e h = absurd (cc)
-right_of c (Some right) e h = (right, sym (eqb-true (letter_of right) c (find_passes (λ r. letter_of r == c) all_rights right e)))
+right_of c (Some right) e h = (right, sym (eqb-true (letter_of right) c (found_passes (λ r. letter_of r == c) all_rights right e)))
 
 rights_of : (word : List ℕ) → list_all is_letter word ≡ true → (rights : List Right) × (word ≡ letters rights)
 rights_of [] h = ([], refl)

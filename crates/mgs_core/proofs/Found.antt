@@ -6,23 +6,11 @@ use Rattle.mgs_model.specs.Access.{Directory}
 use Rattle.mgs_model.specs.Names.{same_name}
 use Rattle.mgs_model.specs.World.{is_named, find_buffer}
 use Rattle.mgs_model.specs.View.{BufferSeen, buffer_seen, find_seen}
-use Rattle.mgs_model.proofs.Firsts.{find-map}
+use Rattle.mgs_model.proofs.Firsts.{find-map, found_passes}
 use Rattle.mgs_buffers.specs.Kept.{Kept, IsKept, kept_at, kept_named, kept_or_none}
 use Rattle.mgs_core.specs.Worlds.{buffers_of}
 use Rattle.mgs_core.proofs.Acts.{some_from}
 use Rattle.mgs_core.proofs.Marks.{same_is}
-
--- what is found passes the test
-pub found_passes : {A : Type 0} (p : A → Bool) (xs : List A) (a : A) → find p xs ≡ Some a → p a ≡ true
-found_passes p [] a is = cc
-found_passes p (x ∷ xs) a is =
-    let goal : Bool → Type 0 = λ b. cond b (Some x) (find p xs) ≡ Some a → p a ≡ true in
-    let go : (b : Bool) → p x ≡ b → goal b =
-    λ b. elim b as (λ b. p x ≡ b → goal b) [
-      | true ↦ λ e is. (let same : x ≡ a = cc in ap p (sym same) ∙ e)
-      | false ↦ λ e is. found_passes p xs a is
-    ]
-    in go (p x) refl is
 
 found_kept : (name : List ℕ) (ks : List Kept) → IsKept name ks → find (kept_named name) ks ≡ Some (kept_at name ks)
 found_kept name ks kept =

@@ -17,7 +17,7 @@ use Rattle.mgs_model.specs.Draw.{screen, draw}
 use Rattle.mgs_term.specs.Screen as term
 use Rattle.mgs_term.specs.Drawing.{Draws, IsFaithful}
 use Rattle.mgs_paint.specs.Painting.{Paints, cell_of, row_cells, cells_of, shown}
-use Rattle.mgs_core.proofs.Found.{found_passes}
+use Rattle.mgs_model.proofs.Firsts.{found_passes}
 use Rattle.mgs_core.specs.declared.server.Size.{Size}
 use Rattle.mgs_core.specs.Worlds.{find_size, sizes, is_size_of, IsOfSize, IsOther, IsUnique}
 use Rattle.mgs_core.specs.Worlds as core
