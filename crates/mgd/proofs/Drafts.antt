@@ -11,8 +11,8 @@ use Rattle.mgs_model.proofs.Firsts.{find-map, find_at_place, find_none, position
 use Rattle.std.proofs.lemmas.Bool.Decides.{nat_tests}
 use Rattle.mgs_model.specs.Apply.{change_first}
 use Rattle.std.specs.Prelude.{IfOk}
-use Rattle.mgs_core.specs.declared.server.Size.{Size}
-use Rattle.mgs_core.specs.Worlds.{size_of, sizes, buffers_of}
+use Rattle.mgs_world.specs.declared.size.Size.{Size}
+use Rattle.mgs_world.specs.Worlds.{size_of, sizes, buffers_of}
 use Rattle.mgs_engine.specs.Serving.{Serving, Queue, queue_id, queue_ids}
 use Rattle.mgs_model.specs.World.{World, Session, Buffer, is_named, find_buffer}
 use Rattle.mgs_acl.specs.Spelling.{entry_in}

@@ -13,8 +13,8 @@ use Rattle.mgs_model.specs.Names.{same_name}
 use Rattle.mgs_model.specs.Picture.{IsSize}
 use Rattle.mgs_model.specs.World.{World, Session, find_session}
 use Rattle.mgs_model.specs.Draw.{screen, draw}
-use Rattle.mgs_core.specs.declared.server.Size.{Size}
-use Rattle.mgs_core.specs.Worlds.{sizes, size_of, is_size_of, find_size}
+use Rattle.mgs_world.specs.declared.size.Size.{Size}
+use Rattle.mgs_world.specs.Worlds.{sizes, size_of, is_size_of, find_size}
 use Rattle.mgs_term.specs.Screen.{IsScreen, blank, blank_screen}
 use Rattle.mgs_term.specs.Terminal.{Terminal, resting}
 use Rattle.mgs_term.specs.Drawing.{Draws, Anything, IsFaithful}

@@ -8,7 +8,7 @@ use Rattle.std.proofs.lemmas.List.Elements.{All-nil, All-cons, All-head, All-tai
 use Rattle.mgs_model.proofs.Firsts.{find-map}
 use Rattle.mgs_model.specs.World.{World, Session, has_id, find_session}
 use Rattle.mgs_model.specs.Draw.{screen}
-use Rattle.mgs_core.specs.Worlds.{sizes, size_of, is_size_of, find_size}
+use Rattle.mgs_world.specs.Worlds.{sizes, size_of, is_size_of, find_size}
 use Rattle.mgs_term.specs.Screen.{Screen}
 use Rattle.mgs_term.specs.Terminal.{Terminal, resting}
 use Rattle.mgs_term.specs.Drawing.{Draws, Anything}

@@ -1,15 +1,3 @@
-pub mod Uses
-pub mod Frames
-pub mod Marks
-pub mod Worlds
-pub mod Acts
-pub mod Found
-pub mod Spots
-pub mod Screens
 pub mod Sizes
 pub mod Steps
 pub mod Openings
-pub mod Outcomes
-pub mod Performing
-pub mod Settles
-pub mod Drawings

@@ -15,15 +15,15 @@ use Rattle.mgs_buffers.specs.Kept.{Kept, mark_at}
 use Rattle.mgs_windows.specs.declared.Spot.{Spot}
 use Rattle.mgs_session.specs.Told.{session_opened}
 use Rattle.mgs_session.specs.declared.Session.{Session}
-use Rattle.mgs_core.specs.Worlds.{buffers_of, id_after, session_of, window_shown, world_of}
-use Rattle.mgs_core.specs.Sound.{IsSound, in_use}
-use Rattle.mgs_core.specs.Spots.{FirstSpot, MarksStay, SpotDropped, first_name, spot_name}
+use Rattle.mgs_world.specs.Worlds.{buffers_of, id_after, session_of, window_shown, world_of}
+use Rattle.mgs_world.specs.Sound.{IsSound, in_use}
+use Rattle.mgs_world.specs.Spots.{FirstSpot, MarksStay, SpotDropped, first_name, spot_name}
 use Rattle.mgs_model.specs.declared.right.Right.TheVariants.{ReadAttributes}
 use Rattle.mgs_core.specs.Steps.{Answers, OpenedBy, open_fault}
-use Rattle.mgs_core.proofs.Marks.{same_is}
-use Rattle.mgs_core.proofs.Worlds.{same_window, same_windows, same_world}
-use Rattle.mgs_core.proofs.Acts.{sound_more}
-use Rattle.mgs_core.proofs.Spots.{sessions_stay}
+use Rattle.mgs_world.proofs.Marks.{same_is}
+use Rattle.mgs_world.proofs.Worlds.{same_window, same_windows, same_world}
+use Rattle.mgs_world.proofs.Soundness.{sound_more}
+use Rattle.mgs_world.proofs.Spots.{sessions_stay}
 
 -- WHAT THE FIRST WINDOW SHOWS
 

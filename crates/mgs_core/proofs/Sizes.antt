@@ -14,11 +14,12 @@ use Rattle.mgs_buffers.specs.Kept.{Kept}
 use Rattle.mgs_session.specs.declared.Session.{Session}
 use Rattle.mgs_session.specs.Told.{session_opened}
 use Rattle.mgs_windows.specs.declared.Spot.{Spot}
-use Rattle.mgs_core.specs.Spots.{FirstSpot}
-use Rattle.mgs_core.proofs.Spots.{sum_append}
-use Rattle.mgs_core.specs.declared.server.Size.{Size}
-use Rattle.mgs_core.specs.Worlds.{size_in, sizes_in, sizes, world_of, session_id, is_size_of, find_size, id_after, IsOfSize, IsOther, IsUnique}
-use Rattle.mgs_core.specs.Sound.{AreBelow, IsHeld, IsSound, in_use, sum_of, session_uses}
+use Rattle.mgs_world.specs.Spots.{FirstSpot}
+use Rattle.mgs_world.proofs.Spots.{sum_append}
+use Rattle.mgs_world.specs.declared.size.Size.{Size}
+use Rattle.mgs_world.specs.Worlds.{size_in, sizes_in, sizes, world_of, session_id, is_size_of, find_size, id_after, IsOfSize, IsOther, IsUnique}
+use Rattle.mgs_core.specs.Held.{AreBelow, IsHeld}
+use Rattle.mgs_world.specs.Sound.{IsSound, in_use, sum_of, session_uses}
 
 pub sizes_world : (d : Directory) (ks : List Kept) (xs : List Session) (n : Option ℕ) → sizes (world_of d ks xs n) ≡ sizes_in xs
 sizes_world d ks [] n = refl

@@ -1,6 +1,6 @@
 -- One call of a server is one step of the model: a byte of a session.
 use Rattle.std.proofs.Common.{◌≡◌, ℕ, zero, suc, ◌+◌, ◌<◌, ◌≤◌, Bool, true, cond, List, [], ◌∷◌, length, get_or, Option, Some, None, refl, sym, ap, subst, ◌∙◌, arith}
-use Rattle.std.specs.Prelude.{find, remove, slice_set, IsSome, is_some}
+use Rattle.std.specs.Prelude.{remove, slice_set, IsSome, is_some}
 use Rattle.std.specs.List.{position_or_len}
 use Rattle.std.specs.Option.{option_map}
 use Rattle.std.proofs.lemmas.List.{length-map}
@@ -15,17 +15,19 @@ use Rattle.mgs_model.specs.Events.{Todo, Typed, Refuse, refused_own, begun_own, 
 use Rattle.mgs_model.specs.declared.session.Command.{Command}
 use Rattle.mgs_model.specs.declared.errors.Keyed.{Keyed}
 use Rattle.mgs_model.specs.declared.errors.Keyed.TheVariants.{Done, Short, NoSession}
-use Rattle.mgs_model.proofs.Firsts.{find-map, find_none, find_at_place, position_or_len-map, written_first}
+use Rattle.mgs_model.proofs.Firsts.{find-map, position_or_len-map, written_first}
 use Rattle.mgs_buffers.specs.Kept.{Kept}
 use Rattle.mgs_session.specs.declared.Session.{Session}
-use Rattle.mgs_core.specs.declared.server.Size.{Size}
+use Rattle.mgs_world.specs.declared.size.Size.{Size}
 use Rattle.mgs_session.specs.Told.{silent, told}
-use Rattle.mgs_core.specs.Worlds.{session_of, own_of, world_of, buffers_of, id_after, size_of, size_in, sizes, sizes_in, find_size, is_size_of, session_id}
-use Rattle.mgs_core.specs.Steps.{KeyedBy, outcome_for}
-use Rattle.mgs_core.specs.Sound.{IsSound, in_use, session_uses}
-use Rattle.mgs_core.specs.Spots.{MarksStay}
-use Rattle.mgs_core.proofs.Worlds.{same_world}
-use Rattle.mgs_core.proofs.Spots.{sessions_stay}
+use Rattle.mgs_world.specs.Worlds.{session_of, own_of, world_of, buffers_of, id_after, size_of, size_in, sizes, sizes_in, find_size, is_size_of, session_id}
+use Rattle.mgs_core.specs.Steps.{KeyedBy}
+use Rattle.mgs_act.specs.Deeds.{outcome_for}
+use Rattle.mgs_world.specs.Sound.{IsSound, in_use, session_uses}
+use Rattle.mgs_world.specs.Spots.{MarksStay}
+use Rattle.mgs_world.proofs.Worlds.{same_world}
+use Rattle.mgs_world.proofs.Sessions.{session_some}
+use Rattle.mgs_world.proofs.Spots.{sessions_stay}
 use Rattle.mgs_core.proofs.Sizes.{sizes_world, place_sized, removed_first, removed_sound, closed_sound}
 use Rattle.mgs_model.specs.declared.message.Message.TheVariants.{NoMemory}
 
@@ -117,9 +119,6 @@ keyed_short old new id byte held stays done may = record {
 
 -- A SESSION IN THE WORLD
 
-session_seen : (d : Directory) (ks : List Kept) (xs : List Session) (next : Option ℕ) (id : ℕ) → find_session id (world_of d ks xs next).sessions ≡ option_map (session_of ks) (find (session_id id) xs)
-session_seen d ks xs next id = find-map (session_of ks) (session_id id) (has_id id) (λ x. refl) xs
-
 is_some_mapped : {A B : Type 0} (f : A → B) (o : Option A) → is_some (option_map f o) ≡ is_some o
 is_some_mapped f None = refl
 is_some_mapped f (Some a) = refl
@@ -141,19 +140,6 @@ world_changed f d ks xs next id at h y place within is does =
 place_changed : (xs : List Session) (id at : ℕ) (h y : Session) → at ≡ position_or_len (session_id id) xs → h ≡ get_or xs at h → y.id ≡ h.id → at ≡ position_or_len (session_id id) (slice_set xs at y)
 place_changed xs id at h y place is same =
     place ∙ sym (position_or_len-set (session_id id) xs at y h (ap (λ (n : ℕ). session_id id (record h { id = n })) same ∙ ap (session_id id) is))
-
-pub session_none : (d : Directory) (ks : List Kept) (xs : List Session) (next : Option ℕ) (id at : ℕ) → at ≡ position_or_len (session_id id) xs → at ≡ length xs → find_session id (world_of d ks xs next).sessions ≡ None
-session_none d ks xs next id at place past =
-    session_seen d ks xs next id ∙ ap (option_map (session_of ks)) (find_none (session_id id) xs (sym place ∙ past))
-
--- the one at its place has the id
-pub session_found : (xs : List Session) (id at : ℕ) (h : Session) → at ≡ position_or_len (session_id id) xs → at < length xs → h ≡ get_or xs at h → find (session_id id) xs ≡ Some h
-session_found xs id at h place within is =
-    find_at_place (session_id id) xs h (omega (arith, place, within)) ∙ ap (λ (n : ℕ). Some (get_or xs n h)) (sym place) ∙ ap (λ (x : Session). Some x) (sym is)
-
-pub session_some : (d : Directory) (ks : List Kept) (xs : List Session) (next : Option ℕ) (id at : ℕ) (h : Session) → at ≡ position_or_len (session_id id) xs → at < length xs → h ≡ get_or xs at h → find_session id (world_of d ks xs next).sessions ≡ Some (session_of ks h)
-session_some d ks xs next id at h place within is =
-    session_seen d ks xs next id ∙ ap (option_map (session_of ks)) (session_found xs id at h place within is)
 
 -- A BYTE OF THE SESSION AT A PLACE
 

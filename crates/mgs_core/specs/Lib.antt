@@ -1,7 +1,2 @@
-pub mod Worlds
-pub mod Sound
-pub mod Spots
-pub mod Deeds
-pub mod Screens
 pub mod Steps
-pub mod Settling
+pub mod Held

@@ -1,16 +1,12 @@
 -- One call of a server is one step of the model.
 use Rattle.std.specs.Prelude.{◌≡◌, ◌↔◌, ℕ, nat_le, Bool, true, not, List, length, Option, Some, None, IsSome, IfOk, OnErr, Result, Ok, Err, if◌then◌else◌}
-use Rattle.std.specs.Option.{option_map}
 use Rattle.mgs_model.specs.Access.{is_among}
 use Rattle.mgs_model.specs.World.{World, find_session}
-use Rattle.mgs_model.specs.Outcome.{Outcome}
-use Rattle.mgs_model.specs.Apply.{outcome_of}
 use Rattle.mgs_model.specs.Events.{Open, Byte, step, can_open, is_size, refused_act, may_be_refused}
 use Rattle.mgs_model.specs.declared.errors.Keyed.{Keyed}
 use Rattle.mgs_model.specs.declared.errors.Keyed.TheVariants as keyed
 use Rattle.mgs_model.specs.declared.errors.OpenFault.{OpenFault}
 use Rattle.mgs_model.specs.declared.errors.OpenFault.TheVariants.{NoUser, Size, Full, Short}
-use Rattle.mgs_model.specs.declared.session.Command.{Command}
 
 -- A BYTE: the world after is the step of the world before, for some answer of the store, and some number of acts for
 -- which there is memory. `Short` is answered exactly where memory was refused, `NoSession` exactly where no session has
@@ -46,7 +42,3 @@ pub record OpenedBy (old new : World) (user : List ℕ) (rows cols : ℕ) (resul
   pub ok : IfOk result (λ id. (can_open old id user rows cols ≡ true) × (new ≡ step old (Open id user rows cols)))
   pub err : OnErr result (new ≡ old)
   pub answer : Answers result (open_fault old user rows cols)
-
--- what a command would come to for a session, if it is open
-abbrev pub outcome_for : World → ℕ → Command → Bool → Option Outcome
-outcome_for w id c stored = option_map (λ x. outcome_of w x c stored) (find_session id w.sessions)

@@ -6,16 +6,13 @@ ghost use Rattle.mgs_model.specs.World.{find_session};
 ghost use Rattle.mgs_model.specs.World as model;
 ghost use Rattle.mgs_model.specs.Draw.{screen};
 ghost use Rattle.mgs_core.specs.Steps.{KeyedBy, OpenedBy, open_fault};
-ghost use Rattle.mgs_core.specs.Spots.{SpotDropped, FirstSpot, spot_name, first_name};
-ghost use Rattle.mgs_core.specs.Worlds.{world_of, buffers_of, sizes, sizes_in, find_size, session_id, id_after, is_size_of, IsOfSize, IsUnique};
-ghost use Rattle.mgs_core.specs.Sound.{IsSound};
+ghost use Rattle.mgs_world.specs.Spots.{SpotDropped, FirstSpot, spot_name, first_name};
+ghost use Rattle.mgs_world.specs.Worlds.{world_of, buffers_of, sizes, sizes_in, find_size, session_id, id_after, is_size_of, IsOfSize, IsUnique};
+ghost use Rattle.mgs_world.specs.Sound.{IsSound};
 ghost use Rattle.mgs_model.specs.Apply.{remove_first};
 ghost use Rattle.mgs_model.specs.Picture.{IsSize};
 
-use crate::act::act;
-use crate::open::{add_spot, drop_spots};
-use crate::screen::draw_session;
-use crate::settle::settle;
+use mgs_act::act;
 use mgs_buffers::Buffers;
 use mgs_grid::Grid;
 use mgs_marks::Marked;
@@ -24,18 +21,12 @@ use mgs_model::{
     SessionId, Short, command_of,
 };
 use mgs_policy::Directory;
+use mgs_screen::draw_session;
 use mgs_session::{Session, hush, opened, tell};
 use mgs_windows::Spot;
+use mgs_world::{Size, add_spot, drop_spots, settle};
 use std::alloc::Global;
 use std::marker::Model;
-
-/// An open session: its id, and the rows and columns of its screen.
-#[derive(Clone, Copy, Debug, PartialEq, Eq)]
-pub struct Size {
-    pub id: SessionId,
-    pub rows: usize,
-    pub cols: usize,
-}
 
 /// The world of a server: its directory, its buffers, its open sessions in the order in which they opened, and the id
 /// of the next.
@@ -49,8 +40,8 @@ pub struct Core<T: Marked + Drop> {
 
 impl<T: Marked + Drop> Model for Core<T> {
     ghost use Rattle.mgs_model.specs.World.{World};
-    ghost use Rattle.mgs_core.specs.Worlds.{world_of};
-    ghost use Rattle.mgs_core.specs.Sound.{IsHeld};
+    ghost use Rattle.mgs_world.specs.Worlds.{world_of};
+    ghost use Rattle.mgs_core.specs.Held.{IsHeld};
 
     ghost Value = { World };
 

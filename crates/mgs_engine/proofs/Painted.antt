@@ -18,9 +18,9 @@ use Rattle.mgs_term.specs.Screen as term
 use Rattle.mgs_term.specs.Drawing.{Draws, IsFaithful}
 use Rattle.mgs_paint.specs.Painting.{Paints, cell_of, row_cells, cells_of, shown}
 use Rattle.mgs_model.proofs.Firsts.{found_passes}
-use Rattle.mgs_core.specs.declared.server.Size.{Size}
-use Rattle.mgs_core.specs.Worlds.{find_size, sizes, is_size_of, IsOfSize, IsOther, IsUnique}
-use Rattle.mgs_core.specs.Worlds as core
+use Rattle.mgs_world.specs.declared.size.Size.{Size}
+use Rattle.mgs_world.specs.Worlds.{find_size, sizes, is_size_of, IsOfSize, IsOther, IsUnique}
+use Rattle.mgs_world.specs.Worlds as core
 use Rattle.mgs_engine.specs.declared.screen.Screen.{Screen}
 use Rattle.mgs_engine.specs.Serving.{IsTaken, pending_of, bytes_of, is_queue_of}
 use Rattle.mgs_engine.specs.Painted.{PaintedBy, Painted}

@@ -12,8 +12,8 @@ use Rattle.mgs_model.specs.Apply.{change_first, remove_first}
 use Rattle.mgs_model.specs.Picture.{IsSize, IsPicture}
 use Rattle.mgs_paint.specs.Painting.{bound_of}
 use Rattle.mgs_core.proofs.Sizes.{all_removed}
-use Rattle.mgs_core.specs.declared.server.Size.{Size}
-use Rattle.mgs_core.specs.Worlds.{find_size, is_size_of, IsOther, IsUnique}
+use Rattle.mgs_world.specs.declared.size.Size.{Size}
+use Rattle.mgs_world.specs.Worlds.{find_size, is_size_of, IsOther, IsUnique}
 use Rattle.mgs_engine.specs.declared.screen.Screen.{Screen}
 use Rattle.mgs_engine.specs.Serving.{Handed, Queue, queue_id, IsTaken, emptied, bytes_of, find_queue, is_queue_of}
 use Rattle.mgs_engine.specs.Screens.{queue_of, queues_of, size_of, screen_id, IsScreen, IsKnown}

@@ -1,7 +1,7 @@
 -- The screens of the open sessions, beside the world that they show.
 use Rattle.std.specs.Prelude.{◌≡◌, ℕ, ◌≤◌, Bool, nat_eq, List, [], ◌∷◌, ◌++◌, Some, map, All, vec_capacity}
-use Rattle.mgs_core.specs.declared.server.Size.{Size}
-use Rattle.mgs_core.specs.Worlds.{find_size, sizes, IsUnique}
+use Rattle.mgs_world.specs.declared.size.Size.{Size}
+use Rattle.mgs_world.specs.Worlds.{find_size, sizes, IsUnique}
 use Rattle.mgs_model.specs.World.{World, Session, find_session}
 use Rattle.mgs_model.specs.Draw.{screen}
 use Rattle.mgs_model.specs.Picture.{Picture}

@@ -1,6 +1,6 @@
 // The screens are drawn from a world, and painted where they changed.
 ghost use Rattle.std.specs.Prelude.{◌≡◌, ◌≤◌, ◌<◌, ◌↔◌, ℕ, List, [], map, All, IsTrue, IfOk, Some, length, vec_len, vec_capacity};
-ghost use Rattle.mgs_core.specs.Worlds.{sizes, find_size, IsOfSize, IsUnique};
+ghost use Rattle.mgs_world.specs.Worlds.{sizes, find_size, IsOfSize, IsUnique};
 ghost use Rattle.mgs_engine.specs.Serving.{IsTaken};
 ghost use Rattle.mgs_engine.specs.Screens.{IsScreen, IsKnown, IsAhead, IsDrawn, IsRepaint, IsFirst, AreRepaints, size_of, queue_of, queues_of};
 ghost use Rattle.mgs_paint.specs.Painting.{Paints};

@@ -1,8 +1,8 @@
 // A world and the screens of its open sessions: one call is one event.
 ghost use Rattle.std.specs.Prelude.{◌≡◌, ◌↔◌, ◌++◌, ◌≤◌, ◌<◌, ℕ, List, [], ◌∷◌, Some, None, IfOk, OnOk, OnErr, IsTrue, IsSome, map, length, is_some, nat_eq};
 ghost use Rattle.std.specs.List.{position_or_len};
-ghost use Rattle.mgs_core.specs.declared.server.Size.{Size};
-ghost use Rattle.mgs_core.specs.Worlds.{sizes, find_size, is_size_of};
+ghost use Rattle.mgs_world.specs.declared.size.Size.{Size};
+ghost use Rattle.mgs_world.specs.Worlds.{sizes, find_size, is_size_of};
 ghost use Rattle.mgs_core.specs.Steps.{KeyedBy, OpenedBy};
 ghost use Rattle.mgs_engine.specs.Serving.{Handed, Serving, AllTaken, pending_of, queue_ids, is_queue_of, after_taking, emptied, Queue};
 ghost use Rattle.mgs_engine.specs.Painted.{Painted};

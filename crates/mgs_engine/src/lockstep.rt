@@ -1,6 +1,6 @@
 // Three sessions on two buffers: after each event each terminal shows what a core beside the engine draws.
 ghost use Rattle.std.specs.Prelude.{◌≡◌, [], IfSome};
-ghost use Rattle.mgs_core.specs.Worlds.{sizes};
+ghost use Rattle.mgs_world.specs.Worlds.{sizes};
 ghost use Rattle.mgs_engine.specs.Serving.{AllTaken};
 
 use super::fixtures::{Seat, Seats, list_of};

@@ -1,7 +1,7 @@
 use Rattle.std.proofs.Common.{◌+◌, ◌∙◌, ◌++◌, ◌∷◌, [], List, Some, ap, sym, subst}
 use Rattle.mgs_session.specs.declared.Session.{Session}
-use Rattle.mgs_core.specs.Worlds.{world_of}
-use Rattle.mgs_core.specs.Sound.{IsSound}
+use Rattle.mgs_world.specs.Worlds.{world_of}
+use Rattle.mgs_world.specs.Sound.{IsSound}
 use Rattle.mgs_core.proofs.Sizes.{opened_sound}
 use Rattle.mgs_core.proofs.Openings.{opened_at, world_undone}
 use Rattle.mgs_core.proofs.server.add_session.Goals as goal

@@ -1,11 +1,12 @@
 use Rattle.std.proofs.Common.{◌≡◌, ◌<◌, ◌∙◌, length, ap, sym, subst, List, arith}
 use Rattle.std.specs.List.{position_or_len}
 use Rattle.mgs_session.specs.declared.Session.{Session}
-use Rattle.mgs_core.specs.Worlds.{session_id, is_size_of, sizes_in, world_of}
-use Rattle.mgs_core.specs.Sound.{IsSound}
-use Rattle.mgs_core.proofs.Acts.{session_sound}
+use Rattle.mgs_world.specs.Worlds.{session_id, is_size_of, sizes_in, world_of}
+use Rattle.mgs_world.specs.Sound.{IsSound}
+use Rattle.mgs_world.proofs.Soundness.{session_sound}
 use Rattle.mgs_core.proofs.Sizes.{closed_sound, sizes_removed, none_removed, no_size}
-use Rattle.mgs_core.proofs.Steps.{session_none, closed_none, closed_at}
+use Rattle.mgs_core.proofs.Steps.{closed_none, closed_at}
+use Rattle.mgs_world.proofs.Sessions.{session_none}
 use Rattle.mgs_core.proofs.server.close_in.Goals as goal
 
 pub drop_spots-requires : goal.drop_spots-requires

@@ -1,11 +1,11 @@
 use Rattle.std.proofs.Common.{◌≡◌, ◌∙◌, ap, sym, Some}
 use Rattle.mgs_model.specs.World as model
 use Rattle.mgs_model.specs.Draw.{screen}
-use Rattle.mgs_core.specs.declared.server.Size.{Size}
-use Rattle.mgs_core.specs.Worlds.{world_of}
-use Rattle.mgs_core.proofs.Acts.{session_sound}
+use Rattle.mgs_world.specs.declared.size.Size.{Size}
+use Rattle.mgs_world.specs.Worlds.{world_of}
+use Rattle.mgs_world.proofs.Soundness.{session_sound}
 use Rattle.mgs_core.proofs.Sizes.{size_within, size_found}
-use Rattle.mgs_core.proofs.Steps.{session_some}
+use Rattle.mgs_world.proofs.Sessions.{session_some}
 use Rattle.mgs_core.proofs.server.draw_in.Goals as goal
 
 pub bounds-sessions-at : goal.bounds-sessions-at

@@ -1,8 +1,9 @@
 use Rattle.std.proofs.Common.{◌≡◌, ◌<◌, ◌∙◌, get_or, length, refl, ap, arith}
 use Rattle.std.specs.Prelude.{slice_set}
-use Rattle.mgs_core.specs.Worlds.{sizes_in}
-use Rattle.mgs_core.proofs.Acts.{sound_set, sizes_set}
-use Rattle.mgs_core.proofs.Steps.{keyed_none, keyed_at, keyed_short_at, session_none}
+use Rattle.mgs_world.specs.Worlds.{sizes_in}
+use Rattle.mgs_world.proofs.Soundness.{sound_set, sizes_set}
+use Rattle.mgs_core.proofs.Steps.{keyed_none, keyed_at, keyed_short_at}
+use Rattle.mgs_world.proofs.Sessions.{session_none}
 use Rattle.mgs_core.proofs.server.key_in.Goals as goal
 
 pub act-requires-clause-sound : goal.act-requires-clause-sound

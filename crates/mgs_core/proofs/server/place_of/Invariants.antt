@@ -1,6 +1,6 @@
 use Rattle.std.proofs.Common.{◌≡◌, ◌+◌, drop}
 use Rattle.std.specs.List.{position_or_len}
-use Rattle.mgs_core.specs.Worlds.{session_id}
+use Rattle.mgs_world.specs.Worlds.{session_id}
 use Rattle.mgs_core.proofs.server.place_of.Given as goal
 
 -- the place is so many behind the sessions that were passed

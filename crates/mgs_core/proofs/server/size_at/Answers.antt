@@ -1,5 +1,5 @@
 use Rattle.std.proofs.Common.{◌∙◌, ap, ℕ, Some}
-use Rattle.mgs_core.specs.declared.server.Size.{Size}
+use Rattle.mgs_world.specs.declared.size.Size.{Size}
 use Rattle.mgs_core.proofs.Sizes.{sized_at}
 use Rattle.mgs_core.proofs.server.size_at.Goals as goal
 

@@ -1,5 +1,5 @@
 use Rattle.std.proofs.Common.{Some, sym, ap, ◌∙◌}
-use Rattle.mgs_core.specs.declared.server.Size.{Size}
+use Rattle.mgs_world.specs.declared.size.Size.{Size}
 use Rattle.mgs_engine.proofs.Painted.{same_size}
 use Rattle.mgs_engine.proofs.draw.first_screen.Goals as goal
 

@@ -3,7 +3,7 @@ use Rattle.std.specs.Prelude.{slice_get, All}
 use Rattle.std.proofs.lemmas.List.{length_push}
 use Rattle.std.proofs.lemmas.Option.{slice_get_within}
 use Rattle.std.proofs.lemmas.List.Elements.{All-push}
-use Rattle.mgs_core.specs.Worlds.{sizes}
+use Rattle.mgs_world.specs.Worlds.{sizes}
 use Rattle.mgs_engine.specs.declared.screen.Screen.{Screen}
 use Rattle.mgs_engine.specs.Screens.{IsScreen, IsDrawn, IsFirst, size_of}
 use Rattle.mgs_engine.proofs.Painted.{told_known, told_size, sizes_next, sizes_whole}

@@ -1,6 +1,6 @@
 use Rattle.std.proofs.Common.{◌≡◌, ◌-◌, length, map, take}
 use Rattle.std.specs.Prelude.{All}
-use Rattle.mgs_core.specs.Worlds.{sizes}
+use Rattle.mgs_world.specs.Worlds.{sizes}
 use Rattle.mgs_engine.specs.Screens.{IsScreen, IsDrawn, IsFirst, size_of}
 use Rattle.mgs_engine.proofs.draw.first_screens.Given as goal
 

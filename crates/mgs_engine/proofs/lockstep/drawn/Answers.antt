@@ -1,7 +1,7 @@
 use Rattle.std.proofs.Common.{Some, sym, ap, ◌∙◌}
 use Rattle.mgs_model.specs.Picture.{Picture}
-use Rattle.mgs_core.specs.declared.server.Size.{Size}
-use Rattle.mgs_core.specs.Worlds.{sizes}
+use Rattle.mgs_world.specs.declared.size.Size.{Size}
+use Rattle.mgs_world.specs.Worlds.{sizes}
 use Rattle.mgs_engine.proofs.Painted.{told_known}
 use Rattle.mgs_engine.proofs.lockstep.drawn.Goals as goal
 

@@ -1,5 +1,5 @@
 use Rattle.std.proofs.Common.{List, map, ap, ◌∙◌}
-use Rattle.mgs_core.specs.Worlds.{buffers_of}
+use Rattle.mgs_world.specs.Worlds.{buffers_of}
 use Rattle.mgs_model.specs.World.{Buffer, World}
 use Rattle.mgd.specs.Setups.{kept_of, world_of}
 use Rattle.mgd.proofs.Drafts.{engine_of, no_queues, kept_buffers}

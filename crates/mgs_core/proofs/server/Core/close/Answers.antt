@@ -2,7 +2,7 @@ use Rattle.std.proofs.Common.{◌∙◌, ap, sym}
 use Rattle.mgs_model.specs.World.{World}
 use Rattle.mgs_model.specs.Events.{step, Close}
 use Rattle.mgs_model.specs.Apply.{remove_first}
-use Rattle.mgs_core.specs.Worlds.{sizes, is_size_of}
+use Rattle.mgs_world.specs.Worlds.{sizes, is_size_of}
 use Rattle.mgs_core.proofs.Sizes.{sizes_world, held_removed}
 use Rattle.mgs_core.proofs.server.Core.close.Goals as goal
 

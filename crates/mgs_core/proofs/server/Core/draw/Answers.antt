@@ -2,7 +2,7 @@ use Rattle.std.proofs.Common.{◌≡◌, ◌∙◌, ap, sym, List}
 use Rattle.mgs_model.specs.World.{World, find_session}
 use Rattle.mgs_model.specs.Draw.{screen}
 use Rattle.mgs_session.specs.declared.Session.{Session}
-use Rattle.mgs_core.specs.Worlds.{sizes, sizes_in, find_size, world_of}
+use Rattle.mgs_world.specs.Worlds.{sizes, sizes_in, find_size, world_of}
 use Rattle.mgs_core.proofs.Sizes.{sizes_world}
 use Rattle.mgs_core.proofs.server.Core.draw.Goals as goal
 

@@ -2,8 +2,8 @@ use Rattle.std.proofs.Common.{◌∙◌, List, ap, sym, subst, arith}
 use Rattle.std.specs.Vec.{with_items}
 use Rattle.std.proofs.lemmas.List.{with_items_is}
 use Rattle.mgs_session.specs.declared.Session.{Session}
-use Rattle.mgs_core.specs.Worlds.{sizes, sizes_in, world_of}
-use Rattle.mgs_core.specs.Sound.{IsSound}
+use Rattle.mgs_world.specs.Worlds.{sizes, sizes_in, world_of}
+use Rattle.mgs_world.specs.Sound.{IsSound}
 use Rattle.mgs_core.proofs.Sizes.{sizes_world, held_sized}
 use Rattle.mgs_core.proofs.Steps.{keyed_same}
 use Rattle.mgs_core.proofs.server.Core.key.Goals as goal

@@ -2,9 +2,9 @@ use Rattle.std.proofs.Common.{◌∙◌, ◌++◌, ◌∷◌, [], ℕ, List, Opt
 use Rattle.std.specs.Prelude.{is_some}
 use Rattle.mgs_model.specs.World.{World}
 use Rattle.mgs_model.specs.declared.errors.OpenFault.TheVariants.{NoUser}
-use Rattle.mgs_core.specs.declared.server.Size.{Size}
-use Rattle.mgs_core.specs.Worlds.{sizes, sizes_in, id_after, world_of}
-use Rattle.mgs_core.specs.Sound.{AreBelow}
+use Rattle.mgs_world.specs.declared.size.Size.{Size}
+use Rattle.mgs_world.specs.Worlds.{sizes, sizes_in, id_after, world_of}
+use Rattle.mgs_core.specs.Held.{AreBelow}
 use Rattle.mgs_core.specs.Steps.{open_fault}
 use Rattle.mgs_core.proofs.Sizes.{sizes_world, fresh, held_opened}
 use Rattle.mgs_core.proofs.Openings.{no_user, opened_by, opened_fault}

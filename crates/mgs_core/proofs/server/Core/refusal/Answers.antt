@@ -3,7 +3,7 @@ use Rattle.std.specs.Prelude.{is_some, nat_le}
 use Rattle.mgs_model.specs.World.{World}
 use Rattle.mgs_model.specs.declared.errors.OpenFault.TheVariants.{Full}
 use Rattle.mgs_core.specs.Steps.{open_fault}
-use Rattle.mgs_core.specs.Worlds.{world_of}
+use Rattle.mgs_world.specs.Worlds.{world_of}
 use Rattle.mgs_core.proofs.Openings.{no_user, no_screen, no_room, many_sessions}
 use Rattle.mgs_core.proofs.server.Core.refusal.Goals.{then-is_full-via-then-is_full, then-is_full-via-else-is_full+then-is_used_up}
 use Rattle.mgs_core.proofs.server.Core.refusal.Goals as goal

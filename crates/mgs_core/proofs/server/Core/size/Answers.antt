@@ -1,8 +1,8 @@
 use Rattle.std.proofs.Common.{◌∙◌, ap, sym, subst, List}
 use Rattle.std.specs.Prelude.{All, slice_get}
 use Rattle.mgs_session.specs.declared.Session.{Session}
-use Rattle.mgs_core.specs.declared.server.Size.{Size}
-use Rattle.mgs_core.specs.Worlds.{sizes, sizes_in, IsOfSize, IsUnique}
+use Rattle.mgs_world.specs.declared.size.Size.{Size}
+use Rattle.mgs_world.specs.Worlds.{sizes, sizes_in, IsOfSize, IsUnique}
 use Rattle.mgs_core.proofs.Sizes.{sizes_world}
 use Rattle.mgs_core.proofs.server.Core.size.Goals as goal
 

@@ -1,5 +1,5 @@
 use Rattle.std.proofs.Common.{sym, ap, subst, ◌∙◌}
-use Rattle.mgs_core.specs.Worlds.{sizes}
+use Rattle.mgs_world.specs.Worlds.{sizes}
 use Rattle.mgs_core.specs.Steps.{KeyedBy}
 use Rattle.mgs_engine.specs.Serving.{Serving, queue_ids}
 use Rattle.mgs_engine.specs.Painted.{Painted}

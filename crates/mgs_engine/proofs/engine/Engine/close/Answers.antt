@@ -1,7 +1,7 @@
 use Rattle.std.proofs.Common.{List, map, nat_eq, sym, ap, subst, ◌∙◌}
 use Rattle.std.specs.Prelude.{All}
 use Rattle.mgs_core.proofs.Sizes.{all_removed, unique_removed}
-use Rattle.mgs_core.specs.Worlds.{sizes, is_size_of}
+use Rattle.mgs_world.specs.Worlds.{sizes, is_size_of}
 use Rattle.mgs_model.specs.Apply.{remove_first}
 use Rattle.mgs_engine.specs.declared.screen.Screen.{Screen}
 use Rattle.mgs_engine.specs.Serving.{Serving, IsTaken, queue_id, queue_ids}

@@ -1,5 +1,5 @@
 use Rattle.std.proofs.Common.{map, ap, ◌∙◌}
-use Rattle.mgs_core.specs.declared.server.Size.{Size}
+use Rattle.mgs_world.specs.declared.size.Size.{Size}
 use Rattle.mgs_engine.proofs.Screens.{ids_are}
 use Rattle.mgs_engine.proofs.Painted.{first_all}
 use Rattle.mgs_engine.proofs.engine.Engine.new.Goals as goal

@@ -1,8 +1,8 @@
 use Rattle.std.proofs.Common.{◌≡◌, ℕ, List, [], ◌∷◌, ◌++◌, map, Some, Ok, sym, ap, subst, ◌∙◌}
 use Rattle.std.proofs.lemmas.List.Elements.{All-push}
-use Rattle.mgs_core.specs.declared.server.Size.{Size}
+use Rattle.mgs_world.specs.declared.size.Size.{Size}
 use Rattle.mgs_core.specs.Steps.{OpenedBy}
-use Rattle.mgs_core.specs.Worlds.{sizes, find_size}
+use Rattle.mgs_world.specs.Worlds.{sizes, find_size}
 use Rattle.mgs_engine.specs.declared.screen.Screen.{Screen}
 use Rattle.mgs_engine.specs.Serving.{Serving, pending_of, queue_id, queue_ids}
 use Rattle.mgs_model.specs.World.{Session, find_session}

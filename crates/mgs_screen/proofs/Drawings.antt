@@ -1,0 +1,415 @@
+-- Rows that are drawn one below the other, and what a window shows.
+use Rattle.std.proofs.Common.{◌≡◌, ℕ, zero, suc, ◌+◌, ◌-◌, ◌<◌, ◌≤◌, Bool, true, false, List, [], ◌∷◌, ◌++◌, length, map, take, drop, get_or, Option, Some, None, refl, sym, ap, ◌∙◌, arith, append_assoc, length-append, eq-eqb}
+use Rattle.std.specs.Prelude.{slice_get, min, nat_eq, if◌then◌else◌}
+use Rattle.std.specs.Option.{option_map}
+use Rattle.std.proofs.Math.Nat.{min_comm}
+use Rattle.std.proofs.Math.Seq.{take-append_seam, drop-append-add}
+use Rattle.std.proofs.lemmas.Bool.{ne_eqb}
+use Rattle.std.proofs.lemmas.List.{length-map, length-take, length-drop, drop-drop, drop_all, append-nil, drop_more}
+use Rattle.std.proofs.lemmas.List.Folds.{list_any_at}
+use Rattle.mgs_model.specs.Names.{same_name}
+use Rattle.mgs_model.specs.Rights.{all_rights}
+use Rattle.mgs_model.specs.Access.{Directory, Decider, decider, decision_by, allows, any_right}
+use Rattle.mgs_model.specs.Lines.{line_of, line_start, column}
+use Rattle.mgs_model.specs.Rows.{Row, rows_put, mode_row, buffer_mode, none_mode, blank_rows, unread_rows, text_rows, shift_at, shift_for, echo_row}
+use Rattle.mgs_model.specs.Picture.{Picture}
+use Rattle.mgs_model.specs.World.{Buffer, Buffer_of, may}
+use Rattle.mgs_model.specs.View.{BufferSeen, WindowSeen, buffer_seen, reads, reads_found, window_seen, spots_if, told_if, full_if, text_in}
+use Rattle.mgs_model.specs.Seen.{Shown, shown_of, text_seen, attributes_seen}
+use Rattle.mgs_model.specs.Draw.{draw, screen, find_shown, found_rows, buffer_rows, pane_rows, place_of, point_row, point_shift, found_cursor, text_cursor, window_rows, windows_rows, window_cursor, first_row, heading_of}
+use Rattle.mgs_model.specs.declared.right.Right.{Right}
+use Rattle.mgs_model.specs.declared.right.Right.TheVariants.{ReadData, ReadAttributes}
+use Rattle.mgs_model.proofs.Firsts.{find-map}
+use Rattle.mgs_buffers.specs.Kept.{Kept, kept_at, IsKept, mark_at}
+use Rattle.mgs_windows.specs.declared.Spot.{Spot}
+use Rattle.mgs_windows.specs.declared.Window.{Window}
+use Rattle.mgs_windows.specs.Panes.{room_of}
+use Rattle.mgs_session.specs.declared.Session.{Session}
+use Rattle.mgs_world.specs.Worlds.{buffers_of, window_shown, window_of, world_of, session_of}
+use Rattle.mgs_screen.specs.Screens as screens
+use Rattle.mgs_screen.specs.Screens.{shown_to, window_to, windows_to, heading_to, spot_rows, spot_cursor}
+use Rattle.mgs_model.specs.declared.entry.Decision.{Decision}
+use Rattle.mgs_world.specs.Sound.{IsWindowSound}
+use Rattle.mgs_world.proofs.Soundness.{mark_is_kept, window_point}
+use Rattle.mgs_grid.proofs.Pictures.{length-text_rows, length-blank_rows, length-unread_rows}
+use Rattle.mgs_world.proofs.Found.{found_buffer, found_seen, name_kept}
+
+-- ROWS BELOW ROWS
+
+-- what stands before the end of what was put
+take_put : (first : ℕ) (new old : List Row) → first + length new ≤ length old → take (first + length new) (rows_put first new old) ≡ take first old ++ new
+take_put first new old fits =
+    let n : length (take first old ++ new) ≡ first + length new = omega (arith, length-append (take first old) new, length-take first old, fits) in
+    ap (λ (k : ℕ). take k (rows_put first new old)) (sym n) ∙ take-append_seam (take first old ++ new) (drop (first + length new) old)
+
+-- what stands behind it
+drop_put : (first k : ℕ) (new old : List Row) → first + length new ≤ length old → drop (first + length new + k) (rows_put first new old) ≡ drop (first + length new + k) old
+drop_put first k new old fits =
+    let n : length (take first old ++ new) + k ≡ first + length new + k = omega (arith, length-append (take first old) new, length-take first old, fits) in
+    ap (λ (i : ℕ). drop i (rows_put first new old)) (sym n)
+    ∙ drop-append-add (take first old ++ new) (drop (first + length new) old) k
+    ∙ drop-drop k (first + length new) old
+
+pub length_put : (first : ℕ) (new old : List Row) → first + length new ≤ length old → length (rows_put first new old) ≡ length old
+length_put first new old fits =
+    omega (arith, length-append (take first old ++ new) (drop (first + length new) old), length-append (take first old) new, length-take first old, length-drop (first + length new) old, fits)
+
+-- rows put below rows
+put_below : (first : ℕ) (new more old : List Row) → first + length new ≤ length old → rows_put (first + length new) more (rows_put first new old) ≡ rows_put first (new ++ more) old
+put_below first new more old fits =
+    let n : first + length new + length more ≡ first + length (new ++ more) = omega (arith, length-append new more) in
+    ap (λ (xs : List Row). xs ++ more ++ drop (first + length new + length more) (rows_put first new old)) (take_put first new old fits)
+    ∙ ap (λ (ys : List Row). take first old ++ new ++ more ++ ys) (drop_put first (length more) new old fits)
+    ∙ ap (λ (xs : List Row). xs ++ drop (first + length new + length more) old) (append_assoc (take first old) new more)
+    ∙ ap (λ (k : ℕ). take first old ++ (new ++ more) ++ drop k old) n
+
+-- a pane, and the mode line below it
+pub pane_put : (first height : ℕ) (pane : List Row) (text : List ℕ) (old between new : Picture) → first + height < old.rows → length old.lines ≡ old.rows → length pane ≡ height
+    → between ≡ record old { lines = rows_put first pane old.lines }
+    → new ≡ record between { lines = rows_put (first + height) (mode_row between.cols text ∷ []) between.lines }
+    → new.lines ≡ rows_put first (pane ++ mode_row old.cols text ∷ []) old.lines
+pane_put first height pane text old between new room count size put below =
+    let lines : between.lines ≡ rows_put first pane old.lines = ap (λ (p : Picture). p.lines) put in
+    let wide : between.cols ≡ old.cols = ap (λ (p : Picture). p.cols) put in
+    let at : first + height ≡ first + length pane = omega (arith, size) in
+    ap (λ (p : Picture). p.lines) below
+    ∙ ap (λ (n : ℕ). rows_put (first + height) (mode_row n text ∷ []) between.lines) wide
+    ∙ ap (λ (ls : List Row). rows_put (first + height) (mode_row old.cols text ∷ []) ls) lines
+    ∙ ap (λ (n : ℕ). rows_put n (mode_row old.cols text ∷ []) (rows_put first pane old.lines)) at
+    ∙ put_below first pane (mode_row old.cols text ∷ []) old.lines (omega (arith, room, count, size))
+
+-- A TEXT THAT MAY BE READ
+
+shift_same : (selected : Bool) (cols : ℕ) (text : List ℕ) (point : ℕ) → screens.point_shift selected cols (column text point) ≡ point_shift selected cols text point
+shift_same true cols text point = refl
+shift_same false cols text point = refl
+
+-- the numbers that were taken from a text
+pub record IsMeasured (text : List ℕ) (point top line row place start : ℕ) : Type 0 where
+  pub line_is : line ≡ line_of text point
+  pub row_is : row ≡ point_row text top point
+  pub place_is : place ≡ column text point
+  pub start_is : start ≡ line_start text top
+
+pub measured : (text : List ℕ) (point top line above row place start : ℕ) → line ≡ line_of text point → above ≡ line_of text top → row ≡ line - above → place ≡ column text point → start ≡ line_start text top → IsMeasured text point top line row place start
+measured text point top line above row place start is over down at from = record {
+  line_is = is;
+  row_is = down ∙ ap (λ (n : ℕ). n - above) is ∙ ap (λ (n : ℕ). line_of text point - n) over;
+  place_is = at;
+  start_is = from;
+}
+
+pub text_drawn : (selected : Bool) (cols height : ℕ) (heading : Option (List ℕ × Bool)) (text : List ℕ) (point top line row place start shift : ℕ) → IsMeasured text point top line row place start → shift ≡ screens.point_shift selected cols place
+    → text_rows cols (shift_at row shift) 0 height (drop start text) ++ mode_row cols (buffer_mode heading (Some (line + 1, place))) ∷ []
+    ≡ pane_rows selected cols height text top point ++ mode_row cols (buffer_mode heading (place_of text point)) ∷ []
+text_drawn selected cols height heading text point top line row place start shift is shifted =
+    let moved : shift ≡ point_shift selected cols text point = shifted ∙ ap (screens.point_shift selected cols) is.place_is ∙ shift_same selected cols text point in
+    ap (λ (n : ℕ). text_rows cols (shift_at n shift) 0 height (drop start text) ++ mode_row cols (buffer_mode heading (Some (line + 1, place))) ∷ []) is.row_is
+    ∙ ap (λ (n : ℕ). text_rows cols (shift_at (point_row text top point) n) 0 height (drop start text) ++ mode_row cols (buffer_mode heading (Some (line + 1, place))) ∷ []) moved
+    ∙ ap (λ (n : ℕ). text_rows cols (shift_at (point_row text top point) (point_shift selected cols text point)) 0 height (drop n text) ++ mode_row cols (buffer_mode heading (Some (line + 1, place))) ∷ []) is.start_is
+    ∙ ap (λ (n : ℕ). pane_rows selected cols height text top point ++ mode_row cols (buffer_mode heading (Some (n + 1, place))) ∷ []) is.line_is
+    ∙ ap (λ (n : ℕ). pane_rows selected cols height text top point ++ mode_row cols (buffer_mode heading (Some (line_of text point + 1, n))) ∷ []) is.place_is
+
+pub spot_drawn : (selected : Bool) (cols height : ℕ) (ks : List Kept) (heading : Option (List ℕ × Bool)) (x : Spot) (text : List ℕ) (point top : ℕ) → text ≡ (kept_at x.name ks).buffer.text → point ≡ mark_at x.name ks x.point → top ≡ mark_at x.name ks x.top
+    → pane_rows selected cols height text top point ++ mode_row cols (buffer_mode heading (place_of text point)) ∷ [] ≡ spot_rows selected cols height ks heading x
+spot_drawn selected cols height ks heading x text point top t p q =
+    ap (λ (ys : List ℕ). pane_rows selected cols height ys top point ++ mode_row cols (buffer_mode heading (place_of ys point)) ∷ []) t
+    ∙ ap (λ (n : ℕ). pane_rows selected cols height (kept_at x.name ks).buffer.text top n ++ mode_row cols (buffer_mode heading (place_of (kept_at x.name ks).buffer.text n)) ∷ []) p
+    ∙ ap (λ (n : ℕ). pane_rows selected cols height (kept_at x.name ks).buffer.text n (mark_at x.name ks x.point) ++ mode_row cols (buffer_mode heading (place_of (kept_at x.name ks).buffer.text (mark_at x.name ks x.point))) ∷ []) q
+
+pub cursor_drawn : (cols height : ℕ) (ks : List Kept) (x : Spot) (text : List ℕ) (point top line row place start down right : ℕ) → text ≡ (kept_at x.name ks).buffer.text → point ≡ mark_at x.name ks x.point → top ≡ mark_at x.name ks x.top
+    → IsMeasured text point top line row place start → down ≡ min row (height - 1) → right ≡ place - shift_for cols place
+    → ◌≡◌ {A = ℕ × ℕ} (down, right) (spot_cursor cols height ks x)
+cursor_drawn cols height ks x text point top line row place start down right t p q is low far =
+    let d : down ≡ min (height - 1) (point_row text top point) = low ∙ min_comm row (height - 1) ∙ ap (min (height - 1)) is.row_is in
+    let r : right ≡ column text point - shift_for cols (column text point) = far ∙ ap (λ (n : ℕ). n - shift_for cols n) is.place_is in
+    ap (λ (n : ℕ). let c : ℕ × ℕ = (n, right) in c) d
+    ∙ ap (λ (n : ℕ). let c : ℕ × ℕ = (min (height - 1) (point_row text top point), n) in c) r
+    ∙ ap (λ (ys : List ℕ). let c : ℕ × ℕ = (min (height - 1) (point_row ys top point), column ys point - shift_for cols (column ys point)) in c) t
+    ∙ ap (λ (n : ℕ). let ys : List ℕ = (kept_at x.name ks).buffer.text in let c : ℕ × ℕ = (min (height - 1) (point_row ys top n), column ys n - shift_for cols (column ys n)) in c) p
+    ∙ ap (λ (n : ℕ). let ys : List ℕ = (kept_at x.name ks).buffer.text in let c : ℕ × ℕ = (min (height - 1) (point_row ys n (mark_at x.name ks x.point)), column ys (mark_at x.name ks x.point) - shift_for cols (column ys (mark_at x.name ks x.point))) in c) q
+
+-- THE BUFFER OF A WINDOW
+
+found_shown : (d : Directory) (user : List ℕ) (ks : List Kept) (name : List ℕ) → IsKept name ks → find_shown name (shown_to d user ks) ≡ Some (shown_of (buffer_seen d user (kept_at name ks).buffer))
+found_shown d user ks name kept =
+    find-map shown_of (λ (b : BufferSeen). same_name name b.name) (λ (b : Shown). same_name name b.key) (λ b. refl) (map (buffer_seen d user) (buffers_of ks))
+    ∙ ap (option_map shown_of) (found_seen d user name ks kept)
+
+reads_kept : (d : Directory) (user : List ℕ) (ks : List Kept) (name : List ℕ) → IsKept name ks → reads d (buffers_of ks) user name ≡ may d user ReadData (kept_at name ks).buffer
+reads_kept d user ks name kept = ap (reads_found d user) (found_buffer name ks kept)
+
+-- a window that shows a buffer, where it may be read or not
+abbrev spot_seen : Bool → List Kept → ℕ → Spot → WindowSeen
+spot_seen can ks height x = record { shows = Buffer_of x.name; row = 0; height = height; spots = spots_if can (mark_at x.name ks x.point) (option_map (mark_at x.name ks) x.mark) (mark_at x.name ks x.top) }
+
+-- what is made of a window and of the buffer that it finds
+seen_as : {X : Type 0} (make : WindowSeen → Option Shown → X) (d : Directory) (user : List ℕ) (ks : List Kept) (height : ℕ) (x : Spot) → IsKept x.name ks
+    → make (spot_seen (reads d (buffers_of ks) user x.name) ks height x) (find_shown x.name (shown_to d user ks))
+    ≡ make (spot_seen (may d user ReadData (kept_at x.name ks).buffer) ks height x) (Some (shown_of (buffer_seen d user (kept_at x.name ks).buffer)))
+seen_as make d user ks height x kept =
+    ap (λ (can : Bool). make (spot_seen can ks height x) (find_shown x.name (shown_to d user ks))) (reads_kept d user ks x.name kept)
+    ∙ ap (λ (o : Option Shown). make (spot_seen (may d user ReadData (kept_at x.name ks).buffer) ks height x) o) (found_shown d user ks x.name kept)
+
+-- a right that is granted is some right
+some_right : (deciders : Right → Decider) → allows (deciders ReadAttributes) ≡ true → any_right deciders ≡ true
+some_right deciders is = list_any_at (λ (right : Right). allows (deciders right)) all_rights 3 ReadAttributes (omega arith) is
+
+heading_seen : (d : Directory) (user : List ℕ) (ks : List Kept) (name : List ℕ) → IsKept name ks → heading_of (shown_of (buffer_seen d user (kept_at name ks).buffer)).attributes ≡ heading_to d user ks name
+heading_seen d user ks name kept =
+    let b : Buffer = (kept_at name ks).buffer in
+    let deciders : Right → Decider = decider d b.owner user b.entries in
+    let goal : Bool → Type 0 = λ r. heading_of (attributes_seen r b.name (told_if (any_right deciders) b)) ≡ (if r then Some (name, b.modified) else None) in
+    let go : (r : Bool) → allows (deciders ReadAttributes) ≡ r → goal r = λ r. elim r as (λ r. allows (deciders ReadAttributes) ≡ r → goal r) [
+      | true ↦ λ is. ap (λ (any : Bool). heading_of (attributes_seen true b.name (told_if any b))) (some_right deciders is) ∙ ap (λ (n : List ℕ). Some (n, b.modified)) (name_kept name ks kept)
+      | false ↦ λ is. refl
+    ] in
+    go (allows (deciders ReadAttributes)) refl
+
+-- WHAT A WINDOW SHOWS
+
+rows_read : (selected : Bool) (cols : ℕ) (d : Directory) (user : List ℕ) (ks : List Kept) (height : ℕ) (x : Spot) → IsKept x.name ks → may d user ReadData (kept_at x.name ks).buffer ≡ true
+    → window_rows selected cols (shown_to d user ks) (spot_seen (reads d (buffers_of ks) user x.name) ks height x) ≡ spot_rows selected cols height ks (heading_to d user ks x.name) x
+rows_read selected cols d user ks height x kept can =
+    let b : Buffer = (kept_at x.name ks).buffer in
+    let s : Shown = shown_of (buffer_seen d user b) in
+    seen_as (found_rows selected cols) d user ks height x kept
+    ∙ ap (λ (r : Bool). buffer_rows selected cols (spot_seen r ks height x) s (text_seen r (decision_by (decider d b.owner user b.entries) (ReadData ∷ [])) (text_in (full_if r b)))) can
+    ∙ ap (λ (h : Option (List ℕ × Bool)). spot_rows selected cols height ks h x) (heading_seen d user ks x.name kept)
+
+rows_unread : (selected : Bool) (cols : ℕ) (d : Directory) (user : List ℕ) (ks : List Kept) (height : ℕ) (x : Spot) → IsKept x.name ks → may d user ReadData (kept_at x.name ks).buffer ≡ false
+    → window_rows selected cols (shown_to d user ks) (spot_seen (reads d (buffers_of ks) user x.name) ks height x)
+    ≡ unread_rows cols height (decision_by (decider d (kept_at x.name ks).buffer.owner user (kept_at x.name ks).buffer.entries) (ReadData ∷ [])) ++ mode_row cols (buffer_mode (heading_to d user ks x.name) None) ∷ []
+rows_unread selected cols d user ks height x kept can =
+    let b : Buffer = (kept_at x.name ks).buffer in
+    let s : Shown = shown_of (buffer_seen d user b) in
+    let decision = decision_by (decider d b.owner user b.entries) (ReadData ∷ []) in
+    seen_as (found_rows selected cols) d user ks height x kept
+    ∙ ap (λ (r : Bool). buffer_rows selected cols (spot_seen r ks height x) s (text_seen r decision (text_in (full_if r b)))) can
+    ∙ ap (λ (h : Option (List ℕ × Bool)). unread_rows cols height decision ++ mode_row cols (buffer_mode h None) ∷ []) (heading_seen d user ks x.name kept)
+
+cursor_read : (cols : ℕ) (d : Directory) (user : List ℕ) (ks : List Kept) (height : ℕ) (x : Spot) → IsKept x.name ks → may d user ReadData (kept_at x.name ks).buffer ≡ true
+    → window_cursor cols (shown_to d user ks) (Some (spot_seen (reads d (buffers_of ks) user x.name) ks height x)) ≡ spot_cursor cols height ks x
+cursor_read cols d user ks height x kept can =
+    let b : Buffer = (kept_at x.name ks).buffer in
+    seen_as (found_cursor cols) d user ks height x kept
+    ∙ ap (λ (r : Bool). text_cursor cols (spot_seen r ks height x) (text_seen r (decision_by (decider d b.owner user b.entries) (ReadData ∷ [])) (text_in (full_if r b)))) can
+
+cursor_unread : (cols : ℕ) (d : Directory) (user : List ℕ) (ks : List Kept) (height : ℕ) (x : Spot) → IsKept x.name ks → may d user ReadData (kept_at x.name ks).buffer ≡ false
+    → window_cursor cols (shown_to d user ks) (Some (spot_seen (reads d (buffers_of ks) user x.name) ks height x)) ≡ (0, 0)
+cursor_unread cols d user ks height x kept can =
+    let b : Buffer = (kept_at x.name ks).buffer in
+    seen_as (found_cursor cols) d user ks height x kept
+    ∙ ap (λ (r : Bool). text_cursor cols (spot_seen r ks height x) (text_seen r (decision_by (decider d b.owner user b.entries) (ReadData ∷ [])) (text_in (full_if r b)))) can
+
+-- a window by what it shows
+abbrev window_showing : Directory → List ℕ → List Kept → ℕ → Option Spot → WindowSeen
+window_showing d user ks height o = window_seen (reads d (buffers_of ks) user) (window_shown ks height o)
+
+window_none : (selected : Bool) (cols : ℕ) (d : Directory) (user : List ℕ) (ks : List Kept) (w : Window) → w.shows ≡ None → window_rows selected cols (shown_to d user ks) (window_to d user ks w) ≡ blank_rows cols w.height ++ mode_row cols none_mode ∷ []
+window_none selected cols d user ks w is = ap (λ (o : Option Spot). window_rows selected cols (shown_to d user ks) (window_showing d user ks w.height o)) is
+
+pub window_read : (selected : Bool) (cols : ℕ) (d : Directory) (user : List ℕ) (ks : List Kept) (w : Window) (x : Spot) → w.shows ≡ Some x → IsKept x.name ks → may d user ReadData (kept_at x.name ks).buffer ≡ true
+    → window_rows selected cols (shown_to d user ks) (window_to d user ks w) ≡ spot_rows selected cols w.height ks (heading_to d user ks x.name) x
+window_read selected cols d user ks w x is kept can =
+    ap (λ (o : Option Spot). window_rows selected cols (shown_to d user ks) (window_showing d user ks w.height o)) is
+    ∙ rows_read selected cols d user ks w.height x kept can
+
+pub window_cursor_read : (cols : ℕ) (d : Directory) (user : List ℕ) (ks : List Kept) (w : Window) (x : Spot) → w.shows ≡ Some x → IsKept x.name ks → may d user ReadData (kept_at x.name ks).buffer ≡ true
+    → window_cursor cols (shown_to d user ks) (Some (window_to d user ks w)) ≡ spot_cursor cols w.height ks x
+window_cursor_read cols d user ks w x is kept can =
+    ap (λ (o : Option Spot). window_cursor cols (shown_to d user ks) (Some (window_showing d user ks w.height o))) is
+    ∙ cursor_read cols d user ks w.height x kept can
+
+pub window_unread : (selected : Bool) (cols : ℕ) (d : Directory) (user : List ℕ) (ks : List Kept) (w : Window) (x : Spot) → w.shows ≡ Some x → IsKept x.name ks → may d user ReadData (kept_at x.name ks).buffer ≡ false
+    → window_rows selected cols (shown_to d user ks) (window_to d user ks w)
+    ≡ unread_rows cols w.height (decision_by (decider d (kept_at x.name ks).buffer.owner user (kept_at x.name ks).buffer.entries) (ReadData ∷ [])) ++ mode_row cols (buffer_mode (heading_to d user ks x.name) None) ∷ []
+window_unread selected cols d user ks w x is kept can =
+    ap (λ (o : Option Spot). window_rows selected cols (shown_to d user ks) (window_showing d user ks w.height o)) is
+    ∙ rows_unread selected cols d user ks w.height x kept can
+
+pub window_cursor_unread : (cols : ℕ) (d : Directory) (user : List ℕ) (ks : List Kept) (w : Window) (x : Spot) → w.shows ≡ Some x → IsKept x.name ks → may d user ReadData (kept_at x.name ks).buffer ≡ false
+    → window_cursor cols (shown_to d user ks) (Some (window_to d user ks w)) ≡ (0, 0)
+window_cursor_unread cols d user ks w x is kept can =
+    ap (λ (o : Option Spot). window_cursor cols (shown_to d user ks) (Some (window_showing d user ks w.height o))) is
+    ∙ cursor_unread cols d user ks w.height x kept can
+
+-- THE WINDOWS OF A SESSION
+
+-- what a window shows is kept
+pub shown_kept : (ks : List Kept) (w : Window) (x : Spot) → IsWindowSound ks w → w.shows ≡ Some x → IsKept x.name ks
+shown_kept ks w x sound is = mark_is_kept x.name x.point ks (window_point ks w x sound is)
+
+-- as many rows as a window has
+length_spot : (selected : Bool) (cols height : ℕ) (ks : List Kept) (heading : Option (List ℕ × Bool)) (x : Spot) → length (spot_rows selected cols height ks heading x) ≡ height + 1
+length_spot selected cols height ks heading x =
+    let text : List ℕ = (kept_at x.name ks).buffer.text in
+    let top : ℕ = mark_at x.name ks x.top in
+    let point : ℕ = mark_at x.name ks x.point in
+    let mode : Row = mode_row cols (buffer_mode heading (place_of text point)) in
+    let pane : List Row = pane_rows selected cols height text top point in
+    omega (arith, length-append pane (mode ∷ []), length-text_rows cols (shift_at (point_row text top point) (point_shift selected cols text point)) 0 height (drop (line_start text top) text))
+
+pub length_window : (selected : Bool) (cols : ℕ) (d : Directory) (user : List ℕ) (ks : List Kept) (w : Window) → IsWindowSound ks w → length (window_rows selected cols (shown_to d user ks) (window_to d user ks w)) ≡ w.height + 1
+length_window selected cols d user ks w sound =
+    let goal : Type 0 = length (window_rows selected cols (shown_to d user ks) (window_to d user ks w)) ≡ w.height + 1 in
+    let read : (x : Spot) → w.shows ≡ Some x → (r : Bool) → may d user ReadData (kept_at x.name ks).buffer ≡ r → goal =
+    λ x. λ is.
+    let kept : IsKept x.name ks = shown_kept ks w x sound is in
+    let decision : Decision = decision_by (decider d (kept_at x.name ks).buffer.owner user (kept_at x.name ks).buffer.entries) (ReadData ∷ []) in
+    let mode : List Row = mode_row cols (buffer_mode (heading_to d user ks x.name) None) ∷ [] in
+    λ r. elim r as (λ r. may d user ReadData (kept_at x.name ks).buffer ≡ r → goal) [
+      | true ↦ λ can. ap (λ (rows : List Row). length rows) (window_read selected cols d user ks w x is kept can) ∙ length_spot selected cols w.height ks (heading_to d user ks x.name) x
+      | false ↦ λ can. ap (λ (rows : List Row). length rows) (window_unread selected cols d user ks w x is kept can)
+          ∙ omega (arith, length-append (unread_rows cols w.height decision) mode, length-unread_rows cols w.height decision)
+    ] in
+    let go : (o : Option Spot) → w.shows ≡ o → goal = λ o. elim o as (λ o. w.shows ≡ o → goal) [
+      | None ↦ λ is. ap (λ (rows : List Row). length rows) (window_none selected cols d user ks w is)
+          ∙ omega (arith, length-append (blank_rows cols w.height) (mode_row cols none_mode ∷ []), length-blank_rows cols w.height)
+      | Some x ↦ λ is. read x is (may d user ReadData (kept_at x.name ks).buffer) refl
+    ] in
+    go w.shows refl
+
+-- one more window is drawn below those before it
+pub rows_more : (d : Directory) (user : List ℕ) (ks : List Kept) (cols selected i first : ℕ) (ws : List Window) (w : Window) (old new : List Row) (rows : List Row)
+    → w ≡ get_or ws i w → i < length ws → first + (w.height + 1) ≤ length old
+    → length (window_rows (nat_eq i selected) cols (shown_to d user ks) (window_to d user ks w)) ≡ w.height + 1
+    → new ≡ rows_put first (window_rows (nat_eq i selected) cols (shown_to d user ks) (window_to d user ks w)) old
+    → take first old ++ windows_rows i selected cols (shown_to d user ks) (windows_to d user ks (drop i ws)) ≡ rows
+    → take (first + (w.height + 1)) new ++ windows_rows (i + 1) selected cols (shown_to d user ks) (windows_to d user ks (drop (i + 1) ws)) ≡ rows
+rows_more d user ks cols selected i first ws w old new rows is within fits size put so_far =
+    let S : List Shown = shown_to d user ks in
+    let mine : List Row = window_rows (nat_eq i selected) cols S (window_to d user ks w) in
+    let rest : List Row = windows_rows (i + 1) selected cols S (windows_to d user ks (drop (i + 1) ws)) in
+    let at : first + (w.height + 1) ≡ first + length mine = omega (arith, size) in
+    let next : drop i ws ≡ w ∷ drop (i + 1) ws = drop_more ws i w within ∙ ap (λ (v : Window). v ∷ drop (i + 1) ws) (sym is) in
+    ap (λ (ls : List Row). take (first + (w.height + 1)) ls ++ rest) put
+    ∙ ap (λ (n : ℕ). take n (rows_put first mine old) ++ rest) at
+    ∙ ap (λ (ls : List Row). ls ++ rest) (take_put first mine old (omega (arith, fits, size)))
+    ∙ append_assoc (take first old) mine rest
+    ∙ sym (ap (λ (vs : List Window). take first old ++ windows_rows i selected cols S (windows_to d user ks vs)) next)
+    ∙ so_far
+
+-- the cursor after the rest of the windows, where it is at `cursor` before them
+abbrev pub cursor_from : ℕ → ℕ → ℕ → List Shown → ℕ → ℕ × ℕ → List WindowSeen → ℕ × ℕ
+cursor_from i selected cols S first cursor [] = cursor
+cursor_from i selected cols S first cursor (x ∷ xs) =
+    cursor_from (i + 1) selected cols S (first + (x.height + 1))
+    (if nat_eq i selected then (first + (window_cursor cols S (Some x)).0, (window_cursor cols S (Some x)).1) else cursor) xs
+
+-- behind the selected window it stays
+cursor_stays : (selected cols : ℕ) (S : List Shown) (i first : ℕ) (cursor : ℕ × ℕ) (xs : List WindowSeen) → selected < i → cursor_from i selected cols S first cursor xs ≡ cursor
+cursor_stays selected cols S i first cursor [] past = refl
+cursor_stays selected cols S i first cursor (x ∷ xs) past =
+    rw (ne_eqb i selected (λ e. omega (arith, e, past))) (cursor_stays selected cols S (i + 1) (first + (x.height + 1)) cursor xs (omega (arith, past)))
+
+cursor_at : (cols : ℕ) (S : List Shown) (n i selected first : ℕ) (cursor : ℕ × ℕ) (xs : List WindowSeen) → selected ≡ i + n → n < length xs
+    → cursor_from i selected cols S first cursor xs ≡ (first + first_row n xs + (window_cursor cols S (slice_get xs n)).0, (window_cursor cols S (slice_get xs n)).1)
+cursor_at cols S n i selected first cursor [] at within = absurd (omega arith)
+cursor_at cols S zero i selected first cursor (x ∷ xs) at within =
+    let c : ℕ × ℕ = window_cursor cols S (Some x) in
+    let zero_more : first + c.0 ≡ first + 0 + c.0 = omega arith in
+    rw (eq-eqb i selected (omega (arith, at))) (
+    cursor_stays selected cols S (i + 1) (first + (x.height + 1)) (first + c.0, c.1) xs (omega (arith, at))
+    ∙ ap (λ (k : ℕ). let p : ℕ × ℕ = (k, c.1) in p) zero_more)
+cursor_at cols S (suc n) i selected first cursor (x ∷ xs) at within =
+    let c : ℕ × ℕ = window_cursor cols S (slice_get xs n) in
+    let sum : first + (x.height + 1) + first_row n xs + c.0 ≡ first + (x.height + 1 + first_row n xs) + c.0 = omega arith in
+    rw (ne_eqb i selected (λ e. omega (arith, at, e))) (
+    cursor_at cols S n (i + 1) selected (first + (x.height + 1)) cursor xs (omega (arith, at)) (omega (arith, within))
+    ∙ ap (λ (k : ℕ). let p : ℕ × ℕ = (k, c.1) in p) sum)
+
+height_shown : (ks : List Kept) (height : ℕ) (o : Option Spot) → (window_shown ks height o).height ≡ height
+height_shown ks height None = refl
+height_shown ks height (Some x) = refl
+
+-- one more window
+pub cursor_more : (d : Directory) (user : List ℕ) (ks : List Kept) (cols selected i first : ℕ) (ws : List Window) (w : Window) (old new c mine : ℕ × ℕ)
+    → w ≡ get_or ws i w → i < length ws → mine ≡ window_cursor cols (shown_to d user ks) (Some (window_to d user ks w))
+    → new ≡ (if nat_eq i selected then (first + mine.0, mine.1) else old)
+    → cursor_from i selected cols (shown_to d user ks) first old (windows_to d user ks (drop i ws)) ≡ c
+    → cursor_from (i + 1) selected cols (shown_to d user ks) (first + (w.height + 1)) new (windows_to d user ks (drop (i + 1) ws)) ≡ c
+cursor_more d user ks cols selected i first ws w old new c mine is within its here so_far =
+    let S : List Shown = shown_to d user ks in
+    let rest : List WindowSeen = windows_to d user ks (drop (i + 1) ws) in
+    let next : drop i ws ≡ w ∷ drop (i + 1) ws = drop_more ws i w within ∙ ap (λ (v : Window). v ∷ drop (i + 1) ws) (sym is) in
+    ap (λ (p : ℕ × ℕ). cursor_from (i + 1) selected cols S (first + (w.height + 1)) p rest) here
+    ∙ ap (λ (p : ℕ × ℕ). cursor_from (i + 1) selected cols S (first + (w.height + 1)) (if nat_eq i selected then (first + p.0, p.1) else old) rest) its
+    ∙ ap (λ (n : ℕ). cursor_from (i + 1) selected cols S (first + (n + 1)) (if nat_eq i selected then (first + (window_cursor cols S (Some (window_to d user ks w))).0, (window_cursor cols S (Some (window_to d user ks w))).1) else old) rest) (sym (height_shown ks w.height w.shows))
+    ∙ sym (ap (λ (vs : List Window). cursor_from i selected cols S first old (windows_to d user ks vs)) next)
+    ∙ so_far
+
+length_windows : (d : Directory) (user : List ℕ) (ks : List Kept) (ws : List Window) → length (windows_to d user ks ws) ≡ length ws
+length_windows d user ks ws = length-map (map (window_of ks) ws) (window_seen (reads d (buffers_of ks) user)) ∙ length-map ws (window_of ks)
+
+-- the cursor of the selected window
+abbrev pub cursor_of : ℕ → ℕ → List Shown → List WindowSeen → ℕ × ℕ
+cursor_of selected cols S xs = (first_row selected xs + (window_cursor cols S (slice_get xs selected)).0, (window_cursor cols S (slice_get xs selected)).1)
+
+-- after all windows it is there
+pub cursor_all : (d : Directory) (user : List ℕ) (ks : List Kept) (cols selected i first : ℕ) (ws : List Window) (cursor : ℕ × ℕ) → selected < length ws → length ws ≤ i
+    → cursor_from i selected cols (shown_to d user ks) first cursor (windows_to d user ks (drop i ws)) ≡ cursor_from 0 selected cols (shown_to d user ks) 0 (0, 0) (windows_to d user ks ws)
+    → cursor ≡ cursor_of selected cols (shown_to d user ks) (windows_to d user ks ws)
+cursor_all d user ks cols selected i first ws cursor within past so_far =
+    let S : List Shown = shown_to d user ks in
+    let xs : List WindowSeen = windows_to d user ks ws in
+    let c : ℕ × ℕ = window_cursor cols S (slice_get xs selected) in
+    let sum : 0 + first_row selected xs + c.0 ≡ first_row selected xs + c.0 = omega arith in
+    sym (ap (λ (vs : List Window). cursor_from i selected cols S first cursor (windows_to d user ks vs)) (drop_all i ws past))
+    ∙ so_far
+    ∙ cursor_at cols S selected 0 selected 0 (0, 0) xs (omega arith) (omega (arith, within, length_windows d user ks ws))
+    ∙ ap (λ (n : ℕ). let p : ℕ × ℕ = (n, c.1) in p) sum
+
+-- and the rows are all there, but for the echo row
+pub rows_all : (d : Directory) (user : List ℕ) (ks : List Kept) (cols selected i first : ℕ) (ws : List Window) (old rows : List Row) (echo : Row) → length ws ≤ i → first + room_of (drop i ws) + 1 ≡ length old
+    → take first old ++ windows_rows i selected cols (shown_to d user ks) (windows_to d user ks (drop i ws)) ≡ rows
+    → rows_put first (echo ∷ []) old ≡ rows ++ echo ∷ []
+rows_all d user ks cols selected i first ws old rows echo past room so_far =
+    let none : drop i ws ≡ [] = drop_all i ws past in
+    let full : first + 1 ≡ length old = omega (arith, room, ap room_of none) in
+    let done : take first old ≡ rows =
+    sym (append-nil (take first old))
+    ∙ sym (ap (λ (vs : List Window). take first old ++ windows_rows i selected cols (shown_to d user ks) (windows_to d user ks vs)) none)
+    ∙ so_far in
+    ap (λ (rest : List Row). take first old ++ echo ∷ [] ++ rest) (drop_all (first + 1) old (omega (arith, full)))
+    ∙ append-nil (take first old ++ echo ∷ [])
+    ∙ ap (λ (xs : List Row). xs ++ echo ∷ []) done
+
+-- THE SCREEN
+
+screen_is : (d : Directory) (ks : List Kept) (x : Session) (sessions : List Session) (next : Option ℕ) (p : Picture)
+    → p.rows ≡ x.windows.rows → p.cols ≡ x.cols
+    → p.lines ≡ windows_rows 0 x.windows.selected x.cols (shown_to d x.user ks) (windows_to d x.user ks x.windows.windows) ++ echo_row x.cols x.echo ∷ []
+    → p.row ≡ (cursor_of x.windows.selected x.cols (shown_to d x.user ks) (windows_to d x.user ks x.windows.windows)).0
+    → p.col ≡ (cursor_of x.windows.selected x.cols (shown_to d x.user ks) (windows_to d x.user ks x.windows.windows)).1
+    → p ≡ screen (world_of d ks sessions next) (session_of ks x)
+unfolding draw
+screen_is d ks x sessions next p rows cols lines row col =
+    let s : Picture = screen (world_of d ks sessions next) (session_of ks x) in
+    ap (λ (n : ℕ). let q : Picture = record { rows = n; cols = p.cols; lines = p.lines; row = p.row; col = p.col } in q) rows
+    ∙ ap (λ (n : ℕ). let q : Picture = record { rows = x.windows.rows; cols = n; lines = p.lines; row = p.row; col = p.col } in q) cols
+    ∙ ap (λ (ls : List Row). let q : Picture = record { rows = x.windows.rows; cols = x.cols; lines = ls; row = p.row; col = p.col } in q) lines
+    ∙ ap (λ (n : ℕ). let q : Picture = record { rows = x.windows.rows; cols = x.cols; lines = s.lines; row = n; col = p.col } in q) row
+    ∙ ap (λ (n : ℕ). let q : Picture = record { rows = x.windows.rows; cols = x.cols; lines = s.lines; row = s.row; col = n } in q) col
+
+-- the same, where the windows, the selected one and the columns are read off the session first
+pub session_drawn : (d : Directory) (ks : List Kept) (x : Session) (sessions : List Session) (next : Option ℕ) (ws : List Window) (selected cols : ℕ) (cursor : ℕ × ℕ) (p : Picture)
+    → ws ≡ x.windows.windows → selected ≡ x.windows.selected → cols ≡ x.cols
+    → p.rows ≡ x.windows.rows → p.cols ≡ cols
+    → p.lines ≡ windows_rows 0 selected cols (shown_to d x.user ks) (windows_to d x.user ks ws) ++ echo_row cols x.echo ∷ []
+    → p.row ≡ cursor.0 → p.col ≡ cursor.1
+    → cursor ≡ cursor_of selected cols (shown_to d x.user ks) (windows_to d x.user ks ws)
+    → p ≡ screen (world_of d ks sessions next) (session_of ks x)
+session_drawn d ks x sessions next ws selected cols cursor p all chosen wide rows cols_are lines row col there =
+    let S : List Shown = shown_to d x.user ks in
+    let on : cursor ≡ cursor_of x.windows.selected x.cols S (windows_to d x.user ks x.windows.windows) =
+    there
+    ∙ ap (λ (vs : List Window). cursor_of selected cols S (windows_to d x.user ks vs)) all
+    ∙ ap (λ (n : ℕ). cursor_of n cols S (windows_to d x.user ks x.windows.windows)) chosen
+    ∙ ap (λ (n : ℕ). cursor_of x.windows.selected n S (windows_to d x.user ks x.windows.windows)) wide in
+    screen_is d ks x sessions next p rows (cols_are ∙ wide)
+    (lines
+    ∙ ap (λ (vs : List Window). windows_rows 0 selected cols S (windows_to d x.user ks vs) ++ echo_row cols x.echo ∷ []) all
+    ∙ ap (λ (n : ℕ). windows_rows 0 n cols S (windows_to d x.user ks x.windows.windows) ++ echo_row cols x.echo ∷ []) chosen
+    ∙ ap (λ (n : ℕ). windows_rows 0 x.windows.selected n S (windows_to d x.user ks x.windows.windows) ++ echo_row n x.echo ∷ []) wide)
+    (row ∙ ap (λ (c : ℕ × ℕ). c.0) on) (col ∙ ap (λ (c : ℕ × ℕ). c.1) on)

@@ -1,0 +1,162 @@
+// The screen of a session, drawn into a grid that is there.
+ghost use Rattle.std.specs.Prelude.{◌≡◌, ◌+◌, ◌-◌, ◌<◌, ◌≤◌, ℕ, true, List, Option, Some};
+ghost use Rattle.mgs_model.specs.Draw.{screen, window_rows, window_cursor};
+ghost use Rattle.mgs_model.specs.Rows.{rows_put, shift_for};
+ghost use Rattle.mgs_session.specs.declared.Session.{Session};
+ghost use Rattle.mgs_world.specs.Worlds.{world_of, session_of};
+ghost use Rattle.mgs_buffers.specs.Kept.{IsKept, IsMark};
+ghost use Rattle.mgs_screen.specs.Screens.{point_shift, shown_to, window_to, heading_to, spot_rows, spot_cursor};
+ghost use Rattle.mgs_world.specs.Sound.{IsSessionSound, IsWindowSound};
+
+use mgs_buffers::Buffers;
+use mgs_grid::{Grid, shift_for};
+use mgs_lines::{column, line_start};
+use mgs_marks::Marked;
+use mgs_model::{Name, Right};
+use mgs_policy::Directory;
+use mgs_session::Session;
+use mgs_text::Text;
+use mgs_windows::{Spot, Window};
+
+/// A window's place on the screen: where its first row is, and whether it is the selected one.
+#[derive(Clone, Copy)]
+struct Place {
+    first: usize,
+    selected: bool,
+}
+
+/// The buffer's name and flag, where its attributes may be read.
+fn heading<T: Marked + Drop>(
+    buffers: &Buffers<T>,
+    directory: &Directory,
+    user: &Name,
+    name: &Name,
+) -> Option<(Name, bool)>
+    requires { IsKept name.now buffers.now }
+    ensures { result ≡ heading_to directory.now user.now buffers.now name.now }
+{
+    if buffers.grants(directory, name, user, Right::ReadAttributes) {
+        Some((*name, buffers.is_modified(name)))
+    } else {
+        None
+    }
+}
+
+/// From which column the point's line is shown, and where the cursor then is. Only the selected window is shifted.
+fn shifted(cols: usize, column: usize, selected: bool) -> (usize, usize)
+    requires cols { 20 ≤ cols }
+    ensures shift { result.0 ≡ point_shift selected cols column }
+    ensures few { result.0 ≤ column }
+    ensures col { result.1 < cols }
+    ensures cursor { selected ≡ true → result.1 ≡ column - shift_for cols column }
+{
+    if selected {
+        let shift = shift_for(cols, column);
+        (shift, column - shift)
+    } else {
+        (0, 0)
+    }
+}
+
+/// Draws a text that may be read, and its mode line. Tells where the cursor is, from the window's first cell, if the
+/// window is the selected one.
+fn draw_text<T: Marked + Drop>(
+    buffers: &Buffers<T>,
+    heading: Option<(Name, bool)>,
+    spot: &Spot,
+    height: usize,
+    place: Place,
+    grid: &mut Grid,
+) -> (usize, usize)
+    requires kept { IsKept spot.now.name buffers.now }
+    requires point { IsMark spot.now.name spot.now.point buffers.now }
+    requires top { IsMark spot.now.name spot.now.top buffers.now }
+    requires some { 1 ≤ height }
+    requires room { place.first + height < grid.old.rows }
+    ensures rows { grid.new.rows ≡ grid.old.rows }
+    ensures cols { grid.new.cols ≡ grid.old.cols }
+    ensures lines { grid.new.lines ≡ rows_put place.first (spot_rows place.selected grid.old.cols height buffers.now heading spot.now) grid.old.lines }
+    ensures cursor { place.selected ≡ true → result ≡ spot_cursor grid.old.cols height buffers.now spot.now }
+    ensures row { result.0 < height }
+    ensures col { result.1 < grid.old.cols }
+{
+    let _size = buffers.text_len(&spot.name);
+    let cols = grid.cols();
+    let text = buffers.text(&spot.name);
+    let point = buffers.pos(&spot.name, spot.point);
+    let top = buffers.pos(&spot.name, spot.top);
+    let line = text.line_of(point);
+    let row = line.saturating_sub(text.line_of(top));
+    let column = column(text, point);
+    let (shift, col) = shifted(cols, column, place.selected);
+    grid.draw_text(place.first, height, text, line_start(text, top), row, shift);
+    grid.draw_mode(place.first + height, heading, Some((line + 1, column)));
+    (row.min(height - 1), col)
+}
+
+/// Draws a window. Tells where the cursor is, from the window's first cell, if the window is the selected one.
+fn draw_window<T: Marked + Drop>(
+    buffers: &Buffers<T>,
+    directory: &Directory,
+    user: &Name,
+    window: &Window,
+    place: Place,
+    grid: &mut Grid,
+) -> (usize, usize)
+    requires sound { IsWindowSound buffers.now window.now }
+    requires some { 1 ≤ window.now.height }
+    requires room { place.first + window.now.height < grid.old.rows }
+    ensures rows { grid.new.rows ≡ grid.old.rows }
+    ensures cols { grid.new.cols ≡ grid.old.cols }
+    ensures lines { grid.new.lines ≡ rows_put place.first (window_rows place.selected grid.old.cols (shown_to directory.now user.now buffers.now) (window_to directory.now user.now buffers.now window.now)) grid.old.lines }
+    ensures cursor { place.selected ≡ true → result ≡ window_cursor grid.old.cols (shown_to directory.now user.now buffers.now) (Some (window_to directory.now user.now buffers.now window.now)) }
+    ensures row { result.0 < window.now.height }
+    ensures col { result.1 < grid.old.cols }
+{
+    let _cols = grid.cols();
+    let height = window.height;
+    let Some(spot) = window.shows else {
+        grid.draw_blank(place.first, height);
+        grid.draw_none_mode(place.first + height);
+        return (0, 0);
+    };
+    let heading = heading(buffers, directory, user, &spot.name);
+    if buffers.grants(directory, &spot.name, user, Right::ReadData) {
+        return draw_text(buffers, heading, &spot, height, place, grid);
+    }
+    let decision = buffers.decide(directory, &spot.name, user, Right::ReadData);
+    grid.draw_unread(place.first, height, decision);
+    grid.draw_mode(place.first + height, heading, None);
+    (0, 0)
+}
+
+/// Draws a session's screen. It takes no memory.
+pub fn draw_session<T: Marked + Drop>(
+    buffers: &Buffers<T>,
+    directory: &Directory,
+    session: &Session,
+    grid: &mut Grid,
+)
+    requires sound { IsSessionSound buffers.now session.now }
+    requires rows { session.now.windows.rows ≡ grid.old.rows }
+    requires cols { session.now.cols ≡ grid.old.cols }
+    ensures { (sessions : List Session) (next : Option ℕ) → grid.new ≡ screen (world_of directory.now buffers.now sessions next) (session_of buffers.now session.now) }
+{
+    let _cols = grid.cols();
+    let selected = session.windows.selected();
+    let mut first = 0;
+    let mut cursor = (0, 0);
+    for (i, window) in session.windows.as_slice().iter().enumerate() {
+        let place = Place {
+            first,
+            selected: i == selected,
+        };
+        let (row, col) = draw_window(buffers, directory, &session.user, window, place, grid);
+        if i == selected {
+            cursor = (first + row, col);
+        }
+        first += window.height + 1;
+    }
+    grid.draw_echo(first, &session.echo);
+    grid.set_cursor(cursor.0, cursor.1);
+}

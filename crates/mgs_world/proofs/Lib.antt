@@ -1,0 +1,9 @@
+pub mod Uses
+pub mod Frames
+pub mod Marks
+pub mod Worlds
+pub mod Sessions
+pub mod Soundness
+pub mod Found
+pub mod Spots
+pub mod Settles

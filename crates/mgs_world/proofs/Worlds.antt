@@ -1,0 +1,174 @@
+-- How the world changes when what is kept does.
+use Rattle.std.proofs.Common.{◌≡◌, ℕ, ◌+◌, ◌≤◌, Bool, true, false, cond, List, [], ◌∷◌, length, map, Option, Some, None, refl, sym, ap, ◌∙◌, arith, eq-eqb}
+use Rattle.std.specs.Prelude.{find, slice_get, IsSome, nat_eq}
+use Rattle.std.specs.Option.{option_map, option_and_then}
+use Rattle.mgs_model.specs.Access.{Directory}
+use Rattle.mgs_model.specs.Names.{same_name}
+use Rattle.mgs_model.specs.Text.{shift}
+use Rattle.mgs_model.specs.World.{World, Buffer, Shows, Nothing, Buffer_of, is_named, has_id}
+use Rattle.mgs_model.specs.World as model
+use Rattle.mgs_model.specs.Outcome.{At, Keep, Keep_mark}
+use Rattle.mgs_model.specs.Apply.{change_first, change_at, buffer_edited, window_moved, session_moved, window_adjusted}
+use Rattle.mgs_model.proofs.Firsts.{map-change_first}
+use Rattle.mgs_marks.specs.Marks.{mark_in}
+use Rattle.mgs_buffers.specs.Kept.{Kept, kept_named, kept_at, mark_at, kept_edited, kept_placed}
+use Rattle.mgs_windows.specs.declared.Spot.{Spot}
+use Rattle.mgs_windows.specs.declared.Window.{Window}
+use Rattle.mgs_session.specs.declared.Session.{Session}
+use Rattle.mgs_session.specs.Told.{spot_of}
+use Rattle.mgs_world.specs.Worlds.{window_shown, window_of, session_of, buffers_of, session_id}
+use Rattle.mgs_world.specs.Sound.{one_if, option_uses, spot_uses, window_uses, session_uses, uses}
+use Rattle.mgs_world.proofs.Uses.{map_unused, map_used_at, map_used_first, sum_at, sum_found}
+use Rattle.mgs_world.proofs.Marks.{is_same, mark_edited, mark_kept, mark_unused, marks_unused, mark_placed, apart_from}
+
+-- CONGRUENCE
+
+option_mapped : {A B : Type 0} (f g : A → B) → ((a : A) → f a ≡ g a) → (o : Option A) → option_map f o ≡ option_map g o
+option_mapped f g same None = refl
+option_mapped f g same (Some a) = ap (λ b. Some b) (same a)
+
+option_mapped_twice : {A B C : Type 0} (f : A → C) (g : B → C) (h : A → B) → ((a : A) → f a ≡ g (h a)) → (o : Option A) → option_map f o ≡ option_map g (option_map h o)
+option_mapped_twice f g h same None = refl
+option_mapped_twice f g h same (Some a) = ap (λ b. Some b) (same a)
+
+mapped_twice : {A B C : Type 0} (f : A → C) (g : B → C) (h : A → B) → ((a : A) → f a ≡ g (h a)) → (xs : List A) → map f xs ≡ map g (map h xs)
+mapped_twice f g h same [] = refl
+mapped_twice f g h same (x ∷ xs) = ap (λ y. y ∷ map f xs) (same x) ∙ ap (λ ys. g (h x) ∷ ys) (mapped_twice f g h same xs)
+
+pub same_window : (s : Shows) (p p' : ℕ) (m m' : Option ℕ) (t t' r h : ℕ) → p ≡ p' → m ≡ m' → t ≡ t' → Path model.Window (record { shows = s; point = p; mark = m; top = t; row = r; height = h }) (record { shows = s; point = p'; mark = m'; top = t'; row = r; height = h })
+same_window s p p' m m' t t' r h ep em et =
+    ap (λ (q : ℕ). let w : model.Window = record { shows = s; point = q; mark = m; top = t; row = r; height = h } in w) ep
+    ∙ ap (λ (q : Option ℕ). let w : model.Window = record { shows = s; point = p'; mark = q; top = t; row = r; height = h } in w) em
+    ∙ ap (λ (q : ℕ). let w : model.Window = record { shows = s; point = p'; mark = m'; top = q; row = r; height = h } in w) et
+
+pub same_windows : (x : model.Session) (ws ws' : List model.Window) → ws ≡ ws' → Path model.Session (record x { windows = ws }) (record x { windows = ws' })
+same_windows x ws ws' e = ap (λ (q : List model.Window). let s : model.Session = record x { windows = q } in s) e
+
+pub same_world : (directory : Directory) (bs bs' : List Buffer) (ss ss' : List model.Session) (next : ℕ) → bs ≡ bs' → ss ≡ ss' → Path World (record { directory = directory; buffers = bs; sessions = ss; next_id = next }) (record { directory = directory; buffers = bs'; sessions = ss'; next_id = next })
+same_world directory bs bs' ss ss' next eb es =
+    ap (λ (q : List Buffer). let w : World = record { directory = directory; buffers = q; sessions = ss; next_id = next } in w) eb
+    ∙ ap (λ (q : List model.Session). let w : World = record { directory = directory; buffers = bs'; sessions = q; next_id = next } in w) es
+
+-- AN EDIT
+
+-- an edit of what is kept moves the positions of a window
+window_edited : (n : List ℕ) (a b : ℕ) (put : List ℕ) (ks : List Kept) (height : ℕ) (o : Option Spot) → window_shown (change_first (kept_named n) (kept_edited a b put) ks) height o ≡ window_moved n (shift a b (length put)) (window_shown ks height o)
+window_edited n a b put ks height None = refl
+window_edited n a b put ks height (Some x) =
+    let ks' = change_first (kept_named n) (kept_edited a b put) ks in
+    let move = shift a b (length put) in
+    let goal : Bool → Type 0 = λ r. window_shown ks' height (Some x) ≡ record (window_shown ks height (Some x)) {
+      point = cond r (move (mark_at x.name ks x.point)) (mark_at x.name ks x.point);
+      mark = cond r (option_map move (option_map (mark_at x.name ks) x.mark)) (option_map (mark_at x.name ks) x.mark);
+      top = cond r (move (mark_at x.name ks x.top)) (mark_at x.name ks x.top);
+    } in
+    let go : (r : Bool) → same_name n x.name ≡ r → goal r =
+    λ r. elim r as (λ r. same_name n x.name ≡ r → goal r) [
+      | true ↦ λ e. same_window (Buffer_of x.name) _ _ _ _ _ _ 0 height (mark_edited n x.name a b put ks x.point e) (option_mapped_twice (mark_at x.name ks') move (mark_at x.name ks) (λ id. mark_edited n x.name a b put ks id e) x.mark) (mark_edited n x.name a b put ks x.top e)
+      | false ↦ λ e. same_window (Buffer_of x.name) _ _ _ _ _ _ 0 height (mark_kept n x.name (kept_edited a b put) ks x.point (λ k. refl) e) (option_mapped (mark_at x.name ks') (mark_at x.name ks) (λ id. mark_kept n x.name (kept_edited a b put) ks id (λ k. refl) e) x.mark) (mark_kept n x.name (kept_edited a b put) ks x.top (λ k. refl) e)
+    ]
+    in go (same_name n x.name) refl
+
+session_edited : (n : List ℕ) (a b : ℕ) (put : List ℕ) (ks : List Kept) (x : Session) → session_of (change_first (kept_named n) (kept_edited a b put) ks) x ≡ session_moved n (shift a b (length put)) (session_of ks x)
+session_edited n a b put ks x =
+    let ks' = change_first (kept_named n) (kept_edited a b put) ks in
+    same_windows (session_of ks x) _ _
+    (mapped_twice (window_of ks') (window_moved n (shift a b (length put))) (window_of ks) (λ (w : Window). window_edited n a b put ks w.height w.shows) x.windows.windows)
+
+pub buffers_edited : (n : List ℕ) (a b : ℕ) (put : List ℕ) (ks : List Kept) → buffers_of (change_first (kept_named n) (kept_edited a b put) ks) ≡ change_first (is_named n) (buffer_edited a b put) (buffers_of ks)
+buffers_edited n a b put ks =
+    map-change_first (λ (k : Kept). k.buffer) (kept_named n) (is_named n) (kept_edited a b put) (buffer_edited a b put) (λ k. refl) (λ k e. refl) ks
+
+pub sessions_edited : (n : List ℕ) (a b : ℕ) (put : List ℕ) (ks : List Kept) (xs : List Session) → map (session_of (change_first (kept_named n) (kept_edited a b put) ks)) xs ≡ map (session_moved n (shift a b (length put))) (map (session_of ks) xs)
+sessions_edited n a b put ks xs =
+    mapped_twice (session_of (change_first (kept_named n) (kept_edited a b put) ks)) (session_moved n (shift a b (length put))) (session_of ks) (session_edited n a b put ks) xs
+
+-- A MARK IS PLACED: windows that do not use it stay
+
+pub used_parts : (r : Bool) (a b c : ℕ) → cond r (a + b + c) 0 ≡ 0 → r ≡ true → (a ≡ 0) × (b ≡ 0) × (c ≡ 0)
+used_parts true a b c h e = (omega (arith, h), omega (arith, h), omega (arith, h))
+used_parts false a b c h e = cc
+
+spot_unused : (n : List ℕ) (id p : ℕ) (ks : List Kept) (height : ℕ) (o : Option Spot) → spot_uses n id o ≡ 0 → window_shown (change_first (kept_named n) (kept_placed id p) ks) height o ≡ window_shown ks height o
+spot_unused n id p ks height None h = refl
+spot_unused n id p ks height (Some x) h =
+    let parts = λ (s : same_name n x.name ≡ true). used_parts (same_name n x.name) (one_if (nat_eq x.point id)) (option_uses id x.mark) (one_if (nat_eq x.top id)) h s in
+    same_window (Buffer_of x.name) _ _ _ _ _ _ 0 height
+    (mark_unused n x.name id p ks x.point (λ s. apart_from x.point id (parts s).0))
+    (marks_unused n x.name id p ks x.mark (λ s. (parts s).1))
+    (mark_unused n x.name id p ks x.top (λ s. apart_from x.top id (parts s).2))
+
+window_unused : (n : List ℕ) (id p : ℕ) (ks : List Kept) (w : Window) → window_uses n id w ≡ 0 → window_of (change_first (kept_named n) (kept_placed id p) ks) w ≡ window_of ks w
+window_unused n id p ks w h = spot_unused n id p ks w.height w.shows h
+
+session_unused : (n : List ℕ) (id p : ℕ) (ks : List Kept) (x : Session) → session_uses n id x ≡ 0 → session_of (change_first (kept_named n) (kept_placed id p) ks) x ≡ session_of ks x
+session_unused n id p ks x none =
+    let ks' = change_first (kept_named n) (kept_placed id p) ks in
+    same_windows (session_of ks x) _ _ (map_unused (window_uses n id) (window_of ks') (window_of ks) (window_unused n id p ks) x.windows.windows (omega (arith, none)))
+
+-- A POINT IS PLACED: the selected window has it there
+
+pub one_use : (a b : ℕ) → a ≡ b → one_if (nat_eq a b) ≡ 1
+one_use a b e = let t : nat_eq a b ≡ true = eq-eqb a b e in rw t refl
+
+pub spot_once : (x : Spot) → spot_uses x.name x.point (Some x) ≡ 1 + (option_uses x.point x.mark + one_if (nat_eq x.top x.point))
+spot_once x =
+    let s : same_name x.name x.name ≡ true = is_same x.name x.name refl in
+    rw (s, one_use x.point x.point refl) (omega arith)
+
+spot_placed : (p : ℕ) (ks : List Kept) (height : ℕ) (x : Spot) → IsSome (mark_in (kept_at x.name ks).marks x.point) → spot_uses x.name x.point (Some x) ≤ 1 → window_shown (change_first (kept_named x.name) (kept_placed x.point p) ks) height (Some x) ≡ window_adjusted None (At p) Keep_mark Keep (window_shown ks height (Some x))
+spot_placed p ks height x mark once =
+    let u = spot_once x in
+    let m : option_uses x.point x.mark ≡ 0 = omega (arith, u, once) in
+    let t : one_if (nat_eq x.top x.point) ≡ 0 = omega (arith, u, once) in
+    same_window (Buffer_of x.name) _ _ _ _ _ _ 0 height
+    (mark_placed x.name x.point p ks mark)
+    (marks_unused x.name x.name x.point p ks x.mark (λ s. m))
+    (mark_unused x.name x.name x.point p ks x.top (λ s. apart_from x.top x.point t))
+
+pub selected_window : (o : Option Window) (x : Spot) → option_and_then (λ (w : Window). w.shows) o ≡ Some x → (w : Window) × (o ≡ Some w) × (w.shows ≡ Some x)
+selected_window None x h = cc
+selected_window (Some w) x h = (w, refl, h)
+
+-- the selected point of a session goes to p
+abbrev pub point_at : ℕ → model.Session → model.Session
+point_at p x = record x { windows = change_at x.selected (window_adjusted None (At p) Keep_mark Keep) x.windows }
+
+session_placed : (p : ℕ) (ks : List Kept) (h : Session) (x : Spot) → spot_of h ≡ Some x → IsSome (mark_in (kept_at x.name ks).marks x.point) → session_uses x.name x.point h ≤ 1 → session_of (change_first (kept_named x.name) (kept_placed x.point p) ks) h ≡ point_at p (session_of ks h)
+session_placed p ks h x sel mark once =
+    let n = x.name in
+    let id = x.point in
+    let ks' = change_first (kept_named n) (kept_placed id p) ks in
+    let got = selected_window (slice_get h.windows.windows h.windows.selected) x sel in
+    let w = got.0 in
+    let used_is : window_uses n id w ≡ spot_uses n id (Some x) = ap (spot_uses n id) got.2 in
+    let in_sum = sum_at (window_uses n id) w h.windows.windows h.windows.selected got.1 in
+    let u = spot_once x in
+    let does : window_of ks' w ≡ window_adjusted None (At p) Keep_mark Keep (window_of ks w) =
+    ap (window_shown ks' w.height) got.2 ∙ spot_placed p ks w.height x mark (omega (arith, used_is, in_sum, once)) ∙ sym (ap (λ (o : Option Spot). window_adjusted None (At p) Keep_mark Keep (window_shown ks w.height o)) got.2) in
+    same_windows (session_of ks h) _ _
+    (map_used_at (window_uses n id) (window_of ks') (window_of ks) (window_adjusted None (At p) Keep_mark Keep) (window_unused n id p ks) w (omega (arith, used_is, u)) does h.windows.windows h.windows.selected got.1 (omega (arith, once)))
+
+pub map-change_first_same : {A B : Type 0} (g : A → B) (p : A → Bool) (f : A → A) → ((x : A) → g (f x) ≡ g x) → (xs : List A) → map g (change_first p f xs) ≡ map g xs
+map-change_first_same g p f same [] = refl
+map-change_first_same {A = A} {B = B} g p f same (x ∷ xs) =
+    elim (p x) as (λ b. map g (cond b (f x ∷ xs) (x ∷ change_first p f xs)) ≡ g x ∷ map g xs) [
+      | true ↦ ap (λ y. y ∷ map g xs) (same x)
+      | false ↦ ap (λ ys. g x ∷ ys) (map-change_first_same g p f same xs)
+    ]
+
+pub buffers_placed : (n : List ℕ) (id p : ℕ) (ks : List Kept) → buffers_of (change_first (kept_named n) (kept_placed id p) ks) ≡ buffers_of ks
+buffers_placed n id p ks = map-change_first_same (λ (k : Kept). k.buffer) (kept_named n) (kept_placed id p) (λ k. refl) ks
+
+-- placing the selected point of a session moves that point of the world alone
+pub sessions_placed : (p : ℕ) (ks : List Kept) (xs : List Session) (sid : ℕ) (h : Session) (x : Spot) → find (session_id sid) xs ≡ Some h → spot_of h ≡ Some x → IsSome (mark_in (kept_at x.name ks).marks x.point) → uses x.name x.point xs ≤ 1 → map (session_of (change_first (kept_named x.name) (kept_placed x.point p) ks)) xs ≡ change_first (has_id sid) (point_at p) (map (session_of ks) xs)
+sessions_placed p ks xs sid h x found sel mark once =
+    let n = x.name in
+    let id = x.point in
+    let ks' = change_first (kept_named n) (kept_placed id p) ks in
+    let got = selected_window (slice_get h.windows.windows h.windows.selected) x sel in
+    let used_is : window_uses n id got.0 ≡ spot_uses n id (Some x) = ap (spot_uses n id) got.2 in
+    let in_sum = sum_at (window_uses n id) got.0 h.windows.windows h.windows.selected got.1 in
+    let u = spot_once x in
+    let in_all = sum_found (session_uses n id) (session_id sid) h xs found in
+    map_used_first (session_uses n id) (session_of ks') (session_of ks) (point_at p) (session_id sid) (has_id sid) (session_unused n id p ks) (λ a. refl) h (omega (arith, used_is, in_sum, u)) (session_placed p ks h x sel mark (omega (arith, in_all, once))) xs found once

@@ -1,0 +1,4 @@
+pub mod Worlds
+pub mod Sound
+pub mod Spots
+pub mod Settling

@@ -1,0 +1,93 @@
+-- The world that the kept buffers and the sessions stand for.
+use Rattle.std.specs.Prelude.{◌≡◌, ℕ, ◌^◌, Bool, false, nat_eq, List, [], ◌∷◌, Option, Some, None, map, find, All}
+use Rattle.std.specs.Option.{option_map}
+use Rattle.mgs_model.specs.Access.{Directory}
+use Rattle.mgs_model.specs.World.{World, Buffer, Own, first_own, Nothing, Buffer_of}
+use Rattle.mgs_model.specs.World as model
+use Rattle.mgs_buffers.specs.Kept.{Kept, mark_at}
+use Rattle.mgs_windows.specs.declared.Spot.{Spot}
+use Rattle.mgs_windows.specs.declared.Window.{Window}
+use Rattle.mgs_session.specs.declared.Session.{Session}
+use Rattle.mgs_model.specs.Picture.{IsSize}
+use Rattle.mgs_model.specs.declared.message.Message.{Message}
+use Rattle.mgs_world.specs.declared.size.Size.{Size}
+
+abbrev pub window_shown : List Kept → ℕ → Option Spot → model.Window
+window_shown ks height None = record { shows = Nothing; point = 0; mark = None; top = 0; row = 0; height = height }
+window_shown ks height (Some x) = record {
+  shows = Buffer_of x.name;
+  point = mark_at x.name ks x.point;
+  mark = option_map (mark_at x.name ks) x.mark;
+  top = mark_at x.name ks x.top;
+  row = 0;
+  height = height;
+}
+
+abbrev pub window_of : List Kept → Window → model.Window
+window_of ks x = window_shown ks x.height x.shows
+
+abbrev pub own_of : Message → Own
+own_of echo = record first_own { echo = echo }
+
+abbrev pub session_of : List Kept → Session → model.Session
+session_of ks x = record {
+  id = x.id;
+  user = x.user;
+  rows = x.windows.rows;
+  cols = x.cols;
+  windows = map (window_of ks) x.windows.windows;
+  selected = x.windows.selected;
+  places = [];
+  search = None;
+  own = own_of x.echo;
+}
+
+-- the next id; past the last u64 where every id was used
+abbrev pub id_after : Option ℕ → ℕ
+id_after None = 2 ^ 64
+id_after (Some id) = id
+
+abbrev pub buffers_of : List Kept → List Buffer
+buffers_of ks = map (λ (k : Kept). k.buffer) ks
+
+abbrev pub world_of : Directory → List Kept → List Session → Option ℕ → World
+world_of directory ks sessions next = record {
+  directory = directory;
+  buffers = buffers_of ks;
+  sessions = map (session_of ks) sessions;
+  next_id = id_after next;
+}
+
+-- SIZES: the id of each session, and the rows and columns of its screen
+abbrev pub size_of : model.Session → Size
+size_of x = record { id = x.id; rows = x.rows; cols = x.cols }
+
+abbrev pub sizes : World → List Size
+sizes w = map size_of w.sessions
+
+abbrev pub size_in : Session → Size
+size_in x = record { id = x.id; rows = x.windows.rows; cols = x.cols }
+
+abbrev pub sizes_in : List Session → List Size
+sizes_in xs = map size_in xs
+
+abbrev pub is_size_of : ℕ → Size → Bool
+is_size_of id x = nat_eq x.id id
+
+abbrev pub find_size : ℕ → List Size → Option Size
+find_size id xs = find (is_size_of id) xs
+
+-- the size of a screen
+abbrev pub IsOfSize : Size → Type 0
+IsOfSize x = IsSize x.rows x.cols
+
+abbrev pub IsOther : Size → Size → Type 0
+IsOther x y = nat_eq x.id y.id ≡ false
+
+-- no id stands twice
+abbrev pub IsUnique : List Size → Type 0
+IsUnique [] = Unit {0}
+IsUnique (x ∷ xs) = All (IsOther x) xs × IsUnique xs
+
+abbrev pub session_id : ℕ → Session → Bool
+session_id id x = nat_eq x.id id

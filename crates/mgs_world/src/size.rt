@@ -1,0 +1,10 @@
+// What is told of a session from outside.
+use mgs_model::SessionId;
+
+/// An open session: its id, and the rows and columns of its screen.
+#[derive(Clone, Copy, Debug, PartialEq, Eq)]
+pub struct Size {
+    pub id: SessionId,
+    pub rows: usize,
+    pub cols: usize,
+}
