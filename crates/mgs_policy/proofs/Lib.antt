@@ -1,3 +1,2 @@
 pub mod DecisionLemmas
 pub mod Walks
-pub mod UserLemmas

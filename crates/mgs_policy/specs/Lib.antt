@@ -1,2 +1,1 @@
-pub mod Directories
 pub mod Walk

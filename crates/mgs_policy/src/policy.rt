@@ -4,8 +4,8 @@ ghost use Rattle.mgs_model.specs.Rights.{rights_in, has_right, all_rights};
 ghost use Rattle.mgs_model.specs.Access.{allows, matches, concerns, decider, decision, decision_by};
 ghost use Rattle.mgs_policy.specs.Walk.{permits, denies, wanted};
 
-use crate::directory::Directory;
 use mgs_acl::List;
+use mgs_directory::Directory;
 use mgs_model::{Decision, Entry, EntryType, Mask, Name, Right, Who};
 
 /// Whether an entry speaks of the user (RFC 8881, section 6.2.1): by name, as the owner, or always.

@@ -2,7 +2,7 @@
 ghost use Rattle.std.specs.Prelude.{◌≡◌, [], ◌∷◌, ◌++◌, OnOk, OnErr, IfOk, find, map, true};
 ghost use Rattle.mgs_model.specs.Access.{is_among, is_member};
 ghost use Rattle.mgs_model.specs.Names.{same_name};
-ghost use Rattle.mgs_policy.specs.Directories.{is_group_named, are_users};
+ghost use Rattle.mgs_directory.specs.Directories.{is_group_named, are_users};
 
 use mgs_acl::user_named;
 use mgs_model::{GROUP_LIMIT, Name, USER_LIMIT};
@@ -46,7 +46,7 @@ impl Model for Group {
 }
 
 impl Group {
-    ghost use Rattle.mgs_policy.specs.Directories.{has_member};
+    ghost use Rattle.mgs_directory.specs.Directories.{has_member};
 
     fn is_named(&self, name: &Name) -> bool
         ensures { result ≡ same_name name.now self.now.name }
@@ -78,7 +78,7 @@ impl Model for Directory {
 }
 
 impl Directory {
-    ghost use Rattle.mgs_policy.specs.Directories.{user_fault, with_user, group_fault, with_group, Answers};
+    ghost use Rattle.mgs_directory.specs.Directories.{user_fault, with_user, group_fault, with_group, Answers};
 
     /// A directory with no user and no group.
     pub fn new(alloc: Global) -> Directory

@@ -3,8 +3,8 @@ use Rattle.std.specs.Prelude.{◌≡◌, ℕ, nat_le, not, Bool, ◌&&◌, List,
 use Rattle.std.specs.List.{list_any, list_all}
 use Rattle.mgs_model.specs.Names.{is_user_name, same_name}
 use Rattle.mgs_model.specs.Access.{Directory, UserGroup, is_among}
-use Rattle.mgs_policy.specs.declared.directory.DirectoryFault.{DirectoryFault}
-use Rattle.mgs_policy.specs.declared.directory.DirectoryFault.TheVariants.{Name, Twice, Unknown, Full, Short}
+use Rattle.mgs_directory.specs.declared.directory.DirectoryFault.{DirectoryFault}
+use Rattle.mgs_directory.specs.declared.directory.DirectoryFault.TheVariants.{Name, Twice, Unknown, Full, Short}
 
 -- why a user of this name must not be added
 abbrev pub user_fault : Directory → List ℕ → Option DirectoryFault
