@@ -2,8 +2,8 @@
 use Rattle.std.specs.Prelude.{ℕ, ◌≤◌, Result, Ok, Err}
 use Rattle.mgs_script.specs.declared.line.LineFault.{LineFault}
 use Rattle.mgs_script.specs.declared.line.LineFault.TheVariants as lines
-use Rattle.mgs_policy.specs.declared.directory.DirectoryFault.{DirectoryFault}
-use Rattle.mgs_policy.specs.declared.directory.DirectoryFault.TheVariants as directory
+use Rattle.mgs_directory.specs.declared.directory.DirectoryFault.{DirectoryFault}
+use Rattle.mgs_directory.specs.declared.directory.DirectoryFault.TheVariants as directory
 use Rattle.mgd.specs.declared.play.TurnFault.{TurnFault}
 use Rattle.mgd.specs.declared.play.TurnFault.TheVariants as turns
 use Rattle.mgd.specs.declared.replay.ReplayFault.{ReplayFault}

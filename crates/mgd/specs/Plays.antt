@@ -15,7 +15,7 @@ use Rattle.mgs_model.specs.declared.errors.Keyed.{Keyed}
 use Rattle.mgs_model.specs.declared.errors.Keyed.TheVariants as keyed
 use Rattle.mgs_model.specs.declared.errors.OpenFault.{OpenFault}
 use Rattle.mgs_acl.specs.Spelling.{entry_in}
-use Rattle.mgs_policy.specs.Directories.{user_fault, with_user, group_fault, with_group}
+use Rattle.mgs_directory.specs.Directories.{user_fault, with_user, group_fault, with_group}
 use Rattle.mgs_buffers.specs.Kept.{kept_new}
 use Rattle.mgs_core.specs.Steps.{KeyedBy, OpenedBy}
 use Rattle.mgs_paint.specs.Painting.{shown}

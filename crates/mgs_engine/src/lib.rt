@@ -14,10 +14,4 @@ pub use engine::Engine;
 pub use take::Taker;
 
 #[cfg(test)]
-mod fixtures;
-#[cfg(test)]
-mod lockstep;
-#[cfg(test)]
-mod rows;
-#[cfg(test)]
 mod tests;

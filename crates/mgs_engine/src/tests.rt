@@ -1,5 +1,5 @@
-use super::fixtures::list_of;
 use super::*;
+use mgs_acl::{List, read_entry};
 use mgs_buffers::Buffers;
 use mgs_core::Core;
 use mgs_marks::PlainMarked;
@@ -25,7 +25,11 @@ impl Taker for Seen {
 fn world(alloc: Global, rt: &impl Abort) -> Core<PlainMarked> {
     let mut directory = Directory::new(alloc);
     assert!(rt; directory.add_user("ann").is_ok());
-    let list = list_of(&["ALLOW OWNER@ rwt"], rt);
+    let Ok(entry) = read_entry("ALLOW OWNER@ rwt") else {
+        panic!(rt; "no entry");
+    };
+    let mut list = List::new();
+    assert!(rt; list.insert(0, entry).is_ok());
     let mut buffers = Buffers::new(alloc);
     assert!(rt;
         buffers

@@ -4,9 +4,9 @@ ghost use Rattle.mgs_world.specs.Worlds.{sizes};
 ghost use Rattle.mgs_engine.specs.Serving.{AllTaken};
 
 use super::fixtures::{Seat, Seats, list_of};
-use super::*;
 use mgs_buffers::Buffers;
 use mgs_core::Core;
+use mgs_engine::Engine;
 use mgs_grid::Grid;
 use mgs_marks::PlainMarked;
 use mgs_model::{Keyed, SessionId};

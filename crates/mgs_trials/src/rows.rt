@@ -1,8 +1,8 @@
 // What terminals of 6 rows and 20 columns show, row by row.
 use super::fixtures::{Seat, Seats, list_of};
-use super::*;
 use mgs_buffers::Buffers;
 use mgs_core::Core;
+use mgs_engine::Engine;
 use mgs_marks::PlainMarked;
 use mgs_model::{Keyed, SessionId};
 use mgs_policy::Directory;

@@ -3,7 +3,7 @@ use Rattle.mgs_model.specs.Picture.{Picture}
 use Rattle.mgs_world.specs.declared.size.Size.{Size}
 use Rattle.mgs_world.specs.Worlds.{sizes}
 use Rattle.mgs_engine.proofs.Painted.{told_known}
-use Rattle.mgs_engine.proofs.lockstep.drawn.Goals as goal
+use Rattle.mgs_trials.proofs.lockstep.drawn.Goals as goal
 
 pub draw-requires : goal.draw-requires
 draw-requires c =

@@ -1,6 +1,6 @@
 // What the tests share: lists by their entries, and sessions at terminals.
-use super::*;
 use mgs_acl::{List, read_entry};
+use mgs_engine::Taker;
 use mgs_model::SessionId;
 use mgs_term::Term;
 use std::process::Abort;
