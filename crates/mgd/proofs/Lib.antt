@@ -1,9 +1,8 @@
 pub mod Taking
 pub mod Rows
 pub mod Mapped
-pub mod Drafts
 pub mod Served
 pub mod Events
 pub mod Standing
 pub mod Stages
-pub mod Fits
+pub mod Setting

@@ -10,7 +10,8 @@ use Rattle.mgs_model.specs.World.{World}
 use Rattle.mgs_script.specs.Lines.{Said, said_in}
 use Rattle.mgs_script.specs.Lines as said
 use Rattle.mgs_script.specs.Scripts.{lines_of, line_in, behind_line, lines_behind}
-use Rattle.mgd.specs.Plays.{Stage, End, Whole, RefusedAt, LineDoes, LineRefused, Plays, MayPrint, Written, first_world, setting, begun}
+use Rattle.mgs_setup.specs.Settings.{first_world}
+use Rattle.mgd.specs.Plays.{Stage, End, Whole, RefusedAt, LineDoes, LineRefused, Plays, MayPrint, Written, setting, begun}
 use Rattle.mgd.specs.Served.{IsOpening, Turned, PlaysOn, SetUp}
 use Rattle.mgd.specs.Faults.{end_at}
 use Rattle.mgd.specs.declared.play.TurnFault.{TurnFault}

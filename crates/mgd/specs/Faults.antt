@@ -2,8 +2,6 @@
 use Rattle.std.specs.Prelude.{ℕ, ◌≤◌, Result, Ok, Err}
 use Rattle.mgs_script.specs.declared.line.LineFault.{LineFault}
 use Rattle.mgs_script.specs.declared.line.LineFault.TheVariants as lines
-use Rattle.mgs_directory.specs.declared.directory.DirectoryFault.{DirectoryFault}
-use Rattle.mgs_directory.specs.declared.directory.DirectoryFault.TheVariants as directory
 use Rattle.mgd.specs.declared.play.TurnFault.{TurnFault}
 use Rattle.mgd.specs.declared.play.TurnFault.TheVariants as turns
 use Rattle.mgd.specs.declared.replay.ReplayFault.{ReplayFault}
@@ -13,14 +11,6 @@ use Rattle.mgd.specs.declared.replay.ReplayFault.TheVariants as ends
 abbrev pub fault_of : LineFault → TurnFault
 fault_of lines.Bad = turns.Refused
 fault_of lines.Short = turns.Short
-
--- a user or a group that the directory refuses, or want of memory
-abbrev pub fault_in : DirectoryFault → LineFault
-fault_in directory.Name = lines.Bad
-fault_in directory.Twice = lines.Bad
-fault_in directory.Unknown = lines.Bad
-fault_in directory.Full = lines.Bad
-fault_in directory.Short = lines.Short
 
 -- how a replay ends by a fault of the line of that number
 abbrev pub end_at : ℕ → TurnFault → ReplayFault

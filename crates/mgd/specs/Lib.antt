@@ -3,5 +3,4 @@ pub mod Prints
 pub mod Seats
 pub mod Faults
 pub mod Plays
-pub mod Setups
 pub mod Served

@@ -6,7 +6,6 @@ mod print;
 mod replay;
 mod seat;
 mod seats;
-mod setup;
 #[cfg(test)]
 mod tests;
 

@@ -10,18 +10,19 @@ ghost use Rattle.mgs_script.specs.Lines.{view, Open, Keys, Close, said_in};
 ghost use Rattle.mgd.specs.Prints.{refusal_text};
 ghost use Rattle.mgs_script.specs.Scripts.{lines_of};
 ghost use Rattle.mgd.specs.Seats.{Prints, seat_of, shown_text};
-ghost use Rattle.mgd.specs.Plays.{label as called, Has, begun, first_world, standing_of, session_now, had_session, TypesOne, Types, Closes, Written};
+ghost use Rattle.mgs_setup.specs.Settings.{first_world};
+ghost use Rattle.mgd.specs.Plays.{label as called, Has, begun, standing_of, session_now, had_session, TypesOne, Types, Closes, Written};
 ghost use Rattle.mgd.specs.Served.{labels_in, stage_of, seats_keyed, IsReady, IsWaiting, NotBad, Runs, RunsSaid, Turned, PlaysOn, SetsSaid, SetUp};
 
 use crate::print::{print_ended, print_refusal, print_screen};
 use crate::replay::ReplayFault;
 use crate::seat::{Cause, Seat};
 use crate::seats::Seats;
-use crate::setup::Setup;
 use mgs_engine::Engine;
 use mgs_marks::PlainMarked;
 use mgs_model::{Keyed, Name, OpenFault, SCRIPT_LIMIT, SessionId, Short};
 use mgs_script::{Line, LineFault, cut_line, read_line};
+use mgs_setup::Setup;
 use mgs_term::Term;
 use std::alloc::{AllocError, Global};
 use std::io::Write;
@@ -410,6 +411,16 @@ fn set_up<'a>(
     Ok(None)
 }
 
+// The engine over the users and buffers that were set.
+fn server_of(alloc: Global, setup: Setup) -> Result<Server, Short>
+    ensures world { IfOk result (λ e. e.world ≡ setup.entry) }
+    ensures sessions { IfOk result (λ e. e.world.sessions ≡ []) }
+    ensures queues { IfOk result (λ e. e.queues ≡ []) }
+{
+    let core = setup.into_core()?;
+    Engine::new(alloc, core)
+}
+
 /// Runs the lines of a script over a server that has nothing yet, and writes what they print, line by line.
 ///
 /// `Line` is the first line that is refused; what the lines before it print is written. `Write`: writing fails. `Short`
@@ -422,7 +433,7 @@ pub fn play<W: Write>(alloc: Global, script: &[u8], writer: &mut W) -> Result<()
     let mut setup = Setup::new(alloc);
     match set_up(alloc, &mut setup, script) {
         Ok(None) => Ok(()),
-        Ok(Some((number, text))) => match setup.into_engine() {
+        Ok(Some((number, text))) => match server_of(alloc, setup) {
             Ok(mut server) => run_lines(alloc, &mut server, text, number, writer),
             Err(Short) => Err(ReplayFault::Short),
         },

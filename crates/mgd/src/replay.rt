@@ -2,7 +2,8 @@
 ghost use Rattle.std.specs.Prelude.{◌≡◌, ◌+◌, ◌≤◌, ◌<◌, length, IfOk, IfSome};
 ghost use Rattle.std.specs.Io.KnownBytes.{Keeps};
 ghost use Rattle.mgd.specs.Faults.{IsCounted};
-ghost use Rattle.mgd.specs.Plays.{first_world, Written};
+ghost use Rattle.mgs_setup.specs.Settings.{first_world};
+ghost use Rattle.mgd.specs.Plays.{Written};
 ghost use Rattle.mgd.specs.Reads.{PieceRead, TakesAtMost};
 
 use crate::play::play;

@@ -1,7 +1,7 @@
 use Rattle.std.proofs.Common.{[], Option, sym, subst}
 use Rattle.mgs_script.specs.Lines.{Said, view}
 use Rattle.mgd.specs.Plays.{LineDoes, setting}
-use Rattle.mgd.proofs.Fits.{set_does}
+use Rattle.mgd.proofs.Setting.{set_does}
 use Rattle.mgd.proofs.play.set_line.Goals as goal
 
 pub returns-in-Ok-run : goal.returns-in-Ok-run

@@ -1,7 +1,7 @@
 use Rattle.std.proofs.Common.{arith, List}
 use Rattle.mgs_buffers.specs.Kept.{Kept}
-use Rattle.mgd.proofs.Fits.{no_fault, only_short}
-use Rattle.mgd.proofs.setup.add_all.Goals as goal
+use Rattle.mgs_setup.proofs.Fits.{no_fault, only_short}
+use Rattle.mgs_setup.proofs.setup.add_all.Goals as goal
 
 pub returns-in-Err-clause-fault : goal.returns-in-Err-clause-fault
 returns-in-Err-clause-fault c =

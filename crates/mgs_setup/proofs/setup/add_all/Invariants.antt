@@ -1,6 +1,6 @@
 use Rattle.std.proofs.Common.{◌≡◌, map, take}
-use Rattle.mgd.specs.Setups.{kept_of}
-use Rattle.mgd.proofs.setup.add_all.Given as goal
+use Rattle.mgs_setup.specs.Setups.{kept_of}
+use Rattle.mgs_setup.proofs.setup.add_all.Given as goal
 
 -- the drafts before the index are kept
 abbrev pub invariant-loop-draft : goal.invariant-loop-draft

@@ -14,14 +14,11 @@ use Rattle.mgs_buffers.specs.Kept.{kept_named, is_kept}
 use Rattle.mgs_buffers.specs.Adding.{add_fault, Answers}
 use Rattle.mgs_buffers.specs.declared.fault.AddFault.{AddFault}
 use Rattle.mgs_buffers.specs.declared.fault.AddFault.TheVariants as adds
-use Rattle.mgd.specs.declared.setup.Draft.{Draft}
-use Rattle.mgs_script.specs.Lines.{Said}
-use Rattle.mgs_script.specs.Lines as said
-use Rattle.mgd.specs.Plays.{setting, LineDoes, are_names, buffer_refused, entry_refused, text_refused, with_entry, with_text, empty_buffer}
-use Rattle.mgd.specs.Setups.{Sets, Changes, kept_of, buffer_of, buffers_in, buffer_name, IsFit, AreNew, AreFit, OnlyShort}
+use Rattle.mgs_setup.specs.declared.setup.Draft.{Draft}
+use Rattle.mgs_setup.specs.Settings.{are_names, buffer_refused, entry_refused, text_refused, with_entry, with_text, empty_buffer}
+use Rattle.mgs_setup.specs.Setups.{Changes, kept_of, buffer_of, buffers_in, buffer_name, IsFit, AreNew, AreFit, OnlyShort}
 use Rattle.mgs_script.specs.declared.line.LineFault.{LineFault}
 use Rattle.mgs_script.specs.declared.line.LineFault.TheVariants.{Bad, Short}
-use Rattle.mgs_engine.proofs.Screens.{All-unmap}
 
 -- CHANGES KEEP IT
 
@@ -138,19 +135,6 @@ buffer_fits w n o h fit =
     let parts = or_false (not (are_names n o)) _ h in
     fit_pushed n o w.buffers (names_are (are_names n o) parts.0) (or_false _ _ parts.1).1 fit
 
--- a line that was set does what it says
-pub set_does : (w v : World) (l : Said) → Sets (Ok tt) l w v → LineDoes (Some l) (setting w) (setting v) []
-set_does w v said.Nothing h = (refl, (ap setting h.1, refl))
-set_does w v (said.User name) h = (h.0, (ap setting h.1, refl))
-set_does w v (said.Group name members) h = (h.0, (ap setting h.1, refl))
-set_does w v (said.Buffer name owner) h = (h.0, (ap setting h.1, refl))
-set_does w v (said.Entry buffer entry) h = (h.0, (ap setting h.1, refl))
-set_does w v (said.Text buffer cs) h = (h.0, (ap setting h.1, refl))
-set_does w v (said.Open name user rows cols) h = let e : true ≡ false = h.0 in absurd cc
-set_does w v (said.Keys name keys) h = let e : true ≡ false = h.0 in absurd cc
-set_does w v (said.Show name) h = let e : true ≡ false = h.0 in absurd cc
-set_does w v (said.Close name) h = let e : true ≡ false = h.0 in absurd cc
-
 -- no buffer
 pub none_fit : AreFit []
 none_fit = record { each = All-nil IsFit; few = omega arith; new = tt }
@@ -162,9 +146,10 @@ no_earlier [] i d l h = absurd (omega arith)
 no_earlier (x ∷ xs) zero d l h = refl
 no_earlier (x ∷ xs) (suc i) d l h =
     let n : List ℕ = (get_or xs i d).name.now in
-    let others : All (λ (y : Draft). same_name y.name.now x.name.now ≡ false) xs =
-    All-unmap (λ (b : Buffer). same_name b.name x.name.now ≡ false) buffer_of xs (All-unmap (λ (m : List ℕ). same_name m x.name.now ≡ false) buffer_name (buffers_in xs) h.0) in
-    let e : same_name n x.name.now ≡ false = All-get_or (λ (y : Draft). same_name y.name.now x.name.now ≡ false) xs i d (omega arith) others in
+    let others : List (List ℕ) = map buffer_name (buffers_in xs) in
+    let at : get_or others i d.name.now ≡ n = get_or-map buffer_name (buffers_in xs) i (buffer_of d) ∙ ap buffer_name (get_or-map buffer_of xs i d) in
+    let within : i < length others = omega (arith, length-map (buffers_in xs) buffer_name, length-map xs buffer_of) in
+    let e : same_name n x.name.now ≡ false = subst (λ (m : List ℕ). same_name m x.name.now ≡ false) at (All-get_or (λ (m : List ℕ). same_name m x.name.now ≡ false) others i d.name.now within h.0) in
     ap (λ b. cond b (Some (kept_of x)) (find (kept_named n) (map kept_of (take i xs)))) e ∙ no_earlier xs i d (omega arith) h.1
 
 fault_by : Bool → Bool → Bool → Bool → Option AddFault

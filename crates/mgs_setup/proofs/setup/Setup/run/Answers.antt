@@ -4,11 +4,11 @@ use Rattle.std.proofs.lemmas.List.{with_items_is}
 use Rattle.mgs_acl.specs.Spelling.{entry_in}
 use Rattle.mgs_model.specs.World.{World}
 use Rattle.mgs_script.specs.Lines as lines
-use Rattle.mgd.specs.declared.setup.Draft.{Draft}
-use Rattle.mgd.specs.Setups.{world_of, buffers_in, AreFit, Sets}
-use Rattle.mgd.proofs.Drafts.{sets_entry}
-use Rattle.mgd.proofs.Fits.{entry_fits, text_fits}
-use Rattle.mgd.proofs.setup.Setup.run.Goals as goal
+use Rattle.mgs_setup.specs.declared.setup.Draft.{Draft}
+use Rattle.mgs_setup.specs.Setups.{world_of, buffers_in, AreFit, Sets}
+use Rattle.mgs_setup.proofs.Drafts.{sets_entry}
+use Rattle.mgs_setup.proofs.Fits.{entry_fits, text_fits}
+use Rattle.mgs_setup.proofs.setup.Setup.run.Goals as goal
 
 pub invariant_of-self : goal.invariant_of-self
 invariant_of-self c =

@@ -1,12 +1,12 @@
 use Rattle.std.proofs.Common.{◌≡◌, List, false, sym, ap, subst, refl, ◌∙◌}
 use Rattle.mgs_model.specs.World.{World, Buffer}
-use Rattle.mgd.specs.declared.setup.Draft.{Draft}
-use Rattle.mgd.specs.Plays.{buffer_refused}
-use Rattle.mgd.specs.Setups.{world_of, buffers_in, AreFit}
-use Rattle.mgd.proofs.Drafts.{pushed}
-use Rattle.mgd.proofs.Fits.{buffer_fits}
-use Rattle.mgd.proofs.setup.Setup.add_buffer.Goals.{in-Ok, in-Err}
-use Rattle.mgd.proofs.setup.Setup.add_buffer.Goals as goal
+use Rattle.mgs_setup.specs.declared.setup.Draft.{Draft}
+use Rattle.mgs_setup.specs.Settings.{buffer_refused}
+use Rattle.mgs_setup.specs.Setups.{world_of, buffers_in, AreFit}
+use Rattle.mgs_setup.proofs.Drafts.{pushed}
+use Rattle.mgs_setup.proofs.Fits.{buffer_fits}
+use Rattle.mgs_setup.proofs.setup.Setup.add_buffer.Goals.{in-Ok, in-Err}
+use Rattle.mgs_setup.proofs.setup.Setup.add_buffer.Goals as goal
 
 pub invariant_of-self : goal.invariant_of-self
 invariant_of-self c = elim c.match-push.branch [

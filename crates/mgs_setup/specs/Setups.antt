@@ -10,9 +10,9 @@ use Rattle.mgs_model.specs.declared.entry.Entry.{Entry}
 use Rattle.mgs_buffers.specs.Kept.{Kept, kept_new}
 use Rattle.mgs_script.specs.declared.line.LineFault.{LineFault}
 use Rattle.mgs_script.specs.declared.line.LineFault.TheVariants.{Bad, Short}
-use Rattle.mgd.specs.declared.setup.Draft.{Draft}
+use Rattle.mgs_setup.specs.declared.setup.Draft.{Draft}
 use Rattle.mgs_script.specs.Lines.{Said}
-use Rattle.mgd.specs.Plays.{setting_refused, world_set}
+use Rattle.mgs_setup.specs.Settings.{setting_refused, world_set}
 
 -- an entry is put last; what is none is refused, and so is a 65th
 abbrev pub Listed : {F : Type 0} → Result (Unit {0}) LineFault → List Entry → List Entry → Result Entry F → Type 0

@@ -10,20 +10,17 @@ use Rattle.std.proofs.lemmas.List.Sums.{position_or_len_is}
 use Rattle.mgs_model.proofs.Firsts.{find-map, find_at_place, find_none, position_or_len-map, written_first, place_most}
 use Rattle.std.proofs.lemmas.Bool.Decides.{nat_tests}
 use Rattle.mgs_model.specs.Apply.{change_first}
-use Rattle.std.specs.Prelude.{IfOk}
-use Rattle.mgs_world.specs.declared.size.Size.{Size}
-use Rattle.mgs_world.specs.Worlds.{size_of, sizes, buffers_of}
-use Rattle.mgs_engine.specs.Serving.{Serving, Queue, queue_id, queue_ids}
-use Rattle.mgs_model.specs.World.{World, Session, Buffer, is_named, find_buffer}
+use Rattle.mgs_world.specs.Worlds.{buffers_of}
+use Rattle.mgs_model.specs.World.{World, Buffer, is_named, find_buffer}
 use Rattle.mgs_acl.specs.Spelling.{entry_in}
 use Rattle.mgs_script.specs.Lines as lines
 use Rattle.mgs_model.specs.declared.entry.Entry.{Entry}
 use Rattle.mgs_script.specs.declared.line.LineFault.{LineFault}
 use Rattle.mgs_script.specs.declared.line.LineFault.TheVariants.{Bad, Short}
-use Rattle.mgd.specs.declared.setup.Draft.{Draft}
+use Rattle.mgs_setup.specs.declared.setup.Draft.{Draft}
 use Rattle.std.proofs.lemmas.List.{map-append}
-use Rattle.mgd.specs.Plays.{entry_refused, text_refused, with_entry, with_text, empty_buffer}
-use Rattle.mgd.specs.Setups.{Listed, Lengthened, Changes, Sets, kept_of, buffer_of, buffers_in, is_drafted}
+use Rattle.mgs_setup.specs.Settings.{entry_refused, text_refused, with_entry, with_text, empty_buffer}
+use Rattle.mgs_setup.specs.Setups.{Listed, Lengthened, Changes, Sets, kept_of, buffer_of, buffers_in, is_drafted}
 
 -- the first place that passes
 placed : {A : Type 0} (p : A → Bool) (xs : List A) (i : ℕ) (d : A) → Some i ≡ position p xs → (i < length xs) × (position_or_len p xs ≡ i)
@@ -140,21 +137,8 @@ pushed name owner ds new d is n o l t =
     let e : buffer_of d ≡ empty_buffer name owner = cc in
     ap buffers_in is ∙ map-append buffer_of ds (d ∷ []) ∙ ap (λ (b : Buffer). buffers_in ds ++ b ∷ []) e
 
--- THE ENGINE OF WHAT WAS SET
+-- THE BUFFERS OF A CORE
 
 pub kept_buffers : (ds : List Draft) → buffers_of (map kept_of ds) ≡ buffers_in ds
 kept_buffers [] = refl
 kept_buffers (d ∷ ds) = ap (λ (bs : List Buffer). buffer_of d ∷ bs) (kept_buffers ds)
-
-pub engine_of : {F : Type 0} (r : Result Serving F) (core w : World) → IfOk r (λ e. e.world ≡ core) → core ≡ w → IfOk r (λ e. e.world ≡ w)
-engine_of (Ok e) core w h is = h ∙ is
-engine_of (Err f) core w h is = tt
-
-empty : (qs : List Queue) → map queue_id qs ≡ [] → qs ≡ []
-empty [] h = refl
-empty (q ∷ qs) h = absurd cc
-
--- no session is open, so nothing waits
-pub no_queues : {F : Type 0} (r : Result Serving F) (core : World) → IfOk r (λ e. queue_ids e ≡ map (λ (z : Size). z.id) (sizes core)) → core.sessions ≡ [] → IfOk r (λ e. e.queues ≡ [])
-no_queues (Ok e) core h none = empty e.queues (h ∙ ap (λ (xs : List Session). map (λ (z : Size). z.id) (map size_of xs)) none)
-no_queues (Err f) core h none = tt

@@ -1,17 +1,15 @@
 // The users, groups and buffers of a script, before its first session.
-ghost use Rattle.std.specs.Prelude.{◌≡◌, ◌<◌, IfOk, IfSome, OnOk, OnErr, [], length, map, position, is_some};
+ghost use Rattle.std.specs.Prelude.{◌≡◌, ◌<◌, IfOk, IfSome, [], length, map, position, is_some};
 ghost use Rattle.mgs_acl.specs.Spelling.{entry_in};
 ghost use Rattle.mgs_model.specs.World.{find_buffer};
 ghost use Rattle.mgs_script.specs.Lines.{view, User, Group, Buffer};
-ghost use Rattle.mgd.specs.Faults.{fault_in};
-ghost use Rattle.mgd.specs.Plays.{first_world, are_names, buffer_refused, entry_refused, text_refused, with_entry, with_text};
-ghost use Rattle.mgd.specs.Setups.{Listed, Lengthened, Changes, Sets, kept_of, buffers_in, is_drafted, AreFit, OnlyShort};
-ghost use Rattle.mgs_engine.specs.Serving.{AllTaken};
+ghost use Rattle.mgs_setup.specs.Faults.{fault_in};
+ghost use Rattle.mgs_setup.specs.Settings.{first_world, are_names, buffer_refused, entry_refused, text_refused, with_entry, with_text};
+ghost use Rattle.mgs_setup.specs.Setups.{Listed, Lengthened, Changes, Sets, kept_of, buffers_in, is_drafted, AreFit, OnlyShort};
 
 use mgs_acl::{List, read_entry, user_named};
 use mgs_buffers::{AddFault, Buffers};
 use mgs_core::Core;
-use mgs_engine::Engine;
 use mgs_marks::PlainMarked;
 use mgs_model::{BUFFER_LIMIT, Name, Short, TEXT_LIMIT};
 use mgs_policy::{Directory, DirectoryFault};
@@ -41,7 +39,7 @@ impl<'a> Model for Setup<'a> {
 
     ghost Value = { World };
 
-    ghost use Rattle.mgd.specs.Setups.{world_of, buffers_in, AreFit};
+    ghost use Rattle.mgs_setup.specs.Setups.{world_of, buffers_in, AreFit};
 
     ghost view = { λ s. world_of s.directory (buffers_in s.drafts.items) };
 
@@ -233,11 +231,10 @@ impl<'a> Setup<'a> {
         }
     }
 
-    /// The engine over these users and buffers.
-    pub fn into_engine(self) -> Result<Engine<PlainMarked>, Short>
-        ensures world { IfOk result (λ e. e.world ≡ self.entry) }
-        ensures sessions { IfOk result (λ e. e.world.sessions ≡ []) }
-        ensures queues { IfOk result (λ e. e.queues ≡ []) }
+    /// A server over these users and buffers, without a session.
+    pub fn into_core(self) -> Result<Core<PlainMarked>, Short>
+        ensures world { IfOk result (λ c. c ≡ self.entry) }
+        ensures sessions { IfOk result (λ c. c.sessions ≡ []) }
     {
         let Setup {
             alloc,
@@ -245,6 +242,6 @@ impl<'a> Setup<'a> {
             drafts,
         } = self;
         let buffers = buffers_of(alloc, &drafts)?;
-        Engine::new(alloc, Core::new(alloc, directory, buffers))
+        Ok(Core::new(alloc, directory, buffers))
     }
 }
