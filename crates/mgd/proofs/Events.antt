@@ -23,11 +23,11 @@ use Rattle.mgs_paint.specs.Painting.{Paints, shown, cells_of}
 use Rattle.mgs_engine.specs.Serving.{Serving, Queue, AllTaken, IsTaken, pending_of, queue_ids, bytes_of, find_queue}
 use Rattle.mgs_engine.specs.Painted.{Painted, PaintedBy}
 use Rattle.mgs_engine.proofs.Screens.{All-unmap}
-use Rattle.mgd.specs.declared.seat.Labelled.{Labelled}
-use Rattle.mgd.specs.declared.seat.Cause.{Cause}
-use Rattle.mgd.specs.declared.seat.Seat.{Seat}
-use Rattle.mgd.specs.declared.seat.Seat.TheVariants as seats
-use Rattle.mgd.specs.Seats.{is_labelled, seat_of, ended_by}
+use Rattle.mgs_seats.specs.declared.seat.Labelled.{Labelled}
+use Rattle.mgs_seats.specs.declared.seat.Cause.{Cause}
+use Rattle.mgs_seats.specs.declared.seat.Seat.{Seat}
+use Rattle.mgs_seats.specs.declared.seat.Seat.TheVariants as seats
+use Rattle.mgs_seats.specs.Seats.{is_labelled, seat_of, ended_by}
 use Rattle.mgd.specs.Plays.{Label, label, Standing, Never, Has, Gone, is_called, standing_of, gone}
 use Rattle.mgd.specs.Served.{standing_in, label_of, labels_in, SeatShows, Shows, SeatDue, IsDue, Differ, IsApart, AreApart, AreUnique, size_id, IsServed, IsReady, IsWaiting}
 use Rattle.mgd.proofs.Served.{found_size}

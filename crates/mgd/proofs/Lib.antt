@@ -1,6 +1,4 @@
 pub mod Taking
-pub mod Rows
-pub mod Mapped
 pub mod Served
 pub mod Events
 pub mod Standing

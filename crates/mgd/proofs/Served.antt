@@ -14,11 +14,11 @@ use Rattle.mgs_term.specs.Terminal.{Terminal, resting}
 use Rattle.mgs_term.specs.Drawing.{Draws, Anything}
 use Rattle.mgs_paint.specs.Painting.{shown}
 use Rattle.mgs_engine.specs.Serving.{Serving, Queue, Handed, AllTaken, queue_ids, queue_id, bytes_of, find_queue, is_queue_of, emptied}
-use Rattle.mgd.specs.declared.seat.Labelled.{Labelled}
-use Rattle.mgd.specs.declared.seat.Cause.{Cause}
-use Rattle.mgd.specs.declared.seat.Seat.{Seat}
-use Rattle.mgd.specs.declared.seat.Seat.TheVariants.{Never, Open, Ended}
-use Rattle.mgd.specs.Seats.{Fed, SeatFed, OwnFed, TermFed, TakenBy}
+use Rattle.mgs_seats.specs.declared.seat.Labelled.{Labelled}
+use Rattle.mgs_seats.specs.declared.seat.Cause.{Cause}
+use Rattle.mgs_seats.specs.declared.seat.Seat.{Seat}
+use Rattle.mgs_seats.specs.declared.seat.Seat.TheVariants.{Never, Open, Ended}
+use Rattle.mgs_seats.specs.Seats.{Fed, SeatFed, OwnFed, TermFed, TakenBy}
 use Rattle.mgd.specs.Served.{standing_in, label_of, labels_in, SeatShows, Shows, SeatDue, IsDue, AreOthers, AreUnique, size_id, IsServed, IsReady, IsWaiting, AreApart}
 
 -- LISTS PLACE BY PLACE

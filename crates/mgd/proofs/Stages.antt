@@ -14,15 +14,15 @@ use Rattle.mgs_term.specs.Terminal.{Terminal}
 use Rattle.mgs_paint.specs.Painting.{shown}
 use Rattle.mgs_script.specs.declared.line.LineFault.{LineFault}
 use Rattle.mgs_script.specs.declared.line.LineFault.TheVariants.{Bad, Short}
-use Rattle.mgd.specs.declared.seat.Labelled.{Labelled}
-use Rattle.mgd.specs.declared.seat.Cause.TheVariants as causes
-use Rattle.mgd.specs.declared.seat.Seat.{Seat}
-use Rattle.mgd.specs.declared.seat.Seat.TheVariants as seats
+use Rattle.mgs_seats.specs.declared.seat.Labelled.{Labelled}
+use Rattle.mgs_seats.specs.declared.seat.Cause.TheVariants as causes
+use Rattle.mgs_seats.specs.declared.seat.Seat.{Seat}
+use Rattle.mgs_seats.specs.declared.seat.Seat.TheVariants as seats
 use Rattle.mgs_script.specs.Lines as said
-use Rattle.mgd.specs.Prints.{refusal_text, screen_text, ended_text}
-use Rattle.mgd.specs.Seats.{is_labelled, seat_of, shown_text, Prints}
+use Rattle.mgs_seats.specs.Prints.{refusal_text, screen_text, ended_text}
+use Rattle.mgs_seats.specs.Seats.{is_labelled, seat_of, shown_text}
 use Rattle.mgd.specs.Plays.{Label, label, Standing, Never, Has, begun, standing_of, session_now, had_session, labels_keyed, Shows}
-use Rattle.mgd.specs.Served.{standing_in, labels_in, SeatShows, Shows as IsShown, IsReady, IsWaiting, seats_keyed, stage_of, Runs, NotBad}
+use Rattle.mgd.specs.Served.{Prints, standing_in, labels_in, SeatShows, Shows as IsShown, IsReady, IsWaiting, seats_keyed, stage_of, Runs, NotBad}
 use Rattle.mgd.proofs.Events.{standing_at, labels_gone, labels_push, waiting_ended, ready_never, All-found}
 
 -- whether a label was used

@@ -1,6 +1,4 @@
 pub mod Reads
-pub mod Prints
-pub mod Seats
 pub mod Faults
 pub mod Plays
 pub mod Served

@@ -12,13 +12,13 @@ use Rattle.mgs_model.specs.declared.errors.Keyed.TheVariants as keyed
 use Rattle.mgs_model.specs.declared.errors.OpenFault.{OpenFault}
 use Rattle.mgs_core.specs.Steps.{KeyedBy, OpenedBy}
 use Rattle.mgs_paint.specs.Painting.{shown}
-use Rattle.mgd.specs.declared.seat.Cause.{Cause}
-use Rattle.mgd.specs.declared.seat.Cause.TheVariants as causes
+use Rattle.mgs_seats.specs.declared.seat.Cause.{Cause}
+use Rattle.mgs_seats.specs.declared.seat.Cause.TheVariants as causes
 use Rattle.mgd.specs.declared.replay.ReplayFault.{ReplayFault}
 use Rattle.mgd.specs.declared.replay.ReplayFault.TheVariants as ends
 use Rattle.mgs_setup.specs.Settings.{setting_refused, world_set}
 use Rattle.mgs_script.specs.Lines.{Said, Nothing, User, Group, Buffer, Entry as Listing, Text, Open, Keys, Show, Close, said_in}
-use Rattle.mgd.specs.Prints.{refusal_text, ended_text, screen_text}
+use Rattle.mgs_seats.specs.Prints.{refusal_text, ended_text, screen_text}
 use Rattle.mgs_script.specs.Scripts.{lines_of}
 
 -- LABELS

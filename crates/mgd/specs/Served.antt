@@ -1,6 +1,7 @@
 -- The terminals of the labels beside the engine that serves them.
 use Rattle.std.specs.Prelude.{◌≡◌, ℕ, nat_eq, Bool, true, false, List, [], ◌∷◌, ◌++◌, map, Option, Some, None, Result, Ok, Err, All}
 use Rattle.std.specs.Io.KnownBytes.{Appends}
+use Rattle.std.specs.Option.{option_map}
 use Rattle.mgs_model.specs.World.{World, Session, find_session}
 use Rattle.mgs_model.specs.Draw.{screen}
 use Rattle.mgs_world.specs.declared.size.Size.{Size}
@@ -10,12 +11,12 @@ use Rattle.mgs_term.specs.Terminal.{resting}
 use Rattle.mgs_term.specs.Drawing.{Draws, Anything}
 use Rattle.mgs_paint.specs.Painting.{shown}
 use Rattle.mgs_engine.specs.Serving.{Serving, AllTaken, pending_of, queue_ids}
-use Rattle.mgd.specs.declared.seat.Labelled.{Labelled}
-use Rattle.mgd.specs.declared.seat.Seat.{Seat}
-use Rattle.mgd.specs.declared.seat.Seat.TheVariants as seats
+use Rattle.mgs_seats.specs.declared.seat.Labelled.{Labelled}
+use Rattle.mgs_seats.specs.declared.seat.Seat.{Seat}
+use Rattle.mgs_seats.specs.declared.seat.Seat.TheVariants as seats
 use Rattle.mgs_model.specs.declared.errors.Keyed.{Keyed}
 use Rattle.mgs_model.specs.declared.errors.Keyed.TheVariants as keyed
-use Rattle.mgd.specs.declared.seat.Cause.TheVariants as causes
+use Rattle.mgs_seats.specs.declared.seat.Cause.TheVariants as causes
 use Rattle.mgs_script.specs.declared.line.LineFault.{LineFault}
 use Rattle.mgs_script.specs.declared.line.LineFault.TheVariants as lines
 use Rattle.mgd.specs.declared.play.TurnFault.{TurnFault}
@@ -25,7 +26,7 @@ use Rattle.mgd.specs.declared.replay.ReplayFault.TheVariants as ends
 use Rattle.mgs_script.specs.Lines.{Said, said_in}
 use Rattle.mgs_script.specs.Scripts.{lines_of, line_in}
 use Rattle.mgs_script.specs.Lines as said
-use Rattle.mgd.specs.Seats.{ended_by}
+use Rattle.mgs_seats.specs.Seats.{ended_by}
 use Rattle.mgd.specs.Plays.{Label, label, Standing, Never, Has, Gone, Stage, begun, setting, is_refused, Does, LineDoes, LineRefused, Plays, End, Whole, RefusedAt}
 
 -- how a label stands, by what stands behind it
@@ -113,6 +114,12 @@ seats_keyed keyed.Quit name xs = map (ended_by name causes.Quit) xs
 seats_keyed keyed.Done name xs = xs
 seats_keyed keyed.NoSession name xs = xs
 seats_keyed keyed.Short name xs = xs
+
+-- exactly the text was printed; the line is refused exactly where there is none
+abbrev pub Prints : Result (Unit {0}) LineFault → List ℕ → List ℕ → Option (List ℕ) → Type 0
+Prints (Ok done) old new text = option_map (λ (t : List ℕ). old ++ t) text ≡ Some new
+Prints (Err lines.Bad) old new text = text ≡ None
+Prints (Err lines.Short) old new text = Unit {0}
 
 -- a fault is want of memory
 abbrev pub NotBad : Result (Unit {0}) LineFault → Type 0

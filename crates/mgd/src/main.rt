@@ -2,10 +2,7 @@
 #![tactic(auto)]
 
 mod play;
-mod print;
 mod replay;
-mod seat;
-mod seats;
 #[cfg(test)]
 mod tests;
 

@@ -1,5 +1,5 @@
 use Rattle.std.proofs.Common.{ap, ◌∙◌}
-use Rattle.mgd.specs.declared.seat.Cause.TheVariants.{Closed}
+use Rattle.mgs_seats.specs.declared.seat.Cause.TheVariants.{Closed}
 use Rattle.mgd.specs.Served.{labels_in}
 use Rattle.mgd.proofs.Events.{waiting_closed, labels_gone}
 use Rattle.mgd.proofs.Stages.{seat_open, stage_is}

@@ -1,6 +1,6 @@
 use Rattle.std.proofs.Common.{Bor, sym, ap, ◌∙◌}
 use Rattle.std.specs.Prelude.{is_some}
-use Rattle.mgd.specs.declared.seat.Seat.{Seat}
+use Rattle.mgs_seats.specs.declared.seat.Seat.{Seat}
 use Rattle.mgd.specs.Served.{labels_in}
 use Rattle.mgd.proofs.Events.{waiting_opened}
 use Rattle.mgd.proofs.Stages.{is_used, some_map, opened_runs, refused_runs, refused_ready}

@@ -1,6 +1,6 @@
 use Rattle.std.proofs.Common.{◌≡◌, ◌++◌, take}
-use Rattle.mgd.specs.Prints.{characters}
-use Rattle.mgd.proofs.print.push_cells.Given as goal
+use Rattle.mgs_seats.specs.Prints.{characters}
+use Rattle.mgs_seats.proofs.print.push_cells.Given as goal
 
 -- the characters of the cells before the index stand behind what was there
 abbrev pub invariant-loop-cell : goal.invariant-loop-cell

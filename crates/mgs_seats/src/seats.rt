@@ -1,7 +1,7 @@
 // What stands behind each label of a script.
 ghost use Rattle.std.specs.Prelude.{◌≡◌, ◌++◌, ◌∷◌, [], OnOk, OnErr, map, find};
 ghost use Rattle.std.specs.Option.{option_map};
-ghost use Rattle.mgd.specs.Seats.{seat_of, ended_by, is_labelled, Fed};
+ghost use Rattle.mgs_seats.specs.Seats.{seat_of, ended_by, is_labelled, Fed};
 
 use crate::seat::{Cause, Labelled, Seat};
 use mgs_engine::Taker;
@@ -17,7 +17,7 @@ pub struct Seats {
 
 impl Model for Seats {
     ghost use Rattle.std.specs.Prelude.{List};
-    ghost use Rattle.mgd.specs.declared.seat.Labelled.{Labelled};
+    ghost use Rattle.mgs_seats.specs.declared.seat.Labelled.{Labelled};
 
     ghost Value = { List Labelled };
 
@@ -89,7 +89,7 @@ fn feed(labelled: &mut Labelled, id: SessionId, bytes: &[u8])
 }
 
 impl Taker for Seats {
-    ghost use Rattle.mgd.specs.Seats.{TakenBy};
+    ghost use Rattle.mgs_seats.specs.Seats.{TakenBy};
 
     ghost takes = { TakenBy };
 

@@ -1,7 +1,7 @@
 use Rattle.std.proofs.Common.{◌≡◌, take, drop}
 use Rattle.std.specs.List.{AllZip}
-use Rattle.mgd.specs.Seats.{Fed}
-use Rattle.mgd.proofs.seats.SeatsTaker.take.Given as goal
+use Rattle.mgs_seats.specs.Seats.{Fed}
+use Rattle.mgs_seats.proofs.seats.SeatsTaker.take.Given as goal
 
 -- those before the index took the bytes, and those behind are as they were
 abbrev pub invariant-loop-labelled : goal.invariant-loop-labelled

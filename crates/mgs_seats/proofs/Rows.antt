@@ -3,7 +3,7 @@ use Rattle.std.proofs.Common.{◌≡◌, ℕ, suc, ◌+◌, ◌-◌, ◌<◌, Li
 use Rattle.std.proofs.lemmas.List.{take_min}
 use Rattle.std.proofs.lemmas.Grind.{common_steps}
 use Rattle.mgs_term.specs.declared.cell.Cell.{Cell}
-use Rattle.mgd.specs.Prints.{row_text, rows_text}
+use Rattle.mgs_seats.specs.Prints.{row_text, rows_text}
 
 -- dropping no more than there is
 drop_min : (cols : ℕ) (cells : List Cell) → drop (min cols (length cells)) cells ≡ drop cols cells

@@ -1,7 +1,7 @@
 use Rattle.std.proofs.Common.{arith}
-use Rattle.mgd.specs.Seats.{Fed}
-use Rattle.mgd.proofs.Mapped.{zipped_more, rest_more}
-use Rattle.mgd.proofs.seats.SeatsTaker.take.Goals as goal
+use Rattle.mgs_seats.specs.Seats.{Fed}
+use Rattle.mgs_seats.proofs.Mapped.{zipped_more, rest_more}
+use Rattle.mgs_seats.proofs.seats.SeatsTaker.take.Goals as goal
 
 pub loop-labelled-preserved : goal.loop-labelled-preserved
 loop-labelled-preserved c = record {

@@ -1,7 +1,7 @@
 // What the lines of a script print.
 ghost use Rattle.std.specs.Prelude.{◌≡◌, ◌++◌, ◌∷◌, [], All, OnOk, codes, decimal};
 ghost use Rattle.mgs_term.specs.Screen.{IsPrintableCell};
-ghost use Rattle.mgd.specs.Prints.{edge_of, characters, row_text, rows_text, screen_text, refusal_text, ended_text, fault_text, cause_text};
+ghost use Rattle.mgs_seats.specs.Prints.{edge_of, characters, row_text, rows_text, screen_text, refusal_text, ended_text, fault_text, cause_text};
 
 use crate::seat::Cause;
 use mgs_model::{Name, OpenFault};

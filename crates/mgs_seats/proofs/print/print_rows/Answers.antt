@@ -1,8 +1,8 @@
 use Rattle.std.proofs.Common.{◌≡◌, drop, rules}
 use Rattle.std.proofs.lemmas.List.Elements.{All-drop}
 use Rattle.mgs_term.specs.Screen.{IsPrintableCell}
-use Rattle.mgd.proofs.Rows.{row_more}
-use Rattle.mgd.proofs.print.print_rows.Goals as goal
+use Rattle.mgs_seats.proofs.Rows.{row_more}
+use Rattle.mgs_seats.proofs.print.print_rows.Goals as goal
 
 pub loop-preserved : goal.loop-preserved
 loop-preserved c = record {

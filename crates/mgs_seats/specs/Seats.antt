@@ -1,18 +1,16 @@
 -- What stands behind each label.
-use Rattle.std.specs.Prelude.{◌≡◌, ℕ, List, find, nat_eq, Bool, true, false, Option, Some, None, Result, Ok, Err, ◌++◌, if◌then◌else◌}
+use Rattle.std.specs.Prelude.{◌≡◌, ℕ, List, find, nat_eq, Bool, true, false, Option, Some, None, if◌then◌else◌}
 use Rattle.std.specs.List.{AllZip}
 use Rattle.std.specs.Option.{option_map}
 use Rattle.mgs_model.specs.Names.{same_name}
 use Rattle.mgs_term.specs.Screen.{Screen}
 use Rattle.mgs_term.specs.Terminal.{Terminal, resting}
 use Rattle.mgs_term.specs.Drawing.{Draws, Anything}
-use Rattle.mgd.specs.declared.seat.Labelled.{Labelled}
-use Rattle.mgd.specs.declared.seat.Seat.{Seat}
-use Rattle.mgd.specs.declared.seat.Seat.TheVariants.{Never, Open, Ended}
-use Rattle.mgd.specs.declared.seat.Cause.{Cause}
-use Rattle.mgs_script.specs.declared.line.LineFault.{LineFault}
-use Rattle.mgs_script.specs.declared.line.LineFault.TheVariants.{Bad, Short}
-use Rattle.mgd.specs.Prints.{screen_text, ended_text}
+use Rattle.mgs_seats.specs.declared.seat.Labelled.{Labelled}
+use Rattle.mgs_seats.specs.declared.seat.Seat.{Seat}
+use Rattle.mgs_seats.specs.declared.seat.Seat.TheVariants.{Never, Open, Ended}
+use Rattle.mgs_seats.specs.declared.seat.Cause.{Cause}
+use Rattle.mgs_seats.specs.Prints.{screen_text, ended_text}
 
 abbrev pub is_labelled : List ℕ → Labelled → Bool
 is_labelled label x = same_name label x.label
@@ -31,12 +29,6 @@ shown_text label None = None
 shown_text label (Some Never) = None
 shown_text label (Some (Open id term)) = Some (screen_text label term.screen)
 shown_text label (Some (Ended cause)) = Some (ended_text label cause)
-
--- exactly the text was printed; the line is refused exactly where there is none
-abbrev pub Prints : Result (Unit {0}) LineFault → List ℕ → List ℕ → Option (List ℕ) → Type 0
-Prints (Ok done) old new text = option_map (λ (t : List ℕ). old ++ t) text ≡ Some new
-Prints (Err Bad) old new text = text ≡ None
-Prints (Err Short) old new text = Unit {0}
 
 -- what bytes make of a terminal: where they draw, it shows the screen to which they lead
 abbrev pub TermFed : List ℕ → Terminal → Terminal → Type 0

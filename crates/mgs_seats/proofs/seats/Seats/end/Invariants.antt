@@ -1,6 +1,6 @@
 use Rattle.std.proofs.Common.{◌≡◌, take, drop, map}
-use Rattle.mgd.specs.Seats.{ended_by}
-use Rattle.mgd.proofs.seats.Seats.end.Given as goal
+use Rattle.mgs_seats.specs.Seats.{ended_by}
+use Rattle.mgs_seats.proofs.seats.Seats.end.Given as goal
 
 -- those before the index are as they are to be, and those behind as they were
 abbrev pub invariant-loop-labelled : goal.invariant-loop-labelled

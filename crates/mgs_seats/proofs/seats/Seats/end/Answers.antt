@@ -1,7 +1,7 @@
 use Rattle.std.proofs.Common.{arith}
-use Rattle.mgd.specs.Seats.{ended_by}
-use Rattle.mgd.proofs.Mapped.{mapped_more, rest_more}
-use Rattle.mgd.proofs.seats.Seats.end.Goals as goal
+use Rattle.mgs_seats.specs.Seats.{ended_by}
+use Rattle.mgs_seats.proofs.Mapped.{mapped_more, rest_more}
+use Rattle.mgs_seats.proofs.seats.Seats.end.Goals as goal
 
 pub loop-labelled-preserved : goal.loop-labelled-preserved
 loop-labelled-preserved c = record {

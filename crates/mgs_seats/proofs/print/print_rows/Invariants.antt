@@ -1,8 +1,8 @@
 use Rattle.std.proofs.Common.{◌≡◌, ◌++◌, ◌-◌}
 use Rattle.std.specs.Prelude.{All}
 use Rattle.mgs_term.specs.Screen.{IsPrintableCell}
-use Rattle.mgd.specs.Prints.{rows_text}
-use Rattle.mgd.proofs.print.print_rows.Given as goal
+use Rattle.mgs_seats.specs.Prints.{rows_text}
+use Rattle.mgs_seats.proofs.print.print_rows.Given as goal
 
 abbrev pub invariant-loop : goal.invariant-loop
 invariant-loop l = record {

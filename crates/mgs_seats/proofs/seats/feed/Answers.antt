@@ -1,7 +1,7 @@
 use Rattle.std.proofs.Common.{Bool, refl, sym, subst, eqb, eq-eqb}
-use Rattle.mgd.specs.Seats.{SeatFed, OwnFed}
-use Rattle.mgd.specs.declared.seat.Seat.TheVariants.{Open}
-use Rattle.mgd.proofs.seats.feed.Goals as goal
+use Rattle.mgs_seats.specs.Seats.{SeatFed, OwnFed}
+use Rattle.mgs_seats.specs.declared.seat.Seat.TheVariants.{Open}
+use Rattle.mgs_seats.proofs.seats.feed.Goals as goal
 
 pub returns-then-id-own : goal.returns-then-id-own
 returns-then-id-own c =
