@@ -122,14 +122,17 @@ lengthened (Err Bad) cs name xs i x y at is h l n w =
     let there : find_buffer name (buffers_in xs) ≡ Some (buffer_of x) = found_draft name xs i x at is in
     let long : nat_lt 1048576 (length x.text.items + length cs) ≡ true = grind (arith, nat_tests) in
     (ap (λ o. text_refused o cs) there ∙ long, same_draft name xs i x y at is (cc (h.1)))
-lengthened (Err Short) cs name xs i x y at is h l n w = same_draft name xs i x y at is (cc (h))
+lengthened (Err Short) cs name xs i x y at is h l n w =
+    let there : find_buffer name (buffers_in xs) ≡ Some (buffer_of x) = found_draft name xs i x at is in
+    let room : nat_lt 1048576 (length x.text.items + length cs) ≡ false = grind (arith, nat_tests) in
+    (ap (λ o. text_refused o cs) there ∙ room, same_draft name xs i x y at is (cc (h.1)))
 
 -- an entry's line
 pub sets_entry : (r : Result (Unit {0}) LineFault) (w : World) (name entry : List ℕ) (bs : List Buffer) → Changes r (entry_refused (find_buffer name w.buffers) (entry_in entry)) name (with_entry (entry_in entry)) w.buffers bs
     → Sets r (lines.Entry name entry) w (record w { buffers = bs })
 sets_entry (Ok u) w name entry bs h = (h.0, ap (λ (xs : List Buffer). record w { buffers = xs }) h.1)
 sets_entry (Err Bad) w name entry bs h = (h.0, ap (λ (xs : List Buffer). record w { buffers = xs }) h.1)
-sets_entry (Err Short) w name entry bs h = ap (λ (xs : List Buffer). record w { buffers = xs }) h
+sets_entry (Err Short) w name entry bs h = (h.0, ap (λ (xs : List Buffer). record w { buffers = xs }) h.1)
 
 -- a draft is put last
 pub pushed : (name owner : List ℕ) (ds new : List Draft) (d : Draft) → new ≡ ds ++ d ∷ [] → d.name.now ≡ name → d.owner.now ≡ owner → d.list ≡ [] → d.text.items ≡ [] → buffers_in new ≡ buffers_in ds ++ empty_buffer name owner ∷ []

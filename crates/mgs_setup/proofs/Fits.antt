@@ -121,13 +121,13 @@ pub entry_fits : {F : Type 0} (r : Result (Unit {0}) LineFault) (o : Result Entr
 entry_fits (Ok u) o n bs new h fit =
     subst AreFit (sym h.1) (fit_changed n (with_entry o) bs (entry_name o) (entry_owner o) (λ b e k. subst (λ (t : List ℕ). length t ≤ 1048576) (sym (entry_text o b)) k) fit)
 entry_fits (Err Bad) o n bs new h fit = subst AreFit (sym h.1) fit
-entry_fits (Err Short) o n bs new h fit = subst AreFit (sym h) fit
+entry_fits (Err Short) o n bs new h fit = subst AreFit (sym h.1) fit
 
 -- and behind a text's
 pub text_fits : (r : Result (Unit {0}) LineFault) (n cs : List ℕ) (bs new : List Buffer) → Changes r (text_refused (find_buffer n bs) cs) n (with_text cs) bs new → AreFit bs → AreFit new
 text_fits (Ok u) n cs bs new h fit = subst AreFit (sym h.1) (fit_changed n (with_text cs) bs (λ b. refl) (λ b. refl) (λ b e k. text_room n cs bs b h.0 e) fit)
 text_fits (Err Bad) n cs bs new h fit = subst AreFit (sym h.1) fit
-text_fits (Err Short) n cs bs new h fit = subst AreFit (sym h) fit
+text_fits (Err Short) n cs bs new h fit = subst AreFit (sym h.1) fit
 
 -- and behind a buffer's
 pub buffer_fits : (w : World) (n o : List ℕ) → buffer_refused w n o ≡ false → AreFit w.buffers → AreFit (w.buffers ++ empty_buffer n o ∷ [])

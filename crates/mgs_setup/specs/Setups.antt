@@ -22,11 +22,11 @@ Listed (Err Bad) old new (Ok e) = (64 ≤ length old) × (new ≡ old)
 Listed (Err Bad) old new (Err f) = new ≡ old
 Listed (Err Short) old new entry = ⊥
 
--- characters are put behind; more than 1,048,576 in all are refused
+-- characters are put behind; more than 1,048,576 in all are refused; want of memory comes only where they are not
 abbrev pub Lengthened : Result (Unit {0}) LineFault → List ℕ → List ℕ → List ℕ → Type 0
 Lengthened (Ok done) old new cs = (new ≡ old ++ cs) × (length new ≤ 1048576)
 Lengthened (Err Bad) old new cs = (1048576 < length old + length cs) × (new ≡ old)
-Lengthened (Err Short) old new cs = new ≡ old
+Lengthened (Err Short) old new cs = (length old + length cs ≤ 1048576) × (new ≡ old)
 
 -- what is kept of a buffer that was written down
 abbrev pub kept_of : Draft → Kept
@@ -45,17 +45,17 @@ is_drafted name d = is_named name (buffer_of d)
 abbrev pub world_of : Directory → List Buffer → World
 world_of directory buffers = record { directory = directory; buffers = buffers; sessions = []; next_id = 1 }
 
--- the buffer of that name is changed; where the line is refused, or memory is, all is as it was
+-- the buffer of that name is changed; where the line is refused, or memory is, all is as it was; want of memory comes only where the line is not refused
 abbrev pub Changes : Result (Unit {0}) LineFault → Bool → List ℕ → (Buffer → Buffer) → List Buffer → List Buffer → Type 0
 Changes (Ok done) refused name change old new = (refused ≡ false) × (new ≡ change_first (is_named name) change old)
 Changes (Err Bad) refused name change old new = (refused ≡ true) × (new ≡ old)
-Changes (Err Short) refused name change old new = new ≡ old
+Changes (Err Short) refused name change old new = (refused ≡ false) × (new ≡ old)
 
--- a line before the first open: it does what it says; where it is refused, or memory is, all is as it was
+-- a line before the first open: it does what it says; where it is refused, or memory is, all is as it was; want of memory comes only where it is not refused
 abbrev pub Sets : Result (Unit {0}) LineFault → Said → World → World → Type 0
 Sets (Ok done) said old new = (setting_refused old said ≡ false) × (new ≡ world_set old said)
 Sets (Err Bad) said old new = (setting_refused old said ≡ true) × (new ≡ old)
-Sets (Err Short) said old new = new ≡ old
+Sets (Err Short) said old new = (setting_refused old said ≡ false) × (new ≡ old)
 
 -- BUFFERS THAT CAN BE KEPT
 

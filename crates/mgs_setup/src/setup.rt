@@ -214,7 +214,7 @@ impl<'a> Setup<'a> {
     }
 
     /// Runs a line that stands before the first `open`. `Bad`: it is refused, or it is a line of sessions, of which none
-    /// is open yet. `Short` is want of memory. Both leave all as it was.
+    /// is open yet. `Short` is want of memory, which comes only where the line is not refused. Both leave all as it was.
     pub fn run(&mut self, line: Line<'a>) -> Result<(), LineFault>
         ensures { Sets result (view line.entry) self.old self.new }
     {
