@@ -232,6 +232,7 @@ impl<'a> Setup<'a> {
     }
 
     /// A server over these users and buffers, without a session.
+    #[tactic(auto, using(crate::proofs::Drafts::kept_buffers))]
     pub fn into_core(self) -> Result<Core<PlainMarked>, Short>
         ensures world { IfOk result (λ c. c ≡ self.entry) }
         ensures sessions { IfOk result (λ c. c.sessions ≡ []) }
