@@ -259,3 +259,38 @@ fn a_group_reads_and_others_see_no_buffer(rt: HostRuntime) -> Result<(), Fail> {
     assert!(rt; shows(&seats, bob, &read, (1, 1)));
     Ok(())
 }
+
+#[test]
+fn a_full_text_takes_no_more(rt: HostRuntime) -> Result<(), Fail> {
+    let alloc = rt.alloc();
+    let mut text = Vec::new(alloc);
+    for _ in 0..1_048_570 {
+        assert!(rt; text.push('a').is_ok());
+    }
+    let mut engine = serve(alloc, &["ALLOW ann rwat"], &text, &rt);
+    let mut seats = Seats {
+        all: Vec::new(alloc),
+    };
+    let ann = sit(alloc, &mut engine, &mut seats, "ann", &rt);
+    press(&mut engine, &mut seats, ann, b"xxxxxx", &rt);
+    let full = [
+        "xxxxxxaaaaaaaaaaaaa$",
+        "                    ",
+        "                    ",
+        "                    ",
+        "-**-notes-L1-C6-----",
+        "                    ",
+    ];
+    assert!(rt; shows(&seats, ann, &full, (1, 7)));
+    press(&mut engine, &mut seats, ann, b"x", &rt);
+    let told = [
+        "xxxxxxaaaaaaaaaaaaa$",
+        "                    ",
+        "                    ",
+        "                    ",
+        "-**-notes-L1-C6-----",
+        "Buffer full         ",
+    ];
+    assert!(rt; shows(&seats, ann, &told, (1, 7)));
+    Ok(())
+}
