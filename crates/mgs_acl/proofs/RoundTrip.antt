@@ -1,7 +1,7 @@
 -- What is printed of an entry is read as that entry.
 use Rattle.std.proofs.lemmas.Bool.{eqb-true}
 use Rattle.std.proofs.Common.{◌≡◌, ℕ, zero, suc, ◌+◌, ◌<◌, ◌≤◌, refl, sym, ap, ◌∙◌, Bool, true, false, cond, List, [], ◌∷◌, ◌++◌, length, map, get_or, take, drop, append_assoc, arith}
-use Rattle.std.specs.Prelude.{◌==◌, Option, Some, None, Ok, fold, filter, find, not, ◌&&◌, codes, is_some, nat_eq, nat_lt, nat_le, slice_get}
+use Rattle.std.specs.Prelude.{◌==◌, Option, Some, None, Ok, fold, filter, not, ◌&&◌, codes, is_some, nat_eq, nat_lt, nat_le, slice_get}
 use Rattle.std.specs.List.{All, list_all, starts_with}
 use Rattle.std.specs.Option.{option_map, option_and_then}
 use Rattle.std.specs.Str.{bytes_eq}
