@@ -4,8 +4,6 @@
 mod buffers;
 mod fault;
 mod shelf;
-#[cfg(test)]
-mod tests;
 
 pub use buffers::Buffers;
 pub use fault::AddFault;

@@ -1,8 +1,10 @@
+// Buffers by their names, over any text.
 ghost use Rattle.std.specs.Prelude.{◌+◌, ◌<◌, ◌≤◌, ◌^◌, ℕ, length};
 ghost use Rattle.mgs_buffers.specs.Kept.{IsKept, kept_at};
 
-use super::*;
-use mgs_acl::{List, read_entry};
+use super::fixtures::list_of;
+use mgs_acl::List;
+use mgs_buffers::{AddFault, Buffers};
 use mgs_marks::{Marked, PlainMarked};
 use mgs_model::{Decision, Name, Right, Short};
 use mgs_policy::Directory;
@@ -18,22 +20,13 @@ fn named(rt: &impl Abort, text: &str) -> Name {
     }
 }
 
-fn listed(rt: &impl Abort, text: &str) -> List {
-    let mut list = List::new();
-    match read_entry(text) {
-        Ok(entry) => assert_eq!(rt; list.insert(0, entry), Ok(())),
-        Err(_) => panic!(rt; "no entry"),
-    }
-    list
-}
-
 // Two buffers of ann: `first`, which she alone may see, and `second`, which everyone may.
 fn two<T: Marked + Drop>(alloc: Global, rt: &impl Abort) -> Buffers<T> {
     let mut all = Buffers::new(alloc);
     assert_eq!(rt; all.len(), 0);
-    let list = listed(rt, "ALLOW OWNER@ rt");
+    let list = list_of(&["ALLOW OWNER@ rt"], rt);
     assert_eq!(rt; all.add("first", "ann", list, &['a', 'b'], false), Ok(()));
-    let list = listed(rt, "ALLOW EVERYONE@ rwt");
+    let list = list_of(&["ALLOW EVERYONE@ rwt"], rt);
     assert_eq!(rt;
         all.add("second", "ann", list, &['c', 'd', 'e'], true),
         Ok(())
