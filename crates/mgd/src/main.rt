@@ -1,12 +1,10 @@
 //! The editing server's program.
 #![tactic(auto)]
 
-mod play;
-mod replay;
 #[cfg(test)]
 mod tests;
 
-use crate::replay::{ReplayFault, replay};
+use mgs_replay::{ReplayFault, replay};
 use std::env::{self, Env};
 use std::io;
 use std::process::ExitCode;

@@ -1,6 +1,6 @@
 // Whole scripts, over readers and writers in memory.
-use crate::replay::{ReplayFault, replay};
 use mgs_model::SCRIPT_LIMIT;
+use mgs_replay::{ReplayFault, replay};
 use std::alloc::Global;
 use std::io::{self, ErrorKind, Read, Write};
 use std::process::Abort;

@@ -7,14 +7,14 @@ use std::process::Abort;
 
 // A session's terminal, and whether it has refused a byte.
 #[derive(Drop)]
-pub struct Seat {
+pub(crate) struct Seat {
     pub id: SessionId,
     pub term: Term,
     pub refused: bool,
 }
 
 #[derive(Drop)]
-pub struct Seats {
+pub(crate) struct Seats {
     pub all: Vec<Seat>,
 }
 
@@ -33,7 +33,7 @@ impl Taker for Seats {
 }
 
 // A list of these entries.
-pub fn list_of(entries: &[&str], rt: &impl Abort) -> List {
+pub(crate) fn list_of(entries: &[&str], rt: &impl Abort) -> List {
     let mut list = List::new();
     for entry in entries {
         match read_entry(entry) {

@@ -1,6 +1,0 @@
-pub mod Taking
-pub mod Served
-pub mod Events
-pub mod Standing
-pub mod Stages
-pub mod Setting

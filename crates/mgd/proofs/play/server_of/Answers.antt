@@ -1,5 +1,0 @@
-use Rattle.mgd.proofs.Setting.{no_queues}
-use Rattle.mgd.proofs.play.server_of.Goals as goal
-
-pub returns-clause-queues : goal.returns-clause-queues
-returns-clause-queues c = no_queues c.new.result c.in_ok-core.core c.new.ensures.ids c.in_ok-core.ensures.sessions

@@ -1,4 +1,0 @@
-pub mod Reads
-pub mod Faults
-pub mod Plays
-pub mod Served

@@ -1,0 +1,4 @@
+pub mod Reads
+pub mod Faults
+pub mod Plays
+pub mod Turns

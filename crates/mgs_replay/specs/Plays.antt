@@ -1,0 +1,33 @@
+-- What a script writes: its lines one after another, over the model's world.
+use Rattle.std.specs.Prelude.{◌≡◌, ℕ, ◌+◌, ◌++◌, ◌⊎◌, List, [], ◌∷◌, Option, Result, Ok, Err}
+use Rattle.std.specs.Io.KnownBytes.{Appends}
+use Rattle.mgs_model.specs.World.{World}
+use Rattle.mgs_stage.specs.Stages.{Stage, setting, LineDoes, LineRefused}
+use Rattle.mgs_replay.specs.declared.script.ReplayFault.{ReplayFault}
+use Rattle.mgs_replay.specs.declared.script.ReplayFault.TheVariants as ends
+use Rattle.mgs_script.specs.Lines.{said_in}
+use Rattle.mgs_script.specs.Scripts.{lines_of}
+
+-- how a script ends
+pub data End : Type 0 where
+  Whole : End
+  RefusedAt : (line : ℕ) → End
+
+-- the lines from the n-th on may print this from this stage on, and end so
+abbrev pub Plays : ℕ → Stage → List (List ℕ) → List ℕ → End → Type 0
+Plays n s [] out end = (out ≡ []) × (end ≡ Whole)
+Plays n s (l ∷ ls) out end =
+    ((t : Stage) × (print more : List ℕ) × LineDoes (said_in l) s t print × Plays (n + 1) t ls more end × (out ≡ print ++ more))
+    ⊎ (LineRefused (said_in l) s × (out ≡ []) × (end ≡ RefusedAt n))
+
+-- a script may print this, and end so
+unfoldable pub MayPrint : World → List ℕ → List ℕ → End → Type 0
+MayPrint w script out end = Plays 1 (setting w) (lines_of script) out end
+
+-- what was written, by how the replay ended
+abbrev pub Written : World → List ℕ → Option (List ℕ) → Option (List ℕ) → Result (Unit {0}) ReplayFault → Type 0
+Written w script old new (Ok done) = (out : List ℕ) × Appends old new out × MayPrint w script out Whole
+Written w script old new (Err (ends.Line n)) = (out : List ℕ) × Appends old new out × MayPrint w script out (RefusedAt n)
+Written w script old new (Err ends.Read) = Unit {0}
+Written w script old new (Err ends.Write) = Unit {0}
+Written w script old new (Err ends.Short) = Unit {0}

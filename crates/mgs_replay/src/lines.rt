@@ -1,0 +1,173 @@
+// Runs the lines of a script.
+ghost use Rattle.std.specs.Prelude.{◌≡◌, ◌+◌, ◌≤◌, [], Some, length, OnOk, IfOk, IfSome};
+ghost use Rattle.mgs_replay.specs.Faults.{fault_of, end_at, IsPlayed, IsSet};
+ghost use Rattle.mgs_script.specs.Lines.{said_in};
+ghost use Rattle.mgs_script.specs.Scripts.{lines_of};
+ghost use Rattle.mgs_setup.specs.Settings.{first_world};
+ghost use Rattle.mgs_stage.specs.Stages.{begun};
+ghost use Rattle.mgs_replay.specs.Plays.{Written};
+ghost use Rattle.mgs_stage.specs.Served.{stage_of, IsReady};
+ghost use Rattle.mgs_replay.specs.Turns.{Turned, PlaysOn, SetsSaid, SetUp};
+
+use crate::script::ReplayFault;
+use mgs_engine::Engine;
+use mgs_model::{SCRIPT_LIMIT, Short};
+use mgs_script::{Line, LineFault, cut_line, read_line};
+use mgs_seats::Seats;
+use mgs_setup::Setup;
+use mgs_stage::{Server, step_line};
+use std::alloc::Global;
+use std::io::Write;
+
+/// Why a line ended a replay.
+#[derive(Clone, Copy, Debug, PartialEq, Eq)]
+enum TurnFault {
+    Refused,
+    Write,
+    Short,
+}
+
+fn turn_fault(fault: LineFault) -> TurnFault
+    ensures { result ≡ fault_of fault }
+{
+    match fault {
+        LineFault::Bad => TurnFault::Refused,
+        LineFault::Short => TurnFault::Short,
+    }
+}
+
+// How a replay ends by a fault of the line of that number.
+fn ended_at(number: usize, fault: TurnFault) -> ReplayFault
+    ensures { result ≡ end_at number fault }
+{
+    match fault {
+        TurnFault::Refused => ReplayFault::Line(number),
+        TurnFault::Write => ReplayFault::Write,
+        TurnFault::Short => ReplayFault::Short,
+    }
+}
+
+// A line, and what it prints.
+fn turn<W: Write>(
+    alloc: Global,
+    server: &mut Server,
+    seats: &mut Seats,
+    out: &mut Vec<u8>,
+    line: &[u8],
+    writer: &mut W,
+) -> Result<(), TurnFault>
+    requires { IsReady server.old seats.old }
+    ensures ready { OnOk result (IsReady server.new seats.new) }
+    ensures turned { Turned result (stage_of server.old seats.old) (said_in line.now) (stage_of server.new seats.new) (W.contents writer.old) (W.contents writer.new) }
+{
+    out.clear();
+    match step_line(alloc, server, seats, out, line) {
+        Ok(()) => match writer.write_all(out.as_slice()) {
+            Ok(()) => Ok(()),
+            Err(_) => Err(TurnFault::Write),
+        },
+        Err(fault) => Err(turn_fault(fault)),
+    }
+}
+
+// The lines from the first `open` on, which is line `first`.
+fn run_lines<W: Write>(
+    alloc: Global,
+    server: &mut Server,
+    text: &[u8],
+    first: usize,
+    writer: &mut W,
+) -> Result<(), ReplayFault>
+    requires queues { server.old.queues ≡ [] }
+    requires sessions { server.old.world.sessions ≡ [] }
+    requires first { 1 ≤ first }
+    requires counted { first + length text.now ≤ SCRIPT_LIMIT + 1 }
+    ensures line { IsPlayed result }
+    ensures written { PlaysOn result first (begun server.old.world []) (lines_of text.now) (W.contents writer.old) (W.contents writer.new) }
+{
+    let mut seats = Seats::new(alloc);
+    let mut out = Vec::new(alloc);
+    let mut rest = Some(text);
+    let mut number = first;
+    while let Some(text) = rest {
+        let (line, later) = cut_line(text);
+        match turn(alloc, server, &mut seats, &mut out, line, writer) {
+            Ok(()) => {}
+            Err(fault) => return Err(ended_at(number, fault)),
+        }
+        rest = later;
+        number += 1;
+    }
+    Ok(())
+}
+
+// A line before the first `open`. False: it is that one, and not run.
+fn set_line<'a>(alloc: Global, setup: &mut Setup<'a>, line: &'a [u8]) -> Result<bool, LineFault>
+    ensures { SetsSaid result (said_in line.now) setup.old setup.new }
+{
+    match read_line(alloc, line) {
+        Ok(Line::Open { .. }) => Ok(false),
+        Ok(line) => match setup.run(line) {
+            Ok(()) => Ok(true),
+            Err(fault) => Err(fault),
+        },
+        Err(fault) => Err(fault),
+    }
+}
+
+// Runs the lines before the first `open`: its number, and the script from it on, if there is one.
+fn set_up<'a>(
+    alloc: Global,
+    setup: &mut Setup<'a>,
+    script: &'a [u8],
+) -> Result<Option<(usize, &'a [u8])>, ReplayFault>
+    requires { length script.now ≤ SCRIPT_LIMIT }
+    ensures line { IsSet result }
+    ensures first { IfOk result (λ o. IfSome o (λ p. 1 ≤ p.0)) }
+    ensures counted { IfOk result (λ o. IfSome o (λ p. p.0 + length p.1.now ≤ SCRIPT_LIMIT + 1)) }
+    ensures sets { SetUp (λ x. x.now) result setup.old script.now setup.new }
+{
+    let mut rest = Some(script);
+    let mut number = 1usize;
+    while let Some(text) = rest {
+        let (line, later) = cut_line(text);
+        match set_line(alloc, setup, line) {
+            Ok(true) => {}
+            Ok(false) => return Ok(Some((number, text))),
+            Err(fault) => return Err(ended_at(number, turn_fault(fault))),
+        }
+        rest = later;
+        number += 1;
+    }
+    Ok(None)
+}
+
+// The engine over the users and buffers that were set.
+fn server_of(alloc: Global, setup: Setup) -> Result<Server, Short>
+    ensures world { IfOk result (λ e. e.world ≡ setup.entry) }
+    ensures sessions { IfOk result (λ e. e.world.sessions ≡ []) }
+    ensures queues { IfOk result (λ e. e.queues ≡ []) }
+{
+    let core = setup.into_core()?;
+    Engine::new(alloc, core)
+}
+
+/// Runs the lines of a script over a server that has nothing yet, and writes what they print, line by line.
+///
+/// `Line` is the first line that is refused; what the lines before it print is written. `Write`: writing fails. `Short`
+/// is want of memory. Nothing is said of what was written at these two.
+pub fn play<W: Write>(alloc: Global, script: &[u8], writer: &mut W) -> Result<(), ReplayFault>
+    requires { length script.now ≤ SCRIPT_LIMIT }
+    ensures line { IsPlayed result }
+    ensures written { Written first_world script.now (W.contents writer.old) (W.contents writer.new) result }
+{
+    let mut setup = Setup::new(alloc);
+    match set_up(alloc, &mut setup, script) {
+        Ok(None) => Ok(()),
+        Ok(Some((number, text))) => match server_of(alloc, setup) {
+            Ok(mut server) => run_lines(alloc, &mut server, text, number, writer),
+            Err(Short) => Err(ReplayFault::Short),
+        },
+        Err(fault) => Err(fault),
+    }
+}
