@@ -1,11 +1,10 @@
-//! Access lists: at most 64 entries in order, and how an entry is written.
+//! Access lists: at most 64 entries in order. How an entry is written is passed on from `mgs_entries`.
 #![tactic(auto)]
 
 mod list;
-mod spelling;
 #[cfg(test)]
 mod tests;
 
 pub use list::{List, ListFault};
+pub use mgs_entries::{EntryFault, print_entry, read_entry, user_named};
 pub use mgs_model::{Entry, EntryType, Who};
-pub use spelling::{EntryFault, print_entry, read_entry, user_named};

@@ -12,7 +12,7 @@ use Rattle.std.proofs.lemmas.Bool.Decides.{nat_tests}
 use Rattle.mgs_model.specs.Apply.{change_first}
 use Rattle.mgs_world.specs.Worlds.{buffers_of}
 use Rattle.mgs_model.specs.World.{World, Buffer, is_named, find_buffer}
-use Rattle.mgs_acl.specs.Spelling.{entry_in}
+use Rattle.mgs_entries.specs.Spelling.{entry_in}
 use Rattle.mgs_script.specs.Lines as lines
 use Rattle.mgs_model.specs.declared.entry.Entry.{Entry}
 use Rattle.mgs_script.specs.declared.line.LineFault.{LineFault}

@@ -6,7 +6,7 @@ use Rattle.mgs_model.specs.Apply.{change_first}
 use Rattle.mgs_model.specs.World.{World, find_buffer, is_named}
 use Rattle.mgs_model.specs.World as model
 use Rattle.mgs_model.specs.declared.entry.Entry.{Entry}
-use Rattle.mgs_acl.specs.Spelling.{entry_in}
+use Rattle.mgs_entries.specs.Spelling.{entry_in}
 use Rattle.mgs_directory.specs.Directories.{user_fault, with_user, group_fault, with_group}
 use Rattle.mgs_buffers.specs.Kept.{kept_new}
 use Rattle.mgs_script.specs.Lines.{Said, Nothing, User, Group, Buffer, Entry as Listing, Text, Open, Keys, Show, Close}

@@ -1,6 +1,6 @@
 // The users, groups and buffers of a script, before its first session.
 ghost use Rattle.std.specs.Prelude.{◌≡◌, ◌<◌, IfOk, IfSome, [], length, map, position, is_some};
-ghost use Rattle.mgs_acl.specs.Spelling.{entry_in};
+ghost use Rattle.mgs_entries.specs.Spelling.{entry_in};
 ghost use Rattle.mgs_model.specs.World.{find_buffer};
 ghost use Rattle.mgs_script.specs.Lines.{view, User, Group, Buffer};
 ghost use Rattle.mgs_setup.specs.Faults.{fault_in};

@@ -1,5 +1,5 @@
 use Rattle.std.proofs.Common.{get_or, position, sym, ap, refl, ◌∙◌}
-use Rattle.mgs_acl.specs.Spelling.{entry_in}
+use Rattle.mgs_entries.specs.Spelling.{entry_in}
 use Rattle.mgs_setup.specs.Setups.{is_drafted}
 use Rattle.mgs_setup.specs.Settings.{entry_refused}
 use Rattle.mgs_setup.proofs.Drafts.{listed, not_drafted}

@@ -1,7 +1,7 @@
 use Rattle.std.proofs.Common.{◌≡◌, List, length, sym, ap, subst, arith}
 use Rattle.std.specs.Vec.{with_items}
 use Rattle.std.proofs.lemmas.List.{with_items_is}
-use Rattle.mgs_acl.specs.Spelling.{entry_in}
+use Rattle.mgs_entries.specs.Spelling.{entry_in}
 use Rattle.mgs_model.specs.World.{World}
 use Rattle.mgs_script.specs.Lines as lines
 use Rattle.mgs_setup.specs.declared.setup.Draft.{Draft}

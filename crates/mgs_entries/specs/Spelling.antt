@@ -12,8 +12,8 @@ use Rattle.mgs_model.specs.declared.entry.EntryType.TheVariants.{Allow, Deny}
 use Rattle.mgs_model.specs.declared.entry.Who.{Who}
 use Rattle.mgs_model.specs.declared.entry.Who.TheVariants.{Owner, Everyone, User, Group}
 use Rattle.mgs_model.specs.declared.entry.Entry.{Entry}
-use Rattle.mgs_acl.specs.declared.spelling.EntryFault.{EntryFault}
-use Rattle.mgs_acl.specs.declared.spelling.EntryFault.TheVariants as faults
+use Rattle.mgs_entries.specs.declared.spelling.EntryFault.{EntryFault}
+use Rattle.mgs_entries.specs.declared.spelling.EntryFault.TheVariants as faults
 
 -- WORDS
 

@@ -5,7 +5,7 @@ ghost use Rattle.std.specs.List.{before_first, after_first};
 ghost use Rattle.arrayvec.specs.ArrayString.{array_string_len};
 ghost use Rattle.mgs_model.specs.Rights.{letter_of, rights_in};
 ghost use Rattle.mgs_model.specs.Draw.{type_text, who_text, entry_text};
-ghost use Rattle.mgs_acl.specs.Spelling.{is_space, words, words_cut, type_named, user_named, behind_group, named_who, who_named, right_lettered, mask_lettered, entry_in, IsSpelled};
+ghost use Rattle.mgs_entries.specs.Spelling.{is_space, words, words_cut, type_named, user_named, behind_group, named_who, who_named, right_lettered, mask_lettered, entry_in, IsSpelled};
 
 use arrayvec::ArrayString;
 use mgs_model::{Entry, EntryType, Mask, Name, Right, Who};

@@ -1,8 +1,8 @@
 use Rattle.std.proofs.Common.{◌≡◌, length}
 use denote.Text.{Utf8}
 use denote.Shadow.{shadow}
-use Rattle.mgs_acl.specs.Spelling.{words}
-use Rattle.mgs_acl.proofs.spelling.next_word.Given as goal
+use Rattle.mgs_entries.specs.Spelling.{words}
+use Rattle.mgs_entries.proofs.spelling.next_word.Given as goal
 
 abbrev pub invariant-loop-text : goal.invariant-loop-text
 invariant-loop-text l = record {

@@ -4,7 +4,7 @@ use Rattle.std.specs.Prelude.{◌&&◌, None, nat_le}
 use Rattle.std.specs.List.{list_all}
 use Rattle.std.proofs.lemmas.Bool.Decides.{nat_tests}
 use Rattle.mgs_model.specs.Names.{is_name, is_user_name, is_visible, is_user_char, IsName}
-use Rattle.mgs_acl.specs.Spelling.{user_named}
+use Rattle.mgs_entries.specs.Spelling.{user_named}
 
 is_visible-user_char : (c : ℕ) → is_user_char c ≡ true → is_visible c ≡ true
 is_visible-user_char c h = grind (arith, nat_tests)
