@@ -1,67 +1,34 @@
--- Screens that are drawn and painted, and what their bytes draw.
-use Rattle.std.proofs.Common.{◌≡◌, ℕ, zero, suc, ◌+◌, ◌*◌, ◌<◌, ◌≤◌, Bool, true, false, cond, List, [], ◌∷◌, ◌++◌, length, get_or, set, take, drop, map, Option, Some, None, refl, sym, ap, subst, ◌∙◌, eq-eqb, arith}
-use Rattle.std.specs.Prelude.{find, nat_eq, slice_get, All}
-use Rattle.std.specs.List.{flat_map}
+-- What the bytes of painted screens draw, for the sessions of a world.
+use Rattle.std.proofs.Common.{◌≡◌, ℕ, Bool, true, false, cond, List, [], ◌∷◌, ◌++◌, map, Option, Some, None, refl, sym, ap, subst, ◌∙◌, eq-eqb}
+use Rattle.std.specs.Prelude.{find, nat_eq, All}
 use Rattle.std.specs.Option.{option_or, option_map}
 use Rattle.std.specs.Cmp.{unsigned_Decides}
-use Rattle.std.proofs.lemmas.Option.{get_or_from_slice_get, slice_get_within}
-use Rattle.std.proofs.lemmas.List.{append-nil, map-append, length_push, length-append, length-map, take_more, take_more_set, take_all}
-use Rattle.std.proofs.lemmas.List.Elements.{All-head, All-tail, All-cons, All-nil, All-push}
+use Rattle.std.proofs.lemmas.List.Elements.{All-head, All-tail, All-cons, All-nil}
 use Rattle.std.proofs.lemmas.List.Folds.{find-append}
 use Rattle.mgs_model.proofs.Firsts.{find-map}
 use Rattle.mgs_model.specs.Apply.{remove_first}
-use Rattle.mgs_model.specs.Rows.{Row}
-use Rattle.mgs_model.specs.Picture.{Picture, IsPicture, IsRow}
-use Rattle.mgs_model.specs.World.{World, Session, has_id, find_session}
-use Rattle.mgs_model.specs.Draw.{screen, draw}
-use Rattle.mgs_term.specs.Screen as term
+use Rattle.mgs_model.specs.Picture.{Picture}
+use Rattle.mgs_model.specs.World.{World, Session, find_session}
+use Rattle.mgs_model.specs.Draw.{screen}
 use Rattle.mgs_term.specs.Drawing.{Draws, IsFaithful}
-use Rattle.mgs_paint.specs.Painting.{Paints, cell_of, row_cells, cells_of, shown}
+use Rattle.mgs_paint.specs.Painting.{Paints, cells_of, shown}
 use Rattle.mgs_model.proofs.Firsts.{found_passes}
-use Rattle.mgs_world.specs.declared.size.Size.{Size}
-use Rattle.mgs_world.specs.Worlds.{find_size, sizes, is_size_of, IsOfSize, IsOther, IsUnique}
+use Rattle.mgs_world.specs.Worlds.{find_size, sizes, is_size_of, IsOther, IsUnique}
 use Rattle.mgs_world.specs.Worlds as core
-use Rattle.mgs_engine.specs.declared.screen.Screen.{Screen}
-use Rattle.mgs_engine.specs.Serving.{IsTaken, pending_of, bytes_of, is_queue_of}
+use Rattle.mgs_output.specs.declared.screen.Screen.{Screen}
+use Rattle.mgs_output.specs.Queues.{bytes_of, is_queue_of}
+use Rattle.mgs_output.specs.Screens.{queue_of, size_of, Drawn, drawn_of, screen_id, IsDrawn, IsRepaint, AreRepaints, IsFirst}
+use Rattle.mgs_output.proofs.Screens.{All-unmap}
+use Rattle.mgs_output.proofs.Painted.{found_sizes, some_of, some_same}
+use Rattle.mgs_engine.specs.Serving.{pending_of}
 use Rattle.mgs_engine.specs.Painted.{PaintedBy, Painted}
-use Rattle.mgs_engine.specs.Screens.{queue_of, serving_of, size_of, Drawn, drawn_of, screen_id, IsScreen, IsKnown, IsDrawn, IsAhead, IsRepaint, AreRepaints, IsFirst}
-use Rattle.mgs_engine.proofs.Screens.{All-unmap, found_each, rest_at}
-
--- A PICTURE AS A SCREEN
-
-length_rows : (cols : ℕ) (ls : List Row) → All (IsRow cols) ls → length (flat_map row_cells ls) ≡ length ls * cols
-length_rows cols [] h = omega arith
-length_rows cols (l ∷ ls) h =
-    let wide : length l.text ≡ cols = (All-head (IsRow cols) l ls h).width in
-    let rest : length (flat_map row_cells ls) ≡ length ls * cols = length_rows cols ls (All-tail (IsRow cols) l ls h) in
-    omega (arith, length-append (row_cells l) (flat_map row_cells ls), length-map l.text (cell_of l.reversed))
-
-shown_screen : (p : Picture) → IsPicture p → term.IsScreen (shown p)
-shown_screen p h = record {
-  size = h.size;
-  covered = length_rows p.cols p.lines h.each ∙ ap (λ n. n * p.cols) h.count;
-  row_in = h.row;
-  col_in = h.col;
-}
-
--- a size, by its rows and its columns
-pub same_size : (id rows cols r c : ℕ) → r ≡ rows → c ≡ cols → let y : Size = record { id = id; rows = rows; cols = cols } in let z : Size = record { id = id; rows = r; cols = c } in z ≡ y
-same_size id rows cols r c e d =
-    let of : ℕ → ℕ → Size = λ a b. record { id = id; rows = a; cols = b } in
-    ap (λ a. of a c) e ∙ ap (λ b. of rows b) d
+use Rattle.mgs_engine.specs.Served.{serving_of}
 
 -- WHAT IS FOUND
-
-some_of : {A B : Type 0} (f : A → B) (o : Option A) (b : B) → option_map f o ≡ Some b → (a : A) × (o ≡ Some a) × (f a ≡ b)
-some_of f None b e = cc
-some_of f (Some a) b e = (a, refl, cc)
 
 none_of : {A B : Type 0} (f : A → B) (o : Option A) → option_map f o ≡ None → o ≡ None
 none_of f None e = refl
 none_of f (Some a) e = cc
-
-some_same : {A : Type 0} (o : Option A) (a b : A) → o ≡ Some a → o ≡ Some b → a ≡ b
-some_same o a b e f = cc
 
 -- what holds of each holds of the one that is found
 All-found : {A : Type 0} (P : A → Type 0) (p : A → Bool) (xs : List A) (x : A) → All P xs → find p xs ≡ Some x → P x
@@ -77,94 +44,14 @@ All-found P p (y ∷ ys) x h e =
 found_id : (id : ℕ) (xs : List Screen) (x : Screen) → find (screen_id id) xs ≡ Some x → x.id ≡ id
 found_id id xs x e = (unsigned_Decides x.id id).0 (found_passes (screen_id id) xs x e)
 
-found_sizes : (id : ℕ) (w : World) → find_size id (sizes w) ≡ option_map core.size_of (find_session id w.sessions)
-found_sizes id w = find-map core.size_of (has_id id) (is_size_of id) (λ x. refl) w.sessions
-
 screen_sizes : (id : ℕ) (xs : List Screen) → find_size id (map size_of xs) ≡ option_map size_of (find (screen_id id) xs)
 screen_sizes id xs = find-map size_of (screen_id id) (is_size_of id) (λ x. refl) xs
-
--- the session of a screen
-pub session_known : (w : World) (x : Screen) → IsKnown (sizes w) x → (s : Session) × (find_session x.id w.sessions ≡ Some s) × (core.size_of s ≡ size_of x)
-session_known w x h = some_of core.size_of (find_session x.id w.sessions) (size_of x) (sym (found_sizes x.id w) ∙ h)
 
 -- the screen of a session
 screen_known : (w : World) (xs : List Screen) (id : ℕ) (x : Session) → map size_of xs ≡ sizes w → find_session id w.sessions ≡ Some x → (s : Screen) × (find (screen_id id) xs ≡ Some s) × (size_of s ≡ core.size_of x)
 screen_known w xs id x e f =
     some_of size_of (find (screen_id id) xs) (core.size_of x)
     (sym (screen_sizes id xs) ∙ ap (find_size id) e ∙ found_sizes id w ∙ ap (option_map core.size_of) f)
-
--- ONE SCREEN
-
--- the size of what is drawn is the session's
-screen_rows : (w : World) (x : Session) → (screen w x).rows ≡ x.rows
-unfolding draw
-screen_rows w x = refl
-
-screen_cols : (w : World) (x : Session) → (screen w x).cols ≡ x.cols
-unfolding draw
-screen_cols w x = refl
-
-pub ahead_screen : (w : World) (old new : Screen) → IsKnown (sizes w) old → IsAhead w old new → IsScreen old → IsScreen new
-ahead_screen w old new k h s =
-    let known = session_known w old k in
-    let same : known.0 ≡ h.session = some_same (find_session old.id w.sessions) known.0 h.session known.1 h.found in
-    let size : core.size_of h.session ≡ size_of old = ap core.size_of (sym same) ∙ known.2 in
-    subst IsScreen (sym h.same)
-    (record {
-      rows = screen_rows w h.session ∙ ap (λ (z : Size). z.rows) size;
-      cols = screen_cols w h.session ∙ ap (λ (z : Size). z.cols) size;
-      room = s.room;
-    })
-
--- a paint of what comes next draws it over what is shown
-pub paint_repaint : (old new : Screen) (bytes : List ℕ) → IsPicture old.shown → IsScreen old → new.id ≡ old.id → new.shown ≡ old.next → new.queue.items ≡ old.queue.items ++ bytes → Paints old.next bytes → IsRepaint old new
-paint_repaint old new bytes p s i e a h = record {
-  id = i;
-  bytes = bytes;
-  appended = a;
-  draws =
-      subst (λ (z : Picture). Draws (IsFaithful (cells_of z)) bytes (shown old.shown) (shown z)) (sym e)
-      (h.draws (shown old.shown) (shown_screen old.shown p) (sym s.rows) (sym s.cols));
-}
-
-pub paint_first : (old new : Screen) (bytes : List ℕ) → IsTaken (queue_of old) → new.shown ≡ old.next → new.queue.items ≡ old.queue.items ++ bytes → Paints old.next bytes → IsFirst new
-paint_first old new bytes t e a h =
-    let all : new.queue.items ≡ bytes = a ∙ ap (λ bs. bs ++ bytes) t in
-    subst (Paints new.shown) (sym all) (subst (λ (z : Picture). Paints z bytes) (sym e) h)
-
--- nothing is painted where the picture is the same
-pub same_repaint : (w : World) (old new : Screen) → IsAhead w old new → new.shown ≡ new.next → IsRepaint old new
-same_repaint w old new h e =
-    let shows : new.shown ≡ old.shown = ap (λ (z : Screen). z.shown) h.same in
-    record {
-      id = ap (λ (z : Screen). z.id) h.same;
-      bytes = [];
-      appended = ap (λ (z : Screen). z.queue.items) h.same ∙ sym (append-nil old.queue.items);
-      draws = ([], refl, ap shown (sym shows));
-    }
-
-pub same_drawn : (w : World) (old new : Screen) → IsAhead w old new → new.shown ≡ new.next → IsDrawn w new
-same_drawn w old new h e = record {
-  session = h.session;
-  found = ap (λ (z : Screen). find_session z.id w.sessions) h.same ∙ h.found;
-  picture = e ∙ ap (λ (z : Screen). z.next) h.same;
-}
-
--- and else it is painted
-pub ahead_repaint : (w : World) (old mid new : Screen) → IsAhead w old mid → IsRepaint mid new → IsRepaint old new
-ahead_repaint w old mid new h r = record {
-  id = r.id ∙ ap (λ (z : Screen). z.id) h.same;
-  bytes = r.bytes;
-  appended = r.appended ∙ ap (λ (z : Screen). z.queue.items ++ r.bytes) h.same;
-  draws = subst (λ (z : Picture). Draws (IsFaithful (cells_of new.shown)) r.bytes (shown z) (shown new.shown)) (ap (λ (z : Screen). z.shown) h.same) r.draws;
-}
-
-pub ahead_drawn : (w : World) (old mid new : Screen) → IsAhead w old mid → size_of new ≡ size_of mid → new.shown ≡ mid.next → IsDrawn w new
-ahead_drawn w old mid new h s e = record {
-  session = h.session;
-  found = ap (λ (z : Size). find_session z.id w.sessions) s ∙ ap (λ (z : Screen). find_session z.id w.sessions) h.same ∙ h.found;
-  picture = e ∙ ap (λ (z : Screen). z.next) h.same;
-}
 
 -- ALL SCREENS
 
@@ -191,30 +78,6 @@ drawn_same w (x ∷ xs) (y ∷ ys) e h =
     let one : drawn_of x ≡ drawn_of y = cc in
     let rest : map drawn_of xs ≡ map drawn_of ys = cc in
     All-cons (IsDrawn w) x xs (drawn_one w x y one (All-head (IsDrawn w) y ys h)) (drawn_same w xs ys rest (All-tail (IsDrawn w) y ys h))
-
-repaints_push : (xs ys : List Screen) (x y : Screen) → AreRepaints xs ys → IsRepaint x y → AreRepaints (xs ++ x ∷ []) (ys ++ y ∷ [])
-repaints_push [] [] x y h r = (r, tt)
-repaints_push [] (b ∷ bs) x y h r = absurd h
-repaints_push (a ∷ us) [] x y h r = absurd h
-repaints_push (a ∷ us) (b ∷ bs) x y h r = (h.0, repaints_push us bs x y h.1 r)
-
--- one more is drawn again
-pub repaints_next : (xs ys : List Screen) (i : ℕ) (d y : Screen) → i < length xs → i < length ys → drop i xs ≡ drop i ys → AreRepaints (take i ys) (take i xs) → IsRepaint (get_or xs i d) y → AreRepaints (take (i + 1) ys) (take (i + 1) (set xs i y))
-repaints_next xs ys i d y l m e h r =
-    let q : IsRepaint (get_or ys i d) y = subst (λ (x : Screen). IsRepaint x y) (rest_at xs ys i d e) r in
-    subst (λ zs. AreRepaints zs (take (i + 1) (set xs i y))) (sym (take_more ys i d m))
-    (subst (AreRepaints (take i ys ++ get_or ys i d ∷ [])) (sym (take_more_set xs i y l))
-    (repaints_push (take i ys) (take i xs) (get_or ys i d) y h q))
-
-pub repaints_all : (xs ys : List Screen) (i : ℕ) → length xs ≤ i → length ys ≤ i → AreRepaints (take i ys) (take i xs) → AreRepaints ys xs
-repaints_all xs ys i l m h =
-    subst (λ zs. AreRepaints zs xs) (take_all i ys m) (subst (AreRepaints (take i ys)) (take_all i xs l) h)
-
-pub drawn_next : (w : World) (xs : List Screen) (i : ℕ) (y : Screen) → i < length xs → All (IsDrawn w) (take i xs) → IsDrawn w y → All (IsDrawn w) (take (i + 1) (set xs i y))
-drawn_next w xs i y l h d = subst (All (IsDrawn w)) (sym (take_more_set xs i y l)) (All-push (IsDrawn w) (take i xs) y h d)
-
-pub drawn_all : (w : World) (xs : List Screen) (i : ℕ) → length xs ≤ i → All (IsDrawn w) (take i xs) → All (IsDrawn w) xs
-drawn_all w xs i l h = subst (All (IsDrawn w)) (take_all i xs l) h
 
 -- a screen is found after where it was found before
 found_after : (id : ℕ) (xs ys : List Screen) (s : Screen) → AreRepaints xs ys → find (screen_id id) xs ≡ Some s → (t : Screen) × (find (screen_id id) ys ≡ Some t) × IsRepaint s t
@@ -327,33 +190,6 @@ first_opened w xs z id i n h d p =
     (d.session, f, first_shown w (xs ++ z ∷ []) id d.session z h (found_opened id xs z i n) f p)
 
 -- ALL AT FIRST
-
--- what the world tells at a place it knows by its id
-pub told_known : (ss : List Size) (i : ℕ) (z : Size) → IsUnique ss → slice_get ss i ≡ Some z → find_size z.id ss ≡ Some z
-told_known ss i z u e =
-    let at : get_or ss i z ≡ z = get_or_from_slice_get ss i z z e in
-    subst (λ (y : Size). find_size y.id ss ≡ Some y) at (found_each ss u i z (slice_get_within ss i z e))
-
--- and it has a size
-pub told_size : (ss : List Size) (i : ℕ) (z : Size) → All IsOfSize ss → slice_get ss i ≡ Some z → IsOfSize z
-told_size ss i z h e = subst IsOfSize (get_or_from_slice_get ss i z z e) (h i z (slice_get_within ss i z e))
-
--- one more screen
-pub sizes_next : (ss : List Size) (xs : List Screen) (y : Screen) (z : Size) → map size_of xs ≡ take (length xs) ss → slice_get ss (length xs) ≡ Some z → size_of y ≡ z → map size_of (xs ++ y ∷ []) ≡ take (length (xs ++ y ∷ [])) ss
-sizes_next ss xs y z e t is =
-    map-append size_of xs (y ∷ [])
-    ∙ ap (λ zs. zs ++ size_of y ∷ []) e
-    ∙ ap (λ (s : Size). take (length xs) ss ++ s ∷ []) (is ∙ sym (get_or_from_slice_get ss (length xs) z z t))
-    ∙ sym (take_more ss (length xs) z (slice_get_within ss (length xs) z t))
-    ∙ ap (λ n. take n ss) (sym (length_push xs y))
-
-past_all : (ss : List Size) (n : ℕ) → slice_get ss n ≡ None → length ss ≤ n
-past_all [] n e = omega arith
-past_all (z ∷ zs) zero e = cc
-past_all (z ∷ zs) (suc n) e = omega (arith, past_all zs n e)
-
-pub sizes_whole : (ss : List Size) (xs : List Screen) → map size_of xs ≡ take (length xs) ss → slice_get ss (length xs) ≡ None → map size_of xs ≡ ss
-sizes_whole ss xs e n = e ∙ take_all (length xs) ss (past_all ss (length xs) n)
 
 -- each session's bytes paint its screen
 pub first_all : (w : World) (xs : List Screen) → map size_of xs ≡ sizes w → All (IsDrawn w) xs → All IsFirst xs → (id : ℕ) (x : Session) → find_session id w.sessions ≡ Some x → Paints (screen w x) (pending_of id (serving_of w xs))

@@ -1,3 +1,3 @@
 pub mod Serving
 pub mod Painted
-pub mod Screens
+pub mod Served

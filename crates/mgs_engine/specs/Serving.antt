@@ -1,52 +1,19 @@
 -- A world that is served: for each open session, the bytes that wait for its terminal.
-use Rattle.std.specs.Prelude.{◌≡◌, ℕ, Bool, nat_eq, List, [], ◌∷◌, Option, Some, None, map, find, drop, All}
+use Rattle.std.specs.Prelude.{ℕ, List, map, All}
 use Rattle.mgs_model.specs.World.{World}
-
-pub record Queue : Type 0 where
-  pub id : ℕ
-  pub bytes : List ℕ
+use Rattle.mgs_output.specs.Queues.{IsTaken, Queue, bytes_of, find_queue, queue_id}
 
 pub record Serving : Type 0 where
   pub world : World
   pub queues : List Queue
 
-abbrev pub is_queue_of : ℕ → Queue → Bool
-is_queue_of id x = nat_eq x.id id
-
-abbrev pub find_queue : ℕ → List Queue → Option Queue
-find_queue id xs = find (is_queue_of id) xs
-
-abbrev pub bytes_of : Option Queue → List ℕ
-bytes_of None = []
-bytes_of (Some x) = x.bytes
-
 -- the bytes that wait for a session; none where it is not open
 abbrev pub pending_of : ℕ → Serving → List ℕ
 pending_of id s = bytes_of (find_queue id s.queues)
-
-abbrev pub queue_id : Queue → ℕ
-queue_id x = x.id
 
 -- the ids of the sessions that are served
 abbrev pub queue_ids : Serving → List ℕ
 queue_ids s = map queue_id s.queues
 
--- nothing waits
-abbrev pub IsTaken : Queue → Type 0
-IsTaken x = x.bytes ≡ []
-
 abbrev pub AllTaken : Serving → Type 0
 AllTaken s = All IsTaken s.queues
-
--- the first bytes were taken
-abbrev pub after_taking : ℕ → Queue → Queue
-after_taking n x = record { id = x.id; bytes = drop n x.bytes }
-
--- every byte was taken
-abbrev pub emptied : Queue → Queue
-emptied x = record { id = x.id; bytes = [] }
-
--- a taker took the bytes of each queue, one after another
-abbrev pub Handed : {K : Type 0} → (K → ℕ → List ℕ → K → Type 0) → K → List Queue → K → Type 0
-Handed takes s [] t = s ≡ t
-Handed {K = K} takes s (x ∷ xs) t = (u : K) × takes s x.id x.bytes u × Handed takes u xs t

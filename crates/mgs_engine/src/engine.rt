@@ -4,9 +4,10 @@ ghost use Rattle.std.specs.List.{position_or_len};
 ghost use Rattle.mgs_world.specs.declared.size.Size.{Size};
 ghost use Rattle.mgs_world.specs.Worlds.{sizes, find_size, is_size_of};
 ghost use Rattle.mgs_core.specs.Steps.{KeyedBy, OpenedBy};
-ghost use Rattle.mgs_engine.specs.Serving.{Handed, Serving, AllTaken, pending_of, queue_ids, is_queue_of, after_taking, emptied, Queue};
+ghost use Rattle.mgs_output.specs.Queues.{Handed, is_queue_of, after_taking, emptied, Queue};
+ghost use Rattle.mgs_output.specs.Screens.{screen_id};
+ghost use Rattle.mgs_engine.specs.Serving.{Serving, AllTaken, pending_of, queue_ids};
 ghost use Rattle.mgs_engine.specs.Painted.{Painted};
-ghost use Rattle.mgs_engine.specs.Screens.{screen_id};
 ghost use Rattle.mgs_paint.specs.Painting.{Paints};
 ghost use Rattle.mgs_model.specs.Apply.{remove_first, change_first};
 ghost use Rattle.mgs_model.specs.Picture.{IsSize};
@@ -14,13 +15,13 @@ ghost use Rattle.mgs_model.specs.World.{Session, find_session};
 ghost use Rattle.mgs_model.specs.Draw.{screen};
 ghost use Rattle.mgs_model.specs.Events.{step, Close};
 
-use crate::draw::{draw_first, first_screens, redraw_all};
-use crate::place::{place_of, remove_screen};
-use crate::screen::Screen;
-use crate::take::{Taker, hand_all, take_from};
 use mgs_core::Core;
 use mgs_marks::Marked;
 use mgs_model::{Keyed, OpenFault, SessionId, Short};
+use mgs_output::{
+    Screen, Taker, draw_first, first_screens, hand_all, place_of, redraw_all, remove_screen,
+    take_from,
+};
 use std::alloc::Global;
 use std::marker::Model;
 
@@ -37,7 +38,7 @@ impl<T: Marked + Drop> Model for Engine<T> {
 
     ghost Value = { Serving };
 
-    ghost use Rattle.mgs_engine.specs.Screens.{serving_of, IsServed};
+    ghost use Rattle.mgs_engine.specs.Served.{serving_of, IsServed};
 
     ghost view = { λ e. serving_of e.core e.screens.items };
 

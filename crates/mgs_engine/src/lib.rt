@@ -4,14 +4,10 @@
 //! where one has changed, the bytes that paint it wait to be taken.
 #![tactic(auto)]
 
-mod draw;
 mod engine;
-mod place;
-mod screen;
-mod take;
 
 pub use engine::Engine;
-pub use take::Taker;
+pub use mgs_output::Taker;
 
 #[cfg(test)]
 mod tests;

@@ -4,7 +4,8 @@ use Rattle.std.specs.Prelude.{IfOk}
 use Rattle.mgs_model.specs.World.{World, Session}
 use Rattle.mgs_world.specs.declared.size.Size.{Size}
 use Rattle.mgs_world.specs.Worlds.{size_of, sizes}
-use Rattle.mgs_engine.specs.Serving.{Serving, Queue, queue_id, queue_ids}
+use Rattle.mgs_engine.specs.Serving.{Serving, queue_ids}
+use Rattle.mgs_output.specs.Queues.{Queue, queue_id}
 use Rattle.mgs_script.specs.Lines.{Said}
 use Rattle.mgs_script.specs.Lines as said
 use Rattle.mgs_setup.specs.Setups.{Sets}

@@ -20,9 +20,10 @@ use Rattle.mgs_term.specs.Terminal.{Terminal, resting}
 use Rattle.mgs_term.specs.Drawing.{Draws, Anything, IsFaithful}
 use Rattle.mgs_term.proofs.Drawing.{Draws-weaken, Draws-at}
 use Rattle.mgs_paint.specs.Painting.{Paints, shown, cells_of}
-use Rattle.mgs_engine.specs.Serving.{Serving, Queue, AllTaken, IsTaken, pending_of, queue_ids, bytes_of, find_queue}
+use Rattle.mgs_engine.specs.Serving.{Serving, AllTaken, pending_of, queue_ids}
+use Rattle.mgs_output.specs.Queues.{Queue, IsTaken, bytes_of, find_queue}
 use Rattle.mgs_engine.specs.Painted.{Painted, PaintedBy}
-use Rattle.mgs_engine.proofs.Screens.{All-unmap}
+use Rattle.mgs_output.proofs.Screens.{All-unmap}
 use Rattle.mgs_seats.specs.declared.seat.Labelled.{Labelled}
 use Rattle.mgs_seats.specs.declared.seat.Cause.{Cause}
 use Rattle.mgs_seats.specs.declared.seat.Seat.{Seat}

@@ -13,7 +13,8 @@ use Rattle.mgs_term.specs.Screen.{Screen}
 use Rattle.mgs_term.specs.Terminal.{Terminal, resting}
 use Rattle.mgs_term.specs.Drawing.{Draws, Anything}
 use Rattle.mgs_paint.specs.Painting.{shown}
-use Rattle.mgs_engine.specs.Serving.{Serving, Queue, Handed, AllTaken, queue_ids, queue_id, bytes_of, find_queue, is_queue_of, emptied}
+use Rattle.mgs_engine.specs.Serving.{Serving, AllTaken, queue_ids}
+use Rattle.mgs_output.specs.Queues.{Queue, Handed, queue_id, bytes_of, find_queue, is_queue_of, emptied}
 use Rattle.mgs_seats.specs.declared.seat.Labelled.{Labelled}
 use Rattle.mgs_seats.specs.declared.seat.Cause.{Cause}
 use Rattle.mgs_seats.specs.declared.seat.Seat.{Seat}

@@ -2,7 +2,7 @@ use Rattle.std.proofs.Common.{Some, sym, ap, ◌∙◌}
 use Rattle.mgs_model.specs.Picture.{Picture}
 use Rattle.mgs_world.specs.declared.size.Size.{Size}
 use Rattle.mgs_world.specs.Worlds.{sizes}
-use Rattle.mgs_engine.proofs.Painted.{told_known}
+use Rattle.mgs_output.proofs.Painted.{told_known}
 use Rattle.mgs_trials.proofs.lockstep.drawn.Goals as goal
 
 pub draw-requires : goal.draw-requires

@@ -3,7 +3,7 @@ use Rattle.mgs_world.specs.Worlds.{sizes}
 use Rattle.mgs_core.specs.Steps.{KeyedBy}
 use Rattle.mgs_engine.specs.Serving.{Serving, queue_ids}
 use Rattle.mgs_engine.specs.Painted.{Painted}
-use Rattle.mgs_engine.specs.Screens.{serving_of}
+use Rattle.mgs_engine.specs.Served.{serving_of}
 use Rattle.mgs_engine.proofs.Screens.{known_each, ids_same}
 use Rattle.mgs_engine.proofs.Painted.{painted_all}
 use Rattle.mgs_engine.proofs.engine.Engine.byte.Goals as goal
