@@ -4,6 +4,8 @@ use Rattle.std.specs.Prelude.{fold, filter, ◌&&◌, ◌||◌, ◌/◌, ◌%◌
 use Rattle.std.specs.List.{list_any}
 use Rattle.std.specs.Int.{bit_at}
 use Rattle.std.specs.Int.Bits.{bit_or}
+use Rattle.std.proofs.Math.Bool.{or-false, and-or_distrib_right}
+use Rattle.std.proofs.Math.Nat.{max-zero, zero-max}
 use Rattle.std.proofs.lemmas.Bool.{eqb-true}
 use Rattle.std.proofs.lemmas.Bool.Decides.{nat_tests}
 use Rattle.std.proofs.lemmas.Nat.Bits.{bit_at_or, bit_at-zero, bit_at-pow_same, bit_at-pow_other, same_from_bits}
@@ -54,22 +56,15 @@ either n true false = omega arith
 either n false true = omega arith
 either n false false = omega arith
 
-max_zero : (n : ℕ) → max n 0 ≡ n
-max_zero n = omega arith
-
-zero_max : (b : Bool) → max 0 (cond b 1 0) ≡ cond b 1 0
-zero_max true = refl
-zero_max false = refl
-
 bit_at-fold : (rights : List Right) (mask i : ℕ) → bit_at (fold with_right mask rights) i ≡ max (bit_at mask i) (cond (is_at rights i) 1 0)
-bit_at-fold [] mask i = sym (max_zero (bit_at mask i))
+bit_at-fold [] mask i = sym (max-zero (bit_at mask i))
 bit_at-fold (right ∷ rights) mask i =
     bit_at-fold rights (bit_or mask (bit_of right)) i
     ∙ ap (λ n. max n (cond (is_at rights i) 1 0)) (bit_at_or mask (bit_of right) i ∙ ap (max (bit_at mask i)) (bit_at-right right i))
     ∙ either (bit_at mask i) (eqb (place right) i) (is_at rights i)
 
 bit_at-mask_of : (rights : List Right) (i : ℕ) → bit_at (mask_of rights) i ≡ cond (is_at rights i) 1 0
-bit_at-mask_of rights i = bit_at-fold rights 0 i ∙ ap (λ n. max n (cond (is_at rights i) 1 0)) (bit_at-zero i) ∙ zero_max (is_at rights i)
+bit_at-mask_of rights i = bit_at-fold rights 0 i ∙ ap (λ n. max n (cond (is_at rights i) 1 0)) (bit_at-zero i) ∙ zero-max (cond (is_at rights i) 1 0)
 
 is_one : (b : Bool) → eqb (cond b 1 0) 1 ≡ b
 is_one true = refl
@@ -101,10 +96,6 @@ any_either p q [] = refl
 any_either p q (right ∷ rights) =
     ap (λ b. (p right || q right) || b) (any_either p q rights) ∙ or-exchanged (p right) (q right) (list_any p rights) (list_any q rights)
 
-or-false : (b : Bool) → (b || false) ≡ b
-or-false true = refl
-or-false false = refl
-
 -- each right is one of the eight
 is_one_of_all : (right : Right) (i : ℕ) → list_any (λ r. eqb (place right) (place r) && eqb (place r) i) all_rights ≡ eqb (place right) i
 is_one_of_all ReadData i = or-false (eqb 0 i)
@@ -116,17 +107,10 @@ is_one_of_all ReadAcl i = or-false (eqb 17 i)
 is_one_of_all WriteAcl i = or-false (eqb 18 i)
 is_one_of_all WriteOwner i = or-false (eqb 19 i)
 
-and-shared : (a b c : Bool) → ((a || b) && c) ≡ ((a && c) || (b && c))
-and-shared true true true = refl
-and-shared true true false = refl
-and-shared true false true = refl
-and-shared true false false = refl
-and-shared false b c = refl
-
 are_of_all : (rights : List Right) (i : ℕ) → list_any (λ r. is_at rights (place r) && eqb (place r) i) all_rights ≡ is_at rights i
 are_of_all [] i = refl
 are_of_all (right ∷ rights) i =
-    ap (λ test. list_any test all_rights) (λ j r. and-shared (eqb (place right) (place r)) (is_at rights (place r)) (eqb (place r) i) j)
+    ap (λ test. list_any test all_rights) (λ j r. and-or_distrib_right (eqb (place right) (place r)) (is_at rights (place r)) (eqb (place r) i) j)
     ∙ any_either (λ r. eqb (place right) (place r) && eqb (place r) i) (λ r. is_at rights (place r) && eqb (place r) i) all_rights
     ∙ ap (λ b. b || list_any (λ r. is_at rights (place r) && eqb (place r) i) all_rights) (is_one_of_all right i)
     ∙ ap (λ b. eqb (place right) i || b) (are_of_all rights i)

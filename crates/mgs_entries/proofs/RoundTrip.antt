@@ -1,6 +1,6 @@
 -- What is printed of an entry is read as that entry.
-use Rattle.std.proofs.lemmas.Bool.{eqb-true}
-use Rattle.std.proofs.Common.{◌≡◌, ℕ, zero, suc, ◌+◌, ◌<◌, ◌≤◌, refl, sym, ap, ◌∙◌, Bool, true, false, cond, List, [], ◌∷◌, ◌++◌, length, map, get_or, take, drop, append_assoc, arith}
+use Rattle.std.proofs.lemmas.Bool.{eqb-true, and_from, and_parts, not-true, false_from_ne_true}
+use Rattle.std.proofs.Common.{◌≡◌, ℕ, zero, suc, ◌+◌, ◌<◌, ◌≤◌, refl, sym, ap, ◌∙◌, Bool, true, false, true≢false, cond, List, [], ◌∷◌, ◌++◌, length, map, get_or, take, drop, append_assoc, arith}
 use Rattle.std.specs.Prelude.{◌==◌, Option, Some, None, Ok, fold, filter, not, ◌&&◌, codes, is_some, nat_eq, nat_lt, nat_le, slice_get}
 use Rattle.std.specs.List.{All, list_all, starts_with}
 use Rattle.std.specs.Option.{option_map, option_and_then}
@@ -26,9 +26,6 @@ use Rattle.mgs_model.specs.declared.entry.Entry.{Entry}
 use Rattle.mgs_entries.specs.Spelling.{is_space, is_word, words, type_named, behind_group, named_who, who_named, right_lettered, is_letter, bit_or_none, with_letter, mask_lettered, said, judged, entry_said, entry_in, is_spelled_who, mask_of, IsSpelled}
 use Rattle.mgs_entries.proofs.Masks.{with_right, mask_of-rights_in}
 
-true_not_false : true ≡ false → ⊥
-true_not_false e = cc
-
 -- LETTERS
 
 -- the letters of these rights
@@ -45,20 +42,9 @@ right_lettered-letter_of ReadAcl = refl
 right_lettered-letter_of WriteAcl = refl
 right_lettered-letter_of WriteOwner = refl
 
-and-true : (a b : Bool) → a ≡ true → b ≡ true → a && b ≡ true
-and-true a b h k = rw h k
-
-and-first : (a b : Bool) → a && b ≡ true → a ≡ true
-and-first true b h = refl
-and-first false b h = h
-
-and-second : (a b : Bool) → a && b ≡ true → b ≡ true
-and-second true b h = h
-and-second false b h = absurd (cc)
-
 all_letters : (rights : List Right) → list_all is_letter (letters rights) ≡ true
 all_letters [] = refl
-all_letters (right ∷ rights) = and-true (is_letter (letter_of right)) (list_all is_letter (letters rights)) (ap is_some (right_lettered-letter_of right)) (all_letters rights)
+all_letters (right ∷ rights) = and_from (is_letter (letter_of right)) (list_all is_letter (letters rights)) (ap is_some (right_lettered-letter_of right)) (all_letters rights)
 
 bits_of_letters : (mask : ℕ) (rights : List Right) → fold with_letter mask (letters rights) ≡ fold with_right mask rights
 bits_of_letters mask [] = refl
@@ -72,32 +58,28 @@ some_letters (right ∷ rights) h = grind (arith, nat_tests)
 -- letters say the mask of their rights
 mask_lettered-letters : (rights : List Right) → 0 < mask_of rights → mask_lettered (letters rights) ≡ Some (mask_of rights)
 mask_lettered-letters rights h =
-    ap (λ b. cond b (Some (fold with_letter 0 (letters rights))) None) (and-true (is_word (letters rights)) (list_all is_letter (letters rights)) (some_letters rights h) (all_letters rights))
+    ap (λ b. cond b (Some (fold with_letter 0 (letters rights))) None) (and_from (is_word (letters rights)) (list_all is_letter (letters rights)) (some_letters rights h) (all_letters rights))
     ∙ ap Some (bits_of_letters 0 rights)
 
 -- THE WHO
-
-is_false : (b : Bool) → (b ≡ true → ⊥) → b ≡ false
-is_false true f = absurd (f refl)
-is_false false f = refl
 
 -- what a name is not
 abbrev is_letters : List ℕ → Bool
 is_letters name = list_all is_user_char name
 
 letters_of_name : (name : List ℕ) → is_user_name name ≡ true → is_letters name ≡ true
-letters_of_name name h = and-second (nat_le (length name) 32) (is_letters name) (and-second (nat_le 1 (length name)) (nat_le (length name) 32 && is_letters name) h)
+letters_of_name name h = (and_parts (nat_le (length name) 32) (is_letters name) (and_parts (nat_le 1 (length name)) (nat_le (length name) 32 && is_letters name) h).1).1
 
 not_text : (name text : List ℕ) → is_letters name ≡ true → is_letters text ≡ false → bytes_eq name text ≡ false
-not_text name text h k = is_false (bytes_eq name text) (λ e. absurd (true_not_false (sym h ∙ ap is_letters ((bytes_eq-Decides name text).0 e) ∙ k)))
+not_text name text h k = false_from_ne_true (bytes_eq name text) (λ e. true≢false (sym h ∙ ap is_letters ((bytes_eq-Decides name text).0 e) ∙ k))
 
 letters_in_front : (n : ℕ) (name : List ℕ) → is_letters name ≡ true → is_letters (take n name) ≡ true
 letters_in_front zero name h = refl
 letters_in_front (suc n) [] h = refl
-letters_in_front (suc n) (c ∷ cs) h = and-true (is_user_char c) (is_letters (take n cs)) (and-first (is_user_char c) (is_letters cs) h) (letters_in_front n cs (and-second (is_user_char c) (is_letters cs) h))
+letters_in_front (suc n) (c ∷ cs) h = and_from (is_user_char c) (is_letters (take n cs)) (and_parts (is_user_char c) (is_letters cs) h).0 (letters_in_front n cs (and_parts (is_user_char c) (is_letters cs) h).1)
 
 no_group : (name : List ℕ) → is_letters name ≡ true → behind_group name ≡ None
-no_group name h = ap (λ b. cond b (Some (drop 6 name)) None) (is_false (starts_with nat_eq name (codes "group:")) (λ e. absurd (true_not_false (sym (letters_in_front 6 name h) ∙ ap is_letters (sym ((bytes_eq-Decides (codes "group:") (take 6 name)).0 (starts_back name e)))))))
+no_group name h = ap (λ b. cond b (Some (drop 6 name)) None) (false_from_ne_true (starts_with nat_eq name (codes "group:")) (λ e. true≢false (sym (letters_in_front 6 name h) ∙ ap is_letters (sym ((bytes_eq-Decides (codes "group:") (take 6 name)).0 (starts_back name e))))))
   where
     starts_back : (name : List ℕ) → starts_with nat_eq name (codes "group:") ≡ true → bytes_eq (codes "group:") (take 6 name) ≡ true
     starts_back name e = e
@@ -125,12 +107,8 @@ type_named-type_text Deny = refl
 abbrev is_unspaced : List ℕ → Bool
 is_unspaced word = list_all (λ c. not (is_space c)) word
 
-no_space : (b : Bool) → not b ≡ true → b ≡ false
-no_space true h = absurd (cc)
-no_space false h = refl
-
 unspaced_at : (word : List ℕ) → is_unspaced word ≡ true → All (λ c. is_space c ≡ false) word
-unspaced_at word h = λ k d l. no_space (is_space (get_or word k d)) (AllPass-from_list_all (λ c. not (is_space c)) word h k d l)
+unspaced_at word h = λ k d l. not-true (is_space (get_or word k d)) (AllPass-from_list_all (λ c. not (is_space c)) word h k d l)
 
 words_apart : (a b c : List ℕ) → is_unspaced a ≡ true → is_unspaced b ≡ true → is_unspaced c ≡ true → is_word a ≡ true → is_word b ≡ true → is_word c ≡ true → words (a ++ 32 ∷ (b ++ 32 ∷ c)) ≡ a ∷ b ∷ c ∷ []
 words_apart a b c ua ub uc wa wb wc =
@@ -150,7 +128,7 @@ unspaced_char c h = grind (arith, nat_tests)
 
 unspaced_name : (name : List ℕ) → is_letters name ≡ true → is_unspaced name ≡ true
 unspaced_name [] h = refl
-unspaced_name (c ∷ cs) h = and-true (not (is_space c)) (is_unspaced cs) (unspaced_char c (and-first (is_user_char c) (is_letters cs) h)) (unspaced_name cs (and-second (is_user_char c) (is_letters cs) h))
+unspaced_name (c ∷ cs) h = and_from (not (is_space c)) (is_unspaced cs) (unspaced_char c (and_parts (is_user_char c) (is_letters cs) h).0) (unspaced_name cs (and_parts (is_user_char c) (is_letters cs) h).1)
 
 unspaced_who : (who : Who) → is_spelled_who who ≡ true → is_unspaced (who_text who) ≡ true
 unspaced_who Owner h = refl
@@ -183,7 +161,7 @@ unspaced_letter WriteOwner = refl
 
 unspaced_letters : (rights : List Right) → is_unspaced (letters rights) ≡ true
 unspaced_letters [] = refl
-unspaced_letters (right ∷ rights) = and-true (not (is_space (letter_of right))) (is_unspaced (letters rights)) (unspaced_letter right) (unspaced_letters rights)
+unspaced_letters (right ∷ rights) = and_from (not (is_space (letter_of right))) (is_unspaced (letters rights)) (unspaced_letter right) (unspaced_letters rights)
 
 -- READ BACK
 
@@ -234,8 +212,8 @@ right_of c (Some right) e h = (right, sym (eqb-true (letter_of right) c (found_p
 rights_of : (word : List ℕ) → list_all is_letter word ≡ true → (rights : List Right) × (word ≡ letters rights)
 rights_of [] h = ([], refl)
 rights_of (c ∷ cs) h =
-    let (right, is) = right_of c (right_lettered c) refl (and-first (is_letter c) (list_all is_letter cs) h) in
-    let (rights, are) = rights_of cs (and-second (is_letter c) (list_all is_letter cs) h) in
+    let (right, is) = right_of c (right_lettered c) refl (and_parts (is_letter c) (list_all is_letter cs) h).0 in
+    let (rights, are) = rights_of cs (and_parts (is_letter c) (list_all is_letter cs) h).1 in
     (right ∷ rights, ap (λ x. x ∷ cs) is ∙ ap (λ xs. letter_of right ∷ xs) are)
 
 grows : (rights : List Right) (mask : ℕ) → mask ≤ fold with_right mask rights
@@ -262,8 +240,8 @@ made_of word mask h = by (is_word word && list_all is_letter word) refl h
     by : (b : Bool) → is_word word && list_all is_letter word ≡ b → cond b (Some (fold with_letter 0 word)) None ≡ Some mask → (0 < mask) × (mask_of (rights_in mask) ≡ mask)
     by false is e = absurd (cc)
     by true is e =
-        let (rights, are) = rights_of word (and-second (is_word word) (list_all is_letter word) is) in
-        let filled : is_word (letters rights) ≡ true = ap is_word (sym are) ∙ and-first (is_word word) (list_all is_letter word) is in
+        let (rights, are) = rights_of word (and_parts (is_word word) (list_all is_letter word) is).1 in
+        let filled : is_word (letters rights) ≡ true = ap is_word (sym are) ∙ (and_parts (is_word word) (list_all is_letter word) is).0 in
         let same : mask ≡ fold with_letter 0 word = cc in
         let made : mask ≡ mask_of rights = same ∙ ap (fold with_letter 0) are ∙ bits_of_letters 0 rights in
         let some : 0 < mask_of rights = some_mask rights filled in

@@ -40,6 +40,7 @@ fn cut(text: &str) -> (&str, &str)
 }
 
 /// The first word, and what stands behind the space after it.
+#[tactic(auto, using(crate::proofs::WordLemmas::words_filled))]
 fn next_word(mut text: &str) -> Option<(&str, &str)>
     ensures { words_cut (option_map (λ p. (p.0.now, p.1.now)) result) ≡ words text.entry.now }
 {
