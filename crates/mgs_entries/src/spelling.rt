@@ -66,8 +66,8 @@ fn type_named(word: &str) -> Option<EntryType>
     }
 }
 
-#[tactic(auto, using(crate::proofs::NameLemmas::user_named_no_name))]
 /// The name of a user or a group that is written so, if it is one: 1 to 32 lower-case letters, digits, `-` and `_`.
+#[tactic(auto, using(crate::proofs::NameLemmas::user_named_no_name))]
 pub fn user_named(word: &str) -> Option<Name>
     ensures { result ≡ user_named word.now }
 {
