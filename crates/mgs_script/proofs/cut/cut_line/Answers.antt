@@ -1,7 +1,7 @@
-use Rattle.std.proofs.Common.{◌≡◌, ◌+◌, ◌-◌, take, drop, length, arith}
-use Rattle.std.proofs.lemmas.Grind.{common_steps}
+use Rattle.std.proofs.Common.{◌+◌}
+use Rattle.std.proofs.lemmas.List.{take_rest}
 use Rattle.mgs_model.specs.Lines.{is_feed}
-use Rattle.mgs_script.proofs.Feeds.{cut_some, cut_none}
+use Rattle.mgs_keys.proofs.Cuts.{cut_some, cut_none}
 use Rattle.mgs_script.proofs.cut.cut_line.Goals as goal
 
 pub returns-in-None-clause-lines : goal.returns-in-None-clause-lines
@@ -11,5 +11,4 @@ pub returns-in-Some-clause-lines : goal.returns-in-Some-clause-lines
 returns-in-Some-clause-lines c =
     let t = c.args.script.now in
     let i = c.in-Some.at in
-    let whole : take (length t - (i + 1)) (drop (i + 1) t) ≡ drop (i + 1) t = grind (arith, common_steps) in
-    rw whole (cut_some is_feed t i c.in-Some.ensures.at)
+    rw (take_rest t (i + 1)) (cut_some is_feed t i c.in-Some.ensures.at)
