@@ -1,15 +1,16 @@
 // One act of a session: it is planned whole, and then done whole or not at all.
-ghost use Rattle.std.specs.Prelude.{◌≡◌, ◌<◌, ◌≤◌, ℕ, length, Option, Some, OnOk, OnErr, slice_get, true};
+ghost use Rattle.std.specs.Prelude.{◌≡◌, ◌+◌, ◌<◌, ◌≤◌, ℕ, [], ◌∷◌, length, Option, Some, OnOk, OnErr, slice_get, true};
 ghost use Rattle.std.specs.List.{position_or_len};
-ghost use Rattle.mgs_model.specs.Apply.{act, apply};
+ghost use Rattle.mgs_model.specs.Apply.{act, apply, change_first};
 ghost use Rattle.mgs_model.specs.Events.{may_be_refused};
 ghost use Rattle.mgs_model.specs.Outcome.{takes_memory};
 ghost use Rattle.mgs_model.specs.World.{Own};
 ghost use Rattle.mgs_model.specs.declared.session.Command.TheVariants.{SelfInsert};
 ghost use Rattle.mgs_act.specs.Deeds.{outcome_for};
 ghost use Rattle.std.specs.Option.{option_and_then};
-ghost use Rattle.mgs_buffers.specs.Kept.{IsKept, IsMark, kept_at};
+ghost use Rattle.mgs_buffers.specs.Kept.{IsKept, IsMark, kept_at, kept_edited, kept_named, kept_placed};
 ghost use Rattle.mgs_session.specs.Told.{spot_of};
+ghost use Rattle.mgs_act.specs.declared.acts.Deed.TheVariants.{Inserts};
 ghost use Rattle.mgs_act.specs.Deeds.{acts_in, CanBeDone, deed_outcome, plan_in, motion_by, own_at};
 ghost use Rattle.mgs_world.specs.Sound.{IsSound};
 ghost use Rattle.mgs_world.specs.Worlds.{sizes_in, session_id, world_of};
@@ -133,6 +134,23 @@ fn plan<T: Marked + Drop>(
     }
 }
 
+/// Puts a character in at `place`, and the point of `spot` behind it. `Short`: memory was refused, and nothing was done.
+fn insert<T: Marked + Drop>(
+    buffers: &mut Buffers<T>,
+    spot: &Spot,
+    place: usize,
+    put: char,
+) -> Result<(), Short>
+    requires point { IsMark spot.now.name spot.now.point buffers.old }
+    requires can { CanBeDone buffers.old spot.now (Inserts place put) }
+    ensures ok { OnOk result (buffers.new ≡ change_first (kept_named spot.now.name) (kept_placed spot.now.point (place + 1)) (change_first (kept_named spot.now.name) (kept_edited place place (put ∷ [])) buffers.old)) }
+    ensures err { OnErr result (buffers.new ≡ buffers.old) }
+{
+    let edited = buffers.edit(&spot.name, place, place, &[put])?;
+    buffers.place(&spot.name, spot.point, place + 1);
+    Ok(edited)
+}
+
 /// Does what was planned, for the session at `at`. `Short`: memory was refused, and nothing was done.
 fn perform<T: Marked + Drop>(
     buffers: &mut Buffers<T>,
@@ -153,10 +171,7 @@ fn perform<T: Marked + Drop>(
 {
     match deed {
         Deed::Fails(message) => tell(&mut sessions[at], message),
-        Deed::Inserts { at: place, put } => {
-            buffers.edit(&spot.name, place, place, &[put])?;
-            buffers.place(&spot.name, spot.point, place + 1);
-        }
+        Deed::Inserts { at: place, put } => insert(buffers, spot, place, put)?,
         Deed::Goes(place) => buffers.place(&spot.name, spot.point, place),
     }
     Ok(())
