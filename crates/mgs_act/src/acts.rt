@@ -11,7 +11,7 @@ ghost use Rattle.std.specs.Option.{option_and_then};
 ghost use Rattle.mgs_buffers.specs.Kept.{IsKept, IsMark, kept_at, kept_edited, kept_named, kept_placed};
 ghost use Rattle.mgs_session.specs.Told.{spot_of};
 ghost use Rattle.mgs_act.specs.declared.acts.Deed.TheVariants.{Inserts};
-ghost use Rattle.mgs_act.specs.Deeds.{acts_in, CanBeDone, deed_outcome, plan_in, motion_by, own_at};
+ghost use Rattle.mgs_act.specs.Deeds.{acts_in, CanBeDone, deed_outcome, plan_in, motion_by, own_at, kept_after, session_after};
 ghost use Rattle.mgs_world.specs.Sound.{IsSound};
 ghost use Rattle.mgs_world.specs.Worlds.{sizes_in, session_id, world_of};
 
@@ -151,6 +151,29 @@ fn insert<T: Marked + Drop>(
     Ok(edited)
 }
 
+/// Does what was planned: in the buffers, and to the acting session. `Short`: memory was refused, and nothing was done.
+fn carry_out<T: Marked + Drop>(
+    buffers: &mut Buffers<T>,
+    session: &mut Session,
+    spot: &Spot,
+    deed: Deed,
+) -> Result<(), Short>
+    requires point { IsMark spot.now.name spot.now.point buffers.old }
+    requires can { CanBeDone buffers.old spot.now deed }
+    ensures ok { OnOk result (buffers.new ≡ kept_after spot.now deed buffers.old) }
+    ensures told { OnOk result (session.new ≡ session_after deed session.old) }
+    ensures err { OnErr result (buffers.new ≡ buffers.old) }
+    ensures untold { OnErr result (session.new ≡ session.old) }
+    ensures may { OnErr result ((own : Own) → takes_memory (deed_outcome own spot.now.name deed) ≡ true) }
+{
+    match deed {
+        Deed::Fails(message) => tell(session, message),
+        Deed::Inserts { at: place, put } => insert(buffers, spot, place, put)?,
+        Deed::Goes(place) => buffers.place(&spot.name, spot.point, place),
+    }
+    Ok(())
+}
+
 /// Does what was planned, for the session at `at`. `Short`: memory was refused, and nothing was done.
 fn perform<T: Marked + Drop>(
     buffers: &mut Buffers<T>,
@@ -169,12 +192,7 @@ fn perform<T: Marked + Drop>(
     ensures err { OnErr result ((directory : Directory) (next : Option ℕ) → world_of directory buffers.new sessions.new next ≡ world_of directory buffers.old sessions.old next) }
     ensures may { OnErr result ((own : Own) → takes_memory (deed_outcome own spot.now.name deed) ≡ true) }
 {
-    match deed {
-        Deed::Fails(message) => tell(&mut sessions[at], message),
-        Deed::Inserts { at: place, put } => insert(buffers, spot, place, put)?,
-        Deed::Goes(place) => buffers.place(&spot.name, spot.point, place),
-    }
-    Ok(())
+    carry_out(buffers, &mut sessions[at], spot, deed)
 }
 
 /// One act of the session at `at`. `Short`: memory was refused, the world is as it was, and the act is one that may be
