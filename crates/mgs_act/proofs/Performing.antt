@@ -1,9 +1,9 @@
 -- What a deed of a session does to the world.
 use Rattle.std.proofs.Common.{◌≡◌, ℕ, ◌+◌, ◌<◌, ◌≤◌, Bool, true, false, cond, List, [], ◌∷◌, length, map, Option, Some, None, refl, sym, ap, ◌∙◌, arith}
-use Rattle.std.specs.Prelude.{find, slice_get, slice_set, is_some}
+use Rattle.std.specs.Prelude.{find, slice_get, slice_set, is_some, Result, Ok, Err, OnOk, OnErr}
 use Rattle.std.specs.List.{position_or_len}
 use Rattle.std.specs.Option.{option_and_then, option_map}
-use Rattle.std.proofs.lemmas.List.{map-id}
+use Rattle.std.proofs.lemmas.List.{map-id, set-get_or}
 use Rattle.std.proofs.lemmas.Option.{get_or_from_slice_get}
 use Rattle.mgs_model.specs.Access.{Directory}
 use Rattle.mgs_model.specs.World.{World, Own, find_session, has_id}
@@ -23,11 +23,11 @@ use Rattle.mgs_session.specs.Told.{spot_of, told}
 use Rattle.mgs_session.specs.declared.Session.{Session}
 use Rattle.mgs_act.specs.declared.acts.Deed.{Deed}
 use Rattle.mgs_act.specs.declared.acts.Deed.TheVariants.{Fails, Inserts, Goes}
-use Rattle.mgs_act.specs.Deeds.{deed_outcome, own_at, own_or_first, plan_in}
-use Rattle.mgs_world.specs.Sound.{IsSound, uses}
-use Rattle.mgs_world.specs.Worlds.{id_after, own_of, session_id, session_of, world_of}
+use Rattle.mgs_act.specs.Deeds.{deed_outcome, kept_after, session_after, own_at, own_or_first, plan_in}
+use Rattle.mgs_world.specs.Sound.{IsSound, session_uses, uses}
+use Rattle.mgs_world.specs.Worlds.{id_after, own_of, session_id, session_of, size_in, sizes_in, world_of}
 use Rattle.mgs_act.specs.Deeds.{outcome_for}
-use Rattle.mgs_world.proofs.Soundness.{acting_mark, mark_edited_used, mark_is_kept, one_if_most, session_shown}
+use Rattle.mgs_world.proofs.Soundness.{acting_mark, mark_edited_used, mark_is_kept, one_if_most, session_shown, sizes_set, sound_edited, sound_placed, sound_set}
 use Rattle.mgs_world.proofs.Sessions.{session_found, session_some}
 use Rattle.mgs_act.proofs.Outcomes.{outcome_none, outcome_plan, outcome_unbound}
 use Rattle.mgs_world.proofs.Worlds.{buffers_edited, buffers_placed, point_at, same_world, sessions_edited, sessions_placed}
@@ -100,6 +100,51 @@ inserted_so directory ks xs next id at x p put deed sound place within sel deed_
     ∙ point_arranged (p + 1) ls xs id h found
     ∙ ap (change_first (has_id id) (session_arranged (Adjust (At (p + 1)) Keep_mark Keep Keep_search) (acted_own (own_of h.echo)))) (sessions_edited x.name p p (put ∷ []) ks xs))
     ∙ planned_so (world_of directory ks xs next) id x.name at xs h deed (Inserts p put) got.1 deed_is
+
+-- ANY DEED
+
+set_back : (xs : List Session) (at : ℕ) (h : Session) → slice_get xs at ≡ Some h → slice_set xs at h ≡ xs
+set_back xs at h is = ap (slice_set xs at) (sym (get_or_from_slice_get xs at h h is)) ∙ set-get_or xs at h
+
+done_so : (directory : Directory) (ks : List Kept) (xs : List Session) (next : Option ℕ) (id at : ℕ) (x : Spot) (h : Session) (deed : Deed) → IsSound ks xs → at ≡ position_or_len (session_id id) xs → at < length xs → option_and_then spot_of (slice_get xs at) ≡ Some x → slice_get xs at ≡ Some h → world_of directory (kept_after x deed ks) (slice_set xs at (session_after deed h)) next ≡ apply (world_of directory ks xs next) id (deed_outcome (own_at at xs) x.name deed)
+done_so directory ks xs next id at x h (Fails message) sound place within sel is = told_so directory ks xs next id at h message x.name (Fails message) place within is refl
+done_so directory ks xs next id at x h (Inserts p put) sound place within sel is =
+    ap (λ (ys : List Session). world_of directory (kept_after x (Inserts p put) ks) ys next) (set_back xs at h is) ∙ inserted_so directory ks xs next id at x p put (Inserts p put) sound place within sel refl
+done_so directory ks xs next id at x h (Goes p) sound place within sel is =
+    ap (λ (ys : List Session). world_of directory (kept_after x (Goes p) ks) ys next) (set_back xs at h is) ∙ placed_so directory ks xs next id at x p (Goes p) sound place within sel refl
+
+kept_sound : (ks : List Kept) (xs : List Session) (x : Spot) (deed : Deed) → IsSound ks xs → IsSound (kept_after x deed ks) xs
+kept_sound ks xs x (Fails message) sound = sound
+kept_sound ks xs x (Inserts p put) sound = sound_placed x.name x.point (p + 1) _ xs (sound_edited x.name p p (put ∷ []) ks xs sound)
+kept_sound ks xs x (Goes p) sound = sound_placed x.name x.point p ks xs sound
+
+uses_after : (deed : Deed) (h : Session) (n : List ℕ) (i : ℕ) → session_uses n i (session_after deed h) ≡ session_uses n i h
+uses_after (Fails message) h n i = refl
+uses_after (Inserts p put) h n i = refl
+uses_after (Goes p) h n i = refl
+
+size_after : (deed : Deed) (h : Session) → size_in (session_after deed h) ≡ size_in h
+size_after (Fails message) h = refl
+size_after (Inserts p put) h = refl
+size_after (Goes p) h = refl
+
+pub after_sound : {T E : Type 0} (r : Result T E) (ks ls : List Kept) (xs : List Session) (at : ℕ) (x : Spot) (h y : Session) (deed : Deed) → slice_get xs at ≡ Some h → OnOk r (ls ≡ kept_after x deed ks) → OnOk r (y ≡ session_after deed h) → OnErr r (ls ≡ ks) → OnErr r (y ≡ h) → IsSound ks xs → IsSound ls (slice_set xs at y)
+after_sound (Ok o) ks ls xs at x h y deed is ok told err untold sound =
+    rw (ok, told) (sound_set (kept_after x deed ks) xs at h (session_after deed h) (sym (get_or_from_slice_get xs at h h is)) (uses_after deed h) (kept_sound ks xs x deed sound))
+after_sound (Err e) ks ls xs at x h y deed is ok told err untold sound =
+    rw (err, untold) (sound_set ks xs at h h (sym (get_or_from_slice_get xs at h h is)) (λ n i. refl) sound)
+
+pub after_sizes : {T E : Type 0} (r : Result T E) (xs : List Session) (at : ℕ) (h y : Session) (deed : Deed) → slice_get xs at ≡ Some h → OnOk r (y ≡ session_after deed h) → OnErr r (y ≡ h) → sizes_in (slice_set xs at y) ≡ sizes_in xs
+after_sizes (Ok o) xs at h y deed is told untold = rw told (sizes_set xs at h (session_after deed h) (sym (get_or_from_slice_get xs at h h is)) (size_after deed h))
+after_sizes (Err e) xs at h y deed is told untold = rw untold (sizes_set xs at h h (sym (get_or_from_slice_get xs at h h is)) refl)
+
+pub after_ok : {T E : Type 0} (r : Result T E) (ks ls : List Kept) (xs : List Session) (at : ℕ) (x : Spot) (h y : Session) (deed : Deed) → slice_get xs at ≡ Some h → OnOk r (ls ≡ kept_after x deed ks) → OnOk r (y ≡ session_after deed h) → IsSound ks xs → at < length xs → option_and_then spot_of (slice_get xs at) ≡ Some x → OnOk r ((directory : Directory) (id : ℕ) (next : Option ℕ) → at ≡ position_or_len (session_id id) xs → world_of directory ls (slice_set xs at y) next ≡ apply (world_of directory ks xs next) id (deed_outcome (own_at at xs) x.name deed))
+after_ok (Ok o) ks ls xs at x h y deed is ok told sound within sel = λ directory id next place. rw (ok, told) (done_so directory ks xs next id at x h deed sound place within sel is)
+after_ok (Err e) ks ls xs at x h y deed is ok told sound within sel = tt
+
+pub after_err : {T E : Type 0} (r : Result T E) (ks ls : List Kept) (xs : List Session) (at : ℕ) (h y : Session) → slice_get xs at ≡ Some h → OnErr r (ls ≡ ks) → OnErr r (y ≡ h) → OnErr r ((directory : Directory) (next : Option ℕ) → world_of directory ls (slice_set xs at y) next ≡ world_of directory ks xs next)
+after_err (Ok o) ks ls xs at h y is err untold = tt
+after_err (Err e) ks ls xs at h y is err untold = λ directory next. rw (err, untold) (ap (λ (ys : List Session). world_of directory ks ys next) (set_back xs at h is))
 
 -- AN ACT
 

@@ -3,14 +3,15 @@ use Rattle.std.specs.Prelude.{ℕ, ◌+◌, ◌<◌, ◌≤◌, ◌^◌, ◌==�
 use Rattle.mgs_model.specs.Access.{Directory, Decider, decider, decision_by}
 use Rattle.std.specs.Option.{option_map}
 use Rattle.mgs_model.specs.World.{World, Own, find_session, first_own, may}
-use Rattle.mgs_model.specs.Apply.{outcome_of}
+use Rattle.mgs_model.specs.Apply.{change_first, outcome_of}
+use Rattle.mgs_session.specs.Told.{told}
 use Rattle.mgs_model.specs.Outcome.{Outcome, Adjust, At, Keep, Keep_mark, Keep_search, No_effect, Edit, Goes_on}
 use Rattle.mgs_model.specs.Plans.{acted_own, fails, needs, permitted, plan, planned}
 use Rattle.mgs_model.specs.declared.right.Right.{Right}
 use Rattle.mgs_model.specs.declared.right.Right.TheVariants.{ReadData}
 use Rattle.mgs_model.specs.declared.session.Command.{Command}
 use Rattle.mgs_model.specs.declared.session.Command.TheVariants.{ForwardChar, BackwardChar}
-use Rattle.mgs_buffers.specs.Kept.{Kept, kept_at, mark_at}
+use Rattle.mgs_buffers.specs.Kept.{Kept, kept_at, kept_edited, kept_named, kept_placed, mark_at}
 use Rattle.mgs_windows.specs.declared.Spot.{Spot}
 use Rattle.mgs_session.specs.declared.Session.{Session}
 use Rattle.mgs_world.specs.Worlds.{own_of}
@@ -29,6 +30,17 @@ CanBeDone ks x (Fails message) = Unit {0}
 CanBeDone ks x (Inserts at put) =
     (at ≤ length (kept_at x.name ks).buffer.text) × (length (kept_at x.name ks).buffer.text < 1048576) × ((kept_at x.name ks).buffer.serial + 1 < 2 ^ 64)
 CanBeDone ks x (Goes place) = place ≤ length (kept_at x.name ks).buffer.text
+
+-- the buffers, and the acting session, once a deed is done
+abbrev pub kept_after : Spot → Deed → List Kept → List Kept
+kept_after x (Fails message) ks = ks
+kept_after x (Inserts at put) ks = change_first (kept_named x.name) (kept_placed x.point (at + 1)) (change_first (kept_named x.name) (kept_edited at at (put ∷ [])) ks)
+kept_after x (Goes place) ks = change_first (kept_named x.name) (kept_placed x.point place) ks
+
+abbrev pub session_after : Deed → Session → Session
+session_after (Fails message) h = told message h
+session_after (Inserts at put) h = h
+session_after (Goes place) h = h
 
 -- the outcome that a deed stands for, in the buffer of this name and by a session with these words
 abbrev pub deed_outcome : Own → List ℕ → Deed → Outcome

@@ -1,16 +1,17 @@
 // One act of a session: it is planned whole, and then done whole or not at all.
-ghost use Rattle.std.specs.Prelude.{◌≡◌, ◌<◌, ◌≤◌, ℕ, length, Option, Some, OnOk, OnErr, slice_get, true};
+ghost use Rattle.std.specs.Prelude.{◌≡◌, ◌+◌, ◌<◌, ◌≤◌, ℕ, [], ◌∷◌, length, Option, Some, OnOk, OnErr, slice_get, true};
 ghost use Rattle.std.specs.List.{position_or_len};
-ghost use Rattle.mgs_model.specs.Apply.{act, apply};
+ghost use Rattle.mgs_model.specs.Apply.{act, apply, change_first};
 ghost use Rattle.mgs_model.specs.Events.{may_be_refused};
 ghost use Rattle.mgs_model.specs.Outcome.{takes_memory};
 ghost use Rattle.mgs_model.specs.World.{Own};
 ghost use Rattle.mgs_model.specs.declared.session.Command.TheVariants.{SelfInsert};
 ghost use Rattle.mgs_act.specs.Deeds.{outcome_for};
 ghost use Rattle.std.specs.Option.{option_and_then};
-ghost use Rattle.mgs_buffers.specs.Kept.{IsKept, IsMark, kept_at};
+ghost use Rattle.mgs_buffers.specs.Kept.{IsKept, IsMark, kept_at, kept_edited, kept_named, kept_placed};
 ghost use Rattle.mgs_session.specs.Told.{spot_of};
-ghost use Rattle.mgs_act.specs.Deeds.{acts_in, CanBeDone, deed_outcome, plan_in, motion_by, own_at};
+ghost use Rattle.mgs_act.specs.declared.acts.Deed.TheVariants.{Inserts};
+ghost use Rattle.mgs_act.specs.Deeds.{acts_in, CanBeDone, deed_outcome, plan_in, motion_by, own_at, kept_after, session_after};
 ghost use Rattle.mgs_world.specs.Sound.{IsSound};
 ghost use Rattle.mgs_world.specs.Worlds.{sizes_in, session_id, world_of};
 
@@ -133,6 +134,46 @@ fn plan<T: Marked + Drop>(
     }
 }
 
+/// Puts a character in at `place`, and the point of `spot` behind it. `Short`: memory was refused, and nothing was done.
+fn insert<T: Marked + Drop>(
+    buffers: &mut Buffers<T>,
+    spot: &Spot,
+    place: usize,
+    put: char,
+) -> Result<(), Short>
+    requires point { IsMark spot.now.name spot.now.point buffers.old }
+    requires can { CanBeDone buffers.old spot.now (Inserts place put) }
+    ensures ok { OnOk result (buffers.new ≡ change_first (kept_named spot.now.name) (kept_placed spot.now.point (place + 1)) (change_first (kept_named spot.now.name) (kept_edited place place (put ∷ [])) buffers.old)) }
+    ensures err { OnErr result (buffers.new ≡ buffers.old) }
+{
+    let edited = buffers.edit(&spot.name, place, place, &[put])?;
+    buffers.place(&spot.name, spot.point, place + 1);
+    Ok(edited)
+}
+
+/// Does what was planned: in the buffers, and to the acting session. `Short`: memory was refused, and nothing was done.
+fn carry_out<T: Marked + Drop>(
+    buffers: &mut Buffers<T>,
+    session: &mut Session,
+    spot: &Spot,
+    deed: Deed,
+) -> Result<(), Short>
+    requires point { IsMark spot.now.name spot.now.point buffers.old }
+    requires can { CanBeDone buffers.old spot.now deed }
+    ensures ok { OnOk result (buffers.new ≡ kept_after spot.now deed buffers.old) }
+    ensures told { OnOk result (session.new ≡ session_after deed session.old) }
+    ensures err { OnErr result (buffers.new ≡ buffers.old) }
+    ensures untold { OnErr result (session.new ≡ session.old) }
+    ensures may { OnErr result ((own : Own) → takes_memory (deed_outcome own spot.now.name deed) ≡ true) }
+{
+    match deed {
+        Deed::Fails(message) => tell(session, message),
+        Deed::Inserts { at: place, put } => insert(buffers, spot, place, put)?,
+        Deed::Goes(place) => buffers.place(&spot.name, spot.point, place),
+    }
+    Ok(())
+}
+
 /// Does what was planned, for the session at `at`. `Short`: memory was refused, and nothing was done.
 fn perform<T: Marked + Drop>(
     buffers: &mut Buffers<T>,
@@ -151,15 +192,7 @@ fn perform<T: Marked + Drop>(
     ensures err { OnErr result ((directory : Directory) (next : Option ℕ) → world_of directory buffers.new sessions.new next ≡ world_of directory buffers.old sessions.old next) }
     ensures may { OnErr result ((own : Own) → takes_memory (deed_outcome own spot.now.name deed) ≡ true) }
 {
-    match deed {
-        Deed::Fails(message) => tell(&mut sessions[at], message),
-        Deed::Inserts { at: place, put } => {
-            buffers.edit(&spot.name, place, place, &[put])?;
-            buffers.place(&spot.name, spot.point, place + 1);
-        }
-        Deed::Goes(place) => buffers.place(&spot.name, spot.point, place),
-    }
-    Ok(())
+    carry_out(buffers, &mut sessions[at], spot, deed)
 }
 
 /// One act of the session at `at`. `Short`: memory was refused, the world is as it was, and the act is one that may be

@@ -1,65 +1,32 @@
-use Rattle.std.proofs.Common.{◌+◌, ◌∷◌, [], get_or, refl, ap, subst, arith}
+use Rattle.std.proofs.Common.{get_or}
 use Rattle.std.proofs.lemmas.Option.{slice_get-get_or}
-use Rattle.mgs_act.specs.Deeds.{CanBeDone}
-use Rattle.mgs_world.proofs.Soundness.{mark_is_kept, acting_mark, mark_edited_used, text_edited, sound_set, sound_edited, sound_placed, sizes_set}
-use Rattle.mgs_act.proofs.Performing.{told_so, placed_so, inserted_so}
+use Rattle.mgs_world.proofs.Soundness.{acting_mark}
+use Rattle.mgs_act.proofs.Performing.{after_err, after_ok, after_sizes, after_sound}
 use Rattle.mgs_act.proofs.acts.perform.Goals as goal
 
-pub edit-requires-clause-kept : goal.edit-requires-clause-kept
-edit-requires-clause-kept g c =
-    let x = c.args.spot.now in
-    mark_is_kept x.name x.point c.args.buffers.now (acting_mark c.args.buffers.now c.args.sessions.now c.args.at x c.requires.sound c.requires.spot)
+pub carry_out-requires-clause-point : goal.carry_out-requires-clause-point
+carry_out-requires-clause-point g c = acting_mark c.args.buffers.now c.args.sessions.now c.args.at c.args.spot.now c.requires.sound c.requires.spot
 
-pub place-requires-clause-mark : goal.place-requires-clause-mark
-place-requires-clause-mark g c =
-    let x = c.args.spot.now in
-    rw c.in_ok-edit-in-Inserts.ensures.ok (mark_edited_used x.name x.name c.in-Inserts.place c.in-Inserts.place (c.in-Inserts.put ∷ []) c.args.buffers.now x.point (acting_mark c.args.buffers.now c.args.sessions.now c.args.at x c.requires.sound c.requires.spot))
-
-pub place-requires-clause-kept : goal.place-requires-clause-kept
-place-requires-clause-kept g c =
-    let x = c.args.spot.now in
-    mark_is_kept x.name x.point c.edit.new.self (place-requires-clause-mark g c)
-
-pub place-requires-clause-within : goal.place-requires-clause-within
-place-requires-clause-within g c =
-    let x = c.args.spot.now in
-    let can = subst (CanBeDone c.args.buffers.now x) c.in-Inserts.is c.requires.can in
-    rw c.in_ok-edit-in-Inserts.ensures.ok (omega (arith, can.0, text_edited x.name c.in-Inserts.place c.in-Inserts.put c.args.buffers.now (mark_is_kept x.name x.point c.args.buffers.now (acting_mark c.args.buffers.now c.args.sessions.now c.args.at x c.requires.sound c.requires.spot)) can.0))
-
-pub place-requires-in-Goes-clause-mark : goal.place-requires-in-Goes-clause-mark
-place-requires-in-Goes-clause-mark g c = acting_mark c.args.buffers.now c.args.sessions.now c.args.at c.args.spot.now c.requires.sound c.requires.spot
-
-pub place-requires-in-Goes-clause-kept : goal.place-requires-in-Goes-clause-kept
-place-requires-in-Goes-clause-kept g c = mark_is_kept c.args.spot.now.name c.args.spot.now.point c.args.buffers.now (acting_mark c.args.buffers.now c.args.sessions.now c.args.at c.args.spot.now c.requires.sound c.requires.spot)
-
-pub returns-in-Fails-clause-sound : goal.returns-in-Fails-clause-sound
-returns-in-Fails-clause-sound g c =
-    rw c.tell.ensures (sound_set c.args.buffers.now c.args.sessions.now c.args.at (get_or c.args.sessions.now c.args.at c.index-sessions-at.result) _ (ap (get_or c.args.sessions.now c.args.at) c.index-sessions-at.is) (λ n i. refl) c.requires.sound)
-
-pub returns-in-Fails-clause-sizes : goal.returns-in-Fails-clause-sizes
-returns-in-Fails-clause-sizes g c =
-    rw c.tell.ensures (sizes_set c.args.sessions.now c.args.at (get_or c.args.sessions.now c.args.at c.index-sessions-at.result) _ (ap (get_or c.args.sessions.now c.args.at) c.index-sessions-at.is) refl)
-
-pub returns-in_ok-edit-in-Inserts-clause-sound : goal.returns-in_ok-edit-in-Inserts-clause-sound
-returns-in_ok-edit-in-Inserts-clause-sound g c =
-    let x = c.args.spot.now in
-    rw (c.place.ensures, c.in_ok-edit-in-Inserts.ensures.ok) (sound_placed x.name x.point (c.in-Inserts.place + 1) _ c.args.sessions.now (sound_edited x.name c.in-Inserts.place c.in-Inserts.place (c.in-Inserts.put ∷ []) c.args.buffers.now c.args.sessions.now c.requires.sound))
-
-pub returns-in-Goes-clause-sound : goal.returns-in-Goes-clause-sound
-returns-in-Goes-clause-sound g c =
-    let x = c.args.spot.now in
-    rw c.place-in-Goes.ensures (sound_placed x.name x.point c.in-Goes.place c.args.buffers.now c.args.sessions.now c.requires.sound)
-
-pub returns-in-Fails-clause-ok : goal.returns-in-Fails-clause-ok
-returns-in-Fails-clause-ok g c = λ directory id next place.
+pub returns-clause-sound : goal.returns-clause-sound
+returns-clause-sound g c =
     let xs = c.args.sessions.now in
     let r = c.index-sessions-at.result in
-    rw c.tell.ensures (told_so directory c.args.buffers.now xs next id c.args.at (get_or xs c.args.at r) c.in-Fails.message c.args.spot.now.name c.args.deed place c.requires.within (slice_get-get_or xs c.args.at r c.requires.within) c.in-Fails.is)
+    after_sound c.carry_out.result c.args.buffers.now c.carry_out.new.buffers xs c.args.at c.args.spot.now (get_or xs c.args.at r) c.carry_out.new.session c.args.deed (slice_get-get_or xs c.args.at r c.requires.within) c.carry_out.ensures.ok c.carry_out.ensures.told c.carry_out.ensures.err c.carry_out.ensures.untold c.requires.sound
 
-pub returns-in_ok-edit-in-Inserts-clause-ok : goal.returns-in_ok-edit-in-Inserts-clause-ok
-returns-in_ok-edit-in-Inserts-clause-ok g c = λ directory id next place.
-    rw (c.place.ensures, c.in_ok-edit-in-Inserts.ensures.ok) (inserted_so directory c.args.buffers.now c.args.sessions.now next id c.args.at c.args.spot.now c.in-Inserts.place c.in-Inserts.put c.args.deed c.requires.sound place c.requires.within c.requires.spot c.in-Inserts.is)
+pub returns-clause-sizes : goal.returns-clause-sizes
+returns-clause-sizes g c =
+    let xs = c.args.sessions.now in
+    let r = c.index-sessions-at.result in
+    after_sizes c.carry_out.result xs c.args.at (get_or xs c.args.at r) c.carry_out.new.session c.args.deed (slice_get-get_or xs c.args.at r c.requires.within) c.carry_out.ensures.told c.carry_out.ensures.untold
 
-pub returns-in-Goes-clause-ok : goal.returns-in-Goes-clause-ok
-returns-in-Goes-clause-ok g c = λ directory id next place.
-    rw c.place-in-Goes.ensures (placed_so directory c.args.buffers.now c.args.sessions.now next id c.args.at c.args.spot.now c.in-Goes.place c.args.deed c.requires.sound place c.requires.within c.requires.spot c.in-Goes.is)
+pub returns-clause-ok : goal.returns-clause-ok
+returns-clause-ok g c =
+    let xs = c.args.sessions.now in
+    let r = c.index-sessions-at.result in
+    after_ok c.carry_out.result c.args.buffers.now c.carry_out.new.buffers xs c.args.at c.args.spot.now (get_or xs c.args.at r) c.carry_out.new.session c.args.deed (slice_get-get_or xs c.args.at r c.requires.within) c.carry_out.ensures.ok c.carry_out.ensures.told c.requires.sound c.requires.within c.requires.spot
+
+pub returns-clause-err : goal.returns-clause-err
+returns-clause-err g c =
+    let xs = c.args.sessions.now in
+    let r = c.index-sessions-at.result in
+    after_err c.carry_out.result c.args.buffers.now c.carry_out.new.buffers xs c.args.at (get_or xs c.args.at r) c.carry_out.new.session (slice_get-get_or xs c.args.at r c.requires.within) c.carry_out.ensures.err c.carry_out.ensures.untold
