@@ -36,9 +36,9 @@ module _ {T : Type 0} (text : T → List ℕ) (marks : T → List (Option ℕ)) 
       ap (λ o. kept_or_none (option_map (kept_of text marks name) o)) found ∙ ap kept_or_none (sym (find-kept name es)) ∙ ap (kept_at name) view
 
   -- places by key and by name
-  pub place-kept : (name : List ℕ) (es : List (List ℕ × Shelf T)) → position_or_len (same_name name) (keys_of es) ≡ position_or_len (kept_named name) (kept_all text marks es)
-  place-kept name [] = refl
-  place-kept name (e ∷ es) = ap (λ n. cond (not (same_name name e.0)) (1 + n) 0) (place-kept name es)
+  pub place_kept : (name : List ℕ) (es : List (List ℕ × Shelf T)) → position_or_len (same_name name) (keys_of es) ≡ position_or_len (kept_named name) (kept_all text marks es)
+  place_kept name [] = refl
+  place_kept name (e ∷ es) = ap (λ n. cond (not (same_name name e.0)) (1 + n) 0) (place_kept name es)
 
   -- what stands at the place of a name
   pub kept-at_place : (name : List ℕ) (es : List (List ℕ × Shelf T)) (ks : List Kept) (i : ℕ) (n : List ℕ) (s : Shelf T) → kept_all text marks es ≡ ks → i ≡ position_or_len (kept_named name) ks → slice_get es i ≡ Some (n, s) → kept_of text marks name s ≡ kept_at name ks

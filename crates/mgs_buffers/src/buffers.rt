@@ -8,6 +8,7 @@ ghost use Rattle.mgs_model.specs.Access.{decider, decision_by};
 ghost use Rattle.mgs_model.specs.Apply.{change_first};
 ghost use Rattle.mgs_model.specs.World.{may};
 ghost use Rattle.mgs_buffers.specs.Adding.{add_fault, Answers};
+ghost use Rattle.mgs_buffers.specs.Shelves.{kept_of};
 ghost use Rattle.mgs_buffers.specs.Kept.{AreWithinLimit, kept_named, kept_at, is_kept, IsKept, IsMark, mark_at, kept_new, kept_edited, kept_placed, MarkAdded, MarkDropped};
 
 use crate::fault::AddFault;
@@ -61,9 +62,30 @@ fn put_last<T: Marked + Drop>(
     }
 }
 
-impl<T: Marked + Drop> Buffers<T> {
-    ghost use Rattle.mgs_buffers.specs.Shelves.{kept_of};
+// Whether a user is granted READ_ATTRIBUTES.
+fn is_shown<T: Marked + Drop>(shelf: &Shelf<T>, directory: &Directory, user: &Name) -> bool
+    ensures { (name : List ℕ) → result ≡ may directory.now user.now Right.ReadAttributes (kept_of T.text T.marks name shelf.now).buffer }
+{
+    shelf.grants(directory, user, Right::ReadAttributes)
+}
 
+// Puts characters in place of those from `a` up to `b` of one buffer.
+fn edit_shelf<T: Marked + Drop>(
+    shelf: &mut Shelf<T>,
+    a: usize,
+    b: usize,
+    put: &[char],
+) -> Result<(), Short>
+    requires order { a ≤ b }
+    requires within { b ≤ length (T.text shelf.old.text) }
+    requires serial { shelf.old.record.serial < 2 ^ 64 - 1 }
+    ensures ok { OnOk result ((name : List ℕ) → kept_of T.text T.marks name shelf.new ≡ kept_edited a b put.now (kept_of T.text T.marks name shelf.old)) }
+    ensures err { OnErr result ((name : List ℕ) → kept_of T.text T.marks name shelf.new ≡ kept_of T.text T.marks name shelf.old) }
+{
+    shelf.edit(a, b, put)
+}
+
+impl<T: Marked + Drop> Buffers<T> {
     /// No buffer. It takes no memory; what is added later takes it from `alloc`.
     pub fn new(alloc: Global) -> Self
         ensures { result ≡ [] }
@@ -132,6 +154,7 @@ impl<T: Marked + Drop> Buffers<T> {
     }
 
     // The place of a buffer.
+    #[tactic(auto, using(crate::proofs::KeptLemmas::place_kept))]
     fn place_of(&self, name: &Name) -> usize
         requires { IsKept name.now self.now }
         ensures value { result ≡ position_or_len (kept_named name.now) self.now }
@@ -169,7 +192,7 @@ impl<T: Marked + Drop> Buffers<T> {
         ensures kept { IfSome result (λ n. IsKept n self.now) }
     {
         for (name, shelf) in self.all.iter() {
-            if shelf.grants(directory, user, Right::ReadAttributes) {
+            if is_shown(shelf, directory, user) {
                 return Some(*name);
             }
         }
@@ -270,6 +293,6 @@ impl<T: Marked + Drop> Buffers<T> {
     {
         let at = self.place_of(name);
         let (_, shelf) = self.all.pair_mut(at);
-        shelf.edit(a, b, put)
+        edit_shelf(shelf, a, b, put)
     }
 }

@@ -9,10 +9,10 @@ use Rattle.mgs_model.specs.Text.{shift, shift_all, edited}
 use Rattle.mgs_marks.specs.Marks.{mark_in, or_zero, position_in}
 
 -- a slot as the slab tells it
-pub mark_in-get : (marks : List (Option ℕ)) (id : ℕ) → mark_in marks id ≡ get_or marks id None
-mark_in-get [] id = refl
-mark_in-get (m ∷ ms) zero = refl
-mark_in-get (m ∷ ms) (suc id) = mark_in-get ms id
+pub mark_in_get : (marks : List (Option ℕ)) (id : ℕ) → mark_in marks id ≡ get_or marks id None
+mark_in_get [] id = refl
+mark_in_get (m ∷ ms) zero = refl
+mark_in_get (m ∷ ms) (suc id) = mark_in_get ms id
 
 -- an edit leaves the first place
 pub shift-zero : (a b n : ℕ) → shift a b n 0 ≡ 0

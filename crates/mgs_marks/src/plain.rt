@@ -67,6 +67,7 @@ fn shift_slots(slots: &mut Slab<usize>, a: usize, b: usize, n: usize)
     }
 }
 
+#[tactic(auto, using(crate::proofs::Moves::mark_in_get))]
 fn add_slot(slots: &mut Slab<usize>, p: usize) -> Result<usize, Short>
     ensures free { IfOk result (λ id. mark_in slots.old.slots id ≡ None) }
     ensures added { IfOk result (λ id. mark_in slots.new.slots id ≡ Some p) }
