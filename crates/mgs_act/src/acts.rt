@@ -146,9 +146,9 @@ fn insert<T: Marked + Drop>(
     ensures ok { OnOk result (buffers.new ≡ change_first (kept_named spot.now.name) (kept_placed spot.now.point (place + 1)) (change_first (kept_named spot.now.name) (kept_edited place place (put ∷ [])) buffers.old)) }
     ensures err { OnErr result (buffers.new ≡ buffers.old) }
 {
-    let edited = buffers.edit(&spot.name, place, place, &[put])?;
+    buffers.edit(&spot.name, place, place, &[put])?;
     buffers.place(&spot.name, spot.point, place + 1);
-    Ok(edited)
+    Ok(())
 }
 
 /// Does what was planned: in the buffers, and to the acting session. `Short`: memory was refused, and nothing was done.

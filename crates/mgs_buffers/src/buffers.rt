@@ -69,22 +69,6 @@ fn is_shown<T: Marked + Drop>(shelf: &Shelf<T>, directory: &Directory, user: &Na
     shelf.grants(directory, user, Right::ReadAttributes)
 }
 
-// Puts characters in place of those from `a` up to `b` of one buffer.
-fn edit_shelf<T: Marked + Drop>(
-    shelf: &mut Shelf<T>,
-    a: usize,
-    b: usize,
-    put: &[char],
-) -> Result<(), Short>
-    requires order { a ≤ b }
-    requires within { b ≤ length (T.text shelf.old.text) }
-    requires serial { shelf.old.record.serial < 2 ^ 64 - 1 }
-    ensures ok { OnOk result ((name : List ℕ) → kept_of T.text T.marks name shelf.new ≡ kept_edited a b put.now (kept_of T.text T.marks name shelf.old)) }
-    ensures err { OnErr result ((name : List ℕ) → kept_of T.text T.marks name shelf.new ≡ kept_of T.text T.marks name shelf.old) }
-{
-    shelf.edit(a, b, put)
-}
-
 impl<T: Marked + Drop> Buffers<T> {
     /// No buffer. It takes no memory; what is added later takes it from `alloc`.
     pub fn new(alloc: Global) -> Self
@@ -293,6 +277,6 @@ impl<T: Marked + Drop> Buffers<T> {
     {
         let at = self.place_of(name);
         let (_, shelf) = self.all.pair_mut(at);
-        edit_shelf(shelf, a, b, put)
+        shelf.edit(a, b, put)
     }
 }

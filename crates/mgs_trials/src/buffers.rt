@@ -69,7 +69,7 @@ fn placed<T: Marked + Drop>(
     Ok(all.pos(name, id))
 }
 
-fn refuse<T: Marked + Drop>(alloc: Global, rt: &impl Abort) -> Result<(), Fail> {
+fn refuse_names<T: Marked + Drop>(alloc: Global, rt: &impl Abort) {
     let mut all = two::<T>(alloc, rt);
     assert_eq!(rt;
         all.add("", "ann", List::new(), &[], false),
@@ -83,6 +83,11 @@ fn refuse<T: Marked + Drop>(alloc: Global, rt: &impl Abort) -> Result<(), Fail> 
         all.add("first", "bob", List::new(), &[], false),
         Err(AddFault::Twice)
     );
+    assert_eq!(rt; all.len(), 2);
+}
+
+fn refuse_texts<T: Marked + Drop>(alloc: Global, rt: &impl Abort) -> Result<(), Fail> {
+    let mut all = two::<T>(alloc, rt);
     let long = vec![in alloc; 'x'; 1_048_577]?;
     assert_eq!(rt;
         all.add("first", "ann", List::new(), &long, false),
@@ -98,10 +103,27 @@ fn refuse<T: Marked + Drop>(alloc: Global, rt: &impl Abort) -> Result<(), Fail> 
         all.add("third", "ann", List::new(), longest, false),
         Ok(())
     );
-    for i in 3..256u32 {
+    assert_eq!(rt; all.len(), 3);
+    Ok(())
+}
+
+// Buffers until there are 256.
+fn fill<T: Marked + Drop>(
+    alloc: Global,
+    all: &mut Buffers<T>,
+    rt: &impl Abort,
+) -> Result<(), Fail> {
+    for i in all.len()..256 {
         let name = format!(in alloc; "b{i}")?;
         assert_eq!(rt; all.add(&name, "ann", List::new(), &[], false), Ok(()));
     }
+    Ok(())
+}
+
+fn refuse_more<T: Marked + Drop>(alloc: Global, rt: &impl Abort) -> Result<(), Fail> {
+    let mut all = two::<T>(alloc, rt);
+    fill(alloc, &mut all, rt)?;
+    let long = vec![in alloc; 'x'; 1_048_577]?;
     assert_eq!(rt;
         all.add("second", "ann", List::new(), &[], false),
         Err(AddFault::Twice)
@@ -171,8 +193,18 @@ fn judge<T: Marked + Drop>(alloc: Global, rt: &impl Abort) {
 }
 
 #[test]
-fn refuses_in_order(rt: HostRuntime) -> Result<(), Fail> {
-    refuse::<PlainMarked>(rt.alloc(), &rt)
+fn refuses_names_and_doubles(rt: HostRuntime) {
+    refuse_names::<PlainMarked>(rt.alloc(), &rt)
+}
+
+#[test]
+fn refuses_texts_past_the_limit(rt: HostRuntime) -> Result<(), Fail> {
+    refuse_texts::<PlainMarked>(rt.alloc(), &rt)
+}
+
+#[test]
+fn refuses_more_than_256(rt: HostRuntime) -> Result<(), Fail> {
+    refuse_more::<PlainMarked>(rt.alloc(), &rt)
 }
 
 #[test]

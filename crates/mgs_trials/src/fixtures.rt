@@ -1,8 +1,10 @@
-// What the tests share: lists by their entries, and sessions at terminals.
+// What the tests share: directories, lists by their entries, and sessions at terminals.
 use mgs_acl::{List, read_entry};
 use mgs_engine::Taker;
 use mgs_model::SessionId;
+use mgs_policy::Directory;
 use mgs_term::Term;
+use std::alloc::Global;
 use std::process::Abort;
 
 // A session's terminal, and whether it has refused a byte.
@@ -30,6 +32,15 @@ impl Taker for Seats {
             feed(seat, id, bytes);
         }
     }
+}
+
+// A directory of these users.
+pub(crate) fn directory_of(alloc: Global, users: &[&str], rt: &impl Abort) -> Directory {
+    let mut directory = Directory::new(alloc);
+    for user in users {
+        assert!(rt; directory.add_user(user).is_ok());
+    }
+    directory
 }
 
 // A list of these entries.

@@ -3,14 +3,13 @@ ghost use Rattle.std.specs.Prelude.{◌≡◌, [], IfSome};
 ghost use Rattle.mgs_world.specs.Worlds.{sizes};
 ghost use Rattle.mgs_engine.specs.Serving.{AllTaken};
 
-use super::fixtures::{Seat, Seats, list_of};
+use super::fixtures::{Seat, Seats, directory_of, list_of};
 use mgs_buffers::Buffers;
 use mgs_core::Core;
 use mgs_engine::Engine;
 use mgs_grid::Grid;
 use mgs_marks::PlainMarked;
 use mgs_model::{Keyed, SessionId};
-use mgs_policy::Directory;
 use mgs_term::{Cell, Term};
 use std::alloc::Global;
 use std::process::Abort;
@@ -68,14 +67,8 @@ fn all_show(alloc: Global, core: &Core<PlainMarked>, seats: &Seats) -> bool {
     true
 }
 
-// Three users and two buffers: bob may add to ann's notes and not read them, and cyn sees her own plan alone.
-fn world(alloc: Global, rt: &impl Abort) -> Core<PlainMarked>
-    ensures { sizes result ≡ [] }
-{
-    let mut directory = Directory::new(alloc);
-    for user in ["ann", "bob", "cyn"] {
-        assert!(rt; directory.add_user(user).is_ok());
-    }
+// Two buffers: bob may add to ann's notes and not read them, and cyn sees her own plan alone.
+fn texts(alloc: Global, rt: &impl Abort) -> Buffers<PlainMarked> {
     let notes = list_of(&["ALLOW OWNER@ rwat", "ALLOW bob at"], rt);
     let plan = list_of(&["ALLOW OWNER@ rwat"], rt);
     let mut buffers = Buffers::new(alloc);
@@ -85,7 +78,14 @@ fn world(alloc: Global, rt: &impl Abort) -> Core<PlainMarked>
             .is_ok()
     );
     assert!(rt; buffers.add("plan", "cyn", plan, &[], false).is_ok());
-    Core::new(alloc, directory, buffers)
+    buffers
+}
+
+fn world(alloc: Global, rt: &impl Abort) -> Core<PlainMarked>
+    ensures { sizes result ≡ [] }
+{
+    let directory = directory_of(alloc, &["ann", "bob", "cyn"], rt);
+    Core::new(alloc, directory, texts(alloc, rt))
 }
 
 // A session opens in both; the number is the same.

@@ -1,11 +1,10 @@
 // What terminals of 6 rows and 20 columns show, row by row.
-use super::fixtures::{Seat, Seats, list_of};
+use super::fixtures::{Seat, Seats, directory_of, list_of};
 use mgs_buffers::Buffers;
 use mgs_core::Core;
 use mgs_engine::Engine;
 use mgs_marks::PlainMarked;
 use mgs_model::{Keyed, SessionId};
-use mgs_policy::Directory;
 use mgs_term::{Cell, Term};
 use std::alloc::Global;
 use std::process::Abort;
@@ -19,10 +18,7 @@ const MODE_ROW: usize = 4;
 
 // The buffer `notes` of ann, with this list and text. The users are ann, bob and cat, and the staff is ann and bob.
 fn serve(alloc: Global, entries: &[&str], text: &[char], rt: &impl Abort) -> Engine<PlainMarked> {
-    let mut directory = Directory::new(alloc);
-    for user in ["ann", "bob", "cat"] {
-        assert!(rt; directory.add_user(user).is_ok());
-    }
+    let mut directory = directory_of(alloc, &["ann", "bob", "cat"], rt);
     assert!(rt; directory.add_group("staff", &["ann", "bob"]).is_ok());
     let mut buffers = Buffers::new(alloc);
     let list = list_of(entries, rt);

@@ -8,7 +8,7 @@ edit-requires-clause-kept g c = mark_is_kept c.args.spot.now.name c.args.spot.no
 pub place-requires-clause-mark : goal.place-requires-clause-mark
 place-requires-clause-mark g c =
     let x = c.args.spot.now in
-    rw c.in_ok-edited.ensures.ok (mark_edited_used x.name x.name c.args.place c.args.place (c.args.put ∷ []) c.args.buffers.now x.point c.requires.point)
+    rw c.in_ok-edit.ensures.ok (mark_edited_used x.name x.name c.args.place c.args.place (c.args.put ∷ []) c.args.buffers.now x.point c.requires.point)
 
 pub place-requires-clause-kept : goal.place-requires-clause-kept
 place-requires-clause-kept g c =
@@ -18,4 +18,4 @@ place-requires-clause-kept g c =
 pub place-requires-clause-within : goal.place-requires-clause-within
 place-requires-clause-within g c =
     let x = c.args.spot.now in
-    rw c.in_ok-edited.ensures.ok (omega (arith, c.requires.can.0, text_edited x.name c.args.place c.args.put c.args.buffers.now (mark_is_kept x.name x.point c.args.buffers.now c.requires.point) c.requires.can.0))
+    rw c.in_ok-edit.ensures.ok (omega (arith, c.requires.can.0, text_edited x.name c.args.place c.args.put c.args.buffers.now (mark_is_kept x.name x.point c.args.buffers.now c.requires.point) c.requires.can.0))
