@@ -22,8 +22,8 @@ pub struct Screen {
 impl Screen {
     ghost use Rattle.mgs_output.specs.Screens.{IsScreen};
 
-    /// A blank screen of so many rows (6 to 64) and columns (20 to 160), which no session has yet: its id is 0, and no
-    /// bytes wait. `Short`: memory was refused.
+    /// A blank screen of so many rows (6 to 64) and columns (20 to 160), which no session has yet: no bytes wait, and the
+    /// id is to be set. `Short`: memory was refused.
     pub fn blank(alloc: Global, rows: usize, cols: usize) -> Result<Screen, Short>
         requires { IsSize rows cols }
         ensures screen { IfOk result IsScreen }
