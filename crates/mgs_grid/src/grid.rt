@@ -3,9 +3,9 @@ ghost use Rattle.std.specs.Prelude.{◌≡◌, ℕ, ◌+◌, ◌<◌, ◌≤◌,
 ghost use Rattle.mgs_model.specs.Rows.{text_rows, shift_at, blank_rows, unread_rows, mode_row, buffer_mode, none_mode, echo_row, rows_put};
 ghost use Rattle.mgs_model.specs.Picture.{Picture, IsPicture, IsSize, blank_picture};
 
-use crate::line::Line;
 use crate::window::{put_blank, put_echo, put_mode, put_none_mode, put_text, put_unread};
 use mgs_model::{Decision, Message, Name, Short};
+use mgs_row::Line;
 use mgs_text::Text;
 use std::alloc::Global;
 use std::marker::Model;

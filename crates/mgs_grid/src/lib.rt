@@ -5,15 +5,10 @@
 #![tactic(auto)]
 
 mod grid;
-mod line;
-mod pen;
-mod row;
 mod window;
-mod words;
 
 pub use grid::Grid;
-pub use line::Line;
-pub use row::shift_for;
+pub use mgs_row::{Line, shift_for};
 
 #[cfg(test)]
 mod tests;
