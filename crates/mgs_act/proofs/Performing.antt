@@ -17,7 +17,7 @@ use Rattle.mgs_model.specs.declared.message.Message.{Message}
 use Rattle.mgs_model.specs.declared.message.Message.TheVariants.{KeyNotBound, NoBuffer}
 use Rattle.mgs_model.proofs.Firsts.{find-map, position_or_len-map, written_first}
 use Rattle.mgs_marks.specs.Marks.{mark_in}
-use Rattle.mgs_buffers.specs.Kept.{Kept, kept_named, kept_at, kept_edited, kept_placed}
+use Rattle.mgs_shelf.specs.Kept.{Kept, kept_named, kept_at, kept_edited, kept_placed}
 use Rattle.mgs_windows.specs.declared.Spot.{Spot}
 use Rattle.mgs_session.specs.Told.{spot_of, told}
 use Rattle.mgs_session.specs.declared.Session.{Session}

@@ -8,7 +8,7 @@ ghost use Rattle.mgs_model.specs.World.{Own};
 ghost use Rattle.mgs_model.specs.declared.session.Command.TheVariants.{SelfInsert};
 ghost use Rattle.mgs_act.specs.Deeds.{outcome_for};
 ghost use Rattle.std.specs.Option.{option_and_then};
-ghost use Rattle.mgs_buffers.specs.Kept.{IsKept, IsMark, kept_at, kept_edited, kept_named, kept_placed};
+ghost use Rattle.mgs_shelf.specs.Kept.{IsKept, IsMark, kept_at, kept_edited, kept_named, kept_placed};
 ghost use Rattle.mgs_session.specs.Told.{spot_of};
 ghost use Rattle.mgs_act.specs.declared.acts.Deed.TheVariants.{Inserts};
 ghost use Rattle.mgs_act.specs.Deeds.{acts_in, CanBeDone, deed_outcome, plan_in, motion_by, own_at, kept_after, session_after};

@@ -3,7 +3,6 @@
 
 mod buffers;
 mod fault;
-mod shelf;
 
 pub use buffers::Buffers;
 pub use fault::AddFault;

@@ -10,7 +10,7 @@ use Rattle.std.proofs.lemmas.Bool.Decides.{nat_tests}
 use Rattle.mgs_model.specs.Access.{Directory}
 use Rattle.mgs_model.specs.Apply.{remove_first}
 use Rattle.mgs_model.proofs.Firsts.{find-map, find_none, find_at_place, place_most, position_or_len-map}
-use Rattle.mgs_buffers.specs.Kept.{Kept}
+use Rattle.mgs_shelf.specs.Kept.{Kept}
 use Rattle.mgs_session.specs.declared.Session.{Session}
 use Rattle.mgs_session.specs.Told.{session_opened}
 use Rattle.mgs_windows.specs.declared.Spot.{Spot}

@@ -16,7 +16,7 @@ use Rattle.mgs_model.specs.declared.session.Command.{Command}
 use Rattle.mgs_model.specs.declared.errors.Keyed.{Keyed}
 use Rattle.mgs_model.specs.declared.errors.Keyed.TheVariants.{Done, Short, NoSession}
 use Rattle.mgs_model.proofs.Firsts.{find-map, position_or_len-map, written_first}
-use Rattle.mgs_buffers.specs.Kept.{Kept}
+use Rattle.mgs_shelf.specs.Kept.{Kept}
 use Rattle.mgs_session.specs.declared.Session.{Session}
 use Rattle.mgs_world.specs.declared.size.Size.{Size}
 use Rattle.mgs_session.specs.Told.{silent, told}

@@ -1,6 +1,6 @@
 -- What a server keeps.
 use Rattle.std.specs.Prelude.{ℕ, ◌<◌, List, [], ◌∷◌, Option, All}
-use Rattle.mgs_buffers.specs.Kept.{Kept}
+use Rattle.mgs_shelf.specs.Kept.{Kept}
 use Rattle.mgs_session.specs.declared.Session.{Session}
 use Rattle.mgs_world.specs.declared.size.Size.{Size}
 use Rattle.mgs_world.specs.Worlds.{id_after, sizes_in, IsOfSize, IsUnique}

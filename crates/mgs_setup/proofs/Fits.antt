@@ -10,7 +10,7 @@ use Rattle.mgs_model.specs.Apply.{change_first}
 use Rattle.mgs_model.specs.Names.{same_name, is_name, is_user_name}
 use Rattle.mgs_model.specs.World.{World, Buffer, is_named, find_buffer}
 use Rattle.mgs_model.specs.declared.entry.Entry.{Entry}
-use Rattle.mgs_buffers.specs.Kept.{kept_named, is_kept}
+use Rattle.mgs_shelf.specs.Kept.{kept_named, is_kept}
 use Rattle.mgs_buffers.specs.Adding.{add_fault, Answers}
 use Rattle.mgs_buffers.specs.declared.fault.AddFault.{AddFault}
 use Rattle.mgs_buffers.specs.declared.fault.AddFault.TheVariants as adds

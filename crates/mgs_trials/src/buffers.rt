@@ -1,6 +1,6 @@
 // Buffers by their names, over any text.
 ghost use Rattle.std.specs.Prelude.{◌+◌, ◌<◌, ◌≤◌, ◌^◌, ℕ, length};
-ghost use Rattle.mgs_buffers.specs.Kept.{IsKept, kept_at};
+ghost use Rattle.mgs_shelf.specs.Kept.{IsKept, kept_at};
 
 use super::fixtures::list_of;
 use mgs_acl::List;

@@ -10,7 +10,7 @@ use Rattle.mgs_model.specs.Apply.{change_first}
 use Rattle.mgs_model.specs.Events.{settled, session_settled, window_settled, top_settled}
 use Rattle.mgs_model.specs.declared.right.Right.TheVariants.{ReadData}
 use Rattle.mgs_marks.specs.Marks.{mark_in}
-use Rattle.mgs_buffers.specs.Kept.{Kept, kept_named, kept_at, IsMark, kept_placed, mark_at}
+use Rattle.mgs_shelf.specs.Kept.{Kept, kept_named, kept_at, IsMark, kept_placed, mark_at}
 use Rattle.mgs_windows.specs.declared.Spot.{Spot}
 use Rattle.mgs_windows.specs.declared.Window.{Window}
 use Rattle.mgs_session.specs.declared.Session.{Session}

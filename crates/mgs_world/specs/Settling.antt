@@ -5,7 +5,7 @@ use Rattle.mgs_model.specs.World.{may}
 use Rattle.mgs_model.specs.Lines.{settled_top}
 use Rattle.mgs_model.specs.Apply.{change_first}
 use Rattle.mgs_model.specs.declared.right.Right.TheVariants.{ReadData}
-use Rattle.mgs_buffers.specs.Kept.{Kept, kept_at, kept_named, kept_placed, mark_at}
+use Rattle.mgs_shelf.specs.Kept.{Kept, kept_at, kept_named, kept_placed, mark_at}
 use Rattle.mgs_windows.specs.declared.Spot.{Spot}
 use Rattle.mgs_windows.specs.declared.Window.{Window}
 use Rattle.mgs_session.specs.declared.Session.{Session}

@@ -1,5 +1,5 @@
 use Rattle.std.proofs.Common.{arith, List}
-use Rattle.mgs_buffers.specs.Kept.{Kept}
+use Rattle.mgs_shelf.specs.Kept.{Kept}
 use Rattle.mgs_setup.proofs.Fits.{no_fault, only_short}
 use Rattle.mgs_setup.proofs.setup.add_all.Goals as goal
 

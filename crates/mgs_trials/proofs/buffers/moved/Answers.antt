@@ -1,6 +1,6 @@
 use Rattle.std.proofs.Common.{◌+◌, ◌≤◌, length, refl, sym, ap, subst, arith}
-use Rattle.mgs_buffers.specs.Kept.{Kept, IsKept, kept_edited}
-use Rattle.mgs_buffers.proofs.Changes.{kept_at-added, IsKept-added, IsMark-added, IsMark-edited, IsKept-changed}
+use Rattle.mgs_shelf.specs.Kept.{Kept, IsKept, kept_edited}
+use Rattle.mgs_shelf.proofs.Changes.{kept_at-added, IsKept-added, IsMark-added, IsMark-edited, IsKept-changed}
 use Rattle.mgs_trials.proofs.buffers.moved.Goals as goal
 
 pub edit-requires-clause-kept : goal.edit-requires-clause-kept

@@ -1,5 +1,5 @@
 use Rattle.std.proofs.Common.{◌∙◌, List, ap, sym}
-use Rattle.mgs_buffers.specs.Kept.{Kept}
+use Rattle.mgs_shelf.specs.Kept.{Kept}
 use Rattle.mgs_world.specs.Worlds.{world_of}
 use Rattle.mgs_world.specs.Settling.{after_session}
 use Rattle.mgs_world.proofs.Soundness.{session_sound}

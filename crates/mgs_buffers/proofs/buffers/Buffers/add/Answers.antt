@@ -1,8 +1,8 @@
 use Rattle.std.proofs.Common.{◌≡◌, sym, ap, ◌∙◌, refl, subst, length, arith}
 use Rattle.mgs_model.specs.Names.{is_user_name}
 use Rattle.mgs_buffers.proofs.KeptLemmas.{is_kept-lookup, none_of, kept-added, owner_of, OnOk-at, OnOk-err}
-use Rattle.mgs_buffers.specs.Kept.{Kept, kept_new, AreWithinLimit}
-use Rattle.mgs_buffers.specs.Shelves.{kept_of, kept_all}
+use Rattle.mgs_shelf.specs.Kept.{Kept, kept_new, AreWithinLimit}
+use Rattle.mgs_shelf.specs.Shelves.{kept_of, kept_all}
 use Rattle.mgs_buffers.proofs.Limits.{limit-added, ended}
 use Rattle.mgs_buffers.proofs.buffers.Buffers.add.Goals as goal
 use Rattle.mgs_buffers.proofs.buffers.Buffers.add.Goals.{in-Ok-put_last, in-Err}

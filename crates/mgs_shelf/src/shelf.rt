@@ -3,8 +3,8 @@ ghost use Rattle.std.specs.Prelude.{◌≡◌, ◌≢◌, ℕ, ◌-◌, ◌<◌,
 ghost use Rattle.mgs_model.specs.Access.{decider, decision_by};
 ghost use Rattle.mgs_model.specs.World.{may};
 ghost use Rattle.mgs_marks.specs.Marks.{mark_in};
-ghost use Rattle.mgs_buffers.specs.Kept.{kept_new, kept_edited, kept_placed, kept_marked};
-ghost use Rattle.mgs_buffers.specs.Shelves.{kept_of};
+ghost use Rattle.mgs_shelf.specs.Kept.{kept_new, kept_edited, kept_placed, kept_marked};
+ghost use Rattle.mgs_shelf.specs.Shelves.{kept_of};
 
 use mgs_marks::Marked;
 use mgs_model::{Decision, MarkId, Name, Right, Short};
@@ -13,18 +13,26 @@ use mgs_text::Text;
 use mgs_undo::{Edit, Record};
 use std::alloc::Global;
 
+/// What is kept of one buffer beside its name. The buffers keep it under that name.
 #[derive(Drop)]
-pub(crate) struct Shelf<T: Marked + Drop> {
-    pub(crate) owner: Name,
-    pub(crate) list: mgs_acl::List,
-    pub(crate) text: T,
-    pub(crate) record: Record,
-    pub(crate) modified: bool,
-    pub(crate) has_file: bool,
+pub struct Shelf<T: Marked + Drop> {
+    /// The user who owns the buffer.
+    pub owner: Name,
+    /// Who has which right on the buffer.
+    pub list: mgs_acl::List,
+    /// The text, with its marks.
+    pub text: T,
+    /// The latest edits of the text.
+    pub record: Record,
+    /// Whether the buffer is held for modified.
+    pub modified: bool,
+    /// Whether the buffer has a file.
+    pub has_file: bool,
 }
 
-/// A shelf with a text that was not edited.
-pub(crate) fn new_shelf<T: Marked + Drop>(
+/// A shelf with a text that was not edited: its marks and its record of edits are empty, its serial is 0. It takes its memory from
+/// `alloc`. `Short`: it was refused.
+pub fn new_shelf<T: Marked + Drop>(
     alloc: Global,
     owner: Name,
     list: mgs_acl::List,
@@ -46,19 +54,22 @@ pub(crate) fn new_shelf<T: Marked + Drop>(
 }
 
 impl<T: Marked + Drop> Shelf<T> {
-    pub(crate) fn decide(&self, directory: &Directory, user: &Name, right: Right) -> Decision
+    /// What the access list decides on one right of a user (RFC 8881, section 6.2.1).
+    pub fn decide(&self, directory: &Directory, user: &Name, right: Right) -> Decision
         ensures { result ≡ decision_by (decider directory.now self.now.owner user.now self.now.list) (right ∷ []) }
     {
         decide_right(&self.list, &self.owner, user, directory, right)
     }
 
-    pub(crate) fn grants(&self, directory: &Directory, user: &Name, right: Right) -> bool
+    /// Whether a user is granted a right on the buffer.
+    pub fn grants(&self, directory: &Directory, user: &Name, right: Right) -> bool
         ensures { (name : List ℕ) → result ≡ may directory.now user.now right (kept_of T.text T.marks name self.now).buffer }
     {
         is_granted(&self.list, &self.owner, user, directory, right)
     }
 
-    pub(crate) fn place(&mut self, id: MarkId, p: usize)
+    /// Puts a mark of the text at a position.
+    pub fn place(&mut self, id: MarkId, p: usize)
         requires used { IsSome (mark_in (T.marks self.old.text) id) }
         requires within { p ≤ length (T.text self.old.text) }
         ensures { (name : List ℕ) → kept_of T.text T.marks name self.new ≡ kept_placed id p (kept_of T.text T.marks name self.old) }
@@ -66,7 +77,8 @@ impl<T: Marked + Drop> Shelf<T> {
         self.text.place(id, p);
     }
 
-    pub(crate) fn add_mark(&mut self, p: usize) -> Result<MarkId, Short>
+    /// A new mark in the text, at a position. `Short`: memory was refused, and all is as it was.
+    pub fn add_mark(&mut self, p: usize) -> Result<MarkId, Short>
         requires { p ≤ length (T.text self.old.text) }
         ensures shape { (name : List ℕ) → kept_of T.text T.marks name self.new ≡ kept_marked (T.marks self.new.text) (kept_of T.text T.marks name self.old) }
         ensures free { IfOk result (λ id. mark_in (T.marks self.old.text) id ≡ None) }
@@ -77,7 +89,8 @@ impl<T: Marked + Drop> Shelf<T> {
         self.text.add_mark(p)
     }
 
-    pub(crate) fn drop_mark(&mut self, id: MarkId)
+    /// Gives a mark of the text up.
+    pub fn drop_mark(&mut self, id: MarkId)
         requires { IsSome (mark_in (T.marks self.old.text) id) }
         ensures shape { (name : List ℕ) → kept_of T.text T.marks name self.new ≡ kept_marked (T.marks self.new.text) (kept_of T.text T.marks name self.old) }
         ensures gone { mark_in (T.marks self.new.text) id ≡ None }
@@ -86,7 +99,9 @@ impl<T: Marked + Drop> Shelf<T> {
         self.text.drop_mark(id);
     }
 
-    pub(crate) fn edit(&mut self, a: usize, b: usize, put: &[char]) -> Result<(), Short>
+    /// Puts characters in place of those from `a` up to `b` of the text, moves its marks, keeps the edit under the next serial, and
+    /// holds the buffer for modified. `Short`: memory was refused, and all is as it was.
+    pub fn edit(&mut self, a: usize, b: usize, put: &[char]) -> Result<(), Short>
         requires order { a ≤ b }
         requires within { b ≤ length (T.text self.old.text) }
         requires serial { self.old.record.serial < 2 ^ 64 - 1 }

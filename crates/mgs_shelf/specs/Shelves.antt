@@ -1,7 +1,7 @@
 -- What a shelf holds, as the contracts see it.
 use Rattle.std.specs.Prelude.{ℕ, List, Option, map}
-use Rattle.mgs_buffers.specs.Kept.{Kept}
-use Rattle.mgs_buffers.specs.declared.shelf.Shelf.{Shelf}
+use Rattle.mgs_shelf.specs.Kept.{Kept}
+use Rattle.mgs_shelf.specs.declared.shelf.Shelf.{Shelf}
 
 module _ {T : Type 0} (text : T → List ℕ) (marks : T → List (Option ℕ)) where
   abbrev pub kept_of : List ℕ → Shelf T → Kept

@@ -8,7 +8,7 @@ use Rattle.mgs_model.specs.Apply.{change_first}
 use Rattle.mgs_model.proofs.Firsts.{find-change_first}
 use Rattle.mgs_marks.specs.Marks.{mark_in}
 use Rattle.mgs_marks.proofs.Moves.{mark_in-shift_all, mark_in-set}
-use Rattle.mgs_buffers.specs.Kept.{Kept, kept_named, kept_at, kept_or_none, kept_marked, kept_edited, kept_placed, IsKept, IsMark, MarkAdded}
+use Rattle.mgs_shelf.specs.Kept.{Kept, kept_named, kept_at, kept_or_none, kept_marked, kept_edited, kept_placed, IsKept, IsMark, MarkAdded}
 
 module _ (name : List ℕ) (f : Kept → Kept) (names : (k : Kept) → (f k).buffer.name ≡ k.buffer.name) where
   same_test : (other : List ℕ) (k : Kept) → kept_named other (f k) ≡ kept_named other k
