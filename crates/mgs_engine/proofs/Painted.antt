@@ -10,7 +10,7 @@ use Rattle.mgs_model.specs.Apply.{remove_first}
 use Rattle.mgs_model.specs.Picture.{Picture}
 use Rattle.mgs_model.specs.World.{World, Session, find_session}
 use Rattle.mgs_model.specs.Draw.{screen}
-use Rattle.mgs_term.specs.Drawing.{Draws, IsFaithful}
+use Rattle.mgs_sequences.specs.Drawing.{Draws, IsFaithful}
 use Rattle.mgs_paint.specs.Painting.{Paints, cells_of, shown}
 use Rattle.mgs_model.proofs.Firsts.{found_passes}
 use Rattle.mgs_world.specs.Worlds.{find_size, sizes, is_size_of, IsOther, IsUnique}

@@ -11,8 +11,8 @@ use Rattle.mgs_model.specs.Rows.{Row}
 use Rattle.mgs_model.specs.Picture.{Picture, IsPicture, IsRow}
 use Rattle.mgs_model.specs.World.{World, Session, has_id, find_session}
 use Rattle.mgs_model.specs.Draw.{screen, draw}
-use Rattle.mgs_term.specs.Screen as term
-use Rattle.mgs_term.specs.Drawing.{Draws, IsFaithful}
+use Rattle.mgs_sequences.specs.Screen as term
+use Rattle.mgs_sequences.specs.Drawing.{Draws, IsFaithful}
 use Rattle.mgs_paint.specs.Painting.{Paints, cell_of, row_cells, cells_of, shown}
 use Rattle.mgs_world.specs.declared.size.Size.{Size}
 use Rattle.mgs_world.specs.Worlds.{find_size, sizes, is_size_of, IsOfSize, IsUnique}

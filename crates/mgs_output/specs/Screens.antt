@@ -7,7 +7,7 @@ use Rattle.mgs_model.specs.Draw.{screen}
 use Rattle.mgs_model.specs.Picture.{Picture}
 use Rattle.mgs_model.specs.declared.limits.TheConstants.{QUEUE_LIMIT}
 use Rattle.mgs_paint.specs.Painting.{Paints, cells_of, shown}
-use Rattle.mgs_term.specs.Drawing.{Draws, IsFaithful}
+use Rattle.mgs_sequences.specs.Drawing.{Draws, IsFaithful}
 use Rattle.mgs_output.specs.declared.screen.Screen.{Screen}
 use Rattle.mgs_output.specs.Queues.{Queue}
 

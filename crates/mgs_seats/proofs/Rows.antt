@@ -2,7 +2,7 @@
 use Rattle.std.proofs.Common.{◌≡◌, ℕ, suc, ◌+◌, ◌-◌, ◌<◌, List, ◌++◌, length, take, drop, min, sym, ap, ◌∙◌, append_assoc, arith}
 use Rattle.std.proofs.lemmas.List.{take_min}
 use Rattle.std.proofs.lemmas.Grind.{common_steps}
-use Rattle.mgs_term.specs.declared.cell.Cell.{Cell}
+use Rattle.mgs_sequences.specs.declared.cell.Cell.{Cell}
 use Rattle.mgs_seats.specs.Prints.{row_text, rows_text}
 
 -- dropping no more than there is

@@ -2,8 +2,8 @@
 use Rattle.std.specs.Prelude.{ℕ, zero, suc, ◌+◌, List, [], ◌∷◌, ◌++◌, map, take, drop, codes, decimal, if◌then◌else◌}
 use Rattle.mgs_model.specs.declared.errors.OpenFault.{OpenFault}
 use Rattle.mgs_model.specs.declared.errors.OpenFault.TheVariants.{NoUser, Size, Full, Short}
-use Rattle.mgs_term.specs.declared.cell.Cell.{Cell}
-use Rattle.mgs_term.specs.Screen.{Screen}
+use Rattle.mgs_sequences.specs.declared.cell.Cell.{Cell}
+use Rattle.mgs_sequences.specs.Screen.{Screen}
 use Rattle.mgs_seats.specs.declared.seat.Cause.{Cause}
 use Rattle.mgs_seats.specs.declared.seat.Cause.TheVariants.{Quit, Closed}
 

@@ -3,9 +3,9 @@ use Rattle.std.specs.Prelude.{◌≡◌, ℕ, List, find, nat_eq, Bool, true, fa
 use Rattle.std.specs.List.{AllZip}
 use Rattle.std.specs.Option.{option_map}
 use Rattle.mgs_model.specs.Names.{same_name}
-use Rattle.mgs_term.specs.Screen.{Screen}
-use Rattle.mgs_term.specs.Terminal.{Terminal, resting}
-use Rattle.mgs_term.specs.Drawing.{Draws, Anything}
+use Rattle.mgs_sequences.specs.Screen.{Screen}
+use Rattle.mgs_sequences.specs.Terminal.{Terminal, resting}
+use Rattle.mgs_sequences.specs.Drawing.{Draws, Anything}
 use Rattle.mgs_seats.specs.declared.seat.Labelled.{Labelled}
 use Rattle.mgs_seats.specs.declared.seat.Seat.{Seat}
 use Rattle.mgs_seats.specs.declared.seat.Seat.TheVariants.{Never, Open, Ended}

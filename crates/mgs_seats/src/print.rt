@@ -1,6 +1,6 @@
 // What the lines of a script print.
 ghost use Rattle.std.specs.Prelude.{◌≡◌, ◌++◌, ◌∷◌, [], All, OnOk, codes, decimal};
-ghost use Rattle.mgs_term.specs.Screen.{IsPrintableCell};
+ghost use Rattle.mgs_sequences.specs.Screen.{IsPrintableCell};
 ghost use Rattle.mgs_seats.specs.Prints.{edge_of, characters, row_text, rows_text, screen_text, refusal_text, ended_text, fault_text, cause_text};
 
 use crate::seat::Cause;

@@ -15,10 +15,10 @@ use Rattle.mgs_model.specs.World.{World, Session, find_session}
 use Rattle.mgs_model.specs.Draw.{screen, draw}
 use Rattle.mgs_world.specs.declared.size.Size.{Size}
 use Rattle.mgs_world.specs.Worlds.{sizes, size_of, is_size_of, find_size}
-use Rattle.mgs_term.specs.Screen.{IsScreen, blank, blank_screen}
-use Rattle.mgs_term.specs.Terminal.{Terminal, resting}
-use Rattle.mgs_term.specs.Drawing.{Draws, Anything, IsFaithful}
-use Rattle.mgs_term.proofs.Drawing.{Draws-weaken, Draws-at}
+use Rattle.mgs_sequences.specs.Screen.{IsScreen, blank, blank_screen}
+use Rattle.mgs_sequences.specs.Terminal.{Terminal, resting}
+use Rattle.mgs_sequences.specs.Drawing.{Draws, Anything, IsFaithful}
+use Rattle.mgs_sequences.proofs.Drawing.{Draws-weaken, Draws-at}
 use Rattle.mgs_paint.specs.Painting.{Paints, shown, cells_of}
 use Rattle.mgs_engine.specs.Serving.{Serving, AllTaken, pending_of, queue_ids}
 use Rattle.mgs_output.specs.Queues.{Queue, IsTaken, bytes_of, find_queue}

@@ -9,9 +9,9 @@ use Rattle.mgs_model.proofs.Firsts.{find-map}
 use Rattle.mgs_model.specs.World.{World, Session, has_id, find_session}
 use Rattle.mgs_model.specs.Draw.{screen}
 use Rattle.mgs_world.specs.Worlds.{sizes, size_of, is_size_of, find_size}
-use Rattle.mgs_term.specs.Screen.{Screen}
-use Rattle.mgs_term.specs.Terminal.{Terminal, resting}
-use Rattle.mgs_term.specs.Drawing.{Draws, Anything}
+use Rattle.mgs_sequences.specs.Screen.{Screen}
+use Rattle.mgs_sequences.specs.Terminal.{Terminal, resting}
+use Rattle.mgs_sequences.specs.Drawing.{Draws, Anything}
 use Rattle.mgs_paint.specs.Painting.{shown}
 use Rattle.mgs_engine.specs.Serving.{Serving, AllTaken, queue_ids}
 use Rattle.mgs_output.specs.Queues.{Queue, Handed, queue_id, bytes_of, find_queue, is_queue_of, emptied}

@@ -10,7 +10,7 @@ use Rattle.mgs_model.specs.declared.errors.Keyed.TheVariants as keyed
 use Rattle.mgs_model.specs.declared.errors.OpenFault.{OpenFault}
 use Rattle.mgs_core.specs.Steps.{OpenedBy}
 use Rattle.mgs_engine.specs.Serving.{Serving}
-use Rattle.mgs_term.specs.Terminal.{Terminal}
+use Rattle.mgs_sequences.specs.Terminal.{Terminal}
 use Rattle.mgs_paint.specs.Painting.{shown}
 use Rattle.mgs_script.specs.declared.line.LineFault.{LineFault}
 use Rattle.mgs_script.specs.declared.line.LineFault.TheVariants.{Bad, Short}

@@ -5,9 +5,9 @@ use Rattle.mgs_model.specs.World.{World, Session, find_session}
 use Rattle.mgs_model.specs.Draw.{screen}
 use Rattle.mgs_world.specs.declared.size.Size.{Size}
 use Rattle.mgs_world.specs.Worlds.{sizes}
-use Rattle.mgs_term.specs.Screen.{Screen}
-use Rattle.mgs_term.specs.Terminal.{resting}
-use Rattle.mgs_term.specs.Drawing.{Draws, Anything}
+use Rattle.mgs_sequences.specs.Screen.{Screen}
+use Rattle.mgs_sequences.specs.Terminal.{resting}
+use Rattle.mgs_sequences.specs.Drawing.{Draws, Anything}
 use Rattle.mgs_paint.specs.Painting.{shown}
 use Rattle.mgs_engine.specs.Serving.{Serving, AllTaken, pending_of, queue_ids}
 use Rattle.mgs_seats.specs.declared.seat.Labelled.{Labelled}

@@ -1,8 +1,8 @@
 // What a line does, from the first `open` on.
 ghost use Rattle.std.specs.Prelude.{◌≡◌, ◌++◌, ◌∷◌, ℕ, List, [], Some, OnOk};
 ghost use Rattle.mgs_model.specs.Picture.{IsSize};
-ghost use Rattle.mgs_term.specs.Screen.{blank_screen};
-ghost use Rattle.mgs_term.specs.Terminal.{resting};
+ghost use Rattle.mgs_sequences.specs.Screen.{blank_screen};
+ghost use Rattle.mgs_sequences.specs.Terminal.{resting};
 ghost use Rattle.mgs_seats.specs.declared.seat.Seat.TheVariants as seated;
 ghost use Rattle.mgs_script.specs.Lines.{view, Open, Keys, Close, said_in};
 ghost use Rattle.mgs_seats.specs.Prints.{refusal_text};

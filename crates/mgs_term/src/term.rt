@@ -1,15 +1,15 @@
 ghost use Rattle.std.specs.Prelude.{◌≡◌, ℕ, ◌+◌, ◌*◌, ◌≤◌, ◌++◌, ◌↔◌, false, true, IsOk, IfOk, OnOk, OnErr, List, [], ◌∷◌, length, All};
 ghost use Rattle.mgs_model.specs.Picture.{IsSize};
-ghost use Rattle.mgs_term.specs.Screen.{Screen, IsScreen, IsPrintableCell, blank_screen};
-ghost use Rattle.mgs_term.specs.Sequences.{after};
-ghost use Rattle.mgs_term.specs.Drawing.{Draws, Anything};
-ghost use Rattle.mgs_term.specs.Terminal.{Terminal, Continues, TakesAll, RefusesSome, resting, refusing};
-ghost use Rattle.mgs_term.specs.Automaton.{terminal_of};
-ghost use Rattle.mgs_term.specs.declared.operation.Operation.{Operation};
+ghost use Rattle.mgs_sequences.specs.Screen.{Screen, IsScreen, IsPrintableCell, blank_screen};
+ghost use Rattle.mgs_sequences.specs.Sequences.{after};
+ghost use Rattle.mgs_sequences.specs.Drawing.{Draws, Anything};
+ghost use Rattle.mgs_sequences.specs.Terminal.{Terminal, Continues, TakesAll, RefusesSome, resting, refusing};
+ghost use Rattle.mgs_sequences.specs.Automaton.{terminal_of};
+ghost use Rattle.mgs_sequences.specs.declared.operation.Operation.{Operation};
 
-use crate::cell::Cell;
-use crate::machine::{Machine, OutOfProfile};
+use mgs_machine::{Machine, OutOfProfile};
 use mgs_model::Short;
+use mgs_sequences::Cell;
 use std::alloc::Global;
 use std::marker::Model;
 

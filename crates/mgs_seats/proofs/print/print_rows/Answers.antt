@@ -1,6 +1,6 @@
 use Rattle.std.proofs.Common.{◌≡◌, drop, rules}
 use Rattle.std.proofs.lemmas.List.Elements.{All-drop}
-use Rattle.mgs_term.specs.Screen.{IsPrintableCell}
+use Rattle.mgs_sequences.specs.Screen.{IsPrintableCell}
 use Rattle.mgs_seats.proofs.Rows.{row_more}
 use Rattle.mgs_seats.proofs.print.print_rows.Goals as goal
 

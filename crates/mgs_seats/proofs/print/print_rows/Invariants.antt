@@ -1,6 +1,6 @@
 use Rattle.std.proofs.Common.{◌≡◌, ◌++◌, ◌-◌}
 use Rattle.std.specs.Prelude.{All}
-use Rattle.mgs_term.specs.Screen.{IsPrintableCell}
+use Rattle.mgs_sequences.specs.Screen.{IsPrintableCell}
 use Rattle.mgs_seats.specs.Prints.{rows_text}
 use Rattle.mgs_seats.proofs.print.print_rows.Given as goal
 

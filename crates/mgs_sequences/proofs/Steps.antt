@@ -2,15 +2,15 @@
 use Rattle.std.proofs.Common.{◌≡◌, ℕ, ◌+◌, ◌*◌, ◌/◌, ◌%◌, ◌<◌, ◌≤◌, Bool, true, false, List, [], ◌∷◌, ◌++◌, refl, ap, ◌∙◌, append_assoc, arith, ltb, inl, inr}
 use Rattle.std.proofs.lemmas.Bool.Decides.{nat_tests}
 use Rattle.std.proofs.lemmas.Bool.{lt-ltb, ltb-true, ltb-false, cases_Bool}
-use Rattle.mgs_term.specs.Screen.{Screen, IsScreen}
-use Rattle.mgs_term.specs.Sequences.{after, number, Accepts, spelling}
-use Rattle.mgs_term.specs.Automaton.{Automaton, next, stepped, fed, settled}
-use Rattle.mgs_term.specs.declared.operation.Operation.{Operation}
-use Rattle.mgs_term.specs.declared.operation.Operation.TheVariants.{Goto, Clear, Erase, Reverse, Plain, Unwrap, Print}
-use Rattle.mgs_term.specs.declared.place.Place.{Place}
-use Rattle.mgs_term.specs.declared.place.Place.TheVariants.{Ground, Bracket, Number, Row, Column}
-use Rattle.mgs_term.specs.declared.place.Next.{Next}
-use Rattle.mgs_term.specs.declared.place.Next.TheVariants.{Wait, Perform}
+use Rattle.mgs_sequences.specs.Screen.{Screen, IsScreen}
+use Rattle.mgs_sequences.specs.Sequences.{after, number, Accepts, spelling}
+use Rattle.mgs_sequences.specs.Automaton.{Automaton, next, stepped, fed, settled}
+use Rattle.mgs_sequences.specs.declared.operation.Operation.{Operation}
+use Rattle.mgs_sequences.specs.declared.operation.Operation.TheVariants.{Goto, Clear, Erase, Reverse, Plain, Unwrap, Print}
+use Rattle.mgs_sequences.specs.declared.place.Place.{Place}
+use Rattle.mgs_sequences.specs.declared.place.Place.TheVariants.{Ground, Bracket, Number, Row, Column}
+use Rattle.mgs_sequences.specs.declared.place.Next.{Next}
+use Rattle.mgs_sequences.specs.declared.place.Next.TheVariants.{Wait, Perform}
 
 pub next_bracket_digit : (rows cols : ℕ) (wrapping : Bool) (d : ℕ) → 1 ≤ d → d ≤ 9 → d ≤ rows → next rows cols wrapping Bracket (48 + d) ≡ Wait (Number d)
 next_bracket_digit rows cols wrapping d some small in_range = grind (arith, nat_tests)

@@ -1,10 +1,10 @@
 -- Bytes that draw: accepted sequences one after another, each of a kind that may come where it comes.
 use Rattle.std.specs.Prelude.{◌≡◌, ℕ, List, [], ◌∷◌, slice_index_or, flat_map}
-use Rattle.mgs_term.specs.declared.cell.Cell.{Cell}
-use Rattle.mgs_term.specs.declared.operation.Operation.{Operation}
-use Rattle.mgs_term.specs.declared.operation.Operation.TheVariants.{Goto, Clear, Erase, Reverse, Plain, Unwrap, Print}
-use Rattle.mgs_term.specs.Screen.{Screen, spot, blank}
-use Rattle.mgs_term.specs.Sequences.{Accepts, after, spelling}
+use Rattle.mgs_sequences.specs.declared.cell.Cell.{Cell}
+use Rattle.mgs_sequences.specs.declared.operation.Operation.{Operation}
+use Rattle.mgs_sequences.specs.declared.operation.Operation.TheVariants.{Goto, Clear, Erase, Reverse, Plain, Unwrap, Print}
+use Rattle.mgs_sequences.specs.Screen.{Screen, spot, blank}
+use Rattle.mgs_sequences.specs.Sequences.{Accepts, after, spelling}
 
 -- the operations lead from the screen s to t, each accepted, and each one that may come at its screen
 abbrev pub Leads : (Screen → Operation → Type 0) → List Operation → Screen → Screen → Type 0

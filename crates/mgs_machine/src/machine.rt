@@ -1,17 +1,15 @@
 ghost use Rattle.std.specs.Prelude.{◌≡◌, ℕ, ◌+◌, ◌-◌, ◌*◌, ◌<◌, ◌≤◌, ◌++◌, ◌↔◌, length, take, drop, replicate, true, false, IsTrue, IsOk, IsErr, IfOk, OnOk, OnErr, List, [], ◌∷◌, All};
 ghost use Rattle.mgs_model.specs.Picture.{IsSize};
-ghost use Rattle.mgs_term.specs.Screen.{Screen, IsScreen, IsPrintableCell, blank, spot};
-ghost use Rattle.mgs_term.specs.Sequences.{Accepts, after};
-ghost use Rattle.mgs_term.specs.Terminal.{Continues, Takes, Refuses, TakesAll, RefusesSome};
-ghost use Rattle.mgs_term.specs.Drawing.{Draws, Anything};
-ghost use Rattle.mgs_term.specs.Automaton.{Automaton, IsPlace, stepped, fed, new_automaton, terminal_of};
-ghost use Rattle.mgs_term.specs.declared.place.Place.TheVariants.{Ground, Refused};
-ghost use Rattle.mgs_term.specs.declared.operation.Operation.{Operation};
+ghost use Rattle.mgs_sequences.specs.Screen.{Screen, IsScreen, IsPrintableCell, blank, spot};
+ghost use Rattle.mgs_sequences.specs.Sequences.{Accepts, after};
+ghost use Rattle.mgs_sequences.specs.Terminal.{Continues, Takes, Refuses, TakesAll, RefusesSome};
+ghost use Rattle.mgs_sequences.specs.Drawing.{Draws, Anything};
+ghost use Rattle.mgs_sequences.specs.Automaton.{Automaton, IsPlace, stepped, fed, new_automaton, terminal_of};
+ghost use Rattle.mgs_sequences.specs.declared.place.Place.TheVariants.{Ground, Refused};
+ghost use Rattle.mgs_sequences.specs.declared.operation.Operation.{Operation};
 
-use crate::cell::Cell;
-use crate::operation::Operation;
-use crate::place::{Next, Place, next_of};
 use mgs_model::Short;
+use mgs_sequences::{Cell, Next, Operation, Place, next_of};
 use std::alloc::Global;
 use std::marker::Model;
 
@@ -50,6 +48,7 @@ fn blank_between(cells: &mut [Cell], from: usize, to: usize)
 
 impl Machine {
     /// Blanks, with the cursor in the first cell, reverse off and wrap on.
+    /// It has 6 to 64 rows and 20 to 160 columns. `Short` is want of memory.
     pub fn new(alloc: Global, rows: usize, cols: usize) -> Result<Machine, Short>
         requires { IsSize rows cols }
         ensures { IfOk result (λ t. t ≡ new_automaton rows cols) }
@@ -142,12 +141,14 @@ impl Machine {
         Ok(())
     }
 
+    /// The number of rows.
     pub fn rows(&self) -> usize
         ensures { result ≡ self.now.screen.rows }
     {
         self.rows
     }
 
+    /// The number of columns.
     pub fn cols(&self) -> usize
         ensures { result ≡ self.now.screen.cols }
     {

@@ -1,9 +1,9 @@
 -- The sequences that a terminal accepts, by the bytes of a VT100, and what each of them does.
 use Rattle.std.specs.Prelude.{◌≡◌, ℕ, ◌+◌, ◌-◌, ◌*◌, ◌/◌, ◌%◌, ◌<◌, Bool, true, false, List, [], ◌∷◌, ◌++◌, take, drop, min, nat_lt, if◌then◌else◌, replicate, slice_set}
 use Rattle.mgs_model.specs.Picture.{IsPrintable}
-use Rattle.mgs_term.specs.declared.operation.Operation.{Operation}
-use Rattle.mgs_term.specs.declared.operation.Operation.TheVariants.{Goto, Clear, Erase, Reverse, Plain, Unwrap, Print}
-use Rattle.mgs_term.specs.Screen.{Screen, spot, blank}
+use Rattle.mgs_sequences.specs.declared.operation.Operation.{Operation}
+use Rattle.mgs_sequences.specs.declared.operation.Operation.TheVariants.{Goto, Clear, Erase, Reverse, Plain, Unwrap, Print}
+use Rattle.mgs_sequences.specs.Screen.{Screen, spot, blank}
 
 -- a number below 1000 in digits, without leading zeros
 abbrev pub number : ℕ → List ℕ

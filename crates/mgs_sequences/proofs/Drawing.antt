@@ -2,10 +2,10 @@
 use Rattle.std.proofs.Common.{◌≡◌, ℕ, List, [], ◌∷◌, ◌++◌, sym, ap, ◌∙◌, subst}
 use Rattle.std.specs.List.{flat_map}
 use Rattle.std.proofs.lemmas.Grind.{flat_map-append}
-use Rattle.mgs_term.specs.Screen.{Screen}
-use Rattle.mgs_term.specs.Sequences.{after, spelling}
-use Rattle.mgs_term.specs.Drawing.{Leads, Draws, Anything}
-use Rattle.mgs_term.specs.declared.operation.Operation.{Operation}
+use Rattle.mgs_sequences.specs.Screen.{Screen}
+use Rattle.mgs_sequences.specs.Sequences.{after, spelling}
+use Rattle.mgs_sequences.specs.Drawing.{Leads, Draws, Anything}
+use Rattle.mgs_sequences.specs.declared.operation.Operation.{Operation}
 
 pub Leads-append : (may : Screen → Operation → Type 0) (xs ys : List Operation) (a b c : Screen) → Leads may xs a b → Leads may ys b c → Leads may (xs ++ ys) a c
 Leads-append may [] ys a b c p q = subst (λ s. Leads may ys s c) (sym p) q

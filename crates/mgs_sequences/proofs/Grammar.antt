@@ -1,17 +1,17 @@
 -- The terminal byte by byte, and the accepted sequences.
 use Rattle.std.proofs.Common.{◌≡◌, ◌≢◌, ℕ, ◌+◌, ◌-◌, ◌*◌, ◌/◌, ◌%◌, ◌<◌, ◌≤◌, Bool, false, List, [], ◌∷◌, ◌++◌, length, refl, sym, ap, ◌∙◌, subst, append_assoc, get_or, arith, ◌⊎◌, inl, inr}
 use Rattle.std.proofs.lemmas.List.{length-append}
-use Rattle.mgs_term.specs.Screen.{IsScreen}
-use Rattle.mgs_term.specs.Sequences.{number, Accepts, spelling}
-use Rattle.mgs_term.specs.Terminal.{Continues}
-use Rattle.mgs_term.specs.Automaton.{Automaton, next, begun_at, IsPlace, is_refused, terminal_of}
-use Rattle.mgs_term.specs.declared.operation.Operation.{Operation}
-use Rattle.mgs_term.specs.declared.operation.Operation.TheVariants.{Goto, Clear, Erase, Reverse, Plain, Unwrap, Print}
-use Rattle.mgs_term.specs.declared.place.Place.{Place}
-use Rattle.mgs_term.specs.declared.place.Place.TheVariants.{Ground, Escape, Bracket, Number, Row, Column, Question, Seven, Refused}
-use Rattle.mgs_term.specs.declared.place.Next.TheVariants.{Stuck, Wait, Perform}
-use Rattle.mgs_term.proofs.Steps.{next_bracket_digit, next_number_digit, next_number_end, next_row_digit, next_column_digit, next_column_end, next_print, next_seven}
-use Rattle.mgs_term.proofs.Digits.{number_cases, number_front, First, number_first, number-length}
+use Rattle.mgs_sequences.specs.Screen.{IsScreen}
+use Rattle.mgs_sequences.specs.Sequences.{number, Accepts, spelling}
+use Rattle.mgs_sequences.specs.Terminal.{Continues}
+use Rattle.mgs_sequences.specs.Automaton.{Automaton, next, begun_at, IsPlace, is_refused, terminal_of}
+use Rattle.mgs_sequences.specs.declared.operation.Operation.{Operation}
+use Rattle.mgs_sequences.specs.declared.operation.Operation.TheVariants.{Goto, Clear, Erase, Reverse, Plain, Unwrap, Print}
+use Rattle.mgs_sequences.specs.declared.place.Place.{Place}
+use Rattle.mgs_sequences.specs.declared.place.Place.TheVariants.{Ground, Escape, Bracket, Number, Row, Column, Question, Seven, Refused}
+use Rattle.mgs_sequences.specs.declared.place.Next.TheVariants.{Stuck, Wait, Perform}
+use Rattle.mgs_sequences.proofs.Steps.{next_bracket_digit, next_number_digit, next_number_end, next_row_digit, next_column_digit, next_column_end, next_print, next_seven}
+use Rattle.mgs_sequences.proofs.Digits.{number_cases, number_front, First, number_first, number-length}
 
 -- The byte that an accepted sequence has is taken: it ends the sequence, or more of it is to come.
 abbrev pub Taken : ℕ → ℕ → Bool → Place → ℕ → Operation → List ℕ → Type 0

@@ -1,8 +1,8 @@
 -- A terminal as it is known from outside, and which bytes it takes.
 use Rattle.std.specs.Prelude.{◌≡◌, ℕ, Bool, true, false, List, [], ◌∷◌, ◌++◌}
-use Rattle.mgs_term.specs.declared.operation.Operation.{Operation}
-use Rattle.mgs_term.specs.Screen.{Screen}
-use Rattle.mgs_term.specs.Sequences.{Accepts, after, spelling}
+use Rattle.mgs_sequences.specs.declared.operation.Operation.{Operation}
+use Rattle.mgs_sequences.specs.Screen.{Screen}
+use Rattle.mgs_sequences.specs.Sequences.{Accepts, after, spelling}
 
 -- its screen, the bytes so far of the sequence that has begun, and whether it refuses everything from now on
 pub record Terminal : Type 0 where

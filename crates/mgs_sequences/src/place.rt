@@ -1,7 +1,7 @@
 ghost use Rattle.std.specs.Prelude.{◌≡◌, ℕ, ◌-◌, ◌≤◌};
 ghost use Rattle.mgs_model.specs.Picture.{IsSize};
-ghost use Rattle.mgs_term.specs.Automaton.{next, is_digit, IsPlace, IsNext, IsSpelled};
-ghost use Rattle.mgs_term.specs.declared.place.Place.TheVariants.{Bracket, Number, Column};
+ghost use Rattle.mgs_sequences.specs.Automaton.{next, is_digit, IsPlace, IsNext, IsSpelled};
+ghost use Rattle.mgs_sequences.specs.declared.place.Place.TheVariants.{Bracket, Number, Column};
 
 use crate::operation::Operation;
 

@@ -1,13 +1,13 @@
 -- The terminal byte by byte: which place in a sequence it is at, and where the next byte leads.
 use Rattle.std.specs.Prelude.{◌≡◌, ◌⊎◌, ℕ, ◌+◌, ◌-◌, ◌*◌, ◌≤◌, Bool, true, false, not, ◌&&◌, ◌||◌, List, [], ◌∷◌, ◌++◌, nat_le, ◌==◌, if◌then◌else◌}
-use Rattle.mgs_term.specs.Screen.{Screen, blank_screen}
-use Rattle.mgs_term.specs.Sequences.{number, spelling, Accepts, after}
-use Rattle.mgs_term.specs.Terminal.{Terminal}
-use Rattle.mgs_term.specs.declared.operation.Operation.TheVariants.{Goto, Clear, Erase, Reverse, Plain, Unwrap, Print}
-use Rattle.mgs_term.specs.declared.place.Place.{Place}
-use Rattle.mgs_term.specs.declared.place.Place.TheVariants.{Ground, Escape, Bracket, Number, Row, Column, Question, Seven, Refused}
-use Rattle.mgs_term.specs.declared.place.Next.{Next}
-use Rattle.mgs_term.specs.declared.place.Next.TheVariants.{Stuck, Wait, Perform}
+use Rattle.mgs_sequences.specs.Screen.{Screen, blank_screen}
+use Rattle.mgs_sequences.specs.Sequences.{number, spelling, Accepts, after}
+use Rattle.mgs_sequences.specs.Terminal.{Terminal}
+use Rattle.mgs_sequences.specs.declared.operation.Operation.TheVariants.{Goto, Clear, Erase, Reverse, Plain, Unwrap, Print}
+use Rattle.mgs_sequences.specs.declared.place.Place.{Place}
+use Rattle.mgs_sequences.specs.declared.place.Place.TheVariants.{Ground, Escape, Bracket, Number, Row, Column, Question, Seven, Refused}
+use Rattle.mgs_sequences.specs.declared.place.Next.{Next}
+use Rattle.mgs_sequences.specs.declared.place.Next.TheVariants.{Stuck, Wait, Perform}
 
 pub record Automaton : Type 0 where
   pub screen : Screen

@@ -1,7 +1,7 @@
 use Rattle.std.proofs.Common.{◌≡◌, take}
-use Rattle.mgs_term.specs.Automaton.{fed, terminal_of}
-use Rattle.mgs_term.specs.Terminal.{TakesAll}
-use Rattle.mgs_term.proofs.machine.Machine.feed_all.Given as goal
+use Rattle.mgs_sequences.specs.Automaton.{fed, terminal_of}
+use Rattle.mgs_sequences.specs.Terminal.{TakesAll}
+use Rattle.mgs_machine.proofs.machine.Machine.feed_all.Given as goal
 
 abbrev pub invariant-loop-byte : goal.invariant-loop-byte
 invariant-loop-byte l = record {

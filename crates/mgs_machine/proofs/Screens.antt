@@ -2,11 +2,11 @@
 use Rattle.std.proofs.Common.{◌≡◌, ℕ, ◌+◌, ◌-◌, ◌*◌, ◌<◌, ◌≤◌, List, ◌++◌, length, ◌∙◌, take, drop, replicate, arith}
 use Rattle.std.proofs.lemmas.List.{length-append, length-set, length-take-le, length-drop, length-replicate}
 use Rattle.std.proofs.Math.Nat.{mul-le-mul_right}
-use Rattle.mgs_term.specs.declared.cell.Cell.{Cell}
-use Rattle.mgs_term.specs.Screen.{Screen, IsScreen, blank, spot}
-use Rattle.mgs_term.specs.Sequences.{after, Accepts}
-use Rattle.mgs_term.specs.declared.operation.Operation.{Operation}
-use Rattle.mgs_term.specs.declared.operation.Operation.TheVariants.{Goto, Clear, Erase, Reverse, Plain, Unwrap, Print}
+use Rattle.mgs_sequences.specs.declared.cell.Cell.{Cell}
+use Rattle.mgs_sequences.specs.Screen.{Screen, IsScreen, blank, spot}
+use Rattle.mgs_sequences.specs.Sequences.{after, Accepts}
+use Rattle.mgs_sequences.specs.declared.operation.Operation.{Operation}
+use Rattle.mgs_sequences.specs.declared.operation.Operation.TheVariants.{Goto, Clear, Erase, Reverse, Plain, Unwrap, Print}
 
 row_end : (row rows cols : ℕ) → row < rows → row * cols + cols ≤ rows * cols
 row_end row rows cols lt = omega (arith, mul-le-mul_right {m = row + 1} {n = rows} cols (omega arith))

@@ -1,7 +1,7 @@
 use Rattle.std.proofs.Common.{refl}
 use Rattle.std.proofs.lemmas.Bool.{false≢true}
-use Rattle.mgs_term.proofs.Grammar.{never, waits}
-use Rattle.mgs_term.proofs.machine.Machine.feed.Goals as goal
+use Rattle.mgs_sequences.proofs.Grammar.{never, waits}
+use Rattle.mgs_machine.proofs.machine.Machine.feed.Goals as goal
 
 pub returns-in-Stuck-clause-taken : goal.returns-in-Stuck-clause-taken
 returns-in-Stuck-clause-taken c = rw (← c.self.view_is) (λ e. absurd (false≢true e), λ w. absurd (never _ c.args.byte w.0 w.1 c.self.invariant.0 c.self.invariant.1 c.in-Stuck.ensures.next w.2))

@@ -1,7 +1,7 @@
 -- What a terminal shows.
 use Rattle.std.specs.Prelude.{◌≡◌, ℕ, ◌+◌, ◌*◌, ◌<◌, Bool, true, false, List, length, replicate}
 use Rattle.mgs_model.specs.Picture.{IsSize, IsPrintable}
-use Rattle.mgs_term.specs.declared.cell.Cell.{Cell}
+use Rattle.mgs_sequences.specs.declared.cell.Cell.{Cell}
 
 -- rows and columns; the cells row by row; the cursor's row and column, from 0;
 -- whether what is printed is in reverse; whether the cursor would wrap at the end of a row

@@ -2,14 +2,14 @@
 use Rattle.std.proofs.Common.{◌≡◌, ℕ, ◌+◌, ◌<◌, List, [], ◌∷◌, length, refl, sym, ap, ◌∙◌, get_or, take, drop}
 use Rattle.std.proofs.lemmas.List.{take_more, take-append-drop}
 use Rattle.std.specs.List.{flat_map}
-use Rattle.mgs_term.specs.Screen.{Screen, IsScreen}
-use Rattle.mgs_term.specs.Sequences.{after, spelling}
-use Rattle.mgs_term.specs.Automaton.{Automaton, stepped, fed}
-use Rattle.mgs_term.specs.Drawing.{Leads, Draws}
-use Rattle.mgs_term.specs.declared.operation.Operation.{Operation}
-use Rattle.mgs_term.specs.declared.place.Place.TheVariants.{Ground, Refused}
-use Rattle.mgs_term.proofs.Steps.{at, fed-append, fed-spelling}
-use Rattle.mgs_term.proofs.Screens.{after_keeps}
+use Rattle.mgs_sequences.specs.Screen.{Screen, IsScreen}
+use Rattle.mgs_sequences.specs.Sequences.{after, spelling}
+use Rattle.mgs_sequences.specs.Automaton.{Automaton, stepped, fed}
+use Rattle.mgs_sequences.specs.Drawing.{Leads, Draws}
+use Rattle.mgs_sequences.specs.declared.operation.Operation.{Operation}
+use Rattle.mgs_sequences.specs.declared.place.Place.TheVariants.{Ground, Refused}
+use Rattle.mgs_sequences.proofs.Steps.{at, fed-append, fed-spelling}
+use Rattle.mgs_machine.proofs.Screens.{after_keeps}
 
 -- Bytes that draw leave a terminal as they say, between two sequences.
 pub fed-leads : (may : Screen → Operation → Type 0) (os : List Operation) (s t : Screen) → IsScreen s → Leads may os s t → fed (at s Ground) (flat_map spelling os) ≡ at t Ground

@@ -2,7 +2,7 @@
 use Rattle.std.proofs.Common.{◌≡◌, ℕ, ◌+◌, ◌<◌, List, [], ◌∷◌, ◌++◌, length, take, drop, get_or, refl, sym, ap, ◌∙◌, subst, append_assoc}
 use Rattle.std.proofs.lemmas.List.{take_more, take-append-drop}
 use Rattle.std.specs.Prelude.{Result, Ok, Err, OnErr}
-use Rattle.mgs_term.specs.Terminal.{Terminal, Takes, Refuses, TakesAll, RefusesSome}
+use Rattle.mgs_sequences.specs.Terminal.{Terminal, Takes, Refuses, TakesAll, RefusesSome}
 
 TakesAll-push : (a b c : Terminal) (bytes : List ℕ) (byte : ℕ) → TakesAll a bytes b → Takes b byte c → TakesAll a (bytes ++ byte ∷ []) c
 TakesAll-push a b c [] byte all one = (c, subst (λ t. Takes t byte c) (sym all) one, refl)

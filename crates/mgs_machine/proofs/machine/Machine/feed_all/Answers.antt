@@ -1,13 +1,13 @@
 use Rattle.std.proofs.Common.{◌≡◌, get_or, ◌∙◌, ap, sym, refl, arith}
 use Rattle.std.proofs.lemmas.Bool.{false≢true}
 use Rattle.std.proofs.lemmas.List.{take_all}
-use Rattle.mgs_term.specs.Screen.{IsScreen}
-use Rattle.mgs_term.specs.Drawing.{Anything}
-use Rattle.mgs_term.specs.Automaton.{stepped, fed, terminal_of}
-use Rattle.mgs_term.specs.Terminal.{Takes, Refuses}
-use Rattle.mgs_term.proofs.Feeding.{fed_more, fed_stop, drawn_ends, drawn_never_stops}
-use Rattle.mgs_term.proofs.Taking.{takes_more, refuses_at, on_err}
-use Rattle.mgs_term.proofs.machine.Machine.feed_all.Goals as goal
+use Rattle.mgs_sequences.specs.Screen.{IsScreen}
+use Rattle.mgs_sequences.specs.Drawing.{Anything}
+use Rattle.mgs_sequences.specs.Automaton.{stepped, fed, terminal_of}
+use Rattle.mgs_sequences.specs.Terminal.{Takes, Refuses}
+use Rattle.mgs_machine.proofs.Feeding.{fed_more, fed_stop, drawn_ends, drawn_never_stops}
+use Rattle.mgs_machine.proofs.Taking.{takes_more, refuses_at, on_err}
+use Rattle.mgs_machine.proofs.machine.Machine.feed_all.Goals as goal
 
 pub loop-byte-preserved : goal.loop-byte-preserved
 loop-byte-preserved c =

@@ -1,7 +1,7 @@
 -- Numbers in digits.
 use Rattle.std.proofs.Common.{◌≡◌, ℕ, ◌+◌, ◌-◌, ◌*◌, ◌/◌, ◌%◌, ◌<◌, ◌≤◌, List, [], ◌∷◌, ◌++◌, length, refl, sym, ap, ◌∙◌, arith, ltb, ◌⊎◌, inl, inr}
 use Rattle.std.proofs.lemmas.Bool.{ltb-true, ltb-false, cases_Bool}
-use Rattle.mgs_term.specs.Sequences.{number}
+use Rattle.mgs_sequences.specs.Sequences.{number}
 
 pub record One (n : ℕ) : Type 0 where
   pub small : n < 10

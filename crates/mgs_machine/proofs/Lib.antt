@@ -1,0 +1,3 @@
+pub mod Screens
+pub mod Feeding
+pub mod Taking
