@@ -2,7 +2,7 @@
 use Rattle.std.proofs.Common.{◌≡◌, ℕ, List, ◌∷◌, Option, Some, None, refl, ap, ◌∙◌}
 use Rattle.mgs_model.specs.Lines.{is_feed}
 use Rattle.mgs_keys.proofs.Cuts.{parts_behind, parts_first}
-use Rattle.mgs_script.specs.Scripts.{lines_of, line_in, behind_line, lines_behind}
+use Rattle.mgs_words.specs.Scripts.{lines_of, line_in, behind_line, lines_behind}
 pub use Rattle.mgs_keys.proofs.Cuts.{length_left}
 
 behind_feed : (o : Option (List ℕ)) → parts_behind is_feed o ≡ lines_behind o

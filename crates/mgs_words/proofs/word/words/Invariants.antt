@@ -2,7 +2,7 @@ use Rattle.std.proofs.Common.{◌≡◌, ◌++◌, map}
 use Rattle.mgs_keys.specs.Words.{words_of}
 use Rattle.mgs_keys.proofs.Cuts.{length_left}
 use Rattle.mgs_keys.proofs.Taken.{words_left}
-use Rattle.mgs_script.proofs.word.words.Given as goal
+use Rattle.mgs_words.proofs.word.words.Given as goal
 
 -- the words so far and those of what is left are those of all
 abbrev pub invariant-loop-left : goal.invariant-loop-left

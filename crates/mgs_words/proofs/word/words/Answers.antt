@@ -1,6 +1,6 @@
 use Rattle.mgs_keys.specs.Words.{words_of}
-use Rattle.mgs_script.proofs.Words.{words_more}
-use Rattle.mgs_script.proofs.word.words.Goals as goal
+use Rattle.mgs_words.proofs.WordByWord.{words_more}
+use Rattle.mgs_words.proofs.word.words.Goals as goal
 
 pub loop-left-preserved : goal.loop-left-preserved
 loop-left-preserved c =

@@ -2,7 +2,7 @@
 ghost use Rattle.std.specs.Prelude.{◌≡◌, ◌<◌, ◌∷◌, length, position, IfSome};
 ghost use Rattle.std.specs.Option.{option_map};
 ghost use Rattle.mgs_model.specs.Lines.{is_feed};
-ghost use Rattle.mgs_script.specs.Scripts.{lines_of, line_in, behind_line, lines_behind};
+ghost use Rattle.mgs_words.specs.Scripts.{lines_of, line_in, behind_line, lines_behind};
 
 // The place of the first line feed.
 fn feed_in(script: &[u8]) -> Option<usize>

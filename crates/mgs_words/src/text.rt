@@ -1,7 +1,7 @@
 // Texts written as tokens.
 ghost use Rattle.std.specs.Prelude.{◌≡◌, Some, [], ◌∷◌};
 ghost use Rattle.mgs_keys.specs.Tokens.{PushesToken, GivesKeys};
-ghost use Rattle.mgs_script.specs.Lines.{token_characters, text_of};
+ghost use Rattle.mgs_words.specs.Words.{token_characters, text_of};
 
 use mgs_keys::{KeysFault, cut, quoted};
 use std::alloc::Global;
@@ -25,7 +25,7 @@ fn push_characters(text: &mut Vec<char>, bytes: &[u8]) -> Result<(), KeysFault>
     Ok(())
 }
 
-#[tactic(auto, unfolding(crate::specs::Lines::token_characters))]
+#[tactic(auto, unfolding(crate::specs::Words::token_characters))]
 fn push_token(text: &mut Vec<char>, token: &[u8]) -> Result<(), KeysFault>
     ensures { PushesToken result text.old.items text.new.items (token_characters token.now) }
 {

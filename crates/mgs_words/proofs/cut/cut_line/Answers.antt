@@ -2,7 +2,7 @@ use Rattle.std.proofs.Common.{◌+◌}
 use Rattle.std.proofs.lemmas.List.{take_rest}
 use Rattle.mgs_model.specs.Lines.{is_feed}
 use Rattle.mgs_keys.proofs.Cuts.{cut_some, cut_none}
-use Rattle.mgs_script.proofs.cut.cut_line.Goals as goal
+use Rattle.mgs_words.proofs.cut.cut_line.Goals as goal
 
 pub returns-in-None-clause-lines : goal.returns-in-None-clause-lines
 returns-in-None-clause-lines c = cut_none is_feed c.args.script.now c.in-None.ensures.at

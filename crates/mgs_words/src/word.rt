@@ -3,7 +3,7 @@ ghost use Rattle.std.specs.Prelude.{◌≡◌, ◌==◌, ◌<◌, not, length, m
 ghost use Rattle.std.specs.Option.{option_map};
 ghost use Rattle.std.specs.List.{list_all};
 ghost use Rattle.mgs_keys.specs.Words.{word_of, rest_of, words_of};
-ghost use Rattle.mgs_script.specs.Lines.{name_of, any_word_of, number_of, size_of, is_word};
+ghost use Rattle.mgs_words.specs.Words.{name_of, any_word_of, number_of, size_of, is_word};
 
 use mgs_model::{Name, Short};
 use std::alloc::Global;

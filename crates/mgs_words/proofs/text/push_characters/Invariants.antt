@@ -1,5 +1,5 @@
 use Rattle.std.proofs.Common.{◌≡◌, ◌++◌, take}
-use Rattle.mgs_script.proofs.text.push_characters.Given as goal
+use Rattle.mgs_words.proofs.text.push_characters.Given as goal
 
 -- the bytes before the index stand behind the text
 abbrev pub invariant-loop-byte : goal.invariant-loop-byte

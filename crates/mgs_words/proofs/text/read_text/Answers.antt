@@ -1,6 +1,6 @@
 use Rattle.mgs_keys.proofs.Taken.{bytes_more, bytes_stop}
-use Rattle.mgs_script.specs.Lines.{token_characters, text_of}
-use Rattle.mgs_script.proofs.text.read_text.Goals as goal
+use Rattle.mgs_words.specs.Words.{token_characters, text_of}
+use Rattle.mgs_words.proofs.text.read_text.Goals as goal
 
 pub loop-left-preserved : goal.loop-left-preserved
 loop-left-preserved c =
