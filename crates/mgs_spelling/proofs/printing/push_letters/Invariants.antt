@@ -2,7 +2,7 @@ use Rattle.std.proofs.Common.{◌≡◌, ◌+◌, ◌≤◌, ◌++◌, map, drop
 use Rattle.std.specs.Prelude.{filter}
 use Rattle.arrayvec.specs.ArrayString.{array_string_len}
 use Rattle.mgs_model.specs.Rights.{letter_of, has_right, rights_in}
-use Rattle.mgs_entries.proofs.spelling.push_letters.Given as goal
+use Rattle.mgs_spelling.proofs.printing.push_letters.Given as goal
 
 -- the letters of the rights that are left are still to come
 abbrev pub invariant-loop-right : goal.invariant-loop-right

@@ -4,9 +4,9 @@ use Rattle.arrayvec.specs.ArrayString.{ArrayString, array_string_len}
 use Rattle.mgs_model.specs.Rights.{letter_of, has_right, all_rights}
 use Rattle.mgs_model.specs.declared.right.Right.{Right}
 use Rattle.mgs_model.specs.declared.right.Right.TheVariants.{ReadData}
-use Rattle.mgs_entries.proofs.RoundTrip.{letters, letters_turn}
-use Rattle.mgs_entries.proofs.spelling.push_letters.Goals as goal
-use Rattle.mgs_entries.proofs.spelling.push_letters.Goals.{then-has, else-has}
+use Rattle.mgs_spelling.proofs.RoundTrip.{letters, letters_turn}
+use Rattle.mgs_spelling.proofs.printing.push_letters.Goals as goal
+use Rattle.mgs_spelling.proofs.printing.push_letters.Goals.{then-has, else-has}
 
 pub loop-right-preserved : goal.loop-right-preserved
 loop-right-preserved c =

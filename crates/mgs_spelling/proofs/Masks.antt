@@ -12,7 +12,7 @@ use Rattle.std.proofs.lemmas.Nat.Bits.{bit_at_or, bit_at-zero, bit_at-pow_same, 
 use Rattle.mgs_model.specs.Rights.{bit_of, has_right, rights_in, all_rights}
 use Rattle.mgs_model.specs.declared.right.Right.{Right}
 use Rattle.mgs_model.specs.declared.right.Right.TheVariants.{ReadData, WriteData, AppendData, ReadAttributes, Delete, ReadAcl, WriteAcl, WriteOwner}
-use Rattle.mgs_entries.specs.Spelling.{mask_of}
+use Rattle.mgs_spelling.specs.Written.{mask_of}
 
 -- a right more
 abbrev pub with_right : ℕ → Right → ℕ

@@ -1,5 +1,5 @@
 use Rattle.std.proofs.Common.{◌≡◌, ◌++◌, take}
-use Rattle.mgs_entries.proofs.spelling.push_name.Given as goal
+use Rattle.mgs_spelling.proofs.printing.push_name.Given as goal
 
 -- the characters so far stand behind the text
 abbrev pub invariant-loop-byte : goal.invariant-loop-byte

@@ -23,8 +23,9 @@ use Rattle.mgs_model.specs.declared.entry.EntryType.TheVariants.{Allow, Deny}
 use Rattle.mgs_model.specs.declared.entry.Who.{Who}
 use Rattle.mgs_model.specs.declared.entry.Who.TheVariants.{Owner, Everyone, User, Group}
 use Rattle.mgs_model.specs.declared.entry.Entry.{Entry}
-use Rattle.mgs_entries.specs.Spelling.{is_space, is_word, words, type_named, behind_group, named_who, who_named, right_lettered, is_letter, bit_or_none, with_letter, mask_lettered, said, judged, entry_said, entry_in, is_spelled_who, mask_of, IsSpelled}
-use Rattle.mgs_entries.proofs.Masks.{with_right, mask_of-rights_in}
+use Rattle.mgs_entries.specs.Spelling.{is_space, is_word, words, type_named, behind_group, named_who, who_named, right_lettered, is_letter, bit_or_none, with_letter, mask_lettered, said, judged, entry_said, entry_in}
+use Rattle.mgs_spelling.specs.Written.{is_spelled_who, mask_of, IsSpelled}
+use Rattle.mgs_spelling.proofs.Masks.{with_right, mask_of-rights_in}
 
 -- LETTERS
 
