@@ -1,4 +1,4 @@
-//! Access lists: at most 64 entries in order. How an entry is written is passed on from `mgs_entries`.
+//! Access lists: at most 64 entries in order. How an entry is written is passed on from `mgs_entries` and `mgs_spelling`.
 #![tactic(auto)]
 
 mod list;
@@ -6,5 +6,6 @@ mod list;
 mod tests;
 
 pub use list::{List, ListFault};
-pub use mgs_entries::{EntryFault, print_entry, read_entry, user_named};
+pub use mgs_entries::{EntryFault, read_entry, user_named};
 pub use mgs_model::{Entry, EntryType, Who};
+pub use mgs_spelling::print_entry;

@@ -1,4 +1,2 @@
 pub mod WordLemmas
 pub mod NameLemmas
-pub mod Masks
-pub mod RoundTrip

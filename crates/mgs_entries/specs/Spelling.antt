@@ -1,11 +1,11 @@
 -- How an entry is written: `TYPE WHO LETTERS`, its words parted by spaces.
-use Rattle.std.specs.Prelude.{◌≡◌, ℕ, ◌<◌, ◌==◌, nat_eq, nat_lt, not, Bool, true, false, ◌&&◌, List, [], ◌∷◌, length, filter, find, fold, codes, Option, Some, None, is_some, Result, Ok, Err, drop, slice_get, if◌then◌else◌}
+use Rattle.std.specs.Prelude.{ℕ, ◌==◌, nat_eq, nat_lt, not, Bool, true, false, ◌&&◌, List, [], ◌∷◌, length, filter, find, fold, codes, Option, Some, None, is_some, Result, Ok, Err, drop, slice_get, if◌then◌else◌}
 use Rattle.std.specs.Int.Bits.{bit_or}
 use Rattle.std.specs.Option.{option_map, option_and_then}
 use Rattle.std.specs.List.{slice_split, list_all, starts_with}
 use Rattle.std.specs.Str.{bytes_eq}
 use Rattle.mgs_model.specs.Names.{is_user_name}
-use Rattle.mgs_model.specs.Rights.{bit_of, letter_of, all_rights, rights_in}
+use Rattle.mgs_model.specs.Rights.{bit_of, letter_of, all_rights}
 use Rattle.mgs_model.specs.declared.right.Right.{Right}
 use Rattle.mgs_model.specs.declared.entry.EntryType.{EntryType}
 use Rattle.mgs_model.specs.declared.entry.EntryType.TheVariants.{Allow, Deny}
@@ -99,22 +99,3 @@ entry_said ws = judged (said type_named 0 ws) (said who_named 1 ws) (said mask_l
 -- what a text says
 abbrev pub entry_in : List ℕ → Result Entry EntryFault
 entry_in text = entry_said (words text)
-
--- WHAT CAN BE WRITTEN
-
--- a name that an entry has is one of a user or a group
-abbrev pub is_spelled_who : Who → Bool
-is_spelled_who Owner = true
-is_spelled_who Everyone = true
-is_spelled_who (User name) = is_user_name name
-is_spelled_who (Group name) = is_user_name name
-
--- the mask of these rights
-abbrev pub mask_of : List Right → ℕ
-mask_of rights = fold (λ mask right. bit_or mask (bit_of right)) 0 rights
-
--- an entry that can be written: its mask has a right, and no bit but those of rights
-pub record IsSpelled (e : Entry) : Type 0 where
-  pub who : is_spelled_who e.who ≡ true
-  pub some : 0 < e.mask
-  pub rights : mask_of (rights_in e.mask) ≡ e.mask

@@ -1,8 +1,8 @@
-//! How an entry of an access list is written: read and printed.
+//! How an entry of an access list is written, and read.
 #![tactic(auto)]
 
 mod spelling;
 #[cfg(test)]
 mod tests;
 
-pub use spelling::{EntryFault, print_entry, read_entry, user_named};
+pub use spelling::{EntryFault, letter_of, read_entry, user_named};

@@ -1,6 +1,5 @@
 use super::*;
 use mgs_model::{Entry, EntryType, Mask, Name, Who};
-use std::process::Abort;
 use std::test::Fail;
 
 fn entry(entry_type: EntryType, who: Who, bits: u32) -> Entry {
@@ -52,24 +51,4 @@ fn names_the_first_fault(rt: HostRuntime) {
     assert_eq!(rt; read_entry("ALLOW ann"), Err(EntryFault::Letters));
     assert_eq!(rt; read_entry("ALLOW ann x"), Err(EntryFault::Letters));
     assert_eq!(rt; read_entry("ALLOW ann r w"), Err(EntryFault::Trailing));
-}
-
-fn prints_as(rt: &impl Abort, text: &str, printed: &str) {
-    match read_entry(text) {
-        Ok(entry) => assert_eq!(rt; print_entry(&entry).as_str(), printed),
-        Err(_) => panic!(rt; "no entry"),
-    }
-}
-
-#[test]
-fn prints_the_canonical_spelling(rt: HostRuntime) {
-    prints_as(&rt, " DENY  group:staff  awr ", "DENY group:staff rwa");
-    prints_as(&rt, "ALLOW OWNER@ oCcdtawr", "ALLOW OWNER@ rwatdcCo");
-    prints_as(&rt, "ALLOW EVERYONE@ trt", "ALLOW EVERYONE@ rt");
-    prints_as(&rt, "DENY ann C", "DENY ann C");
-    prints_as(
-        &rt,
-        "ALLOW group:abcdefghijklmnopqrstuvwxyz-_0123 rwatdcCo",
-        "ALLOW group:abcdefghijklmnopqrstuvwxyz-_0123 rwatdcCo",
-    );
 }

@@ -9,7 +9,7 @@ use Rattle.mgs_replay.specs.declared.lines.TurnFault.TheVariants as turns
 use Rattle.mgs_replay.specs.declared.script.ReplayFault.{ReplayFault}
 use Rattle.mgs_replay.specs.declared.script.ReplayFault.TheVariants as ends
 use Rattle.mgs_script.specs.Lines.{Said, said_in}
-use Rattle.mgs_script.specs.Scripts.{lines_of, line_in}
+use Rattle.mgs_words.specs.Scripts.{lines_of, line_in}
 use Rattle.mgs_script.specs.Lines as said
 use Rattle.mgs_stage.specs.Stages.{Stage, setting, LineDoes, LineRefused}
 use Rattle.mgs_replay.specs.Plays.{Plays, End, Whole, RefusedAt}

@@ -2,7 +2,7 @@
 ghost use Rattle.std.specs.Prelude.{◌≡◌, ◌+◌, ◌≤◌, [], Some, length, OnOk, IfOk, IfSome};
 ghost use Rattle.mgs_replay.specs.Faults.{fault_of, end_at, IsPlayed, IsSet};
 ghost use Rattle.mgs_script.specs.Lines.{said_in};
-ghost use Rattle.mgs_script.specs.Scripts.{lines_of};
+ghost use Rattle.mgs_words.specs.Scripts.{lines_of};
 ghost use Rattle.mgs_setup.specs.Settings.{first_world};
 ghost use Rattle.mgs_stage.specs.Stages.{begun};
 ghost use Rattle.mgs_replay.specs.Plays.{Written};

@@ -1,3 +1,1 @@
-pub mod Feeds
 pub mod Utf8
-pub mod Words

@@ -1,11 +1,10 @@
 -- What the lines of a script say.
-use Rattle.std.specs.Prelude.{◌≡◌, ℕ, ◌+◌, ◌-◌, ◌*◌, ◌==◌, nat_le, Bool, ◌&&◌, ◌||◌, not, List, [], ◌∷◌, length, map, codes, slice_index, Option, Some, None, Result, Ok, Err, if◌then◌else◌}
-use Rattle.std.specs.Option.{option_map, option_and_then}
-use Rattle.std.specs.List.{list_all}
+use Rattle.std.specs.Prelude.{◌≡◌, ℕ, ◌==◌, Bool, ◌||◌, List, length, map, codes, slice_index, Option, Some, None, Result, Ok, Err, if◌then◌else◌}
+use Rattle.std.specs.Option.{option_map}
 use Rattle.std.specs.Str.{bytes_eq, is_utf8}
-use Rattle.mgs_model.specs.Names.{is_name}
 use Rattle.mgs_keys.specs.Words.{word_of, rest_of, words_of}
-use Rattle.mgs_keys.specs.Tokens.{keys_of, quoted_of, spelled_by}
+use Rattle.mgs_keys.specs.Tokens.{keys_of}
+use Rattle.mgs_words.specs.Words.{◌>>=◌, name_of, any_word_of, text_of, size_of}
 use Rattle.mgs_script.specs.declared.line.Line.{Line}
 use Rattle.mgs_script.specs.declared.line.Line.TheVariants as code
 use Rattle.mgs_script.specs.declared.line.LineFault.{LineFault}
@@ -25,54 +24,6 @@ pub data Said : Type 0 where
   Keys : (label keys : List ℕ) → Said
   Show : (label : List ℕ) → Said
   Close : (label : List ℕ) → Said
-
-infixl 10 ◌>>=◌
-abbrev pub ◌>>=◌ : {A B : Type 0} → Option A → (A → Option B) → Option B
-o >>= f = option_and_then f o
-
--- WORDS
-
--- a label or a buffer's name
-abbrev pub name_of : List ℕ → Option (List ℕ)
-name_of w = if is_name w then Some w else None
-
--- any word: one or more bytes without a carriage return; a cut leaves no space in it
-abbrev pub is_word : List ℕ → Bool
-is_word w = nat_le 1 (length w) && list_all (λ b. not (b == 13)) w
-
-abbrev pub any_word_of : List ℕ → Option (List ℕ)
-any_word_of w = if is_word w then Some w else None
-
--- a decimal digit, and one that a longer number may begin with
-abbrev pub is_digit : ℕ → Bool
-is_digit b = nat_le 48 b && nat_le b 57
-
-abbrev pub is_first_digit : ℕ → Bool
-is_first_digit b = nat_le 49 b && nat_le b 57
-
--- a number of 1 to 3 digits without leading zeros
-abbrev pub number_of : List ℕ → Option ℕ
-number_of w =
-    if (length w == 1) && is_digit (slice_index w 0) then Some (slice_index w 0 - 48)
-    else if (length w == 2) && (is_first_digit (slice_index w 0) && is_digit (slice_index w 1))
-    then Some ((slice_index w 0 - 48) * 10 + (slice_index w 1 - 48))
-    else if (length w == 3) && (is_first_digit (slice_index w 0) && (is_digit (slice_index w 1) && is_digit (slice_index w 2)))
-    then Some ((slice_index w 0 - 48) * 100 + (slice_index w 1 - 48) * 10 + (slice_index w 2 - 48))
-    else None
-
--- the characters of one token of a text
-unfoldable pub token_characters : List ℕ → Option (List ℕ)
-token_characters t =
-    if bytes_eq t (codes "RET") then Some (10 ∷ [])
-    else if bytes_eq t (codes "TAB") then Some (9 ∷ [])
-    else if bytes_eq t (codes "SPC") then Some (32 ∷ [])
-    else quoted_of t
-
--- the characters that a text of tokens spells
-abbrev pub text_of : List ℕ → Option (List ℕ)
-text_of t = spelled_by token_characters (words_of t)
-
--- LINES
 
 -- the first word of a line
 abbrev pub kind_named : List ℕ → Option Kind
@@ -110,14 +61,6 @@ text_said t = do
   rest ← rest_of t
   text ← text_of rest
   Some (Text buffer text)
-
--- rows and columns
-abbrev pub size_of : List ℕ → Option (ℕ × ℕ)
-size_of t = do
-  rows ← number_of (word_of t)
-  rest ← rest_of t
-  cols ← number_of rest
-  Some (rows, cols)
 
 -- a label, a user who need not be known, and a size that need not be one of a screen
 unfoldable pub open_said : List ℕ → Option Said

@@ -4,10 +4,9 @@ ghost use Rattle.std.specs.Option.{option_map};
 ghost use Rattle.mgs_script.specs.Lines.{view, group_said, buffer_said, entry_said, text_said, open_said, keys_said, said_by_kind, said_in, is_passed_over, utf8_of, GivesLine};
 
 use crate::kind::{Kind, kind_of};
-use crate::text::read_text;
-use crate::word::{any_word, cut_text, name_in, size, words};
 use mgs_keys::{KeysFault, read_keys};
 use mgs_model::{Name, Short};
+use mgs_words::{any_word, cut_text, name_in, read_text, size, words};
 use std::alloc::Global;
 use std::str;
 

@@ -1,0 +1,26 @@
+-- What entries can be written.
+use Rattle.std.specs.Prelude.{◌≡◌, ℕ, ◌<◌, Bool, true, List, fold}
+use Rattle.std.specs.Int.Bits.{bit_or}
+use Rattle.mgs_model.specs.Names.{is_user_name}
+use Rattle.mgs_model.specs.Rights.{bit_of, rights_in}
+use Rattle.mgs_model.specs.declared.right.Right.{Right}
+use Rattle.mgs_model.specs.declared.entry.Who.{Who}
+use Rattle.mgs_model.specs.declared.entry.Who.TheVariants.{Owner, Everyone, User, Group}
+use Rattle.mgs_model.specs.declared.entry.Entry.{Entry}
+
+-- a name that an entry has is one of a user or a group
+abbrev pub is_spelled_who : Who → Bool
+is_spelled_who Owner = true
+is_spelled_who Everyone = true
+is_spelled_who (User name) = is_user_name name
+is_spelled_who (Group name) = is_user_name name
+
+-- the mask of these rights
+abbrev pub mask_of : List Right → ℕ
+mask_of rights = fold (λ mask right. bit_or mask (bit_of right)) 0 rights
+
+-- an entry that can be written: its mask has a right, and no bit but those of rights
+pub record IsSpelled (e : Entry) : Type 0 where
+  pub who : is_spelled_who e.who ≡ true
+  pub some : 0 < e.mask
+  pub rights : mask_of (rights_in e.mask) ≡ e.mask
