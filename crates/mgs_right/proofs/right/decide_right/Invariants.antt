@@ -1,6 +1,6 @@
 use Rattle.std.proofs.Common.{◌≡◌, ◌+◌, drop}
 use Rattle.mgs_model.specs.Access.{decider, decider_from}
-use Rattle.mgs_policy.proofs.policy.decide_right.Given as goal
+use Rattle.mgs_right.proofs.right.decide_right.Given as goal
 
 -- the entries that are left decide
 abbrev pub invariant-loop-i : goal.invariant-loop-i
