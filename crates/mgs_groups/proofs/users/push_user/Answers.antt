@@ -1,6 +1,6 @@
 use Rattle.std.proofs.Common.{List, ℕ, ◌∙◌, ap, sym, ◌++◌, ◌∷◌, []}
-use Rattle.mgs_directory.proofs.UserLemmas.{found_same, never_absent}
-use Rattle.mgs_directory.proofs.directory.push_user.Goals as goal
+use Rattle.mgs_groups.proofs.UserLemmas.{found_same, never_absent}
+use Rattle.mgs_groups.proofs.users.push_user.Goals as goal
 
 pub unreachable-requires : goal.unreachable-requires
 unreachable-requires c = never_absent c.args.user.now c.args.users.now c.requires (sym c.named.ensures ∙ c.in-None.is)

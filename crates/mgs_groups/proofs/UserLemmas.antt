@@ -8,7 +8,7 @@ use Rattle.std.proofs.lemmas.List.Sums.{AllPass-from_list_all}
 use Rattle.std.proofs.lemmas.Slice.Eq.{bytes_eq-Decides}
 use Rattle.mgs_model.specs.Names.{same_name}
 use Rattle.mgs_model.specs.Access.{is_among}
-use Rattle.mgs_directory.specs.Directories.{are_users}
+use Rattle.mgs_groups.specs.Groups.{are_users}
 
 -- what texts say
 abbrev pub texts : List (Bor (List ℕ)) → List (List ℕ)

@@ -1,6 +1,6 @@
 use Rattle.std.proofs.Common.{arith}
-use Rattle.mgs_directory.proofs.UserLemmas.{known_member, known_more}
-use Rattle.mgs_directory.proofs.directory.known.Goals as goal
+use Rattle.mgs_groups.proofs.UserLemmas.{known_member, known_more}
+use Rattle.mgs_groups.proofs.users.known.Goals as goal
 
 pub push_user-requires : goal.push_user-requires
 push_user-requires c = known_member c.args.users.now c.args.members.now c.loop-member.member-index _ c.requires (omega arith)

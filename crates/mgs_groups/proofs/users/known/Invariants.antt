@@ -1,5 +1,5 @@
 use Rattle.std.proofs.Common.{◌≡◌, map, take}
-use Rattle.mgs_directory.proofs.directory.known.Given as goal
+use Rattle.mgs_groups.proofs.users.known.Given as goal
 
 -- the names so far are those of the members so far
 abbrev pub invariant-loop-member : goal.invariant-loop-member

@@ -1,8 +1,8 @@
 use Rattle.std.proofs.Common.{◌≡◌, drop, map}
 use Rattle.std.specs.List.{list_all}
 use Rattle.mgs_model.specs.Access.{is_among}
-use Rattle.mgs_directory.specs.Directories.{are_users}
-use Rattle.mgs_directory.proofs.directory.are_users.Given as goal
+use Rattle.mgs_groups.specs.Groups.{are_users}
+use Rattle.mgs_groups.proofs.users.are_users.Given as goal
 
 -- the members that are left decide
 abbrev pub invariant-loop-member : goal.invariant-loop-member
