@@ -1,8 +1,8 @@
 -- What adding a user or a group does to a directory.
-use Rattle.std.specs.Prelude.{◌≡◌, ℕ, nat_le, not, Bool, ◌&&◌, List, [], ◌∷◌, ◌++◌, length, Option, Some, None, Result, Ok, Err, if◌then◌else◌}
-use Rattle.std.specs.List.{list_any, list_all}
-use Rattle.mgs_model.specs.Names.{is_user_name, same_name}
-use Rattle.mgs_model.specs.Access.{Directory, UserGroup, is_among}
+use Rattle.std.specs.Prelude.{◌≡◌, ℕ, nat_le, not, List, [], ◌∷◌, ◌++◌, length, Option, Some, None, Result, Ok, Err, if◌then◌else◌}
+use Rattle.mgs_model.specs.Names.{is_user_name}
+use Rattle.mgs_model.specs.Access.{Directory, is_among}
+use Rattle.mgs_groups.specs.Groups.{is_group_named, are_users}
 use Rattle.mgs_directory.specs.declared.directory.DirectoryFault.{DirectoryFault}
 use Rattle.mgs_directory.specs.declared.directory.DirectoryFault.TheVariants.{Name, Twice, Unknown, Full, Short}
 
@@ -17,18 +17,6 @@ user_fault directory name =
 -- the directory with a user more, who is its last
 abbrev pub with_user : Directory → List ℕ → Directory
 with_user directory name = record directory { users = directory.users ++ name ∷ [] }
-
--- a group has this name
-abbrev pub is_group_named : List ℕ → List UserGroup → Bool
-is_group_named name groups = list_any (λ g. same_name name g.name) groups
-
--- it is the group of this name, and the user is in it
-abbrev pub has_member : List ℕ → List ℕ → UserGroup → Bool
-has_member group user g = same_name group g.name && is_among user g.members
-
--- all of these are users
-abbrev pub are_users : List (List ℕ) → List (List ℕ) → Bool
-are_users users members = list_all (λ member. is_among member users) members
 
 -- why a group of this name and these members must not be added
 abbrev pub group_fault : Directory → List ℕ → List (List ℕ) → Option DirectoryFault

@@ -1,12 +1,13 @@
 // The users and groups of a server.
-ghost use Rattle.std.specs.Prelude.{◌≡◌, [], ◌∷◌, ◌++◌, OnOk, OnErr, IfOk, find, map, true};
+ghost use Rattle.std.specs.Prelude.{◌≡◌, [], OnOk, OnErr, find, map};
 ghost use Rattle.mgs_model.specs.Access.{is_among, is_member};
 ghost use Rattle.mgs_model.specs.Names.{same_name};
-ghost use Rattle.mgs_directory.specs.Directories.{is_group_named, are_users};
+ghost use Rattle.mgs_groups.specs.Groups.{is_group_named};
 
 use mgs_acl::user_named;
+use mgs_groups::{Group, are_users, has_group, has_name, is_member, known, named};
 use mgs_model::{GROUP_LIMIT, Name, USER_LIMIT};
-use std::alloc::{AllocError, Global};
+use std::alloc::Global;
 use std::marker::Model;
 use thiserror::Error;
 
@@ -28,37 +29,6 @@ pub enum DirectoryFault {
     /// Want of memory.
     #[error("no memory")]
     Short,
-}
-
-/// A group and its members.
-#[derive(Drop)]
-struct Group {
-    name: Name,
-    members: Vec<Name>,
-}
-
-impl Model for Group {
-    ghost use Rattle.mgs_model.specs.Access.{UserGroup};
-
-    ghost Value = { UserGroup };
-
-    ghost view = { λ g. record { name = g.name; members = g.members.items } };
-}
-
-impl Group {
-    ghost use Rattle.mgs_directory.specs.Directories.{has_member};
-
-    fn is_named(&self, name: &Name) -> bool
-        ensures { result ≡ same_name name.now self.now.name }
-    {
-        *name == self.name
-    }
-
-    fn has(&self, group: &Name, user: &Name) -> bool
-        ensures { result ≡ has_member group.now user.now self.now }
-    {
-        *group == self.name && has_name(self.members.as_slice(), user)
-    }
 }
 
 /// The users and groups of a server, in the order in which they were added.
@@ -166,84 +136,9 @@ impl Directory {
         let Ok(members) = known(self.alloc, self.users.as_slice(), members) else {
             return Err(DirectoryFault::Short);
         };
-        let Ok(()) = self.groups.push(Group {
-            name: group,
-            members,
-        })
-        else {
+        let Ok(()) = self.groups.push(Group::new(group, members)) else {
             return Err(DirectoryFault::Short);
         };
         Ok(())
     }
-}
-
-fn has_name(names: &[Name], name: &Name) -> bool
-    ensures { result ≡ is_among name.now names.now }
-{
-    names.iter().any(|other| *name == *other)
-}
-
-fn named(names: &[Name], name: &str) -> Option<Name>
-    ensures { result ≡ find (same_name name.now) names.now }
-{
-    names
-        .iter()
-        .copied()
-        .find(|other| name.as_bytes() == other.as_bytes())
-}
-
-fn has_group(groups: &[Group], name: &Name) -> bool
-    ensures { result ≡ is_group_named name.now groups.now }
-{
-    groups.iter().any(|group| group.is_named(name))
-}
-
-fn is_member(groups: &[Group], group: &Name, user: &Name) -> bool
-    ensures { result ≡ is_member groups.now group.now user.now }
-{
-    groups.iter().any(|other| other.has(group, user))
-}
-
-fn is_user(users: &[Name], name: &str) -> bool
-    ensures { result ≡ is_among name.now users.now }
-{
-    users.iter().any(|user| name.as_bytes() == user.as_bytes())
-}
-
-/// Whether all of these are users.
-fn are_users(users: &[Name], members: &[&str]) -> bool
-    ensures { result ≡ are_users users.now (map (λ member. member.now) members.now) }
-{
-    for member in members {
-        if !is_user(users, member) {
-            return false;
-        }
-    }
-    true
-}
-
-/// Puts the name of a user last.
-fn push_user(names: &mut Vec<Name>, users: &[Name], user: &str) -> Result<(), AllocError>
-    requires { is_among user.now users.now ≡ true }
-    ensures { OnOk result (names.new.items ≡ names.old.items ++ user.now ∷ []) }
-{
-    match named(users, user) {
-        Some(name) => {
-            names.push(name)?;
-            Ok(())
-        }
-        None => unreachable!(),
-    }
-}
-
-/// The names of these users.
-fn known(alloc: Global, users: &[Name], members: &[&str]) -> Result<Vec<Name>, AllocError>
-    requires { are_users users.now (map (λ member. member.now) members.now) ≡ true }
-    ensures { IfOk result (λ names. names.items ≡ map (λ member. member.now) members.now) }
-{
-    let mut names = Vec::new(alloc);
-    for member in members {
-        push_user(&mut names, users, member)?;
-    }
-    Ok(names)
 }

@@ -6,4 +6,5 @@ mod policy;
 mod tests;
 
 pub use mgs_directory::{Directory, DirectoryFault};
-pub use policy::{decide, decide_right, is_granted};
+pub use mgs_right::{decide_right, is_granted};
+pub use policy::decide;

@@ -26,7 +26,6 @@ fn decides_by_the_first_entry(rt: HostRuntime) {
     put(&rt, &mut list, "DENY ann rw");
     put(&rt, &mut list, "ALLOW EVERYONE@ w");
     let read = Mask::from_bits(0x1);
-    let write = Mask::from_bits(0x2);
     let both = Mask::from_bits(0x3);
     assert_eq!(rt;
         decide(&list, &cat, &ann, &directory, both),
@@ -51,6 +50,17 @@ fn decides_by_the_first_entry(rt: HostRuntime) {
             bit: Right::ReadData
         }
     );
+}
+
+#[test]
+fn decides_on_one_right_and_on_none(rt: HostRuntime) {
+    let directory = Directory::new(rt.alloc());
+    let (ann, bob, cat) = (named(&rt, "ann"), named(&rt, "bob"), named(&rt, "cat"));
+    let mut list = List::new();
+    put(&rt, &mut list, "ALLOW ann r");
+    put(&rt, &mut list, "DENY ann rw");
+    put(&rt, &mut list, "ALLOW EVERYONE@ w");
+    let write = Mask::from_bits(0x2);
     assert_eq!(rt;
         decide(&list, &cat, &ann, &directory, write),
         Decision::DeniedBy {
@@ -65,24 +75,6 @@ fn decides_by_the_first_entry(rt: HostRuntime) {
     assert_eq!(rt;
         decide(&list, &cat, &bob, &directory, Mask::none()),
         Decision::Granted
-    );
-    assert!(rt; is_granted(&list, &cat, &bob, &directory, Right::WriteData));
-    assert!(rt; !is_granted(&list, &cat, &bob, &directory, Right::ReadData));
-}
-
-#[test]
-fn denies_by_the_entry_of_the_right(rt: HostRuntime) {
-    let directory = Directory::new(rt.alloc());
-    let (ann, cat) = (named(&rt, "ann"), named(&rt, "cat"));
-    let mut list = List::new();
-    put(&rt, &mut list, "DENY ann w");
-    put(&rt, &mut list, "DENY ann r");
-    assert_eq!(rt;
-        decide_right(&list, &cat, &ann, &directory, Right::WriteData),
-        Decision::DeniedBy {
-            entry: 1,
-            bit: Right::WriteData
-        }
     );
 }
 
@@ -107,24 +99,6 @@ fn names_the_least_denier_and_its_lowest_right(rt: HostRuntime) {
         decide(&together, &cat, &ann, &directory, both),
         Decision::DeniedBy {
             entry: 1,
-            bit: Right::ReadData
-        }
-    );
-}
-
-#[test]
-fn knows_the_owner(rt: HostRuntime) {
-    let directory = Directory::new(rt.alloc());
-    let (ann, bob) = (named(&rt, "ann"), named(&rt, "bob"));
-    let mut list = List::new();
-    put(&rt, &mut list, "ALLOW OWNER@ r");
-    assert_eq!(rt;
-        decide_right(&list, &ann, &ann, &directory, Right::ReadData),
-        Decision::Granted
-    );
-    assert_eq!(rt;
-        decide_right(&list, &ann, &bob, &directory, Right::ReadData),
-        Decision::NotGranted {
             bit: Right::ReadData
         }
     );
