@@ -8,6 +8,3 @@ mod engine;
 
 pub use engine::Engine;
 pub use mgs_output::Taker;
-
-#[cfg(test)]
-mod tests;

@@ -1,7 +1,7 @@
 use Rattle.std.proofs.Common.{◌≤◌, length, refl, sym, subst}
 use Rattle.mgs_shelf.specs.Kept.{Kept, IsKept, kept_placed}
 use Rattle.mgs_shelf.proofs.Changes.{kept_at-added, IsKept-added, IsMark-added, IsMark-placed, IsKept-changed}
-use Rattle.mgs_trials.proofs.buffers.placed.Goals as goal
+use Rattle.mgs_buffer_trials.proofs.buffers.placed.Goals as goal
 
 pub place-requires-clause-kept : goal.place-requires-clause-kept
 place-requires-clause-kept g c = IsKept-added _ _ _ _ _ c.requires.kept c.in_ok-id.ensures.ok

@@ -1,7 +1,7 @@
 use Rattle.std.proofs.Common.{◌+◌, ◌≤◌, length, refl, sym, ap, subst, arith}
 use Rattle.mgs_shelf.specs.Kept.{Kept, IsKept, kept_edited}
 use Rattle.mgs_shelf.proofs.Changes.{kept_at-added, IsKept-added, IsMark-added, IsMark-edited, IsKept-changed}
-use Rattle.mgs_trials.proofs.buffers.moved.Goals as goal
+use Rattle.mgs_buffer_trials.proofs.buffers.moved.Goals as goal
 
 pub edit-requires-clause-kept : goal.edit-requires-clause-kept
 edit-requires-clause-kept g c = IsKept-added _ _ _ _ _ c.requires.kept c.in_ok-id.ensures.ok

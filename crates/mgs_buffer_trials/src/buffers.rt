@@ -2,8 +2,7 @@
 ghost use Rattle.std.specs.Prelude.{◌+◌, ◌<◌, ◌≤◌, ◌^◌, ℕ, length};
 ghost use Rattle.mgs_shelf.specs.Kept.{IsKept, kept_at};
 
-use super::fixtures::list_of;
-use mgs_acl::List;
+use mgs_acl::{List, read_entry};
 use mgs_buffers::{AddFault, Buffers};
 use mgs_marks::{Marked, PlainMarked};
 use mgs_model::{Decision, Name, Right, Short};
@@ -20,13 +19,23 @@ fn named(rt: &impl Abort, text: &str) -> Name {
     }
 }
 
+// A list of this entry.
+fn list_of(text: &str, rt: &impl Abort) -> List {
+    let mut list = List::new();
+    match read_entry(text) {
+        Ok(entry) => assert!(rt; list.insert(0, entry).is_ok()),
+        Err(_) => panic!(rt; "no entry"),
+    }
+    list
+}
+
 // Two buffers of ann: `first`, which she alone may see, and `second`, which everyone may.
 fn two<T: Marked + Drop>(alloc: Global, rt: &impl Abort) -> Buffers<T> {
     let mut all = Buffers::new(alloc);
     assert_eq!(rt; all.len(), 0);
-    let list = list_of(&["ALLOW OWNER@ rt"], rt);
+    let list = list_of("ALLOW OWNER@ rt", rt);
     assert_eq!(rt; all.add("first", "ann", list, &['a', 'b'], false), Ok(()));
-    let list = list_of(&["ALLOW EVERYONE@ rwt"], rt);
+    let list = list_of("ALLOW EVERYONE@ rwt", rt);
     assert_eq!(rt;
         all.add("second", "ann", list, &['c', 'd', 'e'], true),
         Ok(())
@@ -188,6 +197,13 @@ fn judge<T: Marked + Drop>(alloc: Global, rt: &impl Abort) {
             bit: Right::WriteData
         }
     );
+}
+
+fn show<T: Marked + Drop>(alloc: Global, rt: &impl Abort) {
+    let all = two::<T>(alloc, rt);
+    let directory = Directory::new(alloc);
+    let (ann, bob) = (named(rt, "ann"), named(rt, "bob"));
+    let (first, second) = (named(rt, "first"), named(rt, "second"));
     assert_eq!(rt; all.first_shown(&directory, &ann), Some(first));
     assert_eq!(rt; all.first_shown(&directory, &bob), Some(second));
 }
@@ -219,5 +235,6 @@ fn marks_follow_edits(rt: HostRuntime) -> Result<(), Fail> {
 
 #[test]
 fn lists_and_owners_decide(rt: HostRuntime) {
-    judge::<PlainMarked>(rt.alloc(), &rt)
+    judge::<PlainMarked>(rt.alloc(), &rt);
+    show::<PlainMarked>(rt.alloc(), &rt)
 }

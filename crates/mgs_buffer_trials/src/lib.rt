@@ -1,0 +1,5 @@
+//! Tests of buffers by their names, over any text.
+#![tactic(auto)]
+
+#[cfg(test)]
+mod buffers;
