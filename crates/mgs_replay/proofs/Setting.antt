@@ -6,8 +6,8 @@ use Rattle.mgs_world.specs.declared.size.Size.{Size}
 use Rattle.mgs_world.specs.Worlds.{size_of, sizes}
 use Rattle.mgs_engine.specs.Serving.{Serving, queue_ids}
 use Rattle.mgs_output.specs.Queues.{Queue, queue_id}
-use Rattle.mgs_script.specs.Lines.{Said}
-use Rattle.mgs_script.specs.Lines as said
+use Rattle.mgs_said.specs.Lines.{Said}
+use Rattle.mgs_said.specs.Lines as said
 use Rattle.mgs_setup.specs.Setups.{Sets}
 use Rattle.mgs_stage.specs.Stages.{setting, LineDoes}
 

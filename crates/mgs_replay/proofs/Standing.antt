@@ -7,8 +7,8 @@ use Rattle.std.specs.Prelude.{IfSome}
 use Rattle.mgs_words.proofs.Feeds.{length_left}
 use Rattle.std.specs.Io.KnownBytes.{Appends}
 use Rattle.mgs_model.specs.World.{World}
-use Rattle.mgs_script.specs.Lines.{Said, said_in}
-use Rattle.mgs_script.specs.Lines as said
+use Rattle.mgs_said.specs.Lines.{Said, said_in}
+use Rattle.mgs_said.specs.Lines as said
 use Rattle.mgs_words.specs.Scripts.{lines_of, line_in, behind_line, lines_behind}
 use Rattle.mgs_setup.specs.Settings.{first_world}
 use Rattle.mgs_stage.specs.Stages.{Stage, LineDoes, LineRefused, setting, begun}

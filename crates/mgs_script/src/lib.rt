@@ -1,8 +1,6 @@
 //! Reads the lines of a replay's script.
 #![tactic(auto)]
 
-mod kind;
-mod line;
+mod reading;
 
-pub use line::{Line, LineFault, read_line};
-pub use mgs_words::cut_line;
+pub use reading::read_line;

@@ -13,10 +13,10 @@ use Rattle.mgs_model.specs.Apply.{change_first}
 use Rattle.mgs_world.specs.Worlds.{buffers_of}
 use Rattle.mgs_model.specs.World.{World, Buffer, is_named, find_buffer}
 use Rattle.mgs_entries.specs.Spelling.{entry_in}
-use Rattle.mgs_script.specs.Lines as lines
+use Rattle.mgs_said.specs.Lines as lines
 use Rattle.mgs_model.specs.declared.entry.Entry.{Entry}
-use Rattle.mgs_script.specs.declared.line.LineFault.{LineFault}
-use Rattle.mgs_script.specs.declared.line.LineFault.TheVariants.{Bad, Short}
+use Rattle.mgs_said.specs.declared.line.LineFault.{LineFault}
+use Rattle.mgs_said.specs.declared.line.LineFault.TheVariants.{Bad, Short}
 use Rattle.mgs_setup.specs.declared.setup.Draft.{Draft}
 use Rattle.std.proofs.lemmas.List.{map-append}
 use Rattle.mgs_setup.specs.Settings.{entry_refused, text_refused, with_entry, with_text, empty_buffer}

@@ -17,8 +17,8 @@ use Rattle.mgs_buffers.specs.declared.fault.AddFault.TheVariants as adds
 use Rattle.mgs_setup.specs.declared.setup.Draft.{Draft}
 use Rattle.mgs_setup.specs.Settings.{are_names, buffer_refused, entry_refused, text_refused, with_entry, with_text, empty_buffer}
 use Rattle.mgs_setup.specs.Setups.{Changes, kept_of, buffer_of, buffers_in, buffer_name, IsFit, AreNew, AreFit, OnlyShort}
-use Rattle.mgs_script.specs.declared.line.LineFault.{LineFault}
-use Rattle.mgs_script.specs.declared.line.LineFault.TheVariants.{Bad, Short}
+use Rattle.mgs_said.specs.declared.line.LineFault.{LineFault}
+use Rattle.mgs_said.specs.declared.line.LineFault.TheVariants.{Bad, Short}
 
 -- CHANGES KEEP IT
 

@@ -1,8 +1,8 @@
 -- Why a line before the first open is refused.
 use Rattle.mgs_directory.specs.declared.directory.DirectoryFault.{DirectoryFault}
 use Rattle.mgs_directory.specs.declared.directory.DirectoryFault.TheVariants as directory
-use Rattle.mgs_script.specs.declared.line.LineFault.{LineFault}
-use Rattle.mgs_script.specs.declared.line.LineFault.TheVariants as lines
+use Rattle.mgs_said.specs.declared.line.LineFault.{LineFault}
+use Rattle.mgs_said.specs.declared.line.LineFault.TheVariants as lines
 
 -- a user or a group that the directory refuses, or want of memory
 abbrev pub fault_in : DirectoryFault → LineFault

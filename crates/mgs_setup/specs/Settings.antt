@@ -9,7 +9,7 @@ use Rattle.mgs_model.specs.declared.entry.Entry.{Entry}
 use Rattle.mgs_entries.specs.Spelling.{entry_in}
 use Rattle.mgs_directory.specs.Directories.{user_fault, with_user, group_fault, with_group}
 use Rattle.mgs_shelf.specs.Kept.{kept_new}
-use Rattle.mgs_script.specs.Lines.{Said, Nothing, User, Group, Buffer, Entry as Listing, Text, Open, Keys, Show, Close}
+use Rattle.mgs_said.specs.Lines.{Said, Nothing, User, Group, Buffer, Entry as Listing, Text, Open, Keys, Show, Close}
 
 -- a world without users, buffers and sessions
 abbrev pub first_world : World

@@ -8,10 +8,10 @@ use Rattle.mgs_model.specs.Apply.{change_first}
 use Rattle.mgs_model.specs.World.{World, Buffer, is_named}
 use Rattle.mgs_model.specs.declared.entry.Entry.{Entry}
 use Rattle.mgs_shelf.specs.Kept.{Kept, kept_new}
-use Rattle.mgs_script.specs.declared.line.LineFault.{LineFault}
-use Rattle.mgs_script.specs.declared.line.LineFault.TheVariants.{Bad, Short}
+use Rattle.mgs_said.specs.declared.line.LineFault.{LineFault}
+use Rattle.mgs_said.specs.declared.line.LineFault.TheVariants.{Bad, Short}
 use Rattle.mgs_setup.specs.declared.setup.Draft.{Draft}
-use Rattle.mgs_script.specs.Lines.{Said}
+use Rattle.mgs_said.specs.Lines.{Said}
 use Rattle.mgs_setup.specs.Settings.{setting_refused, world_set}
 
 -- an entry is put last; what is none is refused, and so is a 65th

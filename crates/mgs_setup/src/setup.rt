@@ -2,7 +2,7 @@
 ghost use Rattle.std.specs.Prelude.{◌≡◌, ◌<◌, IfOk, IfSome, [], length, map, position, is_some};
 ghost use Rattle.mgs_entries.specs.Spelling.{entry_in};
 ghost use Rattle.mgs_model.specs.World.{find_buffer};
-ghost use Rattle.mgs_script.specs.Lines.{view, User, Group, Buffer};
+ghost use Rattle.mgs_said.specs.Lines.{view, User, Group, Buffer};
 ghost use Rattle.mgs_setup.specs.Faults.{fault_in};
 ghost use Rattle.mgs_setup.specs.Settings.{first_world, are_names, buffer_refused, entry_refused, text_refused, with_entry, with_text};
 ghost use Rattle.mgs_setup.specs.Setups.{Listed, Lengthened, Changes, Sets, kept_of, buffers_in, is_drafted, AreFit, OnlyShort};
@@ -13,7 +13,7 @@ use mgs_core::Core;
 use mgs_marks::PlainMarked;
 use mgs_model::{BUFFER_LIMIT, Name, Short, TEXT_LIMIT};
 use mgs_policy::{Directory, DirectoryFault};
-use mgs_script::{Line, LineFault};
+use mgs_said::{Line, LineFault};
 use std::alloc::Global;
 use std::marker::Model;
 

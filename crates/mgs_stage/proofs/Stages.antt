@@ -12,13 +12,13 @@ use Rattle.mgs_core.specs.Steps.{OpenedBy}
 use Rattle.mgs_engine.specs.Serving.{Serving}
 use Rattle.mgs_sequences.specs.Terminal.{Terminal}
 use Rattle.mgs_paint.specs.Painting.{shown}
-use Rattle.mgs_script.specs.declared.line.LineFault.{LineFault}
-use Rattle.mgs_script.specs.declared.line.LineFault.TheVariants.{Bad, Short}
+use Rattle.mgs_said.specs.declared.line.LineFault.{LineFault}
+use Rattle.mgs_said.specs.declared.line.LineFault.TheVariants.{Bad, Short}
 use Rattle.mgs_seats.specs.declared.seat.Labelled.{Labelled}
 use Rattle.mgs_seats.specs.declared.seat.Cause.TheVariants as causes
 use Rattle.mgs_seats.specs.declared.seat.Seat.{Seat}
 use Rattle.mgs_seats.specs.declared.seat.Seat.TheVariants as seats
-use Rattle.mgs_script.specs.Lines as said
+use Rattle.mgs_said.specs.Lines as said
 use Rattle.mgs_seats.specs.Prints.{refusal_text, screen_text, ended_text}
 use Rattle.mgs_seats.specs.Seats.{is_labelled, seat_of, shown_text}
 use Rattle.mgs_stage.specs.Stages.{Label, label, Standing, Never, Has, begun, standing_of, session_now, had_session, labels_keyed, Shows}

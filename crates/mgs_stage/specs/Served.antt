@@ -16,9 +16,9 @@ use Rattle.mgs_seats.specs.declared.seat.Seat.TheVariants as seats
 use Rattle.mgs_model.specs.declared.errors.Keyed.{Keyed}
 use Rattle.mgs_model.specs.declared.errors.Keyed.TheVariants as keyed
 use Rattle.mgs_seats.specs.declared.seat.Cause.TheVariants as causes
-use Rattle.mgs_script.specs.declared.line.LineFault.{LineFault}
-use Rattle.mgs_script.specs.declared.line.LineFault.TheVariants as lines
-use Rattle.mgs_script.specs.Lines.{Said}
+use Rattle.mgs_said.specs.declared.line.LineFault.{LineFault}
+use Rattle.mgs_said.specs.declared.line.LineFault.TheVariants as lines
+use Rattle.mgs_said.specs.Lines.{Said}
 use Rattle.mgs_seats.specs.Seats.{ended_by}
 use Rattle.mgs_stage.specs.Stages.{Label, label, Standing, Never, Has, Gone, Stage, begun, is_refused, Does, LineDoes, LineRefused}
 

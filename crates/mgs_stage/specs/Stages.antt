@@ -14,7 +14,7 @@ use Rattle.mgs_paint.specs.Painting.{shown}
 use Rattle.mgs_seats.specs.declared.seat.Cause.{Cause}
 use Rattle.mgs_seats.specs.declared.seat.Cause.TheVariants as causes
 use Rattle.mgs_setup.specs.Settings.{setting_refused, world_set}
-use Rattle.mgs_script.specs.Lines.{Said, Nothing, User, Group, Buffer, Entry as Listing, Text, Open, Keys, Show, Close}
+use Rattle.mgs_said.specs.Lines.{Said, Nothing, User, Group, Buffer, Entry as Listing, Text, Open, Keys, Show, Close}
 use Rattle.mgs_seats.specs.Prints.{refusal_text, ended_text, screen_text}
 
 -- LABELS

@@ -4,7 +4,7 @@ ghost use Rattle.mgs_model.specs.Picture.{IsSize};
 ghost use Rattle.mgs_sequences.specs.Screen.{blank_screen};
 ghost use Rattle.mgs_sequences.specs.Terminal.{resting};
 ghost use Rattle.mgs_seats.specs.declared.seat.Seat.TheVariants as seated;
-ghost use Rattle.mgs_script.specs.Lines.{view, Open, Keys, Close, said_in};
+ghost use Rattle.mgs_said.specs.Lines.{view, Open, Keys, Close, said_in};
 ghost use Rattle.mgs_seats.specs.Prints.{refusal_text};
 ghost use Rattle.mgs_seats.specs.Seats.{seat_of, shown_text};
 ghost use Rattle.mgs_stage.specs.Stages.{label as called, Has, standing_of, session_now, had_session, TypesOne, Types, Closes};
@@ -13,7 +13,8 @@ ghost use Rattle.mgs_stage.specs.Served.{labels_in, stage_of, seats_keyed, IsRea
 use mgs_engine::Engine;
 use mgs_marks::PlainMarked;
 use mgs_model::{Keyed, Name, OpenFault, SessionId, Short};
-use mgs_script::{Line, LineFault, read_line};
+use mgs_said::{Line, LineFault};
+use mgs_script::read_line;
 use mgs_seats::{Cause, Seat, Seats, print_ended, print_refusal, print_screen};
 use mgs_term::Term;
 use std::alloc::{AllocError, Global};

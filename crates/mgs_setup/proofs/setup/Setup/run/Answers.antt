@@ -3,7 +3,7 @@ use Rattle.std.specs.Vec.{with_items}
 use Rattle.std.proofs.lemmas.List.{with_items_is}
 use Rattle.mgs_entries.specs.Spelling.{entry_in}
 use Rattle.mgs_model.specs.World.{World}
-use Rattle.mgs_script.specs.Lines as lines
+use Rattle.mgs_said.specs.Lines as lines
 use Rattle.mgs_setup.specs.declared.setup.Draft.{Draft}
 use Rattle.mgs_setup.specs.Setups.{world_of, buffers_in, AreFit, Sets}
 use Rattle.mgs_setup.proofs.Drafts.{sets_entry}

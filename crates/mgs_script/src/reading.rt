@@ -1,76 +1,16 @@
-// What a script's line says.
+// How a script's line is read.
 ghost use Rattle.std.specs.Prelude.{◌≡◌, Some};
 ghost use Rattle.std.specs.Option.{option_map};
-ghost use Rattle.mgs_script.specs.Lines.{view, group_said, buffer_said, entry_said, text_said, open_said, keys_said, said_by_kind, said_in, is_passed_over, utf8_of, GivesLine};
+ghost use Rattle.mgs_said.specs.Lines.{view, group_said, buffer_said, entry_said, text_said, open_said, keys_said, said_by_kind, said_in, is_passed_over, utf8_of, GivesLine};
 
-use crate::kind::{Kind, kind_of};
 use mgs_keys::{KeysFault, read_keys};
-use mgs_model::{Name, Short};
+use mgs_model::Short;
+use mgs_said::{Kind, Line, LineFault, kind_of};
 use mgs_words::{any_word, cut_text, name_in, read_text, size, words};
 use std::alloc::Global;
 use std::str;
 
-/// What a script's line says. The texts are the script's own.
-#[derive(Debug, PartialEq, Eq, Drop)]
-pub enum Line<'a> {
-    /// An empty line, or one that begins with `#`.
-    Nothing,
-    /// `user NAME`: a user. The form of the name is not judged here.
-    User {
-        name: &'a str,
-    },
-    /// `group NAME MEMBER ..`: a group of users. Neither the form of the names nor whether the members are users is judged here.
-    Group {
-        name: &'a str,
-        members: Vec<&'a str>,
-    },
-    /// `buffer NAME OWNER`: a buffer. Neither name is judged here.
-    Buffer {
-        name: &'a str,
-        owner: &'a str,
-    },
-    /// `entry BUFFER ENTRY`: an entry, as it is written, that is put last in a buffer's list.
-    Entry {
-        buffer: Name,
-        entry: &'a str,
-    },
-    /// `text BUFFER TOKEN ..`: characters that are put behind a buffer's text.
-    Text {
-        buffer: Name,
-        text: Vec<char>,
-    },
-    /// `open LABEL USER ROWS COLS`: a session is opened. Neither the user nor the size is judged here.
-    Open {
-        label: Name,
-        user: &'a str,
-        rows: usize,
-        cols: usize,
-    },
-    /// `keys LABEL TOKEN ..`: bytes for a session, one event each.
-    Keys {
-        label: Name,
-        keys: Vec<u8>,
-    },
-    /// `show LABEL`: a session's screen is printed.
-    Show {
-        label: Name,
-    },
-    /// `close LABEL`: a session is closed.
-    Close {
-        label: Name,
-    },
-}
-
-/// Why a line was not read.
-#[derive(Clone, Copy, Debug, PartialEq, Eq)]
-pub enum LineFault {
-    /// The line is refused.
-    Bad,
-    /// Want of memory.
-    Short,
-}
-
-#[tactic(auto, unfolding(crate::specs::Lines::group_said))]
+#[tactic(auto, unfolding(mgs_said::specs::Lines::group_said))]
 fn group_line(alloc: Global, text: &str) -> Result<Line<'_>, LineFault>
     ensures { GivesLine result (group_said text.now) }
 {
@@ -84,7 +24,7 @@ fn group_line(alloc: Global, text: &str) -> Result<Line<'_>, LineFault>
     }
 }
 
-#[tactic(auto, unfolding(crate::specs::Lines::buffer_said))]
+#[tactic(auto, unfolding(mgs_said::specs::Lines::buffer_said))]
 fn buffer_line(text: &str) -> Option<Line<'_>>
     ensures { option_map view result ≡ buffer_said text.now }
 {
@@ -93,7 +33,7 @@ fn buffer_line(text: &str) -> Option<Line<'_>>
     Some(Line::Buffer { name, owner })
 }
 
-#[tactic(auto, unfolding(crate::specs::Lines::entry_said))]
+#[tactic(auto, unfolding(mgs_said::specs::Lines::entry_said))]
 fn entry_line(text: &str) -> Option<Line<'_>>
     ensures { option_map view result ≡ entry_said text.now }
 {
@@ -103,7 +43,7 @@ fn entry_line(text: &str) -> Option<Line<'_>>
     Some(Line::Entry { buffer, entry })
 }
 
-#[tactic(auto, unfolding(crate::specs::Lines::open_said))]
+#[tactic(auto, unfolding(mgs_said::specs::Lines::open_said))]
 fn open_line(text: &str) -> Option<Line<'_>>
     ensures { option_map view result ≡ open_said text.now }
 {
@@ -120,7 +60,7 @@ fn open_line(text: &str) -> Option<Line<'_>>
     })
 }
 
-#[tactic(auto, unfolding(crate::specs::Lines::text_said))]
+#[tactic(auto, unfolding(mgs_said::specs::Lines::text_said))]
 fn text_line(alloc: Global, text: &str) -> Result<Line<'_>, LineFault>
     ensures { GivesLine result (text_said text.now) }
 {
@@ -135,7 +75,7 @@ fn text_line(alloc: Global, text: &str) -> Result<Line<'_>, LineFault>
     }
 }
 
-#[tactic(auto, unfolding(crate::specs::Lines::keys_said))]
+#[tactic(auto, unfolding(mgs_said::specs::Lines::keys_said))]
 fn keys_line(alloc: Global, text: &str) -> Result<Line<'_>, LineFault>
     ensures { GivesLine result (keys_said text.now) }
 {
@@ -150,7 +90,7 @@ fn keys_line(alloc: Global, text: &str) -> Result<Line<'_>, LineFault>
     }
 }
 
-#[tactic(auto, unfolding(crate::specs::Lines::said_by_kind))]
+#[tactic(auto, unfolding(mgs_said::specs::Lines::said_by_kind))]
 // A line that is not passed over.
 fn line_by_kind(alloc: Global, text: &str) -> Result<Line<'_>, LineFault>
     ensures { GivesLine result (said_by_kind text.now) }
@@ -211,8 +151,9 @@ pub fn read_line(alloc: Global, line: &[u8]) -> Result<Line<'_>, LineFault>
 
 #[cfg(test)]
 mod tests {
-    use super::{Line, LineFault, read_line};
+    use super::read_line;
     use mgs_model::Name;
+    use mgs_said::{Line, LineFault};
     use std::test::Fail;
 
     #[test]

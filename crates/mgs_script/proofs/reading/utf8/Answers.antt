@@ -1,6 +1,6 @@
 use Rattle.std.proofs.Common.{ℕ, List, Some, sym, ap, ◌∙◌}
 use Rattle.mgs_script.proofs.Utf8.{utf8_of-text, utf8_of-other}
-use Rattle.mgs_script.proofs.line.utf8.Goals as goal
+use Rattle.mgs_script.proofs.reading.utf8.Goals as goal
 
 pub returns-in-Ok : goal.returns-in-Ok
 returns-in-Ok c =

@@ -1,6 +1,6 @@
 // The kinds of a script's lines.
 ghost use Rattle.std.specs.Prelude.{◌≡◌};
-ghost use Rattle.mgs_script.specs.Lines.{kind_named};
+ghost use Rattle.mgs_said.specs.Lines.{kind_named};
 
 /// What a script's line begins with.
 #[derive(Clone, Copy, Debug, PartialEq, Eq)]

@@ -5,12 +5,12 @@ use Rattle.std.specs.Str.{bytes_eq, is_utf8}
 use Rattle.mgs_keys.specs.Words.{word_of, rest_of, words_of}
 use Rattle.mgs_keys.specs.Tokens.{keys_of}
 use Rattle.mgs_words.specs.Words.{◌>>=◌, name_of, any_word_of, text_of, size_of}
-use Rattle.mgs_script.specs.declared.line.Line.{Line}
-use Rattle.mgs_script.specs.declared.line.Line.TheVariants as code
-use Rattle.mgs_script.specs.declared.line.LineFault.{LineFault}
-use Rattle.mgs_script.specs.declared.line.LineFault.TheVariants.{Bad, Short}
-use Rattle.mgs_script.specs.declared.kind.Kind.{Kind}
-use Rattle.mgs_script.specs.declared.kind.Kind.TheVariants as kinds
+use Rattle.mgs_said.specs.declared.line.Line.{Line}
+use Rattle.mgs_said.specs.declared.line.Line.TheVariants as code
+use Rattle.mgs_said.specs.declared.line.LineFault.{LineFault}
+use Rattle.mgs_said.specs.declared.line.LineFault.TheVariants.{Bad, Short}
+use Rattle.mgs_said.specs.declared.kind.Kind.{Kind}
+use Rattle.mgs_said.specs.declared.kind.Kind.TheVariants as kinds
 
 -- what a line says
 pub data Said : Type 0 where

@@ -1,10 +1,10 @@
-// The calls of an engine, with ample memory.
-use super::fixtures::{directory_of, list_of};
+use mgs_acl::{List, read_entry};
 use mgs_buffers::Buffers;
 use mgs_core::Core;
 use mgs_engine::{Engine, Taker};
 use mgs_marks::PlainMarked;
 use mgs_model::{Keyed, SessionId};
+use mgs_policy::Directory;
 use std::alloc::Global;
 use std::process::Abort;
 use std::test::Fail;
@@ -23,8 +23,13 @@ impl Taker for Seen {
 
 // The world of ann, and of a buffer that she may read and write.
 fn world(alloc: Global, rt: &impl Abort) -> Core<PlainMarked> {
-    let directory = directory_of(alloc, &["ann"], rt);
-    let list = list_of(&["ALLOW OWNER@ rwt"], rt);
+    let mut directory = Directory::new(alloc);
+    assert!(rt; directory.add_user("ann").is_ok());
+    let Ok(entry) = read_entry("ALLOW OWNER@ rwt") else {
+        panic!(rt; "no entry");
+    };
+    let mut list = List::new();
+    assert!(rt; list.insert(0, entry).is_ok());
     let mut buffers = Buffers::new(alloc);
     assert!(rt;
         buffers

@@ -1,0 +1,62 @@
+// A script's line as a value.
+use mgs_model::Name;
+
+/// What a script's line says. The texts are the script's own.
+#[derive(Debug, PartialEq, Eq, Drop)]
+pub enum Line<'a> {
+    /// An empty line, or one that begins with `#`.
+    Nothing,
+    /// `user NAME`: a user. The form of the name is not judged here.
+    User {
+        name: &'a str,
+    },
+    /// `group NAME MEMBER ..`: a group of users. Neither the form of the names nor whether the members are users is judged here.
+    Group {
+        name: &'a str,
+        members: Vec<&'a str>,
+    },
+    /// `buffer NAME OWNER`: a buffer. Neither name is judged here.
+    Buffer {
+        name: &'a str,
+        owner: &'a str,
+    },
+    /// `entry BUFFER ENTRY`: an entry, as it is written, that is put last in a buffer's list.
+    Entry {
+        buffer: Name,
+        entry: &'a str,
+    },
+    /// `text BUFFER TOKEN ..`: characters that are put behind a buffer's text.
+    Text {
+        buffer: Name,
+        text: Vec<char>,
+    },
+    /// `open LABEL USER ROWS COLS`: a session is opened. Neither the user nor the size is judged here.
+    Open {
+        label: Name,
+        user: &'a str,
+        rows: usize,
+        cols: usize,
+    },
+    /// `keys LABEL TOKEN ..`: bytes for a session, one event each.
+    Keys {
+        label: Name,
+        keys: Vec<u8>,
+    },
+    /// `show LABEL`: a session's screen is printed.
+    Show {
+        label: Name,
+    },
+    /// `close LABEL`: a session is closed.
+    Close {
+        label: Name,
+    },
+}
+
+/// Why a line was not read.
+#[derive(Clone, Copy, Debug, PartialEq, Eq)]
+pub enum LineFault {
+    /// The line is refused.
+    Bad,
+    /// Want of memory.
+    Short,
+}
