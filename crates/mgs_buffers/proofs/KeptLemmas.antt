@@ -119,10 +119,6 @@ module _ {T : Type 0} (text : T → List ℕ) (marks : T → List (Option ℕ)) 
       ap (λ b. cond b (Some (kept_of text marks n s).buffer) (find p (map (λ (k : Kept). k.buffer) (kept_all text marks rest)))) fails
       ∙ sym (ap (λ es. find p (map (λ (k : Kept). k.buffer) (kept_all text marks es))) head) ∙ same
 
-pub owner_of : (b : Bool) (o w : List ℕ) → Some o ≡ cond b (Some w) None → o ≡ w
-owner_of true o w h = cc
-owner_of false o w h = cc
-
 pub some_place : (b : Bool) (i p : ℕ) → Some i ≡ cond b (Some p) None → i ≡ p
 some_place true i p h = cc
 some_place false i p h = cc

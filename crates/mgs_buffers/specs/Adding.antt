@@ -14,11 +14,20 @@ add_fault name owner size ks =
     else if nat_lt 1048576 size then Some Long
     else None
 
--- what is answered: each fault exactly where it is due, and want of memory only where none is
+-- each fault exactly where it is due, and want of memory only where none is
+abbrev pub IsDue : AddFault → Option AddFault → Type 0
+IsDue Short due = due ≡ None
+IsDue Name due = due ≡ Some Name
+IsDue Twice due = due ≡ Some Twice
+IsDue Full due = due ≡ Some Full
+IsDue Long due = due ≡ Some Long
+
+-- what is answered
 abbrev pub Answers : Result (Unit {0}) AddFault → Option AddFault → Type 0
 Answers (Ok done) due = due ≡ None
-Answers (Err Short) due = due ≡ None
-Answers (Err Name) due = due ≡ Some Name
-Answers (Err Twice) due = due ≡ Some Twice
-Answers (Err Full) due = due ≡ Some Full
-Answers (Err Long) due = due ≡ Some Long
+Answers (Err fault) due = IsDue fault due
+
+-- what is answered where a buffer is judged and not yet added: its name and its owner's
+abbrev pub Judged : Result (List ℕ × List ℕ) AddFault → List ℕ → List ℕ → Option AddFault → Type 0
+Judged (Ok names) name owner due = (names ≡ (name, owner)) × (due ≡ None)
+Judged (Err fault) name owner due = IsDue fault due

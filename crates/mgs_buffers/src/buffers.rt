@@ -1,5 +1,5 @@
 // All buffers, by name and in order of creation.
-ghost use Rattle.std.specs.Prelude.{◌≡◌, ◌+◌, ℕ, ◌-◌, ◌<◌, ◌≤◌, ◌^◌, ◌∷◌, [], ◌++◌, List, map, find, length, OnOk, OnErr, IfOk, IfSome, None};
+ghost use Rattle.std.specs.Prelude.{◌≡◌, ◌+◌, ℕ, ◌-◌, ◌<◌, ◌≤◌, ◌^◌, ◌∷◌, [], ◌++◌, List, map, find, length, OnOk, OnErr, IfOk, IfSome, None, false};
 ghost use Rattle.std.specs.Option.{option_map};
 ghost use Rattle.std.specs.Map.{lookup};
 ghost use Rattle.mgs_model.specs.Names.{same_name};
@@ -7,7 +7,7 @@ ghost use Rattle.std.specs.List.{position_or_len};
 ghost use Rattle.mgs_model.specs.Access.{decider, decision_by};
 ghost use Rattle.mgs_model.specs.Apply.{change_first};
 ghost use Rattle.mgs_model.specs.World.{may};
-ghost use Rattle.mgs_buffers.specs.Adding.{add_fault, Answers};
+ghost use Rattle.mgs_buffers.specs.Adding.{add_fault, Answers, Judged};
 ghost use Rattle.mgs_shelf.specs.Shelves.{kept_of};
 ghost use Rattle.mgs_shelf.specs.Kept.{AreWithinLimit, kept_named, kept_at, is_kept, IsKept, IsMark, mark_at, kept_new, kept_edited, kept_placed, MarkAdded, MarkDropped};
 
@@ -113,6 +113,25 @@ impl<T: Marked + Drop> Buffers<T> {
         ensures ok { OnOk result (self.new ≡ self.old ++ kept_new name.now owner.now list text.now has_file ∷ []) }
         ensures err { OnErr result (self.new ≡ self.old) }
     {
+        let (name, owner) = match self.judged(name, owner, text.len()) {
+            Ok(names) => names,
+            Err(fault) => return Err(fault),
+        };
+        let Ok(shelf) = new_shelf(self.alloc, owner, list, text, has_file) else {
+            return Err(AddFault::Short);
+        };
+        match put_last(&mut self.all, name, shelf) {
+            Ok(()) => Ok(()),
+            Err(Short) => Err(AddFault::Short),
+        }
+    }
+
+    // The names, where a buffer of them, with a text of this size, may be added.
+    fn judged(&self, name: &str, owner: &str, size: usize) -> Result<(Name, Name), AddFault>
+        ensures answer { Judged result name.now owner.now (add_fault name.now owner.now size self.now) }
+        ensures free { IfOk result (λ names. is_kept names.0 self.now ≡ false) }
+        ensures room { IfOk result (λ names. size ≤ 1048576) }
+    {
         let Some(name) = Name::read(name) else {
             return Err(AddFault::Name);
         };
@@ -125,16 +144,10 @@ impl<T: Marked + Drop> Buffers<T> {
         if self.len() >= BUFFER_LIMIT {
             return Err(AddFault::Full);
         }
-        if text.len() > TEXT_LIMIT {
+        if size > TEXT_LIMIT {
             return Err(AddFault::Long);
         }
-        let Ok(shelf) = new_shelf(self.alloc, owner, list, text, has_file) else {
-            return Err(AddFault::Short);
-        };
-        match put_last(&mut self.all, name, shelf) {
-            Ok(()) => Ok(()),
-            Err(Short) => Err(AddFault::Short),
-        }
+        Ok((name, owner))
     }
 
     // The place of a buffer.

@@ -1,34 +1,32 @@
-use Rattle.std.proofs.Common.{◌≡◌, sym, ap, ◌∙◌, refl, subst, length, arith}
-use Rattle.mgs_model.specs.Names.{is_user_name}
-use Rattle.mgs_buffers.proofs.KeptLemmas.{is_kept-lookup, none_of, kept-added, owner_of, OnOk-at, OnOk-err}
+use Rattle.std.proofs.Common.{◌≡◌, ℕ, List, sym, ap, ◌∙◌, refl, subst, length, arith}
+use Rattle.mgs_buffers.proofs.KeptLemmas.{is_kept-lookup, none_of, kept-added, OnOk-at, OnOk-err}
 use Rattle.mgs_shelf.specs.Kept.{Kept, kept_new, AreWithinLimit}
 use Rattle.mgs_shelf.specs.Shelves.{kept_of, kept_all}
 use Rattle.mgs_buffers.proofs.Limits.{limit-added, ended}
 use Rattle.mgs_buffers.proofs.buffers.Buffers.add.Goals as goal
-use Rattle.mgs_buffers.proofs.buffers.Buffers.add.Goals.{in-Ok-put_last, in-Err}
+use Rattle.mgs_buffers.proofs.buffers.Buffers.add.Goals.{in-Ok-put_last, in-Err-put_last}
 
 pub put_last-requires : goal.put_last-requires
 put_last-requires g c =
-    none_of _ (is_kept-lookup g.T.Text.text g.T.Text.marks c.in-Some.name c.self.inside.all.entries c.args.self.now c.self.view_is ∙ sym c.has.ensures ∙ c.if-has.false)
+    none_of _ (is_kept-lookup g.T.Text.text g.T.Text.marks c.in-Ok.names.0 c.self.inside.all.entries c.args.self.now c.self.view_is ∙ c.in-Ok.ensures.free)
 
 pub returns-clause-ok : goal.returns-clause-ok
 returns-clause-ok g c =
     elim c.match-put_last.branch [
       | in-Ok-put_last w ↦
           OnOk-at c.match-put_last.result
-          (kept-added g.T.Text.text g.T.Text.marks c.self.inside.all.entries c.put_last.new.all.entries c.args.self.now c.in-Some.name c.in-Ok.shelf _ c.self.view_is w.in-Ok-put_last.ensures.ok
-          (c.in-Ok.ensures c.in-Some.name
-          ∙ ap (λ n. kept_new n c.in-Some-user_named.owner c.args.list c.args.text.now c.args.has_file) c.in-Some.ensures.value
-          ∙ ap (λ n. kept_new c.args.name.now n c.args.list c.args.text.now c.args.has_file) (owner_of (is_user_name c.args.owner.now) c.in-Some-user_named.owner c.args.owner.now c.in-Some-user_named.ensures)))
-      | in-Err w ↦ OnOk-err _ c.match-put_last.result _ w.result-is
+          (kept-added g.T.Text.text g.T.Text.marks c.self.inside.all.entries c.put_last.new.all.entries c.args.self.now c.in-Ok.names.0 c.in-Ok-new_shelf.shelf _ c.self.view_is w.in-Ok-put_last.ensures.ok
+          (c.in-Ok-new_shelf.ensures c.in-Ok.names.0
+          ∙ ap (λ (names : List ℕ × List ℕ). kept_new names.0 names.1 c.args.list c.args.text.now c.args.has_file) c.in-Ok.ensures.answer.0))
+      | in-Err-put_last w ↦ OnOk-err _ c.match-put_last.result _ w.result-is
     ]
 
 pub invariant_of-self : goal.invariant_of-self
 invariant_of-self g c =
     let old = subst AreWithinLimit c.self.view_is c.self.invariant in
-    let k = kept_of g.T.Text.text g.T.Text.marks c.in-Some.name c.in-Ok.shelf in
-    let size : length k.buffer.text ≡ length c.args.text.now = ap (λ (k : Kept). length k.buffer.text) (c.in-Ok.ensures c.in-Some.name) in
+    let k = kept_of g.T.Text.text g.T.Text.marks c.in-Ok.names.0 c.in-Ok-new_shelf.shelf in
+    let size : length k.buffer.text ≡ length c.args.text.now = ap (λ (k : Kept). length k.buffer.text) (c.in-Ok-new_shelf.ensures c.in-Ok.names.0) in
     ended c.put_last.result c.put_last.ensures.ok c.put_last.ensures.err
-    (λ more. subst AreWithinLimit (sym (kept-added g.T.Text.text g.T.Text.marks c.self.inside.all.entries c.put_last.new.all.entries c.args.self.now c.in-Some.name c.in-Ok.shelf k c.self.view_is more refl))
-    (limit-added c.args.self.now k old (omega (arith, size))))
+    (λ more. subst AreWithinLimit (sym (kept-added g.T.Text.text g.T.Text.marks c.self.inside.all.entries c.put_last.new.all.entries c.args.self.now c.in-Ok.names.0 c.in-Ok-new_shelf.shelf k c.self.view_is more refl))
+    (limit-added c.args.self.now k old (omega (arith, size, c.in-Ok.ensures.room))))
     (λ same. subst AreWithinLimit (sym (ap (kept_all g.T.Text.text g.T.Text.marks) same ∙ c.self.view_is)) old)
