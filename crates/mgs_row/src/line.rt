@@ -44,7 +44,7 @@ impl Line {
         })
     }
 
-    /// The row's characters, one for each column, each visible ASCII or the space.
+    /// The row's characters, one for each column.
     pub fn text(&self) -> &[char]
         ensures { result.now ≡ self.now.text }
     {
