@@ -1,9 +1,6 @@
 //! The editing server's program.
 #![tactic(auto)]
 
-#[cfg(test)]
-mod tests;
-
 use mgs_replay::{ReplayFault, replay};
 use std::env::{self, Env};
 use std::io;

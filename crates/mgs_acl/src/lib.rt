@@ -2,10 +2,10 @@
 #![tactic(auto)]
 
 mod list;
-#[cfg(test)]
-mod tests;
+mod printing;
+mod spelling;
 
 pub use list::{List, ListFault};
-pub use mgs_entries::{EntryFault, read_entry, user_named};
 pub use mgs_model::{Entry, EntryType, Who};
-pub use mgs_spelling::print_entry;
+pub use printing::print_entry;
+pub use spelling::{EntryFault, letter_of, read_entry, user_named};

@@ -17,7 +17,7 @@ use Rattle.mgs_model.specs.declared.entry.Decision.TheVariants.{Granted, DeniedB
 use Rattle.mgs_model.specs.declared.message.Message.TheVariants.{KeyNotBound, NoBuffer}
 use Rattle.mgs_model.specs.declared.session.Command.{Command}
 use Rattle.mgs_model.specs.declared.session.Command.TheVariants.{SelfInsert, Newline, ForwardChar, BackwardChar, Unbound}
-use Rattle.mgs_shelf.specs.Kept.{Kept, IsKept, kept_at, mark_at}
+use Rattle.mgs_buffers.specs.Kept.{Kept, IsKept, kept_at, mark_at}
 use Rattle.mgs_windows.specs.declared.Spot.{Spot}
 use Rattle.mgs_windows.specs.declared.Window.{Window}
 use Rattle.mgs_session.specs.Told.{spot_of}

@@ -11,7 +11,7 @@ use Rattle.mgs_model.specs.declared.right.Right.{Right}
 use Rattle.mgs_model.specs.declared.right.Right.TheVariants.{ReadData}
 use Rattle.mgs_model.specs.declared.session.Command.{Command}
 use Rattle.mgs_model.specs.declared.session.Command.TheVariants.{ForwardChar, BackwardChar}
-use Rattle.mgs_shelf.specs.Kept.{Kept, kept_at, kept_edited, kept_named, kept_placed, mark_at}
+use Rattle.mgs_buffers.specs.Kept.{Kept, kept_at, kept_edited, kept_named, kept_placed, mark_at}
 use Rattle.mgs_windows.specs.declared.Spot.{Spot}
 use Rattle.mgs_session.specs.declared.Session.{Session}
 use Rattle.mgs_world.specs.Worlds.{own_of}

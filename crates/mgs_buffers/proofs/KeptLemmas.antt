@@ -9,9 +9,9 @@ use Rattle.mgs_model.specs.Names.{same_name}
 use Rattle.mgs_model.specs.Apply.{change_first}
 use Rattle.mgs_model.specs.World.{Buffer}
 use Rattle.mgs_model.proofs.Blind.{same_names, is_name}
-use Rattle.mgs_shelf.specs.declared.shelf.Shelf.{Shelf}
-use Rattle.mgs_shelf.specs.Kept.{Kept, kept_named, kept_at, kept_or_none, is_kept, IsKept}
-use Rattle.mgs_shelf.specs.Shelves.{kept_of, kept_all}
+use Rattle.mgs_buffers.specs.declared.shelf.Shelf.{Shelf}
+use Rattle.mgs_buffers.specs.Kept.{Kept, kept_named, kept_at, kept_or_none, is_kept, IsKept}
+use Rattle.mgs_buffers.specs.Shelves.{kept_of, kept_all}
 
 module _ {T : Type 0} (text : T → List ℕ) (marks : T → List (Option ℕ)) where
   -- the buffer of a name is the shelf of that key

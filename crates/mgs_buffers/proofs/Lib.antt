@@ -1,2 +1,3 @@
 pub mod KeptLemmas
 pub mod Limits
+pub mod Changes

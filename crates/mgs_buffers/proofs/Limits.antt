@@ -3,7 +3,7 @@ use Rattle.std.proofs.Common.{◌≡◌, ◌+◌, ◌-◌, ◌≤◌, ℕ, Bool,
 use Rattle.std.proofs.lemmas.List.{length-take, length-drop}
 use Rattle.std.specs.Prelude.{find, Result, Ok, Err, OnOk, OnErr}
 use Rattle.mgs_model.specs.Apply.{change_first}
-use Rattle.mgs_shelf.specs.Kept.{Kept, kept_named, kept_at, kept_or_none, kept_edited, AreWithinLimit}
+use Rattle.mgs_buffers.specs.Kept.{Kept, kept_named, kept_at, kept_or_none, kept_edited, AreWithinLimit}
 
 abbrev size : Kept → ℕ
 size k = length k.buffer.text

@@ -1,7 +1,7 @@
 -- Why a buffer is not added.
 use Rattle.std.specs.Prelude.{◌≡◌, ℕ, nat_le, nat_lt, not, ◌&&◌, List, length, Option, Some, None, Result, Ok, Err, if◌then◌else◌}
 use Rattle.mgs_model.specs.Names.{is_name, is_user_name}
-use Rattle.mgs_shelf.specs.Kept.{Kept, is_kept}
+use Rattle.mgs_buffers.specs.Kept.{Kept, is_kept}
 use Rattle.mgs_buffers.specs.declared.fault.AddFault.{AddFault}
 use Rattle.mgs_buffers.specs.declared.fault.AddFault.TheVariants.{Name, Twice, Full, Long, Short}
 

@@ -1,1 +1,3 @@
 pub mod Adding
+pub mod Kept
+pub mod Shelves

@@ -8,8 +8,8 @@ ghost use Rattle.mgs_model.specs.Access.{decider, decision_by};
 ghost use Rattle.mgs_model.specs.Apply.{change_first};
 ghost use Rattle.mgs_model.specs.World.{may};
 ghost use Rattle.mgs_buffers.specs.Adding.{add_fault, Answers, Judged};
-ghost use Rattle.mgs_shelf.specs.Shelves.{kept_of};
-ghost use Rattle.mgs_shelf.specs.Kept.{AreWithinLimit, kept_named, kept_at, is_kept, IsKept, IsMark, mark_at, kept_new, kept_edited, kept_placed, MarkAdded, MarkDropped};
+ghost use Rattle.mgs_buffers.specs.Shelves.{kept_of};
+ghost use Rattle.mgs_buffers.specs.Kept.{AreWithinLimit, kept_named, kept_at, is_kept, IsKept, IsMark, mark_at, kept_new, kept_edited, kept_placed, MarkAdded, MarkDropped};
 
 use crate::fault::AddFault;
 use indexmap::IndexMap;
@@ -17,7 +17,7 @@ use mgs_acl::user_named;
 use mgs_marks::Marked;
 use mgs_model::{BUFFER_LIMIT, Decision, MarkId, Name, Right, Short, TEXT_LIMIT};
 use mgs_policy::Directory;
-use mgs_shelf::{Shelf, new_shelf};
+use crate::shelf::{Shelf, new_shelf};
 use mgs_text::Text;
 use std::alloc::Global;
 use std::marker::Model;
@@ -33,15 +33,15 @@ pub struct Buffers<T: Marked + Drop> {
 
 impl<T: Marked + Drop> Model for Buffers<T> {
     ghost use Rattle.std.specs.Prelude.{List};
-    ghost use Rattle.mgs_shelf.specs.Kept.{Kept};
+    ghost use Rattle.mgs_buffers.specs.Kept.{Kept};
 
     ghost Value = { List Kept };
 
-    ghost use Rattle.mgs_shelf.specs.Shelves.{kept_all};
+    ghost use Rattle.mgs_buffers.specs.Shelves.{kept_all};
 
     ghost view = { λ b. kept_all T.text T.marks b.all.entries };
 
-    ghost use Rattle.mgs_shelf.specs.Kept.{AreWithinLimit};
+    ghost use Rattle.mgs_buffers.specs.Kept.{AreWithinLimit};
 
     ghost invariant = { λ b. AreWithinLimit (kept_all T.text T.marks b.all.entries) };
 }

@@ -3,6 +3,8 @@
 
 mod buffers;
 mod fault;
+mod shelf;
 
 pub use buffers::Buffers;
 pub use fault::AddFault;
+pub use shelf::{Shelf, new_shelf};

@@ -11,7 +11,7 @@ use Rattle.mgs_model.specs.World as model
 use Rattle.mgs_model.specs.Events.{can_open, first_shows, is_size, new_session, opened, settled}
 use Rattle.mgs_model.specs.declared.errors.OpenFault.{OpenFault}
 use Rattle.mgs_model.specs.declared.errors.OpenFault.TheVariants.{NoUser, Size, Full, Short}
-use Rattle.mgs_shelf.specs.Kept.{Kept, mark_at}
+use Rattle.mgs_buffers.specs.Kept.{Kept, mark_at}
 use Rattle.mgs_windows.specs.declared.Spot.{Spot}
 use Rattle.mgs_session.specs.Told.{session_opened}
 use Rattle.mgs_session.specs.declared.Session.{Session}

@@ -10,16 +10,16 @@ use Rattle.mgs_model.specs.Apply.{remove_first}
 use Rattle.mgs_model.specs.Picture.{Picture}
 use Rattle.mgs_model.specs.World.{World, Session, find_session}
 use Rattle.mgs_model.specs.Draw.{screen}
-use Rattle.mgs_sequences.specs.Drawing.{Draws, IsFaithful}
+use Rattle.mgs_term.specs.Drawing.{Draws, IsFaithful}
 use Rattle.mgs_paint.specs.Painting.{Paints, cells_of, shown}
 use Rattle.mgs_model.proofs.Firsts.{found_passes}
 use Rattle.mgs_world.specs.Worlds.{find_size, sizes, is_size_of, IsOther, IsUnique}
 use Rattle.mgs_world.specs.Worlds as core
-use Rattle.mgs_output.specs.declared.screen.Screen.{Screen}
-use Rattle.mgs_output.specs.Queues.{bytes_of, is_queue_of}
-use Rattle.mgs_output.specs.Screens.{queue_of, size_of, Drawn, drawn_of, screen_id, IsDrawn, IsRepaint, AreRepaints, IsFirst}
-use Rattle.mgs_output.proofs.Screens.{All-unmap}
-use Rattle.mgs_output.proofs.Painted.{found_sizes, some_of, some_same}
+use Rattle.mgs_engine.specs.declared.screen.Screen.{Screen}
+use Rattle.mgs_engine.specs.Queues.{bytes_of, is_queue_of}
+use Rattle.mgs_engine.specs.Screens.{queue_of, size_of, Drawn, drawn_of, screen_id, IsDrawn, IsRepaint, AreRepaints, IsFirst}
+use Rattle.mgs_engine.proofs.ScreenLemmas.{All-unmap}
+use Rattle.mgs_engine.proofs.Repaints.{found_sizes, some_of, some_same}
 use Rattle.mgs_engine.specs.Serving.{pending_of}
 use Rattle.mgs_engine.specs.Painted.{PaintedBy, Painted}
 use Rattle.mgs_engine.specs.Served.{serving_of}

@@ -11,10 +11,10 @@ use Rattle.mgs_model.specs.Apply.{remove_first}
 use Rattle.mgs_core.proofs.Sizes.{all_removed}
 use Rattle.mgs_world.specs.declared.size.Size.{Size}
 use Rattle.mgs_world.specs.Worlds.{find_size, is_size_of, IsOther, IsUnique}
-use Rattle.mgs_output.specs.declared.screen.Screen.{Screen}
-use Rattle.mgs_output.specs.Queues.{Queue, queue_id, IsTaken, emptied, bytes_of, find_queue, is_queue_of}
-use Rattle.mgs_output.specs.Screens.{queue_of, queues_of, size_of, screen_id, IsKnown}
-use Rattle.mgs_output.proofs.Screens.{All-unmap, IsFound, found_each}
+use Rattle.mgs_engine.specs.declared.screen.Screen.{Screen}
+use Rattle.mgs_engine.specs.Queues.{Queue, queue_id, IsTaken, emptied, bytes_of, find_queue, is_queue_of}
+use Rattle.mgs_engine.specs.Screens.{queue_of, queues_of, size_of, screen_id, IsKnown}
+use Rattle.mgs_engine.proofs.ScreenLemmas.{All-unmap, IsFound, found_each}
 
 -- THE FIRST OF AN ID
 

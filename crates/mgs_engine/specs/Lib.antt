@@ -1,3 +1,5 @@
 pub mod Serving
 pub mod Painted
 pub mod Served
+pub mod Queues
+pub mod Screens

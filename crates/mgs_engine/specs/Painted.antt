@@ -2,7 +2,7 @@
 use Rattle.std.specs.Prelude.{◌≡◌, ℕ, List, ◌++◌, Some}
 use Rattle.mgs_model.specs.World.{Session, find_session}
 use Rattle.mgs_model.specs.Draw.{screen}
-use Rattle.mgs_sequences.specs.Drawing.{Draws, IsFaithful}
+use Rattle.mgs_term.specs.Drawing.{Draws, IsFaithful}
 use Rattle.mgs_paint.specs.Painting.{cells_of, shown}
 use Rattle.mgs_engine.specs.Serving.{Serving, pending_of}
 

@@ -2,8 +2,8 @@
 use Rattle.std.specs.Prelude.{◌≡◌, List, map, All}
 use Rattle.mgs_world.specs.Worlds.{sizes, IsUnique}
 use Rattle.mgs_model.specs.World.{World}
-use Rattle.mgs_output.specs.declared.screen.Screen.{Screen}
-use Rattle.mgs_output.specs.Screens.{IsDrawn, IsScreen, queues_of, size_of}
+use Rattle.mgs_engine.specs.declared.screen.Screen.{Screen}
+use Rattle.mgs_engine.specs.Screens.{IsDrawn, IsScreen, queues_of, size_of}
 use Rattle.mgs_engine.specs.Serving.{Serving}
 
 abbrev pub serving_of : World → List Screen → Serving

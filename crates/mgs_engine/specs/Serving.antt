@@ -1,7 +1,7 @@
 -- A world that is served: for each open session, the bytes that wait for its terminal.
 use Rattle.std.specs.Prelude.{ℕ, List, map, All}
 use Rattle.mgs_model.specs.World.{World}
-use Rattle.mgs_output.specs.Queues.{IsTaken, Queue, bytes_of, find_queue, queue_id}
+use Rattle.mgs_engine.specs.Queues.{IsTaken, Queue, bytes_of, find_queue, queue_id}
 
 pub record Serving : Type 0 where
   pub world : World

@@ -4,7 +4,14 @@
 //! where one has changed, the bytes that paint it wait to be taken.
 #![tactic(auto)]
 
+mod draw;
 mod engine;
+mod place;
+mod screen;
+mod take;
 
+pub use draw::{draw_first, first_screens, redraw, redraw_all, redraw_apart};
 pub use engine::Engine;
-pub use mgs_output::Taker;
+pub use place::{place_of, remove_screen};
+pub use screen::Screen;
+pub use take::{Taker, hand_all, take_from};

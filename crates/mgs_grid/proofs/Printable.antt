@@ -11,8 +11,8 @@ use Rattle.mgs_model.specs.Lines.{is_feed}
 use Rattle.mgs_lines.proofs.Glyphs.{glyph-tab, glyph-control, glyph-plain, glyph-delete, glyph-escape}
 use Rattle.mgs_model.specs.Rows.{fitted, shown_row, text_rows}
 use Rattle.mgs_model.specs.Picture.{IsPrintable, IsRow}
-use Rattle.mgs_pen.proofs.Plain.{digits_printable}
-use Rattle.mgs_row.proofs.Fits.{length-shown}
+use Rattle.mgs_grid.proofs.Plain.{digits_printable}
+use Rattle.mgs_grid.proofs.Fits.{length-shown}
 
 lit : (c : ℕ) → 32 ≤ c → c ≤ 126 → (xs : List ℕ) → All IsPrintable xs → All IsPrintable (c ∷ xs)
 lit c a b xs h = All-cons IsPrintable c xs (a, b) h

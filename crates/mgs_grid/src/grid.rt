@@ -5,7 +5,7 @@ ghost use Rattle.mgs_model.specs.Picture.{Picture, IsPicture, IsSize, blank_pict
 
 use crate::window::{put_blank, put_echo, put_mode, put_none_mode, put_text, put_unread};
 use mgs_model::{Decision, Message, Name, Short};
-use mgs_row::Line;
+use crate::line::Line;
 use mgs_text::Text;
 use std::alloc::Global;
 use std::marker::Model;

@@ -5,10 +5,14 @@
 #![tactic(auto)]
 
 mod grid;
+mod line;
+mod pen;
+mod row;
 mod window;
+mod words;
 
 pub use grid::Grid;
-pub use mgs_row::{Line, shift_for};
-
-#[cfg(test)]
-mod tests;
+pub use line::Line;
+pub use pen::{fill, finish, put_bytes, put_glyph};
+pub use row::shift_for;
+pub use words::{put_heading, put_message, put_place, put_unread};

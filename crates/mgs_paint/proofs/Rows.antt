@@ -8,13 +8,13 @@ use Rattle.mgs_paint.specs.Painting.{cell_of, row_cells, cells_of, shown}
 use Rattle.mgs_paint.specs.Operations.{row_operations, rows_operations, whole_operations, bytes_of}
 use Rattle.mgs_model.specs.Rows.{Row}
 use Rattle.mgs_model.specs.Picture.{Picture, IsRow, IsPicture, IsPrintable}
-use Rattle.mgs_sequences.specs.Screen.{Screen, IsScreen, blank}
-use Rattle.mgs_sequences.specs.Sequences.{spelling}
-use Rattle.mgs_sequences.specs.Drawing.{Leads, IsFaithful}
-use Rattle.mgs_sequences.proofs.Drawing.{Leads-append}
-use Rattle.mgs_sequences.specs.declared.cell.Cell.{Cell}
-use Rattle.mgs_sequences.specs.declared.operation.Operation.{Operation}
-use Rattle.mgs_sequences.specs.declared.operation.Operation.TheVariants.{Goto, Reverse, Plain, Print}
+use Rattle.mgs_term.specs.Screen.{Screen, IsScreen, blank}
+use Rattle.mgs_term.specs.Sequences.{spelling}
+use Rattle.mgs_term.specs.Drawing.{Leads, IsFaithful}
+use Rattle.mgs_term.proofs.Drawing.{Leads-append}
+use Rattle.mgs_term.specs.declared.cell.Cell.{Cell}
+use Rattle.mgs_term.specs.declared.operation.Operation.{Operation}
+use Rattle.mgs_term.specs.declared.operation.Operation.TheVariants.{Goto, Reverse, Plain, Print}
 
 -- the screen in the middle of a paint
 abbrev pub mid : ℕ → ℕ → List Cell → ℕ → ℕ → Bool → Screen

@@ -1,7 +1,7 @@
 -- What the operations of a row and of several rows do.
 use Rattle.std.proofs.Common.{◌≡◌, ℕ, List, [], ◌∷◌, ◌++◌, map, refl, ap, append_assoc}
 use Rattle.mgs_paint.specs.Operations.{bytes_of}
-use Rattle.mgs_sequences.specs.declared.operation.Operation.TheVariants.{Print}
+use Rattle.mgs_term.specs.declared.operation.Operation.TheVariants.{Print}
 
 -- printed characters spell themselves
 pub bytes_of-map-Print : (text : List ℕ) → bytes_of (map Print text) ≡ text

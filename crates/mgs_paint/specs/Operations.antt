@@ -2,9 +2,9 @@
 use Rattle.std.specs.Prelude.{ℕ, ◌+◌, List, [], ◌∷◌, ◌++◌, map, flat_map, cond}
 use Rattle.mgs_model.specs.Rows.{Row}
 use Rattle.mgs_model.specs.Picture.{Picture}
-use Rattle.mgs_sequences.specs.declared.operation.Operation.{Operation}
-use Rattle.mgs_sequences.specs.declared.operation.Operation.TheVariants.{Goto, Reverse, Plain, Unwrap, Print}
-use Rattle.mgs_sequences.specs.Sequences.{spelling}
+use Rattle.mgs_term.specs.declared.operation.Operation.{Operation}
+use Rattle.mgs_term.specs.declared.operation.Operation.TheVariants.{Goto, Reverse, Plain, Unwrap, Print}
+use Rattle.mgs_term.specs.Sequences.{spelling}
 
 -- the bytes that spell operations
 abbrev pub bytes_of : List Operation → List ℕ

@@ -2,9 +2,9 @@
 use Rattle.std.specs.Prelude.{◌≡◌, ℕ, ◌+◌, ◌*◌, ◌≤◌, Bool, false, List, length, map, flat_map}
 use Rattle.mgs_model.specs.Rows.{Row}
 use Rattle.mgs_model.specs.Picture.{Picture}
-use Rattle.mgs_sequences.specs.declared.cell.Cell.{Cell}
-use Rattle.mgs_sequences.specs.Screen.{Screen, IsScreen}
-use Rattle.mgs_sequences.specs.Drawing.{Draws, IsFaithful}
+use Rattle.mgs_term.specs.declared.cell.Cell.{Cell}
+use Rattle.mgs_term.specs.Screen.{Screen, IsScreen}
+use Rattle.mgs_term.specs.Drawing.{Draws, IsFaithful}
 
 abbrev pub cell_of : Bool → ℕ → Cell
 cell_of reversed c = record { character = c; reversed = reversed }

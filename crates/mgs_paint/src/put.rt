@@ -1,7 +1,7 @@
 // The bytes of each operation. Each call needs room for what it appends, and takes no memory.
 ghost use Rattle.std.specs.Prelude.{◌≡◌, ℕ, ◌+◌, ◌*◌, ◌<◌, ◌≤◌, ◌++◌, [], ◌∷◌, length, vec_len, vec_capacity, cond, All};
-ghost use Rattle.mgs_sequences.specs.Sequences.{number, spelling};
-ghost use Rattle.mgs_sequences.specs.declared.operation.Operation.TheVariants.{Goto, Reverse, Plain, Unwrap, Print};
+ghost use Rattle.mgs_term.specs.Sequences.{number, spelling};
+ghost use Rattle.mgs_term.specs.declared.operation.Operation.TheVariants.{Goto, Reverse, Plain, Unwrap, Print};
 ghost use Rattle.mgs_paint.specs.Operations.{bytes_of, row_operations};
 ghost use Rattle.mgs_model.specs.Picture.{IsPrintable};
 

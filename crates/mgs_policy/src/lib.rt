@@ -1,10 +1,14 @@
 //! What an access list decides (RFC 8881, section 6.2.1) for the users and groups of a directory.
 #![tactic(auto)]
 
+mod directory;
+mod group;
 mod policy;
-#[cfg(test)]
-mod tests;
+mod right;
+mod users;
 
-pub use mgs_directory::{Directory, DirectoryFault};
-pub use mgs_right::{decide_right, is_granted};
+pub use directory::{Directory, DirectoryFault};
+pub use group::{Group, has_group, is_member};
 pub use policy::decide;
+pub use right::{decide_right, is_granted, matches};
+pub use users::{are_users, has_name, known, named};

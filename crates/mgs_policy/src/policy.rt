@@ -5,9 +5,9 @@ ghost use Rattle.mgs_model.specs.Access.{decision};
 ghost use Rattle.mgs_policy.specs.Walk.{permits, denies, wanted};
 
 use mgs_acl::List;
-use mgs_directory::Directory;
+use crate::directory::Directory;
 use mgs_model::{Decision, Entry, EntryType, Mask, Name, Right};
-use mgs_right::matches;
+use crate::right::matches;
 
 /// The first right of a mask.
 fn first_right(mask: Mask) -> Option<Right>

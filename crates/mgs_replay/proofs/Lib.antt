@@ -1,3 +1,10 @@
 pub mod Taking
 pub mod Standing
 pub mod Setting
+pub mod Mapped
+pub mod Rows
+pub mod Served
+pub mod Events
+pub mod Stages
+pub mod Drafts
+pub mod Fits

@@ -5,11 +5,11 @@ use Rattle.mgs_model.specs.World.{World, Session}
 use Rattle.mgs_world.specs.declared.size.Size.{Size}
 use Rattle.mgs_world.specs.Worlds.{size_of, sizes}
 use Rattle.mgs_engine.specs.Serving.{Serving, queue_ids}
-use Rattle.mgs_output.specs.Queues.{Queue, queue_id}
-use Rattle.mgs_said.specs.Lines.{Said}
-use Rattle.mgs_said.specs.Lines as said
-use Rattle.mgs_setup.specs.Setups.{Sets}
-use Rattle.mgs_stage.specs.Stages.{setting, LineDoes}
+use Rattle.mgs_engine.specs.Queues.{Queue, queue_id}
+use Rattle.mgs_script.specs.Lines.{Said}
+use Rattle.mgs_script.specs.Lines as said
+use Rattle.mgs_replay.specs.Setups.{Sets}
+use Rattle.mgs_replay.specs.Stages.{setting, LineDoes}
 
 -- a line that was set does what it says
 pub set_does : (w v : World) (l : Said) → Sets (Ok tt) l w v → LineDoes (Some l) (setting w) (setting v) []

@@ -4,14 +4,14 @@ use Rattle.std.proofs.lemmas.List.{append-nil}
 use Rattle.std.proofs.KnownBytes.{Appends-nil, Appends-trans}
 use Rattle.std.specs.Option.{option_map}
 use Rattle.std.specs.Prelude.{IfSome}
-use Rattle.mgs_words.proofs.Feeds.{length_left}
+use Rattle.mgs_script.proofs.Feeds.{length_left}
 use Rattle.std.specs.Io.KnownBytes.{Appends}
 use Rattle.mgs_model.specs.World.{World}
-use Rattle.mgs_said.specs.Lines.{Said, said_in}
-use Rattle.mgs_said.specs.Lines as said
-use Rattle.mgs_words.specs.Scripts.{lines_of, line_in, behind_line, lines_behind}
-use Rattle.mgs_setup.specs.Settings.{first_world}
-use Rattle.mgs_stage.specs.Stages.{Stage, LineDoes, LineRefused, setting, begun}
+use Rattle.mgs_script.specs.Lines.{Said, said_in}
+use Rattle.mgs_script.specs.Lines as said
+use Rattle.mgs_script.specs.Scripts.{lines_of, line_in, behind_line, lines_behind}
+use Rattle.mgs_replay.specs.Settings.{first_world}
+use Rattle.mgs_replay.specs.Stages.{Stage, LineDoes, LineRefused, setting, begun}
 use Rattle.mgs_replay.specs.Plays.{End, Whole, RefusedAt, Plays, MayPrint, Written}
 use Rattle.mgs_replay.specs.Turns.{IsOpening, Turned, PlaysOn, SetUp}
 use Rattle.mgs_replay.specs.Faults.{end_at}

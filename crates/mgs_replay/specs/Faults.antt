@@ -1,7 +1,7 @@
 -- Why a line ends a replay.
 use Rattle.std.specs.Prelude.{ℕ, ◌≤◌, Result, Ok, Err}
-use Rattle.mgs_said.specs.declared.line.LineFault.{LineFault}
-use Rattle.mgs_said.specs.declared.line.LineFault.TheVariants as lines
+use Rattle.mgs_script.specs.declared.line.LineFault.{LineFault}
+use Rattle.mgs_script.specs.declared.line.LineFault.TheVariants as lines
 use Rattle.mgs_replay.specs.declared.lines.TurnFault.{TurnFault}
 use Rattle.mgs_replay.specs.declared.lines.TurnFault.TheVariants as turns
 use Rattle.mgs_replay.specs.declared.script.ReplayFault.{ReplayFault}

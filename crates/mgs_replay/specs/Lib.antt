@@ -2,3 +2,10 @@ pub mod Reads
 pub mod Faults
 pub mod Plays
 pub mod Turns
+pub mod Prints
+pub mod Seats
+pub mod Stages
+pub mod Served
+pub mod SetupFaults
+pub mod Settings
+pub mod Setups

@@ -2,11 +2,11 @@
 use Rattle.std.specs.Prelude.{◌≡◌, ℕ, ◌+◌, ◌++◌, ◌⊎◌, List, [], ◌∷◌, Option, Result, Ok, Err}
 use Rattle.std.specs.Io.KnownBytes.{Appends}
 use Rattle.mgs_model.specs.World.{World}
-use Rattle.mgs_stage.specs.Stages.{Stage, setting, LineDoes, LineRefused}
+use Rattle.mgs_replay.specs.Stages.{Stage, setting, LineDoes, LineRefused}
 use Rattle.mgs_replay.specs.declared.script.ReplayFault.{ReplayFault}
 use Rattle.mgs_replay.specs.declared.script.ReplayFault.TheVariants as ends
-use Rattle.mgs_said.specs.Lines.{said_in}
-use Rattle.mgs_words.specs.Scripts.{lines_of}
+use Rattle.mgs_script.specs.Lines.{said_in}
+use Rattle.mgs_script.specs.Scripts.{lines_of}
 
 -- how a script ends
 pub data End : Type 0 where

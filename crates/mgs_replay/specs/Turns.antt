@@ -2,16 +2,16 @@
 use Rattle.std.specs.Prelude.{◌≡◌, ℕ, Bool, true, false, List, [], Option, Some, None, Result, Ok, Err}
 use Rattle.std.specs.Io.KnownBytes.{Appends}
 use Rattle.mgs_model.specs.World.{World}
-use Rattle.mgs_said.specs.declared.line.LineFault.{LineFault}
-use Rattle.mgs_said.specs.declared.line.LineFault.TheVariants as lines
+use Rattle.mgs_script.specs.declared.line.LineFault.{LineFault}
+use Rattle.mgs_script.specs.declared.line.LineFault.TheVariants as lines
 use Rattle.mgs_replay.specs.declared.lines.TurnFault.{TurnFault}
 use Rattle.mgs_replay.specs.declared.lines.TurnFault.TheVariants as turns
 use Rattle.mgs_replay.specs.declared.script.ReplayFault.{ReplayFault}
 use Rattle.mgs_replay.specs.declared.script.ReplayFault.TheVariants as ends
-use Rattle.mgs_said.specs.Lines.{Said, said_in}
-use Rattle.mgs_words.specs.Scripts.{lines_of, line_in}
-use Rattle.mgs_said.specs.Lines as said
-use Rattle.mgs_stage.specs.Stages.{Stage, setting, LineDoes, LineRefused}
+use Rattle.mgs_script.specs.Lines.{Said, said_in}
+use Rattle.mgs_script.specs.Scripts.{lines_of, line_in}
+use Rattle.mgs_script.specs.Lines as said
+use Rattle.mgs_replay.specs.Stages.{Stage, setting, LineDoes, LineRefused}
 use Rattle.mgs_replay.specs.Plays.{Plays, End, Whole, RefusedAt}
 
 -- what a line did, and what was written of it

@@ -1,23 +1,23 @@
 // Runs the lines of a script.
 ghost use Rattle.std.specs.Prelude.{◌≡◌, ◌+◌, ◌≤◌, [], Some, length, OnOk, IfOk, IfSome};
 ghost use Rattle.mgs_replay.specs.Faults.{fault_of, end_at, IsPlayed, IsSet};
-ghost use Rattle.mgs_said.specs.Lines.{said_in};
-ghost use Rattle.mgs_words.specs.Scripts.{lines_of};
-ghost use Rattle.mgs_setup.specs.Settings.{first_world};
-ghost use Rattle.mgs_stage.specs.Stages.{begun};
+ghost use Rattle.mgs_script.specs.Lines.{said_in};
+ghost use Rattle.mgs_script.specs.Scripts.{lines_of};
+ghost use Rattle.mgs_replay.specs.Settings.{first_world};
+ghost use Rattle.mgs_replay.specs.Stages.{begun};
 ghost use Rattle.mgs_replay.specs.Plays.{Written};
-ghost use Rattle.mgs_stage.specs.Served.{stage_of, IsReady};
+ghost use Rattle.mgs_replay.specs.Served.{stage_of, IsReady};
 ghost use Rattle.mgs_replay.specs.Turns.{Turned, PlaysOn, SetsSaid, SetUp};
 
 use crate::script::ReplayFault;
 use mgs_engine::Engine;
 use mgs_model::{SCRIPT_LIMIT, Short};
-use mgs_said::{Line, LineFault};
+use mgs_script::{Line, LineFault};
 use mgs_script::read_line;
-use mgs_seats::Seats;
-use mgs_setup::Setup;
-use mgs_stage::{Server, step_line};
-use mgs_words::cut_line;
+use crate::seats::Seats;
+use crate::setup::Setup;
+use crate::line::{Server, step_line};
+use mgs_script::cut_line;
 use std::alloc::Global;
 use std::io::Write;
 

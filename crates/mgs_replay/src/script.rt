@@ -2,7 +2,7 @@
 ghost use Rattle.std.specs.Prelude.{◌≡◌, ◌+◌, ◌≤◌, ◌<◌, length, IfOk, IfSome};
 ghost use Rattle.std.specs.Io.KnownBytes.{Keeps};
 ghost use Rattle.mgs_replay.specs.Faults.{IsCounted};
-ghost use Rattle.mgs_setup.specs.Settings.{first_world};
+ghost use Rattle.mgs_replay.specs.Settings.{first_world};
 ghost use Rattle.mgs_replay.specs.Plays.{Written};
 ghost use Rattle.mgs_replay.specs.Reads.{PieceRead, TakesAtMost};
 

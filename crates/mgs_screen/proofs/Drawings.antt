@@ -20,7 +20,7 @@ use Rattle.mgs_model.specs.Draw.{draw, screen, find_shown, found_rows, buffer_ro
 use Rattle.mgs_model.specs.declared.right.Right.{Right}
 use Rattle.mgs_model.specs.declared.right.Right.TheVariants.{ReadData, ReadAttributes}
 use Rattle.mgs_model.proofs.Firsts.{find-map}
-use Rattle.mgs_shelf.specs.Kept.{Kept, kept_at, IsKept, mark_at}
+use Rattle.mgs_buffers.specs.Kept.{Kept, kept_at, IsKept, mark_at}
 use Rattle.mgs_windows.specs.declared.Spot.{Spot}
 use Rattle.mgs_windows.specs.declared.Window.{Window}
 use Rattle.mgs_windows.specs.Panes.{room_of}

@@ -8,7 +8,7 @@ use Rattle.mgs_model.specs.View.{WindowSeen, buffer_seen, window_seen, reads}
 use Rattle.mgs_model.specs.Seen.{Shown, shown_of}
 use Rattle.mgs_model.specs.Draw.{pane_rows, place_of, point_row}
 use Rattle.mgs_model.specs.declared.right.Right.TheVariants.{ReadAttributes}
-use Rattle.mgs_shelf.specs.Kept.{Kept, kept_at, mark_at}
+use Rattle.mgs_buffers.specs.Kept.{Kept, kept_at, mark_at}
 use Rattle.mgs_windows.specs.declared.Spot.{Spot}
 use Rattle.mgs_windows.specs.declared.Window.{Window}
 use Rattle.mgs_world.specs.Worlds.{buffers_of, window_of}

@@ -4,7 +4,7 @@ ghost use Rattle.mgs_model.specs.Draw.{screen, window_rows, window_cursor};
 ghost use Rattle.mgs_model.specs.Rows.{rows_put, shift_for};
 ghost use Rattle.mgs_session.specs.declared.Session.{Session};
 ghost use Rattle.mgs_world.specs.Worlds.{world_of, session_of};
-ghost use Rattle.mgs_shelf.specs.Kept.{IsKept, IsMark};
+ghost use Rattle.mgs_buffers.specs.Kept.{IsKept, IsMark};
 ghost use Rattle.mgs_screen.specs.Screens.{point_shift, shown_to, window_to, heading_to, spot_rows, spot_cursor};
 ghost use Rattle.mgs_world.specs.Sound.{IsSessionSound, IsWindowSound};
 

@@ -1,16 +1,18 @@
 // How a script's line is read.
 ghost use Rattle.std.specs.Prelude.{◌≡◌, Some};
 ghost use Rattle.std.specs.Option.{option_map};
-ghost use Rattle.mgs_said.specs.Lines.{view, group_said, buffer_said, entry_said, text_said, open_said, keys_said, said_by_kind, said_in, is_passed_over, utf8_of, GivesLine};
+ghost use Rattle.mgs_script.specs.Lines.{view, group_said, buffer_said, entry_said, text_said, open_said, keys_said, said_by_kind, said_in, is_passed_over, utf8_of, GivesLine};
 
 use mgs_keys::{KeysFault, read_keys};
 use mgs_model::Short;
-use mgs_said::{Kind, Line, LineFault, kind_of};
-use mgs_words::{any_word, cut_text, name_in, read_text, size, words};
+use crate::kind::{Kind, kind_of};
+use crate::line::{Line, LineFault};
+use crate::text::read_text;
+use crate::word::{any_word, cut_text, name_in, size, words};
 use std::alloc::Global;
 use std::str;
 
-#[tactic(auto, unfolding(mgs_said::specs::Lines::group_said))]
+#[tactic(auto, unfolding(crate::specs::Lines::group_said))]
 fn group_line(alloc: Global, text: &str) -> Result<Line<'_>, LineFault>
     ensures { GivesLine result (group_said text.now) }
 {
@@ -24,7 +26,7 @@ fn group_line(alloc: Global, text: &str) -> Result<Line<'_>, LineFault>
     }
 }
 
-#[tactic(auto, unfolding(mgs_said::specs::Lines::buffer_said))]
+#[tactic(auto, unfolding(crate::specs::Lines::buffer_said))]
 fn buffer_line(text: &str) -> Option<Line<'_>>
     ensures { option_map view result ≡ buffer_said text.now }
 {
@@ -33,7 +35,7 @@ fn buffer_line(text: &str) -> Option<Line<'_>>
     Some(Line::Buffer { name, owner })
 }
 
-#[tactic(auto, unfolding(mgs_said::specs::Lines::entry_said))]
+#[tactic(auto, unfolding(crate::specs::Lines::entry_said))]
 fn entry_line(text: &str) -> Option<Line<'_>>
     ensures { option_map view result ≡ entry_said text.now }
 {
@@ -43,7 +45,7 @@ fn entry_line(text: &str) -> Option<Line<'_>>
     Some(Line::Entry { buffer, entry })
 }
 
-#[tactic(auto, unfolding(mgs_said::specs::Lines::open_said))]
+#[tactic(auto, unfolding(crate::specs::Lines::open_said))]
 fn open_line(text: &str) -> Option<Line<'_>>
     ensures { option_map view result ≡ open_said text.now }
 {
@@ -60,7 +62,7 @@ fn open_line(text: &str) -> Option<Line<'_>>
     })
 }
 
-#[tactic(auto, unfolding(mgs_said::specs::Lines::text_said))]
+#[tactic(auto, unfolding(crate::specs::Lines::text_said))]
 fn text_line(alloc: Global, text: &str) -> Result<Line<'_>, LineFault>
     ensures { GivesLine result (text_said text.now) }
 {
@@ -75,7 +77,7 @@ fn text_line(alloc: Global, text: &str) -> Result<Line<'_>, LineFault>
     }
 }
 
-#[tactic(auto, unfolding(mgs_said::specs::Lines::keys_said))]
+#[tactic(auto, unfolding(crate::specs::Lines::keys_said))]
 fn keys_line(alloc: Global, text: &str) -> Result<Line<'_>, LineFault>
     ensures { GivesLine result (keys_said text.now) }
 {
@@ -90,7 +92,7 @@ fn keys_line(alloc: Global, text: &str) -> Result<Line<'_>, LineFault>
     }
 }
 
-#[tactic(auto, unfolding(mgs_said::specs::Lines::said_by_kind))]
+#[tactic(auto, unfolding(crate::specs::Lines::said_by_kind))]
 // A line that is not passed over.
 fn line_by_kind(alloc: Global, text: &str) -> Result<Line<'_>, LineFault>
     ensures { GivesLine result (said_by_kind text.now) }
@@ -146,112 +148,5 @@ pub fn read_line(alloc: Global, line: &[u8]) -> Result<Line<'_>, LineFault>
     match utf8(line) {
         Some(text) => line_by_kind(alloc, text),
         None => Err(LineFault::Bad),
-    }
-}
-
-#[cfg(test)]
-mod tests {
-    use super::read_line;
-    use mgs_model::Name;
-    use mgs_said::{Line, LineFault};
-    use std::test::Fail;
-
-    #[test]
-    fn lines_before_the_first_open_are_read(rt: HostRuntime) -> Result<(), Fail> {
-        let alloc = rt.alloc();
-        let notes = Name::read("notes").ok_or("no name")?;
-        assert_eq!(rt; read_line(alloc, b"user ann")?, Line::User { name: "ann" });
-        let group = Line::Group {
-            name: "staff",
-            members: vec![in alloc; "ann", "bob"]?,
-        };
-        assert_eq!(rt; read_line(alloc, b"group staff ann bob")?, group);
-        assert_eq!(rt;
-            read_line(alloc, b"buffer notes ann")?,
-            Line::Buffer {
-                name: "notes",
-                owner: "ann"
-            }
-        );
-        let entry = Line::Entry {
-            buffer: notes,
-            entry: "ALLOW  EVERYONE@ rw",
-        };
-        assert_eq!(rt;
-            read_line(alloc, b"entry notes ALLOW  EVERYONE@ rw")?,
-            entry
-        );
-        let text = Line::Text {
-            buffer: notes,
-            text: vec![in alloc; 'h', 'i', ' ', '\n', '\'']?,
-        };
-        assert_eq!(rt; read_line(alloc, b"text notes 'hi SPC RET ''")?, text);
-        Ok(())
-    }
-
-    #[test]
-    fn lines_of_sessions_are_read(rt: HostRuntime) -> Result<(), Fail> {
-        let alloc = rt.alloc();
-        let label = Name::read("a").ok_or("no name")?;
-        let opened = |rows, cols| Line::Open {
-            label,
-            user: "ann",
-            rows,
-            cols,
-        };
-        assert_eq!(rt; read_line(alloc, b"open a ann 6 20")?, opened(6, 20));
-        assert_eq!(rt; read_line(alloc, b"open a ann 0 20")?, opened(0, 20));
-        assert_eq!(rt; read_line(alloc, b"open a ann 64 160")?, opened(64, 160));
-        let keys = Line::Keys {
-            label,
-            keys: vec![in alloc; 0x18, 0x32]?,
-        };
-        assert_eq!(rt; read_line(alloc, b"keys a C-x '2")?, keys);
-        assert_eq!(rt; read_line(alloc, b"show a")?, Line::Show { label });
-        assert_eq!(rt; read_line(alloc, b"close a")?, Line::Close { label });
-        Ok(())
-    }
-
-    #[test]
-    fn empty_lines_and_remarks_are_passed_over(rt: HostRuntime) -> Result<(), Fail> {
-        assert_eq!(rt; read_line(rt.alloc(), b"")?, Line::Nothing);
-        assert_eq!(rt; read_line(rt.alloc(), b"# any \xFF bytes")?, Line::Nothing);
-        Ok(())
-    }
-
-    #[test]
-    fn other_lines_are_refused(rt: HostRuntime) {
-        for line in [
-            "open a ann 06 20",
-            "open a ann 6 1000",
-            "open a ann 00 20",
-            "open a ann 6",
-            "open a  6 20",
-            "show  a",
-            "show a ",
-            " show a",
-            "show a\r",
-            "show",
-            "show a b",
-            "keys a",
-            "keys a ",
-            "keys a Tab",
-            "text notes",
-            "text notes Tab",
-            "text notes '",
-            "buffer notes",
-            "user",
-            "entry notes",
-            "group",
-            "group all",
-            "frob x",
-            " ",
-        ] {
-            assert_eq!(rt; read_line(rt.alloc(), line.as_bytes()), Err(LineFault::Bad));
-        }
-        assert_eq!(rt;
-            read_line(rt.alloc(), b"entry notes \xFF"),
-            Err(LineFault::Bad)
-        );
     }
 }

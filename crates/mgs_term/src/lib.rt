@@ -3,8 +3,14 @@
 //! `ESC [ ? 7 l`, and the bytes 0x20 to 0x7E with wrap off.
 #![tactic(auto)]
 
+mod cell;
+mod machine;
+mod operation;
+mod place;
 mod term;
 
-pub use mgs_machine::OutOfProfile;
-pub use mgs_sequences::{Cell, Operation};
+pub use cell::Cell;
+pub use machine::{Machine, OutOfProfile};
+pub use operation::Operation;
+pub use place::{Next, Place, next_of};
 pub use term::Term;

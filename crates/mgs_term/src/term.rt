@@ -1,15 +1,15 @@
 ghost use Rattle.std.specs.Prelude.{◌≡◌, ℕ, ◌+◌, ◌*◌, ◌≤◌, ◌++◌, ◌↔◌, false, true, IsOk, IfOk, OnOk, OnErr, List, [], ◌∷◌, length, All};
 ghost use Rattle.mgs_model.specs.Picture.{IsSize};
-ghost use Rattle.mgs_sequences.specs.Screen.{Screen, IsScreen, IsPrintableCell, blank_screen};
-ghost use Rattle.mgs_sequences.specs.Sequences.{after};
-ghost use Rattle.mgs_sequences.specs.Drawing.{Draws, Anything};
-ghost use Rattle.mgs_sequences.specs.Terminal.{Terminal, Continues, TakesAll, RefusesSome, resting, refusing};
-ghost use Rattle.mgs_sequences.specs.Automaton.{terminal_of};
-ghost use Rattle.mgs_sequences.specs.declared.operation.Operation.{Operation};
+ghost use Rattle.mgs_term.specs.Screen.{Screen, IsScreen, IsPrintableCell, blank_screen};
+ghost use Rattle.mgs_term.specs.Sequences.{after};
+ghost use Rattle.mgs_term.specs.Drawing.{Draws, Anything};
+ghost use Rattle.mgs_term.specs.Terminal.{Terminal, Continues, TakesAll, RefusesSome, resting, refusing};
+ghost use Rattle.mgs_term.specs.Automaton.{terminal_of};
+ghost use Rattle.mgs_term.specs.declared.operation.Operation.{Operation};
 
-use mgs_machine::{Machine, OutOfProfile};
+use crate::machine::{Machine, OutOfProfile};
 use mgs_model::Short;
-use mgs_sequences::Cell;
+use crate::cell::Cell;
 use std::alloc::Global;
 use std::marker::Model;
 
@@ -95,36 +95,5 @@ impl Term {
         ensures screen { IsScreen self.now.screen }
     {
         self.machine.cursor()
-    }
-}
-
-#[cfg(test)]
-mod tests {
-    use super::*;
-    use std::test::Fail;
-
-    #[test]
-    fn last_column_stays(rt: HostRuntime) -> Result<(), Fail> {
-        let mut term = Term::new(rt.alloc(), 6, 20).map_err(|_| "no memory")?;
-        assert_eq!(rt; term.feed_all(b"\x1b[?7l"), Ok(()));
-        assert_eq!(rt; term.feed_all(b"\x1b[1;19H"), Ok(()));
-        assert_eq!(rt; term.feed_all(b"abc"), Ok(()));
-        assert_eq!(rt; term.grid().get(18).map(|cell| cell.character), Some('a'));
-        assert_eq!(rt; term.grid().get(19).map(|cell| cell.character), Some('c'));
-        assert_eq!(rt; term.cursor(), (1, 20));
-        assert_eq!(rt; (term.rows(), term.cols(), term.grid().len()), (6, 20, 120));
-        assert_eq!(rt; term.feed_all(b"\x1b[7"), Ok(()));
-        assert_eq!(rt; term.feed(b'H'), Err(OutOfProfile));
-        assert_eq!(rt; term.feed(b'm'), Err(OutOfProfile));
-        assert_eq!(rt; term.feed(0x1b), Err(OutOfProfile));
-        assert_eq!(rt; term.cursor(), (1, 20));
-        Ok(())
-    }
-
-    #[test]
-    fn wrap_has_to_be_off(rt: HostRuntime) -> Result<(), Fail> {
-        let mut term = Term::new(rt.alloc(), 6, 20).map_err(|_| "no memory")?;
-        assert_eq!(rt; term.feed(b'a'), Err(OutOfProfile));
-        Ok(())
     }
 }

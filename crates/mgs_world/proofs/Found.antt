@@ -7,7 +7,7 @@ use Rattle.mgs_model.specs.Names.{same_name}
 use Rattle.mgs_model.specs.World.{is_named, find_buffer}
 use Rattle.mgs_model.specs.View.{BufferSeen, buffer_seen, find_seen}
 use Rattle.mgs_model.proofs.Firsts.{find-map, found_passes}
-use Rattle.mgs_shelf.specs.Kept.{Kept, IsKept, kept_at, kept_named, kept_or_none}
+use Rattle.mgs_buffers.specs.Kept.{Kept, IsKept, kept_at, kept_named, kept_or_none}
 use Rattle.mgs_world.specs.Worlds.{buffers_of}
 use Rattle.mgs_world.proofs.Soundness.{some_from}
 use Rattle.mgs_world.proofs.Marks.{same_is}

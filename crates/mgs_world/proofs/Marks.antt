@@ -9,7 +9,7 @@ use Rattle.mgs_model.specs.Apply.{change_first}
 use Rattle.mgs_model.proofs.Firsts.{find-change_first, find-change_first_other}
 use Rattle.mgs_marks.specs.Marks.{mark_in, position_in, or_zero}
 use Rattle.mgs_marks.proofs.Moves.{shift-zero, position_in-shift_all, mark_in-set}
-use Rattle.mgs_shelf.specs.Kept.{Kept, kept_named, kept_at, kept_or_none, mark_at, kept_edited, kept_placed}
+use Rattle.mgs_buffers.specs.Kept.{Kept, kept_named, kept_at, kept_or_none, mark_at, kept_edited, kept_placed}
 use Rattle.mgs_world.specs.Sound.{one_if, option_uses}
 
 -- NAMES

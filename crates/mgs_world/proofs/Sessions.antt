@@ -6,7 +6,7 @@ use Rattle.std.specs.Option.{option_map}
 use Rattle.mgs_model.specs.Access.{Directory}
 use Rattle.mgs_model.specs.World.{has_id, find_session}
 use Rattle.mgs_model.proofs.Firsts.{find-map, find_none, find_at_place}
-use Rattle.mgs_shelf.specs.Kept.{Kept}
+use Rattle.mgs_buffers.specs.Kept.{Kept}
 use Rattle.mgs_session.specs.declared.Session.{Session}
 use Rattle.mgs_world.specs.Worlds.{session_of, session_id, world_of}
 

@@ -8,7 +8,7 @@ use Rattle.mgs_model.specs.Names.{same_name}
 use Rattle.mgs_model.specs.Text.{shift, shift_all}
 use Rattle.mgs_model.specs.Apply.{change_first}
 use Rattle.mgs_marks.specs.Marks.{mark_in}
-use Rattle.mgs_shelf.specs.Kept.{Kept, kept_named, kept_at, kept_or_none, IsKept, IsMark, kept_edited, kept_placed}
+use Rattle.mgs_buffers.specs.Kept.{Kept, kept_named, kept_at, kept_or_none, IsKept, IsMark, kept_edited, kept_placed}
 use Rattle.mgs_session.specs.Told.{spot_of}
 use Rattle.mgs_windows.specs.declared.Spot.{Spot}
 use Rattle.mgs_windows.specs.declared.Window.{Window}

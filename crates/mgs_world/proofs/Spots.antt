@@ -6,7 +6,7 @@ use Rattle.std.specs.Cmp.{unsigned_Decides}
 use Rattle.mgs_model.specs.Names.{same_name}
 use Rattle.mgs_model.specs.Apply.{change_first}
 use Rattle.mgs_marks.specs.Marks.{mark_in, or_zero}
-use Rattle.mgs_shelf.specs.Kept.{Kept, kept_named, kept_at, kept_or_none, IsKept, IsMark, mark_at, kept_marked, MarkAdded, MarkDropped}
+use Rattle.mgs_buffers.specs.Kept.{Kept, kept_named, kept_at, kept_or_none, IsKept, IsMark, mark_at, kept_marked, MarkAdded, MarkDropped}
 use Rattle.mgs_model.specs.World.{Buffer_of}
 use Rattle.mgs_windows.specs.declared.Spot.{Spot}
 use Rattle.mgs_windows.specs.declared.Window.{Window}

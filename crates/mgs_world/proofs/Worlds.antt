@@ -11,7 +11,7 @@ use Rattle.mgs_model.specs.Outcome.{At, Keep, Keep_mark}
 use Rattle.mgs_model.specs.Apply.{change_first, change_at, buffer_edited, window_moved, session_moved, window_adjusted}
 use Rattle.mgs_model.proofs.Firsts.{map-change_first}
 use Rattle.mgs_marks.specs.Marks.{mark_in}
-use Rattle.mgs_shelf.specs.Kept.{Kept, kept_named, kept_at, mark_at, kept_edited, kept_placed}
+use Rattle.mgs_buffers.specs.Kept.{Kept, kept_named, kept_at, mark_at, kept_edited, kept_placed}
 use Rattle.mgs_windows.specs.declared.Spot.{Spot}
 use Rattle.mgs_windows.specs.declared.Window.{Window}
 use Rattle.mgs_session.specs.declared.Session.{Session}

@@ -2,7 +2,7 @@
 use Rattle.std.specs.Prelude.{ℕ, ◌+◌, ◌≤◌, Bool, true, false, List, [], ◌∷◌, Option, Some, None, nat_eq, is_some, if◌then◌else◌}
 use Rattle.mgs_model.specs.Names.{same_name}
 use Rattle.mgs_marks.specs.Marks.{mark_in}
-use Rattle.mgs_shelf.specs.Kept.{Kept, kept_at}
+use Rattle.mgs_buffers.specs.Kept.{Kept, kept_at}
 use Rattle.mgs_windows.specs.declared.Spot.{Spot}
 use Rattle.mgs_windows.specs.declared.Window.{Window}
 use Rattle.mgs_session.specs.declared.Session.{Session}

@@ -4,7 +4,7 @@ use Rattle.std.specs.Option.{option_map}
 use Rattle.mgs_model.specs.Access.{Directory}
 use Rattle.mgs_model.specs.World.{Buffer, may}
 use Rattle.mgs_model.specs.declared.right.Right.TheVariants.{ReadAttributes}
-use Rattle.mgs_shelf.specs.Kept.{Kept, mark_at}
+use Rattle.mgs_buffers.specs.Kept.{Kept, mark_at}
 use Rattle.mgs_windows.specs.declared.Spot.{Spot}
 use Rattle.mgs_world.specs.Worlds.{buffers_of}
 use Rattle.mgs_world.specs.Sound.{in_use, spot_uses}

@@ -4,7 +4,7 @@ use Rattle.std.specs.Option.{option_map}
 use Rattle.mgs_model.specs.Access.{Directory}
 use Rattle.mgs_model.specs.World.{World, Buffer, Own, first_own, Nothing, Buffer_of}
 use Rattle.mgs_model.specs.World as model
-use Rattle.mgs_shelf.specs.Kept.{Kept, mark_at}
+use Rattle.mgs_buffers.specs.Kept.{Kept, mark_at}
 use Rattle.mgs_windows.specs.declared.Spot.{Spot}
 use Rattle.mgs_windows.specs.declared.Window.{Window}
 use Rattle.mgs_session.specs.declared.Session.{Session}

@@ -1,6 +1,6 @@
 // A session comes and goes: the marks of its window.
 ghost use Rattle.std.specs.Prelude.{◌≡◌, ◌+◌, ℕ, List, None, IfOk, OnErr};
-ghost use Rattle.mgs_shelf.specs.Kept.{IsKept};
+ghost use Rattle.mgs_buffers.specs.Kept.{IsKept};
 ghost use Rattle.mgs_world.specs.Spots.{MarksStay, SpotAdded, SpotDropped};
 ghost use Rattle.mgs_world.specs.Worlds.{buffers_of};
 ghost use Rattle.mgs_world.specs.Sound.{IsSessionSound, IsWindowSound, in_use, session_uses};

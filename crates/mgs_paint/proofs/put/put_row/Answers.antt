@@ -1,6 +1,6 @@
 use Rattle.std.proofs.Common.{map, cond}
-use Rattle.mgs_sequences.specs.Sequences.{spelling}
-use Rattle.mgs_sequences.specs.declared.operation.Operation.TheVariants.{Goto, Reverse, Plain, Print}
+use Rattle.mgs_term.specs.Sequences.{spelling}
+use Rattle.mgs_term.specs.declared.operation.Operation.TheVariants.{Goto, Reverse, Plain, Print}
 use Rattle.mgs_paint.specs.Operations.{bytes_of}
 use Rattle.mgs_paint.proofs.Runs.{joined, bytes_of-map-Print}
 use Rattle.mgs_paint.proofs.put.put_row.Goals as goal

@@ -1,4 +1,4 @@
-use Rattle.mgs_words.proofs.Feeds.{lines_cut}
+use Rattle.mgs_script.proofs.Feeds.{lines_cut}
 use Rattle.mgs_replay.proofs.Standing.{played, played_none, played_fault}
 use Rattle.mgs_replay.proofs.lines.play.Goals as goal
 

@@ -1,7 +1,7 @@
 use Rattle.std.proofs.Common.{arith, []}
-use Rattle.mgs_stage.specs.Stages.{begun}
-use Rattle.mgs_words.specs.Scripts.{lines_of}
-use Rattle.mgs_stage.specs.Served.{stage_of}
+use Rattle.mgs_replay.specs.Stages.{begun}
+use Rattle.mgs_script.specs.Scripts.{lines_of}
+use Rattle.mgs_replay.specs.Served.{stage_of}
 use Rattle.mgs_replay.proofs.Standing.{lines_left, stands_next, stands_end, ends_on, left_cut, left_none, left_shorter}
 use Rattle.mgs_replay.proofs.lines.run_lines.Goals as goal
 

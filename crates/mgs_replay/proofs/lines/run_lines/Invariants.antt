@@ -1,8 +1,8 @@
 use Rattle.std.proofs.Common.{◌+◌, ◌≤◌, []}
-use Rattle.mgs_words.proofs.Feeds.{length_left}
-use Rattle.mgs_stage.specs.Stages.{begun}
-use Rattle.mgs_stage.specs.Served.{IsReady, stage_of}
-use Rattle.mgs_words.specs.Scripts.{lines_of}
+use Rattle.mgs_script.proofs.Feeds.{length_left}
+use Rattle.mgs_replay.specs.Stages.{begun}
+use Rattle.mgs_replay.specs.Served.{IsReady, stage_of}
+use Rattle.mgs_script.specs.Scripts.{lines_of}
 use Rattle.mgs_replay.proofs.Standing.{Stands, lines_left}
 use Rattle.mgs_replay.proofs.lines.run_lines.Given as goal
 

@@ -1,8 +1,8 @@
 use Rattle.std.proofs.Common.{ℕ, ◌+◌, ◌≤◌, List}
-use Rattle.mgs_words.proofs.Feeds.{length_left}
-use Rattle.mgs_stage.specs.Stages.{setting}
+use Rattle.mgs_script.proofs.Feeds.{length_left}
+use Rattle.mgs_replay.specs.Stages.{setting}
 use Rattle.mgs_replay.specs.Plays.{Plays, End}
-use Rattle.mgs_words.specs.Scripts.{lines_of}
+use Rattle.mgs_script.specs.Scripts.{lines_of}
 use Rattle.mgs_replay.proofs.Standing.{lines_left}
 use Rattle.mgs_replay.proofs.lines.set_up.Given as goal
 

@@ -6,7 +6,7 @@ use Rattle.mgs_model.specs.Access.{Directory}
 use Rattle.mgs_model.specs.Rows.{Row, rows_put, echo_row}
 use Rattle.mgs_model.specs.Picture.{Picture}
 use Rattle.mgs_model.specs.Draw.{window_rows, windows_rows, window_cursor}
-use Rattle.mgs_shelf.specs.Kept.{Kept}
+use Rattle.mgs_buffers.specs.Kept.{Kept}
 use Rattle.mgs_windows.specs.declared.Window.{Window}
 use Rattle.mgs_windows.specs.Panes.{room_of}
 use Rattle.mgs_session.specs.declared.Session.{Session}

@@ -2,7 +2,7 @@ use Rattle.std.proofs.Common.{◌≡◌, ◌+◌, ◌<◌, ◌++◌, ℕ, List, 
 use Rattle.mgs_model.specs.Access.{Directory}
 use Rattle.mgs_model.specs.Picture.{Picture}
 use Rattle.mgs_model.specs.Draw.{windows_rows}
-use Rattle.mgs_shelf.specs.Kept.{Kept}
+use Rattle.mgs_buffers.specs.Kept.{Kept}
 use Rattle.mgs_windows.specs.declared.Window.{Window}
 use Rattle.mgs_windows.specs.Panes.{room_of}
 use Rattle.mgs_screen.specs.Screens.{shown_to, windows_to}

@@ -3,7 +3,7 @@ use Rattle.mgs_model.specs.World.{may}
 use Rattle.mgs_model.specs.Rows.{Row, rows_put, mode_row, buffer_mode, unread_rows}
 use Rattle.mgs_model.specs.declared.right.Right.TheVariants.{ReadData}
 use Rattle.mgs_model.specs.declared.entry.Decision.{Decision}
-use Rattle.mgs_shelf.specs.Kept.{Kept, IsKept, kept_at}
+use Rattle.mgs_buffers.specs.Kept.{Kept, IsKept, kept_at}
 use Rattle.mgs_windows.specs.declared.Spot.{Spot}
 use Rattle.mgs_windows.specs.declared.Window.{Window}
 use Rattle.mgs_grid.proofs.Pictures.{length-unread_rows}

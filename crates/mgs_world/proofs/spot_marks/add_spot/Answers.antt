@@ -1,5 +1,5 @@
 use Rattle.std.proofs.Common.{refl, subst, sym, List, None}
-use Rattle.mgs_shelf.specs.Kept.{Kept, IsKept, IsMark}
+use Rattle.mgs_buffers.specs.Kept.{Kept, IsKept, IsMark}
 use Rattle.mgs_world.proofs.Spots.{kept_marked_kept, spot_added, undone, added_mark}
 use Rattle.mgs_world.proofs.spot_marks.add_spot.Goals as goal
 

@@ -1,7 +1,7 @@
 use Rattle.std.proofs.Common.{◌≡◌, ℕ, List, sym, ap, ◌∙◌, refl, subst, length, arith}
 use Rattle.mgs_buffers.proofs.KeptLemmas.{is_kept-lookup, none_of, kept-added, OnOk-at, OnOk-err}
-use Rattle.mgs_shelf.specs.Kept.{Kept, kept_new, AreWithinLimit}
-use Rattle.mgs_shelf.specs.Shelves.{kept_of, kept_all}
+use Rattle.mgs_buffers.specs.Kept.{Kept, kept_new, AreWithinLimit}
+use Rattle.mgs_buffers.specs.Shelves.{kept_of, kept_all}
 use Rattle.mgs_buffers.proofs.Limits.{limit-added, ended}
 use Rattle.mgs_buffers.proofs.buffers.Buffers.add.Goals as goal
 use Rattle.mgs_buffers.proofs.buffers.Buffers.add.Goals.{in-Ok-put_last, in-Err-put_last}

@@ -1,9 +1,9 @@
 use Rattle.std.proofs.Common.{refl, IsSome, sym, ap, subst, ◌∙◌}
 use Rattle.mgs_marks.specs.Marks.{mark_in}
-use Rattle.mgs_shelf.specs.Kept.{Kept, kept_marked}
+use Rattle.mgs_buffers.specs.Kept.{Kept, kept_marked}
 use Rattle.mgs_buffers.proofs.KeptLemmas.{kept-at_place, kept-written}
 use Rattle.mgs_buffers.proofs.Limits.{limit-same}
-use Rattle.mgs_shelf.specs.Kept.{AreWithinLimit}
+use Rattle.mgs_buffers.specs.Kept.{AreWithinLimit}
 use Rattle.mgs_buffers.proofs.buffers.Buffers.drop_mark.Goals as goal
 
 pub drop_mark-requires : goal.drop_mark-requires

@@ -1,8 +1,8 @@
 use Rattle.std.proofs.Common.{◌≤◌, ◌<◌, ◌-◌, ◌^◌, sym, subst, length}
-use Rattle.mgs_shelf.specs.Kept.{Kept, kept_edited}
+use Rattle.mgs_buffers.specs.Kept.{Kept, kept_edited}
 use Rattle.mgs_buffers.proofs.KeptLemmas.{kept-at_place, kept-written, kept-same, OnOk-map, OnErr-map}
 use Rattle.mgs_buffers.proofs.Limits.{limit-edited, ended}
-use Rattle.mgs_shelf.specs.Kept.{AreWithinLimit}
+use Rattle.mgs_buffers.specs.Kept.{AreWithinLimit}
 use Rattle.mgs_buffers.proofs.buffers.Buffers.edit.Goals as goal
 
 pub edit-requires-clause-within : goal.edit-requires-clause-within

@@ -3,7 +3,7 @@ use Rattle.std.specs.Prelude.{IfSome}
 use Rattle.std.specs.Option.{option_map}
 use Rattle.mgs_model.specs.World.{Buffer, may}
 use Rattle.mgs_model.specs.declared.right.Right.TheVariants.{ReadAttributes}
-use Rattle.mgs_shelf.specs.Kept.{IsKept}
+use Rattle.mgs_buffers.specs.Kept.{IsKept}
 use Rattle.mgs_buffers.proofs.KeptLemmas.{kept-first, found-first, found-later}
 use Rattle.mgs_buffers.proofs.buffers.Buffers.first_shown.Goals as goal
 

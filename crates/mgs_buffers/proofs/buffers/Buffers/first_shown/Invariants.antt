@@ -2,8 +2,8 @@ use Rattle.std.proofs.Common.{◌≡◌, map}
 use Rattle.std.specs.Prelude.{find}
 use Rattle.mgs_model.specs.World.{may}
 use Rattle.mgs_model.specs.declared.right.Right.TheVariants.{ReadAttributes}
-use Rattle.mgs_shelf.specs.Kept.{Kept}
-use Rattle.mgs_shelf.specs.Shelves.{kept_all}
+use Rattle.mgs_buffers.specs.Kept.{Kept}
+use Rattle.mgs_buffers.specs.Shelves.{kept_all}
 use Rattle.mgs_buffers.proofs.buffers.Buffers.first_shown.Given as goal
 
 abbrev pub invariant-loop-name : goal.invariant-loop-name

@@ -1,6 +1,6 @@
 use Rattle.std.proofs.Common.{ap, ◌∙◌}
 use Rattle.mgs_model.specs.World.{may}
-use Rattle.mgs_shelf.specs.Kept.{Kept}
+use Rattle.mgs_buffers.specs.Kept.{Kept}
 use Rattle.mgs_buffers.proofs.buffers.Buffers.grants.Goals as goal
 
 pub returns : goal.returns

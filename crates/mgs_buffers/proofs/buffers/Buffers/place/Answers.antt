@@ -1,9 +1,9 @@
 use Rattle.std.proofs.Common.{refl, ◌≤◌, IsSome, sym, subst, length}
 use Rattle.mgs_marks.specs.Marks.{mark_in}
-use Rattle.mgs_shelf.specs.Kept.{Kept, kept_placed}
+use Rattle.mgs_buffers.specs.Kept.{Kept, kept_placed}
 use Rattle.mgs_buffers.proofs.KeptLemmas.{kept-at_place, kept-written}
 use Rattle.mgs_buffers.proofs.Limits.{limit-same}
-use Rattle.mgs_shelf.specs.Kept.{AreWithinLimit}
+use Rattle.mgs_buffers.specs.Kept.{AreWithinLimit}
 use Rattle.mgs_buffers.proofs.buffers.Buffers.place.Goals as goal
 
 pub place-requires-clause-used : goal.place-requires-clause-used

@@ -1,5 +1,5 @@
 use Rattle.std.proofs.Common.{ap, length, arith}
-use Rattle.mgs_shelf.specs.Kept.{Kept}
+use Rattle.mgs_buffers.specs.Kept.{Kept}
 use Rattle.mgs_buffers.proofs.Limits.{limit-at}
 use Rattle.mgs_buffers.proofs.buffers.Buffers.text_len.Goals as goal
 

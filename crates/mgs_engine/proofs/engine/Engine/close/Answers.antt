@@ -3,9 +3,9 @@ use Rattle.std.specs.Prelude.{All}
 use Rattle.mgs_core.proofs.Sizes.{all_removed, unique_removed}
 use Rattle.mgs_world.specs.Worlds.{sizes, is_size_of}
 use Rattle.mgs_model.specs.Apply.{remove_first}
-use Rattle.mgs_output.specs.declared.screen.Screen.{Screen}
-use Rattle.mgs_output.specs.Queues.{IsTaken, queue_id}
-use Rattle.mgs_output.specs.Screens.{AreRepaints, IsScreen, queues_of, size_of, screen_id}
+use Rattle.mgs_engine.specs.declared.screen.Screen.{Screen}
+use Rattle.mgs_engine.specs.Queues.{IsTaken, queue_id}
+use Rattle.mgs_engine.specs.Screens.{AreRepaints, IsScreen, queues_of, size_of, screen_id}
 use Rattle.mgs_engine.specs.Serving.{Serving, queue_ids}
 use Rattle.mgs_engine.specs.Painted.{Painted}
 use Rattle.mgs_engine.specs.Served.{serving_of}

@@ -2,7 +2,7 @@ use Rattle.std.proofs.Common.{◌≡◌, map, ap, ◌∙◌, arith}
 use Rattle.std.proofs.lemmas.Bool.{ltb-true, lt-ltb}
 use Rattle.std.specs.List.{position_or_len}
 use Rattle.mgs_world.specs.Worlds.{sizes}
-use Rattle.mgs_output.specs.Screens.{screen_id, size_of}
+use Rattle.mgs_engine.specs.Screens.{screen_id, size_of}
 use Rattle.mgs_engine.specs.Serving.{Serving}
 use Rattle.mgs_engine.proofs.Screens.{open_place}
 use Rattle.mgs_engine.proofs.engine.Engine.is_open.Goals as goal

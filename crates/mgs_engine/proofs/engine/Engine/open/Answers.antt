@@ -3,14 +3,14 @@ use Rattle.std.proofs.lemmas.List.Elements.{All-push}
 use Rattle.mgs_world.specs.declared.size.Size.{Size}
 use Rattle.mgs_core.specs.Steps.{OpenedBy}
 use Rattle.mgs_world.specs.Worlds.{sizes, find_size}
-use Rattle.mgs_output.specs.declared.screen.Screen.{Screen}
-use Rattle.mgs_output.specs.Queues.{queue_id}
+use Rattle.mgs_engine.specs.declared.screen.Screen.{Screen}
+use Rattle.mgs_engine.specs.Queues.{queue_id}
 use Rattle.mgs_engine.specs.Serving.{Serving, pending_of, queue_ids}
 use Rattle.mgs_model.specs.World.{Session, find_session}
 use Rattle.mgs_model.specs.Draw.{screen}
 use Rattle.mgs_paint.specs.Painting.{Paints}
-use Rattle.mgs_output.specs.Screens.{AreRepaints, IsDrawn, IsScreen, queues_of, size_of}
-use Rattle.mgs_output.proofs.Painted.{same_size}
+use Rattle.mgs_engine.specs.Screens.{AreRepaints, IsDrawn, IsScreen, queues_of, size_of}
+use Rattle.mgs_engine.proofs.Repaints.{same_size}
 use Rattle.mgs_engine.specs.Painted.{Painted}
 use Rattle.mgs_engine.specs.Served.{serving_of}
 use Rattle.mgs_engine.proofs.Screens.{known_each, known_more, known_last, ids_opened, sizes_opened, unique_opened}

@@ -1,7 +1,7 @@
 use Rattle.std.proofs.Common.{sym, ap, ◌∙◌, arith}
 use Rattle.std.specs.List.{position_or_len}
-use Rattle.mgs_output.specs.Screens.{screen_id}
-use Rattle.mgs_output.proofs.Screens.{queue_at}
+use Rattle.mgs_engine.specs.Screens.{screen_id}
+use Rattle.mgs_engine.proofs.ScreenLemmas.{queue_at}
 use Rattle.mgs_engine.specs.Serving.{pending_of}
 use Rattle.mgs_engine.proofs.Screens.{queue_none}
 use Rattle.mgs_engine.proofs.engine.Engine.pending.Goals as goal

@@ -1,5 +1,5 @@
 use Rattle.std.proofs.Common.{◌∙◌}
-use Rattle.mgs_output.specs.Screens.{queues_of}
+use Rattle.mgs_engine.specs.Screens.{queues_of}
 use Rattle.mgs_engine.proofs.Screens.{all_emptied}
 use Rattle.mgs_engine.proofs.Painted.{sizes_same, drawn_same}
 use Rattle.mgs_engine.proofs.engine.Engine.take_all.Goals as goal

@@ -1,7 +1,7 @@
 use Rattle.std.proofs.Common.{◌≡◌, ℕ, ◌+◌, ◌<◌, ◌≤◌, List, [], ◌∷◌, length, arith, ap, refl, All}
 use Rattle.mgs_model.specs.Rows.{Row, mode_row, none_mode}
 use Rattle.mgs_model.specs.Picture.{Picture, IsRow}
-use Rattle.mgs_pen.proofs.Plain.{plain_printable}
+use Rattle.mgs_grid.proofs.Plain.{plain_printable}
 use Rattle.mgs_grid.proofs.Pictures.{put_picture, mode_is, one_is}
 use Rattle.mgs_grid.proofs.grid.Grid.draw_none_mode.Goals as goal
 

@@ -1,8 +1,8 @@
 use Rattle.std.proofs.Common.{◌≡◌, ◌∙◌, ap, length, IsOk}
-use Rattle.mgs_sequences.specs.Automaton.{Automaton, terminal_of}
-use Rattle.mgs_sequences.specs.Terminal.{resting}
-use Rattle.mgs_sequences.specs.declared.place.Place.TheVariants.{Ground}
-use Rattle.mgs_sequences.proofs.Grammar.{is_ground}
+use Rattle.mgs_term.specs.Automaton.{Automaton, terminal_of}
+use Rattle.mgs_term.specs.Terminal.{resting}
+use Rattle.mgs_term.specs.declared.place.Place.TheVariants.{Ground}
+use Rattle.mgs_term.proofs.Grammar.{is_ground}
 use Rattle.mgs_term.proofs.term.Term.feed_all.Goals as goal
 
 pub returns-clause-drawn : goal.returns-clause-drawn

@@ -1,0 +1,4 @@
+pub mod WordLemmas
+pub mod NameLemmas
+pub mod Masks
+pub mod RoundTrip

@@ -1,0 +1,184 @@
+// How a written entry is read.
+ghost use Rattle.std.specs.Prelude.{◌≡◌, ◌<◌};
+ghost use Rattle.std.specs.Option.{option_map};
+ghost use Rattle.std.specs.List.{before_first, after_first};
+ghost use Rattle.mgs_model.specs.Rights.{letter_of};
+ghost use Rattle.mgs_acl.specs.Spelling.{is_space, words, words_cut, type_named, user_named, behind_group, named_who, who_named, right_lettered, mask_lettered, entry_in};
+
+use mgs_model::{Entry, EntryType, Mask, Name, Right, Who};
+use thiserror::Error;
+
+/// Why a text is no entry, in the order in which the faults are judged.
+#[derive(Clone, Copy, Debug, PartialEq, Eq, Error)]
+pub enum EntryFault {
+    /// The first word is neither `ALLOW` nor `DENY`, or there is none.
+    #[error("the type is neither ALLOW nor DENY")]
+    Kind,
+    /// The second word is neither `OWNER@` nor `EVERYONE@` nor a user's name nor `group:` and a group's name, or there is none.
+    #[error("nobody is named so")]
+    Who,
+    /// The third word is not made of letters of rights, or there is none.
+    #[error("the letters are not those of rights")]
+    Letters,
+    /// There is a fourth word.
+    #[error("something stands behind the letters")]
+    Trailing,
+}
+
+/// The text up to its first space, and what stands behind that.
+fn cut(text: &str) -> (&str, &str)
+    ensures piece { result.0.now ≡ before_first is_space text.now }
+    ensures rest { result.1.now ≡ after_first is_space text.now }
+{
+    match text.split_once(' ') {
+        Some((piece, rest)) => (piece, rest),
+        None => (text, ""),
+    }
+}
+
+/// The first word, and what stands behind the space after it.
+#[tactic(auto, using(crate::proofs::WordLemmas::words_filled))]
+fn next_word(mut text: &str) -> Option<(&str, &str)>
+    ensures { words_cut (option_map (λ p. (p.0.now, p.1.now)) result) ≡ words text.entry.now }
+{
+    while !text.is_empty() {
+        let (piece, rest) = cut(text);
+        if !piece.is_empty() {
+            return Some((piece, rest));
+        }
+        text = rest;
+    }
+    None
+}
+
+fn type_named(word: &str) -> Option<EntryType>
+    ensures { result ≡ type_named word.now }
+{
+    if word == "ALLOW" {
+        Some(EntryType::Allow)
+    } else if word == "DENY" {
+        Some(EntryType::Deny)
+    } else {
+        None
+    }
+}
+
+/// The name of a user or a group that is written so, if it is one: 1 to 32 lower-case letters, digits, `-` and `_`.
+#[tactic(auto, using(crate::proofs::NameLemmas::user_named_no_name))]
+pub fn user_named(word: &str) -> Option<Name>
+    ensures { result ≡ user_named word.now }
+{
+    match Name::read(word) {
+        Some(name) if name.is_user_name() => Some(name),
+        _ => None,
+    }
+}
+
+/// What stands behind `group:`, where a word begins so.
+fn behind_group(word: &str) -> Option<&str>
+    ensures { option_map (λ name. name.now) result ≡ behind_group word.now }
+{
+    word.strip_prefix("group:")
+}
+
+fn named_who(word: &str) -> Option<Who>
+    ensures { result ≡ named_who word.now (behind_group word.now) }
+{
+    match behind_group(word) {
+        Some(name) => match user_named(name) {
+            Some(name) => Some(Who::Group(name)),
+            None => None,
+        },
+        None => match user_named(word) {
+            Some(name) => Some(Who::User(name)),
+            None => None,
+        },
+    }
+}
+
+fn who_named(word: &str) -> Option<Who>
+    ensures { result ≡ who_named word.now }
+{
+    if word == "OWNER@" {
+        Some(Who::Owner)
+    } else if word == "EVERYONE@" {
+        Some(Who::Everyone)
+    } else {
+        named_who(word)
+    }
+}
+
+/// The letter that a right is written as. It is ASCII, so below 128.
+pub fn letter_of(right: Right) -> u8
+    ensures value { result ≡ letter_of right }
+    ensures ascii { result < 128 }
+{
+    match right {
+        Right::ReadData => b'r',
+        Right::WriteData => b'w',
+        Right::AppendData => b'a',
+        Right::ReadAttributes => b't',
+        Right::Delete => b'd',
+        Right::ReadAcl => b'c',
+        Right::WriteAcl => b'C',
+        Right::WriteOwner => b'o',
+    }
+}
+
+fn right_lettered(letter: u8) -> Option<Right>
+    ensures { result ≡ right_lettered letter }
+{
+    Right::ALL
+        .iter()
+        .copied()
+        .find(|right| letter_of(*right) == letter)
+}
+
+fn mask_lettered(word: &str) -> Option<Mask>
+    ensures { result ≡ mask_lettered word.now }
+{
+    if word.is_empty() {
+        return None;
+    }
+    let mut mask = Mask::none();
+    for letter in word.as_bytes() {
+        mask = mask.union(Mask::of(right_lettered(*letter)?));
+    }
+    Some(mask)
+}
+
+/// The entry that is written so: `TYPE WHO LETTERS`, the words parted by one or more spaces, with any number of spaces before and behind them.
+/// TYPE is `ALLOW` or `DENY`. WHO is `OWNER@`, `EVERYONE@`, a user's name, or `group:` and a group's name. LETTERS are one or more of r (READ_DATA), w (WRITE_DATA),
+/// a (APPEND_DATA), t (READ_ATTRIBUTES), d (DELETE), c (READ_ACL), C (WRITE_ACL) and o (WRITE_OWNER), in any order, also more than once.
+///
+/// The faults are judged from left to right: the first word that is missing or is none of these is named, and then `Trailing` a fourth word.
+pub fn read_entry(text: &str) -> Result<Entry, EntryFault>
+    ensures { result ≡ entry_in text.now }
+{
+    let Some((word, rest)) = next_word(text) else {
+        return Err(EntryFault::Kind);
+    };
+    let Some(entry_type) = type_named(word) else {
+        return Err(EntryFault::Kind);
+    };
+    let Some((word, rest)) = next_word(rest) else {
+        return Err(EntryFault::Who);
+    };
+    let Some(who) = who_named(word) else {
+        return Err(EntryFault::Who);
+    };
+    let Some((word, rest)) = next_word(rest) else {
+        return Err(EntryFault::Letters);
+    };
+    let Some(mask) = mask_lettered(word) else {
+        return Err(EntryFault::Letters);
+    };
+    match next_word(rest) {
+        None => Ok(Entry {
+            entry_type,
+            who,
+            mask,
+        }),
+        Some(_) => Err(EntryFault::Trailing),
+    }
+}

@@ -1,5 +1,0 @@
-//! Tests of buffers by their names, over any text.
-#![tactic(auto)]
-
-#[cfg(test)]
-mod buffers;

@@ -1,0 +1,204 @@
+-- Screens that are drawn and painted.
+use Rattle.std.proofs.Common.{◌≡◌, ℕ, false, zero, suc, ◌+◌, ◌*◌, ◌<◌, ◌≤◌, List, [], ◌∷◌, ◌++◌, length, get_or, set, take, drop, map, Option, Some, None, refl, sym, ap, subst, ◌∙◌, arith}
+use Rattle.std.specs.Prelude.{slice_get, All}
+use Rattle.std.specs.List.{flat_map}
+use Rattle.std.specs.Option.{option_map}
+use Rattle.std.proofs.lemmas.Option.{get_or_from_slice_get, slice_get_within}
+use Rattle.std.proofs.lemmas.List.{append-nil, map-append, length_push, length-append, length-map, take_more, take_more_set, take_all}
+use Rattle.std.proofs.lemmas.List.Elements.{All-head, All-tail, All-push}
+use Rattle.mgs_model.proofs.Firsts.{find-map}
+use Rattle.mgs_model.specs.Rows.{Row}
+use Rattle.mgs_model.specs.Picture.{Picture, IsPicture, IsRow}
+use Rattle.mgs_model.specs.World.{World, Session, has_id, find_session}
+use Rattle.mgs_model.specs.Draw.{screen, draw}
+use Rattle.mgs_term.specs.Screen as term
+use Rattle.mgs_term.specs.Drawing.{Draws, IsFaithful}
+use Rattle.mgs_paint.specs.Painting.{Paints, cell_of, row_cells, cells_of, shown}
+use Rattle.mgs_world.specs.declared.size.Size.{Size}
+use Rattle.mgs_world.specs.Worlds.{find_size, sizes, is_size_of, IsOfSize, IsUnique}
+use Rattle.mgs_world.specs.Worlds as core
+use Rattle.mgs_engine.specs.declared.screen.Screen.{Screen}
+use Rattle.mgs_engine.specs.Queues.{IsTaken}
+use Rattle.mgs_engine.specs.Screens.{queue_of, size_of, IsScreen, IsKnown, IsDrawn, IsAhead, IsRepaint, AreRepaints, AreDrawnApart, IsFirst}
+use Rattle.mgs_core.specs.Steps.{found_differs}
+use Rattle.mgs_model.specs.declared.touched.Touched.TheVariants.{Anywhere}
+use Rattle.mgs_engine.proofs.ScreenLemmas.{found_each, rest_at}
+
+-- A PICTURE AS A SCREEN
+
+length_rows : (cols : ℕ) (ls : List Row) → All (IsRow cols) ls → length (flat_map row_cells ls) ≡ length ls * cols
+length_rows cols [] h = omega arith
+length_rows cols (l ∷ ls) h =
+    let wide : length l.text ≡ cols = (All-head (IsRow cols) l ls h).width in
+    let rest : length (flat_map row_cells ls) ≡ length ls * cols = length_rows cols ls (All-tail (IsRow cols) l ls h) in
+    omega (arith, length-append (row_cells l) (flat_map row_cells ls), length-map l.text (cell_of l.reversed))
+
+shown_screen : (p : Picture) → IsPicture p → term.IsScreen (shown p)
+shown_screen p h = record {
+  size = h.size;
+  covered = length_rows p.cols p.lines h.each ∙ ap (λ n. n * p.cols) h.count;
+  row_in = h.row;
+  col_in = h.col;
+}
+
+-- a size, by its rows and its columns
+pub same_size : (id rows cols r c : ℕ) → r ≡ rows → c ≡ cols → let y : Size = record { id = id; rows = rows; cols = cols } in let z : Size = record { id = id; rows = r; cols = c } in z ≡ y
+same_size id rows cols r c e d =
+    let of : ℕ → ℕ → Size = λ a b. record { id = id; rows = a; cols = b } in
+    ap (λ a. of a c) e ∙ ap (λ b. of rows b) d
+
+-- WHAT IS FOUND
+
+pub some_of : {A B : Type 0} (f : A → B) (o : Option A) (b : B) → option_map f o ≡ Some b → (a : A) × (o ≡ Some a) × (f a ≡ b)
+some_of f None b e = cc
+some_of f (Some a) b e = (a, refl, cc)
+
+pub some_same : {A : Type 0} (o : Option A) (a b : A) → o ≡ Some a → o ≡ Some b → a ≡ b
+some_same o a b e f = cc
+
+pub found_sizes : (id : ℕ) (w : World) → find_size id (sizes w) ≡ option_map core.size_of (find_session id w.sessions)
+found_sizes id w = find-map core.size_of (has_id id) (is_size_of id) (λ x. refl) w.sessions
+
+-- the session of a screen
+pub session_known : (w : World) (x : Screen) → IsKnown (sizes w) x → (s : Session) × (find_session x.id w.sessions ≡ Some s) × (core.size_of s ≡ size_of x)
+session_known w x h = some_of core.size_of (find_session x.id w.sessions) (size_of x) (sym (found_sizes x.id w) ∙ h)
+
+-- ONE SCREEN
+
+-- the size of what is drawn is the session's
+screen_rows : (w : World) (x : Session) → (screen w x).rows ≡ x.rows
+unfolding draw
+screen_rows w x = refl
+
+screen_cols : (w : World) (x : Session) → (screen w x).cols ≡ x.cols
+unfolding draw
+screen_cols w x = refl
+
+pub ahead_screen : (w : World) (old new : Screen) → IsKnown (sizes w) old → IsAhead w old new → IsScreen old → IsScreen new
+ahead_screen w old new k h s =
+    let known = session_known w old k in
+    let same : known.0 ≡ h.session = some_same (find_session old.id w.sessions) known.0 h.session known.1 h.found in
+    let size : core.size_of h.session ≡ size_of old = ap core.size_of (sym same) ∙ known.2 in
+    subst IsScreen (sym h.same)
+    (record {
+      rows = screen_rows w h.session ∙ ap (λ (z : Size). z.rows) size;
+      cols = screen_cols w h.session ∙ ap (λ (z : Size). z.cols) size;
+      room = s.room;
+    })
+
+-- a paint of what comes next draws it over what is shown
+pub paint_repaint : (old new : Screen) (bytes : List ℕ) → IsPicture old.shown → IsScreen old → new.id ≡ old.id → new.shown ≡ old.next → new.queue.items ≡ old.queue.items ++ bytes → Paints old.next bytes → IsRepaint old new
+paint_repaint old new bytes p s i e a h = record {
+  id = i;
+  bytes = bytes;
+  appended = a;
+  draws =
+      subst (λ (z : Picture). Draws (IsFaithful (cells_of z)) bytes (shown old.shown) (shown z)) (sym e)
+      (h.draws (shown old.shown) (shown_screen old.shown p) (sym s.rows) (sym s.cols));
+}
+
+pub paint_first : (old new : Screen) (bytes : List ℕ) → IsTaken (queue_of old) → new.shown ≡ old.next → new.queue.items ≡ old.queue.items ++ bytes → Paints old.next bytes → IsFirst new
+paint_first old new bytes t e a h =
+    let all : new.queue.items ≡ bytes = a ∙ ap (λ bs. bs ++ bytes) t in
+    subst (Paints new.shown) (sym all) (subst (λ (z : Picture). Paints z bytes) (sym e) h)
+
+-- nothing is painted where the picture is the same
+pub same_repaint : (w : World) (old new : Screen) → IsAhead w old new → new.shown ≡ new.next → IsRepaint old new
+same_repaint w old new h e =
+    let shows : new.shown ≡ old.shown = ap (λ (z : Screen). z.shown) h.same in
+    record {
+      id = ap (λ (z : Screen). z.id) h.same;
+      bytes = [];
+      appended = ap (λ (z : Screen). z.queue.items) h.same ∙ sym (append-nil old.queue.items);
+      draws = ([], refl, ap shown (sym shows));
+    }
+
+pub same_drawn : (w : World) (old new : Screen) → IsAhead w old new → new.shown ≡ new.next → IsDrawn w new
+same_drawn w old new h e = record {
+  session = h.session;
+  found = ap (λ (z : Screen). find_session z.id w.sessions) h.same ∙ h.found;
+  picture = e ∙ ap (λ (z : Screen). z.next) h.same;
+}
+
+-- where nothing was drawn again, nothing is painted
+pub no_repaint : (x : Screen) → IsRepaint x x
+no_repaint x = record { id = refl; bytes = []; appended = sym (append-nil x.queue.items); draws = ([], refl, refl) }
+
+-- any screen may differ where anything was touched
+pub anywhere_drawn : (w : World) (id : ℕ) (xs : List Screen) → AreDrawnApart w Anywhere id xs
+anywhere_drawn w id xs at x is e = go (slice_get w.sessions at) e
+  where
+    go : (o : Option Session) → found_differs Anywhere id o ≡ false → IsDrawn w x
+    go None e = cc
+    go (Some y) e = cc
+
+-- and else it is painted
+pub ahead_repaint : (w : World) (old mid new : Screen) → IsAhead w old mid → IsRepaint mid new → IsRepaint old new
+ahead_repaint w old mid new h r = record {
+  id = r.id ∙ ap (λ (z : Screen). z.id) h.same;
+  bytes = r.bytes;
+  appended = r.appended ∙ ap (λ (z : Screen). z.queue.items ++ r.bytes) h.same;
+  draws = subst (λ (z : Picture). Draws (IsFaithful (cells_of new.shown)) r.bytes (shown z) (shown new.shown)) (ap (λ (z : Screen). z.shown) h.same) r.draws;
+}
+
+pub ahead_drawn : (w : World) (old mid new : Screen) → IsAhead w old mid → size_of new ≡ size_of mid → new.shown ≡ mid.next → IsDrawn w new
+ahead_drawn w old mid new h s e = record {
+  session = h.session;
+  found = ap (λ (z : Size). find_session z.id w.sessions) s ∙ ap (λ (z : Screen). find_session z.id w.sessions) h.same ∙ h.found;
+  picture = e ∙ ap (λ (z : Screen). z.next) h.same;
+}
+
+-- ALL SCREENS
+
+repaints_push : (xs ys : List Screen) (x y : Screen) → AreRepaints xs ys → IsRepaint x y → AreRepaints (xs ++ x ∷ []) (ys ++ y ∷ [])
+repaints_push [] [] x y h r = (r, tt)
+repaints_push [] (b ∷ bs) x y h r = absurd h
+repaints_push (a ∷ us) [] x y h r = absurd h
+repaints_push (a ∷ us) (b ∷ bs) x y h r = (h.0, repaints_push us bs x y h.1 r)
+
+-- one more is drawn again
+pub repaints_next : (xs ys : List Screen) (i : ℕ) (d y : Screen) → i < length xs → i < length ys → drop i xs ≡ drop i ys → AreRepaints (take i ys) (take i xs) → IsRepaint (get_or xs i d) y → AreRepaints (take (i + 1) ys) (take (i + 1) (set xs i y))
+repaints_next xs ys i d y l m e h r =
+    let q : IsRepaint (get_or ys i d) y = subst (λ (x : Screen). IsRepaint x y) (rest_at xs ys i d e) r in
+    subst (λ zs. AreRepaints zs (take (i + 1) (set xs i y))) (sym (take_more ys i d m))
+    (subst (AreRepaints (take i ys ++ get_or ys i d ∷ [])) (sym (take_more_set xs i y l))
+    (repaints_push (take i ys) (take i xs) (get_or ys i d) y h q))
+
+pub repaints_all : (xs ys : List Screen) (i : ℕ) → length xs ≤ i → length ys ≤ i → AreRepaints (take i ys) (take i xs) → AreRepaints ys xs
+repaints_all xs ys i l m h =
+    subst (λ zs. AreRepaints zs xs) (take_all i ys m) (subst (AreRepaints (take i ys)) (take_all i xs l) h)
+
+pub drawn_next : (w : World) (xs : List Screen) (i : ℕ) (y : Screen) → i < length xs → All (IsDrawn w) (take i xs) → IsDrawn w y → All (IsDrawn w) (take (i + 1) (set xs i y))
+drawn_next w xs i y l h d = subst (All (IsDrawn w)) (sym (take_more_set xs i y l)) (All-push (IsDrawn w) (take i xs) y h d)
+
+pub drawn_all : (w : World) (xs : List Screen) (i : ℕ) → length xs ≤ i → All (IsDrawn w) (take i xs) → All (IsDrawn w) xs
+drawn_all w xs i l h = subst (All (IsDrawn w)) (take_all i xs l) h
+
+-- ALL AT FIRST
+
+-- what the world tells at a place it knows by its id
+pub told_known : (ss : List Size) (i : ℕ) (z : Size) → IsUnique ss → slice_get ss i ≡ Some z → find_size z.id ss ≡ Some z
+told_known ss i z u e =
+    let at : get_or ss i z ≡ z = get_or_from_slice_get ss i z z e in
+    subst (λ (y : Size). find_size y.id ss ≡ Some y) at (found_each ss u i z (slice_get_within ss i z e))
+
+-- and it has a size
+pub told_size : (ss : List Size) (i : ℕ) (z : Size) → All IsOfSize ss → slice_get ss i ≡ Some z → IsOfSize z
+told_size ss i z h e = subst IsOfSize (get_or_from_slice_get ss i z z e) (h i z (slice_get_within ss i z e))
+
+-- one more screen
+pub sizes_next : (ss : List Size) (xs : List Screen) (y : Screen) (z : Size) → map size_of xs ≡ take (length xs) ss → slice_get ss (length xs) ≡ Some z → size_of y ≡ z → map size_of (xs ++ y ∷ []) ≡ take (length (xs ++ y ∷ [])) ss
+sizes_next ss xs y z e t is =
+    map-append size_of xs (y ∷ [])
+    ∙ ap (λ zs. zs ++ size_of y ∷ []) e
+    ∙ ap (λ (s : Size). take (length xs) ss ++ s ∷ []) (is ∙ sym (get_or_from_slice_get ss (length xs) z z t))
+    ∙ sym (take_more ss (length xs) z (slice_get_within ss (length xs) z t))
+    ∙ ap (λ n. take n ss) (sym (length_push xs y))
+
+past_all : (ss : List Size) (n : ℕ) → slice_get ss n ≡ None → length ss ≤ n
+past_all [] n e = omega arith
+past_all (z ∷ zs) zero e = cc
+past_all (z ∷ zs) (suc n) e = omega (arith, past_all zs n e)
+
+pub sizes_whole : (ss : List Size) (xs : List Screen) → map size_of xs ≡ take (length xs) ss → slice_get ss (length xs) ≡ None → map size_of xs ≡ ss
+sizes_whole ss xs e n = e ∙ take_all (length xs) ss (past_all ss (length xs) n)

@@ -1,0 +1,141 @@
+-- Screens and their queues, as they are drawn, closed, and handed over.
+use Rattle.std.proofs.Common.{◌≡◌, ℕ, zero, suc, ◌+◌, ◌*◌, ◌<◌, ◌≤◌, not, Bool, true, false, cond, List, [], ◌∷◌, ◌++◌, length, get_or, set, take, drop, map, Some, refl, sym, ap, subst, ◌∙◌, eq-eqb, one-add, add-zero, arith}
+use Rattle.std.specs.Prelude.{nat_eq, All, vec_capacity, vec_len}
+use Rattle.std.specs.List.{position_or_len, remove}
+use Rattle.std.proofs.lemmas.List.{map-append, get_or-drop, drop-set-lt, drop-drop, take_more, take_more_set, take_all}
+use Rattle.std.proofs.lemmas.List.Elements.{All-head, All-tail, All-cons, All-nil}
+use Rattle.std.specs.Option.{option_map}
+use Rattle.std.proofs.Math.Nat.{mul-le-mul_left}
+use Rattle.mgs_model.proofs.Firsts.{find-map, find_at_place}
+use Rattle.mgs_model.specs.Apply.{change_first, remove_first}
+use Rattle.mgs_model.specs.Picture.{IsSize, IsPicture}
+use Rattle.mgs_paint.specs.Painting.{bound_of}
+use Rattle.mgs_world.specs.declared.size.Size.{Size}
+use Rattle.mgs_world.specs.Worlds.{find_size, IsOther, IsUnique}
+use Rattle.mgs_engine.specs.declared.screen.Screen.{Screen}
+use Rattle.mgs_engine.specs.Queues.{Handed, Queue, IsTaken, emptied, bytes_of, find_queue, is_queue_of}
+use Rattle.mgs_engine.specs.Screens.{queue_of, queues_of, screen_id, IsScreen}
+
+-- a paint of any screen has room in an empty queue
+mul_most : (a b c d : ℕ) → a ≤ c → b ≤ d → a * b ≤ c * d
+mul_most a b c d h k = grind (arith, mul-le-mul_left a k, mul-le-mul_left d h)
+
+pub paint_fits : (rows cols : ℕ) → IsSize rows cols → bound_of rows cols ≤ 262144
+paint_fits rows cols h = let p : rows * (16 + 4 * cols) ≤ 64 * 656 = mul_most rows (16 + 4 * cols) 64 656 h.few_rows (omega (arith, h.few_cols)) in omega (arith, p)
+
+pub paint_room : (x : Screen) → IsPicture x.next → IsScreen x → IsTaken (queue_of x) → vec_len x.queue + bound_of x.next.rows x.next.cols ≤ vec_capacity x.queue
+paint_room x p s e =
+    let l : length x.queue.items ≡ 0 = ap length e in
+    omega (arith, l, x.queue.ok.0, paint_fits x.next.rows x.next.cols p.size, s.room)
+
+-- THE FIRST OF AN ID
+
+pub remove_at_first : {A : Type 0} (p : A → Bool) (xs : List A) → position_or_len p xs < length xs → remove xs (position_or_len p xs) ≡ remove_first p xs
+remove_at_first p [] h = absurd (omega arith)
+remove_at_first {A = A} p (x ∷ xs) h =
+    let goal : Bool → Type 0 = λ b. cond (not b) (1 + position_or_len p xs) 0 < length (x ∷ xs) → remove (x ∷ xs) (cond (not b) (1 + position_or_len p xs) 0) ≡ cond b xs (x ∷ remove_first p xs) in
+    let go : (b : Bool) → goal b =
+    λ b. elim b as goal [
+      | true ↦ λ l. refl
+      | false ↦ λ l. rw one-add (ap (λ ys. x ∷ ys) (remove_at_first p xs (omega arith)))
+    ]
+    in go (p x) h
+
+pub remove_none : {A : Type 0} (p : A → Bool) (xs : List A) → position_or_len p xs ≡ length xs → remove_first p xs ≡ xs
+remove_none p [] h = refl
+remove_none {A = A} p (x ∷ xs) h =
+    let goal : Bool → Type 0 = λ b. cond (not b) (1 + position_or_len p xs) 0 ≡ length (x ∷ xs) → cond b xs (x ∷ remove_first p xs) ≡ x ∷ xs in
+    let go : (b : Bool) → goal b =
+    λ b. elim b as goal [ true ↦ λ e. absurd (omega arith) | false ↦ λ e. ap (λ ys. x ∷ ys) (remove_none p xs (omega arith)) ]
+    in go (p x) h
+
+pub change_none : {A : Type 0} (p : A → Bool) (f : A → A) (xs : List A) → position_or_len p xs ≡ length xs → change_first p f xs ≡ xs
+change_none p f [] h = refl
+change_none {A = A} p f (x ∷ xs) h =
+    let goal : Bool → Type 0 = λ b. cond (not b) (1 + position_or_len p xs) 0 ≡ length (x ∷ xs) → cond b (f x ∷ xs) (x ∷ change_first p f xs) ≡ x ∷ xs in
+    let go : (b : Bool) → goal b =
+    λ b. elim b as goal [ true ↦ λ e. absurd (omega arith) | false ↦ λ e. ap (λ ys. x ∷ ys) (change_none p f xs (omega arith)) ]
+    in go (p x) h
+
+-- EACH SIZE IS FOUND BY ITS ID
+
+abbrev pub IsFound : List Size → Size → Type 0
+IsFound ss x = find_size x.id ss ≡ Some x
+
+found_past : (x : Size) (ss xs : List Size) → All (IsOther x) xs → All (IsFound ss) xs → All (IsFound (x ∷ ss)) xs
+found_past x ss [] o f = All-nil (IsFound (x ∷ ss))
+found_past x ss (y ∷ ys) o f =
+    let e : nat_eq x.id y.id ≡ false = All-head (IsOther x) y ys o in
+    All-cons (IsFound (x ∷ ss)) y ys
+    (ap (λ b. cond b (Some x) (find_size y.id ss)) e ∙ All-head (IsFound ss) y ys f)
+    (found_past x ss ys (All-tail (IsOther x) y ys o) (All-tail (IsFound ss) y ys f))
+
+pub found_each : (ss : List Size) → IsUnique ss → All (IsFound ss) ss
+found_each [] u = All-nil (IsFound [])
+found_each (x ∷ xs) u =
+    All-cons (IsFound (x ∷ xs)) x xs
+    (ap (λ b. cond b (Some x) (find_size x.id xs)) (eq-eqb x.id x.id refl))
+    (found_past x xs xs u.0 (found_each xs u.1))
+
+pub All-unmap : {A B : Type 0} (P : B → Type 0) (f : A → B) (xs : List A) → All P (map f xs) → All (λ x. P (f x)) xs
+All-unmap P f [] h = All-nil (λ x. P (f x))
+All-unmap P f (x ∷ xs) h = All-cons (λ x. P (f x)) x xs (All-head P (f x) (map f xs) h) (All-unmap P f xs (All-tail P (f x) (map f xs) h))
+
+-- DRAWING
+
+-- what was not yet drawn is as it was
+pub rest_at : (xs ys : List Screen) (i : ℕ) (d : Screen) → drop i xs ≡ drop i ys → get_or xs i d ≡ get_or ys i d
+rest_at xs ys i d e =
+    ap (λ n. get_or xs n d) (sym (add-zero i)) ∙ sym (get_or-drop i xs 0 d)
+    ∙ ap (λ zs. get_or zs 0 d) e
+    ∙ get_or-drop i ys 0 d ∙ ap (λ n. get_or ys n d) (add-zero i)
+
+pub rest_after : (xs ys : List Screen) (i : ℕ) (x : Screen) → drop i xs ≡ drop i ys → drop (i + 1) (set xs i x) ≡ drop (i + 1) ys
+rest_after xs ys i x e = drop-set-lt (i + 1) xs i x (omega arith) ∙ sym (drop-drop 1 i xs) ∙ ap (drop 1) e ∙ drop-drop 1 i ys
+
+-- a write that changes nothing of what is asked
+pub same_set : {A : Type 0} (of : Screen → A) (xs : List Screen) (i : ℕ) (d y : Screen) → i < length xs → of y ≡ of (get_or xs i d) → map of (set xs i y) ≡ map of xs
+same_set of [] i d y l e = refl
+same_set of (z ∷ zs) zero d y l e = ap (λ s. s ∷ map of zs) e
+same_set of (z ∷ zs) (suc i) d y l e = ap (λ ss. of z ∷ ss) (same_set of zs i d y (omega arith) e)
+
+-- QUEUES
+
+pub taken_at : (xs : List Screen) (i : ℕ) (d : Screen) → i < length xs → All IsTaken (queues_of xs) → IsTaken (queue_of (get_or xs i d))
+taken_at xs i d l h = All-unmap IsTaken queue_of xs h i d l
+
+-- one more queue is handed over
+pub handed_more : (xs ys : List Screen) (i : ℕ) (d y : Screen) → i < length xs → i < length ys → queues_of (take i xs) ≡ map emptied (queues_of (take i ys)) → drop i xs ≡ drop i ys → queue_of y ≡ emptied (queue_of (get_or xs i d)) → queues_of (take (i + 1) (set xs i y)) ≡ map emptied (queues_of (take (i + 1) ys))
+handed_more xs ys i d y l m e r is =
+    ap queues_of (take_more_set xs i y l)
+    ∙ map-append queue_of (take i xs) (y ∷ [])
+    ∙ ap (λ qs. qs ++ queue_of y ∷ []) e
+    ∙ ap (λ q. map emptied (queues_of (take i ys)) ++ q ∷ []) (is ∙ ap (λ x. emptied (queue_of x)) (rest_at xs ys i d r))
+    ∙ sym (map-append emptied (queues_of (take i ys)) (queue_of (get_or ys i d) ∷ []))
+    ∙ ap (map emptied) (sym (map-append queue_of (take i ys) (get_or ys i d ∷ [])))
+    ∙ ap (λ zs. map emptied (queues_of zs)) (sym (take_more ys i d m))
+
+pub handed_all : (xs ys : List Screen) (i : ℕ) → length xs ≤ i → length ys ≤ i → queues_of (take i xs) ≡ map emptied (queues_of (take i ys)) → queues_of xs ≡ map emptied (queues_of ys)
+handed_all xs ys i l m e =
+    ap queues_of (sym (take_all i xs l)) ∙ e ∙ ap (λ zs. map emptied (queues_of zs)) (take_all i ys m)
+
+pub queue_at : (id : ℕ) (xs : List Screen) (at : ℕ) (x : Screen) → at ≡ position_or_len (screen_id id) xs → at < length xs → x ≡ get_or xs at x → bytes_of (find_queue id (queues_of xs)) ≡ x.queue.items
+queue_at id xs at x e l is =
+    ap bytes_of
+    (find-map queue_of (screen_id id) (is_queue_of id) (λ x. refl) xs
+    ∙ ap (option_map queue_of) (find_at_place (screen_id id) xs x (omega (arith, e, l))))
+    ∙ ap (λ n. (get_or xs n x).queue.items) (sym e)
+    ∙ ap (λ (x : Screen). x.queue.items) (sym is)
+
+-- HANDED OVER
+
+handed_push : {K : Type 0} (takes : K → ℕ → List ℕ → K → Type 0) (s t u : K) (xs : List Queue) (x : Queue) → Handed takes s xs t → takes t x.id x.bytes u → Handed takes s (xs ++ x ∷ []) u
+handed_push takes s t u [] x h r = (u, subst (λ z. takes z x.id x.bytes u) (sym h) r, refl)
+handed_push takes s t u (y ∷ ys) x h r = (h.0, h.1, handed_push takes h.0 t u ys x h.2 r)
+
+pub handed_next : {K : Type 0} (takes : K → ℕ → List ℕ → K → Type 0) (s t u : K) (xs ys : List Screen) (i : ℕ) (d : Screen) → i < length ys → drop i xs ≡ drop i ys → Handed takes s (queues_of (take i ys)) t → takes t (get_or xs i d).id (get_or xs i d).queue.items u → Handed takes s (queues_of (take (i + 1) ys)) u
+handed_next takes s t u xs ys i d l e h r =
+    let q : takes t (get_or ys i d).id (get_or ys i d).queue.items u = subst (λ (x : Screen). takes t x.id x.queue.items u) (rest_at xs ys i d e) r in
+    subst (λ qs. Handed takes s qs u)
+    (sym (ap queues_of (take_more ys i d l) ∙ map-append queue_of (take i ys) (get_or ys i d ∷ [])))
+    (handed_push takes s t u (queues_of (take i ys)) (queue_of (get_or ys i d)) h q)

@@ -1,0 +1,229 @@
+// The screens are drawn from a world, and painted where they changed.
+ghost use Rattle.std.specs.Prelude.{◌≡◌, ◌≤◌, ◌<◌, ◌↔◌, ℕ, List, [], map, All, IsTrue, false, IfOk, Some, length, vec_len, vec_capacity};
+ghost use Rattle.mgs_world.specs.Worlds.{sizes, find_size, IsOfSize, IsUnique};
+ghost use Rattle.mgs_core.specs.Steps.{differs_at};
+ghost use Rattle.mgs_engine.specs.Queues.{IsTaken};
+ghost use Rattle.mgs_engine.specs.Screens.{IsScreen, IsKnown, IsAhead, IsDrawn, IsRepaint, IsFirst, AreRepaints, AreDrawnApart, size_of, queue_of, queues_of};
+ghost use Rattle.mgs_paint.specs.Painting.{Paints};
+
+use crate::screen::Screen;
+use mgs_core::{Core, Size};
+use mgs_grid::{Grid, Line};
+use mgs_marks::Marked;
+use mgs_model::{SessionId, Short, Touched};
+use mgs_paint::first;
+use std::alloc::Global;
+use std::mem::swap;
+
+fn is_same_line(a: &Line, b: &Line) -> bool
+    ensures { IsTrue result ↔ a.now ≡ b.now }
+{
+    a.is_reversed() == b.is_reversed() && a.text() == b.text()
+}
+
+fn are_same_lines(a: &[Line], b: &[Line]) -> bool
+    ensures { IsTrue result ↔ a.now ≡ b.now }
+{
+    if a.len() != b.len() {
+        return false;
+    }
+    for (i, line) in a.iter().enumerate() {
+        if !is_same_line(line, &b[i]) {
+            return false;
+        }
+    }
+    true
+}
+
+fn shows_same(a: &Grid, b: &Grid) -> bool
+    ensures { IsTrue result ↔ a.now ≡ b.now }
+{
+    a.rows() == b.rows()
+        && a.cols() == b.cols()
+        && a.cursor() == b.cursor()
+        && are_same_lines(a.lines(), b.lines())
+}
+
+// Draws what the terminal is to show next.
+fn draw_next<T: Marked + Drop>(core: &Core<T>, screen: &mut Screen)
+    requires known { IsKnown (sizes core.now) screen.old }
+    requires screen { IsScreen screen.old }
+    ensures { IsAhead core.now screen.old screen.new }
+{
+    core.draw(screen.id, &mut screen.next);
+}
+
+// Paints what was drawn, whatever the terminal shows.
+fn paint(screen: &mut Screen)
+    requires screen { IsScreen screen.old }
+    requires taken { IsTaken (queue_of screen.old) }
+    ensures screen { IsScreen screen.new }
+    ensures size { size_of screen.new ≡ size_of screen.old }
+    ensures shown { screen.new.shown ≡ screen.old.next }
+    ensures repaint { IsRepaint screen.old screen.new }
+    ensures first { IsFirst screen.new }
+{
+    // Reads each grid once: its rows and columns are those of a picture.
+    let _rows = screen.next.rows();
+    let _shown_rows = screen.shown.rows();
+    first(&screen.next, &mut screen.queue);
+    swap(&mut screen.shown, &mut screen.next);
+}
+
+/// Draws the screen of a session for the first time: the bytes that wait then paint the whole of it, whatever the
+/// terminal showed. It takes no memory.
+///
+/// The world knows the session in the size of the screen, and no bytes wait.
+pub fn draw_first<T: Marked + Drop>(core: &Core<T>, screen: &mut Screen)
+    requires known { IsKnown (sizes core.now) screen.old }
+    requires screen { IsScreen screen.old }
+    requires taken { IsTaken (queue_of screen.old) }
+    ensures screen { IsScreen screen.new }
+    ensures size { size_of screen.new ≡ size_of screen.old }
+    ensures drawn { IsDrawn core.now screen.new }
+    ensures first { IsFirst screen.new }
+{
+    draw_next(core, screen);
+    paint(screen);
+}
+
+// The screen of a session, drawn for the first time.
+fn first_screen<T: Marked + Drop>(
+    alloc: Global,
+    core: &Core<T>,
+    size: Size,
+) -> Result<Screen, Short>
+    requires known { find_size size.id (sizes core.now) ≡ Some size }
+    requires size { IsOfSize size }
+    ensures screen { IfOk result IsScreen }
+    ensures size { IfOk result (λ x. size_of x ≡ size) }
+    ensures drawn { IfOk result (IsDrawn core.now) }
+    ensures first { IfOk result IsFirst }
+{
+    let mut screen = Screen::blank(alloc, size.rows, size.cols)?;
+    screen.id = size.id;
+    draw_first(core, &mut screen);
+    Ok(screen)
+}
+
+/// The screens of all open sessions, in the order in which they opened, drawn for the first time. `Short`: memory was
+/// refused.
+pub fn first_screens<T: Marked + Drop>(alloc: Global, core: &Core<T>) -> Result<Vec<Screen>, Short>
+    ensures unique { IfOk result (λ xs. IsUnique (sizes core.now)) }
+    ensures sizes { IfOk result (λ xs. map size_of xs.items ≡ sizes core.now) }
+    ensures each { IfOk result (λ xs. All IsScreen xs.items) }
+    ensures drawn { IfOk result (λ xs. All (IsDrawn core.now) xs.items) }
+    ensures first { IfOk result (λ xs. All IsFirst xs.items) }
+{
+    let mut screens = Vec::new(alloc);
+    while let Some(size) = core.size(screens.len()) {
+        let screen = first_screen(alloc, core, size)?;
+        if screens.push(screen).is_err() {
+            return Err(Short);
+        }
+    }
+    Ok(screens)
+}
+
+/// Draws a screen again, and paints it where it is not what the terminal shows: the bytes that do so wait then. It
+/// takes no memory.
+///
+/// The world knows the session in the size of the screen, and no bytes wait.
+pub fn redraw<T: Marked + Drop>(core: &Core<T>, screen: &mut Screen)
+    requires known { IsKnown (sizes core.now) screen.old }
+    requires screen { IsScreen screen.old }
+    requires taken { IsTaken (queue_of screen.old) }
+    ensures screen { IsScreen screen.new }
+    ensures size { size_of screen.new ≡ size_of screen.old }
+    ensures drawn { IsDrawn core.now screen.new }
+    ensures repaint { IsRepaint screen.old screen.new }
+{
+    draw_next(core, screen);
+    if !shows_same(&screen.shown, &screen.next) {
+        paint(screen);
+    }
+}
+
+// Draws a screen again where an event that touched this can have changed it, by its place.
+fn redraw_at<T: Marked + Drop>(
+    core: &Core<T>,
+    screen: &mut Screen,
+    at: usize,
+    id: SessionId,
+    touched: &Touched,
+)
+    requires known { IsKnown (sizes core.now) screen.old }
+    requires screen { IsScreen screen.old }
+    requires taken { IsTaken (queue_of screen.old) }
+    requires drawn { differs_at touched.now id at core.now ≡ false → IsDrawn core.now screen.old }
+    ensures screen { IsScreen screen.new }
+    ensures size { size_of screen.new ≡ size_of screen.old }
+    ensures drawn { IsDrawn core.now screen.new }
+    ensures repaint { IsRepaint screen.old screen.new }
+{
+    if core.may_differ(at, id, touched) {
+        redraw(core, screen);
+    }
+}
+
+fn redraw_each<T: Marked + Drop>(
+    core: &Core<T>,
+    screens: &mut [Screen],
+    id: SessionId,
+    touched: &Touched,
+)
+    requires known { All (IsKnown (sizes core.now)) screens.old }
+    requires each { All IsScreen screens.old }
+    requires taken { All IsTaken (queues_of screens.old) }
+    requires drawn { AreDrawnApart core.now touched.now id screens.old }
+    ensures each { All IsScreen screens.new }
+    ensures sizes { map size_of screens.new ≡ map size_of screens.old }
+    ensures drawn { All (IsDrawn core.now) screens.new }
+    ensures repaints { AreRepaints screens.old screens.new }
+{
+    for (at, screen) in screens.iter_mut().enumerate() {
+        redraw_at(core, screen, at, id, touched);
+    }
+}
+
+/// Draws the screens again that an event of the session `id` can have changed, by what it touched, and paints each that
+/// is not what its terminal shows. It takes no memory.
+///
+/// The screens are those of the open sessions, in their order, each in the size that the world knows, and no bytes wait.
+/// Those that the event cannot have changed are what the world has for their sessions.
+pub fn redraw_apart<T: Marked + Drop>(
+    core: &Core<T>,
+    screens: &mut Vec<Screen>,
+    id: SessionId,
+    touched: &Touched,
+)
+    requires known { All (IsKnown (sizes core.now)) screens.old.items }
+    requires each { All IsScreen screens.old.items }
+    requires taken { All IsTaken (queues_of screens.old.items) }
+    requires drawn { AreDrawnApart core.now touched.now id screens.old.items }
+    ensures each { All IsScreen screens.new.items }
+    ensures sizes { map size_of screens.new.items ≡ map size_of screens.old.items }
+    ensures drawn { All (IsDrawn core.now) screens.new.items }
+    ensures repaints { AreRepaints screens.old.items screens.new.items }
+    ensures len { vec_len screens.new ≡ vec_len screens.old }
+    ensures capacity { vec_capacity screens.new ≡ vec_capacity screens.old }
+{
+    redraw_each(core, screens, id, touched);
+}
+
+/// Draws every screen again, and paints each that is not what its terminal shows. It takes no memory.
+///
+/// The world knows the session of each in the size of the screen, and no bytes wait.
+pub fn redraw_all<T: Marked + Drop>(core: &Core<T>, screens: &mut Vec<Screen>)
+    requires known { All (IsKnown (sizes core.now)) screens.old.items }
+    requires each { All IsScreen screens.old.items }
+    requires taken { All IsTaken (queues_of screens.old.items) }
+    ensures each { All IsScreen screens.new.items }
+    ensures sizes { map size_of screens.new.items ≡ map size_of screens.old.items }
+    ensures drawn { All (IsDrawn core.now) screens.new.items }
+    ensures repaints { AreRepaints screens.old.items screens.new.items }
+    ensures len { vec_len screens.new ≡ vec_len screens.old }
+    ensures capacity { vec_capacity screens.new ≡ vec_capacity screens.old }
+{
+    redraw_apart(core, screens, 0, &Touched::Anywhere);
+}

@@ -1,0 +1,46 @@
+// The screen of an open session.
+ghost use Rattle.std.specs.Prelude.{◌≡◌, [], IfOk, length, ◌≤◌};
+ghost use Rattle.mgs_model.specs.Picture.{IsSize};
+
+use mgs_grid::Grid;
+use mgs_model::{QUEUE_LIMIT, SessionId, Short};
+use std::alloc::Global;
+
+/// What a session's terminal shows, a grid to draw into, and the bytes that wait for the terminal.
+#[derive(Drop)]
+pub struct Screen {
+    /// The session.
+    pub id: SessionId,
+    /// What the terminal shows once the bytes that wait were written to it.
+    pub shown: Grid,
+    /// What is drawn next, in the same size.
+    pub next: Grid,
+    /// The bytes that wait, with room for `QUEUE_LIMIT`.
+    pub queue: Vec<u8>,
+}
+
+impl Screen {
+    ghost use Rattle.mgs_engine.specs.Screens.{IsScreen};
+
+    /// A blank screen of so many rows (6 to 64) and columns (20 to 160), which no session has yet: no bytes wait, and the
+    /// id is to be set. `Short`: memory was refused.
+    pub fn blank(alloc: Global, rows: usize, cols: usize) -> Result<Screen, Short>
+        requires { IsSize rows cols }
+        ensures screen { IfOk result IsScreen }
+        ensures rows { IfOk result (λ x. x.shown.rows ≡ rows) }
+        ensures cols { IfOk result (λ x. x.shown.cols ≡ cols) }
+        ensures empty { IfOk result (λ x. x.queue.items ≡ []) }
+    {
+        let shown = Grid::new(alloc, rows, cols)?;
+        let next = Grid::new(alloc, rows, cols)?;
+        let Ok(queue) = Vec::with_capacity(alloc, QUEUE_LIMIT) else {
+            return Err(Short);
+        };
+        Ok(Screen {
+            id: 0,
+            shown,
+            next,
+            queue,
+        })
+    }
+}

@@ -1,0 +1,136 @@
+// Mode lines and messages written into a row.
+ghost use Rattle.std.specs.Prelude.{◌≡◌, ℕ, ◌+◌, ◌<◌, ◌≤◌, ◌^◌, ◌++◌, codes};
+ghost use Rattle.mgs_model.specs.Rows.{heading_text, place_text, cause_text, unread_text};
+ghost use Rattle.mgs_model.specs.Rights.{right_name};
+ghost use Rattle.mgs_model.specs.Messages.{denial_text, message_text};
+ghost use Rattle.mgs_grid.specs.Pen.{Wrote};
+
+use crate::pen::{put_bytes, put_decimal};
+use mgs_model::{Decision, Message, Name, Right};
+
+#[tactic(auto, using(crate::proofs::Plain::name_plain, crate::proofs::Plain::name_short))]
+// A name, and a dash.
+fn put_titled(row: &mut [char], column: usize, name: &Name) -> usize
+    requires { column < 2 ^ 62 }
+    ensures wrote { Wrote row.old column (name.now ++ codes "-") row.new result }
+    ensures few { result ≤ column + 33 }
+{
+    let end = put_bytes(row, column, name.as_bytes());
+    put_bytes(row, end, b"-")
+}
+
+#[tactic(auto, using(crate::proofs::Plain::right_plain, crate::proofs::Plain::right_short))]
+fn put_right(row: &mut [char], column: usize, right: Right) -> usize
+    requires { column < 2 ^ 62 }
+    ensures wrote { Wrote row.old column (right_name right) row.new result }
+    ensures few { result ≤ column + 16 }
+{
+    put_bytes(row, column, right.name().as_bytes())
+}
+
+// Whether a buffer is modified, and its name.
+fn put_title(row: &mut [char], title: &(Name, bool)) -> usize
+    ensures wrote { Wrote row.old 0 (heading_text (Some title.now)) row.new result }
+    ensures few { result ≤ 64 }
+{
+    let (name, modified) = title;
+    if *modified {
+        let start = put_bytes(row, 0, b"-**-");
+        put_titled(row, start, name)
+    } else {
+        let start = put_bytes(row, 0, b"----");
+        put_titled(row, start, name)
+    }
+}
+
+/// Writes the front of a mode line from column 0 on, and tells the column behind it, at most 64: the buffer's name and
+/// whether it is modified. `None` stands for what may not be told.
+pub fn put_heading(row: &mut [char], heading: Option<(Name, bool)>) -> usize
+    ensures wrote { Wrote row.old 0 (heading_text heading) row.new result }
+    ensures few { result ≤ 64 }
+{
+    match heading {
+        None => put_bytes(row, 0, b"-??-?-"),
+        Some(title) => put_title(row, &title),
+    }
+}
+
+/// Writes the point's line and column, as given, the way a mode line has them, from a column below 2^60 on, and tells
+/// the column behind them, at most 64 further. `None` stands for what may not be told.
+pub fn put_place(row: &mut [char], column: usize, place: Option<(usize, usize)>) -> usize
+    requires { column < 2 ^ 60 }
+    ensures wrote { Wrote row.old column (place_text place) row.new result }
+    ensures few { result ≤ column + 64 }
+{
+    let Some((line, place_column)) = place else {
+        return put_bytes(row, column, b"(no read)");
+    };
+    let at_line = put_bytes(row, column, b"L");
+    let at_mark = put_decimal(row, at_line, line);
+    let at_column = put_bytes(row, at_mark, b"-C");
+    put_decimal(row, at_column, place_column)
+}
+
+// Why a text may not be read.
+fn put_cause(row: &mut [char], column: usize, decision: Decision) -> usize
+    requires { column < 2 ^ 60 }
+    ensures wrote { Wrote row.old column (cause_text decision) row.new result }
+    ensures few { result ≤ column + 64 }
+{
+    match decision {
+        Decision::Granted => column,
+        Decision::DeniedBy { entry, .. } => {
+            let at = put_bytes(row, column, b"entry ");
+            put_decimal(row, at, entry)
+        }
+        Decision::NotGranted { .. } => put_bytes(row, column, b"no entry"),
+    }
+}
+
+/// Writes what stands in place of a text that may not be read, from column 0 on, and tells the column behind it, at
+/// most 128.
+pub fn put_unread(row: &mut [char], decision: Decision) -> usize
+    ensures wrote { Wrote row.old 0 (unread_text decision) row.new result }
+    ensures few { result ≤ 128 }
+{
+    let start = put_bytes(row, 0, b"[no read: ");
+    let end = put_cause(row, start, decision);
+    put_bytes(row, end, b"]")
+}
+
+// Why a command was refused.
+fn put_denial(row: &mut [char], decision: Decision) -> usize
+    ensures wrote { Wrote row.old 0 (denial_text decision) row.new result }
+    ensures few { result ≤ 128 }
+{
+    match decision {
+        Decision::Granted => 0,
+        Decision::DeniedBy { entry, bit } => {
+            let at_entry = put_bytes(row, 0, b"Denied: entry ");
+            let at_verb = put_decimal(row, at_entry, entry);
+            let at_right = put_bytes(row, at_verb, b" denies ");
+            put_right(row, at_right, bit)
+        }
+        Decision::NotGranted { bit } => {
+            let at = put_bytes(row, 0, b"Denied: no entry grants ");
+            put_right(row, at, bit)
+        }
+    }
+}
+
+/// Writes an echo text from column 0 on, and tells the column behind it, at most 128.
+pub fn put_message(row: &mut [char], message: &Message) -> usize
+    ensures wrote { Wrote row.old 0 (message_text message.now) row.new result }
+    ensures few { result ≤ 128 }
+{
+    match *message {
+        Message::Silent => 0,
+        Message::Denied(decision) => put_denial(row, decision),
+        Message::KeyNotBound => put_bytes(row, 0, b"Key not bound"),
+        Message::NoBuffer => put_bytes(row, 0, b"No buffer"),
+        Message::BeginningOfBuffer => put_bytes(row, 0, b"Beginning of buffer"),
+        Message::EndOfBuffer => put_bytes(row, 0, b"End of buffer"),
+        Message::BufferFull => put_bytes(row, 0, b"Buffer full"),
+        Message::NoMemory => put_bytes(row, 0, b"No memory"),
+    }
+}

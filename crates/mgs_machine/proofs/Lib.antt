@@ -1,3 +1,0 @@
-pub mod Screens
-pub mod Feeding
-pub mod Taking

@@ -1,5 +1,0 @@
-use Rattle.std.proofs.Common.{◌≡◌, take, replicate}
-use Rattle.mgs_pen.proofs.pen.fill.Given as goal
-
-abbrev pub invariant-loop-cell : goal.invariant-loop-cell
-invariant-loop-cell l = take l.cell-index l.row ≡ replicate l.cell-index l.c

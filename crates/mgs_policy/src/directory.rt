@@ -1,0 +1,145 @@
+// The users and groups of a server.
+ghost use Rattle.std.specs.Prelude.{◌≡◌, [], OnOk, OnErr, find, map};
+ghost use Rattle.mgs_model.specs.Access.{is_among, is_member};
+ghost use Rattle.mgs_model.specs.Names.{same_name};
+ghost use Rattle.mgs_policy.specs.Groups.{is_group_named};
+
+use mgs_acl::user_named;
+use crate::group::{Group, has_group, is_member};
+use crate::users::{are_users, has_name, known, named};
+use mgs_model::{GROUP_LIMIT, Name, USER_LIMIT};
+use std::alloc::Global;
+use std::marker::Model;
+use thiserror::Error;
+
+/// Why a directory was not changed, in the order in which the faults are judged.
+#[derive(Clone, Copy, Debug, PartialEq, Eq, Error)]
+pub enum DirectoryFault {
+    /// It is no name of a user or a group: 1 to 32 lower-case letters, digits, `-` and `_`.
+    #[error("it is no name of a user or a group")]
+    Name,
+    /// The directory has a user, or a group, of that name.
+    #[error("the name is taken")]
+    Twice,
+    /// A member of the group is no user of the directory.
+    #[error("a member is no user")]
+    Unknown,
+    /// It has 256 users, or 64 groups.
+    #[error("the directory is full")]
+    Full,
+    /// Want of memory.
+    #[error("no memory")]
+    Short,
+}
+
+/// The users and groups of a server, in the order in which they were added.
+#[derive(Drop)]
+pub struct Directory {
+    users: Vec<Name>,
+    groups: Vec<Group>,
+    alloc: Global,
+}
+
+impl Model for Directory {
+    ghost use Rattle.mgs_model.specs.Access.{Directory as Seen};
+
+    ghost Value = { Seen };
+
+    ghost view = { λ d. record { users = d.users.items; groups = d.groups.items } };
+}
+
+impl Directory {
+    ghost use Rattle.mgs_policy.specs.Directories.{user_fault, with_user, group_fault, with_group, Answers};
+
+    /// A directory with no user and no group.
+    pub fn new(alloc: Global) -> Directory
+        ensures { result ≡ record { users = []; groups = [] } }
+    {
+        Directory {
+            users: Vec::new(alloc),
+            groups: Vec::new(alloc),
+            alloc,
+        }
+    }
+
+    /// Whether a user has this name.
+    pub fn has_user(&self, name: &Name) -> bool
+        ensures { result ≡ is_among name.now self.now.users }
+    {
+        has_name(self.users.as_slice(), name)
+    }
+
+    /// The name of the user who is called so, if there is one.
+    pub fn user(&self, name: &str) -> Option<Name>
+        ensures { result ≡ find (same_name name.now) self.now.users }
+    {
+        named(self.users.as_slice(), name)
+    }
+
+    /// Whether a group has this name.
+    pub fn has_group(&self, name: &Name) -> bool
+        ensures { result ≡ is_group_named name.now self.now.groups }
+    {
+        has_group(self.groups.as_slice(), name)
+    }
+
+    /// Whether a user is a member of a group.
+    pub fn is_member(&self, group: &Name, user: &Name) -> bool
+        ensures { result ≡ is_member self.now.groups group.now user.now }
+    {
+        is_member(self.groups.as_slice(), group, user)
+    }
+
+    /// Adds a user, who is then the last.
+    ///
+    /// The faults, judged in this order: `Name` where it is no user's name, `Twice` where a user has it, `Full` where there are 256 users, `Short` for want of memory. They change nothing.
+    pub fn add_user(&mut self, name: &str) -> Result<(), DirectoryFault>
+        ensures answer { Answers result (user_fault self.old name.now) }
+        ensures ok { OnOk result (self.new ≡ with_user self.old name.now) }
+        ensures err { OnErr result (self.new ≡ self.old) }
+    {
+        let Some(name) = user_named(name) else {
+            return Err(DirectoryFault::Name);
+        };
+        if self.has_user(&name) {
+            return Err(DirectoryFault::Twice);
+        }
+        if self.users.len() >= USER_LIMIT {
+            return Err(DirectoryFault::Full);
+        }
+        match self.users.push(name) {
+            Ok(()) => Ok(()),
+            Err(_) => Err(DirectoryFault::Short),
+        }
+    }
+
+    /// Adds a group of these users, which is then the last. A member may be named twice.
+    ///
+    /// The faults, judged in this order: `Name` where it is no group's name, `Twice` where a group has it, `Unknown` where a member is no user of the directory,
+    /// `Full` where there are 64 groups, `Short` for want of memory. They change nothing.
+    pub fn add_group(&mut self, name: &str, members: &[&str]) -> Result<(), DirectoryFault>
+        ensures answer { Answers result (group_fault self.old name.now (map (λ member. member.now) members.now)) }
+        ensures ok { OnOk result (self.new ≡ with_group self.old name.now (map (λ member. member.now) members.now)) }
+        ensures err { OnErr result (self.new ≡ self.old) }
+    {
+        let Some(group) = user_named(name) else {
+            return Err(DirectoryFault::Name);
+        };
+        if self.has_group(&group) {
+            return Err(DirectoryFault::Twice);
+        }
+        if !are_users(self.users.as_slice(), members) {
+            return Err(DirectoryFault::Unknown);
+        }
+        if self.groups.len() >= GROUP_LIMIT {
+            return Err(DirectoryFault::Full);
+        }
+        let Ok(members) = known(self.alloc, self.users.as_slice(), members) else {
+            return Err(DirectoryFault::Short);
+        };
+        let Ok(()) = self.groups.push(Group::new(group, members)) else {
+            return Err(DirectoryFault::Short);
+        };
+        Ok(())
+    }
+}

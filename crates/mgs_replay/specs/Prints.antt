@@ -1,0 +1,50 @@
+-- What the lines of a script print.
+use Rattle.std.specs.Prelude.{ℕ, zero, suc, ◌+◌, List, [], ◌∷◌, ◌++◌, map, take, drop, codes, decimal, if◌then◌else◌}
+use Rattle.mgs_model.specs.declared.errors.OpenFault.{OpenFault}
+use Rattle.mgs_model.specs.declared.errors.OpenFault.TheVariants.{NoUser, Size, Full, Short}
+use Rattle.mgs_term.specs.declared.cell.Cell.{Cell}
+use Rattle.mgs_term.specs.Screen.{Screen}
+use Rattle.mgs_replay.specs.declared.seat.Cause.{Cause}
+use Rattle.mgs_replay.specs.declared.seat.Cause.TheVariants.{Quit, Closed}
+
+-- why an open was refused: its number and its name
+abbrev pub fault_text : OpenFault → List ℕ
+fault_text NoUser = codes "1 NoUser"
+fault_text Size = codes "2 Size"
+fault_text Full = codes "3 Full"
+fault_text Short = codes "4 Short"
+
+-- the line of a refused open
+abbrev pub refusal_text : List ℕ → OpenFault → List ℕ
+refusal_text label fault = codes "refused " ++ label ++ 32 ∷ fault_text fault ++ 10 ∷ []
+
+-- how a session ended
+abbrev pub cause_text : Cause → List ℕ
+cause_text Quit = codes "Quit"
+cause_text Closed = codes "Closed"
+
+-- the line of a session that ended
+abbrev pub ended_text : List ℕ → Cause → List ℕ
+ended_text label cause = codes "ended " ++ label ++ 32 ∷ cause_text cause ++ 10 ∷ []
+
+-- `!` where the row's first cell is reversed, and `|` elsewhere
+abbrev pub edge_of : List Cell → ℕ
+edge_of [] = 124
+edge_of (c ∷ cells) = if c.reversed then 33 else 124
+
+-- what the cells show
+abbrev pub characters : List Cell → List ℕ
+characters cells = map (λ c. c.character) cells
+
+-- a row between its edges
+abbrev pub row_text : List Cell → List ℕ
+row_text cells = edge_of cells ∷ characters cells ++ edge_of cells ∷ 10 ∷ []
+
+-- rows one below another
+abbrev pub rows_text : ℕ → ℕ → List Cell → List ℕ
+rows_text zero cols cells = []
+rows_text (suc n) cols cells = row_text (take cols cells) ++ rows_text n cols (drop cols cells)
+
+-- a session's screen: its label, its rows, and its cursor from 1
+abbrev pub screen_text : List ℕ → Screen → List ℕ
+screen_text label s = codes "screen " ++ label ++ 10 ∷ rows_text s.rows s.cols s.cells ++ codes "cursor " ++ decimal (s.row + 1) ++ 32 ∷ decimal (s.col + 1) ++ 10 ∷ []

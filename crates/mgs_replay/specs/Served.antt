@@ -1,0 +1,138 @@
+-- The terminals of the labels beside the engine that serves them.
+use Rattle.std.specs.Prelude.{◌≡◌, ℕ, nat_eq, true, false, List, [], ◌∷◌, ◌++◌, map, Option, Some, None, Result, Ok, Err, All}
+use Rattle.std.specs.Option.{option_map}
+use Rattle.mgs_model.specs.World.{World, Session, find_session}
+use Rattle.mgs_model.specs.Draw.{screen}
+use Rattle.mgs_world.specs.declared.size.Size.{Size}
+use Rattle.mgs_world.specs.Worlds.{sizes}
+use Rattle.mgs_term.specs.Screen.{Screen}
+use Rattle.mgs_term.specs.Terminal.{resting}
+use Rattle.mgs_term.specs.Drawing.{Draws, Anything}
+use Rattle.mgs_paint.specs.Painting.{shown}
+use Rattle.mgs_engine.specs.Serving.{Serving, AllTaken, pending_of, queue_ids}
+use Rattle.mgs_replay.specs.declared.seat.Labelled.{Labelled}
+use Rattle.mgs_replay.specs.declared.seat.Seat.{Seat}
+use Rattle.mgs_replay.specs.declared.seat.Seat.TheVariants as seats
+use Rattle.mgs_model.specs.declared.errors.Keyed.{Keyed}
+use Rattle.mgs_model.specs.declared.errors.Keyed.TheVariants as keyed
+use Rattle.mgs_replay.specs.declared.seat.Cause.TheVariants as causes
+use Rattle.mgs_script.specs.declared.line.LineFault.{LineFault}
+use Rattle.mgs_script.specs.declared.line.LineFault.TheVariants as lines
+use Rattle.mgs_script.specs.Lines.{Said}
+use Rattle.mgs_replay.specs.Seats.{ended_by}
+use Rattle.mgs_replay.specs.Stages.{Label, label, Standing, Never, Has, Gone, Stage, begun, is_refused, Does, LineDoes, LineRefused}
+
+-- how a label stands, by what stands behind it
+abbrev pub standing_in : Seat → Standing
+standing_in seats.Never = Never
+standing_in (seats.Open id term) = Has id
+standing_in (seats.Ended cause) = Gone cause
+
+abbrev pub label_of : Labelled → Label
+label_of x = label x.label (standing_in x.seat)
+
+abbrev pub labels_in : List Labelled → List Label
+labels_in xs = map label_of xs
+
+-- between two events a terminal shows the screen of its session, which is open
+abbrev pub SeatShows : World → Seat → Type 0
+SeatShows w seats.Never = Unit {0}
+SeatShows w (seats.Open id term) = (x : Session) × (find_session id w.sessions ≡ Some x) × (term ≡ resting (shown (screen w x)))
+SeatShows w (seats.Ended cause) = Unit {0}
+
+abbrev pub Shows : World → Labelled → Type 0
+Shows w x = SeatShows w x.seat
+
+-- after an event the bytes that wait for it draw that screen
+abbrev pub SeatDue : Serving → Seat → Type 0
+SeatDue e seats.Never = Unit {0}
+SeatDue e (seats.Open id term) =
+    (x : Session) × (s : Screen) × (find_session id e.world.sessions ≡ Some x) × (term ≡ resting s) × Draws Anything (pending_of id e) s (shown (screen e.world x))
+SeatDue e (seats.Ended cause) = Unit {0}
+
+abbrev pub IsDue : Serving → Labelled → Type 0
+IsDue e x = SeatDue e x.seat
+
+-- two labels have not the same open session
+abbrev pub Differ : Standing → Standing → Type 0
+Differ Never y = Unit {0}
+Differ (Gone cause) y = Unit {0}
+Differ (Has id) Never = Unit {0}
+Differ (Has id) (Has other) = nat_eq other id ≡ false
+Differ (Has id) (Gone cause) = Unit {0}
+
+abbrev pub IsApart : Label → Label → Type 0
+IsApart x y = Differ x.standing y.standing
+
+abbrev pub AreApart : List Label → Type 0
+AreApart [] = Unit {0}
+AreApart (x ∷ xs) = All (IsApart x) xs × AreApart xs
+
+-- no id stands twice
+abbrev pub AreOthers : ℕ → List ℕ → Type 0
+AreOthers id xs = All (λ (x : ℕ). nat_eq x id ≡ false) xs
+
+abbrev pub AreUnique : List ℕ → Type 0
+AreUnique [] = Unit {0}
+AreUnique (x ∷ xs) = AreOthers x xs × AreUnique xs
+
+abbrev pub size_id : Size → ℕ
+size_id z = z.id
+
+-- there is one queue for each open session
+pub record IsServed (e : Serving) : Type 0 where
+  pub queues : queue_ids e ≡ map size_id (sizes e.world)
+  pub unique : AreUnique (queue_ids e)
+
+-- between two events
+pub record IsReady (e : Serving) (xs : List Labelled) : Type 0 where
+  pub served : IsServed e
+  pub taken : AllTaken e
+  pub shows : All (Shows e.world) xs
+  pub apart : AreApart (labels_in xs)
+
+-- after an event, before its bytes are handed over
+pub record IsWaiting (e : Serving) (xs : List Labelled) : Type 0 where
+  pub served : IsServed e
+  pub due : All (IsDue e) xs
+  pub apart : AreApart (labels_in xs)
+
+-- the stage from the first open on
+abbrev pub stage_of : Serving → List Labelled → Stage
+stage_of e xs = begun e.world (labels_in xs)
+
+-- what stands behind the labels after a byte of one of them
+abbrev pub seats_keyed : Keyed → List ℕ → List Labelled → List Labelled
+seats_keyed keyed.Quit name xs = map (ended_by name causes.Quit) xs
+seats_keyed keyed.Done name xs = xs
+seats_keyed keyed.NoSession name xs = xs
+seats_keyed keyed.Short name xs = xs
+
+-- exactly the text was printed; the line is refused exactly where there is none
+abbrev pub Prints : Result (Unit {0}) LineFault → List ℕ → List ℕ → Option (List ℕ) → Type 0
+Prints (Ok done) old new text = option_map (λ (t : List ℕ). old ++ t) text ≡ Some new
+Prints (Err lines.Bad) old new text = text ≡ None
+Prints (Err lines.Short) old new text = Unit {0}
+
+-- printing fails only for want of memory
+abbrev pub short_or : {E : Type 0} → Result (Unit {0}) E → Result (Unit {0}) LineFault
+short_or (Ok done) = Ok done
+short_or (Err e) = Err lines.Short
+
+-- a fault is want of memory
+abbrev pub NotBad : Result (Unit {0}) LineFault → Type 0
+NotBad (Ok done) = Unit {0}
+NotBad (Err lines.Bad) = ⊥
+NotBad (Err lines.Short) = Unit {0}
+
+-- what a line did, and what it put behind what was printed
+abbrev pub Runs : Result (Unit {0}) LineFault → Stage → Said → Stage → List ℕ → List ℕ → Type 0
+Runs (Ok done) s l t old new = (is_refused s l ≡ false) × ((print : List ℕ) × Does s l t print × (new ≡ old ++ print))
+Runs (Err lines.Bad) s l t old new = is_refused s l ≡ true
+Runs (Err lines.Short) s l t old new = Unit {0}
+
+-- the same of a line that may say nothing
+abbrev pub RunsSaid : Result (Unit {0}) LineFault → Stage → Option Said → Stage → List ℕ → List ℕ → Type 0
+RunsSaid (Ok done) s l t old new = (print : List ℕ) × LineDoes l s t print × (new ≡ old ++ print)
+RunsSaid (Err lines.Bad) s l t old new = LineRefused l s
+RunsSaid (Err lines.Short) s l t old new = Unit {0}

@@ -1,8 +1,0 @@
-use Rattle.std.proofs.Common.{false, ℕ, List, sym, ap, ◌∙◌}
-use Rattle.mgs_model.specs.Rows.{Row}
-use Rattle.mgs_row.proofs.Fits.{blank_row}
-use Rattle.mgs_row.proofs.line.Line.blank.Goals as goal
-
-pub returns : goal.returns
-returns c =
-    ap (λ (t : List ℕ). let r : Row = record { text = t; reversed = false } in r) (c.in-Ok.ensures.items_if_clones_equal (λ y e. e)) ∙ sym (blank_row c.args.cols)

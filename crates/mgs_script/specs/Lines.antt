@@ -1,0 +1,131 @@
+-- What the lines of a script say.
+use Rattle.std.specs.Prelude.{◌≡◌, ℕ, ◌==◌, Bool, ◌||◌, List, length, map, codes, slice_index, Option, Some, None, Result, Ok, Err, if◌then◌else◌}
+use Rattle.std.specs.Option.{option_map}
+use Rattle.std.specs.Str.{bytes_eq, is_utf8}
+use Rattle.mgs_keys.specs.Words.{word_of, rest_of, words_of}
+use Rattle.mgs_keys.specs.Tokens.{keys_of}
+use Rattle.mgs_script.specs.Words.{◌>>=◌, name_of, any_word_of, text_of, size_of}
+use Rattle.mgs_script.specs.declared.line.Line.{Line}
+use Rattle.mgs_script.specs.declared.line.Line.TheVariants as code
+use Rattle.mgs_script.specs.declared.line.LineFault.{LineFault}
+use Rattle.mgs_script.specs.declared.line.LineFault.TheVariants.{Bad, Short}
+use Rattle.mgs_script.specs.declared.kind.Kind.{Kind}
+use Rattle.mgs_script.specs.declared.kind.Kind.TheVariants as kinds
+
+-- what a line says
+pub data Said : Type 0 where
+  Nothing : Said
+  User : (name : List ℕ) → Said
+  Group : (name : List ℕ) → (members : List (List ℕ)) → Said
+  Buffer : (name owner : List ℕ) → Said
+  Entry : (buffer entry : List ℕ) → Said
+  Text : (buffer text : List ℕ) → Said
+  Open : (label user : List ℕ) → (rows cols : ℕ) → Said
+  Keys : (label keys : List ℕ) → Said
+  Show : (label : List ℕ) → Said
+  Close : (label : List ℕ) → Said
+
+-- the first word of a line
+abbrev pub kind_named : List ℕ → Option Kind
+kind_named w =
+    if bytes_eq w (codes "user") then Some kinds.User
+    else if bytes_eq w (codes "group") then Some kinds.Group
+    else if bytes_eq w (codes "buffer") then Some kinds.Buffer
+    else if bytes_eq w (codes "entry") then Some kinds.Entry
+    else if bytes_eq w (codes "text") then Some kinds.Text
+    else if bytes_eq w (codes "open") then Some kinds.Open
+    else if bytes_eq w (codes "keys") then Some kinds.Keys
+    else if bytes_eq w (codes "show") then Some kinds.Show
+    else if bytes_eq w (codes "close") then Some kinds.Close
+    else None
+
+-- a group's name and those of its members, which are judged where the group is added
+unfoldable pub group_said : List ℕ → Option Said
+group_said t = option_map (λ rest. Group (word_of t) (words_of rest)) (rest_of t)
+
+-- a buffer's name and its owner's, which are judged where the buffer is added
+unfoldable pub buffer_said : List ℕ → Option Said
+buffer_said t = option_map (λ owner. Buffer (word_of t) owner) (rest_of t)
+
+-- a buffer's name and the text of an entry, in which more spaces may stand
+unfoldable pub entry_said : List ℕ → Option Said
+entry_said t = do
+  buffer ← name_of (word_of t)
+  entry ← rest_of t
+  Some (Entry buffer entry)
+
+-- a buffer's name and tokens
+unfoldable pub text_said : List ℕ → Option Said
+text_said t = do
+  buffer ← name_of (word_of t)
+  rest ← rest_of t
+  text ← text_of rest
+  Some (Text buffer text)
+
+-- a label, a user who need not be known, and a size that need not be one of a screen
+unfoldable pub open_said : List ℕ → Option Said
+open_said t = do
+  label ← name_of (word_of t)
+  rest ← rest_of t
+  user ← any_word_of (word_of rest)
+  sizes ← rest_of rest
+  size ← size_of sizes
+  Some (Open label user size.0 size.1)
+
+-- a label and tokens
+unfoldable pub keys_said : List ℕ → Option Said
+keys_said t = do
+  label ← name_of (word_of t)
+  rest ← rest_of t
+  keys ← keys_of rest
+  Some (Keys label keys)
+
+-- what stands behind the first word, by what the word says; the form of a new user's name is judged where the user is added
+abbrev pub said_as : Kind → List ℕ → Option Said
+said_as kinds.User t = Some (User t)
+said_as kinds.Group t = group_said t
+said_as kinds.Buffer t = buffer_said t
+said_as kinds.Entry t = entry_said t
+said_as kinds.Text t = text_said t
+said_as kinds.Open t = open_said t
+said_as kinds.Keys t = keys_said t
+said_as kinds.Show t = option_map Show (name_of t)
+said_as kinds.Close t = option_map Close (name_of t)
+
+-- what a line says by its first word
+unfoldable pub said_by_kind : List ℕ → Option Said
+said_by_kind t = do
+  kind ← kind_named (word_of t)
+  rest ← rest_of t
+  said_as kind rest
+
+-- empty lines, and those that begin with `#`
+abbrev pub is_passed_over : List ℕ → Bool
+is_passed_over t = (length t == 0) || (slice_index t 0 == 35)
+
+-- bytes that are UTF-8
+abbrev pub utf8_of : List ℕ → Option (List ℕ)
+utf8_of t = if is_utf8 t then Some t else None
+
+-- what a line says; one that is passed over may hold any bytes
+abbrev pub said_in : List ℕ → Option Said
+said_in t = if is_passed_over t then Some Nothing else (utf8_of t >>= said_by_kind)
+
+-- the line as the code holds it
+abbrev pub view : Line → Said
+view code.Nothing = Nothing
+view (code.User name) = User name.now
+view (code.Group name members) = Group name.now (map (λ m. m.now) members.items)
+view (code.Buffer name owner) = Buffer name.now owner.now
+view (code.Entry buffer entry) = Entry buffer entry.now
+view (code.Text buffer text) = Text buffer text.items
+view (code.Open label user rows cols) = Open label user.now rows cols
+view (code.Keys label keys) = Keys label keys.items
+view (code.Show label) = Show label
+view (code.Close label) = Close label
+
+-- exactly what the line says; Bad exactly where it says nothing that is known
+abbrev pub GivesLine : Result Line LineFault → Option Said → Type 0
+GivesLine (Ok l) said = said ≡ Some (view l)
+GivesLine (Err Bad) said = said ≡ None
+GivesLine (Err Short) said = Unit {0}

@@ -1,0 +1,44 @@
+// The kinds of a script's lines.
+ghost use Rattle.std.specs.Prelude.{◌≡◌};
+ghost use Rattle.mgs_script.specs.Lines.{kind_named};
+
+/// What a script's line begins with.
+#[derive(Clone, Copy, Debug, PartialEq, Eq)]
+pub enum Kind {
+    User,
+    Group,
+    Buffer,
+    Entry,
+    Text,
+    Open,
+    Keys,
+    Show,
+    Close,
+}
+
+/// The kind of line that a word begins.
+pub fn kind_of(word: &str) -> Option<Kind>
+    ensures { result ≡ kind_named word.now }
+{
+    if word == "user" {
+        Some(Kind::User)
+    } else if word == "group" {
+        Some(Kind::Group)
+    } else if word == "buffer" {
+        Some(Kind::Buffer)
+    } else if word == "entry" {
+        Some(Kind::Entry)
+    } else if word == "text" {
+        Some(Kind::Text)
+    } else if word == "open" {
+        Some(Kind::Open)
+    } else if word == "keys" {
+        Some(Kind::Keys)
+    } else if word == "show" {
+        Some(Kind::Show)
+    } else if word == "close" {
+        Some(Kind::Close)
+    } else {
+        None
+    }
+}

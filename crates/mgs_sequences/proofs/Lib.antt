@@ -1,4 +1,0 @@
-pub mod Digits
-pub mod Steps
-pub mod Drawing
-pub mod Grammar

@@ -1,0 +1,13 @@
+//! Tests of the whole server: from the bytes of sessions, or the lines of a script, to terminals that are fed theirs.
+#![tactic(auto)]
+
+#[cfg(test)]
+mod calls;
+#[cfg(test)]
+mod fixtures;
+#[cfg(test)]
+mod lockstep;
+#[cfg(test)]
+mod replay;
+#[cfg(test)]
+mod rows;

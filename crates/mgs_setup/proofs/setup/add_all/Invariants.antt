@@ -1,7 +1,0 @@
-use Rattle.std.proofs.Common.{◌≡◌, map, take}
-use Rattle.mgs_setup.specs.Setups.{kept_of}
-use Rattle.mgs_setup.proofs.setup.add_all.Given as goal
-
--- the drafts before the index are kept
-abbrev pub invariant-loop-draft : goal.invariant-loop-draft
-invariant-loop-draft l = l.buffers ≡ map kept_of (take l.draft-index l.drafts)

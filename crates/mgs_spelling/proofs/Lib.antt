@@ -1,2 +1,0 @@
-pub mod Masks
-pub mod RoundTrip

@@ -1,3 +1,0 @@
-pub mod Served
-pub mod Events
-pub mod Stages

@@ -1,0 +1,103 @@
+-- The automaton reads each accepted sequence as it is spelled, and then does what it says.
+use Rattle.std.proofs.Common.{◌≡◌, ℕ, ◌+◌, ◌*◌, ◌/◌, ◌%◌, ◌<◌, ◌≤◌, Bool, true, false, List, [], ◌∷◌, ◌++◌, refl, ap, ◌∙◌, append_assoc, arith, ltb, inl, inr}
+use Rattle.std.proofs.lemmas.Bool.Decides.{nat_tests}
+use Rattle.std.proofs.lemmas.Bool.{lt-ltb, ltb-true, ltb-false, cases_Bool}
+use Rattle.mgs_term.specs.Screen.{Screen, IsScreen}
+use Rattle.mgs_term.specs.Sequences.{after, number, Accepts, spelling}
+use Rattle.mgs_term.specs.Automaton.{Automaton, next, stepped, fed, settled}
+use Rattle.mgs_term.specs.declared.operation.Operation.{Operation}
+use Rattle.mgs_term.specs.declared.operation.Operation.TheVariants.{Goto, Clear, Erase, Reverse, Plain, Unwrap, Print}
+use Rattle.mgs_term.specs.declared.place.Place.{Place}
+use Rattle.mgs_term.specs.declared.place.Place.TheVariants.{Ground, Bracket, Number, Row, Column}
+use Rattle.mgs_term.specs.declared.place.Next.{Next}
+use Rattle.mgs_term.specs.declared.place.Next.TheVariants.{Wait, Perform}
+
+pub next_bracket_digit : (rows cols : ℕ) (wrapping : Bool) (d : ℕ) → 1 ≤ d → d ≤ 9 → d ≤ rows → next rows cols wrapping Bracket (48 + d) ≡ Wait (Number d)
+next_bracket_digit rows cols wrapping d some small in_range = grind (arith, nat_tests)
+
+pub next_number_digit : (rows cols : ℕ) (wrapping : Bool) (n d : ℕ) → d ≤ 9 → n * 10 + d ≤ rows → next rows cols wrapping (Number n) (48 + d) ≡ Wait (Number (n * 10 + d))
+next_number_digit rows cols wrapping n d small in_range = grind (arith, nat_tests)
+
+pub next_number_end : (rows cols : ℕ) (wrapping : Bool) (n : ℕ) → n ≤ rows → next rows cols wrapping (Number n) 59 ≡ Wait (Row n)
+next_number_end rows cols wrapping n in_range = grind (arith, nat_tests)
+
+pub next_row_digit : (rows cols : ℕ) (wrapping : Bool) (r d : ℕ) → 1 ≤ d → d ≤ 9 → d ≤ cols → next rows cols wrapping (Row r) (48 + d) ≡ Wait (Column r d)
+next_row_digit rows cols wrapping r d some small in_range = grind (arith, nat_tests)
+
+pub next_column_digit : (rows cols : ℕ) (wrapping : Bool) (r n d : ℕ) → d ≤ 9 → n * 10 + d ≤ cols → next rows cols wrapping (Column r n) (48 + d) ≡ Wait (Column r (n * 10 + d))
+next_column_digit rows cols wrapping r n d small in_range = grind (arith, nat_tests)
+
+pub next_column_end : (rows cols : ℕ) (wrapping : Bool) (r c : ℕ) → next rows cols wrapping (Column (r + 1) (c + 1)) 72 ≡ Perform (Goto r c)
+next_column_end rows cols wrapping r c = grind (arith, nat_tests)
+
+pub next_print : (rows cols : ℕ) (wrapping : Bool) (b : ℕ) → 32 ≤ b → b ≤ 126 → wrapping ≡ false → next rows cols wrapping Ground b ≡ Perform (Print b)
+next_print rows cols wrapping b low high off = rw off (grind (arith, nat_tests))
+
+pub next_seven : (rows cols : ℕ) (wrapping : Bool) → next rows cols wrapping Bracket 55 ≡ Wait (Number 7)
+next_seven rows cols wrapping = grind (arith, nat_tests)
+
+-- a terminal at a place, over its screen
+abbrev pub at : Screen → Place → Automaton
+at s p = record { screen = s; place = p }
+
+pub fed-append : (t : Automaton) (xs ys : List ℕ) → fed t (xs ++ ys) ≡ fed (fed t xs) ys
+fed-append t [] ys = refl
+fed-append t (x ∷ xs) ys = fed-append (stepped t x) xs ys
+
+pub step_as : (s : Screen) (p : Place) (b : ℕ) (bs : List ℕ) (n : Next) → next s.rows s.cols s.wrapping p b ≡ n → fed (at s p) (b ∷ bs) ≡ fed (settled (at s p) n) bs
+step_as s p b bs n e = ap (λ m. fed (settled (at s p) m) bs) e
+
+-- a row's number, read
+pub fed-row : (s : Screen) (n : ℕ) (bs : List ℕ) → 1 ≤ n → n ≤ s.rows → s.rows ≤ 64 → fed (at s Bracket) (number n ++ bs) ≡ fed (at s (Number n)) bs
+fed-row s n bs some within few =
+    elim (cases_Bool (ltb n 10)) [
+      | inl e ↦ rw e (step_as s Bracket (48 + n) bs (Wait (Number n)) (next_bracket_digit s.rows s.cols s.wrapping n some (omega (arith, ltb-true n 10 e)) within))
+      | inr e ↦
+          let big : 10 ≤ n = ltb-false n 10 e in
+          let f : ltb n 100 ≡ true = lt-ltb n 100 (omega arith) in
+          let whole : n / 10 * 10 + n % 10 ≡ n = omega arith in
+          let one : fed (at s Bracket) ((48 + n / 10) ∷ (48 + n % 10) ∷ bs) ≡ fed (at s (Number (n / 10))) ((48 + n % 10) ∷ bs) = step_as s Bracket (48 + n / 10) ((48 + n % 10) ∷ bs) (Wait (Number (n / 10))) (next_bracket_digit s.rows s.cols s.wrapping (n / 10) (omega arith) (omega arith) (omega arith)) in
+          let two : fed (at s (Number (n / 10))) ((48 + n % 10) ∷ bs) ≡ fed (at s (Number (n / 10 * 10 + n % 10))) bs = step_as s (Number (n / 10)) (48 + n % 10) bs (Wait (Number (n / 10 * 10 + n % 10))) (next_number_digit s.rows s.cols s.wrapping (n / 10) (n % 10) (omega arith) (omega arith)) in
+          rw (e, f) (one ∙ two ∙ ap (λ m. fed (at s (Number m)) bs) whole)
+    ]
+
+-- a column's number, read
+pub fed-column : (s : Screen) (r n : ℕ) (bs : List ℕ) → 1 ≤ n → n ≤ s.cols → s.cols ≤ 160 → fed (at s (Row r)) (number n ++ bs) ≡ fed (at s (Column r n)) bs
+fed-column s r n bs some within few =
+    elim (cases_Bool (ltb n 10)) [
+      | inl e ↦ rw e (step_as s (Row r) (48 + n) bs (Wait (Column r n)) (next_row_digit s.rows s.cols s.wrapping r n some (omega (arith, ltb-true n 10 e)) within))
+      | inr e ↦ elim (cases_Bool (ltb n 100)) [
+        | inl f ↦
+            let big : 10 ≤ n = ltb-false n 10 e in
+            let small : n < 100 = ltb-true n 100 f in
+            let whole : n / 10 * 10 + n % 10 ≡ n = omega arith in
+            let one : fed (at s (Row r)) ((48 + n / 10) ∷ (48 + n % 10) ∷ bs) ≡ fed (at s (Column r (n / 10))) ((48 + n % 10) ∷ bs) = step_as s (Row r) (48 + n / 10) ((48 + n % 10) ∷ bs) (Wait (Column r (n / 10))) (next_row_digit s.rows s.cols s.wrapping r (n / 10) (omega arith) (omega arith) (omega arith)) in
+            let two : fed (at s (Column r (n / 10))) ((48 + n % 10) ∷ bs) ≡ fed (at s (Column r (n / 10 * 10 + n % 10))) bs = step_as s (Column r (n / 10)) (48 + n % 10) bs (Wait (Column r (n / 10 * 10 + n % 10))) (next_column_digit s.rows s.cols s.wrapping r (n / 10) (n % 10) (omega arith) (omega arith)) in
+            rw (e, f) (one ∙ two ∙ ap (λ m. fed (at s (Column r m)) bs) whole)
+        | inr f ↦
+            let big : 100 ≤ n = ltb-false n 100 f in
+            let m : ℕ = n / 100 * 10 + n / 10 % 10 in
+            let whole : m * 10 + n % 10 ≡ n = omega arith in
+            let one : fed (at s (Row r)) ((48 + n / 100) ∷ (48 + n / 10 % 10) ∷ (48 + n % 10) ∷ bs) ≡ fed (at s (Column r (n / 100))) ((48 + n / 10 % 10) ∷ (48 + n % 10) ∷ bs) = step_as s (Row r) (48 + n / 100) ((48 + n / 10 % 10) ∷ (48 + n % 10) ∷ bs) (Wait (Column r (n / 100))) (next_row_digit s.rows s.cols s.wrapping r (n / 100) (omega arith) (omega arith) (omega arith)) in
+            let two : fed (at s (Column r (n / 100))) ((48 + n / 10 % 10) ∷ (48 + n % 10) ∷ bs) ≡ fed (at s (Column r m)) ((48 + n % 10) ∷ bs) = step_as s (Column r (n / 100)) (48 + n / 10 % 10) ((48 + n % 10) ∷ bs) (Wait (Column r m)) (next_column_digit s.rows s.cols s.wrapping r (n / 100) (n / 10 % 10) (omega arith) (omega arith)) in
+            let three : fed (at s (Column r m)) ((48 + n % 10) ∷ bs) ≡ fed (at s (Column r (m * 10 + n % 10))) bs = step_as s (Column r m) (48 + n % 10) bs (Wait (Column r (m * 10 + n % 10))) (next_column_digit s.rows s.cols s.wrapping r m (n % 10) (omega arith) (omega arith)) in
+            rw (e, f) (one ∙ two ∙ three ∙ ap (λ m. fed (at s (Column r m)) bs) whole)
+      ]
+    ]
+
+-- One accepted sequence does what it says.
+pub fed-spelling : (s : Screen) (o : Operation) (bs : List ℕ) → IsScreen s → Accepts s.rows s.cols s.wrapping o → fed (at s Ground) (spelling o ++ bs) ≡ fed (at (after o s) Ground) bs
+fed-spelling s (Goto r c) bs ok accepts =
+    let tail : List ℕ = number (c + 1) ++ 72 ∷ [] in
+    let regroup : (number (r + 1) ++ 59 ∷ tail) ++ bs ≡ number (r + 1) ++ (59 ∷ (number (c + 1) ++ (72 ∷ bs))) = append_assoc (number (r + 1)) (59 ∷ tail) bs ∙ ap (λ x. number (r + 1) ++ 59 ∷ x) (append_assoc (number (c + 1)) (72 ∷ []) bs) in
+    let one : fed (at s Bracket) (number (r + 1) ++ (59 ∷ (number (c + 1) ++ (72 ∷ bs)))) ≡ fed (at s (Number (r + 1))) (59 ∷ (number (c + 1) ++ (72 ∷ bs))) = fed-row s (r + 1) (59 ∷ (number (c + 1) ++ (72 ∷ bs))) (omega arith) (omega arith) ok.size.few_rows in
+    let two : fed (at s (Number (r + 1))) (59 ∷ (number (c + 1) ++ (72 ∷ bs))) ≡ fed (at s (Row (r + 1))) (number (c + 1) ++ (72 ∷ bs)) = step_as s (Number (r + 1)) 59 (number (c + 1) ++ (72 ∷ bs)) (Wait (Row (r + 1))) (next_number_end s.rows s.cols s.wrapping (r + 1) (omega arith)) in
+    let three : fed (at s (Row (r + 1))) (number (c + 1) ++ (72 ∷ bs)) ≡ fed (at s (Column (r + 1) (c + 1))) (72 ∷ bs) = fed-column s (r + 1) (c + 1) (72 ∷ bs) (omega arith) (omega arith) ok.size.few_cols in
+    let four : fed (at s (Column (r + 1) (c + 1))) (72 ∷ bs) ≡ fed (at (after (Goto r c) s) Ground) bs = step_as s (Column (r + 1) (c + 1)) 72 bs (Perform (Goto r c)) (next_column_end s.rows s.cols s.wrapping r c) in
+    ap (λ x. fed (at s Bracket) x) regroup ∙ one ∙ two ∙ three ∙ four
+fed-spelling s Clear bs ok accepts = step_as s Bracket 50 (74 ∷ bs) (Wait (Number 2)) (next_bracket_digit s.rows s.cols s.wrapping 2 (omega arith) (omega arith) (omega (arith, ok.size.some_rows)))
+fed-spelling s Erase bs ok accepts = refl
+fed-spelling s Reverse bs ok accepts = step_as s Bracket 55 (109 ∷ bs) (Wait (Number 7)) (next_seven s.rows s.cols s.wrapping)
+fed-spelling s Plain bs ok accepts = refl
+fed-spelling s Unwrap bs ok accepts = refl
+fed-spelling s (Print b) bs ok accepts = step_as s Ground b bs (Perform (Print b)) (next_print s.rows s.cols s.wrapping b accepts.0.0 accepts.0.1 accepts.1)

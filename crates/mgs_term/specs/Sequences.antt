@@ -1,0 +1,44 @@
+-- The sequences that a terminal accepts, by the bytes of a VT100, and what each of them does.
+use Rattle.std.specs.Prelude.{◌≡◌, ℕ, ◌+◌, ◌-◌, ◌*◌, ◌/◌, ◌%◌, ◌<◌, Bool, true, false, List, [], ◌∷◌, ◌++◌, take, drop, min, nat_lt, if◌then◌else◌, replicate, slice_set}
+use Rattle.mgs_model.specs.Picture.{IsPrintable}
+use Rattle.mgs_term.specs.declared.operation.Operation.{Operation}
+use Rattle.mgs_term.specs.declared.operation.Operation.TheVariants.{Goto, Clear, Erase, Reverse, Plain, Unwrap, Print}
+use Rattle.mgs_term.specs.Screen.{Screen, spot, blank}
+
+-- a number below 1000 in digits, without leading zeros
+abbrev pub number : ℕ → List ℕ
+number n =
+    if nat_lt n 10 then (48 + n) ∷ []
+    else if nat_lt n 100 then (48 + n / 10) ∷ (48 + n % 10) ∷ []
+    else (48 + n / 100) ∷ (48 + n / 10 % 10) ∷ (48 + n % 10) ∷ []
+
+-- the bytes of each: `ESC [ r ; c H` (cursor position), `ESC [ 2 J` (erase the screen), `ESC [ K` (erase to the row's end),
+-- `ESC [ 7 m` (reverse on), `ESC [ m` (reverse off), `ESC [ ? 7 l` (wrap off), and a character itself
+abbrev pub spelling : Operation → List ℕ
+spelling (Goto r c) = 27 ∷ 91 ∷ (number (r + 1) ++ 59 ∷ (number (c + 1) ++ 72 ∷ []))
+spelling Clear = 27 ∷ 91 ∷ 50 ∷ 74 ∷ []
+spelling Erase = 27 ∷ 91 ∷ 75 ∷ []
+spelling Reverse = 27 ∷ 91 ∷ 55 ∷ 109 ∷ []
+spelling Plain = 27 ∷ 91 ∷ 109 ∷ []
+spelling Unwrap = 27 ∷ 91 ∷ 63 ∷ 55 ∷ 108 ∷ []
+spelling (Print b) = b ∷ []
+
+-- which of them a terminal of this size accepts, as its wrap flag stands; the cursor has no say in it
+abbrev pub Accepts : ℕ → ℕ → Bool → Operation → Type 0
+Accepts rows cols wrapping (Goto r c) = (r < rows) × (c < cols)
+Accepts rows cols wrapping Clear = Unit {0}
+Accepts rows cols wrapping Erase = Unit {0}
+Accepts rows cols wrapping Reverse = Unit {0}
+Accepts rows cols wrapping Plain = Unit {0}
+Accepts rows cols wrapping Unwrap = Unit {0}
+Accepts rows cols wrapping (Print b) = IsPrintable b × (wrapping ≡ false)
+
+-- what each of them does; a print in the last column leaves the cursor there
+abbrev pub after : Operation → Screen → Screen
+after (Goto r c) s = record s { row = r; col = c }
+after Clear s = record s { cells = replicate (s.rows * s.cols) blank }
+after Erase s = record s { cells = take (spot s) s.cells ++ (replicate (s.cols - s.col) blank ++ drop (s.row * s.cols + s.cols) s.cells) }
+after Reverse s = record s { reversing = true }
+after Plain s = record s { reversing = false }
+after Unwrap s = record s { wrapping = false }
+after (Print b) s = record s { cells = slice_set s.cells (spot s) (record { character = b; reversed = s.reversing }); col = min (s.col + 1) (s.cols - 1) }

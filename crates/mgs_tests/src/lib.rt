@@ -1,0 +1,39 @@
+//! Tests of the parts of the server, through their public calls.
+#![tactic(auto)]
+
+#[cfg(test)]
+mod buffers;
+#[cfg(test)]
+mod decisions;
+#[cfg(test)]
+mod directory;
+#[cfg(test)]
+mod entries;
+#[cfg(test)]
+mod grid;
+#[cfg(test)]
+mod groups;
+#[cfg(test)]
+mod keys;
+#[cfg(test)]
+mod lines;
+#[cfg(test)]
+mod lists;
+#[cfg(test)]
+mod marks;
+#[cfg(test)]
+mod paint;
+#[cfg(test)]
+mod printing;
+#[cfg(test)]
+mod rights;
+#[cfg(test)]
+mod script;
+#[cfg(test)]
+mod terminal;
+#[cfg(test)]
+mod text;
+#[cfg(test)]
+mod undo;
+#[cfg(test)]
+mod windows;
