@@ -8,7 +8,7 @@ use Rattle.std.proofs.lemmas.List.{take_all, drop_all}
 use Rattle.std.proofs.lemmas.Bool.{cases_lt}
 use Rattle.mgs_acl.specs.Spelling.{is_space, is_word, words}
 
--- the first piece of a text, and the words behind it
+-- the first piece of a text, and the words after it
 first_word : (text : List ℕ) → words text ≡ filter is_word (before_first is_space text ∷ slice_split is_space (after_first is_space text))
 first_word text =
     elim (cases_lt (position_or_len is_space text) (length text)) [

@@ -28,7 +28,7 @@ is_word piece = not (length piece == 0)
 abbrev pub words : List ℕ → List (List ℕ)
 words text = filter is_word (slice_split is_space text)
 
--- the words of a text that was cut behind its first word
+-- the words of a text that was cut after its first word
 abbrev pub words_cut : Option (List ℕ × List ℕ) → List (List ℕ)
 words_cut None = []
 words_cut (Some (word, rest)) = word ∷ words rest
@@ -45,11 +45,11 @@ type_named word =
 abbrev pub user_named : List ℕ → Option (List ℕ)
 user_named word = if is_user_name word then Some word else None
 
--- what stands behind `group:`, where a word begins so
+-- what stands after `group:`, where a word begins so
 abbrev pub behind_group : List ℕ → Option (List ℕ)
 behind_group word = if starts_with nat_eq word (codes "group:") then Some (drop 6 word) else None
 
--- a group where a name stands behind `group:`, and else a user
+-- a group where a name stands after `group:`, and else a user
 abbrev pub named_who : List ℕ → Option (List ℕ) → Option Who
 named_who word (Some name) = option_map Group (user_named name)
 named_who word None = option_map User (user_named word)

@@ -1,4 +1,4 @@
-//! Access lists: at most 64 entries in order. How an entry is written is passed on from `mgs_entries` and `mgs_spelling`.
+//! Access lists: at most 64 entries in order, and how an entry is read and printed.
 #![tactic(auto)]
 
 mod list;

@@ -18,7 +18,7 @@ pub enum ListFault {
     NoSuchEntry,
 }
 
-/// An access list: at most 64 entries, in the order in which they are judged (RFC 8881, section 6.2.1). It takes no memory of its own.
+/// An access list: at most 64 entries, in the order in which they are checked (RFC 8881, section 6.2.1). It takes no memory of its own.
 #[derive(Drop)]
 pub struct List {
     entries: ArrayVec<Entry, 64>,
@@ -132,7 +132,7 @@ impl List {
         Ok(())
     }
 
-    /// Takes out the entry at index `n`, counted from 0. Those behind it move up.
+    /// Takes out the entry at index `n`, counted from 0. Those after it move up.
     ///
     /// The fault is `NoSuchEntry`, where there are `n` entries or fewer, and changes nothing.
     pub fn delete(&mut self, n: usize) -> Result<(), ListFault>

@@ -6,8 +6,8 @@ ghost use Rattle.mgs_model.specs.Draw.{type_text, who_text, entry_text};
 ghost use Rattle.mgs_acl.specs.Spelling.{entry_in};
 ghost use Rattle.mgs_acl.specs.Written.{IsSpelled};
 
-use arrayvec::ArrayString;
 use crate::spelling::letter_of;
+use arrayvec::ArrayString;
 use mgs_model::{Entry, EntryType, Mask, Name, Right, Who};
 
 fn type_text(entry_type: EntryType) -> &'static str

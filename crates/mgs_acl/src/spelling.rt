@@ -8,7 +8,7 @@ ghost use Rattle.mgs_acl.specs.Spelling.{is_space, words, words_cut, type_named,
 use mgs_model::{Entry, EntryType, Mask, Name, Right, Who};
 use thiserror::Error;
 
-/// Why a text is no entry, in the order in which the faults are judged.
+/// Why a text is no entry, in the order in which the faults are checked.
 #[derive(Clone, Copy, Debug, PartialEq, Eq, Error)]
 pub enum EntryFault {
     /// The first word is neither `ALLOW` nor `DENY`, or there is none.
@@ -25,7 +25,7 @@ pub enum EntryFault {
     Trailing,
 }
 
-/// The text up to its first space, and what stands behind that.
+/// The text up to its first space, and what stands after that.
 fn cut(text: &str) -> (&str, &str)
     ensures piece { result.0.now ≡ before_first is_space text.now }
     ensures rest { result.1.now ≡ after_first is_space text.now }
@@ -36,7 +36,7 @@ fn cut(text: &str) -> (&str, &str)
     }
 }
 
-/// The first word, and what stands behind the space after it.
+/// The first word, and what stands after the space after it.
 #[tactic(auto, using(crate::proofs::WordLemmas::words_filled))]
 fn next_word(mut text: &str) -> Option<(&str, &str)>
     ensures { words_cut (option_map (λ p. (p.0.now, p.1.now)) result) ≡ words text.entry.now }
@@ -74,7 +74,7 @@ pub fn user_named(word: &str) -> Option<Name>
     }
 }
 
-/// What stands behind `group:`, where a word begins so.
+/// What stands after `group:`, where a word begins so.
 fn behind_group(word: &str) -> Option<&str>
     ensures { option_map (λ name. name.now) result ≡ behind_group word.now }
 {
@@ -147,11 +147,11 @@ fn mask_lettered(word: &str) -> Option<Mask>
     Some(mask)
 }
 
-/// The entry that is written so: `TYPE WHO LETTERS`, the words parted by one or more spaces, with any number of spaces before and behind them.
+/// The entry that is written so: `TYPE WHO LETTERS`, the words parted by one or more spaces, with any number of spaces before and after them.
 /// TYPE is `ALLOW` or `DENY`. WHO is `OWNER@`, `EVERYONE@`, a user's name, or `group:` and a group's name. LETTERS are one or more of r (READ_DATA), w (WRITE_DATA),
 /// a (APPEND_DATA), t (READ_ATTRIBUTES), d (DELETE), c (READ_ACL), C (WRITE_ACL) and o (WRITE_OWNER), in any order, also more than once.
 ///
-/// The faults are judged from left to right: the first word that is missing or is none of these is named, and then `Trailing` a fourth word.
+/// The faults are checked from left to right: the first word that is missing or is none of these is named, and then `Trailing` a fourth word.
 pub fn read_entry(text: &str) -> Result<Entry, EntryFault>
     ensures { result ≡ entry_in text.now }
 {

@@ -1,4 +1,4 @@
--- What the model's outcomes are, through the spot of the selected window.
+-- What the model's outcomes are, through the window's marks of the selected window.
 use Rattle.std.proofs.Common.{◌≡◌, ℕ, Bool, true, false, cond, List, [], ◌∷◌, length, map, Option, Some, None, refl, sym, ap, ◌∙◌, arith, eq-eqb}
 use Rattle.std.specs.Prelude.{slice_get}
 use Rattle.std.specs.Option.{option_map, option_and_then}
@@ -7,7 +7,7 @@ use Rattle.std.proofs.lemmas.Option.{slice_get-map}
 use Rattle.mgs_model.specs.Access.{Directory, Decider, Nobody, Allows, Denies, decider, decision_by, allows, any_right}
 use Rattle.mgs_model.specs.Rights.{all_rights}
 use Rattle.mgs_model.specs.World.{Buffer, Own}
-use Rattle.mgs_model.specs.View.{BufferSeen, WindowSeen, view, reads, reads_found, buffer_seen, window_seen, spots_if, told_if, size_told, serial_told}
+use Rattle.mgs_model.specs.View.{BufferSeen, WindowSeen, view, reads, reads_found, buffer_seen, window_seen, all_window_marks_if, told_if, size_told, serial_told}
 use Rattle.mgs_model.specs.Outcome.{Outcome}
 use Rattle.mgs_model.specs.Plans.{Target, acts_at, fails, needs, outcome, outcome_on, permitted, plan, planned, target, target_in}
 use Rattle.mgs_model.specs.declared.right.Right.{Right}
@@ -17,12 +17,12 @@ use Rattle.mgs_model.specs.declared.entry.Decision.TheVariants.{Granted, DeniedB
 use Rattle.mgs_model.specs.declared.message.Message.TheVariants.{KeyNotBound, NoBuffer}
 use Rattle.mgs_model.specs.declared.session.Command.{Command}
 use Rattle.mgs_model.specs.declared.session.Command.TheVariants.{SelfInsert, Newline, ForwardChar, BackwardChar, Unbound}
-use Rattle.mgs_buffers.specs.Kept.{Kept, IsKept, kept_at, mark_at}
-use Rattle.mgs_windows.specs.declared.Spot.{Spot}
+use Rattle.mgs_buffers.specs.MarkedBuffer.{MarkedBuffer, HasBuffer, marked_at, mark_at}
+use Rattle.mgs_windows.specs.declared.WindowMarks.{WindowMarks}
 use Rattle.mgs_windows.specs.declared.Window.{Window}
-use Rattle.mgs_session.specs.Told.{spot_of}
+use Rattle.mgs_session.specs.Told.{window_marks_of}
 use Rattle.mgs_session.specs.declared.Session.{Session}
-use Rattle.mgs_act.specs.Deeds.{outcome_in, plan_in}
+use Rattle.mgs_act.specs.Actions.{outcome_in, plan_in}
 use Rattle.mgs_world.specs.Worlds.{buffers_of, own_of, session_of, window_of, window_shown, world_of}
 use Rattle.mgs_world.proofs.Found.{found_buffer, found_seen, name_kept}
 use Rattle.mgs_world.proofs.Marks.{not_both}
@@ -66,9 +66,9 @@ outcome_in_end own c name d size serial =
     ap (λ (b : Bool). permitted own (decision_by d (needs c b)) (planned own name size serial (plan c size size))) (eq-eqb size size refl)
 
 -- what is told suffices
-told_same : (own : Own) (c : Command) (name : List ℕ) (d : Right → Decider) (b : Buffer) (point : ℕ) (mark : Option ℕ) (top : ℕ) → outcome_in own c name d (size_told (told_if (any_right d) b)) (serial_told (told_if (any_right d) b)) (acts_at (spots_if (allows (d ReadData)) point mark top) (size_told (told_if (any_right d) b))) ≡ outcome_in own c name d (length b.text) b.serial (cond (allows (d ReadData)) point (length b.text))
+told_same : (own : Own) (c : Command) (name : List ℕ) (d : Right → Decider) (b : Buffer) (point : ℕ) (mark : Option ℕ) (top : ℕ) → outcome_in own c name d (size_told (told_if (any_right d) b)) (serial_told (told_if (any_right d) b)) (acts_at (all_window_marks_if (allows (d ReadData)) point mark top) (size_told (told_if (any_right d) b))) ≡ outcome_in own c name d (length b.text) b.serial (cond (allows (d ReadData)) point (length b.text))
 told_same own c name d b point mark top =
-    let goal : Bool → Bool → Type 0 = λ a r. outcome_in own c name d (size_told (told_if a b)) (serial_told (told_if a b)) (acts_at (spots_if r point mark top) (size_told (told_if a b))) ≡ outcome_in own c name d (length b.text) b.serial (cond r point (length b.text)) in
+    let goal : Bool → Bool → Type 0 = λ a r. outcome_in own c name d (size_told (told_if a b)) (serial_told (told_if a b)) (acts_at (all_window_marks_if r point mark top) (size_told (told_if a b))) ≡ outcome_in own c name d (length b.text) b.serial (cond r point (length b.text)) in
     let told : (r : Bool) → goal true r = λ r. elim r as (goal true) [ true ↦ refl | false ↦ refl ] in
     let untold : (r : Bool) → any_right d ≡ false → allows (d ReadData) ≡ r → goal false r =
     λ r. elim r as (λ r. any_right d ≡ false → allows (d ReadData) ≡ r → goal false r) [
@@ -85,16 +85,16 @@ told_same own c name d b point mark top =
 -- THE TARGET
 
 -- what the selected window is seen to show
-seen_shown : (bs : List BufferSeen) (can : List ℕ → Bool) (ks : List Kept) (o : Option Window) → option_and_then (λ (x : WindowSeen). target_in bs x x.shows) (option_map (window_seen can) (option_map (window_of ks) o)) ≡ option_and_then (λ (w : Window). target_in bs (window_seen can (window_of ks w)) (window_of ks w).shows) o
+seen_shown : (bs : List BufferSeen) (can : List ℕ → Bool) (ks : List MarkedBuffer) (o : Option Window) → option_and_then (λ (x : WindowSeen). target_in bs x x.shows) (option_map (window_seen can) (option_map (window_of ks) o)) ≡ option_and_then (λ (w : Window). target_in bs (window_seen can (window_of ks w)) (window_of ks w).shows) o
 seen_shown bs can ks None = refl
 seen_shown bs can ks (Some w) = refl
 
-none_shown : (bs : List BufferSeen) (can : List ℕ → Bool) (ks : List Kept) (o : Option Window) → option_and_then (λ (w : Window). w.shows) o ≡ None → option_and_then (λ (w : Window). target_in bs (window_seen can (window_of ks w)) (window_of ks w).shows) o ≡ None
+none_shown : (bs : List BufferSeen) (can : List ℕ → Bool) (ks : List MarkedBuffer) (o : Option Window) → option_and_then (λ (w : Window). w.shows) o ≡ None → option_and_then (λ (w : Window). target_in bs (window_seen can (window_of ks w)) (window_of ks w).shows) o ≡ None
 none_shown bs can ks None e = refl
 none_shown bs can ks (Some w) e =
-    ap (λ (s : Option Spot). target_in bs (window_seen can (window_shown ks w.height s)) (window_shown ks w.height s).shows) e
+    ap (λ (s : Option WindowMarks). target_in bs (window_seen can (window_shown ks w.height s)) (window_shown ks w.height s).shows) e
 
-selected_none : (directory : Directory) (ks : List Kept) (xs : List Session) (next : Option ℕ) (h : Session) → spot_of h ≡ None → target (view (world_of directory ks xs next) (session_of ks h)) ≡ None
+selected_none : (directory : Directory) (ks : List MarkedBuffer) (xs : List Session) (next : Option ℕ) (h : Session) → window_marks_of h ≡ None → target (view (world_of directory ks xs next) (session_of ks h)) ≡ None
 selected_none directory ks xs next h none =
     let can = reads directory (buffers_of ks) h.user in
     let bs = map (buffer_seen directory h.user) (buffers_of ks) in
@@ -104,14 +104,14 @@ selected_none directory ks xs next h none =
     ∙ seen_shown bs can ks (slice_get ws h.windows.selected)
     ∙ none_shown bs can ks (slice_get ws h.windows.selected) none
 
--- the target through a spot
-abbrev target_at : Directory → List Kept → List ℕ → ℕ → Spot → Target
+-- the target through a window's marks
+abbrev target_at : Directory → List MarkedBuffer → List ℕ → ℕ → WindowMarks → Target
 target_at directory ks user height x = record {
   window = window_seen (reads directory (buffers_of ks) user) (window_shown ks height (Some x));
-  buffer = buffer_seen directory user (kept_at x.name ks).buffer;
+  buffer = buffer_seen directory user (marked_at x.name ks).buffer;
 }
 
-selected_some : (directory : Directory) (ks : List Kept) (xs : List Session) (next : Option ℕ) (h : Session) (x : Spot) → spot_of h ≡ Some x → IsKept x.name ks → (height : ℕ) × (target (view (world_of directory ks xs next) (session_of ks h)) ≡ Some (target_at directory ks h.user height x))
+selected_some : (directory : Directory) (ks : List MarkedBuffer) (xs : List Session) (next : Option ℕ) (h : Session) (x : WindowMarks) → window_marks_of h ≡ Some x → HasBuffer x.name ks → (height : ℕ) × (target (view (world_of directory ks xs next) (session_of ks h)) ≡ Some (target_at directory ks h.user height x))
 selected_some directory ks xs next h x sel kept =
     let can = reads directory (buffers_of ks) h.user in
     let bs = map (buffer_seen directory h.user) (buffers_of ks) in
@@ -123,27 +123,27 @@ selected_some directory ks xs next h x sel kept =
           (slice_get-map (window_seen can) (map (window_of ks) ws) h.windows.selected ∙ ap (option_map (window_seen can)) (slice_get-map (window_of ks) ws h.windows.selected))
           ∙ seen_shown bs can ks (slice_get ws h.windows.selected)
           ∙ ap (option_and_then (λ (w : Window). target_in bs (window_seen can (window_of ks w)) (window_of ks w).shows)) got.1
-          ∙ ap (λ (s : Option Spot). target_in bs (window_seen can (window_shown ks w.height s)) (window_shown ks w.height s).shows) got.2
+          ∙ ap (λ (s : Option WindowMarks). target_in bs (window_seen can (window_shown ks w.height s)) (window_shown ks w.height s).shows) got.2
           ∙ ap (option_map (λ (b : BufferSeen). let t : Target = record { window = window_seen can (window_shown ks w.height (Some x)); buffer = b } in t)) (found_seen directory h.user x.name ks kept),
     )
 
 -- THE OUTCOME
 
-through : (directory : Directory) (ks : List Kept) (own : Own) (user : List ℕ) (height : ℕ) (x : Spot) (c : Command) → IsKept x.name ks → outcome_on own c (Some (target_at directory ks user height x)) ≡ plan_in directory ks own user x c
+through : (directory : Directory) (ks : List MarkedBuffer) (own : Own) (user : List ℕ) (height : ℕ) (x : WindowMarks) (c : Command) → HasBuffer x.name ks → outcome_on own c (Some (target_at directory ks user height x)) ≡ plan_in directory ks own user x c
 through directory ks own user height x c kept =
-    let b = (kept_at x.name ks).buffer in
+    let b = (marked_at x.name ks).buffer in
     let d = decider directory b.owner user b.entries in
     let size = size_told (told_if (any_right d) b) in
     let serial = serial_told (told_if (any_right d) b) in
     let point = mark_at x.name ks x.point in
     let mark = option_map (mark_at x.name ks) x.mark in
     let top = mark_at x.name ks x.top in
-    ap (λ (r : Bool). outcome_in own c b.name d size serial (acts_at (spots_if r point mark top) size)) (ap (reads_found directory user) (found_buffer x.name ks kept))
+    ap (λ (r : Bool). outcome_in own c b.name d size serial (acts_at (all_window_marks_if r point mark top) size)) (ap (reads_found directory user) (found_buffer x.name ks kept))
     ∙ told_same own c b.name d b point mark top
     ∙ ap (λ (n : List ℕ). outcome_in own c n d (length b.text) b.serial (cond (allows (d ReadData)) point (length b.text))) (name_kept x.name ks kept)
 
--- through the spot of the selected window
-pub outcome_plan : (directory : Directory) (ks : List Kept) (xs : List Session) (next : Option ℕ) (h : Session) (x : Spot) (c : Command) → spot_of h ≡ Some x → IsKept x.name ks → outcome (view (world_of directory ks xs next) (session_of ks h)) c true ≡ plan_in directory ks (own_of h.echo) h.user x c
+-- through the window's marks of the selected window
+pub outcome_plan : (directory : Directory) (ks : List MarkedBuffer) (xs : List Session) (next : Option ℕ) (h : Session) (x : WindowMarks) (c : Command) → window_marks_of h ≡ Some x → HasBuffer x.name ks → outcome (view (world_of directory ks xs next) (session_of ks h)) c true ≡ plan_in directory ks (own_of h.echo) h.user x c
 unfolding outcome
 outcome_plan directory ks xs next h x (SelfInsert put) sel kept =
     let seen = selected_some directory ks xs next h x sel kept in
@@ -160,7 +160,7 @@ outcome_plan directory ks xs next h x BackwardChar sel kept =
 outcome_plan directory ks xs next h x Unbound sel kept = refl
 
 -- where the selected window shows nothing
-pub outcome_none : (directory : Directory) (ks : List Kept) (xs : List Session) (next : Option ℕ) (h : Session) (c : Command) → spot_of h ≡ None → (c ≡ Unbound → ⊥) → outcome (view (world_of directory ks xs next) (session_of ks h)) c true ≡ fails (own_of h.echo) NoBuffer
+pub outcome_none : (directory : Directory) (ks : List MarkedBuffer) (xs : List Session) (next : Option ℕ) (h : Session) (c : Command) → window_marks_of h ≡ None → (c ≡ Unbound → ⊥) → outcome (view (world_of directory ks xs next) (session_of ks h)) c true ≡ fails (own_of h.echo) NoBuffer
 unfolding outcome
 outcome_none directory ks xs next h (SelfInsert put) none bound = ap (outcome_on (own_of h.echo) (SelfInsert put)) (selected_none directory ks xs next h none)
 outcome_none directory ks xs next h Newline none bound = ap (outcome_on (own_of h.echo) Newline) (selected_none directory ks xs next h none)
@@ -168,6 +168,6 @@ outcome_none directory ks xs next h ForwardChar none bound = ap (outcome_on (own
 outcome_none directory ks xs next h BackwardChar none bound = ap (outcome_on (own_of h.echo) BackwardChar) (selected_none directory ks xs next h none)
 outcome_none directory ks xs next h Unbound none bound = absurd (bound refl)
 
-pub outcome_unbound : (directory : Directory) (ks : List Kept) (xs : List Session) (next : Option ℕ) (h : Session) (c : Command) → c ≡ Unbound → outcome (view (world_of directory ks xs next) (session_of ks h)) c true ≡ fails (own_of h.echo) KeyNotBound
+pub outcome_unbound : (directory : Directory) (ks : List MarkedBuffer) (xs : List Session) (next : Option ℕ) (h : Session) (c : Command) → c ≡ Unbound → outcome (view (world_of directory ks xs next) (session_of ks h)) c true ≡ fails (own_of h.echo) KeyNotBound
 unfolding outcome
 outcome_unbound directory ks xs next h c is = ap (λ (c : Command). outcome (view (world_of directory ks xs next) (session_of ks h)) c true) is

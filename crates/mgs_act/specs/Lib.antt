@@ -1,1 +1,1 @@
-pub mod Deeds
+pub mod Actions

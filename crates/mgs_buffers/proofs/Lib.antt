@@ -1,3 +1,3 @@
-pub mod KeptLemmas
+pub mod MarkedLemmas
 pub mod Limits
 pub mod Changes

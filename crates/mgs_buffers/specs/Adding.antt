@@ -1,20 +1,20 @@
 -- Why a buffer is not added.
 use Rattle.std.specs.Prelude.{◌≡◌, ℕ, nat_le, nat_lt, not, ◌&&◌, List, length, Option, Some, None, Result, Ok, Err, if◌then◌else◌}
 use Rattle.mgs_model.specs.Names.{is_name, is_user_name}
-use Rattle.mgs_buffers.specs.Kept.{Kept, is_kept}
+use Rattle.mgs_buffers.specs.MarkedBuffer.{MarkedBuffer, has_buffer}
 use Rattle.mgs_buffers.specs.declared.fault.AddFault.{AddFault}
 use Rattle.mgs_buffers.specs.declared.fault.AddFault.TheVariants.{Name, Twice, Full, Long, Short}
 
 -- why a buffer of this name, owner and size must not be added
-abbrev pub add_fault : List ℕ → List ℕ → ℕ → List Kept → Option AddFault
+abbrev pub add_fault : List ℕ → List ℕ → ℕ → List MarkedBuffer → Option AddFault
 add_fault name owner size ks =
     if not (is_name name && is_user_name owner) then Some Name
-    else if is_kept name ks then Some Twice
+    else if has_buffer name ks then Some Twice
     else if nat_le 256 (length ks) then Some Full
     else if nat_lt 1048576 size then Some Long
     else None
 
--- each fault exactly where it is due, and want of memory only where none is
+-- each fault exactly where it is due, and out of memory only where none is
 abbrev pub IsDue : AddFault → Option AddFault → Type 0
 IsDue Short due = due ≡ None
 IsDue Name due = due ≡ Some Name
@@ -27,7 +27,7 @@ abbrev pub Answers : Result (Unit {0}) AddFault → Option AddFault → Type 0
 Answers (Ok done) due = due ≡ None
 Answers (Err fault) due = IsDue fault due
 
--- what is answered where a buffer is judged and not yet added: its name and its owner's
+-- what is answered where a buffer is checked and not yet added: its name and its owner's
 abbrev pub Judged : Result (List ℕ × List ℕ) AddFault → List ℕ → List ℕ → Option AddFault → Type 0
 Judged (Ok names) name owner due = (names ≡ (name, owner)) × (due ≡ None)
 Judged (Err fault) name owner due = IsDue fault due

@@ -1,3 +1,3 @@
 pub mod Adding
-pub mod Kept
-pub mod Shelves
+pub mod MarkedBuffer
+pub mod Contents

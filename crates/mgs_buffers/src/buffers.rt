@@ -8,65 +8,65 @@ ghost use Rattle.mgs_model.specs.Access.{decider, decision_by};
 ghost use Rattle.mgs_model.specs.Apply.{change_first};
 ghost use Rattle.mgs_model.specs.World.{may};
 ghost use Rattle.mgs_buffers.specs.Adding.{add_fault, Answers, Judged};
-ghost use Rattle.mgs_buffers.specs.Shelves.{kept_of};
-ghost use Rattle.mgs_buffers.specs.Kept.{AreWithinLimit, kept_named, kept_at, is_kept, IsKept, IsMark, mark_at, kept_new, kept_edited, kept_placed, MarkAdded, MarkDropped};
+ghost use Rattle.mgs_buffers.specs.Contents.{marked_of};
+ghost use Rattle.mgs_buffers.specs.MarkedBuffer.{AreWithinLimit, marked_named, marked_at, has_buffer, HasBuffer, IsMark, mark_at, marked_new, marked_edited, marked_placed, MarkAdded, MarkDropped};
 
+use crate::buffer::{Buffer, new_buffer};
 use crate::fault::AddFault;
 use indexmap::IndexMap;
 use mgs_acl::user_named;
 use mgs_marks::Marked;
 use mgs_model::{BUFFER_LIMIT, Decision, MarkId, Name, Right, Short, TEXT_LIMIT};
 use mgs_policy::Directory;
-use crate::shelf::{Shelf, new_shelf};
 use mgs_text::Text;
 use std::alloc::Global;
 use std::marker::Model;
 
 /// All buffers of a server, in order of creation: 256 at most, each by a name of its own.
 ///
-/// Every call that takes a name speaks of the buffer of that name, and the caller sees that there is one.
+/// Every call that takes a name matches the buffer of that name, and the caller sees that there is one.
 #[derive(Drop)]
 pub struct Buffers<T: Marked + Drop> {
-    all: IndexMap<Name, Shelf<T>>,
+    all: IndexMap<Name, Buffer<T>>,
     alloc: Global,
 }
 
 impl<T: Marked + Drop> Model for Buffers<T> {
     ghost use Rattle.std.specs.Prelude.{List};
-    ghost use Rattle.mgs_buffers.specs.Kept.{Kept};
+    ghost use Rattle.mgs_buffers.specs.MarkedBuffer.{MarkedBuffer};
 
-    ghost Value = { List Kept };
+    ghost Value = { List MarkedBuffer };
 
-    ghost use Rattle.mgs_buffers.specs.Shelves.{kept_all};
+    ghost use Rattle.mgs_buffers.specs.Contents.{marked_all};
 
-    ghost view = { λ b. kept_all T.text T.marks b.all.entries };
+    ghost view = { λ b. marked_all T.text T.marks b.all.entries };
 
-    ghost use Rattle.mgs_buffers.specs.Kept.{AreWithinLimit};
+    ghost use Rattle.mgs_buffers.specs.MarkedBuffer.{AreWithinLimit};
 
-    ghost invariant = { λ b. AreWithinLimit (kept_all T.text T.marks b.all.entries) };
+    ghost invariant = { λ b. AreWithinLimit (marked_all T.text T.marks b.all.entries) };
 }
 
-// Puts a shelf last, under a name that none has.
+// Puts a buffer last, under a name that none has.
 fn put_last<T: Marked + Drop>(
-    all: &mut IndexMap<Name, Shelf<T>>,
+    all: &mut IndexMap<Name, Buffer<T>>,
     name: Name,
-    shelf: Shelf<T>,
+    buffer: Buffer<T>,
 ) -> Result<(), Short>
     requires { lookup (same_name name) all.old.entries ≡ None }
-    ensures ok { OnOk result (all.new.entries ≡ all.old.entries ++ (name, shelf) ∷ []) }
+    ensures ok { OnOk result (all.new.entries ≡ all.old.entries ++ (name, buffer) ∷ []) }
     ensures err { OnErr result (all.new.entries ≡ all.old.entries) }
 {
-    match all.insert(name, shelf) {
+    match all.insert(name, buffer) {
         Ok(_) => Ok(()),
         Err(_) => Err(Short),
     }
 }
 
 // Whether a user is granted READ_ATTRIBUTES.
-fn is_shown<T: Marked + Drop>(shelf: &Shelf<T>, directory: &Directory, user: &Name) -> bool
-    ensures { (name : List ℕ) → result ≡ may directory.now user.now Right.ReadAttributes (kept_of T.text T.marks name shelf.now).buffer }
+fn is_shown<T: Marked + Drop>(buffer: &Buffer<T>, directory: &Directory, user: &Name) -> bool
+    ensures { (name : List ℕ) → result ≡ may directory.now user.now Right.ReadAttributes (marked_of T.text T.marks name buffer.now).buffer }
 {
-    shelf.grants(directory, user, Right::ReadAttributes)
+    buffer.grants(directory, user, Right::ReadAttributes)
 }
 
 impl<T: Marked + Drop> Buffers<T> {
@@ -90,7 +90,7 @@ impl<T: Marked + Drop> Buffers<T> {
 
     /// Whether there is a buffer of that name.
     pub fn has(&self, name: &Name) -> bool
-        ensures { result ≡ is_kept name.now self.now }
+        ensures { result ≡ has_buffer name.now self.now }
     {
         self.all.contains_key(name)
     }
@@ -98,7 +98,7 @@ impl<T: Marked + Drop> Buffers<T> {
     /// Adds a buffer with this text, its marks and its record of edits empty and its serial 0, which is then the last. That its
     /// owner is a user of the directory is for the caller to see.
     ///
-    /// The faults, judged in this order: `Name` where `name` is no buffer's name or `owner` no user's, `Twice` where a buffer has the
+    /// The faults, checked in this order: `Name` where `name` is no buffer's name or `owner` no user's, `Twice` where a buffer has the
     /// name, `Full` where there are 256 buffers, `Long` where the text has more than 1,048,576 characters, `Short` where memory was
     /// refused. They change nothing.
     pub fn add(
@@ -110,17 +110,17 @@ impl<T: Marked + Drop> Buffers<T> {
         has_file: bool,
     ) -> Result<(), AddFault>
         ensures answer { Answers result (add_fault name.now owner.now (length text.now) self.old) }
-        ensures ok { OnOk result (self.new ≡ self.old ++ kept_new name.now owner.now list text.now has_file ∷ []) }
+        ensures ok { OnOk result (self.new ≡ self.old ++ marked_new name.now owner.now list text.now has_file ∷ []) }
         ensures err { OnErr result (self.new ≡ self.old) }
     {
         let (name, owner) = match self.judged(name, owner, text.len()) {
             Ok(names) => names,
             Err(fault) => return Err(fault),
         };
-        let Ok(shelf) = new_shelf(self.alloc, owner, list, text, has_file) else {
+        let Ok(buffer) = new_buffer(self.alloc, owner, list, text, has_file) else {
             return Err(AddFault::Short);
         };
-        match put_last(&mut self.all, name, shelf) {
+        match put_last(&mut self.all, name, buffer) {
             Ok(()) => Ok(()),
             Err(Short) => Err(AddFault::Short),
         }
@@ -129,7 +129,7 @@ impl<T: Marked + Drop> Buffers<T> {
     // The names, where a buffer of them, with a text of this size, may be added.
     fn judged(&self, name: &str, owner: &str, size: usize) -> Result<(Name, Name), AddFault>
         ensures answer { Judged result name.now owner.now (add_fault name.now owner.now size self.now) }
-        ensures free { IfOk result (λ names. is_kept names.0 self.now ≡ false) }
+        ensures free { IfOk result (λ names. has_buffer names.0 self.now ≡ false) }
         ensures room { IfOk result (λ names. size ≤ 1048576) }
     {
         let Some(name) = Name::read(name) else {
@@ -151,45 +151,45 @@ impl<T: Marked + Drop> Buffers<T> {
     }
 
     // The place of a buffer.
-    #[tactic(auto, using(crate::proofs::KeptLemmas::place_kept))]
+    #[tactic(auto, using(crate::proofs::MarkedLemmas::place_kept))]
     fn place_of(&self, name: &Name) -> usize
-        requires { IsKept name.now self.now }
-        ensures value { result ≡ position_or_len (kept_named name.now) self.now }
+        requires { HasBuffer name.now self.now }
+        ensures value { result ≡ position_or_len (marked_named name.now) self.now }
         ensures within { result < length self.now }
     {
         self.all.get_index_of(name).unwrap()
     }
 
-    fn shelf(&self, name: &Name) -> &Shelf<T>
-        requires { IsKept name.now self.now }
-        ensures { kept_of T.text T.marks name.now result.now ≡ kept_at name.now self.now }
+    fn buffer(&self, name: &Name) -> &Buffer<T>
+        requires { HasBuffer name.now self.now }
+        ensures { marked_of T.text T.marks name.now result.now ≡ marked_at name.now self.now }
     {
         self.all.get(name).unwrap()
     }
 
     /// What the buffer's access list decides on one right of a user (RFC 8881, section 6.2.1).
     pub fn decide(&self, directory: &Directory, name: &Name, user: &Name, right: Right) -> Decision
-        requires { IsKept name.now self.now }
-        ensures { let b = (kept_at name.now self.now).buffer in result ≡ decision_by (decider directory.now b.owner user.now b.entries) (right ∷ []) }
+        requires { HasBuffer name.now self.now }
+        ensures { let b = (marked_at name.now self.now).buffer in result ≡ decision_by (decider directory.now b.owner user.now b.entries) (right ∷ []) }
     {
-        self.shelf(name).decide(directory, user, right)
+        self.buffer(name).decide(directory, user, right)
     }
 
     /// Whether a user is granted a right on the buffer.
     pub fn grants(&self, directory: &Directory, name: &Name, user: &Name, right: Right) -> bool
-        requires { IsKept name.now self.now }
-        ensures { result ≡ may directory.now user.now right (kept_at name.now self.now).buffer }
+        requires { HasBuffer name.now self.now }
+        ensures { result ≡ may directory.now user.now right (marked_at name.now self.now).buffer }
     {
-        self.shelf(name).grants(directory, user, right)
+        self.buffer(name).grants(directory, user, right)
     }
 
     /// The first buffer on which a user is granted READ_ATTRIBUTES: its name.
     pub fn first_shown(&self, directory: &Directory, user: &Name) -> Option<Name>
         ensures value { result ≡ option_map (λ b. b.name) (find (may directory.now user.now Right.ReadAttributes) (map (λ k. k.buffer) self.now)) }
-        ensures kept { IfSome result (λ n. IsKept n self.now) }
+        ensures kept { IfSome result (λ n. HasBuffer n self.now) }
     {
-        for (name, shelf) in self.all.iter() {
-            if is_shown(shelf, directory, user) {
+        for (name, buffer) in self.all.iter() {
+            if is_shown(buffer, directory, user) {
                 return Some(*name);
             }
         }
@@ -198,98 +198,98 @@ impl<T: Marked + Drop> Buffers<T> {
 
     /// The buffer's text, with its marks.
     pub fn text(&self, name: &Name) -> &T
-        requires { IsKept name.now self.now }
-        ensures text { T.text result.now ≡ (kept_at name.now self.now).buffer.text }
-        ensures marks { T.marks result.now ≡ (kept_at name.now self.now).marks }
+        requires { HasBuffer name.now self.now }
+        ensures text { T.text result.now ≡ (marked_at name.now self.now).buffer.text }
+        ensures marks { T.marks result.now ≡ (marked_at name.now self.now).marks }
     {
-        &self.shelf(name).text
+        &self.buffer(name).text
     }
 
     /// The number of characters of the buffer's text.
     pub fn text_len(&self, name: &Name) -> usize
-        requires { IsKept name.now self.now }
-        ensures value { result ≡ length (kept_at name.now self.now).buffer.text }
+        requires { HasBuffer name.now self.now }
+        ensures value { result ≡ length (marked_at name.now self.now).buffer.text }
         ensures limit { result ≤ 1048576 }
     {
         // Tells the prover that each text is within the limit.
         let _count = self.len();
-        self.shelf(name).text.len()
+        self.buffer(name).text.len()
     }
 
     /// The serial of the buffer's last edit: 0 where there was none.
     pub fn serial(&self, name: &Name) -> u64
-        requires { IsKept name.now self.now }
-        ensures { result ≡ (kept_at name.now self.now).buffer.serial }
+        requires { HasBuffer name.now self.now }
+        ensures { result ≡ (marked_at name.now self.now).buffer.serial }
     {
-        self.shelf(name).record.serial()
+        self.buffer(name).record.serial()
     }
 
     /// Whether the buffer was edited since it was made or last written to its file.
     pub fn is_modified(&self, name: &Name) -> bool
-        requires { IsKept name.now self.now }
-        ensures { result ≡ (kept_at name.now self.now).buffer.modified }
+        requires { HasBuffer name.now self.now }
+        ensures { result ≡ (marked_at name.now self.now).buffer.modified }
     {
-        self.shelf(name).modified
+        self.buffer(name).modified
     }
 
     /// Where a mark of the buffer stands.
     pub fn pos(&self, name: &Name, id: MarkId) -> usize
-        requires kept { IsKept name.now self.now }
+        requires kept { HasBuffer name.now self.now }
         requires mark { IsMark name.now id self.now }
         ensures value { result ≡ mark_at name.now self.now id }
-        ensures within { result ≤ length (kept_at name.now self.now).buffer.text }
+        ensures within { result ≤ length (marked_at name.now self.now).buffer.text }
     {
-        self.shelf(name).text.pos(id)
+        self.buffer(name).text.pos(id)
     }
 
     /// Puts a mark of the buffer at a position.
     pub fn place(&mut self, name: &Name, id: MarkId, p: usize)
-        requires kept { IsKept name.now self.old }
+        requires kept { HasBuffer name.now self.old }
         requires mark { IsMark name.now id self.old }
-        requires within { p ≤ length (kept_at name.now self.old).buffer.text }
-        ensures { self.new ≡ change_first (kept_named name.now) (kept_placed id p) self.old }
+        requires within { p ≤ length (marked_at name.now self.old).buffer.text }
+        ensures { self.new ≡ change_first (marked_named name.now) (marked_placed id p) self.old }
     {
         let at = self.place_of(name);
-        let (_, shelf) = self.all.pair_mut(at);
-        shelf.place(id, p);
+        let (_, buffer) = self.all.pair_mut(at);
+        buffer.place(id, p);
     }
 
     /// A new mark in the buffer, at a position. `Short`: memory was refused, and all is as it was.
     pub fn add_mark(&mut self, name: &Name, p: usize) -> Result<MarkId, Short>
-        requires kept { IsKept name.now self.old }
-        requires within { p ≤ length (kept_at name.now self.old).buffer.text }
+        requires kept { HasBuffer name.now self.old }
+        requires within { p ≤ length (marked_at name.now self.old).buffer.text }
         ensures ok { IfOk result (λ id. MarkAdded name.now p id self.old self.new) }
         ensures err { OnErr result (self.new ≡ self.old) }
     {
         let at = self.place_of(name);
-        let (_, shelf) = self.all.pair_mut(at);
-        shelf.add_mark(p)
+        let (_, buffer) = self.all.pair_mut(at);
+        buffer.add_mark(p)
     }
 
     /// Gives a mark of the buffer up.
     pub fn drop_mark(&mut self, name: &Name, id: MarkId)
-        requires kept { IsKept name.now self.old }
+        requires kept { HasBuffer name.now self.old }
         requires mark { IsMark name.now id self.old }
         ensures { MarkDropped name.now id self.old self.new }
     {
         let at = self.place_of(name);
-        let (_, shelf) = self.all.pair_mut(at);
-        shelf.drop_mark(id);
+        let (_, buffer) = self.all.pair_mut(at);
+        buffer.drop_mark(id);
     }
 
     /// Puts characters in place of those from `a` up to `b` of the buffer's text, moves its marks, keeps the edit under the next
     /// serial, and holds the buffer for modified. `Short`: memory was refused, and all is as it was.
     pub fn edit(&mut self, name: &Name, a: usize, b: usize, put: &[char]) -> Result<(), Short>
-        requires kept { IsKept name.now self.old }
+        requires kept { HasBuffer name.now self.old }
         requires order { a ≤ b }
-        requires within { b ≤ length (kept_at name.now self.old).buffer.text }
-        requires serial { (kept_at name.now self.old).buffer.serial < 2 ^ 64 - 1 }
-        requires room { length (kept_at name.now self.old).buffer.text + length put.now ≤ 1048576 + (b - a) }
-        ensures ok { OnOk result (self.new ≡ change_first (kept_named name.now) (kept_edited a b put.now) self.old) }
+        requires within { b ≤ length (marked_at name.now self.old).buffer.text }
+        requires serial { (marked_at name.now self.old).buffer.serial < 2 ^ 64 - 1 }
+        requires room { length (marked_at name.now self.old).buffer.text + length put.now ≤ 1048576 + (b - a) }
+        ensures ok { OnOk result (self.new ≡ change_first (marked_named name.now) (marked_edited a b put.now) self.old) }
         ensures err { OnErr result (self.new ≡ self.old) }
     {
         let at = self.place_of(name);
-        let (_, shelf) = self.all.pair_mut(at);
-        shelf.edit(a, b, put)
+        let (_, buffer) = self.all.pair_mut(at);
+        buffer.edit(a, b, put)
     }
 }

@@ -1,7 +1,7 @@
 // Why a buffer was not added.
 use thiserror::Error;
 
-/// Why a buffer was not added, in the order in which the faults are judged.
+/// Why a buffer was not added, in the order in which the faults are checked.
 #[derive(Clone, Copy, Debug, PartialEq, Eq, Error)]
 pub enum AddFault {
     /// The name is none of a buffer (1 to 32 visible ASCII characters), or the owner's none of a user (of them, lower-case

@@ -1,10 +1,10 @@
 //! The buffers of a server, in order of creation: each a text with marks, its access list, its owner and its latest edits.
 #![tactic(auto)]
 
+mod buffer;
 mod buffers;
 mod fault;
-mod shelf;
 
+pub use buffer::{Buffer, new_buffer};
 pub use buffers::Buffers;
 pub use fault::AddFault;
-pub use shelf::{Shelf, new_shelf};

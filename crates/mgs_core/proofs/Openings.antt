@@ -11,35 +11,35 @@ use Rattle.mgs_model.specs.World as model
 use Rattle.mgs_model.specs.Events.{can_open, first_shows, is_size, new_session, opened, settled}
 use Rattle.mgs_model.specs.declared.errors.OpenFault.{OpenFault}
 use Rattle.mgs_model.specs.declared.errors.OpenFault.TheVariants.{NoUser, Size, Full, Short}
-use Rattle.mgs_buffers.specs.Kept.{Kept, mark_at}
-use Rattle.mgs_windows.specs.declared.Spot.{Spot}
+use Rattle.mgs_buffers.specs.MarkedBuffer.{MarkedBuffer, mark_at}
+use Rattle.mgs_windows.specs.declared.WindowMarks.{WindowMarks}
 use Rattle.mgs_session.specs.Told.{session_opened}
 use Rattle.mgs_session.specs.declared.Session.{Session}
 use Rattle.mgs_world.specs.Worlds.{buffers_of, id_after, session_of, window_shown, world_of}
 use Rattle.mgs_world.specs.Sound.{IsSound, in_use}
-use Rattle.mgs_world.specs.Spots.{FirstSpot, MarksStay, SpotDropped, first_name, spot_name}
+use Rattle.mgs_world.specs.WindowMarks.{FirstWindowMarks, MarksStay, WindowMarksDropped, first_name, window_marks_name}
 use Rattle.mgs_model.specs.declared.right.Right.TheVariants.{ReadAttributes}
 use Rattle.mgs_core.specs.Steps.{Answers, OpenedBy, open_fault}
 use Rattle.mgs_world.proofs.Marks.{same_is}
 use Rattle.mgs_world.proofs.Worlds.{same_window, same_windows, same_world}
 use Rattle.mgs_world.proofs.Soundness.{sound_more}
-use Rattle.mgs_world.proofs.Spots.{sessions_stay}
+use Rattle.mgs_world.proofs.WindowMarks.{sessions_stay}
 
 -- WHAT THE FIRST WINDOW SHOWS
 
-first_buffers : (o : Option Spot) (ks ls : List Kept) → FirstSpot o ks ls → buffers_of ls ≡ buffers_of ks
+first_buffers : (o : Option WindowMarks) (ks ls : List MarkedBuffer) → FirstWindowMarks o ks ls → buffers_of ls ≡ buffers_of ks
 first_buffers None ks ls h = h.buffers
 first_buffers (Some x) ks ls h = h.buffers
 
-first_stay : (o : Option Spot) (ks ls : List Kept) → FirstSpot o ks ls → MarksStay ks ls
+first_stay : (o : Option WindowMarks) (ks ls : List MarkedBuffer) → FirstWindowMarks o ks ls → MarksStay ks ls
 first_stay None ks ls h = h.stay
 first_stay (Some x) ks ls h = h.stay
 
-first_more : (o : Option Spot) (ks ls : List Kept) → FirstSpot o ks ls → (m : List ℕ) (i : ℕ) → in_use m i ks ≤ in_use m i ls
+first_more : (o : Option WindowMarks) (ks ls : List MarkedBuffer) → FirstWindowMarks o ks ls → (m : List ℕ) (i : ℕ) → in_use m i ks ≤ in_use m i ls
 first_more None ks ls h m i = omega (arith, h.uses m i)
 first_more (Some x) ks ls h m i = omega (arith, h.uses m i)
 
-first_window : (o : Option Spot) (b : Option Buffer) (ks ls : List Kept) (height : ℕ) → FirstSpot o ks ls → spot_name o ≡ option_map (λ (b : Buffer). b.name) b → window_shown ls height o ≡ record { shows = first_shows b; point = 0; mark = None; top = 0; row = 0; height = height }
+first_window : (o : Option WindowMarks) (b : Option Buffer) (ks ls : List MarkedBuffer) (height : ℕ) → FirstWindowMarks o ks ls → window_marks_name o ≡ option_map (λ (b : Buffer). b.name) b → window_shown ls height o ≡ record { shows = first_shows b; point = 0; mark = None; top = 0; row = 0; height = height }
 first_window None None ks ls height h e = refl
 first_window None (Some b) ks ls height h e = cc
 first_window (Some x) None ks ls height h e = cc
@@ -48,7 +48,7 @@ first_window (Some x) (Some b) ks ls height h e =
     same_window (Buffer_of x.name) _ 0 _ None _ 0 0 height h.point (ap (option_map (mark_at x.name ls)) h.mark) h.top
     ∙ ap (λ (n : List ℕ). let w : model.Window = record { shows = Buffer_of n; point = 0; mark = None; top = 0; row = 0; height = height } in w) named
 
-session_new : (d : Directory) (ks ls : List Kept) (id : ℕ) (user : List ℕ) (rows cols : ℕ) (o : Option Spot) → FirstSpot o ks ls → spot_name o ≡ first_name d user ks → session_of ls (session_opened id user rows cols o) ≡ new_session d (buffers_of ks) id user rows cols
+session_new : (d : Directory) (ks ls : List MarkedBuffer) (id : ℕ) (user : List ℕ) (rows cols : ℕ) (o : Option WindowMarks) → FirstWindowMarks o ks ls → window_marks_name o ≡ first_name d user ks → session_of ls (session_opened id user rows cols o) ≡ new_session d (buffers_of ks) id user rows cols
 session_new d ks ls id user rows cols o h named =
     same_windows (session_of ls (session_opened id user rows cols o)) _ _
     (ap (λ (w : model.Window). w ∷ []) (first_window o (find (may d user ReadAttributes) (buffers_of ks)) ks ls (rows - 2) h named))
@@ -56,14 +56,14 @@ session_new d ks ls id user rows cols o h named =
 -- THE WORLD AFTER
 
 -- where marks of nobody came and went
-world_stays : (d : Directory) (ks ls : List Kept) (xs : List Session) (next : Option ℕ) → IsSound ks xs → IsSound ls xs → buffers_of ls ≡ buffers_of ks → MarksStay ks ls → world_of d ls xs next ≡ world_of d ks xs next
+world_stays : (d : Directory) (ks ls : List MarkedBuffer) (xs : List Session) (next : Option ℕ) → IsSound ks xs → IsSound ls xs → buffers_of ls ≡ buffers_of ks → MarksStay ks ls → world_of d ls xs next ≡ world_of d ks xs next
 world_stays d ks ls xs next before after buffers stay = same_world d _ _ _ _ (id_after next) buffers (sessions_stay ks ls xs before after stay)
 
-pub world_undone : (d : Directory) (ks ls : List Kept) (xs : List Session) (next : Option ℕ) → IsSound ks xs → SpotDropped None ks ls → world_of d ls xs next ≡ world_of d ks xs next
+pub world_undone : (d : Directory) (ks ls : List MarkedBuffer) (xs : List Session) (next : Option ℕ) → IsSound ks xs → WindowMarksDropped None ks ls → world_of d ls xs next ≡ world_of d ks xs next
 world_undone d ks ls xs next sound h = world_stays d ks ls xs next sound (sound_more ks ls xs (first_more None ks ls h) sound) h.buffers h.stay
 
 -- ys are the sessions with the new one, and settling makes L
-pub opened_at : (d : Directory) (ks ls L : List Kept) (xs ys : List Session) (id : ℕ) (user : List ℕ) (rows cols : ℕ) (o : Option Spot) → IsSound ks xs → FirstSpot o ks ls → spot_name o ≡ first_name d user ks
+pub opened_at : (d : Directory) (ks ls L : List MarkedBuffer) (xs ys : List Session) (id : ℕ) (user : List ℕ) (rows cols : ℕ) (o : Option WindowMarks) → IsSound ks xs → FirstWindowMarks o ks ls → window_marks_name o ≡ first_name d user ks
     → ys ≡ xs ++ session_opened id user rows cols o ∷ []
     → ((next : Option ℕ) → world_of d L ys next ≡ settled (world_of d ls ys next))
     → world_of d L ys (Some (id + 1)) ≡ settled (opened (world_of d ks xs (Some id)) id user rows cols)
@@ -131,7 +131,7 @@ no_room w user rows cols many used some fits many_is used_is =
     ∙ ap (λ (b : Bool). judged true true many b) used_is
 
 -- as many sessions as are kept
-pub many_sessions : (d : Directory) (ks : List Kept) (xs : List Session) (next : Option ℕ) (n : ℕ) → n ≡ length xs → nat_le 64 (length (world_of d ks xs next).sessions) ≡ nat_le 64 n
+pub many_sessions : (d : Directory) (ks : List MarkedBuffer) (xs : List Session) (next : Option ℕ) (n : ℕ) → n ≡ length xs → nat_le 64 (length (world_of d ks xs next).sessions) ≡ nat_le 64 n
 many_sessions d ks xs next n is = ap (nat_le 64) (length-map xs (session_of ks) ∙ sym is)
 
 -- THE ANSWER
@@ -168,7 +168,7 @@ pub opened_fault : (w : World) (user : List ℕ) (rows cols : ℕ) (fault : Open
 opened_fault w user rows cols fault e = record { ok = tt; err = refl; answer = answers w user rows cols fault e }
 
 -- the answer of a server that keeps xs and ks, and then ys and L
-pub opened_by : (w : World) (d : Directory) (ks L : List Kept) (xs ys : List Session) (now after : Option ℕ) (id : ℕ) (user found : List ℕ) (rows cols : ℕ) → world_of d ks xs now ≡ w → now ≡ Some id → id_after after ≡ id + 1 → find (same_name user) d.users ≡ Some found → open_fault w user rows cols ≡ None
+pub opened_by : (w : World) (d : Directory) (ks L : List MarkedBuffer) (xs ys : List Session) (now after : Option ℕ) (id : ℕ) (user found : List ℕ) (rows cols : ℕ) → world_of d ks xs now ≡ w → now ≡ Some id → id_after after ≡ id + 1 → find (same_name user) d.users ≡ Some found → open_fault w user rows cols ≡ None
     → world_of d L ys (Some (id + 1)) ≡ settled (opened (world_of d ks xs (Some id)) id found rows cols)
     → OpenedBy w (world_of d L ys after) user rows cols (Ok id)
 opened_by w d ks L xs ys now after id user found rows cols view is behind named well done =

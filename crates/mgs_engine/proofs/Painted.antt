@@ -107,7 +107,7 @@ found_before id (x ∷ xs) (y ∷ ys) t h e =
     ]
     in subst goal (ap (λ n. nat_eq n id) h.0.id) (go (nat_eq y.id id) e)
 
--- what is found behind one that was taken out was found before
+-- what is found after one that was taken out was found before
 found_kept : (k id : ℕ) (xs : List Screen) (s : Screen) → IsUnique (map size_of xs) → find (screen_id id) (remove_first (screen_id k) xs) ≡ Some s → find (screen_id id) xs ≡ Some s
 found_kept k id [] s u e = e
 found_kept k id (x ∷ xs) s u e =

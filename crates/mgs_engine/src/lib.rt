@@ -1,7 +1,7 @@
-//! What turns events of sessions into bytes for their terminals.
+//! Turns events of sessions into bytes for their terminals.
 //!
-//! An [`Engine`] holds a world, and a screen for each open session. After each event it draws the screens again, and
-//! where one has changed, the bytes that paint it wait to be taken.
+//! An [`Engine`] holds a world, and a [`Screen`] for each open session. After each event it draws the screens that the
+//! event can have changed, and where one is not what its terminal shows, the bytes that paint it wait to be taken.
 #![tactic(auto)]
 
 mod draw;

@@ -3,8 +3,8 @@ use Rattle.std.proofs.Common.{◌≡◌, ℕ, ◌+◌, ◌<◌, ◌≤◌, List,
 use Rattle.std.specs.Prelude.{slice_range}
 use Rattle.mgs_model.specs.Cells.{glyph, cells}
 use Rattle.mgs_lines.proofs.Walks.{cells_more}
-use Rattle.mgs_grid.specs.Pen.{over}
-use Rattle.mgs_grid.proofs.Pens.{over-append}
+use Rattle.mgs_grid.specs.Cells.{over}
+use Rattle.mgs_grid.proofs.CellLemmas.{over-append}
 
 pub drawn_more : (xs first row : List ℕ) (shift s i n c : ℕ) → s ≤ i → i < length xs → row ≡ over first shift 0 (cells (slice_range xs s i)) → n ≡ length (cells (slice_range xs s i)) → c ≡ get_or xs i 0 → over row shift n (glyph n c) ≡ over first shift 0 (cells (slice_range xs s (i + 1)))
 drawn_more xs first row shift s i n c from within is col at =

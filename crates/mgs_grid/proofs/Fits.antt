@@ -4,9 +4,9 @@ use Rattle.std.proofs.lemmas.List.{length-set, length-replicate, get_or-replicat
 use Rattle.std.specs.Prelude.{false, ◌==◌, if◌then◌else◌}
 use Rattle.std.proofs.lemmas.Bool.{cases_lt, lt-ltb, le-ltb, lt-leb, le-leb, ne_eqb}
 use Rattle.std.proofs.lemmas.Bool.Decides.{nat_tests}
-use Rattle.mgs_grid.specs.Pen.{over, finished, Wrote}
+use Rattle.mgs_grid.specs.Cells.{over, finished, Wrote}
 use Rattle.mgs_model.specs.Rows.{Row, fitted, shown_row, plain_row}
-use Rattle.mgs_grid.proofs.Pens.{length-over, over_here, over_behind}
+use Rattle.mgs_grid.proofs.CellLemmas.{length-over, over_here, over_behind}
 
 short_at : (f cols s : ℕ) (xs : List ℕ) (k d : ℕ) → k < cols → get_or (over (replicate cols f) s 0 xs) k d ≡ get_or (drop s xs ++ replicate (cols - length (drop s xs)) f) k d
 short_at f cols s xs k d sight =

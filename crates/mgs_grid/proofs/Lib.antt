@@ -1,7 +1,7 @@
 pub mod Rows
 pub mod Printable
 pub mod Pictures
-pub mod Pens
+pub mod CellLemmas
 pub mod Plain
 pub mod Fits
 pub mod Drawn

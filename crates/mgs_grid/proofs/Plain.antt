@@ -9,13 +9,13 @@ use Rattle.std.proofs.lemmas.Bool.Decides.{nat_tests}
 use Rattle.std.proofs.lemmas.Int.Digits.{all_below_base_digits_of}
 use Rattle.std.specs.Int.Digits.{digits_of, AllBelowBase}
 use Rattle.std.specs.Char.{digit_char}
-use Rattle.mgs_grid.proofs.Pens.{decimal_digits}
+use Rattle.mgs_grid.proofs.CellLemmas.{decimal_digits}
 use Rattle.mgs_model.specs.Names.{IsName, is_visible}
 use Rattle.mgs_model.specs.Rights.{right_name}
 use Rattle.mgs_model.specs.declared.right.Right.{Right}
 use Rattle.mgs_model.specs.declared.right.Right.TheVariants.{ReadData, WriteData, AppendData, ReadAttributes, Delete, ReadAcl, WriteAcl, WriteOwner}
 use Rattle.mgs_model.specs.Picture.{IsPrintable}
-use Rattle.mgs_grid.specs.Pen.{is_plain}
+use Rattle.mgs_grid.specs.Cells.{is_plain}
 
 -- what the test tells
 pub plain_printable : (xs : List ℕ) → IsTrue (list_all is_plain xs) → All IsPrintable xs

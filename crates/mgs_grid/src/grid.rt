@@ -3,9 +3,9 @@ ghost use Rattle.std.specs.Prelude.{◌≡◌, ℕ, ◌+◌, ◌<◌, ◌≤◌,
 ghost use Rattle.mgs_model.specs.Rows.{text_rows, shift_at, blank_rows, unread_rows, mode_row, buffer_mode, none_mode, echo_row, rows_put};
 ghost use Rattle.mgs_model.specs.Picture.{Picture, IsPicture, IsSize, blank_picture};
 
+use crate::line::Line;
 use crate::window::{put_blank, put_echo, put_mode, put_none_mode, put_text, put_unread};
 use mgs_model::{Decision, Message, Name, Short};
-use crate::line::Line;
 use mgs_text::Text;
 use std::alloc::Global;
 use std::marker::Model;
@@ -98,7 +98,7 @@ impl Grid {
 
     /// Draws a text into `height` rows from row `first` on, one line in each, from the line that starts at
     /// `top` on. A line that is too long is cut with a `$`. Row `row` of these is shown from column `shift`,
-    /// behind a `$` unless that is 0. Rows past the text are blank.
+    /// after a `$` unless that is 0. Rows past the text are blank.
     pub fn draw_text<T: Text>(
         &mut self,
         first: usize,

@@ -1,18 +1,18 @@
 //! What a screen is to show: rows of characters, each plain or in reverse, and a cursor.
 //!
-//! A [`Grid`] is made once for a screen. Each drawing call fills whole rows of it and takes no memory.
-//! Rows and columns count from 0.
+//! A [`Grid`] is made once for a screen. Each drawing call fills whole rows of it and takes no memory: a [`Line`] is one
+//! row, and characters, numbers and words are written into its cells. Rows and columns count from 0.
 #![tactic(auto)]
 
+mod cells;
 mod grid;
 mod line;
-mod pen;
 mod row;
 mod window;
 mod words;
 
+pub use cells::{fill, finish, put_bytes, put_glyph};
 pub use grid::Grid;
 pub use line::Line;
-pub use pen::{fill, finish, put_bytes, put_glyph};
 pub use row::shift_for;
 pub use words::{put_heading, put_message, put_place, put_unread};

@@ -6,9 +6,9 @@ ghost use Rattle.mgs_model.specs.Rows.{shown_row, plain_row, mode_row, echo_row,
 ghost use Rattle.mgs_model.specs.Messages.{message_text};
 ghost use Rattle.mgs_model.specs.Picture.{IsPrintable};
 
+use crate::cells::fill;
 use crate::row::{draw_line, draw_message, draw_mode, draw_none_mode, draw_unread};
 use mgs_model::{Decision, Message, Name, Short};
-use crate::pen::fill;
 use mgs_text::Text;
 use std::alloc::Global;
 use std::marker::Model;
@@ -67,7 +67,7 @@ impl Line {
     }
 
     /// Draws the line of a text that starts at `start`, plain, and tells where it ends. A line that is too long is cut
-    /// with a `$`. It is shown from column `shift`, below 2^62, behind a `$` unless that is 0.
+    /// with a `$`. It is shown from column `shift`, below 2^62, after a `$` unless that is 0.
     pub fn draw_text<T: Text>(&mut self, text: &T, start: usize, shift: usize) -> usize
         requires some { 0 < length self.old.text }
         requires width { length self.old.text < 2 ^ 62 }

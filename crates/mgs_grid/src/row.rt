@@ -6,11 +6,9 @@ ghost use Rattle.mgs_model.specs.Messages.{message_text};
 ghost use Rattle.mgs_model.specs.Rows.{shown_row, fitted, buffer_mode, none_mode, unread_text, shift_for};
 ghost use Rattle.mgs_model.specs.Picture.{IsPrintable};
 
+use crate::{fill, finish, put_bytes, put_glyph, put_heading, put_message, put_place, put_unread};
 use mgs_lines::line_end;
 use mgs_model::{Decision, Message, Name};
-use crate::{
-    fill, finish, put_bytes, put_glyph, put_heading, put_message, put_place, put_unread,
-};
 use mgs_text::Text;
 
 // Draws the line that starts at a position, from a column on, and tells where it ends.

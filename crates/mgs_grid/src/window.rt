@@ -3,10 +3,10 @@ ghost use Rattle.std.specs.Prelude.{◌≡◌, ℕ, ◌+◌, ◌<◌, ◌≤◌,
 ghost use Rattle.mgs_model.specs.Rows.{blank_rows, unread_rows, unread_text, text_rows, shift_at, mode_row, buffer_mode, none_mode, echo_row, rows_put};
 ghost use Rattle.mgs_model.specs.Messages.{message_text};
 ghost use Rattle.mgs_model.specs.Picture.{IsPrintable};
-ghost use Rattle.mgs_grid.specs.Pen.{HasWidth};
+ghost use Rattle.mgs_grid.specs.Cells.{HasWidth};
 
-use mgs_model::{Decision, Message, Name};
 use crate::line::Line;
+use mgs_model::{Decision, Message, Name};
 use mgs_text::Text;
 
 // Draws a text from the line that starts at `top` on; row `row` is shown from column `shift`.

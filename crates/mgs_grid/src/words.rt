@@ -3,9 +3,9 @@ ghost use Rattle.std.specs.Prelude.{◌≡◌, ℕ, ◌+◌, ◌<◌, ◌≤◌,
 ghost use Rattle.mgs_model.specs.Rows.{heading_text, place_text, cause_text, unread_text};
 ghost use Rattle.mgs_model.specs.Rights.{right_name};
 ghost use Rattle.mgs_model.specs.Messages.{denial_text, message_text};
-ghost use Rattle.mgs_grid.specs.Pen.{Wrote};
+ghost use Rattle.mgs_grid.specs.Cells.{Wrote};
 
-use crate::pen::{put_bytes, put_decimal};
+use crate::cells::{put_bytes, put_decimal};
 use mgs_model::{Decision, Message, Name, Right};
 
 #[tactic(auto, using(crate::proofs::Plain::name_plain, crate::proofs::Plain::name_short))]
@@ -43,7 +43,7 @@ fn put_title(row: &mut [char], title: &(Name, bool)) -> usize
     }
 }
 
-/// Writes the front of a mode line from column 0 on, and tells the column behind it, at most 64: the buffer's name and
+/// Writes the front of a mode line from column 0 on, and tells the column after it, at most 64: the buffer's name and
 /// whether it is modified. `None` stands for what may not be told.
 pub fn put_heading(row: &mut [char], heading: Option<(Name, bool)>) -> usize
     ensures wrote { Wrote row.old 0 (heading_text heading) row.new result }
@@ -56,7 +56,7 @@ pub fn put_heading(row: &mut [char], heading: Option<(Name, bool)>) -> usize
 }
 
 /// Writes the point's line and column, as given, the way a mode line has them, from a column below 2^60 on, and tells
-/// the column behind them, at most 64 further. `None` stands for what may not be told.
+/// the column after them, at most 64 further. `None` stands for what may not be told.
 pub fn put_place(row: &mut [char], column: usize, place: Option<(usize, usize)>) -> usize
     requires { column < 2 ^ 60 }
     ensures wrote { Wrote row.old column (place_text place) row.new result }
@@ -87,7 +87,7 @@ fn put_cause(row: &mut [char], column: usize, decision: Decision) -> usize
     }
 }
 
-/// Writes what stands in place of a text that may not be read, from column 0 on, and tells the column behind it, at
+/// Writes what stands in place of a text that may not be read, from column 0 on, and tells the column after it, at
 /// most 128.
 pub fn put_unread(row: &mut [char], decision: Decision) -> usize
     ensures wrote { Wrote row.old 0 (unread_text decision) row.new result }
@@ -118,7 +118,7 @@ fn put_denial(row: &mut [char], decision: Decision) -> usize
     }
 }
 
-/// Writes an echo text from column 0 on, and tells the column behind it, at most 128.
+/// Writes an echo text from column 0 on, and tells the column after it, at most 128.
 pub fn put_message(row: &mut [char], message: &Message) -> usize
     ensures wrote { Wrote row.old 0 (message_text message.now) row.new result }
     ensures few { result ≤ 128 }

@@ -14,7 +14,7 @@ abbrev pub length_left : Option (Bor (List ℕ)) → ℕ
 length_left None = 0
 length_left (Some t) = suc (length t.now)
 
--- what stands behind the first place that passes
+-- what stands after the first place that passes
 abbrev pub behind_first : (ℕ → Bool) → List ℕ → Option (List ℕ)
 behind_first p t = option_map (λ i. drop (i + 1) t) (position p t)
 
@@ -29,7 +29,7 @@ position_at p t lt = cond-true _ _ _ (lt-ltb _ _ lt)
 position_none : (p : ℕ → Bool) (t : List ℕ) → length t ≤ position_or_len p t → position p t ≡ None
 position_none p t le = cond-false _ _ _ (le-ltb _ _ le)
 
--- the parts are the first one and those behind it
+-- the parts are the first one and those after it
 pub parts_first : (p : ℕ → Bool) (t : List ℕ) → slice_split p t ≡ before_first p t ∷ parts_behind p (behind_first p t)
 parts_first p t =
     elim (cases_lt (position_or_len p t) (length t)) [
@@ -42,7 +42,7 @@ parts_first p t =
           ∙ ap (λ (o : Option ℕ). before_first p t ∷ parts_behind p (option_map (λ i. drop (i + 1) t) o)) (sym (position_none p t le))
     ]
 
--- the same where what stands behind the first is known by another name
+-- the same where what stands after the first is known by another name
 pub parts_cut : (p : ℕ → Bool) (t : List ℕ) (rest : Option (List ℕ)) → rest ≡ behind_first p t → slice_split p t ≡ before_first p t ∷ parts_behind p rest
 parts_cut p t rest e = parts_first p t ∙ ap (λ (o : Option (List ℕ)). before_first p t ∷ parts_behind p o) (sym e)
 

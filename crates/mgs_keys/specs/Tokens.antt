@@ -70,7 +70,7 @@ spelled_by f (t ∷ ts) = then_bytes (f t) (spelled_by f ts)
 abbrev pub keys_of : List ℕ → Option (List ℕ)
 keys_of text = spelled_by token_bytes (words_of text)
 
--- what a token spells was put behind the rest; BadToken exactly where it is none
+-- what a token spells was put after the rest; BadToken exactly where it is none
 abbrev pub PushesToken : Result (Unit {0}) KeysFault → List ℕ → List ℕ → Option (List ℕ) → Type 0
 PushesToken (Ok u) old new None = ⊥
 PushesToken (Ok u) old new (Some bs) = new ≡ old ++ bs

@@ -15,7 +15,7 @@ words_of t = slice_split is_space t
 abbrev pub word_of : List ℕ → List ℕ
 word_of t = before_first is_space t
 
--- what stands behind the first space, if there is one
+-- what stands after the first space, if there is one
 abbrev pub rest_of : List ℕ → Option (List ℕ)
 rest_of t = option_map (λ i. drop (i + 1) t) (position is_space t)
 

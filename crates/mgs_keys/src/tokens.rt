@@ -96,7 +96,7 @@ fn push_token(keys: &mut Vec<u8>, token: &[u8]) -> Result<(), KeysFault>
 /// character 0x21 to 0x7E or before `SPC` or `DEL` (0x1B and that byte).
 ///
 /// `BadToken` is answered where some word is no token; an empty text and a space that no word stands beside are such
-/// too. `Short` is want of memory.
+/// too. `Short` is out of memory.
 pub fn read_keys(alloc: Global, tokens: &str) -> Result<Vec<u8>, KeysFault>
     ensures { GivesKeys result (keys_of tokens.now) }
 {

@@ -13,7 +13,7 @@ fn space_in(text: &[u8]) -> Option<usize>
     text.iter().position(|b| *b == b' ')
 }
 
-/// The first word of a text, and what stands behind the space after it, if there is one.
+/// The first word of a text, and what stands after the space after it, if there is one.
 /// Where the text begins with a space, its first word is empty.
 pub fn cut(text: &[u8]) -> (&[u8], Option<&[u8]>)
     ensures word { result.0.now ≡ word_of text.now }

@@ -14,7 +14,7 @@ pub line_start_back : (xs : List ℕ) (p : ℕ) → 0 < p → p ≤ length xs �
 line_start_back xs p some within same =
     omega (arith, suffix_len-take_yes is_within xs p 0 some within same)
 
--- a line starts where the text does, and behind a line feed
+-- a line starts where the text does, and after a line feed
 pub line_start_here : (xs : List ℕ) (p : ℕ) → 0 < p → p ≤ length xs → is_within (get_or xs (p - 1) 0) ≡ false → line_start xs p ≡ p
 line_start_here xs p some within feed =
     omega (arith, suffix_len-take_no is_within xs p 0 some within feed)

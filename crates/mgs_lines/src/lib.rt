@@ -10,7 +10,7 @@ ghost use Rattle.mgs_model.specs.Lines.{line_of, line_start, line_end, column, s
 
 use mgs_text::Text;
 
-/// Where the line of a position starts: behind the line feed before it, or at the text's start.
+/// Where the line of a position starts: after the line feed before it, or at the text's start.
 ///
 /// It walks back over that part of the line alone.
 pub fn line_start<T: Text>(text: &T, p: usize) -> usize

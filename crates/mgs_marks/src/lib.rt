@@ -12,7 +12,7 @@ pub use plain::PlainMarked;
 
 /// A text that keeps marks. A mark that is in use stands within the text. `replace` leaves a mark at or before the
 /// start of the edit where it is, takes one that stood among the characters that go to that start, and moves one
-/// behind them with the text.
+/// after them with the text.
 pub trait Marked: Text {
     /// A new mark at a position. `Short`: memory was refused, and all is as it was.
     fn add_mark(&mut self, p: usize) -> Result<MarkId, Short>

@@ -76,7 +76,7 @@ decision_by-unmet p x rest rights h =
 
 -- A DENIAL BY THE FIRST ENTRY IS THE LEAST
 
--- what denies does so behind the n-th entry
+-- what denies does so after the n-th entry
 abbrev Behind : ℕ → Decider → Type 0
 Behind n Nobody = Unit {0}
 Behind n (Allows m) = Unit {0}

@@ -31,7 +31,7 @@ group_fault directory name members =
 abbrev pub with_group : Directory → List ℕ → List (List ℕ) → Directory
 with_group directory name members = record directory { groups = directory.groups ++ record { name = name; members = members } ∷ [] }
 
--- what is answered: each fault exactly where it is due, and want of memory only where none is
+-- what is answered: each fault exactly where it is due, and out of memory only where none is
 abbrev pub Answers : Result (Unit {0}) DirectoryFault → Option DirectoryFault → Type 0
 Answers (Ok done) due = due ≡ None
 Answers (Err Short) due = due ≡ None

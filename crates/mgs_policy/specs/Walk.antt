@@ -1,4 +1,4 @@
--- What one entry says of the rights that are wanted, whoever it speaks of.
+-- What one entry says of the rights that are wanted, whoever it matches.
 use Rattle.std.specs.Prelude.{ℕ, Bool, true, false, ◌&&◌, not, List}
 use Rattle.mgs_model.specs.Rights.{has_right, rights_in}
 use Rattle.mgs_model.specs.declared.right.Right.{Right}

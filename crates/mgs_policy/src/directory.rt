@@ -4,15 +4,15 @@ ghost use Rattle.mgs_model.specs.Access.{is_among, is_member};
 ghost use Rattle.mgs_model.specs.Names.{same_name};
 ghost use Rattle.mgs_policy.specs.Groups.{is_group_named};
 
-use mgs_acl::user_named;
 use crate::group::{Group, has_group, is_member};
 use crate::users::{are_users, has_name, known, named};
+use mgs_acl::user_named;
 use mgs_model::{GROUP_LIMIT, Name, USER_LIMIT};
 use std::alloc::Global;
 use std::marker::Model;
 use thiserror::Error;
 
-/// Why a directory was not changed, in the order in which the faults are judged.
+/// Why a directory was not changed, in the order in which the faults are checked.
 #[derive(Clone, Copy, Debug, PartialEq, Eq, Error)]
 pub enum DirectoryFault {
     /// It is no name of a user or a group: 1 to 32 lower-case letters, digits, `-` and `_`.
@@ -92,7 +92,7 @@ impl Directory {
 
     /// Adds a user, who is then the last.
     ///
-    /// The faults, judged in this order: `Name` where it is no user's name, `Twice` where a user has it, `Full` where there are 256 users, `Short` for want of memory. They change nothing.
+    /// The faults, checked in this order: `Name` where it is no user's name, `Twice` where a user has it, `Full` where there are 256 users, `Short` for out of memory. They change nothing.
     pub fn add_user(&mut self, name: &str) -> Result<(), DirectoryFault>
         ensures answer { Answers result (user_fault self.old name.now) }
         ensures ok { OnOk result (self.new ≡ with_user self.old name.now) }
@@ -115,8 +115,8 @@ impl Directory {
 
     /// Adds a group of these users, which is then the last. A member may be named twice.
     ///
-    /// The faults, judged in this order: `Name` where it is no group's name, `Twice` where a group has it, `Unknown` where a member is no user of the directory,
-    /// `Full` where there are 64 groups, `Short` for want of memory. They change nothing.
+    /// The faults, checked in this order: `Name` where it is no group's name, `Twice` where a group has it, `Unknown` where a member is no user of the directory,
+    /// `Full` where there are 64 groups, `Short` for out of memory. They change nothing.
     pub fn add_group(&mut self, name: &str, members: &[&str]) -> Result<(), DirectoryFault>
         ensures answer { Answers result (group_fault self.old name.now (map (λ member. member.now) members.now)) }
         ensures ok { OnOk result (self.new ≡ with_group self.old name.now (map (λ member. member.now) members.now)) }

@@ -1,4 +1,4 @@
-//! What an access list decides (RFC 8881, section 6.2.1) for the users and groups of a directory.
+//! Users, groups, and what an access list decides for them (RFC 8881, section 6.2.1).
 #![tactic(auto)]
 
 mod directory;

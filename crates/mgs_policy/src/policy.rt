@@ -4,10 +4,10 @@ ghost use Rattle.mgs_model.specs.Rights.{rights_in, has_right, all_rights};
 ghost use Rattle.mgs_model.specs.Access.{decision};
 ghost use Rattle.mgs_policy.specs.Walk.{permits, denies, wanted};
 
-use mgs_acl::List;
 use crate::directory::Directory;
-use mgs_model::{Decision, Entry, EntryType, Mask, Name, Right};
 use crate::right::matches;
+use mgs_acl::List;
+use mgs_model::{Decision, Entry, EntryType, Mask, Name, Right};
 
 /// The first right of a mask.
 fn first_right(mask: Mask) -> Option<Right>

@@ -2,11 +2,11 @@
 ghost use Rattle.std.specs.Prelude.{◌≡◌, ◌∷◌, ◌&&◌, []};
 ghost use Rattle.mgs_model.specs.Access.{allows, matches, concerns, decider, decision_by};
 
-use mgs_acl::List;
 use crate::directory::Directory;
+use mgs_acl::List;
 use mgs_model::{Decision, Entry, EntryType, Name, Right, Who};
 
-/// Whether an entry for `who` speaks of the user (RFC 8881, section 6.2.1): by name, by a group of the directory that the user is in, as the owner, or always.
+/// Whether an entry for `who` matches the user (RFC 8881, section 6.2.1): by name, by a group of the directory that the user is in, as the owner, or always.
 pub fn matches(directory: &Directory, owner: &Name, user: &Name, who: &Who) -> bool
     ensures { result ≡ matches directory.now owner.now user.now who.now }
 {
@@ -18,14 +18,14 @@ pub fn matches(directory: &Directory, owner: &Name, user: &Name, who: &Who) -> b
     }
 }
 
-/// Whether an entry speaks of the user and has the right.
+/// Whether an entry matches the user and has the right.
 fn concerns(directory: &Directory, owner: &Name, user: &Name, right: Right, entry: &Entry) -> bool
     ensures { result ≡ concerns directory.now owner.now user.now right entry.now }
 {
     matches(directory, owner, user, &entry.who) && entry.mask.has(right)
 }
 
-/// What a list decides on one right of a user: by the first entry that speaks of the user and has the right. Entries count from 1. It takes no memory.
+/// What a list decides on one right of a user: by the first entry that matches the user and has the right. Entries count from 1. It takes no memory.
 pub fn decide_right(
     list: &List,
     owner: &Name,

@@ -56,7 +56,7 @@ fn push_user(names: &mut Vec<Name>, users: &[Name], user: &str) -> Result<(), Al
     }
 }
 
-/// The names of these members, in their order. The caller has made sure that all of them are users; `AllocError` is for want of memory.
+/// The names of these members, in their order. The caller has made sure that all of them are users; `AllocError` is for out of memory.
 pub fn known(alloc: Global, users: &[Name], members: &[&str]) -> Result<Vec<Name>, AllocError>
     requires { are_users users.now (map (λ member. member.now) members.now) ≡ true }
     ensures { IfOk result (λ names. names.items ≡ map (λ member. member.now) members.now) }

@@ -20,7 +20,7 @@ use Rattle.mgs_script.specs.declared.line.LineFault.TheVariants.{Bad, Short}
 use Rattle.mgs_replay.specs.declared.setup.Draft.{Draft}
 use Rattle.std.proofs.lemmas.List.{map-append}
 use Rattle.mgs_replay.specs.Settings.{entry_refused, text_refused, with_entry, with_text, empty_buffer}
-use Rattle.mgs_replay.specs.Setups.{Listed, Lengthened, Changes, Sets, kept_of, buffer_of, buffers_in, is_drafted}
+use Rattle.mgs_replay.specs.Setups.{Listed, Lengthened, Changes, Sets, marked_of, buffer_of, buffers_in, is_drafted}
 
 -- the first place that passes
 placed : {A : Type 0} (p : A → Bool) (xs : List A) (i : ℕ) (d : A) → Some i ≡ position p xs → (i < length xs) × (position_or_len p xs ≡ i)
@@ -55,18 +55,18 @@ changed_draft name change xs i x y e is does =
     written_first buffer_of (is_named name) change xs i x y (sym at.1 ∙ sym (position_or_len-map buffer_of (is_named name) xs)) at.0 is does
 
 -- nothing is changed
-kept_first : (p : Buffer → Bool) (bs : List Buffer) → change_first p (λ b. b) bs ≡ bs
-kept_first p [] = refl
-kept_first p (b ∷ bs) =
+marked_first : (p : Buffer → Bool) (bs : List Buffer) → change_first p (λ b. b) bs ≡ bs
+marked_first p [] = refl
+marked_first p (b ∷ bs) =
     elim (p b) as (λ t. cond t (b ∷ bs) (b ∷ change_first p (λ x. x) bs) ≡ b ∷ bs) [
       | true ↦ refl
-      | false ↦ ap (λ (xs : List Buffer). b ∷ xs) (kept_first p bs)
+      | false ↦ ap (λ (xs : List Buffer). b ∷ xs) (marked_first p bs)
     ]
 
 -- it stays as it was there
 same_draft : (name : List ℕ) (xs : List Draft) (i : ℕ) (x y : Draft) → Some i ≡ position (is_drafted name) xs → x ≡ get_or xs i x → buffer_of y ≡ buffer_of x
     → buffers_in (set xs i y) ≡ buffers_in xs
-same_draft name xs i x y e is same = changed_draft name (λ b. b) xs i x y e is same ∙ kept_first (is_named name) (buffers_in xs)
+same_draft name xs i x y e is same = changed_draft name (λ b. b) xs i x y e is same ∙ marked_first (is_named name) (buffers_in xs)
 
 -- none is found
 no_draft : (name : List ℕ) (xs : List Draft) → None ≡ position (is_drafted name) xs → find_buffer name (buffers_in xs) ≡ None
@@ -109,7 +109,7 @@ listed {F = F} (Err Bad) (Ok e) name xs i x y at is h t n w =
 listed {F = F} (Err Bad) (Err f) name xs i x y at is h t n w = (ap (λ o. entry_refused {F = F} o (Err f)) (found_draft name xs i x at is), same_draft name xs i x y at is (cc (h)))
 listed (Err Short) o name xs i x y at is h t n w = absurd h
 
--- characters are put behind a draft's text
+-- characters are put after a draft's text
 pub lengthened : (r : Result (Unit {0}) LineFault) (cs : List ℕ) (name : List ℕ) (xs : List Draft) (i : ℕ) (x y : Draft)
     → Some i ≡ position (is_drafted name) xs → x ≡ get_or xs i x → Lengthened r x.text.items y.text.items cs → y.list ≡ x.list → y.name.now ≡ x.name.now → y.owner.now ≡ x.owner.now
     → Changes r (text_refused (find_buffer name (buffers_in xs)) cs) name (with_text cs) (buffers_in xs) (buffers_in (set xs i y))
@@ -142,6 +142,6 @@ pushed name owner ds new d is n o l t =
 
 -- THE BUFFERS OF A CORE
 
-pub kept_buffers : (ds : List Draft) → buffers_of (map kept_of ds) ≡ buffers_in ds
-kept_buffers [] = refl
-kept_buffers (d ∷ ds) = ap (λ (bs : List Buffer). buffer_of d ∷ bs) (kept_buffers ds)
+pub marked_buffers : (ds : List Draft) → buffers_of (map marked_of ds) ≡ buffers_in ds
+marked_buffers [] = refl
+marked_buffers (d ∷ ds) = ap (λ (bs : List Buffer). buffer_of d ∷ bs) (marked_buffers ds)

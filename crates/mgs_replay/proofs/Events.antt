@@ -24,13 +24,13 @@ use Rattle.mgs_engine.specs.Serving.{Serving, AllTaken, pending_of, queue_ids}
 use Rattle.mgs_engine.specs.Queues.{Queue, IsTaken, bytes_of, find_queue}
 use Rattle.mgs_engine.specs.Painted.{Painted, PaintedBy}
 use Rattle.mgs_engine.proofs.ScreenLemmas.{All-unmap}
-use Rattle.mgs_replay.specs.declared.seat.Labelled.{Labelled}
-use Rattle.mgs_replay.specs.declared.seat.Cause.{Cause}
-use Rattle.mgs_replay.specs.declared.seat.Seat.{Seat}
-use Rattle.mgs_replay.specs.declared.seat.Seat.TheVariants as seats
-use Rattle.mgs_replay.specs.Seats.{is_labelled, seat_of, ended_by}
-use Rattle.mgs_replay.specs.Stages.{Label, label, Standing, Never, Has, Gone, is_called, standing_of, gone}
-use Rattle.mgs_replay.specs.Served.{standing_in, label_of, labels_in, SeatShows, Shows, SeatDue, IsDue, Differ, IsApart, AreApart, AreUnique, size_id, IsServed, IsReady, IsWaiting}
+use Rattle.mgs_replay.specs.declared.client.Labelled.{Labelled}
+use Rattle.mgs_replay.specs.declared.client.Cause.{Cause}
+use Rattle.mgs_replay.specs.declared.client.Client.{Client}
+use Rattle.mgs_replay.specs.declared.client.Client.TheVariants as clients
+use Rattle.mgs_replay.specs.Clients.{is_labelled, client_of, ended_by}
+use Rattle.mgs_replay.specs.Players.{Label, label, Standing, Never, Has, Gone, is_called, standing_of, gone}
+use Rattle.mgs_replay.specs.Served.{standing_in, label_of, labels_in, ClientShows, Shows, ClientDue, IsDue, Differ, IsApart, AreApart, AreUnique, size_id, IsServed, IsReady, IsWaiting}
 use Rattle.mgs_replay.proofs.Served.{found_size}
 
 -- BYTES THAT WAIT
@@ -54,19 +54,19 @@ drawn_by old new id x y taken p =
 pub Stays : World → World → ℕ → Type 0
 Stays old new id = (x : Session) → find_session id old.sessions ≡ Some x → (y : Session) × (find_session id new.sessions ≡ Some y)
 
--- the session behind a label, if it has an open one, is such
-pub SeatStays : World → World → Seat → Type 0
-SeatStays old new seats.Never = Unit {0}
-SeatStays old new (seats.Open id term) = Stays old new id
-SeatStays old new (seats.Ended cause) = Unit {0}
+-- the session after a label, if it has an open one, is such
+pub ClientStays : World → World → Client → Type 0
+ClientStays old new clients.Never = Unit {0}
+ClientStays old new (clients.Open id term) = Stays old new id
+ClientStays old new (clients.Ended cause) = Unit {0}
 
-seat_due : (old new : Serving) (x : Seat) → AllTaken old → Painted old new → SeatStays old.world new.world x → SeatShows old.world x → SeatDue new x
-unfolding Stays SeatStays
-seat_due old new seats.Never taken painted stays h = tt
-seat_due old new (seats.Open id term) taken painted stays h =
+client_due : (old new : Serving) (x : Client) → AllTaken old → Painted old new → ClientStays old.world new.world x → ClientShows old.world x → ClientDue new x
+unfolding Stays ClientStays
+client_due old new clients.Never taken painted stays h = tt
+client_due old new (clients.Open id term) taken painted stays h =
     let y = stays h.0 h.1 in
     (y.0, shown (screen old.world h.0), y.1, h.2, drawn_by old new id h.0 y.0 taken (painted id h.0 y.0 h.1 y.1))
-seat_due old new (seats.Ended cause) taken painted stays h = tt
+client_due old new (clients.Ended cause) taken painted stays h = tt
 
 -- SIZES
 
@@ -81,16 +81,16 @@ stays_by old new id h x found =
     let y = some_session (find_session id new.sessions) (size_of x) (sym (found_size id new) ∙ h (size_of x) was) in
     (y.0, y.1)
 
-seat_stays : (old new : World) (x : Seat) → ((id : ℕ) → Stays old new id) → SeatStays old new x
-unfolding SeatStays
-seat_stays old new seats.Never h = tt
-seat_stays old new (seats.Open id term) h = h id
-seat_stays old new (seats.Ended cause) h = tt
+client_stays : (old new : World) (x : Client) → ((id : ℕ) → Stays old new id) → ClientStays old new x
+unfolding ClientStays
+client_stays old new clients.Never h = tt
+client_stays old new (clients.Open id term) h = h id
+client_stays old new (clients.Ended cause) h = tt
 
 -- all sessions stay
 pub all_due : (old new : Serving) (xs : List Labelled) → AllTaken old → Painted old new → ((id : ℕ) → Stays old.world new.world id) → All (Shows old.world) xs → All (IsDue new) xs
 all_due old new xs taken painted stays h =
-    All-weaker (Shows old.world) (IsDue new) (λ x s. seat_due old new x.seat taken painted (seat_stays old.world new.world x.seat stays) s) xs h
+    All-weaker (Shows old.world) (IsDue new) (λ x s. client_due old new x.client taken painted (client_stays old.world new.world x.client stays) s) xs h
 
 pub stays_same : (old new : World) → sizes new ≡ sizes old → (id : ℕ) → Stays old new id
 stays_same old new same id = stays_by old new id (λ z h. ap (find_size id) same ∙ h)
@@ -188,18 +188,18 @@ served_less old new id ids less h = record {
 
 -- LABELS
 
-mapped : (o : Option Labelled) → option_map (λ (x : Label). x.standing) (option_map label_of o) ≡ option_map standing_in (option_map (λ (x : Labelled). x.seat) o)
+mapped : (o : Option Labelled) → option_map (λ (x : Label). x.standing) (option_map label_of o) ≡ option_map standing_in (option_map (λ (x : Labelled). x.client) o)
 mapped None = refl
 mapped (Some x) = refl
 
-pub standing_at : (name : List ℕ) (xs : List Labelled) → standing_of name (labels_in xs) ≡ option_map standing_in (seat_of name xs)
+pub standing_at : (name : List ℕ) (xs : List Labelled) → standing_of name (labels_in xs) ≡ option_map standing_in (client_of name xs)
 standing_at name xs =
     ap (option_map (λ (x : Label). x.standing)) (find-map label_of (is_labelled name) (is_called name) (λ x. refl) xs)
     ∙ mapped (find (is_labelled name) xs)
 
 gone_one : (name : List ℕ) (cause : Cause) (x : Labelled) → label_of (ended_by name cause x) ≡ gone name cause (label_of x)
 gone_one name cause x =
-    elim (same_name name x.label) as (λ b. label_of (cond b (record { label = x.label; seat = seats.Ended cause }) x) ≡ cond b (label x.label (Gone cause)) (label_of x)) [
+    elim (same_name name x.label) as (λ b. label_of (cond b (record { label = x.label; client = clients.Ended cause }) x) ≡ cond b (label x.label (Gone cause)) (label_of x)) [
       | true ↦ refl
       | false ↦ refl
     ]
@@ -237,14 +237,14 @@ each P (x ∷ xs) h = All-cons P x xs (h x) (each P xs h)
 pub labels_push : (xs : List Labelled) (y : Labelled) → labels_in (xs ++ y ∷ []) ≡ labels_in xs ++ label_of y ∷ []
 labels_push xs y = map-append label_of xs (y ∷ [])
 
-pub apart_never : (xs : List Labelled) (name : List ℕ) → AreApart (labels_in xs) → AreApart (labels_in (xs ++ record { label = name; seat = seats.Never } ∷ []))
+pub apart_never : (xs : List Labelled) (name : List ℕ) → AreApart (labels_in xs) → AreApart (labels_in (xs ++ record { label = name; client = clients.Never } ∷ []))
 apart_never xs name h =
-    subst AreApart (sym (labels_push xs (record { label = name; seat = seats.Never })))
+    subst AreApart (sym (labels_push xs (record { label = name; client = clients.Never })))
     (apart_push (labels_in xs) (label name Never) h (each (λ x. IsApart x (label name Never)) (labels_in xs) (λ x. differ_never x.standing)))
 
-fresh_one : (w : World) (id : ℕ) (x : Seat) → find_size id (sizes w) ≡ None → SeatShows w x → Differ (standing_in x) (Has id)
-fresh_one w id seats.Never fresh h = tt
-fresh_one w id (seats.Open own term) fresh h =
+fresh_one : (w : World) (id : ℕ) (x : Client) → find_size id (sizes w) ≡ None → ClientShows w x → Differ (standing_in x) (Has id)
+fresh_one w id clients.Never fresh h = tt
+fresh_one w id (clients.Open own term) fresh h =
     let goal : Bool → Type 0 = λ b. nat_eq id own ≡ b → b ≡ false in
     let go : (b : Bool) → goal b =
     λ b. elim b as goal [
@@ -256,15 +256,15 @@ fresh_one w id (seats.Open own term) fresh h =
       | false ↦ λ e. refl
     ]
     in go (nat_eq id own) refl
-fresh_one w id (seats.Ended cause) fresh h = tt
+fresh_one w id (clients.Ended cause) fresh h = tt
 
 pub apart_open : (w : World) (xs : List Labelled) (name : List ℕ) (id : ℕ) (term : Terminal) → find_size id (sizes w) ≡ None → All (Shows w) xs → AreApart (labels_in xs)
-    → AreApart (labels_in (xs ++ record { label = name; seat = seats.Open id term } ∷ []))
+    → AreApart (labels_in (xs ++ record { label = name; client = clients.Open id term } ∷ []))
 apart_open w xs name id term fresh shows h =
-    subst AreApart (sym (labels_push xs (record { label = name; seat = seats.Open id term })))
+    subst AreApart (sym (labels_push xs (record { label = name; client = clients.Open id term })))
     (apart_push (labels_in xs) (label name (Has id)) h
     (All-map (λ x. IsApart x (label name (Has id))) label_of xs
-    (All-weaker (Shows w) (λ x. IsApart (label_of x) (label name (Has id))) (λ x s. fresh_one w id x.seat fresh s) xs shows)))
+    (All-weaker (Shows w) (λ x. IsApart (label_of x) (label name (Has id))) (λ x s. fresh_one w id x.client fresh s) xs shows)))
 
 gone_apart : (name : List ℕ) (cause : Cause) (x y : Label) → IsApart x y → IsApart (gone name cause x) (gone name cause y)
 gone_apart name cause x y h =
@@ -288,7 +288,7 @@ apart_gone name cause (x ∷ xs) h = (
 
 ended_due : (e : Serving) (name : List ℕ) (cause : Cause) (x : Labelled) → IsDue e x → IsDue e (ended_by name cause x)
 ended_due e name cause x h =
-    elim (same_name name x.label) as (λ b. IsDue e (cond b (record { label = x.label; seat = seats.Ended cause }) x)) [ true ↦ tt | false ↦ h ]
+    elim (same_name name x.label) as (λ b. IsDue e (cond b (record { label = x.label; client = clients.Ended cause }) x)) [ true ↦ tt | false ↦ h ]
 
 -- a label ends where all sessions stayed
 pub waiting_ended : (e : Serving) (name : List ℕ) (cause : Cause) (xs : List Labelled) → IsWaiting e xs → IsWaiting e (map (ended_by name cause) xs)
@@ -299,25 +299,25 @@ waiting_ended e name cause xs h = record {
 }
 
 -- a label has not this open session
-NotOpen : ℕ → Seat → Type 0
-NotOpen id seats.Never = Unit {0}
-NotOpen id (seats.Open own term) = nat_eq id own ≡ false
-NotOpen id (seats.Ended cause) = Unit {0}
+NotOpen : ℕ → Client → Type 0
+NotOpen id clients.Never = Unit {0}
+NotOpen id (clients.Open own term) = nat_eq id own ≡ false
+NotOpen id (clients.Ended cause) = Unit {0}
 
 OnlyBy : List ℕ → ℕ → Labelled → Type 0
-OnlyBy name id x = is_labelled name x ≡ false → NotOpen id x.seat
+OnlyBy name id x = is_labelled name x ≡ false → NotOpen id x.client
 
-later_not : (id : ℕ) (x : Seat) → Differ (Has id) (standing_in x) → NotOpen id x
+later_not : (id : ℕ) (x : Client) → Differ (Has id) (standing_in x) → NotOpen id x
 unfolding NotOpen
-later_not id seats.Never h = tt
-later_not id (seats.Open own term) h = flip own id h
-later_not id (seats.Ended cause) h = tt
+later_not id clients.Never h = tt
+later_not id (clients.Open own term) h = flip own id h
+later_not id (clients.Ended cause) h = tt
 
-earlier_not : (id : ℕ) (x : Seat) → Differ (standing_in x) (Has id) → NotOpen id x
+earlier_not : (id : ℕ) (x : Client) → Differ (standing_in x) (Has id) → NotOpen id x
 unfolding NotOpen
-earlier_not id seats.Never h = tt
-earlier_not id (seats.Open own term) h = h
-earlier_not id (seats.Ended cause) h = tt
+earlier_not id clients.Never h = tt
+earlier_not id (clients.Open own term) h = h
+earlier_not id (clients.Ended cause) h = tt
 
 pub All-found : {A : Type 0} (P : A → Type 0) (p : A → Bool) (xs : List A) (z : A) → All P xs → find p xs ≡ Some z → P z
 All-found P p [] z h e = absurd cc
@@ -330,12 +330,12 @@ All-found P p (x ∷ xs) z h e =
     ]
     in go (p x) e
 
-some_found : (o : Option Labelled) (s : Seat) → option_map (λ (x : Labelled). x.seat) o ≡ Some s → (z : Labelled) × (o ≡ Some z) × (z.seat ≡ s)
+some_found : (o : Option Labelled) (s : Client) → option_map (λ (x : Labelled). x.client) o ≡ Some s → (z : Labelled) × (o ≡ Some z) × (z.client ≡ s)
 some_found None s h = absurd cc
-some_found (Some z) s h = let e : z.seat ≡ s = cc in (z, refl, e)
+some_found (Some z) s h = let e : z.client ≡ s = cc in (z, refl, e)
 
 -- no other label has the session of this one
-only_by : (name : List ℕ) (id : ℕ) (xs : List Labelled) (z : Labelled) → find (is_labelled name) xs ≡ Some z → standing_in z.seat ≡ Has id → AreApart (labels_in xs) → All (OnlyBy name id) xs
+only_by : (name : List ℕ) (id : ℕ) (xs : List Labelled) (z : Labelled) → find (is_labelled name) xs ≡ Some z → standing_in z.client ≡ Has id → AreApart (labels_in xs) → All (OnlyBy name id) xs
 unfolding OnlyBy
 only_by name id [] z found is apart = All-nil (OnlyBy name id)
 only_by name id (x ∷ xs) z found is apart =
@@ -345,29 +345,29 @@ only_by name id (x ∷ xs) z found is apart =
     λ b. elim b as goal [
       | true ↦ λ e f.
           let same : x ≡ z = cc in
-          let has : standing_in x.seat ≡ Has id = ap (λ (y : Labelled). standing_in y.seat) same ∙ is in
+          let has : standing_in x.client ≡ Has id = ap (λ (y : Labelled). standing_in y.client) same ∙ is in
           All-cons (OnlyBy name id) x xs (λ no. let clash : true ≡ false = sym e ∙ no in cc)
-          (All-weaker (λ y. IsApart (label_of x) (label_of y)) (OnlyBy name id) (λ y a no. later_not id y.seat (subst (λ (s : Standing). Differ s (standing_in y.seat)) has a)) xs after)
+          (All-weaker (λ y. IsApart (label_of x) (label_of y)) (OnlyBy name id) (λ y a no. later_not id y.client (subst (λ (s : Standing). Differ s (standing_in y.client)) has a)) xs after)
       | false ↦ λ e f.
           let there : IsApart (label_of x) (label_of z) = All-found (λ y. IsApart (label_of x) (label_of y)) (is_labelled name) xs z after f in
-          All-cons (OnlyBy name id) x xs (λ no. earlier_not id x.seat (subst (λ (s : Standing). Differ (standing_in x.seat) s) is there)) (only_by name id xs z f is apart.1)
+          All-cons (OnlyBy name id) x xs (λ no. earlier_not id x.client (subst (λ (s : Standing). Differ (standing_in x.client) s) is there)) (only_by name id xs z f is apart.1)
     ]
     in go (is_labelled name x) refl found
 
-closed_seat : (old new : World) (id : ℕ) (x : Seat) → sizes new ≡ remove_first (is_size_of id) (sizes old) → NotOpen id x → SeatStays old new x
-unfolding NotOpen SeatStays
-closed_seat old new id seats.Never less h = tt
-closed_seat old new id (seats.Open own term) less h = stays_past old new id own less h
-closed_seat old new id (seats.Ended cause) less h = tt
+closed_client : (old new : World) (id : ℕ) (x : Client) → sizes new ≡ remove_first (is_size_of id) (sizes old) → NotOpen id x → ClientStays old new x
+unfolding NotOpen ClientStays
+closed_client old new id clients.Never less h = tt
+closed_client old new id (clients.Open own term) less h = stays_past old new id own less h
+closed_client old new id (clients.Ended cause) less h = tt
 
 closed_one : (old new : Serving) (name : List ℕ) (id : ℕ) (cause : Cause) (x : Labelled) → AllTaken old → Painted old new → sizes new.world ≡ remove_first (is_size_of id) (sizes old.world) → OnlyBy name id x → Shows old.world x → IsDue new (ended_by name cause x)
 unfolding OnlyBy
 closed_one old new name id cause x taken painted less only h =
-    let goal : Bool → Type 0 = λ b. is_labelled name x ≡ b → IsDue new (cond b (record { label = x.label; seat = seats.Ended cause }) x) in
+    let goal : Bool → Type 0 = λ b. is_labelled name x ≡ b → IsDue new (cond b (record { label = x.label; client = clients.Ended cause }) x) in
     let go : (b : Bool) → goal b =
     λ b. elim b as goal [
       | true ↦ λ e. tt
-      | false ↦ λ e. seat_due old new x.seat taken painted (closed_seat old.world new.world id x.seat less (only e)) h
+      | false ↦ λ e. client_due old new x.client taken painted (closed_client old.world new.world id x.client less (only e)) h
     ]
     in go (is_labelled name x) refl
 
@@ -377,10 +377,10 @@ both P Q R f (x ∷ xs) h k = All-cons R x xs (f x (All-head P x xs h) (All-head
 
 -- a session is closed, and its label ended
 pub waiting_closed : (old new : Serving) (name : List ℕ) (id : ℕ) (term : Terminal) (cause : Cause) (xs : List Labelled)
-    → IsReady old xs → seat_of name xs ≡ Some (seats.Open id term) → queue_ids new ≡ remove_first (λ x. nat_eq x id) (queue_ids old) → sizes new.world ≡ remove_first (is_size_of id) (sizes old.world) → Painted old new
+    → IsReady old xs → client_of name xs ≡ Some (clients.Open id term) → queue_ids new ≡ remove_first (λ x. nat_eq x id) (queue_ids old) → sizes new.world ≡ remove_first (is_size_of id) (sizes old.world) → Painted old new
     → IsWaiting new (map (ended_by name cause) xs)
-waiting_closed old new name id term cause xs ready seat ids less painted =
-    let z = some_found (find (is_labelled name) xs) (seats.Open id term) seat in
+waiting_closed old new name id term cause xs ready client ids less painted =
+    let z = some_found (find (is_labelled name) xs) (clients.Open id term) client in
     let only = only_by name id xs z.0 z.1 (ap standing_in z.2) ready.apart in
     record {
       served = served_less old new id ids less ready.served;
@@ -418,7 +418,7 @@ known_last zs z h =
     ∙ ap (λ b. cond b (Some z) None) (eq-eqb z.id z.id refl)
 
 opened_due : (new : Serving) (zs : List Size) (id rows cols : ℕ) (y : Session) → IsSize rows cols → sizes new.world ≡ zs ++ record { id = id; rows = rows; cols = cols } ∷ [] → find_size id zs ≡ None
-    → find_session id new.world.sessions ≡ Some y → Paints (screen new.world y) (pending_of id new) → SeatDue new (seats.Open id (resting (blank_screen rows cols)))
+    → find_session id new.world.sessions ≡ Some y → Paints (screen new.world y) (pending_of id new) → ClientDue new (clients.Open id (resting (blank_screen rows cols)))
 opened_due new zs id rows cols y size more fresh found paints =
     let z : Size = record { id = id; rows = rows; cols = cols } in
     let is : Some (size_of y) ≡ Some z = ap (option_map size_of) (sym found) ∙ sym (found_size id new.world) ∙ ap (find_size id) more ∙ known_last zs z fresh in
@@ -437,10 +437,10 @@ opened_due new zs id rows cols y size more fresh found paints =
 pub waiting_opened : (old new : Serving) (xs : List Labelled) (name : List ℕ) (id rows cols : ℕ) (y : Session) → IsReady old xs → IsSize rows cols
     → queue_ids new ≡ queue_ids old ++ id ∷ [] → sizes new.world ≡ sizes old.world ++ record { id = id; rows = rows; cols = cols } ∷ [] → find_size id (sizes old.world) ≡ None → Painted old new
     → find_session id new.world.sessions ≡ Some y → Paints (screen new.world y) (pending_of id new)
-    → IsWaiting new (xs ++ record { label = name; seat = seats.Open id (resting (blank_screen rows cols)) } ∷ [])
+    → IsWaiting new (xs ++ record { label = name; client = clients.Open id (resting (blank_screen rows cols)) } ∷ [])
 waiting_opened old new xs name id rows cols y ready size ids more fresh painted found paints =
     let z : Size = record { id = id; rows = rows; cols = cols } in
-    let last : Labelled = record { label = name; seat = seats.Open id (resting (blank_screen rows cols)) } in
+    let last : Labelled = record { label = name; client = clients.Open id (resting (blank_screen rows cols)) } in
     record {
       served = served_more old new z ids more fresh ready.served;
       due = All-append (IsDue new) xs (last ∷ [])
@@ -450,10 +450,10 @@ waiting_opened old new xs name id rows cols y ready size ids more fresh painted 
     }
 
 -- nothing opens, and a label is used up
-pub ready_never : (e : Serving) (xs : List Labelled) (name : List ℕ) → IsReady e xs → IsReady e (xs ++ record { label = name; seat = seats.Never } ∷ [])
+pub ready_never : (e : Serving) (xs : List Labelled) (name : List ℕ) → IsReady e xs → IsReady e (xs ++ record { label = name; client = clients.Never } ∷ [])
 ready_never e xs name h = record {
   served = h.served;
   taken = h.taken;
-  shows = All-append (Shows e.world) xs (record { label = name; seat = seats.Never } ∷ []) h.shows (All-cons (Shows e.world) (record { label = name; seat = seats.Never }) [] tt (All-nil (Shows e.world)));
+  shows = All-append (Shows e.world) xs (record { label = name; client = clients.Never } ∷ []) h.shows (All-cons (Shows e.world) (record { label = name; client = clients.Never }) [] tt (All-nil (Shows e.world)));
   apart = apart_never xs name h.apart;
 }

@@ -1,4 +1,4 @@
--- Buffers that are written down can be kept: no fault but want of memory is left.
+-- Buffers that are written down can be kept: no fault but out of memory is left.
 use Rattle.std.proofs.Common.{◌≡◌, ℕ, zero, suc, ◌+◌, ◌<◌, ◌≤◌, not, Bool, true, false, cond, List, [], ◌∷◌, ◌++◌, length, get_or, take, map, Option, Some, None, Result, Ok, Err, refl, sym, ap, subst, ◌∙◌, arith, length-append}
 use Rattle.std.specs.Prelude.{◌&&◌, ◌||◌, find, All, is_some, nat_le, nat_lt, if◌then◌else◌}
 use Rattle.std.specs.Option.{option_map}
@@ -10,13 +10,13 @@ use Rattle.mgs_model.specs.Apply.{change_first}
 use Rattle.mgs_model.specs.Names.{same_name, is_name, is_user_name}
 use Rattle.mgs_model.specs.World.{World, Buffer, is_named, find_buffer}
 use Rattle.mgs_model.specs.declared.entry.Entry.{Entry}
-use Rattle.mgs_buffers.specs.Kept.{kept_named, is_kept}
+use Rattle.mgs_buffers.specs.MarkedBuffer.{marked_named, has_buffer}
 use Rattle.mgs_buffers.specs.Adding.{add_fault, Answers}
 use Rattle.mgs_buffers.specs.declared.fault.AddFault.{AddFault}
 use Rattle.mgs_buffers.specs.declared.fault.AddFault.TheVariants as adds
 use Rattle.mgs_replay.specs.declared.setup.Draft.{Draft}
 use Rattle.mgs_replay.specs.Settings.{are_names, buffer_refused, entry_refused, text_refused, with_entry, with_text, empty_buffer}
-use Rattle.mgs_replay.specs.Setups.{Changes, kept_of, buffer_of, buffers_in, buffer_name, IsFit, AreNew, AreFit, OnlyShort}
+use Rattle.mgs_replay.specs.Setups.{Changes, marked_of, buffer_of, buffers_in, buffer_name, IsFit, AreNew, AreFit, OnlyShort}
 use Rattle.mgs_script.specs.declared.line.LineFault.{LineFault}
 use Rattle.mgs_script.specs.declared.line.LineFault.TheVariants.{Bad, Short}
 
@@ -116,20 +116,20 @@ text_room n cs bs b h e =
     let le : length b.text + length cs ≤ 1048576 = grind (arith, nat_tests) in
     omega (arith, le, length-append b.text cs)
 
--- the buffers behind an entry's line
+-- the buffers after an entry's line
 pub entry_fits : {F : Type 0} (r : Result (Unit {0}) LineFault) (o : Result Entry F) (n : List ℕ) (bs new : List Buffer) → Changes r (entry_refused (find_buffer n bs) o) n (with_entry o) bs new → AreFit bs → AreFit new
 entry_fits (Ok u) o n bs new h fit =
     subst AreFit (sym h.1) (fit_changed n (with_entry o) bs (entry_name o) (entry_owner o) (λ b e k. subst (λ (t : List ℕ). length t ≤ 1048576) (sym (entry_text o b)) k) fit)
 entry_fits (Err Bad) o n bs new h fit = subst AreFit (sym h.1) fit
 entry_fits (Err Short) o n bs new h fit = subst AreFit (sym h.1) fit
 
--- and behind a text's
+-- and after a text's
 pub text_fits : (r : Result (Unit {0}) LineFault) (n cs : List ℕ) (bs new : List Buffer) → Changes r (text_refused (find_buffer n bs) cs) n (with_text cs) bs new → AreFit bs → AreFit new
 text_fits (Ok u) n cs bs new h fit = subst AreFit (sym h.1) (fit_changed n (with_text cs) bs (λ b. refl) (λ b. refl) (λ b e k. text_room n cs bs b h.0 e) fit)
 text_fits (Err Bad) n cs bs new h fit = subst AreFit (sym h.1) fit
 text_fits (Err Short) n cs bs new h fit = subst AreFit (sym h.1) fit
 
--- and behind a buffer's
+-- and after a buffer's
 pub buffer_fits : (w : World) (n o : List ℕ) → buffer_refused w n o ≡ false → AreFit w.buffers → AreFit (w.buffers ++ empty_buffer n o ∷ [])
 buffer_fits w n o h fit =
     let parts = or_false (not (are_names n o)) _ h in
@@ -141,7 +141,7 @@ none_fit = record { each = All-nil IsFit; few = omega arith; new = tt }
 
 -- NO FAULT IS LEFT
 
-no_earlier : (ds : List Draft) (i : ℕ) (d : Draft) → i < length ds → AreNew (map buffer_name (buffers_in ds)) → find (kept_named (get_or ds i d).name.now) (map kept_of (take i ds)) ≡ None
+no_earlier : (ds : List Draft) (i : ℕ) (d : Draft) → i < length ds → AreNew (map buffer_name (buffers_in ds)) → find (marked_named (get_or ds i d).name.now) (map marked_of (take i ds)) ≡ None
 no_earlier [] i d l h = absurd (omega arith)
 no_earlier (x ∷ xs) zero d l h = refl
 no_earlier (x ∷ xs) (suc i) d l h =
@@ -150,7 +150,7 @@ no_earlier (x ∷ xs) (suc i) d l h =
     let at : get_or others i d.name.now ≡ n = get_or-map buffer_name (buffers_in xs) i (buffer_of d) ∙ ap buffer_name (get_or-map buffer_of xs i d) in
     let within : i < length others = omega (arith, length-map (buffers_in xs) buffer_name, length-map xs buffer_of) in
     let e : same_name n x.name.now ≡ false = subst (λ (m : List ℕ). same_name m x.name.now ≡ false) at (All-get_or (λ (m : List ℕ). same_name m x.name.now ≡ false) others i d.name.now within h.0) in
-    ap (λ b. cond b (Some (kept_of x)) (find (kept_named n) (map kept_of (take i xs)))) e ∙ no_earlier xs i d (omega arith) h.1
+    ap (λ b. cond b (Some (marked_of x)) (find (marked_named n) (map marked_of (take i xs)))) e ∙ no_earlier xs i d (omega arith) h.1
 
 fault_by : Bool → Bool → Bool → Bool → Option AddFault
 fault_by a b c d = if not a then Some adds.Name else if b then Some adds.Twice else if c then Some adds.Full else if d then Some adds.Long else None
@@ -160,17 +160,17 @@ unfolding fault_by
 fault_none a b c d ea eb ec ed =
     ap (λ x. fault_by x b c d) ea ∙ ap (λ x. fault_by true x c d) eb ∙ ap (λ x. fault_by true false x d) ec ∙ ap (λ x. fault_by true false false x) ed
 
-pub no_fault : (ds : List Draft) (i : ℕ) (d : Draft) → i < length ds → AreFit (buffers_in ds) → add_fault (get_or ds i d).name.now (get_or ds i d).owner.now (length (get_or ds i d).text.items) (map kept_of (take i ds)) ≡ None
+pub no_fault : (ds : List Draft) (i : ℕ) (d : Draft) → i < length ds → AreFit (buffers_in ds) → add_fault (get_or ds i d).name.now (get_or ds i d).owner.now (length (get_or ds i d).text.items) (map marked_of (take i ds)) ≡ None
 unfolding fault_by
 no_fault ds i d l h =
     let x : Draft = get_or ds i d in
     let fit : IsFit (buffer_of x) = subst IsFit (get_or-map buffer_of ds i d) (All-get_or IsFit (buffers_in ds) i (buffer_of d) (omega (arith, length-map ds buffer_of)) h.each) in
-    let long : length (map kept_of (take i ds)) ≡ i = length-map (take i ds) kept_of ∙ length-take-le i ds (omega arith) in
+    let long : length (map marked_of (take i ds)) ≡ i = length-map (take i ds) marked_of ∙ length-take-le i ds (omega arith) in
     let few : length ds ≤ 256 = omega (arith, h.few, length-map ds buffer_of) in
-    let room : nat_le 256 (length (map kept_of (take i ds))) ≡ false = grind (arith, nat_tests) in
+    let room : nat_le 256 (length (map marked_of (take i ds))) ≡ false = grind (arith, nat_tests) in
     let size : length x.text.items ≤ 1048576 = fit.short in
     let fits : nat_lt 1048576 (length x.text.items) ≡ false = grind (arith, nat_tests) in
-    fault_none (is_name x.name.now && is_user_name x.owner.now) (is_kept x.name.now (map kept_of (take i ds))) (nat_le 256 (length (map kept_of (take i ds)))) (nat_lt 1048576 (length x.text.items))
+    fault_none (is_name x.name.now && is_user_name x.owner.now) (has_buffer x.name.now (map marked_of (take i ds))) (nat_le 256 (length (map marked_of (take i ds)))) (nat_lt 1048576 (length x.text.items))
     fit.named (ap is_some (no_earlier ds i d l h.new)) room fits
 
 pub only_short : (A : Type 0) (f : AddFault) (due : Option AddFault) → Answers (Err f) due → due ≡ None → OnlyShort {A = A} (Err f)

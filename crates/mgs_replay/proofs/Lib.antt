@@ -5,6 +5,6 @@ pub mod Mapped
 pub mod Rows
 pub mod Served
 pub mod Events
-pub mod Stages
+pub mod Players
 pub mod Drafts
 pub mod Fits

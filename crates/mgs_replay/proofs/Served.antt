@@ -15,12 +15,12 @@ use Rattle.mgs_term.specs.Drawing.{Draws, Anything}
 use Rattle.mgs_paint.specs.Painting.{shown}
 use Rattle.mgs_engine.specs.Serving.{Serving, AllTaken, queue_ids}
 use Rattle.mgs_engine.specs.Queues.{Queue, Handed, queue_id, bytes_of, find_queue, is_queue_of, emptied}
-use Rattle.mgs_replay.specs.declared.seat.Labelled.{Labelled}
-use Rattle.mgs_replay.specs.declared.seat.Cause.{Cause}
-use Rattle.mgs_replay.specs.declared.seat.Seat.{Seat}
-use Rattle.mgs_replay.specs.declared.seat.Seat.TheVariants.{Never, Open, Ended}
-use Rattle.mgs_replay.specs.Seats.{Fed, SeatFed, OwnFed, TermFed, TakenBy}
-use Rattle.mgs_replay.specs.Served.{standing_in, label_of, labels_in, SeatShows, Shows, SeatDue, IsDue, AreOthers, AreUnique, size_id, IsServed, IsReady, IsWaiting, AreApart}
+use Rattle.mgs_replay.specs.declared.client.Labelled.{Labelled}
+use Rattle.mgs_replay.specs.declared.client.Cause.{Cause}
+use Rattle.mgs_replay.specs.declared.client.Client.{Client}
+use Rattle.mgs_replay.specs.declared.client.Client.TheVariants.{Never, Open, Ended}
+use Rattle.mgs_replay.specs.Clients.{Fed, ClientFed, OwnFed, TermFed, TakenBy}
+use Rattle.mgs_replay.specs.Served.{standing_in, label_of, labels_in, ClientShows, Shows, ClientDue, IsDue, AreOthers, AreUnique, size_id, IsServed, IsReady, IsWaiting, AreApart}
 
 -- LISTS PLACE BY PLACE
 
@@ -67,15 +67,15 @@ handed_each [] xs zs h = zip_same (FedBy []) (λ x. refl) xs zs h
 handed_each (q ∷ qs) xs zs h =
     zip_then (Fed q.id q.bytes) (FedBy qs) (FedBy (q ∷ qs)) (λ x y z f g. (y, f, g)) xs h.0 zs h.1 (handed_each qs h.0 zs h.2)
 
-seat_label : (id : ℕ) (bytes : List ℕ) (x y : Seat) → SeatFed id bytes x y → standing_in y ≡ standing_in x
-seat_label id bytes Never y h = ap standing_in h
-seat_label id bytes (Open own term) y h = ap standing_in h.1
-seat_label id bytes (Ended cause) y h = ap standing_in h
+client_label : (id : ℕ) (bytes : List ℕ) (x y : Client) → ClientFed id bytes x y → standing_in y ≡ standing_in x
+client_label id bytes Never y h = ap standing_in h
+client_label id bytes (Open own term) y h = ap standing_in h.1
+client_label id bytes (Ended cause) y h = ap standing_in h
 
 fed_label : (id : ℕ) (bytes : List ℕ) (x y : Labelled) → Fed id bytes x y → label_of y ≡ label_of x
 fed_label id bytes x y h =
     let a : y.label ≡ x.label = h.label in
-    let b : standing_in y.seat ≡ standing_in x.seat = seat_label id bytes x.seat y.seat h.seat in
+    let b : standing_in y.client ≡ standing_in x.client = client_label id bytes x.client y.client h.client in
     cc
 
 same_label : (qs : List Queue) (x z : Labelled) → FedBy qs x z → label_of z ≡ label_of x
@@ -84,32 +84,32 @@ same_label [] x z h = ap label_of h
 same_label (q ∷ qs) x z h = same_label qs h.0 z h.2 ∙ fed_label q.id q.bytes x h.0 h.1
 
 -- a terminal to which no queue belongs stays as it is
-open_other : (id : ℕ) (bytes : List ℕ) (own : ℕ) (term : Terminal) (x y : Seat) → x ≡ Open own term → nat_eq id own ≡ false → SeatFed id bytes x y → y ≡ Open own term
+open_other : (id : ℕ) (bytes : List ℕ) (own : ℕ) (term : Terminal) (x y : Client) → x ≡ Open own term → nat_eq id own ≡ false → ClientFed id bytes x y → y ≡ Open own term
 open_other id bytes own term x y is other h =
-    let k : SeatFed id bytes (Open own term) y = subst (λ (z : Seat). SeatFed id bytes z y) is h in
+    let k : ClientFed id bytes (Open own term) y = subst (λ (z : Client). ClientFed id bytes z y) is h in
     let t : k.0 ≡ term = subst (λ (b : Bool). OwnFed b bytes term k.0) other k.2 in
     k.1 ∙ ap (Open own) t
 
-stays_open : (qs : List Queue) (own : ℕ) (term : Terminal) (x z : Labelled) → AreOthers own (map queue_id qs) → x.seat ≡ Open own term → FedBy qs x z → z.seat ≡ Open own term
+stays_open : (qs : List Queue) (own : ℕ) (term : Terminal) (x z : Labelled) → AreOthers own (map queue_id qs) → x.client ≡ Open own term → FedBy qs x z → z.client ≡ Open own term
 unfolding FedBy
-stays_open [] own term x z others is h = ap (λ (y : Labelled). y.seat) h ∙ is
+stays_open [] own term x z others is h = ap (λ (y : Labelled). y.client) h ∙ is
 stays_open (q ∷ qs) own term x z others is h =
     let first = All-head (λ (k : ℕ). nat_eq k own ≡ false) q.id (map queue_id qs) others in
     let rest = All-tail (λ (k : ℕ). nat_eq k own ≡ false) q.id (map queue_id qs) others in
-    stays_open qs own term h.0 z rest (open_other q.id q.bytes own term x.seat h.0.seat is first h.1.seat) h.2
+    stays_open qs own term h.0 z rest (open_other q.id q.bytes own term x.client h.0.client is first h.1.client) h.2
 
-open_own : (id : ℕ) (bytes : List ℕ) (own : ℕ) (term : Terminal) (s t : Screen) (x y : Seat) → x ≡ Open own term → nat_eq id own ≡ true → term ≡ resting s → Draws Anything bytes s t → SeatFed id bytes x y → y ≡ Open own (resting t)
+open_own : (id : ℕ) (bytes : List ℕ) (own : ℕ) (term : Terminal) (s t : Screen) (x y : Client) → x ≡ Open own term → nat_eq id own ≡ true → term ≡ resting s → Draws Anything bytes s t → ClientFed id bytes x y → y ≡ Open own (resting t)
 open_own id bytes own term s t x y is same rests draws h =
-    let k : SeatFed id bytes (Open own term) y = subst (λ (z : Seat). SeatFed id bytes z y) is h in
+    let k : ClientFed id bytes (Open own term) y = subst (λ (z : Client). ClientFed id bytes z y) is h in
     let fed : TermFed bytes term k.0 = subst (λ (b : Bool). OwnFed b bytes term k.0) same k.2 in
     k.1 ∙ ap (Open own) (fed s t rests draws)
 
 -- a terminal takes the bytes of its own queue, and no others
-fed_open : (qs : List Queue) (own : ℕ) (term : Terminal) (s t : Screen) (q : Queue) (x z : Labelled) → AreUnique (map queue_id qs) → find_queue own qs ≡ Some q → x.seat ≡ Open own term → term ≡ resting s → Draws Anything q.bytes s t → FedBy qs x z → z.seat ≡ Open own (resting t)
+fed_open : (qs : List Queue) (own : ℕ) (term : Terminal) (s t : Screen) (q : Queue) (x z : Labelled) → AreUnique (map queue_id qs) → find_queue own qs ≡ Some q → x.client ≡ Open own term → term ≡ resting s → Draws Anything q.bytes s t → FedBy qs x z → z.client ≡ Open own (resting t)
 unfolding FedBy
 fed_open [] own term s t q x z unique found is rests draws h = cc
 fed_open (p ∷ qs) own term s t q x z unique found is rests draws h =
-    let goal : Bool → Type 0 = λ b. nat_eq p.id own ≡ b → cond b (Some p) (find_queue own qs) ≡ Some q → z.seat ≡ Open own (resting t) in
+    let goal : Bool → Type 0 = λ b. nat_eq p.id own ≡ b → cond b (Some p) (find_queue own qs) ≡ Some q → z.client ≡ Open own (resting t) in
     let go : (b : Bool) → goal b =
     λ b. elim b as goal [
       | true ↦ λ e f.
@@ -117,9 +117,9 @@ fed_open (p ∷ qs) own term s t q x z unique found is rests draws h =
           let here : p.id ≡ own = eqb-true _ _ e in
           let others : AreOthers own (map queue_id qs) = subst (λ (n : ℕ). AreOthers n (map queue_id qs)) here unique.0 in
           let now : Draws Anything p.bytes s t = subst (λ (k : Queue). Draws Anything k.bytes s t) (sym same) draws in
-          stays_open qs own (resting t) h.0 z others (open_own p.id p.bytes own term s t x.seat h.0.seat is e rests now h.1.seat) h.2
+          stays_open qs own (resting t) h.0 z others (open_own p.id p.bytes own term s t x.client h.0.client is e rests now h.1.client) h.2
       | false ↦ λ e f.
-          fed_open qs own term s t q h.0 z unique.1 f (open_other p.id p.bytes own term x.seat h.0.seat is e h.1.seat) rests draws h.2
+          fed_open qs own term s t q h.0 z unique.1 f (open_other p.id p.bytes own term x.client h.0.client is e h.1.client) rests draws h.2
     ]
     in go (nat_eq p.id own) refl found
 
@@ -145,26 +145,26 @@ queue_there e id x served found =
 
 -- HANDED OVER
 
-never_stays : (qs : List Queue) (x z : Labelled) → x.seat ≡ Never → FedBy qs x z → z.seat ≡ Never
+never_stays : (qs : List Queue) (x z : Labelled) → x.client ≡ Never → FedBy qs x z → z.client ≡ Never
 unfolding FedBy
-never_stays [] x z is h = ap (λ (y : Labelled). y.seat) h ∙ is
-never_stays (q ∷ qs) x z is h = never_stays qs h.0 z (subst (λ (s : Seat). SeatFed q.id q.bytes s h.0.seat) is h.1.seat) h.2
+never_stays [] x z is h = ap (λ (y : Labelled). y.client) h ∙ is
+never_stays (q ∷ qs) x z is h = never_stays qs h.0 z (subst (λ (s : Client). ClientFed q.id q.bytes s h.0.client) is h.1.client) h.2
 
-ended_stays : (qs : List Queue) (cause : Cause) (x z : Labelled) → x.seat ≡ Ended cause → FedBy qs x z → z.seat ≡ Ended cause
+ended_stays : (qs : List Queue) (cause : Cause) (x z : Labelled) → x.client ≡ Ended cause → FedBy qs x z → z.client ≡ Ended cause
 unfolding FedBy
-ended_stays [] cause x z is h = ap (λ (y : Labelled). y.seat) h ∙ is
-ended_stays (q ∷ qs) cause x z is h = ended_stays qs cause h.0 z (subst (λ (s : Seat). SeatFed q.id q.bytes s h.0.seat) is h.1.seat) h.2
+ended_stays [] cause x z is h = ap (λ (y : Labelled). y.client) h ∙ is
+ended_stays (q ∷ qs) cause x z is h = ended_stays qs cause h.0 z (subst (λ (s : Client). ClientFed q.id q.bytes s h.0.client) is h.1.client) h.2
 
-shows_one : (e : Serving) (x z : Labelled) (seat : Seat) → IsServed e → x.seat ≡ seat → FedBy e.queues x z → SeatDue e seat → Shows e.world z
-shows_one e x z Never served is h due = subst (SeatShows e.world) (sym (never_stays e.queues x z is h)) tt
+shows_one : (e : Serving) (x z : Labelled) (client : Client) → IsServed e → x.client ≡ client → FedBy e.queues x z → ClientDue e client → Shows e.world z
+shows_one e x z Never served is h due = subst (ClientShows e.world) (sym (never_stays e.queues x z is h)) tt
 shows_one e x z (Open id term) served is h due =
     let there = queue_there e id due.0 served due.2 in
     let now : Draws Anything there.0.bytes due.1 (shown (screen e.world due.0)) = subst (λ (o : Option Queue). Draws Anything (bytes_of o) due.1 (shown (screen e.world due.0))) there.1 due.4 in
-    let end : z.seat ≡ Open id (resting (shown (screen e.world due.0))) = fed_open e.queues id term due.1 (shown (screen e.world due.0)) there.0 x z served.unique there.1 is due.3 now h in
-    subst (SeatShows e.world) (sym end) (due.0, due.2, refl)
+    let end : z.client ≡ Open id (resting (shown (screen e.world due.0))) = fed_open e.queues id term due.1 (shown (screen e.world due.0)) there.0 x z served.unique there.1 is due.3 now h in
+    subst (ClientShows e.world) (sym end) (due.0, due.2, refl)
 shows_one e x z (Ended cause) served is h due =
-    let stays : z.seat ≡ Ended cause = ended_stays e.queues cause x z is h in
-    subst (SeatShows e.world) (sym stays) tt
+    let stays : z.client ≡ Ended cause = ended_stays e.queues cause x z is h in
+    subst (ClientShows e.world) (sym stays) tt
 
 emptied_ids : (qs : List Queue) → map queue_id (map emptied qs) ≡ map queue_id qs
 emptied_ids [] = refl
@@ -180,7 +180,7 @@ ready old new xs zs waiting is taken h =
     let world : new.world ≡ old.world = ap (λ (e : Serving). e.world) is in
     let ids : queue_ids new ≡ queue_ids old = ap (λ (e : Serving). map queue_id e.queues) is ∙ emptied_ids old.queues in
     let shows : All (Shows old.world) zs =
-    zip_each (FedBy old.queues) (IsDue old) (Shows old.world) (λ x z f due. shows_one old x z x.seat waiting.served refl f due) xs zs (handed_each old.queues xs zs h) waiting.due in
+    zip_each (FedBy old.queues) (IsDue old) (Shows old.world) (λ x z f due. shows_one old x z x.client waiting.served refl f due) xs zs (handed_each old.queues xs zs h) waiting.due in
     record {
       served = record { queues = ids ∙ waiting.served.queues ∙ ap (λ (w : World). map size_id (sizes w)) (sym world); unique = subst AreUnique (sym ids) waiting.served.unique };
       taken = taken;

@@ -9,7 +9,7 @@ use Rattle.mgs_engine.specs.Queues.{Queue, queue_id}
 use Rattle.mgs_script.specs.Lines.{Said}
 use Rattle.mgs_script.specs.Lines as said
 use Rattle.mgs_replay.specs.Setups.{Sets}
-use Rattle.mgs_replay.specs.Stages.{setting, LineDoes}
+use Rattle.mgs_replay.specs.Players.{setting, LineDoes}
 
 -- a line that was set does what it says
 pub set_does : (w v : World) (l : Said) → Sets (Ok tt) l w v → LineDoes (Some l) (setting w) (setting v) []

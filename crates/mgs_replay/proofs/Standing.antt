@@ -11,7 +11,7 @@ use Rattle.mgs_script.specs.Lines.{Said, said_in}
 use Rattle.mgs_script.specs.Lines as said
 use Rattle.mgs_script.specs.Scripts.{lines_of, line_in, behind_line, lines_behind}
 use Rattle.mgs_replay.specs.Settings.{first_world}
-use Rattle.mgs_replay.specs.Stages.{Stage, LineDoes, LineRefused, setting, begun}
+use Rattle.mgs_replay.specs.Players.{Player, LineDoes, LineRefused, setting, begun}
 use Rattle.mgs_replay.specs.Plays.{End, Whole, RefusedAt, Plays, MayPrint, Written}
 use Rattle.mgs_replay.specs.Turns.{IsOpening, Turned, PlaysOn, SetUp}
 use Rattle.mgs_replay.specs.Faults.{end_at}
@@ -24,16 +24,16 @@ use Rattle.mgs_replay.specs.declared.script.ReplayFault.TheVariants as ends
 abbrev pub lines_left : Option (Bor (List ℕ)) → List (List ℕ)
 lines_left rest = lines_behind (option_map (λ x. x.now) rest)
 
--- what the lines left print from here, behind what was printed all lines may print
-pub record Stands (first : ℕ) (start : Stage) (all : List (List ℕ)) (old now : Option (List ℕ)) (n : ℕ) (s : Stage) (left : List (List ℕ)) : Type 0 where
+-- what the lines left print from here, after what was printed all lines may print
+pub record Stands (first : ℕ) (start : Player) (all : List (List ℕ)) (old now : Option (List ℕ)) (n : ℕ) (s : Player) (left : List (List ℕ)) : Type 0 where
   pub printed : List ℕ
   pub appends : Appends old now printed
   pub goes : (more : List ℕ) (end : End) → Plays n s left more end → Plays first start all (printed ++ more) end
 
-pub stands_first : (n : ℕ) (s : Stage) (all : List (List ℕ)) (c : Option (List ℕ)) → Stands n s all c c n s all
+pub stands_first : (n : ℕ) (s : Player) (all : List (List ℕ)) (c : Option (List ℕ)) → Stands n s all c c n s all
 stands_first n s all c = record { printed = []; appends = Appends-nil c; goes = λ more end h. h }
 
-pub stands_next : (first : ℕ) (start : Stage) (all : List (List ℕ)) (old mid new : Option (List ℕ)) (n : ℕ) (s t : Stage) (line : List ℕ) (left : List (List ℕ)) (print : List ℕ)
+pub stands_next : (first : ℕ) (start : Player) (all : List (List ℕ)) (old mid new : Option (List ℕ)) (n : ℕ) (s t : Player) (line : List ℕ) (left : List (List ℕ)) (print : List ℕ)
     → Stands first start all old mid n s (line ∷ left) → LineDoes (said_in line) s t print → Appends mid new print → Stands first start all old new (n + 1) t left
 stands_next first start all old mid new n s t line left print h does app = record {
   printed = h.printed ++ print;
@@ -41,10 +41,10 @@ stands_next first start all old mid new n s t line left print h does app = recor
   goes = λ more end rest. subst (λ (x : List ℕ). Plays first start all x end) (sym (append_assoc h.printed print more)) (h.goes (print ++ more) end (inl (t, print, more, does, rest, refl)));
 }
 
-pub stands_end : (first : ℕ) (start : Stage) (all : List (List ℕ)) (old now : Option (List ℕ)) (n : ℕ) (s : Stage) → Stands first start all old now n s [] → (out : List ℕ) × Appends old now out × Plays first start all out Whole
+pub stands_end : (first : ℕ) (start : Player) (all : List (List ℕ)) (old now : Option (List ℕ)) (n : ℕ) (s : Player) → Stands first start all old now n s [] → (out : List ℕ) × Appends old now out × Plays first start all out Whole
 stands_end first start all old now n s h = (h.printed, h.appends, subst (λ (x : List ℕ). Plays first start all x Whole) (append-nil h.printed) (h.goes [] Whole (refl, refl)))
 
-pub stands_refused : (first : ℕ) (start : Stage) (all : List (List ℕ)) (old mid new : Option (List ℕ)) (n : ℕ) (s : Stage) (line : List ℕ) (left : List (List ℕ))
+pub stands_refused : (first : ℕ) (start : Player) (all : List (List ℕ)) (old mid new : Option (List ℕ)) (n : ℕ) (s : Player) (line : List ℕ) (left : List (List ℕ))
     → Stands first start all old mid n s (line ∷ left) → LineRefused (said_in line) s → Appends mid new [] → (out : List ℕ) × Appends old new out × Plays first start all out (RefusedAt n)
 stands_refused first start all old mid new n s line left h refused app =
     (h.printed ++ [], Appends-trans old mid new h.printed [] h.appends app, h.goes [] (RefusedAt n) (inr (refused, refl, refl)))
@@ -57,8 +57,8 @@ left_cut rest text line later is cut = ap lines_left is ∙ cut
 pub left_none : (rest : Option (Bor (List ℕ))) → rest ≡ None → lines_left rest ≡ []
 left_none rest is = ap lines_left is
 
--- an open is the same before and behind the first
-opens_does : (l : Option Said) (w : World) (t : Stage) (print : List ℕ) → IsOpening l → LineDoes l (begun w []) t print → LineDoes l (setting w) t print
+-- an open is the same before and after the first
+opens_does : (l : Option Said) (w : World) (t : Player) (print : List ℕ) → IsOpening l → LineDoes l (begun w []) t print → LineDoes l (setting w) t print
 opens_does None w t print is h = absurd is
 opens_does (Some said.Nothing) w t print is h = absurd is
 opens_does (Some (said.User name)) w t print is h = absurd is
@@ -89,7 +89,7 @@ opens_first n w line left out end is (inl h) = inl (h.0, h.1, h.2, opens_does (s
 opens_first n w line left out end is (inr h) = inr (opens_refused (said_in line) w is h.0, h.1, h.2)
 
 -- how a fault of a line ends it
-pub ends_on : (r : ReplayFault) (fault : TurnFault) (first : ℕ) (start : Stage) (all : List (List ℕ)) (old mid new : Option (List ℕ)) (n : ℕ) (s t : Stage) (line : List ℕ) (left : List (List ℕ))
+pub ends_on : (r : ReplayFault) (fault : TurnFault) (first : ℕ) (start : Player) (all : List (List ℕ)) (old mid new : Option (List ℕ)) (n : ℕ) (s t : Player) (line : List ℕ) (left : List (List ℕ))
     → r ≡ end_at n fault → Stands first start all old mid n s (line ∷ left) → Turned (Err fault) s (said_in line) t mid new → PlaysOn (Err r) first start all old new
 ends_on r turns.Refused first start all old mid new n s t line left is h turned =
     subst (λ (x : ReplayFault). PlaysOn (Err x) first start all old new) (sym is) (stands_refused first start all old mid new n s line left h turned.0 turned.1)

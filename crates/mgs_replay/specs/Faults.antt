@@ -7,7 +7,7 @@ use Rattle.mgs_replay.specs.declared.lines.TurnFault.TheVariants as turns
 use Rattle.mgs_replay.specs.declared.script.ReplayFault.{ReplayFault}
 use Rattle.mgs_replay.specs.declared.script.ReplayFault.TheVariants as ends
 
--- a refused line, or want of memory
+-- a refused line, or out of memory
 abbrev pub fault_of : LineFault → TurnFault
 fault_of lines.Bad = turns.Refused
 fault_of lines.Short = turns.Short

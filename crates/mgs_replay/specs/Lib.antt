@@ -3,8 +3,8 @@ pub mod Faults
 pub mod Plays
 pub mod Turns
 pub mod Prints
-pub mod Seats
-pub mod Stages
+pub mod Clients
+pub mod Players
 pub mod Served
 pub mod SetupFaults
 pub mod Settings

@@ -2,7 +2,7 @@
 use Rattle.std.specs.Prelude.{◌≡◌, ℕ, ◌+◌, ◌++◌, ◌⊎◌, List, [], ◌∷◌, Option, Result, Ok, Err}
 use Rattle.std.specs.Io.KnownBytes.{Appends}
 use Rattle.mgs_model.specs.World.{World}
-use Rattle.mgs_replay.specs.Stages.{Stage, setting, LineDoes, LineRefused}
+use Rattle.mgs_replay.specs.Players.{Player, setting, LineDoes, LineRefused}
 use Rattle.mgs_replay.specs.declared.script.ReplayFault.{ReplayFault}
 use Rattle.mgs_replay.specs.declared.script.ReplayFault.TheVariants as ends
 use Rattle.mgs_script.specs.Lines.{said_in}
@@ -14,10 +14,10 @@ pub data End : Type 0 where
   RefusedAt : (line : ℕ) → End
 
 -- the lines from the n-th on may print this from this stage on, and end so
-abbrev pub Plays : ℕ → Stage → List (List ℕ) → List ℕ → End → Type 0
+abbrev pub Plays : ℕ → Player → List (List ℕ) → List ℕ → End → Type 0
 Plays n s [] out end = (out ≡ []) × (end ≡ Whole)
 Plays n s (l ∷ ls) out end =
-    ((t : Stage) × (print more : List ℕ) × LineDoes (said_in l) s t print × Plays (n + 1) t ls more end × (out ≡ print ++ more))
+    ((t : Player) × (print more : List ℕ) × LineDoes (said_in l) s t print × Plays (n + 1) t ls more end × (out ≡ print ++ more))
     ⊎ (LineRefused (said_in l) s × (out ≡ []) × (end ≡ RefusedAt n))
 
 -- a script may print this, and end so

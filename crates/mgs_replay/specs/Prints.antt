@@ -4,8 +4,8 @@ use Rattle.mgs_model.specs.declared.errors.OpenFault.{OpenFault}
 use Rattle.mgs_model.specs.declared.errors.OpenFault.TheVariants.{NoUser, Size, Full, Short}
 use Rattle.mgs_term.specs.declared.cell.Cell.{Cell}
 use Rattle.mgs_term.specs.Screen.{Screen}
-use Rattle.mgs_replay.specs.declared.seat.Cause.{Cause}
-use Rattle.mgs_replay.specs.declared.seat.Cause.TheVariants.{Quit, Closed}
+use Rattle.mgs_replay.specs.declared.client.Cause.{Cause}
+use Rattle.mgs_replay.specs.declared.client.Cause.TheVariants.{Quit, Closed}
 
 -- why an open was refused: its number and its name
 abbrev pub fault_text : OpenFault → List ℕ

@@ -10,48 +10,48 @@ use Rattle.mgs_term.specs.Terminal.{resting}
 use Rattle.mgs_term.specs.Drawing.{Draws, Anything}
 use Rattle.mgs_paint.specs.Painting.{shown}
 use Rattle.mgs_engine.specs.Serving.{Serving, AllTaken, pending_of, queue_ids}
-use Rattle.mgs_replay.specs.declared.seat.Labelled.{Labelled}
-use Rattle.mgs_replay.specs.declared.seat.Seat.{Seat}
-use Rattle.mgs_replay.specs.declared.seat.Seat.TheVariants as seats
+use Rattle.mgs_replay.specs.declared.client.Labelled.{Labelled}
+use Rattle.mgs_replay.specs.declared.client.Client.{Client}
+use Rattle.mgs_replay.specs.declared.client.Client.TheVariants as clients
 use Rattle.mgs_model.specs.declared.errors.Keyed.{Keyed}
 use Rattle.mgs_model.specs.declared.errors.Keyed.TheVariants as keyed
-use Rattle.mgs_replay.specs.declared.seat.Cause.TheVariants as causes
+use Rattle.mgs_replay.specs.declared.client.Cause.TheVariants as causes
 use Rattle.mgs_script.specs.declared.line.LineFault.{LineFault}
 use Rattle.mgs_script.specs.declared.line.LineFault.TheVariants as lines
 use Rattle.mgs_script.specs.Lines.{Said}
-use Rattle.mgs_replay.specs.Seats.{ended_by}
-use Rattle.mgs_replay.specs.Stages.{Label, label, Standing, Never, Has, Gone, Stage, begun, is_refused, Does, LineDoes, LineRefused}
+use Rattle.mgs_replay.specs.Clients.{ended_by}
+use Rattle.mgs_replay.specs.Players.{Label, label, Standing, Never, Has, Gone, Player, begun, is_refused, Does, LineDoes, LineRefused}
 
--- how a label stands, by what stands behind it
-abbrev pub standing_in : Seat → Standing
-standing_in seats.Never = Never
-standing_in (seats.Open id term) = Has id
-standing_in (seats.Ended cause) = Gone cause
+-- how a label stands, by what stands after it
+abbrev pub standing_in : Client → Standing
+standing_in clients.Never = Never
+standing_in (clients.Open id term) = Has id
+standing_in (clients.Ended cause) = Gone cause
 
 abbrev pub label_of : Labelled → Label
-label_of x = label x.label (standing_in x.seat)
+label_of x = label x.label (standing_in x.client)
 
 abbrev pub labels_in : List Labelled → List Label
 labels_in xs = map label_of xs
 
 -- between two events a terminal shows the screen of its session, which is open
-abbrev pub SeatShows : World → Seat → Type 0
-SeatShows w seats.Never = Unit {0}
-SeatShows w (seats.Open id term) = (x : Session) × (find_session id w.sessions ≡ Some x) × (term ≡ resting (shown (screen w x)))
-SeatShows w (seats.Ended cause) = Unit {0}
+abbrev pub ClientShows : World → Client → Type 0
+ClientShows w clients.Never = Unit {0}
+ClientShows w (clients.Open id term) = (x : Session) × (find_session id w.sessions ≡ Some x) × (term ≡ resting (shown (screen w x)))
+ClientShows w (clients.Ended cause) = Unit {0}
 
 abbrev pub Shows : World → Labelled → Type 0
-Shows w x = SeatShows w x.seat
+Shows w x = ClientShows w x.client
 
 -- after an event the bytes that wait for it draw that screen
-abbrev pub SeatDue : Serving → Seat → Type 0
-SeatDue e seats.Never = Unit {0}
-SeatDue e (seats.Open id term) =
+abbrev pub ClientDue : Serving → Client → Type 0
+ClientDue e clients.Never = Unit {0}
+ClientDue e (clients.Open id term) =
     (x : Session) × (s : Screen) × (find_session id e.world.sessions ≡ Some x) × (term ≡ resting s) × Draws Anything (pending_of id e) s (shown (screen e.world x))
-SeatDue e (seats.Ended cause) = Unit {0}
+ClientDue e (clients.Ended cause) = Unit {0}
 
 abbrev pub IsDue : Serving → Labelled → Type 0
-IsDue e x = SeatDue e x.seat
+IsDue e x = ClientDue e x.client
 
 -- two labels have not the same open session
 abbrev pub Differ : Standing → Standing → Type 0
@@ -98,15 +98,15 @@ pub record IsWaiting (e : Serving) (xs : List Labelled) : Type 0 where
   pub apart : AreApart (labels_in xs)
 
 -- the stage from the first open on
-abbrev pub stage_of : Serving → List Labelled → Stage
-stage_of e xs = begun e.world (labels_in xs)
+abbrev pub player_of : Serving → List Labelled → Player
+player_of e xs = begun e.world (labels_in xs)
 
--- what stands behind the labels after a byte of one of them
-abbrev pub seats_keyed : Keyed → List ℕ → List Labelled → List Labelled
-seats_keyed keyed.Quit name xs = map (ended_by name causes.Quit) xs
-seats_keyed keyed.Done name xs = xs
-seats_keyed keyed.NoSession name xs = xs
-seats_keyed keyed.Short name xs = xs
+-- what stands after the labels after a byte of one of them
+abbrev pub clients_keyed : Keyed → List ℕ → List Labelled → List Labelled
+clients_keyed keyed.Quit name xs = map (ended_by name causes.Quit) xs
+clients_keyed keyed.Done name xs = xs
+clients_keyed keyed.NoSession name xs = xs
+clients_keyed keyed.Short name xs = xs
 
 -- exactly the text was printed; the line is refused exactly where there is none
 abbrev pub Prints : Result (Unit {0}) LineFault → List ℕ → List ℕ → Option (List ℕ) → Type 0
@@ -114,25 +114,25 @@ Prints (Ok done) old new text = option_map (λ (t : List ℕ). old ++ t) text �
 Prints (Err lines.Bad) old new text = text ≡ None
 Prints (Err lines.Short) old new text = Unit {0}
 
--- printing fails only for want of memory
+-- printing fails only for out of memory
 abbrev pub short_or : {E : Type 0} → Result (Unit {0}) E → Result (Unit {0}) LineFault
 short_or (Ok done) = Ok done
 short_or (Err e) = Err lines.Short
 
--- a fault is want of memory
+-- a fault is out of memory
 abbrev pub NotBad : Result (Unit {0}) LineFault → Type 0
 NotBad (Ok done) = Unit {0}
 NotBad (Err lines.Bad) = ⊥
 NotBad (Err lines.Short) = Unit {0}
 
--- what a line did, and what it put behind what was printed
-abbrev pub Runs : Result (Unit {0}) LineFault → Stage → Said → Stage → List ℕ → List ℕ → Type 0
+-- what a line did, and what it put after what was printed
+abbrev pub Runs : Result (Unit {0}) LineFault → Player → Said → Player → List ℕ → List ℕ → Type 0
 Runs (Ok done) s l t old new = (is_refused s l ≡ false) × ((print : List ℕ) × Does s l t print × (new ≡ old ++ print))
 Runs (Err lines.Bad) s l t old new = is_refused s l ≡ true
 Runs (Err lines.Short) s l t old new = Unit {0}
 
 -- the same of a line that may say nothing
-abbrev pub RunsSaid : Result (Unit {0}) LineFault → Stage → Option Said → Stage → List ℕ → List ℕ → Type 0
+abbrev pub RunsSaid : Result (Unit {0}) LineFault → Player → Option Said → Player → List ℕ → List ℕ → Type 0
 RunsSaid (Ok done) s l t old new = (print : List ℕ) × LineDoes l s t print × (new ≡ old ++ print)
 RunsSaid (Err lines.Bad) s l t old new = LineRefused l s
 RunsSaid (Err lines.Short) s l t old new = Unit {0}

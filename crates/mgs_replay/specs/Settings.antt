@@ -8,7 +8,7 @@ use Rattle.mgs_model.specs.World as model
 use Rattle.mgs_model.specs.declared.entry.Entry.{Entry}
 use Rattle.mgs_acl.specs.Spelling.{entry_in}
 use Rattle.mgs_policy.specs.Directories.{user_fault, with_user, group_fault, with_group}
-use Rattle.mgs_buffers.specs.Kept.{kept_new}
+use Rattle.mgs_buffers.specs.MarkedBuffer.{marked_new}
 use Rattle.mgs_script.specs.Lines.{Said, Nothing, User, Group, Buffer, Entry as Listing, Text, Open, Keys, Show, Close}
 
 -- a world without users, buffers and sessions
@@ -26,7 +26,7 @@ are_names name owner = is_name name && is_user_name owner
 abbrev pub buffer_refused : World → List ℕ → List ℕ → Bool
 buffer_refused w name owner = not (are_names name owner) || (not (is_user owner w.directory) || (is_some (find_buffer name w.buffers) || nat_le 256 (length w.buffers)))
 
--- an entry is refused where there is no such buffer, where it is none, and behind 64 of them
+-- an entry is refused where there is no such buffer, where it is none, and after 64 of them
 abbrev pub entry_refused : {F : Type 0} → Option model.Buffer → Result Entry F → Bool
 entry_refused None entry = true
 entry_refused (Some b) (Ok e) = nat_le 64 (length b.entries)
@@ -38,7 +38,7 @@ text_refused None cs = true
 text_refused (Some b) cs = nat_lt 1048576 (length b.text + length cs)
 
 abbrev pub empty_buffer : List ℕ → List ℕ → model.Buffer
-empty_buffer name owner = (kept_new name owner [] [] false).buffer
+empty_buffer name owner = (marked_new name owner [] [] false).buffer
 
 abbrev pub with_entry : {F : Type 0} → Result Entry F → model.Buffer → model.Buffer
 with_entry (Ok e) b = record b { entries = b.entries ++ e ∷ [] }

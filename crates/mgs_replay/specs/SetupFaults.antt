@@ -4,7 +4,7 @@ use Rattle.mgs_policy.specs.declared.directory.DirectoryFault.TheVariants as dir
 use Rattle.mgs_script.specs.declared.line.LineFault.{LineFault}
 use Rattle.mgs_script.specs.declared.line.LineFault.TheVariants as lines
 
--- a user or a group that the directory refuses, or want of memory
+-- a user or a group that the directory refuses, or out of memory
 abbrev pub fault_in : DirectoryFault → LineFault
 fault_in directory.Name = lines.Bad
 fault_in directory.Twice = lines.Bad

@@ -7,7 +7,7 @@ use Rattle.mgs_model.specs.Access.{Directory}
 use Rattle.mgs_model.specs.Apply.{change_first}
 use Rattle.mgs_model.specs.World.{World, Buffer, is_named}
 use Rattle.mgs_model.specs.declared.entry.Entry.{Entry}
-use Rattle.mgs_buffers.specs.Kept.{Kept, kept_new}
+use Rattle.mgs_buffers.specs.MarkedBuffer.{MarkedBuffer, marked_new}
 use Rattle.mgs_script.specs.declared.line.LineFault.{LineFault}
 use Rattle.mgs_script.specs.declared.line.LineFault.TheVariants.{Bad, Short}
 use Rattle.mgs_replay.specs.declared.setup.Draft.{Draft}
@@ -22,18 +22,18 @@ Listed (Err Bad) old new (Ok e) = (64 ≤ length old) × (new ≡ old)
 Listed (Err Bad) old new (Err f) = new ≡ old
 Listed (Err Short) old new entry = ⊥
 
--- characters are put behind; more than 1,048,576 in all are refused; want of memory comes only where they are not
+-- characters are put behind; more than 1,048,576 in all are refused; out of memory comes only where they are not
 abbrev pub Lengthened : Result (Unit {0}) LineFault → List ℕ → List ℕ → List ℕ → Type 0
 Lengthened (Ok done) old new cs = (new ≡ old ++ cs) × (length new ≤ 1048576)
 Lengthened (Err Bad) old new cs = (1048576 < length old + length cs) × (new ≡ old)
 Lengthened (Err Short) old new cs = (length old + length cs ≤ 1048576) × (new ≡ old)
 
 -- what is kept of a buffer that was written down
-abbrev pub kept_of : Draft → Kept
-kept_of d = kept_new d.name.now d.owner.now d.list d.text.items false
+abbrev pub marked_of : Draft → MarkedBuffer
+marked_of d = marked_new d.name.now d.owner.now d.list d.text.items false
 
 abbrev pub buffer_of : Draft → Buffer
-buffer_of d = (kept_of d).buffer
+buffer_of d = (marked_of d).buffer
 
 abbrev pub buffers_in : List Draft → List Buffer
 buffers_in ds = map buffer_of ds
@@ -45,13 +45,13 @@ is_drafted name d = is_named name (buffer_of d)
 abbrev pub world_of : Directory → List Buffer → World
 world_of directory buffers = record { directory = directory; buffers = buffers; sessions = []; next_id = 1 }
 
--- the buffer of that name is changed; where the line is refused, or memory is, all is as it was; want of memory comes only where the line is not refused
+-- the buffer of that name is changed; where the line is refused, or memory is, all is as it was; out of memory comes only where the line is not refused
 abbrev pub Changes : Result (Unit {0}) LineFault → Bool → List ℕ → (Buffer → Buffer) → List Buffer → List Buffer → Type 0
 Changes (Ok done) refused name change old new = (refused ≡ false) × (new ≡ change_first (is_named name) change old)
 Changes (Err Bad) refused name change old new = (refused ≡ true) × (new ≡ old)
 Changes (Err Short) refused name change old new = (refused ≡ false) × (new ≡ old)
 
--- a line before the first open: it does what it says; where it is refused, or memory is, all is as it was; want of memory comes only where it is not refused
+-- a line before the first open: it does what it says; where it is refused, or memory is, all is as it was; out of memory comes only where it is not refused
 abbrev pub Sets : Result (Unit {0}) LineFault → Said → World → World → Type 0
 Sets (Ok done) said old new = (setting_refused old said ≡ false) × (new ≡ world_set old said)
 Sets (Err Bad) said old new = (setting_refused old said ≡ true) × (new ≡ old)
@@ -78,7 +78,7 @@ pub record AreFit (bs : List Buffer) : Type 0 where
   pub few : length bs ≤ 256
   pub new : AreNew (map buffer_name bs)
 
--- no fault but want of memory
+-- no fault but out of memory
 abbrev pub OnlyShort : {A : Type 0} → Result A AddFault → Type 0
 OnlyShort (Ok a) = Unit {0}
 OnlyShort (Err adds.Name) = ⊥

@@ -11,18 +11,18 @@ use Rattle.mgs_replay.specs.declared.script.ReplayFault.TheVariants as ends
 use Rattle.mgs_script.specs.Lines.{Said, said_in}
 use Rattle.mgs_script.specs.Scripts.{lines_of, line_in}
 use Rattle.mgs_script.specs.Lines as said
-use Rattle.mgs_replay.specs.Stages.{Stage, setting, LineDoes, LineRefused}
+use Rattle.mgs_replay.specs.Players.{Player, setting, LineDoes, LineRefused}
 use Rattle.mgs_replay.specs.Plays.{Plays, End, Whole, RefusedAt}
 
 -- what a line did, and what was written of it
-abbrev pub Turned : Result (Unit {0}) TurnFault → Stage → Option Said → Stage → Option (List ℕ) → Option (List ℕ) → Type 0
+abbrev pub Turned : Result (Unit {0}) TurnFault → Player → Option Said → Player → Option (List ℕ) → Option (List ℕ) → Type 0
 Turned (Ok done) s l t old new = (print : List ℕ) × LineDoes l s t print × Appends old new print
 Turned (Err turns.Refused) s l t old new = LineRefused l s × Appends old new []
 Turned (Err turns.Write) s l t old new = Unit {0}
 Turned (Err turns.Short) s l t old new = Unit {0}
 
 -- what the lines from the n-th on wrote
-abbrev pub PlaysOn : Result (Unit {0}) ReplayFault → ℕ → Stage → List (List ℕ) → Option (List ℕ) → Option (List ℕ) → Type 0
+abbrev pub PlaysOn : Result (Unit {0}) ReplayFault → ℕ → Player → List (List ℕ) → Option (List ℕ) → Option (List ℕ) → Type 0
 PlaysOn (Ok done) n s ls old new = (out : List ℕ) × Appends old new out × Plays n s ls out Whole
 PlaysOn (Err (ends.Line m)) n s ls old new = (out : List ℕ) × Appends old new out × Plays n s ls out (RefusedAt m)
 PlaysOn (Err ends.Read) n s ls old new = Unit {0}

@@ -1,18 +1,18 @@
-//! Scripts: read whole, and played line by line over a server that has nothing yet.
+//! Scripts: read whole, and played line by line over a server that has nothing yet, with a terminal for each label.
 #![tactic(auto)]
 
-mod line;
+mod client;
+mod clients;
 mod lines;
+mod player;
 mod print;
 mod script;
-mod seat;
-mod seats;
 mod setup;
 
-pub use line::{Server, step_line};
+pub use client::{Cause, Client, Labelled};
+pub use clients::Clients;
 pub use lines::play;
+pub use player::{Server, step_line};
 pub use print::{print_ended, print_refusal, print_screen};
 pub use script::{ReplayFault, replay};
-pub use seat::{Cause, Labelled, Seat};
-pub use seats::Seats;
 pub use setup::Setup;

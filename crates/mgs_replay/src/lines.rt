@@ -4,20 +4,18 @@ ghost use Rattle.mgs_replay.specs.Faults.{fault_of, end_at, IsPlayed, IsSet};
 ghost use Rattle.mgs_script.specs.Lines.{said_in};
 ghost use Rattle.mgs_script.specs.Scripts.{lines_of};
 ghost use Rattle.mgs_replay.specs.Settings.{first_world};
-ghost use Rattle.mgs_replay.specs.Stages.{begun};
+ghost use Rattle.mgs_replay.specs.Players.{begun};
 ghost use Rattle.mgs_replay.specs.Plays.{Written};
-ghost use Rattle.mgs_replay.specs.Served.{stage_of, IsReady};
+ghost use Rattle.mgs_replay.specs.Served.{player_of, IsReady};
 ghost use Rattle.mgs_replay.specs.Turns.{Turned, PlaysOn, SetsSaid, SetUp};
 
+use crate::clients::Clients;
+use crate::player::{Server, step_line};
 use crate::script::ReplayFault;
+use crate::setup::Setup;
 use mgs_engine::Engine;
 use mgs_model::{SCRIPT_LIMIT, Short};
-use mgs_script::{Line, LineFault};
-use mgs_script::read_line;
-use crate::seats::Seats;
-use crate::setup::Setup;
-use crate::line::{Server, step_line};
-use mgs_script::cut_line;
+use mgs_script::{Line, LineFault, cut_line, read_line};
 use std::alloc::Global;
 use std::io::Write;
 
@@ -53,17 +51,17 @@ fn ended_at(number: usize, fault: TurnFault) -> ReplayFault
 fn turn<W: Write>(
     alloc: Global,
     server: &mut Server,
-    seats: &mut Seats,
+    clients: &mut Clients,
     out: &mut Vec<u8>,
     line: &[u8],
     writer: &mut W,
 ) -> Result<(), TurnFault>
-    requires { IsReady server.old seats.old }
-    ensures ready { OnOk result (IsReady server.new seats.new) }
-    ensures turned { Turned result (stage_of server.old seats.old) (said_in line.now) (stage_of server.new seats.new) (W.contents writer.old) (W.contents writer.new) }
+    requires { IsReady server.old clients.old }
+    ensures ready { OnOk result (IsReady server.new clients.new) }
+    ensures turned { Turned result (player_of server.old clients.old) (said_in line.now) (player_of server.new clients.new) (W.contents writer.old) (W.contents writer.new) }
 {
     out.clear();
-    match step_line(alloc, server, seats, out, line) {
+    match step_line(alloc, server, clients, out, line) {
         Ok(()) => match writer.write_all(out.as_slice()) {
             Ok(()) => Ok(()),
             Err(_) => Err(TurnFault::Write),
@@ -87,13 +85,13 @@ fn run_lines<W: Write>(
     ensures line { IsPlayed result }
     ensures written { PlaysOn result first (begun server.old.world []) (lines_of text.now) (W.contents writer.old) (W.contents writer.new) }
 {
-    let mut seats = Seats::new(alloc);
+    let mut clients = Clients::new(alloc);
     let mut out = Vec::new(alloc);
     let mut rest = Some(text);
     let mut number = first;
     while let Some(text) = rest {
         let (line, later) = cut_line(text);
-        match turn(alloc, server, &mut seats, &mut out, line, writer) {
+        match turn(alloc, server, &mut clients, &mut out, line, writer) {
             Ok(()) => {}
             Err(fault) => return Err(ended_at(number, fault)),
         }
@@ -157,7 +155,7 @@ fn server_of(alloc: Global, setup: Setup) -> Result<Server, Short>
 /// Runs the lines of a script over a server that has nothing yet, and writes what they print, line by line.
 ///
 /// `Line` is the first line that is refused; what the lines before it print is written. `Write`: writing fails. `Short`
-/// is want of memory. Nothing is said of what was written at these two.
+/// is out of memory. Nothing is said of what was written at these two.
 pub fn play<W: Write>(alloc: Global, script: &[u8], writer: &mut W) -> Result<(), ReplayFault>
     requires { length script.now ≤ SCRIPT_LIMIT }
     ensures line { IsPlayed result }

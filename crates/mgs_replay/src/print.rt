@@ -3,7 +3,7 @@ ghost use Rattle.std.specs.Prelude.{◌≡◌, ◌++◌, ◌∷◌, [], All, OnO
 ghost use Rattle.mgs_term.specs.Screen.{IsPrintableCell};
 ghost use Rattle.mgs_replay.specs.Prints.{edge_of, characters, row_text, rows_text, screen_text, refusal_text, ended_text, fault_text, cause_text};
 
-use crate::seat::Cause;
+use crate::client::Cause;
 use mgs_model::{Name, OpenFault};
 use mgs_term::{Cell, Term};
 use std::alloc::AllocError;

@@ -71,7 +71,7 @@ fn read_script<R: Read>(alloc: Global, reader: &mut R) -> Result<Vec<u8>, Script
 ///
 /// `Line` is the first line that is refused; what the lines before it print is written. `Read`: reading fails, or there
 /// are more than 16,777,216 bytes; no more than one byte more is taken, and nothing is written. `Write`: writing or
-/// flushing fails. `Short` is want of memory.
+/// flushing fails. `Short` is out of memory.
 pub fn replay<R: Read, W: Write>(
     alloc: Global,
     reader: &mut R,

@@ -5,7 +5,7 @@ ghost use Rattle.mgs_model.specs.World.{find_buffer};
 ghost use Rattle.mgs_script.specs.Lines.{view, User, Group, Buffer};
 ghost use Rattle.mgs_replay.specs.SetupFaults.{fault_in};
 ghost use Rattle.mgs_replay.specs.Settings.{first_world, are_names, buffer_refused, entry_refused, text_refused, with_entry, with_text};
-ghost use Rattle.mgs_replay.specs.Setups.{Listed, Lengthened, Changes, Sets, kept_of, buffers_in, is_drafted, AreFit, OnlyShort};
+ghost use Rattle.mgs_replay.specs.Setups.{Listed, Lengthened, Changes, Sets, marked_of, buffers_in, is_drafted, AreFit, OnlyShort};
 
 use mgs_acl::{List, read_entry, user_named};
 use mgs_buffers::{AddFault, Buffers};
@@ -62,7 +62,7 @@ fn add_entry(draft: &mut Draft, entry: &str) -> Result<(), LineFault>
         .map_err(|_| LineFault::Bad)
 }
 
-// Puts characters behind the text.
+// Puts characters after the text.
 fn add_text(draft: &mut Draft, text: &[char]) -> Result<(), LineFault>
     ensures text { Lengthened result draft.old.text.items draft.new.text.items text.now }
     ensures list { draft.new.list ≡ draft.old.list }
@@ -104,7 +104,7 @@ fn entry_line(drafts: &mut [Draft], name: &Name, entry: &str) -> Result<(), Line
     }
 }
 
-// Puts characters behind the text of the buffer of that name.
+// Puts characters after the text of the buffer of that name.
 fn text_line(drafts: &mut [Draft], name: &Name, text: &[char]) -> Result<(), LineFault>
     ensures { Changes result (text_refused (find_buffer name.now (buffers_in drafts.old)) text.now) name.now (with_text text.now) (buffers_in drafts.old) (buffers_in drafts.new) }
 {
@@ -114,10 +114,10 @@ fn text_line(drafts: &mut [Draft], name: &Name, text: &[char]) -> Result<(), Lin
     }
 }
 
-// Every fault but want of memory was judged at its line.
+// Every fault but out of memory was checked at its line.
 fn add_all(alloc: Global, drafts: &[Draft]) -> Result<Buffers<PlainMarked>, AddFault>
     requires { AreFit (buffers_in drafts.now) }
-    ensures kept { IfOk result (λ b. b ≡ map kept_of drafts.now) }
+    ensures kept { IfOk result (λ b. b ≡ map marked_of drafts.now) }
     ensures fault { OnlyShort result }
 {
     let mut buffers = Buffers::new(alloc);
@@ -133,7 +133,7 @@ fn add_all(alloc: Global, drafts: &[Draft]) -> Result<Buffers<PlainMarked>, AddF
 
 fn buffers_of(alloc: Global, drafts: &[Draft]) -> Result<Buffers<PlainMarked>, Short>
     requires { AreFit (buffers_in drafts.now) }
-    ensures { IfOk result (λ b. b ≡ map kept_of drafts.now) }
+    ensures { IfOk result (λ b. b ≡ map marked_of drafts.now) }
 {
     match add_all(alloc, drafts) {
         Ok(buffers) => Ok(buffers),
@@ -214,7 +214,7 @@ impl<'a> Setup<'a> {
     }
 
     /// Runs a line that stands before the first `open`. `Bad`: it is refused, or it is a line of sessions, of which none
-    /// is open yet. `Short` is want of memory, which comes only where the line is not refused. Both leave all as it was.
+    /// is open yet. `Short` is out of memory, which comes only where the line is not refused. Both leave all as it was.
     pub fn run(&mut self, line: Line<'a>) -> Result<(), LineFault>
         ensures { Sets result (view line.entry) self.old self.new }
     {
@@ -232,7 +232,7 @@ impl<'a> Setup<'a> {
     }
 
     /// A server over these users and buffers, without a session.
-    #[tactic(auto, using(crate::proofs::Drafts::kept_buffers))]
+    #[tactic(auto, using(crate::proofs::Drafts::marked_buffers))]
     pub fn into_core(self) -> Result<Core<PlainMarked>, Short>
         ensures world { IfOk result (λ c. c ≡ self.entry) }
         ensures sessions { IfOk result (λ c. c.sessions ≡ []) }

@@ -14,20 +14,20 @@ use Rattle.mgs_model.specs.Lines.{line_of, line_start, column}
 use Rattle.mgs_model.specs.Rows.{Row, rows_put, mode_row, buffer_mode, none_mode, blank_rows, unread_rows, text_rows, shift_at, shift_for, echo_row}
 use Rattle.mgs_model.specs.Picture.{Picture}
 use Rattle.mgs_model.specs.World.{Buffer, Buffer_of, may}
-use Rattle.mgs_model.specs.View.{BufferSeen, WindowSeen, buffer_seen, reads, reads_found, window_seen, spots_if, told_if, full_if, text_in}
+use Rattle.mgs_model.specs.View.{BufferSeen, WindowSeen, buffer_seen, reads, reads_found, window_seen, all_window_marks_if, told_if, full_if, text_in}
 use Rattle.mgs_model.specs.Seen.{Shown, shown_of, text_seen, attributes_seen}
 use Rattle.mgs_model.specs.Draw.{draw, screen, find_shown, found_rows, buffer_rows, pane_rows, place_of, point_row, point_shift, found_cursor, text_cursor, window_rows, windows_rows, window_cursor, first_row, heading_of}
 use Rattle.mgs_model.specs.declared.right.Right.{Right}
 use Rattle.mgs_model.specs.declared.right.Right.TheVariants.{ReadData, ReadAttributes}
 use Rattle.mgs_model.proofs.Firsts.{find-map}
-use Rattle.mgs_buffers.specs.Kept.{Kept, kept_at, IsKept, mark_at}
-use Rattle.mgs_windows.specs.declared.Spot.{Spot}
+use Rattle.mgs_buffers.specs.MarkedBuffer.{MarkedBuffer, marked_at, HasBuffer, mark_at}
+use Rattle.mgs_windows.specs.declared.WindowMarks.{WindowMarks}
 use Rattle.mgs_windows.specs.declared.Window.{Window}
 use Rattle.mgs_windows.specs.Panes.{room_of}
 use Rattle.mgs_session.specs.declared.Session.{Session}
 use Rattle.mgs_world.specs.Worlds.{buffers_of, window_shown, window_of, world_of, session_of}
 use Rattle.mgs_screen.specs.Screens as screens
-use Rattle.mgs_screen.specs.Screens.{shown_to, window_to, windows_to, heading_to, spot_rows, spot_cursor}
+use Rattle.mgs_screen.specs.Screens.{shown_to, window_to, windows_to, heading_to, window_marks_rows, window_marks_cursor}
 use Rattle.mgs_model.specs.declared.entry.Decision.{Decision}
 use Rattle.mgs_world.specs.Sound.{IsWindowSound}
 use Rattle.mgs_world.proofs.Soundness.{mark_is_kept, window_point}
@@ -42,7 +42,7 @@ take_put first new old fits =
     let n : length (take first old ++ new) ≡ first + length new = omega (arith, length-append (take first old) new, length-take first old, fits) in
     ap (λ (k : ℕ). take k (rows_put first new old)) (sym n) ∙ take-append_seam (take first old ++ new) (drop (first + length new) old)
 
--- what stands behind it
+-- what stands after it
 drop_put : (first k : ℕ) (new old : List Row) → first + length new ≤ length old → drop (first + length new + k) (rows_put first new old) ≡ drop (first + length new + k) old
 drop_put first k new old fits =
     let n : length (take first old ++ new) + k ≡ first + length new + k = omega (arith, length-append (take first old) new, length-take first old, fits) in
@@ -110,54 +110,54 @@ text_drawn selected cols height heading text point top line row place start shif
     ∙ ap (λ (n : ℕ). pane_rows selected cols height text top point ++ mode_row cols (buffer_mode heading (Some (n + 1, place))) ∷ []) is.line_is
     ∙ ap (λ (n : ℕ). pane_rows selected cols height text top point ++ mode_row cols (buffer_mode heading (Some (line_of text point + 1, n))) ∷ []) is.place_is
 
-pub spot_drawn : (selected : Bool) (cols height : ℕ) (ks : List Kept) (heading : Option (List ℕ × Bool)) (x : Spot) (text : List ℕ) (point top : ℕ) → text ≡ (kept_at x.name ks).buffer.text → point ≡ mark_at x.name ks x.point → top ≡ mark_at x.name ks x.top
-    → pane_rows selected cols height text top point ++ mode_row cols (buffer_mode heading (place_of text point)) ∷ [] ≡ spot_rows selected cols height ks heading x
-spot_drawn selected cols height ks heading x text point top t p q =
+pub window_marks_drawn : (selected : Bool) (cols height : ℕ) (ks : List MarkedBuffer) (heading : Option (List ℕ × Bool)) (x : WindowMarks) (text : List ℕ) (point top : ℕ) → text ≡ (marked_at x.name ks).buffer.text → point ≡ mark_at x.name ks x.point → top ≡ mark_at x.name ks x.top
+    → pane_rows selected cols height text top point ++ mode_row cols (buffer_mode heading (place_of text point)) ∷ [] ≡ window_marks_rows selected cols height ks heading x
+window_marks_drawn selected cols height ks heading x text point top t p q =
     ap (λ (ys : List ℕ). pane_rows selected cols height ys top point ++ mode_row cols (buffer_mode heading (place_of ys point)) ∷ []) t
-    ∙ ap (λ (n : ℕ). pane_rows selected cols height (kept_at x.name ks).buffer.text top n ++ mode_row cols (buffer_mode heading (place_of (kept_at x.name ks).buffer.text n)) ∷ []) p
-    ∙ ap (λ (n : ℕ). pane_rows selected cols height (kept_at x.name ks).buffer.text n (mark_at x.name ks x.point) ++ mode_row cols (buffer_mode heading (place_of (kept_at x.name ks).buffer.text (mark_at x.name ks x.point))) ∷ []) q
+    ∙ ap (λ (n : ℕ). pane_rows selected cols height (marked_at x.name ks).buffer.text top n ++ mode_row cols (buffer_mode heading (place_of (marked_at x.name ks).buffer.text n)) ∷ []) p
+    ∙ ap (λ (n : ℕ). pane_rows selected cols height (marked_at x.name ks).buffer.text n (mark_at x.name ks x.point) ++ mode_row cols (buffer_mode heading (place_of (marked_at x.name ks).buffer.text (mark_at x.name ks x.point))) ∷ []) q
 
-pub cursor_drawn : (cols height : ℕ) (ks : List Kept) (x : Spot) (text : List ℕ) (point top line row place start down right : ℕ) → text ≡ (kept_at x.name ks).buffer.text → point ≡ mark_at x.name ks x.point → top ≡ mark_at x.name ks x.top
+pub cursor_drawn : (cols height : ℕ) (ks : List MarkedBuffer) (x : WindowMarks) (text : List ℕ) (point top line row place start down right : ℕ) → text ≡ (marked_at x.name ks).buffer.text → point ≡ mark_at x.name ks x.point → top ≡ mark_at x.name ks x.top
     → IsMeasured text point top line row place start → down ≡ min row (height - 1) → right ≡ place - shift_for cols place
-    → ◌≡◌ {A = ℕ × ℕ} (down, right) (spot_cursor cols height ks x)
+    → ◌≡◌ {A = ℕ × ℕ} (down, right) (window_marks_cursor cols height ks x)
 cursor_drawn cols height ks x text point top line row place start down right t p q is low far =
     let d : down ≡ min (height - 1) (point_row text top point) = low ∙ min_comm row (height - 1) ∙ ap (min (height - 1)) is.row_is in
     let r : right ≡ column text point - shift_for cols (column text point) = far ∙ ap (λ (n : ℕ). n - shift_for cols n) is.place_is in
     ap (λ (n : ℕ). let c : ℕ × ℕ = (n, right) in c) d
     ∙ ap (λ (n : ℕ). let c : ℕ × ℕ = (min (height - 1) (point_row text top point), n) in c) r
     ∙ ap (λ (ys : List ℕ). let c : ℕ × ℕ = (min (height - 1) (point_row ys top point), column ys point - shift_for cols (column ys point)) in c) t
-    ∙ ap (λ (n : ℕ). let ys : List ℕ = (kept_at x.name ks).buffer.text in let c : ℕ × ℕ = (min (height - 1) (point_row ys top n), column ys n - shift_for cols (column ys n)) in c) p
-    ∙ ap (λ (n : ℕ). let ys : List ℕ = (kept_at x.name ks).buffer.text in let c : ℕ × ℕ = (min (height - 1) (point_row ys n (mark_at x.name ks x.point)), column ys (mark_at x.name ks x.point) - shift_for cols (column ys (mark_at x.name ks x.point))) in c) q
+    ∙ ap (λ (n : ℕ). let ys : List ℕ = (marked_at x.name ks).buffer.text in let c : ℕ × ℕ = (min (height - 1) (point_row ys top n), column ys n - shift_for cols (column ys n)) in c) p
+    ∙ ap (λ (n : ℕ). let ys : List ℕ = (marked_at x.name ks).buffer.text in let c : ℕ × ℕ = (min (height - 1) (point_row ys n (mark_at x.name ks x.point)), column ys (mark_at x.name ks x.point) - shift_for cols (column ys (mark_at x.name ks x.point))) in c) q
 
 -- THE BUFFER OF A WINDOW
 
-found_shown : (d : Directory) (user : List ℕ) (ks : List Kept) (name : List ℕ) → IsKept name ks → find_shown name (shown_to d user ks) ≡ Some (shown_of (buffer_seen d user (kept_at name ks).buffer))
+found_shown : (d : Directory) (user : List ℕ) (ks : List MarkedBuffer) (name : List ℕ) → HasBuffer name ks → find_shown name (shown_to d user ks) ≡ Some (shown_of (buffer_seen d user (marked_at name ks).buffer))
 found_shown d user ks name kept =
     find-map shown_of (λ (b : BufferSeen). same_name name b.name) (λ (b : Shown). same_name name b.key) (λ b. refl) (map (buffer_seen d user) (buffers_of ks))
     ∙ ap (option_map shown_of) (found_seen d user name ks kept)
 
-reads_kept : (d : Directory) (user : List ℕ) (ks : List Kept) (name : List ℕ) → IsKept name ks → reads d (buffers_of ks) user name ≡ may d user ReadData (kept_at name ks).buffer
+reads_kept : (d : Directory) (user : List ℕ) (ks : List MarkedBuffer) (name : List ℕ) → HasBuffer name ks → reads d (buffers_of ks) user name ≡ may d user ReadData (marked_at name ks).buffer
 reads_kept d user ks name kept = ap (reads_found d user) (found_buffer name ks kept)
 
 -- a window that shows a buffer, where it may be read or not
-abbrev spot_seen : Bool → List Kept → ℕ → Spot → WindowSeen
-spot_seen can ks height x = record { shows = Buffer_of x.name; row = 0; height = height; spots = spots_if can (mark_at x.name ks x.point) (option_map (mark_at x.name ks) x.mark) (mark_at x.name ks x.top) }
+abbrev window_marks_seen : Bool → List MarkedBuffer → ℕ → WindowMarks → WindowSeen
+window_marks_seen can ks height x = record { shows = Buffer_of x.name; row = 0; height = height; all_window_marks = all_window_marks_if can (mark_at x.name ks x.point) (option_map (mark_at x.name ks) x.mark) (mark_at x.name ks x.top) }
 
 -- what is made of a window and of the buffer that it finds
-seen_as : {X : Type 0} (make : WindowSeen → Option Shown → X) (d : Directory) (user : List ℕ) (ks : List Kept) (height : ℕ) (x : Spot) → IsKept x.name ks
-    → make (spot_seen (reads d (buffers_of ks) user x.name) ks height x) (find_shown x.name (shown_to d user ks))
-    ≡ make (spot_seen (may d user ReadData (kept_at x.name ks).buffer) ks height x) (Some (shown_of (buffer_seen d user (kept_at x.name ks).buffer)))
+seen_as : {X : Type 0} (make : WindowSeen → Option Shown → X) (d : Directory) (user : List ℕ) (ks : List MarkedBuffer) (height : ℕ) (x : WindowMarks) → HasBuffer x.name ks
+    → make (window_marks_seen (reads d (buffers_of ks) user x.name) ks height x) (find_shown x.name (shown_to d user ks))
+    ≡ make (window_marks_seen (may d user ReadData (marked_at x.name ks).buffer) ks height x) (Some (shown_of (buffer_seen d user (marked_at x.name ks).buffer)))
 seen_as make d user ks height x kept =
-    ap (λ (can : Bool). make (spot_seen can ks height x) (find_shown x.name (shown_to d user ks))) (reads_kept d user ks x.name kept)
-    ∙ ap (λ (o : Option Shown). make (spot_seen (may d user ReadData (kept_at x.name ks).buffer) ks height x) o) (found_shown d user ks x.name kept)
+    ap (λ (can : Bool). make (window_marks_seen can ks height x) (find_shown x.name (shown_to d user ks))) (reads_kept d user ks x.name kept)
+    ∙ ap (λ (o : Option Shown). make (window_marks_seen (may d user ReadData (marked_at x.name ks).buffer) ks height x) o) (found_shown d user ks x.name kept)
 
 -- a right that is granted is some right
 some_right : (deciders : Right → Decider) → allows (deciders ReadAttributes) ≡ true → any_right deciders ≡ true
 some_right deciders is = list_any_at (λ (right : Right). allows (deciders right)) all_rights 3 ReadAttributes (omega arith) is
 
-heading_seen : (d : Directory) (user : List ℕ) (ks : List Kept) (name : List ℕ) → IsKept name ks → heading_of (shown_of (buffer_seen d user (kept_at name ks).buffer)).attributes ≡ heading_to d user ks name
+heading_seen : (d : Directory) (user : List ℕ) (ks : List MarkedBuffer) (name : List ℕ) → HasBuffer name ks → heading_of (shown_of (buffer_seen d user (marked_at name ks).buffer)).attributes ≡ heading_to d user ks name
 heading_seen d user ks name kept =
-    let b : Buffer = (kept_at name ks).buffer in
+    let b : Buffer = (marked_at name ks).buffer in
     let deciders : Right → Decider = decider d b.owner user b.entries in
     let goal : Bool → Type 0 = λ r. heading_of (attributes_seen r b.name (told_if (any_right deciders) b)) ≡ (if r then Some (name, b.modified) else None) in
     let go : (r : Bool) → allows (deciders ReadAttributes) ≡ r → goal r = λ r. elim r as (λ r. allows (deciders ReadAttributes) ≡ r → goal r) [
@@ -168,110 +168,110 @@ heading_seen d user ks name kept =
 
 -- WHAT A WINDOW SHOWS
 
-rows_read : (selected : Bool) (cols : ℕ) (d : Directory) (user : List ℕ) (ks : List Kept) (height : ℕ) (x : Spot) → IsKept x.name ks → may d user ReadData (kept_at x.name ks).buffer ≡ true
-    → window_rows selected cols (shown_to d user ks) (spot_seen (reads d (buffers_of ks) user x.name) ks height x) ≡ spot_rows selected cols height ks (heading_to d user ks x.name) x
+rows_read : (selected : Bool) (cols : ℕ) (d : Directory) (user : List ℕ) (ks : List MarkedBuffer) (height : ℕ) (x : WindowMarks) → HasBuffer x.name ks → may d user ReadData (marked_at x.name ks).buffer ≡ true
+    → window_rows selected cols (shown_to d user ks) (window_marks_seen (reads d (buffers_of ks) user x.name) ks height x) ≡ window_marks_rows selected cols height ks (heading_to d user ks x.name) x
 rows_read selected cols d user ks height x kept can =
-    let b : Buffer = (kept_at x.name ks).buffer in
+    let b : Buffer = (marked_at x.name ks).buffer in
     let s : Shown = shown_of (buffer_seen d user b) in
     seen_as (found_rows selected cols) d user ks height x kept
-    ∙ ap (λ (r : Bool). buffer_rows selected cols (spot_seen r ks height x) s (text_seen r (decision_by (decider d b.owner user b.entries) (ReadData ∷ [])) (text_in (full_if r b)))) can
-    ∙ ap (λ (h : Option (List ℕ × Bool)). spot_rows selected cols height ks h x) (heading_seen d user ks x.name kept)
+    ∙ ap (λ (r : Bool). buffer_rows selected cols (window_marks_seen r ks height x) s (text_seen r (decision_by (decider d b.owner user b.entries) (ReadData ∷ [])) (text_in (full_if r b)))) can
+    ∙ ap (λ (h : Option (List ℕ × Bool)). window_marks_rows selected cols height ks h x) (heading_seen d user ks x.name kept)
 
-rows_unread : (selected : Bool) (cols : ℕ) (d : Directory) (user : List ℕ) (ks : List Kept) (height : ℕ) (x : Spot) → IsKept x.name ks → may d user ReadData (kept_at x.name ks).buffer ≡ false
-    → window_rows selected cols (shown_to d user ks) (spot_seen (reads d (buffers_of ks) user x.name) ks height x)
-    ≡ unread_rows cols height (decision_by (decider d (kept_at x.name ks).buffer.owner user (kept_at x.name ks).buffer.entries) (ReadData ∷ [])) ++ mode_row cols (buffer_mode (heading_to d user ks x.name) None) ∷ []
+rows_unread : (selected : Bool) (cols : ℕ) (d : Directory) (user : List ℕ) (ks : List MarkedBuffer) (height : ℕ) (x : WindowMarks) → HasBuffer x.name ks → may d user ReadData (marked_at x.name ks).buffer ≡ false
+    → window_rows selected cols (shown_to d user ks) (window_marks_seen (reads d (buffers_of ks) user x.name) ks height x)
+    ≡ unread_rows cols height (decision_by (decider d (marked_at x.name ks).buffer.owner user (marked_at x.name ks).buffer.entries) (ReadData ∷ [])) ++ mode_row cols (buffer_mode (heading_to d user ks x.name) None) ∷ []
 rows_unread selected cols d user ks height x kept can =
-    let b : Buffer = (kept_at x.name ks).buffer in
+    let b : Buffer = (marked_at x.name ks).buffer in
     let s : Shown = shown_of (buffer_seen d user b) in
     let decision = decision_by (decider d b.owner user b.entries) (ReadData ∷ []) in
     seen_as (found_rows selected cols) d user ks height x kept
-    ∙ ap (λ (r : Bool). buffer_rows selected cols (spot_seen r ks height x) s (text_seen r decision (text_in (full_if r b)))) can
+    ∙ ap (λ (r : Bool). buffer_rows selected cols (window_marks_seen r ks height x) s (text_seen r decision (text_in (full_if r b)))) can
     ∙ ap (λ (h : Option (List ℕ × Bool)). unread_rows cols height decision ++ mode_row cols (buffer_mode h None) ∷ []) (heading_seen d user ks x.name kept)
 
-cursor_read : (cols : ℕ) (d : Directory) (user : List ℕ) (ks : List Kept) (height : ℕ) (x : Spot) → IsKept x.name ks → may d user ReadData (kept_at x.name ks).buffer ≡ true
-    → window_cursor cols (shown_to d user ks) (Some (spot_seen (reads d (buffers_of ks) user x.name) ks height x)) ≡ spot_cursor cols height ks x
+cursor_read : (cols : ℕ) (d : Directory) (user : List ℕ) (ks : List MarkedBuffer) (height : ℕ) (x : WindowMarks) → HasBuffer x.name ks → may d user ReadData (marked_at x.name ks).buffer ≡ true
+    → window_cursor cols (shown_to d user ks) (Some (window_marks_seen (reads d (buffers_of ks) user x.name) ks height x)) ≡ window_marks_cursor cols height ks x
 cursor_read cols d user ks height x kept can =
-    let b : Buffer = (kept_at x.name ks).buffer in
+    let b : Buffer = (marked_at x.name ks).buffer in
     seen_as (found_cursor cols) d user ks height x kept
-    ∙ ap (λ (r : Bool). text_cursor cols (spot_seen r ks height x) (text_seen r (decision_by (decider d b.owner user b.entries) (ReadData ∷ [])) (text_in (full_if r b)))) can
+    ∙ ap (λ (r : Bool). text_cursor cols (window_marks_seen r ks height x) (text_seen r (decision_by (decider d b.owner user b.entries) (ReadData ∷ [])) (text_in (full_if r b)))) can
 
-cursor_unread : (cols : ℕ) (d : Directory) (user : List ℕ) (ks : List Kept) (height : ℕ) (x : Spot) → IsKept x.name ks → may d user ReadData (kept_at x.name ks).buffer ≡ false
-    → window_cursor cols (shown_to d user ks) (Some (spot_seen (reads d (buffers_of ks) user x.name) ks height x)) ≡ (0, 0)
+cursor_unread : (cols : ℕ) (d : Directory) (user : List ℕ) (ks : List MarkedBuffer) (height : ℕ) (x : WindowMarks) → HasBuffer x.name ks → may d user ReadData (marked_at x.name ks).buffer ≡ false
+    → window_cursor cols (shown_to d user ks) (Some (window_marks_seen (reads d (buffers_of ks) user x.name) ks height x)) ≡ (0, 0)
 cursor_unread cols d user ks height x kept can =
-    let b : Buffer = (kept_at x.name ks).buffer in
+    let b : Buffer = (marked_at x.name ks).buffer in
     seen_as (found_cursor cols) d user ks height x kept
-    ∙ ap (λ (r : Bool). text_cursor cols (spot_seen r ks height x) (text_seen r (decision_by (decider d b.owner user b.entries) (ReadData ∷ [])) (text_in (full_if r b)))) can
+    ∙ ap (λ (r : Bool). text_cursor cols (window_marks_seen r ks height x) (text_seen r (decision_by (decider d b.owner user b.entries) (ReadData ∷ [])) (text_in (full_if r b)))) can
 
 -- a window by what it shows
-abbrev window_showing : Directory → List ℕ → List Kept → ℕ → Option Spot → WindowSeen
+abbrev window_showing : Directory → List ℕ → List MarkedBuffer → ℕ → Option WindowMarks → WindowSeen
 window_showing d user ks height o = window_seen (reads d (buffers_of ks) user) (window_shown ks height o)
 
-window_none : (selected : Bool) (cols : ℕ) (d : Directory) (user : List ℕ) (ks : List Kept) (w : Window) → w.shows ≡ None → window_rows selected cols (shown_to d user ks) (window_to d user ks w) ≡ blank_rows cols w.height ++ mode_row cols none_mode ∷ []
-window_none selected cols d user ks w is = ap (λ (o : Option Spot). window_rows selected cols (shown_to d user ks) (window_showing d user ks w.height o)) is
+window_none : (selected : Bool) (cols : ℕ) (d : Directory) (user : List ℕ) (ks : List MarkedBuffer) (w : Window) → w.shows ≡ None → window_rows selected cols (shown_to d user ks) (window_to d user ks w) ≡ blank_rows cols w.height ++ mode_row cols none_mode ∷ []
+window_none selected cols d user ks w is = ap (λ (o : Option WindowMarks). window_rows selected cols (shown_to d user ks) (window_showing d user ks w.height o)) is
 
-pub window_read : (selected : Bool) (cols : ℕ) (d : Directory) (user : List ℕ) (ks : List Kept) (w : Window) (x : Spot) → w.shows ≡ Some x → IsKept x.name ks → may d user ReadData (kept_at x.name ks).buffer ≡ true
-    → window_rows selected cols (shown_to d user ks) (window_to d user ks w) ≡ spot_rows selected cols w.height ks (heading_to d user ks x.name) x
+pub window_read : (selected : Bool) (cols : ℕ) (d : Directory) (user : List ℕ) (ks : List MarkedBuffer) (w : Window) (x : WindowMarks) → w.shows ≡ Some x → HasBuffer x.name ks → may d user ReadData (marked_at x.name ks).buffer ≡ true
+    → window_rows selected cols (shown_to d user ks) (window_to d user ks w) ≡ window_marks_rows selected cols w.height ks (heading_to d user ks x.name) x
 window_read selected cols d user ks w x is kept can =
-    ap (λ (o : Option Spot). window_rows selected cols (shown_to d user ks) (window_showing d user ks w.height o)) is
+    ap (λ (o : Option WindowMarks). window_rows selected cols (shown_to d user ks) (window_showing d user ks w.height o)) is
     ∙ rows_read selected cols d user ks w.height x kept can
 
-pub window_cursor_read : (cols : ℕ) (d : Directory) (user : List ℕ) (ks : List Kept) (w : Window) (x : Spot) → w.shows ≡ Some x → IsKept x.name ks → may d user ReadData (kept_at x.name ks).buffer ≡ true
-    → window_cursor cols (shown_to d user ks) (Some (window_to d user ks w)) ≡ spot_cursor cols w.height ks x
+pub window_cursor_read : (cols : ℕ) (d : Directory) (user : List ℕ) (ks : List MarkedBuffer) (w : Window) (x : WindowMarks) → w.shows ≡ Some x → HasBuffer x.name ks → may d user ReadData (marked_at x.name ks).buffer ≡ true
+    → window_cursor cols (shown_to d user ks) (Some (window_to d user ks w)) ≡ window_marks_cursor cols w.height ks x
 window_cursor_read cols d user ks w x is kept can =
-    ap (λ (o : Option Spot). window_cursor cols (shown_to d user ks) (Some (window_showing d user ks w.height o))) is
+    ap (λ (o : Option WindowMarks). window_cursor cols (shown_to d user ks) (Some (window_showing d user ks w.height o))) is
     ∙ cursor_read cols d user ks w.height x kept can
 
-pub window_unread : (selected : Bool) (cols : ℕ) (d : Directory) (user : List ℕ) (ks : List Kept) (w : Window) (x : Spot) → w.shows ≡ Some x → IsKept x.name ks → may d user ReadData (kept_at x.name ks).buffer ≡ false
+pub window_unread : (selected : Bool) (cols : ℕ) (d : Directory) (user : List ℕ) (ks : List MarkedBuffer) (w : Window) (x : WindowMarks) → w.shows ≡ Some x → HasBuffer x.name ks → may d user ReadData (marked_at x.name ks).buffer ≡ false
     → window_rows selected cols (shown_to d user ks) (window_to d user ks w)
-    ≡ unread_rows cols w.height (decision_by (decider d (kept_at x.name ks).buffer.owner user (kept_at x.name ks).buffer.entries) (ReadData ∷ [])) ++ mode_row cols (buffer_mode (heading_to d user ks x.name) None) ∷ []
+    ≡ unread_rows cols w.height (decision_by (decider d (marked_at x.name ks).buffer.owner user (marked_at x.name ks).buffer.entries) (ReadData ∷ [])) ++ mode_row cols (buffer_mode (heading_to d user ks x.name) None) ∷ []
 window_unread selected cols d user ks w x is kept can =
-    ap (λ (o : Option Spot). window_rows selected cols (shown_to d user ks) (window_showing d user ks w.height o)) is
+    ap (λ (o : Option WindowMarks). window_rows selected cols (shown_to d user ks) (window_showing d user ks w.height o)) is
     ∙ rows_unread selected cols d user ks w.height x kept can
 
-pub window_cursor_unread : (cols : ℕ) (d : Directory) (user : List ℕ) (ks : List Kept) (w : Window) (x : Spot) → w.shows ≡ Some x → IsKept x.name ks → may d user ReadData (kept_at x.name ks).buffer ≡ false
+pub window_cursor_unread : (cols : ℕ) (d : Directory) (user : List ℕ) (ks : List MarkedBuffer) (w : Window) (x : WindowMarks) → w.shows ≡ Some x → HasBuffer x.name ks → may d user ReadData (marked_at x.name ks).buffer ≡ false
     → window_cursor cols (shown_to d user ks) (Some (window_to d user ks w)) ≡ (0, 0)
 window_cursor_unread cols d user ks w x is kept can =
-    ap (λ (o : Option Spot). window_cursor cols (shown_to d user ks) (Some (window_showing d user ks w.height o))) is
+    ap (λ (o : Option WindowMarks). window_cursor cols (shown_to d user ks) (Some (window_showing d user ks w.height o))) is
     ∙ cursor_unread cols d user ks w.height x kept can
 
 -- THE WINDOWS OF A SESSION
 
 -- what a window shows is kept
-pub shown_kept : (ks : List Kept) (w : Window) (x : Spot) → IsWindowSound ks w → w.shows ≡ Some x → IsKept x.name ks
+pub shown_kept : (ks : List MarkedBuffer) (w : Window) (x : WindowMarks) → IsWindowSound ks w → w.shows ≡ Some x → HasBuffer x.name ks
 shown_kept ks w x sound is = mark_is_kept x.name x.point ks (window_point ks w x sound is)
 
 -- as many rows as a window has
-length_spot : (selected : Bool) (cols height : ℕ) (ks : List Kept) (heading : Option (List ℕ × Bool)) (x : Spot) → length (spot_rows selected cols height ks heading x) ≡ height + 1
-length_spot selected cols height ks heading x =
-    let text : List ℕ = (kept_at x.name ks).buffer.text in
+length_window_marks : (selected : Bool) (cols height : ℕ) (ks : List MarkedBuffer) (heading : Option (List ℕ × Bool)) (x : WindowMarks) → length (window_marks_rows selected cols height ks heading x) ≡ height + 1
+length_window_marks selected cols height ks heading x =
+    let text : List ℕ = (marked_at x.name ks).buffer.text in
     let top : ℕ = mark_at x.name ks x.top in
     let point : ℕ = mark_at x.name ks x.point in
     let mode : Row = mode_row cols (buffer_mode heading (place_of text point)) in
     let pane : List Row = pane_rows selected cols height text top point in
     omega (arith, length-append pane (mode ∷ []), length-text_rows cols (shift_at (point_row text top point) (point_shift selected cols text point)) 0 height (drop (line_start text top) text))
 
-pub length_window : (selected : Bool) (cols : ℕ) (d : Directory) (user : List ℕ) (ks : List Kept) (w : Window) → IsWindowSound ks w → length (window_rows selected cols (shown_to d user ks) (window_to d user ks w)) ≡ w.height + 1
+pub length_window : (selected : Bool) (cols : ℕ) (d : Directory) (user : List ℕ) (ks : List MarkedBuffer) (w : Window) → IsWindowSound ks w → length (window_rows selected cols (shown_to d user ks) (window_to d user ks w)) ≡ w.height + 1
 length_window selected cols d user ks w sound =
     let goal : Type 0 = length (window_rows selected cols (shown_to d user ks) (window_to d user ks w)) ≡ w.height + 1 in
-    let read : (x : Spot) → w.shows ≡ Some x → (r : Bool) → may d user ReadData (kept_at x.name ks).buffer ≡ r → goal =
+    let read : (x : WindowMarks) → w.shows ≡ Some x → (r : Bool) → may d user ReadData (marked_at x.name ks).buffer ≡ r → goal =
     λ x. λ is.
-    let kept : IsKept x.name ks = shown_kept ks w x sound is in
-    let decision : Decision = decision_by (decider d (kept_at x.name ks).buffer.owner user (kept_at x.name ks).buffer.entries) (ReadData ∷ []) in
+    let kept : HasBuffer x.name ks = shown_kept ks w x sound is in
+    let decision : Decision = decision_by (decider d (marked_at x.name ks).buffer.owner user (marked_at x.name ks).buffer.entries) (ReadData ∷ []) in
     let mode : List Row = mode_row cols (buffer_mode (heading_to d user ks x.name) None) ∷ [] in
-    λ r. elim r as (λ r. may d user ReadData (kept_at x.name ks).buffer ≡ r → goal) [
-      | true ↦ λ can. ap (λ (rows : List Row). length rows) (window_read selected cols d user ks w x is kept can) ∙ length_spot selected cols w.height ks (heading_to d user ks x.name) x
+    λ r. elim r as (λ r. may d user ReadData (marked_at x.name ks).buffer ≡ r → goal) [
+      | true ↦ λ can. ap (λ (rows : List Row). length rows) (window_read selected cols d user ks w x is kept can) ∙ length_window_marks selected cols w.height ks (heading_to d user ks x.name) x
       | false ↦ λ can. ap (λ (rows : List Row). length rows) (window_unread selected cols d user ks w x is kept can)
           ∙ omega (arith, length-append (unread_rows cols w.height decision) mode, length-unread_rows cols w.height decision)
     ] in
-    let go : (o : Option Spot) → w.shows ≡ o → goal = λ o. elim o as (λ o. w.shows ≡ o → goal) [
+    let go : (o : Option WindowMarks) → w.shows ≡ o → goal = λ o. elim o as (λ o. w.shows ≡ o → goal) [
       | None ↦ λ is. ap (λ (rows : List Row). length rows) (window_none selected cols d user ks w is)
           ∙ omega (arith, length-append (blank_rows cols w.height) (mode_row cols none_mode ∷ []), length-blank_rows cols w.height)
-      | Some x ↦ λ is. read x is (may d user ReadData (kept_at x.name ks).buffer) refl
+      | Some x ↦ λ is. read x is (may d user ReadData (marked_at x.name ks).buffer) refl
     ] in
     go w.shows refl
 
 -- one more window is drawn below those before it
-pub rows_more : (d : Directory) (user : List ℕ) (ks : List Kept) (cols selected i first : ℕ) (ws : List Window) (w : Window) (old new : List Row) (rows : List Row)
+pub rows_more : (d : Directory) (user : List ℕ) (ks : List MarkedBuffer) (cols selected i first : ℕ) (ws : List Window) (w : Window) (old new : List Row) (rows : List Row)
     → w ≡ get_or ws i w → i < length ws → first + (w.height + 1) ≤ length old
     → length (window_rows (nat_eq i selected) cols (shown_to d user ks) (window_to d user ks w)) ≡ w.height + 1
     → new ≡ rows_put first (window_rows (nat_eq i selected) cols (shown_to d user ks) (window_to d user ks w)) old
@@ -297,7 +297,7 @@ cursor_from i selected cols S first cursor (x ∷ xs) =
     cursor_from (i + 1) selected cols S (first + (x.height + 1))
     (if nat_eq i selected then (first + (window_cursor cols S (Some x)).0, (window_cursor cols S (Some x)).1) else cursor) xs
 
--- behind the selected window it stays
+-- after the selected window it stays
 cursor_stays : (selected cols : ℕ) (S : List Shown) (i first : ℕ) (cursor : ℕ × ℕ) (xs : List WindowSeen) → selected < i → cursor_from i selected cols S first cursor xs ≡ cursor
 cursor_stays selected cols S i first cursor [] past = refl
 cursor_stays selected cols S i first cursor (x ∷ xs) past =
@@ -319,12 +319,12 @@ cursor_at cols S (suc n) i selected first cursor (x ∷ xs) at within =
     cursor_at cols S n (i + 1) selected (first + (x.height + 1)) cursor xs (omega (arith, at)) (omega (arith, within))
     ∙ ap (λ (k : ℕ). let p : ℕ × ℕ = (k, c.1) in p) sum)
 
-height_shown : (ks : List Kept) (height : ℕ) (o : Option Spot) → (window_shown ks height o).height ≡ height
+height_shown : (ks : List MarkedBuffer) (height : ℕ) (o : Option WindowMarks) → (window_shown ks height o).height ≡ height
 height_shown ks height None = refl
 height_shown ks height (Some x) = refl
 
 -- one more window
-pub cursor_more : (d : Directory) (user : List ℕ) (ks : List Kept) (cols selected i first : ℕ) (ws : List Window) (w : Window) (old new c mine : ℕ × ℕ)
+pub cursor_more : (d : Directory) (user : List ℕ) (ks : List MarkedBuffer) (cols selected i first : ℕ) (ws : List Window) (w : Window) (old new c mine : ℕ × ℕ)
     → w ≡ get_or ws i w → i < length ws → mine ≡ window_cursor cols (shown_to d user ks) (Some (window_to d user ks w))
     → new ≡ (if nat_eq i selected then (first + mine.0, mine.1) else old)
     → cursor_from i selected cols (shown_to d user ks) first old (windows_to d user ks (drop i ws)) ≡ c
@@ -339,7 +339,7 @@ cursor_more d user ks cols selected i first ws w old new c mine is within its he
     ∙ sym (ap (λ (vs : List Window). cursor_from i selected cols S first old (windows_to d user ks vs)) next)
     ∙ so_far
 
-length_windows : (d : Directory) (user : List ℕ) (ks : List Kept) (ws : List Window) → length (windows_to d user ks ws) ≡ length ws
+length_windows : (d : Directory) (user : List ℕ) (ks : List MarkedBuffer) (ws : List Window) → length (windows_to d user ks ws) ≡ length ws
 length_windows d user ks ws = length-map (map (window_of ks) ws) (window_seen (reads d (buffers_of ks) user)) ∙ length-map ws (window_of ks)
 
 -- the cursor of the selected window
@@ -347,7 +347,7 @@ abbrev pub cursor_of : ℕ → ℕ → List Shown → List WindowSeen → ℕ ×
 cursor_of selected cols S xs = (first_row selected xs + (window_cursor cols S (slice_get xs selected)).0, (window_cursor cols S (slice_get xs selected)).1)
 
 -- after all windows it is there
-pub cursor_all : (d : Directory) (user : List ℕ) (ks : List Kept) (cols selected i first : ℕ) (ws : List Window) (cursor : ℕ × ℕ) → selected < length ws → length ws ≤ i
+pub cursor_all : (d : Directory) (user : List ℕ) (ks : List MarkedBuffer) (cols selected i first : ℕ) (ws : List Window) (cursor : ℕ × ℕ) → selected < length ws → length ws ≤ i
     → cursor_from i selected cols (shown_to d user ks) first cursor (windows_to d user ks (drop i ws)) ≡ cursor_from 0 selected cols (shown_to d user ks) 0 (0, 0) (windows_to d user ks ws)
     → cursor ≡ cursor_of selected cols (shown_to d user ks) (windows_to d user ks ws)
 cursor_all d user ks cols selected i first ws cursor within past so_far =
@@ -361,7 +361,7 @@ cursor_all d user ks cols selected i first ws cursor within past so_far =
     ∙ ap (λ (n : ℕ). let p : ℕ × ℕ = (n, c.1) in p) sum
 
 -- and the rows are all there, but for the echo row
-pub rows_all : (d : Directory) (user : List ℕ) (ks : List Kept) (cols selected i first : ℕ) (ws : List Window) (old rows : List Row) (echo : Row) → length ws ≤ i → first + room_of (drop i ws) + 1 ≡ length old
+pub rows_all : (d : Directory) (user : List ℕ) (ks : List MarkedBuffer) (cols selected i first : ℕ) (ws : List Window) (old rows : List Row) (echo : Row) → length ws ≤ i → first + room_of (drop i ws) + 1 ≡ length old
     → take first old ++ windows_rows i selected cols (shown_to d user ks) (windows_to d user ks (drop i ws)) ≡ rows
     → rows_put first (echo ∷ []) old ≡ rows ++ echo ∷ []
 rows_all d user ks cols selected i first ws old rows echo past room so_far =
@@ -377,7 +377,7 @@ rows_all d user ks cols selected i first ws old rows echo past room so_far =
 
 -- THE SCREEN
 
-screen_is : (d : Directory) (ks : List Kept) (x : Session) (sessions : List Session) (next : Option ℕ) (p : Picture)
+screen_is : (d : Directory) (ks : List MarkedBuffer) (x : Session) (sessions : List Session) (next : Option ℕ) (p : Picture)
     → p.rows ≡ x.windows.rows → p.cols ≡ x.cols
     → p.lines ≡ windows_rows 0 x.windows.selected x.cols (shown_to d x.user ks) (windows_to d x.user ks x.windows.windows) ++ echo_row x.cols x.echo ∷ []
     → p.row ≡ (cursor_of x.windows.selected x.cols (shown_to d x.user ks) (windows_to d x.user ks x.windows.windows)).0
@@ -393,7 +393,7 @@ screen_is d ks x sessions next p rows cols lines row col =
     ∙ ap (λ (n : ℕ). let q : Picture = record { rows = x.windows.rows; cols = x.cols; lines = s.lines; row = s.row; col = n } in q) col
 
 -- the same, where the windows, the selected one and the columns are read off the session first
-pub session_drawn : (d : Directory) (ks : List Kept) (x : Session) (sessions : List Session) (next : Option ℕ) (ws : List Window) (selected cols : ℕ) (cursor : ℕ × ℕ) (p : Picture)
+pub session_drawn : (d : Directory) (ks : List MarkedBuffer) (x : Session) (sessions : List Session) (next : Option ℕ) (ws : List Window) (selected cols : ℕ) (cursor : ℕ × ℕ) (p : Picture)
     → ws ≡ x.windows.windows → selected ≡ x.windows.selected → cols ≡ x.cols
     → p.rows ≡ x.windows.rows → p.cols ≡ cols
     → p.lines ≡ windows_rows 0 selected cols (shown_to d x.user ks) (windows_to d x.user ks ws) ++ echo_row cols x.echo ∷ []

@@ -8,8 +8,8 @@ use Rattle.mgs_model.specs.View.{WindowSeen, buffer_seen, window_seen, reads}
 use Rattle.mgs_model.specs.Seen.{Shown, shown_of}
 use Rattle.mgs_model.specs.Draw.{pane_rows, place_of, point_row}
 use Rattle.mgs_model.specs.declared.right.Right.TheVariants.{ReadAttributes}
-use Rattle.mgs_buffers.specs.Kept.{Kept, kept_at, mark_at}
-use Rattle.mgs_windows.specs.declared.Spot.{Spot}
+use Rattle.mgs_buffers.specs.MarkedBuffer.{MarkedBuffer, marked_at, mark_at}
+use Rattle.mgs_windows.specs.declared.WindowMarks.{WindowMarks}
 use Rattle.mgs_windows.specs.declared.Window.{Window}
 use Rattle.mgs_world.specs.Worlds.{buffers_of, window_of}
 
@@ -19,30 +19,30 @@ point_shift true cols column = shift_for cols column
 point_shift false cols column = 0
 
 -- the buffers as a user sees them
-abbrev pub shown_to : Directory → List ℕ → List Kept → List Shown
+abbrev pub shown_to : Directory → List ℕ → List MarkedBuffer → List Shown
 shown_to directory user ks = map shown_of (map (buffer_seen directory user) (buffers_of ks))
 
 -- windows as their user sees them
-abbrev pub window_to : Directory → List ℕ → List Kept → Window → WindowSeen
+abbrev pub window_to : Directory → List ℕ → List MarkedBuffer → Window → WindowSeen
 window_to directory user ks x = window_seen (reads directory (buffers_of ks) user) (window_of ks x)
 
-abbrev pub windows_to : Directory → List ℕ → List Kept → List Window → List WindowSeen
+abbrev pub windows_to : Directory → List ℕ → List MarkedBuffer → List Window → List WindowSeen
 windows_to directory user ks xs = map (window_seen (reads directory (buffers_of ks) user)) (map (window_of ks) xs)
 
 -- a buffer's name and flag, where its attributes may be read
-abbrev pub heading_to : Directory → List ℕ → List Kept → List ℕ → Option (List ℕ × Bool)
+abbrev pub heading_to : Directory → List ℕ → List MarkedBuffer → List ℕ → Option (List ℕ × Bool)
 heading_to directory user ks name =
-    if may directory user ReadAttributes (kept_at name ks).buffer then Some (name, (kept_at name ks).buffer.modified) else None
+    if may directory user ReadAttributes (marked_at name ks).buffer then Some (name, (marked_at name ks).buffer.modified) else None
 
 -- the rows of a text that may be read, and its mode line
-abbrev pub spot_rows : Bool → ℕ → ℕ → List Kept → Option (List ℕ × Bool) → Spot → List Row
-spot_rows selected cols height ks heading x =
-    pane_rows selected cols height (kept_at x.name ks).buffer.text (mark_at x.name ks x.top) (mark_at x.name ks x.point)
-    ++ mode_row cols (buffer_mode heading (place_of (kept_at x.name ks).buffer.text (mark_at x.name ks x.point))) ∷ []
+abbrev pub window_marks_rows : Bool → ℕ → ℕ → List MarkedBuffer → Option (List ℕ × Bool) → WindowMarks → List Row
+window_marks_rows selected cols height ks heading x =
+    pane_rows selected cols height (marked_at x.name ks).buffer.text (mark_at x.name ks x.top) (mark_at x.name ks x.point)
+    ++ mode_row cols (buffer_mode heading (place_of (marked_at x.name ks).buffer.text (mark_at x.name ks x.point))) ∷ []
 
 -- where the selected window's cursor is in such a text
-abbrev pub spot_cursor : ℕ → ℕ → List Kept → Spot → ℕ × ℕ
-spot_cursor cols height ks x = (
-  min (height - 1) (point_row (kept_at x.name ks).buffer.text (mark_at x.name ks x.top) (mark_at x.name ks x.point)),
-  column (kept_at x.name ks).buffer.text (mark_at x.name ks x.point) - shift_for cols (column (kept_at x.name ks).buffer.text (mark_at x.name ks x.point)),
+abbrev pub window_marks_cursor : ℕ → ℕ → List MarkedBuffer → WindowMarks → ℕ × ℕ
+window_marks_cursor cols height ks x = (
+  min (height - 1) (point_row (marked_at x.name ks).buffer.text (mark_at x.name ks x.top) (mark_at x.name ks x.point)),
+  column (marked_at x.name ks).buffer.text (mark_at x.name ks x.point) - shift_for cols (column (marked_at x.name ks).buffer.text (mark_at x.name ks x.point)),
 )

@@ -4,8 +4,8 @@ ghost use Rattle.mgs_model.specs.Draw.{screen, window_rows, window_cursor};
 ghost use Rattle.mgs_model.specs.Rows.{rows_put, shift_for};
 ghost use Rattle.mgs_session.specs.declared.Session.{Session};
 ghost use Rattle.mgs_world.specs.Worlds.{world_of, session_of};
-ghost use Rattle.mgs_buffers.specs.Kept.{IsKept, IsMark};
-ghost use Rattle.mgs_screen.specs.Screens.{point_shift, shown_to, window_to, heading_to, spot_rows, spot_cursor};
+ghost use Rattle.mgs_buffers.specs.MarkedBuffer.{HasBuffer, IsMark};
+ghost use Rattle.mgs_screen.specs.Screens.{point_shift, shown_to, window_to, heading_to, window_marks_rows, window_marks_cursor};
 ghost use Rattle.mgs_world.specs.Sound.{IsSessionSound, IsWindowSound};
 
 use mgs_buffers::Buffers;
@@ -16,7 +16,7 @@ use mgs_model::{Name, Right};
 use mgs_policy::Directory;
 use mgs_session::Session;
 use mgs_text::Text;
-use mgs_windows::{Spot, Window};
+use mgs_windows::{Window, WindowMarks};
 
 /// A window's place on the screen: where its first row is, and whether it is the selected one.
 #[derive(Clone, Copy)]
@@ -32,7 +32,7 @@ fn heading<T: Marked + Drop>(
     user: &Name,
     name: &Name,
 ) -> Option<(Name, bool)>
-    requires { IsKept name.now buffers.now }
+    requires { HasBuffer name.now buffers.now }
     ensures { result ≡ heading_to directory.now user.now buffers.now name.now }
 {
     if buffers.grants(directory, name, user, Right::ReadAttributes) {
@@ -63,28 +63,28 @@ fn shifted(cols: usize, column: usize, selected: bool) -> (usize, usize)
 fn draw_text<T: Marked + Drop>(
     buffers: &Buffers<T>,
     heading: Option<(Name, bool)>,
-    spot: &Spot,
+    window_marks: &WindowMarks,
     height: usize,
     place: Place,
     grid: &mut Grid,
 ) -> (usize, usize)
-    requires kept { IsKept spot.now.name buffers.now }
-    requires point { IsMark spot.now.name spot.now.point buffers.now }
-    requires top { IsMark spot.now.name spot.now.top buffers.now }
+    requires kept { HasBuffer window_marks.now.name buffers.now }
+    requires point { IsMark window_marks.now.name window_marks.now.point buffers.now }
+    requires top { IsMark window_marks.now.name window_marks.now.top buffers.now }
     requires some { 1 ≤ height }
     requires room { place.first + height < grid.old.rows }
     ensures rows { grid.new.rows ≡ grid.old.rows }
     ensures cols { grid.new.cols ≡ grid.old.cols }
-    ensures lines { grid.new.lines ≡ rows_put place.first (spot_rows place.selected grid.old.cols height buffers.now heading spot.now) grid.old.lines }
-    ensures cursor { place.selected ≡ true → result ≡ spot_cursor grid.old.cols height buffers.now spot.now }
+    ensures lines { grid.new.lines ≡ rows_put place.first (window_marks_rows place.selected grid.old.cols height buffers.now heading window_marks.now) grid.old.lines }
+    ensures cursor { place.selected ≡ true → result ≡ window_marks_cursor grid.old.cols height buffers.now window_marks.now }
     ensures row { result.0 < height }
     ensures col { result.1 < grid.old.cols }
 {
-    let _size = buffers.text_len(&spot.name);
+    let _size = buffers.text_len(&window_marks.name);
     let cols = grid.cols();
-    let text = buffers.text(&spot.name);
-    let point = buffers.pos(&spot.name, spot.point);
-    let top = buffers.pos(&spot.name, spot.top);
+    let text = buffers.text(&window_marks.name);
+    let point = buffers.pos(&window_marks.name, window_marks.point);
+    let top = buffers.pos(&window_marks.name, window_marks.top);
     let line = text.line_of(point);
     let row = line.saturating_sub(text.line_of(top));
     let column = column(text, point);
@@ -115,16 +115,16 @@ fn draw_window<T: Marked + Drop>(
 {
     let _cols = grid.cols();
     let height = window.height;
-    let Some(spot) = window.shows else {
+    let Some(window_marks) = window.shows else {
         grid.draw_blank(place.first, height);
         grid.draw_none_mode(place.first + height);
         return (0, 0);
     };
-    let heading = heading(buffers, directory, user, &spot.name);
-    if buffers.grants(directory, &spot.name, user, Right::ReadData) {
-        return draw_text(buffers, heading, &spot, height, place, grid);
+    let heading = heading(buffers, directory, user, &window_marks.name);
+    if buffers.grants(directory, &window_marks.name, user, Right::ReadData) {
+        return draw_text(buffers, heading, &window_marks, height, place, grid);
     }
-    let decision = buffers.decide(directory, &spot.name, user, Right::ReadData);
+    let decision = buffers.decide(directory, &window_marks.name, user, Right::ReadData);
     grid.draw_unread(place.first, height, decision);
     grid.draw_mode(place.first + height, heading, None);
     (0, 0)

@@ -9,6 +9,6 @@ behind_feed : (o : Option (List ℕ)) → parts_behind is_feed o ≡ lines_behin
 behind_feed None = refl
 behind_feed (Some rest) = refl
 
--- the lines of a script are the first and those behind it
+-- the lines of a script are the first and those after it
 pub lines_cut : (t : List ℕ) → lines_of t ≡ line_in t ∷ lines_behind (behind_line t)
 lines_cut t = parts_first is_feed t ∙ ap (λ (ls : List (List ℕ)). line_in t ∷ ls) (behind_feed (behind_line t))

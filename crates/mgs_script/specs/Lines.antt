@@ -39,11 +39,11 @@ kind_named w =
     else if bytes_eq w (codes "close") then Some kinds.Close
     else None
 
--- a group's name and those of its members, which are judged where the group is added
+-- a group's name and those of its members, which are checked where the group is added
 unfoldable pub group_said : List ℕ → Option Said
 group_said t = option_map (λ rest. Group (word_of t) (words_of rest)) (rest_of t)
 
--- a buffer's name and its owner's, which are judged where the buffer is added
+-- a buffer's name and its owner's, which are checked where the buffer is added
 unfoldable pub buffer_said : List ℕ → Option Said
 buffer_said t = option_map (λ owner. Buffer (word_of t) owner) (rest_of t)
 
@@ -80,7 +80,7 @@ keys_said t = do
   keys ← keys_of rest
   Some (Keys label keys)
 
--- what stands behind the first word, by what the word says; the form of a new user's name is judged where the user is added
+-- what stands after the first word, by what the word says; the form of a new user's name is checked where the user is added
 abbrev pub said_as : Kind → List ℕ → Option Said
 said_as kinds.User t = Some (User t)
 said_as kinds.Group t = group_said t

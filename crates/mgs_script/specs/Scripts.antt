@@ -12,11 +12,11 @@ lines_of script = slice_split is_feed script
 abbrev pub line_in : List ℕ → List ℕ
 line_in script = before_first is_feed script
 
--- what stands behind the first line feed, if there is one
+-- what stands after the first line feed, if there is one
 abbrev pub behind_line : List ℕ → Option (List ℕ)
 behind_line script = option_map (λ i. drop (i + 1) script) (position is_feed script)
 
--- the lines of what stands behind it
+-- the lines of what stands after it
 abbrev pub lines_behind : Option (List ℕ) → List (List ℕ)
 lines_behind None = []
 lines_behind (Some rest) = lines_of rest

@@ -12,7 +12,7 @@ fn feed_in(script: &[u8]) -> Option<usize>
     script.iter().position(|b| *b == b'\n')
 }
 
-/// The first line of a script without its line feed, and what stands behind that, if there is one.
+/// The first line of a script without its line feed, and what stands after that, if there is one.
 pub fn cut_line(script: &[u8]) -> (&[u8], Option<&[u8]>)
     ensures line { result.0.now ≡ line_in script.now }
     ensures rest { option_map (λ x. x.now) result.1 ≡ behind_line script.now }

@@ -1,4 +1,4 @@
-//! Reads the lines of a replay's script.
+//! Reads the lines of a replay script: cuts them, reads their words and texts, and says what each line says.
 #![tactic(auto)]
 
 mod cut;

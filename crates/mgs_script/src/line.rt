@@ -6,16 +6,16 @@ use mgs_model::Name;
 pub enum Line<'a> {
     /// An empty line, or one that begins with `#`.
     Nothing,
-    /// `user NAME`: a user. The form of the name is not judged here.
+    /// `user NAME`: a user. The form of the name is not checked here.
     User {
         name: &'a str,
     },
-    /// `group NAME MEMBER ..`: a group of users. Neither the form of the names nor whether the members are users is judged here.
+    /// `group NAME MEMBER ..`: a group of users. Neither the form of the names nor whether the members are users is checked here.
     Group {
         name: &'a str,
         members: Vec<&'a str>,
     },
-    /// `buffer NAME OWNER`: a buffer. Neither name is judged here.
+    /// `buffer NAME OWNER`: a buffer. Neither name is checked here.
     Buffer {
         name: &'a str,
         owner: &'a str,
@@ -25,12 +25,12 @@ pub enum Line<'a> {
         buffer: Name,
         entry: &'a str,
     },
-    /// `text BUFFER TOKEN ..`: characters that are put behind a buffer's text.
+    /// `text BUFFER TOKEN ..`: characters that are put after a buffer's text.
     Text {
         buffer: Name,
         text: Vec<char>,
     },
-    /// `open LABEL USER ROWS COLS`: a session is opened. Neither the user nor the size is judged here.
+    /// `open LABEL USER ROWS COLS`: a session is opened. Neither the user nor the size is checked here.
     Open {
         label: Name,
         user: &'a str,

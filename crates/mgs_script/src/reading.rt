@@ -3,12 +3,12 @@ ghost use Rattle.std.specs.Prelude.{◌≡◌, Some};
 ghost use Rattle.std.specs.Option.{option_map};
 ghost use Rattle.mgs_script.specs.Lines.{view, group_said, buffer_said, entry_said, text_said, open_said, keys_said, said_by_kind, said_in, is_passed_over, utf8_of, GivesLine};
 
-use mgs_keys::{KeysFault, read_keys};
-use mgs_model::Short;
 use crate::kind::{Kind, kind_of};
 use crate::line::{Line, LineFault};
 use crate::text::read_text;
 use crate::word::{any_word, cut_text, name_in, size, words};
+use mgs_keys::{KeysFault, read_keys};
+use mgs_model::Short;
 use std::alloc::Global;
 use std::str;
 
@@ -138,7 +138,7 @@ fn utf8(line: &[u8]) -> Option<&str>
 
 /// What a script's line says, without its line feed.
 ///
-/// `Bad` is answered where it says nothing that is known: such a line is refused. `Short` is want of memory.
+/// `Bad` is answered where it says nothing that is known: such a line is refused. `Short` is out of memory.
 pub fn read_line(alloc: Global, line: &[u8]) -> Result<Line<'_>, LineFault>
     ensures { GivesLine result (said_in line.now) }
 {

@@ -47,7 +47,7 @@ fn push_token(text: &mut Vec<char>, token: &[u8]) -> Result<(), KeysFault>
 /// The characters of a text that is written as tokens, parted by single spaces: `RET` (a line feed), `TAB`, `SPC` (a space) and
 /// `'chars` (one or more characters 0x21 to 0x7E).
 ///
-/// `BadToken` is answered where some word is no token, and `Short` for want of memory.
+/// `BadToken` is answered where some word is no token, and `Short` for out of memory.
 pub fn read_text(alloc: Global, tokens: &str) -> Result<Vec<char>, KeysFault>
     ensures { GivesKeys result (text_of tokens.now) }
 {

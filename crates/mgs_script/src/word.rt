@@ -8,7 +8,7 @@ ghost use Rattle.mgs_script.specs.Words.{name_of, any_word_of, number_of, size_o
 use mgs_model::{Name, Short};
 use std::alloc::Global;
 
-/// The first word of a text, and what stands behind the space after it, if there is one.
+/// The first word of a text, and what stands after the space after it, if there is one.
 pub fn cut_text(text: &str) -> (&str, Option<&str>)
     ensures word { result.0.now ≡ word_of text.now }
     ensures rest { option_map (λ x. x.now) result.1 ≡ rest_of text.now }

@@ -9,27 +9,27 @@ use std::process::Abort;
 
 // A session's terminal, and whether it has refused a byte.
 #[derive(Drop)]
-pub(crate) struct Seat {
+pub(crate) struct Client {
     pub id: SessionId,
     pub term: Term,
     pub refused: bool,
 }
 
 #[derive(Drop)]
-pub(crate) struct Seats {
-    pub all: Vec<Seat>,
+pub(crate) struct Clients {
+    pub all: Vec<Client>,
 }
 
-fn feed(seat: &mut Seat, id: SessionId, bytes: &[u8]) {
-    if seat.id == id && seat.term.feed_all(bytes).is_err() {
-        seat.refused = true;
+fn feed(client: &mut Client, id: SessionId, bytes: &[u8]) {
+    if client.id == id && client.term.feed_all(bytes).is_err() {
+        client.refused = true;
     }
 }
 
-impl Taker for Seats {
+impl Taker for Clients {
     fn take(&mut self, id: SessionId, bytes: &[u8]) {
-        for seat in self.all.iter_mut() {
-            feed(seat, id, bytes);
+        for client in self.all.iter_mut() {
+            feed(client, id, bytes);
         }
     }
 }

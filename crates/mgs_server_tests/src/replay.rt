@@ -23,7 +23,7 @@ fn gives(
     assert!(rt; written.as_slice() == output.as_bytes());
 }
 
-// The same of lines behind the user, the buffer and the entry of `NOTES`.
+// The same of lines after the user, the buffer and the entry of `NOTES`.
 fn plays(
     rt: &impl Abort,
     alloc: Global,

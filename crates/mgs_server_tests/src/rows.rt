@@ -1,5 +1,5 @@
 // What terminals of 6 rows and 20 columns show, row by row.
-use super::fixtures::{Seat, Seats, directory_of, list_of};
+use super::fixtures::{Client, Clients, directory_of, list_of};
 use mgs_buffers::Buffers;
 use mgs_core::Core;
 use mgs_engine::Engine;
@@ -29,24 +29,24 @@ fn serve(alloc: Global, entries: &[&str], text: &[char], rt: &impl Abort) -> Eng
     }
 }
 
-// A session of a user takes a seat.
+// A session of a user takes a client.
 fn sit(
     alloc: Global,
     engine: &mut Engine<PlainMarked>,
-    seats: &mut Seats,
+    clients: &mut Clients,
     user: &str,
     rt: &impl Abort,
 ) -> SessionId {
-    engine.take_all(seats);
+    engine.take_all(clients);
     match (engine.open(user, ROWS, COLS), Term::new(alloc, ROWS, COLS)) {
         (Ok(id), Ok(term)) => {
-            let seat = Seat {
+            let client = Client {
                 id,
                 term,
                 refused: false,
             };
-            assert!(rt; seats.all.push(seat).is_ok());
-            engine.take_all(seats);
+            assert!(rt; clients.all.push(client).is_ok());
+            engine.take_all(clients);
             id
         }
         _ => panic!(rt; "not opened"),
@@ -56,16 +56,16 @@ fn sit(
 // Bytes of a session, each of which is done; all that they paint reaches the terminals.
 fn press(
     engine: &mut Engine<PlainMarked>,
-    seats: &mut Seats,
+    clients: &mut Clients,
     id: SessionId,
     bytes: &[u8],
     rt: &impl Abort,
 ) {
     for byte in bytes {
-        engine.take_all(seats);
+        engine.take_all(clients);
         assert_eq!(rt; engine.byte(id, *byte), Keyed::Done);
     }
-    engine.take_all(seats);
+    engine.take_all(clients);
 }
 
 // Whether a cell is that of these rows. Behind the text of a row there are blanks.
@@ -84,12 +84,12 @@ fn is_cell(rows: &[&str], i: usize, cell: &Cell) -> bool {
 }
 
 // Whether the terminal of a session took all its bytes, and shows these rows and this cursor.
-fn shows(seats: &Seats, id: SessionId, rows: &[&str], cursor: (usize, usize)) -> bool {
-    seats.all.iter().any(|seat| {
-        seat.id == id
-            && !seat.refused
-            && seat.term.cursor() == cursor
-            && seat
+fn shows(clients: &Clients, id: SessionId, rows: &[&str], cursor: (usize, usize)) -> bool {
+    clients.all.iter().any(|client| {
+        client.id == id
+            && !client.refused
+            && client.term.cursor() == cursor
+            && client
                 .term
                 .grid()
                 .iter()
@@ -103,10 +103,10 @@ fn control_characters_take_more_cells(rt: HostRuntime) -> Result<(), Fail> {
     let alloc = rt.alloc();
     let text = ['\t', 'x', '\u{1}', '\u{7f}', '\u{e9}'];
     let mut engine = serve(alloc, &["ALLOW ann rt"], &text, &rt);
-    let mut seats = Seats {
+    let mut clients = Clients {
         all: Vec::new(alloc),
     };
-    let ann = sit(alloc, &mut engine, &mut seats, "ann", &rt);
+    let ann = sit(alloc, &mut engine, &mut clients, "ann", &rt);
     let rows = [
         "        x^A^?\\u{e9} ",
         "                    ",
@@ -115,7 +115,7 @@ fn control_characters_take_more_cells(rt: HostRuntime) -> Result<(), Fail> {
         "----notes-L1-C0-----",
         "                    ",
     ];
-    assert!(rt; shows(&seats, ann, &rows, (1, 1)));
+    assert!(rt; shows(&clients, ann, &rows, (1, 1)));
     Ok(())
 }
 
@@ -123,11 +123,11 @@ fn control_characters_take_more_cells(rt: HostRuntime) -> Result<(), Fail> {
 fn a_tab_reaches_the_next_multiple_of_eight(rt: HostRuntime) -> Result<(), Fail> {
     let alloc = rt.alloc();
     let mut engine = serve(alloc, &["ALLOW ann rwat"], &[], &rt);
-    let mut seats = Seats {
+    let mut clients = Clients {
         all: Vec::new(alloc),
     };
-    let ann = sit(alloc, &mut engine, &mut seats, "ann", &rt);
-    press(&mut engine, &mut seats, ann, b"\tx", &rt);
+    let ann = sit(alloc, &mut engine, &mut clients, "ann", &rt);
+    press(&mut engine, &mut clients, ann, b"\tx", &rt);
     let rows = [
         "        x           ",
         "                    ",
@@ -136,7 +136,7 @@ fn a_tab_reaches_the_next_multiple_of_eight(rt: HostRuntime) -> Result<(), Fail>
         "-**-notes-L1-C9-----",
         "                    ",
     ];
-    assert!(rt; shows(&seats, ann, &rows, (1, 10)));
+    assert!(rt; shows(&clients, ann, &rows, (1, 10)));
     Ok(())
 }
 
@@ -145,12 +145,12 @@ fn who_may_not_read_writes_at_the_end(rt: HostRuntime) -> Result<(), Fail> {
     let alloc = rt.alloc();
     let entries = ["ALLOW bob at", "ALLOW ann rwat"];
     let mut engine = serve(alloc, &entries, &['a', 'b', 'c'], &rt);
-    let mut seats = Seats {
+    let mut clients = Clients {
         all: Vec::new(alloc),
     };
-    let ann = sit(alloc, &mut engine, &mut seats, "ann", &rt);
-    let bob = sit(alloc, &mut engine, &mut seats, "bob", &rt);
-    press(&mut engine, &mut seats, bob, b"x", &rt);
+    let ann = sit(alloc, &mut engine, &mut clients, "ann", &rt);
+    let bob = sit(alloc, &mut engine, &mut clients, "bob", &rt);
+    press(&mut engine, &mut clients, bob, b"x", &rt);
     let masked = [
         "[no read: no entry] ",
         "                    ",
@@ -159,7 +159,7 @@ fn who_may_not_read_writes_at_the_end(rt: HostRuntime) -> Result<(), Fail> {
         "-**-notes-(no read)-",
         "                    ",
     ];
-    assert!(rt; shows(&seats, bob, &masked, (1, 1)));
+    assert!(rt; shows(&clients, bob, &masked, (1, 1)));
     let read = [
         "abcx                ",
         "                    ",
@@ -168,8 +168,8 @@ fn who_may_not_read_writes_at_the_end(rt: HostRuntime) -> Result<(), Fail> {
         "-**-notes-L1-C0-----",
         "                    ",
     ];
-    assert!(rt; shows(&seats, ann, &read, (1, 1)));
-    press(&mut engine, &mut seats, bob, b"\x06", &rt);
+    assert!(rt; shows(&clients, ann, &read, (1, 1)));
+    press(&mut engine, &mut clients, bob, b"\x06", &rt);
     let denied = [
         "[no read: no entry] ",
         "                    ",
@@ -178,8 +178,8 @@ fn who_may_not_read_writes_at_the_end(rt: HostRuntime) -> Result<(), Fail> {
         "-**-notes-(no read)-",
         "Denied: no entry gr$",
     ];
-    assert!(rt; shows(&seats, bob, &denied, (1, 1)));
-    assert!(rt; shows(&seats, ann, &read, (1, 1)));
+    assert!(rt; shows(&clients, bob, &denied, (1, 1)));
+    assert!(rt; shows(&clients, ann, &read, (1, 1)));
     Ok(())
 }
 
@@ -188,10 +188,10 @@ fn a_denial_names_the_entry(rt: HostRuntime) -> Result<(), Fail> {
     let alloc = rt.alloc();
     let entries = ["DENY bob r", "ALLOW bob at"];
     let mut engine = serve(alloc, &entries, &['a', 'b', 'c'], &rt);
-    let mut seats = Seats {
+    let mut clients = Clients {
         all: Vec::new(alloc),
     };
-    let bob = sit(alloc, &mut engine, &mut seats, "bob", &rt);
+    let bob = sit(alloc, &mut engine, &mut clients, "bob", &rt);
     let masked = [
         "[no read: entry 1]  ",
         "                    ",
@@ -200,8 +200,8 @@ fn a_denial_names_the_entry(rt: HostRuntime) -> Result<(), Fail> {
         "----notes-(no read)-",
         "                    ",
     ];
-    assert!(rt; shows(&seats, bob, &masked, (1, 1)));
-    press(&mut engine, &mut seats, bob, b"\x06", &rt);
+    assert!(rt; shows(&clients, bob, &masked, (1, 1)));
+    press(&mut engine, &mut clients, bob, b"\x06", &rt);
     let denied = [
         "[no read: entry 1]  ",
         "                    ",
@@ -210,7 +210,7 @@ fn a_denial_names_the_entry(rt: HostRuntime) -> Result<(), Fail> {
         "----notes-(no read)-",
         "Denied: entry 1 den$",
     ];
-    assert!(rt; shows(&seats, bob, &denied, (1, 1)));
+    assert!(rt; shows(&clients, bob, &denied, (1, 1)));
     Ok(())
 }
 
@@ -219,11 +219,11 @@ fn a_group_reads_and_others_see_no_buffer(rt: HostRuntime) -> Result<(), Fail> {
     let alloc = rt.alloc();
     let entries = ["ALLOW group:staff rt"];
     let mut engine = serve(alloc, &entries, &['a', 'b', 'c'], &rt);
-    let mut seats = Seats {
+    let mut clients = Clients {
         all: Vec::new(alloc),
     };
-    let bob = sit(alloc, &mut engine, &mut seats, "bob", &rt);
-    let cat = sit(alloc, &mut engine, &mut seats, "cat", &rt);
+    let bob = sit(alloc, &mut engine, &mut clients, "bob", &rt);
+    let cat = sit(alloc, &mut engine, &mut clients, "cat", &rt);
     let read = [
         "abc                 ",
         "                    ",
@@ -232,7 +232,7 @@ fn a_group_reads_and_others_see_no_buffer(rt: HostRuntime) -> Result<(), Fail> {
         "----notes-L1-C0-----",
         "                    ",
     ];
-    assert!(rt; shows(&seats, bob, &read, (1, 1)));
+    assert!(rt; shows(&clients, bob, &read, (1, 1)));
     let none = [
         "                    ",
         "                    ",
@@ -241,8 +241,8 @@ fn a_group_reads_and_others_see_no_buffer(rt: HostRuntime) -> Result<(), Fail> {
         "-None---------------",
         "                    ",
     ];
-    assert!(rt; shows(&seats, cat, &none, (1, 1)));
-    press(&mut engine, &mut seats, cat, b"x", &rt);
+    assert!(rt; shows(&clients, cat, &none, (1, 1)));
+    press(&mut engine, &mut clients, cat, b"x", &rt);
     let told = [
         "                    ",
         "                    ",
@@ -251,8 +251,8 @@ fn a_group_reads_and_others_see_no_buffer(rt: HostRuntime) -> Result<(), Fail> {
         "-None---------------",
         "No buffer           ",
     ];
-    assert!(rt; shows(&seats, cat, &told, (1, 1)));
-    assert!(rt; shows(&seats, bob, &read, (1, 1)));
+    assert!(rt; shows(&clients, cat, &told, (1, 1)));
+    assert!(rt; shows(&clients, bob, &read, (1, 1)));
     Ok(())
 }
 
@@ -264,11 +264,11 @@ fn a_full_text_takes_no_more(rt: HostRuntime) -> Result<(), Fail> {
         assert!(rt; text.push('a').is_ok());
     }
     let mut engine = serve(alloc, &["ALLOW ann rwat"], &text, &rt);
-    let mut seats = Seats {
+    let mut clients = Clients {
         all: Vec::new(alloc),
     };
-    let ann = sit(alloc, &mut engine, &mut seats, "ann", &rt);
-    press(&mut engine, &mut seats, ann, b"xxxxxx", &rt);
+    let ann = sit(alloc, &mut engine, &mut clients, "ann", &rt);
+    press(&mut engine, &mut clients, ann, b"xxxxxx", &rt);
     let full = [
         "xxxxxxaaaaaaaaaaaaa$",
         "                    ",
@@ -277,8 +277,8 @@ fn a_full_text_takes_no_more(rt: HostRuntime) -> Result<(), Fail> {
         "-**-notes-L1-C6-----",
         "                    ",
     ];
-    assert!(rt; shows(&seats, ann, &full, (1, 7)));
-    press(&mut engine, &mut seats, ann, b"x", &rt);
+    assert!(rt; shows(&clients, ann, &full, (1, 7)));
+    press(&mut engine, &mut clients, ann, b"x", &rt);
     let told = [
         "xxxxxxaaaaaaaaaaaaa$",
         "                    ",
@@ -287,6 +287,6 @@ fn a_full_text_takes_no_more(rt: HostRuntime) -> Result<(), Fail> {
         "-**-notes-L1-C6-----",
         "Buffer full         ",
     ];
-    assert!(rt; shows(&seats, ann, &told, (1, 7)));
+    assert!(rt; shows(&clients, ann, &told, (1, 7)));
     Ok(())
 }

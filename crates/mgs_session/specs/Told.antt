@@ -3,11 +3,11 @@ use Rattle.std.specs.Prelude.{ℕ, ◌-◌, List, [], ◌∷◌, Option, slice_g
 use Rattle.std.specs.Option.{option_and_then}
 use Rattle.mgs_model.specs.declared.message.Message.{Message}
 use Rattle.mgs_model.specs.declared.message.Message.TheVariants.{Silent}
-use Rattle.mgs_windows.specs.declared.Spot.{Spot}
+use Rattle.mgs_windows.specs.declared.WindowMarks.{WindowMarks}
 use Rattle.mgs_windows.specs.declared.Window.{Window}
 use Rattle.mgs_session.specs.declared.Session.{Session}
 
-abbrev pub session_opened : ℕ → List ℕ → ℕ → ℕ → Option Spot → Session
+abbrev pub session_opened : ℕ → List ℕ → ℕ → ℕ → Option WindowMarks → Session
 session_opened id user rows cols shows = record {
   id = id;
   user = user;
@@ -23,5 +23,5 @@ abbrev pub silent : Session → Session
 silent x = record x { echo = Silent }
 
 -- the buffer of the selected window
-abbrev pub spot_of : Session → Option Spot
-spot_of x = option_and_then (λ (w : Window). w.shows) (slice_get x.windows.windows x.windows.selected)
+abbrev pub window_marks_of : Session → Option WindowMarks
+window_marks_of x = option_and_then (λ (w : Window). w.shows) (slice_get x.windows.windows x.windows.selected)

@@ -2,10 +2,10 @@
 #![tactic(auto)]
 
 ghost use Rattle.std.specs.Prelude.{◌≡◌, ◌≤◌, ◌-◌, [], ◌∷◌};
-ghost use Rattle.mgs_session.specs.Told.{session_opened, told, silent, spot_of};
+ghost use Rattle.mgs_session.specs.Told.{session_opened, told, silent, window_marks_of};
 
 use mgs_model::{Message, Name, SessionId};
-use mgs_windows::{Spot, Windows};
+use mgs_windows::{WindowMarks, Windows};
 
 /// The state of a session. A position is a mark in the text of a buffer.
 #[derive(Drop)]
@@ -19,7 +19,13 @@ pub struct Session {
 }
 
 /// A session with one window.
-pub fn opened(id: SessionId, user: Name, rows: usize, cols: usize, shows: Option<Spot>) -> Session
+pub fn opened(
+    id: SessionId,
+    user: Name,
+    rows: usize,
+    cols: usize,
+    shows: Option<WindowMarks>,
+) -> Session
     requires { 3 ≤ rows }
     ensures { result ≡ session_opened id user rows cols shows }
 {
@@ -33,22 +39,22 @@ pub fn opened(id: SessionId, user: Name, rows: usize, cols: usize, shows: Option
 }
 
 /// Puts a text into the echo line.
-pub fn tell(session: &mut Session, message: Message)
+pub fn set_echo(session: &mut Session, message: Message)
     ensures { session.new ≡ told message session.old }
 {
     session.echo = message;
 }
 
 /// Empties the echo line, as each byte does before it is handled.
-pub fn hush(session: &mut Session)
+pub fn clear_echo(session: &mut Session)
     ensures { session.new ≡ silent session.old }
 {
     session.echo = Message::Silent;
 }
 
 /// The buffer that the selected window shows.
-pub fn selected_spot(session: &Session) -> Option<Spot>
-    ensures { result ≡ spot_of session.now }
+pub fn selected_window_marks(session: &Session) -> Option<WindowMarks>
+    ensures { result ≡ window_marks_of session.now }
 {
     session.windows.selected_window().shows
 }

@@ -18,7 +18,7 @@ resting s = record { screen = s; begun = []; refused = false }
 abbrev pub refusing : Screen → Terminal
 refusing s = record { screen = s; begun = []; refused = true }
 
--- an accepted sequence has the byte behind those that have begun it, and then the rest
+-- an accepted sequence has the byte after those that have begun it, and then the rest
 abbrev pub Continues : Terminal → ℕ → List ℕ → Operation → Type 0
 Continues t byte rest o = (t.refused ≡ false) × Accepts t.screen.rows t.screen.cols t.screen.wrapping o × (spelling o ≡ t.begun ++ byte ∷ rest)
 

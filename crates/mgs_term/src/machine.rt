@@ -1,6 +1,6 @@
 ghost use Rattle.std.specs.Prelude.{◌≡◌, ℕ, ◌+◌, ◌-◌, ◌*◌, ◌<◌, ◌≤◌, ◌++◌, ◌↔◌, length, take, drop, replicate, true, false, IsTrue, IsOk, IsErr, IfOk, OnOk, OnErr, List, [], ◌∷◌, All};
 ghost use Rattle.mgs_model.specs.Picture.{IsSize};
-ghost use Rattle.mgs_term.specs.Screen.{Screen, IsScreen, IsPrintableCell, blank, spot};
+ghost use Rattle.mgs_term.specs.Screen.{Screen, IsScreen, IsPrintableCell, blank, window_marks};
 ghost use Rattle.mgs_term.specs.Sequences.{Accepts, after};
 ghost use Rattle.mgs_term.specs.Terminal.{Continues, Takes, Refuses, TakesAll, RefusesSome};
 ghost use Rattle.mgs_term.specs.Drawing.{Draws, Anything};
@@ -8,10 +8,10 @@ ghost use Rattle.mgs_term.specs.Automaton.{Automaton, IsPlace, stepped, fed, new
 ghost use Rattle.mgs_term.specs.declared.place.Place.TheVariants.{Ground, Refused};
 ghost use Rattle.mgs_term.specs.declared.operation.Operation.{Operation};
 
-use mgs_model::Short;
 use crate::cell::Cell;
 use crate::operation::Operation;
 use crate::place::{Next, Place, next_of};
+use mgs_model::Short;
 use std::alloc::Global;
 use std::marker::Model;
 
@@ -50,7 +50,7 @@ fn blank_between(cells: &mut [Cell], from: usize, to: usize)
 
 impl Machine {
     /// Blanks, with the cursor in the first cell, reverse off and wrap on.
-    /// It has 6 to 64 rows and 20 to 160 columns. `Short` is want of memory.
+    /// It has 6 to 64 rows and 20 to 160 columns. `Short` is out of memory.
     pub fn new(alloc: Global, rows: usize, cols: usize) -> Result<Machine, Short>
         requires { IsSize rows cols }
         ensures { IfOk result (λ t. t ≡ new_automaton rows cols) }

@@ -18,7 +18,7 @@ pub enum Place {
     Number(usize),
     /// Behind the row's number and its `;`.
     Row(usize),
-    /// In the column's number, behind the row's.
+    /// In the column's number, after the row's.
     Column(usize, usize),
     /// Behind `ESC [ ?`.
     Question,

@@ -7,9 +7,9 @@ ghost use Rattle.mgs_term.specs.Terminal.{Terminal, Continues, TakesAll, Refuses
 ghost use Rattle.mgs_term.specs.Automaton.{terminal_of};
 ghost use Rattle.mgs_term.specs.declared.operation.Operation.{Operation};
 
+use crate::cell::Cell;
 use crate::machine::{Machine, OutOfProfile};
 use mgs_model::Short;
-use crate::cell::Cell;
 use std::alloc::Global;
 use std::marker::Model;
 
@@ -31,7 +31,7 @@ impl Model for Term {
 
 impl Term {
     /// A terminal that shows blanks, with the cursor in the first cell, reverse off and wrap on.
-    /// It has 6 to 64 rows and 20 to 160 columns. `Short` is want of memory.
+    /// It has 6 to 64 rows and 20 to 160 columns. `Short` is out of memory.
     pub fn new(alloc: Global, rows: usize, cols: usize) -> Result<Term, Short>
         requires { IsSize rows cols }
         ensures { IfOk result (λ t. t ≡ resting (blank_screen rows cols)) }
@@ -47,7 +47,7 @@ impl Term {
         ensures taken { IsOk result ↔ (o : Operation) × (rest : List ℕ) × Continues self.old byte rest o }
         // The last byte of a sequence does what the sequence does.
         ensures last { (o : Operation) → Continues self.old byte [] o → self.new ≡ resting (after o self.old.screen) }
-        // Any other byte that is taken changes nothing, and the next has to go on behind it.
+        // Any other byte that is taken changes nothing, and the next has to go on after it.
         ensures inner { IsOk result → ((o : Operation) → Continues self.old byte [] o → ⊥) → self.new ≡ record { screen = self.old.screen; begun = self.old.begun ++ byte ∷ []; refused = false } }
         // A byte that is refused changes nothing, and each later one is refused.
         ensures refused { OnErr result (self.new ≡ refusing self.old.screen) }

@@ -1,6 +1,6 @@
 // Buffers by their names, over any text.
 ghost use Rattle.std.specs.Prelude.{◌+◌, ◌<◌, ◌≤◌, ◌^◌, ℕ, length};
-ghost use Rattle.mgs_buffers.specs.Kept.{IsKept, kept_at};
+ghost use Rattle.mgs_buffers.specs.MarkedBuffer.{HasBuffer, marked_at};
 
 use mgs_acl::{List, read_entry};
 use mgs_buffers::{AddFault, Buffers};
@@ -50,10 +50,10 @@ fn moved<T: Marked + Drop>(
     p: usize,
     put: &[char],
 ) -> Result<usize, Short>
-    requires kept { IsKept name.now all.old }
-    requires within { p ≤ length (kept_at name.now all.old).buffer.text }
-    requires serial { (kept_at name.now all.old).buffer.serial < 2 ^ 63 }
-    requires room { length (kept_at name.now all.old).buffer.text + length put.now ≤ 1048576 }
+    requires kept { HasBuffer name.now all.old }
+    requires within { p ≤ length (marked_at name.now all.old).buffer.text }
+    requires serial { (marked_at name.now all.old).buffer.serial < 2 ^ 63 }
+    requires room { length (marked_at name.now all.old).buffer.text + length put.now ≤ 1048576 }
 {
     let id = all.add_mark(name, p)?;
     all.edit(name, 0, 0, put)?;
@@ -69,9 +69,9 @@ fn placed<T: Marked + Drop>(
     p: usize,
     q: usize,
 ) -> Result<usize, Short>
-    requires kept { IsKept name.now all.old }
-    requires from { p ≤ length (kept_at name.now all.old).buffer.text }
-    requires to { q ≤ length (kept_at name.now all.old).buffer.text }
+    requires kept { HasBuffer name.now all.old }
+    requires from { p ≤ length (marked_at name.now all.old).buffer.text }
+    requires to { q ≤ length (marked_at name.now all.old).buffer.text }
 {
     let id = all.add_mark(name, p)?;
     all.place(name, id, q);

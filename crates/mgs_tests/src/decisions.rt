@@ -1,7 +1,7 @@
 // Decisions on all rights of a mask.
-use mgs_policy::{Directory, decide};
 use mgs_acl::{Entry, List, read_entry};
 use mgs_model::{Decision, Mask, Name, Right};
+use mgs_policy::{Directory, decide};
 use std::process::Abort;
 
 fn named(rt: &impl Abort, text: &str) -> Name {

@@ -1,6 +1,6 @@
 // Users and groups of a directory.
-use mgs_policy::{Directory, DirectoryFault};
 use mgs_model::Name;
+use mgs_policy::{Directory, DirectoryFault};
 use std::process::Abort;
 use std::test::Fail;
 

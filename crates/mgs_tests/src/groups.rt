@@ -1,6 +1,6 @@
 // Members of a group.
-use mgs_policy::{Group, are_users, has_group, is_member, known};
 use mgs_model::Name;
+use mgs_policy::{Group, are_users, has_group, is_member, known};
 use std::process::Abort;
 
 fn read(rt: &impl Abort, text: &str) -> Name {

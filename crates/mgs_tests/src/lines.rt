@@ -2,8 +2,7 @@
 ghost use Rattle.std.specs.Prelude.{◌≡◌, length};
 
 use mgs_lines::{column, line_end, line_start, settled_top, width};
-use mgs_text::Text;
-use mgs_text::PlainText;
+use mgs_text::{PlainText, Text};
 use std::process::Abort;
 use std::test::Fail;
 

@@ -1,7 +1,7 @@
 // Decisions on one right.
-use mgs_policy::{Directory, decide_right, is_granted};
 use mgs_acl::{Entry, List, read_entry};
 use mgs_model::{Decision, Name, Right};
+use mgs_policy::{Directory, decide_right, is_granted};
 use std::process::Abort;
 
 fn named(rt: &impl Abort, text: &str) -> Name {

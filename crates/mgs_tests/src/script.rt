@@ -1,7 +1,10 @@
 // Lines of a script.
 use mgs_keys::KeysFault;
 use mgs_model::Name;
-use mgs_script::{Kind, Line, LineFault, any_word, cut_line, cut_text, kind_of, name_in, number, read_line, read_text, size};
+use mgs_script::{
+    Kind, Line, LineFault, any_word, cut_line, cut_text, kind_of, name_in, number, read_line,
+    read_text, size,
+};
 use std::test::Fail;
 
 #[test]

@@ -28,7 +28,7 @@ pub trait Text {
         ensures value { result ≡ length (text self.now) }
         ensures fits { result < 2 ^ 61 };
 
-    /// The character behind a position.
+    /// The character after a position.
     fn at(&self, i: usize) -> char
         requires { i < length (text self.now) }
         ensures { result ≡ slice_index (text self.now) i };

@@ -10,7 +10,7 @@ use std::marker::Model;
 
 /// A buffer in a window: the marks of the window's point, mark and top in the buffer's text.
 #[derive(Clone, Copy, Debug)]
-pub struct Spot {
+pub struct WindowMarks {
     pub name: Name,
     pub point: MarkId,
     pub mark: Option<MarkId>,
@@ -21,7 +21,7 @@ pub struct Spot {
 #[derive(Clone, Copy, Debug, Default)]
 pub struct Window {
     pub height: usize,
-    pub shows: Option<Spot>,
+    pub shows: Option<WindowMarks>,
 }
 
 /// The windows of a session, of which one is selected. Panes and mode lines fill all rows but the last.
@@ -43,7 +43,7 @@ impl Model for Windows {
 }
 
 /// A list of one window.
-fn one_window(height: usize, shows: Option<Spot>) -> ArrayVec<Window, 8>
+fn one_window(height: usize, shows: Option<WindowMarks>) -> ArrayVec<Window, 8>
     ensures { result.items ≡ record { height = height; shows = shows } ∷ [] }
 {
     // The prover hands on a window only where each type in it was named.
@@ -55,7 +55,7 @@ fn one_window(height: usize, shows: Option<Spot>) -> ArrayVec<Window, 8>
 
 impl Windows {
     /// One window on a screen of so many rows.
-    pub fn one(rows: usize, shows: Option<Spot>) -> Windows
+    pub fn one(rows: usize, shows: Option<WindowMarks>) -> Windows
         requires { 3 ≤ rows }
         ensures { result ≡ record { rows = rows; windows = record { height = rows - 2; shows = shows } ∷ []; selected = 0 } }
     {

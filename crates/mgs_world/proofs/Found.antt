@@ -7,26 +7,26 @@ use Rattle.mgs_model.specs.Names.{same_name}
 use Rattle.mgs_model.specs.World.{is_named, find_buffer}
 use Rattle.mgs_model.specs.View.{BufferSeen, buffer_seen, find_seen}
 use Rattle.mgs_model.proofs.Firsts.{find-map, found_passes}
-use Rattle.mgs_buffers.specs.Kept.{Kept, IsKept, kept_at, kept_named, kept_or_none}
+use Rattle.mgs_buffers.specs.MarkedBuffer.{MarkedBuffer, HasBuffer, marked_at, marked_named, marked_or_none}
 use Rattle.mgs_world.specs.Worlds.{buffers_of}
 use Rattle.mgs_world.proofs.Soundness.{some_from}
 use Rattle.mgs_world.proofs.Marks.{same_is}
 
-found_kept : (name : List ℕ) (ks : List Kept) → IsKept name ks → find (kept_named name) ks ≡ Some (kept_at name ks)
+found_kept : (name : List ℕ) (ks : List MarkedBuffer) → HasBuffer name ks → find (marked_named name) ks ≡ Some (marked_at name ks)
 found_kept name ks kept =
-    let k = some_from (find (kept_named name) ks) kept in
-    k.1 ∙ ap (λ (o : Option Kept). Some (kept_or_none o)) (sym k.1)
+    let k = some_from (find (marked_named name) ks) kept in
+    k.1 ∙ ap (λ (o : Option MarkedBuffer). Some (marked_or_none o)) (sym k.1)
 
-pub name_kept : (name : List ℕ) (ks : List Kept) → IsKept name ks → (kept_at name ks).buffer.name ≡ name
-name_kept name ks kept = sym (same_is name (kept_at name ks).buffer.name (found_passes (kept_named name) ks (kept_at name ks) (found_kept name ks kept)))
+pub name_kept : (name : List ℕ) (ks : List MarkedBuffer) → HasBuffer name ks → (marked_at name ks).buffer.name ≡ name
+name_kept name ks kept = sym (same_is name (marked_at name ks).buffer.name (found_passes (marked_named name) ks (marked_at name ks) (found_kept name ks kept)))
 
-pub found_buffer : (name : List ℕ) (ks : List Kept) → IsKept name ks → find_buffer name (buffers_of ks) ≡ Some (kept_at name ks).buffer
+pub found_buffer : (name : List ℕ) (ks : List MarkedBuffer) → HasBuffer name ks → find_buffer name (buffers_of ks) ≡ Some (marked_at name ks).buffer
 found_buffer name ks kept =
-    find-map (λ (k : Kept). k.buffer) (kept_named name) (is_named name) (λ k. refl) ks
-    ∙ ap (option_map (λ (k : Kept). k.buffer)) (found_kept name ks kept)
+    find-map (λ (k : MarkedBuffer). k.buffer) (marked_named name) (is_named name) (λ k. refl) ks
+    ∙ ap (option_map (λ (k : MarkedBuffer). k.buffer)) (found_kept name ks kept)
 
 -- and as a user sees it
-pub found_seen : (directory : Directory) (user name : List ℕ) (ks : List Kept) → IsKept name ks → find_seen name (map (buffer_seen directory user) (buffers_of ks)) ≡ Some (buffer_seen directory user (kept_at name ks).buffer)
+pub found_seen : (directory : Directory) (user name : List ℕ) (ks : List MarkedBuffer) → HasBuffer name ks → find_seen name (map (buffer_seen directory user) (buffers_of ks)) ≡ Some (buffer_seen directory user (marked_at name ks).buffer)
 found_seen directory user name ks kept =
     find-map (buffer_seen directory user) (is_named name) (λ (b : BufferSeen). same_name name b.name) (λ b. refl) (buffers_of ks)
     ∙ ap (option_map (buffer_seen directory user)) (found_buffer name ks kept)

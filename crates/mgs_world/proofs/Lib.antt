@@ -5,5 +5,5 @@ pub mod Worlds
 pub mod Sessions
 pub mod Soundness
 pub mod Found
-pub mod Spots
+pub mod WindowMarks
 pub mod Settles

@@ -8,16 +8,16 @@ use Rattle.mgs_model.specs.Names.{same_name}
 use Rattle.mgs_model.specs.Text.{shift, shift_all}
 use Rattle.mgs_model.specs.Apply.{change_first}
 use Rattle.mgs_marks.specs.Marks.{mark_in}
-use Rattle.mgs_buffers.specs.Kept.{Kept, kept_named, kept_at, kept_or_none, IsKept, IsMark, kept_edited, kept_placed}
-use Rattle.mgs_session.specs.Told.{spot_of}
-use Rattle.mgs_windows.specs.declared.Spot.{Spot}
+use Rattle.mgs_buffers.specs.MarkedBuffer.{MarkedBuffer, marked_named, marked_at, marked_or_none, HasBuffer, IsMark, marked_edited, marked_placed}
+use Rattle.mgs_session.specs.Told.{window_marks_of}
+use Rattle.mgs_windows.specs.declared.WindowMarks.{WindowMarks}
 use Rattle.mgs_windows.specs.declared.Window.{Window}
 use Rattle.mgs_session.specs.declared.Session.{Session}
-use Rattle.mgs_world.specs.Sound.{IsSound, IsSessionSound, IsWindowSound, in_use, one_if, option_uses, sum_of, session_uses, window_uses, spot_uses}
+use Rattle.mgs_world.specs.Sound.{IsSound, IsSessionSound, IsWindowSound, in_use, one_if, option_uses, sum_of, session_uses, window_uses, window_marks_uses}
 use Rattle.mgs_world.specs.Worlds.{size_in, sizes_in}
 use Rattle.mgs_world.proofs.Uses.{sum_at}
 use Rattle.mgs_world.proofs.Marks.{is_same, found_same, found_other}
-use Rattle.mgs_world.proofs.Worlds.{selected_window, spot_once, one_use}
+use Rattle.mgs_world.proofs.Worlds.{selected_window, window_marks_once, one_use}
 
 pub one_if_most : (b : Bool) → one_if b ≤ 1
 one_if_most true = omega arith
@@ -31,70 +31,70 @@ pub some_from : {A : Type 0} (o : Option A) → IsSome o → (a : A) × (o ≡ S
 some_from None h = cc
 some_from (Some a) h = (a, refl)
 
-kept_from : (o : Option Kept) (i : ℕ) → IsSome (mark_in (kept_or_none o).marks i) → IsSome o
-kept_from None i h = cc
-kept_from (Some k) i h = refl
+marked_from : (o : Option MarkedBuffer) (i : ℕ) → IsSome (mark_in (marked_or_none o).marks i) → IsSome o
+marked_from None i h = cc
+marked_from (Some k) i h = refl
 
 -- a mark in use is one of a buffer that is kept
-pub mark_is_kept : (n : List ℕ) (i : ℕ) (ks : List Kept) → IsMark n i ks → IsKept n ks
-mark_is_kept n i ks h = kept_from (find (kept_named n) ks) i h
+pub mark_is_kept : (n : List ℕ) (i : ℕ) (ks : List MarkedBuffer) → IsMark n i ks → HasBuffer n ks
+mark_is_kept n i ks h = marked_from (find (marked_named n) ks) i h
 
 -- a session or a window of a list
 sum_get : {A : Type 0} (used : A → ℕ) (xs : List A) (i : ℕ) (x : A) → x ≡ get_or xs i x → i < length xs → used x ≤ sum_of used xs
 sum_get used xs i x is l = sum_at used x xs i (slice_get-get_or xs i x l ∙ ap (λ y. Some y) (sym is))
 
-pub session_sound : (ks : List Kept) (xs : List Session) (i : ℕ) (x : Session) → IsSound ks xs → x ≡ get_or xs i x → i < length xs → IsSessionSound ks x
+pub session_sound : (ks : List MarkedBuffer) (xs : List Session) (i : ℕ) (x : Session) → IsSound ks xs → x ≡ get_or xs i x → i < length xs → IsSessionSound ks x
 session_sound ks xs i x sound is l = record { once = λ n m. omega (arith, sound.once n m, sum_get (session_uses n m) xs i x is l) }
 
-pub window_sound : (ks : List Kept) (x : Session) (i : ℕ) (w : Window) → IsSessionSound ks x → w ≡ get_or x.windows.windows i w → i < length x.windows.windows → IsWindowSound ks w
+pub window_sound : (ks : List MarkedBuffer) (x : Session) (i : ℕ) (w : Window) → IsSessionSound ks x → w ≡ get_or x.windows.windows i w → i < length x.windows.windows → IsWindowSound ks w
 window_sound ks x i w sound is l = record { once = λ n m. omega (arith, sound.once n m, sum_get (window_uses n m) x.windows.windows i w is l) }
 
 -- what a window shows is in use
-pub point_used : (x : Spot) → 1 ≤ spot_uses x.name x.point (Some x)
-point_used x = omega (arith, spot_once x)
+pub point_used : (x : WindowMarks) → 1 ≤ window_marks_uses x.name x.point (Some x)
+point_used x = omega (arith, window_marks_once x)
 
--- how often a spot uses its top
-pub top_once : (x : Spot) → spot_uses x.name x.top (Some x) ≡ one_if (nat_eq x.point x.top) + option_uses x.top x.mark + 1
+-- how often a window's marks uses its top
+pub top_once : (x : WindowMarks) → window_marks_uses x.name x.top (Some x) ≡ one_if (nat_eq x.point x.top) + option_uses x.top x.mark + 1
 top_once x =
     let s : same_name x.name x.name ≡ true = is_same x.name x.name refl in
     rw (s, one_use x.top x.top refl) refl
 
-pub top_used : (x : Spot) → 1 ≤ spot_uses x.name x.top (Some x)
+pub top_used : (x : WindowMarks) → 1 ≤ window_marks_uses x.name x.top (Some x)
 top_used x = omega (arith, top_once x)
 
-pub mark_used : (x : Spot) (m : ℕ) → x.mark ≡ Some m → 1 ≤ spot_uses x.name m (Some x)
+pub mark_used : (x : WindowMarks) (m : ℕ) → x.mark ≡ Some m → 1 ≤ window_marks_uses x.name m (Some x)
 mark_used x m is =
     let s : same_name x.name x.name ≡ true = is_same x.name x.name refl in
     let u : option_uses m x.mark ≡ 1 = ap (option_uses m) is ∙ one_use m m refl in
     rw s (omega (arith, u))
 
-in_use_mark : (ks : List Kept) (n : List ℕ) (i : ℕ) → 1 ≤ in_use n i ks → IsMark n i ks
-in_use_mark ks n i h = one_if_is (is_some (mark_in (kept_at n ks).marks i)) h
+in_use_mark : (ks : List MarkedBuffer) (n : List ℕ) (i : ℕ) → 1 ≤ in_use n i ks → IsMark n i ks
+in_use_mark ks n i h = one_if_is (is_some (mark_in (marked_at n ks).marks i)) h
 
-pub window_point : (ks : List Kept) (w : Window) (x : Spot) → IsWindowSound ks w → w.shows ≡ Some x → IsMark x.name x.point ks
+pub window_point : (ks : List MarkedBuffer) (w : Window) (x : WindowMarks) → IsWindowSound ks w → w.shows ≡ Some x → IsMark x.name x.point ks
 window_point ks w x sound is =
-    let u : window_uses x.name x.point w ≡ spot_uses x.name x.point (Some x) = ap (spot_uses x.name x.point) is in
+    let u : window_uses x.name x.point w ≡ window_marks_uses x.name x.point (Some x) = ap (window_marks_uses x.name x.point) is in
     in_use_mark ks x.name x.point (omega (arith, sound.once x.name x.point, u, point_used x))
 
 -- the selected window's point
-selected_point : (ks : List Kept) (h : Session) (x : Spot) → IsSessionSound ks h → spot_of h ≡ Some x → IsMark x.name x.point ks
+selected_point : (ks : List MarkedBuffer) (h : Session) (x : WindowMarks) → IsSessionSound ks h → window_marks_of h ≡ Some x → IsMark x.name x.point ks
 selected_point ks h x sound sel =
     let got = selected_window (slice_get h.windows.windows h.windows.selected) x sel in
-    let u : window_uses x.name x.point got.0 ≡ spot_uses x.name x.point (Some x) = ap (spot_uses x.name x.point) got.2 in
+    let u : window_uses x.name x.point got.0 ≡ window_marks_uses x.name x.point (Some x) = ap (window_marks_uses x.name x.point) got.2 in
     in_use_mark ks x.name x.point (omega (arith, sound.once x.name x.point, u, point_used x, sum_at (window_uses x.name x.point) got.0 h.windows.windows h.windows.selected got.1))
 
 -- MARKS STAY IN USE
 
-in_use_kept : (n m : List ℕ) (i : ℕ) (f : Kept → Kept) (ks : List Kept) → ((k : Kept) → (f k).buffer.name ≡ k.buffer.name) → ((k : Kept) → one_if (is_some (mark_in k.marks i)) ≤ one_if (is_some (mark_in (f k).marks i))) → in_use m i ks ≤ in_use m i (change_first (kept_named n) f ks)
+in_use_kept : (n m : List ℕ) (i : ℕ) (f : MarkedBuffer → MarkedBuffer) (ks : List MarkedBuffer) → ((k : MarkedBuffer) → (f k).buffer.name ≡ k.buffer.name) → ((k : MarkedBuffer) → one_if (is_some (mark_in k.marks i)) ≤ one_if (is_some (mark_in (f k).marks i))) → in_use m i ks ≤ in_use m i (change_first (marked_named n) f ks)
 in_use_kept n m i f ks name more =
-    let use_of : Option Kept → ℕ = λ o. one_if (is_some (mark_in (kept_or_none o).marks i)) in
-    let mapped : (o : Option Kept) → use_of o ≤ use_of (option_map f o) =
+    let use_of : Option MarkedBuffer → ℕ = λ o. one_if (is_some (mark_in (marked_or_none o).marks i)) in
+    let mapped : (o : Option MarkedBuffer) → use_of o ≤ use_of (option_map f o) =
     λ o. elim o as (λ o. use_of o ≤ use_of (option_map f o)) [ None ↦ omega arith | Some k ↦ more k ] in
-    let goal : Type 0 = in_use m i ks ≤ in_use m i (change_first (kept_named n) f ks) in
+    let goal : Type 0 = in_use m i ks ≤ in_use m i (change_first (marked_named n) f ks) in
     let go : (r : Bool) → same_name n m ≡ r → goal =
     λ r. elim r as (λ r. same_name n m ≡ r → goal) [
-      | true ↦ λ e. subst (λ (o : Option Kept). use_of (find (kept_named m) ks) ≤ use_of o) (sym (found_same n m f ks name e)) (mapped (find (kept_named m) ks))
-      | false ↦ λ e. subst (λ (o : Option Kept). use_of (find (kept_named m) ks) ≤ use_of o) (sym (found_other n m f ks name e)) (omega arith)
+      | true ↦ λ e. subst (λ (o : Option MarkedBuffer). use_of (find (marked_named m) ks) ≤ use_of o) (sym (found_same n m f ks name e)) (mapped (find (marked_named m) ks))
+      | false ↦ λ e. subst (λ (o : Option MarkedBuffer). use_of (find (marked_named m) ks) ≤ use_of o) (sym (found_other n m f ks name e)) (omega arith)
     ]
     in go (same_name n m) refl
 
@@ -111,28 +111,28 @@ placed_use (m ∷ ms) zero p (suc i) = omega arith
 placed_use (m ∷ ms) (suc id) p zero = omega arith
 placed_use (m ∷ ms) (suc id) p (suc i) = placed_use ms id p i
 
-in_use_edited : (n : List ℕ) (a b : ℕ) (put : List ℕ) (ks : List Kept) (m : List ℕ) (i : ℕ) → in_use m i ks ≤ in_use m i (change_first (kept_named n) (kept_edited a b put) ks)
-in_use_edited n a b put ks m i = in_use_kept n m i (kept_edited a b put) ks (λ k. refl) (λ k. shifted_use a b (length put) k.marks i)
+in_use_edited : (n : List ℕ) (a b : ℕ) (put : List ℕ) (ks : List MarkedBuffer) (m : List ℕ) (i : ℕ) → in_use m i ks ≤ in_use m i (change_first (marked_named n) (marked_edited a b put) ks)
+in_use_edited n a b put ks m i = in_use_kept n m i (marked_edited a b put) ks (λ k. refl) (λ k. shifted_use a b (length put) k.marks i)
 
-pub in_use_placed : (n : List ℕ) (id p : ℕ) (ks : List Kept) (m : List ℕ) (i : ℕ) → in_use m i ks ≤ in_use m i (change_first (kept_named n) (kept_placed id p) ks)
-in_use_placed n id p ks m i = in_use_kept n m i (kept_placed id p) ks (λ k. refl) (λ k. placed_use k.marks id p i)
+pub in_use_placed : (n : List ℕ) (id p : ℕ) (ks : List MarkedBuffer) (m : List ℕ) (i : ℕ) → in_use m i ks ≤ in_use m i (change_first (marked_named n) (marked_placed id p) ks)
+in_use_placed n id p ks m i = in_use_kept n m i (marked_placed id p) ks (λ k. refl) (λ k. placed_use k.marks id p i)
 
-pub sound_more : (ks ls : List Kept) (xs : List Session) → ((m : List ℕ) (i : ℕ) → in_use m i ks ≤ in_use m i ls) → IsSound ks xs → IsSound ls xs
+pub sound_more : (ks ls : List MarkedBuffer) (xs : List Session) → ((m : List ℕ) (i : ℕ) → in_use m i ks ≤ in_use m i ls) → IsSound ks xs → IsSound ls xs
 sound_more ks ls xs more sound = record { once = λ m i. omega (arith, sound.once m i, more m i) }
 
-pub sound_edited : (n : List ℕ) (a b : ℕ) (put : List ℕ) (ks : List Kept) (xs : List Session) → IsSound ks xs → IsSound (change_first (kept_named n) (kept_edited a b put) ks) xs
+pub sound_edited : (n : List ℕ) (a b : ℕ) (put : List ℕ) (ks : List MarkedBuffer) (xs : List Session) → IsSound ks xs → IsSound (change_first (marked_named n) (marked_edited a b put) ks) xs
 sound_edited n a b put ks xs sound = sound_more ks _ xs (in_use_edited n a b put ks) sound
 
-pub sound_placed : (n : List ℕ) (id p : ℕ) (ks : List Kept) (xs : List Session) → IsSound ks xs → IsSound (change_first (kept_named n) (kept_placed id p) ks) xs
+pub sound_placed : (n : List ℕ) (id p : ℕ) (ks : List MarkedBuffer) (xs : List Session) → IsSound ks xs → IsSound (change_first (marked_named n) (marked_placed id p) ks) xs
 sound_placed n id p ks xs sound = sound_more ks _ xs (in_use_placed n id p ks) sound
 
-mark_more : (ks ls : List Kept) (n : List ℕ) (i : ℕ) → in_use n i ks ≤ in_use n i ls → IsMark n i ks → IsMark n i ls
+mark_more : (ks ls : List MarkedBuffer) (n : List ℕ) (i : ℕ) → in_use n i ks ≤ in_use n i ls → IsMark n i ks → IsMark n i ls
 mark_more ks ls n i more mark =
-    let t : one_if (is_some (mark_in (kept_at n ks).marks i)) ≡ 1 = rw mark refl in
+    let t : one_if (is_some (mark_in (marked_at n ks).marks i)) ≡ 1 = rw mark refl in
     in_use_mark ls n i (omega (arith, t, more))
 
-pub mark_edited_used : (n m : List ℕ) (a b : ℕ) (put : List ℕ) (ks : List Kept) (i : ℕ) → IsMark m i ks → IsMark m i (change_first (kept_named n) (kept_edited a b put) ks)
-mark_edited_used n m a b put ks i mark = mark_more ks (change_first (kept_named n) (kept_edited a b put) ks) m i (in_use_edited n a b put ks m i) mark
+pub mark_edited_used : (n m : List ℕ) (a b : ℕ) (put : List ℕ) (ks : List MarkedBuffer) (i : ℕ) → IsMark m i ks → IsMark m i (change_first (marked_named n) (marked_edited a b put) ks)
+mark_edited_used n m a b put ks i mark = mark_more ks (change_first (marked_named n) (marked_edited a b put) ks) m i (in_use_edited n a b put ks m i) mark
 
 -- A SESSION CHANGES
 
@@ -141,22 +141,22 @@ sum_set used [] at x y is same = refl
 sum_set used (z ∷ xs) zero x y is same = let u : used x ≡ used z = ap used is in omega (arith, same, u)
 sum_set used (z ∷ xs) (suc at) x y is same = omega (arith, sum_set used xs at x y is same)
 
-pub sound_set : (ks : List Kept) (xs : List Session) (at : ℕ) (h y : Session) → h ≡ get_or xs at h → ((n : List ℕ) (i : ℕ) → session_uses n i y ≡ session_uses n i h) → IsSound ks xs → IsSound ks (slice_set xs at y)
+pub sound_set : (ks : List MarkedBuffer) (xs : List Session) (at : ℕ) (h y : Session) → h ≡ get_or xs at h → ((n : List ℕ) (i : ℕ) → session_uses n i y ≡ session_uses n i h) → IsSound ks xs → IsSound ks (slice_set xs at y)
 sound_set ks xs at h y is same sound = record {
   once = λ n i. omega (arith, sound.once n i, sum_set (session_uses n i) xs at h y is (same n i));
 }
 
 -- the text after an insertion is one longer
-pub text_edited : (n : List ℕ) (p c : ℕ) (ks : List Kept) → IsKept n ks → p ≤ length (kept_at n ks).buffer.text → length (kept_at n (change_first (kept_named n) (kept_edited p p (c ∷ [])) ks)).buffer.text ≡ length (kept_at n ks).buffer.text + 1
+pub text_edited : (n : List ℕ) (p c : ℕ) (ks : List MarkedBuffer) → HasBuffer n ks → p ≤ length (marked_at n ks).buffer.text → length (marked_at n (change_first (marked_named n) (marked_edited p p (c ∷ [])) ks)).buffer.text ≡ length (marked_at n ks).buffer.text + 1
 text_edited n p c ks kept within =
-    let k = some_from (find (kept_named n) ks) kept in
-    let t = (kept_at n ks).buffer.text in
-    let e : kept_at n (change_first (kept_named n) (kept_edited p p (c ∷ [])) ks) ≡ kept_edited p p (c ∷ []) (kept_at n ks) =
-    ap kept_or_none (found_same n n (kept_edited p p (c ∷ [])) ks (λ k. refl) (is_same n n refl) ∙ ap (option_map (kept_edited p p (c ∷ []))) k.1)
-    ∙ ap (λ o. kept_edited p p (c ∷ []) (kept_or_none o)) (sym k.1) in
-    ap (λ (k : Kept). length k.buffer.text) e ∙ omega (arith, length-append (take p t ++ c ∷ []) (drop p t), length-append (take p t) (c ∷ []), length-take p t, length-drop p t, within)
+    let k = some_from (find (marked_named n) ks) kept in
+    let t = (marked_at n ks).buffer.text in
+    let e : marked_at n (change_first (marked_named n) (marked_edited p p (c ∷ [])) ks) ≡ marked_edited p p (c ∷ []) (marked_at n ks) =
+    ap marked_or_none (found_same n n (marked_edited p p (c ∷ [])) ks (λ k. refl) (is_same n n refl) ∙ ap (option_map (marked_edited p p (c ∷ []))) k.1)
+    ∙ ap (λ o. marked_edited p p (c ∷ []) (marked_or_none o)) (sym k.1) in
+    ap (λ (k : MarkedBuffer). length k.buffer.text) e ∙ omega (arith, length-append (take p t ++ c ∷ []) (drop p t), length-append (take p t) (c ∷ []), length-take p t, length-drop p t, within)
 
-pub session_more : (ks ls : List Kept) (x : Session) → ((m : List ℕ) (i : ℕ) → in_use m i ks ≤ in_use m i ls) → IsSessionSound ks x → IsSessionSound ls x
+pub session_more : (ks ls : List MarkedBuffer) (x : Session) → ((m : List ℕ) (i : ℕ) → in_use m i ks ≤ in_use m i ls) → IsSessionSound ks x → IsSessionSound ls x
 session_more ks ls x more sound = record { once = λ m i. omega (arith, sound.once m i, more m i) }
 
 -- the sizes stay where a session keeps its own
@@ -165,12 +165,12 @@ sizes_set [] at h y is same = refl
 sizes_set (x ∷ xs) zero h y is same = ap (λ s. s ∷ sizes_in xs) (same ∙ ap size_in is)
 sizes_set (x ∷ xs) (suc at) h y is same = ap (λ ss. size_in x ∷ ss) (sizes_set xs at h y is same)
 
-pub session_shown : (o : Option Session) (x : Spot) → option_and_then spot_of o ≡ Some x → (h : Session) × (o ≡ Some h) × (spot_of h ≡ Some x)
+pub session_shown : (o : Option Session) (x : WindowMarks) → option_and_then window_marks_of o ≡ Some x → (h : Session) × (o ≡ Some h) × (window_marks_of h ≡ Some x)
 session_shown None x e = cc
 session_shown (Some h) x e = (h, refl, e)
 
 -- the acting session's point is a mark in use
-pub acting_mark : (ks : List Kept) (xs : List Session) (at : ℕ) (x : Spot) → IsSound ks xs → option_and_then spot_of (slice_get xs at) ≡ Some x → IsMark x.name x.point ks
+pub acting_mark : (ks : List MarkedBuffer) (xs : List Session) (at : ℕ) (x : WindowMarks) → IsSound ks xs → option_and_then window_marks_of (slice_get xs at) ≡ Some x → IsMark x.name x.point ks
 acting_mark ks xs at x sound sel =
     let got = session_shown (slice_get xs at) x sel in
     let held : IsSessionSound ks got.0 = record { once = λ n i. omega (arith, sound.once n i, sum_at (session_uses n i) got.0 xs at got.1) } in

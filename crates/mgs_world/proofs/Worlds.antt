@@ -11,13 +11,13 @@ use Rattle.mgs_model.specs.Outcome.{At, Keep, Keep_mark}
 use Rattle.mgs_model.specs.Apply.{change_first, change_at, buffer_edited, window_moved, session_moved, window_adjusted}
 use Rattle.mgs_model.proofs.Firsts.{map-change_first}
 use Rattle.mgs_marks.specs.Marks.{mark_in}
-use Rattle.mgs_buffers.specs.Kept.{Kept, kept_named, kept_at, mark_at, kept_edited, kept_placed}
-use Rattle.mgs_windows.specs.declared.Spot.{Spot}
+use Rattle.mgs_buffers.specs.MarkedBuffer.{MarkedBuffer, marked_named, marked_at, mark_at, marked_edited, marked_placed}
+use Rattle.mgs_windows.specs.declared.WindowMarks.{WindowMarks}
 use Rattle.mgs_windows.specs.declared.Window.{Window}
 use Rattle.mgs_session.specs.declared.Session.{Session}
-use Rattle.mgs_session.specs.Told.{spot_of}
+use Rattle.mgs_session.specs.Told.{window_marks_of}
 use Rattle.mgs_world.specs.Worlds.{window_shown, window_of, session_of, buffers_of, session_id}
-use Rattle.mgs_world.specs.Sound.{one_if, option_uses, spot_uses, window_uses, session_uses, uses}
+use Rattle.mgs_world.specs.Sound.{one_if, option_uses, window_marks_uses, window_uses, session_uses, uses}
 use Rattle.mgs_world.proofs.Uses.{map_unused, map_used_at, map_used_first, sum_at, sum_found}
 use Rattle.mgs_world.proofs.Marks.{is_same, mark_edited, mark_kept, mark_unused, marks_unused, mark_placed, apart_from}
 
@@ -52,10 +52,10 @@ same_world directory bs bs' ss ss' next eb es =
 -- AN EDIT
 
 -- an edit of what is kept moves the positions of a window
-window_edited : (n : List ℕ) (a b : ℕ) (put : List ℕ) (ks : List Kept) (height : ℕ) (o : Option Spot) → window_shown (change_first (kept_named n) (kept_edited a b put) ks) height o ≡ window_moved n (shift a b (length put)) (window_shown ks height o)
+window_edited : (n : List ℕ) (a b : ℕ) (put : List ℕ) (ks : List MarkedBuffer) (height : ℕ) (o : Option WindowMarks) → window_shown (change_first (marked_named n) (marked_edited a b put) ks) height o ≡ window_moved n (shift a b (length put)) (window_shown ks height o)
 window_edited n a b put ks height None = refl
 window_edited n a b put ks height (Some x) =
-    let ks' = change_first (kept_named n) (kept_edited a b put) ks in
+    let ks' = change_first (marked_named n) (marked_edited a b put) ks in
     let move = shift a b (length put) in
     let goal : Bool → Type 0 = λ r. window_shown ks' height (Some x) ≡ record (window_shown ks height (Some x)) {
       point = cond r (move (mark_at x.name ks x.point)) (mark_at x.name ks x.point);
@@ -65,23 +65,23 @@ window_edited n a b put ks height (Some x) =
     let go : (r : Bool) → same_name n x.name ≡ r → goal r =
     λ r. elim r as (λ r. same_name n x.name ≡ r → goal r) [
       | true ↦ λ e. same_window (Buffer_of x.name) _ _ _ _ _ _ 0 height (mark_edited n x.name a b put ks x.point e) (option_mapped_twice (mark_at x.name ks') move (mark_at x.name ks) (λ id. mark_edited n x.name a b put ks id e) x.mark) (mark_edited n x.name a b put ks x.top e)
-      | false ↦ λ e. same_window (Buffer_of x.name) _ _ _ _ _ _ 0 height (mark_kept n x.name (kept_edited a b put) ks x.point (λ k. refl) e) (option_mapped (mark_at x.name ks') (mark_at x.name ks) (λ id. mark_kept n x.name (kept_edited a b put) ks id (λ k. refl) e) x.mark) (mark_kept n x.name (kept_edited a b put) ks x.top (λ k. refl) e)
+      | false ↦ λ e. same_window (Buffer_of x.name) _ _ _ _ _ _ 0 height (mark_kept n x.name (marked_edited a b put) ks x.point (λ k. refl) e) (option_mapped (mark_at x.name ks') (mark_at x.name ks) (λ id. mark_kept n x.name (marked_edited a b put) ks id (λ k. refl) e) x.mark) (mark_kept n x.name (marked_edited a b put) ks x.top (λ k. refl) e)
     ]
     in go (same_name n x.name) refl
 
-session_edited : (n : List ℕ) (a b : ℕ) (put : List ℕ) (ks : List Kept) (x : Session) → session_of (change_first (kept_named n) (kept_edited a b put) ks) x ≡ session_moved n (shift a b (length put)) (session_of ks x)
+session_edited : (n : List ℕ) (a b : ℕ) (put : List ℕ) (ks : List MarkedBuffer) (x : Session) → session_of (change_first (marked_named n) (marked_edited a b put) ks) x ≡ session_moved n (shift a b (length put)) (session_of ks x)
 session_edited n a b put ks x =
-    let ks' = change_first (kept_named n) (kept_edited a b put) ks in
+    let ks' = change_first (marked_named n) (marked_edited a b put) ks in
     same_windows (session_of ks x) _ _
     (mapped_twice (window_of ks') (window_moved n (shift a b (length put))) (window_of ks) (λ (w : Window). window_edited n a b put ks w.height w.shows) x.windows.windows)
 
-pub buffers_edited : (n : List ℕ) (a b : ℕ) (put : List ℕ) (ks : List Kept) → buffers_of (change_first (kept_named n) (kept_edited a b put) ks) ≡ change_first (is_named n) (buffer_edited a b put) (buffers_of ks)
+pub buffers_edited : (n : List ℕ) (a b : ℕ) (put : List ℕ) (ks : List MarkedBuffer) → buffers_of (change_first (marked_named n) (marked_edited a b put) ks) ≡ change_first (is_named n) (buffer_edited a b put) (buffers_of ks)
 buffers_edited n a b put ks =
-    map-change_first (λ (k : Kept). k.buffer) (kept_named n) (is_named n) (kept_edited a b put) (buffer_edited a b put) (λ k. refl) (λ k e. refl) ks
+    map-change_first (λ (k : MarkedBuffer). k.buffer) (marked_named n) (is_named n) (marked_edited a b put) (buffer_edited a b put) (λ k. refl) (λ k e. refl) ks
 
-pub sessions_edited : (n : List ℕ) (a b : ℕ) (put : List ℕ) (ks : List Kept) (xs : List Session) → map (session_of (change_first (kept_named n) (kept_edited a b put) ks)) xs ≡ map (session_moved n (shift a b (length put))) (map (session_of ks) xs)
+pub sessions_edited : (n : List ℕ) (a b : ℕ) (put : List ℕ) (ks : List MarkedBuffer) (xs : List Session) → map (session_of (change_first (marked_named n) (marked_edited a b put) ks)) xs ≡ map (session_moved n (shift a b (length put))) (map (session_of ks) xs)
 sessions_edited n a b put ks xs =
-    mapped_twice (session_of (change_first (kept_named n) (kept_edited a b put) ks)) (session_moved n (shift a b (length put))) (session_of ks) (session_edited n a b put ks) xs
+    mapped_twice (session_of (change_first (marked_named n) (marked_edited a b put) ks)) (session_moved n (shift a b (length put))) (session_of ks) (session_edited n a b put ks) xs
 
 -- A MARK IS PLACED: windows that do not use it stay
 
@@ -89,21 +89,21 @@ pub used_parts : (r : Bool) (a b c : ℕ) → cond r (a + b + c) 0 ≡ 0 → r �
 used_parts true a b c h e = (omega (arith, h), omega (arith, h), omega (arith, h))
 used_parts false a b c h e = cc
 
-spot_unused : (n : List ℕ) (id p : ℕ) (ks : List Kept) (height : ℕ) (o : Option Spot) → spot_uses n id o ≡ 0 → window_shown (change_first (kept_named n) (kept_placed id p) ks) height o ≡ window_shown ks height o
-spot_unused n id p ks height None h = refl
-spot_unused n id p ks height (Some x) h =
+window_marks_unused : (n : List ℕ) (id p : ℕ) (ks : List MarkedBuffer) (height : ℕ) (o : Option WindowMarks) → window_marks_uses n id o ≡ 0 → window_shown (change_first (marked_named n) (marked_placed id p) ks) height o ≡ window_shown ks height o
+window_marks_unused n id p ks height None h = refl
+window_marks_unused n id p ks height (Some x) h =
     let parts = λ (s : same_name n x.name ≡ true). used_parts (same_name n x.name) (one_if (nat_eq x.point id)) (option_uses id x.mark) (one_if (nat_eq x.top id)) h s in
     same_window (Buffer_of x.name) _ _ _ _ _ _ 0 height
     (mark_unused n x.name id p ks x.point (λ s. apart_from x.point id (parts s).0))
     (marks_unused n x.name id p ks x.mark (λ s. (parts s).1))
     (mark_unused n x.name id p ks x.top (λ s. apart_from x.top id (parts s).2))
 
-window_unused : (n : List ℕ) (id p : ℕ) (ks : List Kept) (w : Window) → window_uses n id w ≡ 0 → window_of (change_first (kept_named n) (kept_placed id p) ks) w ≡ window_of ks w
-window_unused n id p ks w h = spot_unused n id p ks w.height w.shows h
+window_unused : (n : List ℕ) (id p : ℕ) (ks : List MarkedBuffer) (w : Window) → window_uses n id w ≡ 0 → window_of (change_first (marked_named n) (marked_placed id p) ks) w ≡ window_of ks w
+window_unused n id p ks w h = window_marks_unused n id p ks w.height w.shows h
 
-session_unused : (n : List ℕ) (id p : ℕ) (ks : List Kept) (x : Session) → session_uses n id x ≡ 0 → session_of (change_first (kept_named n) (kept_placed id p) ks) x ≡ session_of ks x
+session_unused : (n : List ℕ) (id p : ℕ) (ks : List MarkedBuffer) (x : Session) → session_uses n id x ≡ 0 → session_of (change_first (marked_named n) (marked_placed id p) ks) x ≡ session_of ks x
 session_unused n id p ks x none =
-    let ks' = change_first (kept_named n) (kept_placed id p) ks in
+    let ks' = change_first (marked_named n) (marked_placed id p) ks in
     same_windows (session_of ks x) _ _ (map_unused (window_uses n id) (window_of ks') (window_of ks) (window_unused n id p ks) x.windows.windows (omega (arith, none)))
 
 -- A POINT IS PLACED: the selected window has it there
@@ -111,14 +111,14 @@ session_unused n id p ks x none =
 pub one_use : (a b : ℕ) → a ≡ b → one_if (nat_eq a b) ≡ 1
 one_use a b e = let t : nat_eq a b ≡ true = eq-eqb a b e in rw t refl
 
-pub spot_once : (x : Spot) → spot_uses x.name x.point (Some x) ≡ 1 + (option_uses x.point x.mark + one_if (nat_eq x.top x.point))
-spot_once x =
+pub window_marks_once : (x : WindowMarks) → window_marks_uses x.name x.point (Some x) ≡ 1 + (option_uses x.point x.mark + one_if (nat_eq x.top x.point))
+window_marks_once x =
     let s : same_name x.name x.name ≡ true = is_same x.name x.name refl in
     rw (s, one_use x.point x.point refl) (omega arith)
 
-spot_placed : (p : ℕ) (ks : List Kept) (height : ℕ) (x : Spot) → IsSome (mark_in (kept_at x.name ks).marks x.point) → spot_uses x.name x.point (Some x) ≤ 1 → window_shown (change_first (kept_named x.name) (kept_placed x.point p) ks) height (Some x) ≡ window_adjusted None (At p) Keep_mark Keep (window_shown ks height (Some x))
-spot_placed p ks height x mark once =
-    let u = spot_once x in
+window_marks_placed : (p : ℕ) (ks : List MarkedBuffer) (height : ℕ) (x : WindowMarks) → IsSome (mark_in (marked_at x.name ks).marks x.point) → window_marks_uses x.name x.point (Some x) ≤ 1 → window_shown (change_first (marked_named x.name) (marked_placed x.point p) ks) height (Some x) ≡ window_adjusted None (At p) Keep_mark Keep (window_shown ks height (Some x))
+window_marks_placed p ks height x mark once =
+    let u = window_marks_once x in
     let m : option_uses x.point x.mark ≡ 0 = omega (arith, u, once) in
     let t : one_if (nat_eq x.top x.point) ≡ 0 = omega (arith, u, once) in
     same_window (Buffer_of x.name) _ _ _ _ _ _ 0 height
@@ -126,7 +126,7 @@ spot_placed p ks height x mark once =
     (marks_unused x.name x.name x.point p ks x.mark (λ s. m))
     (mark_unused x.name x.name x.point p ks x.top (λ s. apart_from x.top x.point t))
 
-pub selected_window : (o : Option Window) (x : Spot) → option_and_then (λ (w : Window). w.shows) o ≡ Some x → (w : Window) × (o ≡ Some w) × (w.shows ≡ Some x)
+pub selected_window : (o : Option Window) (x : WindowMarks) → option_and_then (λ (w : Window). w.shows) o ≡ Some x → (w : Window) × (o ≡ Some w) × (w.shows ≡ Some x)
 selected_window None x h = cc
 selected_window (Some w) x h = (w, refl, h)
 
@@ -134,18 +134,18 @@ selected_window (Some w) x h = (w, refl, h)
 abbrev pub point_at : ℕ → model.Session → model.Session
 point_at p x = record x { windows = change_at x.selected (window_adjusted None (At p) Keep_mark Keep) x.windows }
 
-session_placed : (p : ℕ) (ks : List Kept) (h : Session) (x : Spot) → spot_of h ≡ Some x → IsSome (mark_in (kept_at x.name ks).marks x.point) → session_uses x.name x.point h ≤ 1 → session_of (change_first (kept_named x.name) (kept_placed x.point p) ks) h ≡ point_at p (session_of ks h)
+session_placed : (p : ℕ) (ks : List MarkedBuffer) (h : Session) (x : WindowMarks) → window_marks_of h ≡ Some x → IsSome (mark_in (marked_at x.name ks).marks x.point) → session_uses x.name x.point h ≤ 1 → session_of (change_first (marked_named x.name) (marked_placed x.point p) ks) h ≡ point_at p (session_of ks h)
 session_placed p ks h x sel mark once =
     let n = x.name in
     let id = x.point in
-    let ks' = change_first (kept_named n) (kept_placed id p) ks in
+    let ks' = change_first (marked_named n) (marked_placed id p) ks in
     let got = selected_window (slice_get h.windows.windows h.windows.selected) x sel in
     let w = got.0 in
-    let used_is : window_uses n id w ≡ spot_uses n id (Some x) = ap (spot_uses n id) got.2 in
+    let used_is : window_uses n id w ≡ window_marks_uses n id (Some x) = ap (window_marks_uses n id) got.2 in
     let in_sum = sum_at (window_uses n id) w h.windows.windows h.windows.selected got.1 in
-    let u = spot_once x in
+    let u = window_marks_once x in
     let does : window_of ks' w ≡ window_adjusted None (At p) Keep_mark Keep (window_of ks w) =
-    ap (window_shown ks' w.height) got.2 ∙ spot_placed p ks w.height x mark (omega (arith, used_is, in_sum, once)) ∙ sym (ap (λ (o : Option Spot). window_adjusted None (At p) Keep_mark Keep (window_shown ks w.height o)) got.2) in
+    ap (window_shown ks' w.height) got.2 ∙ window_marks_placed p ks w.height x mark (omega (arith, used_is, in_sum, once)) ∙ sym (ap (λ (o : Option WindowMarks). window_adjusted None (At p) Keep_mark Keep (window_shown ks w.height o)) got.2) in
     same_windows (session_of ks h) _ _
     (map_used_at (window_uses n id) (window_of ks') (window_of ks) (window_adjusted None (At p) Keep_mark Keep) (window_unused n id p ks) w (omega (arith, used_is, u)) does h.windows.windows h.windows.selected got.1 (omega (arith, once)))
 
@@ -157,18 +157,18 @@ map-change_first_same {A = A} {B = B} g p f same (x ∷ xs) =
       | false ↦ ap (λ ys. g x ∷ ys) (map-change_first_same g p f same xs)
     ]
 
-pub buffers_placed : (n : List ℕ) (id p : ℕ) (ks : List Kept) → buffers_of (change_first (kept_named n) (kept_placed id p) ks) ≡ buffers_of ks
-buffers_placed n id p ks = map-change_first_same (λ (k : Kept). k.buffer) (kept_named n) (kept_placed id p) (λ k. refl) ks
+pub buffers_placed : (n : List ℕ) (id p : ℕ) (ks : List MarkedBuffer) → buffers_of (change_first (marked_named n) (marked_placed id p) ks) ≡ buffers_of ks
+buffers_placed n id p ks = map-change_first_same (λ (k : MarkedBuffer). k.buffer) (marked_named n) (marked_placed id p) (λ k. refl) ks
 
 -- placing the selected point of a session moves that point of the world alone
-pub sessions_placed : (p : ℕ) (ks : List Kept) (xs : List Session) (sid : ℕ) (h : Session) (x : Spot) → find (session_id sid) xs ≡ Some h → spot_of h ≡ Some x → IsSome (mark_in (kept_at x.name ks).marks x.point) → uses x.name x.point xs ≤ 1 → map (session_of (change_first (kept_named x.name) (kept_placed x.point p) ks)) xs ≡ change_first (has_id sid) (point_at p) (map (session_of ks) xs)
+pub sessions_placed : (p : ℕ) (ks : List MarkedBuffer) (xs : List Session) (sid : ℕ) (h : Session) (x : WindowMarks) → find (session_id sid) xs ≡ Some h → window_marks_of h ≡ Some x → IsSome (mark_in (marked_at x.name ks).marks x.point) → uses x.name x.point xs ≤ 1 → map (session_of (change_first (marked_named x.name) (marked_placed x.point p) ks)) xs ≡ change_first (has_id sid) (point_at p) (map (session_of ks) xs)
 sessions_placed p ks xs sid h x found sel mark once =
     let n = x.name in
     let id = x.point in
-    let ks' = change_first (kept_named n) (kept_placed id p) ks in
+    let ks' = change_first (marked_named n) (marked_placed id p) ks in
     let got = selected_window (slice_get h.windows.windows h.windows.selected) x sel in
-    let used_is : window_uses n id got.0 ≡ spot_uses n id (Some x) = ap (spot_uses n id) got.2 in
+    let used_is : window_uses n id got.0 ≡ window_marks_uses n id (Some x) = ap (window_marks_uses n id) got.2 in
     let in_sum = sum_at (window_uses n id) got.0 h.windows.windows h.windows.selected got.1 in
-    let u = spot_once x in
+    let u = window_marks_once x in
     let in_all = sum_found (session_uses n id) (session_id sid) h xs found in
     map_used_first (session_uses n id) (session_of ks') (session_of ks) (point_at p) (session_id sid) (has_id sid) (session_unused n id p ks) (λ a. refl) h (omega (arith, used_is, in_sum, u)) (session_placed p ks h x sel mark (omega (arith, in_all, once))) xs found once

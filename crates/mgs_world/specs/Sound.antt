@@ -2,8 +2,8 @@
 use Rattle.std.specs.Prelude.{ℕ, ◌+◌, ◌≤◌, Bool, true, false, List, [], ◌∷◌, Option, Some, None, nat_eq, is_some, if◌then◌else◌}
 use Rattle.mgs_model.specs.Names.{same_name}
 use Rattle.mgs_marks.specs.Marks.{mark_in}
-use Rattle.mgs_buffers.specs.Kept.{Kept, kept_at}
-use Rattle.mgs_windows.specs.declared.Spot.{Spot}
+use Rattle.mgs_buffers.specs.MarkedBuffer.{MarkedBuffer, marked_at}
+use Rattle.mgs_windows.specs.declared.WindowMarks.{WindowMarks}
 use Rattle.mgs_windows.specs.declared.Window.{Window}
 use Rattle.mgs_session.specs.declared.Session.{Session}
 
@@ -20,13 +20,13 @@ option_uses id None = 0
 option_uses id (Some m) = one_if (nat_eq m id)
 
 -- how often a mark of a buffer is used
-abbrev pub spot_uses : List ℕ → ℕ → Option Spot → ℕ
-spot_uses name id None = 0
-spot_uses name id (Some x) =
+abbrev pub window_marks_uses : List ℕ → ℕ → Option WindowMarks → ℕ
+window_marks_uses name id None = 0
+window_marks_uses name id (Some x) =
     if same_name name x.name then one_if (nat_eq x.point id) + option_uses id x.mark + one_if (nat_eq x.top id) else 0
 
 abbrev pub window_uses : List ℕ → ℕ → Window → ℕ
-window_uses name id x = spot_uses name id x.shows
+window_uses name id x = window_marks_uses name id x.shows
 
 abbrev pub session_uses : List ℕ → ℕ → Session → ℕ
 session_uses name id x = sum_of (window_uses name id) x.windows.windows
@@ -35,17 +35,17 @@ abbrev pub uses : List ℕ → ℕ → List Session → ℕ
 uses name id xs = sum_of (session_uses name id) xs
 
 -- 1 where the mark is in use in its buffer
-abbrev pub in_use : List ℕ → ℕ → List Kept → ℕ
-in_use name id ks = one_if (is_some (mark_in (kept_at name ks).marks id))
+abbrev pub in_use : List ℕ → ℕ → List MarkedBuffer → ℕ
+in_use name id ks = one_if (is_some (mark_in (marked_at name ks).marks id))
 
-pub record IsSound (ks : List Kept) (xs : List Session) : Type 0 where
+pub record IsSound (ks : List MarkedBuffer) (xs : List Session) : Type 0 where
   pub once : (name : List ℕ) (id : ℕ) → uses name id xs ≤ in_use name id ks
 
 -- the marks of one session are in use
-pub record IsSessionSound (ks : List Kept) (x : Session) : Type 0 where
+pub record IsSessionSound (ks : List MarkedBuffer) (x : Session) : Type 0 where
   pub once : (name : List ℕ) (id : ℕ) → session_uses name id x ≤ in_use name id ks
 
-pub record IsWindowSound (ks : List Kept) (x : Window) : Type 0 where
+pub record IsWindowSound (ks : List MarkedBuffer) (x : Window) : Type 0 where
   pub once : (name : List ℕ) (id : ℕ) → window_uses name id x ≤ in_use name id ks
 
 -- one step after another

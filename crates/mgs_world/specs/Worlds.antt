@@ -4,15 +4,15 @@ use Rattle.std.specs.Option.{option_map}
 use Rattle.mgs_model.specs.Access.{Directory}
 use Rattle.mgs_model.specs.World.{World, Buffer, Own, first_own, Nothing, Buffer_of}
 use Rattle.mgs_model.specs.World as model
-use Rattle.mgs_buffers.specs.Kept.{Kept, mark_at}
-use Rattle.mgs_windows.specs.declared.Spot.{Spot}
+use Rattle.mgs_buffers.specs.MarkedBuffer.{MarkedBuffer, mark_at}
+use Rattle.mgs_windows.specs.declared.WindowMarks.{WindowMarks}
 use Rattle.mgs_windows.specs.declared.Window.{Window}
 use Rattle.mgs_session.specs.declared.Session.{Session}
 use Rattle.mgs_model.specs.Picture.{IsSize}
 use Rattle.mgs_model.specs.declared.message.Message.{Message}
 use Rattle.mgs_world.specs.declared.size.Size.{Size}
 
-abbrev pub window_shown : List Kept → ℕ → Option Spot → model.Window
+abbrev pub window_shown : List MarkedBuffer → ℕ → Option WindowMarks → model.Window
 window_shown ks height None = record { shows = Nothing; point = 0; mark = None; top = 0; row = 0; height = height }
 window_shown ks height (Some x) = record {
   shows = Buffer_of x.name;
@@ -23,13 +23,13 @@ window_shown ks height (Some x) = record {
   height = height;
 }
 
-abbrev pub window_of : List Kept → Window → model.Window
+abbrev pub window_of : List MarkedBuffer → Window → model.Window
 window_of ks x = window_shown ks x.height x.shows
 
 abbrev pub own_of : Message → Own
 own_of echo = record first_own { echo = echo }
 
-abbrev pub session_of : List Kept → Session → model.Session
+abbrev pub session_of : List MarkedBuffer → Session → model.Session
 session_of ks x = record {
   id = x.id;
   user = x.user;
@@ -47,10 +47,10 @@ abbrev pub id_after : Option ℕ → ℕ
 id_after None = 2 ^ 64
 id_after (Some id) = id
 
-abbrev pub buffers_of : List Kept → List Buffer
-buffers_of ks = map (λ (k : Kept). k.buffer) ks
+abbrev pub buffers_of : List MarkedBuffer → List Buffer
+buffers_of ks = map (λ (k : MarkedBuffer). k.buffer) ks
 
-abbrev pub world_of : Directory → List Kept → List Session → Option ℕ → World
+abbrev pub world_of : Directory → List MarkedBuffer → List Session → Option ℕ → World
 world_of directory ks sessions next = record {
   directory = directory;
   buffers = buffers_of ks;

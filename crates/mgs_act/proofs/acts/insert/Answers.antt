@@ -3,19 +3,19 @@ use Rattle.mgs_world.proofs.Soundness.{mark_is_kept, mark_edited_used, text_edit
 use Rattle.mgs_act.proofs.acts.insert.Goals as goal
 
 pub edit-requires-clause-kept : goal.edit-requires-clause-kept
-edit-requires-clause-kept g c = mark_is_kept c.args.spot.now.name c.args.spot.now.point c.args.buffers.now c.requires.point
+edit-requires-clause-kept g c = mark_is_kept c.args.window_marks.now.name c.args.window_marks.now.point c.args.buffers.now c.requires.point
 
 pub place-requires-clause-mark : goal.place-requires-clause-mark
 place-requires-clause-mark g c =
-    let x = c.args.spot.now in
+    let x = c.args.window_marks.now in
     rw c.in_ok-edit.ensures.ok (mark_edited_used x.name x.name c.args.place c.args.place (c.args.put ∷ []) c.args.buffers.now x.point c.requires.point)
 
 pub place-requires-clause-kept : goal.place-requires-clause-kept
 place-requires-clause-kept g c =
-    let x = c.args.spot.now in
+    let x = c.args.window_marks.now in
     mark_is_kept x.name x.point c.edit.new.self (place-requires-clause-mark g c)
 
 pub place-requires-clause-within : goal.place-requires-clause-within
 place-requires-clause-within g c =
-    let x = c.args.spot.now in
+    let x = c.args.window_marks.now in
     rw c.in_ok-edit.ensures.ok (omega (arith, c.requires.can.0, text_edited x.name c.args.place c.args.put c.args.buffers.now (mark_is_kept x.name x.point c.args.buffers.now c.requires.point) c.requires.can.0))

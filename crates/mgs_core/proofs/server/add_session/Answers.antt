@@ -8,19 +8,19 @@ use Rattle.mgs_core.proofs.server.add_session.Goals as goal
 
 pub settle-requires : goal.settle-requires
 settle-requires g c =
-    subst (λ (xs : List Session). IsSound c.first_spot.new.buffers xs)
+    subst (λ (xs : List Session). IsSound c.first_window_marks.new.buffers xs)
     (sym (c.deref.ensures.value ∙ c.push_reserved.ensures.items ∙ ap (λ (xs : List Session). xs ++ c.opened.result ∷ []) c.reserve.ensures.items ∙ ap (λ (x : Session). c.args.sessions.now.items ++ x ∷ []) c.opened.ensures))
-    (opened_sound c.args.buffers.now c.first_spot.new.buffers c.args.sessions.now.items c.args.id c.args.user c.args.rows c.args.cols c.in-Ok.shows c.requires.sound c.in-Ok.ensures.ok)
+    (opened_sound c.args.buffers.now c.first_window_marks.new.buffers c.args.sessions.now.items c.args.id c.args.user c.args.rows c.args.cols c.in-Ok.shows c.requires.sound c.in-Ok.ensures.ok)
 
 pub returns-in-Ok-clause-world : goal.returns-in-Ok-clause-world
 returns-in-Ok-clause-world g c =
     ap (λ (ys : List Session). world_of c.args.directory.now c.settle.new.buffers ys (Some (c.args.id + 1))) (sym c.deref.ensures.value)
-    ∙ opened_at c.args.directory.now c.args.buffers.now c.first_spot.new.buffers c.settle.new.buffers c.args.sessions.now.items c.deref.result.now c.args.id c.args.user c.args.rows c.args.cols c.in-Ok.shows
+    ∙ opened_at c.args.directory.now c.args.buffers.now c.first_window_marks.new.buffers c.settle.new.buffers c.args.sessions.now.items c.deref.result.now c.args.id c.args.user c.args.rows c.args.cols c.in-Ok.shows
     c.requires.sound c.in-Ok.ensures.ok c.in-Ok.ensures.name
     (c.deref.ensures.value ∙ c.push_reserved.ensures.items ∙ ap (λ (xs : List Session). xs ++ c.opened.result ∷ []) c.reserve.ensures.items ∙ ap (λ (x : Session). c.args.sessions.now.items ++ x ∷ []) c.opened.ensures)
     c.settle.ensures.world
 
 pub returns-in-Err-clause-err_world : goal.returns-in-Err-clause-err_world
 returns-in-Err-clause-err_world g c next =
-    ap (λ (xs : List Session). world_of c.args.directory.now c.first_spot.new.buffers xs next) c.reserve.ensures.items
-    ∙ world_undone c.args.directory.now c.args.buffers.now c.first_spot.new.buffers c.args.sessions.now.items next c.requires.sound c.in-Err.ensures.err
+    ap (λ (xs : List Session). world_of c.args.directory.now c.first_window_marks.new.buffers xs next) c.reserve.ensures.items
+    ∙ world_undone c.args.directory.now c.args.buffers.now c.first_window_marks.new.buffers c.args.sessions.now.items next c.requires.sound c.in-Err.ensures.err

@@ -9,16 +9,16 @@ use Rattle.mgs_core.proofs.Steps.{closed_none, closed_at}
 use Rattle.mgs_world.proofs.Sessions.{session_none}
 use Rattle.mgs_core.proofs.server.close_in.Goals as goal
 
-pub drop_spots-requires : goal.drop_spots-requires
-drop_spots-requires g c =
+pub drop_all_window_marks-requires : goal.drop_all_window_marks-requires
+drop_all_window_marks-requires g c =
     let within : c.place_of-at.result < length c.args.sessions.now.items = omega (arith, c.place_of-at.ensures.within, ap length c.deref.ensures.value, c.len.ensures, c.if-at-len.false) in
     session_sound c.args.buffers.now c.args.sessions.now.items c.place_of-at.result c.remove-session.result c.requires c.remove-session.ensures.value within
 
 pub settle-requires : goal.settle-requires
 settle-requires g c =
     let within : c.place_of-at.result < length c.args.sessions.now.items = omega (arith, c.place_of-at.ensures.within, ap length c.deref.ensures.value, c.len.ensures, c.if-at-len.false) in
-    subst (λ (xs : List Session). IsSound c.drop_spots.new.buffers xs) (sym (c.deref-2.ensures.value ∙ c.remove-session.ensures.items))
-    (closed_sound c.args.buffers.now c.drop_spots.new.buffers c.args.sessions.now.items c.place_of-at.result c.remove-session.result c.requires c.remove-session.ensures.value within c.drop_spots.ensures.uses)
+    subst (λ (xs : List Session). IsSound c.drop_all_window_marks.new.buffers xs) (sym (c.deref-2.ensures.value ∙ c.remove-session.ensures.items))
+    (closed_sound c.args.buffers.now c.drop_all_window_marks.new.buffers c.args.sessions.now.items c.place_of-at.result c.remove-session.result c.requires c.remove-session.ensures.value within c.drop_all_window_marks.ensures.uses)
 
 pub returns-clause-sizes : goal.returns-clause-sizes
 returns-clause-sizes g c =
@@ -36,9 +36,9 @@ returns-clause-step g c next =
     let at = c.place_of-at.result in
     let within : at < length xs = omega (arith, c.place_of-at.ensures.within, ap length c.deref.ensures.value, c.len.ensures, c.if-at-len.false) in
     ap (λ (ys : List Session). world_of c.args.directory.now c.settle.new.buffers ys next) (sym c.deref-2.ensures.value)
-    ∙ closed_at c.args.directory.now c.args.buffers.now c.drop_spots.new.buffers c.settle.new.buffers xs c.deref-2.result.now next c.args.id at c.remove-session.result
+    ∙ closed_at c.args.directory.now c.args.buffers.now c.drop_all_window_marks.new.buffers c.settle.new.buffers xs c.deref-2.result.now next c.args.id at c.remove-session.result
     c.requires (c.place_of-at.ensures.value ∙ ap (position_or_len (session_id c.args.id)) c.deref.ensures.value) within c.remove-session.ensures.value
-    c.drop_spots.ensures.uses c.drop_spots.ensures.buffers c.drop_spots.ensures.stay (c.deref-2.ensures.value ∙ c.remove-session.ensures.items) (c.settle.ensures.world next)
+    c.drop_all_window_marks.ensures.uses c.drop_all_window_marks.ensures.buffers c.drop_all_window_marks.ensures.stay (c.deref-2.ensures.value ∙ c.remove-session.ensures.items) (c.settle.ensures.world next)
 
 pub returns-then-at-len-clause-step : goal.returns-then-at-len-clause-step
 returns-then-at-len-clause-step g c next =

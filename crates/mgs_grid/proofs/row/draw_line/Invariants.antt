@@ -1,7 +1,7 @@
 use Rattle.std.proofs.Common.{◌≡◌, ◌≤◌, ◌*◌, length, replicate}
 use Rattle.std.specs.Prelude.{slice_range}
 use Rattle.mgs_model.specs.Cells.{cells}
-use Rattle.mgs_grid.specs.Pen.{over}
+use Rattle.mgs_grid.specs.Cells.{over}
 use Rattle.mgs_grid.proofs.row.draw_line.Given as goal
 
 abbrev pub invariant-loop-i : goal.invariant-loop-i

@@ -1,6 +1,6 @@
 use Rattle.std.proofs.Common.{length, arith, ◌∙◌}
 use Rattle.mgs_model.specs.Rows.{buffer_mode}
-use Rattle.mgs_grid.proofs.Pens.{wrote_more}
+use Rattle.mgs_grid.proofs.CellLemmas.{wrote_more}
 use Rattle.mgs_grid.proofs.Fits.{finished_wrote}
 use Rattle.mgs_grid.proofs.row.draw_mode.Goals as goal
 

@@ -2,7 +2,7 @@ use Rattle.std.proofs.Common.{◌≡◌, ℕ, ◌<◌, ◌++◌, List, [], ◌�
 use Rattle.std.proofs.lemmas.List.{take_more_set, replicate_more}
 use Rattle.std.proofs.lemmas.List.Elements.{All-set}
 use Rattle.mgs_model.specs.Rows.{Row, plain_row, blank_rows}
-use Rattle.mgs_grid.specs.Pen.{HasWidth}
+use Rattle.mgs_grid.specs.Cells.{HasWidth}
 use Rattle.mgs_grid.proofs.Fits.{blank_row}
 use Rattle.mgs_grid.proofs.Pictures.{blank_width}
 use Rattle.mgs_grid.proofs.window.clear_rows.Goals as goal

@@ -4,7 +4,7 @@ use Rattle.std.proofs.lemmas.Bool.{ne_eqb}
 use Rattle.std.proofs.lemmas.List.Elements.{All-set}
 use Rattle.mgs_model.specs.Lines.{is_feed}
 use Rattle.mgs_model.specs.Rows.{Row, shift_at}
-use Rattle.mgs_grid.specs.Pen.{HasWidth}
+use Rattle.mgs_grid.specs.Cells.{HasWidth}
 use Rattle.mgs_grid.proofs.Fits.{length-shown}
 use Rattle.mgs_grid.proofs.Rows.{row_at, rows_more, next_more, next_none}
 use Rattle.mgs_grid.proofs.window.draw_rows.Goals as goal

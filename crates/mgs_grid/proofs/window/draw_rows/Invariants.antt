@@ -1,6 +1,6 @@
 use Rattle.std.proofs.Common.{◌≡◌, ◌≤◌, ◌-◌, ◌++◌, take, drop, length, All}
 use Rattle.mgs_model.specs.Rows.{text_rows, shift_at}
-use Rattle.mgs_grid.specs.Pen.{HasWidth}
+use Rattle.mgs_grid.specs.Cells.{HasWidth}
 use Rattle.mgs_grid.proofs.window.draw_rows.Given as goal
 
 abbrev pub invariant-loop-i : goal.invariant-loop-i

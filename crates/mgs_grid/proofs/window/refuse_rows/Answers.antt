@@ -1,6 +1,6 @@
 use Rattle.std.proofs.Common.{◌≡◌, ℕ, length, get_or, arith, ap, ◌∙◌, All}
 use Rattle.mgs_model.specs.Rows.{plain_row, unread_text}
-use Rattle.mgs_grid.specs.Pen.{HasWidth}
+use Rattle.mgs_grid.specs.Cells.{HasWidth}
 use Rattle.mgs_grid.proofs.Pictures.{refused, blanks_wide}
 use Rattle.mgs_grid.proofs.window.refuse_rows.Goals as goal
 

@@ -1,4 +1,4 @@
-use Rattle.mgs_grid.proofs.Pens.{wrote_more, wrote_none}
+use Rattle.mgs_grid.proofs.CellLemmas.{wrote_more, wrote_none}
 use Rattle.mgs_grid.proofs.words.put_cause.Goals as goal
 
 pub returns-in-Granted-clause-wrote : goal.returns-in-Granted-clause-wrote

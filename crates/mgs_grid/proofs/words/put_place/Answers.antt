@@ -1,4 +1,4 @@
-use Rattle.mgs_grid.proofs.Pens.{wrote_more}
+use Rattle.mgs_grid.proofs.CellLemmas.{wrote_more}
 use Rattle.mgs_grid.proofs.words.put_place.Goals as goal
 
 pub returns-clause-wrote : goal.returns-clause-wrote

@@ -1,5 +1,5 @@
-use Rattle.mgs_grid.specs.Pen.{Wrote}
-use Rattle.mgs_grid.proofs.Pens.{wrote_more}
+use Rattle.mgs_grid.specs.Cells.{Wrote}
+use Rattle.mgs_grid.proofs.CellLemmas.{wrote_more}
 use Rattle.mgs_grid.proofs.words.put_titled.Goals as goal
 
 pub returns-clause-wrote : goal.returns-clause-wrote

@@ -1,7 +1,7 @@
 use Rattle.std.proofs.Common.{arith, []}
-use Rattle.mgs_replay.specs.Stages.{begun}
+use Rattle.mgs_replay.specs.Players.{begun}
 use Rattle.mgs_script.specs.Scripts.{lines_of}
-use Rattle.mgs_replay.specs.Served.{stage_of}
+use Rattle.mgs_replay.specs.Served.{player_of}
 use Rattle.mgs_replay.proofs.Standing.{lines_left, stands_next, stands_end, ends_on, left_cut, left_none, left_shorter}
 use Rattle.mgs_replay.proofs.lines.run_lines.Goals as goal
 
@@ -10,7 +10,7 @@ returns-in-Err-clause-written g c =
     let here = rw (left_cut c.loop-rest.rest c.in-Some.text c.cut_line.result.0.now c.cut_line.result.1 c.in-Some.is c.cut_line.ensures.lines) at c.loop-rest.invariant.stands in
     ends_on c.ended_at.result c.in-Err.fault c.args.first (begun c.args.server.now.world []) (lines_of c.args.text.now)
     (g.W.Write.contents c.args.writer.now) (g.W.Write.contents c.loop-rest.writer) (g.W.Write.contents c.turn.new.writer)
-    c.loop-rest.number (stage_of c.loop-rest.server c.loop-rest.seats) (stage_of c.turn.new.server c.turn.new.seats) c.cut_line.result.0.now (lines_left c.cut_line.result.1)
+    c.loop-rest.number (player_of c.loop-rest.server c.loop-rest.clients) (player_of c.turn.new.server c.turn.new.clients) c.cut_line.result.0.now (lines_left c.cut_line.result.1)
     c.ended_at.ensures here c.in-Err.ensures.turned
 
 pub loop-rest-preserved : goal.loop-rest-preserved
@@ -21,7 +21,7 @@ loop-rest-preserved g c =
       ready = c.in-Ok.ensures.ready;
       stands = stands_next c.args.first (begun c.args.server.now.world []) (lines_of c.args.text.now)
           (g.W.Write.contents c.args.writer.now) (g.W.Write.contents c.loop-rest.writer) (g.W.Write.contents c.turn.new.writer)
-          c.loop-rest.number (stage_of c.loop-rest.server c.loop-rest.seats) (stage_of c.turn.new.server c.turn.new.seats) c.cut_line.result.0.now (lines_left c.cut_line.result.1) did.0
+          c.loop-rest.number (player_of c.loop-rest.server c.loop-rest.clients) (player_of c.turn.new.server c.turn.new.clients) c.cut_line.result.0.now (lines_left c.cut_line.result.1) did.0
           here did.1 did.2;
       first = omega (arith, c.loop-rest.invariant.first);
       counted = left_shorter c.loop-rest.rest c.in-Some.text c.cut_line.result.1 c.loop-rest.number 16777218 c.in-Some.is c.cut_line.ensures.shorter c.loop-rest.invariant.counted;

@@ -1,6 +1,6 @@
 use Rattle.std.proofs.Common.{ℕ, ◌+◌, ◌≤◌, List}
 use Rattle.mgs_script.proofs.Feeds.{length_left}
-use Rattle.mgs_replay.specs.Stages.{setting}
+use Rattle.mgs_replay.specs.Players.{setting}
 use Rattle.mgs_replay.specs.Plays.{Plays, End}
 use Rattle.mgs_script.specs.Scripts.{lines_of}
 use Rattle.mgs_replay.proofs.Standing.{lines_left}

@@ -6,7 +6,7 @@ use Rattle.mgs_model.specs.Access.{Directory}
 use Rattle.mgs_model.specs.Rows.{Row, rows_put, echo_row}
 use Rattle.mgs_model.specs.Picture.{Picture}
 use Rattle.mgs_model.specs.Draw.{window_rows, windows_rows, window_cursor}
-use Rattle.mgs_buffers.specs.Kept.{Kept}
+use Rattle.mgs_buffers.specs.MarkedBuffer.{MarkedBuffer}
 use Rattle.mgs_windows.specs.declared.Window.{Window}
 use Rattle.mgs_windows.specs.Panes.{room_of}
 use Rattle.mgs_session.specs.declared.Session.{Session}
@@ -28,7 +28,7 @@ pub loop-i-preserved : goal.loop-i-preserved
 loop-i-preserved g c =
     let d : Directory = c.args.directory.now in
     let user : List ℕ = c.args.session.now.user in
-    let ks : List Kept = c.args.buffers.now in
+    let ks : List MarkedBuffer = c.args.buffers.now in
     let selected : ℕ = c.selected-selected.result in
     let cols : ℕ = c.args.grid.now.cols in
     let ws : List Window = c.as_slice-window-items.result.now in
@@ -80,7 +80,7 @@ pub returns : goal.returns
 returns g c = λ sessions. λ next.
     let d : Directory = c.args.directory.now in
     let x : Session = c.args.session.now in
-    let ks : List Kept = c.args.buffers.now in
+    let ks : List MarkedBuffer = c.args.buffers.now in
     let selected : ℕ = c.selected-selected.result in
     let old : Picture = c.args.grid.now in
     let drawn : Picture = c.loop-i.grid in

@@ -2,7 +2,7 @@ use Rattle.std.proofs.Common.{◌≡◌, ◌+◌, ◌<◌, ◌++◌, ℕ, List, 
 use Rattle.mgs_model.specs.Access.{Directory}
 use Rattle.mgs_model.specs.Picture.{Picture}
 use Rattle.mgs_model.specs.Draw.{windows_rows}
-use Rattle.mgs_buffers.specs.Kept.{Kept}
+use Rattle.mgs_buffers.specs.MarkedBuffer.{MarkedBuffer}
 use Rattle.mgs_windows.specs.declared.Window.{Window}
 use Rattle.mgs_windows.specs.Panes.{room_of}
 use Rattle.mgs_screen.specs.Screens.{shown_to, windows_to}
@@ -10,7 +10,7 @@ use Rattle.mgs_screen.proofs.Drawings.{cursor_from}
 use Rattle.mgs_screen.proofs.screen.draw_session.Given as goal
 
 -- the windows before the i-th are drawn, the rest has its room, and the cursor is on the screen
-pub record Drawing (d : Directory) (user : List ℕ) (ks : List Kept) (selected i first : ℕ) (ws : List Window) (cursor : ℕ × ℕ) (old new : Picture) : Type 0 where
+pub record Drawing (d : Directory) (user : List ℕ) (ks : List MarkedBuffer) (selected i first : ℕ) (ws : List Window) (cursor : ℕ × ℕ) (old new : Picture) : Type 0 where
   pub rows_stay : new.rows ≡ old.rows
   pub cols_stay : new.cols ≡ old.cols
   pub count : length new.lines ≡ old.rows

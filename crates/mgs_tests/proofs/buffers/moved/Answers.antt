@@ -1,36 +1,36 @@
 use Rattle.std.proofs.Common.{◌+◌, ◌≤◌, length, refl, sym, ap, subst, arith}
-use Rattle.mgs_buffers.specs.Kept.{Kept, IsKept, kept_edited}
-use Rattle.mgs_buffers.proofs.Changes.{kept_at-added, IsKept-added, IsMark-added, IsMark-edited, IsKept-changed}
+use Rattle.mgs_buffers.specs.MarkedBuffer.{MarkedBuffer, HasBuffer, marked_edited}
+use Rattle.mgs_buffers.proofs.Changes.{marked_at-added, HasBuffer-added, IsMark-added, IsMark-edited, HasBuffer-changed}
 use Rattle.mgs_tests.proofs.buffers.moved.Goals as goal
 
 pub edit-requires-clause-kept : goal.edit-requires-clause-kept
-edit-requires-clause-kept g c = IsKept-added _ _ _ _ _ c.requires.kept c.in_ok-id.ensures.ok
+edit-requires-clause-kept g c = HasBuffer-added _ _ _ _ _ c.requires.kept c.in_ok-id.ensures.ok
 
 pub edit-requires-clause-serial : goal.edit-requires-clause-serial
 edit-requires-clause-serial g c =
-    omega (arith, ap (λ (k : Kept). k.buffer.serial) (kept_at-added _ _ _ _ _ c.requires.kept c.in_ok-id.ensures.ok), c.requires.serial)
+    omega (arith, ap (λ (k : MarkedBuffer). k.buffer.serial) (marked_at-added _ _ _ _ _ c.requires.kept c.in_ok-id.ensures.ok), c.requires.serial)
 
 pub edit-requires-clause-room : goal.edit-requires-clause-room
 edit-requires-clause-room g c =
-    subst (λ (k : Kept). length k.buffer.text + length c.args.put.now ≤ 1048576)
-    (sym (kept_at-added _ _ _ _ _ c.requires.kept c.in_ok-id.ensures.ok)) c.requires.room
+    subst (λ (k : MarkedBuffer). length k.buffer.text + length c.args.put.now ≤ 1048576)
+    (sym (marked_at-added _ _ _ _ _ c.requires.kept c.in_ok-id.ensures.ok)) c.requires.room
 
 pub pos-now-requires-clause-kept : goal.pos-now-requires-clause-kept
 pos-now-requires-clause-kept g c =
-    subst (IsKept c.args.name.now) (sym c.in_ok-edit.ensures.ok)
-    (IsKept-changed c.args.name.now (kept_edited 0 0 c.args.put.now) (λ k. refl) c.add_mark.new.self (IsKept-added _ _ _ _ _ c.requires.kept c.in_ok-id.ensures.ok))
+    subst (HasBuffer c.args.name.now) (sym c.in_ok-edit.ensures.ok)
+    (HasBuffer-changed c.args.name.now (marked_edited 0 0 c.args.put.now) (λ k. refl) c.add_mark.new.self (HasBuffer-added _ _ _ _ _ c.requires.kept c.in_ok-id.ensures.ok))
 
 pub pos-now-requires-clause-mark : goal.pos-now-requires-clause-mark
 pos-now-requires-clause-mark g c =
     IsMark-edited c.args.name.now c.in_ok-id.id 0 0 c.args.put.now c.add_mark.new.self c.edit.new.self
-    (IsKept-added _ _ _ _ _ c.requires.kept c.in_ok-id.ensures.ok) (IsMark-added _ _ _ _ _ c.requires.kept c.in_ok-id.ensures.ok) c.in_ok-edit.ensures.ok
+    (HasBuffer-added _ _ _ _ _ c.requires.kept c.in_ok-id.ensures.ok) (IsMark-added _ _ _ _ _ c.requires.kept c.in_ok-id.ensures.ok) c.in_ok-edit.ensures.ok
 
 pub drop_mark-requires-clause-kept : goal.drop_mark-requires-clause-kept
 drop_mark-requires-clause-kept g c =
-    subst (IsKept c.args.name.now) (sym c.in_ok-edit.ensures.ok)
-    (IsKept-changed c.args.name.now (kept_edited 0 0 c.args.put.now) (λ k. refl) c.add_mark.new.self (IsKept-added _ _ _ _ _ c.requires.kept c.in_ok-id.ensures.ok))
+    subst (HasBuffer c.args.name.now) (sym c.in_ok-edit.ensures.ok)
+    (HasBuffer-changed c.args.name.now (marked_edited 0 0 c.args.put.now) (λ k. refl) c.add_mark.new.self (HasBuffer-added _ _ _ _ _ c.requires.kept c.in_ok-id.ensures.ok))
 
 pub drop_mark-requires-clause-mark : goal.drop_mark-requires-clause-mark
 drop_mark-requires-clause-mark g c =
     IsMark-edited c.args.name.now c.in_ok-id.id 0 0 c.args.put.now c.add_mark.new.self c.edit.new.self
-    (IsKept-added _ _ _ _ _ c.requires.kept c.in_ok-id.ensures.ok) (IsMark-added _ _ _ _ _ c.requires.kept c.in_ok-id.ensures.ok) c.in_ok-edit.ensures.ok
+    (HasBuffer-added _ _ _ _ _ c.requires.kept c.in_ok-id.ensures.ok) (IsMark-added _ _ _ _ _ c.requires.kept c.in_ok-id.ensures.ok) c.in_ok-edit.ensures.ok

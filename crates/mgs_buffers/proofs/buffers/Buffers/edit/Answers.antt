@@ -1,36 +1,36 @@
 use Rattle.std.proofs.Common.{◌≤◌, ◌<◌, ◌-◌, ◌^◌, sym, subst, length}
-use Rattle.mgs_buffers.specs.Kept.{Kept, kept_edited}
-use Rattle.mgs_buffers.proofs.KeptLemmas.{kept-at_place, kept-written, kept-same, OnOk-map, OnErr-map}
+use Rattle.mgs_buffers.specs.MarkedBuffer.{MarkedBuffer, marked_edited}
+use Rattle.mgs_buffers.proofs.MarkedLemmas.{kept-at_place, kept-written, kept-same, OnOk-map, OnErr-map}
 use Rattle.mgs_buffers.proofs.Limits.{limit-edited, ended}
-use Rattle.mgs_buffers.specs.Kept.{AreWithinLimit}
+use Rattle.mgs_buffers.specs.MarkedBuffer.{AreWithinLimit}
 use Rattle.mgs_buffers.proofs.buffers.Buffers.edit.Goals as goal
 
 pub edit-requires-clause-within : goal.edit-requires-clause-within
 edit-requires-clause-within g c =
-    let is = kept-at_place g.T.Text.text g.T.Text.marks c.args.name.now c.self.inside.all.entries c.args.self.now c.place_of-at.result _ c.pair_mut-shelf.result.1.now c.self.view_is c.place_of-at.ensures.value c.pair_mut-shelf.ensures.value in
-    subst (λ (k : Kept). c.args.b ≤ length k.buffer.text) (sym is) c.requires.within
+    let is = kept-at_place g.T.Text.text g.T.Text.marks c.args.name.now c.self.inside.all.entries c.args.self.now c.place_of-at.result _ c.pair_mut-buffer.result.1.now c.self.view_is c.place_of-at.ensures.value c.pair_mut-buffer.ensures.value in
+    subst (λ (k : MarkedBuffer). c.args.b ≤ length k.buffer.text) (sym is) c.requires.within
 
 pub edit-requires-clause-serial : goal.edit-requires-clause-serial
 edit-requires-clause-serial g c =
-    let is = kept-at_place g.T.Text.text g.T.Text.marks c.args.name.now c.self.inside.all.entries c.args.self.now c.place_of-at.result _ c.pair_mut-shelf.result.1.now c.self.view_is c.place_of-at.ensures.value c.pair_mut-shelf.ensures.value in
-    subst (λ (k : Kept). k.buffer.serial < 2 ^ 64 - 1) (sym is) c.requires.serial
+    let is = kept-at_place g.T.Text.text g.T.Text.marks c.args.name.now c.self.inside.all.entries c.args.self.now c.place_of-at.result _ c.pair_mut-buffer.result.1.now c.self.view_is c.place_of-at.ensures.value c.pair_mut-buffer.ensures.value in
+    subst (λ (k : MarkedBuffer). k.buffer.serial < 2 ^ 64 - 1) (sym is) c.requires.serial
 
 pub returns-clause-ok : goal.returns-clause-ok
 returns-clause-ok g c =
     OnOk-map c.edit.result
-    (kept-written g.T.Text.text g.T.Text.marks c.args.name.now (kept_edited c.args.a c.args.b c.args.put.now) c.self.inside.all.entries c.args.self.now c.place_of-at.result _ c.pair_mut-shelf.result.1.now c.edit.new.self c.self.view_is c.place_of-at.ensures.value c.pair_mut-shelf.ensures.value)
+    (kept-written g.T.Text.text g.T.Text.marks c.args.name.now (marked_edited c.args.a c.args.b c.args.put.now) c.self.inside.all.entries c.args.self.now c.place_of-at.result _ c.pair_mut-buffer.result.1.now c.edit.new.self c.self.view_is c.place_of-at.ensures.value c.pair_mut-buffer.ensures.value)
     c.edit.ensures.ok
 
 pub returns-clause-err : goal.returns-clause-err
 returns-clause-err g c =
     OnErr-map c.edit.result
-    (kept-same g.T.Text.text g.T.Text.marks c.self.inside.all.entries c.args.self.now c.place_of-at.result _ c.pair_mut-shelf.result.1.now c.edit.new.self c.self.view_is c.pair_mut-shelf.ensures.value)
+    (kept-same g.T.Text.text g.T.Text.marks c.self.inside.all.entries c.args.self.now c.place_of-at.result _ c.pair_mut-buffer.result.1.now c.edit.new.self c.self.view_is c.pair_mut-buffer.ensures.value)
     c.edit.ensures.err
 
 pub invariant_of-self : goal.invariant_of-self
 invariant_of-self g c =
     let old = subst AreWithinLimit c.self.view_is c.self.invariant in
     ended c.edit.result c.edit.ensures.ok c.edit.ensures.err
-    (λ does. subst AreWithinLimit (sym (kept-written g.T.Text.text g.T.Text.marks c.args.name.now (kept_edited c.args.a c.args.b c.args.put.now) c.self.inside.all.entries c.args.self.now c.place_of-at.result _ c.pair_mut-shelf.result.1.now c.edit.new.self c.self.view_is c.place_of-at.ensures.value c.pair_mut-shelf.ensures.value does))
+    (λ does. subst AreWithinLimit (sym (kept-written g.T.Text.text g.T.Text.marks c.args.name.now (marked_edited c.args.a c.args.b c.args.put.now) c.self.inside.all.entries c.args.self.now c.place_of-at.result _ c.pair_mut-buffer.result.1.now c.edit.new.self c.self.view_is c.place_of-at.ensures.value c.pair_mut-buffer.ensures.value does))
     (limit-edited c.args.name.now c.args.a c.args.b c.args.put.now c.args.self.now old c.requires.order c.requires.within c.requires.room))
-    (λ same. subst AreWithinLimit (sym (kept-same g.T.Text.text g.T.Text.marks c.self.inside.all.entries c.args.self.now c.place_of-at.result _ c.pair_mut-shelf.result.1.now c.edit.new.self c.self.view_is c.pair_mut-shelf.ensures.value same)) old)
+    (λ same. subst AreWithinLimit (sym (kept-same g.T.Text.text g.T.Text.marks c.self.inside.all.entries c.args.self.now c.place_of-at.result _ c.pair_mut-buffer.result.1.now c.edit.new.self c.self.view_is c.pair_mut-buffer.ensures.value same)) old)

@@ -1,7 +1,7 @@
 use Rattle.std.proofs.Common.{ap, ◌∙◌}
 use Rattle.mgs_model.specs.World.{may}
-use Rattle.mgs_buffers.specs.Kept.{Kept}
+use Rattle.mgs_buffers.specs.MarkedBuffer.{MarkedBuffer}
 use Rattle.mgs_buffers.proofs.buffers.Buffers.grants.Goals as goal
 
 pub returns : goal.returns
-returns g c = c.grants.ensures c.args.name.now ∙ ap (λ (k : Kept). may c.args.directory.now c.args.user.now c.args.right k.buffer) c.shelf.ensures
+returns g c = c.grants.ensures c.args.name.now ∙ ap (λ (k : MarkedBuffer). may c.args.directory.now c.args.user.now c.args.right k.buffer) c.buffer.ensures

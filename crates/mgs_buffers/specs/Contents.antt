@@ -1,0 +1,15 @@
+-- What a buffer holds, as the contracts see it.
+use Rattle.std.specs.Prelude.{ℕ, List, Option, map}
+use Rattle.mgs_buffers.specs.MarkedBuffer.{MarkedBuffer}
+use Rattle.mgs_buffers.specs.declared.buffer.Buffer.{Buffer}
+
+module _ {T : Type 0} (text : T → List ℕ) (marks : T → List (Option ℕ)) where
+  abbrev pub marked_of : List ℕ → Buffer T → MarkedBuffer
+  marked_of name s =
+      record {
+        buffer = record { name = name; owner = s.owner; entries = s.list; text = text s.text; items = s.record.items; serial = s.record.serial; modified = s.modified; file = s.has_file };
+        marks = marks s.text;
+      }
+
+  abbrev pub marked_all : List (List ℕ × Buffer T) → List MarkedBuffer
+  marked_all entries = map (λ e. marked_of e.0 e.1) entries

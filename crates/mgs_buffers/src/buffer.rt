@@ -1,0 +1,121 @@
+// What is kept of one buffer beside its name.
+ghost use Rattle.std.specs.Prelude.{◌≡◌, ◌≢◌, ℕ, ◌-◌, ◌<◌, ◌≤◌, ◌^◌, ◌∷◌, [], List, Some, None, length, IsSome, OnOk, OnErr, IfOk};
+ghost use Rattle.mgs_model.specs.Access.{decider, decision_by};
+ghost use Rattle.mgs_model.specs.World.{may};
+ghost use Rattle.mgs_marks.specs.Marks.{mark_in};
+ghost use Rattle.mgs_buffers.specs.MarkedBuffer.{marked_new, marked_edited, marked_placed, with_marks};
+ghost use Rattle.mgs_buffers.specs.Contents.{marked_of};
+
+use mgs_marks::Marked;
+use mgs_model::{Decision, MarkId, Name, Right, Short};
+use mgs_policy::{Directory, decide_right, is_granted};
+use mgs_text::Text;
+use mgs_undo::{Edit, Record};
+use std::alloc::Global;
+
+/// What is kept of one buffer beside its name. The buffers keep it under that name.
+#[derive(Drop)]
+pub struct Buffer<T: Marked + Drop> {
+    /// The user who owns the buffer.
+    pub owner: Name,
+    /// Who has which right on the buffer.
+    pub list: mgs_acl::List,
+    /// The text, with its marks.
+    pub text: T,
+    /// The latest edits of the text.
+    pub record: Record,
+    /// Whether the buffer is held for modified.
+    pub modified: bool,
+    /// Whether the buffer has a file.
+    pub has_file: bool,
+}
+
+/// A buffer with a text that was not edited: its marks and its record of edits are empty, its serial is 0. It takes its memory from
+/// `alloc`. `Short`: it was refused.
+pub fn new_buffer<T: Marked + Drop>(
+    alloc: Global,
+    owner: Name,
+    list: mgs_acl::List,
+    text: &[char],
+    has_file: bool,
+) -> Result<Buffer<T>, Short>
+    ensures { IfOk result (λ s. (name : List ℕ) → marked_of T.text T.marks name s ≡ marked_new name owner list text.now has_file) }
+{
+    let text = T::of(alloc, text)?;
+    let record = Record::new(alloc)?;
+    Ok(Buffer {
+        owner,
+        list,
+        text,
+        record,
+        modified: false,
+        has_file,
+    })
+}
+
+impl<T: Marked + Drop> Buffer<T> {
+    /// What the access list decides on one right of a user (RFC 8881, section 6.2.1).
+    pub fn decide(&self, directory: &Directory, user: &Name, right: Right) -> Decision
+        ensures { result ≡ decision_by (decider directory.now self.now.owner user.now self.now.list) (right ∷ []) }
+    {
+        decide_right(&self.list, &self.owner, user, directory, right)
+    }
+
+    /// Whether a user is granted a right on the buffer.
+    pub fn grants(&self, directory: &Directory, user: &Name, right: Right) -> bool
+        ensures { (name : List ℕ) → result ≡ may directory.now user.now right (marked_of T.text T.marks name self.now).buffer }
+    {
+        is_granted(&self.list, &self.owner, user, directory, right)
+    }
+
+    /// Puts a mark of the text at a position.
+    pub fn place(&mut self, id: MarkId, p: usize)
+        requires used { IsSome (mark_in (T.marks self.old.text) id) }
+        requires within { p ≤ length (T.text self.old.text) }
+        ensures { (name : List ℕ) → marked_of T.text T.marks name self.new ≡ marked_placed id p (marked_of T.text T.marks name self.old) }
+    {
+        self.text.place(id, p);
+    }
+
+    /// A new mark in the text, at a position. `Short`: memory was refused, and all is as it was.
+    pub fn add_mark(&mut self, p: usize) -> Result<MarkId, Short>
+        requires { p ≤ length (T.text self.old.text) }
+        ensures shape { (name : List ℕ) → marked_of T.text T.marks name self.new ≡ with_marks (T.marks self.new.text) (marked_of T.text T.marks name self.old) }
+        ensures free { IfOk result (λ id. mark_in (T.marks self.old.text) id ≡ None) }
+        ensures added { IfOk result (λ id. mark_in (T.marks self.new.text) id ≡ Some p) }
+        ensures others { IfOk result (λ id. (k : ℕ) → k ≢ id → mark_in (T.marks self.new.text) k ≡ mark_in (T.marks self.old.text) k) }
+        ensures err { OnErr result ((name : List ℕ) → marked_of T.text T.marks name self.new ≡ marked_of T.text T.marks name self.old) }
+    {
+        self.text.add_mark(p)
+    }
+
+    /// Gives a mark of the text up.
+    pub fn drop_mark(&mut self, id: MarkId)
+        requires { IsSome (mark_in (T.marks self.old.text) id) }
+        ensures shape { (name : List ℕ) → marked_of T.text T.marks name self.new ≡ with_marks (T.marks self.new.text) (marked_of T.text T.marks name self.old) }
+        ensures gone { mark_in (T.marks self.new.text) id ≡ None }
+        ensures others { (k : ℕ) → k ≢ id → mark_in (T.marks self.new.text) k ≡ mark_in (T.marks self.old.text) k }
+    {
+        self.text.drop_mark(id);
+    }
+
+    /// Puts characters in place of those from `a` up to `b` of the text, moves its marks, keeps the edit under the next serial, and
+    /// holds the buffer for modified. `Short`: memory was refused, and all is as it was.
+    pub fn edit(&mut self, a: usize, b: usize, put: &[char]) -> Result<(), Short>
+        requires order { a ≤ b }
+        requires within { b ≤ length (T.text self.old.text) }
+        requires serial { self.old.record.serial < 2 ^ 64 - 1 }
+        ensures ok { OnOk result ((name : List ℕ) → marked_of T.text T.marks name self.new ≡ marked_edited a b put.now (marked_of T.text T.marks name self.old)) }
+        ensures err { OnErr result ((name : List ℕ) → marked_of T.text T.marks name self.new ≡ marked_of T.text T.marks name self.old) }
+    {
+        let removed = self.text.copy(a, b)?;
+        self.text.replace(a, b, put)?;
+        let _ = self.record.push(Edit {
+            at: a,
+            removed,
+            added: put.len(),
+        });
+        self.modified = true;
+        Ok(())
+    }
+}

@@ -1,0 +1,34 @@
+use Rattle.std.proofs.Common.{ℕ, ◌-◌, ◌%◌, ◌∙◌, refl}
+use Rattle.std.proofs.lemmas.List.{length-replicate}
+use Rattle.mgs_lines.proofs.Glyphs.{glyph-tab, glyph-control, glyph-plain, glyph-delete, glyph-escape}
+use Rattle.mgs_grid.proofs.cells.put_glyph.Goals as goal
+
+pub returns-then-c-eq9-clause-row : goal.returns-then-c-eq9-clause-row
+returns-then-c-eq9-clause-row c = rw (glyph-tab c.args.column c.args.c c.if-c-eq9.true) c.put_blanks.ensures
+
+pub returns-then-c-eq9-clause-next : goal.returns-then-c-eq9-clause-next
+returns-then-c-eq9-clause-next c = rw (glyph-tab c.args.column c.args.c c.if-c-eq9.true, length-replicate {A = ℕ} (8 - c.args.column % 8) 32) refl
+
+pub returns-then-c-lt32-clause-row : goal.returns-then-c-lt32-clause-row
+returns-then-c-lt32-clause-row c = rw (glyph-control c.args.column c.args.c c.if-c-eq9.false c.if-c-lt32.true) (c.put-then-c-lt32.ensures ∙ rw c.put.ensures refl)
+
+pub returns-then-c-lt32-clause-next : goal.returns-then-c-lt32-clause-next
+returns-then-c-lt32-clause-next c = rw (glyph-control c.args.column c.args.c c.if-c-eq9.false c.if-c-lt32.true) refl
+
+pub returns-then-c-lt127-clause-row : goal.returns-then-c-lt127-clause-row
+returns-then-c-lt127-clause-row c = rw (glyph-plain c.args.column c.args.c c.if-c-lt32.false c.if-c-lt127.true) c.put-then-c-lt127.ensures
+
+pub returns-then-c-lt127-clause-next : goal.returns-then-c-lt127-clause-next
+returns-then-c-lt127-clause-next c = rw (glyph-plain c.args.column c.args.c c.if-c-lt32.false c.if-c-lt127.true) refl
+
+pub returns-then-c-eq127-clause-row : goal.returns-then-c-eq127-clause-row
+returns-then-c-eq127-clause-row c = rw (glyph-delete c.args.column c.args.c c.if-c-eq127.true) (c.put-then-c-eq127-2.ensures ∙ rw c.put-then-c-eq127.ensures refl)
+
+pub returns-then-c-eq127-clause-next : goal.returns-then-c-eq127-clause-next
+returns-then-c-eq127-clause-next c = rw (glyph-delete c.args.column c.args.c c.if-c-eq127.true) refl
+
+pub returns-else-c-eq127-clause-row : goal.returns-else-c-eq127-clause-row
+returns-else-c-eq127-clause-row c = rw (glyph-escape c.args.column c.args.c c.if-c-lt127.false c.if-c-eq127.false) c.put_escape.ensures.row
+
+pub returns-else-c-eq127-clause-next : goal.returns-else-c-eq127-clause-next
+returns-else-c-eq127-clause-next c = rw (glyph-escape c.args.column c.args.c c.if-c-lt127.false c.if-c-eq127.false) c.put_escape.ensures.next

@@ -1,0 +1,141 @@
+// Cells written into a row one after another.
+ghost use Rattle.std.specs.Prelude.{◌≡◌, ℕ, ◌+◌, ◌-◌, ◌%◌, ◌<◌, ◌≤◌, ◌^◌, List, length, map, replicate, decimal, IsTrue};
+ghost use Rattle.std.specs.List.{list_all};
+ghost use Rattle.std.specs.Int.Digits.{digits_of};
+ghost use Rattle.std.specs.Char.{digit_char};
+ghost use Rattle.mgs_model.specs.Cells.{glyph, escape};
+ghost use Rattle.mgs_grid.specs.Cells.{put, over, finished, is_plain, Wrote};
+
+/// Writes one character into each cell of a row.
+pub fn fill(row: &mut [char], c: char)
+    ensures { row.new ≡ replicate (length row.old) c }
+{
+    for cell in row.iter_mut() {
+        *cell = c;
+    }
+}
+
+/// Writes the signs that more cells stand after a row and before it. The row has a cell and shows a line from column
+/// `shift` on, and `column` is the one after the line's last cell. The row's last cell becomes a `$` where `column`
+/// is greater than `shift` plus the row's length, and its first cell where `shift` is not 0.
+pub fn finish(row: &mut [char], shift: usize, column: usize)
+    requires some { 0 < length row.old }
+    requires fits { shift + length row.old < 2 ^ 64 }
+    ensures { row.new ≡ finished row.old shift column }
+{
+    if column > shift + row.len() {
+        let last = row.len() - 1;
+        row[last] = '$';
+    }
+    if shift > 0 {
+        row[0] = '$';
+    }
+}
+
+pub fn put(row: &mut [char], shift: usize, column: usize, c: char)
+    ensures { row.new ≡ put row.old shift column c }
+{
+    if column >= shift && column - shift < row.len() {
+        row[column - shift] = c;
+    }
+}
+
+fn put_blanks(row: &mut [char], shift: usize, column: usize, count: usize)
+    requires { column + count < 2 ^ 64 }
+    ensures { row.new ≡ over row.old shift column (replicate count 32) }
+{
+    for at in 0..count {
+        put(row, shift, column + at, ' ');
+    }
+}
+
+pub fn put_digits(row: &mut [char], shift: usize, column: usize, base: usize, n: usize) -> usize
+    requires base { (2 ≤ base) × (base ≤ 36) }
+    requires room { column + length (digits_of base n) < 2 ^ 64 }
+    ensures row { row.new ≡ over row.old shift column (map digit_char (digits_of base n)) }
+    ensures next { result ≡ column + length (digits_of base n) }
+{
+    if n == 0 {
+        return column;
+    }
+    let at = put_digits(row, shift, column, base, n / base);
+    put(row, shift, at, digit((n % base) as u32));
+    at + 1
+}
+
+fn digit(n: u32) -> char
+    requires { n < 36 }
+    ensures { result ≡ digit_char n }
+{
+    char::from_digit(n, 36).unwrap_or('0')
+}
+
+// Writes a decimal number.
+pub fn put_decimal(row: &mut [char], column: usize, n: usize) -> usize
+    requires { column < 2 ^ 62 }
+    ensures wrote { Wrote row.old column (decimal n) row.new result }
+    ensures few { result ≤ column + 20 }
+{
+    if n == 0 {
+        put(row, 0, column, '0');
+        return column + 1;
+    }
+    put_digits(row, 0, column, 10, n)
+}
+
+/// Writes visible ASCII and spaces into a row from a column on, and tells the column after them. Those after the
+/// row's end are passed over.
+pub fn put_bytes(row: &mut [char], column: usize, bytes: &[u8]) -> usize
+    requires fits { column + length bytes.now < 2 ^ 64 }
+    requires plain { IsTrue (list_all is_plain bytes.now) }
+    ensures wrote { Wrote row.old column bytes.now row.new result }
+    ensures next { result ≡ column + length bytes.now }
+{
+    for (i, b) in bytes.iter().enumerate() {
+        put(row, 0, column + i, *b as char);
+    }
+    column + bytes.len()
+}
+
+/// Writes the cells of a character, which stands in a column of its line, below 2^62, into a row that shows the line
+/// from column `shift` on, and tells the column after them, at most 12 further. Cells that are not in sight are
+/// passed over.
+pub fn put_glyph(row: &mut [char], shift: usize, column: usize, c: char) -> usize
+    requires { column < 2 ^ 62 }
+    ensures row { row.new ≡ over row.old shift column (glyph column c) }
+    ensures next { result ≡ column + length (glyph column c) }
+    ensures few { result ≤ column + 12 }
+{
+    if c == '\t' {
+        let count = 8 - column % 8;
+        put_blanks(row, shift, column, count);
+        column + count
+    } else if c < ' ' {
+        put(row, shift, column, '^');
+        put(row, shift, column + 1, (c as u8 + 64) as char);
+        column + 2
+    } else if c < '\x7f' {
+        put(row, shift, column, c);
+        column + 1
+    } else if c == '\x7f' {
+        put(row, shift, column, '^');
+        put(row, shift, column + 1, '?');
+        column + 2
+    } else {
+        put_escape(row, shift, column, c)
+    }
+}
+
+fn put_escape(row: &mut [char], shift: usize, column: usize, c: char) -> usize
+    requires { column < 2 ^ 62 }
+    ensures row { row.new ≡ over row.old shift column (escape c) }
+    ensures next { result ≡ column + length (escape c) }
+    ensures few { result ≤ column + 12 }
+{
+    put(row, shift, column, '\\');
+    put(row, shift, column + 1, 'u');
+    put(row, shift, column + 2, '{');
+    let at = put_digits(row, shift, column + 3, 16, c as usize);
+    put(row, shift, at, '}');
+    at + 1
+}

@@ -1,0 +1,131 @@
+-- What the lines from the first open on do, by what stands after the labels.
+use Rattle.std.proofs.Common.{◌≡◌, ℕ, true, false, List, [], ◌∷◌, ◌++◌, Option, Some, None, Result, Ok, Err, refl, sym, ap, subst, ◌∙◌}
+use Rattle.std.specs.Prelude.{find, All, is_some, not, OnOk}
+use Rattle.std.specs.Option.{option_map}
+use Rattle.std.proofs.lemmas.List.{append-nil}
+use Rattle.mgs_model.specs.World.{World}
+use Rattle.mgs_model.specs.Draw.{screen}
+use Rattle.mgs_model.specs.declared.errors.Keyed.{Keyed}
+use Rattle.mgs_model.specs.declared.errors.Keyed.TheVariants as keyed
+use Rattle.mgs_model.specs.declared.errors.OpenFault.{OpenFault}
+use Rattle.mgs_core.specs.Steps.{OpenedBy}
+use Rattle.mgs_engine.specs.Serving.{Serving}
+use Rattle.mgs_term.specs.Terminal.{Terminal}
+use Rattle.mgs_paint.specs.Painting.{shown}
+use Rattle.mgs_script.specs.declared.line.LineFault.{LineFault}
+use Rattle.mgs_script.specs.declared.line.LineFault.TheVariants.{Bad, Short}
+use Rattle.mgs_replay.specs.declared.client.Labelled.{Labelled}
+use Rattle.mgs_replay.specs.declared.client.Cause.TheVariants as causes
+use Rattle.mgs_replay.specs.declared.client.Client.{Client}
+use Rattle.mgs_replay.specs.declared.client.Client.TheVariants as clients
+use Rattle.mgs_script.specs.Lines as said
+use Rattle.mgs_replay.specs.Prints.{refusal_text, screen_text, ended_text}
+use Rattle.mgs_replay.specs.Clients.{is_labelled, client_of, shown_text}
+use Rattle.mgs_replay.specs.Players.{Label, label, Standing, Never, Has, begun, standing_of, session_now, had_session, labels_keyed, Shows}
+use Rattle.mgs_replay.specs.Served.{Prints, standing_in, labels_in, ClientShows, Shows as IsShown, IsReady, IsWaiting, clients_keyed, player_of, Runs, NotBad}
+use Rattle.mgs_replay.proofs.Events.{standing_at, labels_gone, labels_push, waiting_ended, ready_never, All-found}
+
+-- whether a label was used
+used_one : (o : Option Client) → is_some (option_map standing_in o) ≡ is_some o
+used_one None = refl
+used_one (Some x) = refl
+
+pub is_used : (name : List ℕ) (xs : List Labelled) → is_some (standing_of name (labels_in xs)) ≡ is_some (client_of name xs)
+is_used name xs = ap is_some (standing_at name xs) ∙ used_one (client_of name xs)
+
+-- the label of an open session has it
+open_in : (o : Option Client) (id : ℕ) → session_now (option_map standing_in o) ≡ Some id → (term : Terminal) × (o ≡ Some (clients.Open id term))
+open_in None id h = absurd cc
+open_in (Some clients.Never) id h = absurd cc
+open_in (Some (clients.Open own term)) id h = let e : own ≡ id = cc in (term, ap (λ (n : ℕ). Some (clients.Open n term)) e)
+open_in (Some (clients.Ended cause)) id h = absurd cc
+
+pub client_open : (name : List ℕ) (xs : List Labelled) (id : ℕ) → session_now (standing_of name (labels_in xs)) ≡ Some id → (term : Terminal) × (client_of name xs ≡ Some (clients.Open id term))
+client_open name xs id h = open_in (client_of name xs) id (ap session_now (sym (standing_at name xs)) ∙ h)
+
+-- A BYTE
+
+pub labels_keyed_are : (k : Keyed) (name : List ℕ) (xs : List Labelled) → labels_in (clients_keyed k name xs) ≡ labels_keyed k name (labels_in xs)
+labels_keyed_are keyed.Done name xs = refl
+labels_keyed_are keyed.Short name xs = refl
+labels_keyed_are keyed.Quit name xs = labels_gone name causes.Quit xs
+labels_keyed_are keyed.NoSession name xs = refl
+
+pub waiting_keyed : (k : Keyed) (e : Serving) (name : List ℕ) (xs : List Labelled) → IsWaiting e xs → IsWaiting e (clients_keyed k name xs)
+waiting_keyed keyed.Done e name xs h = h
+waiting_keyed keyed.Short e name xs h = h
+waiting_keyed keyed.Quit e name xs h = waiting_ended e name causes.Quit xs h
+waiting_keyed keyed.NoSession e name xs h = h
+
+-- A SHOW
+
+AreShown : World → Option Client → Type 0
+AreShown w None = Unit {0}
+AreShown w (Some x) = ClientShows w x
+
+found_shown : (w : World) (xs : List Labelled) (name : List ℕ) → All (IsShown w) xs → (o : Option Labelled) → find (is_labelled name) xs ≡ o → AreShown w (option_map (λ (x : Labelled). x.client) o)
+unfolding AreShown
+found_shown w xs name h None e = tt
+found_shown w xs name h (Some x) e = All-found (IsShown w) (is_labelled name) xs x h e
+
+Printed : World → List ℕ → Option Standing → List ℕ → List ℕ → Type 0
+Printed w name st old new = (not (had_session st) ≡ false) × ((print : List ℕ) × Shows w name st print × (new ≡ old ++ print))
+
+printed_one : (w : World) (name : List ℕ) (o : Option Client) (old new : List ℕ) → AreShown w o → option_map (λ (t : List ℕ). old ++ t) (shown_text name o) ≡ Some new → Printed w name (option_map standing_in o) old new
+unfolding AreShown Printed
+printed_one w name None old new is h = absurd cc
+printed_one w name (Some clients.Never) old new is h = absurd cc
+printed_one w name (Some (clients.Open id term)) old new is h =
+    let e : new ≡ old ++ screen_text name term.screen = cc in
+    (refl, (screen_text name (shown (screen w is.0)), (is.0, is.1, refl), e ∙ ap (λ (t : Terminal). old ++ screen_text name t.screen) is.2))
+printed_one w name (Some (clients.Ended cause)) old new is h =
+    let e : new ≡ old ++ ended_text name cause = cc in
+    (refl, (ended_text name cause, refl, e))
+
+refused_one : (name : List ℕ) (o : Option Client) → shown_text name o ≡ None → not (had_session (option_map standing_in o)) ≡ true
+refused_one name None h = refl
+refused_one name (Some clients.Never) h = refl
+refused_one name (Some (clients.Open id term)) h = absurd cc
+refused_one name (Some (clients.Ended cause)) h = absurd cc
+
+pub shows_run : (r : Result (Unit {0}) LineFault) (e : Serving) (xs : List Labelled) (name old new : List ℕ) → IsReady e xs → Prints r old new (shown_text name (client_of name xs))
+    → Runs r (player_of e xs) (said.Show name) (player_of e xs) old new
+unfolding Printed
+shows_run (Ok u) e xs name old new ready h =
+    let is = found_shown e.world xs name ready.shows (find (is_labelled name) xs) refl in
+    let p = printed_one e.world name (client_of name xs) old new is h in
+    let q : Printed e.world name (standing_of name (labels_in xs)) old new = subst (λ (st : Option Standing). Printed e.world name st old new) (sym (standing_at name xs)) p in
+    (q.0, (q.1.0, (refl, q.1.1), q.1.2))
+shows_run (Err Bad) e xs name old new ready h =
+    ap (λ (st : Option Standing). not (had_session st)) (standing_at name xs) ∙ refused_one name (client_of name xs) h
+shows_run (Err Short) e xs name old new ready h = tt
+
+-- AN OPEN
+
+pub opened_runs : (r : Result (Unit {0}) LineFault) (w v u : World) (ls ms : List Label) (name user : List ℕ) (rows cols id : ℕ) (out : List ℕ) → is_some (standing_of name ls) ≡ false → OpenedBy w v user rows cols (Ok id)
+    → NotBad r → OnOk r (u ≡ v) → OnOk r (ms ≡ ls ++ label name (Has id) ∷ []) → Runs r (begun w ls) (said.Open name user rows cols) (begun u ms) out out
+opened_runs (Ok d) w v u ls ms name user rows cols id out free opened bad world labels =
+    let now : OpenedBy w u user rows cols (Ok id) = subst (λ (x : World). OpenedBy w x user rows cols (Ok id)) (sym world) opened in
+    (free, ([], (Ok id, (now, ap (λ (xs : List Label). begun u xs) labels, refl)), sym (append-nil out)))
+opened_runs (Err Bad) w v u ls ms name user rows cols id out free opened bad world labels = absurd bad
+opened_runs (Err Short) w v u ls ms name user rows cols id out free opened bad world labels = tt
+
+pub refused_runs : (r : Result (Unit {0}) LineFault) (old new : Serving) (xs ys : List Labelled) (name user : List ℕ) (rows cols : ℕ) (fault : OpenFault) (out printed : List ℕ) → is_some (standing_of name (labels_in xs)) ≡ false → OpenedBy old.world new.world user rows cols (Err fault)
+    → NotBad r → OnOk r (ys ≡ xs ++ record { label = name; client = clients.Never } ∷ []) → OnOk r (printed ≡ out ++ refusal_text name fault) → Runs r (player_of old xs) (said.Open name user rows cols) (player_of new ys) out printed
+refused_runs (Ok d) old new xs ys name user rows cols fault out printed free opened bad clients_are print =
+    let labels : labels_in ys ≡ labels_in xs ++ label name Never ∷ [] = ap labels_in clients_are ∙ labels_push xs (record { label = name; client = clients.Never }) in
+    (free, (refusal_text name fault, (Err fault, (opened, ap (λ (ls : List Label). begun new.world ls) labels, refl)), print))
+refused_runs (Err Bad) old new xs ys name user rows cols fault out printed free opened bad clients_are print = absurd bad
+refused_runs (Err Short) old new xs ys name user rows cols fault out printed free opened bad clients_are print = tt
+
+pub some_map : {A B : Type 0} (f : A → B) (o : Option A) → is_some (option_map f o) ≡ is_some o
+some_map f None = refl
+some_map f (Some x) = refl
+
+pub player_is : (w v : World) (ls ms : List Label) → w ≡ v → ls ≡ ms → begun w ls ≡ begun v ms
+player_is w v ls ms e f = cc
+
+pub refused_ready : (r : Result (Unit {0}) LineFault) (old new : Serving) (xs ys : List Labelled) (name : List ℕ) → OnOk r (ys ≡ xs ++ record { label = name; client = clients.Never } ∷ []) → new ≡ old → IsReady old xs → OnOk r (IsReady new ys)
+refused_ready (Ok d) old new xs ys name is same h =
+    subst (λ (e : Serving). IsReady e ys) (sym same) (subst (λ (zs : List Labelled). IsReady old zs) (sym is) (ready_never old xs name h))
+refused_ready (Err f) old new xs ys name is same h = tt

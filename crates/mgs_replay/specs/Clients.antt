@@ -1,0 +1,54 @@
+-- What stands after each label.
+use Rattle.std.specs.Prelude.{◌≡◌, ℕ, List, find, nat_eq, Bool, true, false, Option, Some, None, if◌then◌else◌}
+use Rattle.std.specs.List.{AllZip}
+use Rattle.std.specs.Option.{option_map}
+use Rattle.mgs_model.specs.Names.{same_name}
+use Rattle.mgs_term.specs.Screen.{Screen}
+use Rattle.mgs_term.specs.Terminal.{Terminal, resting}
+use Rattle.mgs_term.specs.Drawing.{Draws, Anything}
+use Rattle.mgs_replay.specs.declared.client.Labelled.{Labelled}
+use Rattle.mgs_replay.specs.declared.client.Client.{Client}
+use Rattle.mgs_replay.specs.declared.client.Client.TheVariants.{Never, Open, Ended}
+use Rattle.mgs_replay.specs.declared.client.Cause.{Cause}
+use Rattle.mgs_replay.specs.Prints.{screen_text, ended_text}
+
+abbrev pub is_labelled : List ℕ → Labelled → Bool
+is_labelled label x = same_name label x.label
+
+-- what stands after a label, if it was used
+abbrev pub client_of : List ℕ → List Labelled → Option Client
+client_of label xs = option_map (λ (x : Labelled). x.client) (find (is_labelled label) xs)
+
+-- a label's session has ended
+abbrev pub ended_by : List ℕ → Cause → Labelled → Labelled
+ended_by label cause x = if is_labelled label x then record { label = x.label; client = Ended cause } else x
+
+-- what a `show` line prints; none where it is refused
+abbrev pub shown_text : List ℕ → Option Client → Option (List ℕ)
+shown_text label None = None
+shown_text label (Some Never) = None
+shown_text label (Some (Open id term)) = Some (screen_text label term.screen)
+shown_text label (Some (Ended cause)) = Some (ended_text label cause)
+
+-- what bytes make of a terminal: where they draw, it shows the screen to which they lead
+abbrev pub TermFed : List ℕ → Terminal → Terminal → Type 0
+TermFed bytes old new = (s t : Screen) → old ≡ resting s → Draws Anything bytes s t → new ≡ resting t
+
+-- the bytes of a session are its terminal's, and no other takes them
+abbrev pub OwnFed : Bool → List ℕ → Terminal → Terminal → Type 0
+OwnFed true bytes old new = TermFed bytes old new
+OwnFed false bytes old new = new ≡ old
+
+abbrev pub ClientFed : ℕ → List ℕ → Client → Client → Type 0
+ClientFed id bytes Never new = new ≡ Never
+ClientFed id bytes (Open own term) new = (t : Terminal) × (new ≡ Open own t) × OwnFed (nat_eq id own) bytes term t
+ClientFed id bytes (Ended cause) new = new ≡ Ended cause
+
+-- what the bytes of a session make of what stands after a label
+pub record Fed (id : ℕ) (bytes : List ℕ) (old new : Labelled) : Type 0 where
+  pub label : new.label ≡ old.label
+  pub client : ClientFed id bytes old.client new.client
+
+-- the same of all labels
+abbrev pub TakenBy : List Labelled → ℕ → List ℕ → List Labelled → Type 0
+TakenBy old id bytes new = AllZip (Fed id bytes) old new

@@ -1,0 +1,30 @@
+// What stands after a label of a script.
+use mgs_model::{Name, SessionId};
+use mgs_term::Term;
+
+/// How a session ended.
+#[derive(Clone, Copy, Debug, PartialEq, Eq)]
+pub enum Cause {
+    /// By a byte.
+    Quit,
+    /// By a `close` line.
+    Closed,
+}
+
+/// What stands after a label.
+#[derive(Drop)]
+pub enum Client {
+    /// The open was refused.
+    Never,
+    /// An open session, and its terminal.
+    Open { id: SessionId, term: Term },
+    /// A session that ended.
+    Ended(Cause),
+}
+
+/// A label, and what stands after it.
+#[derive(Drop)]
+pub struct Labelled {
+    pub label: Name,
+    pub client: Client,
+}

@@ -1,0 +1,101 @@
+// What stands after each label of a script.
+ghost use Rattle.std.specs.Prelude.{◌≡◌, ◌++◌, ◌∷◌, [], OnOk, OnErr, map, find};
+ghost use Rattle.std.specs.Option.{option_map};
+ghost use Rattle.mgs_replay.specs.Clients.{client_of, ended_by, is_labelled, Fed};
+
+use crate::client::{Cause, Client, Labelled};
+use mgs_engine::Taker;
+use mgs_model::{Name, SessionId, Short};
+use std::alloc::Global;
+use std::marker::Model;
+
+/// The labels so far, in the order in which they were used.
+#[derive(Drop)]
+pub struct Clients {
+    all: Vec<Labelled>,
+}
+
+impl Model for Clients {
+    ghost use Rattle.std.specs.Prelude.{List};
+    ghost use Rattle.mgs_replay.specs.declared.client.Labelled.{Labelled};
+
+    ghost Value = { List Labelled };
+
+    ghost view = { λ s. s.all.items };
+}
+
+// The first with that label.
+fn found<'a>(all: &'a [Labelled], label: &Name) -> Option<&'a Labelled>
+    ensures { option_map (λ x. x.now) result ≡ find (is_labelled label.now) all.now }
+{
+    all.iter().find(|labelled| *label == labelled.label)
+}
+
+fn end_labelled(labelled: &mut Labelled, label: &Name, cause: Cause)
+    ensures { labelled.new ≡ ended_by label.now cause labelled.old }
+{
+    if *label == labelled.label {
+        labelled.client = Client::Ended(cause);
+    }
+}
+
+impl Clients {
+    /// No label.
+    pub fn new(alloc: Global) -> Self
+        ensures { result ≡ [] }
+    {
+        Clients {
+            all: Vec::new(alloc),
+        }
+    }
+
+    /// What stands after a label, if it was used.
+    pub fn client(&self, label: &Name) -> Option<&Client>
+        ensures { option_map (λ x. x.now) result ≡ client_of label.now self.now }
+    {
+        found(&self.all, label).map(|labelled| &labelled.client)
+    }
+
+    /// Puts something after a new label. `Short`: memory was refused, and all is as it was.
+    pub fn add(&mut self, label: Name, client: Client) -> Result<(), Short>
+        ensures ok { OnOk result (self.new ≡ self.old ++ record { label = label; client = client } ∷ []) }
+        ensures err { OnErr result (self.new ≡ self.old) }
+    {
+        match self.all.push(Labelled { label, client }) {
+            Ok(()) => Ok(()),
+            Err(_) => Err(Short),
+        }
+    }
+
+    /// The session of a label has ended.
+    pub fn end(&mut self, label: &Name, cause: Cause)
+        ensures { self.new ≡ map (ended_by label.now cause) self.old }
+    {
+        for labelled in self.all.iter_mut() {
+            end_labelled(labelled, label, cause);
+        }
+    }
+}
+
+// The terminal of a session takes its bytes.
+fn feed(labelled: &mut Labelled, id: SessionId, bytes: &[u8])
+    ensures { Fed id bytes.now labelled.old labelled.new }
+{
+    if let Client::Open { id: own, term } = &mut labelled.client {
+        if id == *own {
+            let _ = term.feed_all(bytes);
+        }
+    }
+}
+
+impl Taker for Clients {
+    ghost use Rattle.mgs_replay.specs.Clients.{TakenBy};
+
+    ghost takes = { TakenBy };
+
+    fn take(&mut self, id: SessionId, bytes: &[u8]) {
+        for labelled in self.all.iter_mut() {
+            feed(labelled, id, bytes);
+        }
+    }
+}

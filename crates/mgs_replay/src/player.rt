@@ -1,0 +1,286 @@
+// What a line does, from the first `open` on.
+ghost use Rattle.std.specs.Prelude.{◌≡◌, ◌++◌, ◌∷◌, ℕ, List, [], Some, OnOk};
+ghost use Rattle.mgs_model.specs.Picture.{IsSize};
+ghost use Rattle.mgs_term.specs.Screen.{blank_screen};
+ghost use Rattle.mgs_term.specs.Terminal.{resting};
+ghost use Rattle.mgs_replay.specs.declared.client.Client.TheVariants as client_states;
+ghost use Rattle.mgs_script.specs.Lines.{view, Open, Keys, Close, said_in};
+ghost use Rattle.mgs_replay.specs.Prints.{refusal_text};
+ghost use Rattle.mgs_replay.specs.Clients.{client_of, shown_text};
+ghost use Rattle.mgs_replay.specs.Players.{label as called, Has, standing_of, session_now, had_session, TypesOne, Types, Closes};
+ghost use Rattle.mgs_replay.specs.Served.{labels_in, player_of, clients_keyed, IsReady, IsWaiting, NotBad, Prints, Runs, RunsSaid, short_or};
+
+use crate::client::{Cause, Client};
+use crate::clients::Clients;
+use crate::print::{print_ended, print_refusal, print_screen};
+use mgs_engine::Engine;
+use mgs_marks::PlainMarked;
+use mgs_model::{Keyed, Name, OpenFault, SessionId, Short};
+use mgs_script::{Line, LineFault, read_line};
+use mgs_term::Term;
+use std::alloc::{AllocError, Global};
+
+/// An engine whose texts are plain.
+pub type Server = Engine<PlainMarked>;
+
+fn printed(outcome: Result<(), AllocError>) -> Result<(), LineFault>
+    ensures { result ≡ short_or outcome }
+{
+    outcome.map_err(|_| LineFault::Short)
+}
+
+// Whether a label has had a session.
+#[tactic(auto, using(crate::proofs::Events::standing_at))]
+fn had_session(clients: &Clients, label: &Name) -> bool
+    ensures { result ≡ had_session (standing_of label.now (labels_in clients.now)) }
+{
+    match clients.client(label) {
+        None | Some(Client::Never) => false,
+        Some(Client::Open { .. }) | Some(Client::Ended(_)) => true,
+    }
+}
+
+// The open session of a label, if it has one.
+#[tactic(auto, using(crate::proofs::Events::standing_at))]
+fn session_of(clients: &Clients, label: &Name) -> Option<SessionId>
+    ensures { result ≡ session_now (standing_of label.now (labels_in clients.now)) }
+{
+    match clients.client(label) {
+        Some(Client::Open { id, .. }) => Some(*id),
+        None | Some(Client::Never) | Some(Client::Ended(_)) => None,
+    }
+}
+
+// The terminals take what waits for them.
+fn hand_over(server: &mut Server, clients: &mut Clients)
+    requires { IsWaiting server.old clients.old }
+    ensures ready { IsReady server.new clients.new }
+    ensures world { server.new.world ≡ server.old.world }
+    ensures labels { labels_in clients.new ≡ labels_in clients.old }
+{
+    server.take_all(clients);
+}
+
+// A session that was opened gets its label and its terminal, which takes the first bytes.
+fn client_session(
+    alloc: Global,
+    server: &mut Server,
+    clients: &mut Clients,
+    label: Name,
+    id: SessionId,
+    rows: usize,
+    cols: usize,
+) -> Result<(), LineFault>
+    requires size { IsSize rows cols }
+    requires waiting { IsWaiting server.old (clients.old ++ record { label = label; client = client_states.Open id (resting (blank_screen rows cols)) } ∷ []) }
+    ensures ready { OnOk result (IsReady server.new clients.new) }
+    ensures world { OnOk result (server.new.world ≡ server.old.world) }
+    ensures labels { OnOk result (labels_in clients.new ≡ labels_in clients.old ++ called label (Has id) ∷ []) }
+    ensures fault { NotBad result }
+{
+    let Ok(term) = Term::new(alloc, rows, cols) else {
+        return Err(LineFault::Short);
+    };
+    if clients.add(label, Client::Open { id, term }).is_err() {
+        return Err(LineFault::Short);
+    }
+    hand_over(server, clients);
+    Ok(())
+}
+
+// An open that was refused uses the label up.
+fn refuse_open(
+    clients: &mut Clients,
+    out: &mut Vec<u8>,
+    label: Name,
+    fault: OpenFault,
+) -> Result<(), LineFault>
+    ensures clients { OnOk result (clients.new ≡ clients.old ++ record { label = label; client = client_states.Never } ∷ []) }
+    ensures out { OnOk result (out.new.items ≡ out.old.items ++ refusal_text label fault) }
+    ensures fault { NotBad result }
+{
+    if clients.add(label, Client::Never).is_err() {
+        return Err(LineFault::Short);
+    }
+    printed(print_refusal(out, &label, fault))
+}
+
+fn open_line(
+    alloc: Global,
+    server: &mut Server,
+    clients: &mut Clients,
+    out: &mut Vec<u8>,
+    label: Name,
+    user: &str,
+    rows: usize,
+    cols: usize,
+) -> Result<(), LineFault>
+    requires { IsReady server.old clients.old }
+    ensures ready { OnOk result (IsReady server.new clients.new) }
+    ensures runs { Runs result (player_of server.old clients.old) (Open label user.now rows cols) (player_of server.new clients.new) out.old.items out.new.items }
+{
+    if clients.client(&label).is_some() {
+        return Err(LineFault::Bad);
+    }
+    match server.open(user, rows, cols) {
+        Ok(id) => client_session(alloc, server, clients, label, id, rows, cols),
+        Err(fault) => refuse_open(clients, out, label, fault),
+    }
+}
+
+// A byte that ended its session ends the label's.
+fn end_if_quit(clients: &mut Clients, label: &Name, keyed: Keyed)
+    ensures { clients.new ≡ clients_keyed keyed label.now clients.old }
+{
+    match keyed {
+        Keyed::Quit => clients.end(label, Cause::Quit),
+        Keyed::Done | Keyed::NoSession | Keyed::Short => {}
+    }
+}
+
+// One byte of an open session.
+fn type_key(server: &mut Server, clients: &mut Clients, label: &Name, id: SessionId, key: u8)
+    requires { IsReady server.old clients.old }
+    ensures ready { IsReady server.new clients.new }
+    ensures types { TypesOne (Some id) (player_of server.old clients.old) label.now key (player_of server.new clients.new) }
+{
+    let keyed = server.byte(id, key);
+    end_if_quit(clients, label, keyed);
+    hand_over(server, clients);
+}
+
+// One byte of a label; none where its session ended.
+fn type_one(server: &mut Server, clients: &mut Clients, label: &Name, key: u8)
+    requires { IsReady server.old clients.old }
+    ensures ready { IsReady server.new clients.new }
+    ensures types { TypesOne (session_now (standing_of label.now (labels_in clients.old))) (player_of server.old clients.old) label.now key (player_of server.new clients.new) }
+{
+    match session_of(clients, label) {
+        Some(id) => type_key(server, clients, label, id, key),
+        None => {}
+    }
+}
+
+fn type_all(server: &mut Server, clients: &mut Clients, label: &Name, keys: &[u8])
+    requires { IsReady server.old clients.old }
+    ensures ready { IsReady server.new clients.new }
+    ensures types { Types (player_of server.old clients.old) label.now keys.now (player_of server.new clients.new) }
+{
+    for key in keys {
+        type_one(server, clients, label, *key);
+    }
+}
+
+fn show_line(clients: &Clients, out: &mut Vec<u8>, label: &Name) -> Result<(), LineFault>
+    ensures { Prints result out.old.items out.new.items (shown_text label.now (client_of label.now clients.now)) }
+{
+    match clients.client(label) {
+        None | Some(Client::Never) => Err(LineFault::Bad),
+        Some(Client::Open { term, .. }) => printed(print_screen(out, label, term)),
+        Some(Client::Ended(cause)) => printed(print_ended(out, label, *cause)),
+    }
+}
+
+fn close_session(server: &mut Server, clients: &mut Clients, label: &Name, id: SessionId)
+    requires ready { IsReady server.old clients.old }
+    requires session { session_now (standing_of label.now (labels_in clients.old)) ≡ Some id }
+    ensures ready { IsReady server.new clients.new }
+    ensures closes { Closes (Some id) (player_of server.old clients.old) label.now (player_of server.new clients.new) }
+{
+    server.close(id);
+    clients.end(label, Cause::Closed);
+    hand_over(server, clients);
+}
+
+// Closes the session of a label, where it is open.
+fn close_label(server: &mut Server, clients: &mut Clients, label: &Name)
+    requires { IsReady server.old clients.old }
+    ensures ready { IsReady server.new clients.new }
+    ensures closes { Closes (session_now (standing_of label.now (labels_in clients.old))) (player_of server.old clients.old) label.now (player_of server.new clients.new) }
+{
+    match session_of(clients, label) {
+        Some(id) => close_session(server, clients, label, id),
+        None => {}
+    }
+}
+
+fn keys_line(
+    server: &mut Server,
+    clients: &mut Clients,
+    label: &Name,
+    keys: &[u8],
+) -> Result<(), LineFault>
+    requires { IsReady server.old clients.old }
+    ensures ready { OnOk result (IsReady server.new clients.new) }
+    ensures runs { (out : List ℕ) → Runs result (player_of server.old clients.old) (Keys label.now keys.now) (player_of server.new clients.new) out out }
+{
+    if !had_session(clients, label) {
+        return Err(LineFault::Bad);
+    }
+    type_all(server, clients, label, keys);
+    Ok(())
+}
+
+fn close_line(server: &mut Server, clients: &mut Clients, label: &Name) -> Result<(), LineFault>
+    requires { IsReady server.old clients.old }
+    ensures ready { OnOk result (IsReady server.new clients.new) }
+    ensures runs { (out : List ℕ) → Runs result (player_of server.old clients.old) (Close label.now) (player_of server.new clients.new) out out }
+{
+    if !had_session(clients, label) {
+        return Err(LineFault::Bad);
+    }
+    close_label(server, clients, label);
+    Ok(())
+}
+
+// A line from the first `open` on. What it prints is put after `out`.
+fn run_line(
+    alloc: Global,
+    server: &mut Server,
+    clients: &mut Clients,
+    out: &mut Vec<u8>,
+    line: &Line,
+) -> Result<(), LineFault>
+    requires { IsReady server.old clients.old }
+    ensures ready { OnOk result (IsReady server.new clients.new) }
+    ensures runs { Runs result (player_of server.old clients.old) (view line.now) (player_of server.new clients.new) out.old.items out.new.items }
+{
+    match line {
+        Line::Nothing => Ok(()),
+        Line::Open {
+            label,
+            user,
+            rows,
+            cols,
+        } => open_line(alloc, server, clients, out, *label, user, *rows, *cols),
+        Line::Keys { label, keys } => keys_line(server, clients, label, keys),
+        Line::Show { label } => show_line(clients, out, label),
+        Line::Close { label } => close_line(server, clients, label),
+        Line::User { .. }
+        | Line::Group { .. }
+        | Line::Buffer { .. }
+        | Line::Entry { .. }
+        | Line::Text { .. } => Err(LineFault::Bad),
+    }
+}
+
+/// Runs a line of a script, from the first `open` on, as it stands in the script. What it prints is put after `out`.
+///
+/// `Bad`: the line is refused. It says nothing that is known, sets users or buffers, opens a label that was used, or
+/// names one that had no session. `Short` is out of memory. Nothing is said of what these two leave.
+pub fn step_line(
+    alloc: Global,
+    server: &mut Server,
+    clients: &mut Clients,
+    out: &mut Vec<u8>,
+    line: &[u8],
+) -> Result<(), LineFault>
+    requires { IsReady server.old clients.old }
+    ensures ready { OnOk result (IsReady server.new clients.new) }
+    ensures runs { RunsSaid result (player_of server.old clients.old) (said_in line.now) (player_of server.new clients.new) out.old.items out.new.items }
+{
+    match read_line(alloc, line) {
+        Ok(line) => run_line(alloc, server, clients, out, &line),
+        Err(fault) => Err(fault),
+    }
+}
