@@ -19,7 +19,7 @@ abbrev pub with_right : ℕ → Right → ℕ
 with_right mask right = bit_or mask (bit_of right)
 
 -- the place of a right's bit
-abbrev place : Right → ℕ
+abbrev pub place : Right → ℕ
 place ReadData = 0
 place WriteData = 1
 place AppendData = 2
@@ -29,7 +29,7 @@ place ReadAcl = 17
 place WriteAcl = 18
 place WriteOwner = 19
 
-bit_of-place : (right : Right) → bit_of right ≡ 2 ^ place right
+pub bit_of-place : (right : Right) → bit_of right ≡ 2 ^ place right
 bit_of-place ReadData = refl
 bit_of-place WriteData = refl
 bit_of-place AppendData = refl

@@ -8,4 +8,4 @@ mod spelling;
 pub use list::{List, ListFault};
 pub use mgs_model::{Entry, EntryType, Who};
 pub use printing::print_entry;
-pub use spelling::{EntryFault, letter_of, read_entry, user_named};
+pub use spelling::{EntryFault, read_entry, user_named};

@@ -109,7 +109,7 @@ fn who_named(word: &str) -> Option<Who>
 }
 
 /// The letter that a right is written as. It is ASCII, so below 128.
-pub fn letter_of(right: Right) -> u8
+pub(crate) fn letter_of(right: Right) -> u8
     ensures value { result ≡ letter_of right }
     ensures ascii { result < 128 }
 {

@@ -1,12 +1,12 @@
 -- One walk over a list of entries decides on all wanted rights together: what is decided by the entries from one on, after that entry.
 use Rattle.std.proofs.Common.{◌≡◌, ℕ, ◌+◌, ◌<◌, ◌≤◌, refl, sym, ap, ◌∙◌, Bool, true, false, cond, eqb, w32, List, [], ◌∷◌, Option, Some, None, arith}
-use Rattle.std.specs.Prelude.{find, filter, not, ◌&&◌, nat_lt, min, slice_get, ◌-◌, ◌^◌}
+use Rattle.std.specs.Prelude.{find, filter, not, ◌&&◌, nat_lt, min, slice_get, ◌-◌, ◌/◌, ◌%◌, ◌^◌}
 use Rattle.std.specs.Int.{bit_at}
 use Rattle.std.specs.Int.Bits.{bit_and}
 use Rattle.std.proofs.lemmas.Nat.Bits.{bit_at_and, bit_at_not, bit_at-lt}
 use Rattle.std.proofs.lemmas.Bool.Decides.{nat_tests}
 use Rattle.std.proofs.lemmas.List.{drop_more, drop_all}
-use Rattle.mgs_model.specs.Rights.{has_right, all_rights, rights_in}
+use Rattle.mgs_model.specs.Rights.{bit_of, has_right, all_rights, rights_in}
 use Rattle.mgs_model.specs.declared.right.Right.{Right}
 use Rattle.mgs_model.specs.declared.right.Right.TheVariants.{ReadData, WriteData, AppendData, ReadAttributes, Delete, ReadAcl, WriteAcl, WriteOwner}
 use Rattle.mgs_model.specs.declared.entry.Entry.{Entry}
@@ -14,8 +14,9 @@ use Rattle.mgs_model.specs.declared.entry.EntryType.{EntryType}
 use Rattle.mgs_model.specs.declared.entry.EntryType.TheVariants.{Allow, Deny}
 use Rattle.mgs_model.specs.declared.entry.Decision.{Decision}
 use Rattle.mgs_model.specs.declared.entry.Decision.TheVariants.{Granted, DeniedBy, NotGranted}
-use Rattle.mgs_model.specs.Access.{Directory, Decider, Nobody, Allows, Denies, matches, concerns, decider_of, decider_from, decision_by, with_denier, with_denial, with_gap, denial, gap, decision}
-use Rattle.mgs_policy.specs.Walk.{is_allow, permits, denies, wanted}
+use Rattle.mgs_model.specs.Access.{Directory, Decider, Nobody, Allows, Denies, matches, concerns, decider, decider_of, decider_from, decision_by, with_denier, with_denial, with_gap, denial, gap, decision}
+use Rattle.mgs_acl.proofs.Masks.{place, bit_of-place}
+use Rattle.mgs_policy.specs.Walk.{wanted}
 
 -- who decides, where the rights that pass are decided by one, and the others by the rest
 abbrev first : (Right → Bool) → Decider → (Right → Decider) → Right → Decider
@@ -246,54 +247,30 @@ pub decided-all : (directory : Directory) (owner user : List ℕ) (es : List Ent
 unfolding decided_from wanted
 decided-all directory owner user es mask = refl
 
--- what is decided with an entry more: whether it matches, what it denies, and what is decided without it, and on the rights that it leaves
-abbrev pub turned : ℕ → Bool → Option Right → Decision → Decision → Decision
-turned n false denied passed left = passed
-turned n true None passed left = left
-turned n true (Some right) passed left = DeniedBy n right
-
-find-never : (rights : List Right) → find (λ right. false) rights ≡ None
-find-never [] = refl
-find-never (right ∷ rights) = find-never rights
-
-filter-all : (rights : List Right) → filter (λ right. true) rights ≡ rights
-filter-all [] = refl
-filter-all (right ∷ rights) = ap (λ xs. right ∷ xs) (filter-all rights)
+-- what is decided with an entry more: the first wanted right that it has, whether it matches, its type, what is decided without it, and what on the rights that it does not have
+abbrev pub turned : ℕ → Option Right → Bool → EntryType → Decision → Decision → Decision
+turned n None matched type passed left = passed
+turned n (Some right) false type passed left = passed
+turned n (Some right) true Allow passed left = left
+turned n (Some right) true Deny passed left = DeniedBy n right
 
 module _ (n : ℕ) (directory : Directory) (owner user : List ℕ) (e : Entry) (es : List Entry) (rights : List Right) where
-  turned-found : matches directory owner user e.who ≡ true → e.entry_type ≡ Deny → (o : Option Right) → find (has_right e.mask) rights ≡ o
-      → decided_from n directory owner user (e ∷ es) rights ≡ turned n true o (decided_from (n + 1) directory owner user es rights) (decided_from (n + 1) directory owner user es (filter (λ right. true) rights))
-  turned-found h is None none = decided-unmet n directory owner user e es rights h none ∙ ap (decided_from (n + 1) directory owner user es) (sym (filter-all rights))
-  turned-found h is (Some right) found = decided-denied n directory owner user e es rights right h is found
-
-  turned-matched : matches directory owner user e.who ≡ true → (type : EntryType) → e.entry_type ≡ type
+  turned-entry : (o : Option Right) → find (has_right e.mask) rights ≡ o → (b : Bool) → matches directory owner user e.who ≡ b → (type : EntryType) → e.entry_type ≡ type
       → decided_from n directory owner user (e ∷ es) rights
-      ≡ turned n true (find (λ right. not (is_allow type) && has_right e.mask right) rights) (decided_from (n + 1) directory owner user es rights) (decided_from (n + 1) directory owner user es (filter (λ right. not (is_allow type && has_right e.mask right)) rights))
-  turned-matched h Allow is =
-      decided-allowed n directory owner user e es rights h is
-      ∙ sym (ap (λ o. turned n true o (decided_from (n + 1) directory owner user es rights) (decided_from (n + 1) directory owner user es (filter (λ right. not (has_right e.mask right)) rights))) (find-never rights))
-  turned-matched h Deny is = turned-found h is (find (has_right e.mask) rights) refl
-
-  turned-entry : (b : Bool) → matches directory owner user e.who ≡ b
-      → decided_from n directory owner user (e ∷ es) rights
-      ≡ turned n b (find (denies e) rights) (decided_from (n + 1) directory owner user es rights) (decided_from (n + 1) directory owner user es (filter (λ right. not (permits e right)) rights))
-  turned-entry false h = decided-passed n directory owner user e es rights h
-  turned-entry true h = turned-matched h e.entry_type refl
+      ≡ turned n o b type (decided_from (n + 1) directory owner user es rights) (decided_from (n + 1) directory owner user es (filter (λ right. not (has_right e.mask right)) rights))
+  turned-entry None found true h type is = decided-unmet n directory owner user e es rights h found
+  turned-entry None found false h type is = decided-passed n directory owner user e es rights h
+  turned-entry (Some right) found false h type is = decided-passed n directory owner user e es rights h
+  turned-entry (Some right) found true h Allow is = decided-allowed n directory owner user e es rights h is
+  turned-entry (Some right) found true h Deny is = decided-denied n directory owner user e es rights right h is found
 
 pub decided-turned : (n : ℕ) (directory : Directory) (owner user : List ℕ) (e : Entry) (es : List Entry) (rights : List Right)
     → decided_from n directory owner user (e ∷ es) rights
-    ≡ turned n (matches directory owner user e.who) (find (denies e) rights) (decided_from (n + 1) directory owner user es rights) (decided_from (n + 1) directory owner user es (filter (λ right. not (permits e right)) rights))
-decided-turned n directory owner user e es rights = turned-entry n directory owner user e es rights (matches directory owner user e.who) refl
+    ≡ turned n (find (has_right e.mask) rights) (matches directory owner user e.who) e.entry_type (decided_from (n + 1) directory owner user es rights) (decided_from (n + 1) directory owner user es (filter (λ right. not (has_right e.mask right)) rights))
+decided-turned n directory owner user e es rights =
+    turned-entry n directory owner user e es rights (find (has_right e.mask) rights) refl (matches directory owner user e.who) refl e.entry_type refl
 
 -- MASKS
-
-find-filter : {X : Type 0} (p q : X → Bool) (xs : List X) → find p (filter q xs) ≡ find (λ x. q x && p x) xs
-find-filter p q [] = refl
-find-filter p q (x ∷ xs) =
-    elim (q x) as (λ b. find p (cond b (x ∷ filter q xs) (filter q xs)) ≡ cond (b && p x) (Some x) (find (λ y. q y && p y) xs)) [
-      | true ↦ ap (cond (p x) (Some x)) (find-filter p q xs)
-      | false ↦ find-filter p q xs
-    ]
 
 filter-filter : {X : Type 0} (p q : X → Bool) (xs : List X) → filter p (filter q xs) ≡ filter (λ x. q x && p x) xs
 filter-filter p q [] = refl
@@ -303,47 +280,67 @@ filter-filter p q (x ∷ xs) =
       | false ↦ filter-filter p q xs
     ]
 
-bits_apart : (a b : ℕ) → a < 2 → b < 2 → eqb (min a (1 - b)) 1 ≡ eqb a 1 && not (eqb b 1)
-bits_apart a b h k = grind (arith, nat_tests)
+-- the bit of a right
+has_right-bit : (mask : ℕ) (right : Right) → has_right mask right ≡ eqb (bit_at mask (place right)) 1
+has_right-bit mask right = ap (λ n. eqb ((mask / n) % 2) 1) (bit_of-place right)
 
-bit_without : (a b i : ℕ) → b < 2 ^ 32 → i < 32 → eqb (bit_at (bit_and a (2 ^ 32 - 1 - b)) i) 1 ≡ eqb (bit_at a i) 1 && not (eqb (bit_at b i) 1)
-bit_without a b i h k =
-    ap (λ n. eqb n 1) (bit_at_and a (2 ^ 32 - 1 - b) i ∙ ap (min (bit_at a i)) (bit_at_not w32 b i h k)) ∙ bits_apart (bit_at a i) (bit_at b i) (bit_at-lt a i) (bit_at-lt b i)
+place-below : (right : Right) → place right < 32
+place-below ReadData = omega arith
+place-below WriteData = omega arith
+place-below AppendData = omega arith
+place-below ReadAttributes = omega arith
+place-below Delete = omega arith
+place-below ReadAcl = omega arith
+place-below WriteAcl = omega arith
+place-below WriteOwner = omega arith
 
-has_right-without : (a b : ℕ) (right : Right) → b < 2 ^ 32 → has_right (bit_and a (2 ^ 32 - 1 - b)) right ≡ has_right a right && not (has_right b right)
-has_right-without a b ReadData h = bit_without a b 0 h (omega arith)
-has_right-without a b WriteData h = bit_without a b 1 h (omega arith)
-has_right-without a b AppendData h = bit_without a b 2 h (omega arith)
-has_right-without a b ReadAttributes h = bit_without a b 7 h (omega arith)
-has_right-without a b Delete h = bit_without a b 16 h (omega arith)
-has_right-without a b ReadAcl h = bit_without a b 17 h (omega arith)
-has_right-without a b WriteAcl h = bit_without a b 18 h (omega arith)
-has_right-without a b WriteOwner h = bit_without a b 19 h (omega arith)
+bits_both : (a b : ℕ) → a < 2 → b < 2 → eqb (min a b) 1 ≡ eqb a 1 && eqb b 1
+bits_both a b h k = grind (arith, nat_tests)
+
+bit_not : (b : ℕ) → b < 2 → eqb (1 - b) 1 ≡ not (eqb b 1)
+bit_not b h = grind (arith, nat_tests)
+
+has_right-both : (a b : ℕ) (right : Right) → has_right (bit_and a b) right ≡ has_right a right && has_right b right
+has_right-both a b right =
+    let i = place right in
+    has_right-bit (bit_and a b) right
+    ∙ ap (λ n. eqb n 1) (bit_at_and a b i)
+    ∙ bits_both (bit_at a i) (bit_at b i) (bit_at-lt a i) (bit_at-lt b i)
+    ∙ sym (ap (λ x. x && has_right b right) (has_right-bit a right) ∙ ap (λ x. eqb (bit_at a i) 1 && x) (has_right-bit b right))
+
+has_right-not : (b : ℕ) (right : Right) → b < 2 ^ 32 → has_right (2 ^ 32 - 1 - b) right ≡ not (has_right b right)
+has_right-not b right h =
+    let i = place right in
+    has_right-bit (2 ^ 32 - 1 - b) right
+    ∙ ap (λ n. eqb n 1) (bit_at_not w32 b i h (place-below right))
+    ∙ bit_not (bit_at b i) (bit_at-lt b i)
+    ∙ ap not (sym (has_right-bit b right))
+
+-- the rights of `a & b`
+rights_in-both : (a b : ℕ) → rights_in (bit_and a b) ≡ filter (has_right b) (rights_in a)
+rights_in-both a b =
+    ap (λ p. filter p all_rights) (λ i right. has_right-both a b right i)
+    ∙ sym (filter-filter (has_right b) (has_right a) all_rights)
+
+-- the first right of `a & b`
+pub first-both : (a b : ℕ) → find (has_right (bit_and a b)) all_rights ≡ find (has_right b) (wanted a)
+unfolding wanted
+first-both a b = find-first (has_right (bit_and a b)) all_rights ∙ ap (λ (rights : List Right). slice_get rights 0) (rights_in-both a b) ∙ sym (find-first (has_right b) (rights_in a))
 
 -- the rights of `a & !b`
 pub rights_in-without : (a b : ℕ) → b < 2 ^ 32 → rights_in (bit_and a (2 ^ 32 - 1 - b)) ≡ filter (λ right. not (has_right b right)) (rights_in a)
-rights_in-without a b h =
-    ap (λ p. filter p all_rights) (λ i right. has_right-without a b right h i)
-    ∙ sym (filter-filter (λ right. not (has_right b right)) (has_right a) all_rights)
+rights_in-without a b h = rights_in-both a (2 ^ 32 - 1 - b) ∙ ap (λ p. filter p (rights_in a)) (λ i right. has_right-not b right h i)
 
--- ONE ENTRY AND A MASK
-
-pub denied-allow : (e : Entry) (mask : ℕ) → e.entry_type ≡ Allow → find (denies e) (wanted mask) ≡ None
-unfolding wanted
-denied-allow e mask is = ap (λ type. find (λ right. not (is_allow type) && has_right e.mask right) (rights_in mask)) is ∙ find-never (rights_in mask)
-
-pub denied-deny : (e : Entry) (mask : ℕ) → e.entry_type ≡ Deny → find (denies e) (wanted mask) ≡ find (λ right. has_right mask right && has_right e.mask right) all_rights
-unfolding wanted
-denied-deny e mask is =
-    ap (λ type. find (λ right. not (is_allow type) && has_right e.mask right) (rights_in mask)) is ∙ find-filter (has_right e.mask) (has_right mask) all_rights
-
-pub left-allow : (e : Entry) (mask : ℕ) → e.entry_type ≡ Allow → filter (λ right. not (permits e right)) (wanted mask) ≡ filter (λ right. not (has_right e.mask right)) (rights_in mask)
-unfolding wanted
-left-allow e mask is = ap (λ type. filter (λ right. not (is_allow type && has_right e.mask right)) (rights_in mask)) is
-
-pub left-deny : (e : Entry) (mask : ℕ) → e.entry_type ≡ Deny → filter (λ right. not (permits e right)) (wanted mask) ≡ wanted mask
-unfolding wanted
-left-deny e mask is = ap (λ type. filter (λ right. not (is_allow type && has_right e.mask right)) (rights_in mask)) is ∙ filter-all (rights_in mask)
+-- the mask of one right has that right alone
+pub decision_one : (directory : Directory) (owner user : List ℕ) (es : List Entry) (right : Right) → decision directory owner user es (bit_of right) ≡ decision_by (decider directory owner user es) (right ∷ [])
+decision_one directory owner user es ReadData = refl
+decision_one directory owner user es WriteData = refl
+decision_one directory owner user es AppendData = refl
+decision_one directory owner user es ReadAttributes = refl
+decision_one directory owner user es Delete = refl
+decision_one directory owner user es ReadAcl = refl
+decision_one directory owner user es WriteAcl = refl
+decision_one directory owner user es WriteOwner = refl
 
 -- what closes the goals of the walk
 pub ruleset walk = (decided-all, decided-turned, decided-end, first-right, drop_more, drop_all)

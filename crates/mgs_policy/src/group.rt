@@ -10,7 +10,7 @@ use std::marker::Model;
 
 /// A group: its name, and its members in the order in which they were named.
 #[derive(Drop)]
-pub struct Group {
+pub(crate) struct Group {
     name: Name,
     members: Vec<Name>,
 }
@@ -27,7 +27,7 @@ impl Group {
     ghost use Rattle.mgs_policy.specs.Groups.{has_member};
 
     /// The group of this name with these members.
-    pub fn new(name: Name, members: Vec<Name>) -> Group
+    pub(crate) fn new(name: Name, members: Vec<Name>) -> Group
         ensures { result ≡ record { name = name; members = members.items } }
     {
         Group { name, members }
@@ -47,14 +47,14 @@ impl Group {
 }
 
 /// Whether one of the groups has this name.
-pub fn has_group(groups: &[Group], name: &Name) -> bool
+pub(crate) fn has_group(groups: &[Group], name: &Name) -> bool
     ensures { result ≡ is_group_named name.now groups.now }
 {
     groups.iter().any(|group| group.is_named(name))
 }
 
 /// Whether the user is in a group of this name.
-pub fn is_member(groups: &[Group], group: &Name, user: &Name) -> bool
+pub(crate) fn is_member(groups: &[Group], group: &Name, user: &Name) -> bool
     ensures { result ≡ is_member groups.now group.now user.now }
 {
     groups.iter().any(|other| other.has(group, user))

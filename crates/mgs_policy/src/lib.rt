@@ -4,11 +4,7 @@
 mod directory;
 mod group;
 mod policy;
-mod right;
 mod users;
 
 pub use directory::{Directory, DirectoryFault};
-pub use group::{Group, has_group, is_member};
-pub use policy::decide;
-pub use right::{decide_right, is_granted, matches};
-pub use users::{are_users, has_name, known, named};
+pub use policy::{decide, decide_right, is_granted};

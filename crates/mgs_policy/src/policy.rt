@@ -1,59 +1,50 @@
-// What an access list decides on all rights of a mask.
-ghost use Rattle.std.specs.Prelude.{◌≡◌, ◌&&◌, find, filter, not};
-ghost use Rattle.mgs_model.specs.Rights.{rights_in, has_right, all_rights};
-ghost use Rattle.mgs_model.specs.Access.{decision};
-ghost use Rattle.mgs_policy.specs.Walk.{permits, denies, wanted};
+// What an access list decides (RFC 8881, section 6.2.1).
+ghost use Rattle.std.specs.Prelude.{◌≡◌, ◌∷◌, [], find, filter, not};
+ghost use Rattle.mgs_model.specs.Rights.{has_right, all_rights};
+ghost use Rattle.mgs_model.specs.Access.{allows, matches, decider, decision, decision_by};
+ghost use Rattle.mgs_policy.specs.Walk.{wanted};
 
 use crate::directory::Directory;
-use crate::right::matches;
 use mgs_acl::List;
-use mgs_model::{Decision, Entry, EntryType, Mask, Name, Right};
+use mgs_model::{Decision, EntryType, Mask, Name, Right, Who};
+
+/// Whether an entry for `who` matches the user: by name, by a group of the directory that the user is in, as the owner, or always.
+fn matches(directory: &Directory, owner: &Name, user: &Name, who: &Who) -> bool
+    ensures { result ≡ matches directory.now owner.now user.now who.now }
+{
+    match who {
+        Who::Owner => *owner == *user,
+        Who::Everyone => true,
+        Who::User(name) => *name == *user,
+        Who::Group(name) => directory.is_member(name, user),
+    }
+}
 
 /// The first right of a mask.
 fn first_right(mask: Mask) -> Option<Right>
     ensures { result ≡ find (has_right mask) all_rights }
 {
+    if mask.bits() == 0 {
+        return None;
+    }
     Right::ALL.iter().copied().find(|right| mask.has(*right))
 }
 
 /// The first right that both masks have.
-fn first_of_both(mask: Mask, other: Mask) -> Option<Right>
-    ensures { result ≡ find (λ right. has_right mask right && has_right other right) all_rights }
+fn first_common(mask: Mask, other: Mask) -> Option<Right>
+    ensures { result ≡ find (has_right other) (wanted mask) }
 {
-    Right::ALL
-        .iter()
-        .copied()
-        .find(|right| mask.has(*right) && other.has(*right))
+    first_right(Mask::from_bits(mask.bits() & other.bits()))
 }
 
 /// The rights of a mask that the other has not.
 fn without(mask: Mask, other: Mask) -> Mask
-    ensures { rights_in result ≡ filter (λ right. not (has_right other right)) (rights_in mask) }
+    ensures { wanted result ≡ filter (λ right. not (has_right other right)) (wanted mask) }
 {
     Mask::from_bits(mask.bits() & !other.bits())
 }
 
-/// The first right of a mask that an entry denies.
-fn denied_by(entry: &Entry, mask: Mask) -> Option<Right>
-    ensures { result ≡ find (denies entry.now) (wanted mask) }
-{
-    match entry.entry_type {
-        EntryType::Allow => None,
-        EntryType::Deny => first_of_both(mask, entry.mask),
-    }
-}
-
-/// The rights of a mask that an entry does not allow.
-fn left_by(entry: &Entry, mask: Mask) -> Mask
-    ensures { wanted result ≡ filter (λ right. not (permits entry.now right)) (wanted mask) }
-{
-    match entry.entry_type {
-        EntryType::Allow => without(mask, entry.mask),
-        EntryType::Deny => mask,
-    }
-}
-
-/// What a list decides on all rights of a mask (RFC 8881, section 6.2.1), in one walk over the list and without memory.
+/// What a list decides on all rights of a mask, in one walk over the list and without memory.
 ///
 /// `DeniedBy` names the least entry that denies one of them, counted from 1, and the lowest right that it denies. Where none denies,
 /// `NotGranted` names the lowest right that no entry grants. A mask of no right is `Granted`.
@@ -64,21 +55,51 @@ pub fn decide(list: &List, owner: &Name, user: &Name, directory: &Directory, mas
     // The rights of the mask that no entry so far has decided.
     let mut left = mask;
     for (place, entry) in list.as_slice().iter().enumerate() {
+        let Some(right) = first_common(left, entry.mask) else {
+            continue;
+        };
         if !matches(directory, owner, user, &entry.who) {
             continue;
         }
-        match denied_by(entry, left) {
-            Some(right) => {
+        match entry.entry_type {
+            EntryType::Allow => left = without(left, entry.mask),
+            EntryType::Deny => {
                 return Decision::DeniedBy {
                     entry: place + 1,
                     bit: right,
                 };
             }
-            None => left = left_by(entry, left),
         }
     }
     match first_right(left) {
         Some(right) => Decision::NotGranted { bit: right },
         None => Decision::Granted,
     }
+}
+
+/// What a list decides on one right of a user: by the first entry that matches the user and has the right. Entries count from 1. It takes no memory.
+#[tactic(auto, using(crate::proofs::Walks::decision_one))]
+pub fn decide_right(
+    list: &List,
+    owner: &Name,
+    user: &Name,
+    directory: &Directory,
+    right: Right,
+) -> Decision
+    ensures { result ≡ decision_by (decider directory.now owner.now user.now list.now) (right ∷ []) }
+{
+    decide(list, owner, user, directory, Mask::of(right))
+}
+
+/// Whether a list grants one right to a user.
+pub fn is_granted(
+    list: &List,
+    owner: &Name,
+    user: &Name,
+    directory: &Directory,
+    right: Right,
+) -> bool
+    ensures { result ≡ allows (decider directory.now owner.now user.now list.now right) }
+{
+    decide_right(list, owner, user, directory, right) == Decision::Granted
 }

@@ -8,14 +8,14 @@ use mgs_model::Name;
 use std::alloc::{AllocError, Global};
 
 /// Whether this name is among the names.
-pub fn has_name(names: &[Name], name: &Name) -> bool
+pub(crate) fn has_name(names: &[Name], name: &Name) -> bool
     ensures { result ≡ is_among name.now names.now }
 {
     names.iter().any(|other| *name == *other)
 }
 
 /// The first of the names that is spelled so, if there is one.
-pub fn named(names: &[Name], name: &str) -> Option<Name>
+pub(crate) fn named(names: &[Name], name: &str) -> Option<Name>
     ensures { result ≡ find (same_name name.now) names.now }
 {
     names
@@ -31,7 +31,7 @@ fn is_user(users: &[Name], name: &str) -> bool
 }
 
 /// Whether all of these are users.
-pub fn are_users(users: &[Name], members: &[&str]) -> bool
+pub(crate) fn are_users(users: &[Name], members: &[&str]) -> bool
     ensures { result ≡ are_users users.now (map (λ member. member.now) members.now) }
 {
     for member in members {
@@ -57,7 +57,7 @@ fn push_user(names: &mut Vec<Name>, users: &[Name], user: &str) -> Result<(), Al
 }
 
 /// The names of these members, in their order. The caller has made sure that all of them are users; `AllocError` is for out of memory.
-pub fn known(alloc: Global, users: &[Name], members: &[&str]) -> Result<Vec<Name>, AllocError>
+pub(crate) fn known(alloc: Global, users: &[Name], members: &[&str]) -> Result<Vec<Name>, AllocError>
     requires { are_users users.now (map (λ member. member.now) members.now) ≡ true }
     ensures { IfOk result (λ names. names.items ≡ map (λ member. member.now) members.now) }
 {
