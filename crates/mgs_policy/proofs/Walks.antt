@@ -242,6 +242,11 @@ first-right mask = find-first (has_right mask) all_rights
 
 -- THE WALK
 
+-- on no right all is granted
+pub decided-none : (n : ℕ) (directory : Directory) (owner user : List ℕ) (es : List Entry) (mask : ℕ) → mask ≡ 0 → decided_from n directory owner user es (wanted mask) ≡ Granted
+unfolding decided_from wanted
+decided-none n directory owner user es mask h = ap (λ m. decided_from n directory owner user es (wanted m)) h
+
 -- all entries
 pub decided-all : (directory : Directory) (owner user : List ℕ) (es : List Entry) (mask : ℕ) → decided_from 1 directory owner user es (wanted mask) ≡ decision directory owner user es mask
 unfolding decided_from wanted
@@ -343,4 +348,4 @@ decision_one directory owner user es WriteAcl = refl
 decision_one directory owner user es WriteOwner = refl
 
 -- what closes the goals of the walk
-pub ruleset walk = (decided-all, decided-turned, decided-end, first-right, drop_more, drop_all)
+pub ruleset walk = (decided-all, decided-turned, decided-none, decided-end, first-right, drop_more, drop_all)

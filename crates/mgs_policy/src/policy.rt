@@ -55,6 +55,9 @@ pub fn decide(list: &List, owner: &Name, user: &Name, directory: &Directory, mas
     // The rights of the mask that no entry so far has decided.
     let mut left = mask;
     for (place, entry) in list.as_slice().iter().enumerate() {
+        if left.bits() == 0 {
+            break;
+        }
         let Some(right) = first_common(left, entry.mask) else {
             continue;
         };
