@@ -1,5 +1,6 @@
 -- What adding a user or a group does to a directory.
 use Rattle.std.specs.Prelude.{◌≡◌, ℕ, nat_le, not, List, [], ◌∷◌, ◌++◌, length, Option, Some, None, Result, Ok, Err, if◌then◌else◌}
+use Rattle.mgs_model.specs.declared.limits.TheConstants.{USER_LIMIT, GROUP_LIMIT}
 use Rattle.mgs_model.specs.Names.{is_user_name}
 use Rattle.mgs_model.specs.Access.{Directory, is_among}
 use Rattle.mgs_policy.specs.Groups.{is_group_named, are_users}
@@ -11,10 +12,10 @@ abbrev pub user_fault : Directory → List ℕ → Option DirectoryFault
 user_fault directory name =
     if not (is_user_name name) then Some Name
     else if is_among name directory.users then Some Twice
-    else if nat_le 256 (length directory.users) then Some Full
+    else if nat_le USER_LIMIT (length directory.users) then Some Full
     else None
 
--- the directory with a user more, who is its last
+-- the directory with one more user, who is its last
 abbrev pub with_user : Directory → List ℕ → Directory
 with_user directory name = record directory { users = directory.users ++ name ∷ [] }
 
@@ -24,10 +25,10 @@ group_fault directory name members =
     if not (is_user_name name) then Some Name
     else if is_group_named name directory.groups then Some Twice
     else if not (are_users directory.users members) then Some Unknown
-    else if nat_le 64 (length directory.groups) then Some Full
+    else if nat_le GROUP_LIMIT (length directory.groups) then Some Full
     else None
 
--- the directory with a group more, which is its last
+-- the directory with one more group, which is its last
 abbrev pub with_group : Directory → List ℕ → List (List ℕ) → Directory
 with_group directory name members = record directory { groups = directory.groups ++ record { name = name; members = members } ∷ [] }
 

@@ -15,19 +15,19 @@ use thiserror::Error;
 /// Why a directory was not changed, in the order in which the faults are checked.
 #[derive(Clone, Copy, Debug, PartialEq, Eq, Error)]
 pub enum DirectoryFault {
-    /// It is no name of a user or a group: 1 to 32 lower-case letters, digits, `-` and `_`.
-    #[error("it is no name of a user or a group")]
+    /// The name is not that of a user or a group: 1 to 32 lower-case letters, digits, `-` and `_`.
+    #[error("the name is not that of a user or a group")]
     Name,
-    /// The directory has a user, or a group, of that name.
+    /// The directory has a user, or a group, of this name.
     #[error("the name is taken")]
     Twice,
-    /// A member of the group is no user of the directory.
-    #[error("a member is no user")]
+    /// A member of the group is not a user of the directory.
+    #[error("a member is not a user")]
     Unknown,
-    /// It has 256 users, or 64 groups.
+    /// The directory has `USER_LIMIT` users (256), or `GROUP_LIMIT` groups (64).
     #[error("the directory is full")]
     Full,
-    /// Want of memory.
+    /// Out of memory.
     #[error("no memory")]
     Short,
 }
@@ -69,7 +69,7 @@ impl Directory {
         has_name(self.users.as_slice(), name)
     }
 
-    /// The name of the user who is called so, if there is one.
+    /// The user of this name, if there is one.
     pub fn user(&self, name: &str) -> Option<Name>
         ensures { result ≡ find (same_name name.now) self.now.users }
     {
@@ -92,7 +92,8 @@ impl Directory {
 
     /// Adds a user, who is then the last.
     ///
-    /// The faults, checked in this order: `Name` where it is no user's name, `Twice` where a user has it, `Full` where there are 256 users, `Short` for out of memory. They change nothing.
+    /// The faults, checked in this order: `Name` where it is not a user's name, `Twice` where a user has it, `Full` where there are
+    /// `USER_LIMIT` users, `Short` for out of memory. They change nothing.
     pub fn add_user(&mut self, name: &str) -> Result<(), DirectoryFault>
         ensures answer { Answers result (user_fault self.old name.now) }
         ensures ok { OnOk result (self.new ≡ with_user self.old name.now) }
@@ -115,8 +116,8 @@ impl Directory {
 
     /// Adds a group of these users, which is then the last. A member may be named twice.
     ///
-    /// The faults, checked in this order: `Name` where it is no group's name, `Twice` where a group has it, `Unknown` where a member is no user of the directory,
-    /// `Full` where there are 64 groups, `Short` for out of memory. They change nothing.
+    /// The faults, checked in this order: `Name` where it is not a group's name, `Twice` where a group has it, `Unknown` where a member
+    /// is not a user of the directory, `Full` where there are `GROUP_LIMIT` groups, `Short` for out of memory. They change nothing.
     pub fn add_group(&mut self, name: &str, members: &[&str]) -> Result<(), DirectoryFault>
         ensures answer { Answers result (group_fault self.old name.now (map (λ member. member.now) members.now)) }
         ensures ok { OnOk result (self.new ≡ with_group self.old name.now (map (λ member. member.now) members.now)) }

@@ -44,7 +44,7 @@ fn without(mask: Mask, other: Mask) -> Mask
     Mask::from_bits(mask.bits() & !other.bits())
 }
 
-/// What a list decides on all rights of a mask, in one walk over the list and without memory.
+/// What a list decides on all rights of a mask, in one walk over the list. It takes no memory.
 ///
 /// `DeniedBy` names the least entry that denies one of them, counted from 1, and the lowest right that it denies. Where none denies,
 /// `NotGranted` names the lowest right that no entry grants. A mask of no right is `Granted`.
@@ -55,6 +55,7 @@ pub fn decide(list: &List, owner: &Name, user: &Name, directory: &Directory, mas
     // The rights of the mask that no entry so far has decided.
     let mut left = mask;
     for (place, entry) in list.as_slice().iter().enumerate() {
+        // Nothing is left to decide.
         if left.bits() == 0 {
             break;
         }
@@ -80,7 +81,8 @@ pub fn decide(list: &List, owner: &Name, user: &Name, directory: &Directory, mas
     }
 }
 
-/// What a list decides on one right of a user: by the first entry that matches the user and has the right. Entries count from 1. It takes no memory.
+/// What a list decides on one right of a user: what the first entry does that matches the user and has the right. Entries are counted
+/// from 1. It takes no memory.
 #[tactic(auto, using(crate::proofs::Walks::decision_one))]
 pub fn decide_right(
     list: &List,
@@ -94,7 +96,7 @@ pub fn decide_right(
     decide(list, owner, user, directory, Mask::of(right))
 }
 
-/// Whether a list grants one right to a user.
+/// Whether a list grants one right to a user. It takes no memory.
 pub fn is_granted(
     list: &List,
     owner: &Name,

@@ -14,7 +14,7 @@ pub(crate) fn has_name(names: &[Name], name: &Name) -> bool
     names.iter().any(|other| *name == *other)
 }
 
-/// The first of the names that is spelled so, if there is one.
+/// The first of the names that is this text, if there is one.
 pub(crate) fn named(names: &[Name], name: &str) -> Option<Name>
     ensures { result ≡ find (same_name name.now) names.now }
 {
@@ -24,6 +24,7 @@ pub(crate) fn named(names: &[Name], name: &str) -> Option<Name>
         .find(|other| name.as_bytes() == other.as_bytes())
 }
 
+/// Whether this text is the name of one of the users.
 fn is_user(users: &[Name], name: &str) -> bool
     ensures { result ≡ is_among name.now users.now }
 {
@@ -42,7 +43,7 @@ pub(crate) fn are_users(users: &[Name], members: &[&str]) -> bool
     true
 }
 
-/// Puts the name of a user last.
+/// Puts the name of a user last. `AllocError`: out of memory.
 fn push_user(names: &mut Vec<Name>, users: &[Name], user: &str) -> Result<(), AllocError>
     requires { is_among user.now users.now ≡ true }
     ensures { OnOk result (names.new.items ≡ names.old.items ++ user.now ∷ []) }
@@ -56,8 +57,12 @@ fn push_user(names: &mut Vec<Name>, users: &[Name], user: &str) -> Result<(), Al
     }
 }
 
-/// The names of these members, in their order. The caller has made sure that all of them are users; `AllocError` is for out of memory.
-pub(crate) fn known(alloc: Global, users: &[Name], members: &[&str]) -> Result<Vec<Name>, AllocError>
+/// The names of these members, in their order. The caller has made sure that all of them are users. `AllocError`: out of memory.
+pub(crate) fn known(
+    alloc: Global,
+    users: &[Name],
+    members: &[&str],
+) -> Result<Vec<Name>, AllocError>
     requires { are_users users.now (map (λ member. member.now) members.now) ≡ true }
     ensures { IfOk result (λ names. names.items ≡ map (λ member. member.now) members.now) }
 {
