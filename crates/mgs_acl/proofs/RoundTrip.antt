@@ -23,8 +23,8 @@ use Rattle.mgs_model.specs.declared.entry.EntryType.TheVariants.{Allow, Deny}
 use Rattle.mgs_model.specs.declared.entry.Who.{Who}
 use Rattle.mgs_model.specs.declared.entry.Who.TheVariants.{Owner, Everyone, User, Group}
 use Rattle.mgs_model.specs.declared.entry.Entry.{Entry}
-use Rattle.mgs_acl.specs.Spelling.{is_space, is_word, words, type_named, behind_group, named_who, who_named, right_lettered, is_letter, bit_or_none, with_letter, mask_lettered, said, judged, entry_said, entry_in}
-use Rattle.mgs_acl.specs.Written.{is_spelled_who, mask_of, IsSpelled}
+use Rattle.mgs_acl.specs.Spelling.{is_space, is_filled, words, type_named, after_group, named_who, who_named, right_lettered, is_letter, bit_or_none, with_letter, mask_lettered, said, checked, entry_of_words, entry_in}
+use Rattle.mgs_acl.specs.Written.{is_writable_who, mask_of, IsWritable}
 use Rattle.mgs_acl.proofs.Masks.{with_right, mask_of-rights_in}
 
 -- LETTERS
@@ -52,14 +52,14 @@ bits_of_letters mask [] = refl
 bits_of_letters mask (right ∷ rights) =
     ap (λ r. fold with_letter (bit_or mask (bit_or_none r)) (letters rights)) (right_lettered-letter_of right) ∙ bits_of_letters (bit_or mask (bit_of right)) rights
 
-some_letters : (rights : List Right) → 0 < mask_of rights → is_word (letters rights) ≡ true
+some_letters : (rights : List Right) → 0 < mask_of rights → is_filled (letters rights) ≡ true
 some_letters [] h = absurd (omega arith)
 some_letters (right ∷ rights) h = grind (arith, nat_tests)
 
 -- letters say the mask of their rights
 mask_lettered-letters : (rights : List Right) → 0 < mask_of rights → mask_lettered (letters rights) ≡ Some (mask_of rights)
 mask_lettered-letters rights h =
-    ap (λ b. cond b (Some (fold with_letter 0 (letters rights))) None) (and_from (is_word (letters rights)) (list_all is_letter (letters rights)) (some_letters rights h) (all_letters rights))
+    ap (λ b. cond b (Some (fold with_letter 0 (letters rights))) None) (and_from (is_filled (letters rights)) (list_all is_letter (letters rights)) (some_letters rights h) (all_letters rights))
     ∙ ap Some (bits_of_letters 0 rights)
 
 -- THE WHO
@@ -79,7 +79,7 @@ letters_in_front zero name h = refl
 letters_in_front (suc n) [] h = refl
 letters_in_front (suc n) (c ∷ cs) h = and_from (is_user_char c) (is_letters (take n cs)) (and_parts (is_user_char c) (is_letters cs) h).0 (letters_in_front n cs (and_parts (is_user_char c) (is_letters cs) h).1)
 
-no_group : (name : List ℕ) → is_letters name ≡ true → behind_group name ≡ None
+no_group : (name : List ℕ) → is_letters name ≡ true → after_group name ≡ None
 no_group name h = ap (λ b. cond b (Some (drop 6 name)) None) (false_from_ne_true (starts_with nat_eq name (codes "group:")) (λ e. true≢false (sym (letters_in_front 6 name h) ∙ ap is_letters (sym ((bytes_eq-Decides (codes "group:") (take 6 name)).0 (starts_back name e))))))
   where
     starts_back : (name : List ℕ) → starts_with nat_eq name (codes "group:") ≡ true → bytes_eq (codes "group:") (take 6 name) ≡ true
@@ -87,12 +87,12 @@ no_group name h = ap (λ b. cond b (Some (drop 6 name)) None) (false_from_ne_tru
 
 who_named-name : (name : List ℕ) → is_user_name name ≡ true → who_named name ≡ Some (User name)
 who_named-name name h =
-    ap (λ b. cond b (Some Owner) (cond (bytes_eq name (codes "EVERYONE@")) (Some Everyone) (named_who name (behind_group name)))) (not_text name (codes "OWNER@") (letters_of_name name h) refl)
-    ∙ ap (λ b. cond b (Some Everyone) (named_who name (behind_group name))) (not_text name (codes "EVERYONE@") (letters_of_name name h) refl)
+    ap (λ b. cond b (Some Owner) (cond (bytes_eq name (codes "EVERYONE@")) (Some Everyone) (named_who name (after_group name)))) (not_text name (codes "OWNER@") (letters_of_name name h) refl)
+    ∙ ap (λ b. cond b (Some Everyone) (named_who name (after_group name))) (not_text name (codes "EVERYONE@") (letters_of_name name h) refl)
     ∙ ap (named_who name) (no_group name (letters_of_name name h))
     ∙ ap (λ b. option_map User (cond b (Some name) None)) h
 
-who_named-who_text : (who : Who) → is_spelled_who who ≡ true → who_named (who_text who) ≡ Some who
+who_named-who_text : (who : Who) → is_writable_who who ≡ true → who_named (who_text who) ≡ Some who
 who_named-who_text Owner h = refl
 who_named-who_text Everyone h = refl
 who_named-who_text (User name) h = who_named-name name h
@@ -111,16 +111,16 @@ is_unspaced word = list_all (λ c. not (is_space c)) word
 unspaced_at : (word : List ℕ) → is_unspaced word ≡ true → All (λ c. is_space c ≡ false) word
 unspaced_at word h = λ k d l. not-true (is_space (get_or word k d)) (AllPass-from_list_all (λ c. not (is_space c)) word h k d l)
 
-words_apart : (a b c : List ℕ) → is_unspaced a ≡ true → is_unspaced b ≡ true → is_unspaced c ≡ true → is_word a ≡ true → is_word b ≡ true → is_word c ≡ true → words (a ++ 32 ∷ (b ++ 32 ∷ c)) ≡ a ∷ b ∷ c ∷ []
+words_apart : (a b c : List ℕ) → is_unspaced a ≡ true → is_unspaced b ≡ true → is_unspaced c ≡ true → is_filled a ≡ true → is_filled b ≡ true → is_filled c ≡ true → words (a ++ 32 ∷ (b ++ 32 ∷ c)) ≡ a ∷ b ∷ c ∷ []
 words_apart a b c ua ub uc wa wb wc =
-    ap (filter is_word) (slice_split_at is_space a 32 (b ++ 32 ∷ c) (unspaced_at a ua) refl ∙ ap (λ ps. a ∷ ps) (slice_split_at is_space b 32 c (unspaced_at b ub) refl ∙ ap (λ ps. b ∷ ps) (slice_split_none is_space c (unspaced_at c uc))))
+    ap (filter is_filled) (slice_split_at is_space a 32 (b ++ 32 ∷ c) (unspaced_at a ua) refl ∙ ap (λ ps. a ∷ ps) (slice_split_at is_space b 32 c (unspaced_at b ub) refl ∙ ap (λ ps. b ∷ ps) (slice_split_none is_space c (unspaced_at c uc))))
     ∙ rw (wa, wb, wc) refl
 
 unspaced_type : (type : EntryType) → is_unspaced (type_text type) ≡ true
 unspaced_type Allow = refl
 unspaced_type Deny = refl
 
-word_type : (type : EntryType) → is_word (type_text type) ≡ true
+word_type : (type : EntryType) → is_filled (type_text type) ≡ true
 word_type Allow = refl
 word_type Deny = refl
 
@@ -131,20 +131,20 @@ unspaced_name : (name : List ℕ) → is_letters name ≡ true → is_unspaced n
 unspaced_name [] h = refl
 unspaced_name (c ∷ cs) h = and_from (not (is_space c)) (is_unspaced cs) (unspaced_char c (and_parts (is_user_char c) (is_letters cs) h).0) (unspaced_name cs (and_parts (is_user_char c) (is_letters cs) h).1)
 
-unspaced_who : (who : Who) → is_spelled_who who ≡ true → is_unspaced (who_text who) ≡ true
+unspaced_who : (who : Who) → is_writable_who who ≡ true → is_unspaced (who_text who) ≡ true
 unspaced_who Owner h = refl
 unspaced_who Everyone h = refl
 unspaced_who (User name) h = unspaced_name name (letters_of_name name h)
 unspaced_who (Group name) h = unspaced_name name (letters_of_name name h)
 
-word_of : (c : ℕ) (cs : List ℕ) → is_word (c ∷ cs) ≡ true
+word_of : (c : ℕ) (cs : List ℕ) → is_filled (c ∷ cs) ≡ true
 word_of c cs = grind (arith, nat_tests)
 
-word_name : (name : List ℕ) → is_user_name name ≡ true → is_word name ≡ true
+word_name : (name : List ℕ) → is_user_name name ≡ true → is_filled name ≡ true
 word_name [] h = h
 word_name (c ∷ cs) h = word_of c cs
 
-word_who : (who : Who) → is_spelled_who who ≡ true → is_word (who_text who) ≡ true
+word_who : (who : Who) → is_writable_who who ≡ true → is_filled (who_text who) ≡ true
 word_who Owner h = refl
 word_who Everyone h = refl
 word_who (User name) h = word_name name h
@@ -166,44 +166,44 @@ unspaced_letters (right ∷ rights) = and_from (not (is_space (letter_of right))
 
 -- READ BACK
 
-entry_said-three : (a b c : List ℕ) (type : EntryType) (who : Who) (mask : ℕ) → type_named a ≡ Some type → who_named b ≡ Some who → mask_lettered c ≡ Some mask → entry_said (a ∷ b ∷ c ∷ []) ≡ Ok (record { entry_type = type; who = who; mask = mask })
-entry_said-three a b c type who mask ta wb mc =
-    ap (λ t. judged t (who_named b) (mask_lettered c) false) ta
-    ∙ ap (λ w. judged (Some type) w (mask_lettered c) false) wb
-    ∙ ap (λ m. judged (Some type) (Some who) m false) mc
+entry_of_words-three : (a b c : List ℕ) (type : EntryType) (who : Who) (mask : ℕ) → type_named a ≡ Some type → who_named b ≡ Some who → mask_lettered c ≡ Some mask → entry_of_words (a ∷ b ∷ c ∷ []) ≡ Ok (record { entry_type = type; who = who; mask = mask })
+entry_of_words-three a b c type who mask ta wb mc =
+    ap (λ t. checked t (who_named b) (mask_lettered c) false) ta
+    ∙ ap (λ w. checked (Some type) w (mask_lettered c) false) wb
+    ∙ ap (λ m. checked (Some type) (Some who) m false) mc
 
 spelled_apart : (a b c : List ℕ) → a ++ codes " " ++ b ++ codes " " ++ c ≡ a ++ 32 ∷ (b ++ 32 ∷ c)
 spelled_apart a b c = simp append_assoc
 
-pub entry_in-entry_text : (e : Entry) → IsSpelled e → entry_in (entry_text e) ≡ Ok e
+pub entry_in-entry_text : (e : Entry) → IsWritable e → entry_in (entry_text e) ≡ Ok e
 entry_in-entry_text e h =
     let rights = rights_in e.mask in
     let some : 0 < mask_of rights = omega (arith, h.some, h.rights) in
     ap entry_in (spelled_apart (type_text e.entry_type) (who_text e.who) (letters rights))
-    ∙ ap entry_said (words_apart (type_text e.entry_type) (who_text e.who) (letters rights) (unspaced_type e.entry_type) (unspaced_who e.who h.who) (unspaced_letters rights) (word_type e.entry_type) (word_who e.who h.who) (some_letters rights some))
-    ∙ entry_said-three (type_text e.entry_type) (who_text e.who) (letters rights) e.entry_type e.who e.mask (type_named-type_text e.entry_type) (who_named-who_text e.who h.who) (mask_lettered-letters rights some ∙ ap Some h.rights)
+    ∙ ap entry_of_words (words_apart (type_text e.entry_type) (who_text e.who) (letters rights) (unspaced_type e.entry_type) (unspaced_who e.who h.who) (unspaced_letters rights) (word_type e.entry_type) (word_who e.who h.who) (some_letters rights some))
+    ∙ entry_of_words-three (type_text e.entry_type) (who_text e.who) (letters rights) e.entry_type e.who e.mask (type_named-type_text e.entry_type) (who_named-who_text e.who h.who) (mask_lettered-letters rights some ∙ ap Some h.rights)
 
 -- WHAT IS READ CAN BE WRITTEN
 
-named_who-spelled : (word : List ℕ) (name : Option (List ℕ)) (who : Who) → named_who word name ≡ Some who → is_spelled_who who ≡ true
+named_who-spelled : (word : List ℕ) (name : Option (List ℕ)) (who : Who) → named_who word name ≡ Some who → is_writable_who who ≡ true
 named_who-spelled word (Some name) who h = by (is_user_name name) refl h
   where
-    by : (b : Bool) → is_user_name name ≡ b → option_map Group (cond b (Some name) None) ≡ Some who → is_spelled_who who ≡ true
-    by true is e = let same : who ≡ Group name = cc in ap is_spelled_who same ∙ is
+    by : (b : Bool) → is_user_name name ≡ b → option_map Group (cond b (Some name) None) ≡ Some who → is_writable_who who ≡ true
+    by true is e = let same : who ≡ Group name = cc in ap is_writable_who same ∙ is
     by false is e = absurd (cc)
 named_who-spelled word None who h = by (is_user_name word) refl h
   where
-    by : (b : Bool) → is_user_name word ≡ b → option_map User (cond b (Some word) None) ≡ Some who → is_spelled_who who ≡ true
-    by true is e = let same : who ≡ User word = cc in ap is_spelled_who same ∙ is
+    by : (b : Bool) → is_user_name word ≡ b → option_map User (cond b (Some word) None) ≡ Some who → is_writable_who who ≡ true
+    by true is e = let same : who ≡ User word = cc in ap is_writable_who same ∙ is
     by false is e = absurd (cc)
 
-who_named-spelled : (word : List ℕ) (who : Who) → who_named word ≡ Some who → is_spelled_who who ≡ true
+who_named-spelled : (word : List ℕ) (who : Who) → who_named word ≡ Some who → is_writable_who who ≡ true
 who_named-spelled word who h = by (bytes_eq word (codes "OWNER@")) (bytes_eq word (codes "EVERYONE@")) h
   where
-    by : (a b : Bool) → cond a (Some Owner) (cond b (Some Everyone) (named_who word (behind_group word))) ≡ Some who → is_spelled_who who ≡ true
-    by true b e = let same : who ≡ Owner = cc in ap is_spelled_who same
-    by false true e = let same : who ≡ Everyone = cc in ap is_spelled_who same
-    by false false e = named_who-spelled word (behind_group word) who e
+    by : (a b : Bool) → cond a (Some Owner) (cond b (Some Everyone) (named_who word (after_group word))) ≡ Some who → is_writable_who who ≡ true
+    by true b e = let same : who ≡ Owner = cc in ap is_writable_who same
+    by false true e = let same : who ≡ Everyone = cc in ap is_writable_who same
+    by false false e = named_who-spelled word (after_group word) who e
 
 -- the right of a letter
 right_of : (c : ℕ) (o : Option Right) → right_lettered c ≡ o → is_some o ≡ true → (right : Right) × (c ≡ letter_of right)
@@ -231,18 +231,18 @@ some_bit ReadAcl = omega arith
 some_bit WriteAcl = omega arith
 some_bit WriteOwner = omega arith
 
-some_mask : (rights : List Right) → is_word (letters rights) ≡ true → 0 < mask_of rights
+some_mask : (rights : List Right) → is_filled (letters rights) ≡ true → 0 < mask_of rights
 some_mask [] h = absurd (cc)
 some_mask (right ∷ rights) h = omega (arith, grows rights (bit_or 0 (bit_of right)), le_or_r 0 (bit_of right), some_bit right)
 
 made_of : (word : List ℕ) (mask : ℕ) → mask_lettered word ≡ Some mask → (0 < mask) × (mask_of (rights_in mask) ≡ mask)
-made_of word mask h = by (is_word word && list_all is_letter word) refl h
+made_of word mask h = by (is_filled word && list_all is_letter word) refl h
   where
-    by : (b : Bool) → is_word word && list_all is_letter word ≡ b → cond b (Some (fold with_letter 0 word)) None ≡ Some mask → (0 < mask) × (mask_of (rights_in mask) ≡ mask)
+    by : (b : Bool) → is_filled word && list_all is_letter word ≡ b → cond b (Some (fold with_letter 0 word)) None ≡ Some mask → (0 < mask) × (mask_of (rights_in mask) ≡ mask)
     by false is e = absurd (cc)
     by true is e =
-        let (rights, are) = rights_of word (and_parts (is_word word) (list_all is_letter word) is).1 in
-        let filled : is_word (letters rights) ≡ true = ap is_word (sym are) ∙ (and_parts (is_word word) (list_all is_letter word) is).0 in
+        let (rights, are) = rights_of word (and_parts (is_filled word) (list_all is_letter word) is).1 in
+        let filled : is_filled (letters rights) ≡ true = ap is_filled (sym are) ∙ (and_parts (is_filled word) (list_all is_letter word) is).0 in
         let same : mask ≡ fold with_letter 0 word = cc in
         let made : mask ≡ mask_of rights = same ∙ ap (fold with_letter 0) are ∙ bits_of_letters 0 rights in
         let some : 0 < mask_of rights = some_mask rights filled in
@@ -252,19 +252,19 @@ word_said : {X : Type 0} (reading : List ℕ → Option X) (word : Option (List 
 word_said reading None x h = absurd (cc)
 word_said reading (Some word) x h = (word, h)
 
-judged-ok : (type : Option EntryType) (who : Option Who) (mask : Option ℕ) (more : Bool) (e : Entry) → judged type who mask more ≡ Ok e → (who ≡ Some e.who) × (mask ≡ Some e.mask)
-judged-ok None who mask more e h = absurd (cc)
-judged-ok (Some type) None mask more e h = absurd (cc)
-judged-ok (Some type) (Some who) None more e h = absurd (cc)
-judged-ok (Some type) (Some who) (Some mask) true e h = absurd (cc)
-judged-ok (Some type) (Some who) (Some mask) false e h =
+checked-ok : (type : Option EntryType) (who : Option Who) (mask : Option ℕ) (more : Bool) (e : Entry) → checked type who mask more ≡ Ok e → (who ≡ Some e.who) × (mask ≡ Some e.mask)
+checked-ok None who mask more e h = absurd (cc)
+checked-ok (Some type) None mask more e h = absurd (cc)
+checked-ok (Some type) (Some who) None more e h = absurd (cc)
+checked-ok (Some type) (Some who) (Some mask) true e h = absurd (cc)
+checked-ok (Some type) (Some who) (Some mask) false e h =
     let same : record { entry_type = type; who = who; mask = mask } ≡ e = cc in
     (ap (λ (x : Entry). Some x.who) same, ap (λ (x : Entry). Some x.mask) same)
 
-pub spelled_of : (text : List ℕ) (e : Entry) → entry_in text ≡ Ok e → IsSpelled e
+pub spelled_of : (text : List ℕ) (e : Entry) → entry_in text ≡ Ok e → IsWritable e
 spelled_of text e h =
     let ws = words text in
-    let (who, mask) = judged-ok (said type_named 0 ws) (said who_named 1 ws) (said mask_lettered 2 ws) (nat_lt 3 (length ws)) e h in
+    let (who, mask) = checked-ok (said type_named 0 ws) (said who_named 1 ws) (said mask_lettered 2 ws) (nat_lt 3 (length ws)) e h in
     let (named, is_named) = word_said who_named (slice_get ws 1) e.who who in
     let (lettered, is_lettered) = word_said mask_lettered (slice_get ws 2) e.mask mask in
     let made = made_of lettered e.mask is_lettered in

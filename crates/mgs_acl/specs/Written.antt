@@ -9,18 +9,18 @@ use Rattle.mgs_model.specs.declared.entry.Who.TheVariants.{Owner, Everyone, User
 use Rattle.mgs_model.specs.declared.entry.Entry.{Entry}
 
 -- a name that an entry has is one of a user or a group
-abbrev pub is_spelled_who : Who → Bool
-is_spelled_who Owner = true
-is_spelled_who Everyone = true
-is_spelled_who (User name) = is_user_name name
-is_spelled_who (Group name) = is_user_name name
+abbrev pub is_writable_who : Who → Bool
+is_writable_who Owner = true
+is_writable_who Everyone = true
+is_writable_who (User name) = is_user_name name
+is_writable_who (Group name) = is_user_name name
 
 -- the mask of these rights
 abbrev pub mask_of : List Right → ℕ
 mask_of rights = fold (λ mask right. bit_or mask (bit_of right)) 0 rights
 
 -- an entry that can be written: its mask has a right, and no bit but those of rights
-pub record IsSpelled (e : Entry) : Type 0 where
-  pub who : is_spelled_who e.who ≡ true
+pub record IsWritable (e : Entry) : Type 0 where
+  pub who : is_writable_who e.who ≡ true
   pub some : 0 < e.mask
   pub rights : mask_of (rights_in e.mask) ≡ e.mask

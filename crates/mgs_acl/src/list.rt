@@ -10,18 +10,19 @@ use thiserror::Error;
 /// Why a list was not changed.
 #[derive(Clone, Copy, Debug, PartialEq, Eq, Error)]
 pub enum ListFault {
-    /// It has 64 entries.
+    /// The list has `ENTRY_LIMIT` entries (64).
     #[error("the list is full")]
     Full,
-    /// It has fewer entries than the index tells.
+    /// The index is past the last entry.
     #[error("there is no such entry")]
     NoSuchEntry,
 }
 
-/// An access list: at most 64 entries, in the order in which they are checked (RFC 8881, section 6.2.1). It takes no memory of its own.
+/// An access list: at most `ENTRY_LIMIT` entries (64), in the order in which they are checked (RFC 8881, section 6.2.1). It takes no memory
+/// of its own.
 #[derive(Drop)]
 pub struct List {
-    entries: ArrayVec<Entry, 64>,
+    entries: ArrayVec<Entry, ENTRY_LIMIT>,
 }
 
 impl Model for List {
@@ -33,10 +34,10 @@ impl Model for List {
     ghost view = { λ l. l.entries.items };
 }
 
-/// Puts an entry into a list with room. It is taken apart and made anew since the prover cannot hand on a value of this type.
-fn put(entries: &mut ArrayVec<Entry, 64>, n: usize, entry: Entry)
+/// Puts an entry into a list with room. The entry is taken apart and built again, since the prover cannot hand on a value of this type.
+fn put(entries: &mut ArrayVec<Entry, ENTRY_LIMIT>, n: usize, entry: Entry)
     requires within { n ≤ length entries.old.items }
-    requires room { length entries.old.items < 64 }
+    requires room { length entries.old.items < ENTRY_LIMIT }
     ensures { entries.new.items ≡ insert entries.old.items n entry }
 {
     let Entry {
@@ -54,7 +55,8 @@ fn put(entries: &mut ArrayVec<Entry, 64>, n: usize, entry: Entry)
     );
 }
 
-fn set(entries: &mut ArrayVec<Entry, 64>, n: usize, entry: Entry)
+/// Puts an entry in the place of another, taken apart and built again as in `put`.
+fn set(entries: &mut ArrayVec<Entry, ENTRY_LIMIT>, n: usize, entry: Entry)
     requires { n < length entries.old.items }
     ensures { entries.new.items ≡ slice_set entries.old.items n entry }
 {
@@ -80,10 +82,10 @@ impl List {
         }
     }
 
-    /// How many entries there are: 64 at most.
+    /// How many entries there are: `ENTRY_LIMIT` at most.
     pub fn len(&self) -> usize
         ensures value { result ≡ length self.now }
-        ensures limit { result ≤ 64 }
+        ensures limit { result ≤ ENTRY_LIMIT }
     {
         self.entries.len()
     }
@@ -102,7 +104,7 @@ impl List {
         self.entries.as_slice()
     }
 
-    /// The same list again. It takes no memory.
+    /// The same list once more. It takes no memory.
     pub fn copy(&self) -> List
         ensures { result ≡ self.now }
     {
@@ -115,11 +117,12 @@ impl List {
 
     /// Puts an entry before the one at index `n`, counted from 0, or last where there are `n`.
     ///
-    /// The faults are `NoSuchEntry` where there are fewer than `n` entries, and else `Full` where there are 64. They change nothing.
+    /// The faults are `NoSuchEntry` where there are fewer than `n` entries, and otherwise `Full` where there are `ENTRY_LIMIT`. They change
+    /// nothing.
     pub fn insert(&mut self, n: usize, entry: Entry) -> Result<(), ListFault>
         ensures ok { OnOk result (self.new ≡ insert self.old n entry) }
         ensures absent { IsErrOf result NoSuchEntry ↔ (length self.old < n) }
-        ensures full { IsErrOf result Full ↔ ((n ≤ length self.old) × (64 ≤ length self.old)) }
+        ensures full { IsErrOf result Full ↔ ((n ≤ length self.old) × (ENTRY_LIMIT ≤ length self.old)) }
         ensures err { OnErr result (self.new ≡ self.old) }
     {
         if n > self.entries.len() {

@@ -4,7 +4,7 @@ ghost use Rattle.arrayvec.specs.ArrayString.{array_string_len};
 ghost use Rattle.mgs_model.specs.Rights.{letter_of, rights_in};
 ghost use Rattle.mgs_model.specs.Draw.{type_text, who_text, entry_text};
 ghost use Rattle.mgs_acl.specs.Spelling.{entry_in};
-ghost use Rattle.mgs_acl.specs.Written.{IsSpelled};
+ghost use Rattle.mgs_acl.specs.Written.{IsWritable};
 
 use crate::spelling::letter_of;
 use arrayvec::ArrayString;
@@ -78,10 +78,10 @@ fn printed(entry: &Entry) -> ArrayString<64>
 
 /// The printed form of an entry: `TYPE WHO LETTERS` with single spaces, each letter once and in the order of the rights. It takes no memory.
 ///
-/// An entry that can be written is read back from it. So what `read_entry` made of any text is what it makes of the printed form.
+/// `read_entry` reads an entry that can be written back from it, and so what it made of any text.
 pub fn print_entry(entry: &Entry) -> ArrayString<64>
     ensures text { result.bytes ≡ entry_text entry.now }
-    ensures read_back { IsSpelled entry.now → entry_in result.bytes ≡ Ok entry.now }
+    ensures read_back { IsWritable entry.now → entry_in result.bytes ≡ Ok entry.now }
     ensures canonical { (text : List ℕ) → entry_in text ≡ Ok entry.now → entry_in result.bytes ≡ Ok entry.now }
 {
     printed(entry)

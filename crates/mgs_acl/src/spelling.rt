@@ -3,7 +3,7 @@ ghost use Rattle.std.specs.Prelude.{◌≡◌, ◌<◌};
 ghost use Rattle.std.specs.Option.{option_map};
 ghost use Rattle.std.specs.List.{before_first, after_first};
 ghost use Rattle.mgs_model.specs.Rights.{letter_of};
-ghost use Rattle.mgs_acl.specs.Spelling.{is_space, words, words_cut, type_named, user_named, behind_group, named_who, who_named, right_lettered, mask_lettered, entry_in};
+ghost use Rattle.mgs_acl.specs.Spelling.{is_space, words, words_cut, type_named, user_named, after_group, named_who, who_named, right_lettered, mask_lettered, entry_in};
 
 use mgs_model::{Entry, EntryType, Mask, Name, Right, Who};
 use thiserror::Error;
@@ -15,17 +15,17 @@ pub enum EntryFault {
     #[error("the type is neither ALLOW nor DENY")]
     Kind,
     /// The second word is neither `OWNER@` nor `EVERYONE@` nor a user's name nor `group:` and a group's name, or there is none.
-    #[error("nobody is named so")]
+    #[error("it is neither OWNER@ nor EVERYONE@ nor a user nor a group")]
     Who,
     /// The third word is not made of letters of rights, or there is none.
     #[error("the letters are not those of rights")]
     Letters,
     /// There is a fourth word.
-    #[error("something stands behind the letters")]
+    #[error("there is a word after the letters")]
     Trailing,
 }
 
-/// The text up to its first space, and what stands after that.
+/// The text up to its first space, and the text after it.
 fn cut(text: &str) -> (&str, &str)
     ensures piece { result.0.now ≡ before_first is_space text.now }
     ensures rest { result.1.now ≡ after_first is_space text.now }
@@ -36,7 +36,7 @@ fn cut(text: &str) -> (&str, &str)
     }
 }
 
-/// The first word, and what stands after the space after it.
+/// The first word, and the text after the space that ends it.
 #[tactic(auto, using(crate::proofs::WordLemmas::words_filled))]
 fn next_word(mut text: &str) -> Option<(&str, &str)>
     ensures { words_cut (option_map (λ p. (p.0.now, p.1.now)) result) ≡ words text.entry.now }
@@ -63,7 +63,7 @@ fn type_named(word: &str) -> Option<EntryType>
     }
 }
 
-/// The name of a user or a group that is written so, if it is one: 1 to 32 lower-case letters, digits, `-` and `_`.
+/// The text as the name of a user or a group, if it is one: 1 to `NAME_LIMIT` (32) lower-case letters, digits, `-` and `_`.
 #[tactic(auto, using(crate::proofs::NameLemmas::user_named_no_name))]
 pub fn user_named(word: &str) -> Option<Name>
     ensures { result ≡ user_named word.now }
@@ -74,17 +74,17 @@ pub fn user_named(word: &str) -> Option<Name>
     }
 }
 
-/// What stands after `group:`, where a word begins so.
-fn behind_group(word: &str) -> Option<&str>
-    ensures { option_map (λ name. name.now) result ≡ behind_group word.now }
+/// The rest of a word that begins with `group:`.
+fn after_group(word: &str) -> Option<&str>
+    ensures { option_map (λ name. name.now) result ≡ after_group word.now }
 {
     word.strip_prefix("group:")
 }
 
 fn named_who(word: &str) -> Option<Who>
-    ensures { result ≡ named_who word.now (behind_group word.now) }
+    ensures { result ≡ named_who word.now (after_group word.now) }
 {
-    match behind_group(word) {
+    match after_group(word) {
         Some(name) => match user_named(name) {
             Some(name) => Some(Who::Group(name)),
             None => None,
@@ -147,11 +147,13 @@ fn mask_lettered(word: &str) -> Option<Mask>
     Some(mask)
 }
 
-/// The entry that is written so: `TYPE WHO LETTERS`, the words parted by one or more spaces, with any number of spaces before and after them.
-/// TYPE is `ALLOW` or `DENY`. WHO is `OWNER@`, `EVERYONE@`, a user's name, or `group:` and a group's name. LETTERS are one or more of r (READ_DATA), w (WRITE_DATA),
-/// a (APPEND_DATA), t (READ_ATTRIBUTES), d (DELETE), c (READ_ACL), C (WRITE_ACL) and o (WRITE_OWNER), in any order, also more than once.
+/// Reads an entry: `TYPE WHO LETTERS`, the words separated by one or more spaces, with any number of spaces before and after them.
+/// TYPE is `ALLOW` or `DENY`. WHO is `OWNER@`, `EVERYONE@`, a user's name, or `group:` and a group's name. LETTERS are one or more of
+/// r (READ_DATA), w (WRITE_DATA), a (APPEND_DATA), t (READ_ATTRIBUTES), d (DELETE), c (READ_ACL), C (WRITE_ACL) and o (WRITE_OWNER),
+/// in any order, also more than once.
 ///
-/// The faults are checked from left to right: the first word that is missing or is none of these is named, and then `Trailing` a fourth word.
+/// The words are checked from left to right. `Kind`, `Who` or `Letters`: the first, second or third word is missing or is none of these.
+/// `Trailing`: there is a fourth word.
 pub fn read_entry(text: &str) -> Result<Entry, EntryFault>
     ensures { result ≡ entry_in text.now }
 {

@@ -78,42 +78,42 @@ decision_by-unmet p x rest rights h =
 -- A DENIAL BY THE FIRST ENTRY IS THE LEAST
 
 -- what denies does so after the n-th entry
-abbrev Behind : ℕ → Decider → Type 0
-Behind n Nobody = Unit {0}
-Behind n (Allows m) = Unit {0}
-Behind n (Denies m) = n < m
+abbrev IsAfter : ℕ → Decider → Type 0
+IsAfter n Nobody = Unit {0}
+IsAfter n (Allows m) = Unit {0}
+IsAfter n (Denies m) = n < m
 
 -- the same of what is decided so far
-abbrev DecidedBehind : ℕ → Decision → Type 0
-DecidedBehind n Granted = Unit {0}
-DecidedBehind n (DeniedBy m right) = n < m
-DecidedBehind n (NotGranted right) = ⊥
+abbrev DecidedAfter : ℕ → Decision → Type 0
+DecidedAfter n Granted = Unit {0}
+DecidedAfter n (DeniedBy m right) = n < m
+DecidedAfter n (NotGranted right) = ⊥
 
-with_denier-first : (n : ℕ) (right : Right) (d : Decision) → DecidedBehind n d → with_denier d n right ≡ DeniedBy n right
+with_denier-first : (n : ℕ) (right : Right) (d : Decision) → DecidedAfter n d → with_denier d n right ≡ DeniedBy n right
 with_denier-first n right Granted h = refl
 with_denier-first n right (DeniedBy m earlier) h = grind (arith, nat_tests)
 with_denier-first n right (NotGranted earlier) h = absurd h
 
-with_denier-behind : (n m : ℕ) (right : Right) (d : Decision) → n < m → DecidedBehind n d → DecidedBehind n (with_denier d m right)
-with_denier-behind n m right Granted h k = h
-with_denier-behind n m right (DeniedBy j earlier) h k = elim (nat_lt m j) as (λ b. DecidedBehind n (cond b (DeniedBy m right) (DeniedBy j earlier))) [ true ↦ h | false ↦ k ]
-with_denier-behind n m right (NotGranted earlier) h k = absurd k
+with_denier-after : (n m : ℕ) (right : Right) (d : Decision) → n < m → DecidedAfter n d → DecidedAfter n (with_denier d m right)
+with_denier-after n m right Granted h k = h
+with_denier-after n m right (DeniedBy j earlier) h k = elim (nat_lt m j) as (λ b. DecidedAfter n (cond b (DeniedBy m right) (DeniedBy j earlier))) [ true ↦ h | false ↦ k ]
+with_denier-after n m right (NotGranted earlier) h k = absurd k
 
-with_denial-behind : (n : ℕ) (x : Decider) (right : Right) (d : Decision) → Behind n x → DecidedBehind n d → DecidedBehind n (with_denial x right d)
-with_denial-behind n Nobody right d h k = k
-with_denial-behind n (Allows m) right d h k = k
-with_denial-behind n (Denies m) right d h k = with_denier-behind n m right d h k
+with_denial-after : (n : ℕ) (x : Decider) (right : Right) (d : Decision) → IsAfter n x → DecidedAfter n d → DecidedAfter n (with_denial x right d)
+with_denial-after n Nobody right d h k = k
+with_denial-after n (Allows m) right d h k = k
+with_denial-after n (Denies m) right d h k = with_denier-after n m right d h k
 
 not_less : (n m : ℕ) (a b : Decision) → n ≤ m → cond (nat_lt m n) a b ≡ b
 not_less n m a b h = grind (arith, nat_tests)
 
-with_denial-kept : (n : ℕ) (b : Bool) (x : Decider) (right denied : Right) → Behind n x → with_denial (cond b (Denies n) x) right (DeniedBy n denied) ≡ DeniedBy n denied
+with_denial-kept : (n : ℕ) (b : Bool) (x : Decider) (right denied : Right) → IsAfter n x → with_denial (cond b (Denies n) x) right (DeniedBy n denied) ≡ DeniedBy n denied
 with_denial-kept n true x right denied h = not_less n n (DeniedBy n right) (DeniedBy n denied) (omega arith)
 with_denial-kept n false Nobody right denied h = refl
 with_denial-kept n false (Allows m) right denied h = refl
 with_denial-kept n false (Denies m) right denied h = not_less n m (DeniedBy m right) (DeniedBy n denied) (omega arith)
 
-denial-kept : (p : Right → Bool) (n : ℕ) (rest : Right → Decider) (rights : List Right) (denied : Right) → ((right : Right) → Behind n (rest right)) → denial (first p (Denies n) rest) rights (DeniedBy n denied) ≡ DeniedBy n denied
+denial-kept : (p : Right → Bool) (n : ℕ) (rest : Right → Decider) (rights : List Right) (denied : Right) → ((right : Right) → IsAfter n (rest right)) → denial (first p (Denies n) rest) rights (DeniedBy n denied) ≡ DeniedBy n denied
 denial-kept p n rest [] denied h = refl
 denial-kept p n rest (right ∷ rights) denied h =
     ap (denial (first p (Denies n) rest) rights) (with_denial-kept n (p right) (rest right) right denied (h right)) ∙ denial-kept p n rest rights denied h
@@ -127,7 +127,7 @@ gap-kept : (deciders : Right → Decider) (rights : List Right) (n : ℕ) (denie
 gap-kept deciders [] n denied = refl
 gap-kept deciders (right ∷ rights) n denied = ap (gap deciders rights) (with_gap-kept (deciders right) right n denied) ∙ gap-kept deciders rights n denied
 
-denial-met : (p : Right → Bool) (n : ℕ) (rest : Right → Decider) (rights : List Right) (d : Decision) (denied : Right) → ((right : Right) → Behind n (rest right)) → DecidedBehind n d → find p rights ≡ Some denied → denial (first p (Denies n) rest) rights d ≡ DeniedBy n denied
+denial-met : (p : Right → Bool) (n : ℕ) (rest : Right → Decider) (rights : List Right) (d : Decision) (denied : Right) → ((right : Right) → IsAfter n (rest right)) → DecidedAfter n d → find p rights ≡ Some denied → denial (first p (Denies n) rest) rights d ≡ DeniedBy n denied
 denial-met p n rest [] d denied h k e = absurd (some_not_none denied (sym e))
 denial-met p n rest (right ∷ rights) d denied h k e =
     let go : (b : Bool) → cond b (Some right) (find p rights) ≡ Some denied → denial (first p (Denies n) rest) rights (with_denial (cond b (Denies n) (rest right)) right d) ≡ DeniedBy n denied =
@@ -135,26 +135,26 @@ denial-met p n rest (right ∷ rights) d denied h k e =
       | true ↦ λ found.
           let same : right ≡ denied = cc in
           ap (denial (first p (Denies n) rest) rights) (with_denier-first n right d k ∙ ap (DeniedBy n) same) ∙ denial-kept p n rest rights denied h
-      | false ↦ λ found. denial-met p n rest rights (with_denial (rest right) right d) denied h (with_denial-behind n (rest right) right d (h right) k) found
+      | false ↦ λ found. denial-met p n rest rights (with_denial (rest right) right d) denied h (with_denial-after n (rest right) right d (h right) k) found
     ]
     in go (p right) e
 
-decision_by-met : (p : Right → Bool) (n : ℕ) (rest : Right → Decider) (rights : List Right) (denied : Right) → ((right : Right) → Behind n (rest right)) → find p rights ≡ Some denied → decision_by (first p (Denies n) rest) rights ≡ DeniedBy n denied
+decision_by-met : (p : Right → Bool) (n : ℕ) (rest : Right → Decider) (rights : List Right) (denied : Right) → ((right : Right) → IsAfter n (rest right)) → find p rights ≡ Some denied → decision_by (first p (Denies n) rest) rights ≡ DeniedBy n denied
 decision_by-met p n rest rights denied h e =
     ap (gap (first p (Denies n) rest) rights) (denial-met p n rest rights Granted denied h tt e) ∙ gap-kept (first p (Denies n) rest) rights n denied
 
 -- ONE ENTRY OF A LIST
 
-behind_of : (n m : ℕ) (e : Entry) → n < m → (type : EntryType) → Behind n (decider_of type m)
-behind_of n m e h Allow = tt
-behind_of n m e h Deny = h
+after_of : (n m : ℕ) (e : Entry) → n < m → (type : EntryType) → IsAfter n (decider_of type m)
+after_of n m e h Allow = tt
+after_of n m e h Deny = h
 
-behind_from : (n m : ℕ) (directory : Directory) (owner user : List ℕ) (right : Right) (es : List Entry) → n < m → Behind n (decider_from m directory owner user right es)
-behind_from n m directory owner user right [] h = tt
-behind_from n m directory owner user right (e ∷ es) h =
-    elim (concerns directory owner user right e) as (λ b. Behind n (cond b (decider_of e.entry_type m) (decider_from (m + 1) directory owner user right es))) [
-      | true ↦ behind_of n m e h e.entry_type
-      | false ↦ behind_from n (m + 1) directory owner user right es (omega arith)
+after_from : (n m : ℕ) (directory : Directory) (owner user : List ℕ) (right : Right) (es : List Entry) → n < m → IsAfter n (decider_from m directory owner user right es)
+after_from n m directory owner user right [] h = tt
+after_from n m directory owner user right (e ∷ es) h =
+    elim (concerns directory owner user right e) as (λ b. IsAfter n (cond b (decider_of e.entry_type m) (decider_from (m + 1) directory owner user right es))) [
+      | true ↦ after_of n m e h e.entry_type
+      | false ↦ after_from n (m + 1) directory owner user right es (omega arith)
     ]
 
 -- what the entries decide, where the first is the n-th
@@ -202,7 +202,7 @@ unfolding decided_from
 decided-denied n directory owner user e es rights denied h is found =
     decided-matched n directory owner user e es rights h
     ∙ ap (λ type. decision_by (first (has_right e.mask) (decider_of type n) (λ right. decider_from (n + 1) directory owner user right es)) rights) is
-    ∙ decision_by-met (has_right e.mask) n (λ right. decider_from (n + 1) directory owner user right es) rights denied (λ right. behind_from n (n + 1) directory owner user right es (omega arith)) found
+    ∙ decision_by-met (has_right e.mask) n (λ right. decider_from (n + 1) directory owner user right es) rights denied (λ right. after_from n (n + 1) directory owner user right es (omega arith)) found
 
 -- AT THE END OF THE LIST
 

@@ -12,8 +12,6 @@ mod entries;
 #[cfg(test)]
 mod grid;
 #[cfg(test)]
-mod groups;
-#[cfg(test)]
 mod keys;
 #[cfg(test)]
 mod lines;
