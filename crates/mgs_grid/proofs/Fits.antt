@@ -75,12 +75,20 @@ unfolding shown_row
 finished_shown cols zero n xs row some e is = finished_fits 32 cols zero n xs row some e is
 finished_shown cols (suc s) n xs row some e is = finished_fits 32 cols (suc s) n xs row some e is ∙ rw (ne_eqb (suc s) 0 (λ e. omega arith)) refl
 
+pub drawn_shown : (cols s n : ℕ) (xs cells first row new : List ℕ) → 0 < cols → length cells ≡ cols → first ≡ replicate (length cells) 32 → row ≡ over first s 0 xs → n ≡ length xs → new ≡ finished row s n → new ≡ shown_row cols s xs
+drawn_shown cols s n xs cells first row new some wide is put next end =
+    end ∙ finished_shown cols s n xs row some next (put ∙ ap (λ (k : List ℕ). over k s 0 xs) (is ∙ ap (λ (k : ℕ). replicate k 32) wide))
+
 -- a row of its own
 pub finished_row : (f cols n : ℕ) (xs row : List ℕ) → 0 < cols → n ≡ length xs → row ≡ over (replicate cols f) 0 0 xs → finished row 0 n ≡ fitted f cols xs
 finished_row f cols n xs row some e is = finished_fits f cols 0 n xs row some e is
 
 pub finished_wrote : (f cols n : ℕ) (xs first row : List ℕ) → 0 < cols → first ≡ replicate cols f → Wrote first 0 xs row n → finished row 0 n ≡ fitted f cols xs
 finished_wrote f cols n xs first row some is w = finished_row f cols n xs row some (omega (arith, w.next_is)) (rw (← is) w.row_is)
+
+-- the cells of a row, drawn whole
+pub drawn_whole : (f cols n : ℕ) (xs cells first row new : List ℕ) → 0 < cols → length cells ≡ cols → first ≡ replicate (length cells) f → Wrote first 0 xs row n → new ≡ finished row 0 n → new ≡ fitted f cols xs
+drawn_whole f cols n xs cells first row new some wide is w end = end ∙ finished_wrote f cols n xs first row some (is ∙ ap (λ (k : ℕ). replicate k f) wide) w
 
 -- a row of nothing
 pub fitted_none : (f cols : ℕ) → fitted f cols [] ≡ replicate cols f

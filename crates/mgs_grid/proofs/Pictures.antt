@@ -1,14 +1,14 @@
 -- Rows that are put into a picture leave a picture.
-use Rattle.std.proofs.Common.{◌≡◌, ℕ, zero, suc, ◌+◌, ◌<◌, ◌≤◌, List, [], ◌∷◌, ◌++◌, length, take, drop, set, refl, sym, ap, ◌∙◌, arith, All, append_assoc, length-append, length-take, length-drop, add-one}
-use Rattle.std.proofs.lemmas.List.{set_split, length-replicate}
-use Rattle.std.proofs.Math.Seq.{take-append_seam}
-use Rattle.std.proofs.lemmas.List.Elements.{All-nil, All-cons, All-append, All-take, All-drop, All-replicate, All-same}
+use Rattle.std.proofs.Common.{◌≡◌, ℕ, zero, suc, ◌+◌, ◌<◌, ◌≤◌, List, [], ◌∷◌, ◌++◌, length, get_or, take, drop, set, ◌-◌, refl, sym, ap, ◌∙◌, arith, All, append_assoc, length-append, length-take, length-drop, add-one}
+use Rattle.std.proofs.lemmas.List.{set_split, length-replicate, length-set, length-take-le}
+use Rattle.std.proofs.Math.Seq.{take-append_seam, set-append_seam}
+use borrow.Rule.Slice.PartMut.{post_of, Post-is}
+use Rattle.std.proofs.lemmas.List.Elements.{All-nil, All-cons, All-append, All-take, All-drop, All-replicate, All-same, All-set}
 use Rattle.mgs_model.specs.declared.entry.Decision.{Decision}
 use Rattle.mgs_model.specs.Lines.{is_feed}
 use Rattle.std.specs.List.{after_first}
 use Rattle.mgs_model.specs.Rows.{Row, plain_row, mode_row, blank_rows, rows_put, text_rows, unread_rows, unread_text}
 use Rattle.mgs_model.specs.Picture.{IsPrintable, IsRow, IsSize, Picture, IsPicture, blank_picture}
-use Rattle.mgs_grid.specs.Cells.{HasWidth}
 use Rattle.mgs_grid.proofs.Fits.{length-fitted, fitted_none}
 use Rattle.mgs_grid.proofs.Printable.{fitted_printable}
 
@@ -43,13 +43,24 @@ pub length-unread_rows : (cols n : ℕ) (d : Decision) → length (unread_rows c
 length-unread_rows cols zero d = refl
 length-unread_rows cols (suc n) d = ap suc (length-blank_rows cols n)
 
--- blank rows, of which the first is drawn over
-pub blanks_wide : (cols n : ℕ) (lines : List Row) → lines ≡ blank_rows cols n → All (HasWidth cols) lines
-blanks_wide cols n lines is = All-same (HasWidth cols) lines (blank_rows cols n) is (All-replicate (HasWidth cols) n (plain_row cols []) (blank_width cols))
+-- rows of which all are put begin within
+pub put_within : (first n rows : ℕ) (more old : List Row) → length more ≡ n → first + n ≤ rows → length (rows_put first more old) ≡ rows → first ≤ length old
+put_within first n rows more old size fits all =
+    omega (arith, length-append (take first old ++ more) (drop (first + length more) old), length-append (take first old) more, length-take first old, length-drop (first + length more) old)
 
-pub refused : (cols n : ℕ) (d : Decision) (lines : List Row) (r : Row) → 0 < n → lines ≡ blank_rows cols n → r ≡ plain_row cols (unread_text d) → set lines 0 r ≡ unread_rows cols n d
-refused cols zero d lines r some is new = absurd (omega arith)
-refused cols (suc n) d lines r some is new = ap (λ (k : List Row). set k 0 r) is ∙ ap (λ (k : Row). k ∷ blank_rows cols n) new
+-- blank rows, of which the first is drawn over
+pub refused : (cols first n : ℕ) (d : Decision) (lines : List Row) (r : Row) → 0 < n → first ≤ length lines → r ≡ plain_row cols (unread_text d) → set (rows_put first (blank_rows cols n) lines) first r ≡ rows_put first (unread_rows cols n d) lines
+refused cols first zero d lines r some fits is = absurd (omega arith)
+refused cols first (suc n) d lines r some fits is =
+    let front : List Row = take first lines in
+    let blanks : List Row = blank_rows cols n in
+    let rest : List Row = drop (first + suc (length blanks)) lines in
+    let e : length front ≡ first = length-take-le first lines fits in
+    ap (λ (k : List Row). set k first r) (append_assoc front (plain_row cols [] ∷ blanks) rest)
+    ∙ ap (λ (k : ℕ). set (front ++ plain_row cols [] ∷ (blanks ++ rest)) k r) (sym e)
+    ∙ set-append_seam front (plain_row cols []) (blanks ++ rest) r
+    ∙ ap (λ (k : Row). front ++ k ∷ (blanks ++ rest)) is
+    ∙ sym (append_assoc front (plain_row cols (unread_text d) ∷ blanks) rest)
 
 -- one row
 pub set_put : (rows : List Row) (i : ℕ) (r new : Row) → i < length rows → new ≡ r → set rows i new ≡ rows_put i (r ∷ []) rows
@@ -80,6 +91,32 @@ put_picture p first n more lines new is same count put fits each =
       row = is.row;
       col = is.col;
     }
+
+-- a window of rows, drawn over
+pub window_put : (first h : ℕ) (new more lines : List Row) → new ≡ more → length more ≡ h → take first lines ++ (new ++ post_of first (first + h - first) lines) ≡ rows_put first more lines
+window_put first h new more lines is size =
+    let tail : post_of first (first + h - first) lines ≡ drop (first + length more) lines = Post-is first (first + h) lines (omega arith) ∙ ap (λ (k : ℕ). drop (first + k) lines) (sym size) in
+    ap (λ (k : List Row). take first lines ++ (k ++ post_of first (first + h - first) lines)) is
+    ∙ ap (λ (k : List Row). take first lines ++ (more ++ k)) tail
+    ∙ sym (append_assoc (take first lines) more (drop (first + length more) lines))
+
+-- one row, drawn over
+pub set_picture : (p : Picture) (i : ℕ) (r : Row) → IsPicture p → IsRow p.cols r → IsPicture (record p { lines = set p.lines i r })
+set_picture p i r is row =
+    record {
+      size = is.size;
+      count = length-set p.lines i r ∙ is.count;
+      each = All-set (IsRow p.cols) p.lines i r row is.each;
+      row = is.row;
+      col = is.col;
+    }
+
+pub row_width : (p : Picture) (i : ℕ) (r : Row) → IsPicture p → i < p.rows → r ≡ get_or p.lines i r → length r.text ≡ p.cols
+row_width p i r is within at = ap (λ (k : Row). length k.text) at ∙ (is.each i r (omega (arith, is.count, within))).width
+
+-- other rows in the same picture, seen from outside
+pub with_lines : (p q : Picture) (lines : Picture → List Row) (new : List Row) → p ≡ q → new ≡ lines p → record p { lines = new } ≡ record q { lines = lines q }
+with_lines p q lines new same is = rw (← same, is) refl
 
 pub blank_is : (rows cols : ℕ) → IsSize rows cols → IsPicture (blank_picture rows cols)
 blank_is rows cols h =

@@ -1,13 +1,15 @@
 // Cells written into a row one after another.
-ghost use Rattle.std.specs.Prelude.{◌≡◌, ℕ, ◌+◌, ◌-◌, ◌%◌, ◌<◌, ◌≤◌, ◌^◌, List, length, map, replicate, decimal, IsTrue};
+ghost use Rattle.std.specs.Prelude.{◌≡◌, ℕ, ◌+◌, ◌-◌, ◌%◌, ◌<◌, ◌≤◌, ◌^◌, List, length, map, replicate, decimal, slice_range, IsTrue};
 ghost use Rattle.std.specs.List.{list_all};
 ghost use Rattle.std.specs.Int.Digits.{digits_of};
 ghost use Rattle.std.specs.Char.{digit_char};
-ghost use Rattle.mgs_model.specs.Cells.{glyph, escape};
+ghost use Rattle.mgs_model.specs.Cells.{glyph, escape, cells};
 ghost use Rattle.mgs_grid.specs.Cells.{put, over, finished, is_plain, Wrote};
 
+use mgs_text::Text;
+
 /// Writes one character into each cell of a row.
-pub fn fill(row: &mut [char], c: char)
+pub(crate) fn fill(row: &mut [char], c: char)
     ensures { row.new ≡ replicate (length row.old) c }
 {
     for cell in row.iter_mut() {
@@ -18,7 +20,7 @@ pub fn fill(row: &mut [char], c: char)
 /// Writes the signs that more cells stand after a row and before it. The row has a cell and shows a line from column
 /// `shift` on, and `column` is the one after the line's last cell. The row's last cell becomes a `$` where `column`
 /// is greater than `shift` plus the row's length, and its first cell where `shift` is not 0.
-pub fn finish(row: &mut [char], shift: usize, column: usize)
+pub(crate) fn finish(row: &mut [char], shift: usize, column: usize)
     requires some { 0 < length row.old }
     requires fits { shift + length row.old < 2 ^ 64 }
     ensures { row.new ≡ finished row.old shift column }
@@ -32,7 +34,7 @@ pub fn finish(row: &mut [char], shift: usize, column: usize)
     }
 }
 
-pub fn put(row: &mut [char], shift: usize, column: usize, c: char)
+pub(crate) fn put(row: &mut [char], shift: usize, column: usize, c: char)
     ensures { row.new ≡ put row.old shift column c }
 {
     if column >= shift && column - shift < row.len() {
@@ -49,7 +51,13 @@ fn put_blanks(row: &mut [char], shift: usize, column: usize, count: usize)
     }
 }
 
-pub fn put_digits(row: &mut [char], shift: usize, column: usize, base: usize, n: usize) -> usize
+pub(crate) fn put_digits(
+    row: &mut [char],
+    shift: usize,
+    column: usize,
+    base: usize,
+    n: usize,
+) -> usize
     requires base { (2 ≤ base) × (base ≤ 36) }
     requires room { column + length (digits_of base n) < 2 ^ 64 }
     ensures row { row.new ≡ over row.old shift column (map digit_char (digits_of base n)) }
@@ -71,7 +79,7 @@ fn digit(n: u32) -> char
 }
 
 // Writes a decimal number.
-pub fn put_decimal(row: &mut [char], column: usize, n: usize) -> usize
+pub(crate) fn put_decimal(row: &mut [char], column: usize, n: usize) -> usize
     requires { column < 2 ^ 62 }
     ensures wrote { Wrote row.old column (decimal n) row.new result }
     ensures few { result ≤ column + 20 }
@@ -85,7 +93,7 @@ pub fn put_decimal(row: &mut [char], column: usize, n: usize) -> usize
 
 /// Writes visible ASCII and spaces into a row from a column on, and tells the column after them. Those after the
 /// row's end are passed over.
-pub fn put_bytes(row: &mut [char], column: usize, bytes: &[u8]) -> usize
+pub(crate) fn put_bytes(row: &mut [char], column: usize, bytes: &[u8]) -> usize
     requires fits { column + length bytes.now < 2 ^ 64 }
     requires plain { IsTrue (list_all is_plain bytes.now) }
     ensures wrote { Wrote row.old column bytes.now row.new result }
@@ -100,7 +108,7 @@ pub fn put_bytes(row: &mut [char], column: usize, bytes: &[u8]) -> usize
 /// Writes the cells of a character, which stands in a column of its line, below 2^62, into a row that shows the line
 /// from column `shift` on, and tells the column after them, at most 12 further. Cells that are not in sight are
 /// passed over.
-pub fn put_glyph(row: &mut [char], shift: usize, column: usize, c: char) -> usize
+pub(crate) fn put_glyph(row: &mut [char], shift: usize, column: usize, c: char) -> usize
     requires { column < 2 ^ 62 }
     ensures row { row.new ≡ over row.old shift column (glyph column c) }
     ensures next { result ≡ column + length (glyph column c) }
@@ -138,4 +146,26 @@ fn put_escape(row: &mut [char], shift: usize, column: usize, c: char) -> usize
     let at = put_digits(row, shift, column + 3, 16, c as usize);
     put(row, shift, at, '}');
     at + 1
+}
+
+/// Writes the cells of the line that stands in `start..end` of a text into a row that shows it from column `shift` on,
+/// and tells the column after them. Cells that are not in sight are passed over.
+pub(crate) fn put_line<T: Text>(
+    row: &mut [char],
+    shift: usize,
+    text: &T,
+    start: usize,
+    end: usize,
+) -> usize
+    requires order { start ≤ end }
+    requires within { end ≤ length (T.text text.now) }
+    requires short { length (T.text text.now) < 2 ^ 32 }
+    ensures row { row.new ≡ over row.old shift 0 (cells (slice_range (T.text text.now) start end)) }
+    ensures next { result ≡ length (cells (slice_range (T.text text.now) start end)) }
+{
+    let mut column = 0;
+    for i in start..end {
+        column = put_glyph(row, shift, column, text.at(i));
+    }
+    column
 }

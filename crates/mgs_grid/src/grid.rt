@@ -4,7 +4,7 @@ ghost use Rattle.mgs_model.specs.Rows.{text_rows, shift_at, blank_rows, unread_r
 ghost use Rattle.mgs_model.specs.Picture.{Picture, IsPicture, IsSize, blank_picture};
 
 use crate::line::Line;
-use crate::window::{put_blank, put_echo, put_mode, put_none_mode, put_text, put_unread};
+use crate::window::{clear_rows, draw_rows};
 use mgs_model::{Decision, Message, Name, Short};
 use mgs_text::Text;
 use std::alloc::Global;
@@ -115,7 +115,8 @@ impl Grid {
         ensures { self.new ≡ record self.old { lines = rows_put first (text_rows self.old.cols (shift_at row shift) 0 height (drop top (T.text text.now))) self.old.lines } }
     {
         let cols = self.cols;
-        put_text(&mut self.lines, first, height, cols, text, top, row, shift);
+        let lines = &mut self.lines[first..first + height];
+        draw_rows(lines, cols, text, top, row, shift);
     }
 
     /// Draws `height` rows from row `first` on, of which the first says why a text may not be read.
@@ -124,8 +125,8 @@ impl Grid {
         requires height { 0 < height }
         ensures { self.new ≡ record self.old { lines = rows_put first (unread_rows self.old.cols height decision) self.old.lines } }
     {
-        let cols = self.cols;
-        put_unread(&mut self.lines, first, height, cols, decision);
+        self.draw_blank(first, height);
+        self.lines[first].draw_unread(decision);
     }
 
     /// Clears `height` rows from row `first` on.
@@ -134,7 +135,7 @@ impl Grid {
         ensures { self.new ≡ record self.old { lines = rows_put first (blank_rows self.old.cols height) self.old.lines } }
     {
         let cols = self.cols;
-        put_blank(&mut self.lines, first, height, cols);
+        clear_rows(&mut self.lines[first..first + height], cols);
     }
 
     /// Draws the mode line of a window that shows a buffer: the buffer's name and whether it is modified, and
@@ -148,8 +149,7 @@ impl Grid {
         requires { row < self.old.rows }
         ensures { self.new ≡ record self.old { lines = rows_put row (mode_row self.old.cols (buffer_mode heading place) ∷ []) self.old.lines } }
     {
-        let cols = self.cols;
-        put_mode(&mut self.lines, row, cols, heading, place);
+        self.lines[row].draw_mode(heading, place);
     }
 
     /// Draws the mode line of a window that shows no buffer.
@@ -157,8 +157,7 @@ impl Grid {
         requires { row < self.old.rows }
         ensures { self.new ≡ record self.old { lines = rows_put row (mode_row self.old.cols none_mode ∷ []) self.old.lines } }
     {
-        let cols = self.cols;
-        put_none_mode(&mut self.lines, row, cols);
+        self.lines[row].draw_none_mode();
     }
 
     /// Draws the echo row.
@@ -166,7 +165,6 @@ impl Grid {
         requires { row < self.old.rows }
         ensures { self.new ≡ record self.old { lines = rows_put row (echo_row self.old.cols message.now ∷ []) self.old.lines } }
     {
-        let cols = self.cols;
-        put_echo(&mut self.lines, row, cols, message);
+        self.lines[row].draw_echo(message);
     }
 }

@@ -7,12 +7,10 @@
 mod cells;
 mod grid;
 mod line;
-mod row;
+mod shift;
 mod window;
 mod words;
 
-pub use cells::{fill, finish, put_bytes, put_glyph};
 pub use grid::Grid;
 pub use line::Line;
-pub use row::shift_for;
-pub use words::{put_heading, put_message, put_place, put_unread};
+pub use shift::shift_for;

@@ -6,8 +6,9 @@ ghost use Rattle.mgs_model.specs.Rows.{shown_row, plain_row, mode_row, echo_row,
 ghost use Rattle.mgs_model.specs.Messages.{message_text};
 ghost use Rattle.mgs_model.specs.Picture.{IsPrintable};
 
-use crate::cells::fill;
-use crate::row::{draw_line, draw_message, draw_mode, draw_none_mode, draw_unread};
+use crate::cells::{fill, finish, put_bytes, put_line};
+use crate::words::{put_heading, put_message, put_place, put_unread};
+use mgs_lines::line_end;
 use mgs_model::{Decision, Message, Name, Short};
 use mgs_text::Text;
 use std::alloc::Global;
@@ -32,7 +33,7 @@ impl Line {
     /// # Errors
     ///
     /// `Short` where memory for the cells was refused.
-    pub fn blank(alloc: Global, cols: usize) -> Result<Line, Short>
+    pub(crate) fn blank(alloc: Global, cols: usize) -> Result<Line, Short>
         ensures { IfOk result (λ l. l ≡ plain_row cols []) }
     {
         let Ok(text) = vec![in alloc; ' '; cols] else {
@@ -59,7 +60,7 @@ impl Line {
     }
 
     /// Clears the row: plain blanks.
-    pub fn draw_blank(&mut self)
+    pub(crate) fn draw_blank(&mut self)
         ensures { self.new ≡ record { text = replicate (length self.old.text) 32; reversed = false } }
     {
         self.reversed = false;
@@ -68,7 +69,7 @@ impl Line {
 
     /// Draws the line of a text that starts at `start`, plain, and tells where it ends. A line that is too long is cut
     /// with a `$`. It is shown from column `shift`, below 2^62, after a `$` unless that is 0.
-    pub fn draw_text<T: Text>(&mut self, text: &T, start: usize, shift: usize) -> usize
+    pub(crate) fn draw_text<T: Text>(&mut self, text: &T, start: usize, shift: usize) -> usize
         requires some { 0 < length self.old.text }
         requires width { length self.old.text < 2 ^ 62 }
         requires within { start ≤ length (T.text text.now) }
@@ -79,50 +80,68 @@ impl Line {
         ensures within { result ≤ length (T.text text.now) }
     {
         self.reversed = false;
-        draw_line(&mut self.text, text, start, shift)
+        let end = line_end(text, start);
+        let row = self.text.as_mut_slice();
+        fill(row, ' ');
+        let column = put_line(row, shift, text, start, end);
+        finish(row, shift, column);
+        end
     }
 
     /// Draws why a text may not be read, plain.
-    pub fn draw_unread(&mut self, decision: Decision)
+    pub(crate) fn draw_unread(&mut self, decision: Decision)
         requires some { 0 < length self.old.text }
         requires width { length self.old.text < 2 ^ 62 }
         ensures row { self.new ≡ plain_row (length self.old.text) (unread_text decision) }
         ensures printable { All IsPrintable (unread_text decision) }
     {
         self.reversed = false;
-        draw_unread(&mut self.text, decision);
+        let row = self.text.as_mut_slice();
+        fill(row, ' ');
+        let end = put_unread(row, decision);
+        finish(row, 0, end);
     }
 
     /// Draws the mode line of a window that shows a buffer, in reverse: the buffer's name and whether it is modified,
     /// and the point's line, from 1, and column, from 0. `None` stands for what may not be told.
-    pub fn draw_mode(&mut self, heading: Option<(Name, bool)>, place: Option<(usize, usize)>)
+    pub(crate) fn draw_mode(&mut self, heading: Option<(Name, bool)>, place: Option<(usize, usize)>)
         requires some { 0 < length self.old.text }
         requires width { length self.old.text < 2 ^ 62 }
         ensures row { self.new ≡ mode_row (length self.old.text) (buffer_mode heading place) }
         ensures printable { All IsPrintable (buffer_mode heading place) }
     {
         self.reversed = true;
-        draw_mode(&mut self.text, heading, place);
+        let row = self.text.as_mut_slice();
+        fill(row, '-');
+        let at = put_heading(row, heading);
+        let end = put_place(row, at, place);
+        finish(row, 0, end);
     }
 
     /// Draws the mode line of a window that shows no buffer, in reverse.
-    pub fn draw_none_mode(&mut self)
+    pub(crate) fn draw_none_mode(&mut self)
         requires some { 0 < length self.old.text }
         requires width { length self.old.text < 2 ^ 62 }
         ensures { self.new ≡ mode_row (length self.old.text) none_mode }
     {
         self.reversed = true;
-        draw_none_mode(&mut self.text);
+        let row = self.text.as_mut_slice();
+        fill(row, '-');
+        let end = put_bytes(row, 0, b"-None");
+        finish(row, 0, end);
     }
 
     /// Draws an echo text, plain.
-    pub fn draw_echo(&mut self, message: &Message)
+    pub(crate) fn draw_echo(&mut self, message: &Message)
         requires some { 0 < length self.old.text }
         requires width { length self.old.text < 2 ^ 62 }
         ensures row { self.new ≡ echo_row (length self.old.text) message.now }
         ensures printable { All IsPrintable (message_text message.now) }
     {
         self.reversed = false;
-        draw_message(&mut self.text, message);
+        let row = self.text.as_mut_slice();
+        fill(row, ' ');
+        let end = put_message(row, message);
+        finish(row, 0, end);
     }
 }

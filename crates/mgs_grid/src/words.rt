@@ -45,7 +45,7 @@ fn put_title(row: &mut [char], title: &(Name, bool)) -> usize
 
 /// Writes the front of a mode line from column 0 on, and tells the column after it, at most 64: the buffer's name and
 /// whether it is modified. `None` stands for what may not be told.
-pub fn put_heading(row: &mut [char], heading: Option<(Name, bool)>) -> usize
+pub(crate) fn put_heading(row: &mut [char], heading: Option<(Name, bool)>) -> usize
     ensures wrote { Wrote row.old 0 (heading_text heading) row.new result }
     ensures few { result ≤ 64 }
 {
@@ -57,7 +57,7 @@ pub fn put_heading(row: &mut [char], heading: Option<(Name, bool)>) -> usize
 
 /// Writes the point's line and column, as given, the way a mode line has them, from a column below 2^60 on, and tells
 /// the column after them, at most 64 further. `None` stands for what may not be told.
-pub fn put_place(row: &mut [char], column: usize, place: Option<(usize, usize)>) -> usize
+pub(crate) fn put_place(row: &mut [char], column: usize, place: Option<(usize, usize)>) -> usize
     requires { column < 2 ^ 60 }
     ensures wrote { Wrote row.old column (place_text place) row.new result }
     ensures few { result ≤ column + 64 }
@@ -89,7 +89,7 @@ fn put_cause(row: &mut [char], column: usize, decision: Decision) -> usize
 
 /// Writes what stands in place of a text that may not be read, from column 0 on, and tells the column after it, at
 /// most 128.
-pub fn put_unread(row: &mut [char], decision: Decision) -> usize
+pub(crate) fn put_unread(row: &mut [char], decision: Decision) -> usize
     ensures wrote { Wrote row.old 0 (unread_text decision) row.new result }
     ensures few { result ≤ 128 }
 {
@@ -119,7 +119,7 @@ fn put_denial(row: &mut [char], decision: Decision) -> usize
 }
 
 /// Writes an echo text from column 0 on, and tells the column after it, at most 128.
-pub fn put_message(row: &mut [char], message: &Message) -> usize
+pub(crate) fn put_message(row: &mut [char], message: &Message) -> usize
     ensures wrote { Wrote row.old 0 (message_text message.now) row.new result }
     ensures few { result ≤ 128 }
 {

@@ -29,8 +29,8 @@ abbrev pub blank : Cell
 blank = record { character = 32; reversed = false }
 
 -- where the cursor's cell stands among the cells
-abbrev pub window_marks : Screen → ℕ
-window_marks s = s.row * s.cols + s.col
+abbrev pub cursor_cell : Screen → ℕ
+cursor_cell s = s.row * s.cols + s.col
 
 -- blanks, the cursor in the first cell, reverse off and wrap on
 abbrev pub blank_screen : ℕ → ℕ → Screen

@@ -11,7 +11,6 @@ mod place;
 mod term;
 
 pub use cell::Cell;
-pub use machine::{Machine, OutOfProfile};
+pub use machine::OutOfProfile;
 pub use operation::Operation;
-pub use place::{Next, Place, next_of};
 pub use term::Term;

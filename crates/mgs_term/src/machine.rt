@@ -1,6 +1,6 @@
 ghost use Rattle.std.specs.Prelude.{◌≡◌, ℕ, ◌+◌, ◌-◌, ◌*◌, ◌<◌, ◌≤◌, ◌++◌, ◌↔◌, length, take, drop, replicate, true, false, IsTrue, IsOk, IsErr, IfOk, OnOk, OnErr, List, [], ◌∷◌, All};
 ghost use Rattle.mgs_model.specs.Picture.{IsSize};
-ghost use Rattle.mgs_term.specs.Screen.{Screen, IsScreen, IsPrintableCell, blank, window_marks};
+ghost use Rattle.mgs_term.specs.Screen.{Screen, IsScreen, IsPrintableCell, blank, cursor_cell};
 ghost use Rattle.mgs_term.specs.Sequences.{Accepts, after};
 ghost use Rattle.mgs_term.specs.Terminal.{Continues, Takes, Refuses, TakesAll, RefusesSome};
 ghost use Rattle.mgs_term.specs.Drawing.{Draws, Anything};
@@ -21,7 +21,7 @@ pub struct OutOfProfile;
 
 /// A terminal, with the place in a sequence at which it is.
 #[derive(Drop)]
-pub struct Machine {
+pub(crate) struct Machine {
     rows: usize,
     cols: usize,
     cells: Vec<Cell>,
@@ -49,9 +49,8 @@ fn blank_between(cells: &mut [Cell], from: usize, to: usize)
 }
 
 impl Machine {
-    /// Blanks, with the cursor in the first cell, reverse off and wrap on.
-    /// It has 6 to 64 rows and 20 to 160 columns. `Short` is out of memory.
-    pub fn new(alloc: Global, rows: usize, cols: usize) -> Result<Machine, Short>
+    /// Blanks, with the cursor in the first cell, reverse off and wrap on. `Short` is out of memory.
+    pub(crate) fn new(alloc: Global, rows: usize, cols: usize) -> Result<Machine, Short>
         requires { IsSize rows cols }
         ensures { IfOk result (λ t. t ≡ new_automaton rows cols) }
     {
@@ -106,7 +105,7 @@ impl Machine {
     }
 
     /// Takes one byte, or refuses it and each one after it.
-    pub fn feed(&mut self, byte: u8) -> Result<(), OutOfProfile>
+    pub(crate) fn feed(&mut self, byte: u8) -> Result<(), OutOfProfile>
         ensures stepped { self.new ≡ stepped self.old byte }
         ensures taken { IsOk result ↔ (o : Operation) × (rest : List ℕ) × Continues (terminal_of self.old) byte rest o }
         ensures last { (o : Operation) → Continues (terminal_of self.old) byte [] o → self.new ≡ record { screen = after o self.old.screen; place = Ground } }
@@ -130,7 +129,7 @@ impl Machine {
     }
 
     /// Takes bytes up to the first that is refused.
-    pub fn feed_all(&mut self, bytes: &[u8]) -> Result<(), OutOfProfile>
+    pub(crate) fn feed_all(&mut self, bytes: &[u8]) -> Result<(), OutOfProfile>
         ensures drawn { (t : Screen) → self.old.place ≡ Ground → Draws Anything bytes.now self.old.screen t → IsOk result × (self.new ≡ record { screen = t; place = Ground }) }
         ensures ok { OnOk result (TakesAll (terminal_of self.old) bytes.now (terminal_of self.new)) }
         ensures err { OnErr result (RefusesSome (terminal_of self.old) bytes.now (terminal_of self.new)) }
@@ -144,21 +143,21 @@ impl Machine {
     }
 
     /// The number of rows.
-    pub fn rows(&self) -> usize
+    pub(crate) fn rows(&self) -> usize
         ensures { result ≡ self.now.screen.rows }
     {
         self.rows
     }
 
     /// The number of columns.
-    pub fn cols(&self) -> usize
+    pub(crate) fn cols(&self) -> usize
         ensures { result ≡ self.now.screen.cols }
     {
         self.cols
     }
 
     /// The cells, row by row.
-    pub fn grid(&self) -> &[Cell]
+    pub(crate) fn grid(&self) -> &[Cell]
         ensures cells { result.now ≡ self.now.screen.cells }
         ensures screen { IsScreen self.now.screen }
         ensures printable { All IsPrintableCell self.now.screen.cells }
@@ -167,7 +166,7 @@ impl Machine {
     }
 
     /// The cursor's row and column, counted from 1.
-    pub fn cursor(&self) -> (usize, usize)
+    pub(crate) fn cursor(&self) -> (usize, usize)
         ensures place { result ≡ (self.now.screen.row + 1, self.now.screen.col + 1) }
         ensures screen { IsScreen self.now.screen }
     {

@@ -7,30 +7,30 @@ use crate::operation::Operation;
 
 /// Where in a sequence a terminal is. Numbers are those read so far, rows and columns counted from 1.
 #[derive(Clone, Copy, Debug)]
-pub enum Place {
+pub(crate) enum Place {
     /// Between two sequences.
     Ground,
-    /// Behind `ESC`.
+    /// After `ESC`.
     Escape,
-    /// Behind `ESC [`.
+    /// After `ESC [`.
     Bracket,
     /// In the first number.
     Number(usize),
-    /// Behind the row's number and its `;`.
+    /// After the row's number and its `;`.
     Row(usize),
     /// In the column's number, after the row's.
     Column(usize, usize),
-    /// Behind `ESC [ ?`.
+    /// After `ESC [ ?`.
     Question,
-    /// Behind `ESC [ ? 7`.
+    /// After `ESC [ ? 7`.
     Seven,
-    /// Behind a byte that was refused.
+    /// After a byte that was refused.
     Refused,
 }
 
 /// What the next byte comes to.
 #[derive(Clone, Copy, Debug)]
-pub enum Next {
+pub(crate) enum Next {
     /// No accepted sequence has it.
     Stuck,
     /// The sequence goes on.
@@ -55,7 +55,7 @@ fn digit_of(byte: u8) -> usize
 }
 
 /// What a byte comes to at a place, on a terminal of a size and with its wrap flag.
-pub fn next_of(rows: usize, cols: usize, wrapping: bool, place: Place, byte: u8) -> Next
+pub(crate) fn next_of(rows: usize, cols: usize, wrapping: bool, place: Place, byte: u8) -> Next
     requires size { IsSize rows cols }
     requires place { IsPlace rows cols place }
     ensures next { result ≡ next rows cols wrapping place byte }

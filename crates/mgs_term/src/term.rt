@@ -30,8 +30,12 @@ impl Model for Term {
 }
 
 impl Term {
-    /// A terminal that shows blanks, with the cursor in the first cell, reverse off and wrap on.
-    /// It has 6 to 64 rows and 20 to 160 columns. `Short` is out of memory.
+    /// A terminal of 6 to 64 rows and 20 to 160 columns that shows blanks, with the cursor in the first cell, reverse
+    /// off and wrap on.
+    ///
+    /// # Errors
+    ///
+    /// `Short` where memory for the cells was refused.
     pub fn new(alloc: Global, rows: usize, cols: usize) -> Result<Term, Short>
         requires { IsSize rows cols }
         ensures { IfOk result (λ t. t ≡ resting (blank_screen rows cols)) }
@@ -40,7 +44,11 @@ impl Term {
         Ok(Term { machine })
     }
 
-    /// Takes one byte. `OutOfProfile`: no accepted sequence has it there. Nothing that is shown changes then, and
+    /// Takes one byte.
+    ///
+    /// # Errors
+    ///
+    /// `OutOfProfile` where no accepted sequence has the byte at this place. Nothing that is shown changes then, and
     /// each later byte is refused.
     pub fn feed(&mut self, byte: u8) -> Result<(), OutOfProfile>
         // It is taken exactly where some accepted sequence has it at this place.
@@ -56,6 +64,10 @@ impl Term {
     }
 
     /// Takes bytes up to the first that is refused, as `feed` does one after another.
+    ///
+    /// # Errors
+    ///
+    /// `OutOfProfile` at the first byte that is refused. What came before it stays done, and each later byte is refused.
     pub fn feed_all(&mut self, bytes: &[u8]) -> Result<(), OutOfProfile>
         ensures ok { OnOk result (TakesAll self.old bytes.now self.new) }
         ensures err { OnErr result (RefusesSome self.old bytes.now self.new) }

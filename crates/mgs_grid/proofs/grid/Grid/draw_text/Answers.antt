@@ -1,8 +1,8 @@
-use Rattle.std.proofs.Common.{◌≡◌, ℕ, ◌+◌, ◌<◌, ◌≤◌, List, length, drop, arith, ap, All}
+use Rattle.std.proofs.Common.{◌≡◌, ℕ, ◌+◌, ◌<◌, ◌≤◌, List, length, drop, arith, ap, All, rules}
 use Rattle.mgs_model.specs.Rows.{Row, text_rows, shift_at}
 use Rattle.mgs_model.specs.Picture.{Picture, IsRow}
 use Rattle.mgs_grid.proofs.Printable.{rows_are}
-use Rattle.mgs_grid.proofs.Pictures.{put_picture, length-text_rows}
+use Rattle.mgs_grid.proofs.Pictures.{put_picture, window_put, length-text_rows}
 use Rattle.mgs_grid.proofs.grid.Grid.draw_text.Goals as goal
 
 pub invariant_of-self : goal.invariant_of-self
@@ -15,4 +15,6 @@ invariant_of-self g c =
     let size : length more ≡ c.args.height = length-text_rows cols (shift_at c.args.row c.args.shift) 0 c.args.height (drop c.args.top (g.T.Text.text c.args.text.now)) in
     let each : All (IsRow cols) more = rows_are cols (shift_at c.args.row c.args.shift) 0 c.args.height (drop c.args.top (g.T.Text.text c.args.text.now)) some in
     let fits : c.args.first + length more ≤ c.self.inside.rows = omega (arith, c.requires.rows, size, rows_is) in
-    put_picture old c.args.first c.self.inside.lines.len more c.deref_mut.result.now c.put_text.new.lines c.self.invariant c.deref_mut.ensures.value c.deref_mut.ensures.len c.put_text.ensures fits each
+    let is : c.draw_rows.new.lines ≡ more = search rules in
+    let put = window_put c.args.first c.args.height c.draw_rows.new.lines more c.deref_mut.result.now is size in
+    put_picture old c.args.first c.self.inside.lines.len more c.deref_mut.result.now _ c.self.invariant c.deref_mut.ensures.value c.deref_mut.ensures.len put fits each

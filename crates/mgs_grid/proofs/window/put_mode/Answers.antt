@@ -1,9 +1,0 @@
-use Rattle.std.proofs.Common.{◌≡◌, ℕ, length, get_or, ap, ◌∙◌}
-use Rattle.mgs_model.specs.Rows.{mode_row, buffer_mode}
-use Rattle.mgs_grid.proofs.Pictures.{set_put}
-use Rattle.mgs_grid.proofs.window.put_mode.Goals as goal
-
-pub returns-clause-rows : goal.returns-clause-rows
-returns-clause-rows c =
-    let wide : length (get_or c.args.lines.now c.args.row c.index-lines-row.result).text ≡ c.args.cols = c.requires.each c.args.row c.index-lines-row.result c.requires.row in
-    set_put c.args.lines.now c.args.row (mode_row c.args.cols (buffer_mode c.args.heading c.args.place)) c.draw_mode.new.self c.requires.row (c.draw_mode.ensures.row ∙ ap (λ (n : ℕ). mode_row n (buffer_mode c.args.heading c.args.place)) wide)
