@@ -8,20 +8,12 @@ use Rattle.std.proofs.lemmas.List.{take_all}
 use Rattle.std.proofs.lemmas.Option.{cond_some}
 use Rattle.std.proofs.lemmas.List.Splits.{slice_split_first, slice_split_none}
 use Rattle.std.proofs.lemmas.List.Sums.{fails_before_first}
+use Rattle.mgs_keys.specs.Words.{rest_after, parts_after}
 
 -- how much is left
 abbrev pub length_left : Option (Bor (List ℕ)) → ℕ
 length_left None = 0
 length_left (Some t) = suc (length t.now)
-
--- what stands after the first place that passes
-abbrev pub behind_first : (ℕ → Bool) → List ℕ → Option (List ℕ)
-behind_first p t = option_map (λ i. drop (i + 1) t) (position p t)
-
--- the parts of it
-abbrev pub parts_behind : (ℕ → Bool) → Option (List ℕ) → List (List ℕ)
-parts_behind p None = []
-parts_behind p (Some t) = slice_split p t
 
 position_at : (p : ℕ → Bool) (t : List ℕ) → position_or_len p t < length t → position p t ≡ Some (position_or_len p t)
 position_at p t lt = cond-true _ _ _ (lt-ltb _ _ lt)
@@ -30,26 +22,30 @@ position_none : (p : ℕ → Bool) (t : List ℕ) → length t ≤ position_or_l
 position_none p t le = cond-false _ _ _ (le-ltb _ _ le)
 
 -- the parts are the first one and those after it
-pub parts_first : (p : ℕ → Bool) (t : List ℕ) → slice_split p t ≡ before_first p t ∷ parts_behind p (behind_first p t)
+pub parts_first : (p : ℕ → Bool) (t : List ℕ) → slice_split p t ≡ before_first p t ∷ parts_after p (rest_after p t)
 parts_first p t =
     elim (cases_lt (position_or_len p t) (length t)) [
       | inl lt ↦
           slice_split_first p t 0 lt
-          ∙ ap (λ (o : Option ℕ). before_first p t ∷ parts_behind p (option_map (λ i. drop (i + 1) t) o)) (sym (position_at p t lt))
+          ∙ ap (λ (o : Option ℕ). before_first p t ∷ parts_after p (option_map (λ i. drop (i + 1) t) o)) (sym (position_at p t lt))
       | inr le ↦
           slice_split_none p t (λ k d lt. fails_before_first p t k d (omega arith))
           ∙ ap (λ (w : List ℕ). w ∷ []) (sym (take_all (position_or_len p t) t le))
-          ∙ ap (λ (o : Option ℕ). before_first p t ∷ parts_behind p (option_map (λ i. drop (i + 1) t) o)) (sym (position_none p t le))
+          ∙ ap (λ (o : Option ℕ). before_first p t ∷ parts_after p (option_map (λ i. drop (i + 1) t) o)) (sym (position_none p t le))
     ]
 
--- the same where what stands after the first is known by another name
-pub parts_cut : (p : ℕ → Bool) (t : List ℕ) (rest : Option (List ℕ)) → rest ≡ behind_first p t → slice_split p t ≡ before_first p t ∷ parts_behind p rest
-parts_cut p t rest e = parts_first p t ∙ ap (λ (o : Option (List ℕ)). before_first p t ∷ parts_behind p o) (sym e)
+-- the same where the first part and what stands after it are known by other names
+pub parts_cut : (p : ℕ → Bool) (t first : List ℕ) (rest : Option (List ℕ)) → first ≡ before_first p t → rest ≡ rest_after p t → slice_split p t ≡ first ∷ parts_after p rest
+parts_cut p t first rest is e =
+    parts_first p t
+    ∙ ap (λ (w : List ℕ). w ∷ parts_after p (rest_after p t)) (sym is)
+    ∙ ap (λ (o : Option (List ℕ)). first ∷ parts_after p o) (sym e)
 
--- where an element passes, the first part ends there
+-- where a byte passes, the first part ends there
 pub cut_some : (p : ℕ → Bool) (t : List ℕ) (i : ℕ) → Some i ≡ position p t → slice_split p t ≡ take i t ∷ slice_split p (drop (i + 1) t)
 cut_some p t i h =
-    parts_cut p t (Some (drop (i + 1) t)) (ap (λ (o : Option ℕ). option_map (λ k. drop (k + 1) t) o) h)
+    parts_first p t
+    ∙ ap (λ (o : Option ℕ). before_first p t ∷ parts_after p (option_map (λ k. drop (k + 1) t) o)) (sym h)
     ∙ ap (λ (k : ℕ). take k t ∷ slice_split p (drop (i + 1) t)) (cond_some _ _ _ (sym h)).1
 
 -- where none passes, there is one part
@@ -58,6 +54,7 @@ cut_none p t h =
     elim (cases_lt (position_or_len p t) (length t)) [
       | inl lt ↦ let e : None ≡ Some (position_or_len p t) = h ∙ position_at p t lt in cc
       | inr le ↦
-          parts_cut p t None (ap (λ (o : Option ℕ). option_map (λ k. drop (k + 1) t) o) h)
+          parts_first p t
+          ∙ ap (λ (o : Option ℕ). before_first p t ∷ parts_after p (option_map (λ k. drop (k + 1) t) o)) (sym h)
           ∙ ap (λ (w : List ℕ). w ∷ []) (take_all (position_or_len p t) t le)
     ]

@@ -1,5 +1,5 @@
--- Keys written as tokens.
-use Rattle.std.specs.Prelude.{◌≡◌, ℕ, ◌==◌, nat_le, Bool, ◌&&◌, List, [], ◌∷◌, ◌++◌, length, drop, codes, slice_index, bit_and, Option, Some, None, Result, Ok, Err, if◌then◌else◌}
+-- Texts written as tokens, and the tokens of keys.
+use Rattle.std.specs.Prelude.{◌≡◌, ℕ, ◌==◌, nat_le, Bool, ◌&&◌, List, [], ◌∷◌, ◌++◌, length, drop, codes, slice_index, bit_and, Option, Some, None, IsSome, Result, Ok, Err, if◌then◌else◌}
 use Rattle.std.specs.Option.{option_map}
 use Rattle.std.specs.Str.{bytes_eq}
 use Rattle.std.specs.Global.{Vec}
@@ -7,6 +7,8 @@ use Rattle.mgs_model.specs.Names.{is_visible}
 use Rattle.mgs_keys.specs.Words.{is_quotable, words_of}
 use Rattle.mgs_keys.specs.declared.KeysFault.{KeysFault}
 use Rattle.mgs_keys.specs.declared.KeysFault.TheVariants.{BadToken, Short}
+use Rattle.mgs_keys.specs.declared.spelling.Spelling.{Spelling}
+use Rattle.mgs_keys.specs.declared.spelling.Spelling.TheVariants.{One, Escaped, Each}
 
 -- the keys that have a name of their own
 abbrev pub named_byte_of : List ℕ → Option ℕ
@@ -70,15 +72,14 @@ spelled_by f (t ∷ ts) = then_bytes (f t) (spelled_by f ts)
 abbrev pub keys_of : List ℕ → Option (List ℕ)
 keys_of text = spelled_by token_bytes (words_of text)
 
--- what a token spells was put after the rest; BadToken exactly where it is none
-abbrev pub PushesToken : Result (Unit {0}) KeysFault → List ℕ → List ℕ → Option (List ℕ) → Type 0
-PushesToken (Ok u) old new None = ⊥
-PushesToken (Ok u) old new (Some bs) = new ≡ old ++ bs
-PushesToken (Err BadToken) old new told = told ≡ None
-PushesToken (Err Short) old new told = Unit {0}
+-- the bytes of a spelling, as the code holds it
+abbrev pub bytes_in : Spelling → List ℕ
+bytes_in (One byte) = byte ∷ []
+bytes_in (Escaped byte) = 27 ∷ byte ∷ []
+bytes_in (Each bytes) = bytes.now
 
--- exactly what a text spells; BadToken exactly where it spells nothing
+-- exactly what a text spells; BadToken exactly where it spells nothing, and out of memory only where it spells something
 abbrev pub GivesKeys : Result (Vec ℕ) KeysFault → Option (List ℕ) → Type 0
 GivesKeys (Ok v) told = told ≡ Some v.items
 GivesKeys (Err BadToken) told = told ≡ None
-GivesKeys (Err Short) told = Unit {0}
+GivesKeys (Err Short) told = IsSome told

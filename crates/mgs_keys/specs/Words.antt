@@ -1,8 +1,17 @@
 -- The words of a text, parted by single spaces.
-use Rattle.std.specs.Prelude.{ℕ, ◌+◌, ◌==◌, nat_le, Bool, ◌&&◌, List, length, drop, position, Option}
+use Rattle.std.specs.Prelude.{ℕ, ◌+◌, ◌==◌, nat_le, Bool, ◌&&◌, List, [], length, drop, position, Option, Some, None}
 use Rattle.std.specs.Option.{option_map}
 use Rattle.std.specs.List.{slice_split, before_first, list_all}
 use Rattle.mgs_model.specs.Names.{is_visible}
+
+-- what stands after the first byte that passes, if there is one
+abbrev pub rest_after : (ℕ → Bool) → List ℕ → Option (List ℕ)
+rest_after p t = option_map (λ i. drop (i + 1) t) (position p t)
+
+-- the parts of such a rest
+abbrev pub parts_after : (ℕ → Bool) → Option (List ℕ) → List (List ℕ)
+parts_after p None = []
+parts_after p (Some t) = slice_split p t
 
 abbrev pub is_space : ℕ → Bool
 is_space b = b == 32
@@ -17,7 +26,7 @@ word_of t = before_first is_space t
 
 -- what stands after the first space, if there is one
 abbrev pub rest_of : List ℕ → Option (List ℕ)
-rest_of t = option_map (λ i. drop (i + 1) t) (position is_space t)
+rest_of t = rest_after is_space t
 
 -- one or more characters, each of them visible
 abbrev pub is_quotable : List ℕ → Bool

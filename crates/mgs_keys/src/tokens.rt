@@ -1,10 +1,9 @@
 // Keys written as tokens.
 ghost use Rattle.std.specs.Prelude.{◌≡◌};
-ghost use Rattle.std.specs.Option.{option_map};
-ghost use Rattle.mgs_keys.specs.Tokens.{named_byte_of, control_byte_of, meta_byte_of, quoted_of, token_bytes, keys_of, PushesToken, GivesKeys};
+ghost use Rattle.mgs_keys.specs.Tokens.{named_byte_of, control_byte_of, meta_byte_of, token_bytes, keys_of, GivesKeys};
 
 use crate::KeysFault;
-use crate::words::{cut, is_quotable};
+use crate::spelling::{Spelling, Tokens, quoted, read_tokens};
 use std::alloc::Global;
 
 // The byte of a key that has a name of its own.
@@ -56,36 +55,26 @@ fn meta_byte(token: &[u8]) -> Option<u8>
     }
 }
 
-/// What a token `'chars` quotes: one or more characters 0x21 to 0x7E. None where the token is no such one.
-pub fn quoted(token: &[u8]) -> Option<&[u8]>
-    ensures { option_map (λ x. x.now) result ≡ quoted_of token.now }
-{
-    match token {
-        [b'\'', characters @ ..] if is_quotable(characters) => Some(characters),
-        _ => None,
-    }
-}
+// The tokens of keys.
+struct KeyTokens;
 
-#[tactic(auto, unfolding(crate::specs::Tokens::token_bytes))]
-fn push_token(keys: &mut Vec<u8>, token: &[u8]) -> Result<(), KeysFault>
-    ensures { PushesToken result keys.old.items keys.new.items (token_bytes token.now) }
-{
-    if let Some(byte) = named_byte(token) {
-        return keys.push(byte).map_err(|_| KeysFault::Short);
-    }
-    if let Some(byte) = control_byte(token) {
-        return keys.push(byte).map_err(|_| KeysFault::Short);
-    }
-    if let Some(byte) = meta_byte(token) {
-        return keys
-            .extend_from_slice(&[27, byte])
-            .map_err(|_| KeysFault::Short);
-    }
-    match quoted(token) {
-        Some(characters) => keys
-            .extend_from_slice(characters)
-            .map_err(|_| KeysFault::Short),
-        None => Err(KeysFault::BadToken),
+impl Tokens for KeyTokens {
+    ghost use Rattle.mgs_keys.specs.Tokens.{token_bytes};
+
+    ghost bytes_of = { token_bytes };
+
+    #[tactic(auto, unfolding(crate::specs::Tokens::token_bytes))]
+    fn spelling(token: &[u8]) -> Option<Spelling<'_>> {
+        if let Some(byte) = named_byte(token) {
+            return Some(Spelling::One(byte));
+        }
+        if let Some(byte) = control_byte(token) {
+            return Some(Spelling::One(byte));
+        }
+        if let Some(byte) = meta_byte(token) {
+            return Some(Spelling::Escaped(byte));
+        }
+        quoted(token).map(Spelling::Each)
     }
 }
 
@@ -95,19 +84,10 @@ fn push_token(keys: &mut Vec<u8>, token: &[u8]) -> Result<(), KeysFault>
 /// `ESC` (0x1B), `DEL` (0x7F), `'chars` (one or more characters 0x21 to 0x7E, each its byte), or `M-` before one
 /// character 0x21 to 0x7E or before `SPC` or `DEL` (0x1B and that byte).
 ///
-/// `BadToken` is answered where some word is no token; an empty text and a space that no word stands beside are such
-/// too. `Short` is out of memory.
+/// `BadToken` is answered where some word is no token; an empty text and a space that no word stands beside have an
+/// empty word. `Short` is out of memory, which comes only where each word is a token.
 pub fn read_keys(alloc: Global, tokens: &str) -> Result<Vec<u8>, KeysFault>
     ensures { GivesKeys result (keys_of tokens.now) }
 {
-    let mut keys = Vec::new(alloc);
-    let mut left = Some(tokens.as_bytes());
-    while let Some(text) = left {
-        let (token, rest) = cut(text);
-        match push_token(&mut keys, token) {
-            Ok(()) => left = rest,
-            Err(fault) => return Err(fault),
-        }
-    }
-    Ok(keys)
+    read_tokens::<KeyTokens>(alloc, tokens)
 }

@@ -1,26 +1,26 @@
-// Words parted by single spaces.
-ghost use Rattle.std.specs.Prelude.{◌≡◌, ◌<◌, ◌+◌, length, position, IfSome};
+// Parts of a text between bytes of one value.
+ghost use Rattle.std.specs.Prelude.{◌≡◌, ◌==◌, ◌<◌, ◌+◌, ◌∷◌, length, position, IfSome};
 ghost use Rattle.std.specs.Option.{option_map};
-ghost use Rattle.std.specs.List.{list_all};
+ghost use Rattle.std.specs.List.{before_first, list_all, slice_split};
 ghost use Rattle.mgs_model.specs.Names.{is_visible};
-ghost use Rattle.mgs_keys.specs.Words.{is_space, is_quotable, word_of, rest_of};
+ghost use Rattle.mgs_keys.specs.Words.{is_quotable, rest_after, parts_after};
 
-// The place of the first space.
-fn space_in(text: &[u8]) -> Option<usize>
-    ensures at { result ≡ position is_space text.now }
+// The place of the first byte of that value.
+fn place_of(text: &[u8], separator: u8) -> Option<usize>
+    ensures at { result ≡ position (λ b. b == separator) text.now }
     ensures within { IfSome result (λ i. i < length text.now) }
 {
-    text.iter().position(|b| *b == b' ')
+    text.iter().position(|b| *b == separator)
 }
 
-/// The first word of a text, and what stands after the space after it, if there is one.
-/// Where the text begins with a space, its first word is empty.
-pub fn cut(text: &[u8]) -> (&[u8], Option<&[u8]>)
-    ensures word { result.0.now ≡ word_of text.now }
-    ensures rest { option_map (λ x. x.now) result.1 ≡ rest_of text.now }
+/// The part of a text before the first byte of that value, and what stands after that byte, if there is one.
+pub fn cut_at(text: &[u8], separator: u8) -> (&[u8], Option<&[u8]>)
+    ensures first { result.0.now ≡ before_first (λ b. b == separator) text.now }
+    ensures rest { option_map (λ x. x.now) result.1 ≡ rest_after (λ b. b == separator) text.now }
     ensures shorter { IfSome result.1 (λ x. length x.now < length text.now) }
+    ensures parts { slice_split (λ b. b == separator) text.now ≡ result.0.now ∷ parts_after (λ b. b == separator) (option_map (λ x. x.now) result.1) }
 {
-    match space_in(text) {
+    match place_of(text, separator) {
         None => (text, None),
         Some(at) => (&text[..at], Some(&text[at + 1..])),
     }

@@ -18,6 +18,5 @@ words_more old new word t rest all push first e so_far =
     ap (λ (ws : List (Bor (List ℕ))). all_now ws ++ words_left rest) push
     ∙ ap (λ (ws : List (List ℕ)). ws ++ words_left rest) (map_push (λ (w : Bor (List ℕ)). w.now) old word)
     ∙ append_assoc (all_now old) (word.now ∷ []) (words_left rest)
-    ∙ ap (λ (w : List ℕ). all_now old ++ w ∷ words_left rest) first
-    ∙ ap (λ (ws : List (List ℕ)). all_now old ++ ws) (sym (parts_cut is_space t (option_map (λ x. x.now) rest) e))
+    ∙ ap (λ (ws : List (List ℕ)). all_now old ++ ws) (sym (parts_cut is_space t word.now (option_map (λ x. x.now) rest) first e))
     ∙ so_far

@@ -1,5 +1,5 @@
 -- What the lines of a script say.
-use Rattle.std.specs.Prelude.{◌≡◌, ℕ, ◌==◌, Bool, ◌||◌, List, length, map, codes, slice_index, Option, Some, None, Result, Ok, Err, if◌then◌else◌}
+use Rattle.std.specs.Prelude.{◌≡◌, ℕ, ◌==◌, Bool, ◌||◌, List, length, map, codes, slice_index, Option, Some, None, IsSome, Result, Ok, Err, if◌then◌else◌}
 use Rattle.std.specs.Option.{option_map}
 use Rattle.std.specs.Str.{bytes_eq, is_utf8}
 use Rattle.mgs_keys.specs.Words.{word_of, rest_of, words_of}
@@ -124,8 +124,8 @@ view (code.Keys label keys) = Keys label keys.items
 view (code.Show label) = Show label
 view (code.Close label) = Close label
 
--- exactly what the line says; Bad exactly where it says nothing that is known
+-- exactly what the line says; Bad exactly where it says nothing that is known, and out of memory only where it says something
 abbrev pub GivesLine : Result Line LineFault → Option Said → Type 0
 GivesLine (Ok l) said = said ≡ Some (view l)
 GivesLine (Err Bad) said = said ≡ None
-GivesLine (Err Short) said = Unit {0}
+GivesLine (Err Short) said = IsSome said
