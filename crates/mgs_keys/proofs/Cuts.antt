@@ -1,11 +1,10 @@
 -- A list that is parted at some elements: its first part, and the parts left.
-use Rattle.std.proofs.Common.{◌≡◌, ℕ, suc, ◌+◌, ◌<◌, ◌≤◌, List, [], ◌∷◌, length, take, drop, Option, Some, None, Bor, Bool, sym, ap, ◌∙◌, inl, inr, arith}
+use Rattle.std.proofs.Common.{◌≡◌, ℕ, suc, ◌+◌, ◌<◌, ◌≤◌, List, [], ◌∷◌, length, drop, Option, Some, None, Bor, Bool, sym, ap, ◌∙◌, inl, inr, arith}
 use Rattle.std.specs.Prelude.{position}
 use Rattle.std.specs.Option.{option_map}
 use Rattle.std.specs.List.{slice_split, position_or_len, before_first}
 use Rattle.std.proofs.lemmas.Bool.{cases_lt, lt-ltb, le-ltb, cond-true, cond-false}
 use Rattle.std.proofs.lemmas.List.{take_all}
-use Rattle.std.proofs.lemmas.Option.{cond_some}
 use Rattle.std.proofs.lemmas.List.Splits.{slice_split_first, slice_split_none}
 use Rattle.std.proofs.lemmas.List.Sums.{fails_before_first}
 use Rattle.mgs_keys.specs.Words.{rest_after, parts_after}
@@ -40,21 +39,3 @@ parts_cut p t first rest is e =
     parts_first p t
     ∙ ap (λ (w : List ℕ). w ∷ parts_after p (rest_after p t)) (sym is)
     ∙ ap (λ (o : Option (List ℕ)). first ∷ parts_after p o) (sym e)
-
--- where a byte passes, the first part ends there
-pub cut_some : (p : ℕ → Bool) (t : List ℕ) (i : ℕ) → Some i ≡ position p t → slice_split p t ≡ take i t ∷ slice_split p (drop (i + 1) t)
-cut_some p t i h =
-    parts_first p t
-    ∙ ap (λ (o : Option ℕ). before_first p t ∷ parts_after p (option_map (λ k. drop (k + 1) t) o)) (sym h)
-    ∙ ap (λ (k : ℕ). take k t ∷ slice_split p (drop (i + 1) t)) (cond_some _ _ _ (sym h)).1
-
--- where none passes, there is one part
-pub cut_none : (p : ℕ → Bool) (t : List ℕ) → None ≡ position p t → slice_split p t ≡ t ∷ []
-cut_none p t h =
-    elim (cases_lt (position_or_len p t) (length t)) [
-      | inl lt ↦ let e : None ≡ Some (position_or_len p t) = h ∙ position_at p t lt in cc
-      | inr le ↦
-          parts_first p t
-          ∙ ap (λ (o : Option ℕ). before_first p t ∷ parts_after p (option_map (λ k. drop (k + 1) t) o)) (sym h)
-          ∙ ap (λ (w : List ℕ). w ∷ []) (take_all (position_or_len p t) t le)
-    ]

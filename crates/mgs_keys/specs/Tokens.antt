@@ -7,6 +7,8 @@ use Rattle.mgs_model.specs.Names.{is_visible}
 use Rattle.mgs_keys.specs.Words.{is_quotable, words_of}
 use Rattle.mgs_keys.specs.declared.KeysFault.{KeysFault}
 use Rattle.mgs_keys.specs.declared.KeysFault.TheVariants.{BadToken, Short}
+use Rattle.mgs_keys.specs.declared.spelling.TheConstants.{ESCAPE}
+use Rattle.mgs_keys.specs.declared.tokens.TheConstants.{DELETE}
 use Rattle.mgs_keys.specs.declared.spelling.Spelling.{Spelling}
 use Rattle.mgs_keys.specs.declared.spelling.Spelling.TheVariants.{One, Escaped, Each}
 
@@ -16,8 +18,8 @@ named_byte_of t =
     if bytes_eq t (codes "RET") then Some 13
     else if bytes_eq t (codes "TAB") then Some 9
     else if bytes_eq t (codes "SPC") then Some 32
-    else if bytes_eq t (codes "ESC") then Some 27
-    else if bytes_eq t (codes "DEL") then Some 127
+    else if bytes_eq t (codes "ESC") then Some ESCAPE
+    else if bytes_eq t (codes "DEL") then Some DELETE
     else if bytes_eq t (codes "C-SPC") then Some 0
     else if bytes_eq t (codes "C-_") then Some 31
     else None
@@ -37,7 +39,7 @@ is_meta t = (length t == 3) && ((slice_index t 0 == 77) && ((slice_index t 1 == 
 abbrev pub meta_byte_of : List ℕ → Option ℕ
 meta_byte_of t =
     if bytes_eq t (codes "M-SPC") then Some 32
-    else if bytes_eq t (codes "M-DEL") then Some 127
+    else if bytes_eq t (codes "M-DEL") then Some DELETE
     else if is_meta t then Some (slice_index t 2)
     else None
 
@@ -55,7 +57,7 @@ unfoldable pub token_bytes : List ℕ → Option (List ℕ)
 token_bytes t =
     or_else_of (option_map (λ b. b ∷ []) (named_byte_of t))
     (or_else_of (option_map (λ b. b ∷ []) (control_byte_of t))
-    (or_else_of (option_map (λ b. 27 ∷ b ∷ []) (meta_byte_of t))
+    (or_else_of (option_map (λ b. ESCAPE ∷ b ∷ []) (meta_byte_of t))
     (quoted_of t)))
 
 -- the bytes of one part and then those of the rest; none where either is none
@@ -75,7 +77,7 @@ keys_of text = spelled_by token_bytes (words_of text)
 -- the bytes of a spelling, as the code holds it
 abbrev pub bytes_in : Spelling → List ℕ
 bytes_in (One byte) = byte ∷ []
-bytes_in (Escaped byte) = 27 ∷ byte ∷ []
+bytes_in (Escaped byte) = ESCAPE ∷ byte ∷ []
 bytes_in (Each bytes) = bytes.now
 
 -- exactly what a text spells; BadToken exactly where it spells nothing, and out of memory only where it spells something

@@ -1,15 +1,15 @@
 // Texts written as tokens.
-ghost use Rattle.std.specs.Prelude.{◌≡◌, ◌++◌, ◌∷◌, OnOk, is_some};
+ghost use Rattle.std.specs.Prelude.{◌≡◌, ◌<◌, ◌++◌, ◌∷◌, length, IfSome, OnOk, is_some};
 ghost use Rattle.std.specs.Option.{option_map};
-ghost use Rattle.mgs_keys.specs.Words.{words_of};
+ghost use Rattle.mgs_keys.specs.Words.{is_space, words_of, parts_after};
 ghost use Rattle.mgs_keys.specs.Tokens.{quoted_of, spelled_by, bytes_in, GivesKeys};
 
 use crate::KeysFault;
 use crate::words::{cut_at, is_quotable};
 use std::alloc::{AllocError, Global};
 
-/// The byte that a terminal sends before the byte of a key with Meta.
-const ESCAPE: u8 = 0x1B;
+// The byte that a terminal sends before that of a key with Meta.
+pub(crate) const ESCAPE: u8 = 0x1B;
 
 /// The bytes that a token spells.
 #[derive(Clone, Copy)]
@@ -44,13 +44,22 @@ pub fn quoted(token: &[u8]) -> Option<&[u8]>
     }
 }
 
+// The first word of a text, and what stands after the space after it, if there is one.
+#[tactic(auto, using(crate::proofs::Cuts::parts_cut))]
+fn cut_word(text: &[u8]) -> (&[u8], Option<&[u8]>)
+    ensures words { words_of text.now ≡ result.0.now ∷ parts_after is_space (option_map (λ x. x.now) result.1) }
+    ensures shorter { IfSome result.1 (λ x. length x.now < length text.now) }
+{
+    cut_at(text, b' ')
+}
+
 // Whether each word of a text is a token.
 fn are_tokens<T: Tokens>(text: &[u8]) -> bool
     ensures { result ≡ is_some (spelled_by T.bytes_of (words_of text.now)) }
 {
     let mut left = Some(text);
     while let Some(words) = left {
-        let (token, rest) = cut_at(words, b' ');
+        let (token, rest) = cut_word(words);
         if T::spelling(token).is_none() {
             return false;
         }
@@ -84,7 +93,7 @@ pub fn read_tokens<T: Tokens>(alloc: Global, tokens: &str) -> Result<Vec<u8>, Ke
     let mut bytes = Vec::new(alloc);
     let mut left = Some(text);
     while let Some(words) = left {
-        let (token, rest) = cut_at(words, b' ');
+        let (token, rest) = cut_word(words);
         let Some(spelling) = T::spelling(token) else {
             return Err(KeysFault::BadToken);
         };

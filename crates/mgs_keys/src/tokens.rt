@@ -3,27 +3,29 @@ ghost use Rattle.std.specs.Prelude.{◌≡◌};
 ghost use Rattle.mgs_keys.specs.Tokens.{named_byte_of, control_byte_of, meta_byte_of, token_bytes, keys_of, GivesKeys};
 
 use crate::KeysFault;
-use crate::spelling::{Spelling, Tokens, quoted, read_tokens};
+use crate::spelling::{ESCAPE, Spelling, Tokens, quoted, read_tokens};
 use std::alloc::Global;
+
+const DELETE: u8 = 0x7F;
 
 // The byte of a key that has a name of its own.
 fn named_byte(token: &[u8]) -> Option<u8>
     ensures { result ≡ named_byte_of token.now }
 {
     if token == b"RET".as_slice() {
-        Some(13)
+        Some(b'\r')
     } else if token == b"TAB".as_slice() {
-        Some(9)
+        Some(b'\t')
     } else if token == b"SPC".as_slice() {
-        Some(32)
+        Some(b' ')
     } else if token == b"ESC".as_slice() {
-        Some(27)
+        Some(ESCAPE)
     } else if token == b"DEL".as_slice() {
-        Some(127)
+        Some(DELETE)
     } else if token == b"C-SPC".as_slice() {
-        Some(0)
+        Some(0x00)
     } else if token == b"C-_".as_slice() {
-        Some(31)
+        Some(0x1F)
     } else {
         None
     }
@@ -44,10 +46,10 @@ fn meta_byte(token: &[u8]) -> Option<u8>
     ensures { result ≡ meta_byte_of token.now }
 {
     if token == b"M-SPC".as_slice() {
-        return Some(32);
+        return Some(b' ');
     }
     if token == b"M-DEL".as_slice() {
-        return Some(127);
+        return Some(DELETE);
     }
     match token {
         [b'M', b'-', character] if b'!' <= *character && *character <= b'~' => Some(*character),

@@ -1,9 +1,9 @@
 // Parts of a text between bytes of one value.
-ghost use Rattle.std.specs.Prelude.{◌≡◌, ◌==◌, ◌<◌, ◌+◌, ◌∷◌, length, position, IfSome};
+ghost use Rattle.std.specs.Prelude.{◌≡◌, ◌==◌, ◌<◌, length, position, IfSome};
 ghost use Rattle.std.specs.Option.{option_map};
-ghost use Rattle.std.specs.List.{before_first, list_all, slice_split};
+ghost use Rattle.std.specs.List.{before_first, list_all};
 ghost use Rattle.mgs_model.specs.Names.{is_visible};
-ghost use Rattle.mgs_keys.specs.Words.{is_quotable, rest_after, parts_after};
+ghost use Rattle.mgs_keys.specs.Words.{is_quotable, rest_after};
 
 // The place of the first byte of that value.
 fn place_of(text: &[u8], separator: u8) -> Option<usize>
@@ -18,7 +18,6 @@ pub fn cut_at(text: &[u8], separator: u8) -> (&[u8], Option<&[u8]>)
     ensures first { result.0.now ≡ before_first (λ b. b == separator) text.now }
     ensures rest { option_map (λ x. x.now) result.1 ≡ rest_after (λ b. b == separator) text.now }
     ensures shorter { IfSome result.1 (λ x. length x.now < length text.now) }
-    ensures parts { slice_split (λ b. b == separator) text.now ≡ result.0.now ∷ parts_after (λ b. b == separator) (option_map (λ x. x.now) result.1) }
 {
     match place_of(text, separator) {
         None => (text, None),

@@ -2,9 +2,9 @@
 ghost use Rattle.std.specs.Prelude.{◌≡◌};
 ghost use Rattle.mgs_script.specs.Lines.{kind_named};
 
-/// What a script's line begins with.
-#[derive(Clone, Copy, Debug, PartialEq, Eq)]
-pub enum Kind {
+// The first word of a script's line.
+#[derive(Clone, Copy)]
+pub(crate) enum Kind {
     User,
     Group,
     Buffer,
@@ -16,8 +16,8 @@ pub enum Kind {
     Close,
 }
 
-/// The kind of line that a word begins.
-pub fn kind_of(word: &str) -> Option<Kind>
+// The kind of line that a word begins.
+pub(crate) fn kind_of(word: &str) -> Option<Kind>
     ensures { result ≡ kind_named word.now }
 {
     if word == "user" {

@@ -9,8 +9,5 @@ mod text;
 mod word;
 
 pub use cut::cut_line;
-pub use kind::{Kind, kind_of};
 pub use line::{Line, LineFault};
 pub use reading::read_line;
-pub use text::read_text;
-pub use word::{any_word, cut_text, name_in, number, size, words};

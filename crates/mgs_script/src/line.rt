@@ -57,6 +57,6 @@ pub enum Line<'a> {
 pub enum LineFault {
     /// The line is refused.
     Bad,
-    /// Want of memory.
+    /// Out of memory.
     Short,
 }

@@ -92,8 +92,8 @@ fn keys_line(alloc: Global, text: &str) -> Result<Line<'_>, LineFault>
     }
 }
 
-#[tactic(auto, unfolding(crate::specs::Lines::said_by_kind))]
 // A line that is not passed over.
+#[tactic(auto, unfolding(crate::specs::Lines::said_by_kind))]
 fn line_by_kind(alloc: Global, text: &str) -> Result<Line<'_>, LineFault>
     ensures { GivesLine result (said_by_kind text.now) }
 {
@@ -138,7 +138,8 @@ fn utf8(line: &[u8]) -> Option<&str>
 
 /// What a script's line says, without its line feed.
 ///
-/// `Bad` is answered where it says nothing that is known: such a line is refused. `Short` is out of memory.
+/// `Bad` is answered where it says nothing that is known: such a line is refused. `Short` is out of memory, which comes
+/// only where the line says something.
 pub fn read_line(alloc: Global, line: &[u8]) -> Result<Line<'_>, LineFault>
     ensures { GivesLine result (said_in line.now) }
 {

@@ -39,12 +39,12 @@ fn push_characters(text: &mut Vec<char>, bytes: &[u8]) -> Result<(), AllocError>
     Ok(())
 }
 
-/// The characters of a text that is written as tokens, parted by single spaces: `RET` (a line feed), `TAB`, `SPC` (a space) and
-/// `'chars` (one or more characters 0x21 to 0x7E).
-///
-/// `BadToken` is answered where some word is no token. `Short` is out of memory, which comes only where each word is a
-/// token.
-pub fn read_text(alloc: Global, tokens: &str) -> Result<Vec<char>, KeysFault>
+// The characters of a text that is written as tokens, parted by single spaces: `RET` (a line feed), `TAB`, `SPC` (a space) and
+// `'chars` (one or more characters 0x21 to 0x7E).
+//
+// `BadToken` is answered where some word is no token. `Short` is out of memory, which comes only where each word is a
+// token.
+pub(crate) fn read_text(alloc: Global, tokens: &str) -> Result<Vec<char>, KeysFault>
     ensures { GivesKeys result (text_of tokens.now) }
 {
     let bytes = read_tokens::<TextTokens>(alloc, tokens)?;

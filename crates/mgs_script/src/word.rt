@@ -1,15 +1,15 @@
 // The words of a script's line.
-ghost use Rattle.std.specs.Prelude.{◌≡◌, ◌==◌, ◌<◌, not, length, map, IfOk, IfSome};
+ghost use Rattle.std.specs.Prelude.{◌≡◌, ◌==◌, ◌-◌, ◌<◌, ◌≤◌, ◌∷◌, not, length, map, IfOk, IfSome, IsTrue};
 ghost use Rattle.std.specs.Option.{option_map};
 ghost use Rattle.std.specs.List.{list_all};
-ghost use Rattle.mgs_keys.specs.Words.{word_of, rest_of, words_of};
-ghost use Rattle.mgs_script.specs.Words.{name_of, any_word_of, number_of, size_of, is_word};
+ghost use Rattle.mgs_keys.specs.Words.{is_space, word_of, rest_of, words_of, parts_after};
+ghost use Rattle.mgs_script.specs.Words.{name_of, any_word_of, is_digit, is_first_digit, number_of, size_of};
 
 use mgs_model::{Name, Short};
 use std::alloc::Global;
 
-/// The first word of a text, and what stands after the space after it, if there is one.
-pub fn cut_text(text: &str) -> (&str, Option<&str>)
+// The first word of a text, and what stands after the space after it, if there is one.
+pub(crate) fn cut_text(text: &str) -> (&str, Option<&str>)
     ensures word { result.0.now ≡ word_of text.now }
     ensures rest { option_map (λ x. x.now) result.1 ≡ rest_of text.now }
     ensures shorter { IfSome result.1 (λ x. length x.now < length text.now) }
@@ -20,14 +20,23 @@ pub fn cut_text(text: &str) -> (&str, Option<&str>)
     }
 }
 
-/// The words of a text, parted by single spaces.
-pub fn words(alloc: Global, text: &str) -> Result<Vec<&str>, Short>
+// The same, of all words of a text.
+#[tactic(auto, using(mgs_keys::proofs::Cuts::parts_cut))]
+fn cut_word(text: &str) -> (&str, Option<&str>)
+    ensures words { words_of text.now ≡ result.0.now ∷ parts_after is_space (option_map (λ x. x.now) result.1) }
+    ensures shorter { IfSome result.1 (λ x. length x.now < length text.now) }
+{
+    cut_text(text)
+}
+
+// The words of a text, parted by single spaces.
+pub(crate) fn words(alloc: Global, text: &str) -> Result<Vec<&str>, Short>
     ensures { IfOk result (λ words. map (λ word. word.now) words.items ≡ words_of text.now) }
 {
     let mut words = Vec::new(alloc);
     let mut left = Some(text);
     while let Some(text) = left {
-        let (word, rest) = cut_text(text);
+        let (word, rest) = cut_word(text);
         match words.push(word) {
             Ok(()) => left = rest,
             Err(_) => return Err(Short),
@@ -36,8 +45,8 @@ pub fn words(alloc: Global, text: &str) -> Result<Vec<&str>, Short>
     Ok(words)
 }
 
-/// The label or buffer's name that is written so, if it is one.
-pub fn name_in(word: &str) -> Option<Name>
+// The label or buffer's name that is written so, if it is one.
+pub(crate) fn name_in(word: &str) -> Option<Name>
     ensures { result ≡ name_of word.now }
 {
     Name::read(word)
@@ -49,8 +58,8 @@ fn has_no_return(bytes: &[u8]) -> bool
     bytes.iter().all(|b| *b != b'\r')
 }
 
-/// The word, if it is one: it has a byte, and no carriage return.
-pub fn any_word(word: &str) -> Option<&str>
+// The word, if it is one: it has a byte, and no carriage return.
+pub(crate) fn any_word(word: &str) -> Option<&str>
     ensures { option_map (λ x. x.now) result ≡ any_word_of word.now }
 {
     if !word.is_empty() && has_no_return(word.as_bytes()) {
@@ -60,32 +69,45 @@ pub fn any_word(word: &str) -> Option<&str>
     }
 }
 
-/// The number of 1 to 3 digits that is written so, without leading zeros.
-pub fn number(word: &str) -> Option<usize>
+fn is_digit(byte: u8) -> bool
+    ensures { result ≡ is_digit byte }
+{
+    b'0' <= byte && byte <= b'9'
+}
+
+// A digit that a number of two or three digits may begin with.
+fn is_first_digit(byte: u8) -> bool
+    ensures { result ≡ is_first_digit byte }
+{
+    b'1' <= byte && byte <= b'9'
+}
+
+fn value_of(digit: u8) -> usize
+    requires { IsTrue (is_digit digit) }
+    ensures value { result ≡ digit - 48 }
+    ensures limit { result ≤ 9 }
+{
+    (digit - b'0') as usize
+}
+
+// The number of 1 to 3 digits that is written so, without leading zeros.
+fn number(word: &str) -> Option<usize>
     ensures { result ≡ number_of word.now }
 {
     match word.as_bytes() {
-        [only] if b'0' <= *only && *only <= b'9' => Some(*only as usize - 48),
-        [first, last] if b'1' <= *first && *first <= b'9' && b'0' <= *last && *last <= b'9' => {
-            Some((*first as usize - 48) * 10 + (*last as usize - 48))
+        [only] if is_digit(*only) => Some(value_of(*only)),
+        [first, last] if is_first_digit(*first) && is_digit(*last) => {
+            Some(value_of(*first) * 10 + value_of(*last))
         }
-        [first, second, last]
-            if b'1' <= *first
-                && *first <= b'9'
-                && b'0' <= *second
-                && *second <= b'9'
-                && b'0' <= *last
-                && *last <= b'9' => {
-            Some(
-                (*first as usize - 48) * 100 + (*second as usize - 48) * 10 + (*last as usize - 48),
-            )
+        [first, second, last] if is_first_digit(*first) && is_digit(*second) && is_digit(*last) => {
+            Some(value_of(*first) * 100 + value_of(*second) * 10 + value_of(*last))
         }
         _ => None,
     }
 }
 
-/// The rows and columns that are written so.
-pub fn size(text: &str) -> Option<(usize, usize)>
+// The rows and columns that are written so.
+pub(crate) fn size(text: &str) -> Option<(usize, usize)>
     ensures { result ≡ size_of text.now }
 {
     let (rows, rest) = cut_text(text);

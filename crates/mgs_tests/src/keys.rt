@@ -1,5 +1,5 @@
 // Keys that are written as tokens.
-use mgs_keys::{KeysFault, cut, quoted, read_keys};
+use mgs_keys::{KeysFault, cut_at, quoted, read_keys};
 use std::test::Fail;
 
 #[test]
@@ -29,12 +29,12 @@ fn other_words_are_refused(rt: HostRuntime) {
 }
 
 #[test]
-fn texts_are_cut_at_the_first_space(rt: HostRuntime) {
+fn texts_are_cut_at_a_byte(rt: HostRuntime) {
     assert_eq!(rt;
-        cut(b"show a b"),
+        cut_at(b"show a b", b' '),
         (b"show".as_slice(), Some(b"a b".as_slice()))
     );
-    assert_eq!(rt; cut(b"show"), (b"show".as_slice(), None));
+    assert_eq!(rt; cut_at(b"show", b' '), (b"show".as_slice(), None));
 }
 
 #[test]

@@ -1,10 +1,6 @@
 // Lines of a script.
-use mgs_keys::KeysFault;
 use mgs_model::Name;
-use mgs_script::{
-    Kind, Line, LineFault, any_word, cut_line, cut_text, kind_of, name_in, number, read_line,
-    read_text, size,
-};
+use mgs_script::{Line, LineFault, cut_line, read_line};
 use std::test::Fail;
 
 #[test]
@@ -17,34 +13,26 @@ fn scripts_are_cut_at_the_first_line_feed(rt: HostRuntime) {
 }
 
 #[test]
-fn words_are_read(rt: HostRuntime) {
-    assert_eq!(rt; cut_text("a b c"), ("a", Some("b c")));
-    assert_eq!(rt; any_word("Ann"), Some("Ann"));
-    assert!(rt; name_in("*notes*").is_some());
-}
-
-#[test]
-fn sizes_are_read(rt: HostRuntime) {
-    assert_eq!(rt; number("0"), Some(0));
-    assert_eq!(rt; number("160"), Some(160));
-    assert_eq!(rt; number("020"), None);
-    assert_eq!(rt; size("24 80"), Some((24, 80)));
-}
-
-#[test]
-fn kinds_are_named(rt: HostRuntime) {
-    assert_eq!(rt; kind_of("entry"), Some(Kind::Entry));
-    assert_eq!(rt; kind_of("group"), Some(Kind::Group));
-    assert_eq!(rt; kind_of("groups"), None);
+fn words_and_sizes_are_read(rt: HostRuntime) -> Result<(), Fail> {
+    let label = Name::read("*notes*").ok_or("no name")?;
+    let line = Line::Open {
+        label,
+        user: "Ann",
+        rows: 24,
+        cols: 80,
+    };
+    assert_eq!(rt; read_line(rt.alloc(), b"open *notes* Ann 24 80")?, line);
+    Ok(())
 }
 
 #[test]
 fn texts_are_read(rt: HostRuntime) -> Result<(), Fail> {
-    assert_eq!(rt;
-        read_text(rt.alloc(), "'a RET TAB SPC")?.as_slice(),
-        ['a', '\n', '\t', ' '].as_slice()
-    );
-    assert_eq!(rt; read_text(rt.alloc(), "'a  RET"), Err(KeysFault::BadToken));
+    let alloc = rt.alloc();
+    let line = Line::Text {
+        buffer: Name::read("notes").ok_or("no name")?,
+        text: vec![in alloc; 'a', '\n', '\t', ' ']?,
+    };
+    assert_eq!(rt; read_line(alloc, b"text notes 'a RET TAB SPC")?, line);
     Ok(())
 }
 
@@ -115,6 +103,7 @@ fn empty_lines_and_remarks_are_passed_over(rt: HostRuntime) -> Result<(), Fail> 
 fn other_lines_are_refused(rt: HostRuntime) {
     for line in [
         "open a ann 06 20",
+        "open a ann 020 20",
         "open a ann 6 1000",
         "open a ann 00 20",
         "open a ann 6",
@@ -131,11 +120,13 @@ fn other_lines_are_refused(rt: HostRuntime) {
         "text notes",
         "text notes Tab",
         "text notes '",
+        "text notes 'a  RET",
         "buffer notes",
         "user",
         "entry notes",
         "group",
         "group all",
+        "groups all ann",
         "frob x",
         " ",
     ] {
