@@ -1,5 +1,5 @@
 -- What the bytes of painted screens draw, for the sessions of a world.
-use Rattle.std.proofs.Common.{◌≡◌, ℕ, Bool, true, false, cond, List, [], ◌∷◌, ◌++◌, map, Option, Some, None, refl, sym, ap, subst, ◌∙◌, eq-eqb}
+use Rattle.std.proofs.Common.{◌≡◌, ℕ, ◌≤◌, Bool, true, false, cond, List, [], ◌∷◌, ◌++◌, length, map, Option, Some, None, refl, sym, ap, subst, ◌∙◌, eq-eqb}
 use Rattle.std.specs.Prelude.{find, nat_eq, All}
 use Rattle.std.specs.Option.{option_or, option_map}
 use Rattle.std.specs.Cmp.{unsigned_Decides}
@@ -11,7 +11,7 @@ use Rattle.mgs_model.specs.Picture.{Picture}
 use Rattle.mgs_model.specs.World.{World, Session, find_session}
 use Rattle.mgs_model.specs.Draw.{screen}
 use Rattle.mgs_term.specs.Drawing.{Draws, IsFaithful}
-use Rattle.mgs_paint.specs.Painting.{Paints, cells_of, shown}
+use Rattle.mgs_paint.specs.Painting.{Paints, bound_of, cells_of, shown}
 use Rattle.mgs_model.proofs.Firsts.{found_passes}
 use Rattle.mgs_world.specs.Worlds.{find_size, sizes, is_size_of, IsOther, IsUnique}
 use Rattle.mgs_world.specs.Worlds as core
@@ -19,7 +19,7 @@ use Rattle.mgs_engine.specs.declared.screen.Screen.{Screen}
 use Rattle.mgs_engine.specs.Queues.{bytes_of, is_queue_of}
 use Rattle.mgs_engine.specs.Screens.{queue_of, size_of, Drawn, drawn_of, screen_id, IsDrawn, IsRepaint, AreRepaints, IsFirst}
 use Rattle.mgs_engine.proofs.ScreenLemmas.{All-unmap}
-use Rattle.mgs_engine.proofs.Repaints.{found_sizes, some_of, some_same}
+use Rattle.mgs_engine.proofs.Repaints.{found_sizes, screen_cols, screen_rows, some_of, some_same}
 use Rattle.mgs_engine.specs.Serving.{pending_of}
 use Rattle.mgs_engine.specs.Painted.{PaintedBy, Painted}
 use Rattle.mgs_engine.specs.Served.{serving_of}
@@ -148,6 +148,11 @@ painted_pair w v olds news id x y s t od nd os nt r fx fy =
       draws =
           subst (λ (p : Picture). Draws (IsFaithful (cells_of p)) r.bytes (shown (screen w x)) (shown p)) after
           (subst (λ (p : Picture). Draws (IsFaithful (cells_of t.shown)) r.bytes (shown p) (shown t.shown)) before r.draws);
+      quiet = λ same. r.quiet (before ∙ same ∙ sym after);
+      bound =
+          subst (λ (n : ℕ). length r.bytes ≤ bound_of n y.cols) (screen_rows v y)
+          (subst (λ (n : ℕ). length r.bytes ≤ bound_of (screen v y).rows n) (screen_cols v y)
+          (subst (λ (p : Picture). length r.bytes ≤ bound_of p.rows p.cols) after r.bound));
     }
 
 -- each screen is drawn again

@@ -13,7 +13,7 @@ use Rattle.mgs_model.specs.World.{World, Session, has_id, find_session}
 use Rattle.mgs_model.specs.Draw.{screen, draw}
 use Rattle.mgs_term.specs.Screen as term
 use Rattle.mgs_term.specs.Drawing.{Draws, IsFaithful}
-use Rattle.mgs_paint.specs.Painting.{Paints, cell_of, row_cells, cells_of, shown}
+use Rattle.mgs_paint.specs.Painting.{Paints, bound_of, cell_of, row_cells, cells_of, shown}
 use Rattle.mgs_world.specs.declared.size.Size.{Size}
 use Rattle.mgs_world.specs.Worlds.{find_size, sizes, is_size_of, IsOfSize, IsUnique}
 use Rattle.mgs_world.specs.Worlds as core
@@ -66,11 +66,11 @@ session_known w x h = some_of core.size_of (find_session x.id w.sessions) (size_
 -- ONE SCREEN
 
 -- the size of what is drawn is the session's
-screen_rows : (w : World) (x : Session) → (screen w x).rows ≡ x.rows
+pub screen_rows : (w : World) (x : Session) → (screen w x).rows ≡ x.rows
 unfolding draw
 screen_rows w x = refl
 
-screen_cols : (w : World) (x : Session) → (screen w x).cols ≡ x.cols
+pub screen_cols : (w : World) (x : Session) → (screen w x).cols ≡ x.cols
 unfolding draw
 screen_cols w x = refl
 
@@ -87,14 +87,16 @@ ahead_screen w old new k h s =
     })
 
 -- a paint of what comes next draws it over what is shown
-pub paint_repaint : (old new : Screen) (bytes : List ℕ) → IsPicture old.shown → IsScreen old → new.id ≡ old.id → new.shown ≡ old.next → new.queue.items ≡ old.queue.items ++ bytes → Paints old.next bytes → IsRepaint old new
-paint_repaint old new bytes p s i e a h = record {
+pub paint_repaint : (old new : Screen) (bytes : List ℕ) → IsPicture old.shown → IsScreen old → new.id ≡ old.id → new.shown ≡ old.next → new.queue.items ≡ old.queue.items ++ bytes → Paints old.next bytes → (old.shown ≡ old.next → ⊥) → IsRepaint old new
+paint_repaint old new bytes p s i e a h other = record {
   id = i;
   bytes = bytes;
   appended = a;
   draws =
       subst (λ (z : Picture). Draws (IsFaithful (cells_of z)) bytes (shown old.shown) (shown z)) (sym e)
       (h.draws (shown old.shown) (shown_screen old.shown p) (sym s.rows) (sym s.cols));
+  quiet = λ same. absurd (other (same ∙ e));
+  bound = subst (λ (z : Picture). length bytes ≤ bound_of z.rows z.cols) (sym e) h.bounded;
 }
 
 pub paint_first : (old new : Screen) (bytes : List ℕ) → IsTaken (queue_of old) → new.shown ≡ old.next → new.queue.items ≡ old.queue.items ++ bytes → Paints old.next bytes → IsFirst new
@@ -102,27 +104,16 @@ paint_first old new bytes t e a h =
     let all : new.queue.items ≡ bytes = a ∙ ap (λ bs. bs ++ bytes) t in
     subst (Paints new.shown) (sym all) (subst (λ (z : Picture). Paints z bytes) (sym e) h)
 
--- nothing is painted where the picture is the same
-pub same_repaint : (w : World) (old new : Screen) → IsAhead w old new → new.shown ≡ new.next → IsRepaint old new
-same_repaint w old new h e =
-    let shows : new.shown ≡ old.shown = ap (λ (z : Screen). z.shown) h.same in
-    record {
-      id = ap (λ (z : Screen). z.id) h.same;
-      bytes = [];
-      appended = ap (λ (z : Screen). z.queue.items) h.same ∙ sym (append-nil old.queue.items);
-      draws = ([], refl, ap shown (sym shows));
-    }
-
-pub same_drawn : (w : World) (old new : Screen) → IsAhead w old new → new.shown ≡ new.next → IsDrawn w new
-same_drawn w old new h e = record {
-  session = h.session;
-  found = ap (λ (z : Screen). find_session z.id w.sessions) h.same ∙ h.found;
-  picture = e ∙ ap (λ (z : Screen). z.next) h.same;
-}
-
--- where nothing was drawn again, nothing is painted
+-- where a screen is as it was, nothing is painted
 pub no_repaint : (x : Screen) → IsRepaint x x
-no_repaint x = record { id = refl; bytes = []; appended = sym (append-nil x.queue.items); draws = ([], refl, refl) }
+no_repaint x = record {
+  id = refl;
+  bytes = [];
+  appended = sym (append-nil x.queue.items);
+  draws = ([], refl, refl);
+  quiet = λ same. refl;
+  bound = omega arith;
+}
 
 -- any screen may differ where anything was touched
 pub anywhere_drawn : (w : World) (id : ℕ) (xs : List Screen) → AreDrawnApart w Anywhere id xs
@@ -139,6 +130,8 @@ ahead_repaint w old mid new h r = record {
   bytes = r.bytes;
   appended = r.appended ∙ ap (λ (z : Screen). z.queue.items ++ r.bytes) h.same;
   draws = subst (λ (z : Picture). Draws (IsFaithful (cells_of new.shown)) r.bytes (shown z) (shown new.shown)) (ap (λ (z : Screen). z.shown) h.same) r.draws;
+  quiet = λ same. r.quiet (ap (λ (z : Screen). z.shown) h.same ∙ same);
+  bound = r.bound;
 }
 
 pub ahead_drawn : (w : World) (old mid new : Screen) → IsAhead w old mid → size_of new ≡ size_of mid → new.shown ≡ mid.next → IsDrawn w new

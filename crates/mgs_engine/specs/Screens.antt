@@ -1,5 +1,5 @@
 -- The screens of open sessions, and the worlds that they are drawn from.
-use Rattle.std.specs.Prelude.{◌≡◌, ℕ, ◌≤◌, Bool, false, nat_eq, slice_get, List, [], ◌∷◌, ◌++◌, Some, map, vec_capacity}
+use Rattle.std.specs.Prelude.{◌≡◌, ℕ, ◌≤◌, Bool, false, nat_eq, slice_get, List, [], ◌∷◌, ◌++◌, Some, map, length, vec_capacity}
 use Rattle.mgs_world.specs.declared.size.Size.{Size}
 use Rattle.mgs_world.specs.Worlds.{find_size}
 use Rattle.mgs_model.specs.declared.touched.Touched.{Touched}
@@ -8,7 +8,7 @@ use Rattle.mgs_model.specs.World.{World, Session, find_session}
 use Rattle.mgs_model.specs.Draw.{screen}
 use Rattle.mgs_model.specs.Picture.{Picture}
 use Rattle.mgs_model.specs.declared.limits.TheConstants.{QUEUE_LIMIT}
-use Rattle.mgs_paint.specs.Painting.{Paints, cells_of, shown}
+use Rattle.mgs_paint.specs.Painting.{Paints, bound_of, cells_of, shown}
 use Rattle.mgs_term.specs.Drawing.{Draws, IsFaithful}
 use Rattle.mgs_engine.specs.declared.screen.Screen.{Screen}
 use Rattle.mgs_engine.specs.Queues.{Queue}
@@ -60,12 +60,14 @@ pub record IsAhead (w : World) (old new : Screen) : Type 0 where
   pub found : find_session old.id w.sessions ≡ Some session
   pub same : new ≡ record old { next = screen w session }
 
--- what was appended to the bytes draws what is shown now over what was shown before
+-- what was appended to the bytes draws what is shown now over what was shown before; where that is the same nothing was
 pub record IsRepaint (old new : Screen) : Type 0 where
   pub id : new.id ≡ old.id
   pub bytes : List ℕ
   pub appended : new.queue.items ≡ old.queue.items ++ bytes
   pub draws : Draws (IsFaithful (cells_of new.shown)) bytes (shown old.shown) (shown new.shown)
+  pub quiet : old.shown ≡ new.shown → bytes ≡ []
+  pub bound : length bytes ≤ bound_of new.shown.rows new.shown.cols
 
 -- each of the screens
 abbrev pub AreRepaints : List Screen → List Screen → Type 0

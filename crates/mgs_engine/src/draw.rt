@@ -60,7 +60,7 @@ fn paint(screen: &mut Screen)
     ensures screen { IsScreen screen.new }
     ensures size { size_of screen.new ≡ size_of screen.old }
     ensures shown { screen.new.shown ≡ screen.old.next }
-    ensures repaint { IsRepaint screen.old screen.new }
+    ensures repaint { (screen.old.shown ≡ screen.old.next → ⊥) → IsRepaint screen.old screen.new }
     ensures first { IsFirst screen.new }
 {
     // Reads each grid once: its rows and columns are those of a picture.
@@ -68,6 +68,20 @@ fn paint(screen: &mut Screen)
     let _shown_rows = screen.shown.rows();
     first(&screen.next, &mut screen.queue);
     swap(&mut screen.shown, &mut screen.next);
+}
+
+// Paints what was drawn where it is not what the terminal shows.
+fn paint_changed(screen: &mut Screen)
+    requires screen { IsScreen screen.old }
+    requires taken { IsTaken (queue_of screen.old) }
+    ensures screen { IsScreen screen.new }
+    ensures size { size_of screen.new ≡ size_of screen.old }
+    ensures shown { screen.new.shown ≡ screen.old.next }
+    ensures repaint { IsRepaint screen.old screen.new }
+{
+    if !shows_same(&screen.shown, &screen.next) {
+        paint(screen);
+    }
 }
 
 /// Draws the screen of a session for the first time: the bytes that wait then paint the whole of it, whatever the
@@ -139,9 +153,7 @@ pub fn redraw<T: Marked + Drop>(core: &Core<T>, screen: &mut Screen)
     ensures repaint { IsRepaint screen.old screen.new }
 {
     draw_next(core, screen);
-    if !shows_same(&screen.shown, &screen.next) {
-        paint(screen);
-    }
+    paint_changed(screen);
 }
 
 // Draws a screen again where an event that touched this can have changed it, by its place.
