@@ -88,7 +88,7 @@ fn paint_changed(screen: &mut Screen)
 /// terminal showed. It takes no memory.
 ///
 /// The world knows the session in the size of the screen, and no bytes wait.
-pub fn draw_first<T: Marked + Drop>(core: &Core<T>, screen: &mut Screen)
+pub(crate) fn draw_first<T: Marked + Drop>(core: &Core<T>, screen: &mut Screen)
     requires known { IsKnown (sizes core.now) screen.old }
     requires screen { IsScreen screen.old }
     requires taken { IsTaken (queue_of screen.old) }
@@ -122,7 +122,10 @@ fn first_screen<T: Marked + Drop>(
 
 /// The screens of all open sessions, in the order in which they opened, drawn for the first time. `Short`: memory was
 /// refused.
-pub fn first_screens<T: Marked + Drop>(alloc: Global, core: &Core<T>) -> Result<Vec<Screen>, Short>
+pub(crate) fn first_screens<T: Marked + Drop>(
+    alloc: Global,
+    core: &Core<T>,
+) -> Result<Vec<Screen>, Short>
     ensures unique { IfOk result (λ xs. IsUnique (sizes core.now)) }
     ensures sizes { IfOk result (λ xs. map size_of xs.items ≡ sizes core.now) }
     ensures each { IfOk result (λ xs. All IsScreen xs.items) }
@@ -139,11 +142,8 @@ pub fn first_screens<T: Marked + Drop>(alloc: Global, core: &Core<T>) -> Result<
     Ok(screens)
 }
 
-/// Draws a screen again, and paints it where it is not what the terminal shows: the bytes that do so wait then. It
-/// takes no memory.
-///
-/// The world knows the session in the size of the screen, and no bytes wait.
-pub fn redraw<T: Marked + Drop>(core: &Core<T>, screen: &mut Screen)
+// Draws a screen again, and paints it where it is not what the terminal shows: the bytes that do so wait then.
+fn redraw<T: Marked + Drop>(core: &Core<T>, screen: &mut Screen)
     requires known { IsKnown (sizes core.now) screen.old }
     requires screen { IsScreen screen.old }
     requires taken { IsTaken (queue_of screen.old) }
@@ -203,7 +203,7 @@ fn redraw_each<T: Marked + Drop>(
 ///
 /// The screens are those of the open sessions, in their order, each in the size that the world knows, and no bytes wait.
 /// Those that the event cannot have changed are what the world has for their sessions.
-pub fn redraw_apart<T: Marked + Drop>(
+pub(crate) fn redraw_apart<T: Marked + Drop>(
     core: &Core<T>,
     screens: &mut Vec<Screen>,
     id: SessionId,
@@ -226,7 +226,7 @@ pub fn redraw_apart<T: Marked + Drop>(
 /// Draws every screen again, and paints each that is not what its terminal shows. It takes no memory.
 ///
 /// The world knows the session of each in the size of the screen, and no bytes wait.
-pub fn redraw_all<T: Marked + Drop>(core: &Core<T>, screens: &mut Vec<Screen>)
+pub(crate) fn redraw_all<T: Marked + Drop>(core: &Core<T>, screens: &mut Vec<Screen>)
     requires known { All (IsKnown (sizes core.now)) screens.old.items }
     requires each { All IsScreen screens.old.items }
     requires taken { All IsTaken (queues_of screens.old.items) }

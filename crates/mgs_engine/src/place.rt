@@ -8,7 +8,7 @@ use crate::screen::Screen;
 use mgs_model::SessionId;
 
 /// The place of the first screen of an id, or how many there are where none has it.
-pub fn place_of(screens: &[Screen], id: SessionId) -> usize
+pub(crate) fn place_of(screens: &[Screen], id: SessionId) -> usize
     ensures value { result ≡ position_or_len (screen_id id) screens.now }
     ensures within { result ≤ length screens.now }
 {
@@ -24,7 +24,7 @@ pub fn place_of(screens: &[Screen], id: SessionId) -> usize
 
 /// Takes away the first screen of an id, and the bytes that wait with it. Where none has the id, all stay. It takes no
 /// memory.
-pub fn remove_screen(screens: &mut Vec<Screen>, id: SessionId)
+pub(crate) fn remove_screen(screens: &mut Vec<Screen>, id: SessionId)
     ensures { screens.new.items ≡ remove_first (screen_id id) screens.old.items }
 {
     let at = place_of(screens, id);

@@ -8,15 +8,15 @@ use std::alloc::Global;
 
 /// What a session's terminal shows, a grid to draw into, and the bytes that wait for the terminal.
 #[derive(Drop)]
-pub struct Screen {
+pub(crate) struct Screen {
     /// The session.
-    pub id: SessionId,
+    pub(crate) id: SessionId,
     /// What the terminal shows once the bytes that wait were written to it.
-    pub shown: Grid,
+    pub(crate) shown: Grid,
     /// What is drawn next, in the same size.
-    pub next: Grid,
+    pub(crate) next: Grid,
     /// The bytes that wait, with room for `QUEUE_LIMIT`.
-    pub queue: Vec<u8>,
+    pub(crate) queue: Vec<u8>,
 }
 
 impl Screen {
@@ -24,7 +24,7 @@ impl Screen {
 
     /// A blank screen of so many rows (6 to 64) and columns (20 to 160), which no session has yet: no bytes wait, and the
     /// id is to be set. `Short`: memory was refused.
-    pub fn blank(alloc: Global, rows: usize, cols: usize) -> Result<Screen, Short>
+    pub(crate) fn blank(alloc: Global, rows: usize, cols: usize) -> Result<Screen, Short>
         requires { IsSize rows cols }
         ensures screen { IfOk result IsScreen }
         ensures rows { IfOk result (λ x. x.shown.rows ≡ rows) }

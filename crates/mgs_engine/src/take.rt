@@ -35,7 +35,7 @@ fn take_front(screen: &mut Screen, n: usize)
 
 /// Takes `n` bytes from the front of the queue of the first screen of an id, of the bytes that wait there. Where none
 /// has the id, nothing waits and nothing is taken. What terminals show stays, and it takes no memory.
-pub fn take_from(screens: &mut Vec<Screen>, id: SessionId, n: usize)
+pub(crate) fn take_from(screens: &mut Vec<Screen>, id: SessionId, n: usize)
     requires each { All IsScreen screens.old.items }
     requires within { n ≤ length (bytes_of (find_queue id (queues_of screens.old.items))) }
     ensures each { All IsScreen screens.new.items }
@@ -73,7 +73,7 @@ fn hand_each<K: Taker>(screens: &mut [Screen], taker: &mut K)
 
 /// Hands each queue to a taker, in the order of the screens, and empties it. What terminals show stays, and it takes no
 /// memory of its own.
-pub fn hand_all<K: Taker>(screens: &mut Vec<Screen>, taker: &mut K)
+pub(crate) fn hand_all<K: Taker>(screens: &mut Vec<Screen>, taker: &mut K)
     requires { All IsScreen screens.old.items }
     ensures each { All IsScreen screens.new.items }
     ensures drawn { map drawn_of screens.new.items ≡ map drawn_of screens.old.items }
