@@ -19,27 +19,13 @@ use Rattle.mgs_engine.specs.declared.screen.Screen.{Screen}
 use Rattle.mgs_engine.specs.Queues.{bytes_of, is_queue_of}
 use Rattle.mgs_engine.specs.Screens.{queue_of, size_of, Drawn, drawn_of, screen_id, IsDrawn, IsRepaint, AreRepaints, IsFirst}
 use Rattle.mgs_engine.proofs.ScreenLemmas.{All-unmap}
-use Rattle.mgs_engine.proofs.Repaints.{found_sizes, screen_cols, screen_rows, some_of, some_same}
+use Rattle.mgs_engine.proofs.Ids.{All-found, none_of, same_some, some_of}
+use Rattle.mgs_engine.proofs.Repaints.{found_sizes, screen_cols, screen_rows}
 use Rattle.mgs_engine.specs.Serving.{pending_of}
 use Rattle.mgs_engine.specs.Painted.{PaintedBy, Painted}
 use Rattle.mgs_engine.specs.Served.{serving_of}
 
 -- WHAT IS FOUND
-
-none_of : {A B : Type 0} (f : A → B) (o : Option A) → option_map f o ≡ None → o ≡ None
-none_of f None e = refl
-none_of f (Some a) e = cc
-
--- what holds of each holds of the one that is found
-All-found : {A : Type 0} (P : A → Type 0) (p : A → Bool) (xs : List A) (x : A) → All P xs → find p xs ≡ Some x → P x
-All-found P p [] x h e = cc
-All-found P p (y ∷ ys) x h e =
-    let go : (b : Bool) → cond b (Some y) (find p ys) ≡ Some x → P x =
-    λ b. elim b as (λ b. cond b (Some y) (find p ys) ≡ Some x → P x) [
-      | true ↦ λ f. let is : y ≡ x = cc in subst P is (All-head P y ys h)
-      | false ↦ λ f. All-found P p ys x (All-tail P y ys h) f
-    ]
-    in go (p y) e
 
 found_id : (id : ℕ) (xs : List Screen) (x : Screen) → find (screen_id id) xs ≡ Some x → x.id ≡ id
 found_id id xs x e = (unsigned_Decides x.id id).0 (found_passes (screen_id id) xs x e)
@@ -134,7 +120,7 @@ shows_session : (w : World) (xs : List Screen) (id : ℕ) (x : Session) (s : Scr
 shows_session w xs id x s h e f =
     let d : IsDrawn w s = All-found (IsDrawn w) (screen_id id) xs s h e in
     let g : find_session id w.sessions ≡ Some d.session = ap (λ n. find_session n w.sessions) (sym (found_id id xs s e)) ∙ d.found in
-    d.picture ∙ ap (screen w) (some_same (find_session id w.sessions) d.session x g f)
+    d.picture ∙ ap (screen w) (same_some d.session x (sym g ∙ f))
 
 painted_pair : (w v : World) (olds news : List Screen) (id : ℕ) (x y : Session) (s t : Screen)
     → All (IsDrawn w) olds → All (IsDrawn v) news → find (screen_id id) olds ≡ Some s → find (screen_id id) news ≡ Some t → IsRepaint s t

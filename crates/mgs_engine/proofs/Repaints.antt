@@ -22,7 +22,8 @@ use Rattle.mgs_engine.specs.Queues.{IsTaken}
 use Rattle.mgs_engine.specs.Screens.{queue_of, size_of, IsScreen, IsKnown, IsDrawn, IsAhead, IsRepaint, AreRepaints, AreDrawnApart, IsFirst}
 use Rattle.mgs_core.specs.Steps.{found_differs}
 use Rattle.mgs_model.specs.declared.touched.Touched.TheVariants.{Anywhere}
-use Rattle.mgs_engine.proofs.ScreenLemmas.{found_each, rest_at}
+use Rattle.mgs_engine.proofs.Ids.{known_at, same_some, some_of}
+use Rattle.mgs_engine.proofs.ScreenLemmas.{rest_at}
 
 -- A PICTURE AS A SCREEN
 
@@ -49,13 +50,6 @@ same_size id rows cols r c e d =
 
 -- WHAT IS FOUND
 
-pub some_of : {A B : Type 0} (f : A → B) (o : Option A) (b : B) → option_map f o ≡ Some b → (a : A) × (o ≡ Some a) × (f a ≡ b)
-some_of f None b e = cc
-some_of f (Some a) b e = (a, refl, cc)
-
-pub some_same : {A : Type 0} (o : Option A) (a b : A) → o ≡ Some a → o ≡ Some b → a ≡ b
-some_same o a b e f = cc
-
 pub found_sizes : (id : ℕ) (w : World) → find_size id (sizes w) ≡ option_map core.size_of (find_session id w.sessions)
 found_sizes id w = find-map core.size_of (has_id id) (is_size_of id) (λ x. refl) w.sessions
 
@@ -77,7 +71,7 @@ screen_cols w x = refl
 pub ahead_screen : (w : World) (old new : Screen) → IsKnown (sizes w) old → IsAhead w old new → IsScreen old → IsScreen new
 ahead_screen w old new k h s =
     let known = session_known w old k in
-    let same : known.0 ≡ h.session = some_same (find_session old.id w.sessions) known.0 h.session known.1 h.found in
+    let same : known.0 ≡ h.session = same_some known.0 h.session (sym known.1 ∙ h.found) in
     let size : core.size_of h.session ≡ size_of old = ap core.size_of (sym same) ∙ known.2 in
     subst IsScreen (sym h.same)
     (record {
@@ -171,9 +165,7 @@ drawn_all w xs i l h = subst (All (IsDrawn w)) (take_all i xs l) h
 
 -- what the world tells at a place it knows by its id
 pub told_known : (ss : List Size) (i : ℕ) (z : Size) → IsUnique ss → slice_get ss i ≡ Some z → find_size z.id ss ≡ Some z
-told_known ss i z u e =
-    let at : get_or ss i z ≡ z = get_or_from_slice_get ss i z z e in
-    subst (λ (y : Size). find_size y.id ss ≡ Some y) at (found_each ss u i z (slice_get_within ss i z e))
+told_known ss i z u e = known_at ss i z u e
 
 -- and it has a size
 pub told_size : (ss : List Size) (i : ℕ) (z : Size) → All IsOfSize ss → slice_get ss i ≡ Some z → IsOfSize z

@@ -9,6 +9,7 @@ use Rattle.std.proofs.Math.Nat.{mul-le-mul_left}
 use Rattle.mgs_model.proofs.Firsts.{find-map, find_at_place}
 use Rattle.mgs_model.specs.Apply.{change_first, remove_first}
 use Rattle.mgs_model.specs.Picture.{IsSize, IsPicture}
+use Rattle.mgs_model.specs.declared.limits.TheConstants.{QUEUE_LIMIT}
 use Rattle.mgs_paint.specs.Painting.{bound_of}
 use Rattle.mgs_world.specs.declared.size.Size.{Size}
 use Rattle.mgs_world.specs.Worlds.{find_size, IsOther, IsUnique}
@@ -20,62 +21,13 @@ use Rattle.mgs_engine.specs.Screens.{queue_of, queues_of, screen_id, IsScreen}
 mul_most : (a b c d : ℕ) → a ≤ c → b ≤ d → a * b ≤ c * d
 mul_most a b c d h k = grind (arith, mul-le-mul_left a k, mul-le-mul_left d h)
 
-pub paint_fits : (rows cols : ℕ) → IsSize rows cols → bound_of rows cols ≤ 262144
+pub paint_fits : (rows cols : ℕ) → IsSize rows cols → bound_of rows cols ≤ QUEUE_LIMIT
 paint_fits rows cols h = let p : rows * (16 + 4 * cols) ≤ 64 * 656 = mul_most rows (16 + 4 * cols) 64 656 h.few_rows (omega (arith, h.few_cols)) in omega (arith, p)
 
 pub paint_room : (x : Screen) → IsPicture x.next → IsScreen x → IsTaken (queue_of x) → vec_len x.queue + bound_of x.next.rows x.next.cols ≤ vec_capacity x.queue
 paint_room x p s e =
     let l : length x.queue.items ≡ 0 = ap length e in
     omega (arith, l, x.queue.ok.0, paint_fits x.next.rows x.next.cols p.size, s.room)
-
--- THE FIRST OF AN ID
-
-pub remove_at_first : {A : Type 0} (p : A → Bool) (xs : List A) → position_or_len p xs < length xs → remove xs (position_or_len p xs) ≡ remove_first p xs
-remove_at_first p [] h = absurd (omega arith)
-remove_at_first {A = A} p (x ∷ xs) h =
-    let goal : Bool → Type 0 = λ b. cond (not b) (1 + position_or_len p xs) 0 < length (x ∷ xs) → remove (x ∷ xs) (cond (not b) (1 + position_or_len p xs) 0) ≡ cond b xs (x ∷ remove_first p xs) in
-    let go : (b : Bool) → goal b =
-    λ b. elim b as goal [
-      | true ↦ λ l. refl
-      | false ↦ λ l. rw one-add (ap (λ ys. x ∷ ys) (remove_at_first p xs (omega arith)))
-    ]
-    in go (p x) h
-
-pub remove_none : {A : Type 0} (p : A → Bool) (xs : List A) → position_or_len p xs ≡ length xs → remove_first p xs ≡ xs
-remove_none p [] h = refl
-remove_none {A = A} p (x ∷ xs) h =
-    let goal : Bool → Type 0 = λ b. cond (not b) (1 + position_or_len p xs) 0 ≡ length (x ∷ xs) → cond b xs (x ∷ remove_first p xs) ≡ x ∷ xs in
-    let go : (b : Bool) → goal b =
-    λ b. elim b as goal [ true ↦ λ e. absurd (omega arith) | false ↦ λ e. ap (λ ys. x ∷ ys) (remove_none p xs (omega arith)) ]
-    in go (p x) h
-
-pub change_none : {A : Type 0} (p : A → Bool) (f : A → A) (xs : List A) → position_or_len p xs ≡ length xs → change_first p f xs ≡ xs
-change_none p f [] h = refl
-change_none {A = A} p f (x ∷ xs) h =
-    let goal : Bool → Type 0 = λ b. cond (not b) (1 + position_or_len p xs) 0 ≡ length (x ∷ xs) → cond b (f x ∷ xs) (x ∷ change_first p f xs) ≡ x ∷ xs in
-    let go : (b : Bool) → goal b =
-    λ b. elim b as goal [ true ↦ λ e. absurd (omega arith) | false ↦ λ e. ap (λ ys. x ∷ ys) (change_none p f xs (omega arith)) ]
-    in go (p x) h
-
--- EACH SIZE IS FOUND BY ITS ID
-
-abbrev pub IsFound : List Size → Size → Type 0
-IsFound ss x = find_size x.id ss ≡ Some x
-
-found_past : (x : Size) (ss xs : List Size) → All (IsOther x) xs → All (IsFound ss) xs → All (IsFound (x ∷ ss)) xs
-found_past x ss [] o f = All-nil (IsFound (x ∷ ss))
-found_past x ss (y ∷ ys) o f =
-    let e : nat_eq x.id y.id ≡ false = All-head (IsOther x) y ys o in
-    All-cons (IsFound (x ∷ ss)) y ys
-    (ap (λ b. cond b (Some x) (find_size y.id ss)) e ∙ All-head (IsFound ss) y ys f)
-    (found_past x ss ys (All-tail (IsOther x) y ys o) (All-tail (IsFound ss) y ys f))
-
-pub found_each : (ss : List Size) → IsUnique ss → All (IsFound ss) ss
-found_each [] u = All-nil (IsFound [])
-found_each (x ∷ xs) u =
-    All-cons (IsFound (x ∷ xs)) x xs
-    (ap (λ b. cond b (Some x) (find_size x.id xs)) (eq-eqb x.id x.id refl))
-    (found_past x xs xs u.0 (found_each xs u.1))
 
 pub All-unmap : {A B : Type 0} (P : B → Type 0) (f : A → B) (xs : List A) → All P (map f xs) → All (λ x. P (f x)) xs
 All-unmap P f [] h = All-nil (λ x. P (f x))

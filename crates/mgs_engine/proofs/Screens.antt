@@ -1,6 +1,6 @@
 -- Screens beside the sizes of a world, as sessions open and close.
-use Rattle.std.proofs.Common.{◌≡◌, ℕ, ◌+◌, ◌<◌, ◌≤◌, not, Bool, true, false, cond, List, [], ◌∷◌, ◌++◌, length, map, Option, Some, None, refl, sym, ap, ◌∙◌, eq-eqb, arith}
-use Rattle.std.specs.Prelude.{find, nat_eq, All, IsSome}
+use Rattle.std.proofs.Common.{◌≡◌, ℕ, ◌+◌, ◌<◌, ◌≤◌, not, Bool, true, false, cond, List, [], ◌∷◌, ◌++◌, length, get_or, map, Option, Some, None, refl, sym, ap, ◌∙◌, eq-eqb, arith}
+use Rattle.std.specs.Prelude.{find, nat_eq, slice_get, All, IsSome}
 use Rattle.std.specs.List.{position_or_len}
 use Rattle.std.proofs.lemmas.List.{map-append}
 use Rattle.std.proofs.lemmas.List.Elements.{All-cons, All-nil, All-append, All-weaker}
@@ -14,50 +14,20 @@ use Rattle.mgs_world.specs.Worlds.{find_size, is_size_of, IsOther, IsUnique}
 use Rattle.mgs_engine.specs.declared.screen.Screen.{Screen}
 use Rattle.mgs_engine.specs.Queues.{Queue, queue_id, IsTaken, emptied, bytes_of, find_queue, is_queue_of}
 use Rattle.mgs_engine.specs.Screens.{queue_of, queues_of, size_of, screen_id, IsKnown}
-use Rattle.mgs_engine.proofs.ScreenLemmas.{All-unmap, IsFound, found_each}
+use Rattle.mgs_engine.proofs.Ids.{known_at, mapped_got, map-remove_first}
+use Rattle.std.proofs.lemmas.Option.{slice_get-get_or}
 
--- THE FIRST OF AN ID
-
-pub map-remove_first : {A B : Type 0} (h : A → B) (p : A → Bool) (q : B → Bool) → ((x : A) → q (h x) ≡ p x) → (xs : List A) → map h (remove_first p xs) ≡ remove_first q (map h xs)
-map-remove_first h p q same [] = refl
-map-remove_first h p q same (x ∷ xs) =
-    let go : (b : Bool) → map h (cond b xs (x ∷ remove_first p xs)) ≡ cond b (map h xs) (h x ∷ remove_first q (map h xs)) =
-    λ b. elim b as (λ b. map h (cond b xs (x ∷ remove_first p xs)) ≡ cond b (map h xs) (h x ∷ remove_first q (map h xs))) [
-      | true ↦ refl
-      | false ↦ ap (λ ys. h x ∷ ys) (map-remove_first h p q same xs)
-    ]
-    in go (p x) ∙ ap (λ b. cond b (map h xs) (h x ∷ remove_first q (map h xs))) (sym (same x))
-
--- UNIQUE IDS
-
-pub unique_opened : (y : Size) (xs : List Size) → find_size y.id xs ≡ None → IsUnique xs → IsUnique (xs ++ y ∷ [])
-unique_opened y [] h u = (All-nil (IsOther y), tt)
-unique_opened y (x ∷ xs) h u =
-    let goal : Bool → Type 0 = λ b. nat_eq x.id y.id ≡ b → cond b (Some x) (find_size y.id xs) ≡ None → IsUnique ((x ∷ xs) ++ y ∷ []) in
-    let go : (b : Bool) → goal b =
-    λ b. elim b as goal [
-      | true ↦ λ e n. cc
-      | false ↦ λ e n. (All-append (IsOther x) xs (y ∷ []) u.0 (All-cons (IsOther x) y [] e (All-nil (IsOther x))), unique_opened y xs n u.1)
-    ]
-    in go (nat_eq x.id y.id) refl h
-
--- EACH SIZE IS FOUND BY ITS ID
+-- EACH SCREEN IS KNOWN BY ITS ID
 
 pub known_each : (ss : List Size) (xs : List Screen) → map size_of xs ≡ ss → IsUnique ss → All (IsKnown ss) xs
-known_each ss xs e u =
-    let h : All (IsFound ss) (map size_of xs) = rw e (found_each ss u) in
-    All-unmap (IsFound ss) size_of xs h
+known_each ss xs e u = λ i d l.
+    let x = get_or xs i d in
+    known_at ss i (size_of x) u (ap (λ (zs : List Size). slice_get zs i) (sym e) ∙ mapped_got size_of xs i x (slice_get-get_or xs i d l))
 
 pub known_more : (ss more : List Size) (xs : List Screen) → All (IsKnown ss) xs → All (IsKnown (ss ++ more)) xs
 known_more ss more xs h =
     All-weaker (IsKnown ss) (IsKnown (ss ++ more))
     (λ x k. find-append (is_size_of x.id) ss more ∙ ap (λ o. option_or o (find_size x.id more)) k) xs h
-
-pub known_last : (ss : List Size) (y : Size) → find_size y.id ss ≡ None → find_size y.id (ss ++ y ∷ []) ≡ Some y
-known_last ss y h =
-    find-append (is_size_of y.id) ss (y ∷ [])
-    ∙ ap (λ o. option_or o (find_size y.id (y ∷ []))) h
-    ∙ ap (λ b. cond b (Some y) None) (eq-eqb y.id y.id refl)
 
 -- QUEUES
 

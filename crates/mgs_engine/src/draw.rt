@@ -85,7 +85,7 @@ fn paint_changed(screen: &mut Screen)
 }
 
 /// Draws the screen of a session for the first time: the bytes that wait then paint the whole of it, whatever the
-/// terminal showed. It takes no memory.
+/// terminal showed.
 ///
 /// The world knows the session in the size of the screen, and no bytes wait.
 pub(crate) fn draw_first<T: Marked + Drop>(core: &Core<T>, screen: &mut Screen)
@@ -199,7 +199,7 @@ fn redraw_each<T: Marked + Drop>(
 }
 
 /// Draws the screens again that an event of the session `id` can have changed, by what it touched, and paints each that
-/// is not what its terminal shows. It takes no memory.
+/// is not what its terminal shows.
 ///
 /// The screens are those of the open sessions, in their order, each in the size that the world knows, and no bytes wait.
 /// Those that the event cannot have changed are what the world has for their sessions.
@@ -223,7 +223,7 @@ pub(crate) fn redraw_apart<T: Marked + Drop>(
     redraw_each(core, screens, id, touched);
 }
 
-/// Draws every screen again, and paints each that is not what its terminal shows. It takes no memory.
+/// Draws every screen again, and paints each that is not what its terminal shows.
 ///
 /// The world knows the session of each in the size of the screen, and no bytes wait.
 pub(crate) fn redraw_all<T: Marked + Drop>(core: &Core<T>, screens: &mut Vec<Screen>)

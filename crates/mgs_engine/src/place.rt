@@ -22,8 +22,7 @@ pub(crate) fn place_of(screens: &[Screen], id: SessionId) -> usize
     at
 }
 
-/// Takes away the first screen of an id, and the bytes that wait with it. Where none has the id, all stay. It takes no
-/// memory.
+/// Takes away the first screen of an id, and the bytes that wait with it. Where none has the id, all stay.
 pub(crate) fn remove_screen(screens: &mut Vec<Screen>, id: SessionId)
     ensures { screens.new.items ≡ remove_first (screen_id id) screens.old.items }
 {

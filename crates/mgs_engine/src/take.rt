@@ -34,7 +34,7 @@ fn take_front(screen: &mut Screen, n: usize)
 }
 
 /// Takes `n` bytes from the front of the queue of the first screen of an id, of the bytes that wait there. Where none
-/// has the id, nothing waits and nothing is taken. What terminals show stays, and it takes no memory.
+/// has the id, nothing waits and nothing is taken. What terminals show stays.
 pub(crate) fn take_from(screens: &mut Vec<Screen>, id: SessionId, n: usize)
     requires each { All IsScreen screens.old.items }
     requires within { n ≤ length (bytes_of (find_queue id (queues_of screens.old.items))) }
@@ -71,8 +71,7 @@ fn hand_each<K: Taker>(screens: &mut [Screen], taker: &mut K)
     }
 }
 
-/// Hands each queue to a taker, in the order of the screens, and empties it. What terminals show stays, and it takes no
-/// memory of its own.
+/// Hands each queue to a taker, in the order of the screens, and empties it. What terminals show stays.
 pub(crate) fn hand_all<K: Taker>(screens: &mut Vec<Screen>, taker: &mut K)
     requires { All IsScreen screens.old.items }
     ensures each { All IsScreen screens.new.items }

@@ -1,7 +1,7 @@
 use Rattle.std.proofs.Common.{◌≡◌, sym, ap, ◌∙◌, arith}
 use Rattle.std.specs.List.{position_or_len, remove}
 use Rattle.mgs_engine.specs.Screens.{screen_id}
-use Rattle.mgs_engine.proofs.ScreenLemmas.{remove_at_first, remove_none}
+use Rattle.mgs_engine.proofs.Ids.{remove_at_first, remove_none}
 use Rattle.mgs_engine.proofs.place.remove_screen.Goals as goal
 
 pub returns-then-at-len : goal.returns-then-at-len

@@ -4,7 +4,8 @@ use Rattle.std.specs.List.{position_or_len}
 use Rattle.mgs_model.proofs.Firsts.{position_or_len-map, written_first}
 use Rattle.mgs_engine.specs.Queues.{after_taking, is_queue_of}
 use Rattle.mgs_engine.specs.Screens.{queue_of, queues_of, screen_id, drawn_of}
-use Rattle.mgs_engine.proofs.ScreenLemmas.{change_none, queue_at, same_set}
+use Rattle.mgs_engine.proofs.Ids.{change_none}
+use Rattle.mgs_engine.proofs.ScreenLemmas.{queue_at, same_set}
 use Rattle.mgs_engine.proofs.take.take_from.Goals as goal
 
 pub take_front-requires-clause-within : goal.take_front-requires-clause-within

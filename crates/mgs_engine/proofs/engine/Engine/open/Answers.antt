@@ -13,7 +13,8 @@ use Rattle.mgs_engine.specs.Screens.{AreRepaints, IsDrawn, IsScreen, queues_of, 
 use Rattle.mgs_engine.proofs.Repaints.{same_size}
 use Rattle.mgs_engine.specs.Painted.{Painted}
 use Rattle.mgs_engine.specs.Served.{serving_of}
-use Rattle.mgs_engine.proofs.Screens.{known_each, known_more, known_last, ids_opened, sizes_opened, unique_opened}
+use Rattle.mgs_engine.proofs.Ids.{known_last, unique_opened}
+use Rattle.mgs_engine.proofs.Screens.{known_each, known_more, ids_opened, sizes_opened}
 use Rattle.mgs_engine.proofs.Painted.{painted_opened, first_opened}
 use Rattle.mgs_engine.proofs.engine.Engine.open.Goals as goal
 
