@@ -1,5 +1,5 @@
 -- What the bytes of painted screens draw, for the sessions of a world.
-use Rattle.std.proofs.Common.{◌≡◌, ℕ, ◌≤◌, Bool, true, false, cond, List, [], ◌∷◌, ◌++◌, length, map, Option, Some, None, refl, sym, ap, subst, ◌∙◌, eq-eqb}
+use Rattle.std.proofs.Common.{◌≡◌, ℕ, ◌≤◌, Bool, true, false, cond, List, [], ◌∷◌, ◌++◌, length, map, Some, None, refl, sym, ap, subst, ◌∙◌, eq-eqb}
 use Rattle.std.specs.Prelude.{find, nat_eq, All}
 use Rattle.std.specs.Option.{option_or, option_map}
 use Rattle.std.specs.Cmp.{unsigned_Decides}

@@ -1,18 +1,15 @@
 -- Screens and their queues, as they are drawn, closed, and handed over.
-use Rattle.std.proofs.Common.{◌≡◌, ℕ, zero, suc, ◌+◌, ◌*◌, ◌<◌, ◌≤◌, not, Bool, true, false, cond, List, [], ◌∷◌, ◌++◌, length, get_or, set, take, drop, map, Some, refl, sym, ap, subst, ◌∙◌, eq-eqb, one-add, add-zero, arith}
-use Rattle.std.specs.Prelude.{nat_eq, All, vec_capacity, vec_len}
-use Rattle.std.specs.List.{position_or_len, remove}
+use Rattle.std.proofs.Common.{◌≡◌, ℕ, zero, suc, ◌+◌, ◌*◌, ◌<◌, ◌≤◌, List, [], ◌∷◌, ◌++◌, length, get_or, set, take, drop, map, refl, sym, ap, subst, ◌∙◌, add-zero, arith}
+use Rattle.std.specs.Prelude.{All, vec_capacity, vec_len}
+use Rattle.std.specs.List.{position_or_len}
 use Rattle.std.proofs.lemmas.List.{map-append, get_or-drop, drop-set-lt, drop-drop, take_more, take_more_set, take_all}
 use Rattle.std.proofs.lemmas.List.Elements.{All-head, All-tail, All-cons, All-nil}
 use Rattle.std.specs.Option.{option_map}
 use Rattle.std.proofs.Math.Nat.{mul-le-mul_left}
 use Rattle.mgs_model.proofs.Firsts.{find-map, find_at_place}
-use Rattle.mgs_model.specs.Apply.{change_first, remove_first}
 use Rattle.mgs_model.specs.Picture.{IsSize, IsPicture}
 use Rattle.mgs_model.specs.declared.limits.TheConstants.{QUEUE_LIMIT}
 use Rattle.mgs_paint.specs.Painting.{bound_of}
-use Rattle.mgs_world.specs.declared.size.Size.{Size}
-use Rattle.mgs_world.specs.Worlds.{find_size, IsOther, IsUnique}
 use Rattle.mgs_engine.specs.declared.screen.Screen.{Screen}
 use Rattle.mgs_engine.specs.Queues.{Handed, Queue, IsTaken, emptied, bytes_of, find_queue, is_queue_of}
 use Rattle.mgs_engine.specs.Screens.{queue_of, queues_of, screen_id, IsScreen}

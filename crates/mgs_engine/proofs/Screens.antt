@@ -1,16 +1,16 @@
 -- Screens beside the sizes of a world, as sessions open and close.
-use Rattle.std.proofs.Common.{◌≡◌, ℕ, ◌+◌, ◌<◌, ◌≤◌, not, Bool, true, false, cond, List, [], ◌∷◌, ◌++◌, length, get_or, map, Option, Some, None, refl, sym, ap, ◌∙◌, eq-eqb, arith}
+use Rattle.std.proofs.Common.{◌≡◌, ℕ, ◌+◌, ◌<◌, ◌≤◌, not, Bool, true, false, cond, List, [], ◌∷◌, ◌++◌, length, get_or, map, Option, Some, None, refl, sym, ap, ◌∙◌, arith}
 use Rattle.std.specs.Prelude.{find, nat_eq, slice_get, All, IsSome}
 use Rattle.std.specs.List.{position_or_len}
 use Rattle.std.proofs.lemmas.List.{map-append}
-use Rattle.std.proofs.lemmas.List.Elements.{All-cons, All-nil, All-append, All-weaker}
+use Rattle.std.proofs.lemmas.List.Elements.{All-cons, All-nil, All-weaker}
 use Rattle.std.proofs.lemmas.List.Folds.{find-append}
 use Rattle.std.specs.Option.{option_or, option_map}
 use Rattle.mgs_model.proofs.Firsts.{find-map, find_none, place_found}
 use Rattle.mgs_model.specs.Apply.{remove_first}
 use Rattle.mgs_core.proofs.Sizes.{all_removed}
 use Rattle.mgs_world.specs.declared.size.Size.{Size}
-use Rattle.mgs_world.specs.Worlds.{find_size, is_size_of, IsOther, IsUnique}
+use Rattle.mgs_world.specs.Worlds.{find_size, is_size_of, IsUnique}
 use Rattle.mgs_engine.specs.declared.screen.Screen.{Screen}
 use Rattle.mgs_engine.specs.Queues.{Queue, queue_id, IsTaken, emptied, bytes_of, find_queue, is_queue_of}
 use Rattle.mgs_engine.specs.Screens.{queue_of, queues_of, size_of, screen_id, IsKnown}
