@@ -1,3 +1,4 @@
 pub mod MarkedLemmas
 pub mod Limits
 pub mod Changes
+pub mod Unmarked

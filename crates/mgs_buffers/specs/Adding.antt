@@ -28,6 +28,6 @@ Answers (Ok done) due = due ≡ None
 Answers (Err fault) due = IsDue fault due
 
 -- what is answered where a buffer is checked and not yet added: its name and its owner's
-abbrev pub Judged : Result (List ℕ × List ℕ) AddFault → List ℕ → List ℕ → Option AddFault → Type 0
-Judged (Ok names) name owner due = (names ≡ (name, owner)) × (due ≡ None)
-Judged (Err fault) name owner due = IsDue fault due
+abbrev pub NamesToAdd : Result (List ℕ × List ℕ) AddFault → List ℕ → List ℕ → Option AddFault → Type 0
+NamesToAdd (Ok names) name owner due = (names ≡ (name, owner)) × (due ≡ None)
+NamesToAdd (Err fault) name owner due = IsDue fault due

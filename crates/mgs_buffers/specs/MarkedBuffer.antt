@@ -40,6 +40,10 @@ HasBuffer name ks = IsSome (find (marked_named name) ks)
 abbrev pub IsMark : List ℕ → ℕ → List MarkedBuffer → Type 0
 IsMark name id ks = IsSome (mark_in (marked_at name ks).marks id)
 
+-- no buffer has a mark in use
+pub record AreUnmarked (ks : List MarkedBuffer) : Type 0 where
+  pub none : (name : List ℕ) (id : ℕ) → mark_in (marked_at name ks).marks id ≡ None
+
 -- the position of a mark of a buffer
 abbrev pub mark_at : List ℕ → List MarkedBuffer → ℕ → ℕ
 mark_at name ks id = position_in (marked_at name ks).marks id

@@ -7,9 +7,9 @@ ghost use Rattle.std.specs.List.{position_or_len};
 ghost use Rattle.mgs_model.specs.Access.{decider, decision_by};
 ghost use Rattle.mgs_model.specs.Apply.{change_first};
 ghost use Rattle.mgs_model.specs.World.{may};
-ghost use Rattle.mgs_buffers.specs.Adding.{add_fault, Answers, Judged};
+ghost use Rattle.mgs_buffers.specs.Adding.{add_fault, Answers, NamesToAdd};
 ghost use Rattle.mgs_buffers.specs.Contents.{marked_of};
-ghost use Rattle.mgs_buffers.specs.MarkedBuffer.{AreWithinLimit, marked_named, marked_at, has_buffer, HasBuffer, IsMark, mark_at, marked_new, marked_edited, marked_placed, MarkAdded, MarkDropped};
+ghost use Rattle.mgs_buffers.specs.MarkedBuffer.{AreUnmarked, AreWithinLimit, marked_named, marked_at, has_buffer, HasBuffer, IsMark, mark_at, marked_new, marked_edited, marked_placed, MarkAdded, MarkDropped};
 
 use crate::buffer::{Buffer, new_buffer};
 use crate::fault::AddFault;
@@ -71,8 +71,10 @@ fn is_shown<T: Marked + Drop>(buffer: &Buffer<T>, directory: &Directory, user: &
 
 impl<T: Marked + Drop> Buffers<T> {
     /// No buffer. It takes no memory; what is added later takes it from `alloc`.
+    #[tactic(auto, using(crate::proofs::Unmarked::unmarked_none))]
     pub fn new(alloc: Global) -> Self
-        ensures { result ≡ [] }
+        ensures value { result ≡ [] }
+        ensures unmarked { AreUnmarked result }
     {
         Buffers {
             all: IndexMap::new(alloc),
@@ -112,8 +114,9 @@ impl<T: Marked + Drop> Buffers<T> {
         ensures answer { Answers result (add_fault name.now owner.now (length text.now) self.old) }
         ensures ok { OnOk result (self.new ≡ self.old ++ marked_new name.now owner.now list text.now has_file ∷ []) }
         ensures err { OnErr result (self.new ≡ self.old) }
+        ensures unmarked { AreUnmarked self.old → AreUnmarked self.new }
     {
-        let (name, owner) = match self.judged(name, owner, text.len()) {
+        let (name, owner) = match self.names_to_add(name, owner, text.len()) {
             Ok(names) => names,
             Err(fault) => return Err(fault),
         };
@@ -126,9 +129,9 @@ impl<T: Marked + Drop> Buffers<T> {
         }
     }
 
-    // The names, where a buffer of them, with a text of this size, may be added.
-    fn judged(&self, name: &str, owner: &str, size: usize) -> Result<(Name, Name), AddFault>
-        ensures answer { Judged result name.now owner.now (add_fault name.now owner.now size self.now) }
+    // The name and the owner's name, where a buffer of these and with a text of this size may be added.
+    fn names_to_add(&self, name: &str, owner: &str, size: usize) -> Result<(Name, Name), AddFault>
+        ensures answer { NamesToAdd result name.now owner.now (add_fault name.now owner.now size self.now) }
         ensures free { IfOk result (λ names. has_buffer names.0 self.now ≡ false) }
         ensures room { IfOk result (λ names. size ≤ 1048576) }
     {

@@ -22,7 +22,7 @@ use Rattle.mgs_model.specs.declared.right.Right.TheVariants.{ReadAttributes}
 use Rattle.mgs_core.specs.Steps.{Answers, OpenedBy, open_fault}
 use Rattle.mgs_world.proofs.Marks.{same_is}
 use Rattle.mgs_world.proofs.Worlds.{same_window, same_windows, same_world}
-use Rattle.mgs_world.proofs.Soundness.{sound_more}
+use Rattle.mgs_world.proofs.Soundness.{AreInUse, in_use_more, sound_in_use, sound_same}
 use Rattle.mgs_world.proofs.WindowMarks.{sessions_stay}
 
 -- WHAT THE FIRST WINDOW SHOWS
@@ -56,11 +56,16 @@ session_new d ks ls id user rows cols o h named =
 -- THE WORLD AFTER
 
 -- where marks of nobody came and went
-world_stays : (d : Directory) (ks ls : List MarkedBuffer) (xs : List Session) (next : Option ℕ) → IsSound ks xs → IsSound ls xs → buffers_of ls ≡ buffers_of ks → MarksStay ks ls → world_of d ls xs next ≡ world_of d ks xs next
+world_stays : (d : Directory) (ks ls : List MarkedBuffer) (xs : List Session) (next : Option ℕ) → AreInUse ks xs → AreInUse ls xs → buffers_of ls ≡ buffers_of ks → MarksStay ks ls → world_of d ls xs next ≡ world_of d ks xs next
 world_stays d ks ls xs next before after buffers stay = same_world d _ _ _ _ (id_after next) buffers (sessions_stay ks ls xs before after stay)
 
 pub world_undone : (d : Directory) (ks ls : List MarkedBuffer) (xs : List Session) (next : Option ℕ) → IsSound ks xs → WindowMarksDropped None ks ls → world_of d ls xs next ≡ world_of d ks xs next
-world_undone d ks ls xs next sound h = world_stays d ks ls xs next sound (sound_more ks ls xs (first_more None ks ls h) sound) h.buffers h.stay
+world_undone d ks ls xs next sound h =
+    let used = sound_in_use ks xs sound in
+    world_stays d ks ls xs next used (in_use_more ks ls xs (first_more None ks ls h) used) h.buffers h.stay
+
+pub sound_undone : (ks ls : List MarkedBuffer) (xs : List Session) → IsSound ks xs → WindowMarksDropped None ks ls → IsSound ls xs
+sound_undone ks ls xs sound h = sound_same ks ls xs (λ m i. omega (arith, h.uses m i)) sound
 
 -- ys are the sessions with the new one, and settling makes L
 pub opened_at : (d : Directory) (ks ls L : List MarkedBuffer) (xs ys : List Session) (id : ℕ) (user : List ℕ) (rows cols : ℕ) (o : Option WindowMarks) → IsSound ks xs → FirstWindowMarks o ks ls → window_marks_name o ≡ first_name d user ks
@@ -69,9 +74,10 @@ pub opened_at : (d : Directory) (ks ls L : List MarkedBuffer) (xs ys : List Sess
     → world_of d L ys (Some (id + 1)) ≡ settled (opened (world_of d ks xs (Some id)) id user rows cols)
 opened_at d ks ls L xs ys id user rows cols o sound h named more settles =
     let y = session_opened id user rows cols o in
+    let used = sound_in_use ks xs sound in
     let seen : map (session_of ls) (xs ++ y ∷ []) ≡ map (session_of ks) xs ++ new_session d (buffers_of ks) id user rows cols ∷ [] =
     map-append (session_of ls) xs (y ∷ [])
-    ∙ ap (λ (ss : List model.Session). ss ++ session_of ls y ∷ []) (sessions_stay ks ls xs sound (sound_more ks ls xs (first_more o ks ls h) sound) (first_stay o ks ls h))
+    ∙ ap (λ (ss : List model.Session). ss ++ session_of ls y ∷ []) (sessions_stay ks ls xs used (in_use_more ks ls xs (first_more o ks ls h) used) (first_stay o ks ls h))
     ∙ ap (λ (s : model.Session). map (session_of ks) xs ++ s ∷ []) (session_new d ks ls id user rows cols o h named) in
     settles (Some (id + 1))
     ∙ ap (λ (zs : List Session). settled (world_of d ls zs (Some (id + 1)))) more

@@ -1,4 +1,4 @@
--- Soundness: each mark that a session uses is in use, through edits, placements and changes of a session.
+-- Soundness: the marks in use are those that the sessions use, through edits, placements and changes of a session.
 use Rattle.std.proofs.Common.{◌≡◌, ℕ, zero, suc, ◌+◌, ◌<◌, ◌≤◌, Bool, true, false, List, [], ◌∷◌, ◌++◌, take, drop, length, length-append, get_or, Option, Some, None, refl, sym, ap, subst, ◌∙◌, arith}
 use Rattle.std.proofs.lemmas.List.{length-take, length-drop}
 use Rattle.std.specs.Prelude.{find, slice_get, slice_set, IsSome, is_some, nat_eq}
@@ -13,10 +13,10 @@ use Rattle.mgs_session.specs.Told.{window_marks_of}
 use Rattle.mgs_windows.specs.declared.WindowMarks.{WindowMarks}
 use Rattle.mgs_windows.specs.declared.Window.{Window}
 use Rattle.mgs_session.specs.declared.Session.{Session}
-use Rattle.mgs_world.specs.Sound.{IsSound, IsSessionSound, IsWindowSound, in_use, one_if, option_uses, sum_of, session_uses, window_uses, window_marks_uses}
+use Rattle.mgs_world.specs.Sound.{IsSound, IsSessionSound, IsWindowSound, in_use, one_if, option_uses, sum_of, session_uses, uses, window_uses, window_marks_uses}
 use Rattle.mgs_world.specs.Worlds.{size_in, sizes_in}
 use Rattle.mgs_world.proofs.Uses.{sum_at}
-use Rattle.mgs_world.proofs.Marks.{is_same, found_same, found_other}
+use Rattle.mgs_world.proofs.Marks.{is_same, same_is, found_same, found_other}
 use Rattle.mgs_world.proofs.Worlds.{selected_window, window_marks_once, one_use}
 
 pub one_if_most : (b : Bool) → one_if b ≤ 1
@@ -83,56 +83,67 @@ selected_point ks h x sound sel =
     let u : window_uses x.name x.point got.0 ≡ window_marks_uses x.name x.point (Some x) = ap (window_marks_uses x.name x.point) got.2 in
     in_use_mark ks x.name x.point (omega (arith, sound.once x.name x.point, u, point_used x, sum_at (window_uses x.name x.point) got.0 h.windows.windows h.windows.selected got.1))
 
--- MARKS STAY IN USE
+-- THE SAME MARKS STAY IN USE
 
-in_use_kept : (n m : List ℕ) (i : ℕ) (f : MarkedBuffer → MarkedBuffer) (ks : List MarkedBuffer) → ((k : MarkedBuffer) → (f k).buffer.name ≡ k.buffer.name) → ((k : MarkedBuffer) → one_if (is_some (mark_in k.marks i)) ≤ one_if (is_some (mark_in (f k).marks i))) → in_use m i ks ≤ in_use m i (change_first (marked_named n) f ks)
-in_use_kept n m i f ks name more =
+in_use_kept : (n m : List ℕ) (i : ℕ) (f : MarkedBuffer → MarkedBuffer) (ks : List MarkedBuffer) → ((k : MarkedBuffer) → (f k).buffer.name ≡ k.buffer.name) → ((k : MarkedBuffer) → find (marked_named n) ks ≡ Some k → one_if (is_some (mark_in (f k).marks i)) ≡ one_if (is_some (mark_in k.marks i))) → in_use m i (change_first (marked_named n) f ks) ≡ in_use m i ks
+in_use_kept n m i f ks name same =
     let use_of : Option MarkedBuffer → ℕ = λ o. one_if (is_some (mark_in (marked_or_none o).marks i)) in
-    let mapped : (o : Option MarkedBuffer) → use_of o ≤ use_of (option_map f o) =
-    λ o. elim o as (λ o. use_of o ≤ use_of (option_map f o)) [ None ↦ omega arith | Some k ↦ more k ] in
-    let goal : Type 0 = in_use m i ks ≤ in_use m i (change_first (marked_named n) f ks) in
+    let mapped : (o : Option MarkedBuffer) → find (marked_named n) ks ≡ o → use_of (option_map f o) ≡ use_of o =
+    λ o. elim o as (λ o. find (marked_named n) ks ≡ o → use_of (option_map f o) ≡ use_of o) [ None ↦ λ e. refl | Some k ↦ λ e. same k e ] in
+    let goal : Type 0 = in_use m i (change_first (marked_named n) f ks) ≡ in_use m i ks in
     let go : (r : Bool) → same_name n m ≡ r → goal =
     λ r. elim r as (λ r. same_name n m ≡ r → goal) [
-      | true ↦ λ e. subst (λ (o : Option MarkedBuffer). use_of (find (marked_named m) ks) ≤ use_of o) (sym (found_same n m f ks name e)) (mapped (find (marked_named m) ks))
-      | false ↦ λ e. subst (λ (o : Option MarkedBuffer). use_of (find (marked_named m) ks) ≤ use_of o) (sym (found_other n m f ks name e)) (omega arith)
+      | true ↦ λ e. ap use_of (found_same n m f ks name e) ∙ mapped (find (marked_named m) ks) (ap (λ (x : List ℕ). find (marked_named x) ks) (same_is n m e))
+      | false ↦ λ e. ap use_of (found_other n m f ks name e)
     ]
     in go (same_name n m) refl
 
-shifted_use : (a b n : ℕ) (ms : List (Option ℕ)) (i : ℕ) → one_if (is_some (mark_in ms i)) ≤ one_if (is_some (mark_in (shift_all a b n ms) i))
+shifted_use : (a b n : ℕ) (ms : List (Option ℕ)) (i : ℕ) → one_if (is_some (mark_in (shift_all a b n ms) i)) ≡ one_if (is_some (mark_in ms i))
 shifted_use a b n ms i =
-    let goal : Option (Option ℕ) → Type 0 = λ o. one_if (is_some (option_and_then (λ (m : Option ℕ). m) o)) ≤ one_if (is_some (option_and_then (λ (m : Option ℕ). m) (option_map (option_map (shift a b n)) o))) in
-    let at_slot : (o : Option (Option ℕ)) → goal o = λ o. elim o as goal [ None ↦ omega arith | Some m ↦ elim m as (λ m. goal (Some m)) [ None ↦ omega arith | Some p ↦ omega arith ] ] in
+    let goal : Option (Option ℕ) → Type 0 = λ o. one_if (is_some (option_and_then (λ (m : Option ℕ). m) (option_map (option_map (shift a b n)) o))) ≡ one_if (is_some (option_and_then (λ (m : Option ℕ). m) o)) in
+    let at_slot : (o : Option (Option ℕ)) → goal o = λ o. elim o as goal [ None ↦ refl | Some m ↦ elim m as (λ m. goal (Some m)) [ None ↦ refl | Some p ↦ refl ] ] in
     rw (slice_get-map (option_map (shift a b n)) ms i) (at_slot (slice_get ms i))
 
-placed_use : (ms : List (Option ℕ)) (id p i : ℕ) → one_if (is_some (mark_in ms i)) ≤ one_if (is_some (mark_in (slice_set ms id (Some p)) i))
-placed_use [] id p i = omega arith
-placed_use (m ∷ ms) zero p zero = one_if_most (is_some (mark_in (m ∷ ms) 0))
-placed_use (m ∷ ms) zero p (suc i) = omega arith
-placed_use (m ∷ ms) (suc id) p zero = omega arith
-placed_use (m ∷ ms) (suc id) p (suc i) = placed_use ms id p i
+-- a mark in use is placed
+placed_use : (ms : List (Option ℕ)) (id p i : ℕ) → IsSome (mark_in ms id) → one_if (is_some (mark_in (slice_set ms id (Some p)) i)) ≡ one_if (is_some (mark_in ms i))
+placed_use [] id p i used = refl
+placed_use (m ∷ ms) zero p zero used = ap one_if (sym used)
+placed_use (m ∷ ms) zero p (suc i) used = refl
+placed_use (m ∷ ms) (suc id) p zero used = refl
+placed_use (m ∷ ms) (suc id) p (suc i) used = placed_use ms id p i used
 
-in_use_edited : (n : List ℕ) (a b : ℕ) (put : List ℕ) (ks : List MarkedBuffer) (m : List ℕ) (i : ℕ) → in_use m i ks ≤ in_use m i (change_first (marked_named n) (marked_edited a b put) ks)
-in_use_edited n a b put ks m i = in_use_kept n m i (marked_edited a b put) ks (λ k. refl) (λ k. shifted_use a b (length put) k.marks i)
+in_use_edited : (n : List ℕ) (a b : ℕ) (put : List ℕ) (ks : List MarkedBuffer) (m : List ℕ) (i : ℕ) → in_use m i (change_first (marked_named n) (marked_edited a b put) ks) ≡ in_use m i ks
+in_use_edited n a b put ks m i = in_use_kept n m i (marked_edited a b put) ks (λ k. refl) (λ k e. shifted_use a b (length put) k.marks i)
 
-pub in_use_placed : (n : List ℕ) (id p : ℕ) (ks : List MarkedBuffer) (m : List ℕ) (i : ℕ) → in_use m i ks ≤ in_use m i (change_first (marked_named n) (marked_placed id p) ks)
-in_use_placed n id p ks m i = in_use_kept n m i (marked_placed id p) ks (λ k. refl) (λ k. placed_use k.marks id p i)
+pub in_use_placed : (n : List ℕ) (id p : ℕ) (ks : List MarkedBuffer) (m : List ℕ) (i : ℕ) → IsMark n id ks → in_use m i (change_first (marked_named n) (marked_placed id p) ks) ≡ in_use m i ks
+in_use_placed n id p ks m i mark =
+    in_use_kept n m i (marked_placed id p) ks (λ k. refl) (λ k e. placed_use k.marks id p i (subst (λ (o : Option MarkedBuffer). IsSome (mark_in (marked_or_none o).marks id)) e mark))
 
-pub sound_more : (ks ls : List MarkedBuffer) (xs : List Session) → ((m : List ℕ) (i : ℕ) → in_use m i ks ≤ in_use m i ls) → IsSound ks xs → IsSound ls xs
-sound_more ks ls xs more sound = record { once = λ m i. omega (arith, sound.once m i, more m i) }
+pub sound_same : (ks ls : List MarkedBuffer) (xs : List Session) → ((m : List ℕ) (i : ℕ) → in_use m i ls ≡ in_use m i ks) → IsSound ks xs → IsSound ls xs
+sound_same ks ls xs same sound = record { once = λ m i. omega (arith, sound.once m i, same m i) }
 
 pub sound_edited : (n : List ℕ) (a b : ℕ) (put : List ℕ) (ks : List MarkedBuffer) (xs : List Session) → IsSound ks xs → IsSound (change_first (marked_named n) (marked_edited a b put) ks) xs
-sound_edited n a b put ks xs sound = sound_more ks _ xs (in_use_edited n a b put ks) sound
+sound_edited n a b put ks xs sound = sound_same ks _ xs (in_use_edited n a b put ks) sound
 
-pub sound_placed : (n : List ℕ) (id p : ℕ) (ks : List MarkedBuffer) (xs : List Session) → IsSound ks xs → IsSound (change_first (marked_named n) (marked_placed id p) ks) xs
-sound_placed n id p ks xs sound = sound_more ks _ xs (in_use_placed n id p ks) sound
-
-mark_more : (ks ls : List MarkedBuffer) (n : List ℕ) (i : ℕ) → in_use n i ks ≤ in_use n i ls → IsMark n i ks → IsMark n i ls
-mark_more ks ls n i more mark =
-    let t : one_if (is_some (mark_in (marked_at n ks).marks i)) ≡ 1 = rw mark refl in
-    in_use_mark ls n i (omega (arith, t, more))
+pub sound_placed : (n : List ℕ) (id p : ℕ) (ks : List MarkedBuffer) (xs : List Session) → IsMark n id ks → IsSound ks xs → IsSound (change_first (marked_named n) (marked_placed id p) ks) xs
+sound_placed n id p ks xs mark sound = sound_same ks _ xs (λ m i. in_use_placed n id p ks m i mark) sound
 
 pub mark_edited_used : (n m : List ℕ) (a b : ℕ) (put : List ℕ) (ks : List MarkedBuffer) (i : ℕ) → IsMark m i ks → IsMark m i (change_first (marked_named n) (marked_edited a b put) ks)
-mark_edited_used n m a b put ks i mark = mark_more ks (change_first (marked_named n) (marked_edited a b put) ks) m i (in_use_edited n a b put ks m i) mark
+mark_edited_used n m a b put ks i mark =
+    let t : one_if (is_some (mark_in (marked_at m ks).marks i)) ≡ 1 = rw mark refl in
+    in_use_mark (change_first (marked_named n) (marked_edited a b put) ks) m i (omega (arith, t, in_use_edited n a b put ks m i))
+
+-- WHAT IS USED IS IN USE
+
+-- of sessions some of whose marks may be used beside them
+pub record AreInUse (ks : List MarkedBuffer) (xs : List Session) : Type 0 where
+  pub once : (name : List ℕ) (id : ℕ) → uses name id xs ≤ in_use name id ks
+
+pub sound_in_use : (ks : List MarkedBuffer) (xs : List Session) → IsSound ks xs → AreInUse ks xs
+sound_in_use ks xs sound = record { once = λ m i. omega (arith, sound.once m i) }
+
+pub in_use_more : (ks ls : List MarkedBuffer) (xs : List Session) → ((m : List ℕ) (i : ℕ) → in_use m i ks ≤ in_use m i ls) → AreInUse ks xs → AreInUse ls xs
+in_use_more ks ls xs more used = record { once = λ m i. omega (arith, used.once m i, more m i) }
 
 -- A SESSION CHANGES
 
@@ -155,9 +166,6 @@ text_edited n p c ks kept within =
     ap marked_or_none (found_same n n (marked_edited p p (c ∷ [])) ks (λ k. refl) (is_same n n refl) ∙ ap (option_map (marked_edited p p (c ∷ []))) k.1)
     ∙ ap (λ o. marked_edited p p (c ∷ []) (marked_or_none o)) (sym k.1) in
     ap (λ (k : MarkedBuffer). length k.buffer.text) e ∙ omega (arith, length-append (take p t ++ c ∷ []) (drop p t), length-append (take p t) (c ∷ []), length-take p t, length-drop p t, within)
-
-pub session_more : (ks ls : List MarkedBuffer) (x : Session) → ((m : List ℕ) (i : ℕ) → in_use m i ks ≤ in_use m i ls) → IsSessionSound ks x → IsSessionSound ls x
-session_more ks ls x more sound = record { once = λ m i. omega (arith, sound.once m i, more m i) }
 
 -- the sizes stay where a session keeps its own
 pub sizes_set : (xs : List Session) (at : ℕ) (h y : Session) → h ≡ get_or xs at h → size_in y ≡ size_in h → sizes_in (slice_set xs at y) ≡ sizes_in xs

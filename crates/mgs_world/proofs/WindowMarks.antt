@@ -12,12 +12,12 @@ use Rattle.mgs_windows.specs.declared.WindowMarks.{WindowMarks}
 use Rattle.mgs_windows.specs.declared.Window.{Window}
 use Rattle.mgs_session.specs.declared.Session.{Session}
 use Rattle.mgs_world.specs.Worlds.{buffers_of, session_of, window_of, window_shown}
-use Rattle.mgs_world.specs.Sound.{IsSound, in_use, one_if, option_uses, sum_of, session_uses, window_marks_uses, window_uses}
+use Rattle.mgs_world.specs.Sound.{in_use, one_if, option_uses, sum_of, session_uses, window_marks_uses, window_uses}
 use Rattle.mgs_world.specs.WindowMarks.{MarksStay, WindowMarksAdded, WindowMarksDropped}
 use Rattle.mgs_world.proofs.Frames.{map_local}
 use Rattle.mgs_world.proofs.Marks.{is_same, same_is, false_from, found_same, found_other}
 use Rattle.mgs_world.proofs.Worlds.{map-change_first_same, same_window, same_windows}
-use Rattle.mgs_world.proofs.Soundness.{some_from, one_if_is, point_used, top_used, mark_used}
+use Rattle.mgs_world.proofs.Soundness.{AreInUse, some_from, one_if_is, point_used, top_used, mark_used}
 
 -- a mark of this buffer and this number
 abbrev pub this_one : List ℕ → ℕ → List ℕ → ℕ → ℕ
@@ -110,7 +110,7 @@ in_use_dropped n id old new m i kept mark h =
     ∙ ap (λ (k : ℕ). one_if (is_some (cond (same_name n m) (cond (nat_eq id i) None x) x)) + k) (sym (one_is (same_name n m) (nat_eq id i)))
     ∙ ap (λ (o : Option ℕ). one_if (is_some o) + this_one n id m i) (sym (mark_after_dropped n id old new m i kept h))
 
--- A SPOT COMES
+-- MARKS OF A WINDOW ARE ADDED
 
 marked_again : (o : Option MarkedBuffer) (f : MarkedBuffer → MarkedBuffer) → IsSome o → IsSome (option_map f o)
 marked_again None f h = cc
@@ -155,7 +155,7 @@ same_sym n m =
     ]
     in go (same_name n m) refl
 
--- what a window's marks uses, as the uses of its marks
+-- how often a window's marks use a mark, mark by mark
 window_marks_parts : (n m : List ℕ) (i : ℕ) (x : WindowMarks) → x.name ≡ n → window_marks_uses m i (Some x) ≡ this_one n x.point m i + this_one n x.top m i + cond (same_name n m) (option_uses i x.mark) 0
 window_marks_parts n m i x named =
     let a = one_if (nat_eq x.point i) in
@@ -195,7 +195,7 @@ pub sum_append : {A : Type 0} (used : A → ℕ) (xs : List A) (y : A) → sum_o
 sum_append used [] y = omega arith
 sum_append used (x ∷ xs) y = omega (arith, sum_append used xs y)
 
--- A SPOT GOES
+-- MARKS OF A WINDOW ARE GIVEN UP
 
 this_is_one : (n : List ℕ) (i : ℕ) → this_one n i n i ≡ 1
 this_is_one n i =
@@ -274,6 +274,6 @@ session_local ks ls x same =
     same_windows (session_of ks x) _ _ (map_local (λ s n i. mark_at n s i) window_uses window_of window_local ks ls x.windows.windows same)
 
 -- sessions whose marks are in use before and after
-pub sessions_stay : (ks ls : List MarkedBuffer) (xs : List Session) → IsSound ks xs → IsSound ls xs → MarksStay ks ls → map (session_of ls) xs ≡ map (session_of ks) xs
+pub sessions_stay : (ks ls : List MarkedBuffer) (xs : List Session) → AreInUse ks xs → AreInUse ls xs → MarksStay ks ls → map (session_of ls) xs ≡ map (session_of ks) xs
 sessions_stay ks ls xs before after stay =
     map_local (λ s n i. mark_at n s i) session_uses session_of session_local ls ks xs (λ n i used. stay n i (omega (arith, used, before.once n i)) (omega (arith, used, after.once n i)))

@@ -1,5 +1,5 @@
--- Each mark in use is that of one place of one session.
-use Rattle.std.specs.Prelude.{ℕ, ◌+◌, ◌≤◌, Bool, true, false, List, [], ◌∷◌, Option, Some, None, nat_eq, is_some, if◌then◌else◌}
+-- Which marks are in use, and who uses them.
+use Rattle.std.specs.Prelude.{◌≡◌, ℕ, ◌+◌, ◌≤◌, Bool, true, false, List, [], ◌∷◌, Option, Some, None, nat_eq, is_some, if◌then◌else◌}
 use Rattle.mgs_model.specs.Names.{same_name}
 use Rattle.mgs_marks.specs.Marks.{mark_in}
 use Rattle.mgs_buffers.specs.MarkedBuffer.{MarkedBuffer, marked_at}
@@ -38,8 +38,9 @@ uses name id xs = sum_of (session_uses name id) xs
 abbrev pub in_use : List ℕ → ℕ → List MarkedBuffer → ℕ
 in_use name id ks = one_if (is_some (mark_in (marked_at name ks).marks id))
 
+-- each mark that is in use is used in one place of one session, and no other mark is used
 pub record IsSound (ks : List MarkedBuffer) (xs : List Session) : Type 0 where
-  pub once : (name : List ℕ) (id : ℕ) → uses name id xs ≤ in_use name id ks
+  pub once : (name : List ℕ) (id : ℕ) → uses name id xs ≡ in_use name id ks
 
 -- the marks of one session are in use
 pub record IsSessionSound (ks : List MarkedBuffer) (x : Session) : Type 0 where

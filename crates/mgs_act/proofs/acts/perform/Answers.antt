@@ -11,7 +11,7 @@ pub returns-clause-sound : goal.returns-clause-sound
 returns-clause-sound g c =
     let xs = c.args.sessions.now in
     let r = c.index-sessions-at.result in
-    after_sound c.carry_out.result c.args.buffers.now c.carry_out.new.buffers xs c.args.at c.args.window_marks.now (get_or xs c.args.at r) c.carry_out.new.session c.args.action (slice_get-get_or xs c.args.at r c.requires.within) c.carry_out.ensures.ok c.carry_out.ensures.told c.carry_out.ensures.err c.carry_out.ensures.untold c.requires.sound
+    after_sound c.carry_out.result c.args.buffers.now c.carry_out.new.buffers xs c.args.at c.args.window_marks.now (get_or xs c.args.at r) c.carry_out.new.session c.args.action (slice_get-get_or xs c.args.at r c.requires.within) c.carry_out.ensures.ok c.carry_out.ensures.told c.carry_out.ensures.err c.carry_out.ensures.untold (acting_mark c.args.buffers.now xs c.args.at c.args.window_marks.now c.requires.sound c.requires.window_marks) c.requires.sound
 
 pub returns-clause-sizes : goal.returns-clause-sizes
 returns-clause-sizes g c =

@@ -3,7 +3,7 @@ use Rattle.mgs_session.specs.declared.Session.{Session}
 use Rattle.mgs_world.specs.Worlds.{world_of}
 use Rattle.mgs_world.specs.Sound.{IsSound}
 use Rattle.mgs_core.proofs.Sizes.{opened_sound}
-use Rattle.mgs_core.proofs.Openings.{opened_at, world_undone}
+use Rattle.mgs_core.proofs.Openings.{opened_at, sound_undone, world_undone}
 use Rattle.mgs_core.proofs.server.add_session.Goals as goal
 
 pub settle-requires : goal.settle-requires
@@ -24,3 +24,8 @@ pub returns-in-Err-clause-err_world : goal.returns-in-Err-clause-err_world
 returns-in-Err-clause-err_world g c next =
     ap (λ (xs : List Session). world_of c.args.directory.now c.first_window_marks.new.buffers xs next) c.reserve.ensures.items
     ∙ world_undone c.args.directory.now c.args.buffers.now c.first_window_marks.new.buffers c.args.sessions.now.items next c.requires.sound c.in-Err.ensures.err
+
+pub returns-in-Err-clause-sound : goal.returns-in-Err-clause-sound
+returns-in-Err-clause-sound g c =
+    subst (λ (xs : List Session). IsSound c.first_window_marks.new.buffers xs) (sym c.reserve.ensures.items)
+    (sound_undone c.args.buffers.now c.first_window_marks.new.buffers c.args.sessions.now.items c.requires.sound c.in-Err.ensures.err)

@@ -3,26 +3,20 @@ use Rattle.std.specs.List.{position_or_len}
 use Rattle.mgs_session.specs.declared.Session.{Session}
 use Rattle.mgs_world.specs.Worlds.{session_id, is_size_of, sizes_in, world_of}
 use Rattle.mgs_world.specs.Sound.{IsSound}
-use Rattle.mgs_world.proofs.Soundness.{session_sound}
-use Rattle.mgs_core.proofs.Sizes.{closed_sound, sizes_removed, none_removed, no_size}
+use Rattle.mgs_core.proofs.Sizes.{sizes_removed, none_removed, no_size, some_at}
 use Rattle.mgs_core.proofs.Steps.{closed_none, closed_at}
 use Rattle.mgs_world.proofs.Sessions.{session_none}
 use Rattle.mgs_core.proofs.server.close_in.Goals as goal
 
-pub drop_all_window_marks-requires : goal.drop_all_window_marks-requires
-drop_all_window_marks-requires g c =
-    let within : c.place_of-at.result < length c.args.sessions.now.items = omega (arith, c.place_of-at.ensures.within, ap length c.deref.ensures.value, c.len.ensures, c.if-at-len.false) in
-    session_sound c.args.buffers.now c.args.sessions.now.items c.place_of-at.result c.remove-session.result c.requires c.remove-session.ensures.value within
+pub take_out-requires-clause-within : goal.take_out-requires-clause-within
+take_out-requires-clause-within g c = omega (arith, c.place_of-at.ensures.within, ap length c.deref.ensures.value, c.len.ensures, c.if-at-len.false)
 
 pub settle-requires : goal.settle-requires
-settle-requires g c =
-    let within : c.place_of-at.result < length c.args.sessions.now.items = omega (arith, c.place_of-at.ensures.within, ap length c.deref.ensures.value, c.len.ensures, c.if-at-len.false) in
-    subst (λ (xs : List Session). IsSound c.drop_all_window_marks.new.buffers xs) (sym (c.deref-2.ensures.value ∙ c.remove-session.ensures.items))
-    (closed_sound c.args.buffers.now c.drop_all_window_marks.new.buffers c.args.sessions.now.items c.place_of-at.result c.remove-session.result c.requires c.remove-session.ensures.value within c.drop_all_window_marks.ensures.uses)
+settle-requires g c = subst (λ (xs : List Session). IsSound c.take_out.new.buffers xs) (sym c.deref-2.ensures.value) c.take_out.ensures.sound
 
 pub returns-clause-sizes : goal.returns-clause-sizes
 returns-clause-sizes g c =
-    ap sizes_in c.remove-session.ensures.items ∙ sizes_removed c.args.id c.place_of-at.result c.args.sessions.now.items (c.place_of-at.ensures.value ∙ ap (position_or_len (session_id c.args.id)) c.deref.ensures.value)
+    ap sizes_in c.take_out.ensures.rest ∙ sizes_removed c.args.id c.place_of-at.result c.args.sessions.now.items (c.place_of-at.ensures.value ∙ ap (position_or_len (session_id c.args.id)) c.deref.ensures.value)
 
 pub returns-then-at-len-clause-sizes : goal.returns-then-at-len-clause-sizes
 returns-then-at-len-clause-sizes g c =
@@ -35,10 +29,11 @@ returns-clause-step g c next =
     let xs = c.args.sessions.now.items in
     let at = c.place_of-at.result in
     let within : at < length xs = omega (arith, c.place_of-at.ensures.within, ap length c.deref.ensures.value, c.len.ensures, c.if-at-len.false) in
+    let found = some_at xs at within in
     ap (λ (ys : List Session). world_of c.args.directory.now c.settle.new.buffers ys next) (sym c.deref-2.ensures.value)
-    ∙ closed_at c.args.directory.now c.args.buffers.now c.drop_all_window_marks.new.buffers c.settle.new.buffers xs c.deref-2.result.now next c.args.id at c.remove-session.result
-    c.requires (c.place_of-at.ensures.value ∙ ap (position_or_len (session_id c.args.id)) c.deref.ensures.value) within c.remove-session.ensures.value
-    c.drop_all_window_marks.ensures.uses c.drop_all_window_marks.ensures.buffers c.drop_all_window_marks.ensures.stay (c.deref-2.ensures.value ∙ c.remove-session.ensures.items) (c.settle.ensures.world next)
+    ∙ closed_at c.args.directory.now c.args.buffers.now c.take_out.new.buffers c.settle.new.buffers xs c.deref-2.result.now next c.args.id at found.0
+    c.requires (c.place_of-at.ensures.value ∙ ap (position_or_len (session_id c.args.id)) c.deref.ensures.value) within found.1
+    c.take_out.ensures.buffers c.take_out.ensures.stay (c.deref-2.ensures.value ∙ c.take_out.ensures.rest) (subst (λ (xs : List Session). IsSound c.take_out.new.buffers xs) (sym c.deref-2.ensures.value) c.take_out.ensures.sound) (c.settle.ensures.world next)
 
 pub returns-then-at-len-clause-step : goal.returns-then-at-len-clause-step
 returns-then-at-len-clause-step g c next =

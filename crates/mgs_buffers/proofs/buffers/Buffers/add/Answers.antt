@@ -1,8 +1,9 @@
 use Rattle.std.proofs.Common.{◌≡◌, ℕ, List, sym, ap, ◌∙◌, refl, subst, length, arith}
 use Rattle.mgs_buffers.proofs.MarkedLemmas.{has_buffer-lookup, none_of, kept-added, OnOk-at, OnOk-err}
-use Rattle.mgs_buffers.specs.MarkedBuffer.{MarkedBuffer, marked_new, AreWithinLimit}
+use Rattle.mgs_buffers.specs.MarkedBuffer.{MarkedBuffer, marked_new, AreUnmarked, AreWithinLimit}
 use Rattle.mgs_buffers.specs.Contents.{marked_of, marked_all}
 use Rattle.mgs_buffers.proofs.Limits.{limit-added, ended}
+use Rattle.mgs_buffers.proofs.Unmarked.{unmarked_added}
 use Rattle.mgs_buffers.proofs.buffers.Buffers.add.Goals as goal
 use Rattle.mgs_buffers.proofs.buffers.Buffers.add.Goals.{in-Ok-put_last, in-Err-put_last}
 
@@ -19,6 +20,16 @@ returns-clause-ok g c =
           (c.in-Ok-new_buffer.ensures c.in-Ok.names.0
           ∙ ap (λ (names : List ℕ × List ℕ). marked_new names.0 names.1 c.args.list c.args.text.now c.args.has_file) c.in-Ok.ensures.answer.0))
       | in-Err-put_last w ↦ OnOk-err _ c.match-put_last.result _ w.result-is
+    ]
+
+pub returns-clause-unmarked : goal.returns-clause-unmarked
+returns-clause-unmarked g c = λ none.
+    let k = marked_of g.T.Text.text g.T.Text.marks c.in-Ok.names.0 c.in-Ok-new_buffer.buffer in
+    elim c.match-put_last.branch [
+      | in-Ok-put_last w ↦
+          subst AreUnmarked (sym (kept-added g.T.Text.text g.T.Text.marks c.self.inside.all.entries c.put_last.new.all.entries c.args.self.now c.in-Ok.names.0 c.in-Ok-new_buffer.buffer k c.self.view_is w.in-Ok-put_last.ensures.ok refl))
+          (unmarked_added c.args.self.now k (ap (λ (k : MarkedBuffer). k.marks) (c.in-Ok-new_buffer.ensures c.in-Ok.names.0)) none)
+      | in-Err-put_last w ↦ subst AreUnmarked (sym (ap (marked_all g.T.Text.text g.T.Text.marks) w.in-Err-put_last.ensures.err ∙ c.self.view_is)) none
     ]
 
 pub invariant_of-self : goal.invariant_of-self
