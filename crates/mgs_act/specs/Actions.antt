@@ -24,14 +24,14 @@ acts_in directory ks user x =
     if may directory user ReadData (marked_at x.name ks).buffer then mark_at x.name ks x.point
     else length (marked_at x.name ks).buffer.text
 
--- what the buffers ask of a action
+-- what the buffers ask of an action
 abbrev pub CanBeDone : List MarkedBuffer → WindowMarks → Action → Type 0
 CanBeDone ks x (Fails message) = Unit {0}
 CanBeDone ks x (Inserts at put) =
     (at ≤ length (marked_at x.name ks).buffer.text) × (length (marked_at x.name ks).buffer.text < 1048576) × ((marked_at x.name ks).buffer.serial + 1 < 2 ^ 64)
 CanBeDone ks x (Goes place) = place ≤ length (marked_at x.name ks).buffer.text
 
--- the buffers, and the acting session, once a action is done
+-- the buffers, and the acting session, once an action is done
 abbrev pub marked_after : WindowMarks → Action → List MarkedBuffer → List MarkedBuffer
 marked_after x (Fails message) ks = ks
 marked_after x (Inserts at put) ks = change_first (marked_named x.name) (marked_placed x.point (at + 1)) (change_first (marked_named x.name) (marked_edited at at (put ∷ [])) ks)
@@ -42,7 +42,7 @@ session_after (Fails message) h = told message h
 session_after (Inserts at put) h = h
 session_after (Goes place) h = h
 
--- the outcome that a action stands for, in the buffer of this name and by a session with these words
+-- the outcome that an action stands for, in the buffer of this name and by a session that holds this
 abbrev pub action_outcome : Own → List ℕ → Action → Outcome
 action_outcome own name (Fails message) = fails own message
 action_outcome own name (Inserts at put) =

@@ -24,14 +24,14 @@ pub struct Buffer<T: Marked + Drop> {
     pub text: T,
     /// The latest edits of the text.
     pub record: Record,
-    /// Whether the buffer is held for modified.
+    /// Whether the buffer was edited since it was made or last written to its file.
     pub modified: bool,
     /// Whether the buffer has a file.
     pub has_file: bool,
 }
 
-/// A buffer with a text that was not edited: its marks and its record of edits are empty, its serial is 0. It takes its memory from
-/// `alloc`. `Short`: it was refused.
+/// A buffer with a text that was not edited: it has no marks, no edit is recorded, and its serial is 0. It takes its
+/// memory from `alloc`. `Short`: memory was refused.
 pub fn new_buffer<T: Marked + Drop>(
     alloc: Global,
     owner: Name,
@@ -99,8 +99,8 @@ impl<T: Marked + Drop> Buffer<T> {
         self.text.drop_mark(id);
     }
 
-    /// Puts characters in place of those from `a` up to `b` of the text, moves its marks, keeps the edit under the next serial, and
-    /// holds the buffer for modified. `Short`: memory was refused, and all is as it was.
+    /// Puts characters in place of those from `a` up to `b` of the text, moves its marks, records the edit under the next
+    /// serial, and sets the buffer's modified flag. `Short`: memory was refused, and all is as it was.
     pub fn edit(&mut self, a: usize, b: usize, put: &[char]) -> Result<(), Short>
         requires order { a ≤ b }
         requires within { b ≤ length (T.text self.old.text) }

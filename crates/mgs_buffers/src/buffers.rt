@@ -24,7 +24,7 @@ use std::marker::Model;
 
 /// All buffers of a server, in order of creation: 256 at most, each by a name of its own.
 ///
-/// Every call that takes a name matches the buffer of that name, and the caller sees that there is one.
+/// A call that takes a name is about the buffer of that name, and the caller sees that there is one.
 #[derive(Drop)]
 pub struct Buffers<T: Marked + Drop> {
     all: IndexMap<Name, Buffer<T>>,
@@ -97,8 +97,8 @@ impl<T: Marked + Drop> Buffers<T> {
         self.all.contains_key(name)
     }
 
-    /// Adds a buffer with this text, its marks and its record of edits empty and its serial 0, which is then the last. That its
-    /// owner is a user of the directory is for the caller to see.
+    /// Adds a buffer with this text as the last, without marks and with no edit recorded: its serial is 0. That its owner is
+    /// a user of the directory is for the caller to see.
     ///
     /// The faults, checked in this order: `Name` where `name` is no buffer's name or `owner` no user's, `Twice` where a buffer has the
     /// name, `Full` where there are 256 buffers, `Long` where the text has more than 1,048,576 characters, `Short` where memory was
@@ -280,8 +280,8 @@ impl<T: Marked + Drop> Buffers<T> {
         buffer.drop_mark(id);
     }
 
-    /// Puts characters in place of those from `a` up to `b` of the buffer's text, moves its marks, keeps the edit under the next
-    /// serial, and holds the buffer for modified. `Short`: memory was refused, and all is as it was.
+    /// Puts characters in place of those from `a` up to `b` of the buffer's text, moves its marks, records the edit under the
+    /// next serial, and sets the buffer's modified flag. `Short`: memory was refused, and all is as it was.
     pub fn edit(&mut self, name: &Name, a: usize, b: usize, put: &[char]) -> Result<(), Short>
         requires kept { HasBuffer name.now self.old }
         requires order { a ≤ b }

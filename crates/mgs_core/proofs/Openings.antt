@@ -1,6 +1,6 @@
 -- A session opens: what its window shows, where others stand, and why it may be refused.
-use Rattle.std.proofs.Common.{◌≡◌, ℕ, ◌+◌, ◌-◌, ◌≤◌, Bool, true, false, not, cond, List, [], ◌∷◌, ◌++◌, length, map, Option, Some, None, Ok, Err, refl, sym, ap, ◌∙◌, arith, eq-eqb}
-use Rattle.std.specs.Prelude.{find, is_some, nat_le, nat_lt, nat_eq, ◌&&◌, ◌||◌, if◌then◌else◌}
+use Rattle.std.proofs.Common.{◌≡◌, ℕ, ◌+◌, ◌-◌, ◌≤◌, ◌^◌, Bool, true, false, not, cond, List, [], ◌∷◌, ◌++◌, length, map, Option, Some, None, Ok, Err, refl, sym, ap, ◌∙◌, arith, eq-eqb}
+use Rattle.std.specs.Prelude.{find, is_some, nat_le, ◌==◌, ◌&&◌, ◌||◌, if◌then◌else◌}
 use Rattle.std.specs.Option.{option_map}
 use Rattle.std.proofs.lemmas.List.{length-map, map-append}
 use Rattle.std.proofs.lemmas.Bool.Decides.{nat_tests}
@@ -8,8 +8,9 @@ use Rattle.mgs_model.specs.Names.{same_name}
 use Rattle.mgs_model.specs.Access.{Directory, is_among}
 use Rattle.mgs_model.specs.World.{World, Buffer, Buffer_of, may}
 use Rattle.mgs_model.specs.World as model
-use Rattle.mgs_model.specs.Events.{can_open, first_shows, is_size, new_session, opened, settled}
+use Rattle.mgs_model.specs.Events.{can_open, first_shows, is_size, open_fault, new_session, opened, settled}
 use Rattle.mgs_model.specs.declared.errors.OpenFault.{OpenFault}
+use Rattle.mgs_model.specs.declared.limits.TheConstants.{SESSION_LIMIT}
 use Rattle.mgs_model.specs.declared.errors.OpenFault.TheVariants.{NoUser, Size, Full, Short}
 use Rattle.mgs_buffers.specs.MarkedBuffer.{MarkedBuffer, mark_at}
 use Rattle.mgs_windows.specs.declared.WindowMarks.{WindowMarks}
@@ -19,7 +20,7 @@ use Rattle.mgs_world.specs.Worlds.{buffers_of, id_after, session_of, window_show
 use Rattle.mgs_world.specs.Sound.{IsSound, in_use}
 use Rattle.mgs_world.specs.WindowMarks.{FirstWindowMarks, MarksStay, WindowMarksDropped, first_name, window_marks_name}
 use Rattle.mgs_model.specs.declared.right.Right.TheVariants.{ReadAttributes}
-use Rattle.mgs_core.specs.Steps.{Answers, OpenedBy, open_fault}
+use Rattle.mgs_core.specs.Steps.{Answers, OpenedBy}
 use Rattle.mgs_world.proofs.Marks.{same_is}
 use Rattle.mgs_world.proofs.Worlds.{same_window, same_windows, same_world}
 use Rattle.mgs_world.proofs.Soundness.{AreInUse, in_use_more, sound_in_use, sound_same}
@@ -103,17 +104,10 @@ user_found user found (x ∷ xs) e =
     go (same_name user x) refl e
 
 -- the four questions in order
-abbrev judged : Bool → Bool → Bool → Bool → Option OpenFault
-judged known fits many used = if not known then Some NoUser else if not fits then Some Size else if many then Some Full else if used then Some Full else None
+abbrev fault_of : Bool → Bool → Bool → Bool → Option OpenFault
+fault_of known fits many used = if not known then Some NoUser else if not fits then Some Size else if many then Some Full else if used then Some Full else None
 
-all_well : (known fits many used : Bool) → judged known fits many used ≡ None → (known ≡ true) × (fits ≡ true) × (many ≡ false) × (used ≡ false)
-all_well false fits many used e = cc
-all_well true false many used e = cc
-all_well true true true used e = cc
-all_well true true false true e = cc
-all_well true true false false e = (refl, refl, refl, refl)
-
-never_short : {X : Type 0} (known fits many used : Bool) → judged known fits many used ≡ Some Short → X
+never_short : {X : Type 0} (known fits many used : Bool) → fault_of known fits many used ≡ Some Short → X
 never_short false fits many used e = cc
 never_short true false many used e = cc
 never_short true true true used e = cc
@@ -122,38 +116,29 @@ never_short true true false false e = cc
 
 pub no_user : (w : World) (user : List ℕ) (rows cols : ℕ) → is_some (find (same_name user) w.directory.users) ≡ false → open_fault w user rows cols ≡ Some NoUser
 no_user w user rows cols none =
-    ap (λ (b : Bool). judged b (is_size rows cols) (nat_le 64 (length w.sessions)) (nat_le 18446744073709551616 w.next_id)) (sym (among user w.directory.users) ∙ none)
+    ap (λ (b : Bool). fault_of b (is_size rows cols) (nat_le SESSION_LIMIT (length w.sessions)) (nat_le (2 ^ 64) w.next_id)) (sym (among user w.directory.users) ∙ none)
 
 pub no_screen : (w : World) (user : List ℕ) (rows cols : ℕ) → is_some (find (same_name user) w.directory.users) ≡ true → is_size rows cols ≡ false → open_fault w user rows cols ≡ Some Size
 no_screen w user rows cols some small =
-    ap (λ (b : Bool). judged b (is_size rows cols) (nat_le 64 (length w.sessions)) (nat_le 18446744073709551616 w.next_id)) (sym (among user w.directory.users) ∙ some)
-    ∙ ap (λ (b : Bool). judged true b (nat_le 64 (length w.sessions)) (nat_le 18446744073709551616 w.next_id)) small
+    ap (λ (b : Bool). fault_of b (is_size rows cols) (nat_le SESSION_LIMIT (length w.sessions)) (nat_le (2 ^ 64) w.next_id)) (sym (among user w.directory.users) ∙ some)
+    ∙ ap (λ (b : Bool). fault_of true b (nat_le SESSION_LIMIT (length w.sessions)) (nat_le (2 ^ 64) w.next_id)) small
 
-pub no_room : (w : World) (user : List ℕ) (rows cols : ℕ) (many used : Bool) → is_some (find (same_name user) w.directory.users) ≡ true → is_size rows cols ≡ true → nat_le 64 (length w.sessions) ≡ many → nat_le 18446744073709551616 w.next_id ≡ used → open_fault w user rows cols ≡ cond many (Some Full) (cond used (Some Full) None)
+pub no_room : (w : World) (user : List ℕ) (rows cols : ℕ) (many used : Bool) → is_some (find (same_name user) w.directory.users) ≡ true → is_size rows cols ≡ true → nat_le SESSION_LIMIT (length w.sessions) ≡ many → nat_le (2 ^ 64) w.next_id ≡ used → open_fault w user rows cols ≡ cond many (Some Full) (cond used (Some Full) None)
 no_room w user rows cols many used some fits many_is used_is =
-    ap (λ (b : Bool). judged b (is_size rows cols) (nat_le 64 (length w.sessions)) (nat_le 18446744073709551616 w.next_id)) (sym (among user w.directory.users) ∙ some)
-    ∙ ap (λ (b : Bool). judged true b (nat_le 64 (length w.sessions)) (nat_le 18446744073709551616 w.next_id)) fits
-    ∙ ap (λ (b : Bool). judged true true b (nat_le 18446744073709551616 w.next_id)) many_is
-    ∙ ap (λ (b : Bool). judged true true many b) used_is
+    ap (λ (b : Bool). fault_of b (is_size rows cols) (nat_le SESSION_LIMIT (length w.sessions)) (nat_le (2 ^ 64) w.next_id)) (sym (among user w.directory.users) ∙ some)
+    ∙ ap (λ (b : Bool). fault_of true b (nat_le SESSION_LIMIT (length w.sessions)) (nat_le (2 ^ 64) w.next_id)) fits
+    ∙ ap (λ (b : Bool). fault_of true true b (nat_le (2 ^ 64) w.next_id)) many_is
+    ∙ ap (λ (b : Bool). fault_of true true many b) used_is
 
 -- as many sessions as are kept
-pub many_sessions : (d : Directory) (ks : List MarkedBuffer) (xs : List Session) (next : Option ℕ) (n : ℕ) → n ≡ length xs → nat_le 64 (length (world_of d ks xs next).sessions) ≡ nat_le 64 n
-many_sessions d ks xs next n is = ap (nat_le 64) (length-map xs (session_of ks) ∙ sym is)
+pub many_sessions : (d : Directory) (ks : List MarkedBuffer) (xs : List Session) (next : Option ℕ) (n : ℕ) → n ≡ length xs → nat_le SESSION_LIMIT (length (world_of d ks xs next).sessions) ≡ nat_le SESSION_LIMIT n
+many_sessions d ks xs next n is = ap (nat_le SESSION_LIMIT) (length-map xs (session_of ks) ∙ sym is)
 
 -- THE ANSWER
 
-below_from : (a b : ℕ) → nat_le b a ≡ false → nat_lt a b ≡ true
-below_from a b h = grind (arith, nat_tests)
-
-all_five : (a b c d e : Bool) → a ≡ true → b ≡ true → c ≡ true → d ≡ true → e ≡ true → (a && (b && (c && (d && e)))) ≡ true
-all_five a b c d e ia ib ic id ie = rw (ia, ib, ic, id, ie) refl
-
 can_be_opened : (w : World) (id : ℕ) (user : List ℕ) (rows cols : ℕ) → open_fault w user rows cols ≡ None → id ≡ w.next_id → can_open w id user rows cols ≡ true
 can_be_opened w id user rows cols well is =
-    let all = all_well (is_among user w.directory.users) (is_size rows cols) (nat_le 64 (length w.sessions)) (nat_le 18446744073709551616 w.next_id) well in
-    all_five (is_among user w.directory.users) (is_size rows cols) (nat_lt (length w.sessions) 64) (nat_eq id w.next_id) (nat_lt id 18446744073709551616)
-    all.0 all.1 (below_from (length w.sessions) 64 all.2) (eq-eqb id w.next_id is)
-    (ap (λ (n : ℕ). nat_lt n 18446744073709551616) is ∙ below_from w.next_id 18446744073709551616 all.3)
+    ap (λ (o : Option OpenFault). not (is_some o) && (id == w.next_id)) well ∙ eq-eqb id w.next_id is
 
 opened_ok : (w v : World) (id : ℕ) (user : List ℕ) (rows cols : ℕ) → open_fault w user rows cols ≡ None → id ≡ w.next_id → v ≡ settled (opened w id user rows cols) → OpenedBy w v user rows cols (Ok id)
 opened_ok w v id user rows cols well is done =
@@ -168,7 +153,7 @@ answers : (w : World) (user : List ℕ) (rows cols : ℕ) (fault : OpenFault) �
 answers w user rows cols NoUser e = e
 answers w user rows cols Size e = e
 answers w user rows cols Full e = e
-answers w user rows cols Short e = never_short (is_among user w.directory.users) (is_size rows cols) (nat_le 64 (length w.sessions)) (nat_le 18446744073709551616 w.next_id) e
+answers w user rows cols Short e = never_short (is_among user w.directory.users) (is_size rows cols) (nat_le SESSION_LIMIT (length w.sessions)) (nat_le (2 ^ 64) w.next_id) e
 
 pub opened_fault : (w : World) (user : List ℕ) (rows cols : ℕ) (fault : OpenFault) → open_fault w user rows cols ≡ Some fault → OpenedBy w w user rows cols (Err fault)
 opened_fault w user rows cols fault e = record { ok = tt; err = refl; answer = answers w user rows cols fault e }

@@ -1,9 +1,11 @@
 //! The server's world: its directory, buffers and sessions. One call of `Core` is one event.
 #![tactic(auto)]
 
+mod laws;
 mod secrecy;
 mod server;
 
+pub use laws::{outcomes_are_lawful, settled_stays};
 pub use mgs_world::Size;
 pub use secrecy::{hidden_act, hidden_text, purged};
 pub use server::Core;

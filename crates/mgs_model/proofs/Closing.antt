@@ -16,7 +16,8 @@ use Rattle.mgs_model.specs.declared.right.Right.TheVariants.{Delete, WriteAcl, W
 use Rattle.mgs_model.specs.declared.session.Command.{Command}
 use Rattle.mgs_model.proofs.Blind.{is_some_map, same_names}
 use Rattle.mgs_model.proofs.Firsts.{find-map}
-use Rattle.mgs_model.proofs.Outcomes.{granted_found, granted_on, lawful, outcome_lawful}
+use Rattle.mgs_model.specs.Lawful.{granted_found, granted_on, lawful}
+use Rattle.mgs_model.proofs.Outcomes.{outcome_lawful}
 use Rattle.mgs_model.proofs.Unseen.{found_none}
 
 -- THE USERS LEAVE CLOSED BUFFERS CLOSED

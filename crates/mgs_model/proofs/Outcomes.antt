@@ -15,6 +15,7 @@ use Rattle.mgs_model.specs.declared.message.Message.{Message}
 use Rattle.mgs_model.specs.declared.message.Message.TheVariants.{BufferFull, EndOfBuffer, BeginningOfBuffer}
 use Rattle.mgs_model.specs.declared.session.Command.{Command}
 use Rattle.mgs_model.specs.declared.session.Command.TheVariants.{SelfInsert, Newline, ForwardChar, BackwardChar, Unbound}
+use Rattle.mgs_model.specs.Lawful.{granted_found, granted_on, lawful}
 use Rattle.mgs_model.proofs.Blind.{same_names}
 
 -- AN END STOPS WHAT ELSE WAS TO BE DONE
@@ -54,26 +55,6 @@ quit_stops v ForwardChar stored = on_stops v.session.own ForwardChar (target v)
 quit_stops v BackwardChar stored = on_stops v.session.own BackwardChar (target v)
 
 -- AN EFFECT COMES ONLY WITH ITS RIGHT
-
-abbrev pub granted_found : Right → Option BufferSeen → Bool
-granted_found right None = false
-granted_found right (Some b) = is_granted b right
-
--- the view's user is granted that right on the buffer of that name
-abbrev pub granted_on : View → List ℕ → Right → Bool
-granted_on v name right = granted_found right (find_seen name v.buffers)
-
--- the least rights without which an effect never happens
-abbrev pub lawful : View → Effect → Bool
-lawful v No_effect = true
-lawful v (Edit name a b put) = granted_on v name WriteData || granted_on v name AppendData
-lawful v (Unmodified name) = granted_on v name ReadData && granted_on v name WriteData
-lawful v (Relist name entries) = granted_on v name WriteAcl
-lawful v (Reown name owner) = granted_on v name WriteOwner
-lawful v (Create name owner) = not (is_some (find_seen name v.buffers))
-lawful v (Kill name) = granted_on v name Delete
-lawful v (Save name text) = granted_on v name ReadData && granted_on v name WriteData
-lawful v Quit = true
 
 -- the buffer is the one that its name finds in the view
 abbrev IsSeen : View → BufferSeen → Type 0

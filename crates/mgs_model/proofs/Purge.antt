@@ -1,13 +1,16 @@
 -- Work inside closed buffers leaves no trace for users who have no right on them.
-use Rattle.std.proofs.Common.{◌≡◌, ℕ, zero, suc, ◌+◌, ◌-◌, List, [], ◌∷◌, length, map, find, not, refl, sym, ap, ◌∙◌, Bool, true, false, cond, ◌&&◌, ◌==◌, nat_lt, Option, Some, None, is_some}
+use Rattle.std.proofs.Common.{◌≡◌, ℕ, zero, suc, ◌+◌, ◌-◌, List, [], ◌∷◌, length, map, find, not, refl, sym, ap, ◌∙◌, Bool, true, false, cond, ◌&&◌, ◌==◌, nat_le, ◌^◌, Option, Some, None, is_some}
 use Rattle.std.specs.Option.{option_map}
 use Rattle.std.proofs.lemmas.List.{length-map}
+use Rattle.std.specs.Prelude.{if◌then◌else◌}
+use Rattle.mgs_model.specs.declared.errors.OpenFault.TheVariants.{NoUser, Size, Full}
+use Rattle.mgs_model.specs.declared.limits.TheConstants.{SESSION_LIMIT}
 use Rattle.mgs_model.specs.Access.{Directory, is_among}
 use Rattle.mgs_model.specs.World.{World, Buffer, Session, Own, may, has_id, find_session, find_buffer}
 use Rattle.mgs_model.specs.View.{view}
 use Rattle.mgs_model.specs.Plans.{outcome}
 use Rattle.mgs_model.specs.Apply.{without_session}
-use Rattle.mgs_model.specs.Events.{Event, Open, Byte, Close, settled, first_shows, new_session, is_open, is_size, can_open, opened, Todo, Typed, Doing, Turn, Rest, Do, Refuse, next, refused_own, with_own, one_less, still_to_do, done, done_by, turn_done, turn, turns, most_turns, begun_own, begun, byte_done, step, run}
+use Rattle.mgs_model.specs.Events.{Event, Open, Byte, Close, settled, first_shows, new_session, is_open, is_size, can_open, open_fault, opened, Todo, Typed, Doing, Turn, Rest, Do, Refuse, next, refused_own, with_own, one_less, still_to_do, done, done_by, turn_done, turn, turns, most_turns, begun_own, begun, byte_done, step, run}
 use Rattle.mgs_model.specs.Seen.{seen_in}
 use Rattle.mgs_model.specs.Draw.{draw, screen}
 use Rattle.mgs_model.specs.Secrecy.{IsOf}
@@ -124,9 +127,13 @@ is_open_like users shut w v id e = sym (one w) ∙ ap (λ x. is_open id x) e ∙
 length_like : (users shut : List ℕ → Bool) (w v : World) → Like users shut w v → length w.sessions ≡ length v.sessions
 length_like users shut w v e = sym (length-map w.sessions (forget users shut)) ∙ ap (λ x. length x.sessions) e ∙ length-map v.sessions (forget users shut)
 
+open_fault_like : (users shut : List ℕ → Bool) (w v : World) (user : List ℕ) (rows cols : ℕ) → Like users shut w v → open_fault w user rows cols ≡ open_fault v user rows cols
+open_fault_like users shut w v user rows cols e =
+    λ i. (if not (is_among user (e i).directory.users) then Some NoUser else if not (is_size rows cols) then Some Size else if nat_le SESSION_LIMIT (length_like users shut w v e i) then Some Full else if nat_le (2 ^ 64) (e i).next_id then Some Full else None)
+
 can_open_like : (users shut : List ℕ → Bool) (w v : World) (id : ℕ) (user : List ℕ) (rows cols : ℕ) → Like users shut w v → can_open w id user rows cols ≡ can_open v id user rows cols
 can_open_like users shut w v id user rows cols e =
-    λ i. is_among user (e i).directory.users && (is_size rows cols && (nat_lt (length_like users shut w v e i) 64 && ((id == (e i).next_id) && nat_lt id 18446744073709551616)))
+    λ i. not (is_some (open_fault_like users shut w v user rows cols e i)) && (id == (e i).next_id)
 
 begun_like : (users shut : List ℕ → Bool) (id byte : ℕ) (stop : Option ℕ) (w v : World) → Like users shut w v → LikeDoings users shut (begun w id byte stop) (begun v id byte stop)
 begun_like users shut id byte stop w v e =

@@ -1,7 +1,10 @@
 -- Whole events and runs, where the texts of some buffers are hidden from the users.
-use Rattle.std.proofs.Common.{◌≡◌, ℕ, ◌+◌, ◌-◌, List, [], ◌∷◌, ◌++◌, length, map, find, refl, sym, ap, ◌∙◌, subst, Bool, true, false, cond, ◌&&◌, ◌==◌, nat_lt, Option, Some, None, is_some, zero, suc}
+use Rattle.std.proofs.Common.{◌≡◌, ℕ, ◌+◌, ◌-◌, List, [], ◌∷◌, ◌++◌, length, map, find, refl, sym, ap, ◌∙◌, subst, Bool, true, false, cond, ◌&&◌, ◌==◌, nat_le, not, ◌^◌, Option, Some, None, is_some, zero, suc}
 use Rattle.std.specs.Option.{option_map}
 use Rattle.std.proofs.lemmas.List.{length-map}
+use Rattle.std.specs.Prelude.{if◌then◌else◌}
+use Rattle.mgs_model.specs.declared.errors.OpenFault.TheVariants.{NoUser, Size, Full}
+use Rattle.mgs_model.specs.declared.limits.TheConstants.{SESSION_LIMIT}
 use Rattle.mgs_model.specs.Names.{same_name}
 use Rattle.mgs_model.specs.Access.{Directory, is_among}
 use Rattle.mgs_model.specs.Lines.{settled_top}
@@ -10,7 +13,7 @@ use Rattle.mgs_model.specs.View.{view}
 use Rattle.mgs_model.specs.Outcome.{Outcome, Effect, No_effect, Edit, Unmodified, Relist, Reown, Create, Kill, Save, Quit, After, Stops}
 use Rattle.mgs_model.specs.Plans.{outcome}
 use Rattle.mgs_model.specs.Apply.{apply, act, act_of, change_first, session_after, session_arranged, after_quit, without_session}
-use Rattle.mgs_model.specs.Events.{Event, Open, Byte, Close, top_settled, window_top, window_settled, session_settled, settled, first_shows, new_session, is_open, is_size, can_open, opened, Todo, Typed, Doing, Turn, Rest, Do, Refuse, next, refused_own, with_own, one_less, still_to_do, done, done_by, turn_done, turn, turns, most_turns, begun_own, begun, byte_done, step, run, Saved, saved_by, saves_of, turn_saves, turns_saves, step_saves, run_saves}
+use Rattle.mgs_model.specs.Events.{Event, Open, Byte, Close, top_settled, window_top, window_settled, session_settled, settled, first_shows, new_session, is_open, is_size, can_open, open_fault, opened, Todo, Typed, Doing, Turn, Rest, Do, Refuse, next, refused_own, with_own, one_less, still_to_do, done, done_by, turn_done, turn, turns, most_turns, begun_own, begun, byte_done, step, run, Saved, saved_by, saves_of, turn_saves, turns_saves, step_saves, run_saves}
 use Rattle.mgs_model.specs.Seen.{seen_in}
 use Rattle.mgs_model.specs.Draw.{draw, screen}
 use Rattle.mgs_model.specs.Secrecy.{hide, hide_if, blank_if, veil, veil_if, veil_window, blur, Alike, HiddenAmong, Hidden, IsOf, has_name, still, act_saves, HiddenAct, IsBy, AllBy, shut_turns, HiddenTurns, shut_step, HiddenStep, shut_run, HiddenRun, Same, HiddenText}
@@ -369,9 +372,13 @@ is_open_alike users shut w v id e = sym (one w) ∙ ap (λ x. is_open id x) e �
 length_alike : (users shut : List ℕ → Bool) (w v : World) → Alike users shut w v → length w.sessions ≡ length v.sessions
 length_alike users shut w v e = sym (length-map w.sessions (veil users)) ∙ ap (λ x. length x.sessions) e ∙ length-map v.sessions (veil users)
 
+open_fault_alike : (users shut : List ℕ → Bool) (w v : World) (user : List ℕ) (rows cols : ℕ) → Alike users shut w v → open_fault w user rows cols ≡ open_fault v user rows cols
+open_fault_alike users shut w v user rows cols e =
+    λ i. (if not (is_among user (e i).directory.users) then Some NoUser else if not (is_size rows cols) then Some Size else if nat_le SESSION_LIMIT (length_alike users shut w v e i) then Some Full else if nat_le (2 ^ 64) (e i).next_id then Some Full else None)
+
 can_open_alike : (users shut : List ℕ → Bool) (w v : World) (id : ℕ) (user : List ℕ) (rows cols : ℕ) → Alike users shut w v → can_open w id user rows cols ≡ can_open v id user rows cols
 can_open_alike users shut w v id user rows cols e =
-    λ i. is_among user (e i).directory.users && (is_size rows cols && (nat_lt (length_alike users shut w v e i) 64 && ((id == (e i).next_id) && nat_lt id 18446744073709551616)))
+    λ i. not (is_some (open_fault_alike users shut w v user rows cols e i)) && (id == (e i).next_id)
 
 -- A STEP
 

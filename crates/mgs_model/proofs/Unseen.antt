@@ -11,7 +11,7 @@ use Rattle.mgs_model.specs.declared.right.Right.{Right}
 use Rattle.mgs_model.specs.declared.right.Right.TheVariants.{ReadData, WriteData, AppendData, ReadAttributes, Delete, ReadAcl, WriteAcl, WriteOwner}
 use Rattle.mgs_model.proofs.Blind.{is_some_map, same_names}
 use Rattle.mgs_model.proofs.Firsts.{find-map}
-use Rattle.mgs_model.proofs.Outcomes.{granted_found}
+use Rattle.mgs_model.specs.Lawful.{granted_found}
 use Rattle.mgs_model.proofs.Outline.{erase_if, erase, shows_shut, forget_window, forget_place, forget_search, forget_if, forget, outline}
 
 -- two worlds are the same to the users

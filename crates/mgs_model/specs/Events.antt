@@ -1,5 +1,5 @@
 -- EVENTS, one step of the world, and runs.
-use Rattle.std.specs.Prelude.{ℕ, zero, suc, ◌+◌, ◌-◌, ◌^◌, nat_le, nat_lt, ◌==◌, Bool, false, ◌&&◌, List, [], ◌∷◌, ◌++◌, map, find, length, Option, Some, None, is_some, cond}
+use Rattle.std.specs.Prelude.{◌≡◌, ℕ, zero, suc, ◌+◌, ◌-◌, ◌^◌, nat_le, ◌==◌, Bool, false, not, ◌&&◌, if◌then◌else◌, List, [], ◌∷◌, ◌++◌, map, find, length, Option, Some, None, is_some, cond}
 use Rattle.mgs_model.specs.Access.{Directory, is_among}
 use Rattle.mgs_model.specs.Lines.{settled_top}
 use Rattle.mgs_model.specs.World.{World, Buffer, Session, Window, Own, first_own, Shows, Nothing, Buffer_of, has_id, find_session, find_buffer, may}
@@ -9,6 +9,9 @@ use Rattle.mgs_model.specs.Commands.{command_of}
 use Rattle.mgs_model.specs.declared.right.Right.TheVariants.{ReadData, ReadAttributes}
 use Rattle.mgs_model.specs.declared.message.Message.TheVariants.{Silent, NoMemory}
 use Rattle.mgs_model.specs.declared.session.Command.{Command}
+use Rattle.mgs_model.specs.declared.errors.OpenFault.{OpenFault}
+use Rattle.mgs_model.specs.declared.errors.OpenFault.TheVariants.{NoUser, Size, Full}
+use Rattle.mgs_model.specs.declared.limits.TheConstants.{SESSION_LIMIT}
 
 pub data Event : Type 0 where
   Open : (id : ℕ) → (user : List ℕ) → (rows : ℕ) → (cols : ℕ) → Event
@@ -67,10 +70,18 @@ is_size rows cols = nat_le 6 rows && (nat_le rows 64 && (nat_le 20 cols && nat_l
 abbrev pub is_open : ℕ → World → Bool
 is_open id w = is_some (find_session id w.sessions)
 
--- a user of the directory, a screen that is neither too small nor too large, fewer than 64 sessions, and the next id, a u64
+-- why a session must not be opened: no user of the directory, no size of a screen, 64 sessions are open, or no u64 is left
+abbrev pub open_fault : World → List ℕ → ℕ → ℕ → Option OpenFault
+open_fault w user rows cols =
+    if not (is_among user w.directory.users) then Some NoUser
+    else if not (is_size rows cols) then Some Size
+    else if nat_le SESSION_LIMIT (length w.sessions) then Some Full
+    else if nat_le (2 ^ 64) w.next_id then Some Full
+    else None
+
+-- no fault is due, and the id is the next
 abbrev pub can_open : World → ℕ → List ℕ → ℕ → ℕ → Bool
-can_open w id user rows cols =
-    is_among user w.directory.users && (is_size rows cols && (nat_lt (length w.sessions) 64 && ((id == w.next_id) && nat_lt id 18446744073709551616)))
+can_open w id user rows cols = not (is_some (open_fault w user rows cols)) && (id == w.next_id)
 
 abbrev pub opened : World → ℕ → List ℕ → ℕ → ℕ → World
 opened w id user rows cols =
@@ -156,6 +167,10 @@ begun w id byte stop = record { world = with_own id (begun_own byte) w; todo = T
 
 abbrev pub byte_done : World → ℕ → ℕ → Bool → Option ℕ → World
 byte_done w id byte stored stop = (turns most_turns id stored (begun w id byte stop)).world
+
+-- settling what is settled changes nothing
+abbrev pub SettledStays : Type 0
+SettledStays = (w : World) → settled (settled w) ≡ settled w
 
 -- STEP
 abbrev pub step : World → Event → World

@@ -53,7 +53,7 @@ window_sound ks x i w sound is l = record { once = λ n m. omega (arith, sound.o
 pub point_used : (x : WindowMarks) → 1 ≤ window_marks_uses x.name x.point (Some x)
 point_used x = omega (arith, window_marks_once x)
 
--- how often a window's marks uses its top
+-- how often a window uses its top
 pub top_once : (x : WindowMarks) → window_marks_uses x.name x.top (Some x) ≡ one_if (nat_eq x.point x.top) + option_uses x.top x.mark + 1
 top_once x =
     let s : same_name x.name x.name ≡ true = is_same x.name x.name refl in

@@ -1,6 +1,6 @@
 -- What is in use after a mark is added or dropped.
 use Rattle.std.proofs.Common.{◌≡◌, ℕ, ◌+◌, ◌≤◌, ◌≢◌, Bool, true, false, cond, List, [], ◌∷◌, ◌++◌, map, Option, Some, None, refl, sym, ap, subst, ◌∙◌, arith, eq-eqb}
-use Rattle.std.specs.Prelude.{find, IsSome, is_some, nat_eq}
+use Rattle.std.specs.Prelude.{find, IsSome, is_some, nat_eq, Result, Ok, Err, OnErr}
 use Rattle.std.specs.Option.{option_map}
 use Rattle.std.specs.Cmp.{unsigned_Decides}
 use Rattle.mgs_model.specs.Names.{same_name}
@@ -239,8 +239,8 @@ marked_window_marks_dropped n x k a b c d named marked kept mark h top g last f 
     }
 
 -- a mark that was added is dropped again
-undone_at : (n : List ℕ) (p id : ℕ) (a b d : List MarkedBuffer) → HasBuffer n a → MarkAdded n p id a b → MarkDropped n id b d → WindowMarksDropped None a d
-undone_at n p id a b d kept h g =
+pub undone : (n : List ℕ) (p id : ℕ) (a b d : List MarkedBuffer) → HasBuffer n a → MarkAdded n p id a b → MarkDropped n id b d → WindowMarksDropped None a d
+undone n p id a b d kept h g =
     let kept_b = marked_marked_kept n h.marks a b kept h.shape in
     let mark : IsMark n id b = ap is_some (found_added n p id a b kept h) in
     record {
@@ -249,8 +249,9 @@ undone_at n p id a b d kept h g =
       stay = λ m i used after. ap or_zero (stays_dropped n id b d m i kept_b g after ∙ stays_added n p id a b m i kept h used);
     }
 
-pub undone : (n : List ℕ) (p id : ℕ) (a b c d : List MarkedBuffer) → HasBuffer n a → MarkAdded n p id a b → c ≡ b → MarkDropped n id c d → WindowMarksDropped None a d
-undone n p id a b c d kept h same g = undone_at n p id a b d kept h (subst (λ (x : List MarkedBuffer). MarkDropped n id x d) same g)
+pub when_err : {A E P : Type 0} (r : Result A E) → P → OnErr r P
+when_err (Ok x) p = tt
+when_err (Err e) p = p
 
 pub added_mark : (n : List ℕ) (p id : ℕ) (a b : List MarkedBuffer) → HasBuffer n a → MarkAdded n p id a b → IsMark n id b
 added_mark n p id a b kept h = ap is_some (found_added n p id a b kept h)

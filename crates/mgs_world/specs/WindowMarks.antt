@@ -13,7 +13,7 @@ use Rattle.mgs_world.specs.Sound.{in_use, window_marks_uses}
 abbrev pub MarksStay : List MarkedBuffer → List MarkedBuffer → Type 0
 MarksStay old new = (m : List ℕ) (i : ℕ) → 1 ≤ in_use m i old → 1 ≤ in_use m i new → mark_at m new i ≡ mark_at m old i
 
--- the marks of a window's marks are added: point and top at the start of the text, and no mark
+-- a window's marks are added: point and top at the start of the text, and no mark
 pub record WindowMarksAdded (name : List ℕ) (x : WindowMarks) (old new : List MarkedBuffer) : Type 0 where
   pub buffers : buffers_of new ≡ buffers_of old
   pub uses : (m : List ℕ) (i : ℕ) → in_use m i new ≡ in_use m i old + window_marks_uses m i (Some x)
@@ -23,7 +23,7 @@ pub record WindowMarksAdded (name : List ℕ) (x : WindowMarks) (old new : List 
   pub point : mark_at name new x.point ≡ 0
   pub top : mark_at name new x.top ≡ 0
 
--- the marks of what a window showed are given up
+-- what a window showed is given up with its marks
 pub record WindowMarksDropped (o : Option WindowMarks) (old new : List MarkedBuffer) : Type 0 where
   pub buffers : buffers_of new ≡ buffers_of old
   pub uses : (m : List ℕ) (i : ℕ) → in_use m i old ≡ in_use m i new + window_marks_uses m i o
@@ -37,7 +37,7 @@ window_marks_name o = option_map (λ (x : WindowMarks). x.name) o
 abbrev pub first_name : Directory → List ℕ → List MarkedBuffer → Option (List ℕ)
 first_name directory user ks = option_map (λ (b : Buffer). b.name) (find (may directory user ReadAttributes) (buffers_of ks))
 
--- what the first window of a session shows: a window's marks that was added, or nothing
+-- what the first window of a session shows: a buffer at marks that were added, or nothing
 abbrev pub FirstWindowMarks : Option WindowMarks → List MarkedBuffer → List MarkedBuffer → Type 0
 FirstWindowMarks None old new = WindowMarksDropped None old new
 FirstWindowMarks (Some x) old new = WindowMarksAdded x.name x old new

@@ -1,15 +1,35 @@
-// A session comes and goes: the marks of its window.
+// A session comes and goes: the marks of its windows.
 ghost use Rattle.std.specs.Prelude.{◌≡◌, ◌+◌, ℕ, List, None, IfOk, OnErr};
-ghost use Rattle.mgs_buffers.specs.MarkedBuffer.{HasBuffer};
+ghost use Rattle.mgs_buffers.specs.MarkedBuffer.{HasBuffer, IsMark, MarkAdded, MarkDropped};
 ghost use Rattle.mgs_world.specs.WindowMarks.{MarksStay, WindowMarksAdded, WindowMarksDropped};
 ghost use Rattle.mgs_world.specs.Worlds.{buffers_of};
 ghost use Rattle.mgs_world.specs.Sound.{IsSessionSound, IsWindowSound, in_use, session_uses};
 
 use mgs_buffers::Buffers;
 use mgs_marks::Marked;
-use mgs_model::{Name, Short};
+use mgs_model::{MarkId, Name, Short};
 use mgs_session::Session;
 use mgs_windows::{Window, WindowMarks};
+
+/// A mark at the start of a buffer, beside one that is there. `Short`: memory was refused, and that one is given up.
+fn add_beside<T: Marked + Drop>(
+    buffers: &mut Buffers<T>,
+    name: &Name,
+    first: MarkId,
+) -> Result<MarkId, Short>
+    requires kept { HasBuffer name.now buffers.old }
+    requires mark { IsMark name.now first buffers.old }
+    ensures ok { IfOk result (λ id. MarkAdded name.now 0 id buffers.old buffers.new) }
+    ensures err { OnErr result (MarkDropped name.now first buffers.old buffers.new) }
+{
+    match buffers.add_mark(name, 0) {
+        Ok(mark) => Ok(mark),
+        Err(short) => {
+            buffers.drop_mark(name, first);
+            Err(short)
+        }
+    }
+}
 
 /// Marks for a window that comes to a buffer: point and top at its start. `Short`: memory was refused, and no mark
 /// was added.
@@ -22,18 +42,13 @@ pub fn add_window_marks<T: Marked + Drop>(
     ensures err { OnErr result (WindowMarksDropped None buffers.old buffers.new) }
 {
     let point = buffers.add_mark(name, 0)?;
-    match buffers.add_mark(name, 0) {
-        Ok(top) => Ok(WindowMarks {
-            name: *name,
-            point,
-            mark: None,
-            top,
-        }),
-        Err(short) => {
-            buffers.drop_mark(name, point);
-            Err(short)
-        }
-    }
+    let top = add_beside(buffers, name, point)?;
+    Ok(WindowMarks {
+        name: *name,
+        point,
+        mark: None,
+        top,
+    })
 }
 
 fn drop_window_marks<T: Marked + Drop>(buffers: &mut Buffers<T>, window: &Window)

@@ -1,8 +1,8 @@
-use Rattle.std.proofs.Common.{◌≡◌, ◌∙◌, Some, true, false, ap, sym, refl}
+use Rattle.std.proofs.Common.{◌≡◌, ◌∙◌, ◌^◌, Some, true, false, ap, sym, refl}
 use Rattle.std.specs.Prelude.{is_some, nat_le}
 use Rattle.mgs_model.specs.World.{World}
 use Rattle.mgs_model.specs.declared.errors.OpenFault.TheVariants.{Full}
-use Rattle.mgs_core.specs.Steps.{open_fault}
+use Rattle.mgs_model.specs.Events.{open_fault}
 use Rattle.mgs_world.specs.Worlds.{world_of}
 use Rattle.mgs_core.proofs.Openings.{no_user, no_screen, no_room, many_sessions}
 use Rattle.mgs_core.proofs.server.Core.refusal.Goals.{then-is_full-via-then-is_full, then-is_full-via-else-is_full+then-is_used_up}
@@ -24,14 +24,14 @@ pub returns-then-is_full-clause-value : goal.returns-then-is_full-clause-value
 returns-then-is_full-clause-value g c =
     let i = c.self.inside in
     let v = world_of i.directory i.buffers i.sessions.items i.next_id in
-    let judged = no_room v c.args.user.now c.args.rows c.args.cols in
+    let due = no_room v c.args.user.now c.args.rows c.args.cols in
     let known = ap is_some (sym c.user.ensures) ∙ c.if-is_none.ensures in
     let fits = sym c.is_size.ensures ∙ c.if-not-is_size.false in
     let many = many_sessions i.directory i.buffers i.sessions.items i.next_id c.len.result (c.len.ensures ∙ i.sessions.ok.0) ∙ sym c.is_full.ensures in
     let full : open_fault v c.args.user.now c.args.rows c.args.cols ≡ Some Full =
     elim c.then-is_full.branch [
-      | then-is_full-via-then-is_full w ↦ judged true (nat_le 18446744073709551616 v.next_id) known fits (many ∙ w.if-is_full.true) refl
-      | then-is_full-via-else-is_full+then-is_used_up w ↦ judged false true known fits (many ∙ w.if-is_full.false) (sym w.is_used_up.ensures ∙ w.if-is_used_up.true)
+      | then-is_full-via-then-is_full w ↦ due true (nat_le (2 ^ 64) v.next_id) known fits (many ∙ w.if-is_full.true) refl
+      | then-is_full-via-else-is_full+then-is_used_up w ↦ due false true known fits (many ∙ w.if-is_full.false) (sym w.is_used_up.ensures ∙ w.if-is_used_up.true)
     ] in
     sym full ∙ ap (λ (w : World). open_fault w c.args.user.now c.args.rows c.args.cols) c.self.view_is
 

@@ -1,0 +1,5 @@
+use Rattle.mgs_model.proofs.Outcomes.{outcome_lawful}
+use Rattle.mgs_core.proofs.laws.outcomes_are_lawful.Goals as goal
+
+pub returns : goal.returns
+returns c = outcome_lawful

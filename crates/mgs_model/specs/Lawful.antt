@@ -1,0 +1,32 @@
+-- LAWFUL EFFECTS: each comes only with its right.
+use Rattle.std.specs.Prelude.{◌≡◌, Bool, true, false, not, ◌&&◌, ◌||◌, List, ℕ, Option, Some, None, is_some}
+use Rattle.mgs_model.specs.View.{View, BufferSeen, find_seen, is_granted}
+use Rattle.mgs_model.specs.Outcome.{Effect, No_effect, Edit, Unmodified, Relist, Reown, Create, Kill, Save, Quit}
+use Rattle.mgs_model.specs.Plans.{outcome}
+use Rattle.mgs_model.specs.declared.right.Right.{Right}
+use Rattle.mgs_model.specs.declared.right.Right.TheVariants.{ReadData, WriteData, AppendData, WriteAcl, WriteOwner, Delete}
+use Rattle.mgs_model.specs.declared.session.Command.{Command}
+
+abbrev pub granted_found : Right → Option BufferSeen → Bool
+granted_found right None = false
+granted_found right (Some b) = is_granted b right
+
+-- the view's user is granted that right on the buffer of that name
+abbrev pub granted_on : View → List ℕ → Right → Bool
+granted_on v name right = granted_found right (find_seen name v.buffers)
+
+-- the least rights without which an effect never happens; a buffer is created only under a name that none has
+abbrev pub lawful : View → Effect → Bool
+lawful v No_effect = true
+lawful v (Edit name a b put) = granted_on v name WriteData || granted_on v name AppendData
+lawful v (Unmodified name) = granted_on v name ReadData && granted_on v name WriteData
+lawful v (Relist name entries) = granted_on v name WriteAcl
+lawful v (Reown name owner) = granted_on v name WriteOwner
+lawful v (Create name owner) = not (is_some (find_seen name v.buffers))
+lawful v (Kill name) = granted_on v name Delete
+lawful v (Save name text) = granted_on v name ReadData && granted_on v name WriteData
+lawful v Quit = true
+
+-- whatever a command comes to, its effect is lawful: asking again when it is done would refuse nothing
+abbrev pub OutcomesAreLawful : Type 0
+OutcomesAreLawful = (v : View) (c : Command) (stored : Bool) → lawful v (outcome v c stored).effect ≡ true
