@@ -8,3 +8,4 @@ pub mod Events
 pub mod Players
 pub mod Drafts
 pub mod Fits
+pub mod Replaying

@@ -1,6 +1,6 @@
 -- What the lines from the first open on do, by what stands after the labels.
 use Rattle.std.proofs.Common.{◌≡◌, ℕ, true, false, List, [], ◌∷◌, ◌++◌, Option, Some, None, Result, Ok, Err, refl, sym, ap, subst, ◌∙◌}
-use Rattle.std.specs.Prelude.{find, All, is_some, not, OnOk}
+use Rattle.std.specs.Prelude.{find, All, IsSome, is_some, not, OnOk}
 use Rattle.std.specs.Option.{option_map}
 use Rattle.std.proofs.lemmas.List.{append-nil}
 use Rattle.mgs_model.specs.World.{World}
@@ -88,6 +88,12 @@ refused_one name (Some clients.Never) h = refl
 refused_one name (Some (clients.Open id term)) h = absurd cc
 refused_one name (Some (clients.Ended cause)) h = absurd cc
 
+allowed_one : (name : List ℕ) (o : Option Client) → IsSome (shown_text name o) → not (had_session (option_map standing_in o)) ≡ false
+allowed_one name None h = absurd cc
+allowed_one name (Some clients.Never) h = absurd cc
+allowed_one name (Some (clients.Open id term)) h = refl
+allowed_one name (Some (clients.Ended cause)) h = refl
+
 pub shows_run : (r : Result (Unit {0}) LineFault) (e : Serving) (xs : List Labelled) (name old new : List ℕ) → IsReady e xs → Prints r old new (shown_text name (client_of name xs))
     → Runs r (player_of e xs) (said.Show name) (player_of e xs) old new
 unfolding Printed
@@ -98,7 +104,8 @@ shows_run (Ok u) e xs name old new ready h =
     (q.0, (q.1.0, (refl, q.1.1), q.1.2))
 shows_run (Err Bad) e xs name old new ready h =
     ap (λ (st : Option Standing). not (had_session st)) (standing_at name xs) ∙ refused_one name (client_of name xs) h
-shows_run (Err Short) e xs name old new ready h = tt
+shows_run (Err Short) e xs name old new ready h =
+    ap (λ (st : Option Standing). not (had_session st)) (standing_at name xs) ∙ allowed_one name (client_of name xs) h
 
 -- AN OPEN
 
@@ -108,7 +115,7 @@ opened_runs (Ok d) w v u ls ms name user rows cols id out free opened bad world 
     let now : OpenedBy w u user rows cols (Ok id) = subst (λ (x : World). OpenedBy w x user rows cols (Ok id)) (sym world) opened in
     (free, ([], (Ok id, (now, ap (λ (xs : List Label). begun u xs) labels, refl)), sym (append-nil out)))
 opened_runs (Err Bad) w v u ls ms name user rows cols id out free opened bad world labels = absurd bad
-opened_runs (Err Short) w v u ls ms name user rows cols id out free opened bad world labels = tt
+opened_runs (Err Short) w v u ls ms name user rows cols id out free opened bad world labels = free
 
 pub refused_runs : (r : Result (Unit {0}) LineFault) (old new : Serving) (xs ys : List Labelled) (name user : List ℕ) (rows cols : ℕ) (fault : OpenFault) (out printed : List ℕ) → is_some (standing_of name (labels_in xs)) ≡ false → OpenedBy old.world new.world user rows cols (Err fault)
     → NotBad r → OnOk r (ys ≡ xs ++ record { label = name; client = clients.Never } ∷ []) → OnOk r (printed ≡ out ++ refusal_text name fault) → Runs r (player_of old xs) (said.Open name user rows cols) (player_of new ys) out printed
@@ -116,7 +123,7 @@ refused_runs (Ok d) old new xs ys name user rows cols fault out printed free ope
     let labels : labels_in ys ≡ labels_in xs ++ label name Never ∷ [] = ap labels_in clients_are ∙ labels_push xs (record { label = name; client = clients.Never }) in
     (free, (refusal_text name fault, (Err fault, (opened, ap (λ (ls : List Label). begun new.world ls) labels, refl)), print))
 refused_runs (Err Bad) old new xs ys name user rows cols fault out printed free opened bad clients_are print = absurd bad
-refused_runs (Err Short) old new xs ys name user rows cols fault out printed free opened bad clients_are print = tt
+refused_runs (Err Short) old new xs ys name user rows cols fault out printed free opened bad clients_are print = free
 
 pub some_map : {A B : Type 0} (f : A → B) (o : Option A) → is_some (option_map f o) ≡ is_some o
 some_map f None = refl

@@ -1,5 +1,5 @@
 -- The terminals of the labels beside the engine that serves them.
-use Rattle.std.specs.Prelude.{◌≡◌, ℕ, nat_eq, true, false, List, [], ◌∷◌, ◌++◌, map, Option, Some, None, Result, Ok, Err, All}
+use Rattle.std.specs.Prelude.{◌≡◌, ℕ, nat_eq, true, false, List, [], ◌∷◌, ◌++◌, map, Option, Some, None, IsSome, Result, Ok, Err, All}
 use Rattle.std.specs.Option.{option_map}
 use Rattle.mgs_model.specs.World.{World, Session, find_session}
 use Rattle.mgs_model.specs.Draw.{screen}
@@ -108,11 +108,11 @@ clients_keyed keyed.Done name xs = xs
 clients_keyed keyed.NoSession name xs = xs
 clients_keyed keyed.Short name xs = xs
 
--- exactly the text was printed; the line is refused exactly where there is none
+-- exactly the text was printed; the line is refused exactly where there is none, and out of memory comes only where there is one
 abbrev pub Prints : Result (Unit {0}) LineFault → List ℕ → List ℕ → Option (List ℕ) → Type 0
 Prints (Ok done) old new text = option_map (λ (t : List ℕ). old ++ t) text ≡ Some new
 Prints (Err lines.Bad) old new text = text ≡ None
-Prints (Err lines.Short) old new text = Unit {0}
+Prints (Err lines.Short) old new text = IsSome text
 
 -- printing fails only for out of memory
 abbrev pub short_or : {E : Type 0} → Result (Unit {0}) E → Result (Unit {0}) LineFault
@@ -125,11 +125,11 @@ NotBad (Ok done) = Unit {0}
 NotBad (Err lines.Bad) = ⊥
 NotBad (Err lines.Short) = Unit {0}
 
--- what a line did, and what it put after what was printed
+-- what a line did, and what it put after what was printed; out of memory comes only where the line is not refused
 abbrev pub Runs : Result (Unit {0}) LineFault → Player → Said → Player → List ℕ → List ℕ → Type 0
 Runs (Ok done) s l t old new = (is_refused s l ≡ false) × ((print : List ℕ) × Does s l t print × (new ≡ old ++ print))
 Runs (Err lines.Bad) s l t old new = is_refused s l ≡ true
-Runs (Err lines.Short) s l t old new = Unit {0}
+Runs (Err lines.Short) s l t old new = is_refused s l ≡ false
 
 -- the same of a line that may say nothing
 abbrev pub RunsSaid : Result (Unit {0}) LineFault → Player → Option Said → Player → List ℕ → List ℕ → Type 0

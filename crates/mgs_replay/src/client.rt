@@ -4,7 +4,7 @@ use mgs_term::Term;
 
 /// How a session ended.
 #[derive(Clone, Copy, Debug, PartialEq, Eq)]
-pub enum Cause {
+pub(crate) enum Cause {
     /// By a byte.
     Quit,
     /// By a `close` line.
@@ -13,7 +13,7 @@ pub enum Cause {
 
 /// What stands after a label.
 #[derive(Drop)]
-pub enum Client {
+pub(crate) enum Client {
     /// The open was refused.
     Never,
     /// An open session, and its terminal.
@@ -24,7 +24,7 @@ pub enum Client {
 
 /// A label, and what stands after it.
 #[derive(Drop)]
-pub struct Labelled {
-    pub label: Name,
-    pub client: Client,
+pub(crate) struct Labelled {
+    pub(crate) label: Name,
+    pub(crate) client: Client,
 }

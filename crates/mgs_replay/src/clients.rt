@@ -11,7 +11,7 @@ use std::marker::Model;
 
 /// The labels so far, in the order in which they were used.
 #[derive(Drop)]
-pub struct Clients {
+pub(crate) struct Clients {
     all: Vec<Labelled>,
 }
 
@@ -41,7 +41,7 @@ fn end_labelled(labelled: &mut Labelled, label: &Name, cause: Cause)
 
 impl Clients {
     /// No label.
-    pub fn new(alloc: Global) -> Self
+    pub(crate) fn new(alloc: Global) -> Self
         ensures { result ≡ [] }
     {
         Clients {
@@ -50,14 +50,14 @@ impl Clients {
     }
 
     /// What stands after a label, if it was used.
-    pub fn client(&self, label: &Name) -> Option<&Client>
+    pub(crate) fn client(&self, label: &Name) -> Option<&Client>
         ensures { option_map (λ x. x.now) result ≡ client_of label.now self.now }
     {
         found(&self.all, label).map(|labelled| &labelled.client)
     }
 
     /// Puts something after a new label. `Short`: memory was refused, and all is as it was.
-    pub fn add(&mut self, label: Name, client: Client) -> Result<(), Short>
+    pub(crate) fn add(&mut self, label: Name, client: Client) -> Result<(), Short>
         ensures ok { OnOk result (self.new ≡ self.old ++ record { label = label; client = client } ∷ []) }
         ensures err { OnErr result (self.new ≡ self.old) }
     {
@@ -68,7 +68,7 @@ impl Clients {
     }
 
     /// The session of a label has ended.
-    pub fn end(&mut self, label: &Name, cause: Cause)
+    pub(crate) fn end(&mut self, label: &Name, cause: Cause)
         ensures { self.new ≡ map (ended_by label.now cause) self.old }
     {
         for labelled in self.all.iter_mut() {

@@ -3,16 +3,12 @@
 
 mod client;
 mod clients;
+mod law;
 mod lines;
 mod player;
 mod print;
 mod script;
 mod setup;
 
-pub use client::{Cause, Client, Labelled};
-pub use clients::Clients;
-pub use lines::play;
-pub use player::{Server, step_line};
-pub use print::{print_ended, print_refusal, print_screen};
+pub use law::output_is_determined;
 pub use script::{ReplayFault, replay};
-pub use setup::Setup;

@@ -156,7 +156,11 @@ fn server_of(alloc: Global, setup: Setup) -> Result<Server, Short>
 ///
 /// `Line` is the first line that is refused; what the lines before it print is written. `Write`: writing fails. `Short`
 /// is out of memory. Nothing is said of what was written at these two.
-pub fn play<W: Write>(alloc: Global, script: &[u8], writer: &mut W) -> Result<(), ReplayFault>
+pub(crate) fn play<W: Write>(
+    alloc: Global,
+    script: &[u8],
+    writer: &mut W,
+) -> Result<(), ReplayFault>
     requires { length script.now ≤ SCRIPT_LIMIT }
     ensures line { IsPlayed result }
     ensures written { Written first_world script.now (W.contents writer.old) (W.contents writer.new) result }

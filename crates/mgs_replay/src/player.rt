@@ -21,7 +21,7 @@ use mgs_term::Term;
 use std::alloc::{AllocError, Global};
 
 /// An engine whose texts are plain.
-pub type Server = Engine<PlainMarked>;
+pub(crate) type Server = Engine<PlainMarked>;
 
 fn printed(outcome: Result<(), AllocError>) -> Result<(), LineFault>
     ensures { result ≡ short_or outcome }
@@ -268,7 +268,7 @@ fn run_line(
 ///
 /// `Bad`: the line is refused. It says nothing that is known, sets users or buffers, opens a label that was used, or
 /// names one that had no session. `Short` is out of memory. Nothing is said of what these two leave.
-pub fn step_line(
+pub(crate) fn step_line(
     alloc: Global,
     server: &mut Server,
     clients: &mut Clients,

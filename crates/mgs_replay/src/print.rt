@@ -36,7 +36,11 @@ fn number_and_name(fault: OpenFault) -> &'static [u8]
 }
 
 /// The line of a refused open.
-pub fn print_refusal(out: &mut Vec<u8>, label: &Name, fault: OpenFault) -> Result<(), AllocError>
+pub(crate) fn print_refusal(
+    out: &mut Vec<u8>,
+    label: &Name,
+    fault: OpenFault,
+) -> Result<(), AllocError>
     ensures { OnOk result (out.new.items ≡ out.old.items ++ refusal_text label.now fault) }
 {
     out.extend_from_slice(b"refused ")?;
@@ -54,7 +58,7 @@ fn cause_name(cause: Cause) -> &'static [u8]
 }
 
 /// The line of a session that ended.
-pub fn print_ended(out: &mut Vec<u8>, label: &Name, cause: Cause) -> Result<(), AllocError>
+pub(crate) fn print_ended(out: &mut Vec<u8>, label: &Name, cause: Cause) -> Result<(), AllocError>
     ensures { OnOk result (out.new.items ≡ out.old.items ++ ended_text label.now cause) }
 {
     out.extend_from_slice(b"ended ")?;
@@ -109,7 +113,7 @@ fn print_rows(out: &mut Vec<u8>, rows: usize, cols: usize, cells: &[Cell]) -> Re
 
 /// The lines of a session's screen: its label, each row between two `|`, or two `!` where its first cell is reversed,
 /// and the cursor's row and column, counted from 1.
-pub fn print_screen(out: &mut Vec<u8>, label: &Name, term: &Term) -> Result<(), AllocError>
+pub(crate) fn print_screen(out: &mut Vec<u8>, label: &Name, term: &Term) -> Result<(), AllocError>
     ensures { OnOk result (out.new.items ≡ out.old.items ++ screen_text label.now term.now.screen) }
 {
     out.extend_from_slice(b"screen ")?;

@@ -4,7 +4,7 @@ ghost use Rattle.std.specs.Io.KnownBytes.{Keeps};
 ghost use Rattle.mgs_replay.specs.Faults.{IsCounted};
 ghost use Rattle.mgs_replay.specs.Settings.{first_world};
 ghost use Rattle.mgs_replay.specs.Plays.{Written};
-ghost use Rattle.mgs_replay.specs.Reads.{PieceRead, TakesAtMost};
+ghost use Rattle.mgs_replay.specs.Reads.{PieceRead, TakesAtMost, LeavesUnread, IsTooLong};
 
 use crate::lines::play;
 use mgs_model::SCRIPT_LIMIT;
@@ -54,7 +54,7 @@ fn read_piece<R: Read>(reader: &mut R, bytes: &mut Vec<u8>) -> Result<bool, Scri
 fn read_script<R: Read>(alloc: Global, reader: &mut R) -> Result<Vec<u8>, ScriptFault>
     ensures whole { IfOk result (λ v. IfSome (R.remaining reader.old) (λ xs. v.items ≡ xs)) }
     ensures limit { IfOk result (λ v. length v.items ≤ SCRIPT_LIMIT) }
-    ensures taken { TakesAtMost (R.remaining reader.old) (R.remaining reader.new) 16777217 }
+    ensures taken { TakesAtMost (R.remaining reader.old) (R.remaining reader.new) (SCRIPT_LIMIT + 1) }
 {
     let mut bytes = Vec::new(alloc);
     for _ in 0..u64::MAX {
@@ -79,7 +79,9 @@ pub fn replay<R: Read, W: Write>(
 ) -> Result<(), ReplayFault>
     ensures written { IfSome (R.remaining reader.old) (λ script. Written first_world script (W.contents writer.old) (W.contents writer.new) result) }
     ensures line { IsCounted result }
-    ensures taken { TakesAtMost (R.remaining reader.old) (R.remaining reader.new) 16777217 }
+    ensures unread { LeavesUnread result (W.contents writer.old) (W.contents writer.new) }
+    ensures limit { IfSome (R.remaining reader.old) (λ script. SCRIPT_LIMIT < length script → IsTooLong result (W.contents writer.old) (W.contents writer.new)) }
+    ensures taken { TakesAtMost (R.remaining reader.old) (R.remaining reader.new) (SCRIPT_LIMIT + 1) }
 {
     let script = match read_script(alloc, reader) {
         Ok(script) => script,

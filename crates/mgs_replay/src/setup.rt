@@ -28,7 +28,7 @@ struct Draft<'a> {
 
 /// The users, groups and buffers so far. All of these can be kept by a server.
 #[derive(Drop)]
-pub struct Setup<'a> {
+pub(crate) struct Setup<'a> {
     alloc: Global,
     directory: Directory,
     drafts: Vec<Draft<'a>>,
@@ -163,7 +163,7 @@ fn line_fault(fault: DirectoryFault) -> LineFault
 
 impl<'a> Setup<'a> {
     /// No user, no group and no buffer.
-    pub fn new(alloc: Global) -> Self
+    pub(crate) fn new(alloc: Global) -> Self
         ensures { result ≡ first_world }
     {
         Setup {
@@ -215,7 +215,7 @@ impl<'a> Setup<'a> {
 
     /// Runs a line that stands before the first `open`. `Bad`: it is refused, or it is a line of sessions, of which none
     /// is open yet. `Short` is out of memory, which comes only where the line is not refused. Both leave all as it was.
-    pub fn run(&mut self, line: Line<'a>) -> Result<(), LineFault>
+    pub(crate) fn run(&mut self, line: Line<'a>) -> Result<(), LineFault>
         ensures { Sets result (view line.entry) self.old self.new }
     {
         match line {
@@ -233,7 +233,7 @@ impl<'a> Setup<'a> {
 
     /// A server over these users and buffers, without a session.
     #[tactic(auto, using(crate::proofs::Drafts::marked_buffers))]
-    pub fn into_core(self) -> Result<Core<PlainMarked>, Short>
+    pub(crate) fn into_core(self) -> Result<Core<PlainMarked>, Short>
         ensures world { IfOk result (λ c. c ≡ self.entry) }
         ensures sessions { IfOk result (λ c. c.sessions ≡ []) }
     {

@@ -1,0 +1,169 @@
+-- What a script writes, as a function of what its events are granted.
+use Rattle.std.specs.Prelude.{◌≡◌, ℕ, ◌+◌, ◌++◌, Bool, true, cond, List, [], ◌∷◌, map, All, Option, Some, None, Result, Ok, Err}
+use Rattle.mgs_model.specs.World.{World, Session, find_session}
+use Rattle.mgs_model.specs.Draw.{screen}
+use Rattle.mgs_model.specs.Events.{step, refused_act, may_be_refused}
+use Rattle.mgs_model.specs.Events as events
+use Rattle.mgs_model.specs.declared.errors.Keyed.{Keyed}
+use Rattle.mgs_model.specs.declared.errors.Keyed.TheVariants as keyed
+use Rattle.mgs_model.specs.declared.errors.OpenFault.{OpenFault}
+use Rattle.mgs_model.specs.declared.errors.OpenFault.TheVariants as opening
+use Rattle.mgs_core.specs.Steps.{open_fault}
+use Rattle.mgs_paint.specs.Painting.{shown}
+use Rattle.mgs_script.specs.Lines.{Said, said_in, Nothing, User, Group, Buffer, Entry as Listing, Text, Open, Keys, Show, Close}
+use Rattle.mgs_script.specs.Scripts.{lines_of}
+use Rattle.mgs_replay.specs.declared.client.Cause.TheVariants as causes
+use Rattle.mgs_replay.specs.Settings.{first_world, world_set}
+use Rattle.mgs_replay.specs.Prints.{refusal_text, ended_text, screen_text}
+use Rattle.mgs_replay.specs.Players.{Player, label, Label, Standing, Never, Has, Gone, standing_of, session_now, gone, labels_keyed, setting, begun, is_refused}
+use Rattle.mgs_replay.specs.Plays.{End, Whole, RefusedAt, MayPrint}
+
+-- CHOICES
+
+-- what an open or a byte is granted: the store's answer to a save, and after how many acts memory is refused, if it is
+pub record Choice : Type 0 where
+  pub stored : Bool
+  pub stop : Option ℕ
+
+-- all of it
+abbrev pub granted : Choice
+granted = record { stored = true; stop = None }
+
+-- the choice of the next event; where none is left, it is granted all
+abbrev pub next_choice : List Choice → Choice
+next_choice [] = granted
+next_choice (c ∷ cs) = c
+
+-- the choices of the next line's events
+abbrev pub next_choices : List (List Choice) → List Choice
+next_choices [] = []
+next_choices (c ∷ cs) = c
+
+-- those after the next
+abbrev pub later : {A : Type 0} → List A → List A
+later [] = []
+later (c ∷ cs) = cs
+
+-- nothing is refused
+abbrev pub AllGranted : List Choice → Type 0
+AllGranted cs = All (λ (c : Choice). c ≡ granted) cs
+
+-- LINES
+
+-- the player after a line, and what the line prints
+pub record Did : Type 0 where
+  pub player : Player
+  pub print : List ℕ
+
+abbrev pub did : Player → List ℕ → Did
+did s print = record { player = s; print = print }
+
+-- after how many acts memory is refused to a byte: it is refused only to an act that may be refused
+unfoldable pub stop_of : Choice → World → ℕ → ℕ → Option ℕ
+stop_of c w id byte = cond (may_be_refused (refused_act w id byte c.stored c.stop)) c.stop None
+
+-- the world after a byte
+unfoldable pub world_keyed : Choice → World → ℕ → ℕ → World
+world_keyed c w id byte = step w (events.Byte id byte c.stored (stop_of c w id byte))
+
+-- what a byte answers, by its session before and after it and by whether memory was refused
+abbrev pub answer_of : Option Session → Option Session → Option ℕ → Keyed
+answer_of None after stop = keyed.NoSession
+answer_of (Some x) after (Some n) = keyed.Short
+answer_of (Some x) None None = keyed.Quit
+answer_of (Some x) (Some y) None = keyed.Done
+
+unfoldable pub key_answer : Choice → World → ℕ → ℕ → Keyed
+key_answer c w id byte = answer_of (find_session id w.sessions) (find_session id (world_keyed c w id byte).sessions) (stop_of c w id byte)
+
+-- a byte of a label, whose session has that id where it is open
+abbrev pub typed_one : Choice → Option ℕ → Player → List ℕ → ℕ → Player
+typed_one c None s name byte = s
+typed_one c (Some id) s name byte =
+    record { world = world_keyed c s.world id byte; labels = labels_keyed (key_answer c s.world id byte) name s.labels; begun = s.begun }
+
+-- bytes of a label, one after another
+abbrev pub typed : List Choice → Player → List ℕ → List ℕ → Player
+typed cs s name [] = s
+typed cs s name (b ∷ bs) = typed (later cs) (typed_one (next_choice cs) (session_now (standing_of name s.labels)) s name b) name bs
+
+-- what an open answers where nothing but memory can refuse it
+abbrev pub granted_id : Option ℕ → ℕ → Result ℕ OpenFault
+granted_id None id = Ok id
+granted_id (Some n) id = Err opening.Short
+
+-- what an open answers, by the fault that is due
+abbrev pub open_answer : Choice → Option OpenFault → ℕ → Result ℕ OpenFault
+open_answer c (Some fault) id = Err fault
+open_answer c None id = granted_id c.stop id
+
+-- an `open` line, by the answer
+abbrev pub opened : Player → List ℕ → List ℕ → ℕ → ℕ → Result ℕ OpenFault → Did
+opened s name user rows cols (Ok id) = did (begun (step s.world (events.Open id user rows cols)) (s.labels ++ label name (Has id) ∷ [])) []
+opened s name user rows cols (Err fault) = did (begun s.world (s.labels ++ label name Never ∷ [])) (refusal_text name fault)
+
+-- the screen of an open session
+abbrev pub session_text : World → List ℕ → Option Session → List ℕ
+session_text w name None = []
+session_text w name (Some x) = screen_text name (shown (screen w x))
+
+-- what is printed of a label
+abbrev pub label_text : World → List ℕ → Option Standing → List ℕ
+label_text w name None = []
+label_text w name (Some Never) = []
+label_text w name (Some (Has id)) = session_text w name (find_session id w.sessions)
+label_text w name (Some (Gone cause)) = ended_text name cause
+
+-- a `close` line, by the open session of its label
+abbrev pub closed : Option ℕ → Player → List ℕ → Player
+closed None s name = s
+closed (Some id) s name = record { world = step s.world (events.Close id); labels = map (gone name causes.Closed) s.labels; begun = s.begun }
+
+-- what a line that is not refused does
+abbrev pub did_by : List Choice → Player → Said → Did
+did_by cs s Nothing = did s []
+did_by cs s (User name) = did (record s { world = world_set s.world (User name) }) []
+did_by cs s (Group name members) = did (record s { world = world_set s.world (Group name members) }) []
+did_by cs s (Buffer name owner) = did (record s { world = world_set s.world (Buffer name owner) }) []
+did_by cs s (Listing buffer entry) = did (record s { world = world_set s.world (Listing buffer entry) }) []
+did_by cs s (Text buffer chars) = did (record s { world = world_set s.world (Text buffer chars) }) []
+did_by cs s (Open name user rows cols) =
+    opened s name user rows cols (open_answer (next_choice cs) (open_fault s.world user rows cols) s.world.next_id)
+did_by cs s (Keys name keys) = did (typed cs s name keys) []
+did_by cs s (Show name) = did s (label_text s.world name (standing_of name s.labels))
+did_by cs s (Close name) = did (closed (session_now (standing_of name s.labels)) s name) []
+
+-- SCRIPTS
+
+-- what a script writes, and how it ends
+pub record Replayed : Type 0 where
+  pub out : List ℕ
+  pub end : End
+
+-- a line prints this before the lines after it
+abbrev pub after_print : List ℕ → Replayed → Replayed
+after_print print r = record { out = print ++ r.out; end = r.end }
+
+-- a line, and those after it
+abbrev pub line_then : ℕ → List Choice → Player → Option Said → (Player → Replayed) → Replayed
+line_then n cs s None rest = record { out = []; end = RefusedAt n }
+line_then n cs s (Some said) rest =
+    cond (is_refused s said) (record { out = []; end = RefusedAt n }) (after_print (did_by cs s said).print (rest (did_by cs s said).player))
+
+-- the lines from the n-th on, each with the choices of its events
+abbrev pub played_with : List (List Choice) → ℕ → Player → List (List ℕ) → Replayed
+played_with cs n s [] = record { out = []; end = Whole }
+played_with cs n s (l ∷ ls) = line_then n (next_choices cs) s (said_in l) (λ t. played_with (later cs) (n + 1) t ls)
+
+-- a script over a server that has nothing yet, with the choices of each line's events
+unfoldable pub replayed_with : List (List Choice) → List ℕ → Replayed
+replayed_with cs script = played_with cs 1 (setting first_world) (lines_of script)
+
+-- the same where nothing is refused
+unfoldable pub replayed : List ℕ → Replayed
+replayed script = replayed_with [] script
+
+-- what a script may print is what it prints for some choices, and where these refuse nothing it is one fixed output
+pub record IsReplayed : Type 0 where
+  pub some : (script out : List ℕ) (end : End) → MayPrint first_world script out end → (cs : List (List Choice)) × (replayed_with cs script ≡ record { out = out; end = end })
+  pub granted : (cs : List (List Choice)) (script : List ℕ) → All AllGranted cs → replayed_with cs script ≡ replayed script
