@@ -15,8 +15,8 @@ use Rattle.mgs_buffers.specs.Adding.{add_fault, Answers}
 use Rattle.mgs_buffers.specs.declared.fault.AddFault.{AddFault}
 use Rattle.mgs_buffers.specs.declared.fault.AddFault.TheVariants as adds
 use Rattle.mgs_replay.specs.declared.setup.Draft.{Draft}
-use Rattle.mgs_replay.specs.Settings.{are_names, buffer_refused, entry_refused, text_refused, with_entry, with_text, empty_buffer}
-use Rattle.mgs_replay.specs.Setups.{Changes, marked_of, buffer_of, buffers_in, buffer_name, IsFit, AreNew, AreFit, OnlyShort}
+use Rattle.mgs_replay.specs.Settings.{are_names, is_user, unmarked, buffer_refused, entry_refused, text_refused, with_entry, with_text, empty_buffer}
+use Rattle.mgs_replay.specs.Setups.{cannot_add, Changes, marked_of, buffer_of, buffers_in, buffer_name, IsFit, AreNew, AreFit, OnlyShort}
 use Rattle.mgs_script.specs.declared.line.LineFault.{LineFault}
 use Rattle.mgs_script.specs.declared.line.LineFault.TheVariants.{Bad, Short}
 
@@ -129,10 +129,35 @@ text_fits (Ok u) n cs bs new h fit = subst AreFit (sym h.1) (fit_changed n (with
 text_fits (Err Bad) n cs bs new h fit = subst AreFit (sym h.1) fit
 text_fits (Err Short) n cs bs new h fit = subst AreFit (sym h.1) fit
 
+fault_by : Bool → Bool → Bool → Bool → Option AddFault
+fault_by a b c d = if not a then Some adds.Name else if b then Some adds.Twice else if c then Some adds.Full else if d then Some adds.Long else None
+
+faulty : (a b c u : Bool) → (is_some (fault_by a b c false) || u) ≡ (not a || (u || (b || c)))
+unfolding fault_by
+faulty false b c u = refl
+faulty true true c true = refl
+faulty true true c false = refl
+faulty true false true true = refl
+faulty true false true false = refl
+faulty true false false true = refl
+faulty true false false false = refl
+
+some_unmarked : (o : Option Buffer) → is_some (option_map unmarked o) ≡ is_some o
+some_unmarked None = refl
+some_unmarked (Some b) = refl
+
+pub refused_as : (w : World) (n o : List ℕ) → buffer_refused w n o ≡ cannot_add w n o
+unfolding buffer_refused fault_by
+refused_as w n o =
+    let has : has_buffer n (map unmarked w.buffers) ≡ is_some (find_buffer n w.buffers) = ap is_some (find-map unmarked (is_named n) (marked_named n) (λ x. refl) w.buffers) ∙ some_unmarked (find_buffer n w.buffers) in
+    ap (λ (h : Bool). is_some (fault_by (are_names n o) h (nat_le 256 (length (map unmarked w.buffers))) false) || not (is_user o w.directory)) has
+    ∙ ap (λ (m : ℕ). is_some (fault_by (are_names n o) (is_some (find_buffer n w.buffers)) (nat_le 256 m) false) || not (is_user o w.directory)) (length-map w.buffers unmarked)
+    ∙ faulty (are_names n o) (is_some (find_buffer n w.buffers)) (nat_le 256 (length w.buffers)) (not (is_user o w.directory))
+
 -- and after a buffer's
 pub buffer_fits : (w : World) (n o : List ℕ) → buffer_refused w n o ≡ false → AreFit w.buffers → AreFit (w.buffers ++ empty_buffer n o ∷ [])
 buffer_fits w n o h fit =
-    let parts = or_false (not (are_names n o)) _ h in
+    let parts = or_false (not (are_names n o)) _ (sym (refused_as w n o) ∙ h) in
     fit_pushed n o w.buffers (names_are (are_names n o) parts.0) (or_false _ _ parts.1).1 fit
 
 -- no buffer
@@ -151,9 +176,6 @@ no_earlier (x ∷ xs) (suc i) d l h =
     let within : i < length others = omega (arith, length-map (buffers_in xs) buffer_name, length-map xs buffer_of) in
     let e : same_name n x.name.now ≡ false = subst (λ (m : List ℕ). same_name m x.name.now ≡ false) at (All-get_or (λ (m : List ℕ). same_name m x.name.now ≡ false) others i d.name.now within h.0) in
     ap (λ b. cond b (Some (marked_of x)) (find (marked_named n) (map marked_of (take i xs)))) e ∙ no_earlier xs i d (omega arith) h.1
-
-fault_by : Bool → Bool → Bool → Bool → Option AddFault
-fault_by a b c d = if not a then Some adds.Name else if b then Some adds.Twice else if c then Some adds.Full else if d then Some adds.Long else None
 
 fault_none : (a b c d : Bool) → a ≡ true → b ≡ false → c ≡ false → d ≡ false → fault_by a b c d ≡ None
 unfolding fault_by

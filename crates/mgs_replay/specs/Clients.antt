@@ -1,4 +1,4 @@
--- What stands after each label.
+-- The clients of labels, and what becomes of them.
 use Rattle.std.specs.Prelude.{◌≡◌, ℕ, List, find, nat_eq, Bool, true, false, Option, Some, None, if◌then◌else◌}
 use Rattle.std.specs.List.{AllZip}
 use Rattle.std.specs.Option.{option_map}
@@ -15,7 +15,7 @@ use Rattle.mgs_replay.specs.Prints.{screen_text, ended_text}
 abbrev pub is_labelled : List ℕ → Labelled → Bool
 is_labelled label x = same_name label x.label
 
--- what stands after a label, if it was used
+-- the client of a label, if it was used
 abbrev pub client_of : List ℕ → List Labelled → Option Client
 client_of label xs = option_map (λ (x : Labelled). x.client) (find (is_labelled label) xs)
 
@@ -44,7 +44,7 @@ ClientFed id bytes Never new = new ≡ Never
 ClientFed id bytes (Open own term) new = (t : Terminal) × (new ≡ Open own t) × OwnFed (nat_eq id own) bytes term t
 ClientFed id bytes (Ended cause) new = new ≡ Ended cause
 
--- what the bytes of a session make of what stands after a label
+-- what the bytes of a session make of a label's client
 pub record Fed (id : ℕ) (bytes : List ℕ) (old new : Labelled) : Type 0 where
   pub label : new.label ≡ old.label
   pub client : ClientFed id bytes old.client new.client

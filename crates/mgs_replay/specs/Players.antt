@@ -57,7 +57,7 @@ session_now (Some (Gone cause)) = None
 abbrev pub gone : List ℕ → Cause → Label → Label
 gone name cause x = if is_called name x then label x.name (Gone cause) else x
 
--- STAGES
+-- PLAYERS
 
 -- the world, the labels so far, and whether an `open` line has come
 pub record Player : Type 0 where
@@ -127,7 +127,7 @@ Closes None s name t = t ≡ s
 Closes (Some id) s name t =
     t ≡ record { world = step s.world (events.Close id); labels = map (gone name causes.Closed) s.labels; begun = s.begun }
 
--- a line that is not refused leads from stage to stage, and prints this
+-- a line that is not refused leads from player to player, and prints this
 abbrev pub Does : Player → Said → Player → List ℕ → Type 0
 Does s Nothing t print = (t ≡ s) × (print ≡ [])
 Does s (User name) t print = (t ≡ record s { world = world_set s.world (User name) }) × (print ≡ [])

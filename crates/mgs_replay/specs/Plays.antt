@@ -13,7 +13,7 @@ pub data End : Type 0 where
   Whole : End
   RefusedAt : (line : ℕ) → End
 
--- the lines from the n-th on may print this from this stage on, and end so
+-- the lines from the n-th on may print this from this player on, and end so
 abbrev pub Plays : ℕ → Player → List (List ℕ) → List ℕ → End → Type 0
 Plays n s [] out end = (out ≡ []) × (end ≡ Whole)
 Plays n s (l ∷ ls) out end =

@@ -22,7 +22,7 @@ use Rattle.mgs_script.specs.Lines.{Said}
 use Rattle.mgs_replay.specs.Clients.{ended_by}
 use Rattle.mgs_replay.specs.Players.{Label, label, Standing, Never, Has, Gone, Player, begun, is_refused, Does, LineDoes, LineRefused}
 
--- how a label stands, by what stands after it
+-- how a label stands, by its client
 abbrev pub standing_in : Client → Standing
 standing_in clients.Never = Never
 standing_in (clients.Open id term) = Has id
@@ -97,11 +97,11 @@ pub record IsWaiting (e : Serving) (xs : List Labelled) : Type 0 where
   pub due : All (IsDue e) xs
   pub apart : AreApart (labels_in xs)
 
--- the stage from the first open on
+-- the player from the first open on
 abbrev pub player_of : Serving → List Labelled → Player
 player_of e xs = begun e.world (labels_in xs)
 
--- what stands after the labels after a byte of one of them
+-- the labels' clients after a byte of one of them
 abbrev pub clients_keyed : Keyed → List ℕ → List Labelled → List Labelled
 clients_keyed keyed.Quit name xs = map (ended_by name causes.Quit) xs
 clients_keyed keyed.Done name xs = xs

@@ -1,5 +1,5 @@
 -- What the lines before the first open do to the model's world.
-use Rattle.std.specs.Prelude.{ℕ, ◌+◌, ◌++◌, nat_le, nat_lt, Bool, true, false, ◌&&◌, ◌||◌, not, length, List, [], ◌∷◌, find, Option, Some, None, is_some, Result, Ok, Err}
+use Rattle.std.specs.Prelude.{ℕ, ◌+◌, ◌++◌, nat_le, nat_lt, Bool, true, false, ◌&&◌, ◌||◌, not, length, map, List, [], ◌∷◌, find, Option, Some, None, is_some, Result, Ok, Err}
 use Rattle.mgs_model.specs.Names.{same_name, is_name, is_user_name}
 use Rattle.mgs_model.specs.Access.{Directory}
 use Rattle.mgs_model.specs.Apply.{change_first}
@@ -8,7 +8,8 @@ use Rattle.mgs_model.specs.World as model
 use Rattle.mgs_model.specs.declared.entry.Entry.{Entry}
 use Rattle.mgs_acl.specs.Spelling.{entry_in}
 use Rattle.mgs_policy.specs.Directories.{user_fault, with_user, group_fault, with_group}
-use Rattle.mgs_buffers.specs.MarkedBuffer.{marked_new}
+use Rattle.mgs_buffers.specs.Adding.{add_fault}
+use Rattle.mgs_buffers.specs.MarkedBuffer.{MarkedBuffer, marked_new}
 use Rattle.mgs_script.specs.Lines.{Said, Nothing, User, Group, Buffer, Entry as Listing, Text, Open, Keys, Show, Close}
 
 -- a world without users, buffers and sessions
@@ -22,9 +23,12 @@ is_user name directory = is_some (find (same_name name) directory.users)
 abbrev pub are_names : List ℕ → List ℕ → Bool
 are_names name owner = is_name name && is_user_name owner
 
--- a buffer is refused where the names are none, to an owner who is no user, and where there is one of its name or there are 256
-abbrev pub buffer_refused : World → List ℕ → List ℕ → Bool
-buffer_refused w name owner = not (are_names name owner) || (not (is_user owner w.directory) || (is_some (find_buffer name w.buffers) || nat_le 256 (length w.buffers)))
+abbrev pub unmarked : model.Buffer → MarkedBuffer
+unmarked b = record { buffer = b; marks = [] }
+
+-- a buffer is refused where none of that name, owner and no text may be added, and to an owner who is no user
+unfoldable pub buffer_refused : World → List ℕ → List ℕ → Bool
+buffer_refused w name owner = is_some (add_fault name owner 0 (map unmarked w.buffers)) || not (is_user owner w.directory)
 
 -- an entry is refused where there is no such buffer, where it is none, and after 64 of them
 abbrev pub entry_refused : {F : Type 0} → Option model.Buffer → Result Entry F → Bool

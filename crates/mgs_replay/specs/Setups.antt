@@ -1,18 +1,18 @@
 -- What the lines before the first session do.
-use Rattle.std.specs.Prelude.{◌≡◌, ℕ, ◌+◌, ◌<◌, ◌≤◌, Bool, true, false, ◌&&◌, List, [], ◌∷◌, ◌++◌, length, map, All, Result, Ok, Err}
+use Rattle.std.specs.Prelude.{◌≡◌, ℕ, ◌+◌, ◌<◌, ◌≤◌, Bool, true, false, not, ◌&&◌, ◌||◌, nat_le, is_some, List, [], ◌∷◌, ◌++◌, length, map, All, Result, Ok, Err}
 use Rattle.mgs_model.specs.Names.{same_name, is_name, is_user_name}
 use Rattle.mgs_buffers.specs.declared.fault.AddFault.{AddFault}
 use Rattle.mgs_buffers.specs.declared.fault.AddFault.TheVariants as adds
 use Rattle.mgs_model.specs.Access.{Directory}
 use Rattle.mgs_model.specs.Apply.{change_first}
-use Rattle.mgs_model.specs.World.{World, Buffer, is_named}
+use Rattle.mgs_model.specs.World.{World, Buffer, is_named, find_buffer}
 use Rattle.mgs_model.specs.declared.entry.Entry.{Entry}
 use Rattle.mgs_buffers.specs.MarkedBuffer.{MarkedBuffer, marked_new}
 use Rattle.mgs_script.specs.declared.line.LineFault.{LineFault}
 use Rattle.mgs_script.specs.declared.line.LineFault.TheVariants.{Bad, Short}
 use Rattle.mgs_replay.specs.declared.setup.Draft.{Draft}
 use Rattle.mgs_script.specs.Lines.{Said}
-use Rattle.mgs_replay.specs.Settings.{setting_refused, world_set}
+use Rattle.mgs_replay.specs.Settings.{are_names, is_user, setting_refused, world_set}
 
 -- an entry is put last; what is none is refused, and so is a 65th
 abbrev pub Listed : {F : Type 0} → Result (Unit {0}) LineFault → List Entry → List Entry → Result Entry F → Type 0
@@ -22,7 +22,7 @@ Listed (Err Bad) old new (Ok e) = (64 ≤ length old) × (new ≡ old)
 Listed (Err Bad) old new (Err f) = new ≡ old
 Listed (Err Short) old new entry = ⊥
 
--- characters are put behind; more than 1,048,576 in all are refused; out of memory comes only where they are not
+-- characters are put last; more than 1,048,576 in all are refused; out of memory comes only where they are not
 abbrev pub Lengthened : Result (Unit {0}) LineFault → List ℕ → List ℕ → List ℕ → Type 0
 Lengthened (Ok done) old new cs = (new ≡ old ++ cs) × (length new ≤ 1048576)
 Lengthened (Err Bad) old new cs = (1048576 < length old + length cs) × (new ≡ old)
@@ -58,6 +58,10 @@ Sets (Err Bad) said old new = (setting_refused old said ≡ true) × (new ≡ ol
 Sets (Err Short) said old new = (setting_refused old said ≡ false) × (new ≡ old)
 
 -- BUFFERS THAT CAN BE KEPT
+
+-- the tests of a buffer's line: the names are none, the owner is no user, there is one of its name, or there are 256
+abbrev pub cannot_add : World → List ℕ → List ℕ → Bool
+cannot_add w name owner = not (are_names name owner) || (not (is_user owner w.directory) || (is_some (find_buffer name w.buffers) || nat_le 256 (length w.buffers)))
 
 -- a buffer's name and its owner's are such names, and its text is within the limit
 pub record IsFit (b : Buffer) : Type 0 where

@@ -1,4 +1,4 @@
-// What stands after a label of a script.
+// A label of a script, and its client.
 use mgs_model::{Name, SessionId};
 use mgs_term::Term;
 
@@ -11,7 +11,7 @@ pub(crate) enum Cause {
     Closed,
 }
 
-/// What stands after a label.
+/// The client of a label.
 #[derive(Drop)]
 pub(crate) enum Client {
     /// The open was refused.
@@ -22,7 +22,7 @@ pub(crate) enum Client {
     Ended(Cause),
 }
 
-/// A label, and what stands after it.
+/// A label, and its client.
 #[derive(Drop)]
 pub(crate) struct Labelled {
     pub(crate) label: Name,

@@ -1,4 +1,4 @@
-// What stands after each label of a script.
+// The labels of a script, and their clients.
 ghost use Rattle.std.specs.Prelude.{◌≡◌, ◌++◌, ◌∷◌, [], OnOk, OnErr, map, find};
 ghost use Rattle.std.specs.Option.{option_map};
 ghost use Rattle.mgs_replay.specs.Clients.{client_of, ended_by, is_labelled, Fed};
@@ -49,14 +49,14 @@ impl Clients {
         }
     }
 
-    /// What stands after a label, if it was used.
+    /// The client of a label, if it was used.
     pub(crate) fn client(&self, label: &Name) -> Option<&Client>
         ensures { option_map (λ x. x.now) result ≡ client_of label.now self.now }
     {
         found(&self.all, label).map(|labelled| &labelled.client)
     }
 
-    /// Puts something after a new label. `Short`: memory was refused, and all is as it was.
+    /// Adds a label and its client. `Short`: memory was refused, and all is as it was.
     pub(crate) fn add(&mut self, label: Name, client: Client) -> Result<(), Short>
         ensures ok { OnOk result (self.new ≡ self.old ++ record { label = label; client = client } ∷ []) }
         ensures err { OnErr result (self.new ≡ self.old) }

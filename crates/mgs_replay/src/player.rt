@@ -1,4 +1,4 @@
-// What a line does, from the first `open` on.
+// Runs the lines from the first `open` on.
 ghost use Rattle.std.specs.Prelude.{◌≡◌, ◌++◌, ◌∷◌, ℕ, List, [], Some, OnOk};
 ghost use Rattle.mgs_model.specs.Picture.{IsSize};
 ghost use Rattle.mgs_term.specs.Screen.{blank_screen};

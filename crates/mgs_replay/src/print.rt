@@ -1,4 +1,4 @@
-// What the lines of a script print.
+// Prints the screens of sessions, refused opens and ended sessions.
 ghost use Rattle.std.specs.Prelude.{◌≡◌, ◌++◌, ◌∷◌, [], All, OnOk, codes, decimal};
 ghost use Rattle.mgs_term.specs.Screen.{IsPrintableCell};
 ghost use Rattle.mgs_replay.specs.Prints.{edge_of, characters, row_text, rows_text, screen_text, refusal_text, ended_text, fault_text, cause_text};

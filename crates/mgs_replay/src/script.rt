@@ -20,7 +20,7 @@ pub enum ReplayFault {
     Read,
     /// Writing failed.
     Write,
-    /// Want of memory.
+    /// Out of memory.
     Short,
 }
 
@@ -70,8 +70,9 @@ fn read_script<R: Read>(alloc: Global, reader: &mut R) -> Result<Vec<u8>, Script
 /// Runs the lines of a script over a server that has nothing yet, and writes what they print.
 ///
 /// `Line` is the first line that is refused; what the lines before it print is written. `Read`: reading fails, or there
-/// are more than 16,777,216 bytes; no more than one byte more is taken, and nothing is written. `Write`: writing or
-/// flushing fails. `Short` is out of memory.
+/// are more than 16,777,216 bytes, of which one more is taken at most; nothing is written. `Write`: writing or flushing
+/// fails. `Short` is out of memory. A script of more bytes than that ends by `Read` or `Short`, and at both nothing of it
+/// is written.
 pub fn replay<R: Read, W: Write>(
     alloc: Global,
     reader: &mut R,

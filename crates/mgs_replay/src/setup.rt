@@ -5,7 +5,7 @@ ghost use Rattle.mgs_model.specs.World.{find_buffer};
 ghost use Rattle.mgs_script.specs.Lines.{view, User, Group, Buffer};
 ghost use Rattle.mgs_replay.specs.SetupFaults.{fault_in};
 ghost use Rattle.mgs_replay.specs.Settings.{first_world, are_names, buffer_refused, entry_refused, text_refused, with_entry, with_text};
-ghost use Rattle.mgs_replay.specs.Setups.{Listed, Lengthened, Changes, Sets, marked_of, buffers_in, is_drafted, AreFit, OnlyShort};
+ghost use Rattle.mgs_replay.specs.Setups.{cannot_add, Listed, Lengthened, Changes, Sets, marked_of, buffers_in, is_drafted, AreFit, OnlyShort};
 
 use mgs_acl::{List, read_entry, user_named};
 use mgs_buffers::{AddFault, Buffers};
@@ -186,13 +186,21 @@ impl<'a> Setup<'a> {
     }
 
     // A buffer's owner is a user, its name is new, and there are 256 at most.
-    fn refuses(&self, name: &str, owner: &str) -> bool
-        ensures { result ≡ buffer_refused self.now name.now owner.now }
+    fn cannot_add(&self, name: &str, owner: &str) -> bool
+        ensures { result ≡ cannot_add self.now name.now owner.now }
     {
         !are_names(name, owner)
             || self.directory.user(owner).is_none()
             || has_draft(&self.drafts, name.as_bytes())
             || self.drafts.len() >= BUFFER_LIMIT
+    }
+
+    // The same as a rule of `Buffers::add`, and of owners.
+    #[tactic(auto, using(crate::proofs::Fits::refused_as))]
+    fn refuses(&self, name: &str, owner: &str) -> bool
+        ensures { result ≡ buffer_refused self.now name.now owner.now }
+    {
+        self.cannot_add(name, owner)
     }
 
     fn add_buffer(&mut self, name: &'a str, owner: &'a str) -> Result<(), LineFault>
