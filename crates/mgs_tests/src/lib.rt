@@ -10,6 +10,8 @@ mod directory;
 #[cfg(test)]
 mod entries;
 #[cfg(test)]
+mod gap;
+#[cfg(test)]
 mod grid;
 #[cfg(test)]
 mod keys;

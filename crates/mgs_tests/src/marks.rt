@@ -5,7 +5,7 @@ use std::alloc::Global;
 use std::process::Abort;
 use std::test::Fail;
 
-fn follow<T: Marked + Drop>(alloc: Global, rt: &impl Abort) -> Result<(), Fail> {
+pub(crate) fn follow<T: Marked + Drop>(alloc: Global, rt: &impl Abort) -> Result<(), Fail> {
     let mut text = T::of(alloc, &['a', 'b', 'c', 'd'])?;
     let first = text.add_mark(1)?;
     let second = text.add_mark(2)?;
@@ -23,7 +23,7 @@ fn follow<T: Marked + Drop>(alloc: Global, rt: &impl Abort) -> Result<(), Fail> 
     Ok(())
 }
 
-fn move_and_drop<T: Marked + Drop>(alloc: Global, rt: &impl Abort) -> Result<(), Fail> {
+pub(crate) fn move_and_drop<T: Marked + Drop>(alloc: Global, rt: &impl Abort) -> Result<(), Fail> {
     let mut text = T::of(alloc, &['a', 'b'])?;
     let first = text.add_mark(0)?;
     let second = text.add_mark(1)?;

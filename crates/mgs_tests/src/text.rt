@@ -4,7 +4,7 @@ use std::alloc::Global;
 use std::process::Abort;
 use std::test::Fail;
 
-fn edit<T: Text + Drop>(alloc: Global, rt: &impl Abort) -> Result<(), Fail> {
+pub(crate) fn edit<T: Text + Drop>(alloc: Global, rt: &impl Abort) -> Result<(), Fail> {
     let mut text = T::of(alloc, &['a', 'b', 'c'])?;
     assert_eq!(rt; text.len(), 3);
     assert_eq!(rt; text.copy(1, 3)?.as_slice(), ['b', 'c'].as_slice());
@@ -14,7 +14,7 @@ fn edit<T: Text + Drop>(alloc: Global, rt: &impl Abort) -> Result<(), Fail> {
     Ok(())
 }
 
-fn count_lines<T: Text + Drop>(alloc: Global, rt: &impl Abort) -> Result<(), Fail> {
+pub(crate) fn count_lines<T: Text + Drop>(alloc: Global, rt: &impl Abort) -> Result<(), Fail> {
     let text = T::of(alloc, &['a', '\n', '\n', 'b'])?;
     assert_eq!(rt; text.line_of(1), 0);
     assert_eq!(rt; text.line_of(2), 1);

@@ -1,0 +1,23 @@
+use Rattle.std.proofs.Common.{◌≡◌, ℕ, ◌≤◌, ◌++◌, List, Option, Some, set, length, ap, ap₂, sym, subst, ◌∙◌}
+use Rattle.std.specs.Option.{option_map}
+use Rattle.mgs_marks.specs.Marks.{position_in}
+use Rattle.mgs_gap.specs.RawPlaces.{text_place, raw_place, IsRaw, marks_at}
+use Rattle.mgs_gap.proofs.Marks.{map_set, position_set}
+use Rattle.mgs_gap.proofs.Shifts.{text_of_raw, is_raw}
+use Rattle.mgs_gap.proofs.gap.GapTextMarked.place.Goals as goal
+
+pub invariant_of-self : goal.invariant_of-self
+invariant_of-self c =
+    let now = c.args.self.now in let n = length now.block.front in let g = now.block.gap in
+    let r : c.to_raw-place.result ≡ raw_place n g c.args.p = c.to_raw-place.ensures ∙ ap₂ (λ x y. raw_place x y c.args.p) c.gap.ensures.start c.gap.ensures.width in
+    record {
+      raw = position_set (IsRaw n g) now.places.items c.slot.result c.to_raw-place.result (rw r (is_raw n g c.args.p)) now.raw;
+      within = position_set (λ p. text_place n g p ≤ length (now.block.front ++ now.block.back)) now.places.items c.slot.result c.to_raw-place.result (rw (r, text_of_raw n g c.args.p) c.requires.within) now.within;
+    }
+
+pub returns-clause-marks : goal.returns-clause-marks
+returns-clause-marks c =
+    let now = c.args.self.now in let n = length now.block.front in let g = now.block.gap in
+    let r : c.to_raw-place.result ≡ raw_place n g c.args.p = c.to_raw-place.ensures ∙ ap₂ (λ x y. raw_place x y c.args.p) c.gap.ensures.start c.gap.ensures.width in
+    map_set (option_map (text_place n g)) now.places.items c.slot.result (Some c.to_raw-place.result)
+    ∙ ap₂ (λ (i m : ℕ). set (marks_at n g now.places.items) i (Some m)) c.slot.ensures (ap (text_place n g) r ∙ text_of_raw n g c.args.p)

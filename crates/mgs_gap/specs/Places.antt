@@ -1,0 +1,16 @@
+-- A row of places, each empty or holding a character.
+use Rattle.std.specs.Prelude.{ℕ, ◌≡◌, ◌+◌, ◌≤◌, List, [], ◌∷◌, Option, Some, None, map, length, take, drop}
+
+-- the characters that are there
+abbrev pub somes : List (Option ℕ) → List ℕ
+somes [] = []
+somes (None ∷ cs) = somes cs
+somes (Some x ∷ cs) = x ∷ somes cs
+
+-- the len places from the place from on hold these characters
+abbrev pub ShowsRun : List (Option ℕ) → ℕ → ℕ → List ℕ → Type 0
+ShowsRun cs from len xs = take len (drop from cs) ≡ map Some xs
+
+-- those places are there, and each holds a character
+abbrev pub IsRun : List (Option ℕ) → ℕ → ℕ → Type 0
+IsRun cs from len = (from + len ≤ length cs) × ((xs : List ℕ) × ShowsRun cs from len xs)

@@ -1,0 +1,140 @@
+// The block with its gap: the characters before the gap, the places of the gap, and the characters after it.
+ghost use Rattle.std.specs.Prelude.{◌≡◌, ℕ, ◌+◌, ◌-◌, ◌<◌, ◌≤◌, ◌^◌, ◌++◌, ◌∷◌, [], List, length, take, drop, slice_index, slice_range, IfOk, OnOk, OnErr};
+ghost use Rattle.mgs_gap.specs.Gapped.{Gapped, gapped, text_of};
+
+use crate::cells::{Cells, FreeRight};
+use mgs_model::Short;
+use std::alloc::Global;
+use std::marker::Model;
+
+// The most characters that a block may have, so that its bytes are below 2 ^ 63.
+const MOST: usize = (1 << 61) - 1;
+
+pub(crate) struct Block {
+    cells: Cells,
+    right: FreeRight<Global>,
+    alloc: Global,
+    before: usize,
+    gap: usize,
+    after: usize,
+}
+
+impl Model for Block {
+    ghost use Rattle.mgs_gap.specs.Gapped.{Gapped, gapped};
+
+    ghost Value = { Gapped };
+
+    ghost use Rattle.mgs_gap.specs.Blocks.{front_in, back_in, IsBlock};
+
+    ghost view = { λ b. gapped (front_in b) b.gap (back_in b) };
+
+    ghost invariant = { λ b. IsBlock b };
+}
+
+impl Drop for Block {
+    fn drop(self) {
+        let Block {
+            cells,
+            right,
+            alloc,
+            before,
+            gap,
+            after,
+        } = self;
+        cells.free(right, &alloc, before + gap + after);
+    }
+}
+
+impl Block {
+    // A block that is all gap.
+    pub(crate) fn with_gap(alloc: Global, gap: usize) -> Result<Block, Short>
+        ensures { IfOk result (λ b. b ≡ gapped [] gap []) }
+    {
+        if gap > MOST {
+            return Err(Short);
+        }
+        match Cells::allocate(&alloc, gap) {
+            None => Err(Short),
+            Some((cells, right)) => Ok(Block {
+                cells,
+                right,
+                alloc,
+                before: 0,
+                gap,
+                after: 0,
+            }),
+        }
+    }
+
+    pub(crate) fn before(&self) -> usize
+        ensures { result ≡ length self.now.front }
+    {
+        self.before
+    }
+
+    pub(crate) fn gap(&self) -> usize
+        ensures { result ≡ self.now.gap }
+    {
+        self.gap
+    }
+
+    pub(crate) fn after(&self) -> usize
+        ensures value { result ≡ length self.now.back }
+        ensures fits { length self.now.front + self.now.gap + length self.now.back < 2 ^ 61 }
+    {
+        self.after
+    }
+
+    // The characters before the gap.
+    pub(crate) fn front(&self) -> &[char]
+        ensures { result.now ≡ self.now.front }
+    {
+        self.cells.slice(0, self.before)
+    }
+
+    // The characters after the gap.
+    pub(crate) fn back(&self) -> &[char]
+        ensures { result.now ≡ self.now.back }
+    {
+        self.cells.slice(self.before + self.gap, self.after)
+    }
+
+    // Puts a character at the gap's start.
+    pub(crate) fn put(&mut self, c: char)
+        requires { 0 < self.old.gap }
+        ensures { self.new ≡ gapped (self.old.front ++ c ∷ []) (self.old.gap - 1) self.old.back }
+    {
+        self.cells.write(self.before, c);
+        self.before += 1;
+        self.gap -= 1;
+    }
+
+    // Moves the gap over the character before it, which is `c`.
+    pub(crate) fn step_left(&mut self, c: char)
+        requires { 0 < length self.old.front }
+        ensures { self.new ≡ gapped (take (length self.old.front - 1) self.old.front) self.old.gap (c ∷ self.old.back) }
+    {
+        self.before -= 1;
+        self.after += 1;
+        self.cells.write(self.before + self.gap, c);
+    }
+
+    // Moves the gap over the character after it, which is `c`.
+    pub(crate) fn step_right(&mut self, c: char)
+        requires { 0 < length self.old.back }
+        ensures { self.new ≡ gapped (self.old.front ++ c ∷ []) self.old.gap (drop 1 self.old.back) }
+    {
+        self.cells.write(self.before, c);
+        self.before += 1;
+        self.after -= 1;
+    }
+
+    // Widens the gap over the `n` characters after it.
+    pub(crate) fn delete(&mut self, n: usize)
+        requires { n ≤ length self.old.back }
+        ensures { self.new ≡ gapped self.old.front (self.old.gap + n) (drop n self.old.back) }
+    {
+        self.gap += n;
+        self.after -= n;
+    }
+}

@@ -1,0 +1,139 @@
+// A text over a block with a gap. A mark is a raw place of the block: its number there, the gap counted.
+ghost use Rattle.std.specs.Prelude.{◌≡◌, ◌≢◌, ℕ, ◌+◌, ◌-◌, ◌<◌, ◌≤◌, ◌^◌, ◌++◌, ◌∷◌, [], List, Option, Some, None, length, map, take, drop, slice_set, slice_index, slice_range, IsSome, OnOk, OnErr, IfOk};
+ghost use Rattle.mgs_model.specs.Text.{edited, shift, shift_all};
+ghost use Rattle.mgs_marks.specs.Marks.{mark_in, position_in, or_zero};
+ghost use Rattle.mgs_gap.specs.Gapped.{Gapped, gapped, text_of};
+ghost use Rattle.mgs_gap.specs.RawPlaces.{text_place, raw_place, IsRaw, marks_at};
+
+use crate::block::Block;
+use crate::places::{Edit, Gap, free_slot, move_places, to_raw, to_text};
+use mgs_marks::Marked;
+use mgs_model::{MarkId, Short};
+use mgs_text::Text;
+use std::alloc::Global;
+
+/// A text with marks in one block of memory with a gap. An edit at the gap moves no other character, and an insertion
+/// there that the gap has room for moves no mark.
+#[derive(Drop)]
+pub struct GapText {
+    block: Block,
+    places: Vec<Option<usize>>,
+    alloc: Global,
+    ghost raw: { (i : ℕ) → IsRaw (length block.front) block.gap (position_in places.items i) },
+    ghost within: { (i : ℕ) → text_place (length block.front) block.gap (position_in places.items i) ≤ length (text_of block) },
+}
+
+impl GapText {
+    fn gap(&self) -> Gap
+        ensures start { result.start ≡ length self.now.block.front }
+        ensures width { result.width ≡ self.now.block.gap }
+    {
+        Gap {
+            start: self.block.before(),
+            width: self.block.gap(),
+        }
+    }
+}
+
+// The characters from `a` up to `b` of a text that stands in two parts.
+#[tactic(auto, using(crate::proofs::Ranges::range_front, crate::proofs::Ranges::range_back, crate::proofs::Ranges::range_both))]
+fn copied(
+    alloc: Global,
+    front: &[char],
+    back: &[char],
+    a: usize,
+    b: usize,
+) -> Result<Vec<char>, Short>
+    requires order { a ≤ b }
+    requires within { b ≤ length (front.now ++ back.now) }
+    ensures { IfOk result (λ v. v.items ≡ slice_range (front.now ++ back.now) a b) }
+{
+    let cut = front.len();
+    if b <= cut {
+        return Vec::from_slice(alloc, &front[a..b]).map_err(|_| Short);
+    }
+    if cut <= a {
+        return Vec::from_slice(alloc, &back[a - cut..b - cut]).map_err(|_| Short);
+    }
+    let mut chars = Vec::from_slice(alloc, &front[a..]).map_err(|_| Short)?;
+    chars
+        .extend_from_slice(&back[..b - cut])
+        .map_err(|_| Short)?;
+    Ok(chars)
+}
+
+impl Text for GapText {
+    ghost text = { λ t. text_of t.block };
+
+    ghost marks = { λ t. marks_at (length t.block.front) t.block.gap t.places.items };
+
+    fn of(alloc: Global, chars: &[char]) -> Result<Self, Short> {
+        let block = Block::of(alloc, chars, chars.len() / 2)?;
+        Ok(GapText {
+            block,
+            places: Vec::new(alloc),
+            alloc,
+        })
+    }
+
+    fn len(&self) -> usize {
+        self.block.before() + self.block.after()
+    }
+
+    fn at(&self, i: usize) -> char {
+        self.block.at(i)
+    }
+
+    fn copy(&self, a: usize, b: usize) -> Result<Vec<char>, Short> {
+        copied(self.alloc, self.block.front(), self.block.back(), a, b)
+    }
+
+    fn replace(&mut self, a: usize, b: usize, put: &[char]) -> Result<(), Short> {
+        let old = self.gap();
+        let _room = self.block.after();
+        self.block.reserve(self.alloc, put.len())?;
+        self.block.gap_to(a);
+        self.block.delete(b - a);
+        self.block.insert(put);
+        let _rest = self.block.after();
+        // An insertion at the gap, where it has room, moves no mark.
+        if a == b && a == old.start && put.len() <= old.width {
+            return Ok(());
+        }
+        let new = Gap {
+            start: self.block.before(),
+            width: self.block.gap(),
+        };
+        let edit = Edit {
+            from: a,
+            to: b,
+            count: put.len(),
+        };
+        move_places(&mut self.places, old, edit, new);
+        Ok(())
+    }
+}
+
+impl Marked for GapText {
+    fn add_mark(&mut self, p: usize) -> Result<MarkId, Short> {
+        let gap = self.gap();
+        let _room = self.block.after();
+        let id = free_slot(&mut self.places)?;
+        self.places[id] = Some(to_raw(gap, p));
+        Ok(MarkId::of(id))
+    }
+
+    fn pos(&self, id: MarkId) -> usize {
+        to_text(self.gap(), self.places[id.slot()].unwrap_or(0))
+    }
+
+    fn place(&mut self, id: MarkId, p: usize) {
+        let _room = self.block.after();
+        let place = to_raw(self.gap(), p);
+        self.places[id.slot()] = Some(place);
+    }
+
+    fn drop_mark(&mut self, id: MarkId) {
+        self.places[id.slot()] = None;
+    }
+}

@@ -1,0 +1,81 @@
+// Longer steps of a block, in safe code.
+ghost use Rattle.std.specs.Prelude.{◌≡◌, ℕ, ◌+◌, ◌-◌, ◌<◌, ◌≤◌, ◌++◌, [], List, length, take, drop, slice_index, slice_range, IfOk, OnOk, OnErr};
+ghost use Rattle.mgs_gap.specs.Gapped.{Gapped, gapped, text_of};
+
+use crate::block::Block;
+use mgs_model::Short;
+use std::alloc::Global;
+
+impl Block {
+    // A block of these characters and a gap of `gap` places after them.
+    pub(crate) fn of(alloc: Global, chars: &[char], gap: usize) -> Result<Block, Short>
+        ensures { IfOk result (λ b. b ≡ gapped chars.now gap []) }
+    {
+        let size = chars.len().checked_add(gap).ok_or(Short)?;
+        let mut block = Block::with_gap(alloc, size)?;
+        block.insert(chars);
+        Ok(block)
+    }
+
+    // The character after the place `i` of the text.
+    pub(crate) fn at(&self, i: usize) -> char
+        requires { i < length (text_of self.now) }
+        ensures { result ≡ slice_index (text_of self.now) i }
+    {
+        let before = self.before();
+        if i < before {
+            self.front()[i]
+        } else {
+            self.back()[i - before]
+        }
+    }
+
+    // Moves the gap to the place `a` of the text.
+    pub(crate) fn gap_to(&mut self, a: usize)
+        requires { a ≤ length (text_of self.old) }
+        ensures { self.new ≡ gapped (take a (text_of self.old)) self.old.gap (drop a (text_of self.old)) }
+    {
+        let before = self.before();
+        if a < before {
+            for i in 0..before - a {
+                let c = self.front()[before - i - 1];
+                self.step_left(c);
+            }
+        } else {
+            for _j in 0..a - before {
+                let c = self.back()[0];
+                self.step_right(c);
+            }
+        }
+    }
+
+    // Puts characters at the gap's start.
+    pub(crate) fn insert(&mut self, put: &[char])
+        requires { length put.now ≤ self.old.gap }
+        ensures { self.new ≡ gapped (self.old.front ++ put.now) (self.old.gap - length put.now) self.old.back }
+    {
+        for c in put {
+            self.put(*c);
+        }
+    }
+
+    // Makes the gap at least `n` places wide: where it grows, by half the text at least. `Short`: memory was refused,
+    // and all is as it was.
+    pub(crate) fn reserve(&mut self, alloc: Global, n: usize) -> Result<(), Short>
+        ensures text { text_of self.new ≡ text_of self.old }
+        ensures kept { n ≤ self.old.gap → self.new ≡ self.old }
+        ensures wide { OnOk result (n ≤ self.new.gap) }
+        ensures err { OnErr result (self.new ≡ self.old) }
+    {
+        if n <= self.gap() {
+            return Ok(());
+        }
+        let len = self.before() + self.after();
+        let size = len.checked_add(n.max(len / 2)).ok_or(Short)?;
+        let mut next = Block::with_gap(alloc, size)?;
+        next.insert(self.front());
+        next.insert(self.back());
+        *self = next;
+        Ok(())
+    }
+}

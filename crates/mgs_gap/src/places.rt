@@ -1,0 +1,98 @@
+// Raw places and places in the text.
+ghost use Rattle.std.specs.Prelude.{◌≡◌, ℕ, ◌+◌, ◌-◌, ◌<◌, ◌≤◌, ◌^◌, List, Option, None, map, length, IfOk, OnErr};
+ghost use Rattle.std.specs.Option.{option_map};
+ghost use Rattle.mgs_model.specs.Text.{shift};
+ghost use Rattle.mgs_marks.specs.Marks.{mark_in, position_in, or_zero};
+ghost use Rattle.mgs_gap.specs.RawPlaces.{text_place, raw_place, IsRaw, moved};
+
+use mgs_model::Short;
+
+// Where the gap lies.
+#[derive(Clone, Copy)]
+pub(crate) struct Gap {
+    pub(crate) start: usize,
+    pub(crate) width: usize,
+}
+
+// `count` characters come in place of those from `from` up to `to`.
+#[derive(Clone, Copy)]
+pub(crate) struct Edit {
+    pub(crate) from: usize,
+    pub(crate) to: usize,
+    pub(crate) count: usize,
+}
+
+pub(crate) fn to_text(gap: Gap, place: usize) -> usize
+    requires { IsRaw gap.start gap.width place }
+    ensures { result ≡ text_place gap.start gap.width place }
+{
+    if place <= gap.start {
+        place
+    } else {
+        place - gap.width
+    }
+}
+
+pub(crate) fn to_raw(gap: Gap, p: usize) -> usize
+    requires { p + gap.width < 2 ^ 64 }
+    ensures { result ≡ raw_place gap.start gap.width p }
+{
+    if p <= gap.start { p } else { p + gap.width }
+}
+
+fn shifted(p: usize, edit: Edit) -> usize
+    requires order { edit.from ≤ edit.to }
+    requires fits { p + edit.count < 2 ^ 64 }
+    ensures { result ≡ shift edit.from edit.to edit.count p }
+{
+    if p <= edit.from {
+        p
+    } else if p < edit.to {
+        edit.from
+    } else {
+        p - (edit.to - edit.from) + edit.count
+    }
+}
+
+fn place_moved(place: Option<usize>, old: Gap, edit: Edit, new: Gap) -> Option<usize>
+    requires order { edit.from ≤ edit.to }
+    requires raw { IsRaw old.start old.width (or_zero place) }
+    requires fits { text_place old.start old.width (or_zero place) + edit.count < 2 ^ 64 }
+    requires stays { shift edit.from edit.to edit.count (text_place old.start old.width (or_zero place)) + new.width < 2 ^ 64 }
+    ensures { result ≡ option_map (moved old.start old.width edit.from edit.to edit.count new.start new.width) place }
+{
+    Some(to_raw(new, shifted(to_text(old, place?), edit)))
+}
+
+// Moves every mark over an edit that took the gap from `old` to `new`.
+pub(crate) fn move_places(places: &mut [Option<usize>], old: Gap, edit: Edit, new: Gap)
+    requires order { edit.from ≤ edit.to }
+    requires raw { (i : ℕ) → IsRaw old.start old.width (position_in places.old i) }
+    requires fits { (i : ℕ) → text_place old.start old.width (position_in places.old i) + edit.count < 2 ^ 64 }
+    requires stays { (i : ℕ) → shift edit.from edit.to edit.count (text_place old.start old.width (position_in places.old i)) + new.width < 2 ^ 64 }
+    ensures { places.new ≡ map (option_map (moved old.start old.width edit.from edit.to edit.count new.start new.width)) places.old }
+{
+    for place in places.iter_mut() {
+        *place = place_moved(*place, old, edit, new);
+    }
+}
+
+// A slot that holds no mark, at the end where each holds one.
+pub(crate) fn free_slot(places: &mut Vec<Option<usize>>) -> Result<usize, Short>
+    ensures free { IfOk result (λ id. mark_in places.old.items id ≡ None) }
+    ensures there { IfOk result (λ id. id < length places.new.items) }
+    ensures same { (k : ℕ) → mark_in places.new.items k ≡ mark_in places.old.items k }
+    ensures err { OnErr result (places.new.items ≡ places.old.items) }
+{
+    let mut id = 0;
+    for place in places.iter() {
+        if place.is_none() {
+            break;
+        }
+        id += 1;
+    }
+    if id == places.len() {
+        places.push(None).map_err(|_| Short)?;
+    }
+    Ok(id)
+}
