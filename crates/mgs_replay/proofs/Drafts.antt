@@ -1,7 +1,9 @@
 -- A draft that is found by its name and changed.
 use Rattle.std.proofs.Common.{◌≡◌, ℕ, ◌+◌, ◌<◌, Bool, true, false, cond, List, [], ◌∷◌, ◌++◌, length, get_or, set, map, Option, Some, None, Result, Ok, Err, refl, sym, ap, ◌∙◌, arith, length-append}
 use Rattle.std.specs.Prelude.{position, nat_le, nat_lt, is_some}
-use Rattle.std.proofs.Common.{inl, inr}
+use Rattle.std.proofs.Common.{inl, inr, subst}
+use Rattle.mgs_buffers.specs.MarkedBuffer.{MarkedBuffer, AreUnmarked}
+use Rattle.mgs_buffers.proofs.Unmarked.{unmarked_map}
 use Rattle.std.proofs.lemmas.Bool.{cases_lt, lt-ltb}
 use Rattle.std.specs.List.{position_or_len}
 use Rattle.std.specs.Option.{option_map}
@@ -145,3 +147,7 @@ pushed name owner ds new d is n o l t =
 pub marked_buffers : (ds : List Draft) → buffers_of (map marked_of ds) ≡ buffers_in ds
 marked_buffers [] = refl
 marked_buffers (d ∷ ds) = ap (λ (bs : List Buffer). buffer_of d ∷ bs) (marked_buffers ds)
+
+-- no buffer that is written down has a mark in use
+pub unmarked_drafts : (ks : List MarkedBuffer) (xs : List Draft) → ks ≡ map marked_of xs → AreUnmarked ks
+unmarked_drafts ks xs e = subst AreUnmarked (sym e) (unmarked_map marked_of (λ x. refl) xs)

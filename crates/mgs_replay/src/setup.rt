@@ -240,7 +240,7 @@ impl<'a> Setup<'a> {
     }
 
     /// A server over these users and buffers, without a session.
-    #[tactic(auto, using(crate::proofs::Drafts::marked_buffers))]
+    #[tactic(auto, using(crate::proofs::Drafts::marked_buffers, crate::proofs::Drafts::unmarked_drafts))]
     pub(crate) fn into_core(self) -> Result<Core<PlainMarked>, Short>
         ensures world { IfOk result (λ c. c ≡ self.entry) }
         ensures sessions { IfOk result (λ c. c.sessions ≡ []) }
