@@ -1,14 +1,14 @@
 -- What holds of the outcome of every command: each lemma here has one case a command.
-use Rattle.std.proofs.Common.{◌≡◌, ℕ, List, [], ◌∷◌, refl, sym, ap, ◌∙◌, Bool, true, false, cond, not, ◌&&◌, ◌||◌, ◌==◌, ◌+◌, ◌-◌, Option, Some, None, is_some, slice_get, nat_le, length}
+use Rattle.std.proofs.Common.{◌≡◌, ℕ, List, [], ◌∷◌, refl, sym, ap, ◌∙◌, Bool, true, false, cond, ◌||◌, ◌==◌, ◌+◌, ◌-◌, Option, Some, None, slice_get, nat_le, length}
 use Rattle.std.specs.Option.{option_map, option_and_then}
 use Rattle.mgs_model.specs.Names.{same_name}
 use Rattle.mgs_model.specs.Access.{Decider, Nobody, Allows, Denies, allows, decision_by, with_denial, with_gap}
 use Rattle.mgs_model.specs.World.{Own, Shows, Nothing, Buffer_of, Listing, List_of}
-use Rattle.mgs_model.specs.View.{View, BufferSeen, WindowSeen, find_seen, is_granted, serial_told, size_told}
-use Rattle.mgs_model.specs.Outcome.{Outcome, Adjust, At, Keep, Keep_mark, Keep_search, Effect, No_effect, Edit, Unmodified, Relist, Reown, Create, Kill, Save, Quit, After, Goes_on, Stops}
+use Rattle.mgs_model.specs.View.{View, BufferSeen, WindowSeen, find_seen, serial_told, size_told}
+use Rattle.mgs_model.specs.Outcome.{Outcome, Adjust, At, Keep, Keep_mark, Keep_search, Effect, Edit, Quit, After, Goes_on, Stops}
 use Rattle.mgs_model.specs.Plans.{outcome, outcome_on, permitted, planned, plan, Plan, Fails, Edits, Goes, needs, insertion_right, is_full, fails, acted_own, Target, target, target_in, acts_at}
 use Rattle.mgs_model.specs.declared.right.Right.{Right}
-use Rattle.mgs_model.specs.declared.right.Right.TheVariants.{ReadData, WriteData, AppendData, Delete, WriteAcl, WriteOwner}
+use Rattle.mgs_model.specs.declared.right.Right.TheVariants.{WriteData, AppendData}
 use Rattle.mgs_model.specs.declared.entry.Decision.{Decision}
 use Rattle.mgs_model.specs.declared.entry.Decision.TheVariants.{Granted, DeniedBy, NotGranted}
 use Rattle.mgs_model.specs.declared.message.Message.{Message}
