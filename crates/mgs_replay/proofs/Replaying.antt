@@ -1,27 +1,23 @@
 -- A run of a script's lines is a function of what its events are granted.
-use Rattle.std.proofs.Common.{◌≡◌, ℕ, ◌+◌, arith, Bool, true, false, cond, List, [], ◌∷◌, ◌++◌, map, Option, Some, None, Result, Ok, Err, refl, sym, ap, ◌∙◌, inl, inr}
+use Rattle.std.proofs.Common.{◌≡◌, ℕ, ◌+◌, arith, Bool, true, false, cond, List, [], ◌∷◌, ◌++◌, Option, Some, None, Result, Ok, Err, refl, sym, ap, ◌∙◌, inl, inr}
 use Rattle.std.specs.Prelude.{All, IsSome, is_some, ◌↔◌}
 use Rattle.std.proofs.lemmas.Bool.Decides.{nat_tests}
 use Rattle.std.proofs.lemmas.List.Elements.{All-nil, All-head, All-tail}
 use Rattle.mgs_model.specs.World.{World, Session, find_session}
-use Rattle.mgs_model.specs.Draw.{screen}
 use Rattle.mgs_model.specs.Events.{step, may_be_refused, refused_act, can_open}
 use Rattle.mgs_model.specs.Events as events
 use Rattle.mgs_model.specs.declared.errors.Keyed.{Keyed}
 use Rattle.mgs_model.specs.declared.errors.Keyed.TheVariants as keyed
 use Rattle.mgs_model.specs.declared.errors.OpenFault.{OpenFault}
 use Rattle.mgs_model.specs.declared.errors.OpenFault.TheVariants as opening
-use Rattle.mgs_core.specs.Steps.{KeyedBy, OpenedBy, open_fault}
-use Rattle.mgs_paint.specs.Painting.{shown}
+use Rattle.mgs_core.specs.Steps.{KeyedBy, open_fault}
 use Rattle.mgs_script.specs.Lines.{Said, said_in}
 use Rattle.mgs_script.specs.Lines as said
 use Rattle.mgs_script.specs.Scripts.{lines_of}
-use Rattle.mgs_replay.specs.declared.client.Cause.TheVariants as causes
 use Rattle.mgs_replay.specs.Settings.{first_world}
-use Rattle.mgs_replay.specs.Prints.{screen_text}
-use Rattle.mgs_replay.specs.Players.{Player, Label, label, Standing, Never, Has, Gone, begun, gone, labels_keyed, standing_of, session_now, setting, is_refused, TypesOne, Types, Opens, Shows, Closes, Does, LineDoes, LineRefused}
+use Rattle.mgs_replay.specs.Players.{Player, Label, label, Standing, Never, Has, Gone, begun, labels_keyed, standing_of, session_now, setting, is_refused, TypesOne, Types, Opens, Shows, Closes, Does, LineDoes, LineRefused}
 use Rattle.mgs_replay.specs.Plays.{End, Whole, RefusedAt, Plays, MayPrint}
-use Rattle.mgs_replay.specs.Replayed.{Choice, granted, next_choice, next_choices, later, AllGranted, Did, did, stop_of, world_keyed, answer_of, key_answer, typed_one, typed, granted_id, open_answer, opened, session_text, label_text, closed, did_by, Replayed, after_print, line_then, played_with, replayed_with, replayed, IsReplayed}
+use Rattle.mgs_replay.specs.Replayed.{Choice, granted, next_choice, next_choices, later, AllGranted, Did, did, stop_of, world_keyed, answer_of, key_answer, typed_one, typed, open_answer, opened, session_text, label_text, closed, did_by, Replayed, after_print, line_then, played_with, replayed_with, replayed, IsReplayed}
 
 -- A BYTE
 

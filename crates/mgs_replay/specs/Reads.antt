@@ -1,5 +1,5 @@
 -- What reading a script does to the reader's bytes.
-use Rattle.std.specs.Prelude.{◌≡◌, ℕ, ◌+◌, ◌-◌, ◌≤◌, ◌++◌, Bool, true, false, List, [], length, Option, Result, Ok, Err}
+use Rattle.std.specs.Prelude.{◌≡◌, ℕ, ◌+◌, ◌-◌, ◌<◌, ◌≤◌, ◌++◌, Bool, true, false, List, [], length, Option, Result, Ok, Err, IfSome}
 use Rattle.std.specs.Io.KnownBytes.{Consumes, IsAtEnd}
 use Rattle.mgs_model.specs.declared.limits.TheConstants.{SCRIPT_LIMIT}
 use Rattle.mgs_replay.specs.declared.script.ScriptFault.{ScriptFault}
@@ -31,3 +31,7 @@ IsTooLong (Err (ends.Line n)) old new = ⊥
 IsTooLong (Err ends.Read) old new = new ≡ old
 IsTooLong (Err ends.Write) old new = ⊥
 IsTooLong (Err ends.Short) old new = new ≡ old
+
+-- the same of what a reader has left, where that is known
+abbrev pub KeepsLimit : Option (List ℕ) → Result (Unit {0}) ReplayFault → Option (List ℕ) → Option (List ℕ) → Type 0
+KeepsLimit left result old new = IfSome left (λ script. SCRIPT_LIMIT < length script → IsTooLong result old new)

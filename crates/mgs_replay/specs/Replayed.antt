@@ -15,7 +15,7 @@ use Rattle.mgs_script.specs.Scripts.{lines_of}
 use Rattle.mgs_replay.specs.declared.client.Cause.TheVariants as causes
 use Rattle.mgs_replay.specs.Settings.{first_world, world_set}
 use Rattle.mgs_replay.specs.Prints.{refusal_text, ended_text, screen_text}
-use Rattle.mgs_replay.specs.Players.{Player, label, Label, Standing, Never, Has, Gone, standing_of, session_now, gone, labels_keyed, setting, begun, is_refused}
+use Rattle.mgs_replay.specs.Players.{Player, label, Standing, Never, Has, Gone, standing_of, session_now, gone, labels_keyed, setting, begun, is_refused}
 use Rattle.mgs_replay.specs.Plays.{End, Whole, RefusedAt, MayPrint}
 
 -- CHOICES

@@ -20,7 +20,7 @@ use Rattle.mgs_script.specs.declared.line.LineFault.{LineFault}
 use Rattle.mgs_script.specs.declared.line.LineFault.TheVariants as lines
 use Rattle.mgs_script.specs.Lines.{Said}
 use Rattle.mgs_replay.specs.Clients.{ended_by}
-use Rattle.mgs_replay.specs.Players.{Label, label, Standing, Never, Has, Gone, Player, begun, is_refused, Does, LineDoes, LineRefused}
+use Rattle.mgs_replay.specs.Players.{Label, label, Standing, Never, Has, Gone, Player, begun, standing_of, session_now, is_refused, Does, LineDoes, LineRefused}
 
 -- how a label stands, by its client
 abbrev pub standing_in : Client → Standing
@@ -96,6 +96,10 @@ pub record IsWaiting (e : Serving) (xs : List Labelled) : Type 0 where
   pub served : IsServed e
   pub due : All (IsDue e) xs
   pub apart : AreApart (labels_in xs)
+
+-- the open session of a label
+abbrev pub session_in : List ℕ → List Labelled → Option ℕ
+session_in name xs = session_now (standing_of name (labels_in xs))
 
 -- the player from the first open on
 abbrev pub player_of : Serving → List Labelled → Player

@@ -12,7 +12,7 @@ use Rattle.mgs_script.specs.declared.line.LineFault.{LineFault}
 use Rattle.mgs_script.specs.declared.line.LineFault.TheVariants.{Bad, Short}
 use Rattle.mgs_replay.specs.declared.setup.Draft.{Draft}
 use Rattle.mgs_script.specs.Lines.{Said}
-use Rattle.mgs_replay.specs.Settings.{are_names, is_user, setting_refused, world_set}
+use Rattle.mgs_replay.specs.Settings.{are_names, is_user, entry_refused, text_refused, with_entry, with_text, setting_refused, world_set}
 
 -- an entry is put last; what is none is refused, and so is a 65th
 abbrev pub Listed : {F : Type 0} → Result (Unit {0}) LineFault → List Entry → List Entry → Result Entry F → Type 0
@@ -50,6 +50,14 @@ abbrev pub Changes : Result (Unit {0}) LineFault → Bool → List ℕ → (Buff
 Changes (Ok done) refused name change old new = (refused ≡ false) × (new ≡ change_first (is_named name) change old)
 Changes (Err Bad) refused name change old new = (refused ≡ true) × (new ≡ old)
 Changes (Err Short) refused name change old new = (refused ≡ false) × (new ≡ old)
+
+-- an entry is put last in the list of the buffer of that name
+abbrev pub PutsEntry : {F : Type 0} → Result (Unit {0}) LineFault → List ℕ → Result Entry F → List Buffer → List Buffer → Type 0
+PutsEntry result name entry old new = Changes result (entry_refused (find_buffer name old) entry) name (with_entry entry) old new
+
+-- characters are put last in the text of the buffer of that name
+abbrev pub PutsText : Result (Unit {0}) LineFault → List ℕ → List ℕ → List Buffer → List Buffer → Type 0
+PutsText result name text old new = Changes result (text_refused (find_buffer name old) text) name (with_text text) old new
 
 -- a line before the first open: it does what it says; where it is refused, or memory is, all is as it was; out of memory comes only where it is not refused
 abbrev pub Sets : Result (Unit {0}) LineFault → Said → World → World → Type 0

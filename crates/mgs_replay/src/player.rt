@@ -7,8 +7,8 @@ ghost use Rattle.mgs_replay.specs.declared.client.Client.TheVariants as client_s
 ghost use Rattle.mgs_script.specs.Lines.{view, Open, Keys, Close, said_in};
 ghost use Rattle.mgs_replay.specs.Prints.{refusal_text};
 ghost use Rattle.mgs_replay.specs.Clients.{client_of, shown_text};
-ghost use Rattle.mgs_replay.specs.Players.{label as called, Has, standing_of, session_now, had_session, TypesOne, Types, Closes};
-ghost use Rattle.mgs_replay.specs.Served.{labels_in, player_of, clients_keyed, IsReady, IsWaiting, NotBad, Prints, Runs, RunsSaid, short_or};
+ghost use Rattle.mgs_replay.specs.Players.{label as called, Has, standing_of, had_session, TypesOne, Types, Closes};
+ghost use Rattle.mgs_replay.specs.Served.{labels_in, session_in, player_of, clients_keyed, IsReady, IsWaiting, NotBad, Prints, Runs, RunsSaid, short_or};
 
 use crate::client::{Cause, Client};
 use crate::clients::Clients;
@@ -43,7 +43,7 @@ fn had_session(clients: &Clients, label: &Name) -> bool
 // The open session of a label, if it has one.
 #[tactic(auto, using(crate::proofs::Events::standing_at))]
 fn session_of(clients: &Clients, label: &Name) -> Option<SessionId>
-    ensures { result ≡ session_now (standing_of label.now (labels_in clients.now)) }
+    ensures { result ≡ session_in label.now clients.now }
 {
     match clients.client(label) {
         Some(Client::Open { id, .. }) => Some(*id),
@@ -153,7 +153,7 @@ fn type_key(server: &mut Server, clients: &mut Clients, label: &Name, id: Sessio
 fn type_one(server: &mut Server, clients: &mut Clients, label: &Name, key: u8)
     requires { IsReady server.old clients.old }
     ensures ready { IsReady server.new clients.new }
-    ensures types { TypesOne (session_now (standing_of label.now (labels_in clients.old))) (player_of server.old clients.old) label.now key (player_of server.new clients.new) }
+    ensures types { TypesOne (session_in label.now clients.old) (player_of server.old clients.old) label.now key (player_of server.new clients.new) }
 {
     match session_of(clients, label) {
         Some(id) => type_key(server, clients, label, id, key),
@@ -183,7 +183,7 @@ fn show_line(clients: &Clients, out: &mut Vec<u8>, label: &Name) -> Result<(), L
 
 fn close_session(server: &mut Server, clients: &mut Clients, label: &Name, id: SessionId)
     requires ready { IsReady server.old clients.old }
-    requires session { session_now (standing_of label.now (labels_in clients.old)) ≡ Some id }
+    requires session { session_in label.now clients.old ≡ Some id }
     ensures ready { IsReady server.new clients.new }
     ensures closes { Closes (Some id) (player_of server.old clients.old) label.now (player_of server.new clients.new) }
 {
@@ -196,7 +196,7 @@ fn close_session(server: &mut Server, clients: &mut Clients, label: &Name, id: S
 fn close_label(server: &mut Server, clients: &mut Clients, label: &Name)
     requires { IsReady server.old clients.old }
     ensures ready { IsReady server.new clients.new }
-    ensures closes { Closes (session_now (standing_of label.now (labels_in clients.old))) (player_of server.old clients.old) label.now (player_of server.new clients.new) }
+    ensures closes { Closes (session_in label.now clients.old) (player_of server.old clients.old) label.now (player_of server.new clients.new) }
 {
     match session_of(clients, label) {
         Some(id) => close_session(server, clients, label, id),

@@ -1,10 +1,10 @@
 // Reads a script, and replays it.
-ghost use Rattle.std.specs.Prelude.{◌≡◌, ◌+◌, ◌≤◌, ◌<◌, length, IfOk, IfSome};
+ghost use Rattle.std.specs.Prelude.{◌≡◌, ◌+◌, ◌≤◌, length, IfOk, IfSome};
 ghost use Rattle.std.specs.Io.KnownBytes.{Keeps};
 ghost use Rattle.mgs_replay.specs.Faults.{IsCounted};
 ghost use Rattle.mgs_replay.specs.Settings.{first_world};
 ghost use Rattle.mgs_replay.specs.Plays.{Written};
-ghost use Rattle.mgs_replay.specs.Reads.{PieceRead, TakesAtMost, LeavesUnread, IsTooLong};
+ghost use Rattle.mgs_replay.specs.Reads.{PieceRead, TakesAtMost, LeavesUnread, KeepsLimit};
 
 use crate::lines::play;
 use mgs_model::SCRIPT_LIMIT;
@@ -81,7 +81,7 @@ pub fn replay<R: Read, W: Write>(
     ensures written { IfSome (R.remaining reader.old) (λ script. Written first_world script (W.contents writer.old) (W.contents writer.new) result) }
     ensures line { IsCounted result }
     ensures unread { LeavesUnread result (W.contents writer.old) (W.contents writer.new) }
-    ensures limit { IfSome (R.remaining reader.old) (λ script. SCRIPT_LIMIT < length script → IsTooLong result (W.contents writer.old) (W.contents writer.new)) }
+    ensures limit { KeepsLimit (R.remaining reader.old) result (W.contents writer.old) (W.contents writer.new) }
     ensures taken { TakesAtMost (R.remaining reader.old) (R.remaining reader.new) (SCRIPT_LIMIT + 1) }
 {
     let script = match read_script(alloc, reader) {

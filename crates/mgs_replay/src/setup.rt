@@ -4,8 +4,8 @@ ghost use Rattle.mgs_acl.specs.Spelling.{entry_in};
 ghost use Rattle.mgs_model.specs.World.{find_buffer};
 ghost use Rattle.mgs_script.specs.Lines.{view, User, Group, Buffer};
 ghost use Rattle.mgs_replay.specs.SetupFaults.{fault_in};
-ghost use Rattle.mgs_replay.specs.Settings.{first_world, are_names, buffer_refused, entry_refused, text_refused, with_entry, with_text};
-ghost use Rattle.mgs_replay.specs.Setups.{cannot_add, Listed, Lengthened, Changes, Sets, marked_of, buffers_in, is_drafted, AreFit, OnlyShort};
+ghost use Rattle.mgs_replay.specs.Settings.{first_world, are_names, buffer_refused};
+ghost use Rattle.mgs_replay.specs.Setups.{cannot_add, Listed, Lengthened, PutsEntry, PutsText, Sets, marked_of, buffers_in, is_drafted, AreFit, OnlyShort};
 
 use mgs_acl::{List, read_entry, user_named};
 use mgs_buffers::{AddFault, Buffers};
@@ -96,7 +96,7 @@ fn has_draft(drafts: &[Draft], name: &[u8]) -> bool
 
 // Puts an entry last in the list of the buffer of that name.
 fn entry_line(drafts: &mut [Draft], name: &Name, entry: &str) -> Result<(), LineFault>
-    ensures { Changes result (entry_refused (find_buffer name.now (buffers_in drafts.old)) (entry_in entry.now)) name.now (with_entry (entry_in entry.now)) (buffers_in drafts.old) (buffers_in drafts.new) }
+    ensures { PutsEntry result name.now (entry_in entry.now) (buffers_in drafts.old) (buffers_in drafts.new) }
 {
     match place_of(drafts, name.as_bytes()) {
         Some(at) => add_entry(&mut drafts[at], entry),
@@ -106,7 +106,7 @@ fn entry_line(drafts: &mut [Draft], name: &Name, entry: &str) -> Result<(), Line
 
 // Puts characters after the text of the buffer of that name.
 fn text_line(drafts: &mut [Draft], name: &Name, text: &[char]) -> Result<(), LineFault>
-    ensures { Changes result (text_refused (find_buffer name.now (buffers_in drafts.old)) text.now) name.now (with_text text.now) (buffers_in drafts.old) (buffers_in drafts.new) }
+    ensures { PutsText result name.now text.now (buffers_in drafts.old) (buffers_in drafts.new) }
 {
     match place_of(drafts, name.as_bytes()) {
         Some(at) => add_text(&mut drafts[at], text),
@@ -195,7 +195,7 @@ impl<'a> Setup<'a> {
             || self.drafts.len() >= BUFFER_LIMIT
     }
 
-    // The same as a rule of `Buffers::add`, and of owners.
+    // The same by the rules of `Buffers::add`, and of owners.
     #[tactic(auto, using(crate::proofs::Fits::refused_as))]
     fn refuses(&self, name: &str, owner: &str) -> bool
         ensures { result ≡ buffer_refused self.now name.now owner.now }
