@@ -1,5 +1,5 @@
 -- Each change of the fields of a block leaves a block.
-use Rattle.std.proofs.Common.{◌≡◌, ℕ, suc, ◌+◌, ◌-◌, ◌<◌, ◌≤◌, ◌^◌, List, [], ◌∷◌, ◌++◌, Option, Some, None, map, set, take, drop, length, refl, sym, ap, ap₂, ◌∙◌, arith, length-take, length-drop, length-set, drop-drop, add-one, take_all, replicate}
+use Rattle.std.proofs.Common.{◌≡◌, ℕ, suc, ◌+◌, ◌-◌, ◌<◌, ◌≤◌, ◌^◌, List, [], ◌∷◌, ◌++◌, Option, Some, None, map, set, take, drop, length, sym, ap, ap₂, ◌∙◌, arith, length-take, length-drop, length-set, drop-drop, add-one, take_all, replicate}
 use Rattle.std.proofs.lemmas.List.{length-map, length-replicate, drop_all}
 use Rattle.mgs_gap.specs.Places.{somes}
 use Rattle.mgs_gap.specs.Gapped.{gapped}

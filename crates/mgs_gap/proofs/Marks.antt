@@ -1,5 +1,5 @@
 -- Lists of marks, and steps of the loops over them.
-use Rattle.std.proofs.Common.{◌≡◌, ℕ, zero, suc, ◌+◌, ◌<◌, Option, Some, None, List, [], ◌∷◌, ◌++◌, take, drop, map, set, get_or, length, slice_get, refl, ap, ap₂, arith}
+use Rattle.std.proofs.Common.{◌≡◌, ℕ, zero, suc, ◌<◌, Option, Some, None, List, [], ◌∷◌, ◌++◌, take, drop, map, set, get_or, length, refl, ap, ap₂, arith}
 use Rattle.std.specs.Option.{option_map}
 use Rattle.mgs_marks.specs.Marks.{mark_in, position_in, or_zero}
 

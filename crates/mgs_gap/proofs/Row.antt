@@ -4,7 +4,7 @@ use lib.ListN.{drop, take-append-drop, length-take}
 use lib.Seq.{drop-cons, set_split}
 use native.Mathlib.Nat.{zero-mul, suc-mul}
 use seplogic.Ra.Ura.{Ura}
-use mir.Syntax.{ty_int, ty_array}
+use mir.Syntax.{ty_int}
 use mir.Val.{Val}
 use base.Fraction.{full_share}
 use base.Logic.{ent, sep, via, snd∗, mono_r, id⊢}

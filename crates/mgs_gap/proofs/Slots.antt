@@ -1,5 +1,5 @@
 -- How the places of a row are read and written.
-use Rattle.std.proofs.Common.{◌≡◌, ℕ, zero, suc, ◌+◌, ◌-◌, ◌<◌, ◌≤◌, List, [], ◌∷◌, ◌++◌, Option, Some, None, map, set, take, drop, length, slice_index, refl, ap, arith}
+use Rattle.std.proofs.Common.{◌≡◌, ℕ, zero, suc, ◌<◌, ◌≤◌, List, [], ◌∷◌, ◌++◌, Some, map, set, take, drop, length, refl, ap, arith}
 use Rattle.mgs_gap.specs.Places.{somes}
 
 module _ {X : Type 0} where

@@ -1,5 +1,5 @@
 -- What holds of the fields of a block.
-use Rattle.std.specs.Prelude.{ℕ, ◌≡◌, ◌+◌, ◌^◌, ◌<◌, List, Option, Some, map, length, take, drop}
+use Rattle.std.specs.Prelude.{ℕ, ◌≡◌, ◌+◌, ◌^◌, ◌<◌, List, Some, map, length, take, drop}
 use Rattle.mgs_gap.specs.Places.{somes}
 use Rattle.mgs_gap.specs.declared.block.Block.TheInside.{Inside}
 

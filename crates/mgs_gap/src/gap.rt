@@ -6,7 +6,7 @@ ghost use Rattle.mgs_gap.specs.Gapped.{Gapped, gapped, text_of};
 ghost use Rattle.mgs_gap.specs.RawPlaces.{text_place, raw_place, IsRaw, marks_at};
 
 use crate::block::Block;
-use crate::places::{Edit, Gap, free_slot, move_places, to_raw, to_text};
+use crate::places::{Edit, Gap, free_slot, leaves_marks, move_places, to_raw, to_text};
 use mgs_marks::Marked;
 use mgs_model::{MarkId, Short};
 use mgs_text::Text;
@@ -90,24 +90,24 @@ impl Text for GapText {
 
     fn replace(&mut self, a: usize, b: usize, put: &[char]) -> Result<(), Short> {
         let old = self.gap();
-        let _room = self.block.after();
+        let edit = Edit {
+            from: a,
+            to: b,
+            count: put.len(),
+        };
+        // The block's size bounds every place in it, before the edit and after it.
+        let _before = self.block.after();
         self.block.reserve(self.alloc, put.len())?;
         self.block.gap_to(a);
         self.block.delete(b - a);
         self.block.insert(put);
-        let _rest = self.block.after();
-        // An insertion at the gap, where it has room, moves no mark.
-        if a == b && a == old.start && put.len() <= old.width {
+        let _after = self.block.after();
+        if leaves_marks(edit, old) {
             return Ok(());
         }
         let new = Gap {
             start: self.block.before(),
             width: self.block.gap(),
-        };
-        let edit = Edit {
-            from: a,
-            to: b,
-            count: put.len(),
         };
         move_places(&mut self.places, old, edit, new);
         Ok(())
@@ -117,7 +117,8 @@ impl Text for GapText {
 impl Marked for GapText {
     fn add_mark(&mut self, p: usize) -> Result<MarkId, Short> {
         let gap = self.gap();
-        let _room = self.block.after();
+        // The block's size bounds every place in it.
+        let _size = self.block.after();
         let id = free_slot(&mut self.places)?;
         self.places[id] = Some(to_raw(gap, p));
         Ok(MarkId::of(id))
@@ -128,7 +129,8 @@ impl Marked for GapText {
     }
 
     fn place(&mut self, id: MarkId, p: usize) {
-        let _room = self.block.after();
+        // The block's size bounds every place in it.
+        let _size = self.block.after();
         let place = to_raw(self.gap(), p);
         self.places[id.slot()] = Some(place);
     }

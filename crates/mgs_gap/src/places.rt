@@ -1,5 +1,5 @@
 // Raw places and places in the text.
-ghost use Rattle.std.specs.Prelude.{◌≡◌, ℕ, ◌+◌, ◌-◌, ◌<◌, ◌≤◌, ◌^◌, List, Option, None, map, length, IfOk, OnErr};
+ghost use Rattle.std.specs.Prelude.{◌≡◌, ℕ, ◌+◌, ◌-◌, ◌<◌, ◌≤◌, ◌^◌, ◌↔◌, List, Option, None, map, length, IsTrue, IfOk, OnErr};
 ghost use Rattle.std.specs.Option.{option_map};
 ghost use Rattle.mgs_model.specs.Text.{shift};
 ghost use Rattle.mgs_marks.specs.Marks.{mark_in, position_in, or_zero};
@@ -38,6 +38,13 @@ pub(crate) fn to_raw(gap: Gap, p: usize) -> usize
     ensures { result ≡ raw_place gap.start gap.width p }
 {
     if p <= gap.start { p } else { p + gap.width }
+}
+
+// Whether an edit is an insertion at the gap that the gap has room for: then each mark's place stays right.
+pub(crate) fn leaves_marks(edit: Edit, gap: Gap) -> bool
+    ensures { IsTrue result ↔ ((edit.from ≡ edit.to) × (edit.from ≡ gap.start) × (edit.count ≤ gap.width)) }
+{
+    edit.from == edit.to && edit.from == gap.start && edit.count <= gap.width
 }
 
 fn shifted(p: usize, edit: Edit) -> usize

@@ -1,6 +1,6 @@
-use Rattle.std.proofs.Common.{◌≡◌, ℕ, ◌+◌, ◌-◌, ◌<◌, ◌≤◌, [], ◌∷◌, ◌++◌, take, drop, length, sym, ap, ◌∙◌, subst, arith}
-use Rattle.mgs_gap.specs.Gapped.{Gapped, gapped}
-use Rattle.mgs_gap.specs.Blocks.{front_in, back_in}
+use Rattle.std.proofs.Common.{sym, ap, ◌∙◌}
+use Rattle.mgs_gap.specs.Gapped.{Gapped}
+use Rattle.mgs_gap.specs.Blocks.{front_in}
 use Rattle.mgs_gap.proofs.Blocks.{same_run}
 use Rattle.mgs_gap.proofs.block.Block.front.Goals as goal
 

@@ -1,6 +1,5 @@
-use Rattle.std.proofs.Common.{◌≡◌, ℕ, ◌+◌, ◌-◌, ◌<◌, ◌≤◌, [], ◌∷◌, ◌++◌, take, drop, length, sym, ap, ◌∙◌, subst, arith}
+use Rattle.std.proofs.Common.{◌-◌, ◌<◌, [], ◌∷◌, ◌++◌, sym, ap, ◌∙◌, subst}
 use Rattle.mgs_gap.specs.Gapped.{Gapped, gapped}
-use Rattle.mgs_gap.specs.Blocks.{front_in, back_in}
 use Rattle.mgs_gap.proofs.Blocks.{put_shows}
 use Rattle.mgs_gap.proofs.block.Block.put.Goals as goal
 

@@ -1,4 +1,4 @@
-use Rattle.std.proofs.Common.{◌≡◌, ℕ, ◌+◌, ◌-◌, ◌<◌, ◌≤◌, [], ◌∷◌, ◌++◌, take, drop, length, sym, ap, ◌∙◌, subst, arith}
+use Rattle.std.proofs.Common.{◌-◌, ◌<◌, ◌∷◌, take, length, sym, ap, ◌∙◌, subst, arith}
 use Rattle.mgs_gap.specs.Gapped.{Gapped, gapped}
 use Rattle.mgs_gap.specs.Blocks.{front_in, back_in}
 use Rattle.mgs_gap.proofs.Blocks.{left_shows, front_long}

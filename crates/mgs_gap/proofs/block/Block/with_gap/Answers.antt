@@ -1,5 +1,5 @@
-use Rattle.std.proofs.Common.{[], refl, ◌∙◌, arith}
-use Rattle.mgs_gap.proofs.Blocks.{Shows, all_gap}
+use Rattle.std.proofs.Common.{refl, arith}
+use Rattle.mgs_gap.proofs.Blocks.{all_gap}
 use Rattle.mgs_gap.proofs.block.Block.with_gap.Goals as goal
 
 pub invariant_of-result : goal.invariant_of-result

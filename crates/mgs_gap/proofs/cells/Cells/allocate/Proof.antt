@@ -1,4 +1,4 @@
-use Rattle.std.proofs.Common.{◌≡◌, ◌+◌, ◌*◌, ◌^◌, ◌<◌, List, [], ◌∷◌, ◌++◌, refl, sym, subst, ◌∙◌, arith, lit<, w64, length, replicate, Some, None}
+use Rattle.std.proofs.Common.{◌≡◌, ◌*◌, ◌^◌, ◌<◌, List, [], ◌∷◌, ◌++◌, refl, sym, subst, arith, lit<, w64, length, replicate, Some, None}
 use Rattle.std.proofs.lemmas.List.{length-replicate}
 use mir.Syntax.{Ty, Fn, Args, a_type, dcons, dnil}
 use mir.Val.{Val, vint, vptr, vcons, vnil}

@@ -1,4 +1,4 @@
-use Rattle.std.proofs.Common.{ℕ, ◌≡◌, ◌+◌, ◌*◌, ◌<◌, ◌^◌, List, [], ◌∷◌, Option, Some, length, map, take, drop, length-take, length-drop, refl, sym, ap, ◌∙◌, w64, arith}
+use Rattle.std.proofs.Common.{ℕ, ◌≡◌, ◌+◌, ◌*◌, ◌<◌, ◌^◌, List, [], ◌∷◌, Option, Some, length, drop, length-take, length-drop, refl, sym, ap, w64, arith}
 use Rattle.std.proofs.lemmas.List.{length-map}
 use Rattle.std.proofs.raw_atomic.Walks.{proved}
 use base.Logic.{id⊢}

@@ -1,9 +1,9 @@
-use Rattle.std.proofs.Common.{ℕ, ◌≡◌, ◌+◌, ◌*◌, ◌<◌, ◌^◌, List, [], ◌∷◌, Option, Some, None, length, set, length-set, refl, sym, ap, subst, ◌∙◌, w32, w64, arith}
+use Rattle.std.proofs.Common.{◌+◌, ◌*◌, ◌<◌, ◌^◌, List, [], ◌∷◌, Some, None, length, set, length-set, refl, sym, ap, subst, ◌∙◌, w32, w64, arith}
 use Rattle.std.proofs.raw_atomic.Walks.{proved}
 use base.Fraction.{full_share}
 use base.Logic.{id⊢}
-use base.Fml.{ftrue, fat, flft}
-use mir.Syntax.{ty_int, named}
+use base.Fml.{ftrue, flft}
+use mir.Syntax.{named}
 use mir.Val.{Val, vunit, vint}
 use contract.Running.{tables}
 use contract.Monad.{fact}

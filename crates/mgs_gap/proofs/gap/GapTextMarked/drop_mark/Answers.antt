@@ -1,4 +1,4 @@
-use Rattle.std.proofs.Common.{◌≡◌, ℕ, List, Option, None, set, length, sym, ap, ◌∙◌}
+use Rattle.std.proofs.Common.{None, set, length, sym, ap, ◌∙◌}
 use Rattle.std.specs.Option.{option_map}
 use Rattle.mgs_marks.specs.Marks.{mark_in}
 use Rattle.mgs_gap.specs.RawPlaces.{text_place}

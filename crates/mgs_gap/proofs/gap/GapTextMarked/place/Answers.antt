@@ -1,6 +1,5 @@
-use Rattle.std.proofs.Common.{◌≡◌, ℕ, ◌≤◌, ◌++◌, List, Option, Some, set, length, ap, ap₂, sym, subst, ◌∙◌}
+use Rattle.std.proofs.Common.{◌≡◌, ℕ, ◌≤◌, ◌++◌, Some, set, length, ap, ap₂, ◌∙◌}
 use Rattle.std.specs.Option.{option_map}
-use Rattle.mgs_marks.specs.Marks.{position_in}
 use Rattle.mgs_gap.specs.RawPlaces.{text_place, raw_place, IsRaw, marks_at}
 use Rattle.mgs_gap.proofs.Marks.{map_set, position_set}
 use Rattle.mgs_gap.proofs.Shifts.{text_of_raw, is_raw}

@@ -1,5 +1,6 @@
 use Rattle.std.proofs.Common.{◌≡◌, ℕ, ◌+◌, ◌-◌, ◌≤◌, ◌++◌, Option, List, take, drop, map, length, subst, sym, ap, ap₂, ◌∙◌, arith}
 use Rattle.std.specs.Option.{option_map}
+use Rattle.std.proofs.lemmas.Grind.{common_steps}
 use Rattle.std.proofs.lemmas.List.{length-map, take_at}
 use Rattle.mgs_model.specs.Text.{shift_all}
 use Rattle.mgs_marks.specs.Marks.{position_in}
@@ -13,16 +14,17 @@ moved_list n' g' m' h' n g a b k m h xs ys ns en eg em eh ex e =
     e ∙ ap₂ (λ x y. map (option_map (moved x y a b k m' h')) ys) en eg ∙ ap₂ (λ x y. map (option_map (moved n g a b k x y)) ys) em eh ∙ ap (λ zs. map (option_map (moved n g a b k m h)) zs) ex
 
 -- An insertion at the gap: the marks stay.
-pub returns-then-put-old-clause-marks : goal.returns-then-put-old-clause-marks
-returns-then-put-old-clause-marks c =
+pub returns-then-leaves_marks-clause-marks : goal.returns-then-leaves_marks-clause-marks
+returns-then-leaves_marks-clause-marks c =
     let now = c.args.self.now in let n = length now.block.front in let g = now.block.gap in let a = c.args.a in let b = c.args.b in let put = c.args.put.now in
     let r = c.reserve.new.self in let t = c.gap_to.new.self in let d = c.delete.new.self in let e = c.insert.new.self in
-    let same : a ≡ b = omega arith in
-    let at : a ≡ n = omega (arith, c.gap-old.ensures.start) in
-    let room : length put ≤ g = omega (arith, c.gap-old.ensures.width) in
+    let fits = c.leaves_marks.ensures.0 (grind (arith, common_steps)) in
+    let same : a ≡ b = fits.0 in
+    let at : a ≡ n = omega (arith, fits.1, c.gap-old.ensures.start) in
+    let room : length put ≤ g = omega (arith, fits.2, c.gap-old.ensures.width) in
     let kept : r.gap ≡ g = ap (λ (v : Gapped). v.gap) (c.reserve.ensures.kept room) in
-    let fits : a ≤ length (now.block.front ++ now.block.back) = omega (arith, c.requires.order, c.requires.within) in
-    let front : length e.front ≡ n + length put = edit_front now.block r t d e a b put c.reserve.ensures.text c.gap_to.ensures c.delete.ensures c.insert.ensures fits ∙ ap (λ k. k + length put) at in
+    let within : a ≤ length (now.block.front ++ now.block.back) = omega (arith, c.requires.order, c.requires.within) in
+    let front : length e.front ≡ n + length put = edit_front now.block r t d e a b put c.reserve.ensures.text c.gap_to.ensures c.delete.ensures c.insert.ensures within ∙ ap (λ k. k + length put) at in
     let gap : e.gap ≡ g - length put = edit_gap now.block r t d e a b put c.reserve.ensures.text c.gap_to.ensures c.delete.ensures c.insert.ensures ∙ omega arith in
     ap₂ (λ m h. marks_at m h now.places.items) front gap ∙ marks_stay n g (length put) now.places.items room now.raw
     ∙ ap₂ (λ x y. shift_all x y (length put) (marks_at n g now.places.items)) (sym at) (sym at ∙ same)
