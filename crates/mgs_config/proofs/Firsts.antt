@@ -21,7 +21,7 @@ rows_more rows i d within = ap (map view) (take_more rows i d within) ∙ map-ap
 pub rows_less : (rows : List Value) (i : ℕ) (d : Value) → i < length rows → rows_from rows i ≡ view (get_or rows i d) ∷ rows_from rows (i + 1)
 rows_less rows i d within = ap (map view) (drop_more rows i d within)
 
-rows_count : (rows : List Value) (i : ℕ) → i ≤ length rows → length (rows_before rows i) ≡ i
+pub rows_count : (rows : List Value) (i : ℕ) → i ≤ length rows → length (rows_before rows i) ≡ i
 rows_count rows i within = simp (length-map, length-take) (omega arith)
 
 first_passed : (f : List Data → Data → Option TableFault) (before : List Data) (row : Data) (rows : List Data) → f before row ≡ None → first_fault f before (row ∷ rows) ≡ first_fault f (before ++ row ∷ []) rows

@@ -1,2 +1,4 @@
 pub mod RowLemmas
 pub mod Firsts
+pub mod Entries
+pub mod Filling

@@ -1,2 +1,5 @@
 pub mod Rows
 pub mod Faults
+pub mod Buffers
+pub mod Document
+pub mod Files

@@ -27,7 +27,7 @@ fn are_keys(keys: &[&str], table: &Table) -> bool
 }
 
 /// Whether it is a table with no other keys than these.
-fn has_only(keys: &[&str], row: &Value) -> bool
+pub fn has_only(keys: &[&str], row: &Value) -> bool
     ensures { result ≡ has_only (map (λ k. k.now) keys.now) (view row.now) }
 {
     match row.as_table() {
@@ -37,7 +37,7 @@ fn has_only(keys: &[&str], row: &Value) -> bool
 }
 
 /// The string at a key.
-fn text_at<'a>(row: &'a Value, key: &str) -> Option<&'a str>
+pub fn text_at<'a>(row: &'a Value, key: &str) -> Option<&'a str>
     ensures { option_map (λ text. text.now) result ≡ text_at key.now (view row.now) }
 {
     match row.get(key) {
@@ -46,7 +46,7 @@ fn text_at<'a>(row: &'a Value, key: &str) -> Option<&'a str>
     }
 }
 
-fn are_texts(values: &[Value]) -> bool
+pub fn are_texts(values: &[Value]) -> bool
     ensures { result ≡ list_all (λ v. is_text (view v)) values.now }
 {
     values.iter().all(|value| value.is_str())

@@ -1,0 +1,39 @@
+// The files that a configuration names.
+ghost use Rattle.std.specs.Prelude.{◌≡◌, ◌≤◌, ℕ, List, Option, IfOk, IsErrOf};
+ghost use Rattle.mgs_config.specs.Files.{IsTold, HasRisen};
+ghost use Rattle.mgs_config.specs.declared.files.FilesFault.TheVariants.{Unreadable};
+
+use thiserror::Error;
+
+/// Why a file was not read.
+#[derive(Clone, Copy, Debug, PartialEq, Eq, Error)]
+pub enum FilesFault {
+    /// It cannot be read, or it is no UTF-8.
+    #[error("the file cannot be read")]
+    Unreadable,
+    /// Memory was refused.
+    #[error("no memory")]
+    Short,
+}
+
+/// Where the files of a configuration are read.
+pub trait Files {
+    /// The text of a file, where it is known; that of files outside the program is not.
+    ghost tells: { Self → List ℕ → Option (List ℕ) };
+
+    /// The count of faults.
+    ghost count: { Self → ℕ };
+
+    /// The characters of the file at a path.
+    ///
+    /// The faults are `Unreadable`, at which the count of faults rises, or stood at the last u64, and `Short` for out of memory.
+    fn read(&mut self, path: &str) -> Result<Vec<char>, FilesFault>
+        ensures text { IfOk result (λ text. IsTold (tells self.old path.now) text.items) }
+        ensures same { tells self.new ≡ tells self.old }
+        ensures count { count self.old ≤ count self.new }
+        ensures fault { IsErrOf result Unreadable → HasRisen (count self.old) (count self.new) };
+
+    /// How many files could not be read. It stays at the last u64.
+    fn faults(&self) -> u64
+        ensures { result ≡ count self.now };
+}

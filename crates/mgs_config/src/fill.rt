@@ -1,0 +1,122 @@
+// The buffers of a configuration, with their texts.
+ghost use Rattle.std.specs.Prelude.{◌≡◌, ◌≢◌, ◌≤◌, [], ◌∷◌, ◌++◌, length, map, IfOk, IfErr, OnOk, None};
+ghost use Rattle.toml.specs.View.{view};
+ghost use Rattle.mgs_model.specs.Access.{is_among};
+ghost use Rattle.mgs_buffers.specs.MarkedBuffer.{has_buffer};
+ghost use Rattle.mgs_config.specs.Buffers.{name_of, owner_of, listed, path_of, has_file, refused_where, buffer_refused};
+ghost use Rattle.mgs_config.specs.Faults.{first_fault};
+ghost use Rattle.mgs_config.specs.Files.{IsTold, IsFileFault, IsTextOf, IsFaultOf, IsRefusal, buffer_of, IsAdded, AreBuffers, IsBufferFault};
+ghost use Rattle.mgs_config.specs.declared.fault.TableFault.TheVariants.{Short};
+
+use crate::buffers::{chars_of, listed, read_list, refusal, string_at};
+use crate::fault::TableFault;
+use crate::files::{Files, FilesFault};
+use crate::row::text_at;
+use mgs_buffers::Buffers;
+use mgs_marks::PlainMarked;
+use mgs_model::TEXT_LIMIT;
+use mgs_policy::Directory;
+use std::alloc::Global;
+use toml::Value;
+
+// The text of the file at a path, where a server keeps it.
+fn file_text<F: Files>(files: &mut F, path: &str) -> Result<Vec<char>, TableFault>
+    ensures text { IfOk result (λ text. IsTold (F.tells files.old path.now) text.items) }
+    ensures same { F.tells files.new ≡ F.tells files.old }
+    ensures count { F.count files.old ≤ F.count files.new }
+    ensures err { IfErr result (IsFileFault (F.tells files.old path.now) (F.count files.old) (F.count files.new)) }
+{
+    match files.read(path) {
+        Ok(text) =>
+            if text.len() > TEXT_LIMIT {
+                Err(TableFault::Long)
+            } else {
+                Ok(text)
+            },
+        Err(FilesFault::Unreadable) => Err(TableFault::File),
+        Err(FilesFault::Short) => Err(TableFault::Short),
+    }
+}
+
+// The text of a table: that of its file, where it has one.
+fn row_text<F: Files>(alloc: Global, files: &mut F, row: &Value) -> Result<Vec<char>, TableFault>
+    ensures text { IfOk result (λ text. IsTextOf (F.tells files.old) (view row.now) text.items) }
+    ensures same { F.tells files.new ≡ F.tells files.old }
+    ensures count { F.count files.old ≤ F.count files.new }
+    ensures err { IfErr result (IsFaultOf (F.tells files.old) (path_of (view row.now)) (F.count files.old) (F.count files.new)) }
+{
+    match text_at(row, "file") {
+        Some(path) => file_text(files, path),
+        None => match chars_of(alloc, string_at(row, "text")) {
+            Ok(text) => Ok(text),
+            Err(_) => Err(TableFault::Short),
+        },
+    }
+}
+
+fn has_file(row: &Value) -> bool
+    ensures { result ≡ has_file (view row.now) }
+{
+    text_at(row, "file").is_some()
+}
+
+// Adds the buffer of a table with a text. Its other faults were checked.
+#[tactic(auto, using(crate::proofs::RowLemmas::values_count))]
+fn put_buffer(buffers: &mut Buffers<PlainMarked>, row: &Value, text: &[char]) -> Result<(), TableFault>
+    requires { length (listed (view row.now)) ≤ 64 }
+    ensures ok { OnOk result (buffers.new ≡ buffers.old ++ buffer_of (view row.now) text.now ∷ []) }
+    ensures err { IfErr result (λ f. f ≡ Short) }
+{
+    let list = read_list(listed(row));
+    let (name, owner) = (string_at(row, "name"), string_at(row, "owner"));
+    match buffers.add(name, owner, list, text, has_file(row)) {
+        Ok(()) => Ok(()),
+        Err(_) => Err(TableFault::Short),
+    }
+}
+
+// Adds the buffer of a table.
+#[tactic(auto, using(crate::proofs::Filling::listed_few))]
+fn add_buffer<F: Files>(
+    alloc: Global,
+    directory: &Directory,
+    buffers: &mut Buffers<PlainMarked>,
+    files: &mut F,
+    row: &Value,
+) -> Result<(), TableFault>
+    ensures due { OnOk result (refused_where (has_buffer (name_of (view row.now)) buffers.old) (is_among (owner_of (view row.now)) directory.now.users) (length buffers.old) (view row.now) ≡ None) }
+    ensures added { OnOk result (IsAdded (F.tells files.old) (view row.now) buffers.old buffers.new) }
+    ensures same { F.tells files.new ≡ F.tells files.old }
+    ensures count { F.count files.old ≤ F.count files.new }
+    ensures err { IfErr result (IsRefusal (refused_where (has_buffer (name_of (view row.now)) buffers.old) (is_among (owner_of (view row.now)) directory.now.users) (length buffers.old) (view row.now)) (IsFaultOf (F.tells files.old) (path_of (view row.now)) (F.count files.old) (F.count files.new))) }
+{
+    match refusal(directory, buffers, row) {
+        Some(fault) => return Err(fault),
+        None => {}
+    }
+    match row_text(alloc, files, row) {
+        Ok(text) => put_buffer(buffers, row, text.as_slice()),
+        Err(fault) => Err(fault),
+    }
+}
+
+/// The buffers of these tables, or the fault of one and its number, counted from 1.
+pub fn read_buffers<F: Files>(
+    alloc: Global,
+    directory: &Directory,
+    files: &mut F,
+    rows: &[Value],
+) -> Result<Buffers<PlainMarked>, (usize, TableFault)>
+    ensures due { OnOk result (first_fault (buffer_refused directory.now.users) [] (map view rows.now) ≡ None) }
+    ensures buffers { IfOk result (λ buffers. AreBuffers (F.tells files.old) (map view rows.now) buffers) }
+    ensures err { IfErr result (λ f. f.1 ≢ Short → IsBufferFault (F.tells files.old) (F.count files.old) (F.count files.new) directory.now.users (map view rows.now) f) }
+{
+    let mut buffers = Buffers::new(alloc);
+    for (before, row) in rows.iter().enumerate() {
+        match add_buffer(alloc, directory, &mut buffers, files, row) {
+            Ok(()) => {}
+            Err(fault) => return Err((before + 1, fault)),
+        }
+    }
+    Ok(buffers)
+}
