@@ -2,3 +2,4 @@ pub mod RowLemmas
 pub mod Firsts
 pub mod Entries
 pub mod Filling
+pub mod Paths

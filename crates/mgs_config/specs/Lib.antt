@@ -3,3 +3,4 @@ pub mod Faults
 pub mod Buffers
 pub mod Document
 pub mod Files
+pub mod World

@@ -2,6 +2,7 @@
 #![tactic(auto)]
 
 mod buffers;
+mod config;
 mod document;
 mod fault;
 mod files;
@@ -9,9 +10,6 @@ mod fill;
 mod row;
 mod users;
 
-pub use files::{Files, FilesFault};
-pub use fill::read_buffers;
+pub use config::{BufferFile, Config, read_config};
 pub use fault::{ConfigFault, ConfigTable, TableFault};
-pub use users::{read_groups, read_users};
-pub use document::{read_document, is_configuration, rows_at};
-pub use buffers::{refusal, read_list};
+pub use files::{Files, FilesFault};

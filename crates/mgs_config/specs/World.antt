@@ -1,0 +1,58 @@
+-- What a configuration gives, or why it is refused.
+use Rattle.std.specs.Prelude.{◌≡◌, ℕ, not, List, [], ◌∷◌, map, codes, string_bytes, Option, Some, None, if◌then◌else◌, Vec}
+use Rattle.std.specs.Option.{option_map}
+use Rattle.toml.specs.Data.{Data}
+use Rattle.mgs_model.specs.Access.{Directory}
+use Rattle.mgs_config.specs.Faults.{first_fault, user_of, user_refused, names_of, group_of, group_refused}
+use Rattle.mgs_config.specs.Buffers.{name_of, path_of}
+use Rattle.mgs_config.specs.Files.{AreBuffers, IsBufferFault}
+use Rattle.mgs_config.specs.Document.{is_configuration, rows_at}
+use Rattle.mgs_config.specs.declared.fault.TableFault.{TableFault}
+use Rattle.mgs_config.specs.declared.fault.TableFault.TheVariants.{Toml, Key}
+use Rattle.mgs_config.specs.declared.fault.ConfigTable.{ConfigTable}
+use Rattle.mgs_config.specs.declared.fault.ConfigTable.TheVariants.{Top, User, Group, Buffer}
+use Rattle.mgs_config.specs.declared.fault.ConfigFault.{ConfigFault}
+
+-- the users, each with his ticket
+abbrev pub users_in : Data → List (List ℕ × List ℕ)
+users_in d = map user_of (rows_at (codes "user") d)
+
+abbrev pub directory_in : Data → Directory
+directory_in d = record { users = names_of (users_in d); groups = map group_of (rows_at (codes "group") d) }
+
+-- a fault of one of these tables
+abbrev pub fault_of : ConfigTable → ℕ × TableFault → ConfigFault
+fault_of table at = record { table = table; index = at.0; fault = at.1 }
+
+abbrev pub first_of : Option (ℕ × TableFault) → Option (ℕ × TableFault) → Option ConfigFault
+first_of (Some user) group = Some (fault_of User user)
+first_of None group = option_map (fault_of Group) group
+
+abbrev pub users_fault : Data → Option (ℕ × TableFault)
+users_fault d = first_fault user_refused [] (rows_at (codes "user") d)
+
+abbrev pub groups_fault : Data → Option (ℕ × TableFault)
+groups_fault d = first_fault (group_refused (names_of (users_in d))) [] (rows_at (codes "group") d)
+
+-- why a document is refused before its buffers are read
+abbrev pub people_refused : Data → Option ConfigFault
+people_refused d = if not (is_configuration d) then Some (fault_of Top (0, Key)) else first_of (users_fault d) (groups_fault d)
+
+-- the name and the path of each buffer that has a file
+abbrev pub with_path : Option (List ℕ) → List ℕ → List (List ℕ × List ℕ) → List (List ℕ × List ℕ)
+with_path None name rest = rest
+with_path (Some path) name rest = (name, path) ∷ rest
+
+abbrev pub paths_in : List Data → List (List ℕ × List ℕ)
+paths_in [] = []
+paths_in (row ∷ rows) = with_path (path_of row) (name_of row) (paths_in rows)
+
+-- a buffer's fault, where nothing before the buffers is refused
+abbrev pub IsLaterFault : Option ConfigFault → (List ℕ → Option (List ℕ)) → ℕ → ℕ → Data → ConfigFault → Type 0
+IsLaterFault (Some due) tells old new d e = due ≡ e
+IsLaterFault None tells old new d e = (e.table ≡ Buffer) × IsBufferFault tells old new (names_of (users_in d)) (rows_at (codes "buffer") d) (e.index, e.fault)
+
+-- why a document, or what is none, is refused
+abbrev pub IsConfigFault : Option Data → (List ℕ → Option (List ℕ)) → ℕ → ℕ → ConfigFault → Type 0
+IsConfigFault None tells old new e = e ≡ fault_of Top (0, Toml)
+IsConfigFault (Some d) tells old new e = IsLaterFault (people_refused d) tells old new d e

@@ -1,0 +1,142 @@
+// The configuration of a server.
+ghost use Rattle.std.specs.Prelude.{◌≡◌, ◌≢◌, [], ◌∷◌, ◌++◌, codes, map, IfOk, IfErr, OnOk, IfSome, Some, None, option_map, string_bytes};
+ghost use Rattle.toml.specs.View.{view};
+ghost use Rattle.mgs_config.specs.Document.{document_in, rows_at};
+ghost use Rattle.mgs_config.specs.Buffers.{buffer_refused};
+ghost use Rattle.mgs_config.specs.Faults.{first_fault, names_of};
+ghost use Rattle.mgs_config.specs.Files.{AreBuffers};
+ghost use Rattle.mgs_config.specs.World.{users_in, directory_in, people_refused, paths_in, IsLaterFault, IsConfigFault};
+ghost use Rattle.mgs_config.specs.declared.fault.TableFault.TheVariants.{Short};
+
+use crate::buffers::string_at;
+use crate::document::{is_configuration, read_document, rows_at};
+use crate::fault::{ConfigFault, ConfigTable, TableFault};
+use crate::files::Files;
+use crate::fill::read_buffers;
+use crate::row::text_at;
+use crate::users::{read_groups, read_users};
+use mgs_buffers::Buffers;
+use mgs_marks::PlainMarked;
+use mgs_model::Tickets;
+use mgs_policy::Directory;
+use std::alloc::{AllocError, Global};
+use toml::Value;
+
+/// A buffer that has a file.
+#[derive(Drop)]
+pub struct BufferFile {
+    /// The buffer's name.
+    pub name: String,
+    /// The file's path.
+    pub path: String,
+}
+
+/// What a server starts with.
+#[derive(Drop)]
+pub struct Config {
+    /// The users and the groups.
+    pub directory: Directory,
+    /// The tickets of the users.
+    pub tickets: Tickets,
+    /// The buffers, with their texts.
+    pub buffers: Buffers<PlainMarked>,
+    /// The buffers that have files.
+    pub files: Vec<BufferFile>,
+}
+
+// The users, tickets and groups of a document.
+fn read_people(alloc: Global, document: &Value) -> Result<(Directory, Tickets), ConfigFault>
+    ensures due { OnOk result (people_refused (view document.now) ≡ None) }
+    ensures directory { IfOk result (λ people. people.0 ≡ directory_in (view document.now)) }
+    ensures tickets { IfOk result (λ people. people.1 ≡ users_in (view document.now)) }
+    ensures err { IfErr result (λ e. e.fault ≢ Short → people_refused (view document.now) ≡ Some e) }
+{
+    if !is_configuration(document) {
+        return Err(ConfigFault { table: ConfigTable::Top, index: 0, fault: TableFault::Key });
+    }
+    let (mut directory, tickets) = match read_users(alloc, rows_at(document, "user")) {
+        Ok(people) => people,
+        Err((index, fault)) => return Err(ConfigFault { table: ConfigTable::User, index, fault }),
+    };
+    match read_groups(alloc, &mut directory, rows_at(document, "group")) {
+        Ok(()) => Ok((directory, tickets)),
+        Err((index, fault)) => Err(ConfigFault { table: ConfigTable::Group, index, fault }),
+    }
+}
+
+// Puts the path of a table's file last, where it has one.
+fn push_path(alloc: Global, files: &mut Vec<BufferFile>, row: &Value) -> Result<(), AllocError>
+    ensures { OnOk result (map (λ f. (string_bytes f.name, string_bytes f.path)) files.new.items ≡ map (λ f. (string_bytes f.name, string_bytes f.path)) files.old.items ++ paths_in (view row.now ∷ [])) }
+{
+    if let Some(path) = text_at(row, "file") {
+        let name = String::from_str(alloc, string_at(row, "name"))?;
+        let path = String::from_str(alloc, path)?;
+        files.push(BufferFile { name, path })?;
+    }
+    Ok(())
+}
+
+// The buffers of these tables that have files.
+#[tactic(auto, using(crate::proofs::Paths::paths_more))]
+fn read_paths(alloc: Global, rows: &[Value]) -> Result<Vec<BufferFile>, AllocError>
+    ensures { IfOk result (λ files. map (λ f. (string_bytes f.name, string_bytes f.path)) files.items ≡ paths_in (map view rows.now)) }
+{
+    let mut files = Vec::new(alloc);
+    for row in rows {
+        push_path(alloc, &mut files, row)?;
+    }
+    Ok(files)
+}
+
+fn short() -> ConfigFault
+    ensures { result.fault ≡ Short }
+{
+    ConfigFault { table: ConfigTable::Top, index: 0, fault: TableFault::Short }
+}
+
+// The configuration of a document.
+fn configure<F: Files>(alloc: Global, document: &Value, files: &mut F) -> Result<Config, ConfigFault>
+    ensures due { OnOk result (people_refused (view document.now) ≡ None) }
+    ensures none { OnOk result (first_fault (buffer_refused (names_of (users_in (view document.now)))) [] (rows_at (codes "buffer") (view document.now)) ≡ None) }
+    ensures directory { IfOk result (λ c. c.directory ≡ directory_in (view document.now)) }
+    ensures tickets { IfOk result (λ c. c.tickets ≡ users_in (view document.now)) }
+    ensures buffers { IfOk result (λ c. AreBuffers (F.tells files.old) (rows_at (codes "buffer") (view document.now)) c.buffers) }
+    ensures files { IfOk result (λ c. map (λ f. (string_bytes f.name, string_bytes f.path)) c.files.items ≡ paths_in (rows_at (codes "buffer") (view document.now))) }
+    ensures err { IfErr result (λ e. e.fault ≢ Short → IsLaterFault (people_refused (view document.now)) (F.tells files.old) (F.count files.old) (F.count files.new) (view document.now) e) }
+{
+    let (directory, tickets) = match read_people(alloc, document) {
+        Ok(people) => people,
+        Err(fault) => return Err(fault),
+    };
+    let rows = rows_at(document, "buffer");
+    let buffers = match read_buffers(alloc, &directory, files, rows) {
+        Ok(buffers) => buffers,
+        Err((index, fault)) => return Err(ConfigFault { table: ConfigTable::Buffer, index, fault }),
+    };
+    match read_paths(alloc, rows) {
+        Ok(files) => Ok(Config { directory, tickets, buffers, files }),
+        Err(_) => Err(short()),
+    }
+}
+
+/// Reads a configuration: a TOML document with lists of tables `[[user]]` (`name`, `ticket`), `[[group]]` (`name`, `members`) and
+/// `[[buffer]]` (`name`, `owner`, `list`, and `text` or `file`; neither is an empty text). Members and owners are users; files are
+/// read by `files`.
+///
+/// The faults are those of the document (`top 0`: `Toml` where it is none, `Key` where it has another key, or one that is no list of
+/// tables), and then that of the first table that has one, users before groups before buffers. `Short`, for out of memory, may come
+/// at any point, and names the table that was read.
+pub fn read_config<F: Files>(alloc: Global, text: &str, files: &mut F) -> Result<Config, ConfigFault>
+    ensures directory { IfOk result (λ c. Some c.directory ≡ option_map directory_in (document_in text.now)) }
+    ensures tickets { IfOk result (λ c. Some c.tickets ≡ option_map users_in (document_in text.now)) }
+    ensures buffers { IfOk result (λ c. IfSome (document_in text.now) (λ d. AreBuffers (F.tells files.old) (rows_at (codes "buffer") d) c.buffers)) }
+    ensures files { IfOk result (λ c. Some (map (λ f. (string_bytes f.name, string_bytes f.path)) c.files.items) ≡ option_map (λ d. paths_in (rows_at (codes "buffer") d)) (document_in text.now)) }
+    ensures due { OnOk result (IfSome (document_in text.now) (λ d. people_refused d ≡ None)) }
+    ensures none { OnOk result (IfSome (document_in text.now) (λ d. first_fault (buffer_refused (names_of (users_in d))) [] (rows_at (codes "buffer") d) ≡ None)) }
+    ensures err { IfErr result (λ e. e.fault ≢ Short → IsConfigFault (document_in text.now) (F.tells files.old) (F.count files.old) (F.count files.new) e) }
+{
+    match read_document(alloc, text) {
+        Ok(document) => configure(alloc, &document, files),
+        Err(fault) => Err(ConfigFault { table: ConfigTable::Top, index: 0, fault }),
+    }
+}
