@@ -8,6 +8,7 @@ use std::io::{self, ErrorKind};
 use std::process::ExitCode;
 
 const USAGE: &str = "usage: mgd replay | mgd serve CONFIG PORT";
+
 const NO_MEMORY: &str = "no memory";
 
 /// The program's status where its arguments are wrong.

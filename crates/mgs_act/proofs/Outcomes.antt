@@ -7,7 +7,7 @@ use Rattle.std.proofs.lemmas.Option.{slice_get-map}
 use Rattle.mgs_model.specs.Access.{Directory, Decider, Nobody, Allows, Denies, decider, decision_by, allows, any_right}
 use Rattle.mgs_model.specs.Rights.{all_rights}
 use Rattle.mgs_model.specs.World.{Buffer, Own}
-use Rattle.mgs_model.specs.View.{BufferSeen, WindowSeen, view, reads, reads_found, buffer_seen, window_seen, all_window_marks_if, told_if, size_told, serial_told}
+use Rattle.mgs_model.specs.View.{BufferSeen, WindowSeen, view, reads, reads_found, buffer_seen, window_seen, positions_if, told_if, size_told, serial_told}
 use Rattle.mgs_model.specs.Outcome.{Outcome}
 use Rattle.mgs_model.specs.Plans.{Target, acts_at, fails, needs, outcome, outcome_on, permitted, plan, planned, target, target_in}
 use Rattle.mgs_model.specs.declared.right.Right.{Right}
@@ -66,9 +66,9 @@ outcome_in_end own c name d size serial =
     ap (λ (b : Bool). permitted own (decision_by d (needs c b)) (planned own name size serial (plan c size size))) (eq-eqb size size refl)
 
 -- what is told suffices
-told_same : (own : Own) (c : Command) (name : List ℕ) (d : Right → Decider) (b : Buffer) (point : ℕ) (mark : Option ℕ) (top : ℕ) → outcome_in own c name d (size_told (told_if (any_right d) b)) (serial_told (told_if (any_right d) b)) (acts_at (all_window_marks_if (allows (d ReadData)) point mark top) (size_told (told_if (any_right d) b))) ≡ outcome_in own c name d (length b.text) b.serial (cond (allows (d ReadData)) point (length b.text))
+told_same : (own : Own) (c : Command) (name : List ℕ) (d : Right → Decider) (b : Buffer) (point : ℕ) (mark : Option ℕ) (top : ℕ) → outcome_in own c name d (size_told (told_if (any_right d) b)) (serial_told (told_if (any_right d) b)) (acts_at (positions_if (allows (d ReadData)) point mark top) (size_told (told_if (any_right d) b))) ≡ outcome_in own c name d (length b.text) b.serial (cond (allows (d ReadData)) point (length b.text))
 told_same own c name d b point mark top =
-    let goal : Bool → Bool → Type 0 = λ a r. outcome_in own c name d (size_told (told_if a b)) (serial_told (told_if a b)) (acts_at (all_window_marks_if r point mark top) (size_told (told_if a b))) ≡ outcome_in own c name d (length b.text) b.serial (cond r point (length b.text)) in
+    let goal : Bool → Bool → Type 0 = λ a r. outcome_in own c name d (size_told (told_if a b)) (serial_told (told_if a b)) (acts_at (positions_if r point mark top) (size_told (told_if a b))) ≡ outcome_in own c name d (length b.text) b.serial (cond r point (length b.text)) in
     let told : (r : Bool) → goal true r = λ r. elim r as (goal true) [ true ↦ refl | false ↦ refl ] in
     let untold : (r : Bool) → any_right d ≡ false → allows (d ReadData) ≡ r → goal false r =
     λ r. elim r as (λ r. any_right d ≡ false → allows (d ReadData) ≡ r → goal false r) [
@@ -138,7 +138,7 @@ through directory ks own user height x c kept =
     let point = mark_at x.name ks x.point in
     let mark = option_map (mark_at x.name ks) x.mark in
     let top = mark_at x.name ks x.top in
-    ap (λ (r : Bool). outcome_in own c b.name d size serial (acts_at (all_window_marks_if r point mark top) size)) (ap (reads_found directory user) (found_buffer x.name ks kept))
+    ap (λ (r : Bool). outcome_in own c b.name d size serial (acts_at (positions_if r point mark top) size)) (ap (reads_found directory user) (found_buffer x.name ks kept))
     ∙ told_same own c b.name d b point mark top
     ∙ ap (λ (n : List ℕ). outcome_in own c n d (length b.text) b.serial (cond (allows (d ReadData)) point (length b.text))) (name_kept x.name ks kept)
 

@@ -37,10 +37,10 @@ marked_after x (Fails message) ks = ks
 marked_after x (Inserts at put) ks = change_first (marked_named x.name) (marked_placed x.point (at + 1)) (change_first (marked_named x.name) (marked_edited at at (put ∷ [])) ks)
 marked_after x (Goes place) ks = change_first (marked_named x.name) (marked_placed x.point place) ks
 
-abbrev pub session_after : Action → Session → Session
-session_after (Fails message) h = told message h
-session_after (Inserts at put) h = h
-session_after (Goes place) h = h
+abbrev pub session_acted : Action → Session → Session
+session_acted (Fails message) h = told message h
+session_acted (Inserts at put) h = h
+session_acted (Goes place) h = h
 
 -- the outcome that an action stands for, in the buffer of this name and by a session that holds this
 abbrev pub action_outcome : Own → List ℕ → Action → Outcome

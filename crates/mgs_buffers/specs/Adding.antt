@@ -15,19 +15,19 @@ add_fault name owner size ks =
     else None
 
 -- each fault exactly where it is due, and out of memory only where none is
-abbrev pub IsDue : AddFault → Option AddFault → Type 0
-IsDue Short due = due ≡ None
-IsDue Name due = due ≡ Some Name
-IsDue Twice due = due ≡ Some Twice
-IsDue Full due = due ≡ Some Full
-IsDue Long due = due ≡ Some Long
+abbrev pub IsAddDue : AddFault → Option AddFault → Type 0
+IsAddDue Short due = due ≡ None
+IsAddDue Name due = due ≡ Some Name
+IsAddDue Twice due = due ≡ Some Twice
+IsAddDue Full due = due ≡ Some Full
+IsAddDue Long due = due ≡ Some Long
 
 -- what is answered
-abbrev pub Answers : Result (Unit {0}) AddFault → Option AddFault → Type 0
-Answers (Ok done) due = due ≡ None
-Answers (Err fault) due = IsDue fault due
+abbrev pub AddAnswers : Result (Unit {0}) AddFault → Option AddFault → Type 0
+AddAnswers (Ok done) due = due ≡ None
+AddAnswers (Err fault) due = IsAddDue fault due
 
 -- what is answered where a buffer is checked and not yet added: its name and its owner's
 abbrev pub NamesToAdd : Result (List ℕ × List ℕ) AddFault → List ℕ → List ℕ → Option AddFault → Type 0
 NamesToAdd (Ok names) name owner due = (names ≡ (name, owner)) × (due ≡ None)
-NamesToAdd (Err fault) name owner due = IsDue fault due
+NamesToAdd (Err fault) name owner due = IsAddDue fault due

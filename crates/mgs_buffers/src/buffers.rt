@@ -7,7 +7,7 @@ ghost use Rattle.std.specs.List.{position_or_len};
 ghost use Rattle.mgs_model.specs.Access.{decider, decision_by};
 ghost use Rattle.mgs_model.specs.Apply.{change_first};
 ghost use Rattle.mgs_model.specs.World.{may};
-ghost use Rattle.mgs_buffers.specs.Adding.{add_fault, Answers, NamesToAdd};
+ghost use Rattle.mgs_buffers.specs.Adding.{add_fault, AddAnswers, NamesToAdd};
 ghost use Rattle.mgs_buffers.specs.Contents.{marked_of};
 ghost use Rattle.mgs_buffers.specs.MarkedBuffer.{AreUnmarked, AreWithinLimit, marked_named, marked_at, has_buffer, HasBuffer, IsMark, mark_at, marked_new, marked_edited, marked_placed, MarkAdded, MarkDropped};
 
@@ -111,7 +111,7 @@ impl<T: Marked + Drop> Buffers<T> {
         text: &[char],
         has_file: bool,
     ) -> Result<(), AddFault>
-        ensures answer { Answers result (add_fault name.now owner.now (length text.now) self.old) }
+        ensures answer { AddAnswers result (add_fault name.now owner.now (length text.now) self.old) }
         ensures ok { OnOk result (self.new ≡ self.old ++ marked_new name.now owner.now list text.now has_file ∷ []) }
         ensures err { OnErr result (self.new ≡ self.old) }
         ensures unmarked { AreUnmarked self.old → AreUnmarked self.new }

@@ -130,7 +130,7 @@ pub refused_at : (tells now : Tells) (old mid new : ℕ) (users : List (List ℕ
     → IsBufferFault tells old new users (map view rows) (i + 1, fault)
 refused_at tells now old mid new users rows i d ks fault within same h left refusal a b long =
     by_due tells old mid new users rows i d ks fault (refused_where (has_buffer (name_of (view (get_or rows i d))) ks) (is_among (owner_of (view (get_or rows i d))) users) (length ks) (view (get_or rows i d))) within
-      (refused_same tells users (rows_before rows i) (view (get_or rows i d)) ks h) left (rw same at refusal) a b long
+    (refused_same tells users (rows_before rows i) (view (get_or rows i d)) ks h) left (rw same at refusal) a b long
 
 -- THE SAME, AS THE LOOP HAS THEM
 
@@ -151,4 +151,4 @@ pub loop_refused : (tells now : Tells) (old mid new : ℕ) (users : List (List �
     → IsBufferFault tells old new users (map view rows) (i + 1, fault)
 loop_refused tells now old mid new users rows i v ks fault within is same h left refusal a b long =
     refused_at tells now old mid new users rows i v ks fault within same h left
-      (subst (λ (x : Value). IsRefusal (refused_where (has_buffer (name_of (view x)) ks) (is_among (owner_of (view x)) users) (length ks) (view x)) (IsFaultOf now (path_of (view x)) mid new) fault) is refusal) a b long
+    (subst (λ (x : Value). IsRefusal (refused_where (has_buffer (name_of (view x)) ks) (is_among (owner_of (view x)) users) (length ks) (view x)) (IsFaultOf now (path_of (view x)) mid new) fault) is refusal) a b long

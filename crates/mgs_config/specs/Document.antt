@@ -28,7 +28,7 @@ are_tables_at key d = tables_or_none (get key d)
 abbrev pub is_configuration : Data → Bool
 is_configuration d =
     has_only (codes "user" ∷ codes "group" ∷ codes "buffer" ∷ []) d
-        && (are_tables_at (codes "user") d && (are_tables_at (codes "group") d && are_tables_at (codes "buffer") d))
+    && (are_tables_at (codes "user") d && (are_tables_at (codes "group") d && are_tables_at (codes "buffer") d))
 
 -- the tables of the list at a key
 abbrev pub rows_at : List ℕ → Data → List Data

@@ -133,7 +133,11 @@ fn list_len(row: &Value) -> usize
 }
 
 // Why a table is refused for its names.
-fn names_refused(directory: &Directory, buffers: &Buffers<PlainMarked>, row: &Value) -> Option<TableFault>
+fn names_refused(
+    directory: &Directory,
+    buffers: &Buffers<PlainMarked>,
+    row: &Value,
+) -> Option<TableFault>
     ensures { result ≡ names_refused (has_buffer (name_of (view row.now)) buffers.now) (is_among (owner_of (view row.now)) directory.now.users) (view row.now) }
 {
     if !is_buffer_row(row) {
@@ -175,7 +179,11 @@ fn contents_refused(count: usize, row: &Value) -> Option<TableFault>
 }
 
 /// Why the table of a buffer is refused, what its file holds aside.
-pub fn refusal(directory: &Directory, buffers: &Buffers<PlainMarked>, row: &Value) -> Option<TableFault>
+pub fn refusal(
+    directory: &Directory,
+    buffers: &Buffers<PlainMarked>,
+    row: &Value,
+) -> Option<TableFault>
     ensures { result ≡ refused_where (has_buffer (name_of (view row.now)) buffers.now) (is_among (owner_of (view row.now)) directory.now.users) (length buffers.now) (view row.now) }
 {
     match names_refused(directory, buffers, row) {

@@ -52,15 +52,27 @@ fn read_people(alloc: Global, document: &Value) -> Result<(Directory, Tickets), 
     ensures err { IfErr result (λ e. e.fault ≢ Short → people_refused (view document.now) ≡ Some e) }
 {
     if !is_configuration(document) {
-        return Err(ConfigFault { table: ConfigTable::Top, index: 0, fault: TableFault::Key });
+        return Err(ConfigFault {
+            table: ConfigTable::Top,
+            index: 0,
+            fault: TableFault::Key,
+        });
     }
     let (mut directory, tickets) = match read_users(alloc, rows_at(document, "user")) {
         Ok(people) => people,
-        Err((index, fault)) => return Err(ConfigFault { table: ConfigTable::User, index, fault }),
+        Err((index, fault)) => return Err(ConfigFault {
+            table: ConfigTable::User,
+            index,
+            fault,
+        }),
     };
     match read_groups(alloc, &mut directory, rows_at(document, "group")) {
         Ok(()) => Ok((directory, tickets)),
-        Err((index, fault)) => Err(ConfigFault { table: ConfigTable::Group, index, fault }),
+        Err((index, fault)) => Err(ConfigFault {
+            table: ConfigTable::Group,
+            index,
+            fault,
+        }),
     }
 }
 
@@ -91,11 +103,19 @@ fn read_paths(alloc: Global, rows: &[Value]) -> Result<Vec<BufferFile>, AllocErr
 fn short() -> ConfigFault
     ensures { result.fault ≡ Short }
 {
-    ConfigFault { table: ConfigTable::Top, index: 0, fault: TableFault::Short }
+    ConfigFault {
+        table: ConfigTable::Top,
+        index: 0,
+        fault: TableFault::Short,
+    }
 }
 
 // The configuration of a document.
-fn configure<F: Files>(alloc: Global, document: &Value, files: &mut F) -> Result<Config, ConfigFault>
+fn configure<F: Files>(
+    alloc: Global,
+    document: &Value,
+    files: &mut F,
+) -> Result<Config, ConfigFault>
     ensures due { OnOk result (people_refused (view document.now) ≡ None) }
     ensures none { OnOk result (first_fault (buffer_refused (names_of (users_in (view document.now)))) [] (rows_at (codes "buffer") (view document.now)) ≡ None) }
     ensures directory { IfOk result (λ c. c.directory ≡ directory_in (view document.now)) }
@@ -111,10 +131,19 @@ fn configure<F: Files>(alloc: Global, document: &Value, files: &mut F) -> Result
     let rows = rows_at(document, "buffer");
     let buffers = match read_buffers(alloc, &directory, files, rows) {
         Ok(buffers) => buffers,
-        Err((index, fault)) => return Err(ConfigFault { table: ConfigTable::Buffer, index, fault }),
+        Err((index, fault)) => return Err(ConfigFault {
+            table: ConfigTable::Buffer,
+            index,
+            fault,
+        }),
     };
     match read_paths(alloc, rows) {
-        Ok(files) => Ok(Config { directory, tickets, buffers, files }),
+        Ok(files) => Ok(Config {
+            directory,
+            tickets,
+            buffers,
+            files,
+        }),
         Err(_) => Err(short()),
     }
 }
@@ -126,7 +155,11 @@ fn configure<F: Files>(alloc: Global, document: &Value, files: &mut F) -> Result
 /// The faults are those of the document (`top 0`: `Toml` where it is none, `Key` where it has another key, or one that is no list of
 /// tables), and then that of the first table that has one, users before groups before buffers. `Short`, for out of memory, may come
 /// at any point, and names the table that was read.
-pub fn read_config<F: Files>(alloc: Global, text: &str, files: &mut F) -> Result<Config, ConfigFault>
+pub fn read_config<F: Files>(
+    alloc: Global,
+    text: &str,
+    files: &mut F,
+) -> Result<Config, ConfigFault>
     ensures directory { IfOk result (λ c. Some c.directory ≡ option_map directory_in (document_in text.now)) }
     ensures tickets { IfOk result (λ c. Some c.tickets ≡ option_map users_in (document_in text.now)) }
     ensures buffers { IfOk result (λ c. IfSome (document_in text.now) (λ d. AreBuffers (F.tells files.old) (rows_at (codes "buffer") d) c.buffers)) }
@@ -137,6 +170,10 @@ pub fn read_config<F: Files>(alloc: Global, text: &str, files: &mut F) -> Result
 {
     match read_document(alloc, text) {
         Ok(document) => configure(alloc, &document, files),
-        Err(fault) => Err(ConfigFault { table: ConfigTable::Top, index: 0, fault }),
+        Err(fault) => Err(ConfigFault {
+            table: ConfigTable::Top,
+            index: 0,
+            fault,
+        }),
     }
 }

@@ -19,12 +19,11 @@ pub fn read_document(alloc: Global, text: &str) -> Result<Value, TableFault>
 {
     match toml::table_from_str(alloc, text) {
         Ok(table) => Ok(Value::Table(table)),
-        Err(error) =>
-            if error.is_memory() {
-                Err(TableFault::Short)
-            } else {
-                Err(TableFault::Toml)
-            },
+        Err(error) => if error.is_memory() {
+            Err(TableFault::Short)
+        } else {
+            Err(TableFault::Toml)
+        },
     }
 }
 

@@ -27,12 +27,11 @@ fn file_text<F: Files>(files: &mut F, path: &str) -> Result<Vec<char>, TableFaul
     ensures err { IfErr result (IsFileFault (F.tells files.old path.now) (F.count files.old) (F.count files.new)) }
 {
     match files.read(path) {
-        Ok(text) =>
-            if text.len() > TEXT_LIMIT {
-                Err(TableFault::Long)
-            } else {
-                Ok(text)
-            },
+        Ok(text) => if text.len() > TEXT_LIMIT {
+            Err(TableFault::Long)
+        } else {
+            Ok(text)
+        },
         Err(FilesFault::Unreadable) => Err(TableFault::File),
         Err(FilesFault::Short) => Err(TableFault::Short),
     }
@@ -62,7 +61,11 @@ fn has_file(row: &Value) -> bool
 
 // Adds the buffer of a table with a text. Its other faults were checked.
 #[tactic(auto, using(crate::proofs::RowLemmas::values_count))]
-fn put_buffer(buffers: &mut Buffers<PlainMarked>, row: &Value, text: &[char]) -> Result<(), TableFault>
+fn put_buffer(
+    buffers: &mut Buffers<PlainMarked>,
+    row: &Value,
+    text: &[char],
+) -> Result<(), TableFault>
     requires { length (listed (view row.now)) ≤ 64 }
     ensures ok { OnOk result (buffers.new ≡ buffers.old ++ buffer_of (view row.now) text.now ∷ []) }
     ensures err { IfErr result (λ f. f ≡ Short) }

@@ -89,7 +89,11 @@ pub fn values_at<'a>(row: &'a Value, key: &str) -> Option<&'a [Value]>
 }
 
 /// The list of strings at a key.
-fn texts_at<'a>(alloc: Global, row: &'a Value, key: &str) -> Result<Option<Vec<&'a str>>, AllocError>
+fn texts_at<'a>(
+    alloc: Global,
+    row: &'a Value,
+    key: &str,
+) -> Result<Option<Vec<&'a str>>, AllocError>
     ensures { IfOk result (λ found. option_map (λ texts. map (λ t. t.now) texts.items) found ≡ texts_at key.now (view row.now)) }
 {
     match values_at(row, key) {
@@ -112,7 +116,10 @@ pub fn user_row(row: &Value) -> Option<(&str, &str)>
 }
 
 /// A group's name and members.
-pub fn group_row<'a>(alloc: Global, row: &'a Value) -> Result<Option<(&'a str, Vec<&'a str>)>, AllocError>
+pub fn group_row<'a>(
+    alloc: Global,
+    row: &'a Value,
+) -> Result<Option<(&'a str, Vec<&'a str>)>, AllocError>
     ensures { IfOk result (λ found. option_map (λ g. (g.0.now, map (λ t. t.now) g.1.items)) found ≡ group_row (view row.now)) }
 {
     if !has_only(&["name", "members"], row) {

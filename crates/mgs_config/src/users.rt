@@ -80,7 +80,10 @@ fn add_group(alloc: Global, directory: &mut Directory, row: &Value) -> Result<()
 }
 
 // The users and the tickets of these tables, or the first fault and the number of its table.
-pub fn read_users(alloc: Global, rows: &[Value]) -> Result<(Directory, Tickets), (usize, TableFault)>
+pub fn read_users(
+    alloc: Global,
+    rows: &[Value],
+) -> Result<(Directory, Tickets), (usize, TableFault)>
     ensures due { OnOk result (first_fault user_refused [] (map view rows.now) ≡ None) }
     ensures directory { IfOk result (λ world. world.0 ≡ record { users = names_of (map user_of (map view rows.now)); groups = [] }) }
     ensures tickets { IfOk result (λ world. world.1 ≡ map user_of (map view rows.now)) }
@@ -98,7 +101,11 @@ pub fn read_users(alloc: Global, rows: &[Value]) -> Result<(Directory, Tickets),
 }
 
 // Adds the groups of these tables, or answers the first fault and the number of its table.
-pub fn read_groups(alloc: Global, directory: &mut Directory, rows: &[Value]) -> Result<(), (usize, TableFault)>
+pub fn read_groups(
+    alloc: Global,
+    directory: &mut Directory,
+    rows: &[Value],
+) -> Result<(), (usize, TableFault)>
     requires { directory.old.groups ≡ [] }
     ensures due { OnOk result (first_fault (group_refused directory.old.users) [] (map view rows.now) ≡ None) }
     ensures groups { OnOk result (directory.new ≡ record { users = directory.old.users; groups = map group_of (map view rows.now) }) }

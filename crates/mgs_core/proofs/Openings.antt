@@ -19,7 +19,7 @@ use Rattle.mgs_world.specs.Worlds.{buffers_of, id_after, session_of, window_show
 use Rattle.mgs_world.specs.Sound.{IsSound, in_use}
 use Rattle.mgs_world.specs.WindowMarks.{FirstWindowMarks, MarksStay, WindowMarksDropped, first_name, window_marks_name}
 use Rattle.mgs_model.specs.declared.right.Right.TheVariants.{ReadAttributes}
-use Rattle.mgs_core.specs.Steps.{Answers, OpenedBy}
+use Rattle.mgs_core.specs.Steps.{OpenAnswers, OpenedBy}
 use Rattle.mgs_world.proofs.Marks.{same_is}
 use Rattle.mgs_world.proofs.Worlds.{same_window, same_windows, same_world}
 use Rattle.mgs_world.proofs.Soundness.{AreInUse, in_use_more, sound_in_use, sound_same}
@@ -148,7 +148,7 @@ opened_ok w v id user rows cols well is done =
       answer = well;
     }
 
-answers : (w : World) (user : List ℕ) (rows cols : ℕ) (fault : OpenFault) → open_fault w user rows cols ≡ Some fault → Answers (Err fault) (open_fault w user rows cols)
+answers : (w : World) (user : List ℕ) (rows cols : ℕ) (fault : OpenFault) → open_fault w user rows cols ≡ Some fault → OpenAnswers (Err fault) (open_fault w user rows cols)
 answers w user rows cols NoUser e = e
 answers w user rows cols Size e = e
 answers w user rows cols Full e = e

@@ -16,8 +16,8 @@ use Rattle.mgs_model.proofs.Firsts.{found_passes}
 use Rattle.mgs_world.specs.Worlds.{find_size, sizes, is_size_of, IsOther, IsUnique}
 use Rattle.mgs_world.specs.Worlds as core
 use Rattle.mgs_engine.specs.declared.screen.Screen.{Screen}
-use Rattle.mgs_engine.specs.Queues.{bytes_of, is_queue_of}
-use Rattle.mgs_engine.specs.Screens.{queue_of, size_of, Drawn, drawn_of, screen_id, IsDrawn, IsRepaint, AreRepaints, IsFirst}
+use Rattle.mgs_engine.specs.Queues.{waiting_in, is_queue_of}
+use Rattle.mgs_engine.specs.Screens.{queue_of, shown_size, Drawn, drawn_of, screen_id, IsDrawn, IsRepaint, AreRepaints, IsFirst}
 use Rattle.mgs_engine.proofs.ScreenLemmas.{All-unmap}
 use Rattle.mgs_engine.proofs.Ids.{All-found, none_of, same_some, some_of}
 use Rattle.mgs_engine.proofs.Repaints.{found_sizes, screen_cols, screen_rows}
@@ -30,23 +30,23 @@ use Rattle.mgs_engine.specs.Served.{serving_of}
 found_id : (id : ℕ) (xs : List Screen) (x : Screen) → find (screen_id id) xs ≡ Some x → x.id ≡ id
 found_id id xs x e = (unsigned_Decides x.id id).0 (found_passes (screen_id id) xs x e)
 
-screen_sizes : (id : ℕ) (xs : List Screen) → find_size id (map size_of xs) ≡ option_map size_of (find (screen_id id) xs)
-screen_sizes id xs = find-map size_of (screen_id id) (is_size_of id) (λ x. refl) xs
+screen_sizes : (id : ℕ) (xs : List Screen) → find_size id (map shown_size xs) ≡ option_map shown_size (find (screen_id id) xs)
+screen_sizes id xs = find-map shown_size (screen_id id) (is_size_of id) (λ x. refl) xs
 
 -- the screen of a session
-screen_known : (w : World) (xs : List Screen) (id : ℕ) (x : Session) → map size_of xs ≡ sizes w → find_session id w.sessions ≡ Some x → (s : Screen) × (find (screen_id id) xs ≡ Some s) × (size_of s ≡ core.size_of x)
+screen_known : (w : World) (xs : List Screen) (id : ℕ) (x : Session) → map shown_size xs ≡ sizes w → find_session id w.sessions ≡ Some x → (s : Screen) × (find (screen_id id) xs ≡ Some s) × (shown_size s ≡ core.size_of x)
 screen_known w xs id x e f =
-    some_of size_of (find (screen_id id) xs) (core.size_of x)
+    some_of shown_size (find (screen_id id) xs) (core.size_of x)
     (sym (screen_sizes id xs) ∙ ap (find_size id) e ∙ found_sizes id w ∙ ap (option_map core.size_of) f)
 
 -- ALL SCREENS
 
-drawn_sizes : (xs : List Screen) → map (λ (d : Drawn). record { id = d.id; rows = d.picture.rows; cols = d.picture.cols }) (map drawn_of xs) ≡ map size_of xs
+drawn_sizes : (xs : List Screen) → map (λ (d : Drawn). record { id = d.id; rows = d.picture.rows; cols = d.picture.cols }) (map drawn_of xs) ≡ map shown_size xs
 drawn_sizes [] = refl
-drawn_sizes (x ∷ xs) = ap (λ ss. size_of x ∷ ss) (drawn_sizes xs)
+drawn_sizes (x ∷ xs) = ap (λ ss. shown_size x ∷ ss) (drawn_sizes xs)
 
 -- where terminals show the same, they have the same sizes
-pub sizes_same : (xs ys : List Screen) → map drawn_of xs ≡ map drawn_of ys → map size_of xs ≡ map size_of ys
+pub sizes_same : (xs ys : List Screen) → map drawn_of xs ≡ map drawn_of ys → map shown_size xs ≡ map shown_size ys
 sizes_same xs ys e =
     sym (drawn_sizes xs) ∙ ap (map (λ (d : Drawn). record { id = d.id; rows = d.picture.rows; cols = d.picture.cols })) e ∙ drawn_sizes ys
 
@@ -94,11 +94,11 @@ found_before id (x ∷ xs) (y ∷ ys) t h e =
     in subst goal (ap (λ n. nat_eq n id) h.0.id) (go (nat_eq y.id id) e)
 
 -- what is found after one that was taken out was found before
-found_kept : (k id : ℕ) (xs : List Screen) (s : Screen) → IsUnique (map size_of xs) → find (screen_id id) (remove_first (screen_id k) xs) ≡ Some s → find (screen_id id) xs ≡ Some s
+found_kept : (k id : ℕ) (xs : List Screen) (s : Screen) → IsUnique (map shown_size xs) → find (screen_id id) (remove_first (screen_id k) xs) ≡ Some s → find (screen_id id) xs ≡ Some s
 found_kept k id [] s u e = e
 found_kept k id (x ∷ xs) s u e =
     let rest : find (screen_id id) xs ≡ Some s → find (screen_id id) (x ∷ xs) ≡ Some s = λ f.
-    let other : nat_eq x.id s.id ≡ false = All-found (λ (y : Screen). IsOther (size_of x) (size_of y)) (screen_id id) xs s (All-unmap (IsOther (size_of x)) size_of xs u.0) f in
+    let other : nat_eq x.id s.id ≡ false = All-found (λ (y : Screen). IsOther (shown_size x) (shown_size y)) (screen_id id) xs s (All-unmap (IsOther (shown_size x)) shown_size xs u.0) f in
     let is : s.id ≡ id = found_id id xs s f in
     let apart : nat_eq x.id id ≡ false = ap (nat_eq x.id) (sym is) ∙ other in
     ap (λ b. cond b (Some x) (find (screen_id id) xs)) apart ∙ f in
@@ -113,7 +113,7 @@ found_kept k id (x ∷ xs) s u e =
 -- WHAT THE BYTES DRAW
 
 pending_found : (w : World) (xs : List Screen) (id : ℕ) (s : Screen) → find (screen_id id) xs ≡ Some s → pending_of id (serving_of w xs) ≡ s.queue.items
-pending_found w xs id s e = ap bytes_of (find-map queue_of (screen_id id) (is_queue_of id) (λ x. refl) xs ∙ ap (option_map queue_of) e)
+pending_found w xs id s e = ap waiting_in (find-map queue_of (screen_id id) (is_queue_of id) (λ x. refl) xs ∙ ap (option_map queue_of) e)
 
 -- a terminal shows the screen of its session
 shows_session : (w : World) (xs : List Screen) (id : ℕ) (x : Session) (s : Screen) → All (IsDrawn w) xs → find (screen_id id) xs ≡ Some s → find_session id w.sessions ≡ Some x → s.shown ≡ screen w x
@@ -142,14 +142,14 @@ painted_pair w v olds news id x y s t od nd os nt r fx fy =
     }
 
 -- each screen is drawn again
-pub painted_all : (w v : World) (olds news : List Screen) → map size_of olds ≡ sizes w → All (IsDrawn w) olds → All (IsDrawn v) news → AreRepaints olds news → Painted (serving_of w olds) (serving_of v news)
+pub painted_all : (w v : World) (olds news : List Screen) → map shown_size olds ≡ sizes w → All (IsDrawn w) olds → All (IsDrawn v) news → AreRepaints olds news → Painted (serving_of w olds) (serving_of v news)
 painted_all w v olds news e od nd h = λ id x y fx fy.
     let s = screen_known w olds id x e fx in
     let t = found_after id olds news s.0 h s.1 in
     painted_pair w v olds news id x y s.0 t.0 od nd s.1 t.1 t.2 fx fy
 
 -- and one more screen comes
-pub painted_opened : (w v : World) (olds news : List Screen) (z : Screen) → map size_of olds ≡ sizes w → All (IsDrawn w) olds → All (IsDrawn v) (news ++ z ∷ []) → AreRepaints olds news → Painted (serving_of w olds) (serving_of v (news ++ z ∷ []))
+pub painted_opened : (w v : World) (olds news : List Screen) (z : Screen) → map shown_size olds ≡ sizes w → All (IsDrawn w) olds → All (IsDrawn v) (news ++ z ∷ []) → AreRepaints olds news → Painted (serving_of w olds) (serving_of v (news ++ z ∷ []))
 painted_opened w v olds news z e od nd h = λ id x y fx fy.
     let s = screen_known w olds id x e fx in
     let t = found_after id olds news s.0 h s.1 in
@@ -157,7 +157,7 @@ painted_opened w v olds news z e od nd h = λ id x y fx fy.
     painted_pair w v olds (news ++ z ∷ []) id x y s.0 t.0 od nd s.1 f t.2 fx fy
 
 -- a screen was taken out before
-pub painted_closed : (w v : World) (k : ℕ) (olds news : List Screen) → IsUnique (map size_of olds) → map size_of news ≡ sizes v → All (IsDrawn w) olds → All (IsDrawn v) news → AreRepaints (remove_first (screen_id k) olds) news → Painted (serving_of w olds) (serving_of v news)
+pub painted_closed : (w v : World) (k : ℕ) (olds news : List Screen) → IsUnique (map shown_size olds) → map shown_size news ≡ sizes v → All (IsDrawn w) olds → All (IsDrawn v) news → AreRepaints (remove_first (screen_id k) olds) news → Painted (serving_of w olds) (serving_of v news)
 painted_closed w v k olds news u e od nd h = λ id x y fx fy.
     let t = screen_known v news id y e fy in
     let s = found_before id (remove_first (screen_id k) olds) news t.0 h t.1 in
@@ -169,13 +169,13 @@ first_shown w xs id x s h e f p =
     subst (λ (z : Picture). Paints z (pending_of id (serving_of w xs))) (shows_session w xs id x s h e f)
     (subst (Paints s.shown) (sym (pending_found w xs id s e)) p)
 
-found_opened : (id : ℕ) (xs : List Screen) (z : Screen) → z.id ≡ id → find_size id (map size_of xs) ≡ None → find (screen_id id) (xs ++ z ∷ []) ≡ Some z
+found_opened : (id : ℕ) (xs : List Screen) (z : Screen) → z.id ≡ id → find_size id (map shown_size xs) ≡ None → find (screen_id id) (xs ++ z ∷ []) ≡ Some z
 found_opened id xs z i n =
     find-append (screen_id id) xs (z ∷ [])
-    ∙ ap (λ o. option_or o (find (screen_id id) (z ∷ []))) (none_of size_of (find (screen_id id) xs) (sym (screen_sizes id xs) ∙ n))
+    ∙ ap (λ o. option_or o (find (screen_id id) (z ∷ []))) (none_of shown_size (find (screen_id id) xs) (sym (screen_sizes id xs) ∙ n))
     ∙ ap (λ b. cond b (Some z) None) (eq-eqb z.id id i)
 
-pub first_opened : (w : World) (xs : List Screen) (z : Screen) (id : ℕ) → z.id ≡ id → find_size id (map size_of xs) ≡ None → All (IsDrawn w) (xs ++ z ∷ []) → IsDrawn w z → IsFirst z → (x : Session) × (find_session id w.sessions ≡ Some x) × Paints (screen w x) (pending_of id (serving_of w (xs ++ z ∷ [])))
+pub first_opened : (w : World) (xs : List Screen) (z : Screen) (id : ℕ) → z.id ≡ id → find_size id (map shown_size xs) ≡ None → All (IsDrawn w) (xs ++ z ∷ []) → IsDrawn w z → IsFirst z → (x : Session) × (find_session id w.sessions ≡ Some x) × Paints (screen w x) (pending_of id (serving_of w (xs ++ z ∷ [])))
 first_opened w xs z id i n h d p =
     let f : find_session id w.sessions ≡ Some d.session = ap (λ k. find_session k w.sessions) (sym i) ∙ d.found in
     (d.session, f, first_shown w (xs ++ z ∷ []) id d.session z h (found_opened id xs z i n) f p)
@@ -183,7 +183,7 @@ first_opened w xs z id i n h d p =
 -- ALL AT FIRST
 
 -- each session's bytes paint its screen
-pub first_all : (w : World) (xs : List Screen) → map size_of xs ≡ sizes w → All (IsDrawn w) xs → All IsFirst xs → (id : ℕ) (x : Session) → find_session id w.sessions ≡ Some x → Paints (screen w x) (pending_of id (serving_of w xs))
+pub first_all : (w : World) (xs : List Screen) → map shown_size xs ≡ sizes w → All (IsDrawn w) xs → All IsFirst xs → (id : ℕ) (x : Session) → find_session id w.sessions ≡ Some x → Paints (screen w x) (pending_of id (serving_of w xs))
 first_all w xs e h p id x f =
     let s = screen_known w xs id x e f in
     first_shown w xs id x s.0 h s.1 f (All-found IsFirst (screen_id id) xs s.0 p s.1)

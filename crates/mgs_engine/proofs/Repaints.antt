@@ -19,7 +19,7 @@ use Rattle.mgs_world.specs.Worlds.{find_size, sizes, is_size_of, IsOfSize, IsUni
 use Rattle.mgs_world.specs.Worlds as core
 use Rattle.mgs_engine.specs.declared.screen.Screen.{Screen}
 use Rattle.mgs_engine.specs.Queues.{IsTaken}
-use Rattle.mgs_engine.specs.Screens.{queue_of, size_of, IsScreen, IsKnown, IsDrawn, IsAhead, IsRepaint, AreRepaints, AreDrawnApart, IsFirst}
+use Rattle.mgs_engine.specs.Screens.{queue_of, shown_size, IsSessionScreen, IsKnown, IsDrawn, IsAhead, IsRepaint, AreRepaints, AreDrawnApart, IsFirst}
 use Rattle.mgs_core.specs.Steps.{found_differs}
 use Rattle.mgs_model.specs.declared.touched.Touched.TheVariants.{Anywhere}
 use Rattle.mgs_engine.proofs.Ids.{known_at, same_some, some_of}
@@ -54,8 +54,8 @@ pub found_sizes : (id : ℕ) (w : World) → find_size id (sizes w) ≡ option_m
 found_sizes id w = find-map core.size_of (has_id id) (is_size_of id) (λ x. refl) w.sessions
 
 -- the session of a screen
-pub session_known : (w : World) (x : Screen) → IsKnown (sizes w) x → (s : Session) × (find_session x.id w.sessions ≡ Some s) × (core.size_of s ≡ size_of x)
-session_known w x h = some_of core.size_of (find_session x.id w.sessions) (size_of x) (sym (found_sizes x.id w) ∙ h)
+pub session_known : (w : World) (x : Screen) → IsKnown (sizes w) x → (s : Session) × (find_session x.id w.sessions ≡ Some s) × (core.size_of s ≡ shown_size x)
+session_known w x h = some_of core.size_of (find_session x.id w.sessions) (shown_size x) (sym (found_sizes x.id w) ∙ h)
 
 -- ONE SCREEN
 
@@ -68,12 +68,12 @@ pub screen_cols : (w : World) (x : Session) → (screen w x).cols ≡ x.cols
 unfolding draw
 screen_cols w x = refl
 
-pub ahead_screen : (w : World) (old new : Screen) → IsKnown (sizes w) old → IsAhead w old new → IsScreen old → IsScreen new
+pub ahead_screen : (w : World) (old new : Screen) → IsKnown (sizes w) old → IsAhead w old new → IsSessionScreen old → IsSessionScreen new
 ahead_screen w old new k h s =
     let known = session_known w old k in
     let same : known.0 ≡ h.session = same_some known.0 h.session (sym known.1 ∙ h.found) in
-    let size : core.size_of h.session ≡ size_of old = ap core.size_of (sym same) ∙ known.2 in
-    subst IsScreen (sym h.same)
+    let size : core.size_of h.session ≡ shown_size old = ap core.size_of (sym same) ∙ known.2 in
+    subst IsSessionScreen (sym h.same)
     (record {
       rows = screen_rows w h.session ∙ ap (λ (z : Size). z.rows) size;
       cols = screen_cols w h.session ∙ ap (λ (z : Size). z.cols) size;
@@ -81,7 +81,7 @@ ahead_screen w old new k h s =
     })
 
 -- a paint of what comes next draws it over what is shown
-pub paint_repaint : (old new : Screen) (bytes : List ℕ) → IsPicture old.shown → IsScreen old → new.id ≡ old.id → new.shown ≡ old.next → new.queue.items ≡ old.queue.items ++ bytes → Paints old.next bytes → (old.shown ≡ old.next → ⊥) → IsRepaint old new
+pub paint_repaint : (old new : Screen) (bytes : List ℕ) → IsPicture old.shown → IsSessionScreen old → new.id ≡ old.id → new.shown ≡ old.next → new.queue.items ≡ old.queue.items ++ bytes → Paints old.next bytes → (old.shown ≡ old.next → ⊥) → IsRepaint old new
 paint_repaint old new bytes p s i e a h other = record {
   id = i;
   bytes = bytes;
@@ -128,7 +128,7 @@ ahead_repaint w old mid new h r = record {
   bound = r.bound;
 }
 
-pub ahead_drawn : (w : World) (old mid new : Screen) → IsAhead w old mid → size_of new ≡ size_of mid → new.shown ≡ mid.next → IsDrawn w new
+pub ahead_drawn : (w : World) (old mid new : Screen) → IsAhead w old mid → shown_size new ≡ shown_size mid → new.shown ≡ mid.next → IsDrawn w new
 ahead_drawn w old mid new h s e = record {
   session = h.session;
   found = ap (λ (z : Size). find_session z.id w.sessions) s ∙ ap (λ (z : Screen). find_session z.id w.sessions) h.same ∙ h.found;
@@ -172,10 +172,10 @@ pub told_size : (ss : List Size) (i : ℕ) (z : Size) → All IsOfSize ss → sl
 told_size ss i z h e = subst IsOfSize (get_or_from_slice_get ss i z z e) (h i z (slice_get_within ss i z e))
 
 -- one more screen
-pub sizes_next : (ss : List Size) (xs : List Screen) (y : Screen) (z : Size) → map size_of xs ≡ take (length xs) ss → slice_get ss (length xs) ≡ Some z → size_of y ≡ z → map size_of (xs ++ y ∷ []) ≡ take (length (xs ++ y ∷ [])) ss
+pub sizes_next : (ss : List Size) (xs : List Screen) (y : Screen) (z : Size) → map shown_size xs ≡ take (length xs) ss → slice_get ss (length xs) ≡ Some z → shown_size y ≡ z → map shown_size (xs ++ y ∷ []) ≡ take (length (xs ++ y ∷ [])) ss
 sizes_next ss xs y z e t is =
-    map-append size_of xs (y ∷ [])
-    ∙ ap (λ zs. zs ++ size_of y ∷ []) e
+    map-append shown_size xs (y ∷ [])
+    ∙ ap (λ zs. zs ++ shown_size y ∷ []) e
     ∙ ap (λ (s : Size). take (length xs) ss ++ s ∷ []) (is ∙ sym (get_or_from_slice_get ss (length xs) z z t))
     ∙ sym (take_more ss (length xs) z (slice_get_within ss (length xs) z t))
     ∙ ap (λ n. take n ss) (sym (length_push xs y))
@@ -185,5 +185,5 @@ past_all [] n e = omega arith
 past_all (z ∷ zs) zero e = cc
 past_all (z ∷ zs) (suc n) e = omega (arith, past_all zs n e)
 
-pub sizes_whole : (ss : List Size) (xs : List Screen) → map size_of xs ≡ take (length xs) ss → slice_get ss (length xs) ≡ None → map size_of xs ≡ ss
+pub sizes_whole : (ss : List Size) (xs : List Screen) → map shown_size xs ≡ take (length xs) ss → slice_get ss (length xs) ≡ None → map shown_size xs ≡ ss
 sizes_whole ss xs e n = e ∙ take_all (length xs) ss (past_all ss (length xs) n)

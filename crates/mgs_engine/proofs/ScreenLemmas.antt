@@ -11,8 +11,8 @@ use Rattle.mgs_model.specs.Picture.{IsSize, IsPicture}
 use Rattle.mgs_model.specs.declared.limits.TheConstants.{QUEUE_LIMIT}
 use Rattle.mgs_paint.specs.Painting.{bound_of}
 use Rattle.mgs_engine.specs.declared.screen.Screen.{Screen}
-use Rattle.mgs_engine.specs.Queues.{Handed, Queue, IsTaken, emptied, bytes_of, find_queue, is_queue_of}
-use Rattle.mgs_engine.specs.Screens.{queue_of, queues_of, screen_id, IsScreen}
+use Rattle.mgs_engine.specs.Queues.{Handed, Queue, IsTaken, emptied, waiting_in, find_queue, is_queue_of}
+use Rattle.mgs_engine.specs.Screens.{queue_of, queues_of, screen_id, IsSessionScreen}
 
 -- a paint of any screen has room in an empty queue
 mul_most : (a b c d : ℕ) → a ≤ c → b ≤ d → a * b ≤ c * d
@@ -21,7 +21,7 @@ mul_most a b c d h k = grind (arith, mul-le-mul_left a k, mul-le-mul_left d h)
 pub paint_fits : (rows cols : ℕ) → IsSize rows cols → bound_of rows cols ≤ QUEUE_LIMIT
 paint_fits rows cols h = let p : rows * (16 + 4 * cols) ≤ 64 * 656 = mul_most rows (16 + 4 * cols) 64 656 h.few_rows (omega (arith, h.few_cols)) in omega (arith, p)
 
-pub paint_room : (x : Screen) → IsPicture x.next → IsScreen x → IsTaken (queue_of x) → vec_len x.queue + bound_of x.next.rows x.next.cols ≤ vec_capacity x.queue
+pub paint_room : (x : Screen) → IsPicture x.next → IsSessionScreen x → IsTaken (queue_of x) → vec_len x.queue + bound_of x.next.rows x.next.cols ≤ vec_capacity x.queue
 paint_room x p s e =
     let l : length x.queue.items ≡ 0 = ap length e in
     omega (arith, l, x.queue.ok.0, paint_fits x.next.rows x.next.cols p.size, s.room)
@@ -68,9 +68,9 @@ pub handed_all : (xs ys : List Screen) (i : ℕ) → length xs ≤ i → length 
 handed_all xs ys i l m e =
     ap queues_of (sym (take_all i xs l)) ∙ e ∙ ap (λ zs. map emptied (queues_of zs)) (take_all i ys m)
 
-pub queue_at : (id : ℕ) (xs : List Screen) (at : ℕ) (x : Screen) → at ≡ position_or_len (screen_id id) xs → at < length xs → x ≡ get_or xs at x → bytes_of (find_queue id (queues_of xs)) ≡ x.queue.items
+pub queue_at : (id : ℕ) (xs : List Screen) (at : ℕ) (x : Screen) → at ≡ position_or_len (screen_id id) xs → at < length xs → x ≡ get_or xs at x → waiting_in (find_queue id (queues_of xs)) ≡ x.queue.items
 queue_at id xs at x e l is =
-    ap bytes_of
+    ap waiting_in
     (find-map queue_of (screen_id id) (is_queue_of id) (λ x. refl) xs
     ∙ ap (option_map queue_of) (find_at_place (screen_id id) xs x (omega (arith, e, l))))
     ∙ ap (λ n. (get_or xs n x).queue.items) (sym e)

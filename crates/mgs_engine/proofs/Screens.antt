@@ -12,17 +12,17 @@ use Rattle.mgs_core.proofs.Sizes.{all_removed}
 use Rattle.mgs_world.specs.declared.size.Size.{Size}
 use Rattle.mgs_world.specs.Worlds.{find_size, is_size_of, IsUnique}
 use Rattle.mgs_engine.specs.declared.screen.Screen.{Screen}
-use Rattle.mgs_engine.specs.Queues.{Queue, queue_id, IsTaken, emptied, bytes_of, find_queue, is_queue_of}
-use Rattle.mgs_engine.specs.Screens.{queue_of, queues_of, size_of, screen_id, IsKnown}
+use Rattle.mgs_engine.specs.Queues.{Queue, queue_id, IsTaken, emptied, waiting_in, find_queue, is_queue_of}
+use Rattle.mgs_engine.specs.Screens.{queue_of, queues_of, shown_size, screen_id, IsKnown}
 use Rattle.mgs_engine.proofs.Ids.{known_at, mapped_got, map-remove_first}
 use Rattle.std.proofs.lemmas.Option.{slice_get-get_or}
 
 -- EACH SCREEN IS KNOWN BY ITS ID
 
-pub known_each : (ss : List Size) (xs : List Screen) → map size_of xs ≡ ss → IsUnique ss → All (IsKnown ss) xs
+pub known_each : (ss : List Size) (xs : List Screen) → map shown_size xs ≡ ss → IsUnique ss → All (IsKnown ss) xs
 known_each ss xs e u = λ i d l.
     let x = get_or xs i d in
-    known_at ss i (size_of x) u (ap (λ (zs : List Size). slice_get zs i) (sym e) ∙ mapped_got size_of xs i x (slice_get-get_or xs i d l))
+    known_at ss i (shown_size x) u (ap (λ (zs : List Size). slice_get zs i) (sym e) ∙ mapped_got shown_size xs i x (slice_get-get_or xs i d l))
 
 pub known_more : (ss more : List Size) (xs : List Screen) → All (IsKnown ss) xs → All (IsKnown (ss ++ more)) xs
 known_more ss more xs h =
@@ -32,11 +32,11 @@ known_more ss more xs h =
 -- QUEUES
 
 -- the ids of the queues are those of the sizes
-pub ids_are : (xs : List Screen) → map queue_id (queues_of xs) ≡ map (λ (x : Size). x.id) (map size_of xs)
+pub ids_are : (xs : List Screen) → map queue_id (queues_of xs) ≡ map (λ (x : Size). x.id) (map shown_size xs)
 ids_are [] = refl
 ids_are (x ∷ xs) = ap (λ ys. x.id ∷ ys) (ids_are xs)
 
-pub ids_same : (xs ys : List Screen) → map size_of xs ≡ map size_of ys → map queue_id (queues_of xs) ≡ map queue_id (queues_of ys)
+pub ids_same : (xs ys : List Screen) → map shown_size xs ≡ map shown_size ys → map queue_id (queues_of xs) ≡ map queue_id (queues_of ys)
 ids_same xs ys e = ids_are xs ∙ ap (map (λ (x : Size). x.id)) e ∙ sym (ids_are ys)
 
 pub ids_removed : (id : ℕ) (xs : List Screen) → map queue_id (queues_of (remove_first (screen_id id) xs)) ≡ remove_first (λ x. nat_eq x id) (map queue_id (queues_of xs))
@@ -44,7 +44,7 @@ ids_removed id xs =
     ap (map queue_id) (map-remove_first queue_of (screen_id id) (is_queue_of id) (λ x. refl) xs)
     ∙ map-remove_first queue_id (is_queue_of id) (λ x. nat_eq x id) (λ x. refl) (queues_of xs)
 
-pub ids_opened : (xs ys : List Screen) (y : Screen) → map size_of xs ≡ map size_of ys → map queue_id (queues_of (xs ++ y ∷ [])) ≡ map queue_id (queues_of ys) ++ y.id ∷ []
+pub ids_opened : (xs ys : List Screen) (y : Screen) → map shown_size xs ≡ map shown_size ys → map queue_id (queues_of (xs ++ y ∷ [])) ≡ map queue_id (queues_of ys) ++ y.id ∷ []
 ids_opened xs ys y e =
     ap (map queue_id) (map-append queue_of xs (y ∷ [])) ∙ map-append queue_id (queues_of xs) (queue_of y ∷ [])
     ∙ ap (λ (is : List ℕ). is ++ y.id ∷ []) (ids_same xs ys e)
@@ -57,36 +57,36 @@ pub all_emptied : (qs : List Queue) → All IsTaken (map emptied qs)
 all_emptied [] = All-nil IsTaken
 all_emptied (q ∷ qs) = All-cons IsTaken (emptied q) (map emptied qs) refl (all_emptied qs)
 
-pub queue_none : (id : ℕ) (xs : List Screen) (at : ℕ) → at ≡ position_or_len (screen_id id) xs → at ≤ length xs → length xs ≤ at → bytes_of (find_queue id (queues_of xs)) ≡ []
+pub queue_none : (id : ℕ) (xs : List Screen) (at : ℕ) → at ≡ position_or_len (screen_id id) xs → at ≤ length xs → length xs ≤ at → waiting_in (find_queue id (queues_of xs)) ≡ []
 queue_none id xs at e w l =
-    ap bytes_of
+    ap waiting_in
     (find-map queue_of (screen_id id) (is_queue_of id) (λ x. refl) xs
     ∙ ap (option_map queue_of) (find_none (screen_id id) xs (omega (arith, e, w, l))))
 
-some_found : (id : ℕ) (xs : List Screen) → position_or_len (screen_id id) xs < length xs → IsSome (option_map size_of (find (screen_id id) xs))
+some_found : (id : ℕ) (xs : List Screen) → position_or_len (screen_id id) xs < length xs → IsSome (option_map shown_size (find (screen_id id) xs))
 some_found id [] l = absurd (omega arith)
 some_found id (x ∷ xs) l =
-    let goal : Bool → Type 0 = λ b. cond (not b) (1 + position_or_len (screen_id id) xs) 0 < length (x ∷ xs) → IsSome (option_map size_of (cond b (Some x) (find (screen_id id) xs))) in
+    let goal : Bool → Type 0 = λ b. cond (not b) (1 + position_or_len (screen_id id) xs) 0 < length (x ∷ xs) → IsSome (option_map shown_size (cond b (Some x) (find (screen_id id) xs))) in
     let go : (b : Bool) → goal b = λ b. elim b as goal [ true ↦ λ h. refl | false ↦ λ h. some_found id xs (omega arith) ] in
     go (screen_id id x) l
 
-found_some : (o : Option Screen) → IsSome (option_map size_of o) → IsSome o
+found_some : (o : Option Screen) → IsSome (option_map shown_size o) → IsSome o
 found_some None h = h
 found_some (Some x) h = refl
 
 -- a session is open where its screen has a place
-pub open_place : (id : ℕ) (ss : List Size) (xs : List Screen) (at : ℕ) → map size_of xs ≡ ss → at ≡ position_or_len (screen_id id) xs → (at < length xs → IsSome (find_size id ss)) × (IsSome (find_size id ss) → at < length xs)
+pub open_place : (id : ℕ) (ss : List Size) (xs : List Screen) (at : ℕ) → map shown_size xs ≡ ss → at ≡ position_or_len (screen_id id) xs → (at < length xs → IsSome (find_size id ss)) × (IsSome (find_size id ss) → at < length xs)
 open_place id ss xs at e is =
-    let f : find_size id ss ≡ option_map size_of (find (screen_id id) xs) =
-    ap (find_size id) (sym e) ∙ find-map size_of (screen_id id) (is_size_of id) (λ x. refl) xs in (
+    let f : find_size id ss ≡ option_map shown_size (find (screen_id id) xs) =
+    ap (find_size id) (sym e) ∙ find-map shown_size (screen_id id) (is_size_of id) (λ x. refl) xs in (
       λ l. rw f (some_found id xs (omega (arith, is, l))),
       λ h. omega (arith, is, place_found (screen_id id) xs (found_some (find (screen_id id) xs) (rw f at h))),
     )
 
 -- THE SIZES OF THE SCREENS
 
-pub sizes_removed : (id : ℕ) (xs : List Screen) (ss : List Size) → map size_of xs ≡ ss → map size_of (remove_first (screen_id id) xs) ≡ remove_first (is_size_of id) ss
-sizes_removed id xs ss e = map-remove_first size_of (screen_id id) (is_size_of id) (λ x. refl) xs ∙ ap (remove_first (is_size_of id)) e
+pub sizes_removed : (id : ℕ) (xs : List Screen) (ss : List Size) → map shown_size xs ≡ ss → map shown_size (remove_first (screen_id id) xs) ≡ remove_first (is_size_of id) ss
+sizes_removed id xs ss e = map-remove_first shown_size (screen_id id) (is_size_of id) (λ x. refl) xs ∙ ap (remove_first (is_size_of id)) e
 
-pub sizes_opened : (xs : List Screen) (x : Screen) (ss : List Size) (y : Size) → map size_of xs ≡ ss → size_of x ≡ y → map size_of (xs ++ x ∷ []) ≡ ss ++ y ∷ []
-sizes_opened xs x ss y e is = map-append size_of xs (x ∷ []) ∙ ap (λ zs. zs ++ size_of x ∷ []) e ∙ ap (λ z. ss ++ z ∷ []) is
+pub sizes_opened : (xs : List Screen) (x : Screen) (ss : List Size) (y : Size) → map shown_size xs ≡ ss → shown_size x ≡ y → map shown_size (xs ++ x ∷ []) ≡ ss ++ y ∷ []
+sizes_opened xs x ss y e is = map-append shown_size xs (x ∷ []) ∙ ap (λ zs. zs ++ shown_size x ∷ []) e ∙ ap (λ z. ss ++ z ∷ []) is

@@ -11,9 +11,9 @@ is_queue_of id x = nat_eq x.id id
 abbrev pub find_queue : ℕ → List Queue → Option Queue
 find_queue id xs = find (is_queue_of id) xs
 
-abbrev pub bytes_of : Option Queue → List ℕ
-bytes_of None = []
-bytes_of (Some x) = x.bytes
+abbrev pub waiting_in : Option Queue → List ℕ
+waiting_in None = []
+waiting_in (Some x) = x.bytes
 
 abbrev pub queue_id : Queue → ℕ
 queue_id x = x.id

@@ -23,8 +23,8 @@ abbrev pub screen_id : ℕ → Screen → Bool
 screen_id id x = nat_eq x.id id
 
 -- the size of what the terminal shows
-abbrev pub size_of : Screen → Size
-size_of x = record { id = x.id; rows = x.shown.rows; cols = x.shown.cols }
+abbrev pub shown_size : Screen → Size
+shown_size x = record { id = x.id; rows = x.shown.rows; cols = x.shown.cols }
 
 -- what a terminal shows
 pub record Drawn : Type 0 where
@@ -35,14 +35,14 @@ abbrev pub drawn_of : Screen → Drawn
 drawn_of x = record { id = x.id; picture = x.shown }
 
 -- both grids have one size, and the queue has its room
-pub record IsScreen (x : Screen) : Type 0 where
+pub record IsSessionScreen (x : Screen) : Type 0 where
   pub rows : x.next.rows ≡ x.shown.rows
   pub cols : x.next.cols ≡ x.shown.cols
   pub room : QUEUE_LIMIT ≤ vec_capacity x.queue
 
 -- the world knows the screen, and in this size
 abbrev pub IsKnown : List Size → Screen → Type 0
-IsKnown ss x = find_size x.id ss ≡ Some (size_of x)
+IsKnown ss x = find_size x.id ss ≡ Some (shown_size x)
 
 -- the terminal shows what the world has for the session of its id
 pub record IsDrawn (w : World) (x : Screen) : Type 0 where

@@ -3,7 +3,7 @@ ghost use Rattle.std.specs.Prelude.{◌≡◌, ◌≤◌, ◌<◌, ◌↔◌, �
 ghost use Rattle.mgs_world.specs.Worlds.{sizes, find_size, IsOfSize, IsUnique};
 ghost use Rattle.mgs_core.specs.Steps.{differs_at};
 ghost use Rattle.mgs_engine.specs.Queues.{IsTaken};
-ghost use Rattle.mgs_engine.specs.Screens.{IsScreen, IsKnown, IsAhead, IsDrawn, IsRepaint, IsFirst, AreRepaints, AreDrawnApart, size_of, queue_of, queues_of};
+ghost use Rattle.mgs_engine.specs.Screens.{IsSessionScreen, IsKnown, IsAhead, IsDrawn, IsRepaint, IsFirst, AreRepaints, AreDrawnApart, shown_size, queue_of, queues_of};
 ghost use Rattle.mgs_paint.specs.Painting.{Paints};
 
 use crate::screen::Screen;
@@ -47,7 +47,7 @@ fn shows_same(a: &Grid, b: &Grid) -> bool
 // Draws what the terminal is to show next.
 fn draw_next<T: Marked + Drop>(core: &Core<T>, screen: &mut Screen)
     requires known { IsKnown (sizes core.now) screen.old }
-    requires screen { IsScreen screen.old }
+    requires screen { IsSessionScreen screen.old }
     ensures { IsAhead core.now screen.old screen.new }
 {
     core.draw(screen.id, &mut screen.next);
@@ -55,10 +55,10 @@ fn draw_next<T: Marked + Drop>(core: &Core<T>, screen: &mut Screen)
 
 // Paints what was drawn, whatever the terminal shows.
 fn paint(screen: &mut Screen)
-    requires screen { IsScreen screen.old }
+    requires screen { IsSessionScreen screen.old }
     requires taken { IsTaken (queue_of screen.old) }
-    ensures screen { IsScreen screen.new }
-    ensures size { size_of screen.new ≡ size_of screen.old }
+    ensures screen { IsSessionScreen screen.new }
+    ensures size { shown_size screen.new ≡ shown_size screen.old }
     ensures shown { screen.new.shown ≡ screen.old.next }
     ensures repaint { (screen.old.shown ≡ screen.old.next → ⊥) → IsRepaint screen.old screen.new }
     ensures first { IsFirst screen.new }
@@ -72,10 +72,10 @@ fn paint(screen: &mut Screen)
 
 // Paints what was drawn where it is not what the terminal shows.
 fn paint_changed(screen: &mut Screen)
-    requires screen { IsScreen screen.old }
+    requires screen { IsSessionScreen screen.old }
     requires taken { IsTaken (queue_of screen.old) }
-    ensures screen { IsScreen screen.new }
-    ensures size { size_of screen.new ≡ size_of screen.old }
+    ensures screen { IsSessionScreen screen.new }
+    ensures size { shown_size screen.new ≡ shown_size screen.old }
     ensures shown { screen.new.shown ≡ screen.old.next }
     ensures repaint { IsRepaint screen.old screen.new }
 {
@@ -90,10 +90,10 @@ fn paint_changed(screen: &mut Screen)
 /// The world knows the session in the size of the screen, and no bytes wait.
 pub(crate) fn draw_first<T: Marked + Drop>(core: &Core<T>, screen: &mut Screen)
     requires known { IsKnown (sizes core.now) screen.old }
-    requires screen { IsScreen screen.old }
+    requires screen { IsSessionScreen screen.old }
     requires taken { IsTaken (queue_of screen.old) }
-    ensures screen { IsScreen screen.new }
-    ensures size { size_of screen.new ≡ size_of screen.old }
+    ensures screen { IsSessionScreen screen.new }
+    ensures size { shown_size screen.new ≡ shown_size screen.old }
     ensures drawn { IsDrawn core.now screen.new }
     ensures first { IsFirst screen.new }
 {
@@ -109,8 +109,8 @@ fn first_screen<T: Marked + Drop>(
 ) -> Result<Screen, Short>
     requires known { find_size size.id (sizes core.now) ≡ Some size }
     requires size { IsOfSize size }
-    ensures screen { IfOk result IsScreen }
-    ensures size { IfOk result (λ x. size_of x ≡ size) }
+    ensures screen { IfOk result IsSessionScreen }
+    ensures size { IfOk result (λ x. shown_size x ≡ size) }
     ensures drawn { IfOk result (IsDrawn core.now) }
     ensures first { IfOk result IsFirst }
 {
@@ -127,8 +127,8 @@ pub(crate) fn first_screens<T: Marked + Drop>(
     core: &Core<T>,
 ) -> Result<Vec<Screen>, Short>
     ensures unique { IfOk result (λ xs. IsUnique (sizes core.now)) }
-    ensures sizes { IfOk result (λ xs. map size_of xs.items ≡ sizes core.now) }
-    ensures each { IfOk result (λ xs. All IsScreen xs.items) }
+    ensures sizes { IfOk result (λ xs. map shown_size xs.items ≡ sizes core.now) }
+    ensures each { IfOk result (λ xs. All IsSessionScreen xs.items) }
     ensures drawn { IfOk result (λ xs. All (IsDrawn core.now) xs.items) }
     ensures first { IfOk result (λ xs. All IsFirst xs.items) }
 {
@@ -145,10 +145,10 @@ pub(crate) fn first_screens<T: Marked + Drop>(
 // Draws a screen again, and paints it where it is not what the terminal shows: the bytes that do so wait then.
 fn redraw<T: Marked + Drop>(core: &Core<T>, screen: &mut Screen)
     requires known { IsKnown (sizes core.now) screen.old }
-    requires screen { IsScreen screen.old }
+    requires screen { IsSessionScreen screen.old }
     requires taken { IsTaken (queue_of screen.old) }
-    ensures screen { IsScreen screen.new }
-    ensures size { size_of screen.new ≡ size_of screen.old }
+    ensures screen { IsSessionScreen screen.new }
+    ensures size { shown_size screen.new ≡ shown_size screen.old }
     ensures drawn { IsDrawn core.now screen.new }
     ensures repaint { IsRepaint screen.old screen.new }
 {
@@ -165,11 +165,11 @@ fn redraw_at<T: Marked + Drop>(
     touched: &Touched,
 )
     requires known { IsKnown (sizes core.now) screen.old }
-    requires screen { IsScreen screen.old }
+    requires screen { IsSessionScreen screen.old }
     requires taken { IsTaken (queue_of screen.old) }
     requires drawn { differs_at touched.now id at core.now ≡ false → IsDrawn core.now screen.old }
-    ensures screen { IsScreen screen.new }
-    ensures size { size_of screen.new ≡ size_of screen.old }
+    ensures screen { IsSessionScreen screen.new }
+    ensures size { shown_size screen.new ≡ shown_size screen.old }
     ensures drawn { IsDrawn core.now screen.new }
     ensures repaint { IsRepaint screen.old screen.new }
 {
@@ -185,11 +185,11 @@ fn redraw_each<T: Marked + Drop>(
     touched: &Touched,
 )
     requires known { All (IsKnown (sizes core.now)) screens.old }
-    requires each { All IsScreen screens.old }
+    requires each { All IsSessionScreen screens.old }
     requires taken { All IsTaken (queues_of screens.old) }
     requires drawn { AreDrawnApart core.now touched.now id screens.old }
-    ensures each { All IsScreen screens.new }
-    ensures sizes { map size_of screens.new ≡ map size_of screens.old }
+    ensures each { All IsSessionScreen screens.new }
+    ensures sizes { map shown_size screens.new ≡ map shown_size screens.old }
     ensures drawn { All (IsDrawn core.now) screens.new }
     ensures repaints { AreRepaints screens.old screens.new }
 {
@@ -210,11 +210,11 @@ pub(crate) fn redraw_apart<T: Marked + Drop>(
     touched: &Touched,
 )
     requires known { All (IsKnown (sizes core.now)) screens.old.items }
-    requires each { All IsScreen screens.old.items }
+    requires each { All IsSessionScreen screens.old.items }
     requires taken { All IsTaken (queues_of screens.old.items) }
     requires drawn { AreDrawnApart core.now touched.now id screens.old.items }
-    ensures each { All IsScreen screens.new.items }
-    ensures sizes { map size_of screens.new.items ≡ map size_of screens.old.items }
+    ensures each { All IsSessionScreen screens.new.items }
+    ensures sizes { map shown_size screens.new.items ≡ map shown_size screens.old.items }
     ensures drawn { All (IsDrawn core.now) screens.new.items }
     ensures repaints { AreRepaints screens.old.items screens.new.items }
     ensures len { vec_len screens.new ≡ vec_len screens.old }
@@ -228,10 +228,10 @@ pub(crate) fn redraw_apart<T: Marked + Drop>(
 /// The world knows the session of each in the size of the screen, and no bytes wait.
 pub(crate) fn redraw_all<T: Marked + Drop>(core: &Core<T>, screens: &mut Vec<Screen>)
     requires known { All (IsKnown (sizes core.now)) screens.old.items }
-    requires each { All IsScreen screens.old.items }
+    requires each { All IsSessionScreen screens.old.items }
     requires taken { All IsTaken (queues_of screens.old.items) }
-    ensures each { All IsScreen screens.new.items }
-    ensures sizes { map size_of screens.new.items ≡ map size_of screens.old.items }
+    ensures each { All IsSessionScreen screens.new.items }
+    ensures sizes { map shown_size screens.new.items ≡ map shown_size screens.old.items }
     ensures drawn { All (IsDrawn core.now) screens.new.items }
     ensures repaints { AreRepaints screens.old.items screens.new.items }
     ensures len { vec_len screens.new ≡ vec_len screens.old }

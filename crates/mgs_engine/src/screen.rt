@@ -20,13 +20,13 @@ pub(crate) struct Screen {
 }
 
 impl Screen {
-    ghost use Rattle.mgs_engine.specs.Screens.{IsScreen};
+    ghost use Rattle.mgs_engine.specs.Screens.{IsSessionScreen};
 
     /// A blank screen of so many rows (6 to 64) and columns (20 to 160), which no session has yet: no bytes wait, and the
     /// id is to be set. `Short`: memory was refused.
     pub(crate) fn blank(alloc: Global, rows: usize, cols: usize) -> Result<Screen, Short>
         requires { IsSize rows cols }
-        ensures screen { IfOk result IsScreen }
+        ensures screen { IfOk result IsSessionScreen }
         ensures rows { IfOk result (λ x. x.shown.rows ≡ rows) }
         ensures cols { IfOk result (λ x. x.shown.cols ≡ cols) }
         ensures empty { IfOk result (λ x. x.queue.items ≡ []) }

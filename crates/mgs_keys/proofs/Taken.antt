@@ -1,7 +1,7 @@
 -- Words taken one after the other.
 use Rattle.std.proofs.Common.{◌≡◌, ℕ, false, List, ◌∷◌, ◌++◌, Option, Some, None, is_some, is_none, Bor, refl, sym, ap, ◌∙◌, append_assoc}
 use Rattle.std.specs.Option.{option_map}
-use Rattle.mgs_keys.specs.Words.{is_space, words_of, word_of, rest_of, parts_after}
+use Rattle.mgs_keys.specs.Words.{is_space, words_of, word_of, words_after, parts_after}
 use Rattle.mgs_keys.specs.Tokens.{spelled_by, then_bytes, bytes_in}
 use Rattle.mgs_keys.specs.declared.spelling.Spelling.{Spelling}
 use Rattle.mgs_keys.proofs.Cuts.{parts_cut}
@@ -11,7 +11,7 @@ abbrev pub words_left : Option (Bor (List ℕ)) → List (List ℕ)
 words_left rest = parts_after is_space (option_map (λ x. x.now) rest)
 
 -- the words of a text that is cut at its first space
-pub words_cut : (t word : List ℕ) (rest : Option (Bor (List ℕ))) → word ≡ word_of t → option_map (λ x. x.now) rest ≡ rest_of t → words_of t ≡ word ∷ words_left rest
+pub words_cut : (t word : List ℕ) (rest : Option (Bor (List ℕ))) → word ≡ word_of t → option_map (λ x. x.now) rest ≡ words_after t → words_of t ≡ word ∷ words_left rest
 words_cut t word rest first after = parts_cut is_space t word (option_map (λ x. x.now) rest) first after
 
 all_some : (bs : List ℕ) (later : Option (List ℕ)) → is_some (then_bytes (Some bs) later) ≡ is_some later

@@ -25,8 +25,8 @@ abbrev pub word_of : List ℕ → List ℕ
 word_of t = before_first is_space t
 
 -- what stands after the first space, if there is one
-abbrev pub rest_of : List ℕ → Option (List ℕ)
-rest_of t = rest_after is_space t
+abbrev pub words_after : List ℕ → Option (List ℕ)
+words_after t = rest_after is_space t
 
 -- one or more characters, each of them visible
 abbrev pub is_quotable : List ℕ → Bool

@@ -42,7 +42,7 @@ on_stops : (own : Own) (c : Command) (t : Option Target) → QuitStopsIn (outcom
 on_stops own c None = tt
 on_stops own c (Some t) =
     let size : ℕ = size_told t.buffer.told in
-    let p : ℕ = acts_at t.window.all_window_marks size in
+    let p : ℕ = acts_at t.window.positions size in
     permitted_stops own (decision_by t.buffer.deciders (needs c (p == size))) (planned own t.buffer.name size (serial_told t.buffer.told) (plan c size p))
     (planned_stops own t.buffer.name size (serial_told t.buffer.told) (plan c size p))
 
@@ -141,7 +141,7 @@ on_lawful : (v : View) (own : Own) (c : Command) (t : Option Target) → TargetS
 on_lawful v own c None s = refl
 on_lawful v own c (Some t) s =
     let size : ℕ = size_told t.buffer.told in
-    let p : ℕ = acts_at t.window.all_window_marks size in
+    let p : ℕ = acts_at t.window.positions size in
     permitted_lawful v own (decision_by t.buffer.deciders (needs c (p == size))) (planned own t.buffer.name size (serial_told t.buffer.told) (plan c size p))
     (planned_lawful v own c t.buffer size p s)
 

@@ -6,7 +6,7 @@ use Rattle.mgs_model.specs.Names.{same_name}
 use Rattle.mgs_model.specs.Text.{shift}
 use Rattle.mgs_model.specs.World.{World, Buffer, Session, Window, Place, Search, Own, first_own, Shows, Nothing, Buffer_of, Listing, List_of, is_named, has_id}
 use Rattle.mgs_model.specs.Outcome.{Outcome, PointPlan, Keep, At, At_origin, MarkPlan, Keep_mark, Mark_at, SearchPlan, Keep_search, No_search, Search_at, Source, Old, Come, Slot, is_old, Arrange, Stay, Adjust, Slots, Effect, No_effect, Edit, Unmodified, Relist, Reown, Create, Kill, Save, Quit}
-use Rattle.mgs_model.specs.Apply.{change_first, buffers_after, buffer_edited, buffer_unmodified, new_buffer, is_in, is_of, window_moved_if, window_moved, place_moved, search_moved, session_moved, window_bereft_if, window_bereft, is_searched, session_bereft, session_after, set_place, left_places, places_left, place_in, place_point, place_mark, comer, window_at, source_window, has_all_window_marks, origin_or, point_after, mark_after, row_after, window_adjusted, window_put, windows_arranged, places_arranged, selected_arranged, search_after, search_arranged, searches, session_arranged, after_quit, sessions_after, apply}
+use Rattle.mgs_model.specs.Apply.{change_first, buffers_after, buffer_edited, buffer_unmodified, new_buffer, is_in, is_of, window_moved_if, window_moved, place_moved, search_moved, session_moved, window_bereft_if, window_bereft, is_searched, session_bereft, session_after, set_place, left_places, places_left, place_in, place_point, place_mark, comer, window_at, source_window, has_positions, origin_or, point_after, mark_after, row_after, window_adjusted, window_put, windows_arranged, places_arranged, selected_arranged, search_after, search_arranged, searches, session_arranged, after_quit, sessions_after, apply}
 use Rattle.mgs_model.specs.declared.entry.Entry.{Entry}
 use Rattle.mgs_model.specs.declared.session.Mode.TheVariants.{Plain}
 use Rattle.mgs_model.proofs.After.{user_after}
@@ -290,18 +290,18 @@ origin_forget shut Nothing (Some s) old = refl
 origin_forget shut Listing (Some s) old = refl
 origin_forget shut (List_of m) (Some s) old = refl
 
-window_marks_forget : (shut : List ℕ → Bool) (shows : Shows) (search : Option Search) (plan : PointPlan) (old : ℕ) → cond (shows_shut shut shows) 0 (point_after shows search plan old) ≡ cond (shows_shut shut shows) 0 (point_after shows (forget_search shut search) plan (cond (shows_shut shut shows) 0 old))
-window_marks_forget shut shows search Keep old = cond_twice (shows_shut shut shows) 0 old
-window_marks_forget shut shows search (At p) old = at_one (shows_shut shut shows) (has_all_window_marks shows)
+positions_forget : (shut : List ℕ → Bool) (shows : Shows) (search : Option Search) (plan : PointPlan) (old : ℕ) → cond (shows_shut shut shows) 0 (point_after shows search plan old) ≡ cond (shows_shut shut shows) 0 (point_after shows (forget_search shut search) plan (cond (shows_shut shut shows) 0 old))
+positions_forget shut shows search Keep old = cond_twice (shows_shut shut shows) 0 old
+positions_forget shut shows search (At p) old = at_one (shows_shut shut shows) (has_positions shows)
   where
     at_one : (f c : Bool) → cond f 0 (cond c p old) ≡ cond f 0 (cond c p (cond f 0 old))
     at_one true c = refl
     at_one false c = refl
-window_marks_forget shut shows search At_origin old = origin_forget shut shows search old
+positions_forget shut shows search At_origin old = origin_forget shut shows search old
 
-mark_window_marks_forget : (shut : List ℕ → Bool) (shows : Shows) (plan : MarkPlan) (old : Option ℕ) → cond (shows_shut shut shows) None (mark_after shows plan old) ≡ cond (shows_shut shut shows) None (mark_after shows plan (cond (shows_shut shut shows) None old))
-mark_window_marks_forget shut shows Keep_mark old = cond_twice (shows_shut shut shows) None old
-mark_window_marks_forget shut shows (Mark_at p) old = at_one (shows_shut shut shows) (has_all_window_marks shows)
+mark_positions_forget : (shut : List ℕ → Bool) (shows : Shows) (plan : MarkPlan) (old : Option ℕ) → cond (shows_shut shut shows) None (mark_after shows plan old) ≡ cond (shows_shut shut shows) None (mark_after shows plan (cond (shows_shut shut shows) None old))
+mark_positions_forget shut shows Keep_mark old = cond_twice (shows_shut shut shows) None old
+mark_positions_forget shut shows (Mark_at p) old = at_one (shows_shut shut shows) (has_positions shows)
   where
     at_one : (f c : Bool) → cond f None (cond c (Some p) old) ≡ cond f None (cond c (Some p) (cond f None old))
     at_one true c = refl
@@ -311,9 +311,9 @@ put_forget : (shut : List ℕ → Bool) (slot : Slot) (search : Option Search) (
 put_forget shut slot search x =
     λ i. record {
       shows = x.shows;
-      point = window_marks_forget shut x.shows search slot.point x.point i;
-      mark = mark_window_marks_forget shut x.shows slot.mark x.mark i;
-      top = window_marks_forget shut x.shows search slot.top x.top i;
+      point = positions_forget shut x.shows search slot.point x.point i;
+      mark = mark_positions_forget shut x.shows slot.mark x.mark i;
+      top = positions_forget shut x.shows search slot.top x.top i;
       row = row_after slot.row x.row;
       height = slot.height;
     }
@@ -322,9 +322,9 @@ adjusted_forget : (shut : List ℕ → Bool) (search : Option Search) (point : P
 adjusted_forget shut search point mark top x =
     λ i. record {
       shows = x.shows;
-      point = window_marks_forget shut x.shows search point x.point i;
-      mark = mark_window_marks_forget shut x.shows mark x.mark i;
-      top = window_marks_forget shut x.shows search top x.top i;
+      point = positions_forget shut x.shows search point x.point i;
+      mark = mark_positions_forget shut x.shows mark x.mark i;
+      top = positions_forget shut x.shows search top x.top i;
       row = x.row;
       height = x.height;
     }

@@ -4,7 +4,7 @@ use Rattle.std.specs.Option.{option_map}
 use Rattle.mgs_model.specs.Names.{same_name}
 use Rattle.mgs_model.specs.Access.{Directory, Decider, decider, allows, any_right}
 use Rattle.mgs_model.specs.World.{World, Buffer, Session, Window, Place, Search, Shows, Buffer_of, may, is_named, has_id, find_session, find_buffer}
-use Rattle.mgs_model.specs.View.{view, reads, reads_found, session_seen, buffer_seen, window_seen, place_seen, search_seen, in_readable, all_window_marks_if, told_if, full_if}
+use Rattle.mgs_model.specs.View.{view, reads, reads_found, session_seen, buffer_seen, window_seen, place_seen, search_seen, in_readable, positions_if, told_if, full_if}
 use Rattle.mgs_model.specs.Secrecy.{IsOf, has_name}
 use Rattle.mgs_model.specs.Purging.{NoRightsAmong, Closed}
 use Rattle.mgs_model.specs.declared.right.Right.{Right}
@@ -90,35 +90,35 @@ find_erase shut n bs = find-map (erase shut) (is_named n) (is_named n) (λ b. re
 reads_erase : (shut : List ℕ → Bool) (d : Directory) (u : List ℕ) (bs : List Buffer) (n : List ℕ) → reads d (map (erase shut) bs) u n ≡ reads d bs u n
 reads_erase shut d u bs n = ap (reads_found d u) (find_erase shut n bs) ∙ found_erase shut d u (find_buffer n bs)
 
-all_window_marks_one : (f c : Bool) (p : ℕ) (m : Option ℕ) (t : ℕ) → (f ≡ true → c ≡ false) → all_window_marks_if c (cond f 0 p) (cond f None m) (cond f 0 t) ≡ all_window_marks_if c p m t
-all_window_marks_one false c p m t e = refl
-all_window_marks_one true false p m t e = refl
-all_window_marks_one true true p m t e = let q : true ≡ false = e refl in cc
+positions_one : (f c : Bool) (p : ℕ) (m : Option ℕ) (t : ℕ) → (f ≡ true → c ≡ false) → positions_if c (cond f 0 p) (cond f None m) (cond f 0 t) ≡ positions_if c p m t
+positions_one false c p m t e = refl
+positions_one true false p m t e = refl
+positions_one true true p m t e = let q : true ≡ false = e refl in cc
 
 module _ (shut can : List ℕ → Bool) (unseen : (n : List ℕ) → shut n ≡ true → can n ≡ false) where
-  window_all_window_marks : (shows : Shows) (p : ℕ) (m : Option ℕ) (t : ℕ) → all_window_marks_if (in_readable can shows) (cond (shows_shut shut shows) 0 p) (cond (shows_shut shut shows) None m) (cond (shows_shut shut shows) 0 t) ≡ all_window_marks_if (in_readable can shows) p m t
-  window_all_window_marks (Buffer_of n) p m t = all_window_marks_one (shut n) (can n) p m t (unseen n)
-  window_all_window_marks _ p m t = refl
+  window_positions : (shows : Shows) (p : ℕ) (m : Option ℕ) (t : ℕ) → positions_if (in_readable can shows) (cond (shows_shut shut shows) 0 p) (cond (shows_shut shut shows) None m) (cond (shows_shut shut shows) 0 t) ≡ positions_if (in_readable can shows) p m t
+  window_positions (Buffer_of n) p m t = positions_one (shut n) (can n) p m t (unseen n)
+  window_positions _ p m t = refl
 
   window_same : (x : Window) → window_seen can (forget_window shut x) ≡ window_seen can x
-  window_same x = λ i. record { shows = x.shows; row = x.row; height = x.height; all_window_marks = window_all_window_marks x.shows x.point x.mark x.top i }
+  window_same x = λ i. record { shows = x.shows; row = x.row; height = x.height; positions = window_positions x.shows x.point x.mark x.top i }
 
-  place_all_window_marks : (f c : Bool) (p : ℕ) (m : Option ℕ) → (f ≡ true → c ≡ false) → all_window_marks_if c (cond f 0 p) (cond f None m) 0 ≡ all_window_marks_if c p m 0
-  place_all_window_marks false c p m e = refl
-  place_all_window_marks true false p m e = refl
-  place_all_window_marks true true p m e = let q : true ≡ false = e refl in cc
+  place_positions : (f c : Bool) (p : ℕ) (m : Option ℕ) → (f ≡ true → c ≡ false) → positions_if c (cond f 0 p) (cond f None m) 0 ≡ positions_if c p m 0
+  place_positions false c p m e = refl
+  place_positions true false p m e = refl
+  place_positions true true p m e = let q : true ≡ false = e refl in cc
 
   place_same : (x : Place) → place_seen can (forget_place shut x) ≡ place_seen can x
-  place_same x = λ i. record { name = x.name; all_window_marks = place_all_window_marks (shut x.name) (can x.name) x.point x.mark (unseen x.name) i }
+  place_same x = λ i. record { name = x.name; positions = place_positions (shut x.name) (can x.name) x.point x.mark (unseen x.name) i }
 
-  search_all_window_marks : (f c : Bool) (p a : ℕ) → (f ≡ true → c ≡ false) → all_window_marks_if c (cond f 0 p) (Some (cond f 0 a)) 0 ≡ all_window_marks_if c p (Some a) 0
-  search_all_window_marks false c p a e = refl
-  search_all_window_marks true false p a e = refl
-  search_all_window_marks true true p a e = let q : true ≡ false = e refl in cc
+  search_positions : (f c : Bool) (p a : ℕ) → (f ≡ true → c ≡ false) → positions_if c (cond f 0 p) (Some (cond f 0 a)) 0 ≡ positions_if c p (Some a) 0
+  search_positions false c p a e = refl
+  search_positions true false p a e = refl
+  search_positions true true p a e = let q : true ≡ false = e refl in cc
 
   search_same : (o : Option Search) → search_seen can (forget_search shut o) ≡ search_seen can o
   search_same None = refl
-  search_same (Some x) = λ i. Some (record { name = x.name; all_window_marks = search_all_window_marks (shut x.name) (can x.name) x.origin x.anchor (unseen x.name) i })
+  search_same (Some x) = λ i. Some (record { name = x.name; positions = search_positions (shut x.name) (can x.name) x.origin x.anchor (unseen x.name) i })
 
   windows_same : (xs : List Window) → map (window_seen can) (map (forget_window shut) xs) ≡ map (window_seen can) xs
   windows_same [] = refl

@@ -177,9 +177,9 @@ source_window (Old i) windows places = window_at i windows
 source_window (Come shows) windows places = comer shows places
 
 -- a window that shows no buffer has no positions
-abbrev pub has_all_window_marks : Shows → Bool
-has_all_window_marks (Buffer_of name) = true
-has_all_window_marks _ = false
+abbrev pub has_positions : Shows → Bool
+has_positions (Buffer_of name) = true
+has_positions _ = false
 
 abbrev pub origin_or : Shows → Option Search → ℕ → ℕ
 origin_or shows None old = old
@@ -187,12 +187,12 @@ origin_or shows (Some x) old = cond (is_in x.name shows) x.origin old
 
 abbrev pub point_after : Shows → Option Search → PointPlan → ℕ → ℕ
 point_after shows search Keep old = old
-point_after shows search (At p) old = cond (has_all_window_marks shows) p old
+point_after shows search (At p) old = cond (has_positions shows) p old
 point_after shows search At_origin old = origin_or shows search old
 
 abbrev pub mark_after : Shows → MarkPlan → Option ℕ → Option ℕ
 mark_after shows Keep_mark old = old
-mark_after shows (Mark_at p) old = cond (has_all_window_marks shows) (Some p) old
+mark_after shows (Mark_at p) old = cond (has_positions shows) (Some p) old
 
 abbrev pub row_after : Option ℕ → ℕ → ℕ
 row_after None old = old

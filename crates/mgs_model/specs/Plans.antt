@@ -3,7 +3,7 @@ use Rattle.std.specs.Prelude.{ℕ, ◌+◌, ◌-◌, nat_lt, nat_le, ◌==◌, B
 use Rattle.std.specs.Option.{option_and_then, option_map}
 use Rattle.mgs_model.specs.Access.{decision_by}
 use Rattle.mgs_model.specs.World.{Own, Shows, Buffer_of}
-use Rattle.mgs_model.specs.View.{View, BufferSeen, WindowSeen, WindowMarks, find_seen, size_told, serial_told}
+use Rattle.mgs_model.specs.View.{View, BufferSeen, WindowSeen, Positions, find_seen, size_told, serial_told}
 use Rattle.mgs_model.specs.Outcome.{Outcome, Stay, Adjust, At, Keep, Keep_mark, Keep_search, No_effect, Edit, Goes_on, Stops}
 use Rattle.mgs_model.specs.declared.right.Right.{Right}
 use Rattle.mgs_model.specs.declared.right.Right.TheVariants.{ReadData, WriteData, AppendData}
@@ -44,7 +44,7 @@ abbrev pub target : View → Option Target
 target v = option_and_then (λ x. target_in v.buffers x x.shows) (slice_get v.session.windows v.session.selected)
 
 -- PLACE OF ACTION: a reader's point; the text's end of one who may not read
-abbrev pub acts_at : Option WindowMarks → ℕ → ℕ
+abbrev pub acts_at : Option Positions → ℕ → ℕ
 acts_at None size = size
 acts_at (Some x) size = x.point
 
@@ -104,7 +104,7 @@ outcome_at own c b size p =
 
 abbrev pub outcome_on : Own → Command → Option Target → Outcome
 outcome_on own c None = fails own NoBuffer
-outcome_on own c (Some t) = outcome_at own c t.buffer (size_told t.buffer.told) (acts_at t.window.all_window_marks (size_told t.buffer.told))
+outcome_on own c (Some t) = outcome_at own c t.buffer (size_told t.buffer.told) (acts_at t.window.positions (size_told t.buffer.told))
 
 -- OUTCOME of a command, by the view and the store's answer to a save
 unfoldable pub outcome : View → Command → Bool → Outcome

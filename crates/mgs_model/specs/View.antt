@@ -8,7 +8,7 @@ use Rattle.mgs_model.specs.declared.right.Right.TheVariants.{ReadData}
 use Rattle.mgs_model.specs.declared.entry.Entry.{Entry}
 
 -- positions in a text that may be read
-pub record WindowMarks : Type 0 where
+pub record Positions : Type 0 where
   pub point : ℕ
   pub mark : Option ℕ
   pub top : ℕ
@@ -17,16 +17,16 @@ pub record WindowSeen : Type 0 where
   pub shows : Shows
   pub row : ℕ
   pub height : ℕ
-  pub all_window_marks : Option WindowMarks
+  pub positions : Option Positions
 
 pub record PlaceSeen : Type 0 where
   pub name : List ℕ
-  pub all_window_marks : Option WindowMarks
+  pub positions : Option Positions
 
 -- point is the search's origin, mark its anchor
 pub record SearchSeen : Type 0 where
   pub name : List ℕ
-  pub all_window_marks : Option WindowMarks
+  pub positions : Option Positions
 
 pub record SessionSeen : Type 0 where
   pub id : ℕ
@@ -73,23 +73,23 @@ reads_found directory user (Some b) = may directory user ReadData b
 abbrev pub reads : Directory → List Buffer → List ℕ → List ℕ → Bool
 reads directory buffers user name = reads_found directory user (find_buffer name buffers)
 
-abbrev pub all_window_marks_if : Bool → ℕ → Option ℕ → ℕ → Option WindowMarks
-all_window_marks_if true point mark top = Some (record { point = point; mark = mark; top = top })
-all_window_marks_if false point mark top = None
+abbrev pub positions_if : Bool → ℕ → Option ℕ → ℕ → Option Positions
+positions_if true point mark top = Some (record { point = point; mark = mark; top = top })
+positions_if false point mark top = None
 
 abbrev pub in_readable : (List ℕ → Bool) → Shows → Bool
 in_readable can (Buffer_of name) = can name
 in_readable can _ = false
 
 abbrev pub window_seen : (List ℕ → Bool) → Window → WindowSeen
-window_seen can x = record { shows = x.shows; row = x.row; height = x.height; all_window_marks = all_window_marks_if (in_readable can x.shows) x.point x.mark x.top }
+window_seen can x = record { shows = x.shows; row = x.row; height = x.height; positions = positions_if (in_readable can x.shows) x.point x.mark x.top }
 
 abbrev pub place_seen : (List ℕ → Bool) → Place → PlaceSeen
-place_seen can x = record { name = x.name; all_window_marks = all_window_marks_if (can x.name) x.point x.mark 0 }
+place_seen can x = record { name = x.name; positions = positions_if (can x.name) x.point x.mark 0 }
 
 abbrev pub search_seen : (List ℕ → Bool) → Option Search → Option SearchSeen
 search_seen can None = None
-search_seen can (Some x) = Some (record { name = x.name; all_window_marks = all_window_marks_if (can x.name) x.origin (Some x.anchor) 0 })
+search_seen can (Some x) = Some (record { name = x.name; positions = positions_if (can x.name) x.origin (Some x.anchor) 0 })
 
 abbrev pub session_seen : (List ℕ → Bool) → Session → SessionSeen
 session_seen can x =

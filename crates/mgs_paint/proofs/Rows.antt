@@ -8,7 +8,7 @@ use Rattle.mgs_paint.specs.Painting.{cell_of, row_cells, cells_of, shown}
 use Rattle.mgs_paint.specs.Operations.{row_operations, rows_operations, whole_operations, bytes_of}
 use Rattle.mgs_model.specs.Rows.{Row}
 use Rattle.mgs_model.specs.Picture.{Picture, IsRow, IsPicture, IsPrintable}
-use Rattle.mgs_term.specs.Screen.{Screen, IsScreen, blank}
+use Rattle.mgs_term.specs.Screen.{Screen, IsScreen, blank_cell}
 use Rattle.mgs_term.specs.Sequences.{spelling}
 use Rattle.mgs_term.specs.Drawing.{Leads, IsFaithful}
 use Rattle.mgs_term.proofs.Drawing.{Leads-append}
@@ -42,7 +42,7 @@ prints_lead may rows cols i k front (x ∷ xs) back more reversed (c ∷ cs) per
     let later : Permits may ((front ++ cell ∷ []) ++ (map (cell_of reversed) cs ++ more)) i = rw (append_assoc front (cell ∷ []) (map (cell_of reversed) cs ++ more)) permits in
     let rest : (k' : ℕ) × Leads may (map Print cs) (mid rows cols ((front ++ cell ∷ []) ++ (xs ++ back)) i (min (k + 1) (cols - 1)) reversed) (mid rows cols ((front ++ cell ∷ []) ++ (map (cell_of reversed) cs ++ back)) i k' reversed)
     = prints_lead may rows cols i (min (k + 1) (cols - 1)) (front ++ cell ∷ []) xs back more reversed cs later (λ w. omega arith) (omega arith) (omega arith) printable.1 in
-    let faithful : (get_or (front ++ (cell ∷ (map (cell_of reversed) cs ++ more))) (i * cols + k) blank).character ≡ c = rw (get_or_at front cell (map (cell_of reversed) cs ++ more) blank (i * cols + k) here) refl in
+    let faithful : (get_or (front ++ (cell ∷ (map (cell_of reversed) cs ++ more))) (i * cols + k) blank_cell).character ≡ c = rw (get_or_at front cell (map (cell_of reversed) cs ++ more) blank_cell (i * cols + k) here) refl in
     (rest.0, ((printable.0, refl), permits.prints (mid rows cols (front ++ (x ∷ (xs ++ back))) i k reversed) c refl faithful, rw (set_at front x (xs ++ back) cell (i * cols + k) here) (rw (append_assoc front (cell ∷ []) (xs ++ back), append_assoc front (cell ∷ []) (map (cell_of reversed) cs ++ back)) at rest.1)))
 
 add-suc-move : (i n : ℕ) → i + 1 + n ≡ i + suc n

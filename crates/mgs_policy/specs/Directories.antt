@@ -33,10 +33,10 @@ abbrev pub with_group : Directory → List ℕ → List (List ℕ) → Directory
 with_group directory name members = record directory { groups = directory.groups ++ record { name = name; members = members } ∷ [] }
 
 -- what is answered: each fault exactly where it is due, and out of memory only where none is
-abbrev pub Answers : Result (Unit {0}) DirectoryFault → Option DirectoryFault → Type 0
-Answers (Ok done) due = due ≡ None
-Answers (Err Short) due = due ≡ None
-Answers (Err Name) due = due ≡ Some Name
-Answers (Err Twice) due = due ≡ Some Twice
-Answers (Err Unknown) due = due ≡ Some Unknown
-Answers (Err Full) due = due ≡ Some Full
+abbrev pub DirectoryAnswers : Result (Unit {0}) DirectoryFault → Option DirectoryFault → Type 0
+DirectoryAnswers (Ok done) due = due ≡ None
+DirectoryAnswers (Err Short) due = due ≡ None
+DirectoryAnswers (Err Name) due = due ≡ Some Name
+DirectoryAnswers (Err Twice) due = due ≡ Some Twice
+DirectoryAnswers (Err Unknown) due = due ≡ Some Unknown
+DirectoryAnswers (Err Full) due = due ≡ Some Full

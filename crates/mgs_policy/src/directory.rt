@@ -49,7 +49,7 @@ impl Model for Directory {
 }
 
 impl Directory {
-    ghost use Rattle.mgs_policy.specs.Directories.{user_fault, with_user, group_fault, with_group, Answers};
+    ghost use Rattle.mgs_policy.specs.Directories.{user_fault, with_user, group_fault, with_group, DirectoryAnswers};
 
     /// A directory with no user and no group.
     pub fn new(alloc: Global) -> Directory
@@ -95,7 +95,7 @@ impl Directory {
     /// The faults, checked in this order: `Name` where it is not a user's name, `Twice` where a user has it, `Full` where there are
     /// `USER_LIMIT` users, `Short` for out of memory. They change nothing.
     pub fn add_user(&mut self, name: &str) -> Result<(), DirectoryFault>
-        ensures answer { Answers result (user_fault self.old name.now) }
+        ensures answer { DirectoryAnswers result (user_fault self.old name.now) }
         ensures ok { OnOk result (self.new ≡ with_user self.old name.now) }
         ensures err { OnErr result (self.new ≡ self.old) }
     {
@@ -119,7 +119,7 @@ impl Directory {
     /// The faults, checked in this order: `Name` where it is not a group's name, `Twice` where a group has it, `Unknown` where a member
     /// is not a user of the directory, `Full` where there are `GROUP_LIMIT` groups, `Short` for out of memory. They change nothing.
     pub fn add_group(&mut self, name: &str, members: &[&str]) -> Result<(), DirectoryFault>
-        ensures answer { Answers result (group_fault self.old name.now (map (λ member. member.now) members.now)) }
+        ensures answer { DirectoryAnswers result (group_fault self.old name.now (map (λ member. member.now) members.now)) }
         ensures ok { OnOk result (self.new ≡ with_group self.old name.now (map (λ member. member.now) members.now)) }
         ensures err { OnErr result (self.new ≡ self.old) }
     {

@@ -22,7 +22,7 @@ use Rattle.mgs_script.specs.declared.line.LineFault.TheVariants.{Bad, Short}
 use Rattle.mgs_replay.specs.declared.setup.Draft.{Draft}
 use Rattle.std.proofs.lemmas.List.{map-append}
 use Rattle.mgs_replay.specs.Settings.{entry_refused, text_refused, with_entry, with_text, empty_buffer}
-use Rattle.mgs_replay.specs.Setups.{Listed, Lengthened, Changes, Sets, marked_of, buffer_of, buffers_in, is_drafted}
+use Rattle.mgs_replay.specs.Setups.{Listed, Lengthened, Changes, Sets, drafted_buffer, buffer_of, buffers_in, is_drafted}
 
 -- the first place that passes
 placed : {A : Type 0} (p : A → Bool) (xs : List A) (i : ℕ) (d : A) → Some i ≡ position p xs → (i < length xs) × (position_or_len p xs ≡ i)
@@ -144,10 +144,10 @@ pushed name owner ds new d is n o l t =
 
 -- THE BUFFERS OF A CORE
 
-pub marked_buffers : (ds : List Draft) → buffers_of (map marked_of ds) ≡ buffers_in ds
+pub marked_buffers : (ds : List Draft) → buffers_of (map drafted_buffer ds) ≡ buffers_in ds
 marked_buffers [] = refl
 marked_buffers (d ∷ ds) = ap (λ (bs : List Buffer). buffer_of d ∷ bs) (marked_buffers ds)
 
 -- no buffer that is written down has a mark in use
-pub unmarked_drafts : (ks : List MarkedBuffer) (xs : List Draft) → ks ≡ map marked_of xs → AreUnmarked ks
-unmarked_drafts ks xs e = subst AreUnmarked (sym e) (unmarked_map marked_of (λ x. refl) xs)
+pub unmarked_drafts : (ks : List MarkedBuffer) (xs : List Draft) → ks ≡ map drafted_buffer xs → AreUnmarked ks
+unmarked_drafts ks xs e = subst AreUnmarked (sym e) (unmarked_map drafted_buffer (λ x. refl) xs)

@@ -14,14 +14,14 @@ use Rattle.mgs_model.specs.Picture.{IsSize}
 use Rattle.mgs_model.specs.World.{World, Session, find_session}
 use Rattle.mgs_model.specs.Draw.{screen, draw}
 use Rattle.mgs_world.specs.declared.size.Size.{Size}
-use Rattle.mgs_world.specs.Worlds.{sizes, size_of, is_size_of, find_size}
-use Rattle.mgs_term.specs.Screen.{IsScreen, blank, blank_screen}
+use Rattle.mgs_world.specs.Worlds.{sizes, session_size, is_size_of, find_size}
+use Rattle.mgs_term.specs.Screen.{IsScreen, blank_cell, blank_screen}
 use Rattle.mgs_term.specs.Terminal.{Terminal, resting}
 use Rattle.mgs_term.specs.Drawing.{Draws, Anything, IsFaithful}
 use Rattle.mgs_term.proofs.Drawing.{Draws-weaken, Draws-at}
 use Rattle.mgs_paint.specs.Painting.{Paints, shown, cells_of}
 use Rattle.mgs_engine.specs.Serving.{Serving, AllTaken, pending_of, queue_ids}
-use Rattle.mgs_engine.specs.Queues.{Queue, IsTaken, bytes_of, find_queue}
+use Rattle.mgs_engine.specs.Queues.{Queue, IsTaken, waiting_in, find_queue}
 use Rattle.mgs_engine.specs.Painted.{Painted, PaintedBy}
 use Rattle.mgs_engine.proofs.ScreenLemmas.{All-unmap}
 use Rattle.mgs_replay.specs.declared.client.Labelled.{Labelled}
@@ -30,15 +30,15 @@ use Rattle.mgs_replay.specs.declared.client.Client.{Client}
 use Rattle.mgs_replay.specs.declared.client.Client.TheVariants as clients
 use Rattle.mgs_replay.specs.Clients.{is_labelled, client_of, ended_by}
 use Rattle.mgs_replay.specs.Players.{Label, label, Standing, Never, Has, Gone, is_called, standing_of, gone}
-use Rattle.mgs_replay.specs.Served.{standing_in, label_of, labels_in, ClientShows, Shows, ClientDue, IsDue, Differ, IsApart, AreApart, AreUnique, size_id, IsServed, IsReady, IsWaiting}
+use Rattle.mgs_replay.specs.Served.{standing_in, label_of, labels_in, ClientShows, Shows, ClientDue, IsLineDue, Differ, IsApart, AreApart, AreUnique, size_id, IsPlayerServed, IsReady, IsWaiting}
 use Rattle.mgs_replay.proofs.Served.{found_size}
 
 -- BYTES THAT WAIT
 
-none_waits : (id : ℕ) (qs : List Queue) → All IsTaken qs → bytes_of (find_queue id qs) ≡ []
+none_waits : (id : ℕ) (qs : List Queue) → All IsTaken qs → waiting_in (find_queue id qs) ≡ []
 none_waits id [] h = refl
 none_waits id (q ∷ qs) h =
-    elim (nat_eq q.id id) as (λ b. bytes_of (cond b (Some q) (find_queue id qs)) ≡ []) [
+    elim (nat_eq q.id id) as (λ b. waiting_in (cond b (Some q) (find_queue id qs)) ≡ []) [
       | true ↦ All-head IsTaken q qs h
       | false ↦ none_waits id qs (All-tail IsTaken q qs h)
     ]
@@ -70,15 +70,15 @@ client_due old new (clients.Ended cause) taken painted stays h = tt
 
 -- SIZES
 
-some_session : (o : Option Session) (z : Size) → option_map size_of o ≡ Some z → (y : Session) × (o ≡ Some y) × (size_of y ≡ z)
+some_session : (o : Option Session) (z : Size) → option_map session_size o ≡ Some z → (y : Session) × (o ≡ Some y) × (session_size y ≡ z)
 some_session None z h = absurd cc
-some_session (Some y) z h = let e : size_of y ≡ z = cc in (y, refl, e)
+some_session (Some y) z h = let e : session_size y ≡ z = cc in (y, refl, e)
 
 stays_by : (old new : World) (id : ℕ) → ((z : Size) → find_size id (sizes old) ≡ Some z → find_size id (sizes new) ≡ Some z) → Stays old new id
 unfolding Stays
 stays_by old new id h x found =
-    let was : find_size id (sizes old) ≡ Some (size_of x) = found_size id old ∙ ap (option_map size_of) found in
-    let y = some_session (find_session id new.sessions) (size_of x) (sym (found_size id new) ∙ h (size_of x) was) in
+    let was : find_size id (sizes old) ≡ Some (session_size x) = found_size id old ∙ ap (option_map session_size) found in
+    let y = some_session (find_session id new.sessions) (session_size x) (sym (found_size id new) ∙ h (session_size x) was) in
     (y.0, y.1)
 
 client_stays : (old new : World) (x : Client) → ((id : ℕ) → Stays old new id) → ClientStays old new x
@@ -88,9 +88,9 @@ client_stays old new (clients.Open id term) h = h id
 client_stays old new (clients.Ended cause) h = tt
 
 -- all sessions stay
-pub all_due : (old new : Serving) (xs : List Labelled) → AllTaken old → Painted old new → ((id : ℕ) → Stays old.world new.world id) → All (Shows old.world) xs → All (IsDue new) xs
+pub all_due : (old new : Serving) (xs : List Labelled) → AllTaken old → Painted old new → ((id : ℕ) → Stays old.world new.world id) → All (Shows old.world) xs → All (IsLineDue new) xs
 all_due old new xs taken painted stays h =
-    All-weaker (Shows old.world) (IsDue new) (λ x s. client_due old new x.client taken painted (client_stays old.world new.world x.client stays) s) xs h
+    All-weaker (Shows old.world) (IsLineDue new) (λ x s. client_due old new x.client taken painted (client_stays old.world new.world x.client stays) s) xs h
 
 pub stays_same : (old new : World) → sizes new ≡ sizes old → (id : ℕ) → Stays old new id
 stays_same old new same id = stays_by old new id (λ z h. ap (find_size id) same ∙ h)
@@ -122,7 +122,7 @@ stays_past old new gone id less other =
 
 -- QUEUES AND SIZES
 
-pub served_same : (old new : Serving) → queue_ids new ≡ queue_ids old → sizes new.world ≡ sizes old.world → IsServed old → IsServed new
+pub served_same : (old new : Serving) → queue_ids new ≡ queue_ids old → sizes new.world ≡ sizes old.world → IsPlayerServed old → IsPlayerServed new
 served_same old new ids same h = record {
   queues = ids ∙ h.queues ∙ ap (map size_id) (sym same);
   unique = subst AreUnique (sym ids) h.unique;
@@ -146,7 +146,7 @@ unique_pushed id (x ∷ xs) h u =
     ]
     in go (nat_eq x id) refl h
 
-pub served_more : (old new : Serving) (z : Size) → queue_ids new ≡ queue_ids old ++ z.id ∷ [] → sizes new.world ≡ sizes old.world ++ z ∷ [] → find_size z.id (sizes old.world) ≡ None → IsServed old → IsServed new
+pub served_more : (old new : Serving) (z : Size) → queue_ids new ≡ queue_ids old ++ z.id ∷ [] → sizes new.world ≡ sizes old.world ++ z ∷ [] → find_size z.id (sizes old.world) ≡ None → IsPlayerServed old → IsPlayerServed new
 unfolding is_id
 served_more old new z ids more fresh h =
     let free : find (is_id z.id) (queue_ids old) ≡ None =
@@ -180,7 +180,7 @@ unique_removed p (x ∷ xs) h =
       | false ↦ (All-removed (λ (y : ℕ). nat_eq y x ≡ false) p xs h.0, unique_removed p xs h.1)
     ]
 
-pub served_less : (old new : Serving) (id : ℕ) → queue_ids new ≡ remove_first (λ x. nat_eq x id) (queue_ids old) → sizes new.world ≡ remove_first (is_size_of id) (sizes old.world) → IsServed old → IsServed new
+pub served_less : (old new : Serving) (id : ℕ) → queue_ids new ≡ remove_first (λ x. nat_eq x id) (queue_ids old) → sizes new.world ≡ remove_first (is_size_of id) (sizes old.world) → IsPlayerServed old → IsPlayerServed new
 served_less old new id ids less h = record {
   queues = ids ∙ ap (remove_first (λ x. nat_eq x id)) h.queues ∙ sym (ids_removed id (sizes old.world)) ∙ ap (map size_id) (sym less);
   unique = subst AreUnique (sym ids) (unique_removed (λ x. nat_eq x id) (queue_ids old) h.unique);
@@ -250,7 +250,7 @@ fresh_one w id (clients.Open own term) fresh h =
     λ b. elim b as goal [
       | true ↦ λ e.
           let same : id ≡ own = eqb-true _ _ e in
-          let is : find_size own (sizes w) ≡ Some (size_of h.0) = found_size own w ∙ ap (option_map size_of) h.1 in
+          let is : find_size own (sizes w) ≡ Some (session_size h.0) = found_size own w ∙ ap (option_map session_size) h.1 in
           let none : find_size own (sizes w) ≡ None = ap (λ (n : ℕ). find_size n (sizes w)) (sym same) ∙ fresh in
           cc
       | false ↦ λ e. refl
@@ -286,15 +286,15 @@ apart_gone name cause (x ∷ xs) h = (
 
 -- AN END
 
-ended_due : (e : Serving) (name : List ℕ) (cause : Cause) (x : Labelled) → IsDue e x → IsDue e (ended_by name cause x)
+ended_due : (e : Serving) (name : List ℕ) (cause : Cause) (x : Labelled) → IsLineDue e x → IsLineDue e (ended_by name cause x)
 ended_due e name cause x h =
-    elim (same_name name x.label) as (λ b. IsDue e (cond b (record { label = x.label; client = clients.Ended cause }) x)) [ true ↦ tt | false ↦ h ]
+    elim (same_name name x.label) as (λ b. IsLineDue e (cond b (record { label = x.label; client = clients.Ended cause }) x)) [ true ↦ tt | false ↦ h ]
 
 -- a label ends where all sessions stayed
 pub waiting_ended : (e : Serving) (name : List ℕ) (cause : Cause) (xs : List Labelled) → IsWaiting e xs → IsWaiting e (map (ended_by name cause) xs)
 waiting_ended e name cause xs h = record {
   served = h.served;
-  due = All-map (IsDue e) (ended_by name cause) xs (All-weaker (IsDue e) (λ x. IsDue e (ended_by name cause x)) (ended_due e name cause) xs h.due);
+  due = All-map (IsLineDue e) (ended_by name cause) xs (All-weaker (IsLineDue e) (λ x. IsLineDue e (ended_by name cause x)) (ended_due e name cause) xs h.due);
   apart = subst AreApart (sym (labels_gone name cause xs)) (apart_gone name cause (labels_in xs) h.apart);
 }
 
@@ -360,10 +360,10 @@ closed_client old new id clients.Never less h = tt
 closed_client old new id (clients.Open own term) less h = stays_past old new id own less h
 closed_client old new id (clients.Ended cause) less h = tt
 
-closed_one : (old new : Serving) (name : List ℕ) (id : ℕ) (cause : Cause) (x : Labelled) → AllTaken old → Painted old new → sizes new.world ≡ remove_first (is_size_of id) (sizes old.world) → OnlyBy name id x → Shows old.world x → IsDue new (ended_by name cause x)
+closed_one : (old new : Serving) (name : List ℕ) (id : ℕ) (cause : Cause) (x : Labelled) → AllTaken old → Painted old new → sizes new.world ≡ remove_first (is_size_of id) (sizes old.world) → OnlyBy name id x → Shows old.world x → IsLineDue new (ended_by name cause x)
 unfolding OnlyBy
 closed_one old new name id cause x taken painted less only h =
-    let goal : Bool → Type 0 = λ b. is_labelled name x ≡ b → IsDue new (cond b (record { label = x.label; client = clients.Ended cause }) x) in
+    let goal : Bool → Type 0 = λ b. is_labelled name x ≡ b → IsLineDue new (cond b (record { label = x.label; client = clients.Ended cause }) x) in
     let go : (b : Bool) → goal b =
     λ b. elim b as goal [
       | true ↦ λ e. tt
@@ -384,8 +384,8 @@ waiting_closed old new name id term cause xs ready client ids less painted =
     let only = only_by name id xs z.0 z.1 (ap standing_in z.2) ready.apart in
     record {
       served = served_less old new id ids less ready.served;
-      due = All-map (IsDue new) (ended_by name cause) xs
-          (both (OnlyBy name id) (Shows old.world) (λ x. IsDue new (ended_by name cause x)) (λ x o s. closed_one old new name id cause x ready.taken painted less o s) xs only ready.shows);
+      due = All-map (IsLineDue new) (ended_by name cause) xs
+          (both (OnlyBy name id) (Shows old.world) (λ x. IsLineDue new (ended_by name cause x)) (λ x o s. closed_one old new name id cause x ready.taken painted less o s) xs only ready.shows);
       apart = subst AreApart (sym (labels_gone name cause xs)) (apart_gone name cause (labels_in xs) ready.apart);
     }
 
@@ -401,7 +401,7 @@ waiting_same old new xs ready ids same painted = record {
 -- AN OPEN
 
 blank_is : (rows cols : ℕ) → IsSize rows cols → IsScreen (blank_screen rows cols)
-blank_is rows cols h = record { size = h; covered = length-replicate (rows * cols) blank; row_in = omega (arith, h.some_rows); col_in = omega (arith, h.some_cols) }
+blank_is rows cols h = record { size = h; covered = length-replicate (rows * cols) blank_cell; row_in = omega (arith, h.some_rows); col_in = omega (arith, h.some_cols) }
 
 screen_rows : (w : World) (y : Session) → (screen w y).rows ≡ y.rows
 unfolding draw
@@ -421,8 +421,8 @@ opened_due : (new : Serving) (zs : List Size) (id rows cols : ℕ) (y : Session)
     → find_session id new.world.sessions ≡ Some y → Paints (screen new.world y) (pending_of id new) → ClientDue new (clients.Open id (resting (blank_screen rows cols)))
 opened_due new zs id rows cols y size more fresh found paints =
     let z : Size = record { id = id; rows = rows; cols = cols } in
-    let is : Some (size_of y) ≡ Some z = ap (option_map size_of) (sym found) ∙ sym (found_size id new.world) ∙ ap (find_size id) more ∙ known_last zs z fresh in
-    let same : size_of y ≡ z = cc in
+    let is : Some (session_size y) ≡ Some z = ap (option_map session_size) (sym found) ∙ sym (found_size id new.world) ∙ ap (find_size id) more ∙ known_last zs z fresh in
+    let same : session_size y ≡ z = cc in
     let rows_are : y.rows ≡ rows = ap (λ (s : Size). s.rows) same in
     let cols_are : y.cols ≡ cols = ap (λ (s : Size). s.cols) same in (
       y,
@@ -443,9 +443,9 @@ waiting_opened old new xs name id rows cols y ready size ids more fresh painted 
     let last : Labelled = record { label = name; client = clients.Open id (resting (blank_screen rows cols)) } in
     record {
       served = served_more old new z ids more fresh ready.served;
-      due = All-append (IsDue new) xs (last ∷ [])
+      due = All-append (IsLineDue new) xs (last ∷ [])
           (all_due old new xs ready.taken painted (stays_more old.world new.world z more) ready.shows)
-          (All-cons (IsDue new) last [] (opened_due new (sizes old.world) id rows cols y size more fresh found paints) (All-nil (IsDue new)));
+          (All-cons (IsLineDue new) last [] (opened_due new (sizes old.world) id rows cols y size more fresh found paints) (All-nil (IsLineDue new)));
       apart = apart_open old.world xs name id (resting (blank_screen rows cols)) fresh ready.shows ready.apart;
     }
 

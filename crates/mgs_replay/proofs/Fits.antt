@@ -11,12 +11,12 @@ use Rattle.mgs_model.specs.Names.{same_name, is_name, is_user_name}
 use Rattle.mgs_model.specs.World.{World, Buffer, is_named, find_buffer}
 use Rattle.mgs_model.specs.declared.entry.Entry.{Entry}
 use Rattle.mgs_buffers.specs.MarkedBuffer.{marked_named, has_buffer}
-use Rattle.mgs_buffers.specs.Adding.{add_fault, Answers}
+use Rattle.mgs_buffers.specs.Adding.{add_fault, AddAnswers}
 use Rattle.mgs_buffers.specs.declared.fault.AddFault.{AddFault}
 use Rattle.mgs_buffers.specs.declared.fault.AddFault.TheVariants as adds
 use Rattle.mgs_replay.specs.declared.setup.Draft.{Draft}
 use Rattle.mgs_replay.specs.Settings.{are_names, is_user, unmarked, buffer_refused, entry_refused, text_refused, with_entry, with_text, empty_buffer}
-use Rattle.mgs_replay.specs.Setups.{cannot_add, Changes, marked_of, buffer_of, buffers_in, buffer_name, IsFit, AreNew, AreFit, OnlyShort}
+use Rattle.mgs_replay.specs.Setups.{cannot_add, Changes, drafted_buffer, buffer_of, buffers_in, buffer_name, IsFit, AreNew, AreFit, OnlyShort}
 use Rattle.mgs_script.specs.declared.line.LineFault.{LineFault}
 use Rattle.mgs_script.specs.declared.line.LineFault.TheVariants.{Bad, Short}
 
@@ -166,7 +166,7 @@ none_fit = record { each = All-nil IsFit; few = omega arith; new = tt }
 
 -- NO FAULT IS LEFT
 
-no_earlier : (ds : List Draft) (i : ℕ) (d : Draft) → i < length ds → AreNew (map buffer_name (buffers_in ds)) → find (marked_named (get_or ds i d).name.now) (map marked_of (take i ds)) ≡ None
+no_earlier : (ds : List Draft) (i : ℕ) (d : Draft) → i < length ds → AreNew (map buffer_name (buffers_in ds)) → find (marked_named (get_or ds i d).name.now) (map drafted_buffer (take i ds)) ≡ None
 no_earlier [] i d l h = absurd (omega arith)
 no_earlier (x ∷ xs) zero d l h = refl
 no_earlier (x ∷ xs) (suc i) d l h =
@@ -175,27 +175,27 @@ no_earlier (x ∷ xs) (suc i) d l h =
     let at : get_or others i d.name.now ≡ n = get_or-map buffer_name (buffers_in xs) i (buffer_of d) ∙ ap buffer_name (get_or-map buffer_of xs i d) in
     let within : i < length others = omega (arith, length-map (buffers_in xs) buffer_name, length-map xs buffer_of) in
     let e : same_name n x.name.now ≡ false = subst (λ (m : List ℕ). same_name m x.name.now ≡ false) at (All-get_or (λ (m : List ℕ). same_name m x.name.now ≡ false) others i d.name.now within h.0) in
-    ap (λ b. cond b (Some (marked_of x)) (find (marked_named n) (map marked_of (take i xs)))) e ∙ no_earlier xs i d (omega arith) h.1
+    ap (λ b. cond b (Some (drafted_buffer x)) (find (marked_named n) (map drafted_buffer (take i xs)))) e ∙ no_earlier xs i d (omega arith) h.1
 
 fault_none : (a b c d : Bool) → a ≡ true → b ≡ false → c ≡ false → d ≡ false → fault_by a b c d ≡ None
 unfolding fault_by
 fault_none a b c d ea eb ec ed =
     ap (λ x. fault_by x b c d) ea ∙ ap (λ x. fault_by true x c d) eb ∙ ap (λ x. fault_by true false x d) ec ∙ ap (λ x. fault_by true false false x) ed
 
-pub no_fault : (ds : List Draft) (i : ℕ) (d : Draft) → i < length ds → AreFit (buffers_in ds) → add_fault (get_or ds i d).name.now (get_or ds i d).owner.now (length (get_or ds i d).text.items) (map marked_of (take i ds)) ≡ None
+pub no_fault : (ds : List Draft) (i : ℕ) (d : Draft) → i < length ds → AreFit (buffers_in ds) → add_fault (get_or ds i d).name.now (get_or ds i d).owner.now (length (get_or ds i d).text.items) (map drafted_buffer (take i ds)) ≡ None
 unfolding fault_by
 no_fault ds i d l h =
     let x : Draft = get_or ds i d in
     let fit : IsFit (buffer_of x) = subst IsFit (get_or-map buffer_of ds i d) (All-get_or IsFit (buffers_in ds) i (buffer_of d) (omega (arith, length-map ds buffer_of)) h.each) in
-    let long : length (map marked_of (take i ds)) ≡ i = length-map (take i ds) marked_of ∙ length-take-le i ds (omega arith) in
+    let long : length (map drafted_buffer (take i ds)) ≡ i = length-map (take i ds) drafted_buffer ∙ length-take-le i ds (omega arith) in
     let few : length ds ≤ 256 = omega (arith, h.few, length-map ds buffer_of) in
-    let room : nat_le 256 (length (map marked_of (take i ds))) ≡ false = grind (arith, nat_tests) in
+    let room : nat_le 256 (length (map drafted_buffer (take i ds))) ≡ false = grind (arith, nat_tests) in
     let size : length x.text.items ≤ 1048576 = fit.short in
     let fits : nat_lt 1048576 (length x.text.items) ≡ false = grind (arith, nat_tests) in
-    fault_none (is_name x.name.now && is_user_name x.owner.now) (has_buffer x.name.now (map marked_of (take i ds))) (nat_le 256 (length (map marked_of (take i ds)))) (nat_lt 1048576 (length x.text.items))
+    fault_none (is_name x.name.now && is_user_name x.owner.now) (has_buffer x.name.now (map drafted_buffer (take i ds))) (nat_le 256 (length (map drafted_buffer (take i ds)))) (nat_lt 1048576 (length x.text.items))
     fit.named (ap is_some (no_earlier ds i d l h.new)) room fits
 
-pub only_short : (A : Type 0) (f : AddFault) (due : Option AddFault) → Answers (Err f) due → due ≡ None → OnlyShort {A = A} (Err f)
+pub only_short : (A : Type 0) (f : AddFault) (due : Option AddFault) → AddAnswers (Err f) due → due ≡ None → OnlyShort {A = A} (Err f)
 only_short A adds.Name due h none = let e : None ≡ Some adds.Name = sym none ∙ h in absurd cc
 only_short A adds.Twice due h none = let e : None ≡ Some adds.Twice = sym none ∙ h in absurd cc
 only_short A adds.Full due h none = let e : None ≡ Some adds.Full = sym none ∙ h in absurd cc

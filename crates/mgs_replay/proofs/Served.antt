@@ -8,19 +8,19 @@ use Rattle.std.proofs.lemmas.List.Elements.{All-nil, All-cons, All-head, All-tai
 use Rattle.mgs_model.proofs.Firsts.{find-map}
 use Rattle.mgs_model.specs.World.{World, Session, has_id, find_session}
 use Rattle.mgs_model.specs.Draw.{screen}
-use Rattle.mgs_world.specs.Worlds.{sizes, size_of, is_size_of, find_size}
+use Rattle.mgs_world.specs.Worlds.{sizes, session_size, is_size_of, find_size}
 use Rattle.mgs_term.specs.Screen.{Screen}
 use Rattle.mgs_term.specs.Terminal.{Terminal, resting}
 use Rattle.mgs_term.specs.Drawing.{Draws, Anything}
 use Rattle.mgs_paint.specs.Painting.{shown}
 use Rattle.mgs_engine.specs.Serving.{Serving, AllTaken, queue_ids}
-use Rattle.mgs_engine.specs.Queues.{Queue, Handed, queue_id, bytes_of, find_queue, is_queue_of, emptied}
+use Rattle.mgs_engine.specs.Queues.{Queue, Handed, queue_id, waiting_in, find_queue, is_queue_of, emptied}
 use Rattle.mgs_replay.specs.declared.client.Labelled.{Labelled}
 use Rattle.mgs_replay.specs.declared.client.Cause.{Cause}
 use Rattle.mgs_replay.specs.declared.client.Client.{Client}
 use Rattle.mgs_replay.specs.declared.client.Client.TheVariants.{Never, Open, Ended}
 use Rattle.mgs_replay.specs.Clients.{Fed, ClientFed, OwnFed, TermFed, TakenBy}
-use Rattle.mgs_replay.specs.Served.{standing_in, label_of, labels_in, ClientShows, Shows, ClientDue, IsDue, AreOthers, AreUnique, size_id, IsServed, IsReady, IsWaiting, AreApart}
+use Rattle.mgs_replay.specs.Served.{standing_in, label_of, labels_in, ClientShows, Shows, ClientDue, IsLineDue, AreOthers, AreUnique, size_id, IsPlayerServed, IsReady, IsWaiting, AreApart}
 
 -- LISTS PLACE BY PLACE
 
@@ -125,8 +125,8 @@ fed_open (p ∷ qs) own term s t q x z unique found is rests draws h =
 
 -- THE QUEUE OF AN OPEN SESSION
 
-pub found_size : (id : ℕ) (w : World) → find_size id (sizes w) ≡ option_map size_of (find_session id w.sessions)
-found_size id w = find-map size_of (has_id id) (is_size_of id) (λ x. refl) w.sessions
+pub found_size : (id : ℕ) (w : World) → find_size id (sizes w) ≡ option_map session_size (find_session id w.sessions)
+found_size id w = find-map session_size (has_id id) (is_size_of id) (λ x. refl) w.sessions
 
 is_id : ℕ → ℕ → Bool
 is_id id x = nat_eq x id
@@ -135,13 +135,13 @@ some_queue : (o : Option Queue) (k : ℕ) → option_map queue_id o ≡ Some k �
 some_queue None k h = absurd cc
 some_queue (Some q) k h = (q, refl)
 
-queue_there : (e : Serving) (id : ℕ) (x : Session) → IsServed e → find_session id e.world.sessions ≡ Some x → (q : Queue) × (find_queue id e.queues ≡ Some q)
+queue_there : (e : Serving) (id : ℕ) (x : Session) → IsPlayerServed e → find_session id e.world.sessions ≡ Some x → (q : Queue) × (find_queue id e.queues ≡ Some q)
 unfolding is_id
 queue_there e id x served found =
     let by_queues : find (is_id id) (queue_ids e) ≡ option_map queue_id (find_queue id e.queues) = find-map queue_id (is_queue_of id) (is_id id) (λ q. refl) e.queues in
     let by_sizes : find (is_id id) (map size_id (sizes e.world)) ≡ option_map size_id (find_size id (sizes e.world)) = find-map size_id (is_size_of id) (is_id id) (λ z. refl) (sizes e.world) in
     some_queue (find_queue id e.queues) x.id
-    (sym by_queues ∙ ap (find (is_id id)) served.queues ∙ by_sizes ∙ ap (option_map size_id) (found_size id e.world ∙ ap (option_map size_of) found))
+    (sym by_queues ∙ ap (find (is_id id)) served.queues ∙ by_sizes ∙ ap (option_map size_id) (found_size id e.world ∙ ap (option_map session_size) found))
 
 -- HANDED OVER
 
@@ -155,11 +155,11 @@ unfolding FedBy
 ended_stays [] cause x z is h = ap (λ (y : Labelled). y.client) h ∙ is
 ended_stays (q ∷ qs) cause x z is h = ended_stays qs cause h.0 z (subst (λ (s : Client). ClientFed q.id q.bytes s h.0.client) is h.1.client) h.2
 
-shows_one : (e : Serving) (x z : Labelled) (client : Client) → IsServed e → x.client ≡ client → FedBy e.queues x z → ClientDue e client → Shows e.world z
+shows_one : (e : Serving) (x z : Labelled) (client : Client) → IsPlayerServed e → x.client ≡ client → FedBy e.queues x z → ClientDue e client → Shows e.world z
 shows_one e x z Never served is h due = subst (ClientShows e.world) (sym (never_stays e.queues x z is h)) tt
 shows_one e x z (Open id term) served is h due =
     let there = queue_there e id due.0 served due.2 in
-    let now : Draws Anything there.0.bytes due.1 (shown (screen e.world due.0)) = subst (λ (o : Option Queue). Draws Anything (bytes_of o) due.1 (shown (screen e.world due.0))) there.1 due.4 in
+    let now : Draws Anything there.0.bytes due.1 (shown (screen e.world due.0)) = subst (λ (o : Option Queue). Draws Anything (waiting_in o) due.1 (shown (screen e.world due.0))) there.1 due.4 in
     let end : z.client ≡ Open id (resting (shown (screen e.world due.0))) = fed_open e.queues id term due.1 (shown (screen e.world due.0)) there.0 x z served.unique there.1 is due.3 now h in
     subst (ClientShows e.world) (sym end) (due.0, due.2, refl)
 shows_one e x z (Ended cause) served is h due =
@@ -180,7 +180,7 @@ ready old new xs zs waiting is taken h =
     let world : new.world ≡ old.world = ap (λ (e : Serving). e.world) is in
     let ids : queue_ids new ≡ queue_ids old = ap (λ (e : Serving). map queue_id e.queues) is ∙ emptied_ids old.queues in
     let shows : All (Shows old.world) zs =
-    zip_each (FedBy old.queues) (IsDue old) (Shows old.world) (λ x z f due. shows_one old x z x.client waiting.served refl f due) xs zs (handed_each old.queues xs zs h) waiting.due in
+    zip_each (FedBy old.queues) (IsLineDue old) (Shows old.world) (λ x z f due. shows_one old x z x.client waiting.served refl f due) xs zs (handed_each old.queues xs zs h) waiting.due in
     record {
       served = record { queues = ids ∙ waiting.served.queues ∙ ap (λ (w : World). map size_id (sizes w)) (sym world); unique = subst AreUnique (sym ids) waiting.served.unique };
       taken = taken;

@@ -3,7 +3,7 @@ use Rattle.std.proofs.Common.{◌≡◌, true, false, List, [], ◌∷◌, map, 
 use Rattle.std.specs.Prelude.{IfOk}
 use Rattle.mgs_model.specs.World.{World, Session}
 use Rattle.mgs_world.specs.declared.size.Size.{Size}
-use Rattle.mgs_world.specs.Worlds.{size_of, sizes}
+use Rattle.mgs_world.specs.Worlds.{session_size, sizes}
 use Rattle.mgs_engine.specs.Serving.{Serving, queue_ids}
 use Rattle.mgs_engine.specs.Queues.{Queue, queue_id}
 use Rattle.mgs_script.specs.Lines.{Said}
@@ -32,5 +32,5 @@ empty (q ∷ qs) h = absurd cc
 
 -- no session is open, so nothing waits
 pub no_queues : {F : Type 0} (r : Result Serving F) (core : World) → IfOk r (λ e. queue_ids e ≡ map (λ (z : Size). z.id) (sizes core)) → core.sessions ≡ [] → IfOk r (λ e. e.queues ≡ [])
-no_queues (Ok e) core h none = empty e.queues (h ∙ ap (λ (xs : List Session). map (λ (z : Size). z.id) (map size_of xs)) none)
+no_queues (Ok e) core h none = empty e.queues (h ∙ ap (λ (xs : List Session). map (λ (z : Size). z.id) (map session_size xs)) none)
 no_queues (Err f) core h none = tt

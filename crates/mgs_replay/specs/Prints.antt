@@ -19,13 +19,13 @@ abbrev pub refusal_text : List ℕ → OpenFault → List ℕ
 refusal_text label fault = codes "refused " ++ label ++ 32 ∷ fault_text fault ++ 10 ∷ []
 
 -- how a session ended
-abbrev pub cause_text : Cause → List ℕ
-cause_text Quit = codes "Quit"
-cause_text Closed = codes "Closed"
+abbrev pub ended_by_text : Cause → List ℕ
+ended_by_text Quit = codes "Quit"
+ended_by_text Closed = codes "Closed"
 
 -- the line of a session that ended
 abbrev pub ended_text : List ℕ → Cause → List ℕ
-ended_text label cause = codes "ended " ++ label ++ 32 ∷ cause_text cause ++ 10 ∷ []
+ended_text label cause = codes "ended " ++ label ++ 32 ∷ ended_by_text cause ++ 10 ∷ []
 
 -- `!` where the row's first cell is reversed, and `|` elsewhere
 abbrev pub edge_of : List Cell → ℕ

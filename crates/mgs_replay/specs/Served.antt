@@ -20,7 +20,7 @@ use Rattle.mgs_script.specs.declared.line.LineFault.{LineFault}
 use Rattle.mgs_script.specs.declared.line.LineFault.TheVariants as lines
 use Rattle.mgs_script.specs.Lines.{Said}
 use Rattle.mgs_replay.specs.Clients.{ended_by}
-use Rattle.mgs_replay.specs.Players.{Label, label, Standing, Never, Has, Gone, Player, begun, standing_of, session_now, is_refused, Does, LineDoes, LineRefused}
+use Rattle.mgs_replay.specs.Players.{Label, label, Standing, Never, Has, Gone, Player, first_player, standing_of, session_now, is_refused, Does, LineDoes, LineRefused}
 
 -- how a label stands, by its client
 abbrev pub standing_in : Client → Standing
@@ -50,8 +50,8 @@ ClientDue e (clients.Open id term) =
     (x : Session) × (s : Screen) × (find_session id e.world.sessions ≡ Some x) × (term ≡ resting s) × Draws Anything (pending_of id e) s (shown (screen e.world x))
 ClientDue e (clients.Ended cause) = Unit {0}
 
-abbrev pub IsDue : Serving → Labelled → Type 0
-IsDue e x = ClientDue e x.client
+abbrev pub IsLineDue : Serving → Labelled → Type 0
+IsLineDue e x = ClientDue e x.client
 
 -- two labels have not the same open session
 abbrev pub Differ : Standing → Standing → Type 0
@@ -80,21 +80,21 @@ abbrev pub size_id : Size → ℕ
 size_id z = z.id
 
 -- there is one queue for each open session
-pub record IsServed (e : Serving) : Type 0 where
+pub record IsPlayerServed (e : Serving) : Type 0 where
   pub queues : queue_ids e ≡ map size_id (sizes e.world)
   pub unique : AreUnique (queue_ids e)
 
 -- between two events
 pub record IsReady (e : Serving) (xs : List Labelled) : Type 0 where
-  pub served : IsServed e
+  pub served : IsPlayerServed e
   pub taken : AllTaken e
   pub shows : All (Shows e.world) xs
   pub apart : AreApart (labels_in xs)
 
 -- after an event, before its bytes are handed over
 pub record IsWaiting (e : Serving) (xs : List Labelled) : Type 0 where
-  pub served : IsServed e
-  pub due : All (IsDue e) xs
+  pub served : IsPlayerServed e
+  pub due : All (IsLineDue e) xs
   pub apart : AreApart (labels_in xs)
 
 -- the open session of a label
@@ -103,7 +103,7 @@ session_in name xs = session_now (standing_of name (labels_in xs))
 
 -- the player from the first open on
 abbrev pub player_of : Serving → List Labelled → Player
-player_of e xs = begun e.world (labels_in xs)
+player_of e xs = first_player e.world (labels_in xs)
 
 -- the labels' clients after a byte of one of them
 abbrev pub clients_keyed : Keyed → List ℕ → List Labelled → List Labelled

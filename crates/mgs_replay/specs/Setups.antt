@@ -29,11 +29,11 @@ Lengthened (Err Bad) old new cs = (1048576 < length old + length cs) × (new ≡
 Lengthened (Err Short) old new cs = (length old + length cs ≤ 1048576) × (new ≡ old)
 
 -- what is kept of a buffer that was written down
-abbrev pub marked_of : Draft → MarkedBuffer
-marked_of d = marked_new d.name.now d.owner.now d.list d.text.items false
+abbrev pub drafted_buffer : Draft → MarkedBuffer
+drafted_buffer d = marked_new d.name.now d.owner.now d.list d.text.items false
 
 abbrev pub buffer_of : Draft → Buffer
-buffer_of d = (marked_of d).buffer
+buffer_of d = (drafted_buffer d).buffer
 
 abbrev pub buffers_in : List Draft → List Buffer
 buffers_in ds = map buffer_of ds
@@ -42,8 +42,8 @@ abbrev pub is_drafted : List ℕ → Draft → Bool
 is_drafted name d = is_named name (buffer_of d)
 
 -- the world of a directory and buffers, without sessions
-abbrev pub world_of : Directory → List Buffer → World
-world_of directory buffers = record { directory = directory; buffers = buffers; sessions = []; next_id = 1 }
+abbrev pub setup_world : Directory → List Buffer → World
+setup_world directory buffers = record { directory = directory; buffers = buffers; sessions = []; next_id = 1 }
 
 -- the buffer of that name is changed; where the line is refused, or memory is, all is as it was; out of memory comes only where the line is not refused
 abbrev pub Changes : Result (Unit {0}) LineFault → Bool → List ℕ → (Buffer → Buffer) → List Buffer → List Buffer → Type 0

@@ -4,7 +4,7 @@ ghost use Rattle.mgs_model.specs.Picture.{IsSize};
 ghost use Rattle.mgs_term.specs.Screen.{blank_screen};
 ghost use Rattle.mgs_term.specs.Terminal.{resting};
 ghost use Rattle.mgs_replay.specs.declared.client.Client.TheVariants as client_states;
-ghost use Rattle.mgs_script.specs.Lines.{view, Open, Keys, Close, said_in};
+ghost use Rattle.mgs_script.specs.Lines.{line_view, Open, Keys, Close, said_in};
 ghost use Rattle.mgs_replay.specs.Prints.{refusal_text};
 ghost use Rattle.mgs_replay.specs.Clients.{client_of, shown_text};
 ghost use Rattle.mgs_replay.specs.Players.{label as called, Has, standing_of, had_session, TypesOne, Types, Closes};
@@ -243,7 +243,7 @@ fn run_line(
 ) -> Result<(), LineFault>
     requires { IsReady server.old clients.old }
     ensures ready { OnOk result (IsReady server.new clients.new) }
-    ensures runs { Runs result (player_of server.old clients.old) (view line.now) (player_of server.new clients.new) out.old.items out.new.items }
+    ensures runs { Runs result (player_of server.old clients.old) (line_view line.now) (player_of server.new clients.new) out.old.items out.new.items }
 {
     match line {
         Line::Nothing => Ok(()),

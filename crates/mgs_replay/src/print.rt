@@ -1,7 +1,7 @@
 // Prints the screens of sessions, refused opens and ended sessions.
 ghost use Rattle.std.specs.Prelude.{◌≡◌, ◌++◌, ◌∷◌, [], All, OnOk, codes, decimal};
 ghost use Rattle.mgs_term.specs.Screen.{IsPrintableCell};
-ghost use Rattle.mgs_replay.specs.Prints.{edge_of, characters, row_text, rows_text, screen_text, refusal_text, ended_text, fault_text, cause_text};
+ghost use Rattle.mgs_replay.specs.Prints.{edge_of, characters, row_text, rows_text, screen_text, refusal_text, ended_text, fault_text, ended_by_text};
 
 use crate::client::Cause;
 use mgs_model::{Name, OpenFault};
@@ -49,7 +49,7 @@ pub(crate) fn print_refusal(
 }
 
 fn cause_name(cause: Cause) -> &'static [u8]
-    ensures { result.now ≡ cause_text cause }
+    ensures { result.now ≡ ended_by_text cause }
 {
     match cause {
         Cause::Quit => b"Quit",

@@ -2,10 +2,10 @@
 ghost use Rattle.std.specs.Prelude.{◌≡◌, ◌<◌, IfOk, IfSome, [], length, map, position, is_some};
 ghost use Rattle.mgs_acl.specs.Spelling.{entry_in};
 ghost use Rattle.mgs_model.specs.World.{find_buffer};
-ghost use Rattle.mgs_script.specs.Lines.{view, User, Group, Buffer};
+ghost use Rattle.mgs_script.specs.Lines.{line_view, User, Group, Buffer};
 ghost use Rattle.mgs_replay.specs.SetupFaults.{fault_in};
 ghost use Rattle.mgs_replay.specs.Settings.{first_world, are_names, buffer_refused};
-ghost use Rattle.mgs_replay.specs.Setups.{cannot_add, Listed, Lengthened, PutsEntry, PutsText, Sets, marked_of, buffers_in, is_drafted, AreFit, OnlyShort};
+ghost use Rattle.mgs_replay.specs.Setups.{cannot_add, Listed, Lengthened, PutsEntry, PutsText, Sets, drafted_buffer, buffers_in, is_drafted, AreFit, OnlyShort};
 
 use mgs_acl::{List, read_entry, user_named};
 use mgs_buffers::{AddFault, Buffers};
@@ -41,7 +41,7 @@ impl<'a> Model for Setup<'a> {
 
     ghost use Rattle.mgs_replay.specs.Setups.{world_of, buffers_in, AreFit};
 
-    ghost view = { λ s. world_of s.directory (buffers_in s.drafts.items) };
+    ghost line_view = { λ s. world_of s.directory (buffers_in s.drafts.items) };
 
     ghost invariant = { λ s. AreFit (buffers_in s.drafts.items) };
 }
@@ -117,7 +117,7 @@ fn text_line(drafts: &mut [Draft], name: &Name, text: &[char]) -> Result<(), Lin
 // Every fault but out of memory was checked at its line.
 fn add_all(alloc: Global, drafts: &[Draft]) -> Result<Buffers<PlainMarked>, AddFault>
     requires { AreFit (buffers_in drafts.now) }
-    ensures kept { IfOk result (λ b. b ≡ map marked_of drafts.now) }
+    ensures kept { IfOk result (λ b. b ≡ map drafted_buffer drafts.now) }
     ensures fault { OnlyShort result }
 {
     let mut buffers = Buffers::new(alloc);
@@ -133,7 +133,7 @@ fn add_all(alloc: Global, drafts: &[Draft]) -> Result<Buffers<PlainMarked>, AddF
 
 fn buffers_of(alloc: Global, drafts: &[Draft]) -> Result<Buffers<PlainMarked>, Short>
     requires { AreFit (buffers_in drafts.now) }
-    ensures { IfOk result (λ b. b ≡ map marked_of drafts.now) }
+    ensures { IfOk result (λ b. b ≡ map drafted_buffer drafts.now) }
 {
     match add_all(alloc, drafts) {
         Ok(buffers) => Ok(buffers),
@@ -224,7 +224,7 @@ impl<'a> Setup<'a> {
     /// Runs a line that stands before the first `open`. `Bad`: it is refused, or it is a line of sessions, of which none
     /// is open yet. `Short` is out of memory, which comes only where the line is not refused. Both leave all as it was.
     pub(crate) fn run(&mut self, line: Line<'a>) -> Result<(), LineFault>
-        ensures { Sets result (view line.entry) self.old self.new }
+        ensures { Sets result (line_view line.entry) self.old self.new }
     {
         match line {
             Line::Nothing => Ok(()),

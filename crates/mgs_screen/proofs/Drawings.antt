@@ -14,7 +14,7 @@ use Rattle.mgs_model.specs.Lines.{line_of, line_start, column}
 use Rattle.mgs_model.specs.Rows.{Row, rows_put, mode_row, buffer_mode, none_mode, blank_rows, unread_rows, text_rows, shift_at, shift_for, echo_row}
 use Rattle.mgs_model.specs.Picture.{Picture}
 use Rattle.mgs_model.specs.World.{Buffer, Buffer_of, may}
-use Rattle.mgs_model.specs.View.{BufferSeen, WindowSeen, buffer_seen, reads, reads_found, window_seen, all_window_marks_if, told_if, full_if, text_in}
+use Rattle.mgs_model.specs.View.{BufferSeen, WindowSeen, buffer_seen, reads, reads_found, window_seen, positions_if, told_if, full_if, text_in}
 use Rattle.mgs_model.specs.Seen.{Shown, shown_of, text_seen, attributes_seen}
 use Rattle.mgs_model.specs.Draw.{draw, screen, find_shown, found_rows, buffer_rows, pane_rows, place_of, point_row, point_shift, found_cursor, text_cursor, window_rows, windows_rows, window_cursor, first_row, heading_of}
 use Rattle.mgs_model.specs.declared.right.Right.{Right}
@@ -141,7 +141,7 @@ reads_kept d user ks name kept = ap (reads_found d user) (found_buffer name ks k
 
 -- a window that shows a buffer, where it may be read or not
 abbrev window_marks_seen : Bool → List MarkedBuffer → ℕ → WindowMarks → WindowSeen
-window_marks_seen can ks height x = record { shows = Buffer_of x.name; row = 0; height = height; all_window_marks = all_window_marks_if can (mark_at x.name ks x.point) (option_map (mark_at x.name ks) x.mark) (mark_at x.name ks x.top) }
+window_marks_seen can ks height x = record { shows = Buffer_of x.name; row = 0; height = height; positions = positions_if can (mark_at x.name ks x.point) (option_map (mark_at x.name ks) x.mark) (mark_at x.name ks x.top) }
 
 -- what is made of a window and of the buffer that it finds
 seen_as : {X : Type 0} (make : WindowSeen → Option Shown → X) (d : Directory) (user : List ℕ) (ks : List MarkedBuffer) (height : ℕ) (x : WindowMarks) → HasBuffer x.name ks

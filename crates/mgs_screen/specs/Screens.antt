@@ -14,9 +14,9 @@ use Rattle.mgs_windows.specs.declared.Window.{Window}
 use Rattle.mgs_world.specs.Worlds.{buffers_of, window_of}
 
 -- the column from which the point's line is shown
-abbrev pub point_shift : Bool → ℕ → ℕ → ℕ
-point_shift true cols column = shift_for cols column
-point_shift false cols column = 0
+abbrev pub screen_shift : Bool → ℕ → ℕ → ℕ
+screen_shift true cols column = shift_for cols column
+screen_shift false cols column = 0
 
 -- the buffers as a user sees them
 abbrev pub shown_to : Directory → List ℕ → List MarkedBuffer → List Shown

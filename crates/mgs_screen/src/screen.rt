@@ -5,7 +5,7 @@ ghost use Rattle.mgs_model.specs.Rows.{rows_put, shift_for};
 ghost use Rattle.mgs_session.specs.declared.Session.{Session};
 ghost use Rattle.mgs_world.specs.Worlds.{world_of, session_of};
 ghost use Rattle.mgs_buffers.specs.MarkedBuffer.{HasBuffer, IsMark};
-ghost use Rattle.mgs_screen.specs.Screens.{point_shift, shown_to, window_to, heading_to, window_marks_rows, window_marks_cursor};
+ghost use Rattle.mgs_screen.specs.Screens.{screen_shift, shown_to, window_to, heading_to, window_marks_rows, window_marks_cursor};
 ghost use Rattle.mgs_world.specs.Sound.{IsSessionSound, IsWindowSound};
 
 use mgs_buffers::Buffers;
@@ -45,7 +45,7 @@ fn heading<T: Marked + Drop>(
 /// From which column the point's line is shown, and where the cursor then is. Only the selected window is shifted.
 fn shifted(cols: usize, column: usize, selected: bool) -> (usize, usize)
     requires cols { 20 ≤ cols }
-    ensures shift { result.0 ≡ point_shift selected cols column }
+    ensures shift { result.0 ≡ screen_shift selected cols column }
     ensures few { result.0 ≤ column }
     ensures col { result.1 < cols }
     ensures cursor { selected ≡ true → result.1 ≡ column - shift_for cols column }

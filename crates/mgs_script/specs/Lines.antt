@@ -2,9 +2,9 @@
 use Rattle.std.specs.Prelude.{◌≡◌, ℕ, ◌==◌, Bool, ◌||◌, List, length, map, codes, slice_index, Option, Some, None, IsSome, Result, Ok, Err, if◌then◌else◌}
 use Rattle.std.specs.Option.{option_map}
 use Rattle.std.specs.Str.{bytes_eq, is_utf8}
-use Rattle.mgs_keys.specs.Words.{word_of, rest_of, words_of}
+use Rattle.mgs_keys.specs.Words.{word_of, words_after, words_of}
 use Rattle.mgs_keys.specs.Tokens.{keys_of}
-use Rattle.mgs_script.specs.Words.{◌>>=◌, name_of, any_word_of, text_of, size_of}
+use Rattle.mgs_script.specs.Words.{◌>>=◌, name_of, any_word_of, text_of, size_said}
 use Rattle.mgs_script.specs.declared.line.Line.{Line}
 use Rattle.mgs_script.specs.declared.line.Line.TheVariants as code
 use Rattle.mgs_script.specs.declared.line.LineFault.{LineFault}
@@ -41,24 +41,24 @@ kind_named w =
 
 -- a group's name and those of its members, which are checked where the group is added
 unfoldable pub group_said : List ℕ → Option Said
-group_said t = option_map (λ rest. Group (word_of t) (words_of rest)) (rest_of t)
+group_said t = option_map (λ rest. Group (word_of t) (words_of rest)) (words_after t)
 
 -- a buffer's name and its owner's, which are checked where the buffer is added
 unfoldable pub buffer_said : List ℕ → Option Said
-buffer_said t = option_map (λ owner. Buffer (word_of t) owner) (rest_of t)
+buffer_said t = option_map (λ owner. Buffer (word_of t) owner) (words_after t)
 
 -- a buffer's name and the text of an entry, in which more spaces may stand
 unfoldable pub entry_said : List ℕ → Option Said
 entry_said t = do
   buffer ← name_of (word_of t)
-  entry ← rest_of t
+  entry ← words_after t
   Some (Entry buffer entry)
 
 -- a buffer's name and tokens
 unfoldable pub text_said : List ℕ → Option Said
 text_said t = do
   buffer ← name_of (word_of t)
-  rest ← rest_of t
+  rest ← words_after t
   text ← text_of rest
   Some (Text buffer text)
 
@@ -66,17 +66,17 @@ text_said t = do
 unfoldable pub open_said : List ℕ → Option Said
 open_said t = do
   label ← name_of (word_of t)
-  rest ← rest_of t
+  rest ← words_after t
   user ← any_word_of (word_of rest)
-  sizes ← rest_of rest
-  size ← size_of sizes
+  sizes ← words_after rest
+  size ← size_said sizes
   Some (Open label user size.0 size.1)
 
 -- a label and tokens
 unfoldable pub keys_said : List ℕ → Option Said
 keys_said t = do
   label ← name_of (word_of t)
-  rest ← rest_of t
+  rest ← words_after t
   keys ← keys_of rest
   Some (Keys label keys)
 
@@ -96,7 +96,7 @@ said_as kinds.Close t = option_map Close (name_of t)
 unfoldable pub said_by_kind : List ℕ → Option Said
 said_by_kind t = do
   kind ← kind_named (word_of t)
-  rest ← rest_of t
+  rest ← words_after t
   said_as kind rest
 
 -- empty lines, and those that begin with `#`
@@ -112,20 +112,20 @@ abbrev pub said_in : List ℕ → Option Said
 said_in t = if is_passed_over t then Some Nothing else (utf8_of t >>= said_by_kind)
 
 -- the line as the code holds it
-abbrev pub view : Line → Said
-view code.Nothing = Nothing
-view (code.User name) = User name.now
-view (code.Group name members) = Group name.now (map (λ m. m.now) members.items)
-view (code.Buffer name owner) = Buffer name.now owner.now
-view (code.Entry buffer entry) = Entry buffer entry.now
-view (code.Text buffer text) = Text buffer text.items
-view (code.Open label user rows cols) = Open label user.now rows cols
-view (code.Keys label keys) = Keys label keys.items
-view (code.Show label) = Show label
-view (code.Close label) = Close label
+abbrev pub line_view : Line → Said
+line_view code.Nothing = Nothing
+line_view (code.User name) = User name.now
+line_view (code.Group name members) = Group name.now (map (λ m. m.now) members.items)
+line_view (code.Buffer name owner) = Buffer name.now owner.now
+line_view (code.Entry buffer entry) = Entry buffer entry.now
+line_view (code.Text buffer text) = Text buffer text.items
+line_view (code.Open label user rows cols) = Open label user.now rows cols
+line_view (code.Keys label keys) = Keys label keys.items
+line_view (code.Show label) = Show label
+line_view (code.Close label) = Close label
 
 -- exactly what the line says; Bad exactly where it says nothing that is known, and out of memory only where it says something
 abbrev pub GivesLine : Result Line LineFault → Option Said → Type 0
-GivesLine (Ok l) said = said ≡ Some (view l)
+GivesLine (Ok l) said = said ≡ Some (line_view l)
 GivesLine (Err Bad) said = said ≡ None
 GivesLine (Err Short) said = IsSome said

@@ -4,7 +4,7 @@ use Rattle.std.specs.Option.{option_and_then}
 use Rattle.std.specs.List.{list_all}
 use Rattle.std.specs.Str.{bytes_eq}
 use Rattle.mgs_model.specs.Names.{is_name}
-use Rattle.mgs_keys.specs.Words.{word_of, rest_of, words_of}
+use Rattle.mgs_keys.specs.Words.{word_of, words_after, words_of}
 use Rattle.mgs_keys.specs.Tokens.{quoted_of, spelled_by}
 
 infixl 10 ◌>>=◌
@@ -52,9 +52,9 @@ abbrev pub text_of : List ℕ → Option (List ℕ)
 text_of t = spelled_by token_characters (words_of t)
 
 -- rows and columns
-abbrev pub size_of : List ℕ → Option (ℕ × ℕ)
-size_of t = do
+abbrev pub size_said : List ℕ → Option (ℕ × ℕ)
+size_said t = do
   rows ← number_of (word_of t)
-  rest ← rest_of t
+  rest ← words_after t
   cols ← number_of rest
   Some (rows, cols)

@@ -1,7 +1,7 @@
 // How a script's line is read.
 ghost use Rattle.std.specs.Prelude.{◌≡◌, Some};
 ghost use Rattle.std.specs.Option.{option_map};
-ghost use Rattle.mgs_script.specs.Lines.{view, group_said, buffer_said, entry_said, text_said, open_said, keys_said, said_by_kind, said_in, is_passed_over, utf8_of, GivesLine};
+ghost use Rattle.mgs_script.specs.Lines.{line_view, group_said, buffer_said, entry_said, text_said, open_said, keys_said, said_by_kind, said_in, is_passed_over, utf8_of, GivesLine};
 
 use crate::kind::{Kind, kind_of};
 use crate::line::{Line, LineFault};
@@ -28,7 +28,7 @@ fn group_line(alloc: Global, text: &str) -> Result<Line<'_>, LineFault>
 
 #[tactic(auto, unfolding(crate::specs::Lines::buffer_said))]
 fn buffer_line(text: &str) -> Option<Line<'_>>
-    ensures { option_map view result ≡ buffer_said text.now }
+    ensures { option_map line_view result ≡ buffer_said text.now }
 {
     let (name, rest) = cut_text(text);
     let owner = rest?;
@@ -37,7 +37,7 @@ fn buffer_line(text: &str) -> Option<Line<'_>>
 
 #[tactic(auto, unfolding(crate::specs::Lines::entry_said))]
 fn entry_line(text: &str) -> Option<Line<'_>>
-    ensures { option_map view result ≡ entry_said text.now }
+    ensures { option_map line_view result ≡ entry_said text.now }
 {
     let (buffer, rest) = cut_text(text);
     let buffer = name_in(buffer)?;
@@ -47,7 +47,7 @@ fn entry_line(text: &str) -> Option<Line<'_>>
 
 #[tactic(auto, unfolding(crate::specs::Lines::open_said))]
 fn open_line(text: &str) -> Option<Line<'_>>
-    ensures { option_map view result ≡ open_said text.now }
+    ensures { option_map line_view result ≡ open_said text.now }
 {
     let (label, rest) = cut_text(text);
     let label = name_in(label)?;

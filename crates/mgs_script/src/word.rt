@@ -2,8 +2,8 @@
 ghost use Rattle.std.specs.Prelude.{◌≡◌, ◌==◌, ◌-◌, ◌<◌, ◌≤◌, ◌∷◌, not, length, map, IfOk, IfSome, IsTrue};
 ghost use Rattle.std.specs.Option.{option_map};
 ghost use Rattle.std.specs.List.{list_all};
-ghost use Rattle.mgs_keys.specs.Words.{is_space, word_of, rest_of, words_of, parts_after};
-ghost use Rattle.mgs_script.specs.Words.{name_of, any_word_of, is_digit, is_first_digit, number_of, size_of};
+ghost use Rattle.mgs_keys.specs.Words.{is_space, word_of, words_after, words_of, parts_after};
+ghost use Rattle.mgs_script.specs.Words.{name_of, any_word_of, is_digit, is_first_digit, number_of, size_said};
 
 use mgs_model::{Name, Short};
 use std::alloc::Global;
@@ -11,7 +11,7 @@ use std::alloc::Global;
 // The first word of a text, and what stands after the space after it, if there is one.
 pub(crate) fn cut_text(text: &str) -> (&str, Option<&str>)
     ensures word { result.0.now ≡ word_of text.now }
-    ensures rest { option_map (λ x. x.now) result.1 ≡ rest_of text.now }
+    ensures rest { option_map (λ x. x.now) result.1 ≡ words_after text.now }
     ensures shorter { IfSome result.1 (λ x. length x.now < length text.now) }
 {
     match text.split_once(' ') {
@@ -108,7 +108,7 @@ fn number(word: &str) -> Option<usize>
 
 // The rows and columns that are written so.
 pub(crate) fn size(text: &str) -> Option<(usize, usize)>
-    ensures { result ≡ size_of text.now }
+    ensures { result ≡ size_said text.now }
 {
     let (rows, rest) = cut_text(text);
     let rows = number(rows)?;

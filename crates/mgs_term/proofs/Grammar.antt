@@ -4,7 +4,7 @@ use Rattle.std.proofs.lemmas.List.{length-append}
 use Rattle.mgs_term.specs.Screen.{IsScreen}
 use Rattle.mgs_term.specs.Sequences.{number, Accepts, spelling}
 use Rattle.mgs_term.specs.Terminal.{Continues}
-use Rattle.mgs_term.specs.Automaton.{Automaton, next, begun_at, IsPlace, is_refused, terminal_of}
+use Rattle.mgs_term.specs.Automaton.{Automaton, next_step, begun_at, IsPlace, is_out_of_profile, terminal_of}
 use Rattle.mgs_term.specs.declared.operation.Operation.{Operation}
 use Rattle.mgs_term.specs.declared.operation.Operation.TheVariants.{Goto, Clear, Erase, Reverse, Plain, Unwrap, Print}
 use Rattle.mgs_term.specs.declared.place.Place.{Place}
@@ -15,7 +15,7 @@ use Rattle.mgs_term.proofs.Digits.{number_cases, number_front, First, number_fir
 
 -- The byte that an accepted sequence has is taken: it ends the sequence, or more of it is to come.
 abbrev pub Taken : ℕ → ℕ → Bool → Place → ℕ → Operation → List ℕ → Type 0
-Taken rows cols wrapping p b o rest = ((next rows cols wrapping p b ≡ Perform o) × (rest ≡ [])) ⊎ ((p' : Place) × (next rows cols wrapping p b ≡ Wait p') × (1 ≤ length rest))
+Taken rows cols wrapping p b o rest = ((next_step rows cols wrapping p b ≡ Perform o) × (rest ≡ [])) ⊎ ((p' : Place) × (next_step rows cols wrapping p b ≡ Wait p') × (1 ≤ length rest))
 
 begins : (rows cols : ℕ) (wrapping : Bool) (b : ℕ) (o : Operation) (tail rest : List ℕ) → 1 ≤ length tail → 27 ∷ tail ≡ b ∷ rest → Taken rows cols wrapping Ground b o rest
 begins rows cols wrapping b o tail rest some e =
@@ -55,7 +55,7 @@ taken_bracket rows cols wrapping b (Goto r c) rest few some accepts e =
     let tail : List ℕ = 59 ∷ (number (c + 1) ++ 72 ∷ []) in
     let h : number (r + 1) ++ tail ≡ b ∷ rest = cc in
     let f : First (r + 1) b tail rest = number_first (r + 1) b tail rest (omega arith) (omega arith) h in
-    inr (Number f.digit, ap (next rows cols wrapping Bracket) f.byte ∙ next_bracket_digit rows cols wrapping f.digit f.some f.small (omega arith), omega arith)
+    inr (Number f.digit, ap (next_step rows cols wrapping Bracket) f.byte ∙ next_bracket_digit rows cols wrapping f.digit f.some f.small (omega arith), omega arith)
 taken_bracket rows cols wrapping b Clear rest few some accepts e =
     let h : 50 ≡ b = cc in
     let k : 74 ∷ [] ≡ rest = cc in
@@ -101,10 +101,10 @@ taken_number rows cols wrapping n b (Goto r c) rest few some small accepts e =
     let long : 1 ≤ length tail = omega (arith, length-append (number (c + 1)) (72 ∷ [])) in
     let h : number (r + 1) ++ 59 ∷ tail ≡ number n ++ b ∷ rest = cc in
     elim (number_front n (r + 1) b 59 rest tail (omega arith) (omega arith) (omega arith) (sym h)) [
-      | inl w ↦ inr (Row n, ap (next rows cols wrapping (Number n)) w.byte ∙ next_number_end rows cols wrapping n (omega arith), rw w.rest long)
+      | inl w ↦ inr (Row n, ap (next_step rows cols wrapping (Number n)) w.byte ∙ next_number_end rows cols wrapping n (omega arith), rw w.rest long)
       | inr w ↦
           let byte : b ≡ 48 + (b - 48) = omega arith in
-          inr (Number (n * 10 + (b - 48)), ap (next rows cols wrapping (Number n)) byte ∙ next_number_digit rows cols wrapping n (b - 48) (omega arith) (omega arith), w.more)
+          inr (Number (n * 10 + (b - 48)), ap (next_step rows cols wrapping (Number n)) byte ∙ next_number_digit rows cols wrapping n (b - 48) (omega arith) (omega arith), w.more)
     ]
 taken_number rows cols wrapping n b Clear rest few some small accepts e =
     let h : 50 ∷ 74 ∷ [] ≡ number n ++ b ∷ rest = cc in
@@ -114,7 +114,7 @@ taken_number rows cols wrapping n b Clear rest few some small accepts e =
           let k : 50 ≡ 48 + n = cc in
           let two : n ≡ 2 = omega arith in
           let byte : b ≡ 74 = cc in
-          inl (ap (λ m. next rows cols wrapping (Number m) b) two ∙ ap (next rows cols wrapping (Number 2)) byte ∙ refl, cc)
+          inl (ap (λ m. next_step rows cols wrapping (Number m) b) two ∙ ap (next_step rows cols wrapping (Number 2)) byte ∙ refl, cc)
       | inr (inl y) ↦
           let eq : 50 ∷ 74 ∷ [] ≡ (48 + n / 10) ∷ (48 + n % 10) ∷ b ∷ rest = h ∙ ap (λ z. z ++ b ∷ rest) y.is in
           absurd (cc)
@@ -128,7 +128,7 @@ taken_number rows cols wrapping n b Reverse rest few some small accepts e =
           let k : 55 ≡ 48 + n = cc in
           let seven : n ≡ 7 = omega arith in
           let byte : b ≡ 109 = cc in
-          inl (ap (λ m. next rows cols wrapping (Number m) b) seven ∙ ap (next rows cols wrapping (Number 7)) byte ∙ refl, cc)
+          inl (ap (λ m. next_step rows cols wrapping (Number m) b) seven ∙ ap (next_step rows cols wrapping (Number 7)) byte ∙ refl, cc)
       | inr (inl y) ↦
           let eq : 55 ∷ 109 ∷ [] ≡ (48 + n / 10) ∷ (48 + n % 10) ∷ b ∷ rest = h ∙ ap (λ z. z ++ b ∷ rest) y.is in
           absurd (cc)
@@ -178,7 +178,7 @@ row_goes rows cols wrapping n b r c o rest few narrow small accepts h =
     elim (number_front (r + 1) n 59 59 (number (c + 1) ++ 72 ∷ []) (b ∷ rest) (omega arith) (omega arith) (omega arith) h) [
       | inl w ↦
           let f : First (c + 1) b (72 ∷ []) rest = number_first (c + 1) b (72 ∷ []) rest (omega arith) (omega arith) w.rest in
-          inr (Column n f.digit, ap (next rows cols wrapping (Row n)) f.byte ∙ next_row_digit rows cols wrapping n f.digit f.some f.small (omega arith), f.more)
+          inr (Column n f.digit, ap (next_step rows cols wrapping (Row n)) f.byte ∙ next_row_digit rows cols wrapping n f.digit f.some f.small (omega arith), f.more)
       | inr w ↦ absurd (omega arith)
     ]
 
@@ -187,10 +187,10 @@ column_goes : (rows cols : ℕ) (wrapping : Bool) (n m b r c : ℕ) (o : Operati
 column_goes rows cols wrapping n m b r c o rest few narrow small_n small_m is accepts h =
     elim (number_front (r + 1) n 59 59 (number (c + 1) ++ 72 ∷ []) (number m ++ b ∷ rest) (omega arith) (omega arith) (omega arith) h) [
       | inl w ↦ elim (number_front m (c + 1) b 72 rest [] (omega arith) (omega arith) (omega arith) (sym w.rest)) [
-        | inl v ↦ inl (ap (next rows cols wrapping (Column n m)) v.byte ∙ ap (λ x. next rows cols wrapping (Column x m) 72) (sym w.same) ∙ ap (λ x. next rows cols wrapping (Column (r + 1) x) 72) v.same ∙ next_column_end rows cols wrapping r c ∙ ap (λ x. Perform x) (sym is), v.rest)
+        | inl v ↦ inl (ap (next_step rows cols wrapping (Column n m)) v.byte ∙ ap (λ x. next_step rows cols wrapping (Column x m) 72) (sym w.same) ∙ ap (λ x. next_step rows cols wrapping (Column (r + 1) x) 72) v.same ∙ next_column_end rows cols wrapping r c ∙ ap (λ x. Perform x) (sym is), v.rest)
         | inr v ↦
             let byte : b ≡ 48 + (b - 48) = omega arith in
-            inr (Column n (m * 10 + (b - 48)), ap (next rows cols wrapping (Column n m)) byte ∙ next_column_digit rows cols wrapping n m (b - 48) (omega arith) (omega arith), v.more)
+            inr (Column n (m * 10 + (b - 48)), ap (next_step rows cols wrapping (Column n m)) byte ∙ next_column_digit rows cols wrapping n m (b - 48) (omega arith) (omega arith), v.more)
       ]
       | inr w ↦ absurd (omega arith)
     ]
@@ -213,7 +213,7 @@ taken_question rows cols wrapping b Plain rest few accepts e = absurd (third 109
 taken_question rows cols wrapping b Unwrap rest few accepts e =
     let h : b ≡ 55 = cc in
     let k : rest ≡ 108 ∷ [] = cc in
-    inr (Seven, ap (next rows cols wrapping Question) h ∙ refl, omega (arith, ap length k))
+    inr (Seven, ap (next_step rows cols wrapping Question) h ∙ refl, omega (arith, ap length k))
 taken_question rows cols wrapping b (Print x) rest few accepts e = absurd (cc)
 
 taken_seven : (rows cols : ℕ) (wrapping : Bool) (b : ℕ) (o : Operation) (rest : List ℕ) → rows ≤ 64 → Accepts rows cols wrapping o → spelling o ≡ 27 ∷ 91 ∷ 63 ∷ 55 ∷ b ∷ rest → Taken rows cols wrapping Seven b o rest
@@ -224,11 +224,11 @@ taken_seven rows cols wrapping b Reverse rest few accepts e = absurd (third 55 (
 taken_seven rows cols wrapping b Plain rest few accepts e = absurd (third 109 (spelling Plain) 63 _ e refl refl (omega arith))
 taken_seven rows cols wrapping b Unwrap rest few accepts e =
     let h : b ≡ 108 = cc in
-    inl (ap (next rows cols wrapping Seven) h ∙ refl, cc)
+    inl (ap (next_step rows cols wrapping Seven) h ∙ refl, cc)
 taken_seven rows cols wrapping b (Print x) rest few accepts e = absurd (cc)
 
 -- Each byte that an accepted sequence has at its place is taken.
-pub taken : (rows cols : ℕ) (wrapping : Bool) (p : Place) (b : ℕ) (o : Operation) (rest : List ℕ) → rows ≤ 64 → 6 ≤ rows → cols ≤ 160 → IsPlace rows cols p → is_refused p ≡ false
+pub taken : (rows cols : ℕ) (wrapping : Bool) (p : Place) (b : ℕ) (o : Operation) (rest : List ℕ) → rows ≤ 64 → 6 ≤ rows → cols ≤ 160 → IsPlace rows cols p → is_out_of_profile p ≡ false
     → Accepts rows cols wrapping o → spelling o ≡ begun_at p ++ b ∷ rest → Taken rows cols wrapping p b o rest
 taken rows cols wrapping Ground b o rest few some narrow fits going accepts e = taken_ground rows cols wrapping b o rest accepts e
 taken rows cols wrapping Escape b o rest few some narrow fits going accepts e = taken_escape rows cols wrapping b o rest e
@@ -241,7 +241,7 @@ taken rows cols wrapping Seven b o rest few some narrow fits going accepts e = t
 taken rows cols wrapping Refused b o rest few some narrow fits going accepts e = absurd (cc)
 
 -- In the midst of a sequence some accepted one goes on.
-pub goes_on : (rows cols : ℕ) (wrapping : Bool) (p : Place) → 6 ≤ rows → 20 ≤ cols → rows ≤ 64 → IsPlace rows cols p → is_refused p ≡ false → 1 ≤ length (begun_at p) → (o : Operation) × (rest : List ℕ) × Accepts rows cols wrapping o × (spelling o ≡ begun_at p ++ rest)
+pub goes_on : (rows cols : ℕ) (wrapping : Bool) (p : Place) → 6 ≤ rows → 20 ≤ cols → rows ≤ 64 → IsPlace rows cols p → is_out_of_profile p ≡ false → 1 ≤ length (begun_at p) → (o : Operation) × (rest : List ℕ) × Accepts rows cols wrapping o × (spelling o ≡ begun_at p ++ rest)
 goes_on rows cols wrapping Ground some wide few fits going begun = absurd (omega arith)
 goes_on rows cols wrapping Escape some wide few fits going begun = (Erase, 91 ∷ 75 ∷ [], tt, refl)
 goes_on rows cols wrapping Bracket some wide few fits going begun = (Erase, 75 ∷ [], tt, refl)
@@ -255,7 +255,7 @@ goes_on rows cols wrapping Question some wide few fits going begun = (Unwrap, 55
 goes_on rows cols wrapping Seven some wide few fits going begun = (Unwrap, 108 ∷ [], tt, refl)
 goes_on rows cols wrapping Refused some wide few fits going begun = absurd (cc)
 
-not_refused : (rows cols : ℕ) (wrapping : Bool) (p : Place) (b : ℕ) → next rows cols wrapping p b ≢ Stuck → is_refused p ≡ false
+not_refused : (rows cols : ℕ) (wrapping : Bool) (p : Place) (b : ℕ) → next_step rows cols wrapping p b ≢ Stuck → is_out_of_profile p ≡ false
 not_refused rows cols wrapping Ground b ne = refl
 not_refused rows cols wrapping Escape b ne = refl
 not_refused rows cols wrapping Bracket b ne = refl
@@ -266,7 +266,7 @@ not_refused rows cols wrapping Question b ne = refl
 not_refused rows cols wrapping Seven b ne = refl
 not_refused rows cols wrapping Refused b ne = absurd (ne refl)
 
-worded : (p : Place) → 1 ≤ length (begun_at p) → is_refused p ≡ false
+worded : (p : Place) → 1 ≤ length (begun_at p) → is_out_of_profile p ≡ false
 worded Ground some = refl
 worded Escape some = refl
 worded Bracket some = refl
@@ -292,25 +292,25 @@ perform_same x o e = cc
 taken_at : (t : Automaton) (b : ℕ) (o : Operation) (rest : List ℕ) → IsScreen t.screen → IsPlace t.screen.rows t.screen.cols t.place → Continues (terminal_of t) b rest o → Taken t.screen.rows t.screen.cols t.screen.wrapping t.place b o rest
 taken_at t b o rest ok fits goes = taken t.screen.rows t.screen.cols t.screen.wrapping t.place b o rest ok.size.few_rows ok.size.some_rows ok.size.few_cols fits goes.0 goes.1 goes.2
 
-pub never : (t : Automaton) (b : ℕ) (o : Operation) (rest : List ℕ) → IsScreen t.screen → IsPlace t.screen.rows t.screen.cols t.place → Stuck ≡ next t.screen.rows t.screen.cols t.screen.wrapping t.place b → Continues (terminal_of t) b rest o → ⊥
+pub never : (t : Automaton) (b : ℕ) (o : Operation) (rest : List ℕ) → IsScreen t.screen → IsPlace t.screen.rows t.screen.cols t.place → Stuck ≡ next_step t.screen.rows t.screen.cols t.screen.wrapping t.place b → Continues (terminal_of t) b rest o → ⊥
 never t b o rest ok fits stuck goes = elim (taken_at t b o rest ok fits goes) [ inl w ↦ stuck_perform o (stuck ∙ w.0) | inr w ↦ stuck_wait w.0 (stuck ∙ w.1) ]
 
-pub waits : (t : Automaton) (b : ℕ) (q : Place) → IsScreen t.screen → IsPlace t.screen.rows t.screen.cols q → Wait q ≡ next t.screen.rows t.screen.cols t.screen.wrapping t.place b → begun_at q ≡ begun_at t.place ++ b ∷ [] → (o : Operation) × (rest : List ℕ) × Continues (terminal_of t) b rest o
+pub waits : (t : Automaton) (b : ℕ) (q : Place) → IsScreen t.screen → IsPlace t.screen.rows t.screen.cols q → Wait q ≡ next_step t.screen.rows t.screen.cols t.screen.wrapping t.place b → begun_at q ≡ begun_at t.place ++ b ∷ [] → (o : Operation) × (rest : List ℕ) × Continues (terminal_of t) b rest o
 waits t b q ok fits wait word =
     let long : 1 ≤ length (begun_at q) = omega (arith, ap length word, length-append (begun_at t.place) (b ∷ [])) in
     let some : (o : Operation) × (rest : List ℕ) × Accepts t.screen.rows t.screen.cols t.screen.wrapping o × (spelling o ≡ begun_at q ++ rest) = goes_on t.screen.rows t.screen.cols t.screen.wrapping q ok.size.some_rows ok.size.some_cols ok.size.few_rows fits (worded q long) long in
     (some.0, some.1, (not_refused t.screen.rows t.screen.cols t.screen.wrapping t.place b (λ e. stuck_wait q (sym e ∙ sym wait)), some.2, some.3 ∙ ap (λ x. x ++ some.1) word ∙ append_assoc (begun_at t.place) (b ∷ []) some.1))
 
-pub performs : (t : Automaton) (b : ℕ) (o : Operation) → Accepts t.screen.rows t.screen.cols t.screen.wrapping o → Perform o ≡ next t.screen.rows t.screen.cols t.screen.wrapping t.place b → spelling o ≡ begun_at t.place ++ b ∷ [] → Continues (terminal_of t) b [] o
+pub performs : (t : Automaton) (b : ℕ) (o : Operation) → Accepts t.screen.rows t.screen.cols t.screen.wrapping o → Perform o ≡ next_step t.screen.rows t.screen.cols t.screen.wrapping t.place b → spelling o ≡ begun_at t.place ++ b ∷ [] → Continues (terminal_of t) b [] o
 performs t b o accepts is word = (not_refused t.screen.rows t.screen.cols t.screen.wrapping t.place b (λ e. stuck_perform o (sym e ∙ sym is)), accepts, word)
 
-pub last_waits : (t : Automaton) (b : ℕ) (q : Place) (o : Operation) → IsScreen t.screen → IsPlace t.screen.rows t.screen.cols t.place → Wait q ≡ next t.screen.rows t.screen.cols t.screen.wrapping t.place b → Continues (terminal_of t) b [] o → ⊥
+pub last_waits : (t : Automaton) (b : ℕ) (q : Place) (o : Operation) → IsScreen t.screen → IsPlace t.screen.rows t.screen.cols t.place → Wait q ≡ next_step t.screen.rows t.screen.cols t.screen.wrapping t.place b → Continues (terminal_of t) b [] o → ⊥
 last_waits t b q o ok fits wait goes = elim (taken_at t b o [] ok fits goes) [ inl w ↦ wait_perform q o (wait ∙ w.0) | inr w ↦ omega arith ]
 
-pub last_performs : (t : Automaton) (b : ℕ) (x o : Operation) → IsScreen t.screen → IsPlace t.screen.rows t.screen.cols t.place → Perform x ≡ next t.screen.rows t.screen.cols t.screen.wrapping t.place b → Continues (terminal_of t) b [] o → x ≡ o
+pub last_performs : (t : Automaton) (b : ℕ) (x o : Operation) → IsScreen t.screen → IsPlace t.screen.rows t.screen.cols t.place → Perform x ≡ next_step t.screen.rows t.screen.cols t.screen.wrapping t.place b → Continues (terminal_of t) b [] o → x ≡ o
 last_performs t b x o ok fits is goes = elim (taken_at t b o [] ok fits goes) [ inl w ↦ perform_same x o (is ∙ w.0) | inr w ↦ absurd (omega arith) ]
 
-pub is_ground : (p : Place) → length (begun_at p) ≡ 0 → is_refused p ≡ false → p ≡ Ground
+pub is_ground : (p : Place) → length (begun_at p) ≡ 0 → is_out_of_profile p ≡ false → p ≡ Ground
 is_ground Ground none going = refl
 is_ground Escape none going = absurd (omega arith)
 is_ground Bracket none going = absurd (omega arith)

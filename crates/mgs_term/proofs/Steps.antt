@@ -4,7 +4,7 @@ use Rattle.std.proofs.lemmas.Bool.Decides.{nat_tests}
 use Rattle.std.proofs.lemmas.Bool.{lt-ltb, ltb-true, ltb-false, cases_Bool}
 use Rattle.mgs_term.specs.Screen.{Screen, IsScreen}
 use Rattle.mgs_term.specs.Sequences.{after, number, Accepts, spelling}
-use Rattle.mgs_term.specs.Automaton.{Automaton, next, stepped, fed, settled}
+use Rattle.mgs_term.specs.Automaton.{Automaton, next_step, stepped, fed, place_reached}
 use Rattle.mgs_term.specs.declared.operation.Operation.{Operation}
 use Rattle.mgs_term.specs.declared.operation.Operation.TheVariants.{Goto, Clear, Erase, Reverse, Plain, Unwrap, Print}
 use Rattle.mgs_term.specs.declared.place.Place.{Place}
@@ -12,28 +12,28 @@ use Rattle.mgs_term.specs.declared.place.Place.TheVariants.{Ground, Bracket, Num
 use Rattle.mgs_term.specs.declared.place.Next.{Next}
 use Rattle.mgs_term.specs.declared.place.Next.TheVariants.{Wait, Perform}
 
-pub next_bracket_digit : (rows cols : ℕ) (wrapping : Bool) (d : ℕ) → 1 ≤ d → d ≤ 9 → d ≤ rows → next rows cols wrapping Bracket (48 + d) ≡ Wait (Number d)
+pub next_bracket_digit : (rows cols : ℕ) (wrapping : Bool) (d : ℕ) → 1 ≤ d → d ≤ 9 → d ≤ rows → next_step rows cols wrapping Bracket (48 + d) ≡ Wait (Number d)
 next_bracket_digit rows cols wrapping d some small in_range = grind (arith, nat_tests)
 
-pub next_number_digit : (rows cols : ℕ) (wrapping : Bool) (n d : ℕ) → d ≤ 9 → n * 10 + d ≤ rows → next rows cols wrapping (Number n) (48 + d) ≡ Wait (Number (n * 10 + d))
+pub next_number_digit : (rows cols : ℕ) (wrapping : Bool) (n d : ℕ) → d ≤ 9 → n * 10 + d ≤ rows → next_step rows cols wrapping (Number n) (48 + d) ≡ Wait (Number (n * 10 + d))
 next_number_digit rows cols wrapping n d small in_range = grind (arith, nat_tests)
 
-pub next_number_end : (rows cols : ℕ) (wrapping : Bool) (n : ℕ) → n ≤ rows → next rows cols wrapping (Number n) 59 ≡ Wait (Row n)
+pub next_number_end : (rows cols : ℕ) (wrapping : Bool) (n : ℕ) → n ≤ rows → next_step rows cols wrapping (Number n) 59 ≡ Wait (Row n)
 next_number_end rows cols wrapping n in_range = grind (arith, nat_tests)
 
-pub next_row_digit : (rows cols : ℕ) (wrapping : Bool) (r d : ℕ) → 1 ≤ d → d ≤ 9 → d ≤ cols → next rows cols wrapping (Row r) (48 + d) ≡ Wait (Column r d)
+pub next_row_digit : (rows cols : ℕ) (wrapping : Bool) (r d : ℕ) → 1 ≤ d → d ≤ 9 → d ≤ cols → next_step rows cols wrapping (Row r) (48 + d) ≡ Wait (Column r d)
 next_row_digit rows cols wrapping r d some small in_range = grind (arith, nat_tests)
 
-pub next_column_digit : (rows cols : ℕ) (wrapping : Bool) (r n d : ℕ) → d ≤ 9 → n * 10 + d ≤ cols → next rows cols wrapping (Column r n) (48 + d) ≡ Wait (Column r (n * 10 + d))
+pub next_column_digit : (rows cols : ℕ) (wrapping : Bool) (r n d : ℕ) → d ≤ 9 → n * 10 + d ≤ cols → next_step rows cols wrapping (Column r n) (48 + d) ≡ Wait (Column r (n * 10 + d))
 next_column_digit rows cols wrapping r n d small in_range = grind (arith, nat_tests)
 
-pub next_column_end : (rows cols : ℕ) (wrapping : Bool) (r c : ℕ) → next rows cols wrapping (Column (r + 1) (c + 1)) 72 ≡ Perform (Goto r c)
+pub next_column_end : (rows cols : ℕ) (wrapping : Bool) (r c : ℕ) → next_step rows cols wrapping (Column (r + 1) (c + 1)) 72 ≡ Perform (Goto r c)
 next_column_end rows cols wrapping r c = grind (arith, nat_tests)
 
-pub next_print : (rows cols : ℕ) (wrapping : Bool) (b : ℕ) → 32 ≤ b → b ≤ 126 → wrapping ≡ false → next rows cols wrapping Ground b ≡ Perform (Print b)
+pub next_print : (rows cols : ℕ) (wrapping : Bool) (b : ℕ) → 32 ≤ b → b ≤ 126 → wrapping ≡ false → next_step rows cols wrapping Ground b ≡ Perform (Print b)
 next_print rows cols wrapping b low high off = rw off (grind (arith, nat_tests))
 
-pub next_seven : (rows cols : ℕ) (wrapping : Bool) → next rows cols wrapping Bracket 55 ≡ Wait (Number 7)
+pub next_seven : (rows cols : ℕ) (wrapping : Bool) → next_step rows cols wrapping Bracket 55 ≡ Wait (Number 7)
 next_seven rows cols wrapping = grind (arith, nat_tests)
 
 -- a terminal at a place, over its screen
@@ -44,8 +44,8 @@ pub fed-append : (t : Automaton) (xs ys : List ℕ) → fed t (xs ++ ys) ≡ fed
 fed-append t [] ys = refl
 fed-append t (x ∷ xs) ys = fed-append (stepped t x) xs ys
 
-pub step_as : (s : Screen) (p : Place) (b : ℕ) (bs : List ℕ) (n : Next) → next s.rows s.cols s.wrapping p b ≡ n → fed (at s p) (b ∷ bs) ≡ fed (settled (at s p) n) bs
-step_as s p b bs n e = ap (λ m. fed (settled (at s p) m) bs) e
+pub step_as : (s : Screen) (p : Place) (b : ℕ) (bs : List ℕ) (n : Next) → next_step s.rows s.cols s.wrapping p b ≡ n → fed (at s p) (b ∷ bs) ≡ fed (place_reached (at s p) n) bs
+step_as s p b bs n e = ap (λ m. fed (place_reached (at s p) m) bs) e
 
 -- a row's number, read
 pub fed-row : (s : Screen) (n : ℕ) (bs : List ℕ) → 1 ≤ n → n ≤ s.rows → s.rows ≤ 64 → fed (at s Bracket) (number n ++ bs) ≡ fed (at s (Number n)) bs

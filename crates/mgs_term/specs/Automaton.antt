@@ -1,4 +1,4 @@
--- The terminal byte by byte: which place in a sequence it is at, and where the next byte leads.
+-- The terminal byte by byte: which place in a sequence it is at, and where the next_step byte leads.
 use Rattle.std.specs.Prelude.{◌≡◌, ◌⊎◌, ℕ, ◌+◌, ◌-◌, ◌*◌, ◌≤◌, Bool, true, false, not, ◌&&◌, ◌||◌, List, [], ◌∷◌, ◌++◌, nat_le, ◌==◌, if◌then◌else◌}
 use Rattle.mgs_term.specs.Screen.{Screen, blank_screen}
 use Rattle.mgs_term.specs.Sequences.{number, spelling, Accepts, after}
@@ -17,33 +17,33 @@ abbrev pub is_digit : ℕ → Bool
 is_digit b = nat_le 48 b && nat_le b 57
 
 -- A row's number may go up to the rows. 7 may come even where there are fewer, for `ESC [ 7 m`.
-abbrev pub next : ℕ → ℕ → Bool → Place → ℕ → Next
-next rows cols wrapping Ground b =
+abbrev pub next_step : ℕ → ℕ → Bool → Place → ℕ → Next
+next_step rows cols wrapping Ground b =
     if b == 27 then Wait Escape
     else if nat_le 32 b && (nat_le b 126 && not wrapping) then Perform (Print b)
     else Stuck
-next rows cols wrapping Escape b = if b == 91 then Wait Bracket else Stuck
-next rows cols wrapping Bracket b =
+next_step rows cols wrapping Escape b = if b == 91 then Wait Bracket else Stuck
+next_step rows cols wrapping Bracket b =
     if b == 75 then Perform Erase
     else if b == 109 then Perform Plain
     else if b == 63 then Wait Question
     else if nat_le 49 b && (nat_le b 57 && (nat_le b (48 + rows) || b == 55)) then Wait (Number (b - 48))
     else Stuck
-next rows cols wrapping (Number n) b =
+next_step rows cols wrapping (Number n) b =
     if b == 74 && n == 2 then Perform Clear
     else if b == 109 && n == 7 then Perform Reverse
     else if b == 59 && nat_le n rows then Wait (Row n)
     else if is_digit b && nat_le (n * 10 + (b - 48)) rows then Wait (Number (n * 10 + (b - 48)))
     else Stuck
-next rows cols wrapping (Row r) b =
+next_step rows cols wrapping (Row r) b =
     if nat_le 49 b && (nat_le b 57 && nat_le b (48 + cols)) then Wait (Column r (b - 48)) else Stuck
-next rows cols wrapping (Column r c) b =
+next_step rows cols wrapping (Column r c) b =
     if b == 72 then Perform (Goto (r - 1) (c - 1))
     else if is_digit b && nat_le (c * 10 + (b - 48)) cols then Wait (Column r (c * 10 + (b - 48)))
     else Stuck
-next rows cols wrapping Question b = if b == 55 then Wait Seven else Stuck
-next rows cols wrapping Seven b = if b == 108 then Perform Unwrap else Stuck
-next rows cols wrapping Refused b = Stuck
+next_step rows cols wrapping Question b = if b == 55 then Wait Seven else Stuck
+next_step rows cols wrapping Seven b = if b == 108 then Perform Unwrap else Stuck
+next_step rows cols wrapping Refused b = Stuck
 
 -- what is known of the numbers read so far, counted from 1
 abbrev pub IsPlace : ℕ → ℕ → Place → Type 0
@@ -63,30 +63,30 @@ IsNext rows cols wrapping (Wait p) = IsPlace rows cols p
 IsNext rows cols wrapping (Perform o) = Accepts rows cols wrapping o
 
 -- the automaton once a byte came to that
-abbrev pub settled : Automaton → Next → Automaton
-settled t Stuck = record t { place = Refused }
-settled t (Wait p) = record t { place = p }
-settled t (Perform o) = record { screen = after o t.screen; place = Ground }
+abbrev pub place_reached : Automaton → Next → Automaton
+place_reached t Stuck = record t { place = Refused }
+place_reached t (Wait p) = record t { place = p }
+place_reached t (Perform o) = record { screen = after o t.screen; place = Ground }
 
 -- the automaton after one more byte
 abbrev pub stepped : Automaton → ℕ → Automaton
-stepped t b = settled t (next t.screen.rows t.screen.cols t.screen.wrapping t.place b)
+stepped t b = place_reached t (next_step t.screen.rows t.screen.cols t.screen.wrapping t.place b)
 
 -- the automaton after all of the bytes
 abbrev pub fed : Automaton → List ℕ → Automaton
 fed t [] = t
 fed t (b ∷ bs) = fed (stepped t b) bs
 
-abbrev pub is_refused : Place → Bool
-is_refused Refused = true
-is_refused Ground = false
-is_refused Escape = false
-is_refused Bracket = false
-is_refused (Number n) = false
-is_refused (Row r) = false
-is_refused (Column r c) = false
-is_refused Question = false
-is_refused Seven = false
+abbrev pub is_out_of_profile : Place → Bool
+is_out_of_profile Refused = true
+is_out_of_profile Ground = false
+is_out_of_profile Escape = false
+is_out_of_profile Bracket = false
+is_out_of_profile (Number n) = false
+is_out_of_profile (Row r) = false
+is_out_of_profile (Column r c) = false
+is_out_of_profile Question = false
+is_out_of_profile Seven = false
 
 -- the bytes so far of the sequence that has begun
 abbrev pub begun_at : Place → List ℕ
@@ -108,7 +108,7 @@ IsSpelled p b (Perform o) = spelling o ≡ begun_at p ++ b ∷ []
 
 -- what is known of it from outside
 abbrev pub terminal_of : Automaton → Terminal
-terminal_of t = record { screen = t.screen; begun = begun_at t.place; refused = is_refused t.place }
+terminal_of t = record { screen = t.screen; begun = begun_at t.place; refused = is_out_of_profile t.place }
 
 abbrev pub new_automaton : ℕ → ℕ → Automaton
 new_automaton rows cols = record { screen = blank_screen rows cols; place = Ground }

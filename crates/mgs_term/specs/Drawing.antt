@@ -3,7 +3,7 @@ use Rattle.std.specs.Prelude.{◌≡◌, ℕ, List, [], ◌∷◌, slice_index_o
 use Rattle.mgs_term.specs.declared.cell.Cell.{Cell}
 use Rattle.mgs_term.specs.declared.operation.Operation.{Operation}
 use Rattle.mgs_term.specs.declared.operation.Operation.TheVariants.{Goto, Clear, Erase, Reverse, Plain, Unwrap, Print}
-use Rattle.mgs_term.specs.Screen.{Screen, cursor_cell, blank}
+use Rattle.mgs_term.specs.Screen.{Screen, cursor_cell, blank_cell}
 use Rattle.mgs_term.specs.Sequences.{Accepts, after, spelling}
 
 -- the operations lead from the screen s to t, each accepted, and each one that may come at its screen
@@ -21,7 +21,7 @@ Anything s o = Unit {0}
 
 -- what is printed in a cell is the goal's character of that cell
 abbrev pub IsFaithful : List Cell → Screen → Operation → Type 0
-IsFaithful goal s (Print b) = (slice_index_or goal (cursor_cell s) blank).character ≡ b
+IsFaithful goal s (Print b) = (slice_index_or goal (cursor_cell s) blank_cell).character ≡ b
 IsFaithful goal s (Goto r c) = Unit {0}
 IsFaithful goal s Clear = Unit {0}
 IsFaithful goal s Erase = Unit {0}

@@ -21,12 +21,12 @@ pub record IsScreen (s : Screen) : Type 0 where
   pub row_in : s.row < s.rows
   pub col_in : s.col < s.cols
 
--- a cell shows visible ASCII or a blank
+-- a cell shows visible ASCII or a blank_cell
 abbrev pub IsPrintableCell : Cell → Type 0
 IsPrintableCell c = IsPrintable c.character
 
-abbrev pub blank : Cell
-blank = record { character = 32; reversed = false }
+abbrev pub blank_cell : Cell
+blank_cell = record { character = 32; reversed = false }
 
 -- where the cursor's cell stands among the cells
 abbrev pub cursor_cell : Screen → ℕ
@@ -34,4 +34,4 @@ cursor_cell s = s.row * s.cols + s.col
 
 -- blanks, the cursor in the first cell, reverse off and wrap on
 abbrev pub blank_screen : ℕ → ℕ → Screen
-blank_screen rows cols = record { rows = rows; cols = cols; cells = replicate (rows * cols) blank; row = 0; col = 0; reversing = false; wrapping = true }
+blank_screen rows cols = record { rows = rows; cols = cols; cells = replicate (rows * cols) blank_cell; row = 0; col = 0; reversing = false; wrapping = true }

@@ -3,7 +3,7 @@ use Rattle.std.specs.Prelude.{◌≡◌, ℕ, ◌+◌, ◌-◌, ◌*◌, ◌/◌
 use Rattle.mgs_model.specs.Picture.{IsPrintable}
 use Rattle.mgs_term.specs.declared.operation.Operation.{Operation}
 use Rattle.mgs_term.specs.declared.operation.Operation.TheVariants.{Goto, Clear, Erase, Reverse, Plain, Unwrap, Print}
-use Rattle.mgs_term.specs.Screen.{Screen, cursor_cell, blank}
+use Rattle.mgs_term.specs.Screen.{Screen, cursor_cell, blank_cell}
 
 -- a number below 1000 in digits, without leading zeros
 abbrev pub number : ℕ → List ℕ
@@ -36,8 +36,8 @@ Accepts rows cols wrapping (Print b) = IsPrintable b × (wrapping ≡ false)
 -- what each of them does; a print in the last column leaves the cursor there
 abbrev pub after : Operation → Screen → Screen
 after (Goto r c) s = record s { row = r; col = c }
-after Clear s = record s { cells = replicate (s.rows * s.cols) blank }
-after Erase s = record s { cells = take (cursor_cell s) s.cells ++ (replicate (s.cols - s.col) blank ++ drop (s.row * s.cols + s.cols) s.cells) }
+after Clear s = record s { cells = replicate (s.rows * s.cols) blank_cell }
+after Erase s = record s { cells = take (cursor_cell s) s.cells ++ (replicate (s.cols - s.col) blank_cell ++ drop (s.row * s.cols + s.cols) s.cells) }
 after Reverse s = record s { reversing = true }
 after Plain s = record s { reversing = false }
 after Unwrap s = record s { wrapping = false }

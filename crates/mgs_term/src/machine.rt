@@ -1,6 +1,6 @@
 ghost use Rattle.std.specs.Prelude.{◌≡◌, ℕ, ◌+◌, ◌-◌, ◌*◌, ◌<◌, ◌≤◌, ◌++◌, ◌↔◌, length, take, drop, replicate, true, false, IsTrue, IsOk, IsErr, IfOk, OnOk, OnErr, List, [], ◌∷◌, All};
 ghost use Rattle.mgs_model.specs.Picture.{IsSize};
-ghost use Rattle.mgs_term.specs.Screen.{Screen, IsScreen, IsPrintableCell, blank, cursor_cell};
+ghost use Rattle.mgs_term.specs.Screen.{Screen, IsScreen, IsPrintableCell, blank_cell, cursor_cell};
 ghost use Rattle.mgs_term.specs.Sequences.{Accepts, after};
 ghost use Rattle.mgs_term.specs.Terminal.{Continues, Takes, Refuses, TakesAll, RefusesSome};
 ghost use Rattle.mgs_term.specs.Drawing.{Draws, Anything};
@@ -43,7 +43,7 @@ impl Model for Machine {
 fn blank_between(cells: &mut [Cell], from: usize, to: usize)
     requires order { from ≤ to }
     requires within { to ≤ length cells.old }
-    ensures { cells.new ≡ take from cells.old ++ (replicate (to - from) blank ++ drop to cells.old) }
+    ensures { cells.new ≡ take from cells.old ++ (replicate (to - from) blank_cell ++ drop to cells.old) }
 {
     cells[from..to].fill(Cell::BLANK);
 }

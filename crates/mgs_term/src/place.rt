@@ -1,6 +1,6 @@
 ghost use Rattle.std.specs.Prelude.{◌≡◌, ℕ, ◌-◌, ◌≤◌};
 ghost use Rattle.mgs_model.specs.Picture.{IsSize};
-ghost use Rattle.mgs_term.specs.Automaton.{next, is_digit, IsPlace, IsNext, IsSpelled};
+ghost use Rattle.mgs_term.specs.Automaton.{next_step, is_digit, IsPlace, IsNext, IsSpelled};
 ghost use Rattle.mgs_term.specs.declared.place.Place.TheVariants.{Bracket, Number, Column};
 
 use crate::operation::Operation;
@@ -28,7 +28,7 @@ pub(crate) enum Place {
     Refused,
 }
 
-/// What the next byte comes to.
+/// What the next_step byte comes to.
 #[derive(Clone, Copy, Debug)]
 pub(crate) enum Next {
     /// No accepted sequence has it.
@@ -58,7 +58,7 @@ fn digit_of(byte: u8) -> usize
 pub(crate) fn next_of(rows: usize, cols: usize, wrapping: bool, place: Place, byte: u8) -> Next
     requires size { IsSize rows cols }
     requires place { IsPlace rows cols place }
-    ensures next { result ≡ next rows cols wrapping place byte }
+    ensures next_step { result ≡ next_step rows cols wrapping place byte }
     ensures fits { IsNext rows cols wrapping result }
     ensures spelled { IsSpelled place byte result }
 {
@@ -109,7 +109,7 @@ pub(crate) fn next_of(rows: usize, cols: usize, wrapping: bool, place: Place, by
 
 fn next_bracket(rows: usize, cols: usize, wrapping: bool, byte: u8) -> Next
     requires size { IsSize rows cols }
-    ensures next { result ≡ next rows cols wrapping Bracket byte }
+    ensures next_step { result ≡ next_step rows cols wrapping Bracket byte }
     ensures fits { IsNext rows cols wrapping result }
     ensures spelled { IsSpelled Bracket byte result }
 {
@@ -129,7 +129,7 @@ fn next_bracket(rows: usize, cols: usize, wrapping: bool, byte: u8) -> Next
 fn next_number(rows: usize, cols: usize, wrapping: bool, number: usize, byte: u8) -> Next
     requires size { IsSize rows cols }
     requires number { IsPlace rows cols (Number number) }
-    ensures next { result ≡ next rows cols wrapping (Number number) byte }
+    ensures next_step { result ≡ next_step rows cols wrapping (Number number) byte }
     ensures fits { IsNext rows cols wrapping result }
     ensures spelled { IsSpelled (Number number) byte result }
 {
@@ -156,7 +156,7 @@ fn next_column(
 ) -> Next
     requires size { IsSize rows cols }
     requires place { IsPlace rows cols (Column row column) }
-    ensures next { result ≡ next rows cols wrapping (Column row column) byte }
+    ensures next_step { result ≡ next_step rows cols wrapping (Column row column) byte }
     ensures fits { IsNext rows cols wrapping result }
     ensures spelled { IsSpelled (Column row column) byte result }
 {

@@ -70,11 +70,20 @@ fn marks_stand_at_the_gap(rt: HostRuntime) -> Result<(), Fail> {
     let at = text.add_mark(3)?;
     let after = text.add_mark(4)?;
     text.replace(3, 3, &['x'])?;
-    assert_eq!(rt; [text.pos(before), text.pos(at), text.pos(after)], [2, 3, 5]);
+    assert_eq!(rt;
+        [text.pos(before), text.pos(at), text.pos(after)],
+        [2, 3, 5]
+    );
     text.replace(3, 4, &[])?;
-    assert_eq!(rt; [text.pos(before), text.pos(at), text.pos(after)], [2, 3, 4]);
+    assert_eq!(rt;
+        [text.pos(before), text.pos(at), text.pos(after)],
+        [2, 3, 4]
+    );
     text.replace(1, 3, &['y'])?;
-    assert_eq!(rt; [text.pos(before), text.pos(at), text.pos(after)], [1, 2, 3]);
+    assert_eq!(rt;
+        [text.pos(before), text.pos(at), text.pos(after)],
+        [1, 2, 3]
+    );
     assert!(rt; text.copy(0, 4)?.as_slice() == ['a', 'y', 'e', 'f'].as_slice());
     Ok(())
 }

@@ -59,11 +59,11 @@ world_of directory ks sessions next = record {
 }
 
 -- SIZES: the id of each session, and the rows and columns of its screen
-abbrev pub size_of : model.Session → Size
-size_of x = record { id = x.id; rows = x.rows; cols = x.cols }
+abbrev pub session_size : model.Session → Size
+session_size x = record { id = x.id; rows = x.rows; cols = x.cols }
 
 abbrev pub sizes : World → List Size
-sizes w = map size_of w.sessions
+sizes w = map session_size w.sessions
 
 abbrev pub size_in : Session → Size
 size_in x = record { id = x.id; rows = x.windows.rows; cols = x.cols }

@@ -67,7 +67,7 @@ fn drop_window_marks<T: Marked + Drop>(buffers: &mut Buffers<T>, window: &Window
 }
 
 /// Gives up the marks of a session.
-pub fn drop_all_window_marks<T: Marked + Drop>(buffers: &mut Buffers<T>, session: &Session)
+pub fn drop_session_marks<T: Marked + Drop>(buffers: &mut Buffers<T>, session: &Session)
     requires { IsSessionSound buffers.old session.now }
     ensures uses { (m : List ℕ) (i : ℕ) → in_use m i buffers.old ≡ in_use m i buffers.new + session_uses m i session.now }
     ensures buffers { buffers_of buffers.new ≡ buffers_of buffers.old }

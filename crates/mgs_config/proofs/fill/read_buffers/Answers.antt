@@ -5,7 +5,7 @@ use Rattle.mgs_config.proofs.fill.read_buffers.Goals as goal
 pub returns-in-Err-clause-err : goal.returns-in-Err-clause-err
 returns-in-Err-clause-err g c = λ long.
     loop_refused _ _ _ _ _ _ c.args.rows.now c.loop-before.before c.index-rows-before.result c.loop-before.buffers c.in-Err.fault (omega arith) c.index-rows-before.is c.loop-before.invariant.same
-      c.loop-before.invariant.buffers c.loop-before.invariant.left c.in-Err.ensures.err c.loop-before.invariant.count c.add_buffer.ensures.count long
+    c.loop-before.invariant.buffers c.loop-before.invariant.left c.in-Err.ensures.err c.loop-before.invariant.count c.add_buffer.ensures.count long
 
 pub loop-before-preserved : goal.loop-before-preserved
 loop-before-preserved g c = record {

@@ -12,5 +12,5 @@ invariant-loop-before g l = record {
   buffers : AreBuffers (g.F.Files.tells l.initial.files) (rows_before l.rows l.before) l.buffers;
   same : g.F.Files.tells l.files ≡ g.F.Files.tells l.initial.files;
   count : g.F.Files.count l.initial.files ≤ g.F.Files.count l.files;
-  left : first_fault (buffer_refused l.directory.users) (rows_before l.rows l.before) (rows_from l.rows l.before) ≡ first_fault (buffer_refused l.directory.users) [] (map view l.rows)
+  left : first_fault (buffer_refused l.directory.users) (rows_before l.rows l.before) (rows_from l.rows l.before) ≡ first_fault (buffer_refused l.directory.users) [] (map view l.rows);
 }

@@ -8,5 +8,5 @@ abbrev pub invariant-loop-key : goal.invariant-loop-key
 invariant-loop-key l = record {
   can : (goal.iterator-loop-key).can_next l.key-iterator;
   finite : (goal.iterator-loop-key).is_finite l.key-iterator;
-  left : are_keys (map (λ k. k.now) l.keys) (members_view l.key-iterator) ≡ are_keys (map (λ k. k.now) l.keys) (table_view l.table)
+  left : are_keys (map (λ k. k.now) l.keys) (members_view l.key-iterator) ≡ are_keys (map (λ k. k.now) l.keys) (table_view l.table);
 }

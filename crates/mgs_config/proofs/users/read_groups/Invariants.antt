@@ -9,5 +9,5 @@ abbrev pub invariant-loop-before : goal.invariant-loop-before
 invariant-loop-before l = record {
   users : l.directory.users ≡ l.initial.directory.users;
   groups : l.directory.groups ≡ map group_of (rows_before l.rows l.before);
-  left : first_fault (group_refused l.initial.directory.users) (rows_before l.rows l.before) (rows_from l.rows l.before) ≡ first_fault (group_refused l.initial.directory.users) [] (map view l.rows)
+  left : first_fault (group_refused l.initial.directory.users) (rows_before l.rows l.before) (rows_from l.rows l.before) ≡ first_fault (group_refused l.initial.directory.users) [] (map view l.rows);
 }

@@ -10,5 +10,5 @@ invariant-loop-before l = record {
   tickets : l.tickets ≡ map user_of (rows_before l.rows l.before);
   users : l.directory.users ≡ names_of (map user_of (rows_before l.rows l.before));
   groups : l.directory.groups ≡ [];
-  left : first_fault user_refused (rows_before l.rows l.before) (rows_from l.rows l.before) ≡ first_fault user_refused [] (map view l.rows)
+  left : first_fault user_refused (rows_before l.rows l.before) (rows_from l.rows l.before) ≡ first_fault user_refused [] (map view l.rows);
 }

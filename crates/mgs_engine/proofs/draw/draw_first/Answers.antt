@@ -1,6 +1,6 @@
 use Rattle.std.proofs.Common.{ap, ◌∙◌}
 use Rattle.mgs_engine.specs.declared.screen.Screen.{Screen}
-use Rattle.mgs_engine.specs.Screens.{size_of}
+use Rattle.mgs_engine.specs.Screens.{shown_size}
 use Rattle.mgs_engine.proofs.Repaints.{ahead_screen, ahead_drawn}
 use Rattle.mgs_engine.proofs.draw.draw_first.Goals as goal
 
@@ -11,7 +11,7 @@ paint-requires g c = record {
 }
 
 pub returns-clause-size : goal.returns-clause-size
-returns-clause-size g c = c.paint.ensures.size ∙ ap size_of c.draw_next.ensures.same
+returns-clause-size g c = c.paint.ensures.size ∙ ap shown_size c.draw_next.ensures.same
 
 pub returns-clause-drawn : goal.returns-clause-drawn
 returns-clause-drawn g c =

@@ -1,6 +1,6 @@
 use Rattle.std.proofs.Common.{ap, ◌∙◌}
 use Rattle.mgs_engine.specs.declared.screen.Screen.{Screen}
-use Rattle.mgs_engine.specs.Screens.{size_of}
+use Rattle.mgs_engine.specs.Screens.{shown_size}
 use Rattle.mgs_engine.proofs.Repaints.{ahead_screen, ahead_drawn, ahead_repaint}
 use Rattle.mgs_engine.proofs.draw.redraw.Goals as goal
 
@@ -11,7 +11,7 @@ paint_changed-requires g c = record {
 }
 
 pub returns-clause-size : goal.returns-clause-size
-returns-clause-size g c = c.paint_changed.ensures.size ∙ ap size_of c.draw_next.ensures.same
+returns-clause-size g c = c.paint_changed.ensures.size ∙ ap shown_size c.draw_next.ensures.same
 
 pub returns-clause-drawn : goal.returns-clause-drawn
 returns-clause-drawn g c =

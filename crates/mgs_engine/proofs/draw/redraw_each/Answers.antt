@@ -2,7 +2,7 @@ use Rattle.std.proofs.Common.{◌∙◌, Some, ap, sym, arith}
 use Rattle.std.proofs.lemmas.Option.{slice_get-get_or}
 use Rattle.mgs_engine.specs.declared.screen.Screen.{Screen}
 use Rattle.std.proofs.lemmas.List.Elements.{All-set}
-use Rattle.mgs_engine.specs.Screens.{IsScreen, size_of}
+use Rattle.mgs_engine.specs.Screens.{IsSessionScreen, shown_size}
 use Rattle.mgs_engine.proofs.ScreenLemmas.{rest_at, rest_after, same_set, taken_at}
 use Rattle.mgs_engine.proofs.Repaints.{drawn_next, drawn_all, repaints_next, repaints_all}
 use Rattle.mgs_engine.proofs.draw.redraw_each.Goals as goal
@@ -25,8 +25,8 @@ redraw_at-requires-clause-drawn g c =
 
 pub loop-at-preserved : goal.loop-at-preserved
 loop-at-preserved g c = record {
-  each = All-set IsScreen c.loop-at.screens c.loop-at.at c.redraw_at.new.screen c.redraw_at.ensures.screen c.loop-at.invariant.each;
-  sizes = same_set size_of c.loop-at.screens c.loop-at.at c.index-screens-at.result c.redraw_at.new.screen (omega arith) c.redraw_at.ensures.size ∙ c.loop-at.invariant.sizes;
+  each = All-set IsSessionScreen c.loop-at.screens c.loop-at.at c.redraw_at.new.screen c.redraw_at.ensures.screen c.loop-at.invariant.each;
+  sizes = same_set shown_size c.loop-at.screens c.loop-at.at c.index-screens-at.result c.redraw_at.new.screen (omega arith) c.redraw_at.ensures.size ∙ c.loop-at.invariant.sizes;
   drawn = drawn_next c.args.core.now c.loop-at.screens c.loop-at.at c.redraw_at.new.screen (omega arith) c.loop-at.invariant.drawn c.redraw_at.ensures.drawn;
   repaints = repaints_next c.loop-at.screens c.args.screens.now c.loop-at.at c.index-screens-at.result c.redraw_at.new.screen (omega arith) (omega arith) c.loop-at.invariant.rest c.loop-at.invariant.repaints c.redraw_at.ensures.repaint;
   rest = rest_after c.loop-at.screens c.args.screens.now c.loop-at.at c.redraw_at.new.screen c.loop-at.invariant.rest;

@@ -5,7 +5,7 @@ use Rattle.mgs_world.specs.Worlds.{sizes, is_size_of}
 use Rattle.mgs_model.specs.Apply.{remove_first}
 use Rattle.mgs_engine.specs.declared.screen.Screen.{Screen}
 use Rattle.mgs_engine.specs.Queues.{IsTaken, queue_id}
-use Rattle.mgs_engine.specs.Screens.{AreRepaints, IsScreen, queues_of, size_of, screen_id}
+use Rattle.mgs_engine.specs.Screens.{AreRepaints, IsSessionScreen, queues_of, shown_size, screen_id}
 use Rattle.mgs_engine.specs.Serving.{Serving, queue_ids}
 use Rattle.mgs_engine.specs.Painted.{Painted}
 use Rattle.mgs_engine.specs.Served.{serving_of}
@@ -16,12 +16,12 @@ use Rattle.mgs_engine.proofs.engine.Engine.close.Goals as goal
 pub redraw_all-requires-clause-known : goal.redraw_all-requires-clause-known
 redraw_all-requires-clause-known g c =
     known_each (sizes c.close.new.self) c.remove_screen.new.screens.items
-    (ap (map size_of) c.remove_screen.ensures ∙ sizes_removed c.args.id c.self.inside.screens.items (sizes c.self.inside.core) c.self.invariant.sizes_are ∙ sym c.close.ensures.sizes)
+    (ap (map shown_size) c.remove_screen.ensures ∙ sizes_removed c.args.id c.self.inside.screens.items (sizes c.self.inside.core) c.self.invariant.sizes_are ∙ sym c.close.ensures.sizes)
     (rw c.close.ensures.sizes (unique_removed (is_size_of c.args.id) (sizes c.self.inside.core) c.self.invariant.unique))
 
 pub redraw_all-requires-clause-each : goal.redraw_all-requires-clause-each
 redraw_all-requires-clause-each g c =
-    rw c.remove_screen.ensures (all_removed IsScreen (screen_id c.args.id) c.self.inside.screens.items c.self.invariant.each)
+    rw c.remove_screen.ensures (all_removed IsSessionScreen (screen_id c.args.id) c.self.inside.screens.items c.self.invariant.each)
 
 pub redraw_all-requires-clause-taken : goal.redraw_all-requires-clause-taken
 redraw_all-requires-clause-taken g c =
@@ -30,7 +30,7 @@ redraw_all-requires-clause-taken g c =
 
 pub invariant_of-self : goal.invariant_of-self
 invariant_of-self g c = record {
-  sizes_are = c.redraw_all.ensures.sizes ∙ ap (map size_of) c.remove_screen.ensures ∙ sizes_removed c.args.id c.self.inside.screens.items (sizes c.self.inside.core) c.self.invariant.sizes_are ∙ sym c.close.ensures.sizes;
+  sizes_are = c.redraw_all.ensures.sizes ∙ ap (map shown_size) c.remove_screen.ensures ∙ sizes_removed c.args.id c.self.inside.screens.items (sizes c.self.inside.core) c.self.invariant.sizes_are ∙ sym c.close.ensures.sizes;
   unique = rw c.close.ensures.sizes (unique_removed (is_size_of c.args.id) (sizes c.self.inside.core) c.self.invariant.unique);
   each = c.redraw_all.ensures.each;
   drawn = c.redraw_all.ensures.drawn;
@@ -48,6 +48,6 @@ returns-clause-painted g c =
     subst (λ (s : Serving). Painted s (serving_of c.close.new.self c.redraw_all.new.screens.items)) c.self.view_is
     (painted_closed c.self.inside.core c.close.new.self c.args.id c.self.inside.screens.items c.redraw_all.new.screens.items
     (rw c.self.invariant.sizes_are c.self.invariant.unique)
-    (c.redraw_all.ensures.sizes ∙ ap (map size_of) c.remove_screen.ensures ∙ sizes_removed c.args.id c.self.inside.screens.items (sizes c.self.inside.core) c.self.invariant.sizes_are ∙ sym c.close.ensures.sizes)
+    (c.redraw_all.ensures.sizes ∙ ap (map shown_size) c.remove_screen.ensures ∙ sizes_removed c.args.id c.self.inside.screens.items (sizes c.self.inside.core) c.self.invariant.sizes_are ∙ sym c.close.ensures.sizes)
     c.self.invariant.drawn c.redraw_all.ensures.drawn
     (subst (λ (xs : List Screen). AreRepaints xs c.redraw_all.new.screens.items) c.remove_screen.ensures c.redraw_all.ensures.repaints))

@@ -2,14 +2,14 @@ use Rattle.std.proofs.Common.{◌≡◌, map, ap, ◌∙◌, arith}
 use Rattle.std.proofs.lemmas.Bool.{ltb-true, lt-ltb}
 use Rattle.std.specs.List.{position_or_len}
 use Rattle.mgs_world.specs.Worlds.{sizes}
-use Rattle.mgs_engine.specs.Screens.{screen_id, size_of}
+use Rattle.mgs_engine.specs.Screens.{screen_id, shown_size}
 use Rattle.mgs_engine.specs.Serving.{Serving}
 use Rattle.mgs_engine.proofs.Screens.{open_place}
 use Rattle.mgs_engine.proofs.engine.Engine.is_open.Goals as goal
 
 pub returns : goal.returns
 returns g c =
-    let v : map size_of c.self.inside.screens.items ≡ sizes c.args.self.now.world =
+    let v : map shown_size c.self.inside.screens.items ≡ sizes c.args.self.now.world =
     c.self.invariant.sizes_are ∙ ap (λ (s : Serving). sizes s.world) c.self.view_is in
     let e : c.place_of.result ≡ position_or_len (screen_id c.args.id) c.self.inside.screens.items =
     c.place_of.ensures.value ∙ ap (position_or_len (screen_id c.args.id)) c.deref.ensures.value in

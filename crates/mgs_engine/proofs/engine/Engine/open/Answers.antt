@@ -9,7 +9,7 @@ use Rattle.mgs_engine.specs.Serving.{Serving, pending_of, queue_ids}
 use Rattle.mgs_model.specs.World.{Session, find_session}
 use Rattle.mgs_model.specs.Draw.{screen}
 use Rattle.mgs_paint.specs.Painting.{Paints}
-use Rattle.mgs_engine.specs.Screens.{AreRepaints, IsDrawn, IsScreen, queues_of, size_of}
+use Rattle.mgs_engine.specs.Screens.{AreRepaints, IsDrawn, IsSessionScreen, queues_of, shown_size}
 use Rattle.mgs_engine.proofs.Repaints.{same_size}
 use Rattle.mgs_engine.specs.Painted.{Painted}
 use Rattle.mgs_engine.specs.Served.{serving_of}
@@ -37,13 +37,13 @@ invariant_of-self-2 g c =
     let y : Size = record { id = c.in_ok-id.id; rows = c.args.rows; cols = c.args.cols } in
     record {
       sizes_are =
-          ap (map size_of) c.push_reserved.ensures.items
+          ap (map shown_size) c.push_reserved.ensures.items
           ∙ sizes_opened c.redraw_all.new.screens.items c.draw_first.new.screen (sizes c.self.inside.core) y
-          (c.redraw_all.ensures.sizes ∙ ap (map size_of) c.reserve.ensures.items ∙ c.self.invariant.sizes_are)
+          (c.redraw_all.ensures.sizes ∙ ap (map shown_size) c.reserve.ensures.items ∙ c.self.invariant.sizes_are)
           (c.draw_first.ensures.size ∙ same_size c.in_ok-id.id c.args.rows c.args.cols _ _ c.in-Ok.ensures.rows c.in-Ok.ensures.cols)
           ∙ sym c.in_ok-id.ensures.opened;
       unique = rw c.in_ok-id.ensures.opened (unique_opened y (sizes c.self.inside.core) c.in_ok-id.ensures.fresh c.self.invariant.unique);
-      each = rw c.push_reserved.ensures.items (All-push IsScreen c.redraw_all.new.screens.items c.draw_first.new.screen c.redraw_all.ensures.each c.draw_first.ensures.screen);
+      each = rw c.push_reserved.ensures.items (All-push IsSessionScreen c.redraw_all.new.screens.items c.draw_first.new.screen c.redraw_all.ensures.each c.draw_first.ensures.screen);
       drawn = rw c.push_reserved.ensures.items (All-push (IsDrawn c.open.new.self) c.redraw_all.new.screens.items c.draw_first.new.screen c.redraw_all.ensures.drawn c.draw_first.ensures.drawn);
     }
 
@@ -51,7 +51,7 @@ pub returns-clause-queue : goal.returns-clause-queue
 returns-clause-queue g c =
     let is : c.draw_first.new.screen.id ≡ c.in_ok-id.id = ap (λ (s : Size). s.id) c.draw_first.ensures.size in
     ap (λ (xs : List Screen). map queue_id (queues_of xs)) c.push_reserved.ensures.items
-    ∙ ids_opened c.redraw_all.new.screens.items c.self.inside.screens.items c.draw_first.new.screen (c.redraw_all.ensures.sizes ∙ ap (map size_of) c.reserve.ensures.items)
+    ∙ ids_opened c.redraw_all.new.screens.items c.self.inside.screens.items c.draw_first.new.screen (c.redraw_all.ensures.sizes ∙ ap (map shown_size) c.reserve.ensures.items)
     ∙ ap (λ (i : ℕ). map queue_id (queues_of c.self.inside.screens.items) ++ i ∷ []) is
     ∙ ap (λ (s : Serving). queue_ids s ++ c.in_ok-id.id ∷ []) c.self.view_is
 
@@ -70,7 +70,7 @@ returns-clause-painted g c =
 
 pub returns-clause-first : goal.returns-clause-first
 returns-clause-first g c =
-    let sizes_are : map size_of c.redraw_all.new.screens.items ≡ sizes c.self.inside.core = c.redraw_all.ensures.sizes ∙ ap (map size_of) c.reserve.ensures.items ∙ c.self.invariant.sizes_are in
+    let sizes_are : map shown_size c.redraw_all.new.screens.items ≡ sizes c.self.inside.core = c.redraw_all.ensures.sizes ∙ ap (map shown_size) c.reserve.ensures.items ∙ c.self.invariant.sizes_are in
     subst
     (λ (xs : List Screen). (y : Session) × (find_session c.in_ok-id.id c.open.new.self.sessions ≡ Some y) × Paints (screen c.open.new.self y) (pending_of c.in_ok-id.id (serving_of c.open.new.self xs)))
     (sym c.push_reserved.ensures.items)

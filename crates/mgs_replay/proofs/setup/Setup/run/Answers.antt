@@ -5,7 +5,7 @@ use Rattle.mgs_acl.specs.Spelling.{entry_in}
 use Rattle.mgs_model.specs.World.{World}
 use Rattle.mgs_script.specs.Lines as lines
 use Rattle.mgs_replay.specs.declared.setup.Draft.{Draft}
-use Rattle.mgs_replay.specs.Setups.{world_of, buffers_in, AreFit, Sets}
+use Rattle.mgs_replay.specs.Setups.{setup_world, buffers_in, AreFit, Sets}
 use Rattle.mgs_replay.proofs.Drafts.{sets_entry}
 use Rattle.mgs_replay.proofs.Fits.{entry_fits, text_fits}
 use Rattle.mgs_replay.proofs.setup.Setup.run.Goals as goal
@@ -21,12 +21,12 @@ invariant_of-self c =
 pub returns-in-Entry : goal.returns-in-Entry
 returns-in-Entry c =
     let s = c.self.inside in
-    let w = world_of s.directory (buffers_in s.drafts.items) in
+    let w = setup_world s.directory (buffers_in s.drafts.items) in
     let h = rw c.deref_mut.ensures.value at c.entry_line.ensures in
     let e : (with_items s.drafts c.entry_line.new.drafts).items ≡ c.entry_line.new.drafts = with_items_is s.drafts c.entry_line.new.drafts (omega (arith, c.entry_line.auto.drafts, ap length c.deref_mut.ensures.value, s.drafts.ok.0)) in
     rw c.in-Entry.is
-    (subst (λ (v : World). Sets c.entry_line.result (lines.Entry c.in-Entry.buffer c.in-Entry.entry.now) v (world_of s.directory (buffers_in (with_items s.drafts c.entry_line.new.drafts).items))) c.self.view_is
-    (subst (λ (ds : List Draft). Sets c.entry_line.result (lines.Entry c.in-Entry.buffer c.in-Entry.entry.now) w (world_of s.directory (buffers_in ds))) (sym e)
+    (subst (λ (v : World). Sets c.entry_line.result (lines.Entry c.in-Entry.buffer c.in-Entry.entry.now) v (setup_world s.directory (buffers_in (with_items s.drafts c.entry_line.new.drafts).items))) c.self.view_is
+    (subst (λ (ds : List Draft). Sets c.entry_line.result (lines.Entry c.in-Entry.buffer c.in-Entry.entry.now) w (setup_world s.directory (buffers_in ds))) (sym e)
     (sets_entry c.entry_line.result w c.in-Entry.buffer c.in-Entry.entry.now (buffers_in c.entry_line.new.drafts) h)))
 
 pub invariant_of-self-in-Text : goal.invariant_of-self-in-Text

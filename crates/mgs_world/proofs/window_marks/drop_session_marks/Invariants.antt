@@ -5,7 +5,7 @@ use Rattle.mgs_windows.specs.declared.Window.{Window}
 use Rattle.mgs_world.specs.Worlds.{buffers_of}
 use Rattle.mgs_world.specs.Sound.{in_use, session_uses, sum_of, window_uses}
 use Rattle.mgs_world.specs.WindowMarks.{MarksStay}
-use Rattle.mgs_world.proofs.window_marks.drop_all_window_marks.Given as goal
+use Rattle.mgs_world.proofs.window_marks.drop_session_marks.Given as goal
 
 -- what the windows still to come use is in use, and what was in use is either still or was theirs that went
 pub record Dropping (m : List ℕ) (i before now all left : ℕ) : Type 0 where
