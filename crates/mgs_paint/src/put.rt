@@ -4,12 +4,13 @@ ghost use Rattle.mgs_term.specs.Sequences.{number, spelling};
 ghost use Rattle.mgs_term.specs.declared.operation.Operation.TheVariants.{Goto, Reverse, Plain, Unwrap, Print};
 ghost use Rattle.mgs_paint.specs.Operations.{bytes_of, row_operations};
 ghost use Rattle.mgs_model.specs.Picture.{IsPrintable};
+ghost use Rattle.mgs_model.specs.declared.limits.TheConstants.{ROWS_MAX};
 
 use mgs_grid::Line;
 
 const ESCAPE: u8 = 0x1b;
 
-/// A number in decimal, without leading zeros.
+/// A number below 1000 in decimal, without leading zeros.
 pub fn put_number(out: &mut Vec<u8>, n: usize)
     requires small { n < 1000 }
     requires room { vec_len out.old + 3 ≤ vec_capacity out.old }
@@ -29,7 +30,7 @@ pub fn put_number(out: &mut Vec<u8>, n: usize)
     }
 }
 
-/// `ESC [ r ; c H`, for a row and a column from 0.
+/// `ESC [ r ; c H`, for a row and a column from 0, below 999.
 pub fn put_goto(out: &mut Vec<u8>, row: usize, col: usize)
     requires row { row < 999 }
     requires col { col < 999 }
@@ -89,7 +90,7 @@ pub fn put_text(out: &mut Vec<u8>, text: &[char])
 
 /// One row, from its first column on.
 pub fn put_row(out: &mut Vec<u8>, row: usize, line: &Line)
-    requires row { row < 64 }
+    requires row { row < ROWS_MAX }
     requires printable { All IsPrintable line.now.text }
     requires room { vec_len out.old + 14 + length line.now.text ≤ vec_capacity out.old }
     ensures items { out.new.items ≡ out.old.items ++ bytes_of (row_operations row line.now) }

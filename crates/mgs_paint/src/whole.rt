@@ -1,5 +1,6 @@
 ghost use Rattle.std.specs.Prelude.{◌≡◌, ℕ, List, ◌+◌, ◌*◌, ◌≤◌, ◌++◌, length, vec_len, vec_capacity, All};
 ghost use Rattle.mgs_model.specs.Picture.{IsRow, IsSize};
+ghost use Rattle.mgs_model.specs.declared.limits.TheConstants.{COLS_MAX, ROWS_MAX};
 ghost use Rattle.mgs_paint.specs.Painting.{bound_of, Paints};
 ghost use Rattle.mgs_paint.specs.Operations.{bytes_of, rows_operations, whole_operations};
 
@@ -15,8 +16,8 @@ pub fn bound(rows: usize, cols: usize) -> usize
 }
 
 fn put_rows(out: &mut Vec<u8>, cols: usize, lines: &[Line])
-    requires rows { length lines.now ≤ 64 }
-    requires cols { cols ≤ 160 }
+    requires rows { length lines.now ≤ ROWS_MAX }
+    requires cols { cols ≤ COLS_MAX }
     requires each { All (IsRow cols) lines.now }
     requires room { vec_len out.old + length lines.now * (14 + cols) ≤ vec_capacity out.old }
     ensures items { out.new.items ≡ out.old.items ++ bytes_of (rows_operations 0 lines.now) }

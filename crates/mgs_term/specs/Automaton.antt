@@ -1,4 +1,4 @@
--- The terminal byte by byte: which place in a sequence it is at, and where the next_step byte leads.
+-- The terminal byte by byte: which place in a sequence it is at, and where the next byte leads.
 use Rattle.std.specs.Prelude.{◌≡◌, ◌⊎◌, ℕ, ◌+◌, ◌-◌, ◌*◌, ◌≤◌, Bool, true, false, not, ◌&&◌, ◌||◌, List, [], ◌∷◌, ◌++◌, nat_le, ◌==◌, if◌then◌else◌}
 use Rattle.mgs_term.specs.Screen.{Screen, blank_screen}
 use Rattle.mgs_term.specs.Sequences.{number, spelling, Accepts, after}

@@ -21,7 +21,7 @@ pub record IsScreen (s : Screen) : Type 0 where
   pub row_in : s.row < s.rows
   pub col_in : s.col < s.cols
 
--- a cell shows visible ASCII or a blank_cell
+-- a cell shows visible ASCII or a blank
 abbrev pub IsPrintableCell : Cell → Type 0
 IsPrintableCell c = IsPrintable c.character
 

@@ -6,7 +6,7 @@ pub struct Cell {
 }
 
 impl Cell {
-    /// What an erased cell shows.
+    /// An erased cell: a plain space.
     pub const BLANK: Cell = Cell {
         character: ' ',
         reversed: false,

@@ -28,7 +28,7 @@ pub(crate) enum Place {
     Refused,
 }
 
-/// What the next_step byte comes to.
+/// The effect of the next byte.
 #[derive(Clone, Copy, Debug)]
 pub(crate) enum Next {
     /// No accepted sequence has it.
@@ -54,7 +54,7 @@ fn digit_of(byte: u8) -> usize
     usize::from(byte - b'0')
 }
 
-/// What a byte comes to at a place, on a terminal of a size and with its wrap flag.
+/// The effect of a byte at a place, on a terminal of a size and with its wrap flag.
 pub(crate) fn next_of(rows: usize, cols: usize, wrapping: bool, place: Place, byte: u8) -> Next
     requires size { IsSize rows cols }
     requires place { IsPlace rows cols place }
