@@ -3,3 +3,4 @@ pub mod Firsts
 pub mod Entries
 pub mod Filling
 pub mod Paths
+pub mod Settled

@@ -5,8 +5,9 @@ ghost use Rattle.mgs_config.specs.Document.{document_in, rows_at};
 ghost use Rattle.mgs_config.specs.Buffers.{buffer_refused};
 ghost use Rattle.mgs_config.specs.Faults.{first_fault, names_of};
 ghost use Rattle.mgs_config.specs.Files.{AreBuffers};
-ghost use Rattle.mgs_config.specs.World.{users_in, directory_in, people_refused, paths_in, IsLaterFault, IsConfigFault};
+ghost use Rattle.mgs_config.specs.World.{fault_of, users_in, directory_in, people_refused, paths_in, IsLaterFault, IsConfigFault};
 ghost use Rattle.mgs_config.specs.declared.fault.TableFault.TheVariants.{Short};
+ghost use Rattle.mgs_config.specs.declared.fault.ConfigTable.TheVariants.{Top};
 
 use crate::buffers::string_at;
 use crate::document::{is_configuration, read_document, rows_at};
@@ -101,12 +102,23 @@ fn read_paths(alloc: Global, rows: &[Value]) -> Result<Vec<BufferFile>, AllocErr
 }
 
 fn short() -> ConfigFault
-    ensures { result.fault ≡ Short }
+    ensures { result ≡ fault_of Top (0, Short) }
 {
     ConfigFault {
         table: ConfigTable::Top,
         index: 0,
         fault: TableFault::Short,
+    }
+}
+
+// Out of memory is a fault of the document, whichever table was read.
+fn settled(fault: ConfigFault) -> ConfigFault
+    ensures long { result.fault ≢ Short → result ≡ fault }
+    ensures short { result.fault ≡ Short → result ≡ fault_of Top (0, Short) }
+{
+    match fault.fault {
+        TableFault::Short => short(),
+        _ => fault,
     }
 }
 
@@ -148,18 +160,8 @@ fn configure<F: Files>(
     }
 }
 
-/// Reads a configuration: a TOML document with lists of tables `[[user]]` (`name`, `ticket`), `[[group]]` (`name`, `members`) and
-/// `[[buffer]]` (`name`, `owner`, `list`, and `text` or `file`; neither is an empty text). Members and owners are users; files are
-/// read by `files`.
-///
-/// The faults are those of the document (`top 0`: `Toml` where it is none, `Key` where it has another key, or one that is no list of
-/// tables), and then that of the first table that has one, users before groups before buffers. `Short`, for out of memory, may come
-/// at any point, and names the table that was read.
-pub fn read_config<F: Files>(
-    alloc: Global,
-    text: &str,
-    files: &mut F,
-) -> Result<Config, ConfigFault>
+// The same, where `Short` may name any table.
+fn read_parts<F: Files>(alloc: Global, text: &str, files: &mut F) -> Result<Config, ConfigFault>
     ensures directory { IfOk result (λ c. Some c.directory ≡ option_map directory_in (document_in text.now)) }
     ensures tickets { IfOk result (λ c. Some c.tickets ≡ option_map users_in (document_in text.now)) }
     ensures buffers { IfOk result (λ c. IfSome (document_in text.now) (λ d. AreBuffers (F.tells files.old) (rows_at (codes "buffer") d) c.buffers)) }
@@ -175,5 +177,32 @@ pub fn read_config<F: Files>(
             index: 0,
             fault,
         }),
+    }
+}
+
+/// Reads a configuration: a TOML document with lists of tables `[[user]]` (`name`, `ticket`), `[[group]]` (`name`, `members`) and
+/// `[[buffer]]` (`name`, `owner`, `list`, and `text` or `file`; neither is an empty text). Members and owners are users; files are
+/// read by `files`.
+///
+/// The faults are those of the document (`top 0`: `Toml` where it is none, `Key` where it has another key, or one that is no list of
+/// tables), and then that of the first table that has one, users before groups before buffers. `Short` (`top 0`) is for
+/// out of memory, and may come at any point.
+pub fn read_config<F: Files>(
+    alloc: Global,
+    text: &str,
+    files: &mut F,
+) -> Result<Config, ConfigFault>
+    ensures directory { IfOk result (λ c. Some c.directory ≡ option_map directory_in (document_in text.now)) }
+    ensures tickets { IfOk result (λ c. Some c.tickets ≡ option_map users_in (document_in text.now)) }
+    ensures buffers { IfOk result (λ c. IfSome (document_in text.now) (λ d. AreBuffers (F.tells files.old) (rows_at (codes "buffer") d) c.buffers)) }
+    ensures files { IfOk result (λ c. Some (map (λ f. (string_bytes f.name, string_bytes f.path)) c.files.items) ≡ option_map (λ d. paths_in (rows_at (codes "buffer") d)) (document_in text.now)) }
+    ensures due { OnOk result (IfSome (document_in text.now) (λ d. people_refused d ≡ None)) }
+    ensures none { OnOk result (IfSome (document_in text.now) (λ d. first_fault (buffer_refused (names_of (users_in d))) [] (rows_at (codes "buffer") d) ≡ None)) }
+    ensures err { IfErr result (λ e. e.fault ≢ Short → IsConfigFault (document_in text.now) (F.tells files.old) (F.count files.old) (F.count files.new) e) }
+    ensures short { IfErr result (λ e. e.fault ≡ Short → e ≡ fault_of Top (0, Short)) }
+{
+    match read_parts(alloc, text, files) {
+        Ok(config) => Ok(config),
+        Err(fault) => Err(settled(fault)),
     }
 }

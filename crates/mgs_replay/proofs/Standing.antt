@@ -9,7 +9,7 @@ use Rattle.std.specs.Io.KnownBytes.{Appends}
 use Rattle.mgs_model.specs.World.{World}
 use Rattle.mgs_script.specs.Lines.{Said, said_in}
 use Rattle.mgs_script.specs.Lines as said
-use Rattle.mgs_script.specs.Scripts.{lines_of, line_in, behind_line, lines_behind}
+use Rattle.mgs_script.specs.Scripts.{lines_of, line_in, after_line, lines_after}
 use Rattle.mgs_replay.specs.Settings.{first_world}
 use Rattle.mgs_replay.specs.Players.{Player, LineDoes, LineRefused, setting, first_player}
 use Rattle.mgs_replay.specs.Plays.{End, Whole, RefusedAt, Plays, MayPrint, Written}
@@ -22,7 +22,7 @@ use Rattle.mgs_replay.specs.declared.script.ReplayFault.TheVariants as ends
 
 -- the lines of what is left of a text
 abbrev pub lines_left : Option (Bor (List ℕ)) → List (List ℕ)
-lines_left rest = lines_behind (option_map (λ x. x.now) rest)
+lines_left rest = lines_after (option_map (λ x. x.now) rest)
 
 -- what the lines left print from here, after what was printed all lines may print
 pub record Stands (first : ℕ) (start : Player) (all : List (List ℕ)) (old now : Option (List ℕ)) (n : ℕ) (s : Player) (left : List (List ℕ)) : Type 0 where
@@ -51,7 +51,7 @@ stands_refused first start all old mid new n s line left h refused app =
 
 -- the first line of what is left, and the others
 pub left_cut : (rest : Option (Bor (List ℕ))) (text : Bor (List ℕ)) (line : List ℕ) (later : Option (Bor (List ℕ))) → rest ≡ Some text
-    → lines_of text.now ≡ line ∷ lines_behind (option_map (λ x. x.now) later) → lines_left rest ≡ line ∷ lines_left later
+    → lines_of text.now ≡ line ∷ lines_after (option_map (λ x. x.now) later) → lines_left rest ≡ line ∷ lines_left later
 left_cut rest text line later is cut = ap lines_left is ∙ cut
 
 pub left_none : (rest : Option (Bor (List ℕ))) → rest ≡ None → lines_left rest ≡ []
@@ -98,16 +98,16 @@ ends_on r turns.Short first start all old mid new n s t line left is h turned = 
 
 whole_by : (n : ℕ) (w v : World) (script text : List ℕ) (out : List ℕ) (end : End)
     → w ≡ first_world → ((out : List ℕ) (end : End) → Plays n (setting v) (lines_of text) out end → Plays 1 (setting w) (lines_of script) out end) → IsOpening (said_in (line_in text))
-    → lines_of text ≡ line_in text ∷ lines_behind (behind_line text) → Plays n (first_player v []) (lines_of text) out end → Plays 1 (setting first_world) (lines_of script) out end
+    → lines_of text ≡ line_in text ∷ lines_after (after_line text) → Plays n (first_player v []) (lines_of text) out end → Plays 1 (setting first_world) (lines_of script) out end
 whole_by n w v script text out end first goes is cut h =
-    let cut_plays : Plays n (first_player v []) (line_in text ∷ lines_behind (behind_line text)) out end = subst (λ (ls : List (List ℕ)). Plays n (first_player v []) ls out end) cut h in
-    let set_plays : Plays n (setting v) (lines_of text) out end = subst (λ (ls : List (List ℕ)). Plays n (setting v) ls out end) (sym cut) (opens_first n v (line_in text) (lines_behind (behind_line text)) out end is cut_plays) in
+    let cut_plays : Plays n (first_player v []) (line_in text ∷ lines_after (after_line text)) out end = subst (λ (ls : List (List ℕ)). Plays n (first_player v []) ls out end) cut h in
+    let set_plays : Plays n (setting v) (lines_of text) out end = subst (λ (ls : List (List ℕ)). Plays n (setting v) ls out end) (sym cut) (opens_first n v (line_in text) (lines_after (after_line text)) out end is cut_plays) in
     subst (λ (x : World). Plays 1 (setting x) (lines_of script) out end) first (goes out end set_plays)
 
 -- the lines before the first open, and those from it on
 pub played : (r : Result (Unit {0}) ReplayFault) (n : ℕ) (w v : World) (script text : List ℕ) (old new : Option (List ℕ))
     → w ≡ first_world → ((out : List ℕ) (end : End) → Plays n (setting v) (lines_of text) out end → Plays 1 (setting w) (lines_of script) out end) → IsOpening (said_in (line_in text))
-    → lines_of text ≡ line_in text ∷ lines_behind (behind_line text) → PlaysOn r n (first_player v []) (lines_of text) old new → Written first_world script old new r
+    → lines_of text ≡ line_in text ∷ lines_after (after_line text) → PlaysOn r n (first_player v []) (lines_of text) old new → Written first_world script old new r
 unfolding MayPrint
 played (Ok u) n w v script text old new first goes is cut h = (h.0, h.1, whole_by n w v script text h.0 Whole first goes is cut h.2)
 played (Err (ends.Line m)) n w v script text old new first goes is cut h = (h.0, h.1, whole_by n w v script text h.0 (RefusedAt m) first goes is cut h.2)

@@ -19,10 +19,3 @@ after_line script = rest_after is_feed script
 -- the lines of what stands after it
 abbrev pub lines_after : Option (List ℕ) → List (List ℕ)
 lines_after rest = parts_after is_feed rest
-
--- the same by the names that mgs_replay has for them
-abbrev pub behind_line : List ℕ → Option (List ℕ)
-behind_line script = after_line script
-
-abbrev pub lines_behind : Option (List ℕ) → List (List ℕ)
-lines_behind rest = lines_after rest
