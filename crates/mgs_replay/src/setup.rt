@@ -41,7 +41,7 @@ impl<'a> Model for Setup<'a> {
 
     ghost use Rattle.mgs_replay.specs.Setups.{world_of, buffers_in, AreFit};
 
-    ghost line_view = { λ s. world_of s.directory (buffers_in s.drafts.items) };
+    ghost view = { λ s. world_of s.directory (buffers_in s.drafts.items) };
 
     ghost invariant = { λ s. AreFit (buffers_in s.drafts.items) };
 }
