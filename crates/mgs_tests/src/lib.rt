@@ -4,6 +4,8 @@
 #[cfg(test)]
 mod buffers;
 #[cfg(test)]
+mod config;
+#[cfg(test)]
 mod decisions;
 #[cfg(test)]
 mod directory;
