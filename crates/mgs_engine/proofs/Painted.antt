@@ -34,10 +34,10 @@ screen_sizes : (id : ℕ) (xs : List Screen) → find_size id (map shown_size xs
 screen_sizes id xs = find-map shown_size (screen_id id) (is_size_of id) (λ x. refl) xs
 
 -- the screen of a session
-screen_known : (w : World) (xs : List Screen) (id : ℕ) (x : Session) → map shown_size xs ≡ sizes w → find_session id w.sessions ≡ Some x → (s : Screen) × (find (screen_id id) xs ≡ Some s) × (shown_size s ≡ core.size_of x)
+screen_known : (w : World) (xs : List Screen) (id : ℕ) (x : Session) → map shown_size xs ≡ sizes w → find_session id w.sessions ≡ Some x → (s : Screen) × (find (screen_id id) xs ≡ Some s) × (shown_size s ≡ core.session_size x)
 screen_known w xs id x e f =
-    some_of shown_size (find (screen_id id) xs) (core.size_of x)
-    (sym (screen_sizes id xs) ∙ ap (find_size id) e ∙ found_sizes id w ∙ ap (option_map core.size_of) f)
+    some_of shown_size (find (screen_id id) xs) (core.session_size x)
+    (sym (screen_sizes id xs) ∙ ap (find_size id) e ∙ found_sizes id w ∙ ap (option_map core.session_size) f)
 
 -- ALL SCREENS
 

@@ -50,12 +50,12 @@ same_size id rows cols r c e d =
 
 -- WHAT IS FOUND
 
-pub found_sizes : (id : ℕ) (w : World) → find_size id (sizes w) ≡ option_map core.size_of (find_session id w.sessions)
-found_sizes id w = find-map core.size_of (has_id id) (is_size_of id) (λ x. refl) w.sessions
+pub found_sizes : (id : ℕ) (w : World) → find_size id (sizes w) ≡ option_map core.session_size (find_session id w.sessions)
+found_sizes id w = find-map core.session_size (has_id id) (is_size_of id) (λ x. refl) w.sessions
 
 -- the session of a screen
-pub session_known : (w : World) (x : Screen) → IsKnown (sizes w) x → (s : Session) × (find_session x.id w.sessions ≡ Some s) × (core.size_of s ≡ shown_size x)
-session_known w x h = some_of core.size_of (find_session x.id w.sessions) (shown_size x) (sym (found_sizes x.id w) ∙ h)
+pub session_known : (w : World) (x : Screen) → IsKnown (sizes w) x → (s : Session) × (find_session x.id w.sessions ≡ Some s) × (core.session_size s ≡ shown_size x)
+session_known w x h = some_of core.session_size (find_session x.id w.sessions) (shown_size x) (sym (found_sizes x.id w) ∙ h)
 
 -- ONE SCREEN
 
@@ -72,7 +72,7 @@ pub ahead_screen : (w : World) (old new : Screen) → IsKnown (sizes w) old → 
 ahead_screen w old new k h s =
     let known = session_known w old k in
     let same : known.0 ≡ h.session = same_some known.0 h.session (sym known.1 ∙ h.found) in
-    let size : core.size_of h.session ≡ shown_size old = ap core.size_of (sym same) ∙ known.2 in
+    let size : core.session_size h.session ≡ shown_size old = ap core.session_size (sym same) ∙ known.2 in
     subst IsSessionScreen (sym h.same)
     (record {
       rows = screen_rows w h.session ∙ ap (λ (z : Size). z.rows) size;

@@ -39,9 +39,9 @@ impl<'a> Model for Setup<'a> {
 
     ghost Value = { World };
 
-    ghost use Rattle.mgs_replay.specs.Setups.{world_of, buffers_in, AreFit};
+    ghost use Rattle.mgs_replay.specs.Setups.{setup_world, buffers_in, AreFit};
 
-    ghost view = { λ s. world_of s.directory (buffers_in s.drafts.items) };
+    ghost view = { λ s. setup_world s.directory (buffers_in s.drafts.items) };
 
     ghost invariant = { λ s. AreFit (buffers_in s.drafts.items) };
 }

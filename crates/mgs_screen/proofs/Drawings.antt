@@ -80,7 +80,7 @@ pane_put first height pane text old between new room count size put below =
 
 -- A TEXT THAT MAY BE READ
 
-shift_same : (selected : Bool) (cols : ℕ) (text : List ℕ) (point : ℕ) → screens.point_shift selected cols (column text point) ≡ point_shift selected cols text point
+shift_same : (selected : Bool) (cols : ℕ) (text : List ℕ) (point : ℕ) → screens.screen_shift selected cols (column text point) ≡ point_shift selected cols text point
 shift_same true cols text point = refl
 shift_same false cols text point = refl
 
@@ -99,11 +99,11 @@ measured text point top line above row place start is over down at from = record
   start_is = from;
 }
 
-pub text_drawn : (selected : Bool) (cols height : ℕ) (heading : Option (List ℕ × Bool)) (text : List ℕ) (point top line row place start shift : ℕ) → IsMeasured text point top line row place start → shift ≡ screens.point_shift selected cols place
+pub text_drawn : (selected : Bool) (cols height : ℕ) (heading : Option (List ℕ × Bool)) (text : List ℕ) (point top line row place start shift : ℕ) → IsMeasured text point top line row place start → shift ≡ screens.screen_shift selected cols place
     → text_rows cols (shift_at row shift) 0 height (drop start text) ++ mode_row cols (buffer_mode heading (Some (line + 1, place))) ∷ []
     ≡ pane_rows selected cols height text top point ++ mode_row cols (buffer_mode heading (place_of text point)) ∷ []
 text_drawn selected cols height heading text point top line row place start shift is shifted =
-    let moved : shift ≡ point_shift selected cols text point = shifted ∙ ap (screens.point_shift selected cols) is.place_is ∙ shift_same selected cols text point in
+    let moved : shift ≡ point_shift selected cols text point = shifted ∙ ap (screens.screen_shift selected cols) is.place_is ∙ shift_same selected cols text point in
     ap (λ (n : ℕ). text_rows cols (shift_at n shift) 0 height (drop start text) ++ mode_row cols (buffer_mode heading (Some (line + 1, place))) ∷ []) is.row_is
     ∙ ap (λ (n : ℕ). text_rows cols (shift_at (point_row text top point) n) 0 height (drop start text) ++ mode_row cols (buffer_mode heading (Some (line + 1, place))) ∷ []) moved
     ∙ ap (λ (n : ℕ). text_rows cols (shift_at (point_row text top point) (point_shift selected cols text point)) 0 height (drop n text) ++ mode_row cols (buffer_mode heading (Some (line + 1, place))) ∷ []) is.start_is

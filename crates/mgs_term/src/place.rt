@@ -58,7 +58,7 @@ fn digit_of(byte: u8) -> usize
 pub(crate) fn next_of(rows: usize, cols: usize, wrapping: bool, place: Place, byte: u8) -> Next
     requires size { IsSize rows cols }
     requires place { IsPlace rows cols place }
-    ensures next_step { result ≡ next_step rows cols wrapping place byte }
+    ensures next { result ≡ next_step rows cols wrapping place byte }
     ensures fits { IsNext rows cols wrapping result }
     ensures spelled { IsSpelled place byte result }
 {
@@ -109,7 +109,7 @@ pub(crate) fn next_of(rows: usize, cols: usize, wrapping: bool, place: Place, by
 
 fn next_bracket(rows: usize, cols: usize, wrapping: bool, byte: u8) -> Next
     requires size { IsSize rows cols }
-    ensures next_step { result ≡ next_step rows cols wrapping Bracket byte }
+    ensures next { result ≡ next_step rows cols wrapping Bracket byte }
     ensures fits { IsNext rows cols wrapping result }
     ensures spelled { IsSpelled Bracket byte result }
 {
@@ -129,7 +129,7 @@ fn next_bracket(rows: usize, cols: usize, wrapping: bool, byte: u8) -> Next
 fn next_number(rows: usize, cols: usize, wrapping: bool, number: usize, byte: u8) -> Next
     requires size { IsSize rows cols }
     requires number { IsPlace rows cols (Number number) }
-    ensures next_step { result ≡ next_step rows cols wrapping (Number number) byte }
+    ensures next { result ≡ next_step rows cols wrapping (Number number) byte }
     ensures fits { IsNext rows cols wrapping result }
     ensures spelled { IsSpelled (Number number) byte result }
 {
@@ -156,7 +156,7 @@ fn next_column(
 ) -> Next
     requires size { IsSize rows cols }
     requires place { IsPlace rows cols (Column row column) }
-    ensures next_step { result ≡ next_step rows cols wrapping (Column row column) byte }
+    ensures next { result ≡ next_step rows cols wrapping (Column row column) byte }
     ensures fits { IsNext rows cols wrapping result }
     ensures spelled { IsSpelled (Column row column) byte result }
 {

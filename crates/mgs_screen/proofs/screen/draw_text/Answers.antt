@@ -23,7 +23,7 @@ returns-clause-lines g c =
     let is : IsMeasured text c.pos-point.result c.pos-top.result line row place start =
     measured text c.pos-point.result c.pos-top.result line c.line_of.result row place start c.line_of-line.ensures c.line_of.ensures c.saturating_sub-row.ensures c.column-column.ensures.value c.line_start.ensures.value in
     let pane : List Row = text_rows cols (shift_at row shift) 0 height (drop start text) in
-    let shifted : shift ≡ screens.point_shift c.args.place.selected cols place = c.shifted-shift.ensures.shift ∙ ap (λ (n : ℕ). screens.point_shift c.args.place.selected n place) c.cols-cols.ensures.value in
+    let shifted : shift ≡ screens.screen_shift c.args.place.selected cols place = c.shifted-shift.ensures.shift ∙ ap (λ (n : ℕ). screens.screen_shift c.args.place.selected n place) c.cols-cols.ensures.value in
     pane_put c.args.place.first height pane (buffer_mode c.args.heading (Some (line + 1, place))) c.args.grid.now c.draw_text.new.self c.draw_mode.new.self
     c.requires.room c.cols-cols.ensures.picture.count (length-text_rows cols (shift_at row shift) 0 height (drop start text)) c.draw_text.ensures c.draw_mode.ensures
     ∙ ap (λ (rows : List Row). rows_put c.args.place.first rows c.args.grid.now.lines) (
