@@ -21,7 +21,7 @@ use Rattle.mgs_replay.specs.declared.client.Client.TheVariants as clients
 use Rattle.mgs_script.specs.Lines as said
 use Rattle.mgs_replay.specs.Prints.{refusal_text, screen_text, ended_text}
 use Rattle.mgs_replay.specs.Clients.{is_labelled, client_of, shown_text}
-use Rattle.mgs_replay.specs.Players.{Label, label, Standing, Never, Has, first_player, standing_of, session_now, had_session, labels_keyed, Shows}
+use Rattle.mgs_replay.specs.Players.{Label, label, Standing, Never, Has, begun, standing_of, session_now, had_session, labels_keyed, Shows}
 use Rattle.mgs_replay.specs.Served.{Prints, standing_in, labels_in, ClientShows, Shows as IsShown, IsReady, IsWaiting, clients_keyed, player_of, Runs, NotBad}
 use Rattle.mgs_replay.proofs.Events.{standing_at, labels_gone, labels_push, waiting_ended, ready_never, All-found}
 
@@ -110,10 +110,10 @@ shows_run (Err Short) e xs name old new ready h =
 -- AN OPEN
 
 pub opened_runs : (r : Result (Unit {0}) LineFault) (w v u : World) (ls ms : List Label) (name user : List ℕ) (rows cols id : ℕ) (out : List ℕ) → is_some (standing_of name ls) ≡ false → OpenedBy w v user rows cols (Ok id)
-    → NotBad r → OnOk r (u ≡ v) → OnOk r (ms ≡ ls ++ label name (Has id) ∷ []) → Runs r (first_player w ls) (said.Open name user rows cols) (first_player u ms) out out
+    → NotBad r → OnOk r (u ≡ v) → OnOk r (ms ≡ ls ++ label name (Has id) ∷ []) → Runs r (begun w ls) (said.Open name user rows cols) (begun u ms) out out
 opened_runs (Ok d) w v u ls ms name user rows cols id out free opened bad world labels =
     let now : OpenedBy w u user rows cols (Ok id) = subst (λ (x : World). OpenedBy w x user rows cols (Ok id)) (sym world) opened in
-    (free, ([], (Ok id, (now, ap (λ (xs : List Label). first_player u xs) labels, refl)), sym (append-nil out)))
+    (free, ([], (Ok id, (now, ap (λ (xs : List Label). begun u xs) labels, refl)), sym (append-nil out)))
 opened_runs (Err Bad) w v u ls ms name user rows cols id out free opened bad world labels = absurd bad
 opened_runs (Err Short) w v u ls ms name user rows cols id out free opened bad world labels = free
 
@@ -121,7 +121,7 @@ pub refused_runs : (r : Result (Unit {0}) LineFault) (old new : Serving) (xs ys 
     → NotBad r → OnOk r (ys ≡ xs ++ record { label = name; client = clients.Never } ∷ []) → OnOk r (printed ≡ out ++ refusal_text name fault) → Runs r (player_of old xs) (said.Open name user rows cols) (player_of new ys) out printed
 refused_runs (Ok d) old new xs ys name user rows cols fault out printed free opened bad clients_are print =
     let labels : labels_in ys ≡ labels_in xs ++ label name Never ∷ [] = ap labels_in clients_are ∙ labels_push xs (record { label = name; client = clients.Never }) in
-    (free, (refusal_text name fault, (Err fault, (opened, ap (λ (ls : List Label). first_player new.world ls) labels, refl)), print))
+    (free, (refusal_text name fault, (Err fault, (opened, ap (λ (ls : List Label). begun new.world ls) labels, refl)), print))
 refused_runs (Err Bad) old new xs ys name user rows cols fault out printed free opened bad clients_are print = absurd bad
 refused_runs (Err Short) old new xs ys name user rows cols fault out printed free opened bad clients_are print = free
 
@@ -129,7 +129,7 @@ pub some_map : {A B : Type 0} (f : A → B) (o : Option A) → is_some (option_m
 some_map f None = refl
 some_map f (Some x) = refl
 
-pub player_is : (w v : World) (ls ms : List Label) → w ≡ v → ls ≡ ms → first_player w ls ≡ first_player v ms
+pub player_is : (w v : World) (ls ms : List Label) → w ≡ v → ls ≡ ms → begun w ls ≡ begun v ms
 player_is w v ls ms e f = cc
 
 pub refused_ready : (r : Result (Unit {0}) LineFault) (old new : Serving) (xs ys : List Labelled) (name : List ℕ) → OnOk r (ys ≡ xs ++ record { label = name; client = clients.Never } ∷ []) → new ≡ old → IsReady old xs → OnOk r (IsReady new ys)

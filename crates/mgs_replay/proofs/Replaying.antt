@@ -10,12 +10,13 @@ use Rattle.mgs_model.specs.declared.errors.Keyed.{Keyed}
 use Rattle.mgs_model.specs.declared.errors.Keyed.TheVariants as keyed
 use Rattle.mgs_model.specs.declared.errors.OpenFault.{OpenFault}
 use Rattle.mgs_model.specs.declared.errors.OpenFault.TheVariants as opening
-use Rattle.mgs_core.specs.Steps.{KeyedBy, open_fault}
+use Rattle.mgs_core.specs.Steps.{KeyedBy}
+use Rattle.mgs_model.specs.Events.{open_fault}
 use Rattle.mgs_script.specs.Lines.{Said, said_in}
 use Rattle.mgs_script.specs.Lines as said
 use Rattle.mgs_script.specs.Scripts.{lines_of}
 use Rattle.mgs_replay.specs.Settings.{first_world}
-use Rattle.mgs_replay.specs.Players.{Player, Label, label, Standing, Never, Has, Gone, first_player, labels_keyed, standing_of, session_now, setting, is_refused, TypesOne, Types, Opens, Shows, Closes, Does, LineDoes, LineRefused}
+use Rattle.mgs_replay.specs.Players.{Player, Label, label, Standing, Never, Has, Gone, begun, labels_keyed, standing_of, session_now, setting, is_refused, TypesOne, Types, Opens, Shows, Closes, Does, LineDoes, LineRefused}
 use Rattle.mgs_replay.specs.Plays.{End, Whole, RefusedAt, Plays, MayPrint}
 use Rattle.mgs_replay.specs.Replayed.{Choice, granted, next_choice, next_choices, later, AllGranted, Did, did, stop_of, world_keyed, answer_of, key_answer, typed_one, typed, open_answer, opened, session_text, label_text, closed, did_by, Replayed, after_print, line_then, played_with, replayed_with, replayed, IsReplayed}
 
@@ -36,7 +37,7 @@ answer_is (Some x) (Some y) None keyed.Quit short none quit = let e : Some y ≡
 answer_is (Some x) (Some y) None keyed.Short short none quit = let e : is_some {T = ℕ} None ≡ true = short.0 refl in absurd cc
 
 abbrev player : World → List Label → Bool → Player
-player w ls b = record { world = w; labels = ls; first_player = b }
+player w ls b = record { world = w; labels = ls; begun = b }
 
 player_same : (p : Player) (w : World) (ls : List Label) (b : Bool) → w ≡ p.world → ls ≡ p.labels → b ≡ p.begun → player w ls b ≡ p
 player_same p w ls b e f g = ap (λ (x : World). player x ls b) e ∙ ap (λ (x : List Label). player p.world x b) f ∙ ap (λ (x : Bool). player p.world p.labels x) g
@@ -90,8 +91,8 @@ next_is w id user rows cols h = grind (arith, nat_tests)
 did_same : (s t : Player) (a b : List ℕ) → s ≡ t → a ≡ b → did s a ≡ did t b
 did_same s t a b e f = cc
 
-begun_same : (t : Player) (w : World) (ls : List Label) → t ≡ first_player t.world ls → t.world ≡ w → first_player w ls ≡ t
-begun_same t w ls e f = ap (λ (v : World). first_player v ls) (sym f) ∙ sym e
+begun_same : (t : Player) (w : World) (ls : List Label) → t ≡ begun t.world ls → t.world ≡ w → begun w ls ≡ t
+begun_same t w ls e f = ap (λ (v : World). begun v ls) (sym f) ∙ sym e
 
 open_done : (s : Player) (name user : List ℕ) (rows cols : ℕ) (answer : Result ℕ OpenFault) (t : Player) (print : List ℕ) → Opens s name user rows cols answer t print
     → opened s name user rows cols answer ≡ did t print

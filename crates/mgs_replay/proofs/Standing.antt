@@ -11,7 +11,7 @@ use Rattle.mgs_script.specs.Lines.{Said, said_in}
 use Rattle.mgs_script.specs.Lines as said
 use Rattle.mgs_script.specs.Scripts.{lines_of, line_in, after_line, lines_after}
 use Rattle.mgs_replay.specs.Settings.{first_world}
-use Rattle.mgs_replay.specs.Players.{Player, LineDoes, LineRefused, setting, first_player}
+use Rattle.mgs_replay.specs.Players.{Player, LineDoes, LineRefused, setting, begun}
 use Rattle.mgs_replay.specs.Plays.{End, Whole, RefusedAt, Plays, MayPrint, Written}
 use Rattle.mgs_replay.specs.Turns.{IsOpening, Turned, PlaysOn, SetUp}
 use Rattle.mgs_replay.specs.Faults.{end_at}
@@ -58,7 +58,7 @@ pub left_none : (rest : Option (Bor (List ℕ))) → rest ≡ None → lines_lef
 left_none rest is = ap lines_left is
 
 -- an open is the same before and after the first
-opens_does : (l : Option Said) (w : World) (t : Player) (print : List ℕ) → IsOpening l → LineDoes l (first_player w []) t print → LineDoes l (setting w) t print
+opens_does : (l : Option Said) (w : World) (t : Player) (print : List ℕ) → IsOpening l → LineDoes l (begun w []) t print → LineDoes l (setting w) t print
 opens_does None w t print is h = absurd is
 opens_does (Some said.Nothing) w t print is h = absurd is
 opens_does (Some (said.User name)) w t print is h = absurd is
@@ -71,7 +71,7 @@ opens_does (Some (said.Keys name keys)) w t print is h = absurd is
 opens_does (Some (said.Show name)) w t print is h = absurd is
 opens_does (Some (said.Close name)) w t print is h = absurd is
 
-opens_refused : (l : Option Said) (w : World) → IsOpening l → LineRefused l (first_player w []) → LineRefused l (setting w)
+opens_refused : (l : Option Said) (w : World) → IsOpening l → LineRefused l (begun w []) → LineRefused l (setting w)
 opens_refused None w is h = absurd is
 opens_refused (Some said.Nothing) w is h = absurd is
 opens_refused (Some (said.User name)) w is h = absurd is
@@ -84,7 +84,7 @@ opens_refused (Some (said.Keys name keys)) w is h = absurd is
 opens_refused (Some (said.Show name)) w is h = absurd is
 opens_refused (Some (said.Close name)) w is h = absurd is
 
-pub opens_first : (n : ℕ) (w : World) (line : List ℕ) (left : List (List ℕ)) (out : List ℕ) (end : End) → IsOpening (said_in line) → Plays n (first_player w []) (line ∷ left) out end → Plays n (setting w) (line ∷ left) out end
+pub opens_first : (n : ℕ) (w : World) (line : List ℕ) (left : List (List ℕ)) (out : List ℕ) (end : End) → IsOpening (said_in line) → Plays n (begun w []) (line ∷ left) out end → Plays n (setting w) (line ∷ left) out end
 opens_first n w line left out end is (inl h) = inl (h.0, h.1, h.2, opens_does (said_in line) w h.0 h.1 is h.3, h.4, h.5)
 opens_first n w line left out end is (inr h) = inr (opens_refused (said_in line) w is h.0, h.1, h.2)
 
@@ -98,16 +98,16 @@ ends_on r turns.Short first start all old mid new n s t line left is h turned = 
 
 whole_by : (n : ℕ) (w v : World) (script text : List ℕ) (out : List ℕ) (end : End)
     → w ≡ first_world → ((out : List ℕ) (end : End) → Plays n (setting v) (lines_of text) out end → Plays 1 (setting w) (lines_of script) out end) → IsOpening (said_in (line_in text))
-    → lines_of text ≡ line_in text ∷ lines_after (after_line text) → Plays n (first_player v []) (lines_of text) out end → Plays 1 (setting first_world) (lines_of script) out end
+    → lines_of text ≡ line_in text ∷ lines_after (after_line text) → Plays n (begun v []) (lines_of text) out end → Plays 1 (setting first_world) (lines_of script) out end
 whole_by n w v script text out end first goes is cut h =
-    let cut_plays : Plays n (first_player v []) (line_in text ∷ lines_after (after_line text)) out end = subst (λ (ls : List (List ℕ)). Plays n (first_player v []) ls out end) cut h in
+    let cut_plays : Plays n (begun v []) (line_in text ∷ lines_after (after_line text)) out end = subst (λ (ls : List (List ℕ)). Plays n (begun v []) ls out end) cut h in
     let set_plays : Plays n (setting v) (lines_of text) out end = subst (λ (ls : List (List ℕ)). Plays n (setting v) ls out end) (sym cut) (opens_first n v (line_in text) (lines_after (after_line text)) out end is cut_plays) in
     subst (λ (x : World). Plays 1 (setting x) (lines_of script) out end) first (goes out end set_plays)
 
 -- the lines before the first open, and those from it on
 pub played : (r : Result (Unit {0}) ReplayFault) (n : ℕ) (w v : World) (script text : List ℕ) (old new : Option (List ℕ))
     → w ≡ first_world → ((out : List ℕ) (end : End) → Plays n (setting v) (lines_of text) out end → Plays 1 (setting w) (lines_of script) out end) → IsOpening (said_in (line_in text))
-    → lines_of text ≡ line_in text ∷ lines_after (after_line text) → PlaysOn r n (first_player v []) (lines_of text) old new → Written first_world script old new r
+    → lines_of text ≡ line_in text ∷ lines_after (after_line text) → PlaysOn r n (begun v []) (lines_of text) old new → Written first_world script old new r
 unfolding MayPrint
 played (Ok u) n w v script text old new first goes is cut h = (h.0, h.1, whole_by n w v script text h.0 Whole first goes is cut h.2)
 played (Err (ends.Line m)) n w v script text old new first goes is cut h = (h.0, h.1, whole_by n w v script text h.0 (RefusedAt m) first goes is cut h.2)

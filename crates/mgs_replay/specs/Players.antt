@@ -63,15 +63,15 @@ gone name cause x = if is_called name x then label x.name (Gone cause) else x
 pub record Player : Type 0 where
   pub world : World
   pub labels : List Label
-  pub first_player : Bool
+  pub begun : Bool
 
 -- before the first open
 abbrev pub setting : World → Player
-setting w = record { world = w; labels = []; first_player = false }
+setting w = record { world = w; labels = []; begun = false }
 
 -- from the first open on
-abbrev pub first_player : World → List Label → Player
-first_player w xs = record { world = w; labels = xs; first_player = true }
+abbrev pub begun : World → List Label → Player
+begun w xs = record { world = w; labels = xs; begun = true }
 
 -- LINES
 
@@ -91,9 +91,9 @@ is_refused s (Close name) = not (had_session (standing_of name s.labels))
 -- a session opens, or its open is refused, which is printed; the label is used either way
 abbrev pub Opens : Player → List ℕ → List ℕ → ℕ → ℕ → Result ℕ OpenFault → Player → List ℕ → Type 0
 Opens s name user rows cols (Ok id) t print =
-    OpenedBy s.world t.world user rows cols (Ok id) × (t ≡ first_player t.world (s.labels ++ label name (Has id) ∷ [])) × (print ≡ [])
+    OpenedBy s.world t.world user rows cols (Ok id) × (t ≡ begun t.world (s.labels ++ label name (Has id) ∷ [])) × (print ≡ [])
 Opens s name user rows cols (Err fault) t print =
-    OpenedBy s.world t.world user rows cols (Err fault) × (t ≡ first_player t.world (s.labels ++ label name Never ∷ [])) × (print ≡ refusal_text name fault)
+    OpenedBy s.world t.world user rows cols (Err fault) × (t ≡ begun t.world (s.labels ++ label name Never ∷ [])) × (print ≡ refusal_text name fault)
 
 -- the labels after a byte of one of them: `Quit` ends its session
 abbrev pub labels_keyed : Keyed → List ℕ → List Label → List Label
@@ -125,7 +125,7 @@ Shows w name (Some (Gone cause)) print = print ≡ ended_text name cause
 abbrev pub Closes : Option ℕ → Player → List ℕ → Player → Type 0
 Closes None s name t = t ≡ s
 Closes (Some id) s name t =
-    t ≡ record { world = step s.world (events.Close id); labels = map (gone name causes.Closed) s.labels; first_player = s.begun }
+    t ≡ record { world = step s.world (events.Close id); labels = map (gone name causes.Closed) s.labels; begun = s.begun }
 
 -- a line that is not refused leads from player to player, and prints this
 abbrev pub Does : Player → Said → Player → List ℕ → Type 0

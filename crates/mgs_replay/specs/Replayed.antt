@@ -8,14 +8,14 @@ use Rattle.mgs_model.specs.declared.errors.Keyed.{Keyed}
 use Rattle.mgs_model.specs.declared.errors.Keyed.TheVariants as keyed
 use Rattle.mgs_model.specs.declared.errors.OpenFault.{OpenFault}
 use Rattle.mgs_model.specs.declared.errors.OpenFault.TheVariants as opening
-use Rattle.mgs_core.specs.Steps.{open_fault}
+use Rattle.mgs_model.specs.Events.{open_fault}
 use Rattle.mgs_paint.specs.Painting.{shown}
 use Rattle.mgs_script.specs.Lines.{Said, said_in, Nothing, User, Group, Buffer, Entry as Listing, Text, Open, Keys, Show, Close}
 use Rattle.mgs_script.specs.Scripts.{lines_of}
 use Rattle.mgs_replay.specs.declared.client.Cause.TheVariants as causes
 use Rattle.mgs_replay.specs.Settings.{first_world, world_set}
 use Rattle.mgs_replay.specs.Prints.{refusal_text, ended_text, screen_text}
-use Rattle.mgs_replay.specs.Players.{Player, label, Standing, Never, Has, Gone, standing_of, session_now, gone, labels_keyed, setting, first_player, is_refused}
+use Rattle.mgs_replay.specs.Players.{Player, label, Standing, Never, Has, Gone, standing_of, session_now, gone, labels_keyed, setting, begun, is_refused}
 use Rattle.mgs_replay.specs.Plays.{End, Whole, RefusedAt, MayPrint}
 
 -- CHOICES
@@ -80,7 +80,7 @@ key_answer c w id byte = answer_of (find_session id w.sessions) (find_session id
 abbrev pub typed_one : Choice → Option ℕ → Player → List ℕ → ℕ → Player
 typed_one c None s name byte = s
 typed_one c (Some id) s name byte =
-    record { world = world_keyed c s.world id byte; labels = labels_keyed (key_answer c s.world id byte) name s.labels; first_player = s.begun }
+    record { world = world_keyed c s.world id byte; labels = labels_keyed (key_answer c s.world id byte) name s.labels; begun = s.begun }
 
 -- bytes of a label, one after another
 abbrev pub typed : List Choice → Player → List ℕ → List ℕ → Player
@@ -99,8 +99,8 @@ open_answer c None id = granted_id c.stop id
 
 -- an `open` line, by the answer
 abbrev pub opened : Player → List ℕ → List ℕ → ℕ → ℕ → Result ℕ OpenFault → Did
-opened s name user rows cols (Ok id) = did (first_player (step s.world (events.Open id user rows cols)) (s.labels ++ label name (Has id) ∷ [])) []
-opened s name user rows cols (Err fault) = did (first_player s.world (s.labels ++ label name Never ∷ [])) (refusal_text name fault)
+opened s name user rows cols (Ok id) = did (begun (step s.world (events.Open id user rows cols)) (s.labels ++ label name (Has id) ∷ [])) []
+opened s name user rows cols (Err fault) = did (begun s.world (s.labels ++ label name Never ∷ [])) (refusal_text name fault)
 
 -- the screen of an open session
 abbrev pub session_text : World → List ℕ → Option Session → List ℕ
@@ -117,7 +117,7 @@ label_text w name (Some (Gone cause)) = ended_text name cause
 -- a `close` line, by the open session of its label
 abbrev pub closed : Option ℕ → Player → List ℕ → Player
 closed None s name = s
-closed (Some id) s name = record { world = step s.world (events.Close id); labels = map (gone name causes.Closed) s.labels; first_player = s.begun }
+closed (Some id) s name = record { world = step s.world (events.Close id); labels = map (gone name causes.Closed) s.labels; begun = s.begun }
 
 -- what a line that is not refused does
 abbrev pub did_by : List Choice → Player → Said → Did

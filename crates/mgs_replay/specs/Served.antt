@@ -20,7 +20,7 @@ use Rattle.mgs_script.specs.declared.line.LineFault.{LineFault}
 use Rattle.mgs_script.specs.declared.line.LineFault.TheVariants as lines
 use Rattle.mgs_script.specs.Lines.{Said}
 use Rattle.mgs_replay.specs.Clients.{ended_by}
-use Rattle.mgs_replay.specs.Players.{Label, label, Standing, Never, Has, Gone, Player, first_player, standing_of, session_now, is_refused, Does, LineDoes, LineRefused}
+use Rattle.mgs_replay.specs.Players.{Label, label, Standing, Never, Has, Gone, Player, begun, standing_of, session_now, is_refused, Does, LineDoes, LineRefused}
 
 -- how a label stands, by its client
 abbrev pub standing_in : Client → Standing
@@ -103,7 +103,7 @@ session_in name xs = session_now (standing_of name (labels_in xs))
 
 -- the player from the first open on
 abbrev pub player_of : Serving → List Labelled → Player
-player_of e xs = first_player e.world (labels_in xs)
+player_of e xs = begun e.world (labels_in xs)
 
 -- the labels' clients after a byte of one of them
 abbrev pub clients_keyed : Keyed → List ℕ → List Labelled → List Labelled

@@ -4,7 +4,7 @@ ghost use Rattle.mgs_replay.specs.Faults.{fault_of, end_at, IsPlayed, IsSet};
 ghost use Rattle.mgs_script.specs.Lines.{said_in};
 ghost use Rattle.mgs_script.specs.Scripts.{lines_of};
 ghost use Rattle.mgs_replay.specs.Settings.{first_world};
-ghost use Rattle.mgs_replay.specs.Players.{first_player};
+ghost use Rattle.mgs_replay.specs.Players.{begun};
 ghost use Rattle.mgs_replay.specs.Plays.{Written};
 ghost use Rattle.mgs_replay.specs.Served.{player_of, IsReady};
 ghost use Rattle.mgs_replay.specs.Turns.{Turned, PlaysOn, SetsSaid, SetUp};
@@ -83,7 +83,7 @@ fn run_lines<W: Write>(
     requires first { 1 ≤ first }
     requires counted { first + length text.now ≤ SCRIPT_LIMIT + 1 }
     ensures line { IsPlayed result }
-    ensures written { PlaysOn result first (first_player server.old.world []) (lines_of text.now) (W.contents writer.old) (W.contents writer.new) }
+    ensures written { PlaysOn result first (begun server.old.world []) (lines_of text.now) (W.contents writer.old) (W.contents writer.new) }
 {
     let mut clients = Clients::new(alloc);
     let mut out = Vec::new(alloc);
