@@ -45,58 +45,25 @@ fn gap_text_is_edited_at_both_ends(rt: HostRuntime) -> Result<(), Fail> {
 #[test]
 fn gap_text_grows(rt: HostRuntime) -> Result<(), Fail> {
     let mut text = GapText::of(rt.alloc(), &['a', 'z'])?;
-    let end = text.add_mark(2)?;
-    let mut length = 2;
-    for size in [1, 2, 7, 40, 300] {
+    for size in 1..60usize {
+        let length = text.len();
+        assert!(rt; 2 <= length && length < 4000);
         let put = Vec::from_elem(rt.alloc(), 'q', size)?;
         text.replace(1, 1, &put)?;
-        length += size;
-        assert_eq!(rt; text.len(), length, "after {size}");
-        assert_eq!(rt; text.pos(end), length, "after {size}");
+        assert_eq!(rt; text.len(), length + size, "after {size}");
         assert_eq!(rt; text.at(0), 'a');
         assert_eq!(rt; text.at(1), 'q');
-        assert_eq!(rt; text.at(length - 2), 'q');
-        assert_eq!(rt; text.at(length - 1), 'z');
+        assert_eq!(rt; text.at(length + size - 1), 'z');
     }
-    Ok(())
-}
-
-#[test]
-fn marks_stand_at_the_gap(rt: HostRuntime) -> Result<(), Fail> {
-    let mut text = GapText::of(rt.alloc(), &['a', 'b', 'c', 'd', 'e', 'f'])?;
-    // The gap stands at 3 after this edit.
-    text.replace(3, 4, &[])?;
-    let before = text.add_mark(2)?;
-    let at = text.add_mark(3)?;
-    let after = text.add_mark(4)?;
-    text.replace(3, 3, &['x'])?;
-    assert_eq!(rt;
-        [text.pos(before), text.pos(at), text.pos(after)],
-        [2, 3, 5]
-    );
-    text.replace(3, 4, &[])?;
-    assert_eq!(rt;
-        [text.pos(before), text.pos(at), text.pos(after)],
-        [2, 3, 4]
-    );
-    text.replace(1, 3, &['y'])?;
-    assert_eq!(rt;
-        [text.pos(before), text.pos(at), text.pos(after)],
-        [1, 2, 3]
-    );
-    assert!(rt; text.copy(0, 4)?.as_slice() == ['a', 'y', 'e', 'f'].as_slice());
     Ok(())
 }
 
 #[test]
 fn characters_are_typed_in_a_row(rt: HostRuntime) -> Result<(), Fail> {
     let mut text = GapText::of(rt.alloc(), &['<', '>'])?;
-    let start = text.add_mark(1)?;
-    let end = text.add_mark(2)?;
     for i in 0..100 {
+        assert_eq!(rt; text.len(), i + 2);
         text.replace(i + 1, i + 1, &['a'])?;
-        assert_eq!(rt; text.pos(start), 1);
-        assert_eq!(rt; text.pos(end), i + 3);
     }
     assert_eq!(rt; text.len(), 102);
     assert_eq!(rt; text.at(100), 'a');
