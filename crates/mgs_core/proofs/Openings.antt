@@ -4,6 +4,7 @@ use Rattle.std.specs.Prelude.{find, is_some, nat_le, ◌==◌, ◌&&◌, ◌||�
 use Rattle.std.specs.Option.{option_map}
 use Rattle.std.proofs.lemmas.List.{length-map, map-append}
 use Rattle.mgs_model.specs.Names.{same_name}
+use Rattle.mgs_model.specs.Picture.{IsSize}
 use Rattle.mgs_model.specs.Access.{Directory, is_among}
 use Rattle.mgs_model.specs.World.{World, Buffer, Buffer_of, may}
 use Rattle.mgs_model.specs.World as model
@@ -20,6 +21,7 @@ use Rattle.mgs_world.specs.Sound.{IsSound, in_use}
 use Rattle.mgs_world.specs.WindowMarks.{FirstWindowMarks, MarksStay, WindowMarksDropped, first_name, window_marks_name}
 use Rattle.mgs_model.specs.declared.right.Right.TheVariants.{ReadAttributes}
 use Rattle.mgs_core.specs.Steps.{OpenAnswers, OpenedBy}
+use Rattle.mgs_core.proofs.Stays.{opened_rests}
 use Rattle.mgs_world.proofs.Marks.{same_is}
 use Rattle.mgs_world.proofs.Worlds.{same_window, same_windows, same_world}
 use Rattle.mgs_world.proofs.Soundness.{AreInUse, in_use_more, sound_in_use, sound_same}
@@ -67,22 +69,18 @@ world_undone d ks ls xs next sound h =
 pub sound_undone : (ks ls : List MarkedBuffer) (xs : List Session) → IsSound ks xs → WindowMarksDropped None ks ls → IsSound ls xs
 sound_undone ks ls xs sound h = sound_same ks ls xs (λ m i. omega (arith, h.uses m i)) sound
 
--- ys are the sessions with the new one, and settling makes L
-pub opened_at : (d : Directory) (ks ls L : List MarkedBuffer) (xs ys : List Session) (id : ℕ) (user : List ℕ) (rows cols : ℕ) (o : Option WindowMarks) → IsSound ks xs → FirstWindowMarks o ks ls → window_marks_name o ≡ first_name d user ks
+-- ys are the sessions with the new one
+pub opened_at : (d : Directory) (ks ls : List MarkedBuffer) (xs ys : List Session) (id : ℕ) (user : List ℕ) (rows cols : ℕ) (o : Option WindowMarks) → IsSound ks xs → FirstWindowMarks o ks ls → window_marks_name o ≡ first_name d user ks
     → ys ≡ xs ++ session_opened id user rows cols o ∷ []
-    → ((next : Option ℕ) → world_of d L ys next ≡ settled (world_of d ls ys next))
-    → world_of d L ys (Some (id + 1)) ≡ settled (opened (world_of d ks xs (Some id)) id user rows cols)
-opened_at d ks ls L xs ys id user rows cols o sound h named more settles =
+    → world_of d ls ys (Some (id + 1)) ≡ opened (world_of d ks xs (Some id)) id user rows cols
+opened_at d ks ls xs ys id user rows cols o sound h named more =
     let y = session_opened id user rows cols o in
     let used = sound_in_use ks xs sound in
     let seen : map (session_of ls) (xs ++ y ∷ []) ≡ map (session_of ks) xs ++ new_session d (buffers_of ks) id user rows cols ∷ [] =
     map-append (session_of ls) xs (y ∷ [])
     ∙ ap (λ (ss : List model.Session). ss ++ session_of ls y ∷ []) (sessions_stay ks ls xs used (in_use_more ks ls xs (first_more o ks ls h) used) (first_stay o ks ls h))
     ∙ ap (λ (s : model.Session). map (session_of ks) xs ++ s ∷ []) (session_new d ks ls id user rows cols o h named) in
-    settles (Some (id + 1))
-    ∙ ap (λ (zs : List Session). settled (world_of d ls zs (Some (id + 1)))) more
-    ∙ ap (λ (bs : List Buffer). settled (record { directory = d; buffers = bs; sessions = map (session_of ls) (xs ++ y ∷ []); next_id = id + 1 })) (first_buffers o ks ls h)
-    ∙ ap (λ (ss : List model.Session). settled (record { directory = d; buffers = buffers_of ks; sessions = ss; next_id = id + 1 })) seen
+    ap (λ (zs : List Session). world_of d ls zs (Some (id + 1))) more ∙ same_world d _ _ _ _ (id + 1) (first_buffers o ks ls h) seen
 
 -- WHY NOT
 
@@ -157,14 +155,19 @@ answers w user rows cols Short e = never_short (is_among user w.directory.users)
 pub opened_fault : (w : World) (user : List ℕ) (rows cols : ℕ) (fault : OpenFault) → open_fault w user rows cols ≡ Some fault → OpenedBy w w user rows cols (Err fault)
 opened_fault w user rows cols fault e = record { ok = tt; err = refl; answer = answers w user rows cols fault e }
 
--- the answer of a server that keeps xs and ks, and then ys and L
-pub opened_by : (w : World) (d : Directory) (ks L : List MarkedBuffer) (xs ys : List Session) (now after : Option ℕ) (id : ℕ) (user found : List ℕ) (rows cols : ℕ) → world_of d ks xs now ≡ w → now ≡ Some id → id_after after ≡ id + 1 → find (same_name user) d.users ≡ Some found → open_fault w user rows cols ≡ None
-    → world_of d L ys (Some (id + 1)) ≡ settled (opened (world_of d ks xs (Some id)) id found rows cols)
-    → OpenedBy w (world_of d L ys after) user rows cols (Ok id)
-opened_by w d ks L xs ys now after id user found rows cols view is behind named well done =
-    opened_ok w (world_of d L ys after) id user rows cols well (sym (ap id_after is) ∙ ap (λ (v : World). v.next_id) view)
-    (ap (λ (n : ℕ). let v : World = record { directory = d; buffers = buffers_of L; sessions = map (session_of L) ys; next_id = n } in v) behind
+-- the world of a server that keeps xs and ks, and then ys and ls
+pub opened_is : (w : World) (d : Directory) (ks ls : List MarkedBuffer) (xs ys : List Session) (now after : Option ℕ) (id : ℕ) (user found : List ℕ) (rows cols : ℕ) → world_of d ks xs now ≡ w → now ≡ Some id → id_after after ≡ id + 1 → find (same_name user) d.users ≡ Some found
+    → world_of d ls ys (Some (id + 1)) ≡ opened (world_of d ks xs (Some id)) id found rows cols
+    → world_of d ls ys after ≡ opened w id user rows cols
+opened_is w d ks ls xs ys now after id user found rows cols view is behind named done =
+    ap (λ (n : ℕ). let v : World = record { directory = d; buffers = buffers_of ls; sessions = map (session_of ls) ys; next_id = n } in v) behind
     ∙ done
-    ∙ ap (λ (o : Option ℕ). settled (opened (world_of d ks xs o) id found rows cols)) (sym is)
-    ∙ ap (λ (v : World). settled (opened v id found rows cols)) view
-    ∙ ap (λ (u : List ℕ). settled (opened w id u rows cols)) (user_found user found d.users named))
+    ∙ ap (λ (o : Option ℕ). opened (world_of d ks xs o) id found rows cols) (sym is)
+    ∙ ap (λ (v : World). opened v id found rows cols) view
+    ∙ ap (λ (u : List ℕ). opened w id u rows cols) (user_found user found d.users named)
+
+-- and its answer
+pub opened_by : (w v : World) (d : Directory) (ks : List MarkedBuffer) (xs : List Session) (now : Option ℕ) (id : ℕ) (user : List ℕ) (rows cols : ℕ) → world_of d ks xs now ≡ w → now ≡ Some id → open_fault w user rows cols ≡ None → IsSize rows cols → settled w ≡ w → v ≡ opened w id user rows cols → OpenedBy w v user rows cols (Ok id)
+opened_by w v d ks xs now id user rows cols view is well size rests done =
+    opened_ok w v id user rows cols well (sym (ap id_after is) ∙ ap (λ (u : World). u.next_id) view)
+    (done ∙ sym (opened_rests w id user rows cols (omega (arith, size.some_rows)) rests))

@@ -3,6 +3,7 @@ use Rattle.std.proofs.Common.{◌≡◌, ℕ, ◌≤◌, Bool, true, false, cond
 use Rattle.std.specs.Prelude.{find, nat_eq, All}
 use Rattle.std.specs.Option.{option_or, option_map}
 use Rattle.std.specs.Cmp.{unsigned_Decides}
+use Rattle.std.proofs.lemmas.List.{map-append}
 use Rattle.std.proofs.lemmas.List.Elements.{All-head, All-tail, All-cons, All-nil}
 use Rattle.std.proofs.lemmas.List.Folds.{find-append}
 use Rattle.mgs_model.proofs.Firsts.{find-map}
@@ -17,10 +18,10 @@ use Rattle.mgs_world.specs.Worlds.{find_size, sizes, is_size_of, IsOther, IsUniq
 use Rattle.mgs_world.specs.Worlds as core
 use Rattle.mgs_engine.specs.declared.screen.Screen.{Screen}
 use Rattle.mgs_engine.specs.Queues.{waiting_in, is_queue_of}
-use Rattle.mgs_engine.specs.Screens.{queue_of, shown_size, Drawn, drawn_of, screen_id, IsDrawn, IsRepaint, AreRepaints, IsFirst}
+use Rattle.mgs_engine.specs.Screens.{queue_of, queues_of, shown_size, Drawn, drawn_of, screen_id, IsDrawn, IsRepaint, AreRepaints, IsFirst}
 use Rattle.mgs_engine.proofs.ScreenLemmas.{All-unmap}
-use Rattle.mgs_engine.proofs.Ids.{All-found, none_of, same_some, some_of}
-use Rattle.mgs_engine.proofs.Repaints.{found_sizes, screen_cols, screen_rows}
+use Rattle.mgs_core.proofs.Ids.{All-found, none_of, same_some, some_of}
+use Rattle.mgs_engine.proofs.Repaints.{found_sizes, no_repaint, screen_cols, screen_rows}
 use Rattle.mgs_engine.specs.Serving.{pending_of}
 use Rattle.mgs_engine.specs.Painted.{PaintedBy, Painted}
 use Rattle.mgs_engine.specs.Served.{serving_of}
@@ -79,20 +80,6 @@ found_after id (x ∷ xs) (y ∷ ys) s h e =
     ]
     in subst goal (ap (λ n. nat_eq n id) (sym h.0.id)) (go (nat_eq x.id id) e)
 
--- and before where it is found after
-found_before : (id : ℕ) (xs ys : List Screen) (t : Screen) → AreRepaints xs ys → find (screen_id id) ys ≡ Some t → (s : Screen) × (find (screen_id id) xs ≡ Some s) × IsRepaint s t
-found_before id [] [] t h e = cc
-found_before id [] (y ∷ ys) t h e = absurd h
-found_before id (x ∷ xs) [] t h e = absurd h
-found_before id (x ∷ xs) (y ∷ ys) t h e =
-    let goal : Bool → Type 0 = λ b. (s : Screen) × (cond b (Some x) (find (screen_id id) xs) ≡ Some s) × IsRepaint s t in
-    let go : (b : Bool) → cond b (Some y) (find (screen_id id) ys) ≡ Some t → goal b =
-    λ b. elim b as (λ b. cond b (Some y) (find (screen_id id) ys) ≡ Some t → goal b) [
-      | true ↦ λ f. let is : y ≡ t = cc in (x, refl, subst (λ (z : Screen). IsRepaint x z) is h.0)
-      | false ↦ λ f. found_before id xs ys t h.1 f
-    ]
-    in subst goal (ap (λ n. nat_eq n id) h.0.id) (go (nat_eq y.id id) e)
-
 -- what is found after one that was taken out was found before
 found_kept : (k id : ℕ) (xs : List Screen) (s : Screen) → IsUnique (map shown_size xs) → find (screen_id id) (remove_first (screen_id k) xs) ≡ Some s → find (screen_id id) xs ≡ Some s
 found_kept k id [] s u e = e
@@ -148,20 +135,18 @@ painted_all w v olds news e od nd h = λ id x y fx fy.
     let t = found_after id olds news s.0 h s.1 in
     painted_pair w v olds news id x y s.0 t.0 od nd s.1 t.1 t.2 fx fy
 
--- and one more screen comes
-pub painted_opened : (w v : World) (olds news : List Screen) (z : Screen) → map shown_size olds ≡ sizes w → All (IsDrawn w) olds → All (IsDrawn v) (news ++ z ∷ []) → AreRepaints olds news → Painted (serving_of w olds) (serving_of v (news ++ z ∷ []))
-painted_opened w v olds news z e od nd h = λ id x y fx fy.
-    let s = screen_known w olds id x e fx in
-    let t = found_after id olds news s.0 h s.1 in
-    let f : find (screen_id id) (news ++ z ∷ []) ≡ Some t.0 = find-append (screen_id id) news (z ∷ []) ∙ ap (λ o. option_or o (find (screen_id id) (z ∷ []))) t.1 in
-    painted_pair w v olds (news ++ z ∷ []) id x y s.0 t.0 od nd s.1 f t.2 fx fy
+-- one more screen comes
+pub painted_opened : (w v : World) (xs ys : List Screen) (z : Screen) → ys ≡ xs ++ z ∷ [] → map shown_size xs ≡ sizes w → All (IsDrawn w) xs → All (IsDrawn v) ys → Painted (serving_of w xs) (serving_of v ys)
+painted_opened w v xs ys z is e od nd = λ id x y fx fy.
+    let s = screen_known w xs id x e fx in
+    let f : find (screen_id id) ys ≡ Some s.0 = ap (find (screen_id id)) is ∙ find-append (screen_id id) xs (z ∷ []) ∙ ap (λ o. option_or o (find (screen_id id) (z ∷ []))) s.1 in
+    painted_pair w v xs ys id x y s.0 s.0 od nd s.1 f (no_repaint s.0) fx fy
 
--- a screen was taken out before
-pub painted_closed : (w v : World) (k : ℕ) (olds news : List Screen) → IsUnique (map shown_size olds) → map shown_size news ≡ sizes v → All (IsDrawn w) olds → All (IsDrawn v) news → AreRepaints (remove_first (screen_id k) olds) news → Painted (serving_of w olds) (serving_of v news)
-painted_closed w v k olds news u e od nd h = λ id x y fx fy.
-    let t = screen_known v news id y e fy in
-    let s = found_before id (remove_first (screen_id k) olds) news t.0 h t.1 in
-    painted_pair w v olds news id x y s.0 t.0 od nd (found_kept k id olds s.0 u s.1) t.1 s.2 fx fy
+-- one is taken out
+pub painted_closed : (w v : World) (k : ℕ) (xs ys : List Screen) → ys ≡ remove_first (screen_id k) xs → IsUnique (map shown_size xs) → map shown_size ys ≡ sizes v → All (IsDrawn w) xs → All (IsDrawn v) ys → Painted (serving_of w xs) (serving_of v ys)
+painted_closed w v k xs ys is u e od nd = λ id x y fx fy.
+    let s = screen_known v ys id y e fy in
+    painted_pair w v xs ys id x y s.0 s.0 od nd (found_kept k id xs s.0 u (ap (find (screen_id id)) (sym is) ∙ s.1)) s.1 (no_repaint s.0) fx fy
 
 -- the bytes of a screen that was first drawn paint the screen of its session
 first_shown : (w : World) (xs : List Screen) (id : ℕ) (x : Session) (s : Screen) → All (IsDrawn w) xs → find (screen_id id) xs ≡ Some s → find_session id w.sessions ≡ Some x → IsFirst s → Paints (screen w x) (pending_of id (serving_of w xs))
@@ -175,10 +160,19 @@ found_opened id xs z i n =
     ∙ ap (λ o. option_or o (find (screen_id id) (z ∷ []))) (none_of shown_size (find (screen_id id) xs) (sym (screen_sizes id xs) ∙ n))
     ∙ ap (λ b. cond b (Some z) None) (eq-eqb z.id id i)
 
-pub first_opened : (w : World) (xs : List Screen) (z : Screen) (id : ℕ) → z.id ≡ id → find_size id (map shown_size xs) ≡ None → All (IsDrawn w) (xs ++ z ∷ []) → IsDrawn w z → IsFirst z → (x : Session) × (find_session id w.sessions ≡ Some x) × Paints (screen w x) (pending_of id (serving_of w (xs ++ z ∷ [])))
-first_opened w xs z id i n h d p =
-    let f : find_session id w.sessions ≡ Some d.session = ap (λ k. find_session k w.sessions) (sym i) ∙ d.found in
-    (d.session, f, first_shown w (xs ++ z ∷ []) id d.session z h (found_opened id xs z i n) f p)
+-- the queues are those before and that of the new screen
+pub queues_opened : (w : World) (xs : List Screen) (z : Screen) (id : ℕ) → z.id ≡ id → find_size id (map shown_size xs) ≡ None → queues_of (xs ++ z ∷ []) ≡ queues_of xs ++ record { id = id; bytes = pending_of id (serving_of w (xs ++ z ∷ [])) } ∷ []
+queues_opened w xs z id i n =
+    map-append queue_of xs (z ∷ [])
+    ∙ ap (λ (k : ℕ). queues_of xs ++ record { id = k; bytes = z.queue.items } ∷ []) i
+    ∙ ap (λ (bs : List ℕ). queues_of xs ++ record { id = id; bytes = bs } ∷ []) (sym (pending_found w (xs ++ z ∷ []) id z (found_opened id xs z i n)))
+
+-- and its bytes paint its screen
+pub first_opened : (w : World) (xs : List Screen) (z : Screen) (id : ℕ) → z.id ≡ id → find_size id (map shown_size xs) ≡ None → IsDrawn w z → IsFirst z → (x : Session) × (find_session id w.sessions ≡ Some x) × Paints (screen w x) (pending_of id (serving_of w (xs ++ z ∷ [])))
+first_opened w xs z id i n d p =
+    let bytes : List ℕ = pending_of id (serving_of w (xs ++ z ∷ [])) in
+    let all : bytes ≡ z.queue.items = pending_found w (xs ++ z ∷ []) id z (found_opened id xs z i n) in
+    (d.session, ap (λ k. find_session k w.sessions) (sym i) ∙ d.found, subst (λ (q : Picture). Paints q bytes) d.picture (subst (Paints z.shown) (sym all) p))
 
 -- ALL AT FIRST
 

@@ -1,5 +1,5 @@
 -- Screens that are drawn and painted.
-use Rattle.std.proofs.Common.{◌≡◌, ℕ, false, zero, suc, ◌+◌, ◌*◌, ◌<◌, ◌≤◌, List, [], ◌∷◌, ◌++◌, length, get_or, set, take, drop, map, Option, Some, None, refl, sym, ap, subst, ◌∙◌, arith}
+use Rattle.std.proofs.Common.{◌≡◌, ℕ, zero, suc, ◌+◌, ◌*◌, ◌<◌, ◌≤◌, List, [], ◌∷◌, ◌++◌, length, get_or, set, take, drop, map, Some, None, refl, sym, ap, subst, ◌∙◌, arith}
 use Rattle.std.specs.Prelude.{slice_get, All}
 use Rattle.std.specs.List.{flat_map}
 use Rattle.std.specs.Option.{option_map}
@@ -19,10 +19,8 @@ use Rattle.mgs_world.specs.Worlds.{find_size, sizes, is_size_of, IsOfSize, IsUni
 use Rattle.mgs_world.specs.Worlds as core
 use Rattle.mgs_engine.specs.declared.screen.Screen.{Screen}
 use Rattle.mgs_engine.specs.Queues.{IsTaken}
-use Rattle.mgs_engine.specs.Screens.{queue_of, shown_size, IsSessionScreen, IsKnown, IsDrawn, IsAhead, IsRepaint, AreRepaints, AreDrawnApart, IsFirst}
-use Rattle.mgs_core.specs.Steps.{found_differs}
-use Rattle.mgs_model.specs.declared.touched.Touched.TheVariants.{Anywhere}
-use Rattle.mgs_engine.proofs.Ids.{known_at, same_some, some_of}
+use Rattle.mgs_engine.specs.Screens.{queue_of, shown_size, IsSessionScreen, IsKnown, IsDrawn, IsAhead, IsRepaint, AreRepaints, IsFirst}
+use Rattle.mgs_core.proofs.Ids.{known_at, same_some, some_of}
 use Rattle.mgs_engine.proofs.ScreenLemmas.{rest_at}
 
 -- A PICTURE AS A SCREEN
@@ -108,14 +106,6 @@ no_repaint x = record {
   quiet = λ same. refl;
   bound = omega arith;
 }
-
--- any screen may differ where anything was touched
-pub anywhere_drawn : (w : World) (id : ℕ) (xs : List Screen) → AreDrawnApart w Anywhere id xs
-anywhere_drawn w id xs at x is e = go (slice_get w.sessions at) e
-  where
-    go : (o : Option Session) → found_differs Anywhere id o ≡ false → IsDrawn w x
-    go None e = cc
-    go (Some y) e = cc
 
 -- and else it is painted
 pub ahead_repaint : (w : World) (old mid new : Screen) → IsAhead w old mid → IsRepaint mid new → IsRepaint old new

@@ -3,7 +3,6 @@ use Rattle.std.proofs.Common.{◌≡◌, ℕ, zero, suc, ◌+◌, ◌*◌, ◌<�
 use Rattle.std.specs.Prelude.{All, vec_capacity, vec_len}
 use Rattle.std.specs.List.{position_or_len}
 use Rattle.std.proofs.lemmas.List.{map-append, get_or-drop, drop-set-lt, drop-drop, take_more, take_more_set, take_all}
-use Rattle.std.proofs.lemmas.List.Elements.{All-head, All-tail, All-cons, All-nil}
 use Rattle.std.specs.Option.{option_map}
 use Rattle.std.proofs.Math.Nat.{mul-le-mul_left}
 use Rattle.mgs_model.proofs.Firsts.{find-map, find_at_place}
@@ -13,6 +12,7 @@ use Rattle.mgs_paint.specs.Painting.{bound_of}
 use Rattle.mgs_engine.specs.declared.screen.Screen.{Screen}
 use Rattle.mgs_engine.specs.Queues.{Handed, Queue, IsTaken, emptied, waiting_in, find_queue, is_queue_of}
 use Rattle.mgs_engine.specs.Screens.{queue_of, queues_of, screen_id, IsSessionScreen}
+pub use Rattle.mgs_core.proofs.Ids.{All-unmap}
 
 -- a paint of any screen has room in an empty queue
 mul_most : (a b c d : ℕ) → a ≤ c → b ≤ d → a * b ≤ c * d
@@ -25,10 +25,6 @@ pub paint_room : (x : Screen) → IsPicture x.next → IsSessionScreen x → IsT
 paint_room x p s e =
     let l : length x.queue.items ≡ 0 = ap length e in
     omega (arith, l, x.queue.ok.0, paint_fits x.next.rows x.next.cols p.size, s.room)
-
-pub All-unmap : {A B : Type 0} (P : B → Type 0) (f : A → B) (xs : List A) → All P (map f xs) → All (λ x. P (f x)) xs
-All-unmap P f [] h = All-nil (λ x. P (f x))
-All-unmap P f (x ∷ xs) h = All-cons (λ x. P (f x)) x xs (All-head P (f x) (map f xs) h) (All-unmap P f xs (All-tail P (f x) (map f xs) h))
 
 -- DRAWING
 

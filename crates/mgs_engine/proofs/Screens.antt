@@ -3,18 +3,16 @@ use Rattle.std.proofs.Common.{◌≡◌, ℕ, ◌+◌, ◌<◌, ◌≤◌, not, 
 use Rattle.std.specs.Prelude.{find, nat_eq, slice_get, All, IsSome}
 use Rattle.std.specs.List.{position_or_len}
 use Rattle.std.proofs.lemmas.List.{map-append}
-use Rattle.std.proofs.lemmas.List.Elements.{All-cons, All-nil, All-weaker}
-use Rattle.std.proofs.lemmas.List.Folds.{find-append}
-use Rattle.std.specs.Option.{option_or, option_map}
+use Rattle.std.proofs.lemmas.List.Elements.{All-cons, All-nil}
+use Rattle.std.specs.Option.{option_map}
 use Rattle.mgs_model.proofs.Firsts.{find-map, find_none, place_found}
 use Rattle.mgs_model.specs.Apply.{remove_first}
-use Rattle.mgs_core.proofs.Sizes.{all_removed}
+use Rattle.mgs_core.proofs.Ids.{known_at, mapped_got, map-remove_first}
 use Rattle.mgs_world.specs.declared.size.Size.{Size}
 use Rattle.mgs_world.specs.Worlds.{find_size, is_size_of, IsUnique}
 use Rattle.mgs_engine.specs.declared.screen.Screen.{Screen}
 use Rattle.mgs_engine.specs.Queues.{Queue, queue_id, IsTaken, emptied, waiting_in, find_queue, is_queue_of}
 use Rattle.mgs_engine.specs.Screens.{queue_of, queues_of, shown_size, screen_id, IsKnown}
-use Rattle.mgs_engine.proofs.Ids.{known_at, mapped_got, map-remove_first}
 use Rattle.std.proofs.lemmas.Option.{slice_get-get_or}
 
 -- EACH SCREEN IS KNOWN BY ITS ID
@@ -23,11 +21,6 @@ pub known_each : (ss : List Size) (xs : List Screen) → map shown_size xs ≡ s
 known_each ss xs e u = λ i d l.
     let x = get_or xs i d in
     known_at ss i (shown_size x) u (ap (λ (zs : List Size). slice_get zs i) (sym e) ∙ mapped_got shown_size xs i x (slice_get-get_or xs i d l))
-
-pub known_more : (ss more : List Size) (xs : List Screen) → All (IsKnown ss) xs → All (IsKnown (ss ++ more)) xs
-known_more ss more xs h =
-    All-weaker (IsKnown ss) (IsKnown (ss ++ more))
-    (λ x k. find-append (is_size_of x.id) ss more ∙ ap (λ o. option_or o (find_size x.id more)) k) xs h
 
 -- QUEUES
 
@@ -39,19 +32,14 @@ ids_are (x ∷ xs) = ap (λ ys. x.id ∷ ys) (ids_are xs)
 pub ids_same : (xs ys : List Screen) → map shown_size xs ≡ map shown_size ys → map queue_id (queues_of xs) ≡ map queue_id (queues_of ys)
 ids_same xs ys e = ids_are xs ∙ ap (map (λ (x : Size). x.id)) e ∙ sym (ids_are ys)
 
+pub queues_removed : (id : ℕ) (xs : List Screen) → queues_of (remove_first (screen_id id) xs) ≡ remove_first (is_queue_of id) (queues_of xs)
+queues_removed id xs = map-remove_first queue_of (screen_id id) (is_queue_of id) (λ x. refl) xs
+
 pub ids_removed : (id : ℕ) (xs : List Screen) → map queue_id (queues_of (remove_first (screen_id id) xs)) ≡ remove_first (λ x. nat_eq x id) (map queue_id (queues_of xs))
-ids_removed id xs =
-    ap (map queue_id) (map-remove_first queue_of (screen_id id) (is_queue_of id) (λ x. refl) xs)
-    ∙ map-remove_first queue_id (is_queue_of id) (λ x. nat_eq x id) (λ x. refl) (queues_of xs)
+ids_removed id xs = ap (map queue_id) (queues_removed id xs) ∙ map-remove_first queue_id (is_queue_of id) (λ x. nat_eq x id) (λ x. refl) (queues_of xs)
 
-pub ids_opened : (xs ys : List Screen) (y : Screen) → map shown_size xs ≡ map shown_size ys → map queue_id (queues_of (xs ++ y ∷ [])) ≡ map queue_id (queues_of ys) ++ y.id ∷ []
-ids_opened xs ys y e =
-    ap (map queue_id) (map-append queue_of xs (y ∷ [])) ∙ map-append queue_id (queues_of xs) (queue_of y ∷ [])
-    ∙ ap (λ (is : List ℕ). is ++ y.id ∷ []) (ids_same xs ys e)
-
-pub taken_removed : (id : ℕ) (xs : List Screen) → All IsTaken (queues_of xs) → All IsTaken (queues_of (remove_first (screen_id id) xs))
-taken_removed id xs h =
-    rw (map-remove_first queue_of (screen_id id) (is_queue_of id) (λ x. refl) xs) (all_removed IsTaken (is_queue_of id) (queues_of xs) h)
+pub ids_opened : (xs : List Screen) (y : Screen) → map queue_id (queues_of (xs ++ y ∷ [])) ≡ map queue_id (queues_of xs) ++ y.id ∷ []
+ids_opened xs y = ap (map queue_id) (map-append queue_of xs (y ∷ [])) ∙ map-append queue_id (queues_of xs) (queue_of y ∷ [])
 
 pub all_emptied : (qs : List Queue) → All IsTaken (map emptied qs)
 all_emptied [] = All-nil IsTaken

@@ -222,20 +222,3 @@ pub(crate) fn redraw_apart<T: Marked + Drop>(
 {
     redraw_each(core, screens, id, touched);
 }
-
-/// Draws every screen again, and paints each that is not what its terminal shows.
-///
-/// The world knows the session of each in the size of the screen, and no bytes wait.
-pub(crate) fn redraw_all<T: Marked + Drop>(core: &Core<T>, screens: &mut Vec<Screen>)
-    requires known { All (IsKnown (sizes core.now)) screens.old.items }
-    requires each { All IsSessionScreen screens.old.items }
-    requires taken { All IsTaken (queues_of screens.old.items) }
-    ensures each { All IsSessionScreen screens.new.items }
-    ensures sizes { map shown_size screens.new.items ≡ map shown_size screens.old.items }
-    ensures drawn { All (IsDrawn core.now) screens.new.items }
-    ensures repaints { AreRepaints screens.old.items screens.new.items }
-    ensures len { vec_len screens.new ≡ vec_len screens.old }
-    ensures capacity { vec_capacity screens.new ≡ vec_capacity screens.old }
-{
-    redraw_apart(core, screens, 0, &Touched::Anywhere);
-}

@@ -1,4 +1,4 @@
-use Rattle.std.proofs.Common.{◌+◌, ◌∙◌, ◌++◌, ◌∷◌, [], List, Some, ap, sym, subst}
+use Rattle.std.proofs.Common.{◌∙◌, ◌++◌, ◌∷◌, [], List, ap, sym, subst}
 use Rattle.mgs_session.specs.declared.Session.{Session}
 use Rattle.mgs_world.specs.Worlds.{world_of}
 use Rattle.mgs_world.specs.Sound.{IsSound}
@@ -6,19 +6,17 @@ use Rattle.mgs_core.proofs.Sizes.{opened_sound}
 use Rattle.mgs_core.proofs.Openings.{opened_at, sound_undone, world_undone}
 use Rattle.mgs_core.proofs.server.add_session.Goals as goal
 
-pub settle-requires : goal.settle-requires
-settle-requires g c =
+pub returns-in-Ok-clause-sound : goal.returns-in-Ok-clause-sound
+returns-in-Ok-clause-sound g c =
     subst (λ (xs : List Session). IsSound c.first_window_marks.new.buffers xs)
-    (sym (c.deref.ensures.value ∙ c.push_reserved.ensures.items ∙ ap (λ (xs : List Session). xs ++ c.opened.result ∷ []) c.reserve.ensures.items ∙ ap (λ (x : Session). c.args.sessions.now.items ++ x ∷ []) c.opened.ensures))
+    (sym (c.push_reserved.ensures.items ∙ ap (λ (xs : List Session). xs ++ c.opened.result ∷ []) c.reserve.ensures.items ∙ ap (λ (x : Session). c.args.sessions.now.items ++ x ∷ []) c.opened.ensures))
     (opened_sound c.args.buffers.now c.first_window_marks.new.buffers c.args.sessions.now.items c.args.id c.args.user c.args.rows c.args.cols c.in-Ok.shows c.requires.sound c.in-Ok.ensures.ok)
 
 pub returns-in-Ok-clause-world : goal.returns-in-Ok-clause-world
 returns-in-Ok-clause-world g c =
-    ap (λ (ys : List Session). world_of c.args.directory.now c.settle.new.buffers ys (Some (c.args.id + 1))) (sym c.deref.ensures.value)
-    ∙ opened_at c.args.directory.now c.args.buffers.now c.first_window_marks.new.buffers c.settle.new.buffers c.args.sessions.now.items c.deref.result.now c.args.id c.args.user c.args.rows c.args.cols c.in-Ok.shows
+    opened_at c.args.directory.now c.args.buffers.now c.first_window_marks.new.buffers c.args.sessions.now.items c.push_reserved.new.self.items c.args.id c.args.user c.args.rows c.args.cols c.in-Ok.shows
     c.requires.sound c.in-Ok.ensures.ok c.in-Ok.ensures.name
-    (c.deref.ensures.value ∙ c.push_reserved.ensures.items ∙ ap (λ (xs : List Session). xs ++ c.opened.result ∷ []) c.reserve.ensures.items ∙ ap (λ (x : Session). c.args.sessions.now.items ++ x ∷ []) c.opened.ensures)
-    c.settle.ensures.world
+    (c.push_reserved.ensures.items ∙ ap (λ (xs : List Session). xs ++ c.opened.result ∷ []) c.reserve.ensures.items ∙ ap (λ (x : Session). c.args.sessions.now.items ++ x ∷ []) c.opened.ensures)
 
 pub returns-in-Err-clause-err_world : goal.returns-in-Err-clause-err_world
 returns-in-Err-clause-err_world g c next =

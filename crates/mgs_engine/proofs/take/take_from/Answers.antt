@@ -1,10 +1,10 @@
 use Rattle.std.proofs.Common.{◌≡◌, ◌≤◌, length, sym, ap, subst, ◌∙◌, arith}
 use Rattle.std.proofs.lemmas.List.{length-map}
 use Rattle.std.specs.List.{position_or_len}
-use Rattle.mgs_model.proofs.Firsts.{position_or_len-map, written_first}
+use Rattle.mgs_model.proofs.Firsts.{find_none, position_or_len-map, written_first}
 use Rattle.mgs_engine.specs.Queues.{after_taking, is_queue_of}
 use Rattle.mgs_engine.specs.Screens.{queue_of, queues_of, screen_id, drawn_of}
-use Rattle.mgs_engine.proofs.Ids.{change_none}
+use Rattle.mgs_core.proofs.Ids.{change_none}
 use Rattle.mgs_engine.proofs.ScreenLemmas.{queue_at, same_set}
 use Rattle.mgs_engine.proofs.take.take_from.Goals as goal
 
@@ -35,4 +35,4 @@ returns-else-at-len-clause-queues c =
     position_or_len-map queue_of (is_queue_of c.args.id) c.args.screens.now.items ∙ sym (c.place_of-at.ensures.value ∙ ap (position_or_len (screen_id c.args.id)) c.deref.ensures.value) in
     let n : length (queues_of c.args.screens.now.items) ≡ length c.args.screens.now.items = length-map c.args.screens.now.items queue_of in
     sym (change_none (is_queue_of c.args.id) (after_taking c.args.n) (queues_of c.args.screens.now.items)
-    (omega (arith, p, n, c.if-at-len.false, c.place_of-at.ensures.within, c.deref.ensures.len, c.len.ensures, c.args.screens.now.ok.0)))
+    (find_none (is_queue_of c.args.id) (queues_of c.args.screens.now.items) (omega (arith, p, n, c.if-at-len.false, c.place_of-at.ensures.within, c.deref.ensures.len, c.len.ensures, c.args.screens.now.ok.0))))

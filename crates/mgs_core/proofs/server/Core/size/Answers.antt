@@ -1,5 +1,7 @@
-use Rattle.std.proofs.Common.{◌∙◌, ap, sym, subst, List}
+use Rattle.std.proofs.Common.{◌≡◌, ◌∙◌, ap, sym, subst, List}
 use Rattle.std.specs.Prelude.{All, slice_get}
+use Rattle.mgs_model.specs.World.{World}
+use Rattle.mgs_model.specs.Events.{settled}
 use Rattle.mgs_session.specs.declared.Session.{Session}
 use Rattle.mgs_world.specs.declared.size.Size.{Size}
 use Rattle.mgs_world.specs.Worlds.{sizes, sizes_in, IsOfSize, IsUnique}
@@ -22,3 +24,6 @@ pub returns-clause-unique : goal.returns-clause-unique
 returns-clause-unique g c =
     let i = c.self.inside in
     subst IsUnique (sym (sizes_world i.directory i.buffers i.sessions.items i.next_id) ∙ ap sizes c.self.view_is) c.self.invariant.unique
+
+pub returns-clause-settled : goal.returns-clause-settled
+returns-clause-settled g c = subst (λ (w : World). settled w ≡ w) c.self.view_is (c.self.invariant.settles c.self.inside.next_id)

@@ -1,29 +1,22 @@
 use Rattle.std.proofs.Common.{◌≡◌, ℕ, List, [], ◌∷◌, ◌++◌, map, Some, Ok, sym, ap, subst, ◌∙◌}
-use Rattle.std.proofs.lemmas.List.Elements.{All-push}
-use Rattle.mgs_world.specs.declared.size.Size.{Size}
-use Rattle.mgs_core.specs.Steps.{OpenedBy}
-use Rattle.mgs_world.specs.Worlds.{sizes, find_size}
-use Rattle.mgs_engine.specs.declared.screen.Screen.{Screen}
-use Rattle.mgs_engine.specs.Queues.{queue_id}
-use Rattle.mgs_engine.specs.Serving.{Serving, pending_of, queue_ids}
 use Rattle.mgs_model.specs.World.{Session, find_session}
 use Rattle.mgs_model.specs.Draw.{screen}
 use Rattle.mgs_paint.specs.Painting.{Paints}
-use Rattle.mgs_engine.specs.Screens.{AreRepaints, IsDrawn, IsSessionScreen, queues_of, shown_size}
-use Rattle.mgs_engine.proofs.Repaints.{same_size}
+use Rattle.mgs_world.specs.declared.size.Size.{Size}
+use Rattle.mgs_world.specs.Worlds.{sizes, find_size}
+use Rattle.mgs_core.specs.Steps.{OpenedBy}
+use Rattle.mgs_core.proofs.Ids.{known_last}
+use Rattle.mgs_engine.specs.declared.screen.Screen.{Screen}
+use Rattle.mgs_engine.specs.Queues.{Queue, queue_id}
+use Rattle.mgs_engine.specs.Screens.{queues_of}
+use Rattle.mgs_engine.specs.Serving.{Serving, pending_of, queue_ids}
 use Rattle.mgs_engine.specs.Painted.{Painted}
-use Rattle.mgs_engine.specs.Served.{serving_of}
-use Rattle.mgs_engine.proofs.Ids.{known_last, unique_opened}
-use Rattle.mgs_engine.proofs.Screens.{known_each, known_more, ids_opened, sizes_opened}
-use Rattle.mgs_engine.proofs.Painted.{painted_opened, first_opened}
+use Rattle.mgs_engine.specs.Served.{serving_of, IsServed}
+use Rattle.mgs_engine.proofs.Repaints.{same_size}
+use Rattle.mgs_engine.proofs.Screens.{ids_opened}
+use Rattle.mgs_engine.proofs.Stays.{served_opened}
+use Rattle.mgs_engine.proofs.Painted.{painted_opened, first_opened, queues_opened}
 use Rattle.mgs_engine.proofs.engine.Engine.open.Goals as goal
-
-pub redraw_all-requires-clause-known : goal.redraw_all-requires-clause-known
-redraw_all-requires-clause-known g c =
-    let y : Size = record { id = c.in_ok-id.id; rows = c.args.rows; cols = c.args.cols } in
-    rw (c.in_ok-id.ensures.opened, c.reserve.ensures.items)
-    (known_more (sizes c.self.inside.core) (y ∷ []) c.self.inside.screens.items
-    (known_each (sizes c.self.inside.core) c.self.inside.screens.items c.self.invariant.sizes_are c.self.invariant.unique))
 
 pub draw_first-requires-clause-known : goal.draw_first-requires-clause-known
 draw_first-requires-clause-known g c =
@@ -34,26 +27,30 @@ draw_first-requires-clause-known g c =
 
 pub invariant_of-self-2 : goal.invariant_of-self-2
 invariant_of-self-2 g c =
-    let y : Size = record { id = c.in_ok-id.id; rows = c.args.rows; cols = c.args.cols } in
-    record {
-      sizes_are =
-          ap (map shown_size) c.push_reserved.ensures.items
-          ∙ sizes_opened c.redraw_all.new.screens.items c.draw_first.new.screen (sizes c.self.inside.core) y
-          (c.redraw_all.ensures.sizes ∙ ap (map shown_size) c.reserve.ensures.items ∙ c.self.invariant.sizes_are)
-          (c.draw_first.ensures.size ∙ same_size c.in_ok-id.id c.args.rows c.args.cols _ _ c.in-Ok.ensures.rows c.in-Ok.ensures.cols)
-          ∙ sym c.in_ok-id.ensures.opened;
-      unique = rw c.in_ok-id.ensures.opened (unique_opened y (sizes c.self.inside.core) c.in_ok-id.ensures.fresh c.self.invariant.unique);
-      each = rw c.push_reserved.ensures.items (All-push IsSessionScreen c.redraw_all.new.screens.items c.draw_first.new.screen c.redraw_all.ensures.each c.draw_first.ensures.screen);
-      drawn = rw c.push_reserved.ensures.items (All-push (IsDrawn c.open.new.self) c.redraw_all.new.screens.items c.draw_first.new.screen c.redraw_all.ensures.drawn c.draw_first.ensures.drawn);
-    }
+    let z = c.draw_first.new.screen in
+    served_opened c.self.inside.core c.open.new.self c.in_ok-id.id c.args.user.now c.args.rows c.args.cols c.self.inside.screens.items c.push_reserved.new.self.items z (record { id = c.in_ok-id.id; rows = c.args.rows; cols = c.args.cols })
+    c.self.invariant c.in_ok-id.ensures.rest c.in_ok-id.ensures.opened c.in_ok-id.ensures.fresh
+    (c.push_reserved.ensures.items ∙ ap (λ (xs : List Screen). xs ++ z ∷ []) c.reserve.ensures.items)
+    (c.draw_first.ensures.size ∙ same_size c.in_ok-id.id c.args.rows c.args.cols _ _ c.in-Ok.ensures.rows c.in-Ok.ensures.cols) c.draw_first.ensures.screen c.draw_first.ensures.drawn
 
 pub returns-clause-queue : goal.returns-clause-queue
 returns-clause-queue g c =
-    let is : c.draw_first.new.screen.id ≡ c.in_ok-id.id = ap (λ (s : Size). s.id) c.draw_first.ensures.size in
-    ap (λ (xs : List Screen). map queue_id (queues_of xs)) c.push_reserved.ensures.items
-    ∙ ids_opened c.redraw_all.new.screens.items c.self.inside.screens.items c.draw_first.new.screen (c.redraw_all.ensures.sizes ∙ ap (map shown_size) c.reserve.ensures.items)
-    ∙ ap (λ (i : ℕ). map queue_id (queues_of c.self.inside.screens.items) ++ i ∷ []) is
+    let z = c.draw_first.new.screen in
+    ap (λ (xs : List Screen). map queue_id (queues_of xs)) (c.push_reserved.ensures.items ∙ ap (λ (xs : List Screen). xs ++ z ∷ []) c.reserve.ensures.items)
+    ∙ ids_opened c.self.inside.screens.items z
+    ∙ ap (λ (i : ℕ). map queue_id (queues_of c.self.inside.screens.items) ++ i ∷ []) (ap (λ (s : Size). s.id) c.draw_first.ensures.size)
     ∙ ap (λ (s : Serving). queue_ids s ++ c.in_ok-id.id ∷ []) c.self.view_is
+
+pub returns-clause-others : goal.returns-clause-others
+returns-clause-others g c =
+    let z = c.draw_first.new.screen in
+    let xs = c.self.inside.screens.items in
+    let new : List Screen → Queue = λ ys. record { id = c.in_ok-id.id; bytes = pending_of c.in_ok-id.id (serving_of c.open.new.self ys) } in
+    let items : c.push_reserved.new.self.items ≡ xs ++ z ∷ [] = c.push_reserved.ensures.items ∙ ap (λ (ys : List Screen). ys ++ z ∷ []) c.reserve.ensures.items in
+    ap queues_of items
+    ∙ queues_opened c.open.new.self xs z c.in_ok-id.id (ap (λ (s : Size). s.id) c.draw_first.ensures.size) (ap (find_size c.in_ok-id.id) c.self.invariant.sizes_are ∙ c.in_ok-id.ensures.fresh)
+    ∙ ap (λ (ys : List Screen). queues_of xs ++ new ys ∷ []) (sym items)
+    ∙ ap (λ (s : Serving). s.queues ++ new c.push_reserved.new.self.items ∷ []) c.self.view_is
 
 pub returns-clause-world : goal.returns-clause-world
 returns-clause-world g c =
@@ -61,21 +58,24 @@ returns-clause-world g c =
 
 pub returns-clause-painted : goal.returns-clause-painted
 returns-clause-painted g c =
-    subst (λ (s : Serving). Painted s (serving_of c.open.new.self c.push_reserved.new.self.items)) c.self.view_is
-    (subst (λ (xs : List Screen). Painted (serving_of c.self.inside.core c.self.inside.screens.items) (serving_of c.open.new.self xs)) (sym c.push_reserved.ensures.items)
-    (painted_opened c.self.inside.core c.open.new.self c.self.inside.screens.items c.redraw_all.new.screens.items c.draw_first.new.screen
-    c.self.invariant.sizes_are c.self.invariant.drawn
-    (All-push (IsDrawn c.open.new.self) c.redraw_all.new.screens.items c.draw_first.new.screen c.redraw_all.ensures.drawn c.draw_first.ensures.drawn)
-    (subst (λ (xs : List Screen). AreRepaints xs c.redraw_all.new.screens.items) c.reserve.ensures.items c.redraw_all.ensures.repaints)))
+    let w = c.self.inside.core in
+    let v = c.open.new.self in
+    let xs = c.self.inside.screens.items in
+    let z = c.draw_first.new.screen in
+    let items : c.push_reserved.new.self.items ≡ xs ++ z ∷ [] = c.push_reserved.ensures.items ∙ ap (λ (ys : List Screen). ys ++ z ∷ []) c.reserve.ensures.items in
+    let served : IsServed v c.push_reserved.new.self.items =
+    served_opened w v c.in_ok-id.id c.args.user.now c.args.rows c.args.cols xs c.push_reserved.new.self.items z (record { id = c.in_ok-id.id; rows = c.args.rows; cols = c.args.cols })
+    c.self.invariant c.in_ok-id.ensures.rest c.in_ok-id.ensures.opened c.in_ok-id.ensures.fresh items
+    (c.draw_first.ensures.size ∙ same_size c.in_ok-id.id c.args.rows c.args.cols _ _ c.in-Ok.ensures.rows c.in-Ok.ensures.cols) c.draw_first.ensures.screen c.draw_first.ensures.drawn in
+    subst (λ (s : Serving). Painted s (serving_of v c.push_reserved.new.self.items)) c.self.view_is
+    (painted_opened w v xs c.push_reserved.new.self.items z items c.self.invariant.sizes_are c.self.invariant.drawn served.drawn)
 
 pub returns-clause-first : goal.returns-clause-first
 returns-clause-first g c =
-    let sizes_are : map shown_size c.redraw_all.new.screens.items ≡ sizes c.self.inside.core = c.redraw_all.ensures.sizes ∙ ap (map shown_size) c.reserve.ensures.items ∙ c.self.invariant.sizes_are in
-    subst
-    (λ (xs : List Screen). (y : Session) × (find_session c.in_ok-id.id c.open.new.self.sessions ≡ Some y) × Paints (screen c.open.new.self y) (pending_of c.in_ok-id.id (serving_of c.open.new.self xs)))
-    (sym c.push_reserved.ensures.items)
-    (first_opened c.open.new.self c.redraw_all.new.screens.items c.draw_first.new.screen c.in_ok-id.id
-    (ap (λ (s : Size). s.id) c.draw_first.ensures.size)
-    (ap (find_size c.in_ok-id.id) sizes_are ∙ c.in_ok-id.ensures.fresh)
-    (All-push (IsDrawn c.open.new.self) c.redraw_all.new.screens.items c.draw_first.new.screen c.redraw_all.ensures.drawn c.draw_first.ensures.drawn)
-    c.draw_first.ensures.drawn c.draw_first.ensures.first)
+    let v = c.open.new.self in
+    let id = c.in_ok-id.id in
+    let xs = c.self.inside.screens.items in
+    let z = c.draw_first.new.screen in
+    let items : c.push_reserved.new.self.items ≡ xs ++ z ∷ [] = c.push_reserved.ensures.items ∙ ap (λ (ys : List Screen). ys ++ z ∷ []) c.reserve.ensures.items in
+    subst (λ (ys : List Screen). (y : Session) × (find_session id v.sessions ≡ Some y) × Paints (screen v y) (pending_of id (serving_of v ys))) (sym items)
+    (first_opened v xs z id (ap (λ (s : Size). s.id) c.draw_first.ensures.size) (ap (find_size id) c.self.invariant.sizes_are ∙ c.in_ok-id.ensures.fresh) c.draw_first.ensures.drawn c.draw_first.ensures.first)

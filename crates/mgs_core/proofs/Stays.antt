@@ -1,0 +1,79 @@
+-- Opening and closing settle nothing: the windows of the others stand where they settle, and a new one at its start.
+use Rattle.std.proofs.Common.{◌≡◌, ℕ, ◌+◌, ◌-◌, ◌/◌, ◌≤◌, Bool, true, false, cond, List, [], ◌∷◌, ◌++◌, map, Option, Some, None, refl, sym, ap, subst, ◌∙◌, arith}
+use Rattle.std.specs.Prelude.{is_some}
+use Rattle.std.proofs.lemmas.Bool.{lt-ltb}
+use Rattle.std.proofs.lemmas.List.{map-append}
+use Rattle.mgs_model.specs.Access.{Directory}
+use Rattle.mgs_model.specs.Apply.{remove_first}
+use Rattle.mgs_model.specs.Lines.{line_of, start_of, settled_top}
+use Rattle.mgs_model.specs.World.{World, Buffer, Session, Window, Shows, Nothing, Buffer_of, Listing, List_of, has_id, find_session, find_buffer, may}
+use Rattle.mgs_model.specs.Events.{Close, top_settled, window_top, session_settled, settled, new_window, new_session, opened, step}
+use Rattle.mgs_model.specs.declared.right.Right.TheVariants.{ReadData}
+use Rattle.mgs_core.specs.Steps.{closed}
+use Rattle.mgs_core.proofs.Ids.{remove_none}
+
+pub settled_as : (v w : World) → w ≡ v → settled v ≡ v → settled w ≡ w
+settled_as v w is rests = subst (λ (u : World). settled u ≡ u) (sym is) rests
+
+-- A SESSION OPENS
+
+-- the start of a text is seen from the start
+start_settled : (h : ℕ) (text : List ℕ) → 1 ≤ h → settled_top h 0 0 text ≡ 0
+start_settled h text some = ap (λ b. cond b 0 (start_of (line_of text 0 - h / 2) text)) (lt-ltb 0 (0 + h) (omega (arith, some)))
+
+top_at_start : (d : Directory) (u : List ℕ) (o : Option Buffer) (h : ℕ) → 1 ≤ h → top_settled d u o h 0 0 ≡ 0
+top_at_start d u None h some = refl
+top_at_start d u (Some b) h some = elim (may d u ReadData b) as (λ c. cond c (settled_top h 0 0 b.text) 0 ≡ 0) [ true ↦ start_settled h b.text some | false ↦ refl ]
+
+start_stays : (d : Directory) (bs : List Buffer) (u : List ℕ) (shows : Shows) (h : ℕ) → 1 ≤ h → window_top d bs u shows h 0 0 ≡ 0
+start_stays d bs u Nothing h some = refl
+start_stays d bs u (Buffer_of name) h some = top_at_start d u (find_buffer name bs) h some
+start_stays d bs u Listing h some = refl
+start_stays d bs u (List_of name) h some = refl
+
+new_stays : (d : Directory) (bs : List Buffer) (id : ℕ) (user : List ℕ) (rows cols : ℕ) → 3 ≤ rows → session_settled d bs (new_session d bs id user rows cols) ≡ new_session d bs id user rows cols
+new_stays d bs id user rows cols some =
+    let x : Window = new_window d bs user rows in
+    let tall : 1 ≤ rows - 2 = omega (arith, some) in
+    ap (λ (top : ℕ). let y : Session = record (new_session d bs id user rows cols) { windows = record x { top = top } ∷ [] } in y) (start_stays d bs user x.shows (rows - 2) tall)
+
+pub opened_rests : (w : World) (id : ℕ) (user : List ℕ) (rows cols : ℕ) → 3 ≤ rows → settled w ≡ w → settled (opened w id user rows cols) ≡ opened w id user rows cols
+opened_rests w id user rows cols some rests =
+    let x : Session = new_session w.directory w.buffers id user rows cols in
+    ap (λ (ss : List Session). let v : World = record (opened w id user rows cols) { sessions = ss } in v)
+    (map-append (session_settled w.directory w.buffers) w.sessions (x ∷ [])
+    ∙ ap (λ (v : World). v.sessions ++ session_settled w.directory w.buffers x ∷ []) rests
+    ∙ ap (λ (y : Session). w.sessions ++ y ∷ []) (new_stays w.directory w.buffers id user rows cols some))
+
+-- A SESSION CLOSES
+
+cons_head : {A : Type 0} (x y : A) (xs ys : List A) → x ∷ xs ≡ y ∷ ys → x ≡ y
+cons_head x y xs ys e = cc
+
+cons_tail : {A : Type 0} (x y : A) (xs ys : List A) → x ∷ xs ≡ y ∷ ys → xs ≡ ys
+cons_tail x y xs ys e = cc
+
+fixed_removed : {A : Type 0} (f : A → A) (p : A → Bool) (xs : List A) → map f xs ≡ xs → map f (remove_first p xs) ≡ remove_first p xs
+fixed_removed f p [] e = refl
+fixed_removed f p (x ∷ xs) e =
+    let head : f x ≡ x = cons_head _ _ _ _ e in
+    let tail : map f xs ≡ xs = cons_tail _ _ _ _ e in
+    elim (p x) as (λ b. map f (cond b xs (x ∷ remove_first p xs)) ≡ cond b xs (x ∷ remove_first p xs)) [
+      | true ↦ tail
+      | false ↦ λ i. head i ∷ fixed_removed f p xs tail i
+    ]
+
+pub closed_rests : (w : World) (id : ℕ) → settled w ≡ w → settled (closed w id) ≡ closed w id
+closed_rests w id rests =
+    ap (λ (ss : List Session). let v : World = record w { sessions = ss } in v) (fixed_removed (session_settled w.directory w.buffers) (has_id id) w.sessions (ap (λ (v : World). v.sessions) rests))
+
+-- where none has the id, none goes
+pub closed_none : (w : World) (id : ℕ) → find_session id w.sessions ≡ None → w ≡ closed w id
+closed_none w id none = ap (λ (ss : List Session). let v : World = record w { sessions = ss } in v) (sym (remove_none (has_id id) w.sessions none))
+
+pub closed_step : (w : World) (id : ℕ) → settled w ≡ w → closed w id ≡ step w (Close id)
+closed_step w id rests = go (find_session id w.sessions) refl
+  where
+    go : (o : Option Session) → find_session id w.sessions ≡ o → closed w id ≡ cond (is_some o) (settled (closed w id)) w
+    go None e = sym (closed_none w id e)
+    go (Some x) e = sym (closed_rests w id rests)
