@@ -11,7 +11,9 @@ use Rattle.std.proofs.lemmas.List.Folds.{find-append}
 use Rattle.std.proofs.lemmas.Option.{slice_get-map, get_or_from_slice_get, slice_get_within}
 use Rattle.mgs_model.specs.Apply.{change_first, remove_first}
 use Rattle.mgs_world.specs.declared.size.Size.{Size}
-use Rattle.mgs_world.specs.Worlds.{find_size, is_size_of, IsOther, IsUnique}
+use Rattle.mgs_model.specs.World.{World, has_id, find_session}
+use Rattle.mgs_model.proofs.Firsts.{find-map}
+use Rattle.mgs_world.specs.Worlds.{find_size, is_size_of, session_size, sizes, IsOther, IsUnique}
 
 -- WHAT IS FOUND
 
@@ -43,6 +45,10 @@ all_got P xs i x h e = subst P (get_or_from_slice_get xs i x x e) (h i x (slice_
 
 pub mapped_got : {A B : Type 0} (f : A → B) (xs : List A) (i : ℕ) (x : A) → slice_get xs i ≡ Some x → slice_get (map f xs) i ≡ Some (f x)
 mapped_got f xs i x e = slice_get-map f xs i ∙ ap (option_map f) e
+
+-- the size of a session is found where the session is
+pub found_sizes : (id : ℕ) (w : World) → find_size id (sizes w) ≡ option_map session_size (find_session id w.sessions)
+found_sizes id w = find-map session_size (has_id id) (is_size_of id) (λ x. refl) w.sessions
 
 pub All-unmap : {A B : Type 0} (P : B → Type 0) (f : A → B) (xs : List A) → All P (map f xs) → All (λ x. P (f x)) xs
 All-unmap P f [] h = All-nil (λ x. P (f x))
@@ -152,7 +158,7 @@ unique_removed p [] u = u
 unique_removed p (x ∷ xs) u =
     elim (p x) as (λ b. IsUnique (cond b xs (x ∷ remove_first p xs))) [ true ↦ u.1 | false ↦ (All-remove_first (IsOther x) p xs u.0, unique_removed p xs u.1) ]
 
-differ : (a b : ℕ) → nat_eq a b ≡ false → nat_eq b a ≡ false
+pub differ : (a b : ℕ) → nat_eq a b ≡ false → nat_eq b a ≡ false
 differ a b e = grind (arith, nat_tests)
 
 -- the others have other ids

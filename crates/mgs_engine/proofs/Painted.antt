@@ -3,6 +3,7 @@ use Rattle.std.proofs.Common.{◌≡◌, ℕ, ◌≤◌, Bool, true, false, cond
 use Rattle.std.specs.Prelude.{find, nat_eq, All}
 use Rattle.std.specs.Option.{option_or, option_map}
 use Rattle.std.specs.Cmp.{unsigned_Decides}
+use Rattle.std.proofs.lemmas.Bool.{eqb-true}
 use Rattle.std.proofs.lemmas.List.{map-append}
 use Rattle.std.proofs.lemmas.List.Elements.{All-head, All-tail, All-cons, All-nil}
 use Rattle.std.proofs.lemmas.List.Folds.{find-append}
@@ -19,9 +20,8 @@ use Rattle.mgs_world.specs.Worlds as core
 use Rattle.mgs_engine.specs.declared.screen.Screen.{Screen}
 use Rattle.mgs_engine.specs.Queues.{waiting_in, is_queue_of}
 use Rattle.mgs_engine.specs.Screens.{queue_of, queues_of, shown_size, Drawn, drawn_of, screen_id, IsDrawn, IsRepaint, AreRepaints, IsFirst}
-use Rattle.mgs_engine.proofs.ScreenLemmas.{All-unmap}
-use Rattle.mgs_core.proofs.Ids.{All-found, none_of, same_some, some_of}
-use Rattle.mgs_engine.proofs.Repaints.{found_sizes, no_repaint, screen_cols, screen_rows}
+use Rattle.mgs_core.proofs.Ids.{All-found, find-remove_first_other, found_sizes, none_of, others_left, same_some, some_of}
+use Rattle.mgs_engine.proofs.Repaints.{no_repaint, screen_cols, screen_rows}
 use Rattle.mgs_engine.specs.Serving.{pending_of}
 use Rattle.mgs_engine.specs.Painted.{PaintedBy, Painted}
 use Rattle.mgs_engine.specs.Served.{serving_of}
@@ -82,20 +82,11 @@ found_after id (x ∷ xs) (y ∷ ys) s h e =
 
 -- what is found after one that was taken out was found before
 found_kept : (k id : ℕ) (xs : List Screen) (s : Screen) → IsUnique (map shown_size xs) → find (screen_id id) (remove_first (screen_id k) xs) ≡ Some s → find (screen_id id) xs ≡ Some s
-found_kept k id [] s u e = e
-found_kept k id (x ∷ xs) s u e =
-    let rest : find (screen_id id) xs ≡ Some s → find (screen_id id) (x ∷ xs) ≡ Some s = λ f.
-    let other : nat_eq x.id s.id ≡ false = All-found (λ (y : Screen). IsOther (shown_size x) (shown_size y)) (screen_id id) xs s (All-unmap (IsOther (shown_size x)) shown_size xs u.0) f in
-    let is : s.id ≡ id = found_id id xs s f in
-    let apart : nat_eq x.id id ≡ false = ap (nat_eq x.id) (sym is) ∙ other in
-    ap (λ b. cond b (Some x) (find (screen_id id) xs)) apart ∙ f in
-    let goal : Bool → Type 0 = λ b. find (screen_id id) (cond b xs (x ∷ remove_first (screen_id k) xs)) ≡ Some s → find (screen_id id) (x ∷ xs) ≡ Some s in
-    let here : find (screen_id id) (x ∷ remove_first (screen_id k) xs) ≡ Some s → find (screen_id id) (x ∷ xs) ≡ Some s =
-    let deep : Bool → Type 0 = λ c. cond c (Some x) (find (screen_id id) (remove_first (screen_id k) xs)) ≡ Some s → cond c (Some x) (find (screen_id id) xs) ≡ Some s in
-    let go : (c : Bool) → deep c = λ c. elim c as deep [ true ↦ λ f. f | false ↦ λ f. found_kept k id xs s u.1 f ] in
-    go (nat_eq x.id id) in
-    let go : (b : Bool) → goal b = λ b. elim b as goal [ true ↦ rest | false ↦ here ] in
-    go (nat_eq x.id k) e
+found_kept k id xs s u e =
+    let ys : List Screen = remove_first (screen_id k) xs in
+    let left : nat_eq k s.id ≡ false = All-found (λ x. nat_eq k x.id ≡ false) (screen_id id) ys s (others_left shown_size k xs u) e in
+    let other : nat_eq k id ≡ false = ap (nat_eq k) (sym (found_id id ys s e)) ∙ left in
+    sym (find-remove_first_other (screen_id k) (screen_id id) (λ x is. ap (λ n. nat_eq n id) (eqb-true x.id k is) ∙ other) xs) ∙ e
 
 -- WHAT THE BYTES DRAW
 

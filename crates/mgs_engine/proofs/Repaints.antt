@@ -2,14 +2,12 @@
 use Rattle.std.proofs.Common.{◌≡◌, ℕ, zero, suc, ◌+◌, ◌*◌, ◌<◌, ◌≤◌, List, [], ◌∷◌, ◌++◌, length, get_or, set, take, drop, map, Some, None, refl, sym, ap, subst, ◌∙◌, arith}
 use Rattle.std.specs.Prelude.{slice_get, All}
 use Rattle.std.specs.List.{flat_map}
-use Rattle.std.specs.Option.{option_map}
 use Rattle.std.proofs.lemmas.Option.{get_or_from_slice_get, slice_get_within}
 use Rattle.std.proofs.lemmas.List.{append-nil, map-append, length_push, length-append, length-map, take_more, take_more_set, take_all}
 use Rattle.std.proofs.lemmas.List.Elements.{All-head, All-tail, All-push}
-use Rattle.mgs_model.proofs.Firsts.{find-map}
 use Rattle.mgs_model.specs.Rows.{Row}
 use Rattle.mgs_model.specs.Picture.{Picture, IsPicture, IsRow}
-use Rattle.mgs_model.specs.World.{World, Session, has_id, find_session}
+use Rattle.mgs_model.specs.World.{World, Session, find_session}
 use Rattle.mgs_model.specs.Draw.{screen, draw}
 use Rattle.mgs_term.specs.Screen as term
 use Rattle.mgs_term.specs.Drawing.{Draws, IsFaithful}
@@ -20,7 +18,7 @@ use Rattle.mgs_world.specs.Worlds as core
 use Rattle.mgs_engine.specs.declared.screen.Screen.{Screen}
 use Rattle.mgs_engine.specs.Queues.{IsTaken}
 use Rattle.mgs_engine.specs.Screens.{queue_of, shown_size, IsSessionScreen, IsKnown, IsDrawn, IsAhead, IsRepaint, AreRepaints, IsFirst}
-use Rattle.mgs_core.proofs.Ids.{known_at, same_some, some_of}
+use Rattle.mgs_core.proofs.Ids.{found_sizes, known_at, same_some, some_of}
 use Rattle.mgs_engine.proofs.ScreenLemmas.{rest_at}
 
 -- A PICTURE AS A SCREEN
@@ -47,9 +45,6 @@ same_size id rows cols r c e d =
     ap (λ a. of a c) e ∙ ap (λ b. of rows b) d
 
 -- WHAT IS FOUND
-
-pub found_sizes : (id : ℕ) (w : World) → find_size id (sizes w) ≡ option_map core.session_size (find_session id w.sessions)
-found_sizes id w = find-map core.session_size (has_id id) (is_size_of id) (λ x. refl) w.sessions
 
 -- the session of a screen
 pub session_known : (w : World) (x : Screen) → IsKnown (sizes w) x → (s : Session) × (find_session x.id w.sessions ≡ Some s) × (core.session_size s ≡ shown_size x)

@@ -1,18 +1,21 @@
 -- Screens beside the sizes of a world, as sessions open and close.
-use Rattle.std.proofs.Common.{◌≡◌, ℕ, ◌+◌, ◌<◌, ◌≤◌, not, Bool, true, false, cond, List, [], ◌∷◌, ◌++◌, length, get_or, map, Option, Some, None, refl, sym, ap, ◌∙◌, arith}
+use Rattle.std.proofs.Common.{◌≡◌, ℕ, ◌+◌, ◌<◌, ◌≤◌, not, Bool, true, false, cond, List, [], ◌∷◌, ◌++◌, length, get_or, map, Option, Some, None, refl, sym, ap, subst, ◌∙◌, arith}
 use Rattle.std.specs.Prelude.{find, nat_eq, slice_get, All, IsSome}
 use Rattle.std.specs.List.{position_or_len}
 use Rattle.std.proofs.lemmas.List.{map-append}
-use Rattle.std.proofs.lemmas.List.Elements.{All-cons, All-nil}
+use Rattle.std.proofs.lemmas.List.Elements.{All-cons, All-map, All-nil, All-weaker}
 use Rattle.std.specs.Option.{option_map}
 use Rattle.mgs_model.proofs.Firsts.{find-map, find_none, place_found}
 use Rattle.mgs_model.specs.Apply.{remove_first}
-use Rattle.mgs_core.proofs.Ids.{known_at, mapped_got, map-remove_first}
+use Rattle.mgs_core.proofs.Ids.{differ, known_at, mapped_got, map-remove_first}
+use Rattle.mgs_model.specs.World.{World}
 use Rattle.mgs_world.specs.declared.size.Size.{Size}
-use Rattle.mgs_world.specs.Worlds.{find_size, is_size_of, IsUnique}
+use Rattle.mgs_world.specs.Worlds.{find_size, is_size_of, sizes, IsOther, IsUnique}
 use Rattle.mgs_engine.specs.declared.screen.Screen.{Screen}
 use Rattle.mgs_engine.specs.Queues.{Queue, queue_id, IsTaken, emptied, waiting_in, find_queue, is_queue_of}
 use Rattle.mgs_engine.specs.Screens.{queue_of, queues_of, shown_size, screen_id, IsKnown}
+use Rattle.mgs_engine.specs.Serving.{AreUnique, IsWellFormed, size_id}
+use Rattle.mgs_engine.specs.Served.{IsServed, serving_of}
 use Rattle.std.proofs.lemmas.Option.{slice_get-get_or}
 
 -- EACH SCREEN IS KNOWN BY ITS ID
@@ -24,10 +27,22 @@ known_each ss xs e u = λ i d l.
 
 -- QUEUES
 
+unique_ids : (ss : List Size) → IsUnique ss → AreUnique (map size_id ss)
+unique_ids [] u = tt
+unique_ids (z ∷ zs) u = (
+  All-map (λ x. nat_eq x z.id ≡ false) size_id zs (All-weaker (IsOther z) (λ y. nat_eq y.id z.id ≡ false) (λ y e. differ z.id y.id e) zs u.0),
+  unique_ids zs u.1,
+)
+
 -- the ids of the queues are those of the sizes
 pub ids_are : (xs : List Screen) → map queue_id (queues_of xs) ≡ map (λ (x : Size). x.id) (map shown_size xs)
 ids_are [] = refl
 ids_are (x ∷ xs) = ap (λ ys. x.id ∷ ys) (ids_are xs)
+
+pub well_formed : (w : World) (xs : List Screen) → IsServed w xs → IsWellFormed (serving_of w xs)
+well_formed w xs h =
+    let ids : map queue_id (queues_of xs) ≡ map size_id (sizes w) = ids_are xs ∙ ap (map size_id) h.sizes_are in
+    record { queues = ids; unique = subst AreUnique (sym ids) (unique_ids (sizes w) h.unique) }
 
 pub ids_same : (xs ys : List Screen) → map shown_size xs ≡ map shown_size ys → map queue_id (queues_of xs) ≡ map queue_id (queues_of ys)
 ids_same xs ys e = ids_are xs ∙ ap (map (λ (x : Size). x.id)) e ∙ sym (ids_are ys)

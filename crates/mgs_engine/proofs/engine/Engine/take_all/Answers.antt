@@ -1,6 +1,6 @@
 use Rattle.std.proofs.Common.{◌∙◌}
 use Rattle.mgs_engine.specs.Screens.{queues_of}
-use Rattle.mgs_engine.proofs.Screens.{all_emptied}
+use Rattle.mgs_engine.proofs.Screens.{all_emptied, well_formed}
 use Rattle.mgs_engine.proofs.Painted.{sizes_same, drawn_same}
 use Rattle.mgs_engine.proofs.engine.Engine.take_all.Goals as goal
 
@@ -14,3 +14,13 @@ invariant_of-self g c = record {
   each = c.hand_all.ensures.each;
   drawn = drawn_same c.self.inside.core c.hand_all.new.screens.items c.self.inside.screens.items c.hand_all.ensures.drawn c.self.invariant.drawn;
 }
+
+pub returns-clause-formed : goal.returns-clause-formed
+returns-clause-formed g c =
+    well_formed c.self.inside.core c.hand_all.new.screens.items
+    (record {
+      sizes_are = sizes_same c.hand_all.new.screens.items c.self.inside.screens.items c.hand_all.ensures.drawn ∙ c.self.invariant.sizes_are;
+      unique = c.self.invariant.unique;
+      each = c.hand_all.ensures.each;
+      drawn = drawn_same c.self.inside.core c.hand_all.new.screens.items c.self.inside.screens.items c.hand_all.ensures.drawn c.self.invariant.drawn;
+    })
