@@ -1,13 +1,13 @@
 -- Screens beside the sizes of a world, as sessions open and close.
 use Rattle.std.proofs.Common.{◌≡◌, ℕ, ◌+◌, ◌<◌, ◌≤◌, not, Bool, true, false, cond, List, [], ◌∷◌, ◌++◌, length, get_or, map, Option, Some, None, refl, sym, ap, subst, ◌∙◌, arith}
 use Rattle.std.specs.Prelude.{find, nat_eq, slice_get, All, IsSome}
-use Rattle.std.specs.List.{position_or_len}
+use Rattle.std.specs.List.{position_or_len, remove}
 use Rattle.std.proofs.lemmas.List.{map-append}
 use Rattle.std.proofs.lemmas.List.Elements.{All-cons, All-map, All-nil, All-weaker}
 use Rattle.std.specs.Option.{option_map}
 use Rattle.mgs_model.proofs.Firsts.{find-map, find_none, place_found}
 use Rattle.mgs_model.specs.Apply.{remove_first}
-use Rattle.mgs_core.proofs.Ids.{differ, known_at, mapped_got, map-remove_first}
+use Rattle.mgs_core.proofs.Ids.{differ, known_at, mapped_got, map-remove_first, remove_at_first, remove_none}
 use Rattle.mgs_model.specs.World.{World}
 use Rattle.mgs_world.specs.declared.size.Size.{Size}
 use Rattle.mgs_world.specs.Worlds.{find_size, is_size_of, sizes, IsOther, IsUnique}
@@ -85,6 +85,14 @@ open_place id ss xs at e is =
       λ l. rw f (some_found id xs (omega (arith, is, l))),
       λ h. omega (arith, is, place_found (screen_id id) xs (found_some (find (screen_id id) xs) (rw f at h))),
     )
+
+-- ONE GOES
+
+pub removed_at : (id : ℕ) (xs : List Screen) (at : ℕ) → at ≡ position_or_len (screen_id id) xs → remove xs at ≡ remove_first (screen_id id) xs
+removed_at id xs at e = ap (remove xs) e ∙ remove_at_first (screen_id id) xs
+
+pub removed_none : (id : ℕ) (xs : List Screen) (at : ℕ) → at ≡ position_or_len (screen_id id) xs → at ≤ length xs → length xs ≤ at → xs ≡ remove_first (screen_id id) xs
+removed_none id xs at e most past = sym (remove_none (screen_id id) xs (find_none (screen_id id) xs (omega (arith, e, most, past))))
 
 -- THE SIZES OF THE SCREENS
 

@@ -23,6 +23,7 @@ pub(crate) fn place_of(screens: &[Screen], id: SessionId) -> usize
 }
 
 /// Takes away the first screen of an id, and the bytes that wait with it. Where none has the id, all stay.
+#[tactic(auto, using(crate::proofs::Screens::removed_at, crate::proofs::Screens::removed_none))]
 pub(crate) fn remove_screen(screens: &mut Vec<Screen>, id: SessionId)
     ensures { screens.new.items ≡ remove_first (screen_id id) screens.old.items }
 {
