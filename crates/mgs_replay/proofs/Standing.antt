@@ -11,8 +11,8 @@ use Rattle.mgs_script.specs.Lines.{Said, said_in}
 use Rattle.mgs_script.specs.Lines as said
 use Rattle.mgs_script.specs.Scripts.{lines_of, line_in, after_line, lines_after}
 use Rattle.mgs_replay.specs.Settings.{first_world}
-use Rattle.mgs_replay.specs.Players.{Player, LineDoes, LineRefused, setting, begun}
-use Rattle.mgs_replay.specs.Plays.{End, Whole, RefusedAt, Plays, MayPrint, Written}
+use Rattle.mgs_replay.specs.Players.{Player, LineDoes, LineRefused, MayBeShort, setting, begun}
+use Rattle.mgs_replay.specs.Plays.{End, Whole, RefusedAt, Plays, Breaks, MayPrint, MayBreak, Written}
 use Rattle.mgs_replay.specs.Turns.{IsOpening, Turned, PlaysOn, SetUp}
 use Rattle.mgs_replay.specs.Faults.{end_at}
 use Rattle.mgs_replay.specs.declared.lines.TurnFault.{TurnFault}
@@ -29,9 +29,10 @@ pub record Stands (first : ℕ) (start : Player) (all : List (List ℕ)) (old no
   pub printed : List ℕ
   pub appends : Appends old now printed
   pub goes : (more : List ℕ) (end : End) → Plays n s left more end → Plays first start all (printed ++ more) end
+  pub breaks : (more : List ℕ) → Breaks s left more → Breaks start all (printed ++ more)
 
 pub stands_first : (n : ℕ) (s : Player) (all : List (List ℕ)) (c : Option (List ℕ)) → Stands n s all c c n s all
-stands_first n s all c = record { printed = []; appends = Appends-nil c; goes = λ more end h. h }
+stands_first n s all c = record { printed = []; appends = Appends-nil c; goes = λ more end h. h; breaks = λ more h. h }
 
 pub stands_next : (first : ℕ) (start : Player) (all : List (List ℕ)) (old mid new : Option (List ℕ)) (n : ℕ) (s t : Player) (line : List ℕ) (left : List (List ℕ)) (print : List ℕ)
     → Stands first start all old mid n s (line ∷ left) → LineDoes (said_in line) s t print → Appends mid new print → Stands first start all old new (n + 1) t left
@@ -39,6 +40,7 @@ stands_next first start all old mid new n s t line left print h does app = recor
   printed = h.printed ++ print;
   appends = Appends-trans old mid new h.printed print h.appends app;
   goes = λ more end rest. subst (λ (x : List ℕ). Plays first start all x end) (sym (append_assoc h.printed print more)) (h.goes (print ++ more) end (inl (t, print, more, does, rest, refl)));
+  breaks = λ more rest. subst (λ (x : List ℕ). Breaks start all x) (sym (append_assoc h.printed print more)) (h.breaks (print ++ more) (inl (t, print, more, does, rest, refl)));
 }
 
 pub stands_end : (first : ℕ) (start : Player) (all : List (List ℕ)) (old now : Option (List ℕ)) (n : ℕ) (s : Player) → Stands first start all old now n s [] → (out : List ℕ) × Appends old now out × Plays first start all out Whole
@@ -48,6 +50,11 @@ pub stands_refused : (first : ℕ) (start : Player) (all : List (List ℕ)) (old
     → Stands first start all old mid n s (line ∷ left) → LineRefused (said_in line) s → Appends mid new [] → (out : List ℕ) × Appends old new out × Plays first start all out (RefusedAt n)
 stands_refused first start all old mid new n s line left h refused app =
     (h.printed ++ [], Appends-trans old mid new h.printed [] h.appends app, h.goes [] (RefusedAt n) (inr (refused, refl, refl)))
+
+pub stands_short : (first : ℕ) (start : Player) (all : List (List ℕ)) (old mid new : Option (List ℕ)) (n : ℕ) (s : Player) (line : List ℕ) (left : List (List ℕ))
+    → Stands first start all old mid n s (line ∷ left) → MayBeShort (said_in line) s → Appends mid new [] → (out : List ℕ) × Appends old new out × Breaks start all out
+stands_short first start all old mid new n s line left h short app =
+    (h.printed ++ [], Appends-trans old mid new h.printed [] h.appends app, h.breaks [] (inr (short, refl)))
 
 -- the first line of what is left, and the others
 pub left_cut : (rest : Option (Bor (List ℕ))) (text : Bor (List ℕ)) (line : List ℕ) (later : Option (Bor (List ℕ))) → rest ≡ Some text
@@ -84,6 +91,37 @@ opens_refused (Some (said.Keys name keys)) w is h = absurd is
 opens_refused (Some (said.Show name)) w is h = absurd is
 opens_refused (Some (said.Close name)) w is h = absurd is
 
+opens_short : (l : Option Said) (w : World) → IsOpening l → MayBeShort l (begun w []) → MayBeShort l (setting w)
+opens_short None w is h = absurd is
+opens_short (Some said.Nothing) w is h = absurd is
+opens_short (Some (said.User name)) w is h = absurd is
+opens_short (Some (said.Group name members)) w is h = absurd is
+opens_short (Some (said.Buffer name owner)) w is h = absurd is
+opens_short (Some (said.Entry buffer entry)) w is h = absurd is
+opens_short (Some (said.Text buffer cs)) w is h = absurd is
+opens_short (Some (said.Open name user rows cols)) w is h = h
+opens_short (Some (said.Keys name keys)) w is h = absurd is
+opens_short (Some (said.Show name)) w is h = absurd is
+opens_short (Some (said.Close name)) w is h = absurd is
+
+-- the first open is not refused
+opening_short : (l : Option Said) (w : World) → IsOpening l → MayBeShort l (setting w)
+opening_short None w is = absurd is
+opening_short (Some said.Nothing) w is = absurd is
+opening_short (Some (said.User name)) w is = absurd is
+opening_short (Some (said.Group name members)) w is = absurd is
+opening_short (Some (said.Buffer name owner)) w is = absurd is
+opening_short (Some (said.Entry buffer entry)) w is = absurd is
+opening_short (Some (said.Text buffer cs)) w is = absurd is
+opening_short (Some (said.Open name user rows cols)) w is = refl
+opening_short (Some (said.Keys name keys)) w is = absurd is
+opening_short (Some (said.Show name)) w is = absurd is
+opening_short (Some (said.Close name)) w is = absurd is
+
+pub breaks_first : (w : World) (line : List ℕ) (left : List (List ℕ)) (out : List ℕ) → IsOpening (said_in line) → Breaks (begun w []) (line ∷ left) out → Breaks (setting w) (line ∷ left) out
+breaks_first w line left out is (inl h) = inl (h.0, h.1, h.2, opens_does (said_in line) w h.0 h.1 is h.3, h.4, h.5)
+breaks_first w line left out is (inr h) = inr (opens_short (said_in line) w is h.0, h.1)
+
 pub opens_first : (n : ℕ) (w : World) (line : List ℕ) (left : List (List ℕ)) (out : List ℕ) (end : End) → IsOpening (said_in line) → Plays n (begun w []) (line ∷ left) out end → Plays n (setting w) (line ∷ left) out end
 opens_first n w line left out end is (inl h) = inl (h.0, h.1, h.2, opens_does (said_in line) w h.0 h.1 is h.3, h.4, h.5)
 opens_first n w line left out end is (inr h) = inr (opens_refused (said_in line) w is h.0, h.1, h.2)
@@ -94,7 +132,8 @@ pub ends_on : (r : ReplayFault) (fault : TurnFault) (first : ℕ) (start : Playe
 ends_on r turns.Refused first start all old mid new n s t line left is h turned =
     subst (λ (x : ReplayFault). PlaysOn (Err x) first start all old new) (sym is) (stands_refused first start all old mid new n s line left h turned.0 turned.1)
 ends_on r turns.Write first start all old mid new n s t line left is h turned = subst (λ (x : ReplayFault). PlaysOn (Err x) first start all old new) (sym is) tt
-ends_on r turns.Short first start all old mid new n s t line left is h turned = subst (λ (x : ReplayFault). PlaysOn (Err x) first start all old new) (sym is) tt
+ends_on r turns.Short first start all old mid new n s t line left is h turned =
+    subst (λ (x : ReplayFault). PlaysOn (Err x) first start all old new) (sym is) (stands_short first start all old mid new n s line left h turned.0 turned.1)
 
 whole_by : (n : ℕ) (w v : World) (script text : List ℕ) (out : List ℕ) (end : End)
     → w ≡ first_world → ((out : List ℕ) (end : End) → Plays n (setting v) (lines_of text) out end → Plays 1 (setting w) (lines_of script) out end) → IsOpening (said_in (line_in text))
@@ -104,16 +143,39 @@ whole_by n w v script text out end first goes is cut h =
     let set_plays : Plays n (setting v) (lines_of text) out end = subst (λ (ls : List (List ℕ)). Plays n (setting v) ls out end) (sym cut) (opens_first n v (line_in text) (lines_after (after_line text)) out end is cut_plays) in
     subst (λ (x : World). Plays 1 (setting x) (lines_of script) out end) first (goes out end set_plays)
 
+broken_by : (w v : World) (script text : List ℕ) (out : List ℕ)
+    → w ≡ first_world → ((out : List ℕ) → Breaks (setting v) (lines_of text) out → Breaks (setting w) (lines_of script) out) → Breaks (setting v) (lines_of text) out → Breaks (setting first_world) (lines_of script) out
+broken_by w v script text out first breaks h = subst (λ (x : World). Breaks (setting x) (lines_of script) out) first (breaks out h)
+
+breaks_by : (w v : World) (script text : List ℕ) (out : List ℕ)
+    → w ≡ first_world → ((out : List ℕ) → Breaks (setting v) (lines_of text) out → Breaks (setting w) (lines_of script) out) → IsOpening (said_in (line_in text))
+    → lines_of text ≡ line_in text ∷ lines_after (after_line text) → Breaks (begun v []) (lines_of text) out → Breaks (setting first_world) (lines_of script) out
+breaks_by w v script text out first breaks is cut h =
+    let cut_breaks : Breaks (begun v []) (line_in text ∷ lines_after (after_line text)) out = subst (λ (ls : List (List ℕ)). Breaks (begun v []) ls out) cut h in
+    broken_by w v script text out first breaks (subst (λ (ls : List (List ℕ)). Breaks (setting v) ls out) (sym cut) (breaks_first v (line_in text) (lines_after (after_line text)) out is cut_breaks))
+
+-- memory is refused to the server at the first open
+pub unserved : (w v : World) (script text : List ℕ) (c : Option (List ℕ))
+    → w ≡ first_world → ((out : List ℕ) → Breaks (setting v) (lines_of text) out → Breaks (setting w) (lines_of script) out) → IsOpening (said_in (line_in text))
+    → lines_of text ≡ line_in text ∷ lines_after (after_line text) → Written first_world script c c (Err ends.Short)
+unfolding MayBreak
+unserved w v script text c first breaks is cut = (
+  [],
+  Appends-nil c,
+  broken_by w v script text [] first breaks (subst (λ (ls : List (List ℕ)). Breaks (setting v) ls []) (sym cut) (inr (opening_short (said_in (line_in text)) v is, refl))),
+)
+
 -- the lines before the first open, and those from it on
 pub played : (r : Result (Unit {0}) ReplayFault) (n : ℕ) (w v : World) (script text : List ℕ) (old new : Option (List ℕ))
-    → w ≡ first_world → ((out : List ℕ) (end : End) → Plays n (setting v) (lines_of text) out end → Plays 1 (setting w) (lines_of script) out end) → IsOpening (said_in (line_in text))
+    → w ≡ first_world → ((out : List ℕ) (end : End) → Plays n (setting v) (lines_of text) out end → Plays 1 (setting w) (lines_of script) out end)
+    → ((out : List ℕ) → Breaks (setting v) (lines_of text) out → Breaks (setting w) (lines_of script) out) → IsOpening (said_in (line_in text))
     → lines_of text ≡ line_in text ∷ lines_after (after_line text) → PlaysOn r n (begun v []) (lines_of text) old new → Written first_world script old new r
-unfolding MayPrint
-played (Ok u) n w v script text old new first goes is cut h = (h.0, h.1, whole_by n w v script text h.0 Whole first goes is cut h.2)
-played (Err (ends.Line m)) n w v script text old new first goes is cut h = (h.0, h.1, whole_by n w v script text h.0 (RefusedAt m) first goes is cut h.2)
-played (Err ends.Read) n w v script text old new first goes is cut h = tt
-played (Err ends.Write) n w v script text old new first goes is cut h = tt
-played (Err ends.Short) n w v script text old new first goes is cut h = tt
+unfolding MayPrint MayBreak
+played (Ok u) n w v script text old new first goes breaks is cut h = (h.0, h.1, whole_by n w v script text h.0 Whole first goes is cut h.2)
+played (Err (ends.Line m)) n w v script text old new first goes breaks is cut h = (h.0, h.1, whole_by n w v script text h.0 (RefusedAt m) first goes is cut h.2)
+played (Err ends.Read) n w v script text old new first goes breaks is cut h = tt
+played (Err ends.Write) n w v script text old new first goes breaks is cut h = tt
+played (Err ends.Short) n w v script text old new first goes breaks is cut h = (h.0, h.1, breaks_by w v script text h.0 first breaks is cut h.2)
 
 -- a script without an open
 pub played_none : (w : World) (script : List ℕ) (c : Option (List ℕ)) → w ≡ first_world → Plays 1 (setting w) (lines_of script) [] Whole → Written first_world script c c (Ok tt)
@@ -122,11 +184,11 @@ played_none w script c first h = ([], Appends-nil c, subst (λ (x : World). Play
 
 -- a line is refused before the first open
 pub played_fault : (f : ReplayFault) (w v : World) (script : List ℕ) (c : Option (List ℕ)) → w ≡ first_world → SetUp (λ (x : Bor (List ℕ)). x.now) (Err f) w script v → Written first_world script c c (Err f)
-unfolding MayPrint
+unfolding MayPrint MayBreak
 played_fault (ends.Line n) w v script c first h = ([], Appends-nil c, subst (λ (x : World). Plays 1 (setting x) (lines_of script) [] (RefusedAt n)) first h)
 played_fault ends.Read w v script c first h = tt
 played_fault ends.Write w v script c first h = tt
-played_fault ends.Short w v script c first h = tt
+played_fault ends.Short w v script c first h = ([], Appends-nil c, subst (λ (x : World). Breaks (setting x) (lines_of script) []) first h)
 
 -- no more lines are left than bytes
 pub left_shorter : (rest : Option (Bor (List ℕ))) (text : Bor (List ℕ)) (later : Option (Bor (List ℕ))) (n most : ℕ) → rest ≡ Some text → IfSome later (λ x. length x.now < length text.now)

@@ -14,6 +14,8 @@ use Rattle.mgs_paint.specs.Painting.{shown}
 use Rattle.mgs_replay.specs.declared.client.Cause.{Cause}
 use Rattle.mgs_replay.specs.declared.client.Cause.TheVariants as causes
 use Rattle.mgs_replay.specs.Settings.{setting_refused, world_set}
+use Rattle.mgs_script.specs.declared.line.LineFault.{LineFault}
+use Rattle.mgs_script.specs.declared.line.LineFault.TheVariants.{Bad, Short}
 use Rattle.mgs_script.specs.Lines.{Said, Nothing, User, Group, Buffer, Entry as Listing, Text, Open, Keys, Show, Close}
 use Rattle.mgs_replay.specs.Prints.{refusal_text, ended_text, screen_text}
 
@@ -149,3 +151,19 @@ LineDoes (Some said) s t print = (is_refused s said ≡ false) × Does s said t 
 abbrev pub LineRefused : Option Said → Player → Type 0
 LineRefused None s = Unit {0}
 LineRefused (Some said) s = is_refused s said ≡ true
+
+-- lines that are read into memory before it is known whether they are refused: groups and texts before the first open
+abbrev pub is_read_first : Player → Said → Bool
+is_read_first s (Group name members) = not s.begun
+is_read_first s (Text buffer cs) = not s.begun
+is_read_first s _ = false
+
+-- where a line may be out of memory: it is not refused, or it is one of those
+abbrev pub MayBeShort : Option Said → Player → Type 0
+MayBeShort None s = ⊥
+MayBeShort (Some said) s = (is_read_first s said || not (is_refused s said)) ≡ true
+
+-- why a line that did nothing is not done: refused exactly where it is to be, and out of memory only where it may be
+abbrev pub IsDue : LineFault → Option Said → Player → Type 0
+IsDue Bad l s = LineRefused l s
+IsDue Short l s = MayBeShort l s

@@ -20,7 +20,7 @@ use Rattle.mgs_script.specs.declared.line.LineFault.{LineFault}
 use Rattle.mgs_script.specs.declared.line.LineFault.TheVariants as lines
 use Rattle.mgs_script.specs.Lines.{Said}
 use Rattle.mgs_replay.specs.Clients.{ended_by}
-use Rattle.mgs_replay.specs.Players.{Label, label, Standing, Never, Has, Gone, Player, begun, standing_of, session_now, is_refused, Does, LineDoes, LineRefused}
+use Rattle.mgs_replay.specs.Players.{Label, label, Standing, Never, Has, Gone, Player, begun, standing_of, session_now, is_refused, Does, LineDoes, IsDue}
 
 -- how a label stands, by its client
 abbrev pub standing_in : Client → Standing
@@ -138,5 +138,4 @@ Runs (Err lines.Short) s l t old new = is_refused s l ≡ false
 -- the same of a line that may say nothing
 abbrev pub RunsSaid : Result (Unit {0}) LineFault → Player → Option Said → Player → List ℕ → List ℕ → Type 0
 RunsSaid (Ok done) s l t old new = (print : List ℕ) × LineDoes l s t print × (new ≡ old ++ print)
-RunsSaid (Err lines.Bad) s l t old new = LineRefused l s
-RunsSaid (Err lines.Short) s l t old new = Unit {0}
+RunsSaid (Err fault) s l t old new = IsDue fault l s

@@ -1,10 +1,11 @@
 // Runs the lines of a script.
-ghost use Rattle.std.specs.Prelude.{◌≡◌, ◌+◌, ◌≤◌, [], Some, length, OnOk, IfOk, IfSome};
+ghost use Rattle.std.specs.Prelude.{◌≡◌, ◌+◌, ◌≤◌, [], Some, length, OnOk, IfOk, IfSome, true};
 ghost use Rattle.mgs_replay.specs.Faults.{fault_of, end_at, IsPlayed, IsSet};
-ghost use Rattle.mgs_script.specs.Lines.{said_in};
+ghost use Rattle.mgs_script.specs.Lines.{said_in, takes_memory};
+ghost use Rattle.mgs_model.specs.World.{World};
 ghost use Rattle.mgs_script.specs.Scripts.{lines_of};
 ghost use Rattle.mgs_replay.specs.Settings.{first_world};
-ghost use Rattle.mgs_replay.specs.Players.{begun};
+ghost use Rattle.mgs_replay.specs.Players.{setting, begun, IsDue};
 ghost use Rattle.mgs_replay.specs.Plays.{Written};
 ghost use Rattle.mgs_replay.specs.Served.{player_of, IsReady};
 ghost use Rattle.mgs_replay.specs.Turns.{Turned, PlaysOn, SetsSaid, SetUp};
@@ -15,7 +16,7 @@ use crate::script::ReplayFault;
 use crate::setup::Setup;
 use mgs_engine::Engine;
 use mgs_model::{SCRIPT_LIMIT, Short};
-use mgs_script::{Line, LineFault, cut_line, read_line};
+use mgs_script::{Line, LineFault, cut_line, read_line, typed_label};
 use std::alloc::Global;
 use std::io::Write;
 
@@ -101,6 +102,17 @@ fn run_lines<W: Write>(
     Ok(())
 }
 
+// Why a line before the first `open` is not run that memory was refused to read: keys are refused there.
+fn unread_setting_fault(line: &[u8]) -> LineFault
+    requires { takes_memory (said_in line.now) ≡ true }
+    ensures { (w : World) → IsDue result (said_in line.now) (setting w) }
+{
+    match typed_label(line) {
+        Some(_) => LineFault::Bad,
+        None => LineFault::Short,
+    }
+}
+
 // A line before the first `open`. False: it is that one, and not run.
 fn set_line<'a>(alloc: Global, setup: &mut Setup<'a>, line: &'a [u8]) -> Result<bool, LineFault>
     ensures { SetsSaid result (said_in line.now) setup.old setup.new }
@@ -111,7 +123,8 @@ fn set_line<'a>(alloc: Global, setup: &mut Setup<'a>, line: &'a [u8]) -> Result<
             Ok(()) => Ok(true),
             Err(fault) => Err(fault),
         },
-        Err(fault) => Err(fault),
+        Err(LineFault::Bad) => Err(LineFault::Bad),
+        Err(LineFault::Short) => Err(unread_setting_fault(line)),
     }
 }
 
@@ -154,8 +167,9 @@ fn server_of(alloc: Global, setup: Setup) -> Result<Server, Short>
 
 /// Runs the lines of a script over a server that has nothing yet, and writes what they print, line by line.
 ///
-/// `Line` is the first line that is refused; what the lines before it print is written. `Write`: writing fails. `Short`
-/// is out of memory. Nothing is said of what was written at these two.
+/// `Line` is the first line that is refused; what the lines before it print is written. `Write`: writing fails, and
+/// nothing is said of what was written. `Short`: memory is refused at a line that is not refused, or at the line of a
+/// group or a text before the first `open`; what the lines before it print is written.
 pub(crate) fn play<W: Write>(
     alloc: Global,
     script: &[u8],

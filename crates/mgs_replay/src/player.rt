@@ -1,13 +1,14 @@
 // Runs the lines from the first `open` on.
-ghost use Rattle.std.specs.Prelude.{◌≡◌, ◌++◌, ◌∷◌, ℕ, List, [], Some, OnOk};
+ghost use Rattle.std.specs.Prelude.{◌≡◌, ◌++◌, ◌∷◌, ℕ, List, [], Some, OnOk, true};
+ghost use Rattle.mgs_model.specs.World.{World};
 ghost use Rattle.mgs_model.specs.Picture.{IsSize};
 ghost use Rattle.mgs_term.specs.Screen.{blank_screen};
 ghost use Rattle.mgs_term.specs.Terminal.{resting};
 ghost use Rattle.mgs_replay.specs.declared.client.Client.TheVariants as client_states;
-ghost use Rattle.mgs_script.specs.Lines.{line_view, Open, Keys, Close, said_in};
+ghost use Rattle.mgs_script.specs.Lines.{line_view, Open, Keys, Close, said_in, takes_memory};
 ghost use Rattle.mgs_replay.specs.Prints.{refusal_text};
 ghost use Rattle.mgs_replay.specs.Clients.{client_of, shown_text};
-ghost use Rattle.mgs_replay.specs.Players.{label as called, Has, standing_of, had_session, TypesOne, Types, Closes};
+ghost use Rattle.mgs_replay.specs.Players.{label as called, Has, begun, standing_of, had_session, TypesOne, Types, Closes, IsDue};
 ghost use Rattle.mgs_replay.specs.Served.{labels_in, session_in, player_of, clients_keyed, IsReady, IsWaiting, NotBad, Prints, Runs, RunsSaid, short_or};
 
 use crate::client::{Cause, Client};
@@ -16,7 +17,7 @@ use crate::print::{print_ended, print_refusal, print_screen};
 use mgs_engine::Engine;
 use mgs_marks::PlainMarked;
 use mgs_model::{Keyed, Name, OpenFault, SessionId, Short};
-use mgs_script::{Line, LineFault, read_line};
+use mgs_script::{Line, LineFault, read_line, typed_label};
 use mgs_term::Term;
 use std::alloc::{AllocError, Global};
 
@@ -264,10 +265,29 @@ fn run_line(
     }
 }
 
+// Why a line is not run that memory was refused to read: of groups, texts and keys, only keys of a label that had a
+// session are not refused.
+fn unread_fault(clients: &Clients, line: &[u8]) -> LineFault
+    requires { takes_memory (said_in line.now) ≡ true }
+    ensures { (w : World) → IsDue result (said_in line.now) (begun w (labels_in clients.now)) }
+{
+    match typed_label(line) {
+        None => LineFault::Bad,
+        Some(label) => {
+            if had_session(clients, &label) {
+                LineFault::Short
+            } else {
+                LineFault::Bad
+            }
+        }
+    }
+}
+
 /// Runs a line of a script, from the first `open` on, as it stands in the script. What it prints is put after `out`.
 ///
 /// `Bad`: the line is refused. It says nothing that is known, sets users or buffers, opens a label that was used, or
-/// names one that had no session. `Short` is out of memory. Nothing is said of what these two leave.
+/// names one that had no session. `Short` is out of memory, which comes only where the line is not refused. Nothing is
+/// said of what these two leave.
 pub(crate) fn step_line(
     alloc: Global,
     server: &mut Server,
@@ -281,6 +301,7 @@ pub(crate) fn step_line(
 {
     match read_line(alloc, line) {
         Ok(line) => run_line(alloc, server, clients, out, &line),
-        Err(fault) => Err(fault),
+        Err(LineFault::Bad) => Err(LineFault::Bad),
+        Err(LineFault::Short) => Err(unread_fault(clients, line)),
     }
 }

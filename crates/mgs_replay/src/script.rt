@@ -3,7 +3,7 @@ ghost use Rattle.std.specs.Prelude.{◌≡◌, ◌+◌, ◌≤◌, length, IfOk,
 ghost use Rattle.std.specs.Io.KnownBytes.{Keeps};
 ghost use Rattle.mgs_replay.specs.Faults.{IsCounted};
 ghost use Rattle.mgs_replay.specs.Settings.{first_world};
-ghost use Rattle.mgs_replay.specs.Plays.{Written};
+ghost use Rattle.mgs_replay.specs.Plays.{WrittenOrUnread};
 ghost use Rattle.mgs_replay.specs.Reads.{PieceRead, TakesAtMost, LeavesUnread, KeepsLimit};
 
 use crate::lines::play;
@@ -71,14 +71,15 @@ fn read_script<R: Read>(alloc: Global, reader: &mut R) -> Result<Vec<u8>, Script
 ///
 /// `Line` is the first line that is refused; what the lines before it print is written. `Read`: reading fails, or there
 /// are more than 16,777,216 bytes, of which one more is taken at most; nothing is written. `Write`: writing or flushing
-/// fails. `Short` is out of memory. A script of more bytes than that ends by `Read` or `Short`, and at both nothing of it
-/// is written.
+/// fails. `Short`: memory is refused while the script is read, and nothing is written; or it is refused at a line that is
+/// not refused itself, or at the line of a group or a text before the first `open`, and what the lines before it print is
+/// written. A script of more bytes than that ends by `Read` or `Short`, and at both nothing of it is written.
 pub fn replay<R: Read, W: Write>(
     alloc: Global,
     reader: &mut R,
     writer: &mut W,
 ) -> Result<(), ReplayFault>
-    ensures written { IfSome (R.remaining reader.old) (λ script. Written first_world script (W.contents writer.old) (W.contents writer.new) result) }
+    ensures written { IfSome (R.remaining reader.old) (λ script. WrittenOrUnread first_world script (W.contents writer.old) (W.contents writer.new) result) }
     ensures line { IsCounted result }
     ensures unread { LeavesUnread result (W.contents writer.old) (W.contents writer.new) }
     ensures limit { KeepsLimit (R.remaining reader.old) result (W.contents writer.old) (W.contents writer.new) }

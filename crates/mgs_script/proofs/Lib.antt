@@ -1,3 +1,4 @@
 pub mod Utf8
 pub mod Feeds
 pub mod WordByWord
+pub mod Labels

@@ -1,5 +1,5 @@
 -- What the lines of a script say.
-use Rattle.std.specs.Prelude.{◌≡◌, ℕ, ◌==◌, Bool, ◌||◌, List, length, map, codes, slice_index, Option, Some, None, IsSome, Result, Ok, Err, if◌then◌else◌}
+use Rattle.std.specs.Prelude.{◌≡◌, ℕ, ◌==◌, Bool, ◌||◌, List, length, map, codes, slice_index, Option, Some, None, true, false, Result, Ok, Err, if◌then◌else◌}
 use Rattle.std.specs.Option.{option_map}
 use Rattle.std.specs.Str.{bytes_eq, is_utf8}
 use Rattle.mgs_keys.specs.Words.{word_of, words_after, words_of}
@@ -124,8 +124,40 @@ line_view (code.Keys label keys) = Keys label keys.items
 line_view (code.Show label) = Show label
 line_view (code.Close label) = Close label
 
--- exactly what the line says; Bad exactly where it says nothing that is known, and out of memory only where it says something
+-- what is read takes memory: the members of a group, the characters of a text, the bytes of keys
+abbrev pub takes_memory : Option Said → Bool
+takes_memory None = false
+takes_memory (Some Nothing) = false
+takes_memory (Some (User name)) = false
+takes_memory (Some (Group name members)) = true
+takes_memory (Some (Buffer name owner)) = false
+takes_memory (Some (Entry buffer entry)) = false
+takes_memory (Some (Text buffer text)) = true
+takes_memory (Some (Open label user rows cols)) = false
+takes_memory (Some (Keys label keys)) = true
+takes_memory (Some (Show label)) = false
+takes_memory (Some (Close label)) = false
+
+-- exactly what the line says; Bad exactly where it says nothing that is known, and out of memory only where what it says takes memory
 abbrev pub GivesLine : Result Line LineFault → Option Said → Type 0
 GivesLine (Ok l) said = said ≡ Some (line_view l)
 GivesLine (Err Bad) said = said ≡ None
-GivesLine (Err Short) said = IsSome said
+GivesLine (Err Short) said = takes_memory said ≡ true
+
+-- the label of a line of keys
+abbrev pub label_typed : Said → Option (List ℕ)
+label_typed Nothing = None
+label_typed (User name) = None
+label_typed (Group name members) = None
+label_typed (Buffer name owner) = None
+label_typed (Entry buffer entry) = None
+label_typed (Text buffer text) = None
+label_typed (Open label user rows cols) = None
+label_typed (Keys label keys) = Some label
+label_typed (Show label) = None
+label_typed (Close label) = None
+
+-- the label that stands after the first word, where that begins a line of keys
+abbrev pub label_after : Kind → List ℕ → Option (List ℕ)
+label_after kinds.Keys t = name_of (word_of t)
+label_after _ t = None

@@ -10,4 +10,4 @@ mod word;
 
 pub use cut::cut_line;
 pub use line::{Line, LineFault};
-pub use reading::read_line;
+pub use reading::{read_line, typed_label};

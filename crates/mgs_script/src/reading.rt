@@ -1,14 +1,14 @@
 // How a script's line is read.
-ghost use Rattle.std.specs.Prelude.{◌≡◌, Some};
+ghost use Rattle.std.specs.Prelude.{◌≡◌, Some, IfSome};
 ghost use Rattle.std.specs.Option.{option_map};
-ghost use Rattle.mgs_script.specs.Lines.{line_view, group_said, buffer_said, entry_said, text_said, open_said, keys_said, said_by_kind, said_in, is_passed_over, utf8_of, GivesLine};
+ghost use Rattle.mgs_script.specs.Lines.{line_view, group_said, buffer_said, entry_said, text_said, open_said, keys_said, said_by_kind, said_in, is_passed_over, utf8_of, GivesLine, label_typed, label_after};
 
 use crate::kind::{Kind, kind_of};
 use crate::line::{Line, LineFault};
 use crate::text::read_text;
 use crate::word::{any_word, cut_text, name_in, size, words};
 use mgs_keys::{KeysFault, read_keys};
-use mgs_model::Short;
+use mgs_model::{Name, Short};
 use std::alloc::Global;
 use std::str;
 
@@ -139,7 +139,7 @@ fn utf8(line: &[u8]) -> Option<&str>
 /// What a script's line says, without its line feed.
 ///
 /// `Bad` is answered where it says nothing that is known: such a line is refused. `Short` is out of memory, which comes
-/// only where the line says something.
+/// only where the line says a group, a text or keys.
 pub fn read_line(alloc: Global, line: &[u8]) -> Result<Line<'_>, LineFault>
     ensures { GivesLine result (said_in line.now) }
 {
@@ -150,4 +150,34 @@ pub fn read_line(alloc: Global, line: &[u8]) -> Result<Line<'_>, LineFault>
         Some(text) => line_by_kind(alloc, text),
         None => Err(LineFault::Bad),
     }
+}
+
+// The label that stands after the first word, where that begins a line of keys.
+fn label_after(kind: Kind, rest: &str) -> Option<Name>
+    ensures { result ≡ label_after kind rest.now }
+{
+    match kind {
+        Kind::Keys => name_in(cut_text(rest).0),
+        _ => None,
+    }
+}
+
+// The same of a line that is not passed over.
+#[tactic(auto, unfolding(crate::specs::Lines::said_by_kind), using(crate::proofs::Labels::label_said))]
+fn label_by_kind(text: &str) -> Option<Name>
+    ensures { IfSome (said_by_kind text.now) (λ said. result ≡ label_typed said) }
+{
+    let (word, rest) = cut_text(text);
+    label_after(kind_of(word)?, rest?)
+}
+
+/// The label of a script's line of keys; none of any other line that says something. It takes no memory, and so answers
+/// where `read_line` is out of memory. Nothing is said of a line for which `read_line` answers `Bad`.
+pub fn typed_label(line: &[u8]) -> Option<Name>
+    ensures { IfSome (said_in line.now) (λ said. result ≡ label_typed said) }
+{
+    if passed_over(line) {
+        return None;
+    }
+    label_by_kind(utf8(line)?)
 }
