@@ -99,7 +99,7 @@ pub stays_more : (old new : World) (z : Size) → sizes new ≡ sizes old ++ z �
 stays_more old new z more id =
     stays_by old new id (λ y h. ap (find_size id) more ∙ find-append (is_size_of id) (sizes old) (z ∷ []) ∙ ap (λ o. option_or o (find_size id (z ∷ []))) h)
 
-flip : (a b : ℕ) → nat_eq a b ≡ false → nat_eq b a ≡ false
+pub flip : (a b : ℕ) → nat_eq a b ≡ false → nat_eq b a ≡ false
 flip a b h = grind (arith, nat_tests)
 
 find_past : (gone id : ℕ) (zs : List Size) → nat_eq gone id ≡ false → find_size id (remove_first (is_size_of gone) zs) ≡ find_size id zs
@@ -213,7 +213,7 @@ labels_gone name cause (x ∷ xs) =
 
 -- APART
 
-differ_never : (s : Standing) → Differ s Never
+pub differ_never : (s : Standing) → Differ s Never
 differ_never Never = tt
 differ_never (Has id) = tt
 differ_never (Gone cause) = tt
@@ -223,14 +223,14 @@ differ_gone Never cause = tt
 differ_gone (Has id) cause = tt
 differ_gone (Gone other) cause = tt
 
-apart_push : (xs : List Label) (y : Label) → AreApart xs → All (λ x. IsApart x y) xs → AreApart (xs ++ y ∷ [])
+pub apart_push : (xs : List Label) (y : Label) → AreApart xs → All (λ x. IsApart x y) xs → AreApart (xs ++ y ∷ [])
 apart_push [] y h a = (All-nil (IsApart y), tt)
 apart_push (x ∷ xs) y h a = (
   All-append (IsApart x) xs (y ∷ []) h.0 (All-cons (IsApart x) y [] (All-head (λ x. IsApart x y) x xs a) (All-nil (IsApart x))),
   apart_push xs y h.1 (All-tail (λ x. IsApart x y) x xs a),
 )
 
-each : {A : Type 0} (P : A → Type 0) (xs : List A) → ((x : A) → P x) → All P xs
+pub each : {A : Type 0} (P : A → Type 0) (xs : List A) → ((x : A) → P x) → All P xs
 each P [] h = All-nil P
 each P (x ∷ xs) h = All-cons P x xs (h x) (each P xs h)
 
@@ -371,7 +371,7 @@ closed_one old new name id cause x taken painted less only h =
     ]
     in go (is_labelled name x) refl
 
-both : {A : Type 0} (P Q R : A → Type 0) → ((x : A) → P x → Q x → R x) → (xs : List A) → All P xs → All Q xs → All R xs
+pub both : {A : Type 0} (P Q R : A → Type 0) → ((x : A) → P x → Q x → R x) → (xs : List A) → All P xs → All Q xs → All R xs
 both P Q R f [] h k = All-nil R
 both P Q R f (x ∷ xs) h k = All-cons R x xs (f x (All-head P x xs h) (All-head Q x xs k)) (both P Q R f xs (All-tail P x xs h) (All-tail Q x xs k))
 

@@ -9,3 +9,5 @@ pub mod Players
 pub mod Drafts
 pub mod Fits
 pub mod Replaying
+pub mod Staying
+pub mod Allowed

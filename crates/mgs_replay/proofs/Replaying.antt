@@ -1,5 +1,5 @@
 -- A run of a script's lines is a function of what its events are granted.
-use Rattle.std.proofs.Common.{◌≡◌, ℕ, ◌+◌, arith, Bool, true, false, cond, List, [], ◌∷◌, ◌++◌, Option, Some, None, Result, Ok, Err, refl, sym, ap, ◌∙◌, inl, inr}
+use Rattle.std.proofs.Common.{◌≡◌, ℕ, ◌+◌, arith, Bool, true, false, cond, List, [], ◌∷◌, ◌++◌, Option, Some, None, Result, Ok, Err, refl, sym, ap, subst, ◌∙◌, inl, inr}
 use Rattle.std.specs.Prelude.{All, IsSome, is_some, ◌↔◌}
 use Rattle.std.proofs.lemmas.Bool.Decides.{nat_tests}
 use Rattle.std.proofs.lemmas.List.Elements.{All-nil, All-head, All-tail}
@@ -19,6 +19,7 @@ use Rattle.mgs_replay.specs.Settings.{first_world}
 use Rattle.mgs_replay.specs.Players.{Player, Label, label, Standing, Never, Has, Gone, begun, labels_keyed, standing_of, session_now, setting, is_refused, TypesOne, Types, Opens, Shows, Closes, Does, LineDoes, LineRefused}
 use Rattle.mgs_replay.specs.Plays.{End, Whole, RefusedAt, Plays, MayPrint}
 use Rattle.mgs_replay.specs.Replayed.{Choice, granted, next_choice, next_choices, later, AllGranted, Did, did, stop_of, world_keyed, answer_of, key_answer, typed_one, typed, open_answer, opened, session_text, label_text, closed, did_by, Replayed, after_print, line_then, played_with, replayed_with, replayed, IsReplayed}
+use Rattle.mgs_replay.proofs.Allowed.{allowed}
 
 -- A BYTE
 
@@ -228,5 +229,8 @@ none_refused : (cs : List (List Choice)) (script : List ℕ) → All AllGranted 
 unfolding replayed_with replayed
 none_refused cs script h = all_granted cs 1 (setting first_world) (lines_of script) h
 
+for_choices : (script out : List ℕ) (end : End) → (cs : List (List Choice)) × (replayed_with cs script ≡ replay out end) → MayPrint first_world script out end
+for_choices script out end h = subst (λ (r : Replayed). MayPrint first_world script r.out r.end) h.1 (allowed h.0 script)
+
 pub is_replayed : IsReplayed
-is_replayed = record { some = some_choices; granted = none_refused }
+is_replayed = record { chosen = λ script out end. (some_choices script out end, for_choices script out end); granted = none_refused }

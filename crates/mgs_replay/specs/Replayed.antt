@@ -1,5 +1,5 @@
 -- What a script writes, as a function of what its events are granted.
-use Rattle.std.specs.Prelude.{◌≡◌, ℕ, ◌+◌, ◌++◌, Bool, true, cond, List, [], ◌∷◌, map, All, Option, Some, None, Result, Ok, Err}
+use Rattle.std.specs.Prelude.{◌≡◌, ◌↔◌, ℕ, ◌+◌, ◌++◌, Bool, true, cond, List, [], ◌∷◌, map, All, Option, Some, None, Result, Ok, Err}
 use Rattle.mgs_model.specs.World.{World, Session, find_session}
 use Rattle.mgs_model.specs.Draw.{screen}
 use Rattle.mgs_model.specs.Events.{step, refused_act, may_be_refused}
@@ -163,7 +163,7 @@ replayed_with cs script = played_with cs 1 (setting first_world) (lines_of scrip
 unfoldable pub replayed : List ℕ → Replayed
 replayed script = replayed_with [] script
 
--- what a script may print is what it prints for some choices, and where these refuse nothing it is one fixed output
+-- what a script may print is exactly what it prints for some choices, and where these refuse nothing it is one fixed output
 pub record IsReplayed : Type 0 where
-  pub some : (script out : List ℕ) (end : End) → MayPrint first_world script out end → (cs : List (List Choice)) × (replayed_with cs script ≡ record { out = out; end = end })
+  pub chosen : (script out : List ℕ) (end : End) → MayPrint first_world script out end ↔ ((cs : List (List Choice)) × (replayed_with cs script ≡ record { out = out; end = end }))
   pub granted : (cs : List (List Choice)) (script : List ℕ) → All AllGranted cs → replayed_with cs script ≡ replayed script

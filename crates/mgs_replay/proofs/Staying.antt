@@ -1,0 +1,211 @@
+-- Which sessions an event leaves open, told by the worlds before and after it and by no command.
+use Rattle.std.proofs.Common.{◌≡◌, ℕ, zero, suc, ◌+◌, ◌==◌, nat_eq, Bool, true, false, cond, List, [], ◌∷◌, ◌++◌, map, Option, Some, None, refl, sym, ap, ◌∙◌, eq-eqb}
+use Rattle.std.specs.Prelude.{find, is_some}
+use Rattle.std.specs.Option.{option_map, option_or}
+use Rattle.std.proofs.lemmas.Bool.{eqb-true}
+use Rattle.std.proofs.lemmas.List.Folds.{find-append}
+use Rattle.mgs_model.proofs.Firsts.{find-map}
+use Rattle.mgs_model.proofs.Blind.{change_inside, map_inside, is_some_map}
+use Rattle.mgs_model.proofs.After.{id_after}
+use Rattle.mgs_model.specs.World.{World, Session, Own, has_id, find_session}
+use Rattle.mgs_model.specs.Outcome.{Outcome, Effect, No_effect, Edit, Unmodified, Relist, Reown, Create, Kill, Save, Quit}
+use Rattle.mgs_model.specs.Apply.{change_first, session_after, session_arranged, without_session, after_quit, apply, outcome_of}
+use Rattle.mgs_model.specs.Events.{Doing, Todo, Turn, Rest, Do, Refuse, next, refused_own, with_own, done_by, turn_done, turn, turns, most_turns, begun, byte_done, settled, session_settled, new_session, opened, is_open, can_open, step, refused_of, refused_in, refused_act, may_be_refused}
+use Rattle.mgs_model.specs.Events as events
+use Rattle.mgs_model.specs.declared.session.Command.{Command}
+
+-- the other sessions stay, and so does the next id
+pub record Beside (id : ℕ) (w v : World) : Type 0 where
+  pub others : (other : ℕ) → nat_eq id other ≡ false → is_open other v ≡ is_open other w
+  pub next : v.next_id ≡ w.next_id
+
+pub beside_same : (id : ℕ) (w : World) → Beside id w w
+beside_same id w = record { others = λ other e. refl; next = refl }
+
+beside_then : (id : ℕ) (u v w : World) → Beside id u v → Beside id v w → Beside id u w
+beside_then id u v w a b = record { others = λ other e. b.others other e ∙ a.others other e; next = b.next ∙ a.next }
+
+-- SESSIONS BY THEIR IDS
+
+abbrev session_id : Session → ℕ
+session_id x = x.id
+
+open_by_ids : (id : ℕ) (xs : List Session) → is_some (find_session id xs) ≡ is_some (find (λ n. n == id) (map session_id xs))
+open_by_ids id xs = sym (is_some_map session_id (find_session id xs)) ∙ sym (ap is_some (find-map session_id (has_id id) (λ n. n == id) (λ x. refl) xs))
+
+-- where the ids stay the same sessions are open
+open_same : (id : ℕ) (xs ys : List Session) → map session_id ys ≡ map session_id xs → is_some (find_session id ys) ≡ is_some (find_session id xs)
+open_same id xs ys e = open_by_ids id ys ∙ ap (λ (ns : List ℕ). is_some (find (λ n. n == id) ns)) e ∙ sym (open_by_ids id xs)
+
+ids_own : (id : ℕ) (f : Own → Own) (xs : List Session) → map session_id (change_first (has_id id) (λ x. record x { own = f x.own }) xs) ≡ map session_id xs
+ids_own id f xs = change_inside session_id (has_id id) (λ x. record x { own = f x.own }) xs (λ x e. refl)
+
+pub open_own : (other id : ℕ) (f : Own → Own) (w : World) → is_open other (with_own id f w) ≡ is_open other w
+open_own other id f w = open_same other w.sessions (with_own id f w).sessions (ids_own id f w.sessions)
+
+pub open_settled : (id : ℕ) (w : World) → is_open id (settled w) ≡ is_open id w
+open_settled id w = open_same id w.sessions (settled w).sessions (map_inside session_id (session_settled w.directory w.buffers) (λ x. refl) w.sessions)
+
+beside_own : (id : ℕ) (f : Own → Own) (w : World) → Beside id w (with_own id f w)
+beside_own id f w = record { others = λ other e. open_own other id f w; next = refl }
+
+beside_settled : (id : ℕ) (w : World) → Beside id w (settled w)
+beside_settled id w = record { others = λ other e. open_settled other w; next = refl }
+
+-- A SESSION IS TAKEN OUT
+
+find_past : (id other : ℕ) (xs : List Session) → nat_eq id other ≡ false → find_session other (without_session id xs) ≡ find_session other xs
+find_past id other [] e = refl
+find_past id other (x ∷ xs) e =
+    let goal : Bool → Type 0 = λ b. nat_eq x.id id ≡ b → find_session other (cond b xs (x ∷ without_session id xs)) ≡ cond (nat_eq x.id other) (Some x) (find_session other xs) in
+    let go : (b : Bool) → goal b =
+    λ b. elim b as goal [
+      | true ↦ λ f.
+          let same : x.id ≡ id = eqb-true _ _ f in
+          let no : nat_eq x.id other ≡ false = ap (λ n. nat_eq n other) same ∙ e in
+          sym (ap (λ t. cond t (Some x) (find_session other xs)) no)
+      | false ↦ λ f. ap (cond (nat_eq x.id other) (Some x)) (find_past id other xs e)
+    ]
+    in go (nat_eq x.id id) refl
+
+open_past : (id other : ℕ) (xs : List Session) → nat_eq id other ≡ false → is_some (find_session other (without_session id xs)) ≡ is_some (find_session other xs)
+open_past id other xs e = ap is_some (find_past id other xs e)
+
+open_quit : (id other : ℕ) (e : Effect) (xs : List Session) → nat_eq id other ≡ false → is_some (find_session other (after_quit e id xs)) ≡ is_some (find_session other xs)
+open_quit id other Quit xs h = open_past id other xs h
+open_quit id other No_effect xs h = refl
+open_quit id other (Edit name a b put) xs h = refl
+open_quit id other (Unmodified name) xs h = refl
+open_quit id other (Relist name entries) xs h = refl
+open_quit id other (Reown name owner) xs h = refl
+open_quit id other (Create name owner) xs h = refl
+open_quit id other (Kill name) xs h = refl
+open_quit id other (Save name text) xs h = refl
+
+-- AN ACT
+
+ids_acted : (id : ℕ) (o : Outcome) (xs : List Session) → map session_id (change_first (has_id id) (session_arranged o.arrange o.own) (map (session_after o.effect) xs)) ≡ map session_id xs
+ids_acted id o xs =
+    change_inside session_id (has_id id) (session_arranged o.arrange o.own) (map (session_after o.effect) xs) (λ x e. refl)
+    ∙ map_inside session_id (session_after o.effect) (id_after o.effect) xs
+
+beside_apply : (id : ℕ) (o : Outcome) (w : World) → Beside id w (apply w id o)
+beside_apply id o w =
+    let acted : List Session = change_first (has_id id) (session_arranged o.arrange o.own) (map (session_after o.effect) w.sessions) in
+    record {
+      others = λ other e. open_quit id other o.effect acted e ∙ open_same other w.sessions acted (ids_acted id o w.sessions);
+      next = refl;
+    }
+
+beside_done : (id : ℕ) (stored : Bool) (c : Command) (d : Doing) (x : Option Session) → Beside id d.world (done_by id stored c d x).world
+beside_done id stored c d None = beside_same id d.world
+beside_done id stored c d (Some x) = beside_apply id (outcome_of d.world x c stored) d.world
+
+beside_turn : (id : ℕ) (stored : Bool) (t : Turn) (d : Doing) → Beside id d.world (turn_done id stored t d).world
+beside_turn id stored Rest d = beside_same id d.world
+beside_turn id stored (Do c) d = beside_done id stored c d (find_session id d.world.sessions)
+beside_turn id stored (Refuse c) d = beside_own id refused_own d.world
+
+-- ALL ACTS OF A BYTE
+
+abbrev world_in : Doing → World
+world_in d = d.world
+
+beside_turns : (n id : ℕ) (stored : Bool) (d : Doing) → Beside id d.world (turns n id stored d).world
+unfolding turns
+beside_turns zero id stored d = beside_same id d.world
+beside_turns (suc n) id stored d = go d.todo (beside_turns n id stored (turn id stored d))
+  where
+    go : (s : List Todo) → Beside id (turn id stored d).world (turns n id stored (turn id stored d)).world
+        → Beside id d.world (world_in (elim s as (λ _. Doing) [ [] ↦ d | x ∷ xs ↦ turns n id stored (turn id stored d) ]))
+    go [] ih = beside_same id d.world
+    go (x ∷ xs) ih = beside_then id d.world (turn id stored d).world (turns n id stored (turn id stored d)).world (beside_turn id stored (next d.todo d.memory) d) ih
+
+pub beside_byte : (id byte : ℕ) (stored : Bool) (stop : Option ℕ) (w : World) → Beside id w (step w (events.Byte id byte stored stop))
+beside_byte id byte stored stop w = go (is_open id w)
+  where
+    go : (b : Bool) → Beside id w (cond b (settled (byte_done w id byte stored stop)) w)
+    go false = beside_same id w
+    go true =
+        let begins : World = (begun w id byte stop).world in
+        let ends : World = byte_done w id byte stored stop in
+        beside_then id w ends (settled ends)
+        (beside_then id w begins ends (beside_own id _ w) (beside_turns most_turns id stored (begun w id byte stop)))
+        (beside_settled id ends)
+
+pub beside_close : (id : ℕ) (w : World) → Beside id w (step w (events.Close id))
+beside_close id w = go (is_open id w)
+  where
+    go : (b : Bool) → Beside id w (cond b (settled (record w { sessions = without_session id w.sessions })) w)
+    go false = beside_same id w
+    go true =
+        let ends : World = record w { sessions = without_session id w.sessions } in
+        beside_then id w ends (settled ends) (record { others = λ other e. open_past id other w.sessions e; next = refl }) (beside_settled id ends)
+
+-- MEMORY REFUSED: the session of a refused act stays open, since nothing is done after it
+
+turns_rest : (n id : ℕ) (stored : Bool) (w : World) (memory : Option ℕ) → (turns n id stored (record { world = w; todo = []; memory = memory })).world ≡ w
+unfolding turns
+turns_rest zero id stored w memory = refl
+turns_rest (suc n) id stored w memory = refl
+
+refused_stays : (n id : ℕ) (stored : Bool) (d : Doing) (o : Outcome) → refused_in n id stored d ≡ Some o → is_open id (turns n id stored d).world ≡ true
+unfolding turns refused_in
+refused_stays zero id stored d o e = cc
+refused_stays (suc n) id stored d o e = go d.todo e (refused_stays n id stored (turn id stored d) o)
+  where
+    by : (t : Turn) (x : Option Session) → find_session id d.world.sessions ≡ x → refused_of id stored t d.world x (refused_in n id stored (turn_done id stored t d)) ≡ Some o
+        → (refused_in n id stored (turn_done id stored t d) ≡ Some o → is_open id (turns n id stored (turn_done id stored t d)).world ≡ true)
+        → is_open id (turns n id stored (turn_done id stored t d)).world ≡ true
+    by Rest x found e ih = ih e
+    by (Do c) x found e ih = ih e
+    by (Refuse c) None found e ih = ih e
+    by (Refuse c) (Some x) found e ih =
+        ap (is_open id) (turns_rest n id stored (with_own id refused_own d.world) d.memory)
+        ∙ open_own id id refused_own d.world
+        ∙ ap is_some found
+    go : (s : List Todo) → elim s as (λ _. Option Outcome) [ [] ↦ None | x ∷ xs ↦ refused_of id stored (next d.todo d.memory) d.world (find_session id d.world.sessions) (refused_in n id stored (turn id stored d)) ] ≡ Some o
+        → (refused_in n id stored (turn id stored d) ≡ Some o → is_open id (turns n id stored (turn id stored d)).world ≡ true)
+        → is_open id (world_in (elim s as (λ _. Doing) [ [] ↦ d | x ∷ xs ↦ turns n id stored (turn id stored d) ])) ≡ true
+    go [] e ih = cc
+    go (x ∷ xs) e ih = by (next d.todo d.memory) (find_session id d.world.sessions) refl e ih
+
+pub stays_refused : (id byte : ℕ) (stored : Bool) (stop : Option ℕ) (w : World) → is_open id w ≡ true → may_be_refused (refused_act w id byte stored stop) ≡ true → is_open id (step w (events.Byte id byte stored stop)) ≡ true
+stays_refused id byte stored stop w there may = step_is ∙ open_settled id (byte_done w id byte stored stop) ∙ by (refused_act w id byte stored stop) refl may
+  where
+    step_is : is_open id (step w (events.Byte id byte stored stop)) ≡ is_open id (settled (byte_done w id byte stored stop))
+    step_is = ap (λ b. is_open id (cond b (settled (byte_done w id byte stored stop)) w)) there
+    by : (r : Option Outcome) → refused_act w id byte stored stop ≡ r → may_be_refused r ≡ true → is_open id (byte_done w id byte stored stop) ≡ true
+    by None e m = cc
+    by (Some o) e m = refused_stays most_turns id stored (begun w id byte stop) o e
+
+-- A SESSION OPENS
+
+or_some : (o p : Option Session) → is_some o ≡ true → is_some (option_or o p) ≡ true
+or_some None p h = cc
+or_some (Some x) p h = refl
+
+or_last : (o p : Option Session) → is_some p ≡ true → is_some (option_or o p) ≡ true
+or_last None p h = h
+or_last (Some x) p h = refl
+
+step_open : (id : ℕ) (user : List ℕ) (rows cols : ℕ) (w : World) → can_open w id user rows cols ≡ true → step w (events.Open id user rows cols) ≡ settled (opened w id user rows cols)
+step_open id user rows cols w can = ap (λ b. cond b (settled (opened w id user rows cols)) w) can
+
+pub opened_next : (id : ℕ) (user : List ℕ) (rows cols : ℕ) (w : World) → can_open w id user rows cols ≡ true → (step w (events.Open id user rows cols)).next_id ≡ w.next_id + 1
+opened_next id user rows cols w can = ap (λ (v : World). v.next_id) (step_open id user rows cols w can)
+
+pub opened_stays : (other id : ℕ) (user : List ℕ) (rows cols : ℕ) (w : World) → can_open w id user rows cols ≡ true → is_open other w ≡ true → is_open other (step w (events.Open id user rows cols)) ≡ true
+opened_stays other id user rows cols w can there =
+    ap (is_open other) (step_open id user rows cols w can)
+    ∙ open_settled other (opened w id user rows cols)
+    ∙ ap is_some (find-append (has_id other) w.sessions (new_session w.directory w.buffers id user rows cols ∷ []))
+    ∙ or_some (find_session other w.sessions) (find_session other (new_session w.directory w.buffers id user rows cols ∷ [])) there
+
+pub opened_there : (id : ℕ) (user : List ℕ) (rows cols : ℕ) (w : World) → can_open w id user rows cols ≡ true → is_open id (step w (events.Open id user rows cols)) ≡ true
+opened_there id user rows cols w can =
+    let x : Session = new_session w.directory w.buffers id user rows cols in
+    ap (is_open id) (step_open id user rows cols w can)
+    ∙ open_settled id (opened w id user rows cols)
+    ∙ ap is_some (find-append (has_id id) w.sessions (x ∷ []))
+    ∙ or_last (find_session id w.sessions) (find_session id (x ∷ [])) (ap (λ b. is_some (cond b (Some x) None)) (eq-eqb id id refl))
