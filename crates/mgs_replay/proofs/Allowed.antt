@@ -22,11 +22,11 @@ use Rattle.mgs_replay.specs.declared.client.Cause.{Cause}
 use Rattle.mgs_replay.specs.declared.client.Cause.TheVariants as causes
 use Rattle.mgs_replay.specs.Settings.{first_world}
 use Rattle.mgs_replay.specs.Prints.{screen_text}
-use Rattle.mgs_replay.specs.Players.{Player, Label, label, Standing, Never, Has, Gone, is_called, standing_of, had_session, session_now, gone, setting, is_refused, labels_keyed, TypesOne, Types, Opens, Shows, Closes, Does, LineDoes, LineRefused}
+use Rattle.mgs_replay.specs.Players.{Player, Label, label, Standing, Never, Has, Gone, is_called, standing_of, had_session, session_now, gone, setting, is_refused, labels_keyed, TypesOne, Types, Opens, ShowPrints, Closes, Does, LineDoes, LineRefused}
 use Rattle.mgs_replay.specs.Plays.{End, Whole, RefusedAt, Plays, MayPrint}
 use Rattle.mgs_replay.specs.Served.{Differ, IsApart, AreApart}
-use Rattle.mgs_replay.specs.Replayed.{Choice, next_choice, next_choices, later, stop_of, world_keyed, answer_of, key_answer, typed_one, typed, granted_id, open_answer, opened, session_text, label_text, closed, did_by, Replayed, after_print, line_then, played_with, replayed_with}
-use Rattle.mgs_replay.proofs.Events.{flip, differ_never, apart_push, apart_gone, each, both, All-found}
+use Rattle.mgs_replay.specs.Replayed.{Choice, next_choice, next_choices, later, stop_of, world_keyed, answer_of, key_answer, typed_one, typed, granted_id, open_answer, did_open, session_text, label_text, closed, did_by, Replayed, after_print, line_then, played_with, replayed_with}
+use Rattle.mgs_replay.proofs.Labels.{differ_never, apart_push, apart_gone, each, both, All-found, HasNot, OnlyCalled, only_called, found_now}
 use Rattle.mgs_replay.proofs.Staying.{Beside, beside_byte, beside_close, stays_refused, opened_next, opened_stays, opened_there}
 
 -- PLAYERS THAT A SCRIPT COMES TO
@@ -122,46 +122,6 @@ sound_still w v id ls beside still h = record {
   apart = h.apart;
 }
 
--- a label has not this open session
-HasNot : ℕ → Standing → Type 0
-HasNot id Never = Unit {0}
-HasNot id (Has own) = nat_eq id own ≡ false
-HasNot id (Gone cause) = Unit {0}
-
-later_has : (id : ℕ) (s : Standing) → Differ (Has id) s → HasNot id s
-unfolding HasNot
-later_has id Never h = tt
-later_has id (Has own) h = flip own id h
-later_has id (Gone cause) h = tt
-
-earlier_has : (id : ℕ) (s : Standing) → Differ s (Has id) → HasNot id s
-unfolding HasNot
-earlier_has id Never h = tt
-earlier_has id (Has own) h = h
-earlier_has id (Gone cause) h = tt
-
-OnlyCalled : List ℕ → ℕ → Label → Type 0
-OnlyCalled name id x = is_called name x ≡ false → HasNot id x.standing
-
--- no label of another name has the session of this one
-only_called : (name : List ℕ) (id : ℕ) (xs : List Label) (z : Label) → find (is_called name) xs ≡ Some z → z.standing ≡ Has id → AreApart xs → All (OnlyCalled name id) xs
-unfolding OnlyCalled
-only_called name id [] z found is apart = All-nil (OnlyCalled name id)
-only_called name id (x ∷ xs) z found is apart =
-    let goal : Bool → Type 0 = λ b. is_called name x ≡ b → cond b (Some x) (find (is_called name) xs) ≡ Some z → All (OnlyCalled name id) (x ∷ xs) in
-    let go : (b : Bool) → goal b =
-    λ b. elim b as goal [
-      | true ↦ λ e f.
-          let same : x ≡ z = cc in
-          let has : x.standing ≡ Has id = ap (λ (y : Label). y.standing) same ∙ is in
-          All-cons (OnlyCalled name id) x xs (λ no. let clash : true ≡ false = sym e ∙ no in cc)
-          (All-weaker (IsApart x) (OnlyCalled name id) (λ y a no. later_has id y.standing (subst (λ (s : Standing). Differ s y.standing) has a)) xs apart.0)
-      | false ↦ λ e f.
-          let differs : IsApart x z = All-found (IsApart x) (is_called name) xs z apart.0 f in
-          All-cons (OnlyCalled name id) x xs (λ no. earlier_has id x.standing (subst (λ (s : Standing). Differ x.standing s) is differs)) (only_called name id xs z f is apart.1)
-    ]
-    in go (is_called name x) refl found
-
 there_gone : (w v : World) (name : List ℕ) (id : ℕ) (cause : Cause) → Beside id w v → (x : Label) → OnlyCalled name id x → IsThere w x.standing → IsThere v (gone name cause x).standing
 unfolding IsThere HasNot OnlyCalled
 there_gone w v name id cause beside x only h = go (is_called name x) refl
@@ -181,15 +141,6 @@ given_gone n m name cause same x h = go (is_called name x)
     go : (b : Bool) → IsGiven m (cond b (label x.name (Gone cause)) x).standing
     go true = tt
     go false = given_same n m same x.standing h
-
-has_now : (s : Standing) (id : ℕ) → session_now (Some s) ≡ Some id → s ≡ Has id
-has_now Never id h = absurd cc
-has_now (Has own) id h = let e : own ≡ id = cc in ap Has e
-has_now (Gone cause) id h = absurd cc
-
-found_now : (o : Option Label) (id : ℕ) → session_now (option_map (λ (x : Label). x.standing) o) ≡ Some id → (z : Label) × (o ≡ Some z) × (z.standing ≡ Has id)
-found_now None id h = absurd cc
-found_now (Some z) id h = (z, refl, has_now z.standing id h)
 
 -- it ends, and so does its label's
 sound_gone : (w v : World) (name : List ℕ) (id : ℕ) (cause : Cause) (ls : List Label) → Beside id w v → session_now (standing_of name ls) ≡ Some id → IsSound w ls → IsSound v (map (gone name cause) ls)
@@ -324,7 +275,7 @@ may_open w user rows cols e = ap (λ (o : Option OpenFault). not (is_some o) && 
 
 abbrev OpenAllowed : Player → List ℕ → List ℕ → ℕ → ℕ → Result ℕ OpenFault → Type 0
 OpenAllowed s name user rows cols answer =
-    Opens s name user rows cols answer (opened s name user rows cols answer).player (opened s name user rows cols answer).print × IsSoundPlayer (opened s name user rows cols answer).player
+    Opens s name user rows cols answer (did_open s name user rows cols answer).player (did_open s name user rows cols answer).print × IsSoundPlayer (did_open s name user rows cols answer).player
 
 open_allowed : (s : Player) (name user : List ℕ) (rows cols : ℕ) (stop : Option ℕ) (due : Option OpenFault) → open_fault s.world user rows cols ≡ due → IsSoundPlayer s → (stored : Bool) → OpenAllowed s name user rows cols (open_answer (record { stored = stored; stop = stop }) due s.world.next_id)
 open_allowed s name user rows cols stop (Some fault) e h stored = ((due_answers s.world user rows cols fault e, refl, refl), sound_never s.world s.labels name h)
@@ -346,7 +297,7 @@ IsThereFound : World → Option Standing → Type 0
 IsThereFound w None = Unit {0}
 IsThereFound w (Some s) = IsThere w s
 
-text_allowed : (w : World) (name : List ℕ) (o : Option Standing) → not (had_session o) ≡ false → IsThereFound w o → Shows w name o (label_text w name o)
+text_allowed : (w : World) (name : List ℕ) (o : Option Standing) → not (had_session o) ≡ false → IsThereFound w o → ShowPrints w name o (label_text w name o)
 unfolding IsThere IsThereFound
 text_allowed w name None h there = absurd cc
 text_allowed w name (Some Never) h there = absurd cc

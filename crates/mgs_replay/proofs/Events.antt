@@ -30,8 +30,9 @@ use Rattle.mgs_replay.specs.declared.client.Client.{Client}
 use Rattle.mgs_replay.specs.declared.client.Client.TheVariants as clients
 use Rattle.mgs_replay.specs.Clients.{is_labelled, client_of, ended_by}
 use Rattle.mgs_replay.specs.Players.{Label, label, Standing, Never, Has, Gone, is_called, standing_of, gone}
-use Rattle.mgs_replay.specs.Served.{standing_in, label_of, labels_in, ClientShows, Shows, ClientDue, IsLineDue, Differ, IsApart, AreApart, AreUnique, size_id, IsPlayerServed, IsReady, IsWaiting}
+use Rattle.mgs_replay.specs.Served.{standing_in, label_of, labels_in, ClientShows, LabelShows, ClientDue, IsLineDue, Differ, IsApart, AreApart, AreUnique, size_id, session_in, IsPlayerServed, IsReady, IsWaiting}
 use Rattle.mgs_replay.proofs.Served.{found_size}
+use Rattle.mgs_replay.proofs.Labels.{differ_never, apart_push, apart_gone, each, both, flip, HasNot, OnlyCalled, only_called, found_now}
 
 -- BYTES THAT WAIT
 
@@ -88,9 +89,9 @@ client_stays old new (clients.Open id term) h = h id
 client_stays old new (clients.Ended cause) h = tt
 
 -- all sessions stay
-pub all_due : (old new : Serving) (xs : List Labelled) → AllTaken old → Painted old new → ((id : ℕ) → Stays old.world new.world id) → All (Shows old.world) xs → All (IsLineDue new) xs
+pub all_due : (old new : Serving) (xs : List Labelled) → AllTaken old → Painted old new → ((id : ℕ) → Stays old.world new.world id) → All (LabelShows old.world) xs → All (IsLineDue new) xs
 all_due old new xs taken painted stays h =
-    All-weaker (Shows old.world) (IsLineDue new) (λ x s. client_due old new x.client taken painted (client_stays old.world new.world x.client stays) s) xs h
+    All-weaker (LabelShows old.world) (IsLineDue new) (λ x s. client_due old new x.client taken painted (client_stays old.world new.world x.client stays) s) xs h
 
 pub stays_same : (old new : World) → sizes new ≡ sizes old → (id : ℕ) → Stays old new id
 stays_same old new same id = stays_by old new id (λ z h. ap (find_size id) same ∙ h)
@@ -98,9 +99,6 @@ stays_same old new same id = stays_by old new id (λ z h. ap (find_size id) same
 pub stays_more : (old new : World) (z : Size) → sizes new ≡ sizes old ++ z ∷ [] → (id : ℕ) → Stays old new id
 stays_more old new z more id =
     stays_by old new id (λ y h. ap (find_size id) more ∙ find-append (is_size_of id) (sizes old) (z ∷ []) ∙ ap (λ o. option_or o (find_size id (z ∷ []))) h)
-
-pub flip : (a b : ℕ) → nat_eq a b ≡ false → nat_eq b a ≡ false
-flip a b h = grind (arith, nat_tests)
 
 find_past : (gone id : ℕ) (zs : List Size) → nat_eq gone id ≡ false → find_size id (remove_first (is_size_of gone) zs) ≡ find_size id zs
 find_past gone id [] other = refl
@@ -213,27 +211,6 @@ labels_gone name cause (x ∷ xs) =
 
 -- APART
 
-pub differ_never : (s : Standing) → Differ s Never
-differ_never Never = tt
-differ_never (Has id) = tt
-differ_never (Gone cause) = tt
-
-differ_gone : (s : Standing) (cause : Cause) → Differ s (Gone cause)
-differ_gone Never cause = tt
-differ_gone (Has id) cause = tt
-differ_gone (Gone other) cause = tt
-
-pub apart_push : (xs : List Label) (y : Label) → AreApart xs → All (λ x. IsApart x y) xs → AreApart (xs ++ y ∷ [])
-apart_push [] y h a = (All-nil (IsApart y), tt)
-apart_push (x ∷ xs) y h a = (
-  All-append (IsApart x) xs (y ∷ []) h.0 (All-cons (IsApart x) y [] (All-head (λ x. IsApart x y) x xs a) (All-nil (IsApart x))),
-  apart_push xs y h.1 (All-tail (λ x. IsApart x y) x xs a),
-)
-
-pub each : {A : Type 0} (P : A → Type 0) (xs : List A) → ((x : A) → P x) → All P xs
-each P [] h = All-nil P
-each P (x ∷ xs) h = All-cons P x xs (h x) (each P xs h)
-
 pub labels_push : (xs : List Labelled) (y : Labelled) → labels_in (xs ++ y ∷ []) ≡ labels_in xs ++ label_of y ∷ []
 labels_push xs y = map-append label_of xs (y ∷ [])
 
@@ -258,31 +235,13 @@ fresh_one w id (clients.Open own term) fresh h =
     in go (nat_eq id own) refl
 fresh_one w id (clients.Ended cause) fresh h = tt
 
-pub apart_open : (w : World) (xs : List Labelled) (name : List ℕ) (id : ℕ) (term : Terminal) → find_size id (sizes w) ≡ None → All (Shows w) xs → AreApart (labels_in xs)
+pub apart_open : (w : World) (xs : List Labelled) (name : List ℕ) (id : ℕ) (term : Terminal) → find_size id (sizes w) ≡ None → All (LabelShows w) xs → AreApart (labels_in xs)
     → AreApart (labels_in (xs ++ record { label = name; client = clients.Open id term } ∷ []))
 apart_open w xs name id term fresh shows h =
     subst AreApart (sym (labels_push xs (record { label = name; client = clients.Open id term })))
     (apart_push (labels_in xs) (label name (Has id)) h
     (All-map (λ x. IsApart x (label name (Has id))) label_of xs
-    (All-weaker (Shows w) (λ x. IsApart (label_of x) (label name (Has id))) (λ x s. fresh_one w id x.client fresh s) xs shows)))
-
-gone_apart : (name : List ℕ) (cause : Cause) (x y : Label) → IsApart x y → IsApart (gone name cause x) (gone name cause y)
-gone_apart name cause x y h =
-    elim (same_name name x.name) as (λ b. IsApart (cond b (label x.name (Gone cause)) x) (gone name cause y)) [
-      | true ↦ tt
-      | false ↦ elim (same_name name y.name) as (λ b. IsApart x (cond b (label y.name (Gone cause)) y)) [
-        | true ↦ differ_gone x.standing cause
-        | false ↦ h
-      ]
-    ]
-
-pub apart_gone : (name : List ℕ) (cause : Cause) (xs : List Label) → AreApart xs → AreApart (map (gone name cause) xs)
-apart_gone name cause [] h = h
-apart_gone name cause (x ∷ xs) h = (
-  All-map (IsApart (gone name cause x)) (gone name cause) xs
-      (All-weaker (IsApart x) (λ y. IsApart (gone name cause x) (gone name cause y)) (gone_apart name cause x) xs h.0),
-  apart_gone name cause xs h.1,
-)
+    (All-weaker (LabelShows w) (λ x. IsApart (label_of x) (label name (Has id))) (λ x s. fresh_one w id x.client fresh s) xs shows)))
 
 -- AN END
 
@@ -298,70 +257,14 @@ waiting_ended e name cause xs h = record {
   apart = subst AreApart (sym (labels_gone name cause xs)) (apart_gone name cause (labels_in xs) h.apart);
 }
 
--- a label has not this open session
-NotOpen : ℕ → Client → Type 0
-NotOpen id clients.Never = Unit {0}
-NotOpen id (clients.Open own term) = nat_eq id own ≡ false
-NotOpen id (clients.Ended cause) = Unit {0}
-
-OnlyBy : List ℕ → ℕ → Labelled → Type 0
-OnlyBy name id x = is_labelled name x ≡ false → NotOpen id x.client
-
-later_not : (id : ℕ) (x : Client) → Differ (Has id) (standing_in x) → NotOpen id x
-unfolding NotOpen
-later_not id clients.Never h = tt
-later_not id (clients.Open own term) h = flip own id h
-later_not id (clients.Ended cause) h = tt
-
-earlier_not : (id : ℕ) (x : Client) → Differ (standing_in x) (Has id) → NotOpen id x
-unfolding NotOpen
-earlier_not id clients.Never h = tt
-earlier_not id (clients.Open own term) h = h
-earlier_not id (clients.Ended cause) h = tt
-
-pub All-found : {A : Type 0} (P : A → Type 0) (p : A → Bool) (xs : List A) (z : A) → All P xs → find p xs ≡ Some z → P z
-All-found P p [] z h e = absurd cc
-All-found P p (x ∷ xs) z h e =
-    let goal : Bool → Type 0 = λ b. cond b (Some x) (find p xs) ≡ Some z → P z in
-    let go : (b : Bool) → goal b =
-    λ b. elim b as goal [
-      | true ↦ λ f. let same : x ≡ z = cc in subst P same (All-head P x xs h)
-      | false ↦ λ f. All-found P p xs z (All-tail P x xs h) f
-    ]
-    in go (p x) e
-
-some_found : (o : Option Labelled) (s : Client) → option_map (λ (x : Labelled). x.client) o ≡ Some s → (z : Labelled) × (o ≡ Some z) × (z.client ≡ s)
-some_found None s h = absurd cc
-some_found (Some z) s h = let e : z.client ≡ s = cc in (z, refl, e)
-
--- no other label has the session of this one
-only_by : (name : List ℕ) (id : ℕ) (xs : List Labelled) (z : Labelled) → find (is_labelled name) xs ≡ Some z → standing_in z.client ≡ Has id → AreApart (labels_in xs) → All (OnlyBy name id) xs
-unfolding OnlyBy
-only_by name id [] z found is apart = All-nil (OnlyBy name id)
-only_by name id (x ∷ xs) z found is apart =
-    let after : All (λ y. IsApart (label_of x) (label_of y)) xs = All-unmap (IsApart (label_of x)) label_of xs apart.0 in
-    let goal : Bool → Type 0 = λ b. is_labelled name x ≡ b → cond b (Some x) (find (is_labelled name) xs) ≡ Some z → All (OnlyBy name id) (x ∷ xs) in
-    let go : (b : Bool) → goal b =
-    λ b. elim b as goal [
-      | true ↦ λ e f.
-          let same : x ≡ z = cc in
-          let has : standing_in x.client ≡ Has id = ap (λ (y : Labelled). standing_in y.client) same ∙ is in
-          All-cons (OnlyBy name id) x xs (λ no. let clash : true ≡ false = sym e ∙ no in cc)
-          (All-weaker (λ y. IsApart (label_of x) (label_of y)) (OnlyBy name id) (λ y a no. later_not id y.client (subst (λ (s : Standing). Differ s (standing_in y.client)) has a)) xs after)
-      | false ↦ λ e f.
-          let there : IsApart (label_of x) (label_of z) = All-found (λ y. IsApart (label_of x) (label_of y)) (is_labelled name) xs z after f in
-          All-cons (OnlyBy name id) x xs (λ no. earlier_not id x.client (subst (λ (s : Standing). Differ (standing_in x.client) s) is there)) (only_by name id xs z f is apart.1)
-    ]
-    in go (is_labelled name x) refl found
-
-closed_client : (old new : World) (id : ℕ) (x : Client) → sizes new ≡ remove_first (is_size_of id) (sizes old) → NotOpen id x → ClientStays old new x
-unfolding NotOpen ClientStays
+closed_client : (old new : World) (id : ℕ) (x : Client) → sizes new ≡ remove_first (is_size_of id) (sizes old) → HasNot id (standing_in x) → ClientStays old new x
+unfolding HasNot ClientStays
 closed_client old new id clients.Never less h = tt
 closed_client old new id (clients.Open own term) less h = stays_past old new id own less h
 closed_client old new id (clients.Ended cause) less h = tt
 
-closed_one : (old new : Serving) (name : List ℕ) (id : ℕ) (cause : Cause) (x : Labelled) → AllTaken old → Painted old new → sizes new.world ≡ remove_first (is_size_of id) (sizes old.world) → OnlyBy name id x → Shows old.world x → IsLineDue new (ended_by name cause x)
-unfolding OnlyBy
+closed_one : (old new : Serving) (name : List ℕ) (id : ℕ) (cause : Cause) (x : Labelled) → AllTaken old → Painted old new → sizes new.world ≡ remove_first (is_size_of id) (sizes old.world) → OnlyCalled name id (label_of x) → LabelShows old.world x → IsLineDue new (ended_by name cause x)
+unfolding OnlyCalled
 closed_one old new name id cause x taken painted less only h =
     let goal : Bool → Type 0 = λ b. is_labelled name x ≡ b → IsLineDue new (cond b (record { label = x.label; client = clients.Ended cause }) x) in
     let go : (b : Bool) → goal b =
@@ -371,21 +274,17 @@ closed_one old new name id cause x taken painted less only h =
     ]
     in go (is_labelled name x) refl
 
-pub both : {A : Type 0} (P Q R : A → Type 0) → ((x : A) → P x → Q x → R x) → (xs : List A) → All P xs → All Q xs → All R xs
-both P Q R f [] h k = All-nil R
-both P Q R f (x ∷ xs) h k = All-cons R x xs (f x (All-head P x xs h) (All-head Q x xs k)) (both P Q R f xs (All-tail P x xs h) (All-tail Q x xs k))
-
 -- a session is closed, and its label ended
-pub waiting_closed : (old new : Serving) (name : List ℕ) (id : ℕ) (term : Terminal) (cause : Cause) (xs : List Labelled)
-    → IsReady old xs → client_of name xs ≡ Some (clients.Open id term) → queue_ids new ≡ remove_first (λ x. nat_eq x id) (queue_ids old) → sizes new.world ≡ remove_first (is_size_of id) (sizes old.world) → Painted old new
+pub waiting_closed : (old new : Serving) (name : List ℕ) (id : ℕ) (cause : Cause) (xs : List Labelled)
+    → IsReady old xs → session_in name xs ≡ Some id → queue_ids new ≡ remove_first (λ x. nat_eq x id) (queue_ids old) → sizes new.world ≡ remove_first (is_size_of id) (sizes old.world) → Painted old new
     → IsWaiting new (map (ended_by name cause) xs)
-waiting_closed old new name id term cause xs ready client ids less painted =
-    let z = some_found (find (is_labelled name) xs) (clients.Open id term) client in
-    let only = only_by name id xs z.0 z.1 (ap standing_in z.2) ready.apart in
+waiting_closed old new name id cause xs ready now ids less painted =
+    let z = found_now (find (is_called name) (labels_in xs)) id now in
+    let only = All-unmap (OnlyCalled name id) label_of xs (only_called name id (labels_in xs) z.0 z.1 z.2 ready.apart) in
     record {
       served = served_less old new id ids less ready.served;
       due = All-map (IsLineDue new) (ended_by name cause) xs
-          (both (OnlyBy name id) (Shows old.world) (λ x. IsLineDue new (ended_by name cause x)) (λ x o s. closed_one old new name id cause x ready.taken painted less o s) xs only ready.shows);
+          (both (λ x. OnlyCalled name id (label_of x)) (LabelShows old.world) (λ x. IsLineDue new (ended_by name cause x)) (λ x o s. closed_one old new name id cause x ready.taken painted less o s) xs only ready.shows);
       apart = subst AreApart (sym (labels_gone name cause xs)) (apart_gone name cause (labels_in xs) ready.apart);
     }
 
@@ -454,6 +353,6 @@ pub ready_never : (e : Serving) (xs : List Labelled) (name : List ℕ) → IsRea
 ready_never e xs name h = record {
   served = h.served;
   taken = h.taken;
-  shows = All-append (Shows e.world) xs (record { label = name; client = clients.Never } ∷ []) h.shows (All-cons (Shows e.world) (record { label = name; client = clients.Never }) [] tt (All-nil (Shows e.world)));
+  shows = All-append (LabelShows e.world) xs (record { label = name; client = clients.Never } ∷ []) h.shows (All-cons (LabelShows e.world) (record { label = name; client = clients.Never }) [] tt (All-nil (LabelShows e.world)));
   apart = apart_never xs name h.apart;
 }

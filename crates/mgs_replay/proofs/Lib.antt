@@ -4,6 +4,7 @@ pub mod Setting
 pub mod Mapped
 pub mod Rows
 pub mod Served
+pub mod Labels
 pub mod Events
 pub mod Players
 pub mod Drafts

@@ -21,9 +21,10 @@ use Rattle.mgs_replay.specs.declared.client.Client.TheVariants as clients
 use Rattle.mgs_script.specs.Lines as said
 use Rattle.mgs_replay.specs.Prints.{refusal_text, screen_text, ended_text}
 use Rattle.mgs_replay.specs.Clients.{is_labelled, client_of, shown_text}
-use Rattle.mgs_replay.specs.Players.{Label, label, Standing, Never, Has, begun, standing_of, session_now, had_session, labels_keyed, Shows}
-use Rattle.mgs_replay.specs.Served.{Prints, standing_in, labels_in, ClientShows, Shows as IsShown, IsReady, IsWaiting, clients_keyed, player_of, Runs, NotBad}
-use Rattle.mgs_replay.proofs.Events.{standing_at, labels_gone, labels_push, waiting_ended, ready_never, All-found}
+use Rattle.mgs_replay.specs.Players.{Label, label, Standing, Never, Has, playing, standing_of, session_now, had_session, labels_keyed, ShowPrints}
+use Rattle.mgs_replay.specs.Served.{Prints, standing_in, labels_in, ClientShows, LabelShows, IsReady, IsWaiting, clients_keyed, player_of, Runs, NotBad}
+use Rattle.mgs_replay.proofs.Events.{standing_at, labels_gone, labels_push, waiting_ended, ready_never}
+use Rattle.mgs_replay.proofs.Labels.{All-found}
 
 -- whether a label was used
 used_one : (o : Option Client) → is_some (option_map standing_in o) ≡ is_some o
@@ -32,16 +33,6 @@ used_one (Some x) = refl
 
 pub is_used : (name : List ℕ) (xs : List Labelled) → is_some (standing_of name (labels_in xs)) ≡ is_some (client_of name xs)
 is_used name xs = ap is_some (standing_at name xs) ∙ used_one (client_of name xs)
-
--- the label of an open session has it
-open_in : (o : Option Client) (id : ℕ) → session_now (option_map standing_in o) ≡ Some id → (term : Terminal) × (o ≡ Some (clients.Open id term))
-open_in None id h = absurd cc
-open_in (Some clients.Never) id h = absurd cc
-open_in (Some (clients.Open own term)) id h = let e : own ≡ id = cc in (term, ap (λ (n : ℕ). Some (clients.Open n term)) e)
-open_in (Some (clients.Ended cause)) id h = absurd cc
-
-pub client_open : (name : List ℕ) (xs : List Labelled) (id : ℕ) → session_now (standing_of name (labels_in xs)) ≡ Some id → (term : Terminal) × (client_of name xs ≡ Some (clients.Open id term))
-client_open name xs id h = open_in (client_of name xs) id (ap session_now (sym (standing_at name xs)) ∙ h)
 
 -- A BYTE
 
@@ -63,13 +54,13 @@ AreShown : World → Option Client → Type 0
 AreShown w None = Unit {0}
 AreShown w (Some x) = ClientShows w x
 
-found_shown : (w : World) (xs : List Labelled) (name : List ℕ) → All (IsShown w) xs → (o : Option Labelled) → find (is_labelled name) xs ≡ o → AreShown w (option_map (λ (x : Labelled). x.client) o)
+found_shown : (w : World) (xs : List Labelled) (name : List ℕ) → All (LabelShows w) xs → (o : Option Labelled) → find (is_labelled name) xs ≡ o → AreShown w (option_map (λ (x : Labelled). x.client) o)
 unfolding AreShown
 found_shown w xs name h None e = tt
-found_shown w xs name h (Some x) e = All-found (IsShown w) (is_labelled name) xs x h e
+found_shown w xs name h (Some x) e = All-found (LabelShows w) (is_labelled name) xs x h e
 
 Printed : World → List ℕ → Option Standing → List ℕ → List ℕ → Type 0
-Printed w name st old new = (not (had_session st) ≡ false) × ((print : List ℕ) × Shows w name st print × (new ≡ old ++ print))
+Printed w name st old new = (not (had_session st) ≡ false) × ((print : List ℕ) × ShowPrints w name st print × (new ≡ old ++ print))
 
 printed_one : (w : World) (name : List ℕ) (o : Option Client) (old new : List ℕ) → AreShown w o → option_map (λ (t : List ℕ). old ++ t) (shown_text name o) ≡ Some new → Printed w name (option_map standing_in o) old new
 unfolding AreShown Printed
@@ -110,10 +101,10 @@ shows_run (Err Short) e xs name old new ready h =
 -- AN OPEN
 
 pub opened_runs : (r : Result (Unit {0}) LineFault) (w v u : World) (ls ms : List Label) (name user : List ℕ) (rows cols id : ℕ) (out : List ℕ) → is_some (standing_of name ls) ≡ false → OpenedBy w v user rows cols (Ok id)
-    → NotBad r → OnOk r (u ≡ v) → OnOk r (ms ≡ ls ++ label name (Has id) ∷ []) → Runs r (begun w ls) (said.Open name user rows cols) (begun u ms) out out
+    → NotBad r → OnOk r (u ≡ v) → OnOk r (ms ≡ ls ++ label name (Has id) ∷ []) → Runs r (playing w ls) (said.Open name user rows cols) (playing u ms) out out
 opened_runs (Ok d) w v u ls ms name user rows cols id out free opened bad world labels =
     let now : OpenedBy w u user rows cols (Ok id) = subst (λ (x : World). OpenedBy w x user rows cols (Ok id)) (sym world) opened in
-    (free, ([], (Ok id, (now, ap (λ (xs : List Label). begun u xs) labels, refl)), sym (append-nil out)))
+    (free, ([], (Ok id, (now, ap (λ (xs : List Label). playing u xs) labels, refl)), sym (append-nil out)))
 opened_runs (Err Bad) w v u ls ms name user rows cols id out free opened bad world labels = absurd bad
 opened_runs (Err Short) w v u ls ms name user rows cols id out free opened bad world labels = free
 
@@ -121,7 +112,7 @@ pub refused_runs : (r : Result (Unit {0}) LineFault) (old new : Serving) (xs ys 
     → NotBad r → OnOk r (ys ≡ xs ++ record { label = name; client = clients.Never } ∷ []) → OnOk r (printed ≡ out ++ refusal_text name fault) → Runs r (player_of old xs) (said.Open name user rows cols) (player_of new ys) out printed
 refused_runs (Ok d) old new xs ys name user rows cols fault out printed free opened bad clients_are print =
     let labels : labels_in ys ≡ labels_in xs ++ label name Never ∷ [] = ap labels_in clients_are ∙ labels_push xs (record { label = name; client = clients.Never }) in
-    (free, (refusal_text name fault, (Err fault, (opened, ap (λ (ls : List Label). begun new.world ls) labels, refl)), print))
+    (free, (refusal_text name fault, (Err fault, (opened, ap (λ (ls : List Label). playing new.world ls) labels, refl)), print))
 refused_runs (Err Bad) old new xs ys name user rows cols fault out printed free opened bad clients_are print = absurd bad
 refused_runs (Err Short) old new xs ys name user rows cols fault out printed free opened bad clients_are print = free
 
@@ -129,7 +120,7 @@ pub some_map : {A B : Type 0} (f : A → B) (o : Option A) → is_some (option_m
 some_map f None = refl
 some_map f (Some x) = refl
 
-pub player_is : (w v : World) (ls ms : List Label) → w ≡ v → ls ≡ ms → begun w ls ≡ begun v ms
+pub player_is : (w v : World) (ls ms : List Label) → w ≡ v → ls ≡ ms → playing w ls ≡ playing v ms
 player_is w v ls ms e f = cc
 
 pub refused_ready : (r : Result (Unit {0}) LineFault) (old new : Serving) (xs ys : List Labelled) (name : List ℕ) → OnOk r (ys ≡ xs ++ record { label = name; client = clients.Never } ∷ []) → new ≡ old → IsReady old xs → OnOk r (IsReady new ys)

@@ -16,9 +16,9 @@ use Rattle.mgs_script.specs.Lines.{Said, said_in}
 use Rattle.mgs_script.specs.Lines as said
 use Rattle.mgs_script.specs.Scripts.{lines_of}
 use Rattle.mgs_replay.specs.Settings.{first_world}
-use Rattle.mgs_replay.specs.Players.{Player, Label, label, Standing, Never, Has, Gone, begun, labels_keyed, standing_of, session_now, setting, is_refused, TypesOne, Types, Opens, Shows, Closes, Does, LineDoes, LineRefused}
+use Rattle.mgs_replay.specs.Players.{Player, Label, label, Standing, Never, Has, Gone, playing, labels_keyed, standing_of, session_now, setting, is_refused, TypesOne, Types, Opens, ShowPrints, Closes, Does, LineDoes, LineRefused}
 use Rattle.mgs_replay.specs.Plays.{End, Whole, RefusedAt, Plays, MayPrint}
-use Rattle.mgs_replay.specs.Replayed.{Choice, granted, next_choice, next_choices, later, AllGranted, Did, did, stop_of, world_keyed, answer_of, key_answer, typed_one, typed, open_answer, opened, session_text, label_text, closed, did_by, Replayed, after_print, line_then, played_with, replayed_with, replayed, IsReplayed}
+use Rattle.mgs_replay.specs.Replayed.{Choice, granted, next_choice, next_choices, later, AllGranted, Did, did, stop_of, world_keyed, answer_of, key_answer, typed_one, typed, open_answer, did_open, session_text, label_text, closed, did_by, Replayed, after_print, line_then, played_with, replayed_with, replayed, IsReplayed}
 use Rattle.mgs_replay.proofs.Allowed.{allowed}
 
 -- A BYTE
@@ -92,15 +92,15 @@ next_is w id user rows cols h = grind (arith, nat_tests)
 did_same : (s t : Player) (a b : List ℕ) → s ≡ t → a ≡ b → did s a ≡ did t b
 did_same s t a b e f = cc
 
-begun_same : (t : Player) (w : World) (ls : List Label) → t ≡ begun t.world ls → t.world ≡ w → begun w ls ≡ t
-begun_same t w ls e f = ap (λ (v : World). begun v ls) (sym f) ∙ sym e
+playing_same : (t : Player) (w : World) (ls : List Label) → t ≡ playing t.world ls → t.world ≡ w → playing w ls ≡ t
+playing_same t w ls e f = ap (λ (v : World). playing v ls) (sym f) ∙ sym e
 
 open_done : (s : Player) (name user : List ℕ) (rows cols : ℕ) (answer : Result ℕ OpenFault) (t : Player) (print : List ℕ) → Opens s name user rows cols answer t print
-    → opened s name user rows cols answer ≡ did t print
+    → did_open s name user rows cols answer ≡ did t print
 open_done s name user rows cols (Ok id) t print h =
-    did_same _ t [] print (begun_same t (step s.world (events.Open id user rows cols)) (s.labels ++ label name (Has id) ∷ []) h.1 h.0.ok.1) (sym h.2)
+    did_same _ t [] print (playing_same t (step s.world (events.Open id user rows cols)) (s.labels ++ label name (Has id) ∷ []) h.1 h.0.ok.1) (sym h.2)
 open_done s name user rows cols (Err fault) t print h =
-    did_same _ t _ print (begun_same t s.world (s.labels ++ label name Never ∷ []) h.1 h.0.err) (sym h.2)
+    did_same _ t _ print (playing_same t s.world (s.labels ++ label name Never ∷ []) h.1 h.0.err) (sym h.2)
 
 refused : Choice
 refused = record { stored = true; stop = Some 0 }
@@ -117,7 +117,7 @@ open_choice s name user rows cols (Err opening.Full) t print h = (granted, ap (�
 
 -- A LINE
 
-text_is : (w : World) (name : List ℕ) (o : Option Standing) (print : List ℕ) → Shows w name o print → label_text w name o ≡ print
+text_is : (w : World) (name : List ℕ) (o : Option Standing) (print : List ℕ) → ShowPrints w name o print → label_text w name o ≡ print
 text_is w name None print h = absurd h
 text_is w name (Some Never) print h = absurd h
 text_is w name (Some (Has id)) print h = ap (session_text w name) h.1 ∙ sym h.2
@@ -136,7 +136,7 @@ said_done s (said.Entry buffer entry) t print h = ([], did_same _ _ _ _ (sym h.0
 said_done s (said.Text buffer chars) t print h = ([], did_same _ _ _ _ (sym h.0) (sym h.1))
 said_done s (said.Open name user rows cols) t print h =
     let c = open_choice s name user rows cols h.0 t print h.1 in
-    (c.0 ∷ [], ap (opened s name user rows cols) c.1 ∙ open_done s name user rows cols h.0 t print h.1)
+    (c.0 ∷ [], ap (did_open s name user rows cols) c.1 ∙ open_done s name user rows cols h.0 t print h.1)
 said_done s (said.Keys name keys) t print h =
     let d = all_typed s name keys t h.0 in
     (d.0, did_same _ _ _ _ d.1 (sym h.1))
@@ -198,7 +198,7 @@ did_granted cs s (said.Buffer name owner) h = refl
 did_granted cs s (said.Entry buffer entry) h = refl
 did_granted cs s (said.Text buffer chars) h = refl
 did_granted cs s (said.Open name user rows cols) h =
-    ap (λ (c : Choice). opened s name user rows cols (open_answer c (open_fault s.world user rows cols) s.world.next_id)) (next_granted cs h)
+    ap (λ (c : Choice). did_open s name user rows cols (open_answer c (open_fault s.world user rows cols) s.world.next_id)) (next_granted cs h)
 did_granted cs s (said.Keys name keys) h = ap (λ (t : Player). did t []) (typed_granted cs s name keys h)
 did_granted cs s (said.Show name) h = refl
 did_granted cs s (said.Close name) h = refl

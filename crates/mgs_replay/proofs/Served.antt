@@ -20,7 +20,7 @@ use Rattle.mgs_replay.specs.declared.client.Cause.{Cause}
 use Rattle.mgs_replay.specs.declared.client.Client.{Client}
 use Rattle.mgs_replay.specs.declared.client.Client.TheVariants.{Never, Open, Ended}
 use Rattle.mgs_replay.specs.Clients.{Fed, ClientFed, OwnFed, TermFed, TakenBy}
-use Rattle.mgs_replay.specs.Served.{standing_in, label_of, labels_in, ClientShows, Shows, ClientDue, IsLineDue, AreOthers, AreUnique, size_id, IsPlayerServed, IsReady, IsWaiting, AreApart}
+use Rattle.mgs_replay.specs.Served.{standing_in, label_of, labels_in, ClientShows, LabelShows, ClientDue, IsLineDue, AreOthers, AreUnique, size_id, IsPlayerServed, IsReady, IsWaiting, AreApart}
 
 -- LISTS PLACE BY PLACE
 
@@ -155,7 +155,7 @@ unfolding FedBy
 ended_stays [] cause x z is h = ap (λ (y : Labelled). y.client) h ∙ is
 ended_stays (q ∷ qs) cause x z is h = ended_stays qs cause h.0 z (subst (λ (s : Client). ClientFed q.id q.bytes s h.0.client) is h.1.client) h.2
 
-shows_one : (e : Serving) (x z : Labelled) (client : Client) → IsPlayerServed e → x.client ≡ client → FedBy e.queues x z → ClientDue e client → Shows e.world z
+shows_one : (e : Serving) (x z : Labelled) (client : Client) → IsPlayerServed e → x.client ≡ client → FedBy e.queues x z → ClientDue e client → LabelShows e.world z
 shows_one e x z Never served is h due = subst (ClientShows e.world) (sym (never_stays e.queues x z is h)) tt
 shows_one e x z (Open id term) served is h due =
     let there = queue_there e id due.0 served due.2 in
@@ -179,11 +179,11 @@ pub ready : (old new : Serving) (xs zs : List Labelled) → IsWaiting old xs →
 ready old new xs zs waiting is taken h =
     let world : new.world ≡ old.world = ap (λ (e : Serving). e.world) is in
     let ids : queue_ids new ≡ queue_ids old = ap (λ (e : Serving). map queue_id e.queues) is ∙ emptied_ids old.queues in
-    let shows : All (Shows old.world) zs =
-    zip_each (FedBy old.queues) (IsLineDue old) (Shows old.world) (λ x z f due. shows_one old x z x.client waiting.served refl f due) xs zs (handed_each old.queues xs zs h) waiting.due in
+    let shows : All (LabelShows old.world) zs =
+    zip_each (FedBy old.queues) (IsLineDue old) (LabelShows old.world) (λ x z f due. shows_one old x z x.client waiting.served refl f due) xs zs (handed_each old.queues xs zs h) waiting.due in
     record {
       served = record { queues = ids ∙ waiting.served.queues ∙ ap (λ (w : World). map size_id (sizes w)) (sym world); unique = subst AreUnique (sym ids) waiting.served.unique };
       taken = taken;
-      shows = subst (λ (w : World). All (Shows w) zs) (sym world) shows;
+      shows = subst (λ (w : World). All (LabelShows w) zs) (sym world) shows;
       apart = subst AreApart (sym (labels_handed old xs zs h)) waiting.apart;
     }

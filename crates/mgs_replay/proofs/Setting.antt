@@ -8,10 +8,10 @@ use Rattle.mgs_engine.specs.Serving.{Serving, queue_ids}
 use Rattle.mgs_engine.specs.Queues.{Queue, queue_id}
 use Rattle.mgs_script.specs.declared.line.LineFault.{LineFault}
 use Rattle.mgs_script.specs.declared.line.LineFault.TheVariants.{Bad, Short}
-use Rattle.mgs_script.specs.Lines.{Said, takes_memory, label_typed}
+use Rattle.mgs_script.specs.Lines.{Said, needs_memory, label_typed}
 use Rattle.mgs_script.specs.Lines as said
 use Rattle.mgs_replay.specs.Setups.{Sets}
-use Rattle.mgs_replay.specs.Players.{Label, setting, begun, standing_of, had_session, LineDoes, MayBeShort, IsDue}
+use Rattle.mgs_replay.specs.Players.{Label, setting, playing, standing_of, had_session, LineDoes, MayBeShort, IsDue}
 
 -- a line that was set does what it says
 pub set_does : (w v : World) (l : Said) → Sets (Ok tt) l w v → LineDoes (Some l) (setting w) (setting v) []
@@ -42,7 +42,7 @@ set_short w v (said.Close name) h = let e : true ≡ false = h.0 in absurd cc
 -- LINES THAT MEMORY WAS REFUSED TO READ
 
 -- before the first open keys are refused
-pub unread_keys : (o : Option Said) (label : List ℕ) (w : World) → takes_memory o ≡ true → IfSome o (λ (x : Said). Some label ≡ label_typed x) → IsDue Bad o (setting w)
+pub unread_keys : (o : Option Said) (label : List ℕ) (w : World) → needs_memory o ≡ true → IfSome o (λ (x : Said). Some label ≡ label_typed x) → IsDue Bad o (setting w)
 unread_keys None label w h is = absurd cc
 unread_keys (Some said.Nothing) label w h is = absurd cc
 unread_keys (Some (said.User name)) label w h is = absurd cc
@@ -56,7 +56,7 @@ unread_keys (Some (said.Show name)) label w h is = absurd cc
 unread_keys (Some (said.Close name)) label w h is = absurd cc
 
 -- before the first open a group and a text may be out of memory, and from then on they are refused
-pub unread_setting : (o : Option Said) (w : World) → takes_memory o ≡ true → IfSome o (λ (x : Said). None ≡ label_typed x) → IsDue Short o (setting w)
+pub unread_setting : (o : Option Said) (w : World) → needs_memory o ≡ true → IfSome o (λ (x : Said). None ≡ label_typed x) → IsDue Short o (setting w)
 unread_setting None w h is = absurd cc
 unread_setting (Some said.Nothing) w h is = absurd cc
 unread_setting (Some (said.User name)) w h is = absurd cc
@@ -69,7 +69,7 @@ unread_setting (Some (said.Keys name keys)) w h is = absurd cc
 unread_setting (Some (said.Show name)) w h is = absurd cc
 unread_setting (Some (said.Close name)) w h is = absurd cc
 
-pub unread_late : (o : Option Said) (w : World) (ls : List Label) → takes_memory o ≡ true → IfSome o (λ (x : Said). None ≡ label_typed x) → IsDue Bad o (begun w ls)
+pub unread_late : (o : Option Said) (w : World) (ls : List Label) → needs_memory o ≡ true → IfSome o (λ (x : Said). None ≡ label_typed x) → IsDue Bad o (playing w ls)
 unread_late None w ls h is = absurd cc
 unread_late (Some said.Nothing) w ls h is = absurd cc
 unread_late (Some (said.User name)) w ls h is = absurd cc
@@ -87,7 +87,7 @@ fault_typed : Bool → LineFault
 fault_typed true = Short
 fault_typed false = Bad
 
-typed_due : (b : Bool) (o : Option Said) (label : List ℕ) (w : World) (ls : List Label) → b ≡ had_session (standing_of label ls) → takes_memory o ≡ true → IfSome o (λ (x : Said). Some label ≡ label_typed x) → IsDue (fault_typed b) o (begun w ls)
+typed_due : (b : Bool) (o : Option Said) (label : List ℕ) (w : World) (ls : List Label) → b ≡ had_session (standing_of label ls) → needs_memory o ≡ true → IfSome o (λ (x : Said). Some label ≡ label_typed x) → IsDue (fault_typed b) o (playing w ls)
 unfolding fault_typed
 typed_due b None label w ls had h is = absurd cc
 typed_due b (Some said.Nothing) label w ls had h is = absurd cc
@@ -106,11 +106,11 @@ typed_due false (Some (said.Keys name keys)) label w ls had h is =
 typed_due b (Some (said.Show name)) label w ls had h is = absurd cc
 typed_due b (Some (said.Close name)) label w ls had h is = absurd cc
 
-pub unread_typed : (o : Option Said) (label : List ℕ) (w : World) (ls : List Label) → true ≡ had_session (standing_of label ls) → takes_memory o ≡ true → IfSome o (λ (x : Said). Some label ≡ label_typed x) → IsDue Short o (begun w ls)
+pub unread_typed : (o : Option Said) (label : List ℕ) (w : World) (ls : List Label) → true ≡ had_session (standing_of label ls) → needs_memory o ≡ true → IfSome o (λ (x : Said). Some label ≡ label_typed x) → IsDue Short o (playing w ls)
 unfolding fault_typed
 unread_typed o label w ls had h is = typed_due true o label w ls had h is
 
-pub unread_unknown : (o : Option Said) (label : List ℕ) (w : World) (ls : List Label) → false ≡ had_session (standing_of label ls) → takes_memory o ≡ true → IfSome o (λ (x : Said). Some label ≡ label_typed x) → IsDue Bad o (begun w ls)
+pub unread_unknown : (o : Option Said) (label : List ℕ) (w : World) (ls : List Label) → false ≡ had_session (standing_of label ls) → needs_memory o ≡ true → IfSome o (λ (x : Said). Some label ≡ label_typed x) → IsDue Bad o (playing w ls)
 unfolding fault_typed
 unread_unknown o label w ls had h is = typed_due false o label w ls had h is
 

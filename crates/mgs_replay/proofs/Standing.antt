@@ -11,7 +11,7 @@ use Rattle.mgs_script.specs.Lines.{Said, said_in}
 use Rattle.mgs_script.specs.Lines as said
 use Rattle.mgs_script.specs.Scripts.{lines_of, line_in, after_line, lines_after}
 use Rattle.mgs_replay.specs.Settings.{first_world}
-use Rattle.mgs_replay.specs.Players.{Player, LineDoes, LineRefused, MayBeShort, setting, begun}
+use Rattle.mgs_replay.specs.Players.{Player, LineDoes, LineRefused, MayBeShort, setting, playing}
 use Rattle.mgs_replay.specs.Plays.{End, Whole, RefusedAt, Plays, Breaks, MayPrint, MayBreak, Written}
 use Rattle.mgs_replay.specs.Turns.{IsOpening, Turned, PlaysOn, SetUp}
 use Rattle.mgs_replay.specs.Faults.{end_at}
@@ -65,7 +65,7 @@ pub left_none : (rest : Option (Bor (List ℕ))) → rest ≡ None → lines_lef
 left_none rest is = ap lines_left is
 
 -- an open is the same before and after the first
-opens_does : (l : Option Said) (w : World) (t : Player) (print : List ℕ) → IsOpening l → LineDoes l (begun w []) t print → LineDoes l (setting w) t print
+opens_does : (l : Option Said) (w : World) (t : Player) (print : List ℕ) → IsOpening l → LineDoes l (playing w []) t print → LineDoes l (setting w) t print
 opens_does None w t print is h = absurd is
 opens_does (Some said.Nothing) w t print is h = absurd is
 opens_does (Some (said.User name)) w t print is h = absurd is
@@ -78,7 +78,7 @@ opens_does (Some (said.Keys name keys)) w t print is h = absurd is
 opens_does (Some (said.Show name)) w t print is h = absurd is
 opens_does (Some (said.Close name)) w t print is h = absurd is
 
-opens_refused : (l : Option Said) (w : World) → IsOpening l → LineRefused l (begun w []) → LineRefused l (setting w)
+opens_refused : (l : Option Said) (w : World) → IsOpening l → LineRefused l (playing w []) → LineRefused l (setting w)
 opens_refused None w is h = absurd is
 opens_refused (Some said.Nothing) w is h = absurd is
 opens_refused (Some (said.User name)) w is h = absurd is
@@ -91,7 +91,7 @@ opens_refused (Some (said.Keys name keys)) w is h = absurd is
 opens_refused (Some (said.Show name)) w is h = absurd is
 opens_refused (Some (said.Close name)) w is h = absurd is
 
-opens_short : (l : Option Said) (w : World) → IsOpening l → MayBeShort l (begun w []) → MayBeShort l (setting w)
+opens_short : (l : Option Said) (w : World) → IsOpening l → MayBeShort l (playing w []) → MayBeShort l (setting w)
 opens_short None w is h = absurd is
 opens_short (Some said.Nothing) w is h = absurd is
 opens_short (Some (said.User name)) w is h = absurd is
@@ -118,11 +118,11 @@ opening_short (Some (said.Keys name keys)) w is = absurd is
 opening_short (Some (said.Show name)) w is = absurd is
 opening_short (Some (said.Close name)) w is = absurd is
 
-pub breaks_first : (w : World) (line : List ℕ) (left : List (List ℕ)) (out : List ℕ) → IsOpening (said_in line) → Breaks (begun w []) (line ∷ left) out → Breaks (setting w) (line ∷ left) out
+pub breaks_first : (w : World) (line : List ℕ) (left : List (List ℕ)) (out : List ℕ) → IsOpening (said_in line) → Breaks (playing w []) (line ∷ left) out → Breaks (setting w) (line ∷ left) out
 breaks_first w line left out is (inl h) = inl (h.0, h.1, h.2, opens_does (said_in line) w h.0 h.1 is h.3, h.4, h.5)
 breaks_first w line left out is (inr h) = inr (opens_short (said_in line) w is h.0, h.1)
 
-pub opens_first : (n : ℕ) (w : World) (line : List ℕ) (left : List (List ℕ)) (out : List ℕ) (end : End) → IsOpening (said_in line) → Plays n (begun w []) (line ∷ left) out end → Plays n (setting w) (line ∷ left) out end
+pub opens_first : (n : ℕ) (w : World) (line : List ℕ) (left : List (List ℕ)) (out : List ℕ) (end : End) → IsOpening (said_in line) → Plays n (playing w []) (line ∷ left) out end → Plays n (setting w) (line ∷ left) out end
 opens_first n w line left out end is (inl h) = inl (h.0, h.1, h.2, opens_does (said_in line) w h.0 h.1 is h.3, h.4, h.5)
 opens_first n w line left out end is (inr h) = inr (opens_refused (said_in line) w is h.0, h.1, h.2)
 
@@ -137,9 +137,9 @@ ends_on r turns.Short first start all old mid new n s t line left is h turned =
 
 whole_by : (n : ℕ) (w v : World) (script text : List ℕ) (out : List ℕ) (end : End)
     → w ≡ first_world → ((out : List ℕ) (end : End) → Plays n (setting v) (lines_of text) out end → Plays 1 (setting w) (lines_of script) out end) → IsOpening (said_in (line_in text))
-    → lines_of text ≡ line_in text ∷ lines_after (after_line text) → Plays n (begun v []) (lines_of text) out end → Plays 1 (setting first_world) (lines_of script) out end
+    → lines_of text ≡ line_in text ∷ lines_after (after_line text) → Plays n (playing v []) (lines_of text) out end → Plays 1 (setting first_world) (lines_of script) out end
 whole_by n w v script text out end first goes is cut h =
-    let cut_plays : Plays n (begun v []) (line_in text ∷ lines_after (after_line text)) out end = subst (λ (ls : List (List ℕ)). Plays n (begun v []) ls out end) cut h in
+    let cut_plays : Plays n (playing v []) (line_in text ∷ lines_after (after_line text)) out end = subst (λ (ls : List (List ℕ)). Plays n (playing v []) ls out end) cut h in
     let set_plays : Plays n (setting v) (lines_of text) out end = subst (λ (ls : List (List ℕ)). Plays n (setting v) ls out end) (sym cut) (opens_first n v (line_in text) (lines_after (after_line text)) out end is cut_plays) in
     subst (λ (x : World). Plays 1 (setting x) (lines_of script) out end) first (goes out end set_plays)
 
@@ -149,9 +149,9 @@ broken_by w v script text out first breaks h = subst (λ (x : World). Breaks (se
 
 breaks_by : (w v : World) (script text : List ℕ) (out : List ℕ)
     → w ≡ first_world → ((out : List ℕ) → Breaks (setting v) (lines_of text) out → Breaks (setting w) (lines_of script) out) → IsOpening (said_in (line_in text))
-    → lines_of text ≡ line_in text ∷ lines_after (after_line text) → Breaks (begun v []) (lines_of text) out → Breaks (setting first_world) (lines_of script) out
+    → lines_of text ≡ line_in text ∷ lines_after (after_line text) → Breaks (playing v []) (lines_of text) out → Breaks (setting first_world) (lines_of script) out
 breaks_by w v script text out first breaks is cut h =
-    let cut_breaks : Breaks (begun v []) (line_in text ∷ lines_after (after_line text)) out = subst (λ (ls : List (List ℕ)). Breaks (begun v []) ls out) cut h in
+    let cut_breaks : Breaks (playing v []) (line_in text ∷ lines_after (after_line text)) out = subst (λ (ls : List (List ℕ)). Breaks (playing v []) ls out) cut h in
     broken_by w v script text out first breaks (subst (λ (ls : List (List ℕ)). Breaks (setting v) ls out) (sym cut) (breaks_first v (line_in text) (lines_after (after_line text)) out is cut_breaks))
 
 -- memory is refused to the server at the first open
@@ -169,7 +169,7 @@ unserved w v script text c first breaks is cut = (
 pub played : (r : Result (Unit {0}) ReplayFault) (n : ℕ) (w v : World) (script text : List ℕ) (old new : Option (List ℕ))
     → w ≡ first_world → ((out : List ℕ) (end : End) → Plays n (setting v) (lines_of text) out end → Plays 1 (setting w) (lines_of script) out end)
     → ((out : List ℕ) → Breaks (setting v) (lines_of text) out → Breaks (setting w) (lines_of script) out) → IsOpening (said_in (line_in text))
-    → lines_of text ≡ line_in text ∷ lines_after (after_line text) → PlaysOn r n (begun v []) (lines_of text) old new → Written first_world script old new r
+    → lines_of text ≡ line_in text ∷ lines_after (after_line text) → PlaysOn r n (playing v []) (lines_of text) old new → Written first_world script old new r
 unfolding MayPrint MayBreak
 played (Ok u) n w v script text old new first goes breaks is cut h = (h.0, h.1, whole_by n w v script text h.0 Whole first goes is cut h.2)
 played (Err (ends.Line m)) n w v script text old new first goes breaks is cut h = (h.0, h.1, whole_by n w v script text h.0 (RefusedAt m) first goes is cut h.2)

@@ -72,8 +72,8 @@ abbrev pub setting : World → Player
 setting w = record { world = w; labels = []; begun = false }
 
 -- from the first open on
-abbrev pub begun : World → List Label → Player
-begun w xs = record { world = w; labels = xs; begun = true }
+abbrev pub playing : World → List Label → Player
+playing w xs = record { world = w; labels = xs; begun = true }
 
 -- LINES
 
@@ -93,9 +93,9 @@ is_refused s (Close name) = not (had_session (standing_of name s.labels))
 -- a session opens, or its open is refused, which is printed; the label is used either way
 abbrev pub Opens : Player → List ℕ → List ℕ → ℕ → ℕ → Result ℕ OpenFault → Player → List ℕ → Type 0
 Opens s name user rows cols (Ok id) t print =
-    OpenedBy s.world t.world user rows cols (Ok id) × (t ≡ begun t.world (s.labels ++ label name (Has id) ∷ [])) × (print ≡ [])
+    OpenedBy s.world t.world user rows cols (Ok id) × (t ≡ playing t.world (s.labels ++ label name (Has id) ∷ [])) × (print ≡ [])
 Opens s name user rows cols (Err fault) t print =
-    OpenedBy s.world t.world user rows cols (Err fault) × (t ≡ begun t.world (s.labels ++ label name Never ∷ [])) × (print ≡ refusal_text name fault)
+    OpenedBy s.world t.world user rows cols (Err fault) × (t ≡ playing t.world (s.labels ++ label name Never ∷ [])) × (print ≡ refusal_text name fault)
 
 -- the labels after a byte of one of them: `Quit` ends its session
 abbrev pub labels_keyed : Keyed → List ℕ → List Label → List Label
@@ -116,12 +116,12 @@ Types s name [] t = t ≡ s
 Types s name (b ∷ bs) t = (mid : Player) × TypesOne (session_now (standing_of name s.labels)) s name b mid × Types mid name bs t
 
 -- what is printed of a label: the screen of its open session, or how its session ended
-abbrev pub Shows : World → List ℕ → Option Standing → List ℕ → Type 0
-Shows w name None print = ⊥
-Shows w name (Some Never) print = ⊥
-Shows w name (Some (Has id)) print =
+abbrev pub ShowPrints : World → List ℕ → Option Standing → List ℕ → Type 0
+ShowPrints w name None print = ⊥
+ShowPrints w name (Some Never) print = ⊥
+ShowPrints w name (Some (Has id)) print =
     (x : Session) × (find_session id w.sessions ≡ Some x) × (print ≡ screen_text name (shown (screen w x)))
-Shows w name (Some (Gone cause)) print = print ≡ ended_text name cause
+ShowPrints w name (Some (Gone cause)) print = print ≡ ended_text name cause
 
 -- a session is closed, where it is open
 abbrev pub Closes : Option ℕ → Player → List ℕ → Player → Type 0
@@ -139,7 +139,7 @@ Does s (Listing buffer entry) t print = (t ≡ record s { world = world_set s.wo
 Does s (Text buffer cs) t print = (t ≡ record s { world = world_set s.world (Text buffer cs) }) × (print ≡ [])
 Does s (Open name user rows cols) t print = (answer : Result ℕ OpenFault) × Opens s name user rows cols answer t print
 Does s (Keys name keys) t print = Types s name keys t × (print ≡ [])
-Does s (Show name) t print = (t ≡ s) × Shows s.world name (standing_of name s.labels) print
+Does s (Show name) t print = (t ≡ s) × ShowPrints s.world name (standing_of name s.labels) print
 Does s (Close name) t print = Closes (session_now (standing_of name s.labels)) s name t × (print ≡ [])
 
 -- what a line may do, by what it says

@@ -15,7 +15,7 @@ use Rattle.mgs_script.specs.Scripts.{lines_of}
 use Rattle.mgs_replay.specs.declared.client.Cause.TheVariants as causes
 use Rattle.mgs_replay.specs.Settings.{first_world, world_set}
 use Rattle.mgs_replay.specs.Prints.{refusal_text, ended_text, screen_text}
-use Rattle.mgs_replay.specs.Players.{Player, label, Standing, Never, Has, Gone, standing_of, session_now, gone, labels_keyed, setting, begun, is_refused}
+use Rattle.mgs_replay.specs.Players.{Player, label, Standing, Never, Has, Gone, standing_of, session_now, gone, labels_keyed, setting, playing, is_refused}
 use Rattle.mgs_replay.specs.Plays.{End, Whole, RefusedAt, MayPrint}
 
 -- CHOICES
@@ -98,9 +98,9 @@ open_answer c (Some fault) id = Err fault
 open_answer c None id = granted_id c.stop id
 
 -- an `open` line, by the answer
-abbrev pub opened : Player → List ℕ → List ℕ → ℕ → ℕ → Result ℕ OpenFault → Did
-opened s name user rows cols (Ok id) = did (begun (step s.world (events.Open id user rows cols)) (s.labels ++ label name (Has id) ∷ [])) []
-opened s name user rows cols (Err fault) = did (begun s.world (s.labels ++ label name Never ∷ [])) (refusal_text name fault)
+abbrev pub did_open : Player → List ℕ → List ℕ → ℕ → ℕ → Result ℕ OpenFault → Did
+did_open s name user rows cols (Ok id) = did (playing (step s.world (events.Open id user rows cols)) (s.labels ++ label name (Has id) ∷ [])) []
+did_open s name user rows cols (Err fault) = did (playing s.world (s.labels ++ label name Never ∷ [])) (refusal_text name fault)
 
 -- the screen of an open session
 abbrev pub session_text : World → List ℕ → Option Session → List ℕ
@@ -128,7 +128,7 @@ did_by cs s (Buffer name owner) = did (record s { world = world_set s.world (Buf
 did_by cs s (Listing buffer entry) = did (record s { world = world_set s.world (Listing buffer entry) }) []
 did_by cs s (Text buffer chars) = did (record s { world = world_set s.world (Text buffer chars) }) []
 did_by cs s (Open name user rows cols) =
-    opened s name user rows cols (open_answer (next_choice cs) (open_fault s.world user rows cols) s.world.next_id)
+    did_open s name user rows cols (open_answer (next_choice cs) (open_fault s.world user rows cols) s.world.next_id)
 did_by cs s (Keys name keys) = did (typed cs s name keys) []
 did_by cs s (Show name) = did s (label_text s.world name (standing_of name s.labels))
 did_by cs s (Close name) = did (closed (session_now (standing_of name s.labels)) s name) []

@@ -20,7 +20,7 @@ use Rattle.mgs_script.specs.declared.line.LineFault.{LineFault}
 use Rattle.mgs_script.specs.declared.line.LineFault.TheVariants as lines
 use Rattle.mgs_script.specs.Lines.{Said}
 use Rattle.mgs_replay.specs.Clients.{ended_by}
-use Rattle.mgs_replay.specs.Players.{Label, label, Standing, Never, Has, Gone, Player, begun, standing_of, session_now, is_refused, Does, LineDoes, IsDue}
+use Rattle.mgs_replay.specs.Players.{Label, label, Standing, Never, Has, Gone, Player, playing, standing_of, session_now, is_refused, Does, LineDoes, IsDue}
 
 -- how a label stands, by its client
 abbrev pub standing_in : Client → Standing
@@ -40,8 +40,8 @@ ClientShows w clients.Never = Unit {0}
 ClientShows w (clients.Open id term) = (x : Session) × (find_session id w.sessions ≡ Some x) × (term ≡ resting (shown (screen w x)))
 ClientShows w (clients.Ended cause) = Unit {0}
 
-abbrev pub Shows : World → Labelled → Type 0
-Shows w x = ClientShows w x.client
+abbrev pub LabelShows : World → Labelled → Type 0
+LabelShows w x = ClientShows w x.client
 
 -- after an event the bytes that wait for it draw that screen
 abbrev pub ClientDue : Serving → Client → Type 0
@@ -88,7 +88,7 @@ pub record IsPlayerServed (e : Serving) : Type 0 where
 pub record IsReady (e : Serving) (xs : List Labelled) : Type 0 where
   pub served : IsPlayerServed e
   pub taken : AllTaken e
-  pub shows : All (Shows e.world) xs
+  pub shows : All (LabelShows e.world) xs
   pub apart : AreApart (labels_in xs)
 
 -- after an event, before its bytes are handed over
@@ -103,7 +103,7 @@ session_in name xs = session_now (standing_of name (labels_in xs))
 
 -- the player from the first open on
 abbrev pub player_of : Serving → List Labelled → Player
-player_of e xs = begun e.world (labels_in xs)
+player_of e xs = playing e.world (labels_in xs)
 
 -- the labels' clients after a byte of one of them
 abbrev pub clients_keyed : Keyed → List ℕ → List Labelled → List Labelled

@@ -1,11 +1,11 @@
 // Runs the lines of a script.
 ghost use Rattle.std.specs.Prelude.{◌≡◌, ◌+◌, ◌≤◌, [], Some, length, OnOk, IfOk, IfSome, true};
 ghost use Rattle.mgs_replay.specs.Faults.{fault_of, end_at, IsPlayed, IsSet};
-ghost use Rattle.mgs_script.specs.Lines.{said_in, takes_memory};
+ghost use Rattle.mgs_script.specs.Lines.{said_in, needs_memory};
 ghost use Rattle.mgs_model.specs.World.{World};
 ghost use Rattle.mgs_script.specs.Scripts.{lines_of};
 ghost use Rattle.mgs_replay.specs.Settings.{first_world};
-ghost use Rattle.mgs_replay.specs.Players.{setting, begun, IsDue};
+ghost use Rattle.mgs_replay.specs.Players.{setting, playing, IsDue};
 ghost use Rattle.mgs_replay.specs.Plays.{Written};
 ghost use Rattle.mgs_replay.specs.Served.{player_of, IsReady};
 ghost use Rattle.mgs_replay.specs.Turns.{Turned, PlaysOn, SetsSaid, SetUp};
@@ -84,7 +84,7 @@ fn run_lines<W: Write>(
     requires first { 1 ≤ first }
     requires counted { first + length text.now ≤ SCRIPT_LIMIT + 1 }
     ensures line { IsPlayed result }
-    ensures written { PlaysOn result first (begun server.old.world []) (lines_of text.now) (W.contents writer.old) (W.contents writer.new) }
+    ensures written { PlaysOn result first (playing server.old.world []) (lines_of text.now) (W.contents writer.old) (W.contents writer.new) }
 {
     let mut clients = Clients::new(alloc);
     let mut out = Vec::new(alloc);
@@ -104,7 +104,7 @@ fn run_lines<W: Write>(
 
 // Why a line before the first `open` is not run that memory was refused to read: keys are refused there.
 fn unread_setting_fault(line: &[u8]) -> LineFault
-    requires { takes_memory (said_in line.now) ≡ true }
+    requires { needs_memory (said_in line.now) ≡ true }
     ensures { (w : World) → IsDue result (said_in line.now) (setting w) }
 {
     match typed_label(line) {

@@ -5,10 +5,10 @@ ghost use Rattle.mgs_model.specs.Picture.{IsSize};
 ghost use Rattle.mgs_term.specs.Screen.{blank_screen};
 ghost use Rattle.mgs_term.specs.Terminal.{resting};
 ghost use Rattle.mgs_replay.specs.declared.client.Client.TheVariants as client_states;
-ghost use Rattle.mgs_script.specs.Lines.{line_view, Open, Keys, Close, said_in, takes_memory};
+ghost use Rattle.mgs_script.specs.Lines.{line_view, Open, Keys, Close, said_in, needs_memory};
 ghost use Rattle.mgs_replay.specs.Prints.{refusal_text};
 ghost use Rattle.mgs_replay.specs.Clients.{client_of, shown_text};
-ghost use Rattle.mgs_replay.specs.Players.{label as called, Has, begun, standing_of, had_session, TypesOne, Types, Closes, IsDue};
+ghost use Rattle.mgs_replay.specs.Players.{label as called, Has, playing, standing_of, had_session, TypesOne, Types, Closes, IsDue};
 ghost use Rattle.mgs_replay.specs.Served.{labels_in, session_in, player_of, clients_keyed, IsReady, IsWaiting, NotBad, Prints, Runs, RunsSaid, short_or};
 
 use crate::client::{Cause, Client};
@@ -268,8 +268,8 @@ fn run_line(
 // Why a line is not run that memory was refused to read: of groups, texts and keys, only keys of a label that had a
 // session are not refused.
 fn unread_fault(clients: &Clients, line: &[u8]) -> LineFault
-    requires { takes_memory (said_in line.now) ≡ true }
-    ensures { (w : World) → IsDue result (said_in line.now) (begun w (labels_in clients.now)) }
+    requires { needs_memory (said_in line.now) ≡ true }
+    ensures { (w : World) → IsDue result (said_in line.now) (playing w (labels_in clients.now)) }
 {
     match typed_label(line) {
         None => LineFault::Bad,

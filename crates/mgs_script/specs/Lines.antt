@@ -125,24 +125,24 @@ line_view (code.Show label) = Show label
 line_view (code.Close label) = Close label
 
 -- what is read takes memory: the members of a group, the characters of a text, the bytes of keys
-abbrev pub takes_memory : Option Said → Bool
-takes_memory None = false
-takes_memory (Some Nothing) = false
-takes_memory (Some (User name)) = false
-takes_memory (Some (Group name members)) = true
-takes_memory (Some (Buffer name owner)) = false
-takes_memory (Some (Entry buffer entry)) = false
-takes_memory (Some (Text buffer text)) = true
-takes_memory (Some (Open label user rows cols)) = false
-takes_memory (Some (Keys label keys)) = true
-takes_memory (Some (Show label)) = false
-takes_memory (Some (Close label)) = false
+abbrev pub needs_memory : Option Said → Bool
+needs_memory None = false
+needs_memory (Some Nothing) = false
+needs_memory (Some (User name)) = false
+needs_memory (Some (Group name members)) = true
+needs_memory (Some (Buffer name owner)) = false
+needs_memory (Some (Entry buffer entry)) = false
+needs_memory (Some (Text buffer text)) = true
+needs_memory (Some (Open label user rows cols)) = false
+needs_memory (Some (Keys label keys)) = true
+needs_memory (Some (Show label)) = false
+needs_memory (Some (Close label)) = false
 
 -- exactly what the line says; Bad exactly where it says nothing that is known, and out of memory only where what it says takes memory
 abbrev pub GivesLine : Result Line LineFault → Option Said → Type 0
 GivesLine (Ok l) said = said ≡ Some (line_view l)
 GivesLine (Err Bad) said = said ≡ None
-GivesLine (Err Short) said = takes_memory said ≡ true
+GivesLine (Err Short) said = needs_memory said ≡ true
 
 -- the label of a line of keys
 abbrev pub label_typed : Said → Option (List ℕ)

@@ -1,5 +1,5 @@
 use Rattle.std.proofs.Common.{arith, []}
-use Rattle.mgs_replay.specs.Players.{begun}
+use Rattle.mgs_replay.specs.Players.{playing}
 use Rattle.mgs_script.specs.Scripts.{lines_of}
 use Rattle.mgs_replay.specs.Served.{player_of}
 use Rattle.mgs_replay.proofs.Standing.{lines_left, stands_next, stands_end, ends_on, left_cut, left_none, left_shorter}
@@ -8,7 +8,7 @@ use Rattle.mgs_replay.proofs.lines.run_lines.Goals as goal
 pub returns-in-Err-clause-written : goal.returns-in-Err-clause-written
 returns-in-Err-clause-written g c =
     let here = rw (left_cut c.loop-rest.rest c.in-Some.text c.cut_line.result.0.now c.cut_line.result.1 c.in-Some.is c.cut_line.ensures.lines) at c.loop-rest.invariant.stands in
-    ends_on c.ended_at.result c.in-Err.fault c.args.first (begun c.args.server.now.world []) (lines_of c.args.text.now)
+    ends_on c.ended_at.result c.in-Err.fault c.args.first (playing c.args.server.now.world []) (lines_of c.args.text.now)
     (g.W.Write.contents c.args.writer.now) (g.W.Write.contents c.loop-rest.writer) (g.W.Write.contents c.turn.new.writer)
     c.loop-rest.number (player_of c.loop-rest.server c.loop-rest.clients) (player_of c.turn.new.server c.turn.new.clients) c.cut_line.result.0.now (lines_left c.cut_line.result.1)
     c.ended_at.ensures here c.in-Err.ensures.turned
@@ -19,7 +19,7 @@ loop-rest-preserved g c =
     let did = c.in-Ok.ensures.turned in
     record {
       ready = c.in-Ok.ensures.ready;
-      stands = stands_next c.args.first (begun c.args.server.now.world []) (lines_of c.args.text.now)
+      stands = stands_next c.args.first (playing c.args.server.now.world []) (lines_of c.args.text.now)
           (g.W.Write.contents c.args.writer.now) (g.W.Write.contents c.loop-rest.writer) (g.W.Write.contents c.turn.new.writer)
           c.loop-rest.number (player_of c.loop-rest.server c.loop-rest.clients) (player_of c.turn.new.server c.turn.new.clients) c.cut_line.result.0.now (lines_left c.cut_line.result.1) did.0
           here did.1 did.2;

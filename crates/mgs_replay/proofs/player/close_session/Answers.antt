@@ -2,15 +2,14 @@ use Rattle.std.proofs.Common.{ap, ◌∙◌}
 use Rattle.mgs_replay.specs.declared.client.Cause.TheVariants.{Closed}
 use Rattle.mgs_replay.specs.Served.{labels_in}
 use Rattle.mgs_replay.proofs.Events.{waiting_closed, labels_gone}
-use Rattle.mgs_replay.proofs.Players.{client_open, player_is}
+use Rattle.mgs_replay.proofs.Players.{player_is}
 use Rattle.mgs_replay.proofs.player.close_session.Goals as goal
 
 pub hand_over-requires : goal.hand_over-requires
 hand_over-requires c =
     let xs = c.args.clients.now in
-    let client_states = client_open c.args.label.now xs c.args.id c.requires.session in
     rw c.end.ensures
-    (waiting_closed c.args.server.now c.close.new.self c.args.label.now c.args.id client_states.0 Closed xs c.requires.ready client_states.1 c.close.ensures.queues c.close.ensures.sizes c.close.ensures.painted)
+    (waiting_closed c.args.server.now c.close.new.self c.args.label.now c.args.id Closed xs c.requires.ready c.requires.session c.close.ensures.queues c.close.ensures.sizes c.close.ensures.painted)
 
 pub returns-clause-closes : goal.returns-clause-closes
 returns-clause-closes c =
