@@ -4,10 +4,10 @@ ghost use Rattle.mgs_term.specs.Screen.{IsPrintableCell};
 ghost use Rattle.mgs_replay.specs.Prints.{edge_of, characters, row_text, rows_text, screen_text, refusal_text, ended_text, fault_text, ended_by_text};
 
 use crate::client::Cause;
+use itoa::Buffer;
 use mgs_model::{Name, OpenFault};
 use mgs_term::{Cell, Term};
 use std::alloc::AllocError;
-use std::io::Write;
 
 fn push_word(out: &mut Vec<u8>, word: &[u8], end: u8) -> Result<(), AllocError>
     ensures { OnOk result (out.new.items ≡ out.old.items ++ (word.now ++ end ∷ [])) }
@@ -17,11 +17,11 @@ fn push_word(out: &mut Vec<u8>, word: &[u8], end: u8) -> Result<(), AllocError>
     Ok(())
 }
 
-// A number from 0 to 999 without leading zeros.
+// A number without leading zeros.
 fn push_number(out: &mut Vec<u8>, n: usize) -> Result<(), AllocError>
     ensures { OnOk result (out.new.items ≡ out.old.items ++ decimal n) }
 {
-    write!(out, "{n}").map_err(|_| AllocError)
+    out.extend_from_slice(Buffer::new().format(n).as_bytes())
 }
 
 fn number_and_name(fault: OpenFault) -> &'static [u8]
