@@ -1,12 +1,11 @@
 -- What a script prints for any choices is what it may print.
-use Rattle.std.proofs.Common.{◌≡◌, ℕ, ◌+◌, ◌<◌, ◌==◌, nat_eq, arith, Bool, true, false, cond, List, [], ◌∷◌, ◌++◌, map, Option, Some, None, Result, Ok, Err, refl, sym, ap, subst, ◌∙◌, eq-eqb, inl, inr}
+use Rattle.std.proofs.Common.{◌≡◌, ℕ, ◌+◌, ◌<◌, ◌==◌, nat_eq, arith, Bool, true, false, cond, List, [], ◌∷◌, ◌++◌, map, Option, Some, None, Result, Err, refl, sym, ap, subst, ◌∙◌, eq-eqb, inl, inr}
 use Rattle.std.specs.Prelude.{◌↔◌, ◌⊎◌, find, All, IsSome, is_some, not, ◌&&◌, if◌then◌else◌}
 use Rattle.std.specs.Option.{option_map}
 use Rattle.std.proofs.lemmas.Bool.{eqb-true}
 use Rattle.std.proofs.lemmas.Bool.Decides.{nat_tests}
-use Rattle.std.proofs.lemmas.List.Elements.{All-nil, All-cons, All-head, All-tail, All-weaker, All-map, All-append}
+use Rattle.std.proofs.lemmas.List.Elements.{All-nil, All-cons, All-weaker, All-map, All-append}
 use Rattle.mgs_model.specs.World.{World, Session, find_session}
-use Rattle.mgs_model.specs.Draw.{screen}
 use Rattle.mgs_model.specs.Events.{step, is_open, can_open, open_fault, refused_act, may_be_refused}
 use Rattle.mgs_model.specs.Events as events
 use Rattle.mgs_model.specs.declared.errors.Keyed.{Keyed}
@@ -14,18 +13,16 @@ use Rattle.mgs_model.specs.declared.errors.Keyed.TheVariants as keyed
 use Rattle.mgs_model.specs.declared.errors.OpenFault.{OpenFault}
 use Rattle.mgs_model.specs.declared.errors.OpenFault.TheVariants as opening
 use Rattle.mgs_core.specs.Steps.{KeyedBy, OpenedBy}
-use Rattle.mgs_paint.specs.Painting.{shown}
 use Rattle.mgs_script.specs.Lines.{Said, said_in}
 use Rattle.mgs_script.specs.Lines as said
 use Rattle.mgs_script.specs.Scripts.{lines_of}
 use Rattle.mgs_replay.specs.declared.client.Cause.{Cause}
 use Rattle.mgs_replay.specs.declared.client.Cause.TheVariants as causes
 use Rattle.mgs_replay.specs.Settings.{first_world}
-use Rattle.mgs_replay.specs.Prints.{screen_text}
 use Rattle.mgs_replay.specs.Players.{Player, Label, label, Standing, Never, Has, Gone, is_called, standing_of, had_session, session_now, gone, setting, is_refused, labels_keyed, TypesOne, Types, Opens, ShowPrints, Closes, Does, LineDoes, LineRefused}
-use Rattle.mgs_replay.specs.Plays.{End, Whole, RefusedAt, Plays, MayPrint}
+use Rattle.mgs_replay.specs.Plays.{RefusedAt, Plays, MayPrint}
 use Rattle.mgs_replay.specs.Served.{Differ, IsApart, AreApart}
-use Rattle.mgs_replay.specs.Replayed.{Choice, next_choice, next_choices, later, stop_of, world_keyed, answer_of, key_answer, typed_one, typed, granted_id, open_answer, did_open, session_text, label_text, closed, did_by, Replayed, after_print, line_then, played_with, replayed_with}
+use Rattle.mgs_replay.specs.Replayed.{Choice, next_choice, next_choices, later, stop_of, world_keyed, answer_of, key_answer, typed_one, typed, open_answer, did_open, session_text, label_text, closed, did_by, Replayed, after_print, line_then, played_with, replayed_with}
 use Rattle.mgs_replay.proofs.Labels.{differ_never, apart_push, apart_gone, each, both, All-found, HasNot, OnlyCalled, only_called, found_now}
 use Rattle.mgs_replay.proofs.Staying.{Beside, beside_byte, beside_close, stays_refused, opened_next, opened_stays, opened_there}
 
@@ -130,6 +127,7 @@ there_gone w v name id cause beside x only h = go (is_called name x) refl
     by Never n t = tt
     by (Has own) n t = beside.others own n ∙ t
     by (Gone c) n t = tt
+
     go : (b : Bool) → is_called name x ≡ b → IsThere v (cond b (label x.name (Gone cause)) x).standing
     go true e = tt
     go false e = by x.standing (only e) h

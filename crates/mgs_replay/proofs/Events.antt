@@ -3,7 +3,6 @@ use Rattle.std.proofs.Common.{◌≡◌, ℕ, ◌*◌, Bool, true, false, cond, 
 use Rattle.std.specs.Prelude.{find, nat_eq, All}
 use Rattle.std.specs.Option.{option_map, option_or}
 use Rattle.std.proofs.lemmas.Bool.{eqb-true}
-use Rattle.std.proofs.lemmas.Bool.Decides.{nat_tests}
 use Rattle.std.proofs.lemmas.List.{map-append, length-replicate}
 use Rattle.std.proofs.lemmas.List.Folds.{find-append}
 use Rattle.std.proofs.lemmas.List.Elements.{All-nil, All-cons, All-head, All-tail, All-weaker, All-map, All-append}
@@ -29,7 +28,7 @@ use Rattle.mgs_replay.specs.declared.client.Cause.{Cause}
 use Rattle.mgs_replay.specs.declared.client.Client.{Client}
 use Rattle.mgs_replay.specs.declared.client.Client.TheVariants as clients
 use Rattle.mgs_replay.specs.Clients.{is_labelled, client_of, ended_by}
-use Rattle.mgs_replay.specs.Players.{Label, label, Standing, Never, Has, Gone, is_called, standing_of, gone}
+use Rattle.mgs_replay.specs.Players.{Label, label, Never, Has, Gone, is_called, standing_of, gone}
 use Rattle.mgs_replay.specs.Served.{standing_in, label_of, labels_in, ClientShows, LabelShows, ClientDue, IsLineDue, Differ, IsApart, AreApart, AreUnique, size_id, session_in, IsPlayerServed, IsReady, IsWaiting}
 use Rattle.mgs_replay.proofs.Served.{found_size}
 use Rattle.mgs_replay.proofs.Labels.{differ_never, apart_push, apart_gone, each, both, flip, HasNot, OnlyCalled, only_called, found_now}

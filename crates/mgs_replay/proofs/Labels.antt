@@ -122,4 +122,3 @@ only_called name id (x ∷ xs) z found is apart =
           All-cons (OnlyCalled name id) x xs (λ no. earlier_has id x.standing (subst (λ (s : Standing). Differ x.standing s) is differs)) (only_called name id xs z f is apart.1)
     ]
     in go (is_called name x) refl found
-

@@ -21,7 +21,7 @@ use Rattle.mgs_replay.specs.declared.client.Client.TheVariants as clients
 use Rattle.mgs_script.specs.Lines as said
 use Rattle.mgs_replay.specs.Prints.{refusal_text, screen_text, ended_text}
 use Rattle.mgs_replay.specs.Clients.{is_labelled, client_of, shown_text}
-use Rattle.mgs_replay.specs.Players.{Label, label, Standing, Never, Has, playing, standing_of, session_now, had_session, labels_keyed, ShowPrints}
+use Rattle.mgs_replay.specs.Players.{Label, label, Standing, Never, Has, playing, standing_of, had_session, labels_keyed, ShowPrints}
 use Rattle.mgs_replay.specs.Served.{Prints, standing_in, labels_in, ClientShows, LabelShows, IsReady, IsWaiting, clients_keyed, player_of, Runs, NotBad}
 use Rattle.mgs_replay.proofs.Events.{standing_at, labels_gone, labels_push, waiting_ended, ready_never}
 use Rattle.mgs_replay.proofs.Labels.{All-found}

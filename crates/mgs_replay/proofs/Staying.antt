@@ -1,7 +1,7 @@
 -- Which sessions an event leaves open, told by the worlds before and after it and by no command.
-use Rattle.std.proofs.Common.{◌≡◌, ℕ, zero, suc, ◌+◌, ◌==◌, nat_eq, Bool, true, false, cond, List, [], ◌∷◌, ◌++◌, map, Option, Some, None, refl, sym, ap, ◌∙◌, eq-eqb}
+use Rattle.std.proofs.Common.{◌≡◌, ℕ, zero, suc, ◌+◌, ◌==◌, nat_eq, Bool, true, false, cond, List, [], ◌∷◌, map, Option, Some, None, refl, sym, ap, ◌∙◌, eq-eqb}
 use Rattle.std.specs.Prelude.{find, is_some}
-use Rattle.std.specs.Option.{option_map, option_or}
+use Rattle.std.specs.Option.{option_or}
 use Rattle.std.proofs.lemmas.Bool.{eqb-true}
 use Rattle.std.proofs.lemmas.List.Folds.{find-append}
 use Rattle.mgs_model.proofs.Firsts.{find-map}
@@ -164,6 +164,7 @@ refused_stays (suc n) id stored d o e = go d.todo e (refused_stays n id stored (
         ap (is_open id) (turns_rest n id stored (with_own id refused_own d.world) d.memory)
         ∙ open_own id id refused_own d.world
         ∙ ap is_some found
+
     go : (s : List Todo) → elim s as (λ _. Option Outcome) [ [] ↦ None | x ∷ xs ↦ refused_of id stored (next d.todo d.memory) d.world (find_session id d.world.sessions) (refused_in n id stored (turn id stored d)) ] ≡ Some o
         → (refused_in n id stored (turn id stored d) ≡ Some o → is_open id (turns n id stored (turn id stored d)).world ≡ true)
         → is_open id (world_in (elim s as (λ _. Doing) [ [] ↦ d | x ∷ xs ↦ turns n id stored (turn id stored d) ])) ≡ true
@@ -175,6 +176,7 @@ stays_refused id byte stored stop w there may = step_is ∙ open_settled id (byt
   where
     step_is : is_open id (step w (events.Byte id byte stored stop)) ≡ is_open id (settled (byte_done w id byte stored stop))
     step_is = ap (λ b. is_open id (cond b (settled (byte_done w id byte stored stop)) w)) there
+
     by : (r : Option Outcome) → refused_act w id byte stored stop ≡ r → may_be_refused r ≡ true → is_open id (byte_done w id byte stored stop) ≡ true
     by None e m = cc
     by (Some o) e m = refused_stays most_turns id stored (begun w id byte stop) o e
