@@ -1,2 +1,6 @@
 pub mod Runs
 pub mod Rows
+pub mod Columns
+pub mod Pieces
+pub mod Cursor
+pub mod Changing

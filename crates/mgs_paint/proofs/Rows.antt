@@ -14,18 +14,19 @@ use Rattle.mgs_term.specs.Drawing.{Leads, IsFaithful}
 use Rattle.mgs_term.proofs.Drawing.{Leads-append}
 use Rattle.mgs_term.specs.declared.cell.Cell.{Cell}
 use Rattle.mgs_term.specs.declared.operation.Operation.{Operation}
-use Rattle.mgs_term.specs.declared.operation.Operation.TheVariants.{Goto, Reverse, Plain, Print}
+use Rattle.mgs_term.specs.declared.operation.Operation.TheVariants.{Goto, Erase, Reverse, Plain, Print}
 
 -- the screen in the middle of a paint
 abbrev pub mid : ℕ → ℕ → List Cell → ℕ → ℕ → Bool → Screen
 mid rows cols cells row col reversing = record { rows = rows; cols = cols; cells = cells; row = row; col = col; reversing = reversing; wrapping = false }
 
--- What may come in row i: moves and marks, and the goal's characters.
+-- What may come in row i: moves and marks, the goal's characters, and erases.
 pub record Permits (may : Screen → Operation → Type 0) (goal : List Cell) (i : ℕ) : Type 0 where
   pub moves : (s : Screen) (r c : ℕ) → may s (Goto r c)
   pub marks : (s : Screen) → may s Reverse
   pub plains : (s : Screen) → may s Plain
   pub prints : (s : Screen) (b : ℕ) → s.row ≡ i → IsFaithful goal s (Print b) → may s (Print b)
+  pub erases : (s : Screen) → s.row ≡ i → may s Erase
 
 -- Printed characters replace as many cells, and nothing else.
 pub prints_lead : (may : Screen → Operation → Type 0) (rows cols i k : ℕ) (front xs back more : List Cell) (reversed : Bool) (text : List ℕ)
@@ -45,7 +46,7 @@ prints_lead may rows cols i k front (x ∷ xs) back more reversed (c ∷ cs) per
     let faithful : (get_or (front ++ (cell ∷ (map (cell_of reversed) cs ++ more))) (i * cols + k) blank_cell).character ≡ c = rw (get_or_at front cell (map (cell_of reversed) cs ++ more) blank_cell (i * cols + k) here) refl in
     (rest.0, ((printable.0, refl), permits.prints (mid rows cols (front ++ (x ∷ (xs ++ back))) i k reversed) c refl faithful, rw (set_at front x (xs ++ back) cell (i * cols + k) here) (rw (append_assoc front (cell ∷ []) (xs ++ back), append_assoc front (cell ∷ []) (map (cell_of reversed) cs ++ back)) at rest.1)))
 
-add-suc-move : (i n : ℕ) → i + 1 + n ≡ i + suc n
+pub add-suc-move : (i n : ℕ) → i + 1 + n ≡ i + suc n
 add-suc-move i n = omega arith
 
 -- one row more
@@ -102,7 +103,7 @@ rows_lead may rows cols i front rest (r ∷ rs) row col was permits some at same
     (all.0, all.1, all.2, Leads-append may (row_operations i r) (rows_operations (i + 1) rs) (mid rows cols (front ++ rest) row col was) (mid rows cols (next ++ back) i one.0 r.reversed) (mid rows cols goal all.0 all.1 all.2) begin (rw joins at all.3))
 
 faithful_permits : (goal : List Cell) (i : ℕ) → Permits (IsFaithful goal) goal i
-faithful_permits goal i = record { moves = λ s r c. tt; marks = λ s. tt; plains = λ s. tt; prints = λ s b e h. h }
+faithful_permits goal i = record { moves = λ s r c. tt; marks = λ s. tt; plains = λ s. tt; prints = λ s b e h. h; erases = λ s e. tt }
 
 -- The first paint, from any screen of the picture's size.
 pub whole_leads : (p : Picture) (s : Screen) → IsPicture p → IsScreen s → s.rows ≡ p.rows → s.cols ≡ p.cols → Leads (IsFaithful (cells_of p)) (whole_operations p) s (shown p)

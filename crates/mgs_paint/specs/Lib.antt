@@ -1,2 +1,4 @@
 pub mod Painting
 pub mod Operations
+pub mod Changes
+pub mod Repainting

@@ -1,7 +1,7 @@
 // The bytes of each operation. Each call needs room for what it appends, and takes no memory.
 ghost use Rattle.std.specs.Prelude.{◌≡◌, ℕ, ◌+◌, ◌*◌, ◌<◌, ◌≤◌, ◌++◌, [], ◌∷◌, length, vec_len, vec_capacity, cond, All};
 ghost use Rattle.mgs_term.specs.Sequences.{number, spelling};
-ghost use Rattle.mgs_term.specs.declared.operation.Operation.TheVariants.{Goto, Reverse, Plain, Unwrap, Print};
+ghost use Rattle.mgs_term.specs.declared.operation.Operation.TheVariants.{Goto, Erase, Reverse, Plain, Unwrap, Print};
 ghost use Rattle.mgs_paint.specs.Operations.{bytes_of, row_operations};
 ghost use Rattle.mgs_model.specs.Picture.{IsPrintable};
 ghost use Rattle.mgs_model.specs.declared.limits.TheConstants.{ROWS_MAX};
@@ -100,4 +100,16 @@ pub fn put_row(out: &mut Vec<u8>, row: usize, line: &Line)
     put_goto(out, row, 0);
     put_reverse(out, line.is_reversed());
     put_text(out, line.text());
+}
+
+/// `ESC [ K`: the cells from the cursor to the end of its row are blanks.
+pub fn put_erase(out: &mut Vec<u8>)
+    requires room { vec_len out.old + 3 ≤ vec_capacity out.old }
+    ensures items { out.new.items ≡ out.old.items ++ spelling Erase }
+    ensures capacity { vec_capacity out.new ≡ vec_capacity out.old }
+    ensures len { vec_len out.new ≤ vec_len out.old + 3 }
+{
+    out.push_reserved(ESCAPE);
+    out.push_reserved(b'[');
+    out.push_reserved(b'K');
 }

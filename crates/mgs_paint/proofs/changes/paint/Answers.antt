@@ -1,0 +1,16 @@
+use Rattle.std.proofs.Common.{refl, arith}
+use Rattle.mgs_paint.specs.Operations.{bytes_of}
+use Rattle.mgs_paint.specs.Changes.{changes}
+use Rattle.mgs_paint.proofs.Rows.{grown}
+use Rattle.mgs_paint.proofs.Changing.{changes_lead, changes_same}
+use Rattle.mgs_paint.proofs.changes.paint.Goals as goal
+
+pub returns-clause-repaints : goal.returns-clause-repaints
+returns-clause-repaints c =
+    let old = c.args.old.now in
+    let new = c.args.new.now in
+    record {
+      bounded = grown c.args.out.now.items c.put_changes.new.out.items (bytes_of (changes old new)) _ c.put_changes.ensures.items (omega arith);
+      draws = (changes old new, refl, changes_lead old new c.rows-old_rows.ensures.picture c.rows-new_rows.ensures.picture c.requires.rows c.requires.cols);
+      quiet = changes_same old new;
+    }

@@ -1,0 +1,224 @@
+// The bytes of what changes from a shown picture to a new one.
+ghost use Rattle.std.specs.Prelude.{◌≡◌, ℕ, ◌+◌, ◌-◌, ◌*◌, ◌<◌, ◌≤◌, ◌++◌, length, vec_len, vec_capacity, All};
+ghost use Rattle.mgs_model.specs.Picture.{IsRow, IsPrintable};
+ghost use Rattle.mgs_model.specs.declared.limits.TheConstants.{COLS_MAX, ROWS_MAX};
+ghost use Rattle.mgs_paint.specs.Painting.{bound_of};
+ghost use Rattle.mgs_paint.specs.Repainting.{Repaints};
+ghost use Rattle.mgs_paint.specs.Operations.{bytes_of};
+ghost use Rattle.mgs_paint.specs.Changes.{change_start, change_end, ink_end, start_column, end_column, moved, way, plain_piece, piece, row_changes, rows_changes, changes};
+
+use crate::put::{put_erase, put_goto, put_reverse, put_text};
+use mgs_grid::{Grid, Line};
+
+fn change_start(old: &[char], new: &[char]) -> usize
+    requires { length old.now ≡ length new.now }
+    ensures { result ≡ change_start old.now new.now }
+{
+    for (i, c) in new.iter().enumerate() {
+        if old[i] != *c {
+            return i;
+        }
+    }
+    new.len()
+}
+
+fn change_end(old: &[char], new: &[char]) -> usize
+    requires { length old.now ≡ length new.now }
+    ensures value { result ≡ change_end old.now new.now }
+    ensures within { result ≤ length new.now }
+{
+    let mut end = new.len();
+    while end > 0 && old[end - 1] == new[end - 1] {
+        end -= 1;
+    }
+    end
+}
+
+fn ink_end(text: &[char]) -> usize
+    ensures value { result ≡ ink_end text.now }
+    ensures within { result ≤ length text.now }
+{
+    let mut end = text.len();
+    while end > 0 && text[end - 1] == ' ' {
+        end -= 1;
+    }
+    end
+}
+
+// The columns of a row that change, from the first to the one after the last: 0 and 0 where it stays the same.
+fn start_column(old: &Line, new: &Line) -> usize
+    requires { length old.now.text ≡ length new.now.text }
+    ensures { result ≡ start_column old.now new.now }
+{
+    if old.is_reversed() == new.is_reversed() {
+        change_start(old.text(), new.text())
+    } else {
+        0
+    }
+}
+
+fn end_column(old: &Line, new: &Line) -> usize
+    requires { length old.now.text ≡ length new.now.text }
+    ensures value { result ≡ end_column old.now new.now }
+    ensures within { result ≤ length new.now.text }
+{
+    if old.is_reversed() == new.is_reversed() {
+        change_end(old.text(), new.text())
+    } else {
+        new.text().len()
+    }
+}
+
+// Moves the cursor, unless it is there.
+fn put_way(out: &mut Vec<u8>, from: (usize, usize), to: (usize, usize))
+    requires row { to.0 < 999 }
+    requires col { to.1 < 999 }
+    requires room { vec_len out.old + 10 ≤ vec_capacity out.old }
+    ensures items { out.new.items ≡ out.old.items ++ bytes_of (way from to) }
+    ensures capacity { vec_capacity out.new ≡ vec_capacity out.old }
+    ensures len { vec_len out.new ≤ vec_len out.old + 10 }
+{
+    if from.0 != to.0 || from.1 != to.1 {
+        put_goto(out, to.0, to.1);
+    }
+}
+
+// New characters of a plain row, and where they leave the cursor. An erase stands for the blanks at the row's end where
+// that is shorter.
+fn put_plain(
+    out: &mut Vec<u8>,
+    row: usize,
+    text: &[char],
+    start: usize,
+    end: usize,
+) -> (usize, usize)
+    requires order { start < end }
+    requires within { end ≤ length text.now }
+    requires width { length text.now ≤ COLS_MAX }
+    requires printable { All IsPrintable text.now }
+    requires room { vec_len out.old + (end - start) ≤ vec_capacity out.old }
+    ensures items { out.new.items ≡ out.old.items ++ bytes_of (plain_piece text.now start end) }
+    ensures capacity { vec_capacity out.new ≡ vec_capacity out.old }
+    ensures len { vec_len out.new ≤ vec_len out.old + (end - start) }
+    ensures cursor { result ≡ moved (length text.now) (row, start) (plain_piece text.now start end) }
+{
+    let ink = ink_end(text).max(start);
+    if ink + 3 < end {
+        put_text(out, &text[start..ink]);
+        put_erase(out);
+        (row, ink)
+    } else {
+        put_text(out, &text[start..end]);
+        (row, end.min(text.len() - 1))
+    }
+}
+
+// New characters of a row, and where they leave the cursor.
+fn put_piece(out: &mut Vec<u8>, row: usize, new: &Line, start: usize, end: usize) -> (usize, usize)
+    requires order { start < end }
+    requires within { end ≤ length new.now.text }
+    requires width { length new.now.text ≤ COLS_MAX }
+    requires printable { All IsPrintable new.now.text }
+    requires room { vec_len out.old + (8 + (end - start)) ≤ vec_capacity out.old }
+    ensures items { out.new.items ≡ out.old.items ++ bytes_of (piece new.now start end) }
+    ensures capacity { vec_capacity out.new ≡ vec_capacity out.old }
+    ensures len { vec_len out.new ≤ vec_len out.old + (8 + (end - start)) }
+    ensures cursor { result ≡ moved (length new.now.text) (row, start) (piece new.now start end) }
+{
+    let text = new.text();
+    if new.is_reversed() {
+        put_reverse(out, true);
+        put_text(out, &text[start..end]);
+        put_reverse(out, false);
+        (row, end.min(text.len() - 1))
+    } else {
+        put_plain(out, row, text, start, end)
+    }
+}
+
+// One row, and where its bytes leave the cursor.
+#[tactic(auto, using(crate::proofs::Columns::start_first))]
+fn put_row_changes(
+    out: &mut Vec<u8>,
+    at: (usize, usize),
+    row: usize,
+    old: &Line,
+    new: &Line,
+) -> (usize, usize)
+    requires row { row < ROWS_MAX }
+    requires same { length old.now.text ≡ length new.now.text }
+    requires width { length new.now.text ≤ COLS_MAX }
+    requires printable { All IsPrintable new.now.text }
+    requires room { vec_len out.old + (18 + length new.now.text) ≤ vec_capacity out.old }
+    ensures items { out.new.items ≡ out.old.items ++ bytes_of (row_changes at row old.now new.now) }
+    ensures capacity { vec_capacity out.new ≡ vec_capacity out.old }
+    ensures len { vec_len out.new ≤ vec_len out.old + (18 + length new.now.text) }
+    ensures cursor { result ≡ moved (length new.now.text) at (row_changes at row old.now new.now) }
+{
+    let end = end_column(old, new);
+    if end == 0 {
+        return at;
+    }
+    let start = start_column(old, new);
+    put_way(out, at, (row, start));
+    put_piece(out, row, new, start, end)
+}
+
+// Each row, and where their bytes leave the cursor.
+fn put_rows_changes(
+    out: &mut Vec<u8>,
+    at: (usize, usize),
+    cols: usize,
+    old: &[Line],
+    new: &[Line],
+) -> (usize, usize)
+    requires count { length old.now ≡ length new.now }
+    requires rows { length new.now ≤ ROWS_MAX }
+    requires cols { cols ≤ COLS_MAX }
+    requires each_old { All (IsRow cols) old.now }
+    requires each_new { All (IsRow cols) new.now }
+    requires room { vec_len out.old + length new.now * (18 + cols) ≤ vec_capacity out.old }
+    ensures items { out.new.items ≡ out.old.items ++ bytes_of (rows_changes cols at 0 old.now new.now) }
+    ensures capacity { vec_capacity out.new ≡ vec_capacity out.old }
+    ensures len { vec_len out.new ≤ vec_len out.old + length new.now * (18 + cols) }
+    ensures cursor { result ≡ moved cols at (rows_changes cols at 0 old.now new.now) }
+{
+    let mut cursor = at;
+    for (i, line) in new.iter().enumerate() {
+        cursor = put_row_changes(out, cursor, i, &old[i], line);
+    }
+    cursor
+}
+
+// Each row that changes, and the cursor.
+fn put_changes(out: &mut Vec<u8>, old: &Grid, new: &Grid)
+    requires rows { old.now.rows ≡ new.now.rows }
+    requires cols { old.now.cols ≡ new.now.cols }
+    requires room { vec_len out.old + bound_of new.now.rows new.now.cols ≤ vec_capacity out.old }
+    ensures items { out.new.items ≡ out.old.items ++ bytes_of (changes old.now new.now) }
+    ensures capacity { vec_capacity out.new ≡ vec_capacity out.old }
+    ensures len { vec_len out.new ≤ vec_len out.old + bound_of new.now.rows new.now.cols }
+{
+    let cursor = put_rows_changes(out, old.cursor(), new.cols(), old.lines(), new.lines());
+    put_way(out, cursor, new.cursor());
+}
+
+/// Appends the bytes that repaint a terminal which shows `old`, with reverse and wrap off: it then shows `new`, with both
+/// off. Only what differs is written. A row that stays the same is left alone; of one that changes, the columns from the
+/// first that differs to the last are written, or blanks at its end erased where that is shorter. Where nothing changes
+/// there are no bytes.
+///
+/// The grids have the same size, `out` has room for `bound` bytes more, and no memory is taken.
+pub fn paint(old: &Grid, new: &Grid, out: &mut Vec<u8>)
+    requires rows { old.now.rows ≡ new.now.rows }
+    requires cols { old.now.cols ≡ new.now.cols }
+    requires room { vec_len out.old + bound_of new.now.rows new.now.cols ≤ vec_capacity out.old }
+    ensures bytes { out.new.items ≡ out.old.items ++ bytes_of (changes old.now new.now) }
+    ensures repaints { Repaints old.now new.now (bytes_of (changes old.now new.now)) }
+    ensures capacity { vec_capacity out.new ≡ vec_capacity out.old }
+{
+    // Reads each grid once: its rows and columns are those of a picture.
+    let _old_rows = old.rows();
+    let _new_rows = new.rows();
+    put_changes(out, old, new);
+}
