@@ -9,7 +9,8 @@ use Rattle.std.proofs.lemmas.Slice.{between_is}
 use Rattle.mgs_model.specs.Rows.{Row}
 use Rattle.mgs_model.specs.Picture.{Picture, IsRow, IsPicture, IsPrintable}
 use Rattle.mgs_term.specs.Screen.{Screen, blank_cell}
-use Rattle.mgs_term.specs.Drawing.{Leads}
+use Rattle.mgs_term.specs.Sequences.{after}
+use Rattle.mgs_term.specs.Drawing.{Leads, Draws, IsFaithful}
 use Rattle.mgs_term.proofs.Drawing.{Leads-append}
 use Rattle.mgs_term.specs.declared.cell.Cell.{Cell}
 use Rattle.mgs_term.specs.declared.operation.Operation.{Operation}
@@ -233,7 +234,7 @@ same_some a b e = cc
 permitted : (p q : Picture) (j : ℕ) (a b : Row) → slice_get p.lines j ≡ Some a → slice_get q.lines j ≡ Some b → (a ≡ b → ⊥) → Permits (IsOfChange p q) (cells_of q) j
 permitted p q j a b x y other =
     let changed : (s : Screen) → s.row ≡ j → IsChanged p q s.row = λ s is same. other (same_some a b (sym x ∙ ap (slice_get p.lines) (sym is) ∙ same ∙ ap (slice_get q.lines) is ∙ y)) in
-    record { moves = λ s r c. tt; marks = λ s. tt; plains = λ s. tt; prints = λ s c is faithful. (changed s is, faithful); erases = λ s is. changed s is }
+    record { moves = λ s r c. (tt, tt); marks = λ s. (tt, tt); plains = λ s. (tt, tt); prints = λ s c is faithful. (faithful, changed s is); erases = λ s is. (tt, changed s is) }
 
 -- from a terminal that shows the old picture
 pub changes_lead : (p q : Picture) → IsPicture p → IsPicture q → p.rows ≡ q.rows → p.cols ≡ q.cols → Leads (IsOfChange p q) (changes p q) (shown p) (shown q)
@@ -248,7 +249,7 @@ changes_lead p q was is rows cols =
     let begins : sized q.rows q.cols ≡ shown p = ap (λ r. sized r q.cols) (sym rows) ∙ ap (sized p.rows) (sym cols) in
     let start : Leads may os (shown p) middle = subst (λ s. Leads may os s middle) begins all.1 in
     let cursor : moved q.cols (p.row, p.col) os ≡ all.0 = leads_cursor may os (sized q.rows q.cols) middle all.1 in
-    let goes : Leads may (way all.0 (q.row, q.col)) middle (shown q) = way_leads may q.rows q.cols (cells_of q) all.0.0 all.0.1 (q.row, q.col) false (λ s r c. tt) is.row is.col in
+    let goes : Leads may (way all.0 (q.row, q.col)) middle (shown q) = way_leads may q.rows q.cols (cells_of q) all.0.0 all.0.1 (q.row, q.col) false (λ s r c. (tt, tt)) is.row is.col in
     Leads-append may os (way (moved q.cols (p.row, p.col) os) (q.row, q.col)) (shown p) middle (shown q) start (rw cursor goes)
 
 -- nothing changes where the pictures are the same
@@ -261,3 +262,12 @@ no_rows cols at i (r ∷ rs) =
 pub changes_same : (p q : Picture) → p ≡ q → bytes_of (changes p q) ≡ []
 changes_same p q same =
     rw (same, no_rows q.cols (q.row, q.col) 0 q.lines, eq-eqb q.row q.row refl, eq-eqb q.col q.col refl) refl
+
+-- UNDER A WEAKER RULE
+
+Leads-faithful : (p q : Picture) (os : List Operation) (s t : Screen) → Leads (IsOfChange p q) os s t → Leads (IsFaithful (cells_of q)) os s t
+Leads-faithful p q [] s t leads = leads
+Leads-faithful p q (o ∷ os) s t leads = (leads.0, leads.1.0, Leads-faithful p q os (after o s) t leads.2)
+
+pub Draws-faithful : (p q : Picture) (bytes : List ℕ) (s t : Screen) → Draws (IsOfChange p q) bytes s t → Draws (IsFaithful (cells_of q)) bytes s t
+Draws-faithful p q bytes s t draws = (draws.0, draws.1, Leads-faithful p q draws.0 s t draws.2)

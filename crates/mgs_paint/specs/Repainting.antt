@@ -11,16 +11,19 @@ use Rattle.mgs_paint.specs.Painting.{bound_of, cells_of, shown}
 abbrev pub IsChanged : Picture → Picture → ℕ → Type 0
 IsChanged old new i = slice_get old.lines i ≡ slice_get new.lines i → ⊥
 
--- No cell is written or erased in a row that stays the same, and the screen is never cleared. What is printed in a cell is
--- the new picture's character of that cell.
+-- no cell of a row that stays the same is written or erased, and the screen is never cleared
+abbrev pub IsInChangedRow : Picture → Picture → Screen → Operation → Type 0
+IsInChangedRow old new s (Print b) = IsChanged old new s.row
+IsInChangedRow old new s Erase = IsChanged old new s.row
+IsInChangedRow old new s Clear = ⊥
+IsInChangedRow old new s (Goto r c) = Unit {0}
+IsInChangedRow old new s Reverse = Unit {0}
+IsInChangedRow old new s Plain = Unit {0}
+IsInChangedRow old new s Unwrap = Unit {0}
+
+-- and what is printed in a cell is the new picture's character of that cell
 abbrev pub IsOfChange : Picture → Picture → Screen → Operation → Type 0
-IsOfChange old new s (Print b) = IsChanged old new s.row × IsFaithful (cells_of new) s (Print b)
-IsOfChange old new s Erase = IsChanged old new s.row
-IsOfChange old new s Clear = ⊥
-IsOfChange old new s (Goto r c) = Unit {0}
-IsOfChange old new s Reverse = Unit {0}
-IsOfChange old new s Plain = Unit {0}
-IsOfChange old new s Unwrap = Unit {0}
+IsOfChange old new s o = IsFaithful (cells_of new) s o × IsInChangedRow old new s o
 
 -- The bytes turn a terminal that shows the old picture, with reverse and wrap off, into one that shows the new one so.
 -- There are none where nothing changes.

@@ -192,8 +192,8 @@ fn put_rows_changes(
 
 // Each row that changes, and the cursor.
 fn put_changes(out: &mut Vec<u8>, old: &Grid, new: &Grid)
-    requires rows { old.now.rows ≡ new.now.rows }
-    requires cols { old.now.cols ≡ new.now.cols }
+    requires rows { new.now.rows ≡ old.now.rows }
+    requires cols { new.now.cols ≡ old.now.cols }
     requires room { vec_len out.old + bound_of new.now.rows new.now.cols ≤ vec_capacity out.old }
     ensures items { out.new.items ≡ out.old.items ++ bytes_of (changes old.now new.now) }
     ensures capacity { vec_capacity out.new ≡ vec_capacity out.old }
@@ -210,8 +210,8 @@ fn put_changes(out: &mut Vec<u8>, old: &Grid, new: &Grid)
 ///
 /// The grids have the same size, `out` has room for `bound` bytes more, and no memory is taken.
 pub fn paint(old: &Grid, new: &Grid, out: &mut Vec<u8>)
-    requires rows { old.now.rows ≡ new.now.rows }
-    requires cols { old.now.cols ≡ new.now.cols }
+    requires rows { new.now.rows ≡ old.now.rows }
+    requires cols { new.now.cols ≡ old.now.cols }
     requires room { vec_len out.old + bound_of new.now.rows new.now.cols ≤ vec_capacity out.old }
     ensures bytes { out.new.items ≡ out.old.items ++ bytes_of (changes old.now new.now) }
     ensures repaints { Repaints old.now new.now (bytes_of (changes old.now new.now)) }

@@ -1,4 +1,4 @@
-use Rattle.std.proofs.Common.{refl, arith}
+use Rattle.std.proofs.Common.{refl, sym, arith}
 use Rattle.mgs_paint.specs.Operations.{bytes_of}
 use Rattle.mgs_paint.specs.Changes.{changes}
 use Rattle.mgs_paint.proofs.Rows.{grown}
@@ -11,6 +11,6 @@ returns-clause-repaints c =
     let new = c.args.new.now in
     record {
       bounded = grown c.args.out.now.items c.put_changes.new.out.items (bytes_of (changes old new)) _ c.put_changes.ensures.items (omega arith);
-      draws = (changes old new, refl, changes_lead old new c.rows-old_rows.ensures.picture c.rows-new_rows.ensures.picture c.requires.rows c.requires.cols);
+      draws = (changes old new, refl, changes_lead old new c.rows-old_rows.ensures.picture c.rows-new_rows.ensures.picture (sym c.requires.rows) (sym c.requires.cols));
       quiet = changes_same old new;
     }
