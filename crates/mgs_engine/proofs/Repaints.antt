@@ -1,17 +1,16 @@
 -- Screens that are drawn and painted.
-use Rattle.std.proofs.Common.{◌≡◌, ℕ, zero, suc, ◌+◌, ◌*◌, ◌<◌, ◌≤◌, List, [], ◌∷◌, ◌++◌, length, get_or, set, take, drop, map, Some, None, refl, sym, ap, subst, ◌∙◌, arith}
+use Rattle.std.proofs.Common.{◌≡◌, ℕ, zero, suc, ◌+◌, ◌<◌, ◌≤◌, List, [], ◌∷◌, ◌++◌, length, get_or, set, take, drop, map, Some, None, refl, sym, ap, subst, ◌∙◌, arith}
 use Rattle.std.specs.Prelude.{slice_get, All}
-use Rattle.std.specs.List.{flat_map}
 use Rattle.std.proofs.lemmas.Option.{get_or_from_slice_get, slice_get_within}
-use Rattle.std.proofs.lemmas.List.{append-nil, map-append, length_push, length-append, length-map, take_more, take_more_set, take_all}
-use Rattle.std.proofs.lemmas.List.Elements.{All-head, All-tail, All-push}
-use Rattle.mgs_model.specs.Rows.{Row}
-use Rattle.mgs_model.specs.Picture.{Picture, IsPicture, IsRow}
+use Rattle.std.proofs.lemmas.List.{append-nil, map-append, length_push, take_more, take_more_set, take_all}
+use Rattle.std.proofs.lemmas.List.Elements.{All-push}
+use Rattle.mgs_model.specs.Picture.{Picture}
 use Rattle.mgs_model.specs.World.{World, Session, find_session}
 use Rattle.mgs_model.specs.Draw.{screen, draw}
-use Rattle.mgs_term.specs.Screen as term
 use Rattle.mgs_term.specs.Drawing.{Draws, IsFaithful}
-use Rattle.mgs_paint.specs.Painting.{Paints, bound_of, cell_of, row_cells, cells_of, shown}
+use Rattle.mgs_paint.specs.Painting.{Paints, bound_of, cells_of, shown}
+use Rattle.mgs_paint.specs.Repainting.{Repaints}
+use Rattle.mgs_paint.proofs.Changing.{Draws-faithful}
 use Rattle.mgs_world.specs.declared.size.Size.{Size}
 use Rattle.mgs_world.specs.Worlds.{find_size, sizes, is_size_of, IsOfSize, IsUnique}
 use Rattle.mgs_world.specs.Worlds as core
@@ -21,22 +20,7 @@ use Rattle.mgs_engine.specs.Screens.{queue_of, shown_size, IsSessionScreen, IsKn
 use Rattle.mgs_core.proofs.Ids.{found_sizes, known_at, same_some, some_of}
 use Rattle.mgs_engine.proofs.ScreenLemmas.{rest_at}
 
--- A PICTURE AS A SCREEN
-
-length_rows : (cols : ℕ) (ls : List Row) → All (IsRow cols) ls → length (flat_map row_cells ls) ≡ length ls * cols
-length_rows cols [] h = omega arith
-length_rows cols (l ∷ ls) h =
-    let wide : length l.text ≡ cols = (All-head (IsRow cols) l ls h).width in
-    let rest : length (flat_map row_cells ls) ≡ length ls * cols = length_rows cols ls (All-tail (IsRow cols) l ls h) in
-    omega (arith, length-append (row_cells l) (flat_map row_cells ls), length-map l.text (cell_of l.reversed))
-
-shown_screen : (p : Picture) → IsPicture p → term.IsScreen (shown p)
-shown_screen p h = record {
-  size = h.size;
-  covered = length_rows p.cols p.lines h.each ∙ ap (λ n. n * p.cols) h.count;
-  row_in = h.row;
-  col_in = h.col;
-}
+-- SIZES
 
 -- a size, by its rows and its columns
 pub same_size : (id rows cols r c : ℕ) → r ≡ rows → c ≡ cols → let y : Size = record { id = id; rows = rows; cols = cols } in let z : Size = record { id = id; rows = r; cols = c } in z ≡ y
@@ -73,16 +57,16 @@ ahead_screen w old new k h s =
       room = s.room;
     })
 
--- a paint of what comes next draws it over what is shown
-pub paint_repaint : (old new : Screen) (bytes : List ℕ) → IsPicture old.shown → IsSessionScreen old → new.id ≡ old.id → new.shown ≡ old.next → new.queue.items ≡ old.queue.items ++ bytes → Paints old.next bytes → (old.shown ≡ old.next → ⊥) → IsRepaint old new
-paint_repaint old new bytes p s i e a h other = record {
+-- a paint of what changes draws what comes next over what is shown
+pub paint_repaint : (old new : Screen) (bytes : List ℕ) → new.id ≡ old.id → new.shown ≡ old.next → new.queue.items ≡ old.queue.items ++ bytes → Repaints old.shown old.next bytes → IsRepaint old new
+paint_repaint old new bytes i e a h = record {
   id = i;
   bytes = bytes;
   appended = a;
   draws =
       subst (λ (z : Picture). Draws (IsFaithful (cells_of z)) bytes (shown old.shown) (shown z)) (sym e)
-      (h.draws (shown old.shown) (shown_screen old.shown p) (sym s.rows) (sym s.cols));
-  quiet = λ same. absurd (other (same ∙ e));
+      (Draws-faithful old.shown old.next bytes (shown old.shown) (shown old.next) h.draws);
+  quiet = λ same. h.quiet (same ∙ e);
   bound = subst (λ (z : Picture). length bytes ≤ bound_of z.rows z.cols) (sym e) h.bounded;
 }
 

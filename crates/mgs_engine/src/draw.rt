@@ -8,41 +8,11 @@ ghost use Rattle.mgs_paint.specs.Painting.{Paints};
 
 use crate::screen::Screen;
 use mgs_core::{Core, Size};
-use mgs_grid::{Grid, Line};
 use mgs_marks::Marked;
 use mgs_model::{SessionId, Short, Touched};
-use mgs_paint::first;
+use mgs_paint::{first, paint};
 use std::alloc::Global;
 use std::mem::swap;
-
-fn is_same_line(a: &Line, b: &Line) -> bool
-    ensures { IsTrue result ↔ a.now ≡ b.now }
-{
-    a.is_reversed() == b.is_reversed() && a.text() == b.text()
-}
-
-fn are_same_lines(a: &[Line], b: &[Line]) -> bool
-    ensures { IsTrue result ↔ a.now ≡ b.now }
-{
-    if a.len() != b.len() {
-        return false;
-    }
-    for (i, line) in a.iter().enumerate() {
-        if !is_same_line(line, &b[i]) {
-            return false;
-        }
-    }
-    true
-}
-
-fn shows_same(a: &Grid, b: &Grid) -> bool
-    ensures { IsTrue result ↔ a.now ≡ b.now }
-{
-    a.rows() == b.rows()
-        && a.cols() == b.cols()
-        && a.cursor() == b.cursor()
-        && are_same_lines(a.lines(), b.lines())
-}
 
 // Draws what the terminal is to show next.
 fn draw_next<T: Marked + Drop>(core: &Core<T>, screen: &mut Screen)
@@ -53,24 +23,22 @@ fn draw_next<T: Marked + Drop>(core: &Core<T>, screen: &mut Screen)
     core.draw(screen.id, &mut screen.next);
 }
 
-// Paints what was drawn, whatever the terminal shows.
-fn paint(screen: &mut Screen)
+// Paints the whole of what was drawn, whatever the terminal shows.
+fn paint_whole(screen: &mut Screen)
     requires screen { IsSessionScreen screen.old }
     requires taken { IsTaken (queue_of screen.old) }
     ensures screen { IsSessionScreen screen.new }
     ensures size { shown_size screen.new ≡ shown_size screen.old }
     ensures shown { screen.new.shown ≡ screen.old.next }
-    ensures repaint { (screen.old.shown ≡ screen.old.next → ⊥) → IsRepaint screen.old screen.new }
     ensures first { IsFirst screen.new }
 {
-    // Reads each grid once: its rows and columns are those of a picture.
+    // Reads the grid once: its rows and columns are those of a picture.
     let _rows = screen.next.rows();
-    let _shown_rows = screen.shown.rows();
     first(&screen.next, &mut screen.queue);
     swap(&mut screen.shown, &mut screen.next);
 }
 
-// Paints what was drawn where it is not what the terminal shows.
+// Paints what was drawn where it differs from what the terminal shows.
 fn paint_changed(screen: &mut Screen)
     requires screen { IsSessionScreen screen.old }
     requires taken { IsTaken (queue_of screen.old) }
@@ -79,9 +47,10 @@ fn paint_changed(screen: &mut Screen)
     ensures shown { screen.new.shown ≡ screen.old.next }
     ensures repaint { IsRepaint screen.old screen.new }
 {
-    if !shows_same(&screen.shown, &screen.next) {
-        paint(screen);
-    }
+    // Reads the grid once: its rows and columns are those of a picture.
+    let _rows = screen.next.rows();
+    paint(&screen.shown, &screen.next, &mut screen.queue);
+    swap(&mut screen.shown, &mut screen.next);
 }
 
 /// Draws the screen of a session for the first time: the bytes that wait then paint the whole of it, whatever the
@@ -98,7 +67,7 @@ pub(crate) fn draw_first<T: Marked + Drop>(core: &Core<T>, screen: &mut Screen)
     ensures first { IsFirst screen.new }
 {
     draw_next(core, screen);
-    paint(screen);
+    paint_whole(screen);
 }
 
 // The screen of a session, drawn for the first time.

@@ -4,15 +4,15 @@ use Rattle.mgs_engine.specs.Screens.{shown_size}
 use Rattle.mgs_engine.proofs.Repaints.{ahead_screen, ahead_drawn}
 use Rattle.mgs_engine.proofs.draw.draw_first.Goals as goal
 
-pub paint-requires : goal.paint-requires
-paint-requires g c = record {
+pub paint_whole-requires : goal.paint_whole-requires
+paint_whole-requires g c = record {
   screen = ahead_screen c.args.core.now c.args.screen.now c.draw_next.new.screen c.requires.known c.draw_next.ensures c.requires.screen;
   taken = ap (λ (x : Screen). x.queue.items) c.draw_next.ensures.same ∙ c.requires.taken;
 }
 
 pub returns-clause-size : goal.returns-clause-size
-returns-clause-size g c = c.paint.ensures.size ∙ ap shown_size c.draw_next.ensures.same
+returns-clause-size g c = c.paint_whole.ensures.size ∙ ap shown_size c.draw_next.ensures.same
 
 pub returns-clause-drawn : goal.returns-clause-drawn
 returns-clause-drawn g c =
-    ahead_drawn c.args.core.now c.args.screen.now c.draw_next.new.screen c.paint.new.screen c.draw_next.ensures c.paint.ensures.size c.paint.ensures.shown
+    ahead_drawn c.args.core.now c.args.screen.now c.draw_next.new.screen c.paint_whole.new.screen c.draw_next.ensures c.paint_whole.ensures.size c.paint_whole.ensures.shown

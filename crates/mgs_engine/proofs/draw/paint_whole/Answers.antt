@@ -1,15 +1,10 @@
-use Rattle.std.proofs.Common.{refl}
 use Rattle.mgs_engine.specs.declared.screen.Screen.{Screen}
 use Rattle.mgs_engine.proofs.ScreenLemmas.{paint_room}
-use Rattle.mgs_engine.proofs.Repaints.{paint_repaint, paint_first}
-use Rattle.mgs_engine.proofs.draw.paint.Goals as goal
+use Rattle.mgs_engine.proofs.Repaints.{paint_first}
+use Rattle.mgs_engine.proofs.draw.paint_whole.Goals as goal
 
 pub first-requires : goal.first-requires
 first-requires c = record { room = paint_room c.args.screen.now c.rows-rows.ensures.picture c.requires.screen c.requires.taken }
-
-pub returns-clause-repaint : goal.returns-clause-repaint
-returns-clause-repaint c = λ other.
-    paint_repaint c.args.screen.now _ c.first.ensures.paints.0 c.rows-shown_rows.ensures.picture c.requires.screen refl c.swap.ensures.x_after c.first.ensures.paints.1 c.first.ensures.paints.2 other
 
 pub returns-clause-first : goal.returns-clause-first
 returns-clause-first c =
