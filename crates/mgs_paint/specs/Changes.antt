@@ -54,13 +54,13 @@ way from to = if from.0 == to.0 && from.1 == to.1 then [] else Goto to.0 to.1 �
 
 -- WHAT CHANGES
 
--- characters of a plain row; where they end in its last blanks, an erase stands for those if it is shorter
+-- the characters of a plain row from a column to another; an erase stands for the blanks at its end where that is shorter
 abbrev pub plain_piece : List ℕ → ℕ → ℕ → List Operation
 plain_piece text start end =
     let ink = max (ink_end text) start in
     if nat_lt (ink + 3) end then map Print (slice_range text start ink) ++ Erase ∷ [] else map Print (slice_range text start end)
 
--- characters of a row, with reverse on around those of a reversed one
+-- the characters of a row from a column to another, with reverse on around those of a reversed one
 abbrev pub piece : Row → ℕ → ℕ → List Operation
 piece r start end = if r.reversed then Reverse ∷ (map Print (slice_range r.text start end) ++ Plain ∷ []) else plain_piece r.text start end
 

@@ -10,6 +10,7 @@ ghost use Rattle.mgs_paint.specs.Changes.{change_start, change_end, ink_end, sta
 use crate::put::{put_erase, put_goto, put_reverse, put_text};
 use mgs_grid::{Grid, Line};
 
+// The first place at which two texts differ, or their length.
 fn change_start(old: &[char], new: &[char]) -> usize
     requires { length old.now ≡ length new.now }
     ensures { result ≡ change_start old.now new.now }
@@ -22,6 +23,7 @@ fn change_start(old: &[char], new: &[char]) -> usize
     new.len()
 }
 
+// The place after the last at which they differ, or 0.
 fn change_end(old: &[char], new: &[char]) -> usize
     requires { length old.now ≡ length new.now }
     ensures value { result ≡ change_end old.now new.now }
@@ -34,6 +36,7 @@ fn change_end(old: &[char], new: &[char]) -> usize
     end
 }
 
+// The place after the last character that is no blank, or 0.
 fn ink_end(text: &[char]) -> usize
     ensures value { result ≡ ink_end text.now }
     ensures within { result ≤ length text.now }
@@ -45,7 +48,7 @@ fn ink_end(text: &[char]) -> usize
     end
 }
 
-// The columns of a row that change, from the first to the one after the last: 0 and 0 where it stays the same.
+// The first column of a row that changes: all of them do where its reverse does.
 fn start_column(old: &Line, new: &Line) -> usize
     requires { length old.now.text ≡ length new.now.text }
     ensures { result ≡ start_column old.now new.now }
@@ -57,6 +60,7 @@ fn start_column(old: &Line, new: &Line) -> usize
     }
 }
 
+// The column after the last that changes: 0 where the row stays the same.
 fn end_column(old: &Line, new: &Line) -> usize
     requires { length old.now.text ≡ length new.now.text }
     ensures value { result ≡ end_column old.now new.now }
@@ -83,8 +87,8 @@ fn put_way(out: &mut Vec<u8>, from: (usize, usize), to: (usize, usize))
     }
 }
 
-// New characters of a plain row, and where they leave the cursor. An erase stands for the blanks at the row's end where
-// that is shorter.
+// What changes in a plain row, from the cursor's column on, and where that leaves the cursor. An erase stands for the
+// blanks at the row's end where it is shorter.
 fn put_plain(
     out: &mut Vec<u8>,
     row: usize,
@@ -113,7 +117,7 @@ fn put_plain(
     }
 }
 
-// New characters of a row, and where they leave the cursor.
+// What changes in a row, from the cursor's column on, and where that leaves the cursor.
 fn put_piece(out: &mut Vec<u8>, row: usize, new: &Line, start: usize, end: usize) -> (usize, usize)
     requires order { start < end }
     requires within { end ≤ length new.now.text }
