@@ -12,7 +12,7 @@ use slab::Slab;
 use std::alloc::Global;
 use std::marker::Model;
 
-/// A text as a vector of its characters, and its marks. An edit copies the text and looks at each mark.
+/// A text as a vector of its characters, and its marks. An edit moves the characters after it and looks at each mark.
 #[derive(Drop)]
 pub struct PlainMarked {
     text: PlainText,

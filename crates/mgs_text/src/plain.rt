@@ -1,5 +1,5 @@
 // A text as a vector of its characters.
-ghost use Rattle.std.specs.Prelude.{◌≡◌, ℕ, ◌≤◌, [], length, IfOk};
+ghost use Rattle.std.specs.Prelude.{◌≡◌, ℕ, ◌≤◌, [], length, IfOk, OnOk, OnErr};
 ghost use Rattle.mgs_model.specs.Text.{edited};
 
 use crate::Text;
@@ -7,7 +7,7 @@ use mgs_model::Short;
 use std::alloc::Global;
 use std::marker::Model;
 
-/// A text as a vector of its characters. An edit copies it.
+/// A text as a vector of its characters. An edit moves those that stand after it, and no others.
 #[derive(Drop)]
 pub struct PlainText {
     chars: Vec<char>,
@@ -28,22 +28,17 @@ fn copied(alloc: Global, chars: &[char]) -> Result<Vec<char>, Short>
     Vec::from_slice(alloc, chars).map_err(|_| Short)
 }
 
-fn spliced(
-    alloc: Global,
-    chars: &[char],
-    a: usize,
-    b: usize,
-    put: &[char],
-) -> Result<Vec<char>, Short>
+// Puts characters in place of those from `a` up to `b`.
+fn splice(chars: &mut Vec<char>, a: usize, b: usize, put: &[char]) -> Result<(), Short>
     requires order { a ≤ b }
-    requires within { b ≤ length chars.now }
-    ensures { IfOk result (λ v. v.items ≡ edited a b put.now chars.now) }
+    requires within { b ≤ length chars.old.items }
+    ensures ok { OnOk result (chars.new.items ≡ edited a b put.now chars.old.items) }
+    ensures err { OnErr result (chars.new.items ≡ chars.old.items) }
 {
-    let mut next = Vec::new(alloc);
-    next.extend_from_slice(&chars[..a]).map_err(|_| Short)?;
-    next.extend_from_slice(put).map_err(|_| Short)?;
-    next.extend_from_slice(&chars[b..]).map_err(|_| Short)?;
-    Ok(next)
+    match chars.splice(a..b, put.iter().copied()) {
+        Ok(_) => Ok(()),
+        Err(_) => Err(Short),
+    }
 }
 
 impl Text for PlainText {
@@ -69,8 +64,6 @@ impl Text for PlainText {
     }
 
     fn replace(&mut self, a: usize, b: usize, put: &[char]) -> Result<(), Short> {
-        let next = spliced(self.alloc, &self.chars, a, b, put)?;
-        self.chars = next;
-        Ok(())
+        splice(&mut self.chars, a, b, put)
     }
 }
