@@ -1,4 +1,7 @@
 pub mod Blocks
+pub mod FeedEdits
+pub mod FeedLines
+pub mod FeedLists
 pub mod Marks
 pub mod Ranges
 pub mod Row

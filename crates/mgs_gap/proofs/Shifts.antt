@@ -4,7 +4,6 @@ use Rattle.std.proofs.lemmas.Bool.Decides.{nat_tests}
 use Rattle.std.specs.Option.{option_map}
 use Rattle.mgs_model.specs.Text.{shift, shift_all}
 use Rattle.mgs_marks.specs.Marks.{position_in}
-use Rattle.mgs_gap.specs.Gapped.{Gapped, gapped}
 use Rattle.mgs_gap.proofs.Marks.{map_map, map_same, position_map}
 use Rattle.mgs_gap.specs.RawPlaces.{text_place, raw_place, IsRaw, moved, marks_at}
 
@@ -20,6 +19,9 @@ insertion_text n g k p h e = grind (arith, nat_tests)
 
 pub insertion_raw : (n g k p : ℕ) → k ≤ g → IsRaw n g p → IsRaw (n + k) (g - k) p
 insertion_raw n g k p h e = grind (arith, nat_tests)
+
+pub insertion_within : (n g k len p : ℕ) → k ≤ g → n ≤ len → text_place n g p ≤ len → text_place (n + k) (g - k) p ≤ len + k
+insertion_within n g k len p h within e = grind (arith, nat_tests)
 
 pub shift_bound : (a b n len m : ℕ) → a ≤ b → b ≤ len → m ≤ len → shift a b n m ≤ len - (b - a) + n
 shift_bound a b n len m h k l = grind (arith, nat_tests)
@@ -43,26 +45,17 @@ module _ (n g a b k m h len : ℕ) (xs : List (Option ℕ)) (order : a ≤ b) (f
   moved_within = position_map (λ p. text_place m h p ≤ len - (b - a) + k) (moved n g a b k m h) xs (grind (arith, nat_tests))
       (λ i. rw (text_of_raw m h (shift a b k (text_place n g (position_in xs i)))) (shift_bound a b k len (text_place n g (position_in xs i)) order fits (within i)))
 
--- an edit of the block
-module _ (now r t d e : Gapped) (a b : ℕ) (put : List ℕ)
-    (same : r.front ++ r.back ≡ now.front ++ now.back)
-    (to : t ≡ gapped (take a (r.front ++ r.back)) r.gap (drop a (r.front ++ r.back)))
-    (del : d ≡ gapped t.front (t.gap + (b - a)) (drop (b - a) t.back))
-    (ins : e ≡ gapped (d.front ++ put) (d.gap - length put) d.back) where
-  abbrev whole : List ℕ
-  whole = now.front ++ now.back
+-- how long a text in two parts is after an edit
+module _ (whole front back put : List ℕ) (a b : ℕ) (before : front ≡ take a whole ++ put) where
+  pub edited_front_length : a ≤ length whole → length front ≡ a + length put
+  edited_front_length fits = ap length before ∙ omega (arith, length-append (take a whole) put, length-take a whole)
 
-  pub edit_shows : e ≡ gapped (take a whole ++ put) (r.gap + (b - a) - length put) (drop (b - a) (drop a whole))
-  edit_shows = ins ∙ ap (λ (v : Gapped). gapped (v.front ++ put) (v.gap - length put) v.back) del
-      ∙ ap (λ (v : Gapped). gapped (v.front ++ put) (v.gap + (b - a) - length put) (drop (b - a) v.back)) to
-      ∙ ap (λ l. gapped (take a l ++ put) (r.gap + (b - a) - length put) (drop (b - a) (drop a l))) same
+  pub edited_length : back ≡ drop b whole → a ≤ b → b ≤ length whole → length (front ++ back) ≡ length whole - (b - a) + length put
+  edited_length after order fits = omega (arith, length-append front back, edited_front_length (omega (arith, order, fits)), ap length after, length-drop b whole)
 
-  pub edit_length : a ≤ b → b ≤ length whole → length (e.front ++ e.back) ≡ length whole - (b - a) + length put
-  edit_length order fits = ap (λ (v : Gapped). length (v.front ++ v.back)) edit_shows
-      ∙ omega (arith, length-append (take a whole ++ put) (drop (b - a) (drop a whole)), length-append (take a whole) put, length-take a whole, length-drop (b - a) (drop a whole), length-drop a whole)
-
-  pub edit_front : a ≤ length whole → length e.front ≡ a + length put
-  edit_front fits = ap (λ (v : Gapped). length v.front) edit_shows ∙ omega (arith, length-append (take a whole) put, length-take a whole)
-
-  pub edit_gap : e.gap ≡ r.gap + (b - a) - length put
-  edit_gap = ap (λ (v : Gapped). v.gap) edit_shows
+-- an insertion of k characters at the gap: how wide the front and the gap are then
+pub at_gap : (m h n g k a b start width : ℕ) → m ≡ a + k → (k ≤ g → h ≡ g + (b - a) - k) → start ≡ n → width ≡ g → (a ≡ b) × (a ≡ start) × (k ≤ width) → (m ≡ n + k) × (h ≡ g - k) × (k ≤ g) × (a ≡ n) × (a ≡ b)
+at_gap m h n g k a b start width em eh es ew fits =
+    let room : k ≤ g = omega (arith, fits.2, ew) in
+    let at : a ≡ n = fits.1 ∙ es in
+    (omega (arith, em, at), omega (arith, eh room, fits.0), room, at, fits.0)

@@ -1,4 +1,5 @@
 pub mod Blocks
+pub mod Feeds
 pub mod Gapped
 pub mod Ownership
 pub mod Places

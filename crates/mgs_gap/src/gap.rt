@@ -2,10 +2,13 @@
 ghost use Rattle.std.specs.Prelude.{◌≡◌, ◌≢◌, ℕ, ◌+◌, ◌-◌, ◌<◌, ◌≤◌, ◌^◌, ◌++◌, ◌∷◌, [], List, Option, Some, None, length, map, take, drop, slice_set, slice_index, slice_range, IsSome, OnOk, OnErr, IfOk};
 ghost use Rattle.mgs_model.specs.Text.{edited, shift, shift_all};
 ghost use Rattle.mgs_marks.specs.Marks.{mark_in, position_in, or_zero};
+ghost use Rattle.mgs_gap.specs.Feeds.{AreFeeds};
 ghost use Rattle.mgs_gap.specs.Gapped.{Gapped, gapped, text_of};
 ghost use Rattle.mgs_gap.specs.RawPlaces.{text_place, raw_place, IsRaw, marks_at};
 
 use crate::block::Block;
+use crate::feeds::Feeds;
+use crate::lined::edit_lined;
 use crate::places::{Edit, Gap, free_slot, leaves_marks, move_places, to_raw, to_text};
 use mgs_marks::Marked;
 use mgs_model::{MarkId, Short};
@@ -17,8 +20,10 @@ use std::alloc::Global;
 #[derive(Drop)]
 pub struct GapText {
     block: Block,
+    feeds: Feeds,
     places: Vec<Option<usize>>,
     alloc: Global,
+    ghost lines: { AreFeeds feeds.before.items feeds.after.items block.front block.back },
     ghost raw: { (i : ℕ) → IsRaw (length block.front) block.gap (position_in places.items i) },
     ghost within: { (i : ℕ) → text_place (length block.front) block.gap (position_in places.items i) ≤ length (text_of block) },
 }
@@ -68,9 +73,11 @@ impl Text for GapText {
     ghost marks = { λ t. marks_at (length t.block.front) t.block.gap t.places.items };
 
     fn of(alloc: Global, chars: &[char]) -> Result<Self, Short> {
+        let feeds = Feeds::of(alloc, chars)?;
         let block = Block::of(alloc, chars, chars.len() / 2)?;
         Ok(GapText {
             block,
+            feeds,
             places: Vec::new(alloc),
             alloc,
         })
@@ -97,10 +104,7 @@ impl Text for GapText {
         };
         // The block's size bounds every place in it, before the edit and after it.
         let _before = self.block.after();
-        self.block.reserve(self.alloc, put.len())?;
-        self.block.gap_to(a);
-        self.block.delete(b - a);
-        self.block.insert(put);
+        edit_lined(&mut self.block, &mut self.feeds, self.alloc, a, b, put)?;
         let _after = self.block.after();
         if leaves_marks(edit, old) {
             return Ok(());
@@ -111,6 +115,20 @@ impl Text for GapText {
         };
         move_places(&mut self.places, old, edit, new);
         Ok(())
+    }
+
+    fn line_of(&self, p: usize) -> usize {
+        // The block's size bounds every place in it.
+        let _size = self.block.after();
+        self.feeds.line_of(self.block.front(), self.block.back(), p)
+    }
+
+    #[tactic(auto, using(crate::proofs::FeedLists::start_of_within))]
+    fn start_of(&self, line: usize) -> usize {
+        // The block's size bounds every place in it.
+        let _size = self.block.after();
+        self.feeds
+            .start_of(self.block.front(), self.block.back(), line)
     }
 }
 

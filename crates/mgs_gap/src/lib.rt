@@ -3,7 +3,9 @@
 
 mod block;
 mod cells;
+mod feeds;
 mod gap;
+mod lined;
 mod moves;
 mod places;
 

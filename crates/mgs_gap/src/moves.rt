@@ -59,10 +59,12 @@ impl Block {
         }
     }
 
-    // Makes the gap at least `n` places wide: where it grows, by half the text at least. `Short`: memory was refused,
-    // and all is as it was.
+    // Makes the gap at least `n` places wide, where it lies: where it grows, by half the text at least. `Short`: memory
+    // was refused, and all is as it was.
     pub(crate) fn reserve(&mut self, alloc: Global, n: usize) -> Result<(), Short>
         ensures text { text_of self.new ≡ text_of self.old }
+        ensures front { self.new.front ≡ self.old.front }
+        ensures back { self.new.back ≡ self.old.back }
         ensures kept { n ≤ self.old.gap → self.new ≡ self.old }
         ensures wide { OnOk result (n ≤ self.new.gap) }
         ensures err { OnErr result (self.new ≡ self.old) }
@@ -75,6 +77,7 @@ impl Block {
         let mut next = Block::with_gap(alloc, size)?;
         next.insert(self.front());
         next.insert(self.back());
+        next.gap_to(self.before());
         *self = next;
         Ok(())
     }

@@ -10,6 +10,7 @@ invariant_of-self c =
     let now = c.args.self.now in let n = length now.block.front in let g = now.block.gap in
     let r : c.to_raw-place.result ≡ raw_place n g c.args.p = c.to_raw-place.ensures ∙ ap₂ (λ x y. raw_place x y c.args.p) c.gap.ensures.start c.gap.ensures.width in
     record {
+      lines = now.lines;
       raw = position_set (IsRaw n g) now.places.items c.slot.result c.to_raw-place.result (rw r (is_raw n g c.args.p)) now.raw;
       within = position_set (λ p. text_place n g p ≤ length (now.block.front ++ now.block.back)) now.places.items c.slot.result c.to_raw-place.result (rw (r, text_of_raw n g c.args.p) c.requires.within) now.within;
     }
