@@ -67,7 +67,7 @@ fn forget(feeds: &mut Vec<usize>, chars: &[char])
     feeds.truncate(left);
 }
 
-// How many of the numbers are below the limit, where no other stands before one of them.
+// How many of the numbers are below the limit, where those stand before all others.
 fn below(feeds: &[usize], limit: usize) -> usize
     ensures { (n : ℕ) → Parts limit feeds.now n → result ≡ n }
 {

@@ -16,7 +16,8 @@ use mgs_text::Text;
 use std::alloc::Global;
 
 /// A text with marks in one block of memory with a gap. An edit at the gap moves no other character, and an insertion
-/// there that the gap has room for moves no mark.
+/// there that the gap has room for moves no mark. It knows where its line feeds stand: the line of a position is found
+/// by a binary search among them, and the start of a line is read off.
 #[derive(Drop)]
 pub struct GapText {
     block: Block,

@@ -49,7 +49,8 @@ pub trait Text {
         ensures err_text { OnErr result (text self.new ≡ text self.old) }
         ensures err_marks { OnErr result (marks self.new ≡ marks self.old) };
 
-    /// The number of the line of a position, from 0.
+    /// The number of the line of a position, from 0. This body walks up to there; a text that knows its line feeds has
+    /// a faster one.
     fn line_of(&self, p: usize) -> usize
         requires { p ≤ length (text self.now) }
         ensures { result ≡ line_of (text self.now) p }
@@ -63,7 +64,7 @@ pub trait Text {
         line
     }
 
-    /// Where the line of a number starts: the text's end where there is none.
+    /// Where the line of a number starts: the text's end where there is none. This body walks up to there.
     fn start_of(&self, line: usize) -> usize
         ensures value { result ≡ start_of line (text self.now) }
         ensures within { result ≤ length (text self.now) }
