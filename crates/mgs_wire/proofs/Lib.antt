@@ -1,0 +1,5 @@
+pub mod Appending
+pub mod Feeds
+pub mod Typing
+pub mod Utf8
+pub mod Words

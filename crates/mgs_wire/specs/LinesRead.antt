@@ -1,0 +1,12 @@
+-- What reading a login line comes to.
+use Rattle.std.specs.Prelude.{◌≡◌, ℕ, ◌<◌, ◌≤◌, List, length, None, Some}
+use Rattle.mgs_wire.specs.declared.limits.TheConstants.{LOGIN_LIMIT}
+use Rattle.mgs_wire.specs.declared.conn.LineRead.{LineRead}
+use Rattle.mgs_wire.specs.declared.conn.LineRead.TheVariants.{Part, Whole, TooLong}
+use Rattle.mgs_wire.specs.Login.{line_in, after_line}
+
+-- of all bytes so far, and the line that is kept
+abbrev pub GivesLine : LineRead → List ℕ → List ℕ → Type 0
+GivesLine Part bytes line = (line_in bytes ≡ line) × (length line ≤ LOGIN_LIMIT) × (after_line bytes ≡ None) × (after_line line ≡ None)
+GivesLine (Whole rest) bytes line = (line_in bytes ≡ line) × (length line ≤ LOGIN_LIMIT) × (after_line bytes ≡ Some rest.now)
+GivesLine TooLong bytes line = LOGIN_LIMIT < length (line_in bytes)

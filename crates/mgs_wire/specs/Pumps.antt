@@ -1,0 +1,38 @@
+-- PUMPS: what one read of a connection, and one writing to it, do.
+use Rattle.std.specs.Prelude.{◌≡◌, ℕ, ◌<◌, ◌≤◌, Bool, List, [], take, length, Option}
+use Rattle.std.specs.Io.KnownBytes.{Appends, Consumes, IsAtEnd, Keeps}
+use Rattle.mgs_wire.specs.declared.limits.TheConstants.{READ_LIMIT}
+use Rattle.mgs_wire.specs.declared.pump.PumpedIn.{PumpedIn}
+use Rattle.mgs_wire.specs.declared.pump.PumpedIn.TheVariants.{Took, Idle, Finished, Failed}
+use Rattle.mgs_wire.specs.declared.pump.PumpedOut.{PumpedOut}
+use Rattle.mgs_wire.specs.declared.pump.PumpedOut.TheVariants as out
+use Rattle.mgs_wire.specs.Calls.{Call}
+use Rattle.mgs_wire.specs.Connections.{Connection, Receives, Ends, Breaks, Writes}
+
+-- one read of a connection that is read: what the reader has left goes from `left` to `rest`, the connection from `conn` to
+-- `next`, and the server from `old` to `new`
+abbrev pub Reads : {E : Type 0} → (E → Call → E → Type 0) → (ℕ → E → Bool) → List (List ℕ × List ℕ) → PumpedIn → Option (List ℕ) → Option (List ℕ) → Connection → E → Connection → E → Type 0
+Reads does live tickets (Took n) left rest conn old next new =
+    (bytes : List ℕ) × Consumes left rest bytes × (length bytes ≡ n) × (1 ≤ n) × (n ≤ READ_LIMIT) × Receives does live tickets bytes conn old next new
+Reads does live tickets Idle left rest conn old next new = Keeps left rest × (next ≡ conn) × (new ≡ old)
+Reads does live tickets Finished left rest conn old next new = Consumes left rest [] × IsAtEnd rest × Ends does conn old next new
+Reads does live tickets Failed left rest conn old next new = Keeps left rest × Breaks does conn old next new
+
+-- how many of so many bytes were written at each answer
+abbrev pub IsCount : PumpedOut → ℕ → ℕ → Type 0
+IsCount out.Drained n all = n ≡ all
+IsCount out.Blocked n all = n < all
+IsCount out.Failed n all = n < all
+
+-- what becomes of a connection of which n bytes were written; where writing failed it is over
+abbrev pub Leaves : {E : Type 0} → (E → Call → E → Type 0) → PumpedOut → ℕ → Connection → E → Connection → E → Type 0
+Leaves does out.Drained n conn old next new = Writes does n conn old next new
+Leaves does out.Blocked n conn old next new = Writes does n conn old next new
+Leaves {E = E} does out.Failed n conn old next new = (written : Connection) × (mid : E) × Writes does n conn old written mid × Breaks does written mid next new
+
+-- a first part of the bytes that wait is written: what the writer holds goes from `held` to `holds`
+pub record WritesFirst {E : Type 0} (does : E → Call → E → Type 0) (outcome : PumpedOut) (bytes : List ℕ) (held holds : Option (List ℕ)) (conn : Connection) (old : E) (next : Connection) (new : E) : Type 0 where
+  pub count : ℕ
+  pub counted : IsCount outcome count (length bytes)
+  pub written : Appends held holds (take count bytes)
+  pub leaves : Leaves does outcome count conn old next new

@@ -1,0 +1,295 @@
+// A connection.
+ghost use Rattle.std.specs.Prelude.{◌≡◌, ◌++◌, drop, ◌+◌, ◌≤◌, ◌≢◌, length, vec_len, vec_capacity, IfOk, [], Bool, IsTrue, true};
+ghost use Rattle.std.specs.Option.{option_map};
+ghost use Rattle.mgs_wire.specs.Login.{admission, line_in, after_line};
+ghost use Rattle.mgs_wire.specs.Calls.{Typed};
+ghost use Rattle.mgs_wire.specs.Connections.{Connection, Logging_in, refused, Enters, Logs_in, Receives, is_reading, session_of, stopped, Ends, Breaks, waiting, Writes};
+ghost use Rattle.mgs_wire.specs.Stages.{connection, IsLoginLine, IsStage, LogsIn};
+ghost use Rattle.mgs_wire.specs.LinesRead.{GivesLine};
+
+use crate::limits::LOGIN_LIMIT;
+use crate::login::admission;
+use crate::refusal::Refusal;
+use crate::sessions::Sessions;
+use mgs_keys::cut_at;
+use mgs_model::{SessionId, Short, Tickets};
+use std::alloc::Global;
+use std::marker::Model;
+
+// How far a connection is.
+#[derive(Clone, Copy)]
+pub(crate) enum Stage {
+    // Its login line is read.
+    Login,
+    // Its bytes are a session's.
+    Session(SessionId),
+    // Its login was refused, and the line that tells of it is written.
+    Refused,
+    // Nothing more is read or written. The session is the one that it had.
+    Over(Option<SessionId>),
+}
+
+/// A connection: its login line, then its session.
+#[derive(Drop)]
+pub struct Conn {
+    // The login line as far as it was read, or what is still to be written of the line of a refusal.
+    line: Vec<u8>,
+    stage: Stage,
+}
+
+impl Model for Conn {
+    ghost use Rattle.std.specs.Prelude.{◌≤◌, vec_capacity};
+    ghost use Rattle.mgs_wire.specs.Connections.{Connection};
+
+    ghost Value = { Connection };
+
+    ghost use Rattle.mgs_wire.specs.declared.limits.TheConstants.{LOGIN_LIMIT};
+    ghost use Rattle.mgs_wire.specs.Stages.{connection, IsStage};
+
+    ghost view = { λ c. connection c.stage c.line.items };
+
+    ghost invariant = { λ c. (LOGIN_LIMIT ≤ vec_capacity c.line) × IsStage c.stage c.line.items };
+}
+
+// Puts bytes after those of a line that has the room for them.
+fn append(line: &mut Vec<u8>, bytes: &[u8])
+    requires { length line.old.items + length bytes.now ≤ vec_capacity line.old }
+    ensures items { line.new.items ≡ line.old.items ++ bytes.now }
+    ensures room { vec_capacity line.old ≤ vec_capacity line.new }
+{
+    let _ = line.extend_from_slice(bytes);
+}
+
+// The line that tells of a refusal, in place of what was there.
+fn refuse(line: &mut Vec<u8>, refusal: Refusal) -> Stage
+    requires { LOGIN_LIMIT ≤ vec_capacity line.old }
+    ensures stage { connection result line.new.items ≡ refused refusal }
+    ensures form { IsStage result line.new.items }
+    ensures room { LOGIN_LIMIT ≤ vec_capacity line.new }
+{
+    line.clear();
+    append(line, refusal.line());
+    Stage::Refused
+}
+
+// Takes bytes from the front of a line.
+fn drop_front(line: &mut Vec<u8>, n: usize)
+    requires { n ≤ length line.old.items }
+    ensures items { line.new.items ≡ drop n line.old.items }
+    ensures room { vec_capacity line.new ≡ vec_capacity line.old }
+{
+    let rest = line.len() - n;
+    line.rotate_left(n);
+    line.truncate(rest);
+}
+
+#[tactic(auto, using(crate::proofs::Typing::shut))]
+// Hands bytes to a session, one call each, while it is open.
+fn type_all<E: Sessions>(engine: &mut E, id: SessionId, bytes: &[u8])
+    ensures { Typed E.does E.live id bytes.now engine.old engine.new }
+{
+    for byte in bytes {
+        if !engine.is_open(id) {
+            return;
+        }
+        engine.byte(id, *byte);
+    }
+}
+
+// Opens the session of a login line, where that is to be done.
+fn log_in<E: Sessions>(engine: &mut E, tickets: &Tickets, line: &[u8]) -> Result<SessionId, Refusal>
+    ensures { LogsIn E.does (admission tickets.now line.now) result engine.old engine.new }
+{
+    let opening = admission(tickets, line)?;
+    match engine.open(opening.user, opening.rows, opening.cols) {
+        Ok(id) => Ok(id),
+        Err(fault) => Err(Refusal::of(fault)),
+    }
+}
+
+// What a login line came to.
+#[derive(Clone, Copy)]
+enum LineRead<'a> {
+    // It goes on.
+    Part,
+    // It is whole, and these bytes stand after its line feed.
+    Whole(&'a [u8]),
+    // It is too long.
+    TooLong,
+}
+
+// The bytes before the first line feed, and those after it, if there is one.
+#[tactic(auto, unfolding(crate::specs::Login::line_in, crate::specs::Login::after_line))]
+fn cut_line(bytes: &[u8]) -> (&[u8], Option<&[u8]>)
+    ensures line { result.0.now ≡ line_in bytes.now }
+    ensures rest { option_map (λ x. x.now) result.1 ≡ after_line bytes.now }
+{
+    cut_at(bytes, b'\n')
+}
+
+// Puts more bytes after those of a login line, up to its line feed.
+#[tactic(auto, using(crate::proofs::Feeds::line_parts))]
+fn read_line<'a>(line: &mut Vec<u8>, bytes: &'a [u8]) -> LineRead<'a>
+    requires line { IsLoginLine line.old.items }
+    requires room { LOGIN_LIMIT ≤ vec_capacity line.old }
+    ensures line { GivesLine result (line.old.items ++ bytes.now) line.new.items }
+    ensures room { LOGIN_LIMIT ≤ vec_capacity line.new }
+{
+    let (head, rest) = cut_line(bytes);
+    if head.len() > LOGIN_LIMIT - line.len() {
+        return LineRead::TooLong;
+    }
+    append(line, head);
+    match rest {
+        None => LineRead::Part,
+        Some(rest) => LineRead::Whole(rest),
+    }
+}
+
+// A login line is whole: its session, and the bytes after it.
+fn enter<E: Sessions>(line: &mut Vec<u8>, engine: &mut E, tickets: &Tickets, rest: &[u8]) -> Stage
+    requires { LOGIN_LIMIT ≤ vec_capacity line.old }
+    ensures enters { Enters E.does E.live (admission tickets.now line.old.items) rest.now engine.old (connection result line.new.items) engine.new }
+    ensures form { IsStage result line.new.items }
+    ensures room { LOGIN_LIMIT ≤ vec_capacity line.new }
+{
+    match log_in(engine, tickets, line) {
+        Ok(id) => {
+            type_all(engine, id, rest);
+            Stage::Session(id)
+        }
+        Err(refusal) => refuse(line, refusal),
+    }
+}
+
+// More bytes of a login line.
+fn log_in_by<E: Sessions>(
+    line: &mut Vec<u8>,
+    engine: &mut E,
+    tickets: &Tickets,
+    bytes: &[u8],
+) -> Stage
+    requires line { IsLoginLine line.old.items }
+    requires room { LOGIN_LIMIT ≤ vec_capacity line.old }
+    ensures logs_in { Logs_in E.does E.live tickets.now (line.old.items ++ bytes.now) engine.old (connection result line.new.items) engine.new }
+    ensures form { IsStage result line.new.items }
+    ensures room { LOGIN_LIMIT ≤ vec_capacity line.new }
+{
+    match read_line(line, bytes) {
+        LineRead::Part => Stage::Login,
+        LineRead::Whole(rest) => enter(line, engine, tickets, rest),
+        LineRead::TooLong => refuse(line, Refusal::Line),
+    }
+}
+
+impl Conn {
+    /// A connection of which nothing was read. It has the room for a login line and takes no memory later. `Short`: memory was
+    /// refused.
+    #[tactic(auto, unfolding(crate::specs::Login::after_line))]
+    pub fn new(alloc: Global) -> Result<Conn, Short>
+        ensures { IfOk result (λ c. c ≡ Logging_in []) }
+    {
+        match Vec::with_capacity(alloc, LOGIN_LIMIT) {
+            Ok(line) => Ok(Conn {
+                line,
+                stage: Stage::Login,
+            }),
+            Err(_) => Err(Short),
+        }
+    }
+
+    /// The session that the login opened, also after its end. None: no login has succeeded.
+    pub fn session(&self) -> Option<SessionId>
+        ensures { result ≡ session_of self.now }
+    {
+        match self.stage {
+            Stage::Login | Stage::Refused => None,
+            Stage::Session(id) => Some(id),
+            Stage::Over(session) => session,
+        }
+    }
+
+    // Whether anything is to be read.
+    pub(crate) fn is_reading<E: Sessions>(&self, engine: &E) -> bool
+        ensures { result ≡ is_reading E.live self.now engine.now }
+    {
+        match self.stage {
+            Stage::Login => true,
+            Stage::Session(id) => engine.is_open(id),
+            Stage::Refused | Stage::Over(_) => false,
+        }
+    }
+
+    // These bytes were read.
+    pub(crate) fn receive<E: Sessions>(&mut self, engine: &mut E, tickets: &Tickets, bytes: &[u8])
+        ensures { Receives E.does E.live tickets.now bytes.now self.old engine.old self.new engine.new }
+    {
+        match self.stage {
+            Stage::Login => self.stage = log_in_by(&mut self.line, engine, tickets, bytes),
+            Stage::Session(id) => type_all(engine, id, bytes),
+            Stage::Refused | Stage::Over(_) => {}
+        }
+    }
+
+    // Nothing more is read, since the session is not open.
+    pub(crate) fn stop(&mut self)
+        ensures { self.new ≡ stopped self.old }
+    {
+        match self.stage {
+            Stage::Login => self.stage = Stage::Over(None),
+            Stage::Session(id) => self.stage = Stage::Over(Some(id)),
+            Stage::Refused | Stage::Over(_) => {}
+        }
+    }
+
+    // The reader is at its end.
+    pub(crate) fn end<E: Sessions>(&mut self, engine: &mut E)
+        ensures { Ends E.does self.old engine.old self.new engine.new }
+    {
+        match self.stage {
+            Stage::Login => self.stage = refuse(&mut self.line, Refusal::Line),
+            Stage::Session(id) => {
+                engine.close(id);
+                self.stage = Stage::Over(Some(id));
+            }
+            Stage::Refused | Stage::Over(_) => {}
+        }
+    }
+
+    // Reading or writing failed.
+    pub(crate) fn break_off<E: Sessions>(&mut self, engine: &mut E)
+        ensures { Breaks E.does self.old engine.old self.new engine.new }
+    {
+        match self.stage {
+            Stage::Login | Stage::Refused => self.stage = Stage::Over(None),
+            Stage::Session(id) => {
+                engine.close(id);
+                self.stage = Stage::Over(Some(id));
+            }
+            Stage::Over(_) => {}
+        }
+    }
+
+    // The bytes that wait to be written.
+    pub(crate) fn waiting<'a, E: Sessions>(&'a self, engine: &'a E) -> &'a [u8]
+        ensures { result.now ≡ waiting E.pending self.now engine.now }
+    {
+        match self.stage {
+            Stage::Login | Stage::Over(_) => &[],
+            Stage::Session(id) => engine.pending(id),
+            Stage::Refused => &self.line,
+        }
+    }
+
+    // The first `n` of the bytes that waited were written.
+    pub(crate) fn wrote<E: Sessions>(&mut self, engine: &mut E, n: usize)
+        requires { n ≤ length (waiting E.pending self.old engine.old) }
+        ensures { Writes E.does n self.old engine.old self.new engine.new }
+    {
+        match self.stage {
+            Stage::Session(id) => engine.took(id, n),
+            Stage::Refused => drop_front(&mut self.line, n),
+            Stage::Login | Stage::Over(_) => {}
+        }
+    }
+}

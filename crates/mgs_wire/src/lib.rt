@@ -1,0 +1,19 @@
+//! Connections to a server: the login line that each begins with, then the bytes of a session, in both directions.
+//!
+//! [`pump_in`] reads once from a connection and hands what it read to the server; [`pump_out`] writes what waits for its
+//! terminal. Both go over any reader, any writer and any server with [`Sessions`].
+#![tactic(auto)]
+
+mod conn;
+mod limits;
+mod login;
+mod number;
+mod pump;
+mod refusal;
+mod sessions;
+
+pub use conn::Conn;
+pub use limits::{LOGIN_LIMIT, READ_LIMIT};
+pub use pump::{PumpedIn, PumpedOut, pump_in, pump_out};
+pub use refusal::Refusal;
+pub use sessions::Sessions;

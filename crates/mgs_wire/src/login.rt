@@ -1,0 +1,135 @@
+// Login lines.
+ghost use Rattle.std.specs.Prelude.{◌≡◌, ◌∷◌};
+ghost use Rattle.std.specs.Option.{option_map};
+ghost use Rattle.mgs_keys.specs.Words.{words_of, is_space, parts_after};
+ghost use Rattle.mgs_wire.specs.Login.{without_return, utf8_of, number_of, login_by, login_of, login_in, admission};
+ghost use Rattle.mgs_wire.specs.Parsed.{login_view, Admits};
+
+use crate::number::number;
+use crate::refusal::Refusal;
+use mgs_keys::cut_at;
+use mgs_model::Tickets;
+use std::str;
+
+// What a login line says. The texts are the line's own.
+#[derive(Clone, Copy)]
+struct Login<'a> {
+    name: &'a [u8],
+    ticket: &'a [u8],
+    rows: usize,
+    cols: usize,
+}
+
+// The session that a login opens.
+#[derive(Clone, Copy)]
+pub(crate) struct Opening<'a> {
+    pub(crate) user: &'a str,
+    pub(crate) rows: usize,
+    pub(crate) cols: usize,
+}
+
+fn without_return(line: &[u8]) -> &[u8]
+    ensures { result.now ≡ without_return line.now }
+{
+    if !line.is_empty() && line[line.len() - 1] == b'\r' {
+        &line[..line.len() - 1]
+    } else {
+        line
+    }
+}
+
+// The first word of a text, and the words after the space after it, if there is one.
+#[tactic(auto, using(mgs_keys::proofs::Cuts::parts_cut))]
+fn cut_word(text: &[u8]) -> (&[u8], Option<&[u8]>)
+    ensures { words_of text.now ≡ result.0.now ∷ parts_after is_space (option_map (λ x. x.now) result.1) }
+{
+    cut_at(text, b' ')
+}
+
+// A login of these words.
+#[tactic(auto, unfolding(crate::specs::Login::login_by))]
+fn login_by<'a>(
+    word: &[u8],
+    name: &'a [u8],
+    ticket: &'a [u8],
+    rows: &[u8],
+    cols: &[u8],
+) -> Option<Login<'a>>
+    ensures { option_map login_view result ≡ login_by word.now name.now ticket.now (number_of rows.now) (number_of cols.now) }
+{
+    if word != b"login".as_slice() || name.is_empty() || ticket.is_empty() {
+        return None;
+    }
+    let rows = number(rows)?;
+    let cols = number(cols)?;
+    Some(Login {
+        name,
+        ticket,
+        rows,
+        cols,
+    })
+}
+
+// What a login line says by its words.
+#[tactic(auto, using(crate::proofs::Words::six_words))]
+fn login_of_words(line: &[u8]) -> Option<Login<'_>>
+    ensures { option_map login_view result ≡ login_of (words_of line.now) }
+{
+    let (word, Some(rest)) = cut_word(line) else {
+        return None;
+    };
+    let (name, Some(rest)) = cut_word(rest) else {
+        return None;
+    };
+    let (ticket, Some(rest)) = cut_word(rest) else {
+        return None;
+    };
+    let (rows, Some(rest)) = cut_word(rest) else {
+        return None;
+    };
+    match cut_word(rest) {
+        (cols, None) => login_by(word, name, ticket, rows, cols),
+        (_, Some(_)) => None,
+    }
+}
+
+// What a line says, without its line feed.
+fn read_login(line: &[u8]) -> Option<Login<'_>>
+    ensures { option_map login_view result ≡ login_in line.now }
+{
+    login_of_words(without_return(line))
+}
+
+// The bytes as a text, where they are one.
+fn utf8(bytes: &[u8]) -> Option<&str>
+    ensures { option_map (λ x. x.now) result ≡ utf8_of bytes.now }
+{
+    match str::from_utf8(bytes) {
+        Ok(text) => Some(text),
+        Err(_) => None,
+    }
+}
+
+/// The session that a line opens. A line without its line feed is refused where it is no login line (`Line`), where no ticket
+/// has its name (`NoUser`), and where the ticket is another (`Ticket`).
+pub(crate) fn admission<'a>(tickets: &Tickets, line: &'a [u8]) -> Result<Opening<'a>, Refusal>
+    ensures { Admits result (admission tickets.now line.now) }
+{
+    let Some(login) = read_login(line) else {
+        return Err(Refusal::Line);
+    };
+    let Some(user) = utf8(login.name) else {
+        return Err(Refusal::NoUser);
+    };
+    let Some(ticket) = tickets.ticket(login.name) else {
+        return Err(Refusal::NoUser);
+    };
+    if ticket != login.ticket {
+        return Err(Refusal::Ticket);
+    }
+    Ok(Opening {
+        user,
+        rows: login.rows,
+        cols: login.cols,
+    })
+}

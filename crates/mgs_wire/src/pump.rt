@@ -1,0 +1,115 @@
+// Reads and writes connections.
+ghost use Rattle.std.specs.Prelude.{◌≡◌, ◌≤◌, ◌<◌, length, take, true, false};
+ghost use Rattle.std.specs.Io.KnownBytes.{Appends};
+ghost use Rattle.mgs_wire.specs.Connections.{is_reading, stopped, waiting};
+ghost use Rattle.mgs_wire.specs.Pumps.{Reads, IsCount, WritesFirst};
+
+use crate::conn::Conn;
+use crate::limits::READ_LIMIT;
+use crate::sessions::Sessions;
+use mgs_model::Tickets;
+use std::io::{ErrorKind, Read, Write};
+
+/// What a call of `pump_in` did.
+#[derive(Clone, Copy, Debug, PartialEq, Eq)]
+pub enum PumpedIn {
+    /// So many bytes were read, 1 to 4,096.
+    Took(usize),
+    /// Nothing is there to be read yet.
+    Idle,
+    /// Nothing more is read: the reader is at its end, the login was refused, or the session is over.
+    Finished,
+    /// Reading failed. The connection is over.
+    Failed,
+}
+
+/// What a call of `pump_out` did.
+#[derive(Clone, Copy, Debug, PartialEq, Eq)]
+pub enum PumpedOut {
+    /// All that waited was written.
+    Drained,
+    /// No more can be written yet.
+    Blocked,
+    /// Writing failed. The connection is over.
+    Failed,
+}
+
+/// Reads once from a connection, at most 4,096 bytes, and hands them on: a login line, then each byte to the session that it
+/// opened.
+///
+/// The login line is `login NAME TICKET ROWS COLS` and a line feed, its words parted by one space; a carriage return before the
+/// line feed is no part of it. NAME and TICKET are any bytes but spaces, at least one; ROWS and COLS are numbers of 1 to 3
+/// digits without leading zeros. A login is refused, in this order, as [`Refusal`](crate::Refusal) says; what was read behind
+/// a refused line is dropped, and its answer waits for `pump_out`. A 129th byte that is no line feed is refused at once, and so
+/// is an end of the reader within the line. Bytes behind the line of a login that succeeds are the session's first.
+///
+/// Answers: `Took` how many bytes were read; those after the end of the session are dropped. `Idle`: the reader would block,
+/// and nothing has changed. `Finished`: the reader is at its end, or the session was not open any more when the call came, or
+/// the connection had been refused or was over. `Failed`: any other error of the reader. At `Finished` and `Failed` the session
+/// is closed, and each later call reads nothing and answers `Finished`.
+pub fn pump_in<E: Sessions, R: Read>(
+    conn: &mut Conn,
+    engine: &mut E,
+    tickets: &Tickets,
+    reader: &mut R,
+) -> PumpedIn
+    ensures read { is_reading E.live conn.old engine.old ≡ true → Reads E.does E.live tickets.now result (R.remaining reader.old) (R.remaining reader.new) conn.old engine.old conn.new engine.new }
+    ensures finished { is_reading E.live conn.old engine.old ≡ false → result ≡ PumpedIn.Finished }
+    ensures stopped { is_reading E.live conn.old engine.old ≡ false → conn.new ≡ stopped conn.old }
+    ensures unread { is_reading E.live conn.old engine.old ≡ false → reader.new ≡ reader.old }
+    ensures unchanged { is_reading E.live conn.old engine.old ≡ false → engine.new ≡ engine.old }
+{
+    if !conn.is_reading(engine) {
+        conn.stop();
+        return PumpedIn::Finished;
+    }
+    let mut buf = [0u8; READ_LIMIT];
+    match reader.read(&mut buf) {
+        Ok(0) => {
+            conn.end(engine);
+            PumpedIn::Finished
+        }
+        Ok(n) => {
+            conn.receive(engine, tickets, &buf[..n]);
+            PumpedIn::Took(n)
+        }
+        Err(e) if e.kind() == ErrorKind::WouldBlock => PumpedIn::Idle,
+        Err(_) => {
+            conn.break_off(engine);
+            PumpedIn::Failed
+        }
+    }
+}
+
+// Writes bytes as far as the writer takes them: how many, and how it ended.
+fn write_some<W: Write>(writer: &mut W, bytes: &[u8]) -> (usize, PumpedOut)
+    ensures counted { IsCount result.1 result.0 (length bytes.now) }
+    ensures written { Appends (W.contents writer.old) (W.contents writer.new) (take result.0 bytes.now) }
+{
+    let mut count = 0;
+    while count < bytes.len() {
+        match writer.write(&bytes[count..]) {
+            Ok(0) => return (count, PumpedOut::Failed),
+            Ok(n) => count += n,
+            Err(e) if e.kind() == ErrorKind::WouldBlock => return (count, PumpedOut::Blocked),
+            Err(_) => return (count, PumpedOut::Failed),
+        }
+    }
+    (count, PumpedOut::Drained)
+}
+
+/// Writes what waits for a connection's terminal, as far as the writer takes it: the bytes of its session, or the line of its
+/// refused login. What was written waits no longer; the rest stays, in its order, for the next call.
+///
+/// Answers: `Drained`: nothing waits any more; a refused connection is then over. `Blocked`: the writer would block. `Failed`: any
+/// other error of the writer, or it took 0 bytes; the session is closed, and the connection is over.
+pub fn pump_out<E: Sessions, W: Write>(conn: &mut Conn, engine: &mut E, writer: &mut W) -> PumpedOut
+    ensures { WritesFirst E.does result (waiting E.pending conn.old engine.old) (W.contents writer.old) (W.contents writer.new) conn.old engine.old conn.new engine.new }
+{
+    let (count, outcome) = write_some(writer, conn.waiting(engine));
+    conn.wrote(engine, count);
+    if outcome == PumpedOut::Failed {
+        conn.break_off(engine);
+    }
+    outcome
+}

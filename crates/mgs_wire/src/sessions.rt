@@ -1,0 +1,44 @@
+// What connections ask of a server.
+use mgs_model::{Keyed, OpenFault, SessionId};
+
+/// A server with sessions, as connections see it: an engine.
+///
+/// Each call is one event, or takes bytes that were written. What a call may do is the server's own word, `does`.
+pub trait Sessions {
+    ghost use Rattle.std.specs.Prelude.{◌≡◌, ℕ, ◌≤◌, Bool, List, length};
+    ghost use Rattle.mgs_wire.specs.Calls.{Call, Open, Byte, Close, Took};
+
+    // The call may lead from one state to another, with its answer.
+    ghost does: { Self → Call → Self → Type 0 };
+
+    // Whether a session is open.
+    ghost live: { ℕ → Self → Bool };
+
+    // The bytes that wait for a session's terminal.
+    ghost pending: { ℕ → Self → List ℕ };
+
+    /// Opens a session of a user, whose terminal has so many rows and columns, or says why not.
+    fn open(&mut self, user: &str, rows: usize, cols: usize) -> Result<SessionId, OpenFault>
+        ensures { does self.old (Open user.now rows cols result) self.new };
+
+    /// A byte from a session's terminal.
+    fn byte(&mut self, id: SessionId, byte: u8) -> Keyed
+        ensures { does self.old (Byte id byte result) self.new };
+
+    /// Closes a session.
+    fn close(&mut self, id: SessionId)
+        ensures { does self.old (Close id) self.new };
+
+    /// Whether a session of that id is open.
+    fn is_open(&self, id: SessionId) -> bool
+        ensures { result ≡ live id self.now };
+
+    /// The bytes that wait for the terminal of a session.
+    fn pending(&self, id: SessionId) -> &[u8]
+        ensures { result.now ≡ pending id self.now };
+
+    /// Says that the first `n` of the bytes that wait for a session's terminal were written to it.
+    fn took(&mut self, id: SessionId, n: usize)
+        requires { n ≤ length (pending id self.old) }
+        ensures { does self.old (Took id n) self.new };
+}
