@@ -39,3 +39,5 @@ mod text;
 mod undo;
 #[cfg(test)]
 mod windows;
+#[cfg(test)]
+mod wire;

@@ -1,12 +1,12 @@
 -- A line that goes on: nothing before it is cut again.
-use Rattle.std.proofs.Common.{◌≡◌, ℕ, ◌+◌, ◌<◌, ◌≤◌, Bool, cond, eqb, ltb, List, ◌++◌, length, take, drop, Option, Some, None, sym, ap, ◌∙◌, inl, inr, arith, length-append}
+use Rattle.std.proofs.Common.{◌≡◌, ℕ, ◌+◌, ◌<◌, ◌≤◌, Bool, false, cond, eqb, ltb, List, ◌++◌, length, take, drop, Option, Some, None, sym, ap, ◌∙◌, inl, inr, arith, length-append}
 use Rattle.std.specs.Prelude.{not}
 use Rattle.std.specs.Option.{option_map}
 use Rattle.std.specs.List.{position_or_len}
 use Rattle.std.proofs.Math.Seq.{take-append-add, drop-append-add}
-use Rattle.std.proofs.lemmas.Bool.{cases_lt, lt-ltb, le-ltb, eq-eqb, cond-true, cond-false}
-use Rattle.std.proofs.lemmas.List.{take_all}
-use Rattle.std.proofs.lemmas.List.Folds.{prefix_len-append}
+use Rattle.std.proofs.lemmas.Bool.{cases_lt, lt-ltb, le-ltb, eq-eqb, ne_eqb, cond-true, cond-false}
+use Rattle.std.proofs.lemmas.List.{take_all, take-append-le, drop-append-le}
+use Rattle.std.proofs.lemmas.List.Folds.{prefix_len-append, length-prefix_len}
 use Rattle.std.proofs.lemmas.List.Sums.{prefix_len-le-length}
 use Rattle.mgs_model.specs.Lines.{is_feed}
 use Rattle.mgs_wire.specs.Login.{line_in, after_line}
@@ -57,3 +57,50 @@ unfolding line_in
 line_in_whole xs e = ap (λ i. take i xs) (no_feed xs e) ∙ take_all (length xs) xs (omega arith)
 
 pub ruleset line_parts = (line_in_more, after_line_more, line_in_whole, length-append)
+
+-- ---- a line that is whole
+
+has_feed : (xs rest : List ℕ) → after_line xs ≡ Some rest → position_or_len is_feed xs < length xs
+has_feed xs rest e =
+    elim (cases_lt (position_or_len is_feed xs) (length xs)) [
+      | inl lt ↦ lt
+      | inr le ↦ let f = after_none xs le in cc
+    ]
+
+feed_stays : (xs ys : List ℕ) → position_or_len is_feed xs < length xs → position_or_len is_feed (xs ++ ys) ≡ position_or_len is_feed xs
+feed_stays xs ys lt =
+    let apart : eqb (position_or_len is_feed xs) (length xs) ≡ false = ne_eqb (position_or_len is_feed xs) (length xs) (λ e. omega arith) in
+    prefix_len-append (λ x. not (is_feed x)) xs ys ∙ cond-false _ _ _ apart
+
+-- what comes after it leaves its line as it is
+pub line_in_stays : (xs ys rest : List ℕ) → after_line xs ≡ Some rest → line_in (xs ++ ys) ≡ line_in xs
+unfolding line_in
+line_in_stays xs ys rest e =
+    let lt = has_feed xs rest e in
+    ap (λ i. take i (xs ++ ys)) (feed_stays xs ys lt) ∙ take-append-le (position_or_len is_feed xs) xs ys (omega arith)
+
+-- and stands after what stood after it
+pub after_line_stays : (xs ys rest : List ℕ) → after_line xs ≡ Some rest → after_line (xs ++ ys) ≡ Some (rest ++ ys)
+after_line_stays xs ys rest e =
+    let lt = has_feed xs rest e in
+    let p = feed_stays xs ys lt in
+    let n = length-append xs ys in
+    let is : Some (drop (position_or_len is_feed xs + 1) xs) ≡ Some rest = sym (after_at xs lt) ∙ e in
+    let same : drop (position_or_len is_feed xs + 1) xs ≡ rest = cc in
+    after_at (xs ++ ys) (omega arith)
+    ∙ ap (λ i. Some (drop (i + 1) (xs ++ ys))) p
+    ∙ ap (λ (r : List ℕ). Some r) (drop-append-le (position_or_len is_feed xs + 1) xs ys (omega arith) ∙ ap (λ r. r ++ ys) same)
+
+-- a line gets no shorter
+pub line_in_grows : (xs ys : List ℕ) → length (line_in xs) ≤ length (line_in (xs ++ ys))
+unfolding line_in
+line_in_grows xs ys =
+    let a = length-prefix_len (λ x. not (is_feed x)) xs in
+    let b = length-prefix_len (λ x. not (is_feed x)) (xs ++ ys) in
+    let le = prefix_len-le-length (λ x. not (is_feed x)) xs in
+    elim (cases_lt (position_or_len is_feed xs) (length xs)) [
+      | inl lt ↦ omega (arith, feed_stays xs ys lt)
+      | inr ge ↦
+          let e : position_or_len is_feed xs ≡ length xs = omega arith in
+          omega (arith, prefix_len-append (λ x. not (is_feed x)) xs ys ∙ cond-true _ _ _ (eq-eqb _ _ e))
+    ]

@@ -1,5 +1,6 @@
 pub mod Appending
 pub mod Feeds
+pub mod Pieces
 pub mod Typing
 pub mod Utf8
 pub mod Words

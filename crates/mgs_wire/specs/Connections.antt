@@ -48,8 +48,8 @@ Continues does live tickets line (Some rest) old next new = Enters does live (ad
 
 -- these are all bytes since the connection began: a login line of at most 128 bytes before its line feed, and what stands
 -- after it; a longer one is refused as soon as its 129th byte is read
-abbrev pub Logs_in : {E : Type 0} → (E → Call → E → Type 0) → (ℕ → E → Bool) → List (List ℕ × List ℕ) → List ℕ → E → Connection → E → Type 0
-Logs_in does live tickets bytes old next new =
+abbrev pub ReadsLogin : {E : Type 0} → (E → Call → E → Type 0) → (ℕ → E → Bool) → List (List ℕ × List ℕ) → List ℕ → E → Connection → E → Type 0
+ReadsLogin does live tickets bytes old next new =
     MatchBool
     (nat_le (length (line_in bytes)) LOGIN_LIMIT)
     (Continues does live tickets (line_in bytes) (after_line bytes) old next new)
@@ -57,7 +57,7 @@ Logs_in does live tickets bytes old next new =
 
 -- what these bytes, read of a connection, come to
 abbrev pub Receives : {E : Type 0} → (E → Call → E → Type 0) → (ℕ → E → Bool) → List (List ℕ × List ℕ) → List ℕ → Connection → E → Connection → E → Type 0
-Receives does live tickets bytes (Logging_in line) old next new = Logs_in does live tickets (line ++ bytes) old next new
+Receives does live tickets bytes (Logging_in line) old next new = ReadsLogin does live tickets (line ++ bytes) old next new
 Receives does live tickets bytes (Serving id) old next new = (next ≡ Serving id) × Typed does live id bytes old new
 Receives does live tickets bytes (Refused left) old next new = (next ≡ Refused left) × (new ≡ old)
 Receives does live tickets bytes (Over session) old next new = (next ≡ Over session) × (new ≡ old)
@@ -107,3 +107,11 @@ Writes does n (Logging_in line) old next new = (next ≡ Logging_in line) × (ne
 Writes does n (Serving id) old next new = (next ≡ Serving id) × does old (Took id n) new
 Writes does n (Refused left) old next new = (next ≡ Refused (drop n left)) × (new ≡ old)
 Writes does n (Over session) old next new = (next ≡ Over session) × (new ≡ old)
+
+-- IN PIECES
+
+-- in whatever pieces bytes are read of a connection, it and the server come to what they come to by all of them at once
+abbrev pub ReadsInPieces : {E : Type 0} → (E → Call → E → Type 0) → (ℕ → E → Bool) → Type 0
+ReadsInPieces {E = E} does live =
+    (tickets : List (List ℕ × List ℕ)) (xs ys : List ℕ) (conn mid next : Connection) (old now new : E)
+    → Receives does live tickets xs conn old mid now → Receives does live tickets ys mid now next new → Receives does live tickets (xs ++ ys) conn old next new

@@ -1,9 +1,14 @@
 -- What reading a login line comes to.
 use Rattle.std.specs.Prelude.{◌≡◌, ℕ, ◌<◌, ◌≤◌, List, length, None, Some}
 use Rattle.mgs_wire.specs.declared.limits.TheConstants.{LOGIN_LIMIT}
-use Rattle.mgs_wire.specs.declared.conn.LineRead.{LineRead}
-use Rattle.mgs_wire.specs.declared.conn.LineRead.TheVariants.{Part, Whole, TooLong}
+use Rattle.mgs_wire.specs.declared.line.LineRead.{LineRead}
+use Rattle.mgs_wire.specs.declared.line.LineRead.TheVariants.{Part, Whole, TooLong}
 use Rattle.mgs_wire.specs.Login.{line_in, after_line}
+
+-- a login line that goes on
+pub record IsLoginLine (bytes : List ℕ) : Type 0 where
+  pub short : length bytes ≤ LOGIN_LIMIT
+  pub unfinished : after_line bytes ≡ None
 
 -- of all bytes so far, and the line that is kept
 abbrev pub GivesLine : LineRead → List ℕ → List ℕ → Type 0

@@ -1,12 +1,12 @@
 -- Connections as the code holds them.
-use Rattle.std.specs.Prelude.{◌≡◌, ℕ, ◌≤◌, List, length, None, Result, Ok, Err}
-use Rattle.mgs_wire.specs.declared.limits.TheConstants.{LOGIN_LIMIT}
+use Rattle.std.specs.Prelude.{◌≡◌, ℕ, List, Result, Ok, Err}
 use Rattle.mgs_wire.specs.declared.conn.Stage.{Stage}
 use Rattle.mgs_wire.specs.declared.conn.Stage.TheVariants as code
 use Rattle.mgs_model.specs.declared.errors.OpenFault.{OpenFault}
 use Rattle.mgs_wire.specs.declared.refusal.Refusal.{Refusal}
 use Rattle.mgs_wire.specs.Calls.{Call, Open}
-use Rattle.mgs_wire.specs.Login.{Opening, after_line, refusal_of}
+use Rattle.mgs_wire.specs.Login.{Opening, refusal_of}
+use Rattle.mgs_wire.specs.LinesRead.{IsLoginLine}
 use Rattle.mgs_wire.specs.Connections.{Connection, Logging_in, Serving, Refused, Over}
 
 -- the bytes are those of the login line, or those of the refusal's line that are left
@@ -15,11 +15,6 @@ connection code.Login bytes = Logging_in bytes
 connection (code.Session id) bytes = Serving id
 connection code.Refused bytes = Refused bytes
 connection (code.Over session) bytes = Over session
-
--- a login line that goes on
-pub record IsLoginLine (bytes : List ℕ) : Type 0 where
-  pub short : length bytes ≤ LOGIN_LIMIT
-  pub unfinished : after_line bytes ≡ None
 
 abbrev pub IsStage : Stage → List ℕ → Type 0
 IsStage code.Login bytes = IsLoginLine bytes

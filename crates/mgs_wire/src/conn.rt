@@ -1,17 +1,16 @@
-// A connection.
-ghost use Rattle.std.specs.Prelude.{◌≡◌, ◌++◌, drop, ◌+◌, ◌≤◌, ◌≢◌, length, vec_len, vec_capacity, IfOk, [], Bool, IsTrue, true};
-ghost use Rattle.std.specs.Option.{option_map};
-ghost use Rattle.mgs_wire.specs.Login.{admission, line_in, after_line};
+// Connections.
+ghost use Rattle.std.specs.Prelude.{◌≡◌, ◌++◌, ◌≤◌, [], length, vec_capacity, IfOk};
+ghost use Rattle.mgs_wire.specs.Login.{admission};
 ghost use Rattle.mgs_wire.specs.Calls.{Typed};
-ghost use Rattle.mgs_wire.specs.Connections.{Connection, Logging_in, refused, Enters, Logs_in, Receives, is_reading, session_of, stopped, Ends, Breaks, waiting, Writes};
-ghost use Rattle.mgs_wire.specs.Stages.{connection, IsLoginLine, IsStage, LogsIn};
-ghost use Rattle.mgs_wire.specs.LinesRead.{GivesLine};
+ghost use Rattle.mgs_wire.specs.Connections.{Connection, Logging_in, refused, Enters, ReadsLogin, Receives, is_reading, session_of, stopped, Ends, Breaks, waiting, Writes};
+ghost use Rattle.mgs_wire.specs.Stages.{connection, IsStage, LogsIn};
+ghost use Rattle.mgs_wire.specs.LinesRead.{IsLoginLine};
 
 use crate::limits::LOGIN_LIMIT;
+use crate::line::{LineRead, append, drop_front, read_line};
 use crate::login::admission;
 use crate::refusal::Refusal;
 use crate::sessions::Sessions;
-use mgs_keys::cut_at;
 use mgs_model::{SessionId, Short, Tickets};
 use std::alloc::Global;
 use std::marker::Model;
@@ -51,15 +50,6 @@ impl Model for Conn {
     ghost invariant = { λ c. (LOGIN_LIMIT ≤ vec_capacity c.line) × IsStage c.stage c.line.items };
 }
 
-// Puts bytes after those of a line that has the room for them.
-fn append(line: &mut Vec<u8>, bytes: &[u8])
-    requires { length line.old.items + length bytes.now ≤ vec_capacity line.old }
-    ensures items { line.new.items ≡ line.old.items ++ bytes.now }
-    ensures room { vec_capacity line.old ≤ vec_capacity line.new }
-{
-    let _ = line.extend_from_slice(bytes);
-}
-
 // The line that tells of a refusal, in place of what was there.
 fn refuse(line: &mut Vec<u8>, refusal: Refusal) -> Stage
     requires { LOGIN_LIMIT ≤ vec_capacity line.old }
@@ -70,17 +60,6 @@ fn refuse(line: &mut Vec<u8>, refusal: Refusal) -> Stage
     line.clear();
     append(line, refusal.line());
     Stage::Refused
-}
-
-// Takes bytes from the front of a line.
-fn drop_front(line: &mut Vec<u8>, n: usize)
-    requires { n ≤ length line.old.items }
-    ensures items { line.new.items ≡ drop n line.old.items }
-    ensures room { vec_capacity line.new ≡ vec_capacity line.old }
-{
-    let rest = line.len() - n;
-    line.rotate_left(n);
-    line.truncate(rest);
 }
 
 #[tactic(auto, using(crate::proofs::Typing::shut))]
@@ -104,45 +83,6 @@ fn log_in<E: Sessions>(engine: &mut E, tickets: &Tickets, line: &[u8]) -> Result
     match engine.open(opening.user, opening.rows, opening.cols) {
         Ok(id) => Ok(id),
         Err(fault) => Err(Refusal::of(fault)),
-    }
-}
-
-// What a login line came to.
-#[derive(Clone, Copy)]
-enum LineRead<'a> {
-    // It goes on.
-    Part,
-    // It is whole, and these bytes stand after its line feed.
-    Whole(&'a [u8]),
-    // It is too long.
-    TooLong,
-}
-
-// The bytes before the first line feed, and those after it, if there is one.
-#[tactic(auto, unfolding(crate::specs::Login::line_in, crate::specs::Login::after_line))]
-fn cut_line(bytes: &[u8]) -> (&[u8], Option<&[u8]>)
-    ensures line { result.0.now ≡ line_in bytes.now }
-    ensures rest { option_map (λ x. x.now) result.1 ≡ after_line bytes.now }
-{
-    cut_at(bytes, b'\n')
-}
-
-// Puts more bytes after those of a login line, up to its line feed.
-#[tactic(auto, using(crate::proofs::Feeds::line_parts))]
-fn read_line<'a>(line: &mut Vec<u8>, bytes: &'a [u8]) -> LineRead<'a>
-    requires line { IsLoginLine line.old.items }
-    requires room { LOGIN_LIMIT ≤ vec_capacity line.old }
-    ensures line { GivesLine result (line.old.items ++ bytes.now) line.new.items }
-    ensures room { LOGIN_LIMIT ≤ vec_capacity line.new }
-{
-    let (head, rest) = cut_line(bytes);
-    if head.len() > LOGIN_LIMIT - line.len() {
-        return LineRead::TooLong;
-    }
-    append(line, head);
-    match rest {
-        None => LineRead::Part,
-        Some(rest) => LineRead::Whole(rest),
     }
 }
 
@@ -171,7 +111,7 @@ fn log_in_by<E: Sessions>(
 ) -> Stage
     requires line { IsLoginLine line.old.items }
     requires room { LOGIN_LIMIT ≤ vec_capacity line.old }
-    ensures logs_in { Logs_in E.does E.live tickets.now (line.old.items ++ bytes.now) engine.old (connection result line.new.items) engine.new }
+    ensures logs_in { ReadsLogin E.does E.live tickets.now (line.old.items ++ bytes.now) engine.old (connection result line.new.items) engine.new }
     ensures form { IsStage result line.new.items }
     ensures room { LOGIN_LIMIT ≤ vec_capacity line.new }
 {

@@ -5,7 +5,9 @@
 #![tactic(auto)]
 
 mod conn;
+mod law;
 mod limits;
+mod line;
 mod login;
 mod number;
 mod pump;
@@ -13,6 +15,7 @@ mod refusal;
 mod sessions;
 
 pub use conn::Conn;
+pub use law::reads_in_pieces;
 pub use limits::{LOGIN_LIMIT, READ_LIMIT};
 pub use pump::{PumpedIn, PumpedOut, pump_in, pump_out};
 pub use refusal::Refusal;
