@@ -1,4 +1,4 @@
-// Connections: login lines, the bytes behind them, and readers and writers that stop, end or fail.
+// Connections: login lines, the bytes after them, and readers and writers that stop, end or fail.
 use mgs_model::{Keyed, OpenFault, SessionId, Tickets};
 use mgs_wire::{Conn, PumpedIn, PumpedOut, Sessions, pump_in, pump_out};
 use std::alloc::Global;
@@ -70,13 +70,57 @@ impl Sessions for Desk {
     }
 }
 
-fn new_desk(alloc: Global, fault: Option<OpenFault>) -> Desk {
-    Desk {
-        fault,
-        is_open: false,
-        typed: Vec::new(alloc),
-        waiting: Vec::new(alloc),
+// A connection to such a server, where ann has the ticket t1. Its calls tell proofs nothing: what is looked at is what runs.
+#[derive(Drop)]
+struct Client {
+    conn: Conn,
+    desk: Desk,
+    tickets: Tickets,
+}
+
+impl Client {
+    fn new(alloc: Global, fault: Option<OpenFault>) -> Result<Client, Fail> {
+        let mut tickets = Tickets::new(alloc);
+        tickets.add("ann", "t1")?;
+        Ok(Client {
+            conn: Conn::new(alloc)?,
+            desk: Desk {
+                fault,
+                is_open: false,
+                typed: Vec::new(alloc),
+                waiting: Vec::new(alloc),
+            },
+            tickets,
+        })
     }
+
+    fn read<R: Read>(&mut self, reader: &mut R) -> PumpedIn {
+        pump_in(&mut self.conn, &mut self.desk, &self.tickets, reader)
+    }
+
+    // Reads until nothing is taken.
+    fn read_all<R: Read>(&mut self, reader: &mut R) -> PumpedIn {
+        for _ in 0..1000 {
+            match self.read(reader) {
+                PumpedIn::Took(_) => {}
+                other => return other,
+            }
+        }
+        PumpedIn::Idle
+    }
+
+    fn write<W: Write>(&mut self, writer: &mut W) -> PumpedOut {
+        pump_out(&mut self.conn, &mut self.desk, writer)
+    }
+}
+
+// One whose session is open, with these bytes for its terminal.
+fn served(alloc: Global, waiting: &[u8]) -> Result<Client, Fail> {
+    let mut client = Client::new(alloc, None)?;
+    let mut reader = LOGIN;
+    client.read(&mut reader);
+    client.desk.waiting.extend_from_slice(waiting)?;
+    Ok(client)
 }
 
 // Gives its bytes so many at a time, and is then at its end, or fails so.
@@ -138,28 +182,6 @@ fn narrow_writer(alloc: Global, room: usize, fault: Option<ErrorKind>) -> Narrow
     }
 }
 
-fn tickets(alloc: Global) -> Result<Tickets, Fail> {
-    let mut tickets = Tickets::new(alloc);
-    tickets.add("ann", "t1")?;
-    Ok(tickets)
-}
-
-// Reads a connection until it is over.
-fn read_all<R: Read>(
-    conn: &mut Conn,
-    desk: &mut Desk,
-    tickets: &Tickets,
-    reader: &mut R,
-) -> PumpedIn {
-    for _ in 0..1000 {
-        match pump_in(conn, desk, tickets, reader) {
-            PumpedIn::Took(_) => {}
-            other => return other,
-        }
-    }
-    PumpedIn::Idle
-}
-
 // A connection is answered so, where sessions are opened or not opened for this reason.
 fn answers(
     alloc: Global,
@@ -168,26 +190,19 @@ fn answers(
     wanted: &[u8],
     rt: &impl Abort,
 ) -> Result<(), Fail> {
-    let mut conn = Conn::new(alloc)?;
-    let mut desk = new_desk(alloc, fault);
-    let tickets = tickets(alloc)?;
+    let mut client = Client::new(alloc, fault)?;
     let mut reader = input;
-    let over = read_all(&mut conn, &mut desk, &tickets, &mut reader);
-    assert_eq!(rt; over, PumpedIn::Finished);
-    assert_eq!(rt; conn.session(), None);
+    assert_eq!(rt; client.read_all(&mut reader), PumpedIn::Finished);
+    assert_eq!(rt; client.conn.session(), None);
     let mut written = Vec::new(alloc);
-    let drained = pump_out(&mut conn, &mut desk, &mut written);
-    assert_eq!(rt; drained, PumpedOut::Drained);
-    assert_eq!(rt; written.as_slice(), wanted);
-    let again = pump_out(&mut conn, &mut desk, &mut written);
-    assert_eq!(rt; again, PumpedOut::Drained);
+    assert_eq!(rt; client.write(&mut written), PumpedOut::Drained);
+    assert_eq!(rt; client.write(&mut written), PumpedOut::Drained);
     assert_eq!(rt; written.as_slice(), wanted);
     Ok(())
 }
 
 #[test]
 fn lines_that_are_no_login_are_refused(rt: HostRuntime) -> Result<(), Fail> {
-    let alloc = rt.alloc();
     let lines: [&[u8]; 12] = [
         b"login ann t1 6 2",
         b"login ann t1 06 20\n",
@@ -203,259 +218,112 @@ fn lines_that_are_no_login_are_refused(rt: HostRuntime) -> Result<(), Fail> {
         b"",
     ];
     for line in lines {
-        answers(alloc, line, None, b"refused 1 Line\n", &rt)?;
+        answers(rt.alloc(), line, None, b"refused 1 Line\n", &rt)?;
     }
     Ok(())
 }
 
 #[test]
 fn refusals_come_in_their_order(rt: HostRuntime) -> Result<(), Fail> {
-    let alloc = rt.alloc();
     let full = Some(OpenFault::Full);
-    answers(
-        alloc,
-        b"login eve t1 5 20\n",
-        full,
-        b"refused 2 NoUser\n",
-        &rt,
-    )?;
-    answers(
-        alloc,
-        b"login \xFF t1 5 20\n",
-        full,
-        b"refused 2 NoUser\n",
-        &rt,
-    )?;
-    answers(
-        alloc,
-        b"login ann zz 5 20\n",
-        full,
-        b"refused 3 Ticket\n",
-        &rt,
-    )?;
-    answers(
-        alloc,
-        b"login ann t1 5 20\n",
-        None,
-        b"refused 4 Size\n",
-        &rt,
-    )?;
-    answers(alloc, LOGIN, full, b"refused 5 Full\n", &rt)?;
-    answers(
-        alloc,
-        LOGIN,
-        Some(OpenFault::Short),
-        b"refused 6 Short\n",
-        &rt,
-    )?;
-    answers(
-        alloc,
-        LOGIN,
-        Some(OpenFault::NoUser),
-        b"refused 2 NoUser\n",
-        &rt,
-    )?;
+    let rows: [(&[u8], Option<OpenFault>, &[u8]); 7] = [
+        (b"login eve t1 5 20\n", full, b"refused 2 NoUser\n"),
+        (b"login \xFF t1 5 20\n", full, b"refused 2 NoUser\n"),
+        (b"login ann zz 5 20\n", full, b"refused 3 Ticket\n"),
+        (b"login ann t1 5 20\n", None, b"refused 4 Size\n"),
+        (LOGIN, full, b"refused 5 Full\n"),
+        (LOGIN, Some(OpenFault::Short), b"refused 6 Short\n"),
+        (LOGIN, Some(OpenFault::NoUser), b"refused 2 NoUser\n"),
+    ];
+    for (line, fault, wanted) in rows {
+        answers(rt.alloc(), line, fault, wanted, &rt)?;
+    }
     Ok(())
 }
 
 #[test]
-fn bytes_behind_a_login_are_keys(rt: HostRuntime) -> Result<(), Fail> {
-    let alloc = rt.alloc();
-    let tickets = tickets(alloc)?;
+fn bytes_after_a_login_are_keys(rt: HostRuntime) -> Result<(), Fail> {
     for size in [1, 2, 17, 18, 19, 5000] {
-        let mut conn = Conn::new(alloc)?;
-        let mut desk = new_desk(alloc, None);
+        let mut client = Client::new(rt.alloc(), None)?;
         let mut reader = Pieces {
             rest: b"login ann t1 6 20\r\nh\ni",
             size,
             fault: Some(ErrorKind::WouldBlock),
         };
-        let idle = read_all(&mut conn, &mut desk, &tickets, &mut reader);
-        assert_eq!(rt; idle, PumpedIn::Idle);
-        assert_eq!(rt; conn.session(), Some(7));
-        assert_eq!(rt; desk.typed.as_slice(), b"h\ni".as_slice());
-        let mut written = Vec::new(alloc);
-        let drained = pump_out(&mut conn, &mut desk, &mut written);
-        assert_eq!(rt; drained, PumpedOut::Drained);
-        assert!(rt; written.is_empty());
+        assert_eq!(rt; client.read_all(&mut reader), PumpedIn::Idle);
+        assert_eq!(rt; client.conn.session(), Some(7));
+        assert_eq!(rt; client.desk.typed.as_slice(), b"h\ni".as_slice());
     }
-    Ok(())
-}
-
-#[test]
-fn at_most_4096_bytes_are_read(rt: HostRuntime) -> Result<(), Fail> {
-    let alloc = rt.alloc();
-    let tickets = tickets(alloc)?;
-    let mut conn = Conn::new(alloc)?;
-    let mut desk = new_desk(alloc, None);
-    let mut input = Vec::new(alloc);
-    input.extend_from_slice(LOGIN)?;
-    for _ in 0..4096 {
-        input.push(b'x')?;
-    }
-    let mut reader = input.as_slice();
-    let first = pump_in(&mut conn, &mut desk, &tickets, &mut reader);
-    assert_eq!(rt; first, PumpedIn::Took(4096));
-    let rest = pump_in(&mut conn, &mut desk, &tickets, &mut reader);
-    assert_eq!(rt; rest, PumpedIn::Took(18));
-    assert_eq!(rt; desk.typed.len(), 4096);
     Ok(())
 }
 
 #[test]
 fn a_line_has_at_most_128_bytes(rt: HostRuntime) -> Result<(), Fail> {
-    let alloc = rt.alloc();
-    let tickets = tickets(alloc)?;
-    let mut conn = Conn::new(alloc)?;
-    let mut desk = new_desk(alloc, None);
-    let mut written = Vec::new(alloc);
+    let mut client = Client::new(rt.alloc(), None)?;
+    let mut written = Vec::new(rt.alloc());
     let mut reader = [b'x'; 128].as_slice();
-    let long = pump_in(&mut conn, &mut desk, &tickets, &mut reader);
-    assert_eq!(rt; long, PumpedIn::Took(128));
-    let nothing = pump_out(&mut conn, &mut desk, &mut written);
-    assert_eq!(rt; nothing, PumpedOut::Drained);
+    assert_eq!(rt; client.read(&mut reader), PumpedIn::Took(128));
+    assert_eq!(rt; client.write(&mut written), PumpedOut::Drained);
     assert!(rt; written.is_empty());
     let mut reader = b"xlogin ann t1 6 20\n".as_slice();
-    let longer = pump_in(&mut conn, &mut desk, &tickets, &mut reader);
-    assert_eq!(rt; longer, PumpedIn::Took(19));
-    let drained = pump_out(&mut conn, &mut desk, &mut written);
-    assert_eq!(rt; drained, PumpedOut::Drained);
+    assert_eq!(rt; client.read(&mut reader), PumpedIn::Took(19));
+    assert_eq!(rt; client.write(&mut written), PumpedOut::Drained);
     assert_eq!(rt; written.as_slice(), b"refused 1 Line\n".as_slice());
     Ok(())
 }
 
+// Nothing more is read of a connection or written to it, and its session is closed.
+fn is_over(client: &mut Client, alloc: Global, rt: &impl Abort) {
+    assert!(rt; !client.desk.is_open);
+    let mut more = LOGIN;
+    assert_eq!(rt; client.read(&mut more), PumpedIn::Finished);
+    assert_eq!(rt; more.len(), LOGIN.len());
+    let mut written = Vec::new(alloc);
+    assert_eq!(rt; client.write(&mut written), PumpedOut::Drained);
+    assert!(rt; written.is_empty());
+}
+
 #[test]
 fn readers_that_fail_end_the_connection(rt: HostRuntime) -> Result<(), Fail> {
-    let alloc = rt.alloc();
-    let tickets = tickets(alloc)?;
     for (input, session) in [(b"login ann".as_slice(), None), (LOGIN, Some(7))] {
-        let mut conn = Conn::new(alloc)?;
-        let mut desk = new_desk(alloc, None);
+        let mut client = Client::new(rt.alloc(), None)?;
         let mut reader = Pieces {
             rest: input,
             size: 100,
             fault: Some(ErrorKind::ConnectionReset),
         };
-        let failed = read_all(&mut conn, &mut desk, &tickets, &mut reader);
-        assert_eq!(rt; failed, PumpedIn::Failed);
-        assert_eq!(rt; conn.session(), session);
-        assert!(rt; !desk.is_open);
-        let mut more = LOGIN;
-        let over = pump_in(&mut conn, &mut desk, &tickets, &mut more);
-        assert_eq!(rt; over, PumpedIn::Finished);
-        assert_eq!(rt; more.len(), LOGIN.len());
-        let mut written = Vec::new(alloc);
-        let drained = pump_out(&mut conn, &mut desk, &mut written);
-        assert_eq!(rt; drained, PumpedOut::Drained);
-        assert!(rt; written.is_empty());
+        assert_eq!(rt; client.read_all(&mut reader), PumpedIn::Failed);
+        assert_eq!(rt; client.conn.session(), session);
+        is_over(&mut client, rt.alloc(), &rt);
     }
     Ok(())
 }
 
 #[test]
-fn bytes_behind_the_end_of_a_session_are_dropped(rt: HostRuntime) -> Result<(), Fail> {
-    let alloc = rt.alloc();
-    let tickets = tickets(alloc)?;
-    let mut conn = Conn::new(alloc)?;
-    let mut desk = new_desk(alloc, None);
-    let mut reader = b"login ann t1 6 20\nab\x03cd".as_slice();
-    let took = pump_in(&mut conn, &mut desk, &tickets, &mut reader);
-    assert_eq!(rt; took, PumpedIn::Took(23));
-    let mut reader = b"ef".as_slice();
-    let over = pump_in(&mut conn, &mut desk, &tickets, &mut reader);
-    assert_eq!(rt; over, PumpedIn::Finished);
-    assert_eq!(rt; reader.len(), 2);
-    assert_eq!(rt; desk.typed.as_slice(), b"ab".as_slice());
-    assert_eq!(rt; conn.session(), Some(7));
-    Ok(())
-}
-
-#[test]
-fn an_end_of_the_reader_closes_the_session(rt: HostRuntime) -> Result<(), Fail> {
-    let alloc = rt.alloc();
-    let tickets = tickets(alloc)?;
-    let mut conn = Conn::new(alloc)?;
-    let mut desk = new_desk(alloc, None);
-    let mut reader = LOGIN;
-    let took = pump_in(&mut conn, &mut desk, &tickets, &mut reader);
-    assert_eq!(rt; took, PumpedIn::Took(18));
-    assert!(rt; desk.is_open);
-    let over = pump_in(&mut conn, &mut desk, &tickets, &mut reader);
-    assert_eq!(rt; over, PumpedIn::Finished);
-    assert!(rt; !desk.is_open);
-    assert_eq!(rt; conn.session(), Some(7));
-    Ok(())
-}
-
-// A connection whose session is open, and a server with bytes for it.
-fn served(alloc: Global, waiting: &[u8]) -> Result<(Conn, Desk), Fail> {
-    let mut conn = Conn::new(alloc)?;
-    let mut desk = new_desk(alloc, None);
-    let tickets = tickets(alloc)?;
-    let mut reader = LOGIN;
-    pump_in(&mut conn, &mut desk, &tickets, &mut reader);
-    desk.waiting.extend_from_slice(waiting)?;
-    Ok((conn, desk))
-}
-
-#[test]
 fn the_rest_of_a_partial_write_comes_next(rt: HostRuntime) -> Result<(), Fail> {
-    let alloc = rt.alloc();
-    let (mut conn, mut desk) = served(alloc, b"abcdefgh")?;
-    let mut writer = narrow_writer(alloc, 5, Some(ErrorKind::WouldBlock));
-    let blocked = pump_out(&mut conn, &mut desk, &mut writer);
-    assert_eq!(rt; blocked, PumpedOut::Blocked);
-    assert_eq!(rt; desk.waiting.as_slice(), b"fgh".as_slice());
-    assert!(rt; desk.is_open);
+    let mut client = served(rt.alloc(), b"abcdefgh")?;
+    let mut writer = narrow_writer(rt.alloc(), 5, Some(ErrorKind::WouldBlock));
+    assert_eq!(rt; client.write(&mut writer), PumpedOut::Blocked);
+    assert_eq!(rt; client.desk.waiting.as_slice(), b"fgh".as_slice());
+    assert!(rt; client.desk.is_open);
     writer.room = 5;
-    let drained = pump_out(&mut conn, &mut desk, &mut writer);
-    assert_eq!(rt; drained, PumpedOut::Drained);
+    assert_eq!(rt; client.write(&mut writer), PumpedOut::Drained);
     assert_eq!(rt; writer.taken.as_slice(), b"abcdefgh".as_slice());
     Ok(())
 }
 
 #[test]
 fn writers_that_fail_end_the_connection(rt: HostRuntime) -> Result<(), Fail> {
-    let alloc = rt.alloc();
     for fault in [
         Some(ErrorKind::BrokenPipe),
         Some(ErrorKind::Interrupted),
         None,
     ] {
-        let (mut conn, mut desk) = served(alloc, b"abcdefgh")?;
-        let mut writer = narrow_writer(alloc, 5, fault);
-        let failed = pump_out(&mut conn, &mut desk, &mut writer);
-        assert_eq!(rt; failed, PumpedOut::Failed);
+        let mut client = served(rt.alloc(), b"abcdefgh")?;
+        let mut writer = narrow_writer(rt.alloc(), 5, fault);
+        assert_eq!(rt; client.write(&mut writer), PumpedOut::Failed);
         assert_eq!(rt; writer.taken.as_slice(), b"abcde".as_slice());
-        assert!(rt; !desk.is_open);
-        let tickets = tickets(alloc)?;
-        let mut reader = b"x".as_slice();
-        let over = pump_in(&mut conn, &mut desk, &tickets, &mut reader);
-        assert_eq!(rt; over, PumpedIn::Finished);
-        writer.room = 5;
-        let drained = pump_out(&mut conn, &mut desk, &mut writer);
-        assert_eq!(rt; drained, PumpedOut::Drained);
-        assert_eq!(rt; writer.taken.as_slice(), b"abcde".as_slice());
+        is_over(&mut client, rt.alloc(), &rt);
     }
-    Ok(())
-}
-
-#[test]
-fn a_refusal_is_written_in_parts(rt: HostRuntime) -> Result<(), Fail> {
-    let alloc = rt.alloc();
-    let mut conn = Conn::new(alloc)?;
-    let mut desk = new_desk(alloc, None);
-    let tickets = tickets(alloc)?;
-    let mut reader = b"login eve t1 6 20\nabc".as_slice();
-    let took = pump_in(&mut conn, &mut desk, &tickets, &mut reader);
-    assert_eq!(rt; took, PumpedIn::Took(21));
-    assert!(rt; desk.typed.is_empty());
-    let mut writer = narrow_writer(alloc, 5, Some(ErrorKind::WouldBlock));
-    let blocked = pump_out(&mut conn, &mut desk, &mut writer);
-    assert_eq!(rt; blocked, PumpedOut::Blocked);
-    writer.room = 50;
-    let drained = pump_out(&mut conn, &mut desk, &mut writer);
-    assert_eq!(rt; drained, PumpedOut::Drained);
-    assert_eq!(rt; writer.taken.as_slice(), b"refused 2 NoUser\n".as_slice());
     Ok(())
 }

@@ -1,5 +1,5 @@
 -- PUMPS: what one read of a connection, and one writing to it, do.
-use Rattle.std.specs.Prelude.{◌≡◌, ℕ, ◌<◌, ◌≤◌, Bool, List, [], take, length, Option}
+use Rattle.std.specs.Prelude.{◌≡◌, ℕ, ◌<◌, ◌≤◌, Bool, true, false, List, [], take, length, Option}
 use Rattle.std.specs.Io.KnownBytes.{Appends, Consumes, IsAtEnd, Keeps}
 use Rattle.mgs_wire.specs.declared.limits.TheConstants.{READ_LIMIT}
 use Rattle.mgs_wire.specs.declared.pump.PumpedIn.{PumpedIn}
@@ -7,7 +7,7 @@ use Rattle.mgs_wire.specs.declared.pump.PumpedIn.TheVariants.{Took, Idle, Finish
 use Rattle.mgs_wire.specs.declared.pump.PumpedOut.{PumpedOut}
 use Rattle.mgs_wire.specs.declared.pump.PumpedOut.TheVariants as out
 use Rattle.mgs_wire.specs.Calls.{Call}
-use Rattle.mgs_wire.specs.Connections.{Connection, Receives, Ends, Breaks, Writes}
+use Rattle.mgs_wire.specs.Connections.{Connection, is_reading, stopped, Receives, Ends, Breaks, Writes}
 
 -- one read of a connection that is read: what the reader has left goes from `left` to `rest`, the connection from `conn` to
 -- `next`, and the server from `old` to `new`
@@ -17,6 +17,14 @@ Reads does live tickets (Took n) left rest conn old next new =
 Reads does live tickets Idle left rest conn old next new = Keeps left rest × (next ≡ conn) × (new ≡ old)
 Reads does live tickets Finished left rest conn old next new = Consumes left rest [] × IsAtEnd rest × Ends does conn old next new
 Reads does live tickets Failed left rest conn old next new = Keeps left rest × Breaks does conn old next new
+
+-- a connection that is read is read once
+abbrev pub PumpsIn : {E : Type 0} → (E → Call → E → Type 0) → (ℕ → E → Bool) → List (List ℕ × List ℕ) → PumpedIn → Option (List ℕ) → Option (List ℕ) → Connection → E → Connection → E → Type 0
+PumpsIn does live tickets result left rest conn old next new = is_reading live conn old ≡ true → Reads does live tickets result left rest conn old next new
+
+-- any other is finished, and stays so
+abbrev pub Finishes : {E : Type 0} → (ℕ → E → Bool) → PumpedIn → Connection → E → Connection → E → Type 0
+Finishes live result conn old next new = is_reading live conn old ≡ false → (result ≡ Finished) × (next ≡ stopped conn) × (new ≡ old)
 
 -- how many of so many bytes were written at each answer
 abbrev pub IsCount : PumpedOut → ℕ → ℕ → Type 0

@@ -62,8 +62,8 @@ fn refuse(line: &mut Vec<u8>, refusal: Refusal) -> Stage
     Stage::Refused
 }
 
-#[tactic(auto, using(crate::proofs::Typing::shut))]
 // Hands bytes to a session, one call each, while it is open.
+#[tactic(auto, using(crate::proofs::Typing::shut))]
 fn type_all<E: Sessions>(engine: &mut E, id: SessionId, bytes: &[u8])
     ensures { Typed E.does E.live id bytes.now engine.old engine.new }
 {

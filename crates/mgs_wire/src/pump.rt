@@ -1,8 +1,8 @@
 // Reads and writes connections.
-ghost use Rattle.std.specs.Prelude.{◌≡◌, ◌≤◌, ◌<◌, length, take, true, false};
+ghost use Rattle.std.specs.Prelude.{◌≡◌, ◌≤◌, ◌<◌, length, take, false};
 ghost use Rattle.std.specs.Io.KnownBytes.{Appends};
-ghost use Rattle.mgs_wire.specs.Connections.{is_reading, stopped, waiting};
-ghost use Rattle.mgs_wire.specs.Pumps.{Reads, IsCount, WritesFirst};
+ghost use Rattle.mgs_wire.specs.Connections.{is_reading, waiting};
+ghost use Rattle.mgs_wire.specs.Pumps.{PumpsIn, Finishes, IsCount, WritesFirst};
 
 use crate::conn::Conn;
 use crate::limits::READ_LIMIT;
@@ -39,9 +39,9 @@ pub enum PumpedOut {
 ///
 /// The login line is `login NAME TICKET ROWS COLS` and a line feed, its words parted by one space; a carriage return before the
 /// line feed is no part of it. NAME and TICKET are any bytes but spaces, at least one; ROWS and COLS are numbers of 1 to 3
-/// digits without leading zeros. A login is refused, in this order, as [`Refusal`](crate::Refusal) says; what was read behind
+/// digits without leading zeros. A login is refused, in this order, as [`Refusal`](crate::Refusal) says; what was read after
 /// a refused line is dropped, and its answer waits for `pump_out`. A 129th byte that is no line feed is refused at once, and so
-/// is an end of the reader within the line. Bytes behind the line of a login that succeeds are the session's first.
+/// is an end of the reader within the line. Bytes after the line of a login that succeeds are the session's first.
 ///
 /// Answers: `Took` how many bytes were read; those after the end of the session are dropped. `Idle`: the reader would block,
 /// and nothing has changed. `Finished`: the reader is at its end, or the session was not open any more when the call came, or
@@ -53,11 +53,9 @@ pub fn pump_in<E: Sessions, R: Read>(
     tickets: &Tickets,
     reader: &mut R,
 ) -> PumpedIn
-    ensures read { is_reading E.live conn.old engine.old ≡ true → Reads E.does E.live tickets.now result (R.remaining reader.old) (R.remaining reader.new) conn.old engine.old conn.new engine.new }
-    ensures finished { is_reading E.live conn.old engine.old ≡ false → result ≡ PumpedIn.Finished }
-    ensures stopped { is_reading E.live conn.old engine.old ≡ false → conn.new ≡ stopped conn.old }
+    ensures read { PumpsIn E.does E.live tickets.now result (R.remaining reader.old) (R.remaining reader.new) conn.old engine.old conn.new engine.new }
+    ensures finished { Finishes E.live result conn.old engine.old conn.new engine.new }
     ensures unread { is_reading E.live conn.old engine.old ≡ false → reader.new ≡ reader.old }
-    ensures unchanged { is_reading E.live conn.old engine.old ≡ false → engine.new ≡ engine.old }
 {
     if !conn.is_reading(engine) {
         conn.stop();
