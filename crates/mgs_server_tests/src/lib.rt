@@ -1,8 +1,11 @@
-//! Tests of the whole server: from the bytes of sessions, or the lines of a script, to terminals that are fed theirs.
+//! Tests of the server: configurations, connections and scripts, and the whole of it, from the bytes of sessions, or the
+//! lines of a script, to terminals that are fed theirs.
 #![tactic(auto)]
 
 #[cfg(test)]
 mod calls;
+#[cfg(test)]
+mod config;
 #[cfg(test)]
 mod fixtures;
 #[cfg(test)]
@@ -11,3 +14,7 @@ mod lockstep;
 mod replay;
 #[cfg(test)]
 mod rows;
+#[cfg(test)]
+mod script;
+#[cfg(test)]
+mod wire;

@@ -1,10 +1,8 @@
-//! Tests of the parts of the server, through their public calls.
+//! Tests of texts, rights, keys, screens and buffers, through their public calls.
 #![tactic(auto)]
 
 #[cfg(test)]
 mod buffers;
-#[cfg(test)]
-mod config;
 #[cfg(test)]
 mod decisions;
 #[cfg(test)]
@@ -30,8 +28,6 @@ mod printing;
 #[cfg(test)]
 mod rights;
 #[cfg(test)]
-mod script;
-#[cfg(test)]
 mod terminal;
 #[cfg(test)]
 mod text;
@@ -39,5 +35,3 @@ mod text;
 mod undo;
 #[cfg(test)]
 mod windows;
-#[cfg(test)]
-mod wire;
