@@ -3,4 +3,4 @@
 
 mod acts;
 
-pub use acts::act;
+pub use acts::{KeyAct, act};

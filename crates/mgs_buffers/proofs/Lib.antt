@@ -1,3 +1,4 @@
+pub mod Edits
 pub mod MarkedLemmas
 pub mod Limits
 pub mod Changes

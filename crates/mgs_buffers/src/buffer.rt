@@ -100,7 +100,8 @@ impl<T: Marked + Drop> Buffer<T> {
     }
 
     /// Puts characters in place of those from `a` up to `b` of the text, moves its marks, records the edit under the next
-    /// serial, and sets the buffer's modified flag. `Short`: memory was refused, and all is as it was.
+    /// serial, and sets the buffer's modified flag. Where nothing is taken out and nothing put in, all stays as it is.
+    /// `Short`: memory was refused, and all is as it was.
     pub fn edit(&mut self, a: usize, b: usize, put: &[char]) -> Result<(), Short>
         requires order { a ≤ b }
         requires within { b ≤ length (T.text self.old.text) }
@@ -108,6 +109,9 @@ impl<T: Marked + Drop> Buffer<T> {
         ensures ok { OnOk result ((name : List ℕ) → marked_of T.text T.marks name self.new ≡ marked_edited a b put.now (marked_of T.text T.marks name self.old)) }
         ensures err { OnErr result ((name : List ℕ) → marked_of T.text T.marks name self.new ≡ marked_of T.text T.marks name self.old) }
     {
+        if a == b && put.is_empty() {
+            return Ok(());
+        }
         let removed = self.text.copy(a, b)?;
         self.text.replace(a, b, put)?;
         let _ = self.record.push(Edit {

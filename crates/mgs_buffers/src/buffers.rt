@@ -281,7 +281,8 @@ impl<T: Marked + Drop> Buffers<T> {
     }
 
     /// Puts characters in place of those from `a` up to `b` of the buffer's text, moves its marks, records the edit under the
-    /// next serial, and sets the buffer's modified flag. `Short`: memory was refused, and all is as it was.
+    /// next serial, and sets the buffer's modified flag. Where nothing is taken out and nothing put in, all stays as it
+    /// is. `Short`: memory was refused, and all is as it was.
     pub fn edit(&mut self, name: &Name, a: usize, b: usize, put: &[char]) -> Result<(), Short>
         requires kept { HasBuffer name.now self.old }
         requires order { a ≤ b }

@@ -1,20 +1,20 @@
 -- A session opens: what its window shows, where others stand, and why it may be refused.
-use Rattle.std.proofs.Common.{◌≡◌, ℕ, ◌+◌, ◌-◌, ◌≤◌, ◌^◌, Bool, true, false, not, cond, List, [], ◌∷◌, ◌++◌, length, map, Option, Some, None, Ok, Err, refl, sym, ap, ◌∙◌, arith, eq-eqb}
-use Rattle.std.specs.Prelude.{find, is_some, nat_le, ◌==◌, ◌&&◌, ◌||◌, if◌then◌else◌}
-use Rattle.std.specs.Option.{option_map}
+use Rattle.std.proofs.Common.{◌≡◌, ℕ, ◌+◌, ◌-◌, ◌≤◌, ◌^◌, Bool, true, false, not, cond, List, [], ◌∷◌, ◌++◌, length, map, Option, Some, None, Ok, Err, refl, sym, ap, ◌∙◌, arith}
+use Rattle.std.specs.Prelude.{find, is_some, max, nat_le, ◌&&◌, ◌||◌, if◌then◌else◌}
+use Rattle.std.specs.Option.{option_map, option_or}
 use Rattle.std.proofs.lemmas.List.{length-map, map-append}
 use Rattle.mgs_model.specs.Names.{same_name}
 use Rattle.mgs_model.specs.Picture.{IsSize}
 use Rattle.mgs_model.specs.Access.{Directory, is_among}
 use Rattle.mgs_model.specs.World.{World, Buffer, Buffer_of, may}
 use Rattle.mgs_model.specs.World as model
-use Rattle.mgs_model.specs.Events.{can_open, first_shows, is_size, open_fault, new_session, opened, settled}
+use Rattle.mgs_model.specs.Events.{can_open, first_shows, is_open, is_size, session_fault, open_fault, new_session, opened, settled}
 use Rattle.mgs_model.specs.declared.errors.OpenFault.{OpenFault}
 use Rattle.mgs_model.specs.declared.limits.TheConstants.{SESSION_LIMIT}
 use Rattle.mgs_model.specs.declared.errors.OpenFault.TheVariants.{NoUser, Size, Full, Short}
-use Rattle.mgs_buffers.specs.MarkedBuffer.{MarkedBuffer, mark_at}
+use Rattle.mgs_buffers.specs.MarkedBuffer.{MarkedBuffer}
 use Rattle.mgs_windows.specs.declared.WindowMarks.{WindowMarks}
-use Rattle.mgs_session.specs.Told.{session_opened}
+use Rattle.mgs_session.specs.Sessions.{session_opened}
 use Rattle.mgs_session.specs.declared.Session.{Session}
 use Rattle.mgs_world.specs.Worlds.{buffers_of, id_after, session_of, window_shown, world_of}
 use Rattle.mgs_world.specs.Sound.{IsSound, in_use}
@@ -47,12 +47,12 @@ first_window None (Some b) ks ls height h e = cc
 first_window (Some x) None ks ls height h e = cc
 first_window (Some x) (Some b) ks ls height h e =
     let named : x.name ≡ b.name = cc in
-    same_window (Buffer_of x.name) _ 0 _ None _ 0 0 height h.point (ap (option_map (mark_at x.name ls)) h.mark) h.top
+    same_window (Buffer_of x.name) _ 0 _ None _ 0 0 height h.point h.mark h.top
     ∙ ap (λ (n : List ℕ). let w : model.Window = record { shows = Buffer_of n; point = 0; mark = None; top = 0; row = 0; height = height } in w) named
 
-session_new : (d : Directory) (ks ls : List MarkedBuffer) (id : ℕ) (user : List ℕ) (rows cols : ℕ) (o : Option WindowMarks) → FirstWindowMarks o ks ls → window_marks_name o ≡ first_name d user ks → session_of ls (session_opened id user rows cols o) ≡ new_session d (buffers_of ks) id user rows cols
-session_new d ks ls id user rows cols o h named =
-    same_windows (session_of ls (session_opened id user rows cols o)) _ _
+session_new : (d : Directory) (ks ls : List MarkedBuffer) (id : ℕ) (user : List ℕ) (rows cols : ℕ) (o : Option WindowMarks) (capacity : ℕ) → FirstWindowMarks o ks ls → window_marks_name o ≡ first_name d user ks → session_of ls (session_opened id user rows cols o capacity) ≡ new_session d (buffers_of ks) id user rows cols
+session_new d ks ls id user rows cols o capacity h named =
+    same_windows (session_of ls (session_opened id user rows cols o capacity)) _ _
     (ap (λ (w : model.Window). w ∷ []) (first_window o (find (may d user ReadAttributes) (buffers_of ks)) ks ls (rows - 2) h named))
 
 -- THE WORLD AFTER
@@ -69,18 +69,22 @@ world_undone d ks ls xs next sound h =
 pub sound_undone : (ks ls : List MarkedBuffer) (xs : List Session) → IsSound ks xs → WindowMarksDropped None ks ls → IsSound ls xs
 sound_undone ks ls xs sound h = sound_same ks ls xs (λ m i. omega (arith, h.uses m i)) sound
 
+next_above : (id : ℕ) → id + 1 ≡ max id (id + 1)
+next_above id = omega arith
+
 -- ys are the sessions with the new one
-pub opened_at : (d : Directory) (ks ls : List MarkedBuffer) (xs ys : List Session) (id : ℕ) (user : List ℕ) (rows cols : ℕ) (o : Option WindowMarks) → IsSound ks xs → FirstWindowMarks o ks ls → window_marks_name o ≡ first_name d user ks
-    → ys ≡ xs ++ session_opened id user rows cols o ∷ []
+pub opened_at : (d : Directory) (ks ls : List MarkedBuffer) (xs ys : List Session) (id : ℕ) (user : List ℕ) (rows cols : ℕ) (o : Option WindowMarks) (capacity : ℕ) → IsSound ks xs → FirstWindowMarks o ks ls → window_marks_name o ≡ first_name d user ks
+    → ys ≡ xs ++ session_opened id user rows cols o capacity ∷ []
     → world_of d ls ys (Some (id + 1)) ≡ opened (world_of d ks xs (Some id)) id user rows cols
-opened_at d ks ls xs ys id user rows cols o sound h named more =
-    let y = session_opened id user rows cols o in
+opened_at d ks ls xs ys id user rows cols o capacity sound h named more =
+    let y = session_opened id user rows cols o capacity in
     let used = sound_in_use ks xs sound in
     let seen : map (session_of ls) (xs ++ y ∷ []) ≡ map (session_of ks) xs ++ new_session d (buffers_of ks) id user rows cols ∷ [] =
     map-append (session_of ls) xs (y ∷ [])
     ∙ ap (λ (ss : List model.Session). ss ++ session_of ls y ∷ []) (sessions_stay ks ls xs used (in_use_more ks ls xs (first_more o ks ls h) used) (first_stay o ks ls h))
-    ∙ ap (λ (s : model.Session). map (session_of ks) xs ++ s ∷ []) (session_new d ks ls id user rows cols o h named) in
+    ∙ ap (λ (s : model.Session). map (session_of ks) xs ++ s ∷ []) (session_new d ks ls id user rows cols o capacity h named) in
     ap (λ (zs : List Session). world_of d ls zs (Some (id + 1))) more ∙ same_world d _ _ _ _ (id + 1) (first_buffers o ks ls h) seen
+    ∙ ap (λ (n : ℕ). record (opened (world_of d ks xs (Some id)) id user rows cols) { next_id = n }) (next_above id)
 
 -- WHY NOT
 
@@ -102,7 +106,8 @@ user_found user found (x ∷ xs) e =
 
 -- the four questions in order
 abbrev fault_of : Bool → Bool → Bool → Bool → Option OpenFault
-fault_of known fits many used = if not known then Some NoUser else if not fits then Some Size else if many then Some Full else if used then Some Full else None
+fault_of known fits many used =
+    option_or (if not known then Some NoUser else if not fits then Some Size else if many then Some Full else None) (if used then Some Full else None)
 
 never_short : {X : Type 0} (known fits many used : Bool) → fault_of known fits many used ≡ Some Short → X
 never_short false fits many used e = cc
@@ -126,6 +131,11 @@ no_room w user rows cols many used some fits many_is used_is =
     ∙ ap (λ (b : Bool). fault_of true b (nat_le SESSION_LIMIT (length w.sessions)) (nat_le (2 ^ 64) w.next_id)) fits
     ∙ ap (λ (b : Bool). fault_of true true b (nat_le (2 ^ 64) w.next_id)) many_is
     ∙ ap (λ (b : Bool). fault_of true true many b) used_is
+    ∙ either many
+  where
+    either : (b : Bool) → fault_of true true b used ≡ cond b (Some Full) (cond used (Some Full) None)
+    either true = refl
+    either false = refl
 
 -- as many sessions as are kept
 pub many_sessions : (d : Directory) (ks : List MarkedBuffer) (xs : List Session) (next : Option ℕ) (n : ℕ) → n ≡ length xs → nat_le SESSION_LIMIT (length (world_of d ks xs next).sessions) ≡ nat_le SESSION_LIMIT n
@@ -133,15 +143,20 @@ many_sessions d ks xs next n is = ap (nat_le SESSION_LIMIT) (length-map xs (sess
 
 -- THE ANSWER
 
-can_be_opened : (w : World) (id : ℕ) (user : List ℕ) (rows cols : ℕ) → open_fault w user rows cols ≡ None → id ≡ w.next_id → can_open w id user rows cols ≡ true
-can_be_opened w id user rows cols well is =
-    ap (λ (o : Option OpenFault). not (is_some o) && (id == w.next_id)) well ∙ eq-eqb id w.next_id is
+first_none : {A : Type 0} (a b : Option A) → option_or a b ≡ None → a ≡ None
+first_none None b e = refl
+first_none (Some x) b e = cc
 
-opened_ok : (w v : World) (id : ℕ) (user : List ℕ) (rows cols : ℕ) → open_fault w user rows cols ≡ None → id ≡ w.next_id → v ≡ settled (opened w id user rows cols) → OpenedBy w v user rows cols (Ok id)
-opened_ok w v id user rows cols well is done =
-    let can = can_be_opened w id user rows cols well is in
+can_be_opened : (w : World) (id : ℕ) (user : List ℕ) (rows cols : ℕ) → open_fault w user rows cols ≡ None → is_open id w ≡ false → can_open w id user rows cols ≡ true
+can_be_opened w id user rows cols well fresh =
+    ap (λ (o : Option OpenFault). not (is_some o) && not (is_open id w)) (first_none (session_fault w user rows cols) (if nat_le (2 ^ 64) w.next_id then Some Full else None) well)
+    ∙ ap not fresh
+
+opened_ok : (w v : World) (id : ℕ) (user : List ℕ) (rows cols : ℕ) → open_fault w user rows cols ≡ None → id ≡ w.next_id → is_open id w ≡ false → v ≡ settled (opened w id user rows cols) → OpenedBy w v user rows cols (Ok id)
+opened_ok w v id user rows cols well is fresh done =
+    let can = can_be_opened w id user rows cols well fresh in
     record {
-      ok = (can, done ∙ sym (ap (λ (b : Bool). cond b (settled (opened w id user rows cols)) w) can));
+      ok = (is, can, done ∙ sym (ap (λ (b : Bool). cond b (settled (opened w id user rows cols)) w) can));
       err = tt;
       answer = well;
     }
@@ -167,7 +182,7 @@ opened_is w d ks ls xs ys now after id user found rows cols view is behind named
     ∙ ap (λ (u : List ℕ). opened w id u rows cols) (user_found user found d.users named)
 
 -- and its answer
-pub opened_by : (w v : World) (d : Directory) (ks : List MarkedBuffer) (xs : List Session) (now : Option ℕ) (id : ℕ) (user : List ℕ) (rows cols : ℕ) → world_of d ks xs now ≡ w → now ≡ Some id → open_fault w user rows cols ≡ None → IsSize rows cols → settled w ≡ w → v ≡ opened w id user rows cols → OpenedBy w v user rows cols (Ok id)
-opened_by w v d ks xs now id user rows cols view is well size rests done =
-    opened_ok w v id user rows cols well (sym (ap id_after is) ∙ ap (λ (u : World). u.next_id) view)
+pub opened_by : (w v : World) (d : Directory) (ks : List MarkedBuffer) (xs : List Session) (now : Option ℕ) (id : ℕ) (user : List ℕ) (rows cols : ℕ) → world_of d ks xs now ≡ w → now ≡ Some id → open_fault w user rows cols ≡ None → IsSize rows cols → settled w ≡ w → is_open id w ≡ false → v ≡ opened w id user rows cols → OpenedBy w v user rows cols (Ok id)
+opened_by w v d ks xs now id user rows cols view is well size rests fresh done =
+    opened_ok w v id user rows cols well (sym (ap id_after is) ∙ ap (λ (u : World). u.next_id) view) fresh
     (done ∙ sym (opened_rests w id user rows cols (omega (arith, size.some_rows)) rests))

@@ -1,16 +1,19 @@
 -- Opening and closing settle nothing: the windows of the others stand where they settle, and a new one at its start.
-use Rattle.std.proofs.Common.{◌≡◌, ℕ, ◌+◌, ◌-◌, ◌/◌, ◌≤◌, Bool, true, false, cond, List, [], ◌∷◌, ◌++◌, map, Option, Some, None, refl, sym, ap, subst, ◌∙◌, arith}
-use Rattle.std.specs.Prelude.{is_some}
+use Rattle.std.proofs.Common.{◌≡◌, ℕ, ◌+◌, ◌-◌, ◌/◌, ◌≤◌, Bool, true, false, cond, List, [], ◌∷◌, ◌++◌, map, filter, not, Option, Some, None, refl, sym, ap, subst, ◌∙◌, eqb-true, arith}
+use Rattle.std.specs.Prelude.{is_some, nat_eq, All}
 use Rattle.std.proofs.lemmas.Bool.{lt-ltb}
 use Rattle.std.proofs.lemmas.List.{map-append}
 use Rattle.mgs_model.specs.Access.{Directory}
-use Rattle.mgs_model.specs.Apply.{remove_first}
+use Rattle.mgs_model.specs.Apply.{remove_first, without_session}
+use Rattle.mgs_world.specs.declared.size.Size.{Size}
+use Rattle.mgs_world.specs.Worlds.{IsUnique, session_size, sizes}
+use Rattle.std.proofs.lemmas.List.Elements.{All-head, All-tail}
 use Rattle.mgs_model.specs.Lines.{line_of, start_of, settled_top}
 use Rattle.mgs_model.specs.World.{World, Buffer, Session, Window, Shows, Nothing, Buffer_of, Listing, List_of, has_id, find_session, find_buffer, may}
 use Rattle.mgs_model.specs.Events.{Close, top_settled, window_top, session_settled, settled, new_window, new_session, opened, step}
 use Rattle.mgs_model.specs.declared.right.Right.TheVariants.{ReadData}
 use Rattle.mgs_core.specs.Steps.{closed}
-use Rattle.mgs_core.proofs.Ids.{remove_none}
+use Rattle.mgs_core.proofs.Ids.{differ, remove_none}
 
 pub settled_as : (v w : World) → w ≡ v → settled v ≡ v → settled w ≡ w
 settled_as v w is rests = subst (λ (u : World). settled u ≡ u) (sym is) rests
@@ -71,9 +74,26 @@ closed_rests w id rests =
 pub closed_none : (w : World) (id : ℕ) → find_session id w.sessions ≡ None → w ≡ closed w id
 closed_none w id none = ap (λ (ss : List Session). let v : World = record w { sessions = ss } in v) (sym (remove_none (has_id id) w.sessions none))
 
-pub closed_step : (w : World) (id : ℕ) → settled w ≡ w → closed w id ≡ step w (Close id)
-closed_step w id rests = go (find_session id w.sessions) refl
+-- of sessions that are unique one alone has the id
+alone : (id : ℕ) (xs : List Session) → All (λ (y : Size). nat_eq id y.id ≡ false) (map session_size xs) → filter (λ x. not (has_id id x)) xs ≡ xs
+alone id [] h = refl
+alone id (x ∷ xs) h =
+    let other : has_id id x ≡ false = differ id x.id (All-head (λ (y : Size). nat_eq id y.id ≡ false) (session_size x) (map session_size xs) h) in
+    ap (λ (b : Bool). cond (not b) (x ∷ filter (λ x. not (has_id id x)) xs) (filter (λ x. not (has_id id x)) xs)) other
+    ∙ ap (λ ys. x ∷ ys) (alone id xs (All-tail (λ (y : Size). nat_eq id y.id ≡ false) (session_size x) (map session_size xs) h))
+
+pub without_first : (id : ℕ) (xs : List Session) → IsUnique (map session_size xs) → without_session id xs ≡ remove_first (has_id id) xs
+without_first id [] u = refl
+without_first id (x ∷ xs) u = go (has_id id x) refl (without_first id xs u.1)
   where
-    go : (o : Option Session) → find_session id w.sessions ≡ o → closed w id ≡ cond (is_some o) (settled (closed w id)) w
+    go : (b : Bool) → has_id id x ≡ b → without_session id xs ≡ remove_first (has_id id) xs → cond (not b) (x ∷ without_session id xs) (without_session id xs) ≡ cond b xs (x ∷ remove_first (has_id id) xs)
+    go true e later = alone id xs (subst (λ (n : ℕ). All (λ (y : Size). nat_eq n y.id ≡ false) (map session_size xs)) (eqb-true x.id id e) u.0)
+    go false e later = ap (λ ys. x ∷ ys) later
+
+pub closed_step : (w : World) (id : ℕ) → IsUnique (sizes w) → settled w ≡ w → closed w id ≡ step w (Close id)
+closed_step w id unique rests = go (find_session id w.sessions) refl
+  where
+    go : (o : Option Session) → find_session id w.sessions ≡ o → closed w id ≡ cond (is_some o) (settled (record w { sessions = without_session id w.sessions })) w
     go None e = sym (closed_none w id e)
-    go (Some x) e = sym (closed_rests w id rests)
+    go (Some x) e =
+        sym (closed_rests w id rests) ∙ ap (λ (xs : List Session). settled (record w { sessions = xs })) (sym (without_first id w.sessions unique))

@@ -1,5 +1,6 @@
 // Laws of what is done. They are about the definitions that `Core` meets, so these calls take nothing and do nothing.
 ghost use Rattle.mgs_model.specs.Events.{SettledStays};
+ghost use Rattle.mgs_model.specs.Holder.{KillStays, RulesKeepKills};
 ghost use Rattle.mgs_model.specs.Lawful.{OutcomesAreLawful};
 
 /// Settling is done once: what is settled stays as it is when it settles again.
@@ -13,4 +14,12 @@ pub fn settled_stays()
 /// an effect is carried out.
 pub fn outcomes_are_lawful()
     ensures { OutcomesAreLawful }
+{}
+
+/// A kill stays its holder's. Whatever the other sessions do, and whatever rights are taken meanwhile, a session's kill
+/// buffer stays what it is: only its own events can change it. And an act that changes an access list or an owner, that
+/// creates a buffer or kills one, changes no kill buffer at all, that of the acting session neither.
+pub fn kill_stays()
+    ensures others { KillStays }
+    ensures rules { RulesKeepKills }
 {}

@@ -5,7 +5,7 @@ mod laws;
 mod secrecy;
 mod server;
 
-pub use laws::{outcomes_are_lawful, settled_stays};
+pub use laws::{kill_stays, outcomes_are_lawful, settled_stays};
 pub use mgs_world::Size;
 pub use secrecy::{hidden_act, hidden_text, purged};
 pub use server::Core;

@@ -3,7 +3,8 @@ ghost use Rattle.mgs_model.specs.Secrecy.{HiddenAct, HiddenText};
 ghost use Rattle.mgs_model.specs.Purging.{Purged};
 
 /// A hidden text has no effect on one act. Where two worlds differ only in the characters of buffers that a set of
-/// users may not read, the same act of a session of one of them saves the same, and leaves worlds that differ only so.
+/// users may not read, the same act of a session of one of them does the same: it has the same effect on the buffers, a
+/// save's text among it, and leaves worlds that differ only so, in which the sessions of the set are the same.
 pub fn hidden_act()
     ensures { HiddenAct }
 {}

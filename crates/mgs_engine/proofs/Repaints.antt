@@ -1,9 +1,9 @@
 -- Screens that are drawn and painted.
-use Rattle.std.proofs.Common.{◌≡◌, ℕ, zero, suc, ◌+◌, ◌<◌, ◌≤◌, List, [], ◌∷◌, ◌++◌, length, get_or, set, take, drop, map, Some, None, refl, sym, ap, subst, ◌∙◌, arith}
+use Rattle.std.proofs.Common.{◌≡◌, ℕ, zero, suc, ◌+◌, ◌<◌, ◌≤◌, List, [], ◌∷◌, ◌++◌, length, get_or, set, take, drop, map, Bool, not, true, false, Some, None, refl, sym, ap, subst, ◌∙◌, arith}
 use Rattle.std.specs.Prelude.{slice_get, All}
 use Rattle.std.proofs.lemmas.Option.{get_or_from_slice_get, slice_get_within}
 use Rattle.std.proofs.lemmas.List.{append-nil, map-append, length_push, take_more, take_more_set, take_all}
-use Rattle.std.proofs.lemmas.List.Elements.{All-push}
+use Rattle.std.proofs.lemmas.List.Elements.{All-cons, All-nil}
 use Rattle.mgs_model.specs.Picture.{Picture}
 use Rattle.mgs_model.specs.World.{World, Session, find_session}
 use Rattle.mgs_model.specs.Draw.{screen, draw}
@@ -16,9 +16,12 @@ use Rattle.mgs_world.specs.Worlds.{find_size, sizes, is_size_of, IsOfSize, IsUni
 use Rattle.mgs_world.specs.Worlds as core
 use Rattle.mgs_engine.specs.declared.screen.Screen.{Screen}
 use Rattle.mgs_engine.specs.Queues.{IsTaken}
-use Rattle.mgs_engine.specs.Screens.{queue_of, shown_size, IsSessionScreen, IsKnown, IsDrawn, IsAhead, IsRepaint, AreRepaints, IsFirst}
+use Rattle.mgs_engine.specs.Screens.{queue_of, shown_size, IsSessionScreen, IsKnown, IsDrawn, IsAhead, IsOnTime, IsRedrawn, IsRepaint, AreRedrawn, IsFirst}
+use Rattle.mgs_engine.specs.Served.{IsDrawnInTime}
+use Rattle.mgs_engine.specs.Slow.{falls_behind, same_picture}
 use Rattle.mgs_core.proofs.Ids.{found_sizes, known_at, same_some, some_of}
 use Rattle.mgs_engine.proofs.ScreenLemmas.{rest_at}
+use Rattle.mgs_engine.proofs.Pictures.{not_behind, picture_Decides}
 
 -- SIZES
 
@@ -54,11 +57,10 @@ ahead_screen w old new k h s =
     (record {
       rows = screen_rows w h.session ∙ ap (λ (z : Size). z.rows) size;
       cols = screen_cols w h.session ∙ ap (λ (z : Size). z.cols) size;
-      room = s.room;
     })
 
 -- a paint of what changes draws what comes next over what is shown
-pub paint_repaint : (old new : Screen) (bytes : List ℕ) → new.id ≡ old.id → new.shown ≡ old.next → new.queue.items ≡ old.queue.items ++ bytes → Repaints old.shown old.next bytes → IsRepaint old new
+pub paint_repaint : (old new : Screen) (bytes : List ℕ) → new.id ≡ old.id → new.shown ≡ old.next → new.queue ≡ old.queue ++ bytes → Repaints old.shown old.next bytes → IsRepaint old new
 paint_repaint old new bytes i e a h = record {
   id = i;
   bytes = bytes;
@@ -70,9 +72,9 @@ paint_repaint old new bytes i e a h = record {
   bound = subst (λ (z : Picture). length bytes ≤ bound_of z.rows z.cols) (sym e) h.bounded;
 }
 
-pub paint_first : (old new : Screen) (bytes : List ℕ) → IsTaken (queue_of old) → new.shown ≡ old.next → new.queue.items ≡ old.queue.items ++ bytes → Paints old.next bytes → IsFirst new
+pub paint_first : (old new : Screen) (bytes : List ℕ) → IsTaken (queue_of old) → new.shown ≡ old.next → new.queue ≡ old.queue ++ bytes → Paints old.next bytes → IsFirst new
 paint_first old new bytes t e a h =
-    let all : new.queue.items ≡ bytes = a ∙ ap (λ bs. bs ++ bytes) t in
+    let all : new.queue ≡ bytes = a ∙ ap (λ bs. bs ++ bytes) t in
     subst (Paints new.shown) (sym all) (subst (λ (z : Picture). Paints z bytes) (sym e) h)
 
 -- where a screen is as it was, nothing is painted
@@ -80,18 +82,38 @@ pub no_repaint : (x : Screen) → IsRepaint x x
 no_repaint x = record {
   id = refl;
   bytes = [];
-  appended = sym (append-nil x.queue.items);
+  appended = sym (append-nil x.queue);
   draws = ([], refl, refl);
   quiet = λ same. refl;
   bound = omega arith;
 }
+
+not_twice : (b : Bool) → not (not b) ≡ b
+not_twice true = refl
+not_twice false = refl
+
+-- a screen that may be late and is not shows what was drawn: that is what it showed
+pub marked_shown : (old new : Screen) → new ≡ record old { late = not (same_picture old.shown old.next) } → new.late ≡ false → new.shown ≡ old.next
+marked_shown old new e l =
+    let same : same_picture old.shown old.next ≡ true = sym (not_twice (same_picture old.shown old.next)) ∙ ap not (sym (ap (λ (x : Screen). x.late) e) ∙ l) in
+    ap (λ (x : Screen). x.shown) e ∙ (picture_Decides old.shown old.next).0 same
+
+pub marked_repaint : (old new : Screen) → new ≡ record old { late = not (same_picture old.shown old.next) } → IsRepaint old new
+marked_repaint old new e = subst (IsRepaint old) (sym e) (record {
+  id = refl;
+  bytes = [];
+  appended = sym (append-nil old.queue);
+  draws = ([], refl, refl);
+  quiet = λ same. refl;
+  bound = omega arith;
+})
 
 -- and else it is painted
 pub ahead_repaint : (w : World) (old mid new : Screen) → IsAhead w old mid → IsRepaint mid new → IsRepaint old new
 ahead_repaint w old mid new h r = record {
   id = r.id ∙ ap (λ (z : Screen). z.id) h.same;
   bytes = r.bytes;
-  appended = r.appended ∙ ap (λ (z : Screen). z.queue.items ++ r.bytes) h.same;
+  appended = r.appended ∙ ap (λ (z : Screen). z.queue ++ r.bytes) h.same;
   draws = subst (λ (z : Picture). Draws (IsFaithful (cells_of new.shown)) r.bytes (shown z) (shown new.shown)) (ap (λ (z : Screen). z.shown) h.same) r.draws;
   quiet = λ same. r.quiet (ap (λ (z : Screen). z.shown) h.same ∙ same);
   bound = r.bound;
@@ -104,31 +126,58 @@ ahead_drawn w old mid new h s e = record {
   picture = e ∙ ap (λ (z : Screen). z.next) h.same;
 }
 
+-- DRAWN AGAIN
+
+pub ahead_redrawn : (w : World) (old mid new : Screen) → IsAhead w old mid → shown_size new ≡ shown_size mid → new.late ≡ falls_behind (length mid.queue) mid.shown mid.next
+    → (new.late ≡ false → new.shown ≡ mid.next) → (new.late ≡ false → IsRepaint mid new) → (IsTaken (queue_of mid) → new.late ≡ false) → IsRedrawn w old new
+ahead_redrawn w old mid new h s late shows repaint prompt = record {
+  id = ap (λ (z : Size). z.id) s ∙ ap (λ (z : Screen). z.id) h.same;
+  session = h.session;
+  found = h.found;
+  late = late ∙ ap (λ (z : Screen). falls_behind (length z.queue) z.shown z.next) h.same;
+  prompt = λ t. prompt (ap (λ (z : Screen). z.queue) h.same ∙ t);
+  repaint = λ l. ahead_repaint w old mid new h (repaint l);
+  drawn = λ l. ahead_drawn w old mid new h s (shows l);
+}
+
+-- a screen that is what the world has is left alone
+pub still_redrawn : (w : World) (x : Screen) → IsDrawn w x → IsOnTime x → IsRedrawn w x x
+still_redrawn w x d t = record {
+  id = refl;
+  session = d.session;
+  found = d.found;
+  late = t ∙ sym (not_behind (length x.queue) x.shown (screen w d.session) d.picture);
+  prompt = λ e. t;
+  repaint = λ l. no_repaint x;
+  drawn = λ l. d;
+}
+
 -- ALL SCREENS
 
-repaints_push : (xs ys : List Screen) (x y : Screen) → AreRepaints xs ys → IsRepaint x y → AreRepaints (xs ++ x ∷ []) (ys ++ y ∷ [])
-repaints_push [] [] x y h r = (r, tt)
-repaints_push [] (b ∷ bs) x y h r = absurd h
-repaints_push (a ∷ us) [] x y h r = absurd h
-repaints_push (a ∷ us) (b ∷ bs) x y h r = (h.0, repaints_push us bs x y h.1 r)
+redrawn_push : (w : World) (xs ys : List Screen) (x y : Screen) → AreRedrawn w xs ys → IsRedrawn w x y → AreRedrawn w (xs ++ x ∷ []) (ys ++ y ∷ [])
+redrawn_push w [] [] x y h r = (r, tt)
+redrawn_push w [] (b ∷ bs) x y h r = absurd h
+redrawn_push w (a ∷ us) [] x y h r = absurd h
+redrawn_push w (a ∷ us) (b ∷ bs) x y h r = (h.0, redrawn_push w us bs x y h.1 r)
 
 -- one more is drawn again
-pub repaints_next : (xs ys : List Screen) (i : ℕ) (d y : Screen) → i < length xs → i < length ys → drop i xs ≡ drop i ys → AreRepaints (take i ys) (take i xs) → IsRepaint (get_or xs i d) y → AreRepaints (take (i + 1) ys) (take (i + 1) (set xs i y))
-repaints_next xs ys i d y l m e h r =
-    let q : IsRepaint (get_or ys i d) y = subst (λ (x : Screen). IsRepaint x y) (rest_at xs ys i d e) r in
-    subst (λ zs. AreRepaints zs (take (i + 1) (set xs i y))) (sym (take_more ys i d m))
-    (subst (AreRepaints (take i ys ++ get_or ys i d ∷ [])) (sym (take_more_set xs i y l))
-    (repaints_push (take i ys) (take i xs) (get_or ys i d) y h q))
+pub redrawn_next : (w : World) (xs ys : List Screen) (i : ℕ) (d y : Screen) → i < length xs → i < length ys → drop i xs ≡ drop i ys → AreRedrawn w (take i ys) (take i xs) → IsRedrawn w (get_or xs i d) y → AreRedrawn w (take (i + 1) ys) (take (i + 1) (set xs i y))
+redrawn_next w xs ys i d y l m e h r =
+    let q : IsRedrawn w (get_or ys i d) y = subst (λ (x : Screen). IsRedrawn w x y) (rest_at xs ys i d e) r in
+    subst (λ zs. AreRedrawn w zs (take (i + 1) (set xs i y))) (sym (take_more ys i d m))
+    (subst (AreRedrawn w (take i ys ++ get_or ys i d ∷ [])) (sym (take_more_set xs i y l))
+    (redrawn_push w (take i ys) (take i xs) (get_or ys i d) y h q))
 
-pub repaints_all : (xs ys : List Screen) (i : ℕ) → length xs ≤ i → length ys ≤ i → AreRepaints (take i ys) (take i xs) → AreRepaints ys xs
-repaints_all xs ys i l m h =
-    subst (λ zs. AreRepaints zs xs) (take_all i ys m) (subst (AreRepaints (take i ys)) (take_all i xs l) h)
+pub redrawn_all : (w : World) (xs ys : List Screen) (i : ℕ) → length xs ≤ i → length ys ≤ i → AreRedrawn w (take i ys) (take i xs) → AreRedrawn w ys xs
+redrawn_all w xs ys i l m h =
+    subst (λ zs. AreRedrawn w zs xs) (take_all i ys m) (subst (AreRedrawn w (take i ys)) (take_all i xs l) h)
 
-pub drawn_next : (w : World) (xs : List Screen) (i : ℕ) (y : Screen) → i < length xs → All (IsDrawn w) (take i xs) → IsDrawn w y → All (IsDrawn w) (take (i + 1) (set xs i y))
-drawn_next w xs i y l h d = subst (All (IsDrawn w)) (sym (take_more_set xs i y l)) (All-push (IsDrawn w) (take i xs) y h d)
-
-pub drawn_all : (w : World) (xs : List Screen) (i : ℕ) → length xs ≤ i → All (IsDrawn w) (take i xs) → All (IsDrawn w) xs
-drawn_all w xs i l h = subst (All (IsDrawn w)) (take_all i xs l) h
+-- those that are not late are what the world has
+pub in_time : (w : World) (xs ys : List Screen) → AreRedrawn w xs ys → All (IsDrawnInTime w) ys
+in_time w [] [] h = All-nil (IsDrawnInTime w)
+in_time w [] (y ∷ ys) h = absurd h
+in_time w (x ∷ xs) [] h = absurd h
+in_time w (x ∷ xs) (y ∷ ys) h = All-cons (IsDrawnInTime w) y ys h.0.drawn (in_time w xs ys h.1)
 
 -- ALL AT FIRST
 

@@ -1,6 +1,5 @@
 -- Screens and their queues, as they are drawn, closed, and handed over.
 use Rattle.std.proofs.Common.{◌≡◌, ℕ, zero, suc, ◌+◌, ◌*◌, ◌<◌, ◌≤◌, List, [], ◌∷◌, ◌++◌, length, get_or, set, take, drop, map, refl, sym, ap, subst, ◌∙◌, add-zero, arith}
-use Rattle.std.specs.Prelude.{All, vec_capacity, vec_len}
 use Rattle.std.specs.List.{position_or_len}
 use Rattle.std.proofs.lemmas.List.{map-append, get_or-drop, drop-set-lt, drop-drop, take_more, take_more_set, take_all}
 use Rattle.std.specs.Option.{option_map}
@@ -11,8 +10,7 @@ use Rattle.mgs_model.specs.declared.limits.TheConstants.{QUEUE_LIMIT}
 use Rattle.mgs_paint.specs.Painting.{bound_of}
 use Rattle.mgs_engine.specs.declared.screen.Screen.{Screen}
 use Rattle.mgs_engine.specs.Queues.{Handed, Queue, IsTaken, emptied, waiting_in, find_queue, is_queue_of}
-use Rattle.mgs_engine.specs.Screens.{queue_of, queues_of, screen_id, IsSessionScreen}
-pub use Rattle.mgs_core.proofs.Ids.{All-unmap}
+use Rattle.mgs_engine.specs.Screens.{queue_of, queues_of, screen_id}
 
 -- a paint of any screen has room in an empty queue
 mul_most : (a b c d : ℕ) → a ≤ c → b ≤ d → a * b ≤ c * d
@@ -21,10 +19,10 @@ mul_most a b c d h k = grind (arith, mul-le-mul_left a k, mul-le-mul_left d h)
 pub paint_fits : (rows cols : ℕ) → IsSize rows cols → bound_of rows cols ≤ QUEUE_LIMIT
 paint_fits rows cols h = let p : rows * (16 + 4 * cols) ≤ 64 * 656 = mul_most rows (16 + 4 * cols) 64 656 h.few_rows (omega (arith, h.few_cols)) in omega (arith, p)
 
-pub paint_room : (x : Screen) → IsPicture x.next → IsSessionScreen x → IsTaken (queue_of x) → vec_len x.queue + bound_of x.next.rows x.next.cols ≤ vec_capacity x.queue
-paint_room x p s e =
-    let l : length x.queue.items ≡ 0 = ap length e in
-    omega (arith, l, x.queue.ok.0, paint_fits x.next.rows x.next.cols p.size, s.room)
+pub paint_room : (x : Screen) → IsPicture x.next → IsTaken (queue_of x) → length x.queue + bound_of x.next.rows x.next.cols ≤ QUEUE_LIMIT
+paint_room x p e =
+    let l : length x.queue ≡ 0 = ap length e in
+    omega (arith, l, paint_fits x.next.rows x.next.cols p.size)
 
 -- DRAWING
 
@@ -46,9 +44,6 @@ same_set of (z ∷ zs) (suc i) d y l e = ap (λ ss. of z ∷ ss) (same_set of zs
 
 -- QUEUES
 
-pub taken_at : (xs : List Screen) (i : ℕ) (d : Screen) → i < length xs → All IsTaken (queues_of xs) → IsTaken (queue_of (get_or xs i d))
-taken_at xs i d l h = All-unmap IsTaken queue_of xs h i d l
-
 -- one more queue is handed over
 pub handed_more : (xs ys : List Screen) (i : ℕ) (d y : Screen) → i < length xs → i < length ys → queues_of (take i xs) ≡ map emptied (queues_of (take i ys)) → drop i xs ≡ drop i ys → queue_of y ≡ emptied (queue_of (get_or xs i d)) → queues_of (take (i + 1) (set xs i y)) ≡ map emptied (queues_of (take (i + 1) ys))
 handed_more xs ys i d y l m e r is =
@@ -64,13 +59,13 @@ pub handed_all : (xs ys : List Screen) (i : ℕ) → length xs ≤ i → length 
 handed_all xs ys i l m e =
     ap queues_of (sym (take_all i xs l)) ∙ e ∙ ap (λ zs. map emptied (queues_of zs)) (take_all i ys m)
 
-pub queue_at : (id : ℕ) (xs : List Screen) (at : ℕ) (x : Screen) → at ≡ position_or_len (screen_id id) xs → at < length xs → x ≡ get_or xs at x → waiting_in (find_queue id (queues_of xs)) ≡ x.queue.items
+pub queue_at : (id : ℕ) (xs : List Screen) (at : ℕ) (x : Screen) → at ≡ position_or_len (screen_id id) xs → at < length xs → x ≡ get_or xs at x → waiting_in (find_queue id (queues_of xs)) ≡ x.queue
 queue_at id xs at x e l is =
     ap waiting_in
     (find-map queue_of (screen_id id) (is_queue_of id) (λ x. refl) xs
     ∙ ap (option_map queue_of) (find_at_place (screen_id id) xs x (omega (arith, e, l))))
-    ∙ ap (λ n. (get_or xs n x).queue.items) (sym e)
-    ∙ ap (λ (x : Screen). x.queue.items) (sym is)
+    ∙ ap (λ n. (get_or xs n x).queue) (sym e)
+    ∙ ap (λ (x : Screen). x.queue) (sym is)
 
 -- HANDED OVER
 
@@ -78,9 +73,9 @@ handed_push : {K : Type 0} (takes : K → ℕ → List ℕ → K → Type 0) (s 
 handed_push takes s t u [] x h r = (u, subst (λ z. takes z x.id x.bytes u) (sym h) r, refl)
 handed_push takes s t u (y ∷ ys) x h r = (h.0, h.1, handed_push takes h.0 t u ys x h.2 r)
 
-pub handed_next : {K : Type 0} (takes : K → ℕ → List ℕ → K → Type 0) (s t u : K) (xs ys : List Screen) (i : ℕ) (d : Screen) → i < length ys → drop i xs ≡ drop i ys → Handed takes s (queues_of (take i ys)) t → takes t (get_or xs i d).id (get_or xs i d).queue.items u → Handed takes s (queues_of (take (i + 1) ys)) u
+pub handed_next : {K : Type 0} (takes : K → ℕ → List ℕ → K → Type 0) (s t u : K) (xs ys : List Screen) (i : ℕ) (d : Screen) → i < length ys → drop i xs ≡ drop i ys → Handed takes s (queues_of (take i ys)) t → takes t (get_or xs i d).id (get_or xs i d).queue u → Handed takes s (queues_of (take (i + 1) ys)) u
 handed_next takes s t u xs ys i d l e h r =
-    let q : takes t (get_or ys i d).id (get_or ys i d).queue.items u = subst (λ (x : Screen). takes t x.id x.queue.items u) (rest_at xs ys i d e) r in
+    let q : takes t (get_or ys i d).id (get_or ys i d).queue u = subst (λ (x : Screen). takes t x.id x.queue u) (rest_at xs ys i d e) r in
     subst (λ qs. Handed takes s qs u)
     (sym (ap queues_of (take_more ys i d l) ∙ map-append queue_of (take i ys) (get_or ys i d ∷ [])))
     (handed_push takes s t u (queues_of (take i ys)) (queue_of (get_or ys i d)) h q)

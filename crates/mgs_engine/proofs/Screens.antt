@@ -1,16 +1,19 @@
 -- Screens beside the sizes of a world, as sessions open and close.
 use Rattle.std.proofs.Common.{◌≡◌, ℕ, ◌+◌, ◌<◌, ◌≤◌, not, Bool, true, false, cond, List, [], ◌∷◌, ◌++◌, length, get_or, map, Option, Some, None, refl, sym, ap, subst, ◌∙◌, arith}
-use Rattle.std.specs.Prelude.{find, nat_eq, slice_get, All, IsSome}
+use Rattle.std.specs.Prelude.{find, is_some, nat_eq, slice_get, All, IsSome}
+use Rattle.std.specs.Bool.{Decides}
+use Rattle.mgs_model.specs.Events.{is_open}
 use Rattle.std.specs.List.{position_or_len, remove}
 use Rattle.std.proofs.lemmas.List.{map-append}
 use Rattle.std.proofs.lemmas.List.Elements.{All-cons, All-map, All-nil, All-weaker}
 use Rattle.std.specs.Option.{option_map}
 use Rattle.mgs_model.proofs.Firsts.{find-map, find_none, place_found}
 use Rattle.mgs_model.specs.Apply.{remove_first}
-use Rattle.mgs_core.proofs.Ids.{differ, known_at, mapped_got, map-remove_first, remove_at_first, remove_none}
-use Rattle.mgs_model.specs.World.{World}
+use Rattle.mgs_core.proofs.Ids.{differ, found_sizes, known_at, mapped_got, map-remove_first, remove_at_first, remove_none}
+use Rattle.mgs_model.specs.World.{World, Session, find_session}
 use Rattle.mgs_world.specs.declared.size.Size.{Size}
-use Rattle.mgs_world.specs.Worlds.{find_size, is_size_of, sizes, IsOther, IsUnique}
+use Rattle.mgs_world.specs.Worlds.{find_size, is_size_of, session_size, sizes, IsOther, IsUnique}
+use Rattle.mgs_engine.specs.declared.ending.Cause.{Cause}
 use Rattle.mgs_engine.specs.declared.screen.Screen.{Screen}
 use Rattle.mgs_engine.specs.Queues.{Queue, queue_id, IsTaken, emptied, waiting_in, find_queue, is_queue_of}
 use Rattle.mgs_engine.specs.Screens.{queue_of, queues_of, shown_size, screen_id, IsKnown}
@@ -39,8 +42,8 @@ pub ids_are : (xs : List Screen) → map queue_id (queues_of xs) ≡ map (λ (x 
 ids_are [] = refl
 ids_are (x ∷ xs) = ap (λ ys. x.id ∷ ys) (ids_are xs)
 
-pub well_formed : (w : World) (xs : List Screen) → IsServed w xs → IsWellFormed (serving_of w xs)
-well_formed w xs h =
+pub well_formed : (w : World) (xs : List Screen) (es : List (ℕ × Cause)) → IsServed w xs → IsWellFormed (serving_of w xs es)
+well_formed w xs es h =
     let ids : map queue_id (queues_of xs) ≡ map size_id (sizes w) = ids_are xs ∙ ap (map size_id) h.sizes_are in
     record { queues = ids; unique = subst AreUnique (sym ids) (unique_ids (sizes w) h.unique) }
 
@@ -85,6 +88,13 @@ open_place id ss xs at e is =
       λ l. rw f (some_found id xs (omega (arith, is, l))),
       λ h. omega (arith, is, place_found (screen_id id) xs (found_some (find (screen_id id) xs) (rw f at h))),
     )
+
+tells : (o : Option Session) → Decides (is_some o) (IsSome (option_map session_size o))
+tells None = (λ e. e, λ h. h)
+tells (Some x) = (λ e. refl, λ h. refl)
+
+pub open_tells : (id : ℕ) (w : World) → Decides (is_open id w) (IsSome (find_size id (sizes w)))
+open_tells id w = rw (found_sizes id w) (tells (find_session id w.sessions))
 
 -- ONE GOES
 

@@ -3,3 +3,7 @@ pub mod Painted
 pub mod Served
 pub mod Queues
 pub mod Screens
+pub mod Slow
+pub mod Handled
+pub mod Does
+pub mod Waiting

@@ -1,5 +1,6 @@
 -- The screens of open sessions, and the worlds that they are drawn from.
-use Rattle.std.specs.Prelude.{◌≡◌, ℕ, ◌≤◌, Bool, false, nat_eq, slice_get, List, [], ◌∷◌, ◌++◌, Some, map, length, vec_capacity}
+use Rattle.std.specs.Prelude.{◌≡◌, ℕ, ◌≤◌, Bool, false, find, nat_eq, slice_get, List, [], ◌∷◌, ◌++◌, Some, map, length}
+use Rattle.std.specs.List.{filter}
 use Rattle.mgs_world.specs.declared.size.Size.{Size}
 use Rattle.mgs_world.specs.Worlds.{find_size}
 use Rattle.mgs_model.specs.declared.touched.Touched.{Touched}
@@ -7,14 +8,14 @@ use Rattle.mgs_core.specs.Steps.{differs_at}
 use Rattle.mgs_model.specs.World.{World, Session, find_session}
 use Rattle.mgs_model.specs.Draw.{screen}
 use Rattle.mgs_model.specs.Picture.{Picture}
-use Rattle.mgs_model.specs.declared.limits.TheConstants.{QUEUE_LIMIT}
 use Rattle.mgs_paint.specs.Painting.{Paints, bound_of, cells_of, shown}
 use Rattle.mgs_term.specs.Drawing.{Draws, IsFaithful}
 use Rattle.mgs_engine.specs.declared.screen.Screen.{Screen}
-use Rattle.mgs_engine.specs.Queues.{Queue}
+use Rattle.mgs_engine.specs.Queues.{IsTaken, Queue}
+use Rattle.mgs_engine.specs.Slow.{falls_behind}
 
 abbrev pub queue_of : Screen → Queue
-queue_of x = record { id = x.id; bytes = x.queue.items }
+queue_of x = record { id = x.id; bytes = x.queue }
 
 abbrev pub queues_of : List Screen → List Queue
 queues_of xs = map queue_of xs
@@ -30,15 +31,26 @@ shown_size x = record { id = x.id; rows = x.shown.rows; cols = x.shown.cols }
 pub record Drawn : Type 0 where
   pub id : ℕ
   pub picture : Picture
+  pub late : Bool
 
 abbrev pub drawn_of : Screen → Drawn
-drawn_of x = record { id = x.id; picture = x.shown }
+drawn_of x = record { id = x.id; picture = x.shown; late = x.late }
 
--- both grids have one size, and the queue has its room
+-- both grids have one size
 pub record IsSessionScreen (x : Screen) : Type 0 where
   pub rows : x.next.rows ≡ x.shown.rows
   pub cols : x.next.cols ≡ x.shown.cols
-  pub room : QUEUE_LIMIT ≤ vec_capacity x.queue
+
+-- its session did not fall behind
+abbrev pub IsOnTime : Screen → Type 0
+IsOnTime x = x.late ≡ false
+
+abbrev pub is_late : Screen → Bool
+is_late x = x.late
+
+-- the sessions that fell behind
+abbrev pub late_ids : List Screen → List ℕ
+late_ids xs = map (λ (x : Screen). x.id) (filter is_late xs)
 
 -- the world knows the screen, and in this size
 abbrev pub IsKnown : List Size → Screen → Type 0
@@ -64,18 +76,33 @@ pub record IsAhead (w : World) (old new : Screen) : Type 0 where
 pub record IsRepaint (old new : Screen) : Type 0 where
   pub id : new.id ≡ old.id
   pub bytes : List ℕ
-  pub appended : new.queue.items ≡ old.queue.items ++ bytes
+  pub appended : new.queue ≡ old.queue ++ bytes
   pub draws : Draws (IsFaithful (cells_of new.shown)) bytes (shown old.shown) (shown new.shown)
   pub quiet : old.shown ≡ new.shown → bytes ≡ []
   pub bound : length bytes ≤ bound_of new.shown.rows new.shown.cols
 
+-- A screen was drawn again where an event can have changed it: it is late exactly where it changed and its paint may not
+-- have room. Else it was repainted, and is what the world has.
+pub record IsRedrawn (w : World) (old new : Screen) : Type 0 where
+  pub id : new.id ≡ old.id
+  pub session : Session
+  pub found : find_session old.id w.sessions ≡ Some session
+  pub late : new.late ≡ falls_behind (length old.queue) old.shown (screen w session)
+  pub prompt : IsTaken (queue_of old) → new.late ≡ false
+  pub repaint : new.late ≡ false → IsRepaint old new
+  pub drawn : new.late ≡ false → IsDrawn w new
+
 -- each of the screens
-abbrev pub AreRepaints : List Screen → List Screen → Type 0
-AreRepaints [] [] = Unit {0}
-AreRepaints [] (y ∷ ys) = ⊥
-AreRepaints (x ∷ xs) [] = ⊥
-AreRepaints (x ∷ xs) (y ∷ ys) = IsRepaint x y × AreRepaints xs ys
+abbrev pub AreRedrawn : World → List Screen → List Screen → Type 0
+AreRedrawn w [] [] = Unit {0}
+AreRedrawn w [] (y ∷ ys) = ⊥
+AreRedrawn w (x ∷ xs) [] = ⊥
+AreRedrawn w (x ∷ xs) (y ∷ ys) = IsRedrawn w x y × AreRedrawn w xs ys
+
+-- what is found of the ones is found of the others
+abbrev pub AreAmong : List Screen → List Screen → Type 0
+AreAmong xs ys = (id : ℕ) (x : Screen) → find (screen_id id) xs ≡ Some x → find (screen_id id) ys ≡ Some x
 
 -- the bytes that wait paint what is shown, whatever the terminal showed
 abbrev pub IsFirst : Screen → Type 0
-IsFirst x = Paints x.shown x.queue.items
+IsFirst x = Paints x.shown x.queue

@@ -1,13 +1,15 @@
 -- The screens of the open sessions, beside the world that they show.
-use Rattle.std.specs.Prelude.{◌≡◌, List, map, All}
+use Rattle.std.specs.Prelude.{◌≡◌, ℕ, ◌+◌, ◌≤◌, false, List, map, length, All}
 use Rattle.mgs_world.specs.Worlds.{sizes, IsUnique}
 use Rattle.mgs_model.specs.World.{World}
+use Rattle.mgs_model.specs.declared.limits.TheConstants.{SESSION_LIMIT}
+use Rattle.mgs_engine.specs.declared.ending.Cause.{Cause}
 use Rattle.mgs_engine.specs.declared.screen.Screen.{Screen}
-use Rattle.mgs_engine.specs.Screens.{IsDrawn, IsSessionScreen, queues_of, shown_size}
+use Rattle.mgs_engine.specs.Screens.{IsDrawn, IsOnTime, IsSessionScreen, queues_of, shown_size}
 use Rattle.mgs_engine.specs.Serving.{Serving}
 
-abbrev pub serving_of : World → List Screen → Serving
-serving_of world xs = record { world = world; queues = queues_of xs }
+abbrev pub serving_of : World → List Screen → List (ℕ × Cause) → Serving
+serving_of world xs ended = record { world = world; queues = queues_of xs; ended = ended }
 
 -- there is a screen for each open session, in their order, and it is the one that the world has for the session
 pub record IsServed (world : World) (xs : List Screen) : Type 0 where
@@ -15,3 +17,19 @@ pub record IsServed (world : World) (xs : List Screen) : Type 0 where
   pub unique : IsUnique (sizes world)
   pub each : All IsSessionScreen xs
   pub drawn : All (IsDrawn world) xs
+  pub on_time : All IsOnTime xs
+
+-- the same within an event, but for the screens that are late
+abbrev pub IsDrawnInTime : World → Screen → Type 0
+IsDrawnInTime w x = x.late ≡ false → IsDrawn w x
+
+pub record IsServedInTime (world : World) (xs : List Screen) : Type 0 where
+  pub sizes_are : map shown_size xs ≡ sizes world
+  pub unique : IsUnique (sizes world)
+  pub each : All IsSessionScreen xs
+  pub drawn : All (IsDrawnInTime world) xs
+
+-- what ended has a place for each session that is open, and for 64 at least
+pub record HasSlots (xs : List Screen) (ended : List (ℕ × Cause)) (capacity : ℕ) : Type 0 where
+  pub limit : SESSION_LIMIT ≤ capacity
+  pub each : length xs + length ended ≤ capacity

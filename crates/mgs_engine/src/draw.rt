@@ -1,16 +1,17 @@
 // The screens are drawn from a world, and painted where they changed.
-ghost use Rattle.std.specs.Prelude.{◌≡◌, ◌≤◌, ◌<◌, ◌↔◌, ℕ, List, [], map, All, IsTrue, false, IfOk, Some, length, vec_len, vec_capacity};
+ghost use Rattle.std.specs.Prelude.{◌≡◌, ◌≤◌, ◌<◌, ℕ, List, [], map, not, All, false, IfOk, Some, length, vec_len, vec_capacity};
 ghost use Rattle.mgs_world.specs.Worlds.{sizes, find_size, IsOfSize, IsUnique};
 ghost use Rattle.mgs_core.specs.Steps.{differs_at};
 ghost use Rattle.mgs_engine.specs.Queues.{IsTaken};
-ghost use Rattle.mgs_engine.specs.Screens.{IsSessionScreen, IsKnown, IsAhead, IsDrawn, IsRepaint, IsFirst, AreRepaints, AreDrawnApart, shown_size, queue_of, queues_of};
-ghost use Rattle.mgs_paint.specs.Painting.{Paints};
+ghost use Rattle.mgs_engine.specs.Screens.{IsSessionScreen, IsKnown, IsAhead, IsDrawn, IsOnTime, IsRepaint, IsRedrawn, IsFirst, AreRedrawn, AreDrawnApart, shown_size, queue_of};
+ghost use Rattle.mgs_engine.specs.Slow.{falls_behind, is_past, same_picture};
 
+use crate::same::same_grid;
 use crate::screen::Screen;
 use mgs_core::{Core, Size};
 use mgs_marks::Marked;
-use mgs_model::{SessionId, Short, Touched};
-use mgs_paint::{first, paint};
+use mgs_model::{QUEUE_LIMIT, SessionId, Short, Touched};
+use mgs_paint::bound;
 use std::alloc::Global;
 use std::mem::swap;
 
@@ -30,27 +31,61 @@ fn paint_whole(screen: &mut Screen)
     ensures screen { IsSessionScreen screen.new }
     ensures size { shown_size screen.new ≡ shown_size screen.old }
     ensures shown { screen.new.shown ≡ screen.old.next }
+    ensures late { screen.new.late ≡ screen.old.late }
     ensures first { IsFirst screen.new }
 {
     // Reads the grid once: its rows and columns are those of a picture.
     let _rows = screen.next.rows();
-    first(&screen.next, &mut screen.queue);
+    screen.queue.first(&screen.next);
     swap(&mut screen.shown, &mut screen.next);
+}
+
+// Whether the paint of what was drawn may not have room in the queue.
+fn is_past(screen: &Screen) -> bool
+    ensures value { result ≡ is_past (length screen.now.queue) screen.now.next.rows screen.now.next.cols }
+    ensures prompt { IsTaken (queue_of screen.now) → result ≡ false }
+{
+    QUEUE_LIMIT < screen.queue.len() + bound(screen.next.rows(), screen.next.cols())
 }
 
 // Paints what was drawn where it differs from what the terminal shows.
 fn paint_changed(screen: &mut Screen)
     requires screen { IsSessionScreen screen.old }
-    requires taken { IsTaken (queue_of screen.old) }
+    requires room { is_past (length screen.old.queue) screen.old.next.rows screen.old.next.cols ≡ false }
     ensures screen { IsSessionScreen screen.new }
     ensures size { shown_size screen.new ≡ shown_size screen.old }
     ensures shown { screen.new.shown ≡ screen.old.next }
+    ensures late { screen.new.late ≡ screen.old.late }
     ensures repaint { IsRepaint screen.old screen.new }
 {
-    // Reads the grid once: its rows and columns are those of a picture.
-    let _rows = screen.next.rows();
-    paint(&screen.shown, &screen.next, &mut screen.queue);
+    screen.queue.repaint(&screen.shown, &screen.next);
     swap(&mut screen.shown, &mut screen.next);
+}
+
+// The screen is late, where what was drawn is not what the terminal shows.
+fn mark_late(screen: &mut Screen)
+    ensures { screen.new ≡ record screen.old { late = not (same_picture screen.old.shown screen.old.next) } }
+{
+    screen.late = !same_grid(&screen.shown, &screen.next);
+}
+
+// Paints what was drawn where it differs from what the terminal shows. Where its paint may not have room, the screen is late
+// instead.
+fn paint_in_time(screen: &mut Screen)
+    requires screen { IsSessionScreen screen.old }
+    requires on_time { IsOnTime screen.old }
+    ensures screen { IsSessionScreen screen.new }
+    ensures size { shown_size screen.new ≡ shown_size screen.old }
+    ensures late { screen.new.late ≡ falls_behind (length screen.old.queue) screen.old.shown screen.old.next }
+    ensures shown { screen.new.late ≡ false → screen.new.shown ≡ screen.old.next }
+    ensures repaint { screen.new.late ≡ false → IsRepaint screen.old screen.new }
+    ensures prompt { IsTaken (queue_of screen.old) → screen.new.late ≡ false }
+{
+    if is_past(screen) {
+        mark_late(screen);
+    } else {
+        paint_changed(screen);
+    }
 }
 
 /// Draws the screen of a session for the first time: the bytes that wait then paint the whole of it, whatever the
@@ -64,6 +99,7 @@ pub(crate) fn draw_first<T: Marked + Drop>(core: &Core<T>, screen: &mut Screen)
     ensures screen { IsSessionScreen screen.new }
     ensures size { shown_size screen.new ≡ shown_size screen.old }
     ensures drawn { IsDrawn core.now screen.new }
+    ensures late { screen.new.late ≡ screen.old.late }
     ensures first { IsFirst screen.new }
 {
     draw_next(core, screen);
@@ -81,6 +117,7 @@ fn first_screen<T: Marked + Drop>(
     ensures screen { IfOk result IsSessionScreen }
     ensures size { IfOk result (λ x. shown_size x ≡ size) }
     ensures drawn { IfOk result (IsDrawn core.now) }
+    ensures on_time { IfOk result IsOnTime }
     ensures first { IfOk result IsFirst }
 {
     let mut screen = Screen::blank(alloc, size.rows, size.cols)?;
@@ -99,6 +136,7 @@ pub(crate) fn first_screens<T: Marked + Drop>(
     ensures sizes { IfOk result (λ xs. map shown_size xs.items ≡ sizes core.now) }
     ensures each { IfOk result (λ xs. All IsSessionScreen xs.items) }
     ensures drawn { IfOk result (λ xs. All (IsDrawn core.now) xs.items) }
+    ensures on_time { IfOk result (λ xs. All IsOnTime xs.items) }
     ensures first { IfOk result (λ xs. All IsFirst xs.items) }
 {
     let mut screens = Vec::new(alloc);
@@ -111,18 +149,18 @@ pub(crate) fn first_screens<T: Marked + Drop>(
     Ok(screens)
 }
 
-// Draws a screen again, and paints it where it is not what the terminal shows: the bytes that do so wait then.
+// Draws a screen again, and paints it where it is not what the terminal shows: the bytes that do so wait then. Where they may
+// not have room, the screen is late.
 fn redraw<T: Marked + Drop>(core: &Core<T>, screen: &mut Screen)
     requires known { IsKnown (sizes core.now) screen.old }
     requires screen { IsSessionScreen screen.old }
-    requires taken { IsTaken (queue_of screen.old) }
+    requires on_time { IsOnTime screen.old }
     ensures screen { IsSessionScreen screen.new }
     ensures size { shown_size screen.new ≡ shown_size screen.old }
-    ensures drawn { IsDrawn core.now screen.new }
-    ensures repaint { IsRepaint screen.old screen.new }
+    ensures redrawn { IsRedrawn core.now screen.old screen.new }
 {
     draw_next(core, screen);
-    paint_changed(screen);
+    paint_in_time(screen);
 }
 
 // Draws a screen again where an event that touched this can have changed it, by its place.
@@ -135,12 +173,11 @@ fn redraw_at<T: Marked + Drop>(
 )
     requires known { IsKnown (sizes core.now) screen.old }
     requires screen { IsSessionScreen screen.old }
-    requires taken { IsTaken (queue_of screen.old) }
+    requires on_time { IsOnTime screen.old }
     requires drawn { differs_at touched.now id at core.now ≡ false → IsDrawn core.now screen.old }
     ensures screen { IsSessionScreen screen.new }
     ensures size { shown_size screen.new ≡ shown_size screen.old }
-    ensures drawn { IsDrawn core.now screen.new }
-    ensures repaint { IsRepaint screen.old screen.new }
+    ensures redrawn { IsRedrawn core.now screen.old screen.new }
 {
     if core.may_differ(at, id, touched) {
         redraw(core, screen);
@@ -155,12 +192,11 @@ fn redraw_each<T: Marked + Drop>(
 )
     requires known { All (IsKnown (sizes core.now)) screens.old }
     requires each { All IsSessionScreen screens.old }
-    requires taken { All IsTaken (queues_of screens.old) }
+    requires on_time { All IsOnTime screens.old }
     requires drawn { AreDrawnApart core.now touched.now id screens.old }
     ensures each { All IsSessionScreen screens.new }
     ensures sizes { map shown_size screens.new ≡ map shown_size screens.old }
-    ensures drawn { All (IsDrawn core.now) screens.new }
-    ensures repaints { AreRepaints screens.old screens.new }
+    ensures redrawn { AreRedrawn core.now screens.old screens.new }
 {
     for (at, screen) in screens.iter_mut().enumerate() {
         redraw_at(core, screen, at, id, touched);
@@ -168,9 +204,9 @@ fn redraw_each<T: Marked + Drop>(
 }
 
 /// Draws the screens again that an event of the session `id` can have changed, by what it touched, and paints each that
-/// is not what its terminal shows.
+/// is not what its terminal shows. A screen whose paint may not have room is late.
 ///
-/// The screens are those of the open sessions, in their order, each in the size that the world knows, and no bytes wait.
+/// The screens are those of the open sessions, in their order, each in the size that the world knows, and none is late.
 /// Those that the event cannot have changed are what the world has for their sessions.
 pub(crate) fn redraw_apart<T: Marked + Drop>(
     core: &Core<T>,
@@ -180,12 +216,11 @@ pub(crate) fn redraw_apart<T: Marked + Drop>(
 )
     requires known { All (IsKnown (sizes core.now)) screens.old.items }
     requires each { All IsSessionScreen screens.old.items }
-    requires taken { All IsTaken (queues_of screens.old.items) }
+    requires on_time { All IsOnTime screens.old.items }
     requires drawn { AreDrawnApart core.now touched.now id screens.old.items }
     ensures each { All IsSessionScreen screens.new.items }
     ensures sizes { map shown_size screens.new.items ≡ map shown_size screens.old.items }
-    ensures drawn { All (IsDrawn core.now) screens.new.items }
-    ensures repaints { AreRepaints screens.old.items screens.new.items }
+    ensures redrawn { AreRedrawn core.now screens.old.items screens.new.items }
     ensures len { vec_len screens.new ≡ vec_len screens.old }
     ensures capacity { vec_capacity screens.new ≡ vec_capacity screens.old }
 {

@@ -5,10 +5,16 @@
 #![tactic(auto)]
 
 mod draw;
+mod end;
+mod ending;
 mod engine;
 mod place;
+mod queue;
+mod same;
 mod screen;
+mod sessions;
 mod take;
 
+pub use ending::Cause;
 pub use engine::Engine;
 pub use take::Taker;

@@ -1,7 +1,6 @@
 // The screen of an id among all screens.
 ghost use Rattle.std.specs.Prelude.{◌≡◌, ◌≤◌, length};
 ghost use Rattle.std.specs.List.{position_or_len};
-ghost use Rattle.mgs_model.specs.Apply.{remove_first};
 ghost use Rattle.mgs_engine.specs.Screens.{screen_id};
 
 use crate::screen::Screen;
@@ -20,15 +19,4 @@ pub(crate) fn place_of(screens: &[Screen], id: SessionId) -> usize
         at += 1;
     }
     at
-}
-
-/// Takes away the first screen of an id, and the bytes that wait with it. Where none has the id, all stay.
-#[tactic(auto, using(crate::proofs::Screens::removed_at, crate::proofs::Screens::removed_none))]
-pub(crate) fn remove_screen(screens: &mut Vec<Screen>, id: SessionId)
-    ensures { screens.new.items ≡ remove_first (screen_id id) screens.old.items }
-{
-    let at = place_of(screens, id);
-    if at < screens.len() {
-        let _closed = screens.remove(at);
-    }
 }

@@ -1,9 +1,10 @@
 // The screen of an open session.
-ghost use Rattle.std.specs.Prelude.{◌≡◌, [], IfOk, length, ◌≤◌};
+ghost use Rattle.std.specs.Prelude.{◌≡◌, [], IfOk};
 ghost use Rattle.mgs_model.specs.Picture.{IsSize};
 
+use crate::queue::ByteQueue;
 use mgs_grid::Grid;
-use mgs_model::{QUEUE_LIMIT, SessionId, Short};
+use mgs_model::{SessionId, Short};
 use std::alloc::Global;
 
 /// What a session's terminal shows, a grid to draw into, and the bytes that wait for the terminal.
@@ -15,12 +16,15 @@ pub(crate) struct Screen {
     pub(crate) shown: Grid,
     /// What is drawn next, in the same size.
     pub(crate) next: Grid,
-    /// The bytes that wait, with room for `QUEUE_LIMIT`.
-    pub(crate) queue: Vec<u8>,
+    /// The bytes that wait.
+    pub(crate) queue: ByteQueue,
+    /// Within an event: the screen changed, and was not painted, since the queue may not have the room. Its session is
+    /// then ended.
+    pub(crate) late: bool,
 }
 
 impl Screen {
-    ghost use Rattle.mgs_engine.specs.Screens.{IsSessionScreen};
+    ghost use Rattle.mgs_engine.specs.Screens.{IsOnTime, IsSessionScreen};
 
     /// A blank screen of so many rows (6 to 64) and columns (20 to 160), which no session has yet: no bytes wait, and the
     /// id is to be set. `Short`: memory was refused.
@@ -29,18 +33,18 @@ impl Screen {
         ensures screen { IfOk result IsSessionScreen }
         ensures rows { IfOk result (λ x. x.shown.rows ≡ rows) }
         ensures cols { IfOk result (λ x. x.shown.cols ≡ cols) }
-        ensures empty { IfOk result (λ x. x.queue.items ≡ []) }
+        ensures empty { IfOk result (λ x. x.queue ≡ []) }
+        ensures on_time { IfOk result IsOnTime }
     {
         let shown = Grid::new(alloc, rows, cols)?;
         let next = Grid::new(alloc, rows, cols)?;
-        let Ok(queue) = Vec::with_capacity(alloc, QUEUE_LIMIT) else {
-            return Err(Short);
-        };
+        let queue = ByteQueue::new(alloc)?;
         Ok(Screen {
             id: 0,
             shown,
             next,
             queue,
+            late: false,
         })
     }
 }

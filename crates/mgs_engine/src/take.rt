@@ -23,14 +23,12 @@ pub trait Taker {
 // Takes bytes from the front of a screen's queue.
 fn take_front(screen: &mut Screen, n: usize)
     requires screen { IsSessionScreen screen.old }
-    requires within { n ≤ length screen.old.queue.items }
+    requires within { n ≤ length screen.old.queue }
     ensures screen { IsSessionScreen screen.new }
     ensures drawn { drawn_of screen.new ≡ drawn_of screen.old }
     ensures queue { queue_of screen.new ≡ after_taking n (queue_of screen.old) }
 {
-    let rest = screen.queue.len() - n;
-    screen.queue.rotate_left(n);
-    screen.queue.truncate(rest);
+    screen.queue.take(n);
 }
 
 /// Takes `n` bytes from the front of the queue of the first screen of an id, of the bytes that wait there. Where none
@@ -53,9 +51,9 @@ fn hand<K: Taker>(screen: &mut Screen, taker: &mut K)
     ensures screen { IsSessionScreen screen.new }
     ensures drawn { drawn_of screen.new ≡ drawn_of screen.old }
     ensures queue { queue_of screen.new ≡ emptied (queue_of screen.old) }
-    ensures handed { K.takes taker.old screen.old.id screen.old.queue.items taker.new }
+    ensures handed { K.takes taker.old screen.old.id screen.old.queue taker.new }
 {
-    taker.take(screen.id, &screen.queue);
+    taker.take(screen.id, screen.queue.bytes());
     screen.queue.clear();
 }
 

@@ -1,12 +1,10 @@
 -- Cells written one after another.
-use Rattle.std.proofs.Common.{length-append, map, ◌/◌, ◌%◌, ◌≡◌, ◌^◌, ℕ, zero, suc, ◌+◌, ◌-◌, ◌<◌, ◌≤◌, List, [], ◌∷◌, ◌++◌, length, get_or, refl, sym, ap, ◌∙◌, arith, add-zero}
+use Rattle.std.proofs.Common.{length-append, map, ◌/◌, ◌%◌, ◌≡◌, ℕ, zero, suc, ◌+◌, ◌-◌, ◌<◌, ◌≤◌, List, [], ◌∷◌, ◌++◌, length, get_or, refl, sym, ap, ◌∙◌, arith, add-zero}
 use Rattle.std.proofs.lemmas.List.{length-set, get_or-set_same, get_or-set_other, map_push, length-map}
 use Rattle.std.proofs.lemmas.Bool.Decides.{nat_tests}
-use Rattle.std.specs.Int.Digits.{digits_of, AllBelowBase}
-use Rattle.std.specs.Prelude.{decimal}
-use Rattle.std.proofs.lemmas.Fmt.{decimal-digits_of}
+use Rattle.std.specs.Int.Digits.{digits_of}
 use Rattle.std.specs.Char.{digit_char}
-use Rattle.std.proofs.lemmas.Int.Digits.{digits_of_step, all_below_base_digits_of}
+use Rattle.std.proofs.lemmas.Int.Digits.{digits_of_step}
 use Rattle.std.proofs.lemmas.Grind.{rows}
 use Rattle.std.proofs.lemmas.List.Elements.{All-append, All-nil}
 use Rattle.mgs_model.specs.Picture.{IsPrintable}
@@ -93,17 +91,6 @@ wrote_more {old = old} {n = n} {xs = xs} {ys = ys} w v =
 
 pub wrote_none : (row : List ℕ) (n : ℕ) → Wrote row n [] row n
 wrote_none row n = record { row_is = refl; next_is = omega arith; printable = All-nil IsPrintable }
-
--- a decimal number is written digit by digit
-decimal_char : (d : ℕ) → d < 10 → 48 + d ≡ digit_char d
-decimal_char d h = grind (arith, nat_tests)
-
-decimal_chars : (ds : List ℕ) → AllBelowBase 10 ds → map (λ d. 48 + d) ds ≡ map digit_char ds
-decimal_chars [] h = refl
-decimal_chars (d ∷ ds) h = ap (λ k. k ∷ map (λ e. 48 + e) ds) (decimal_char d h.0) ∙ ap (λ t. digit_char d ∷ t) (decimal_chars ds h.1)
-
-pub decimal_digits : (n : ℕ) → 0 < n → n < 2 ^ 64 → decimal n ≡ map digit_char (digits_of 10 n)
-decimal_digits n some few = decimal-digits_of n some few ∙ decimal_chars (digits_of 10 n) (all_below_base_digits_of 10 n (omega arith))
 
 pub part_smaller : (b n : ℕ) → 2 ≤ b → 0 < n → n / b < n
 part_smaller b n base some = grind (arith, rows)

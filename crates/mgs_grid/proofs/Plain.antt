@@ -1,15 +1,14 @@
 -- Texts of visible ASCII and spaces.
-use Rattle.std.proofs.Common.{ℕ, ◌^◌, ◌<◌, ◌≤◌, List, [], ◌∷◌, length, map, refl, ap, ◌∙◌, inl, inr, arith, All}
+use Rattle.std.proofs.Common.{ℕ, ◌^◌, ◌+◌, ◌%◌, ◌<◌, ◌≤◌, List, [], ◌∷◌, length, map, refl, ◌∙◌, arith, All}
 use Rattle.std.specs.Prelude.{decimal, IsTrue}
 use Rattle.std.specs.List.{list_all}
-use Rattle.std.proofs.lemmas.Bool.{and_parts, and_from, cases_eq, leb-true, le-leb}
-use Rattle.std.proofs.lemmas.List.Elements.{All-nil, All-cons, All-same}
-use Rattle.std.proofs.lemmas.Fmt.{decimal_digit}
+use Rattle.std.proofs.lemmas.Bool.{and_parts, and_from, leb-true, le-leb}
+use Rattle.std.proofs.lemmas.List.Elements.{All-nil, All-cons}
+use Rattle.std.proofs.lemmas.Fmt.{decimal_by_steps, length-decimal-le}
+use Rattle.std.proofs.lemmas.List.Folds.{list_all-append}
 use Rattle.std.proofs.lemmas.Bool.Decides.{nat_tests}
-use Rattle.std.proofs.lemmas.Int.Digits.{all_below_base_digits_of}
-use Rattle.std.specs.Int.Digits.{digits_of, AllBelowBase}
+use Rattle.std.specs.Int.Digits.{AllBelowBase}
 use Rattle.std.specs.Char.{digit_char}
-use Rattle.mgs_grid.proofs.CellLemmas.{decimal_digits}
 use Rattle.mgs_model.specs.Names.{IsName, is_visible}
 use Rattle.mgs_model.specs.Rights.{right_name}
 use Rattle.mgs_model.specs.declared.right.Right.{Right}
@@ -67,9 +66,16 @@ pub digits_printable : (b : ℕ) → b ≤ 16 → (ds : List ℕ) → AllBelowBa
 digits_printable b few [] h = All-nil IsPrintable
 digits_printable b few (d ∷ ds) h = let below : d < b = h.0 in All-cons IsPrintable (digit_char d) (map digit_char ds) (digit_printable d (omega arith)) (digits_printable b few ds h.1)
 
-pub decimal_printable : (n : ℕ) → n < 2 ^ 64 → All IsPrintable (decimal n)
-decimal_printable n small =
-    elim (cases_eq n 0) [
-      | inl e ↦ All-same IsPrintable (decimal n) (48 ∷ []) (ap decimal e ∙ decimal_digit 0 (omega arith)) (plain_printable (48 ∷ []) refl)
-      | inr some ↦ All-same IsPrintable (decimal n) (map digit_char (digits_of 10 n)) (decimal_digits n (omega arith) small) (digits_printable 10 (omega arith) (digits_of 10 n) (all_below_base_digits_of 10 n (omega arith)))
-    ]
+digit_plain : (d : ℕ) → d < 10 → IsTrue (list_all is_plain ((48 + d) ∷ []))
+digit_plain d h = grind (arith, nat_tests)
+
+-- a number in decimal
+pub decimal_plain : (n : ℕ) → n < 2 ^ 64 → IsTrue (list_all is_plain (decimal n))
+decimal_plain =
+    decimal_by_steps
+    (λ n ds. IsTrue (list_all is_plain ds))
+    digit_plain
+    (λ n ds some front. list_all-append is_plain ds ((48 + n % 10) ∷ []) ∙ and_from (list_all is_plain ds) (list_all is_plain ((48 + n % 10) ∷ [])) front (digit_plain (n % 10) (omega arith)))
+
+pub decimal_short : (n : ℕ) → n < 2 ^ 64 → length (decimal n) ≤ 20
+decimal_short n small = length-decimal-le 20 n (omega arith) (omega arith) small

@@ -6,6 +6,7 @@ ghost use Rattle.std.specs.Char.{digit_char};
 ghost use Rattle.mgs_model.specs.Cells.{glyph, escape, cells};
 ghost use Rattle.mgs_grid.specs.Cells.{put, over, finished, is_plain, Wrote};
 
+use itoa::Buffer;
 use mgs_text::Text;
 
 /// Writes one character into each cell of a row.
@@ -51,23 +52,17 @@ fn put_blanks(row: &mut [char], shift: usize, column: usize, count: usize)
     }
 }
 
-pub(crate) fn put_digits(
-    row: &mut [char],
-    shift: usize,
-    column: usize,
-    base: usize,
-    n: usize,
-) -> usize
-    requires base { (2 ≤ base) × (base ≤ 36) }
-    requires room { column + length (digits_of base n) < 2 ^ 64 }
-    ensures row { row.new ≡ over row.old shift column (map digit_char (digits_of base n)) }
-    ensures next { result ≡ column + length (digits_of base n) }
+// Writes a number in hexadecimal digits, and none where it is 0.
+fn put_hex(row: &mut [char], shift: usize, column: usize, n: usize) -> usize
+    requires { column + length (digits_of 16 n) < 2 ^ 64 }
+    ensures row { row.new ≡ over row.old shift column (map digit_char (digits_of 16 n)) }
+    ensures next { result ≡ column + length (digits_of 16 n) }
 {
     if n == 0 {
         return column;
     }
-    let at = put_digits(row, shift, column, base, n / base);
-    put(row, shift, at, digit((n % base) as u32));
+    let at = put_hex(row, shift, column, n / 16);
+    put(row, shift, at, digit((n % 16) as u32));
     at + 1
 }
 
@@ -79,16 +74,13 @@ fn digit(n: u32) -> char
 }
 
 // Writes a decimal number.
+#[tactic(auto, using(crate::proofs::Plain::decimal_plain, crate::proofs::Plain::decimal_short))]
 pub(crate) fn put_decimal(row: &mut [char], column: usize, n: usize) -> usize
     requires { column < 2 ^ 62 }
     ensures wrote { Wrote row.old column (decimal n) row.new result }
     ensures few { result ≤ column + 20 }
 {
-    if n == 0 {
-        put(row, 0, column, '0');
-        return column + 1;
-    }
-    put_digits(row, 0, column, 10, n)
+    put_bytes(row, column, Buffer::new().format(n).as_bytes())
 }
 
 /// Writes visible ASCII and spaces into a row from a column on, and tells the column after them. Those after the
@@ -143,7 +135,7 @@ fn put_escape(row: &mut [char], shift: usize, column: usize, c: char) -> usize
     put(row, shift, column, '\\');
     put(row, shift, column + 1, 'u');
     put(row, shift, column + 2, '{');
-    let at = put_digits(row, shift, column + 3, 16, c as usize);
+    let at = put_hex(row, shift, column + 3, c as usize);
     put(row, shift, at, '}');
     at + 1
 }

@@ -2,20 +2,28 @@
 ghost use Rattle.std.specs.Prelude.{◌≡◌, ℕ, ◌+◌, ◌<◌, ◌≤◌, ◌^◌, ◌++◌, codes};
 ghost use Rattle.mgs_model.specs.Rows.{heading_text, place_text, cause_text, unread_text};
 ghost use Rattle.mgs_model.specs.Rights.{right_name};
-ghost use Rattle.mgs_model.specs.Messages.{denial_text, message_text};
+ghost use Rattle.mgs_model.specs.Messages.{denial_text, message_text, position_text};
 ghost use Rattle.mgs_grid.specs.Cells.{Wrote};
 
 use crate::cells::{put_bytes, put_decimal};
-use mgs_model::{Decision, Message, Name, Right};
+use mgs_model::{CursorPosition, Decision, Message, Name, Right};
 
 #[tactic(auto, using(crate::proofs::Plain::name_plain, crate::proofs::Plain::name_short))]
+fn put_name(row: &mut [char], column: usize, name: &Name) -> usize
+    requires { column < 2 ^ 62 }
+    ensures wrote { Wrote row.old column name.now row.new result }
+    ensures few { result ≤ column + 32 }
+{
+    put_bytes(row, column, name.as_bytes())
+}
+
 // A name, and a dash.
 fn put_titled(row: &mut [char], column: usize, name: &Name) -> usize
     requires { column < 2 ^ 62 }
     ensures wrote { Wrote row.old column (name.now ++ codes "-") row.new result }
     ensures few { result ≤ column + 33 }
 {
-    let end = put_bytes(row, column, name.as_bytes());
+    let end = put_name(row, column, name);
     put_bytes(row, end, b"-")
 }
 
@@ -118,10 +126,26 @@ fn put_denial(row: &mut [char], decision: Decision) -> usize
     }
 }
 
-/// Writes an echo text from column 0 on, and tells the column after it, at most 128.
+// Where a point stands in its text.
+fn put_position(row: &mut [char], column: usize, at: &CursorPosition) -> usize
+    requires { column < 2 ^ 60 }
+    ensures wrote { Wrote row.old column (position_text at.now) row.new result }
+    ensures few { result ≤ column + 105 }
+{
+    let at_point = put_bytes(row, column, b" point ");
+    let at_of = put_decimal(row, at_point, at.point);
+    let at_size = put_bytes(row, at_of, b" of ");
+    let at_line_word = put_decimal(row, at_size, at.size);
+    let at_line = put_bytes(row, at_line_word, b" line ");
+    let at_column_word = put_decimal(row, at_line, at.line);
+    let at_column = put_bytes(row, at_column_word, b" column ");
+    put_decimal(row, at_column, at.column)
+}
+
+/// Writes an echo text from column 0 on, and tells the column after it, at most 160.
 pub(crate) fn put_message(row: &mut [char], message: &Message) -> usize
     ensures wrote { Wrote row.old 0 (message_text message.now) row.new result }
-    ensures few { result ≤ 128 }
+    ensures few { result ≤ 160 }
 {
     match *message {
         Message::Silent => 0,
@@ -132,5 +156,47 @@ pub(crate) fn put_message(row: &mut [char], message: &Message) -> usize
         Message::EndOfBuffer => put_bytes(row, 0, b"End of buffer"),
         Message::BufferFull => put_bytes(row, 0, b"Buffer full"),
         Message::NoMemory => put_bytes(row, 0, b"No memory"),
+        Message::Quitting => put_bytes(row, 0, b"Quit"),
+        Message::MarkSet => put_bytes(row, 0, b"Mark set"),
+        Message::NoMark => put_bytes(row, 0, b"No mark"),
+        Message::KillTooLarge => put_bytes(row, 0, b"Kill too large"),
+        Message::NothingToYank => put_bytes(row, 0, b"Nothing to yank"),
+        Message::CharacterAt(character, at) => {
+            let at_code = put_bytes(row, 0, b"char ");
+            let end = put_decimal(row, at_code, character as usize);
+            put_position(row, end, &at)
+        }
+        Message::EndAt(at) => {
+            let end = put_bytes(row, 0, b"end");
+            put_position(row, end, &at)
+        }
+        Message::NoArgument => put_bytes(row, 0, b"No argument"),
+        Message::BadColumn => put_bytes(row, 0, b"Bad column"),
+        Message::InMacro => put_bytes(row, 0, b"In macro"),
+        Message::NotInMacro => put_bytes(row, 0, b"Not in macro"),
+        Message::NoMacro => put_bytes(row, 0, b"No macro"),
+        Message::TooMany => put_bytes(row, 0, b"Too many"),
+        Message::OnlyOneWindow => put_bytes(row, 0, b"Only one window"),
+        Message::WindowTooSmall => put_bytes(row, 0, b"Window too small"),
+        Message::TooManyWindows => put_bytes(row, 0, b"Too many windows"),
+        Message::ImpossibleChange => put_bytes(row, 0, b"Impossible change"),
+        Message::NoSuchBuffer => put_bytes(row, 0, b"No such buffer"),
+        Message::BadName => put_bytes(row, 0, b"Bad name"),
+        Message::TooManyBuffers => put_bytes(row, 0, b"Too many buffers"),
+        Message::NoMatch => put_bytes(row, 0, b"No match"),
+        Message::NoSuchEntry => put_bytes(row, 0, b"No such entry"),
+        Message::NoSuchUser => put_bytes(row, 0, b"No such user"),
+        Message::NoFurtherUndo => put_bytes(row, 0, b"No further undo information"),
+        Message::NoFile => put_bytes(row, 0, b"No file"),
+        Message::SaveFailed => put_bytes(row, 0, b"Save failed"),
+        Message::NoPattern => put_bytes(row, 0, b"No pattern"),
+        Message::Wrote(name) => {
+            let at = put_bytes(row, 0, b"Wrote ");
+            put_name(row, at, &name)
+        }
+        Message::Replaced(count) => {
+            let at = put_bytes(row, 0, b"Replaced ");
+            put_decimal(row, at, count)
+        }
     }
 }

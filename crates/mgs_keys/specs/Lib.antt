@@ -1,2 +1,4 @@
 pub mod Words
 pub mod Tokens
+pub mod Decoded
+pub mod Numbers

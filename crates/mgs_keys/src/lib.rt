@@ -1,11 +1,15 @@
-//! Reads keys that are written as text.
+//! Keys, as a terminal sends them and as they are written as text, and numbers that are written beside them.
 #![tactic(auto)]
 
+mod decoder;
+mod numbers;
 mod spelling;
 mod tokens;
 mod words;
 
-pub use spelling::{Spelling, Tokens, quoted, read_tokens};
+pub use decoder::{Decoder, Key};
+pub use numbers::read_number;
+pub use spelling::{Spelling, Tokens, cut_word, quoted, read_tokens};
 use thiserror::Error;
 pub use tokens::read_keys;
 pub use words::cut_at;

@@ -44,9 +44,10 @@ pub fn quoted(token: &[u8]) -> Option<&[u8]>
     }
 }
 
-// The first word of a text, and what stands after the space after it, if there is one.
+/// The first word of a text, and what stands after the space after it, if there is one: all of the words, parted by single
+/// spaces.
 #[tactic(auto, using(crate::proofs::Cuts::parts_cut))]
-fn cut_word(text: &[u8]) -> (&[u8], Option<&[u8]>)
+pub fn cut_word(text: &[u8]) -> (&[u8], Option<&[u8]>)
     ensures words { words_of text.now ≡ result.0.now ∷ parts_after is_space (option_map (λ x. x.now) result.1) }
     ensures shorter { IfSome result.1 (λ x. length x.now < length text.now) }
 {

@@ -8,7 +8,16 @@ ghost use Rattle.std.specs.Int.Digits.{digits_of};
 ghost use Rattle.mgs_model.specs.Cells.{glyph};
 ghost use Rattle.mgs_model.specs.Lines.{line_of, line_start, line_end, column, settled_top};
 
+mod kills;
+mod paragraphs;
+mod vertical;
+mod words;
+
+pub use kills::kill_line_end;
 use mgs_text::Text;
+pub use paragraphs::{backward_paragraph, forward_paragraph};
+pub use vertical::{column_place, indent_end, is_first_line, is_last_line, lines_down, lines_up};
+pub use words::{backward_word, forward_word};
 
 /// Where the line of a position starts: after the line feed before it, or at the text's start.
 ///

@@ -1,24 +1,25 @@
 -- What the users do leaves closed buffers closed.
-use Rattle.std.proofs.Common.{◌≡◌, ℕ, List, [], ◌∷◌, ◌++◌, not, refl, sym, ap, ◌∙◌, Bool, true, false, cond, Option, Some, None, is_some}
+use Rattle.std.proofs.Common.{◌≡◌, ℕ, zero, suc, List, [], ◌∷◌, ◌++◌, not, refl, sym, ap, ◌∙◌, Bool, true, false, cond, Option, Some, None, is_some}
 use Rattle.std.specs.Option.{option_map}
 use Rattle.mgs_model.specs.Names.{same_name}
 use Rattle.mgs_model.specs.Access.{Directory, decider, any_right}
 use Rattle.mgs_model.specs.World.{World, Buffer, Session, Own, is_named, find_session, find_buffer}
 use Rattle.mgs_model.specs.View.{view, buffer_seen, find_seen}
-use Rattle.mgs_model.specs.Outcome.{Outcome, Effect, No_effect, Edit, Unmodified, Relist, Reown, Create, Kill, Save, Quit}
-use Rattle.mgs_model.specs.Plans.{outcome}
-use Rattle.mgs_model.specs.Apply.{change_first, remove_first, buffers_after, buffer_edited, buffer_unmodified, new_buffer, without_buffer, apply}
-use Rattle.mgs_model.specs.Events.{Doing, Turn, Rest, Do, Refuse, refused_own, with_own, done_by, turn_done}
+use Rattle.mgs_model.specs.Outcome.{Act, Outcome, Effect, No_effect, Edit, Unmodified, Relist, Reown, Create, Kill, Save, Quit}
+use Rattle.mgs_model.specs.Acts.{outcome}
+use Rattle.mgs_model.specs.Apply.{change_first, remove_first, buffers_after, buffer_edited, buffer_unmodified, new_buffer, without_buffer, apply, applied, act}
+use Rattle.mgs_model.specs.Turns.{Turn, Rest, Keep, Do}
+use Rattle.mgs_model.specs.Events.{with_own, refused_own, turn_done}
 use Rattle.mgs_model.specs.Secrecy.{IsOf, has_name}
 use Rattle.mgs_model.specs.Purging.{NoRightsAmong, Closed}
 use Rattle.mgs_model.specs.declared.right.Right.{Right}
 use Rattle.mgs_model.specs.declared.right.Right.TheVariants.{Delete, WriteAcl, WriteOwner}
-use Rattle.mgs_model.specs.declared.session.Command.{Command}
 use Rattle.mgs_model.proofs.Blind.{is_some_map, same_names}
 use Rattle.mgs_model.proofs.Firsts.{find-map}
 use Rattle.mgs_model.specs.Lawful.{granted_found, granted_on, lawful}
 use Rattle.mgs_model.proofs.Outcomes.{outcome_lawful}
 use Rattle.mgs_model.proofs.Unseen.{found_none}
+use Rattle.mgs_model.proofs.Turning.{of_with_own}
 
 -- THE USERS LEAVE CLOSED BUFFERS CLOSED
 
@@ -154,16 +155,20 @@ closed_apply users shut w id o q h = record {
   no_rights = rights_after users shut w.directory o.effect w.buffers q h.no_rights;
 }
 
-closed_done_by : (users shut : List ℕ → Bool) (id : ℕ) (stored : Bool) (c : Command) (d : Doing) (s : Option Session) → IsOf users s → Closed users shut d.world → Closed users shut (done_by id stored c d s).world
-closed_done_by users shut id stored c d None g h = h
-closed_done_by users shut id stored c d (Some x) g h =
-    closed_apply users shut d.world id (outcome (view d.world x) c stored) (spares users shut d.world x g h (outcome (view d.world x) c stored).effect (outcome_lawful (view d.world x) c stored)) h
+closed_act : (users shut : List ℕ → Bool) (w : World) (id : ℕ) (c : Act) (stored : Bool) → IsOf users (find_session id w.sessions) → Closed users shut w → Closed users shut (act w id c stored)
+closed_act users shut w id c stored g h = by (find_session id w.sessions) g
+  where
+    by : (o : Option Session) → IsOf users o → Closed users shut (applied w id (option_map (λ v. outcome v c stored) (option_map (view w) o)))
+    by None g = h
+    by (Some x) g = closed_apply users shut w id (outcome (view w x) c stored) (spares users shut w x g h (outcome (view w x) c stored).effect (outcome_lawful (view w x) c stored)) h
 
 -- no session matters to which buffers are closed
 pub closed_with_own : (users shut : List ℕ → Bool) (id : ℕ) (f : Own → Own) (w : World) → Closed users shut w → Closed users shut (with_own id f w)
 closed_with_own users shut id f w h = record { there = h.there; no_rights = h.no_rights }
 
-pub closed_turn : (users shut : List ℕ → Bool) (id : ℕ) (stored : Bool) (t : Turn) (d : Doing) → IsOf users (find_session id d.world.sessions) → Closed users shut d.world → Closed users shut (turn_done id stored t d).world
-closed_turn users shut id stored Rest d g h = h
-closed_turn users shut id stored (Do c) d g h = closed_done_by users shut id stored c d (find_session id d.world.sessions) g h
-closed_turn users shut id stored (Refuse c) d g h = closed_with_own users shut id refused_own d.world h
+pub closed_turn : (users shut : List ℕ → Bool) (id : ℕ) (stored : Bool) (t : Turn) (w : World) (memory : Option ℕ) → IsOf users (find_session id w.sessions) → Closed users shut w → Closed users shut (turn_done id stored t w memory).world
+closed_turn users shut id stored Rest w memory g h = h
+closed_turn users shut id stored (Keep own) w memory g h = closed_with_own users shut id (λ old. own) w h
+closed_turn users shut id stored (Do own c) w None g h = closed_act users shut (with_own id (λ old. own) w) id c stored (of_with_own users id (λ old. own) w g) (closed_with_own users shut id (λ old. own) w h)
+closed_turn users shut id stored (Do own c) w (Some zero) g h = closed_with_own users shut id refused_own w h
+closed_turn users shut id stored (Do own c) w (Some (suc n)) g h = closed_act users shut (with_own id (λ old. own) w) id c stored (of_with_own users id (λ old. own) w g) (closed_with_own users shut id (λ old. own) w h)

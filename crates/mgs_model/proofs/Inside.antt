@@ -1,28 +1,26 @@
 -- What others do inside closed buffers leaves the outline.
-use Rattle.std.proofs.Common.{◌≡◌, ℕ, zero, suc, List, [], ◌∷◌, length, map, not, refl, sym, ap, ◌∙◌, Bool, true, false, Option, Some, None}
+use Rattle.std.proofs.Common.{[], ◌∷◌, ◌++◌, ◌≡◌, ℕ, zero, suc, List, length, map, not, refl, sym, ap, ◌∙◌, Bool, true, false, Option, Some, None}
 use Rattle.std.specs.Option.{option_map}
 use Rattle.mgs_model.specs.Names.{same_name}
 use Rattle.mgs_model.specs.World.{World, Buffer, Session, Window, Place, Search, Own, Shows, Nothing, Buffer_of, Listing, List_of, is_named, has_id, find_session}
-use Rattle.mgs_model.specs.View.{view}
-use Rattle.mgs_model.specs.Outcome.{Outcome, Effect, No_effect, Edit, Unmodified, Relist, Reown, Create, Kill, Save, Quit}
-use Rattle.mgs_model.specs.Plans.{outcome}
-use Rattle.mgs_model.specs.Text.{shift}
-use Rattle.mgs_model.specs.Apply.{change_first, buffers_after, buffer_edited, buffer_unmodified, is_in, session_after, session_arranged, window_moved, window_moved_if, place_moved, search_moved, after_quit, apply}
-use Rattle.mgs_model.specs.Events.{Todo, Doing, Turn, Rest, Do, Refuse, next, refused_own, with_own, done_by, turn_done, turn, turns}
-use Rattle.mgs_model.specs.Purging.{is_other, InsideEffect, InsideAct, InsideTurn, InsideTurns}
-use Rattle.mgs_model.specs.declared.session.Command.{Command}
+use Rattle.mgs_model.specs.Outcome.{Act, Outcome, Effect, No_effect, Edit, Unmodified, Relist, Reown, Create, Kill, Save, Quit}
+use Rattle.mgs_model.specs.Text.{shift, is_edit}
+use Rattle.mgs_model.specs.Apply.{change_first, buffers_after, buffer_edited_if, buffer_edited, buffer_unmodified, is_in, session_after, session_arranged, window_moved, window_moved_if, place_moved, search_moved, after_quit, apply, applied, outcome_in, act}
+use Rattle.mgs_model.specs.Turns.{Turn, Rest, Keep, Do}
+use Rattle.mgs_model.specs.Events.{Doing, turn_in, refused_own, own_set, with_own, turn_done, turn, turns, effect_in, act_effects, turn_effects, turns_effects}
+use Rattle.mgs_model.specs.Purging.{is_other, InsideEffect, InsideAll}
 use Rattle.mgs_model.proofs.Blind.{change_inside, change_found, map_inside, same_names}
 use Rattle.mgs_model.proofs.Firsts.{find-change_first}
 use Rattle.mgs_model.proofs.Outline.{erase_if, erase, shows_shut, forget_window_if, forget_window, forget_place_if, forget_place, forget_search_if, forget_search, forget_if, forget, outline, place_moved_if, search_moved_if}
-use Rattle.mgs_model.proofs.Stepping.{the_world}
+use Rattle.mgs_model.proofs.Stepping.{the_world, at_rest}
 use Rattle.mgs_model.proofs.After.{user_after, find_moved, find_after}
 use Rattle.mgs_model.proofs.Unseen.{Like}
 
 -- WHAT STAYS INSIDE LEAVES THE OUTLINE
 
-edited_inside : (h : Bool) → h ≡ true → (a b : ℕ) (put : List ℕ) (x : Buffer) → erase_if h (buffer_edited a b put x) ≡ erase_if h x
-edited_inside true p a b put x = refl
-edited_inside false p a b put x = cc
+edited_inside : (h f : Bool) → h ≡ true → (a b : ℕ) (put : List ℕ) (x : Buffer) → erase_if h (buffer_edited_if f a b put x) ≡ erase_if h x
+edited_inside true f p a b put x = refl
+edited_inside false f p a b put x = cc
 
 unmodified_inside : (h : Bool) → h ≡ true → (x : Buffer) → erase_if h (buffer_unmodified x) ≡ erase_if h x
 unmodified_inside true p x = refl
@@ -33,7 +31,7 @@ inside_name shut n p m e = sym (ap shut (same_names n m e)) ∙ p
 
 buffers_inside : (shut : List ℕ → Bool) (e : Effect) → InsideEffect shut e → (bs : List Buffer) → map (erase shut) (buffers_after e bs) ≡ map (erase shut) bs
 buffers_inside shut No_effect p bs = refl
-buffers_inside shut (Edit n a b put) p bs = change_inside (erase shut) (is_named n) (buffer_edited a b put) bs (λ x e. edited_inside (shut x.name) (inside_name shut n p x.name e) a b put x)
+buffers_inside shut (Edit n a b put) p bs = change_inside (erase shut) (is_named n) (buffer_edited a b put) bs (λ x e. edited_inside (shut x.name) (is_edit a b put) (inside_name shut n p x.name e) a b put x)
 buffers_inside shut (Unmodified n) p bs = change_inside (erase shut) (is_named n) buffer_unmodified bs (λ x e. unmodified_inside (shut x.name) (inside_name shut n p x.name e) x)
 buffers_inside shut (Save n text) p bs = change_inside (erase shut) (is_named n) buffer_unmodified bs (λ x e. unmodified_inside (shut x.name) (inside_name shut n p x.name e) x)
 buffers_inside shut (Relist n l) p bs = absurd p
@@ -115,23 +113,23 @@ other_after : (users : List ℕ → Bool) (e : Effect) (o : Option Session) → 
 other_after users e None = refl
 other_after users e (Some x) = ap (λ u. not (users u)) (user_after e x)
 
-sessions_inside : (users shut : List ℕ → Bool) (id : ℕ) (o : Outcome) → InsideEffect shut o.effect → (xs : List Session) → is_other users (find_session id xs) ≡ true → map (forget users shut) (after_quit o.effect id (change_first (has_id id) (session_arranged o.arrange o.own) (map (session_after o.effect) xs))) ≡ map (forget users shut) xs
+sessions_inside : (users shut : List ℕ → Bool) (id : ℕ) (o : Outcome) → InsideEffect shut o.effect → (xs : List Session) → is_other users (find_session id xs) ≡ true → map (forget users shut) (after_quit o.effect id (change_first (has_id id) (session_arranged o) (map (session_after o.effect) xs))) ≡ map (forget users shut) xs
 sessions_inside users shut id o p xs h =
-    ap (map (forget users shut)) (quit_inside shut o.effect p id (change_first (has_id id) (session_arranged o.arrange o.own) (map (session_after o.effect) xs)))
-    ∙ change_found (forget users shut) (has_id id) (session_arranged o.arrange o.own) (map (session_after o.effect) xs)
-    (λ y e. forget_other (users y.user) (found_other users (find_session id (map (session_after o.effect) xs)) y e (ap (is_other users) (find_moved id o.effect xs) ∙ other_after users o.effect (find_session id xs) ∙ h)) shut (session_arranged o.arrange o.own y) y refl refl)
+    ap (map (forget users shut)) (quit_inside shut o.effect p id (change_first (has_id id) (session_arranged o) (map (session_after o.effect) xs)))
+    ∙ change_found (forget users shut) (has_id id) (session_arranged o) (map (session_after o.effect) xs)
+    (λ y e. forget_other (users y.user) (found_other users (find_session id (map (session_after o.effect) xs)) y e (ap (is_other users) (find_moved id o.effect xs) ∙ other_after users o.effect (find_session id xs) ∙ h)) shut (session_arranged o y) y refl refl)
     ∙ map_inside (forget users shut) (session_after o.effect) (session_inside users shut o.effect p) xs
 
 apply_inside : (users shut : List ℕ → Bool) (w : World) (id : ℕ) (o : Outcome) → InsideEffect shut o.effect → is_other users (find_session id w.sessions) ≡ true → outline users shut (apply w id o) ≡ outline users shut w
 apply_inside users shut w id o p h = λ i. record w { buffers = buffers_inside shut o.effect p w.buffers i; sessions = sessions_inside users shut id o p w.sessions h i }
 
-other_arranged : (users : List ℕ → Bool) (o : Outcome) (s : Option Session) → is_other users (option_map (λ x. session_arranged o.arrange o.own (session_after o.effect x)) s) ≡ is_other users s
+other_arranged : (users : List ℕ → Bool) (o : Outcome) (s : Option Session) → is_other users (option_map (λ x. session_arranged o (session_after o.effect x)) s) ≡ is_other users s
 other_arranged users o None = refl
 other_arranged users o (Some x) = ap (λ u. not (users u)) (user_after o.effect x)
 
 other_apply : (users shut : List ℕ → Bool) (w : World) (id : ℕ) (o : Outcome) → InsideEffect shut o.effect → is_other users (find_session id w.sessions) ≡ true → is_other users (find_session id (apply w id o).sessions) ≡ true
 other_apply users shut w id o p h =
-    ap (λ xs. is_other users (find_session id xs)) (quit_inside shut o.effect p id (change_first (has_id id) (session_arranged o.arrange o.own) (map (session_after o.effect) w.sessions)))
+    ap (λ xs. is_other users (find_session id xs)) (quit_inside shut o.effect p id (change_first (has_id id) (session_arranged o) (map (session_after o.effect) w.sessions)))
     ∙ ap (is_other users) (find_after id o w.sessions)
     ∙ other_arranged users o (find_session id w.sessions)
     ∙ h
@@ -140,35 +138,60 @@ pub with_own_inside : (users shut : List ℕ → Bool) (id : ℕ) (f : Own → O
 with_own_inside users shut id f w h =
     λ i. record w {
       buffers = map (erase shut) w.buffers;
-      sessions = change_found (forget users shut) (has_id id) (λ x. record x { own = f x.own }) w.sessions (λ y e. forget_other (users y.user) (found_other users (find_session id w.sessions) y e h) shut (record y { own = f y.own }) y refl refl) i;
+      sessions = change_found (forget users shut) (has_id id) (own_set f) w.sessions (λ y e. forget_other (users y.user) (found_other users (find_session id w.sessions) y e h) shut (own_set f y) y refl refl) i;
     }
 
 pub other_with_own : (users : List ℕ → Bool) (id : ℕ) (f : Own → Own) (w : World) → is_other users (find_session id w.sessions) ≡ true → is_other users (find_session id (with_own id f w).sessions) ≡ true
 other_with_own users id f w h =
-    ap (is_other users) (find-change_first (has_id id) (λ x. record x { own = f x.own }) (λ x. refl) w.sessions) ∙ kept (find_session id w.sessions) ∙ h
+    ap (is_other users) (find-change_first (has_id id) (own_set f) (λ x. refl) w.sessions) ∙ kept (find_session id w.sessions) ∙ h
   where
-    kept : (s : Option Session) → is_other users (option_map {T = Session} (λ x. record x { own = f x.own }) s) ≡ is_other users s
+    kept : (s : Option Session) → is_other users (option_map (own_set f) s) ≡ is_other users s
     kept None = refl
     kept (Some x) = refl
 
-by_inside : (users shut : List ℕ → Bool) (id : ℕ) (stored : Bool) (c : Command) (d : Doing) (s : Option Session) → InsideAct shut d.world s c stored → is_other users (find_session id d.world.sessions) ≡ true → Like users shut (done_by id stored c d s).world d.world × (is_other users (find_session id (done_by id stored c d s).world.sessions) ≡ true)
-by_inside users shut id stored c d None p h = (refl, h)
-by_inside users shut id stored c d (Some x) p h = (apply_inside users shut d.world id (outcome (view d.world x) c stored) p h, other_apply users shut d.world id (outcome (view d.world x) c stored) p h)
+-- it leaves the outline, and the session is another's still
+Inert : (List ℕ → Bool) → (List ℕ → Bool) → ℕ → World → World → Type 0
+Inert users shut id v w = Like users shut v w × (is_other users (find_session id v.sessions) ≡ true)
 
-turn_inside : (users shut : List ℕ → Bool) (id : ℕ) (stored : Bool) (t : Turn) (d : Doing) → InsideTurn shut id stored t d.world → is_other users (find_session id d.world.sessions) ≡ true → Like users shut (turn_done id stored t d).world d.world × (is_other users (find_session id (turn_done id stored t d).world.sessions) ≡ true)
-turn_inside users shut id stored Rest d p h = (refl, h)
-turn_inside users shut id stored (Do c) d p h = by_inside users shut id stored c d (find_session id d.world.sessions) p h
-turn_inside users shut id stored (Refuse c) d p h = (with_own_inside users shut id refused_own d.world h, other_with_own users id refused_own d.world h)
+own_inert : (users shut : List ℕ → Bool) (id : ℕ) (f : Own → Own) (w : World) → is_other users (find_session id w.sessions) ≡ true → Inert users shut id (with_own id f w) w
+unfolding Inert
+own_inert users shut id f w h = (with_own_inside users shut id f w h, other_with_own users id f w h)
 
-pub turns_inside : (n : ℕ) (users shut : List ℕ → Bool) (id : ℕ) (stored : Bool) (d : Doing) → InsideTurns shut n id stored d → is_other users (find_session id d.world.sessions) ≡ true → Like users shut (turns n id stored d).world d.world
-unfolding turns InsideTurns
+applied_inert : (users shut : List ℕ → Bool) (id : ℕ) (w : World) (o : Option Outcome) → InsideAll shut (effect_in o) → is_other users (find_session id w.sessions) ≡ true → Inert users shut id (applied w id o) w
+unfolding Inert
+applied_inert users shut id w None p h = (refl, h)
+applied_inert users shut id w (Some o) p h = (apply_inside users shut w id o p.0 h, other_apply users shut w id o p.0 h)
+
+act_inert : (users shut : List ℕ → Bool) (id : ℕ) (stored : Bool) (own : Own) (c : Act) (w : World) → InsideAll shut (act_effects (with_own id (λ old. own) w) id c stored) → is_other users (find_session id w.sessions) ≡ true → Inert users shut id (act (with_own id (λ old. own) w) id c stored) w
+unfolding Inert
+act_inert users shut id stored own c w p h =
+    let first : Inert users shut id (with_own id (λ old. own) w) w = own_inert users shut id (λ old. own) w h in
+    let then : Inert users shut id (act (with_own id (λ old. own) w) id c stored) (with_own id (λ old. own) w) = applied_inert users shut id (with_own id (λ old. own) w) (outcome_in (with_own id (λ old. own) w) id c stored) p first.1 in
+    (then.0 ∙ first.0, then.1)
+
+turn_inert : (users shut : List ℕ → Bool) (id : ℕ) (stored : Bool) (t : Turn) (w : World) (memory : Option ℕ) → InsideAll shut (turn_effects id stored t w memory) → is_other users (find_session id w.sessions) ≡ true → Inert users shut id (turn_done id stored t w memory).world w
+unfolding Inert
+turn_inert users shut id stored Rest w memory p h = (refl, h)
+turn_inert users shut id stored (Keep own) w memory p h = own_inert users shut id (λ old. own) w h
+turn_inert users shut id stored (Do own c) w None p h = act_inert users shut id stored own c w p h
+turn_inert users shut id stored (Do own c) w (Some zero) p h = own_inert users shut id refused_own w h
+turn_inert users shut id stored (Do own c) w (Some (suc n)) p h = act_inert users shut id stored own c w p h
+
+inside_append : (shut : List ℕ → Bool) (es fs : List Effect) → InsideAll shut (es ++ fs) → InsideAll shut es × InsideAll shut fs
+inside_append shut [] fs h = (tt, h)
+inside_append shut (e ∷ es) fs h = ((h.0, (inside_append shut es fs h.1).0), (inside_append shut es fs h.1).1)
+
+pub turns_inside : (n : ℕ) (users shut : List ℕ → Bool) (id : ℕ) (stored : Bool) (d : Doing) → InsideAll shut (turns_effects n id stored d) → is_other users (find_session id d.world.sessions) ≡ true → Like users shut (turns n id stored d).world d.world
+unfolding turns turns_effects Inert
 turns_inside zero users shut id stored d p h = refl
-turns_inside (suc n) users shut id stored d p h = go d.todo p (turns_inside n users shut id stored (turn id stored d))
+turns_inside (suc n) users shut id stored d p h = go (at_rest id d) p (turns_inside n users shut id stored (turn id stored d))
   where
-    go : (s : List Todo)
-        → elim s as (λ _. Type 0) [ [] ↦ Unit {0} | x ∷ xs ↦ InsideTurn shut id stored (next d.todo d.memory) d.world × InsideTurns shut n id stored (turn id stored d) ]
-        → (InsideTurns shut n id stored (turn id stored d) → is_other users (find_session id (turn id stored d).world.sessions) ≡ true → Like users shut (turns n id stored (turn id stored d)).world (turn id stored d).world)
-        → Like users shut (the_world (elim s as (λ _. Doing) [ [] ↦ d | x ∷ xs ↦ turns n id stored (turn id stored d) ])) d.world
-    go [] b ih = refl
-    go (x ∷ xs) b ih =
-        ih b.1 (turn_inside users shut id stored (next d.todo d.memory) d b.0 h).1 ∙ (turn_inside users shut id stored (next d.todo d.memory) d b.0 h).0
+    go : (c : Bool)
+        → InsideAll shut (elim c as (λ _. List Effect) [ true ↦ [] | false ↦ turn_effects id stored (turn_in d.world id) d.world d.memory ++ turns_effects n id stored (turn id stored d) ])
+        → (InsideAll shut (turns_effects n id stored (turn id stored d)) → is_other users (find_session id (turn id stored d).world.sessions) ≡ true → Like users shut (turns n id stored (turn id stored d)).world (turn id stored d).world)
+        → Like users shut (the_world (elim c as (λ _. Doing) [ true ↦ d | false ↦ turns n id stored (turn id stored d) ])) d.world
+    go true b ih = refl
+    go false b ih =
+        let both : InsideAll shut (turn_effects id stored (turn_in d.world id) d.world d.memory) × InsideAll shut (turns_effects n id stored (turn id stored d)) = inside_append shut (turn_effects id stored (turn_in d.world id) d.world d.memory) (turns_effects n id stored (turn id stored d)) b in
+        let here : Inert users shut id (turn id stored d).world d.world = turn_inert users shut id stored (turn_in d.world id) d.world d.memory both.0 h in
+        ih both.1 here.1 ∙ here.0

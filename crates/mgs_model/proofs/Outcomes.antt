@@ -1,102 +1,107 @@
--- What holds of the outcome of every command: each lemma here has one case a command.
-use Rattle.std.proofs.Common.{◌≡◌, ℕ, List, [], ◌∷◌, refl, sym, ap, ◌∙◌, Bool, true, false, cond, ◌||◌, ◌==◌, ◌+◌, ◌-◌, Option, Some, None, slice_get, nat_le, length}
-use Rattle.std.specs.Option.{option_map, option_and_then}
-use Rattle.mgs_model.specs.Names.{same_name}
-use Rattle.mgs_model.specs.Access.{Decider, Nobody, Allows, Denies, allows, decision_by, with_denial, with_gap}
-use Rattle.mgs_model.specs.World.{Own, Shows, Nothing, Buffer_of, Listing, List_of}
-use Rattle.mgs_model.specs.View.{View, BufferSeen, WindowSeen, find_seen, serial_told, size_told}
-use Rattle.mgs_model.specs.Outcome.{Outcome, Adjust, At, Keep, Keep_mark, Keep_search, Effect, Edit, Quit, After, Goes_on, Stops}
-use Rattle.mgs_model.specs.Plans.{outcome, outcome_on, permitted, planned, plan, Plan, Fails, Edits, Goes, needs, insertion_right, is_full, fails, acted_own, Target, target, target_in, acts_at}
+-- What holds of the outcome of every act: a case for each family of commands, and none for a command.
+use Rattle.std.proofs.Common.{◌≡◌, ℕ, List, [], ◌∷◌, ◌++◌, refl, ap, Bool, true, false, cond, not, ◌&&◌, ◌||◌, ◌+◌, Option, Some, None, is_some, nat_le, nat_lt, length}
+use Rattle.std.specs.Prelude.{Result, Ok, Err}
+use Rattle.std.specs.Option.{option_map}
+use Rattle.mgs_model.specs.Names.{is_name}
+use Rattle.mgs_model.specs.Rights.{rights_in}
+use Rattle.mgs_model.specs.Text.{is_edit}
+use Rattle.mgs_model.specs.Access.{is_among, Decider, Nobody, Allows, Denies, allows, decision_by, with_denial, with_gap, denial, gap}
+use Rattle.mgs_model.specs.World.{Own}
+use Rattle.mgs_model.specs.View.{View, BufferSeen, find_seen, size_told, serial_told, text_in}
+use Rattle.mgs_model.specs.Outcome.{Act, Unbound, Run, Outcome, Keep_kill, Stay, Adjust, Arrange, Effect, No_effect, Edit, Unmodified, Reown, Create, Save, Quit}
+use Rattle.mgs_model.specs.Plans.{acted_own, Finish, Change, insertion, reading_insertion, motion, alteration, scrolling, setting, arrangement, undo, entries_changed, inserted}
+use Rattle.mgs_model.specs.Acts.{Target, target, around, is_at_text_end, moved_by, needs_by_name, Request, insertion_right, here, name_meant, needs, deciders_found, request_judged, or_else, judged, fails, is_too_large, is_full, finished_own, finished, edit_of, edited_by, edits, moves, sets, arranges, shows_named, created, killed, by_name, has_file, entries_told, items_in, relisted, effects, rules, saves, about, shown, subject, selected_seen, has_rows, row_in, scrolls_rows, scrolls, allowed, permitted, outcome}
+use Rattle.mgs_model.specs.Lawful.{granted_on, lawful}
 use Rattle.mgs_model.specs.declared.right.Right.{Right}
 use Rattle.mgs_model.specs.declared.right.Right.TheVariants.{WriteData, AppendData}
+use Rattle.mgs_model.specs.declared.entry.Entry.{Entry}
 use Rattle.mgs_model.specs.declared.entry.Decision.{Decision}
 use Rattle.mgs_model.specs.declared.entry.Decision.TheVariants.{Granted, DeniedBy, NotGranted}
 use Rattle.mgs_model.specs.declared.message.Message.{Message}
-use Rattle.mgs_model.specs.declared.message.Message.TheVariants.{BufferFull, EndOfBuffer, BeginningOfBuffer}
-use Rattle.mgs_model.specs.declared.session.Command.{Command}
-use Rattle.mgs_model.specs.declared.session.Command.TheVariants.{SelfInsert, Newline, ForwardChar, BackwardChar, Unbound}
-use Rattle.mgs_model.specs.Lawful.{granted_found, granted_on, lawful}
-use Rattle.mgs_model.proofs.Blind.{same_names}
-
--- AN END STOPS WHAT ELSE WAS TO BE DONE
-
-abbrev pub QuitStops : Effect → After → Type 0
-QuitStops Quit after = after ≡ Stops
-QuitStops _ after = Unit {0}
-
-abbrev QuitStopsIn : Outcome → Type 0
-QuitStopsIn o = QuitStops o.effect o.after
-
-planned_stops : (own : Own) (name : List ℕ) (size serial : ℕ) (p : Plan) → QuitStopsIn (planned own name size serial p)
-planned_stops own name size serial (Fails message) = tt
-planned_stops own name size serial (Goes p) = tt
-planned_stops own name size serial (Edits a b put p) =
-    elim (is_full size serial (b - a) (length put)) as (λ c. QuitStopsIn (cond c (fails own BufferFull) (record { own = acted_own own; arrange = Adjust (At p) Keep_mark Keep Keep_search; effect = Edit name a b put; after = Goes_on }))) [ true ↦ tt | false ↦ tt ]
-
-permitted_stops : (own : Own) (d : Decision) (o : Outcome) → QuitStopsIn o → QuitStopsIn (permitted own d o)
-permitted_stops own Granted o h = h
-permitted_stops own (DeniedBy n right) o h = tt
-permitted_stops own (NotGranted right) o h = tt
-
-on_stops : (own : Own) (c : Command) (t : Option Target) → QuitStopsIn (outcome_on own c t)
-on_stops own c None = tt
-on_stops own c (Some t) =
-    let size : ℕ = size_told t.buffer.told in
-    let p : ℕ = acts_at t.window.positions size in
-    permitted_stops own (decision_by t.buffer.deciders (needs c (p == size))) (planned own t.buffer.name size (serial_told t.buffer.told) (plan c size p))
-    (planned_stops own t.buffer.name size (serial_told t.buffer.told) (plan c size p))
-
-pub quit_stops : (v : View) (c : Command) (stored : Bool) → QuitStops (outcome v c stored).effect (outcome v c stored).after
-unfolding outcome
-quit_stops v Unbound stored = tt
-quit_stops v (SelfInsert c) stored = on_stops v.session.own (SelfInsert c) (target v)
-quit_stops v Newline stored = on_stops v.session.own Newline (target v)
-quit_stops v ForwardChar stored = on_stops v.session.own ForwardChar (target v)
-quit_stops v BackwardChar stored = on_stops v.session.own BackwardChar (target v)
+use Rattle.mgs_model.specs.declared.message.Message.TheVariants.{BufferFull, KillTooLarge, BadName, TooManyBuffers, InMacro, NoFile, SaveFailed, NoSuchUser, Wrote}
+use Rattle.mgs_model.specs.declared.session.ByName.{ByName}
+use Rattle.mgs_model.specs.declared.session.Scrolling.{Scrolling}
+use Rattle.mgs_model.specs.declared.session.ByName.TheVariants.{SwitchToBuffer, KillBuffer, InsertBuffer}
+use Rattle.mgs_model.specs.declared.session.Command.TheVariants.{Insert, InsertReading, Move, Alter, Scroll, Set, Rearrange, Ask, Named, Entries, SetOwner, UndoEdit, NotModified, SaveBuffer, LeaveSearch, Exit}
 
 -- AN EFFECT COMES ONLY WITH ITS RIGHT
 
--- the buffer is the one that its name finds in the view
-abbrev IsSeen : View → BufferSeen → Type 0
-IsSeen v b = find_seen b.name v.buffers ≡ Some b
+-- A REQUEST THAT IS GRANTED GRANTS EACH OF ITS RIGHTS
 
-abbrev TargetSeen : View → Option Target → Type 0
-TargetSeen v None = Unit {0}
-TargetSeen v (Some t) = IsSeen v t.buffer
+-- each of the rights has such a decider
+abbrev Each : (Right → Decider) → (Decider → Bool) → List Right → Type 0
+Each f p [] = Unit {0}
+Each f p (right ∷ rights) = (p (f right) ≡ true) × Each f p rights
 
-found_name : (name : List ℕ) (b : BufferSeen) (bs : List BufferSeen) → find_seen name bs ≡ Some b → name ≡ b.name
-found_name name b [] h = cc
-found_name name b (y ∷ ys) h = choose (same_name name y.name) refl h (found_name name b ys)
+abbrev is_no_denier : Decider → Bool
+is_no_denier Nobody = true
+is_no_denier (Allows n) = true
+is_no_denier (Denies n) = false
+
+abbrev is_someone : Decider → Bool
+is_someone Nobody = false
+is_someone (Allows n) = true
+is_someone (Denies n) = true
+
+no_denial : (k : Decider) (right : Right) (d : Decision) → with_denial k right d ≡ Granted → (d ≡ Granted) × (is_no_denier k ≡ true)
+no_denial Nobody right d e = (e, refl)
+no_denial (Allows n) right d e = (e, refl)
+no_denial (Denies n) right Granted e = cc
+no_denial (Denies n) right (NotGranted earlier) e = cc
+no_denial (Denies n) right (DeniedBy m earlier) e = choose (nat_lt n m) e
   where
-    choose : (c : Bool) → same_name name y.name ≡ c → cond c (Some y) (find_seen name ys) ≡ Some b → (find_seen name ys ≡ Some b → name ≡ b.name) → name ≡ b.name
-    choose true e r ih = let q : y ≡ b = cc in same_names name y.name e ∙ ap (λ z. z.name) q
-    choose false e r ih = ih r
+    choose : (c : Bool) → cond c (DeniedBy n right) (DeniedBy m earlier) ≡ Granted → (DeniedBy m earlier ≡ Granted) × (false ≡ true)
+    choose true r = cc
+    choose false r = cc
 
-target_in_seen : (v : View) (x : WindowSeen) (shows : Shows) → TargetSeen v (target_in v.buffers x shows)
-target_in_seen v x (Buffer_of name) = found (find_seen name v.buffers) refl
-  where
-    found : (o : Option BufferSeen) → find_seen name v.buffers ≡ o → TargetSeen v (option_map (λ b. record { window = x; buffer = b }) o)
-    found None e = tt
-    found (Some b) e = ap (λ n. find_seen n v.buffers) (sym (found_name name b v.buffers e)) ∙ e
-target_in_seen v x Nothing = tt
-target_in_seen v x Listing = tt
-target_in_seen v x (List_of name) = tt
+no_gap : (k : Decider) (right : Right) (d : Decision) → with_gap k right d ≡ Granted → (d ≡ Granted) × (is_someone k ≡ true)
+no_gap (Allows n) right d e = (e, refl)
+no_gap (Denies n) right d e = (e, refl)
+no_gap Nobody right Granted e = cc
+no_gap Nobody right (DeniedBy m earlier) e = cc
+no_gap Nobody right (NotGranted earlier) e = cc
 
-target_seen : (v : View) → TargetSeen v (target v)
-target_seen v = found (slice_get v.session.windows v.session.selected)
-  where
-    found : (o : Option WindowSeen) → TargetSeen v (option_and_then (λ x. target_in v.buffers x x.shows) o)
-    found None = tt
-    found (Some x) = target_in_seen v x x.shows
+no_denials : (f : Right → Decider) (rights : List Right) (d : Decision) → denial f rights d ≡ Granted → (d ≡ Granted) × Each f is_no_denier rights
+no_denials f [] d e = (e, tt)
+no_denials f (right ∷ rights) d e =
+    let rest : (with_denial (f right) right d ≡ Granted) × Each f is_no_denier rights = no_denials f rights (with_denial (f right) right d) e in
+    let first : (d ≡ Granted) × (is_no_denier (f right) ≡ true) = no_denial (f right) right d rest.0 in
+    (first.0, (first.1, rest.1))
 
--- a request for one right is granted only where that right is
-granted_one : (deciders : Right → Decider) (right : Right) → decision_by deciders (right ∷ []) ≡ Granted → allows (deciders right) ≡ true
-granted_one deciders right e = by (deciders right) e
+no_gaps : (f : Right → Decider) (rights : List Right) (d : Decision) → gap f rights d ≡ Granted → (d ≡ Granted) × Each f is_someone rights
+no_gaps f [] d e = (e, tt)
+no_gaps f (right ∷ rights) d e =
+    let rest : (with_gap (f right) right d ≡ Granted) × Each f is_someone rights = no_gaps f rights (with_gap (f right) right d) e in
+    let first : (d ≡ Granted) × (is_someone (f right) ≡ true) = no_gap (f right) right d rest.0 in
+    (first.0, (first.1, rest.1))
+
+each_allows : (f : Right → Decider) (rights : List Right) → Each f is_no_denier rights → Each f is_someone rights → Each f allows rights
+each_allows f [] p q = tt
+each_allows f (right ∷ rights) p q = (one (f right) p.0 q.0, each_allows f rights p.1 q.1)
   where
-    by : (k : Decider) → with_gap k right (with_denial k right Granted) ≡ Granted → allows k ≡ true
-    by Nobody r = cc
-    by (Allows n) r = refl
-    by (Denies n) r = cc
+    one : (k : Decider) → is_no_denier k ≡ true → is_someone k ≡ true → allows k ≡ true
+    one Nobody r s = s
+    one (Allows n) r s = refl
+    one (Denies n) r s = r
+
+granted_each : (f : Right → Decider) (rights : List Right) → decision_by f rights ≡ Granted → Each f allows rights
+granted_each f rights e =
+    let gaps : (denial f rights Granted ≡ Granted) × Each f is_someone rights = no_gaps f rights (denial f rights Granted) e in
+    each_allows f rights (no_denials f rights Granted gaps.0).1 gaps.1
+
+or_else_granted : (d e : Decision) → or_else d e ≡ Granted → (d ≡ Granted) × (e ≡ Granted)
+or_else_granted Granted e h = (refl, h)
+or_else_granted (DeniedBy n right) e h = cc
+or_else_granted (NotGranted right) e h = cc
+
+-- the rights of a request, where it and those behind it are granted
+request_granted : (v : View) (r : Request) (rs : List Request) → judged v (r ∷ rs) ≡ Granted → Each (deciders_found (find_seen r.buffer v.buffers)) allows (rights_in r.rights)
+request_granted v r rs e = granted_each (deciders_found (find_seen r.buffer v.buffers)) (rights_in r.rights) (or_else_granted (request_judged v r) (judged v rs) e).0
+
+rest_granted : (v : View) (r : Request) (rs : List Request) → judged v (r ∷ rs) ≡ Granted → judged v rs ≡ Granted
+rest_granted v r rs e = (or_else_granted (request_judged v r) (judged v rs) e).1
+
+-- FAMILIES THAT EDIT THE SELECTED WINDOW'S BUFFER
 
 or_first : (a b : Bool) → a ≡ true → (a || b) ≡ true
 or_first a b e = ap (λ c. c || b) e
@@ -105,50 +110,185 @@ or_second : (a b : Bool) → b ≡ true → (a || b) ≡ true
 or_second true b e = refl
 or_second false b e = e
 
-may_edit : (v : View) (b : BufferSeen) (at_end : Bool) → IsSeen v b → decision_by b.deciders (insertion_right at_end ∷ []) ≡ Granted → (granted_on v b.name WriteData || granted_on v b.name AppendData) ≡ true
-may_edit v b true s e = or_second (granted_on v b.name WriteData) (granted_on v b.name AppendData) (ap (granted_found AppendData) s ∙ granted_one b.deciders AppendData e)
-may_edit v b false s e = or_first (granted_on v b.name WriteData) (granted_on v b.name AppendData) (ap (granted_found WriteData) s ∙ granted_one b.deciders WriteData e)
+-- its request grants one of the two rights of an edit
+MayEdit : View → (Target → ℕ) → Type 0
+MayEdit v rights = (t : Target) → judged v (here (Some t) rights) ≡ Granted → (granted_on v t.buffer.name WriteData || granted_on v t.buffer.name AppendData) ≡ true
+
+insertion_may : (v : View) → MayEdit v insertion_right
+unfolding MayEdit
+insertion_may v t = by (is_at_text_end t)
+  where
+    by : (c : Bool) → judged v (record { buffer = t.buffer.name; rights = cond c 4 2 } ∷ []) ≡ Granted → (granted_on v t.buffer.name WriteData || granted_on v t.buffer.name AppendData) ≡ true
+    by true e = or_second _ _ (request_granted v (record { buffer = t.buffer.name; rights = 4 }) [] e).0
+    by false e = or_first _ _ (request_granted v (record { buffer = t.buffer.name; rights = 2 }) [] e).0
+
+reading_insertion_may : (v : View) → MayEdit v (λ t. 1 + insertion_right t)
+unfolding MayEdit
+reading_insertion_may v t = by (is_at_text_end t)
+  where
+    by : (c : Bool) → judged v (record { buffer = t.buffer.name; rights = 1 + cond c 4 2 } ∷ []) ≡ Granted → (granted_on v t.buffer.name WriteData || granted_on v t.buffer.name AppendData) ≡ true
+    by true e = or_second _ _ (request_granted v (record { buffer = t.buffer.name; rights = 5 }) [] e).1.0
+    by false e = or_first _ _ (request_granted v (record { buffer = t.buffer.name; rights = 3 }) [] e).1.0
+
+alteration_may : (v : View) → MayEdit v (λ t. 3)
+unfolding MayEdit
+alteration_may v t e = or_first _ _ (request_granted v (record { buffer = t.buffer.name; rights = 3 }) [] e).1.0
 
 abbrev the_effect : Outcome → Effect
 the_effect o = o.effect
 
--- a plan that edits, where its edit is lawful
-planned_edit : (v : View) (own : Own) (name : List ℕ) (size serial a b : ℕ) (put : List ℕ) (p : ℕ) → lawful v (Edit name a b put) ≡ true → lawful v (planned own name size serial (Edits a b put p)).effect ≡ true
-planned_edit v own name size serial a b put p h = choose (is_full size serial (b - a) (length put))
+finished_lawful : (v : View) (own : Own) (f : Finish) (e : Effect) → lawful v e ≡ true → lawful v (finished own f e).effect ≡ true
+finished_lawful v own f e h = choose (is_too_large f.kill)
   where
-    choose : (c : Bool) → lawful v (the_effect (cond c (fails own BufferFull) (record { own = acted_own own; arrange = Adjust (At p) Keep_mark Keep Keep_search; effect = Edit name a b put; after = Goes_on }))) ≡ true
+    choose : (c : Bool) → lawful v (the_effect (cond c (fails own KillTooLarge) (record { own = finished_own f own; kill = f.kill; arrange = Adjust f.point f.mark f.top None f.sought; effect = e }))) ≡ true
     choose true = refl
     choose false = h
 
--- a plan that moves or fails
-planned_motion : (v : View) (own : Own) (name : List ℕ) (size serial : ℕ) (c : Bool) (m : Message) (p : ℕ) → lawful v (planned own name size serial (cond c (Fails m) (Goes p))).effect ≡ true
-planned_motion v own name size serial true m p = refl
-planned_motion v own name size serial false m p = refl
+edit_lawful : (v : View) (name : List ℕ) (c : Change) → (granted_on v name WriteData || granted_on v name AppendData) ≡ true → lawful v (edit_of name c) ≡ true
+edit_lawful v name c h = choose (is_edit c.a c.b c.put)
+  where
+    choose : (k : Bool) → lawful v (cond k (Edit name c.a c.b c.put) No_effect) ≡ true
+    choose true = h
+    choose false = refl
 
-planned_lawful : (v : View) (own : Own) (c : Command) (b : BufferSeen) (size p : ℕ) → IsSeen v b → decision_by b.deciders (needs c (p == size)) ≡ Granted → lawful v (planned own b.name size (serial_told b.told) (plan c size p)).effect ≡ true
-planned_lawful v own (SelfInsert x) b size p s e = planned_edit v own b.name size (serial_told b.told) p p (x ∷ []) (p + 1) (may_edit v b (p == size) s e)
-planned_lawful v own Newline b size p s e = planned_edit v own b.name size (serial_told b.told) p p (10 ∷ []) (p + 1) (may_edit v b (p == size) s e)
-planned_lawful v own ForwardChar b size p s e = planned_motion v own b.name size (serial_told b.told) (nat_le size p) EndOfBuffer (p + 1)
-planned_lawful v own BackwardChar b size p s e = planned_motion v own b.name size (serial_told b.told) (p == 0) BeginningOfBuffer (p - 1)
-planned_lawful v own Unbound b size p s e = refl
+edited_lawful : (v : View) (own : Own) (b : BufferSeen) (p : Result Change Message) → (granted_on v b.name WriteData || granted_on v b.name AppendData) ≡ true → lawful v (edited_by own b p).effect ≡ true
+edited_lawful v own b (Err message) h = refl
+edited_lawful v own b (Ok c) h = choose (is_full (size_told b.told) (serial_told b.told) c)
+  where
+    choose : (k : Bool) → lawful v (the_effect (cond k (fails own BufferFull) (finished own c.finish (edit_of b.name c)))) ≡ true
+    choose true = refl
+    choose false = finished_lawful v own c.finish (edit_of b.name c) (edit_lawful v b.name c h)
+
+edits_lawful : (v : View) (own : Own) (rights : Target → ℕ) (plan : Target → Result Change Message) → MayEdit v rights → (t : Option Target) → judged v (here t rights) ≡ Granted → lawful v (edits own t plan).effect ≡ true
+unfolding MayEdit
+edits_lawful v own rights plan may None e = refl
+edits_lawful v own rights plan may (Some t) e = edited_lawful v own t.buffer (plan t) (may t e)
+
+-- FAMILIES THAT HAVE NO EFFECT
+
+moves_lawful : (v : View) (own : Own) (plan : Target → Result Finish Message) (t : Option Target) → lawful v (moves own t plan).effect ≡ true
+moves_lawful v own plan None = refl
+moves_lawful v own plan (Some t) = by (plan t)
+  where
+    by : (p : Result Finish Message) → lawful v (the_effect (moved_by own p)) ≡ true
+    by (Err message) = refl
+    by (Ok f) = finished_lawful v own f No_effect refl
+
+sets_lawful : (v : View) (own : Own) (p : Result Own Message) → lawful v (sets own p).effect ≡ true
+sets_lawful v own (Err message) = refl
+sets_lawful v own (Ok after) = refl
+
+arranges_lawful : (v : View) (own : Own) (p : Result Arrange Message) → lawful v (arranges own No_effect p).effect ≡ true
+arranges_lawful v own (Err message) = refl
+arranges_lawful v own (Ok plan) = refl
+
+-- BUFFERS BY NAME
+
+created_lawful : (v : View) (name : List ℕ) → find_seen name v.buffers ≡ None → lawful v (created v name).effect ≡ true
+created_lawful v name e = choose (not (is_name name)) (nat_le 256 (length v.buffers))
+  where
+    choose : (c k : Bool) → lawful v (the_effect (cond c (fails v.session.own BadName) (cond k (fails v.session.own TooManyBuffers) (shows_named v name (Create name v.session.user))))) ≡ true
+    choose true k = refl
+    choose false true = refl
+    choose false false = ap (λ o. not (is_some o)) e
+
+killed_lawful : (v : View) (name : List ℕ) (o : Option BufferSeen) → judged v (elim o as (λ _. List Request) [ None ↦ [] | Some b ↦ record { buffer = name; rights = 65536 } ∷ [] ]) ≡ Granted → lawful v (killed v name o).effect ≡ true
+killed_lawful v [] o e = refl
+killed_lawful v (c ∷ cs) None e = refl
+killed_lawful v (c ∷ cs) (Some b) e = (request_granted v (record { buffer = c ∷ cs; rights = 65536 }) [] e).0
+
+named_lawful : (v : View) (c : ByName) (n : Option ℕ) (typed : List ℕ) → judged v (needs_by_name v c typed) ≡ Granted → lawful v (by_name v c n typed).effect ≡ true
+named_lawful v SwitchToBuffer n typed e = found (find_seen typed v.buffers) refl
+  where
+    found : (o : Option BufferSeen) → find_seen typed v.buffers ≡ o → lawful v (the_effect (elim o as (λ _. Outcome) [ None ↦ created v typed | Some b ↦ shows_named v typed No_effect ])) ≡ true
+    found None q = created_lawful v typed q
+    found (Some b) q = refl
+named_lawful v KillBuffer n typed e = killed_lawful v (name_meant v typed) (find_seen (name_meant v typed) v.buffers) e
+named_lawful v InsertBuffer n typed e =
+    edits_lawful v v.session.own insertion_right (λ t. inserted (option_map (λ b. text_in b.full) (find_seen typed v.buffers)) (around v.session n typed t)) (insertion_may v) (target v) (last (target v) (find_seen typed v.buffers) e)
+  where
+    last : (t : Option Target) (o : Option BufferSeen) → judged v (elim t as (λ _. List Request) [ None ↦ [] | Some t ↦ elim o as (λ _. List Request) [ None ↦ [] | Some b ↦ record { buffer = typed; rights = 1 } ∷ [] ] ++ here (Some t) insertion_right ]) ≡ Granted → judged v (here t insertion_right) ≡ Granted
+    last None o r = r
+    last (Some t) None r = r
+    last (Some t) (Some b) r = rest_granted v (record { buffer = typed; rights = 1 }) (here (Some t) insertion_right) r
+
+-- LISTS, OWNERS AND FILES
+
+rules_lawful : (v : View) (own : Own) (rights : ℕ) (plan : BufferSeen → Result Effect Message) → ((b : BufferSeen) → judged v (about (Some b) rights) ≡ Granted → lawful v (effects own (plan b)).effect ≡ true) → (o : Option BufferSeen) → judged v (about o rights) ≡ Granted → lawful v (rules own o plan).effect ≡ true
+rules_lawful v own rights plan may None e = refl
+rules_lawful v own rights plan may (Some b) e = may b e
+
+relisted_lawful : (v : View) (own : Own) (b : BufferSeen) (p : Result (List Entry) Message) → judged v (about (Some b) 262144) ≡ Granted → lawful v (effects own (relisted b.name p)).effect ≡ true
+relisted_lawful v own b (Err message) e = refl
+relisted_lawful v own b (Ok entries) e = (request_granted v (record { buffer = b.name; rights = 262144 }) [] e).0
+
+reowned_lawful : (v : View) (own : Own) (owner : List ℕ) (c : Bool) (b : BufferSeen) → judged v (about (Some b) 524288) ≡ Granted → lawful v (effects own (cond c (Ok (Reown b.name owner)) (Err NoSuchUser))).effect ≡ true
+reowned_lawful v own owner true b e = (request_granted v (record { buffer = b.name; rights = 524288 }) [] e).0
+reowned_lawful v own owner false b e = refl
+
+and_both : (a b : Bool) → a ≡ true → b ≡ true → (a && b) ≡ true
+and_both true b p q = q
+and_both false b p q = p
+
+saves_lawful : (v : View) (own : Own) (stored : Bool) (t : Option Target) → judged v (here t (λ t. 3)) ≡ Granted → lawful v (saves own t stored).effect ≡ true
+saves_lawful v own stored None e = refl
+saves_lawful v own stored (Some t) e = choose own.playing (not (has_file t.buffer.told)) (not stored)
+  where
+    choose : (c k n : Bool) → lawful v (the_effect (cond c (fails own InMacro) (cond k (fails own NoFile) (cond n (fails own SaveFailed) (record { own = record (acted_own own) { echo = Wrote t.buffer.name }; kill = Keep_kill; arrange = Stay; effect = Save t.buffer.name (text_in t.buffer.full) }))))) ≡ true
+    choose true k n = refl
+    choose false true n = refl
+    choose false false true = refl
+    choose false false false =
+        let each : Each (deciders_found (find_seen t.buffer.name v.buffers)) allows (rights_in 3) = request_granted v (record { buffer = t.buffer.name; rights = 3 }) [] e in
+        and_both _ _ each.0 each.1.0
+
+-- EVERY ACT
+
+scrolls_lawful : (v : View) (c : Scrolling) (n : Option ℕ) (typed : List ℕ) → lawful v (scrolls v c n typed).effect ≡ true
+scrolls_lawful v c n typed = choose (has_rows (selected_seen v))
+  where
+    choose : (k : Bool) → lawful v (the_effect (cond k (scrolls_rows v.session.own (row_in c (selected_seen v))) (moves v.session.own (target v) (λ t. scrolling c (text_in t.buffer.full) (around v.session n typed t))))) ≡ true
+    choose true = refl
+    choose false = moves_lawful v v.session.own (λ t. scrolling c (text_in t.buffer.full) (around v.session n typed t)) (target v)
+
+unmodified_lawful : (v : View) (own : Own) (b : BufferSeen) → judged v (about (Some b) 3) ≡ Granted → lawful v (effects own (Ok (Unmodified b.name))).effect ≡ true
+unmodified_lawful v own b e =
+    let each : Each (deciders_found (find_seen b.name v.buffers)) allows (rights_in 3) = request_granted v (record { buffer = b.name; rights = 3 }) [] e in
+    and_both _ _ each.0 each.1.0
+
+allowed_lawful : (v : View) (c : Act) (stored : Bool) → judged v (needs v c) ≡ Granted → lawful v (allowed v c stored).effect ≡ true
+allowed_lawful v Unbound stored e = refl
+allowed_lawful v (Run (Insert c) n typed) stored e = edits_lawful v v.session.own insertion_right (λ t. insertion c (around v.session n typed t)) (insertion_may v) (target v) e
+allowed_lawful v (Run (InsertReading c) n typed) stored e =
+    edits_lawful v v.session.own (λ t. 1 + insertion_right t) (λ t. reading_insertion c (text_in t.buffer.full) (around v.session n typed t)) (reading_insertion_may v) (target v) e
+allowed_lawful v (Run (Move c) n typed) stored e = moves_lawful v v.session.own (λ t. motion c (text_in t.buffer.full) (around v.session n typed t)) (target v)
+allowed_lawful v (Run (Alter c) n typed) stored e =
+    edits_lawful v v.session.own (λ t. 3) (λ t. alteration c (text_in t.buffer.full) (around v.session n typed t)) (alteration_may v) (target v) e
+allowed_lawful v (Run (Scroll c) n typed) stored e = scrolls_lawful v c n typed
+allowed_lawful v (Run (Set c) n typed) stored e = sets_lawful v v.session.own (setting c (acted_own v.session.own) n)
+allowed_lawful v (Run (Rearrange c) n typed) stored e = arranges_lawful v v.session.own (arrangement c v.session.windows v.session.selected n)
+allowed_lawful v (Run (Ask c) n typed) stored e = refl
+allowed_lawful v (Run (Named c) n typed) stored e = named_lawful v c n typed e
+allowed_lawful v (Run (Entries c) n typed) stored e =
+    rules_lawful v v.session.own 262144 (λ b. relisted b.name (entries_changed c (entries_told b.told) n typed)) (λ b. relisted_lawful v v.session.own b (entries_changed c (entries_told b.told) n typed)) (subject v) e
+allowed_lawful v (Run SetOwner n typed) stored e =
+    rules_lawful v v.session.own 524288 (λ b. cond (is_among typed v.directory.users) (Ok (Reown b.name typed)) (Err NoSuchUser)) (reowned_lawful v v.session.own typed (is_among typed v.directory.users)) (subject v) e
+allowed_lawful v (Run UndoEdit n typed) stored e =
+    edits_lawful v v.session.own (λ t. 3) (λ t. undo (items_in t.buffer.full) (around v.session n typed t)) (alteration_may v) (target v) e
+allowed_lawful v (Run NotModified n typed) stored e = rules_lawful v v.session.own 3 (λ b. Ok (Unmodified b.name)) (unmodified_lawful v v.session.own) (shown v) e
+allowed_lawful v (Run SaveBuffer n typed) stored e = saves_lawful v v.session.own stored (target v) e
+allowed_lawful v (Run LeaveSearch n typed) stored e = refl
+allowed_lawful v (Run Exit n typed) stored e = choose v.session.own.playing
+  where
+    choose : (k : Bool) → lawful v (the_effect (cond k (fails v.session.own InMacro) (record { own = acted_own v.session.own; kill = Keep_kill; arrange = Stay; effect = Quit }))) ≡ true
+    choose true = refl
+    choose false = refl
 
 permitted_lawful : (v : View) (own : Own) (d : Decision) (o : Outcome) → (d ≡ Granted → lawful v o.effect ≡ true) → lawful v (permitted own d o).effect ≡ true
 permitted_lawful v own Granted o h = h refl
 permitted_lawful v own (DeniedBy n right) o h = refl
 permitted_lawful v own (NotGranted right) o h = refl
 
-on_lawful : (v : View) (own : Own) (c : Command) (t : Option Target) → TargetSeen v t → lawful v (outcome_on own c t).effect ≡ true
-on_lawful v own c None s = refl
-on_lawful v own c (Some t) s =
-    let size : ℕ = size_told t.buffer.told in
-    let p : ℕ = acts_at t.window.positions size in
-    permitted_lawful v own (decision_by t.buffer.deciders (needs c (p == size))) (planned own t.buffer.name size (serial_told t.buffer.told) (plan c size p))
-    (planned_lawful v own c t.buffer size p s)
-
-pub outcome_lawful : (v : View) (c : Command) (stored : Bool) → lawful v (outcome v c stored).effect ≡ true
+pub outcome_lawful : (v : View) (c : Act) (stored : Bool) → lawful v (outcome v c stored).effect ≡ true
 unfolding outcome
-outcome_lawful v Unbound stored = refl
-outcome_lawful v (SelfInsert c) stored = on_lawful v v.session.own (SelfInsert c) (target v) (target_seen v)
-outcome_lawful v Newline stored = on_lawful v v.session.own Newline (target v) (target_seen v)
-outcome_lawful v ForwardChar stored = on_lawful v v.session.own ForwardChar (target v) (target_seen v)
-outcome_lawful v BackwardChar stored = on_lawful v v.session.own BackwardChar (target v) (target_seen v)
+outcome_lawful v c stored = permitted_lawful v v.session.own (judged v (needs v c)) (allowed v c stored) (allowed_lawful v c stored)

@@ -3,10 +3,10 @@ use Rattle.std.proofs.Common.{◌≡◌, ℕ, zero, suc, List, [], ◌∷◌, le
 use Rattle.std.specs.List.{list_any}
 use Rattle.std.specs.Option.{option_map}
 use Rattle.mgs_model.specs.Names.{same_name}
-use Rattle.mgs_model.specs.Text.{shift}
-use Rattle.mgs_model.specs.World.{World, Buffer, Session, Window, Place, Search, Own, first_own, Shows, Nothing, Buffer_of, Listing, List_of, is_named, has_id}
-use Rattle.mgs_model.specs.Outcome.{Outcome, PointPlan, Keep, At, At_origin, MarkPlan, Keep_mark, Mark_at, SearchPlan, Keep_search, No_search, Search_at, Source, Old, Come, Slot, is_old, Arrange, Stay, Adjust, Slots, Effect, No_effect, Edit, Unmodified, Relist, Reown, Create, Kill, Save, Quit}
-use Rattle.mgs_model.specs.Apply.{change_first, buffers_after, buffer_edited, buffer_unmodified, new_buffer, is_in, is_of, window_moved_if, window_moved, place_moved, search_moved, session_moved, window_bereft_if, window_bereft, is_searched, session_bereft, session_after, set_place, left_places, places_left, place_in, place_point, place_mark, comer, window_at, source_window, has_positions, origin_or, point_after, mark_after, row_after, window_adjusted, window_put, windows_arranged, places_arranged, selected_arranged, search_after, search_arranged, searches, session_arranged, after_quit, sessions_after, apply}
+use Rattle.mgs_model.specs.Text.{shift, is_edit}
+use Rattle.mgs_model.specs.World.{World, Buffer, Session, Window, Place, Search, first_own, Shows, Nothing, Buffer_of, Listing, List_of, is_named, has_id}
+use Rattle.mgs_model.specs.Outcome.{Outcome, PointPlan, Keep, At, At_origin, MarkPlan, Keep_mark, Mark_at, SearchPlan, Keep_search, No_search, Begin, Anchor_at, Source, Old, Come, Slot, is_old, Arrange, Stay, Adjust, Slots, Effect, No_effect, Edit, Unmodified, Relist, Reown, Create, Kill, Save, Quit}
+use Rattle.mgs_model.specs.Apply.{change_first, buffers_after, buffer_edited_if, buffer_edited, buffer_unmodified, new_buffer, is_in, is_of, window_moved_if, window_moved, place_moved, search_moved, session_moved, window_bereft_if, window_bereft, is_searched, session_bereft, session_after, set_place, left_places, places_left, place_in, place_point, place_mark, comer, window_at, source_window, has_positions, origin_or, point_after, mark_after, row_after, window_adjusted, window_put, windows_arranged, places_arranged, selected_arranged, search_after, search_arranged, searches, kill_after, session_arranged, after_quit, sessions_after, apply}
 use Rattle.mgs_model.specs.declared.entry.Entry.{Entry}
 use Rattle.mgs_model.specs.declared.session.Mode.TheVariants.{Plain}
 use Rattle.mgs_model.proofs.After.{user_after}
@@ -57,6 +57,7 @@ forget_if o shut x =
       selected = cond o x.selected 0;
       places = cond o (map (forget_place shut) x.places) [];
       search = cond o (forget_search shut x.search) None;
+      kill = cond o x.kill [];
       own = cond o x.own first_own;
     }
 
@@ -75,9 +76,11 @@ erase_erase false x = refl
 pub erase_same : (shut : List ℕ → Bool) (x : Buffer) → erase shut (erase shut x) ≡ erase shut x
 erase_same shut x = erase_erase (shut x.name) x
 
-erase_edited : (h : Bool) (a b : ℕ) (put : List ℕ) (x : Buffer) → erase_if h (buffer_edited a b put x) ≡ erase_if h (buffer_edited a b put (erase_if h x))
-erase_edited true a b put x = refl
-erase_edited false a b put x = refl
+erase_edited : (h f : Bool) (a b : ℕ) (put : List ℕ) (x : Buffer) → erase_if h (buffer_edited_if f a b put x) ≡ erase_if h (buffer_edited_if f a b put (erase_if h x))
+erase_edited true true a b put x = refl
+erase_edited true false a b put x = refl
+erase_edited false true a b put x = refl
+erase_edited false false a b put x = refl
 
 erase_unmodified : (h : Bool) (x : Buffer) → erase_if h (buffer_unmodified x) ≡ erase_if h (buffer_unmodified (erase_if h x))
 erase_unmodified true x = refl
@@ -93,7 +96,7 @@ erase_reowned false owner x = refl
 
 pub erase_effect : (shut : List ℕ → Bool) (e : Effect) (xs : List Buffer) → map (erase shut) (buffers_after e xs) ≡ map (erase shut) (buffers_after e (map (erase shut) xs))
 erase_effect shut No_effect xs = map_fixed (erase shut) (erase_same shut) xs
-erase_effect shut (Edit name a b put) xs = Blind-change (erase shut) (erase_same shut) (is_named name) (λ x. refl) (buffer_edited a b put) (λ x. erase_edited (shut x.name) a b put x) xs
+erase_effect shut (Edit name a b put) xs = Blind-change (erase shut) (erase_same shut) (is_named name) (λ x. refl) (buffer_edited a b put) (λ x. erase_edited (shut x.name) (is_edit a b put) a b put x) xs
 erase_effect shut (Unmodified name) xs = Blind-change (erase shut) (erase_same shut) (is_named name) (λ x. refl) buffer_unmodified (λ x. erase_unmodified (shut x.name) x) xs
 erase_effect shut (Relist name entries) xs = Blind-change (erase shut) (erase_same shut) (is_named name) (λ x. refl) (λ x. record x { entries = entries }) (λ x. erase_relisted (shut x.name) entries x) xs
 erase_effect shut (Reown name owner) xs = Blind-change (erase shut) (erase_same shut) (is_named name) (λ x. refl) (λ x. record x { owner = owner }) (λ x. erase_reowned (shut x.name) owner x) xs
@@ -318,14 +321,14 @@ put_forget shut slot search x =
       height = slot.height;
     }
 
-adjusted_forget : (shut : List ℕ → Bool) (search : Option Search) (point : PointPlan) (mark : MarkPlan) (top : PointPlan) (x : Window) → forget_window shut (window_adjusted search point mark top x) ≡ forget_window shut (window_adjusted (forget_search shut search) point mark top (forget_window shut x))
-adjusted_forget shut search point mark top x =
+adjusted_forget : (shut : List ℕ → Bool) (search : Option Search) (point : PointPlan) (mark : MarkPlan) (top : PointPlan) (row : Option ℕ) (x : Window) → forget_window shut (window_adjusted search point mark top row x) ≡ forget_window shut (window_adjusted (forget_search shut search) point mark top row (forget_window shut x))
+adjusted_forget shut search point mark top row x =
     λ i. record {
       shows = x.shows;
       point = positions_forget shut x.shows search point x.point i;
       mark = mark_positions_forget shut x.shows mark x.mark i;
       top = positions_forget shut x.shows search top x.top i;
-      row = x.row;
+      row = row_after row x.row;
       height = x.height;
     }
 
@@ -346,8 +349,8 @@ slot_forget shut slot search xs ps qs e =
 
 windows_forget : (shut : List ℕ → Bool) (arrange : Arrange) (x : Session) → map (forget_window shut) (windows_arranged arrange x) ≡ map (forget_window shut) (windows_arranged arrange (forget_if true shut x))
 windows_forget shut Stay x = forget_windows shut x.windows
-windows_forget shut (Adjust point mark top sought) x =
-    Blind-change_at (forget_window shut) (forget_window_same shut) (window_adjusted x.search point mark top) (window_adjusted (forget_search shut x.search) point mark top) (adjusted_forget shut x.search point mark top) x.selected x.windows
+windows_forget shut (Adjust point mark top row sought) x =
+    Blind-change_at (forget_window shut) (forget_window_same shut) (window_adjusted x.search point mark top row) (window_adjusted (forget_search shut x.search) point mark top row) (adjusted_forget shut x.search point mark top row) x.selected x.windows
 windows_forget shut (Slots slots selected sought) x =
     map_both (forget_window shut)
     (λ slot. window_put slot x.search (source_window slot.source x.windows (places_left 0 slots x.windows x.places)))
@@ -358,40 +361,47 @@ windows_forget shut (Slots slots selected sought) x =
 places_forget : (shut : List ℕ → Bool) (arrange : Arrange) (x : Session) → map (forget_place shut) (places_arranged arrange x) ≡ map (forget_place shut) (places_arranged arrange (forget_if true shut x))
 places_forget shut (Slots slots selected sought) x = places_left_forget shut 0 slots x.windows x.places (map (forget_place shut) x.places) (forget_places shut x.places)
 places_forget shut Stay x = forget_places shut x.places
-places_forget shut (Adjust point mark top sought) x = forget_places shut x.places
+places_forget shut (Adjust point mark top row sought) x = forget_places shut x.places
 
 selected_forget : (shut : List ℕ → Bool) (arrange : Arrange) (x : Session) → selected_arranged arrange x ≡ selected_arranged arrange (forget_if true shut x)
 selected_forget shut (Slots slots selected sought) x = refl
 selected_forget shut Stay x = refl
-selected_forget shut (Adjust point mark top sought) x = refl
+selected_forget shut (Adjust point mark top row sought) x = refl
 
 search_after_forget : (shut : List ℕ → Bool) (plan : SearchPlan) (o : Option Search) → forget_search shut (search_after plan o) ≡ forget_search shut (search_after plan (forget_search shut o))
 search_after_forget shut Keep_search o = sym (forget_search_same shut o)
 search_after_forget shut No_search o = refl
-search_after_forget shut (Search_at n p a) o = refl
+search_after_forget shut (Begin n p a) o = refl
+search_after_forget shut (Anchor_at p) None = refl
+search_after_forget shut (Anchor_at p) (Some x) = choose (shut x.name)
+  where
+    choose : (f : Bool) → Some (forget_search_if f (record x { anchor = p })) ≡ Some (forget_search_if f (record (forget_search_if f x) { anchor = p }))
+    choose true = refl
+    choose false = refl
 
 search_arranged_forget : (shut : List ℕ → Bool) (arrange : Arrange) (x : Session) → forget_search shut (search_arranged arrange x) ≡ forget_search shut (search_arranged arrange (forget_if true shut x))
 search_arranged_forget shut Stay x = sym (forget_search_same shut x.search)
-search_arranged_forget shut (Adjust point mark top sought) x = search_after_forget shut sought x.search
+search_arranged_forget shut (Adjust point mark top row sought) x = search_after_forget shut sought x.search
 search_arranged_forget shut (Slots slots selected sought) x = search_after_forget shut sought x.search
 
-search_if_forget : (c : Bool) (shut : List ℕ → Bool) (x y : Option Search) → forget_search shut x ≡ forget_search shut y → forget_search shut (cond c x None) ≡ forget_search shut (cond c y None)
+pub search_if_forget : (c : Bool) (shut : List ℕ → Bool) (x y : Option Search) → forget_search shut x ≡ forget_search shut y → forget_search shut (cond c x None) ≡ forget_search shut (cond c y None)
 search_if_forget true shut x y e = e
 search_if_forget false shut x y e = refl
 
-forget_arranged : (o : Bool) (shut : List ℕ → Bool) (arrange : Arrange) (own : Own) (x : Session) → forget_if o shut (session_arranged arrange own x) ≡ forget_if o shut (session_arranged arrange own (forget_if o shut x))
-forget_arranged false shut arrange own x = refl
-forget_arranged true shut arrange own x =
+forget_arranged : (o : Bool) (shut : List ℕ → Bool) (p : Outcome) (x : Session) → forget_if o shut (session_arranged p x) ≡ forget_if o shut (session_arranged p (forget_if o shut x))
+forget_arranged false shut p x = refl
+forget_arranged true shut p x =
     λ i. record {
       id = x.id;
       user = x.user;
       rows = x.rows;
       cols = x.cols;
-      windows = windows_forget shut arrange x i;
-      selected = selected_forget shut arrange x i;
-      places = places_forget shut arrange x i;
-      search = search_if_forget (searches own.mode) shut (search_arranged arrange x) (search_arranged arrange (forget_if true shut x)) (search_arranged_forget shut arrange x) i;
-      own = own;
+      windows = windows_forget shut p.arrange x i;
+      selected = selected_forget shut p.arrange x i;
+      places = places_forget shut p.arrange x i;
+      search = search_if_forget (searches p.own.mode) shut (search_arranged p.arrange x) (search_arranged p.arrange (forget_if true shut x)) (search_arranged_forget shut p.arrange x) i;
+      kill = kill_after p.kill x.kill;
+      own = p.own;
     }
 
 -- EVERY SESSION
@@ -403,22 +413,22 @@ forget_session_after users shut e x =
     ∙ ap (λ u. forget_if (users u) shut (session_after e (forget users shut x))) (sym (user_after e (forget users shut x)))
 
 forget_quit : (users shut : List ℕ → Bool) (e : Effect) (id : ℕ) (xs : List Session) → map (forget users shut) (after_quit e id xs) ≡ map (forget users shut) (after_quit e id (map (forget users shut) xs))
-forget_quit users shut Quit id xs = Blind-remove (forget users shut) (forget_same users shut) (has_id id) (λ x. refl) xs
+forget_quit users shut Quit id xs = Blind-filter (forget users shut) (forget_same users shut) (λ x. not (has_id id x)) (λ x. refl) xs
 forget_quit users shut _ id xs = map_fixed (forget users shut) (forget_same users shut) xs
 
 forget_sessions : (users shut : List ℕ → Bool) (id : ℕ) (o : Outcome) (xs : List Session) → map (forget users shut) (sessions_after id o xs) ≡ map (forget users shut) (sessions_after id o (map (forget users shut) xs))
 forget_sessions users shut id o xs =
-    forget_quit users shut o.effect id (change_first (has_id id) (session_arranged o.arrange o.own) (map (session_after o.effect) xs))
+    forget_quit users shut o.effect id (change_first (has_id id) (session_arranged o) (map (session_after o.effect) xs))
     ∙ ap (λ ys. map (forget users shut) (after_quit o.effect id ys)) same
-    ∙ sym (forget_quit users shut o.effect id (change_first (has_id id) (session_arranged o.arrange o.own) (map (session_after o.effect) (map (forget users shut) xs))))
+    ∙ sym (forget_quit users shut o.effect id (change_first (has_id id) (session_arranged o) (map (session_after o.effect) (map (forget users shut) xs))))
   where
-    blind : (ys : List Session) → map (forget users shut) (change_first (has_id id) (session_arranged o.arrange o.own) ys) ≡ map (forget users shut) (change_first (has_id id) (session_arranged o.arrange o.own) (map (forget users shut) ys))
-    blind ys = Blind-change (forget users shut) (forget_same users shut) (has_id id) (λ x. refl) (session_arranged o.arrange o.own) (λ x. forget_arranged (users x.user) shut o.arrange o.own x) ys
+    blind : (ys : List Session) → map (forget users shut) (change_first (has_id id) (session_arranged o) ys) ≡ map (forget users shut) (change_first (has_id id) (session_arranged o) (map (forget users shut) ys))
+    blind ys = Blind-change (forget users shut) (forget_same users shut) (has_id id) (λ x. refl) (session_arranged o) (λ x. forget_arranged (users x.user) shut o x) ys
 
-    same : map (forget users shut) (change_first (has_id id) (session_arranged o.arrange o.own) (map (session_after o.effect) xs)) ≡ map (forget users shut) (change_first (has_id id) (session_arranged o.arrange o.own) (map (session_after o.effect) (map (forget users shut) xs)))
+    same : map (forget users shut) (change_first (has_id id) (session_arranged o) (map (session_after o.effect) xs)) ≡ map (forget users shut) (change_first (has_id id) (session_arranged o) (map (session_after o.effect) (map (forget users shut) xs)))
     same =
         blind (map (session_after o.effect) xs)
-        ∙ ap (λ ys. map (forget users shut) (change_first (has_id id) (session_arranged o.arrange o.own) ys)) (Blind-map (forget users shut) (forget users shut) (session_after o.effect) (forget_session_after users shut o.effect) xs)
+        ∙ ap (λ ys. map (forget users shut) (change_first (has_id id) (session_arranged o) ys)) (Blind-map (forget users shut) (forget users shut) (session_after o.effect) (forget_session_after users shut o.effect) xs)
         ∙ sym (blind (map (session_after o.effect) (map (forget users shut) xs)))
 
 pub outline_apply : (users shut : List ℕ → Bool) (w : World) (id : ℕ) (o : Outcome) → outline users shut (apply w id o) ≡ outline users shut (apply (outline users shut w) id o)

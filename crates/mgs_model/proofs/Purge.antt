@@ -1,95 +1,83 @@
 -- Work inside closed buffers leaves no trace for users who have no right on them.
-use Rattle.std.proofs.Common.{◌≡◌, ℕ, zero, suc, ◌+◌, ◌-◌, List, [], ◌∷◌, length, map, find, not, refl, sym, ap, ◌∙◌, Bool, true, false, cond, ◌&&◌, ◌==◌, nat_le, ◌^◌, Option, Some, None, is_some}
+use Rattle.std.proofs.Common.{◌≡◌, ℕ, zero, suc, ◌+◌, ◌-◌, List, [], ◌∷◌, length, map, find, not, refl, sym, ap, ◌∙◌, Bool, true, false, cond, ◌&&◌, nat_le, Option, Some, None, is_some}
 use Rattle.std.specs.Option.{option_map}
+use Rattle.std.specs.Prelude.{max}
 use Rattle.std.proofs.lemmas.List.{length-map}
 use Rattle.std.specs.Prelude.{if◌then◌else◌}
 use Rattle.mgs_model.specs.declared.errors.OpenFault.TheVariants.{NoUser, Size, Full}
 use Rattle.mgs_model.specs.declared.limits.TheConstants.{SESSION_LIMIT}
 use Rattle.mgs_model.specs.Access.{Directory, is_among}
 use Rattle.mgs_model.specs.World.{World, Buffer, Session, Own, may, has_id, find_session, find_buffer}
-use Rattle.mgs_model.specs.View.{view}
-use Rattle.mgs_model.specs.Plans.{outcome}
-use Rattle.mgs_model.specs.Apply.{without_session}
-use Rattle.mgs_model.specs.Events.{Event, Open, Byte, Close, settled, first_shows, new_session, is_open, is_size, can_open, open_fault, opened, Todo, Typed, Doing, Turn, Rest, Do, Refuse, next, refused_own, with_own, one_less, still_to_do, done, done_by, turn_done, turn, turns, most_turns, begun_own, begun, byte_done, step, run}
-use Rattle.mgs_model.specs.Seen.{seen_in}
-use Rattle.mgs_model.specs.Draw.{draw, screen}
+use Rattle.mgs_model.specs.View.{view_of}
+use Rattle.mgs_model.specs.Apply.{searches, without_session}
+use Rattle.mgs_model.specs.Events.{Event, Open, Byte, Close, settled, first_shows, new_session, is_open, is_size, can_open, session_fault, opened, Doing, turn_seen, turn_in, rests, own_set, with_own, turn, turns, most_turns, begun_own, begun, byte_done, step, run, turns_effects}
 use Rattle.mgs_model.specs.Secrecy.{IsOf}
-use Rattle.mgs_model.specs.Purging.{Closed, is_other, is_outside, purge, Inside, OthersInside, Purged}
+use Rattle.mgs_model.specs.Purging.{InsideAll, Closed, is_other, is_outside, purge, Inside, OthersInside, Purged}
 use Rattle.mgs_model.specs.declared.right.Right.TheVariants.{ReadAttributes}
-use Rattle.mgs_model.specs.declared.session.Command.{Command}
-use Rattle.mgs_model.proofs.Blind.{Blind-change, Blind-remove, Blind-append, map_fixed, is_some_map}
+use Rattle.mgs_model.proofs.Blind.{Blind-change, Blind-filter, Blind-append, map_fixed, is_some_map}
 use Rattle.mgs_model.proofs.Firsts.{find-map}
-use Rattle.mgs_model.proofs.Outline.{erase, forget_if, forget, outline, erase_same, forget_windows, forget_places, forget_search_same, forget_same, outline_apply, outline_same}
-use Rattle.mgs_model.proofs.Stepping.{the_world, ActsFor, acts_next, acts_begun, closed}
-use Rattle.mgs_model.proofs.Unseen.{Like, closed_like, find_forget, found_like, of_like, view_outline, view_like, like_by}
+use Rattle.mgs_model.proofs.Outline.{erase, forget_if, forget, outline, erase_same, forget_windows, forget_places, forget_search, forget_search_same, search_if_forget, forget_same, outline_apply}
+use Rattle.mgs_model.proofs.Turning.{Erasure, own_same, SameDoings, turn_same}
+use Rattle.mgs_model.proofs.Stepping.{the_world, at_rest, of_next, of_begun, closed, screens_seen}
+use Rattle.mgs_model.proofs.Unseen.{Like, closed_like, find_forget, view_of_like, like_by}
 use Rattle.mgs_model.proofs.Closing.{closed_with_own, closed_turn}
 use Rattle.mgs_model.proofs.Inside.{other_with_own, with_own_inside, turns_inside}
 use Rattle.mgs_model.proofs.Settling.{find_not_shut, settled_like, settled_step}
 
--- A TURN OF THE USERS
+-- THE TURNS OF THE USERS
 
-abbrev outline_doing : (List ℕ → Bool) → (List ℕ → Bool) → Doing → Doing
-outline_doing users shut d = record d { world = outline users shut d.world }
-
-abbrev LikeDoings : (List ℕ → Bool) → (List ℕ → Bool) → Doing → Doing → Type 0
-LikeDoings users shut d e = outline_doing users shut d ≡ outline_doing users shut e
-
-forget_own : (o : Bool) (shut : List ℕ → Bool) (f : Own → Own) (x : Session) → forget_if o shut (record x { own = f x.own }) ≡ forget_if o shut (record (forget_if o shut x) { own = f (forget_if o shut x).own })
+forget_own : (o : Bool) (shut : List ℕ → Bool) (f : Own → Own) (x : Session) → forget_if o shut (own_set f x) ≡ forget_if o shut (own_set f (forget_if o shut x))
 forget_own false shut f x = refl
-forget_own true shut f x = λ i. record x { windows = forget_windows shut x.windows i; places = forget_places shut x.places i; search = sym (forget_search_same shut x.search) i; own = f x.own }
-
-outline_with_own : (users shut : List ℕ → Bool) (id : ℕ) (f : Own → Own) (w : World) → outline users shut (with_own id f w) ≡ outline users shut (with_own id f (outline users shut w))
-outline_with_own users shut id f w =
-    λ i. record w {
-      buffers = map_fixed (erase shut) (erase_same shut) w.buffers i;
-      sessions = Blind-change (forget users shut) (forget_same users shut) (has_id id) (λ x. refl) (λ x. record x { own = f x.own }) (λ x. forget_own (users x.user) shut f x) w.sessions i;
+forget_own true shut f x =
+    λ i. record (own_set f x) {
+      windows = forget_windows shut x.windows i;
+      places = forget_places shut x.places i;
+      search = search_if_forget (searches (f x.own).mode) shut x.search (forget_search shut x.search) (sym (forget_search_same shut x.search)) i;
     }
 
-outline_done_by : (users shut : List ℕ → Bool) (id : ℕ) (stored : Bool) (c : Command) (d : Doing) (s : Option Session) → IsOf users s → Closed users shut d.world → outline_doing users shut (done_by id stored c d s) ≡ outline_doing users shut (done_by id stored c (outline_doing users shut d) (option_map (forget users shut) s))
-outline_done_by users shut id stored c d None g h = λ i. record { world = outline_same users shut d.world i; todo = []; memory = d.memory }
-outline_done_by users shut id stored c d (Some x) g h =
-    (λ i. record { world = outline_apply users shut d.world id (outcome (view d.world x) c stored) i; todo = still_to_do (outcome (view d.world x) c stored).after d.todo; memory = one_less d.memory })
-    ∙ ap (λ v. outline_doing users shut (done id d.memory d.todo (outline users shut d.world) (outcome v c stored))) (sym (view_outline users shut d.world x g h.no_rights))
+outline_with_own : (users shut : List ℕ → Bool) (w : World) (id : ℕ) (f : Own → Own) → outline users shut (with_own id f w) ≡ outline users shut (with_own id f (outline users shut w))
+outline_with_own users shut w id f =
+    λ i. record w {
+      buffers = map_fixed (erase shut) (erase_same shut) w.buffers i;
+      sessions = Blind-change (forget users shut) (forget_same users shut) (has_id id) (λ x. refl) (own_set f) (λ x. forget_own (users x.user) shut f x) w.sessions i;
+    }
 
-outline_turn : (users shut : List ℕ → Bool) (id : ℕ) (stored : Bool) (t : Turn) (d : Doing) → IsOf users (find_session id d.world.sessions) → Closed users shut d.world → outline_doing users shut (turn_done id stored t d) ≡ outline_doing users shut (turn_done id stored t (outline_doing users shut d))
-outline_turn users shut id stored Rest d g h = λ i. record d { world = outline_same users shut d.world i }
-outline_turn users shut id stored (Do c) d g h =
-    outline_done_by users shut id stored c d (find_session id d.world.sessions) g h
-    ∙ ap (λ s. outline_doing users shut (done_by id stored c (outline_doing users shut d) s)) (sym (find_forget users shut id d.world.sessions))
-outline_turn users shut id stored (Refuse c) d g h = λ i. record { world = outline_with_own users shut id refused_own d.world i; todo = []; memory = d.memory }
+outlines : (users shut : List ℕ → Bool) → Erasure (outline users shut)
+outlines users shut = record { applies = outline_apply users shut; keeps = outline_with_own users shut }
 
-turn_like : (users shut : List ℕ → Bool) (id : ℕ) (stored : Bool) (d e : Doing) → LikeDoings users shut d e → Closed users shut d.world → IsOf users (find_session id d.world.sessions) → LikeDoings users shut (turn id stored d) (turn id stored e)
-turn_like users shut id stored d e p h g =
-    outline_turn users shut id stored (next d.todo d.memory) d g h
-    ∙ ap (λ x. outline_doing users shut (turn id stored x)) p
-    ∙ sym (outline_turn users shut id stored (next e.todo e.memory) e (of_like users shut d.world e.world id (ap (λ x. x.world) p) g) (closed_like users shut d.world e.world (ap (λ x. x.world) p) h))
+abbrev LikeDoings : (List ℕ → Bool) → (List ℕ → Bool) → Doing → Doing → Type 0
+LikeDoings users shut d e = SameDoings (outline users shut) d e
 
-turns_like : (n : ℕ) (users shut : List ℕ → Bool) (id : ℕ) (stored : Bool) (d e : Doing) → LikeDoings users shut d e → Closed users shut d.world → ActsFor users d.todo (find_session id d.world.sessions) → Like users shut (turns n id stored d).world (turns n id stored e).world
-unfolding turns ActsFor
-turns_like zero users shut id stored d e p h g = ap (λ x. x.world) p
-turns_like (suc n) users shut id stored d e p h g = go d.todo e.todo (ap (λ x. x.todo) p) g (turns_like n users shut id stored (turn id stored d) (turn id stored e))
+turns_like : (n : ℕ) (users shut : List ℕ → Bool) (id : ℕ) (stored : Bool) (d e : Doing) → LikeDoings users shut d e → Closed users shut d.world → IsOf users (find_session id d.world.sessions) → Like users shut (turns n id stored d).world (turns n id stored e).world
+unfolding turns
+turns_like zero users shut id stored d e p h g = p.0
+turns_like (suc n) users shut id stored d e p h g =
+    go (at_rest id d) (at_rest id e) (ap (λ v. rests (turn_seen v)) q) (turns_like n users shut id stored (turn id stored d) (turn id stored e))
   where
-    go : (s t : List Todo) → s ≡ t → ActsFor users s (find_session id d.world.sessions)
-        → (LikeDoings users shut (turn id stored d) (turn id stored e) → Closed users shut (turn id stored d).world → ActsFor users (turn id stored d).todo (find_session id (turn id stored d).world.sessions)
+    q : view_of d.world id ≡ view_of e.world id
+    q = view_of_like users shut d.world e.world id p.0 h g
+
+    go : (c k : Bool) → c ≡ k
+        → (LikeDoings users shut (turn id stored d) (turn id stored e) → Closed users shut (turn id stored d).world → IsOf users (find_session id (turn id stored d).world.sessions)
         → Like users shut (turns n id stored (turn id stored d)).world (turns n id stored (turn id stored e)).world)
-        → Like users shut (the_world (elim s as (λ _. Doing) [ [] ↦ d | x ∷ xs ↦ turns n id stored (turn id stored d) ]))
-        (the_world (elim t as (λ _. Doing) [ [] ↦ e | x ∷ xs ↦ turns n id stored (turn id stored e) ]))
-    go [] [] q a ih = ap (λ x. x.world) p
-    go (x ∷ xs) (y ∷ ys) q a ih =
-        ih (turn_like users shut id stored d e p h a) (closed_turn users shut id stored (next d.todo d.memory) d a h) (acts_next users id stored d a)
-    go [] (y ∷ ys) q a ih = cc
-    go (x ∷ xs) [] q a ih = cc
+        → Like users shut (the_world (elim c as (λ _. Doing) [ true ↦ d | false ↦ turns n id stored (turn id stored d) ]))
+        (the_world (elim k as (λ _. Doing) [ true ↦ e | false ↦ turns n id stored (turn id stored e) ]))
+    go true true r ih = p.0
+    go false false r ih =
+        ih (turn_same (outline users shut) (outlines users shut) id stored d e p (view_of_like users shut d.world e.world id p.0 h g)) (closed_turn users shut id stored (turn_in d.world id) d.world d.memory g h) (of_next users id stored d g)
+    go true false r ih = cc
+    go false true r ih = cc
 
-turns_closed : (n : ℕ) (users shut : List ℕ → Bool) (id : ℕ) (stored : Bool) (d : Doing) → Closed users shut d.world → ActsFor users d.todo (find_session id d.world.sessions) → Closed users shut (turns n id stored d).world
-unfolding turns ActsFor
+turns_closed : (n : ℕ) (users shut : List ℕ → Bool) (id : ℕ) (stored : Bool) (d : Doing) → Closed users shut d.world → IsOf users (find_session id d.world.sessions) → Closed users shut (turns n id stored d).world
+unfolding turns
 turns_closed zero users shut id stored d h g = h
-turns_closed (suc n) users shut id stored d h g = go d.todo g (turns_closed n users shut id stored (turn id stored d))
+turns_closed (suc n) users shut id stored d h g = go (at_rest id d) (turns_closed n users shut id stored (turn id stored d))
   where
-    go : (s : List Todo) → ActsFor users s (find_session id d.world.sessions)
-        → (Closed users shut (turn id stored d).world → ActsFor users (turn id stored d).todo (find_session id (turn id stored d).world.sessions) → Closed users shut (turns n id stored (turn id stored d)).world)
-        → Closed users shut (the_world (elim s as (λ _. Doing) [ [] ↦ d | x ∷ xs ↦ turns n id stored (turn id stored d) ]))
-    go [] a ih = h
-    go (x ∷ xs) a ih = ih (closed_turn users shut id stored (next d.todo d.memory) d a h) (acts_next users id stored d a)
+    go : (c : Bool)
+        → (Closed users shut (turn id stored d).world → IsOf users (find_session id (turn id stored d).world.sessions) → Closed users shut (turns n id stored (turn id stored d)).world)
+        → Closed users shut (the_world (elim c as (λ _. Doing) [ true ↦ d | false ↦ turns n id stored (turn id stored d) ]))
+    go true ih = h
+    go false ih = ih (closed_turn users shut id stored (turn_in d.world id) d.world d.memory g h) (of_next users id stored d g)
 
 -- A STEP OF THE USERS
 
@@ -97,7 +85,7 @@ outline_closed : (users shut : List ℕ → Bool) (id : ℕ) (w : World) → out
 outline_closed users shut id w =
     λ i. record w {
       buffers = map_fixed (erase shut) (erase_same shut) w.buffers i;
-      sessions = Blind-remove (forget users shut) (forget_same users shut) (has_id id) (λ x. refl) w.sessions i;
+      sessions = Blind-filter (forget users shut) (forget_same users shut) (λ x. not (has_id id x)) (λ x. refl) w.sessions i;
     }
 
 shows_erase : (shut : List ℕ → Bool) (o : Option Buffer) → first_shows (option_map (erase shut) o) ≡ first_shows o
@@ -115,7 +103,7 @@ outline_opened users shut id user rows cols w =
     λ i. record w {
       buffers = map_fixed (erase shut) (erase_same shut) w.buffers i;
       sessions = Blind-append (forget users shut) (forget_same users shut) w.sessions (new_session w.directory w.buffers id user rows cols) (new_session w.directory (map (erase shut) w.buffers) id user rows cols) (ap (forget users shut) (new_erase shut w.directory w.buffers id user rows cols)) i;
-      next_id = w.next_id + 1;
+      next_id = max w.next_id (id + 1);
     }
 
 is_open_like : (users shut : List ℕ → Bool) (w v : World) (id : ℕ) → Like users shut w v → is_open id w ≡ is_open id v
@@ -127,21 +115,16 @@ is_open_like users shut w v id e = sym (one w) ∙ ap (λ x. is_open id x) e ∙
 length_like : (users shut : List ℕ → Bool) (w v : World) → Like users shut w v → length w.sessions ≡ length v.sessions
 length_like users shut w v e = sym (length-map w.sessions (forget users shut)) ∙ ap (λ x. length x.sessions) e ∙ length-map v.sessions (forget users shut)
 
-open_fault_like : (users shut : List ℕ → Bool) (w v : World) (user : List ℕ) (rows cols : ℕ) → Like users shut w v → open_fault w user rows cols ≡ open_fault v user rows cols
-open_fault_like users shut w v user rows cols e =
-    λ i. (if not (is_among user (e i).directory.users) then Some NoUser else if not (is_size rows cols) then Some Size else if nat_le SESSION_LIMIT (length_like users shut w v e i) then Some Full else if nat_le (2 ^ 64) (e i).next_id then Some Full else None)
+session_fault_like : (users shut : List ℕ → Bool) (w v : World) (user : List ℕ) (rows cols : ℕ) → Like users shut w v → session_fault w user rows cols ≡ session_fault v user rows cols
+session_fault_like users shut w v user rows cols e =
+    λ i. (if not (is_among user (e i).directory.users) then Some NoUser else if not (is_size rows cols) then Some Size else if nat_le SESSION_LIMIT (length_like users shut w v e i) then Some Full else None)
 
 can_open_like : (users shut : List ℕ → Bool) (w v : World) (id : ℕ) (user : List ℕ) (rows cols : ℕ) → Like users shut w v → can_open w id user rows cols ≡ can_open v id user rows cols
 can_open_like users shut w v id user rows cols e =
-    λ i. not (is_some (open_fault_like users shut w v user rows cols e i)) && (id == (e i).next_id)
+    λ i. not (is_some (session_fault_like users shut w v user rows cols e i)) && not (is_open_like users shut w v id e i)
 
 begun_like : (users shut : List ℕ → Bool) (id byte : ℕ) (stop : Option ℕ) (w v : World) → Like users shut w v → LikeDoings users shut (begun w id byte stop) (begun v id byte stop)
-begun_like users shut id byte stop w v e =
-    λ i. record {
-      world = like_by users shut (with_own id (begun_own byte)) w v e (outline_with_own users shut id (begun_own byte) w) (outline_with_own users shut id (begun_own byte) v) i;
-      todo = Typed byte ∷ [];
-      memory = stop;
-    }
+begun_like users shut id byte stop w v e = (own_same (outline users shut) (outlines users shut) w v id (begun_own byte) e, refl)
 
 of_inside : (users : List ℕ → Bool) (o : Option Session) → is_other users o ≡ false → IsOf users o
 of_inside users None e = tt
@@ -154,7 +137,7 @@ of_inside users (Some x) e = choose (users x.user) e
 byte_like : (users shut : List ℕ → Bool) (w v : World) (id byte : ℕ) (stored : Bool) (stop : Option ℕ) → Like users shut w v → Closed users shut w → IsOf users (find_session id w.sessions) → Like users shut (settled (byte_done w id byte stored stop)) (settled (byte_done v id byte stored stop))
 byte_like users shut w v id byte stored stop e h g =
     settled_like users shut (byte_done w id byte stored stop) (byte_done v id byte stored stop)
-    (turns_like most_turns users shut id stored (begun w id byte stop) (begun v id byte stop) (begun_like users shut id byte stop w v e) (closed_with_own users shut id (begun_own byte) w h) (acts_begun users id byte stop w g))
+    (turns_like most_turns users shut id stored (begun w id byte stop) (begun v id byte stop) (begun_like users shut id byte stop w v e) (closed_with_own users shut id (begun_own byte) w h) (of_begun users id byte stop w g))
 
 step_like : (users shut : List ℕ → Bool) (w v : World) (e : Event) → Like users shut w v → Closed users shut w → is_outside users w e ≡ false → Like users shut (step w e) (step v e)
 step_like users shut w v (Open id user rows cols) p h g =
@@ -192,7 +175,7 @@ closed_step : (users shut : List ℕ → Bool) (w : World) (e : Event) → Close
 closed_step users shut w (Open id user rows cols) h g = closed_cond (can_open w id user rows cols) users shut w (opened w id user rows cols) h (record { there = h.there; no_rights = h.no_rights })
 closed_step users shut w (Byte id byte stored stop) h g =
     closed_cond (is_open id w) users shut w (byte_done w id byte stored stop) h
-    (turns_closed most_turns users shut id stored (begun w id byte stop) (closed_with_own users shut id (begun_own byte) w h) (acts_begun users id byte stop w (of_inside users (find_session id w.sessions) g)))
+    (turns_closed most_turns users shut id stored (begun w id byte stop) (closed_with_own users shut id (begun_own byte) w h) (of_begun users id byte stop w (of_inside users (find_session id w.sessions) g)))
 closed_step users shut w (Close id) h g = closed_cond (is_open id w) users shut w (record w { sessions = without_session id w.sessions }) h (record { there = h.there; no_rights = h.no_rights })
 
 -- A STEP OF OTHERS
@@ -200,14 +183,13 @@ closed_step users shut w (Close id) h g = closed_cond (is_open id w) users shut 
 step_inside : (users shut : List ℕ → Bool) (w : World) (e : Event) → settled w ≡ w → is_outside users w e ≡ true → Inside shut w e → Like users shut (step w e) w
 step_inside users shut w (Open id user rows cols) q o p = absurd p
 step_inside users shut w (Close id) q o p = absurd p
-step_inside users shut w (Byte id byte stored stop) q o p = choose (is_open id w)
+step_inside users shut w (Byte id byte stored stop) q o p = choose (is_open id w) p
   where
-    same : Like users shut (byte_done w id byte stored stop) w
-    same = turns_inside most_turns users shut id stored (begun w id byte stop) p (other_with_own users id (begun_own byte) w o) ∙ with_own_inside users shut id (begun_own byte) w o
-
-    choose : (c : Bool) → Like users shut (cond c (settled (byte_done w id byte stored stop)) w) w
-    choose true = settled_like users shut (byte_done w id byte stored stop) w same ∙ ap (outline users shut) q
-    choose false = refl
+    choose : (c : Bool) → InsideAll shut (cond c (turns_effects most_turns id stored (begun w id byte stop)) []) → Like users shut (cond c (settled (byte_done w id byte stored stop)) w) w
+    choose true p =
+        settled_like users shut (byte_done w id byte stored stop) w (turns_inside most_turns users shut id stored (begun w id byte stop) p (other_with_own users id (begun_own byte) w o) ∙ with_own_inside users shut id (begun_own byte) w o)
+        ∙ ap (outline users shut) q
+    choose false p = refl
 
 -- RUNS
 
@@ -229,15 +211,9 @@ run_closed users shut w (e ∷ es) q h i = run_closed users shut (step w e) es (
     after true o = closed_like users shut w (step w e) (sym (step_inside users shut w e q o (i.0 o))) h
     after false o = closed_step users shut w e h o
 
-screens_two : (users shut : List ℕ → Bool) (w v : World) (o p : Option Session) → Like users shut w v → Closed users shut w → IsOf users o → option_map (forget users shut) o ≡ option_map (forget users shut) p → option_map (screen w) o ≡ option_map (screen v) p
-screens_two users shut w v None None e h g q = refl
-screens_two users shut w v (Some x) (Some y) e h g q = let r : forget users shut x ≡ forget users shut y = cc in ap (λ z. Some (draw (seen_in z))) (view_like users shut w v x y e h g r)
-screens_two users shut w v None (Some y) e h g q = cc
-screens_two users shut w v (Some x) None e h g q = cc
-
 pub purged : Purged
 purged users shut w es q h i = record {
-  screens = λ id g. screens_two users shut (run w es) (run w (purge users w es)) (find_session id (run w es).sessions) (find_session id (run w (purge users w es)).sessions) like (run_closed users shut w es q h i) g (found_like users shut (run w es) (run w (purge users w es)) id like);
+  screens = λ id g. screens_seen (run w es) (run w (purge users w es)) id (view_of_like users shut (run w es) (run w (purge users w es)) id like (run_closed users shut w es q h i) g);
   others = λ n p. sym (find_not_shut shut n p (run w es).buffers) ∙ ap (λ x. find_buffer n x.buffers) like ∙ find_not_shut shut n p (run w (purge users w es)).buffers;
 }
   where

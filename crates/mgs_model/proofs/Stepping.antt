@@ -1,31 +1,30 @@
 -- Whole events and runs, where the texts of some buffers are hidden from the users.
-use Rattle.std.proofs.Common.{◌≡◌, ℕ, ◌+◌, ◌-◌, List, [], ◌∷◌, ◌++◌, length, map, find, refl, sym, ap, ◌∙◌, subst, Bool, true, false, cond, ◌&&◌, ◌==◌, nat_le, not, ◌^◌, Option, Some, None, is_some, zero, suc}
+use Rattle.std.proofs.Common.{◌≡◌, ℕ, ◌+◌, ◌-◌, List, [], ◌∷◌, ◌++◌, length, map, not, find, refl, sym, ap, ◌∙◌, subst, Bool, true, false, cond, ◌&&◌, nat_le, Option, Some, None, is_some, zero, suc}
 use Rattle.std.specs.Option.{option_map}
+use Rattle.std.specs.Prelude.{max}
 use Rattle.std.proofs.lemmas.List.{length-map}
+use Rattle.mgs_model.specs.Names.{same_name}
 use Rattle.std.specs.Prelude.{if◌then◌else◌}
 use Rattle.mgs_model.specs.declared.errors.OpenFault.TheVariants.{NoUser, Size, Full}
 use Rattle.mgs_model.specs.declared.limits.TheConstants.{SESSION_LIMIT}
-use Rattle.mgs_model.specs.Names.{same_name}
 use Rattle.mgs_model.specs.Access.{Directory, is_among}
 use Rattle.mgs_model.specs.Lines.{settled_top}
 use Rattle.mgs_model.specs.World.{World, Buffer, Session, Window, Own, Shows, Buffer_of, may, has_id, find_session, find_buffer}
-use Rattle.mgs_model.specs.View.{view}
-use Rattle.mgs_model.specs.Outcome.{Outcome, Effect, No_effect, Edit, Unmodified, Relist, Reown, Create, Kill, Save, Quit, After, Stops}
-use Rattle.mgs_model.specs.Plans.{outcome}
-use Rattle.mgs_model.specs.Apply.{apply, act, act_of, change_first, session_after, session_arranged, after_quit, without_session}
-use Rattle.mgs_model.specs.Events.{Event, Open, Byte, Close, top_settled, window_top, window_settled, session_settled, settled, first_shows, new_session, is_open, is_size, can_open, open_fault, opened, Todo, Typed, Doing, Turn, Rest, Do, Refuse, next, refused_own, with_own, one_less, still_to_do, done, done_by, turn_done, turn, turns, most_turns, begun_own, begun, byte_done, step, run, Saved, saved_by, saves_of, turn_saves, turns_saves, step_saves, run_saves}
+use Rattle.mgs_model.specs.View.{view, view_of}
+use Rattle.mgs_model.specs.Apply.{act, without_session}
+use Rattle.mgs_model.specs.Events.{Event, Open, Byte, Close, top_settled, window_top, window_settled, session_settled, settled, first_shows, new_session, is_open, is_size, can_open, session_fault, opened, Doing, turn_seen, turn_in, rests, own_set, with_own, turn, turns, most_turns, begun_own, begun, byte_done, step, run, saved_by, turn_effects, turns_effects, event_effects, run_effects}
+use Rattle.mgs_model.specs.Outcome.{Effect}
+use Rattle.std.specs.List.{flat_map}
 use Rattle.mgs_model.specs.Seen.{seen_in}
 use Rattle.mgs_model.specs.Draw.{draw, screen}
-use Rattle.mgs_model.specs.Secrecy.{hide, hide_if, blank_if, veil, veil_if, veil_window, blur, Alike, HiddenAmong, Hidden, IsOf, has_name, still, act_saves, HiddenAct, IsBy, AllBy, shut_turns, HiddenTurns, shut_step, HiddenStep, shut_run, HiddenRun, Same, HiddenText}
+use Rattle.mgs_model.specs.Secrecy.{screen_of, hide, hide_if, blank_if, veil, veil_if, veil_window, blur, Alike, HiddenAmong, Hidden, IsOf, has_name, still, HiddenAct, IsBy, AllBy, turn_worlds, event_worlds, run_worlds, still_through, HiddenThrough, Same, HiddenText}
 use Rattle.mgs_model.specs.declared.right.Right.TheVariants.{ReadData, ReadAttributes}
-use Rattle.mgs_model.specs.declared.session.Command.{Command}
-use Rattle.mgs_model.proofs.Blind.{Blind-change, Blind-remove, Blind-append, map_fixed, is_some_map, same_names, is_name}
-use Rattle.mgs_model.proofs.Firsts.{find-map, find-change_first}
+use Rattle.mgs_model.proofs.Blind.{Blind-change, Blind-filter, Blind-append, map_fixed, is_some_map, same_names, is_name}
+use Rattle.mgs_model.proofs.Firsts.{find-map}
 use Rattle.mgs_model.proofs.Hide.{hide_same}
 use Rattle.mgs_model.proofs.Veil.{veil_same}
-use Rattle.mgs_model.proofs.After.{user_after, find_after}
-use Rattle.mgs_model.proofs.Acting.{blur_apply, blur_blur, blur_act, view_blur, find_hide, find_veil}
-use Rattle.mgs_model.proofs.Outcomes.{QuitStops, quit_stops}
+use Rattle.mgs_model.proofs.Acting.{blur_apply, view_of_blur, find_hide, find_veil}
+use Rattle.mgs_model.proofs.Turning.{Erasure, own_same, act_same, turn_same, effects_seen, effects_same, of_with_own, of_turn}
 
 -- what is blind to the blur keeps worlds alike
 alike_by : (users shut : List ℕ → Bool) (f : World → World) (w v : World) → Alike users shut w v → blur users shut (f w) ≡ blur users shut (f (blur users shut w)) → blur users shut (f v) ≡ blur users shut (f (blur users shut v)) → Alike users shut (f w) (f v)
@@ -82,6 +81,17 @@ shrink users shut w v e =
     ∙ sym (blur_still users shut v)
     ∙ ap (λ f. blur users f v) (sym (still_blur users shut v) ∙ ap (still shut) (sym e) ∙ still_blur users shut w)
 
+and_first : (a b : Bool) → (a && b) ≡ true → a ≡ true
+and_first true b e = refl
+and_first false b e = e
+
+hidden_still_among : (users shut : List ℕ → Bool) (w : World) (d : Directory) (bs : List Buffer) → HiddenAmong users shut d bs → HiddenAmong users (still shut w) d bs
+hidden_still_among users shut w d [] h = tt
+hidden_still_among users shut w d (b ∷ bs) h = ((λ e. h.0 (and_first (shut b.name) (has_name b.name w.buffers) e)), hidden_still_among users shut w d bs h.1)
+
+hidden_still : (users shut : List ℕ → Bool) (w : World) → Hidden users shut w → Hidden users (still shut w) w
+hidden_still users shut w h = hidden_still_among users shut w w.directory w.buffers h
+
 -- WHAT ALIKE WORLDS SHARE
 
 hidden_there : (users shut : List ℕ → Bool) (d : Directory) (bs : List Buffer) → HiddenAmong users shut d bs → HiddenAmong users shut d (map (hide shut) bs)
@@ -111,185 +121,94 @@ of_alike : (users shut : List ℕ → Bool) (w v : World) (id : ℕ) → Alike u
 of_alike users shut w v id e h =
     of_back users (find_session id v.sessions) (subst (IsOf users) (found_alike users shut w v id e) (of_there users (find_session id w.sessions) h))
 
-view_alike : (users shut : List ℕ → Bool) (w v : World) (x y : Session) → Alike users shut w v → Hidden users shut w → users x.user ≡ true → veil users x ≡ veil users y → view w x ≡ view v y
-view_alike users shut w v x y e h g q =
-    sym (view_blur users shut w x g h)
-    ∙ (λ i. view (e i) (q i))
-    ∙ view_blur users shut v y (ap users (sym (ap (λ z. z.user) q)) ∙ g) (hidden_alike users shut w v e h)
+view_of_alike : (users shut : List ℕ → Bool) (w v : World) (id : ℕ) → Alike users shut w v → Hidden users shut w → IsOf users (find_session id w.sessions) → view_of w id ≡ view_of v id
+view_of_alike users shut w v id e h g =
+    sym (view_of_blur users shut w id g h)
+    ∙ ap (λ x. view_of x id) e
+    ∙ view_of_blur users shut v id (of_alike users shut w v id e g) (hidden_alike users shut w v e h)
+
+-- THE BLUR
+
+veil_own : (o : Bool) (f : Own → Own) (x : Session) → veil_if o (own_set f x) ≡ veil_if o (own_set f (veil_if o x))
+veil_own true f x = λ i. record (own_set f x) { windows = map_fixed (veil_window true) (λ y. refl) x.windows i }
+veil_own false f x = λ i. record (own_set f x) { windows = map_fixed (veil_window false) (λ y. refl) x.windows i }
+
+blur_with_own : (users shut : List ℕ → Bool) (w : World) (id : ℕ) (f : Own → Own) → blur users shut (with_own id f w) ≡ blur users shut (with_own id f (blur users shut w))
+blur_with_own users shut w id f =
+    λ i. record w {
+      buffers = map_fixed (hide shut) (hide_same shut) w.buffers i;
+      sessions = Blind-change (veil users) (veil_same users) (has_id id) (λ x. refl) (own_set f) (λ x. veil_own (users x.user) f x) w.sessions i;
+    }
+
+blurs : (users shut : List ℕ → Bool) → Erasure (blur users shut)
+blurs users shut = record { applies = blur_apply users shut; keeps = blur_with_own users shut }
 
 -- ONE ACT
 
-act_alike : (users shut : List ℕ → Bool) (w v : World) (id : ℕ) (c : Command) (stored : Bool) → Alike users shut w v → Hidden users shut w → IsOf users (find_session id w.sessions) → Alike users shut (act w id c stored) (act v id c stored)
-act_alike users shut w v id c stored e h g =
-    alike_by users shut (λ x. act x id c stored) w v e
-    (blind w g h)
-    (blind v (of_alike users shut w v id e g) (hidden_alike users shut w v e h))
-  where
-    blind : (x : World) → IsOf users (find_session id x.sessions) → Hidden users shut x → blur users shut (act x id c stored) ≡ blur users shut (act (blur users shut x) id c stored)
-    blind x g h =
-        blur_act users shut x (find_session id x.sessions) id c stored g h
-        ∙ ap (λ o. blur users shut (act_of (blur users shut x) o id c stored)) (sym (find_veil users id x.sessions))
-
-saves_two : (users shut : List ℕ → Bool) (w v : World) (o p : Option Session) (c : Command) (stored : Bool) → Alike users shut w v → Hidden users shut w → IsOf users o → option_map (veil users) o ≡ option_map (veil users) p → saves_of w o c stored ≡ saves_of v p c stored
-saves_two users shut w v None None c stored e h g q = refl
-saves_two users shut w v (Some x) (Some y) c stored e h g q = let r : veil users x ≡ veil users y = cc in ap (λ z. saved_by (outcome z c stored).effect) (view_alike users shut w v x y e h g r)
-saves_two users shut w v None (Some y) c stored e h g q = cc
-saves_two users shut w v (Some x) None c stored e h g q = cc
-
-saves_alike : (users shut : List ℕ → Bool) (w v : World) (id : ℕ) (c : Command) (stored : Bool) → Alike users shut w v → Hidden users shut w → IsOf users (find_session id w.sessions) → act_saves w id c stored ≡ act_saves v id c stored
-saves_alike users shut w v id c stored e h g =
-    saves_two users shut w v (find_session id w.sessions) (find_session id v.sessions) c stored e h g (found_alike users shut w v id e)
-
 pub hidden_act : HiddenAct
 hidden_act users shut w v id c stored e h g =
-    (shrink users shut (act w id c stored) (act v id c stored) (act_alike users shut w v id c stored e h g), saves_alike users shut w v id c stored e h g)
-
--- WHOSE THE SESSION IS
-
--- while something is to be done, the session that does it is of the users
-unfoldable pub ActsFor : (List ℕ → Bool) → List Todo → Option Session → Type 0
-ActsFor users [] s = Unit {0}
-ActsFor users (x ∷ xs) s = IsOf users s
-
-pub acts_if : (users : List ℕ → Bool) (todo : List Todo) (s : Option Session) → IsOf users s → ActsFor users todo s
-unfolding ActsFor
-acts_if users [] s h = tt
-acts_if users (x ∷ xs) s h = h
-
-acts_stopped : (users : List ℕ → Bool) (after : After) (todo : List Todo) (s : Option Session) → after ≡ Stops → ActsFor users (still_to_do after todo) s
-unfolding ActsFor
-acts_stopped users after todo s e = subst (λ a. ActsFor users (still_to_do a todo) s) (sym e) tt
-
-acts_after : (users : List ℕ → Bool) (id : ℕ) (after : After) (todo : List Todo) (e : Effect) (xs : List Session) → QuitStops e after → IsOf users (find_session id xs) → ActsFor users (still_to_do after todo) (find_session id (after_quit e id xs))
-acts_after users id after todo Quit xs q h = acts_stopped users after todo (find_session id (without_session id xs)) q
-acts_after users id after todo No_effect xs q h = acts_if users (still_to_do after todo) (find_session id xs) h
-acts_after users id after todo (Edit name a b put) xs q h = acts_if users (still_to_do after todo) (find_session id xs) h
-acts_after users id after todo (Unmodified name) xs q h = acts_if users (still_to_do after todo) (find_session id xs) h
-acts_after users id after todo (Relist name entries) xs q h = acts_if users (still_to_do after todo) (find_session id xs) h
-acts_after users id after todo (Reown name owner) xs q h = acts_if users (still_to_do after todo) (find_session id xs) h
-acts_after users id after todo (Create name owner) xs q h = acts_if users (still_to_do after todo) (find_session id xs) h
-acts_after users id after todo (Kill name) xs q h = acts_if users (still_to_do after todo) (find_session id xs) h
-acts_after users id after todo (Save name text) xs q h = acts_if users (still_to_do after todo) (find_session id xs) h
-
-of_arranged : (users : List ℕ → Bool) (o : Outcome) (s : Option Session) → IsOf users s → IsOf users (option_map (λ x. session_arranged o.arrange o.own (session_after o.effect x)) s)
-of_arranged users o None h = h
-of_arranged users o (Some x) h = ap users (user_after o.effect x) ∙ h
-
-acts_done : (users : List ℕ → Bool) (id : ℕ) (o : Outcome) (todo : List Todo) (w : World) → QuitStops o.effect o.after → IsOf users (find_session id w.sessions) → ActsFor users (still_to_do o.after todo) (find_session id (apply w id o).sessions)
-acts_done users id o todo w q h =
-    acts_after users id o.after todo o.effect (change_first (has_id id) (session_arranged o.arrange o.own) (map (session_after o.effect) w.sessions)) q
-    (subst (IsOf users) (sym (find_after id o w.sessions)) (of_arranged users o (find_session id w.sessions) h))
-
-acts_by : (users : List ℕ → Bool) (id : ℕ) (stored : Bool) (c : Command) (d : Doing) (s : Option Session) → IsOf users (find_session id d.world.sessions) → ActsFor users (done_by id stored c d s).todo (find_session id (done_by id stored c d s).world.sessions)
-unfolding ActsFor
-acts_by users id stored c d None h = tt
-acts_by users id stored c d (Some x) h = acts_done users id (outcome (view d.world x) c stored) d.todo d.world (quit_stops (view d.world x) c stored) h
-
-acts_turn : (users : List ℕ → Bool) (id : ℕ) (stored : Bool) (t : Turn) (d : Doing) → IsOf users (find_session id d.world.sessions) → ActsFor users (turn_done id stored t d).todo (find_session id (turn_done id stored t d).world.sessions)
-unfolding ActsFor
-acts_turn users id stored Rest d h = acts_if users d.todo (find_session id d.world.sessions) h
-acts_turn users id stored (Do c) d h = acts_by users id stored c d (find_session id d.world.sessions) h
-acts_turn users id stored (Refuse c) d h = tt
-
-pub acts_next : (users : List ℕ → Bool) (id : ℕ) (stored : Bool) (d : Doing) → IsOf users (find_session id d.world.sessions) → ActsFor users (turn id stored d).todo (find_session id (turn id stored d).world.sessions)
-acts_next users id stored d h = acts_turn users id stored (next d.todo d.memory) d h
-
--- a session's own record changes
-pub of_with_own : (users : List ℕ → Bool) (id : ℕ) (f : Own → Own) (w : World) → IsOf users (find_session id w.sessions) → IsOf users (find_session id (with_own id f w).sessions)
-of_with_own users id f w h =
-    subst (IsOf users) (sym (find-change_first (has_id id) (λ x. record x { own = f x.own }) (λ x. refl) w.sessions)) (kept (find_session id w.sessions) h)
-  where
-    kept : (s : Option Session) → IsOf users s → IsOf users (option_map {T = Session} (λ x. record x { own = f x.own }) s)
-    kept None h = h
-    kept (Some x) h = h
+    let q : view_of w id ≡ view_of v id = view_of_alike users shut w v id e h g in
+    (shrink users shut (act w id c stored) (act v id c stored) (act_same (blur users shut) (blurs users shut) w v id c stored e q), effects_seen id stored c w v q)
 
 -- TURNS
 
-abbrev blur_doing : (List ℕ → Bool) → (List ℕ → Bool) → Doing → Doing
-blur_doing users shut d = record d { world = blur users shut d.world }
-
 abbrev AlikeDoings : (List ℕ → Bool) → (List ℕ → Bool) → Doing → Doing → Type 0
-AlikeDoings users shut d e = blur_doing users shut d ≡ blur_doing users shut e
+AlikeDoings users shut d e = Alike users shut d.world e.world × (d.memory ≡ e.memory)
 
-veil_own : (o : Bool) (f : Own → Own) (x : Session) → veil_if o (record x { own = f x.own }) ≡ veil_if o (record (veil_if o x) { own = f x.own })
-veil_own true f x = λ i. record x { windows = map_fixed (veil_window true) (λ y. refl) x.windows i; own = f x.own }
-veil_own false f x = λ i. record x { windows = map_fixed (veil_window false) (λ y. refl) x.windows i; own = f x.own }
-
-blur_with_own : (users shut : List ℕ → Bool) (id : ℕ) (f : Own → Own) (w : World) → blur users shut (with_own id f w) ≡ blur users shut (with_own id f (blur users shut w))
-blur_with_own users shut id f w =
-    λ i. record w {
-      buffers = map_fixed (hide shut) (hide_same shut) w.buffers i;
-      sessions = Blind-change (veil users) (veil_same users) (has_id id) (λ x. refl) (λ x. record x { own = f x.own }) (λ x. veil_own (users x.user) f x) w.sessions i;
-    }
-
-blur_done_by : (users shut : List ℕ → Bool) (id : ℕ) (stored : Bool) (c : Command) (d : Doing) (s : Option Session) → IsOf users s → Hidden users shut d.world → blur_doing users shut (done_by id stored c d s) ≡ blur_doing users shut (done_by id stored c (blur_doing users shut d) (option_map (veil users) s))
-blur_done_by users shut id stored c d None g h = λ i. record { world = blur_blur users shut d.world i; todo = []; memory = d.memory }
-blur_done_by users shut id stored c d (Some x) g h =
-    (λ i. record { world = blur_apply users shut d.world id (outcome (view d.world x) c stored) i; todo = still_to_do (outcome (view d.world x) c stored).after d.todo; memory = one_less d.memory })
-    ∙ ap (λ v. blur_doing users shut (done id d.memory d.todo (blur users shut d.world) (outcome v c stored))) (sym (view_blur users shut d.world x g h))
-
-blur_turn : (users shut : List ℕ → Bool) (id : ℕ) (stored : Bool) (t : Turn) (d : Doing) → IsOf users (find_session id d.world.sessions) → Hidden users shut d.world → blur_doing users shut (turn_done id stored t d) ≡ blur_doing users shut (turn_done id stored t (blur_doing users shut d))
-blur_turn users shut id stored Rest d g h = λ i. record d { world = blur_blur users shut d.world i }
-blur_turn users shut id stored (Do c) d g h =
-    blur_done_by users shut id stored c d (find_session id d.world.sessions) g h
-    ∙ ap (λ s. blur_doing users shut (done_by id stored c (blur_doing users shut d) s)) (sym (find_veil users id d.world.sessions))
-blur_turn users shut id stored (Refuse c) d g h = λ i. record { world = blur_with_own users shut id refused_own d.world i; todo = []; memory = d.memory }
+-- whether anything is still to be done
+abbrev pub at_rest : ℕ → Doing → Bool
+at_rest id d = rests (turn_in d.world id)
 
 turn_alike : (users shut : List ℕ → Bool) (id : ℕ) (stored : Bool) (d e : Doing) → AlikeDoings users shut d e → Hidden users shut d.world → IsOf users (find_session id d.world.sessions) → AlikeDoings users shut (turn id stored d) (turn id stored e)
-turn_alike users shut id stored d e p h g =
-    blur_turn users shut id stored (next d.todo d.memory) d g h
-    ∙ ap (λ x. blur_doing users shut (turn id stored x)) p
-    ∙ sym (blur_turn users shut id stored (next e.todo e.memory) e (of_alike users shut d.world e.world id (ap (λ x. x.world) p) g) (hidden_alike users shut d.world e.world (ap (λ x. x.world) p) h))
+turn_alike users shut id stored d e p h g = turn_same (blur users shut) (blurs users shut) id stored d e p (view_of_alike users shut d.world e.world id p.0 h g)
 
-shrink_doings : (users shut : List ℕ → Bool) (d e : Doing) → AlikeDoings users shut d e → AlikeDoings users (still shut d.world) d e
-shrink_doings users shut d e p = λ i. record { world = shrink users shut d.world e.world (ap (λ x. x.world) p) i; todo = (p i).todo; memory = (p i).memory }
+pub of_next : (users : List ℕ → Bool) (id : ℕ) (stored : Bool) (d : Doing) → IsOf users (find_session id d.world.sessions) → IsOf users (find_session id (turn id stored d).world.sessions)
+of_next users id stored d h = of_turn users id stored (turn_in d.world id) d.world d.memory h
 
 abbrev pub the_world : Doing → World
 the_world d = d.world
 
-turns_alike : (n : ℕ) (users shut : List ℕ → Bool) (id : ℕ) (stored : Bool) (d e : Doing) → AlikeDoings users shut d e → ActsFor users d.todo (find_session id d.world.sessions) → HiddenTurns users n shut id stored d → Alike users (shut_turns n shut id stored d) (turns n id stored d).world (turns n id stored e).world
-unfolding turns shut_turns HiddenTurns ActsFor
-turns_alike zero users shut id stored d e p g h = ap (λ x. x.world) p
-turns_alike (suc n) users shut id stored d e p g h = go d.todo e.todo (ap (λ x. x.todo) p) g h (turns_alike n users (still shut (turn id stored d).world) id stored (turn id stored d) (turn id stored e))
-  where
-    go : (s t : List Todo) → s ≡ t → ActsFor users s (find_session id d.world.sessions)
-        → elim s as (λ _. Type 0) [ [] ↦ Hidden users shut d.world | x ∷ xs ↦ Hidden users shut d.world × HiddenTurns users n (still shut (turn id stored d).world) id stored (turn id stored d) ]
-        → (AlikeDoings users (still shut (turn id stored d).world) (turn id stored d) (turn id stored e) → ActsFor users (turn id stored d).todo (find_session id (turn id stored d).world.sessions) → HiddenTurns users n (still shut (turn id stored d).world) id stored (turn id stored d)
-        → Alike users (shut_turns n (still shut (turn id stored d).world) id stored (turn id stored d)) (turns n id stored (turn id stored d)).world (turns n id stored (turn id stored e)).world)
-        → Alike users (elim s as (λ _. List ℕ → Bool) [ [] ↦ shut | x ∷ xs ↦ shut_turns n (still shut (turn id stored d).world) id stored (turn id stored d) ])
-        (the_world (elim s as (λ _. Doing) [ [] ↦ d | x ∷ xs ↦ turns n id stored (turn id stored d) ]))
-        (the_world (elim t as (λ _. Doing) [ [] ↦ e | x ∷ xs ↦ turns n id stored (turn id stored e) ]))
-    go [] [] q a b ih = ap (λ x. x.world) p
-    go (x ∷ xs) (y ∷ ys) q a b ih =
-        ih (shrink_doings users shut (turn id stored d) (turn id stored e) (turn_alike users shut id stored d e p b.0 a)) (acts_next users id stored d a) b.1
-    go [] (y ∷ ys) q a b ih = cc
-    go (x ∷ xs) [] q a b ih = cc
+rest_alike : (users shut : List ℕ → Bool) (id : ℕ) (d e : Doing) → AlikeDoings users shut d e → Hidden users shut d.world → IsOf users (find_session id d.world.sessions) → at_rest id d ≡ at_rest id e
+rest_alike users shut id d e p h g = ap (λ v. rests (turn_seen v)) (view_of_alike users shut d.world e.world id p.0 h g)
 
-turns_hidden : (n : ℕ) (users shut : List ℕ → Bool) (id : ℕ) (stored : Bool) (d : Doing) → HiddenTurns users n shut id stored d → Hidden users (shut_turns n shut id stored d) (turns n id stored d).world
-unfolding turns shut_turns HiddenTurns
-turns_hidden zero users shut id stored d h = h
-turns_hidden (suc n) users shut id stored d h = go d.todo h (turns_hidden n users (still shut (turn id stored d).world) id stored (turn id stored d))
+-- at the world of a turn: what is still there is alike and hidden
+now_alike : (users shut : List ℕ → Bool) (d e : Doing) → AlikeDoings users shut d e → AlikeDoings users (still shut d.world) d e
+now_alike users shut d e p = (shrink users shut d.world e.world p.0, p.1)
+
+-- through these worlds: they end alike, what is still there is hidden at the end, and the same was done
+abbrev Leads : (List ℕ → Bool) → (List ℕ → Bool) → List World → World → World → List Effect → List Effect → Type 0
+Leads users shut ws w v s t = Alike users (still_through shut ws) w v × Hidden users (still_through shut ws) w × (s ≡ t)
+
+turns_alike : (n : ℕ) (users shut : List ℕ → Bool) (id : ℕ) (stored : Bool) (d e : Doing) → AlikeDoings users shut d e → IsOf users (find_session id d.world.sessions) → HiddenThrough users shut (turn_worlds n id stored d) → Leads users shut (turn_worlds n id stored d) (turns n id stored d).world (turns n id stored e).world (turns_effects n id stored d) (turns_effects n id stored e)
+unfolding turns turn_worlds turns_effects
+turns_alike zero users shut id stored d e p g h = (shrink users shut d.world e.world p.0, hidden_still users shut d.world h.0, refl)
+turns_alike (suc n) users shut id stored d e p g h =
+    go (at_rest id d) (at_rest id e) (λ k. rest_alike users shut id d e p k g) h (turns_alike n users (still shut d.world) id stored (turn id stored d) (turn id stored e))
   where
-    go : (s : List Todo)
-        → elim s as (λ _. Type 0) [ [] ↦ Hidden users shut d.world | x ∷ xs ↦ Hidden users shut d.world × HiddenTurns users n (still shut (turn id stored d).world) id stored (turn id stored d) ]
-        → (HiddenTurns users n (still shut (turn id stored d).world) id stored (turn id stored d) → Hidden users (shut_turns n (still shut (turn id stored d).world) id stored (turn id stored d)) (turns n id stored (turn id stored d)).world)
-        → Hidden users (elim s as (λ _. List ℕ → Bool) [ [] ↦ shut | x ∷ xs ↦ shut_turns n (still shut (turn id stored d).world) id stored (turn id stored d) ])
-        (the_world (elim s as (λ _. Doing) [ [] ↦ d | x ∷ xs ↦ turns n id stored (turn id stored d) ]))
-    go [] b ih = b
-    go (x ∷ xs) b ih = ih b.1
+    go : (c k : Bool) → (Hidden users shut d.world → c ≡ k)
+        → HiddenThrough users shut (elim c as (λ _. List World) [ true ↦ d.world ∷ [] | false ↦ d.world ∷ turn_worlds n id stored (turn id stored d) ])
+        → (AlikeDoings users (still shut d.world) (turn id stored d) (turn id stored e) → IsOf users (find_session id (turn id stored d).world.sessions) → HiddenThrough users (still shut d.world) (turn_worlds n id stored (turn id stored d))
+        → Leads users (still shut d.world) (turn_worlds n id stored (turn id stored d)) (turns n id stored (turn id stored d)).world (turns n id stored (turn id stored e)).world (turns_effects n id stored (turn id stored d)) (turns_effects n id stored (turn id stored e)))
+        → Leads users shut (elim c as (λ _. List World) [ true ↦ d.world ∷ [] | false ↦ d.world ∷ turn_worlds n id stored (turn id stored d) ])
+        (the_world (elim c as (λ _. Doing) [ true ↦ d | false ↦ turns n id stored (turn id stored d) ]))
+        (the_world (elim k as (λ _. Doing) [ true ↦ e | false ↦ turns n id stored (turn id stored e) ]))
+        (elim c as (λ _. List Effect) [ true ↦ [] | false ↦ turn_effects id stored (turn_in d.world id) d.world d.memory ++ turns_effects n id stored (turn id stored d) ])
+        (elim k as (λ _. List Effect) [ true ↦ [] | false ↦ turn_effects id stored (turn_in e.world id) e.world e.memory ++ turns_effects n id stored (turn id stored e) ])
+    go true true q b ih = (shrink users shut d.world e.world p.0, hidden_still users shut d.world b.0, refl)
+    go false false q b ih = (rest.0, rest.1, λ i. effects_same id stored d e p.1 (view_of_alike users shut d.world e.world id p.0 b.0 g) i ++ rest.2 i)
+      where
+        rest : Leads users (still shut d.world) (turn_worlds n id stored (turn id stored d)) (turns n id stored (turn id stored d)).world (turns n id stored (turn id stored e)).world (turns_effects n id stored (turn id stored d)) (turns_effects n id stored (turn id stored e))
+        rest = ih (turn_alike users (still shut d.world) id stored d e (now_alike users shut d e p) (hidden_still users shut d.world b.0) g) (of_next users id stored d g) b.1
+    go true false q b ih = let z : true ≡ false = q b.0 in cc
+    go false true q b ih = let z : false ≡ true = q b.0 in cc
 
 -- A BYTE COMES
 
 begun_alike : (users shut : List ℕ → Bool) (id byte : ℕ) (stop : Option ℕ) (w v : World) → Alike users shut w v → AlikeDoings users shut (begun w id byte stop) (begun v id byte stop)
-begun_alike users shut id byte stop w v e =
-    λ i. record {
-      world = alike_by users shut (with_own id (begun_own byte)) w v e (blur_with_own users shut id (begun_own byte) w) (blur_with_own users shut id (begun_own byte) v) i;
-      todo = Typed byte ∷ [];
-      memory = stop;
-    }
+begun_alike users shut id byte stop w v e = (own_same (blur users shut) (blurs users shut) w v id (begun_own byte) e, refl)
 
-pub acts_begun : (users : List ℕ → Bool) (id byte : ℕ) (stop : Option ℕ) (w : World) → IsOf users (find_session id w.sessions) → ActsFor users (begun w id byte stop).todo (find_session id (begun w id byte stop).world.sessions)
-acts_begun users id byte stop w h = acts_if users (Typed byte ∷ []) (find_session id (with_own id (begun_own byte) w).sessions) (of_with_own users id (begun_own byte) w h)
+pub of_begun : (users : List ℕ → Bool) (id byte : ℕ) (stop : Option ℕ) (w : World) → IsOf users (find_session id w.sessions) → IsOf users (find_session id (begun w id byte stop).world.sessions)
+of_begun users id byte stop w h = of_with_own users id (begun_own byte) w h
 
 -- SETTLING
 
@@ -342,7 +261,7 @@ blur_closed : (users shut : List ℕ → Bool) (id : ℕ) (w : World) → blur u
 blur_closed users shut id w =
     λ i. record w {
       buffers = map_fixed (hide shut) (hide_same shut) w.buffers i;
-      sessions = Blind-remove (veil users) (veil_same users) (has_id id) (λ x. refl) w.sessions i;
+      sessions = Blind-filter (veil users) (veil_same users) (λ x. not (has_id id x)) (λ x. refl) w.sessions i;
     }
 
 shows_hide : (shut : List ℕ → Bool) (o : Option Buffer) → first_shows (option_map (hide shut) o) ≡ first_shows o
@@ -360,7 +279,7 @@ blur_opened users shut id user rows cols w =
     λ i. record w {
       buffers = map_fixed (hide shut) (hide_same shut) w.buffers i;
       sessions = Blind-append (veil users) (veil_same users) w.sessions (new_session w.directory w.buffers id user rows cols) (new_session w.directory (map (hide shut) w.buffers) id user rows cols) (ap (veil users) (new_hide shut w.directory w.buffers id user rows cols)) i;
-      next_id = w.next_id + 1;
+      next_id = max w.next_id (id + 1);
     }
 
 is_open_alike : (users shut : List ℕ → Bool) (w v : World) (id : ℕ) → Alike users shut w v → is_open id w ≡ is_open id v
@@ -372,58 +291,70 @@ is_open_alike users shut w v id e = sym (one w) ∙ ap (λ x. is_open id x) e �
 length_alike : (users shut : List ℕ → Bool) (w v : World) → Alike users shut w v → length w.sessions ≡ length v.sessions
 length_alike users shut w v e = sym (length-map w.sessions (veil users)) ∙ ap (λ x. length x.sessions) e ∙ length-map v.sessions (veil users)
 
-open_fault_alike : (users shut : List ℕ → Bool) (w v : World) (user : List ℕ) (rows cols : ℕ) → Alike users shut w v → open_fault w user rows cols ≡ open_fault v user rows cols
-open_fault_alike users shut w v user rows cols e =
-    λ i. (if not (is_among user (e i).directory.users) then Some NoUser else if not (is_size rows cols) then Some Size else if nat_le SESSION_LIMIT (length_alike users shut w v e i) then Some Full else if nat_le (2 ^ 64) (e i).next_id then Some Full else None)
+session_fault_alike : (users shut : List ℕ → Bool) (w v : World) (user : List ℕ) (rows cols : ℕ) → Alike users shut w v → session_fault w user rows cols ≡ session_fault v user rows cols
+session_fault_alike users shut w v user rows cols e =
+    λ i. (if not (is_among user (e i).directory.users) then Some NoUser else if not (is_size rows cols) then Some Size else if nat_le SESSION_LIMIT (length_alike users shut w v e i) then Some Full else None)
 
 can_open_alike : (users shut : List ℕ → Bool) (w v : World) (id : ℕ) (user : List ℕ) (rows cols : ℕ) → Alike users shut w v → can_open w id user rows cols ≡ can_open v id user rows cols
 can_open_alike users shut w v id user rows cols e =
-    λ i. not (is_some (open_fault_alike users shut w v user rows cols e i)) && (id == (e i).next_id)
+    λ i. not (is_some (session_fault_alike users shut w v user rows cols e i)) && not (is_open_alike users shut w v id e i)
 
 -- A STEP
 
-byte_alike : (users shut : List ℕ → Bool) (w v : World) (id byte : ℕ) (stored : Bool) (stop : Option ℕ) → Alike users shut w v → IsOf users (find_session id w.sessions) → HiddenTurns users most_turns shut id stored (begun w id byte stop) → Alike users (shut_turns most_turns shut id stored (begun w id byte stop)) (settled (byte_done w id byte stored stop)) (settled (byte_done v id byte stored stop))
-byte_alike users shut w v id byte stored stop e g h =
-    settled_alike users (shut_turns most_turns shut id stored (begun w id byte stop)) (byte_done w id byte stored stop) (byte_done v id byte stored stop)
-    (turns_alike most_turns users shut id stored (begun w id byte stop) (begun v id byte stop) (begun_alike users shut id byte stop w v e) (acts_begun users id byte stop w g) h)
-    (turns_hidden most_turns users shut id stored (begun w id byte stop) h)
+hidden_cond : (users shut : List ℕ → Bool) (c : Bool) (w v : World) → Hidden users shut w → Hidden users shut v → Hidden users shut (cond c (settled v) w)
+hidden_cond users shut true w v h k = k
+hidden_cond users shut false w v h k = h
 
-step_alike : (users shut : List ℕ → Bool) (w v : World) (e : Event) → Alike users shut w v → IsBy users w e → HiddenStep users shut w e → Alike users (shut_step shut w e) (step w e) (step v e)
-step_alike users shut w v (Open id user rows cols) p g h =
-    choose (can_open w id user rows cols) (can_open v id user rows cols) (can_open_alike users shut w v id user rows cols p)
+step_alike : (users shut : List ℕ → Bool) (w v : World) (e : Event) → Alike users shut w v → IsBy users w e → Hidden users shut w → HiddenThrough users shut (event_worlds w e) → Leads users shut (event_worlds w e) (step w e) (step v e) (event_effects w e) (event_effects v e)
+step_alike users shut w v (Byte id byte stored stop) p g k h = choose (is_open id w) (is_open id v) (is_open_alike users shut w v id p) h
   where
-    choose : (c k : Bool) → c ≡ k → Alike users shut (cond c (settled (opened w id user rows cols)) w) (cond k (settled (opened v id user rows cols)) v)
+    choose : (c l : Bool) → c ≡ l → HiddenThrough users shut (cond c (turn_worlds most_turns id stored (begun w id byte stop)) [])
+        → Leads users shut (cond c (turn_worlds most_turns id stored (begun w id byte stop)) []) (cond c (settled (byte_done w id byte stored stop)) w) (cond l (settled (byte_done v id byte stored stop)) v) (cond c (turns_effects most_turns id stored (begun w id byte stop)) []) (cond l (turns_effects most_turns id stored (begun v id byte stop)) [])
+    choose true true q b = (settled_alike users (still_through shut (turn_worlds most_turns id stored (begun w id byte stop))) (byte_done w id byte stored stop) (byte_done v id byte stored stop) all.0 all.1, all.1, all.2)
+      where
+        all : Leads users shut (turn_worlds most_turns id stored (begun w id byte stop)) (byte_done w id byte stored stop) (byte_done v id byte stored stop) (turns_effects most_turns id stored (begun w id byte stop)) (turns_effects most_turns id stored (begun v id byte stop))
+        all = turns_alike most_turns users shut id stored (begun w id byte stop) (begun v id byte stop) (begun_alike users shut id byte stop w v p) (of_begun users id byte stop w g) b
+    choose false false q b = (p, k, refl)
+    choose true false q b = cc
+    choose false true q b = cc
+step_alike users shut w v (Open id user rows cols) p g k h =
+    (choose (can_open w id user rows cols) (can_open v id user rows cols) (can_open_alike users shut w v id user rows cols p), hidden_cond users shut (can_open w id user rows cols) w (opened w id user rows cols) k k, refl)
+  where
+    choose : (c l : Bool) → c ≡ l → Alike users shut (cond c (settled (opened w id user rows cols)) w) (cond l (settled (opened v id user rows cols)) v)
     choose true true e =
         settled_alike users shut (opened w id user rows cols) (opened v id user rows cols)
         (alike_by users shut (λ x. opened x id user rows cols) w v p (blur_opened users shut id user rows cols w) (blur_opened users shut id user rows cols v))
-        h
+        k
     choose false false e = p
     choose true false e = cc
     choose false true e = cc
-step_alike users shut w v (Byte id byte stored stop) p g h =
-    choose (is_open id w) (is_open id v) (is_open_alike users shut w v id p)
+step_alike users shut w v (Close id) p g k h =
+    (choose (is_open id w) (is_open id v) (is_open_alike users shut w v id p), hidden_cond users shut (is_open id w) w (closed id w) k k, refl)
   where
-    choose : (c k : Bool) → c ≡ k → Alike users (cond c (shut_turns most_turns shut id stored (begun w id byte stop)) shut) (cond c (settled (byte_done w id byte stored stop)) w) (cond k (settled (byte_done v id byte stored stop)) v)
-    choose true true e = byte_alike users shut w v id byte stored stop p g h.1
-    choose false false e = p
-    choose true false e = cc
-    choose false true e = cc
-step_alike users shut w v (Close id) p g h =
-    choose (is_open id w) (is_open id v) (is_open_alike users shut w v id p)
-  where
-    choose : (c k : Bool) → c ≡ k → Alike users shut (cond c (settled (closed id w)) w) (cond k (settled (closed id v)) v)
-    choose true true e = settled_alike users shut (closed id w) (closed id v) (alike_by users shut (closed id) w v p (blur_closed users shut id w) (blur_closed users shut id v)) h
+    choose : (c l : Bool) → c ≡ l → Alike users shut (cond c (settled (closed id w)) w) (cond l (settled (closed id v)) v)
+    choose true true e = settled_alike users shut (closed id w) (closed id v) (alike_by users shut (closed id) w v p (blur_closed users shut id w) (blur_closed users shut id v)) k
     choose false false e = p
     choose true false e = cc
     choose false true e = cc
 
-run_alike : (users shut : List ℕ → Bool) (w v : World) (es : List Event) → Alike users shut w v → AllBy users w es → HiddenRun users shut w es → Alike users (shut_run shut w es) (run w es) (run v es)
-run_alike users shut w v [] p g h = p
-run_alike users shut w v (e ∷ es) p g h = run_alike users (shut_step shut w e) (step w e) (step v e) es (step_alike users shut w v e p g.0 h.0) g.1 h.1
+hidden_append : (users shut : List ℕ → Bool) (ws vs : List World) → HiddenThrough users shut (ws ++ vs) → HiddenThrough users shut ws × HiddenThrough users (still_through shut ws) vs
+hidden_append users shut [] vs h = (tt, h)
+hidden_append users shut (w ∷ ws) vs h =
+    let rest : HiddenThrough users (still shut w) ws × HiddenThrough users (still_through (still shut w) ws) vs = hidden_append users (still shut w) ws vs h.1 in
+    ((h.0, rest.0), rest.1)
 
-run_hidden : (users shut : List ℕ → Bool) (w : World) (es : List Event) → HiddenRun users shut w es → Hidden users (shut_run shut w es) (run w es)
-run_hidden users shut w [] h = h
-run_hidden users shut w (e ∷ es) h = run_hidden users (shut_step shut w e) (step w e) es h.1
+still_append : (shut : List ℕ → Bool) (ws vs : List World) → still_through shut (ws ++ vs) ≡ still_through (still_through shut ws) vs
+still_append shut [] vs = refl
+still_append shut (w ∷ ws) vs = still_append (still shut w) ws vs
+
+run_alike : (users shut : List ℕ → Bool) (w v : World) (es : List Event) → Alike users shut w v → AllBy users w es → HiddenThrough users shut (run_worlds w es) → Leads users shut (run_worlds w es) (run w es) (run v es) (run_effects w es) (run_effects v es)
+run_alike users shut w v [] p g h = (shrink users shut w v p, hidden_still users shut w h.0, refl)
+run_alike users shut w v (e ∷ es) p g h =
+    let parts : HiddenThrough users (still shut w) (event_worlds w e) × HiddenThrough users (still_through (still shut w) (event_worlds w e)) (run_worlds (step w e) es) = hidden_append users (still shut w) (event_worlds w e) (run_worlds (step w e) es) h.1 in
+    let first : Leads users (still shut w) (event_worlds w e) (step w e) (step v e) (event_effects w e) (event_effects v e) = step_alike users (still shut w) w v e (shrink users shut w v p) g.0 (hidden_still users shut w h.0) parts.0 in
+    let rest : Leads users (still_through (still shut w) (event_worlds w e)) (run_worlds (step w e) es) (run (step w e) es) (run (step v e) es) (run_effects (step w e) es) (run_effects (step v e) es) = run_alike users (still_through (still shut w) (event_worlds w e)) (step w e) (step v e) es first.0 g.1 parts.1 in
+    let same : still_through (still shut w) (event_worlds w e ++ run_worlds (step w e) es) ≡ still_through (still_through (still shut w) (event_worlds w e)) (run_worlds (step w e) es) = still_append (still shut w) (event_worlds w e) (run_worlds (step w e) es) in
+    (subst (λ f. Alike users f (run (step w e) es) (run (step v e) es)) (sym same) rest.0, subst (λ f. Hidden users f (run (step w e) es)) (sym same) rest.1, λ i. first.2 i ++ rest.2 i)
 
 -- WHAT THE USERS SEE
 
@@ -435,65 +366,24 @@ find_not_hidden shut name q (b ∷ bs) = look (same_name name b.name) refl (find
     look true e ih = λ i. Some (hide_if ((sym (ap shut (same_names name b.name e)) ∙ q) i) b)
     look false e ih = ih
 
-screens_two : (users shut : List ℕ → Bool) (w v : World) (o p : Option Session) → Alike users shut w v → Hidden users shut w → IsOf users o → option_map (veil users) o ≡ option_map (veil users) p → option_map (screen w) o ≡ option_map (screen v) p
-screens_two users shut w v None None e h g q = refl
-screens_two users shut w v (Some x) (Some y) e h g q = let r : veil users x ≡ veil users y = cc in ap (λ z. Some (draw (seen_in z))) (view_alike users shut w v x y e h g r)
-screens_two users shut w v None (Some y) e h g q = cc
-screens_two users shut w v (Some x) None e h g q = cc
+pub screen_seen : (w : World) (id : ℕ) → screen_of w id ≡ option_map (λ v. draw (seen_in v)) (view_of w id)
+screen_seen w id = by (find_session id w.sessions)
+  where
+    by : (o : Option Session) → option_map (screen w) o ≡ option_map (λ v. draw (seen_in v)) (option_map (view w) o)
+    by None = refl
+    by (Some x) = refl
+
+pub screens_seen : (w v : World) (id : ℕ) → view_of w id ≡ view_of v id → screen_of w id ≡ screen_of v id
+screens_seen w v id q = screen_seen w id ∙ ap (option_map (λ z. draw (seen_in z))) q ∙ sym (screen_seen v id)
 
 alike_same : (users shut : List ℕ → Bool) (w v : World) → Alike users shut w v → Hidden users shut w → Same users shut w v
 alike_same users shut w v e h = record {
   alike = e;
-  screens = λ id g. screens_two users shut w v (find_session id w.sessions) (find_session id v.sessions) e h g (found_alike users shut w v id e);
+  screens = λ id g. screens_seen w v id (view_of_alike users shut w v id e h g);
   others = λ name q. sym (find_not_hidden shut name q w.buffers) ∙ ap (λ x. find_buffer name x.buffers) e ∙ find_not_hidden shut name q v.buffers;
 }
 
--- WHAT IS SAVED
-
-turn_saves_alike : (users shut : List ℕ → Bool) (id : ℕ) (stored : Bool) (t : Turn) (w v : World) → Alike users shut w v → Hidden users shut w → IsOf users (find_session id w.sessions) → turn_saves id stored t w ≡ turn_saves id stored t v
-turn_saves_alike users shut id stored Rest w v e h g = refl
-turn_saves_alike users shut id stored (Do c) w v e h g = saves_alike users shut w v id c stored e h g
-turn_saves_alike users shut id stored (Refuse c) w v e h g = refl
-
-turns_saves_alike : (n : ℕ) (users shut : List ℕ → Bool) (id : ℕ) (stored : Bool) (d e : Doing) → AlikeDoings users shut d e → ActsFor users d.todo (find_session id d.world.sessions) → HiddenTurns users n shut id stored d → turns_saves n id stored d ≡ turns_saves n id stored e
-unfolding turns_saves HiddenTurns ActsFor
-turns_saves_alike zero users shut id stored d e p g h = refl
-turns_saves_alike (suc n) users shut id stored d e p g h = go d.todo e.todo (ap (λ x. x.todo) p) g h (turns_saves_alike n users (still shut (turn id stored d).world) id stored (turn id stored d) (turn id stored e))
-  where
-    first : Doing → List Saved
-    first x = turn_saves id stored (next x.todo x.memory) x.world
-
-    first_same : Hidden users shut d.world → IsOf users (find_session id d.world.sessions) → turn_saves id stored (next d.todo d.memory) d.world ≡ turn_saves id stored (next e.todo e.memory) e.world
-    first_same h g =
-        turn_saves_alike users shut id stored (next d.todo d.memory) d.world e.world (ap (λ x. x.world) p) h g
-        ∙ (λ i. turn_saves id stored (next (p i).todo (p i).memory) e.world)
-
-    go : (s t : List Todo) → s ≡ t → ActsFor users s (find_session id d.world.sessions)
-        → elim s as (λ _. Type 0) [ [] ↦ Hidden users shut d.world | x ∷ xs ↦ Hidden users shut d.world × HiddenTurns users n (still shut (turn id stored d).world) id stored (turn id stored d) ]
-        → (AlikeDoings users (still shut (turn id stored d).world) (turn id stored d) (turn id stored e) → ActsFor users (turn id stored d).todo (find_session id (turn id stored d).world.sessions) → HiddenTurns users n (still shut (turn id stored d).world) id stored (turn id stored d)
-        → turns_saves n id stored (turn id stored d) ≡ turns_saves n id stored (turn id stored e))
-        → elim s as (λ _. List Saved) [ [] ↦ [] | x ∷ xs ↦ turn_saves id stored (next d.todo d.memory) d.world ++ turns_saves n id stored (turn id stored d) ]
-        ≡ elim t as (λ _. List Saved) [ [] ↦ [] | x ∷ xs ↦ turn_saves id stored (next e.todo e.memory) e.world ++ turns_saves n id stored (turn id stored e) ]
-    go [] [] q a b ih = refl
-    go (x ∷ xs) (y ∷ ys) q a b ih =
-        λ i. first_same b.0 a i ++ ih (shrink_doings users shut (turn id stored d) (turn id stored e) (turn_alike users shut id stored d e p b.0 a)) (acts_next users id stored d a) b.1 i
-    go [] (y ∷ ys) q a b ih = cc
-    go (x ∷ xs) [] q a b ih = cc
-
-step_saves_alike : (users shut : List ℕ → Bool) (w v : World) (e : Event) → Alike users shut w v → IsBy users w e → HiddenStep users shut w e → step_saves w e ≡ step_saves v e
-step_saves_alike users shut w v (Open id user rows cols) p g h = refl
-step_saves_alike users shut w v (Close id) p g h = refl
-step_saves_alike users shut w v (Byte id byte stored stop) p g h =
-    λ i. cond (is_open_alike users shut w v id p i) (same i) []
-  where
-    same : turns_saves most_turns id stored (begun w id byte stop) ≡ turns_saves most_turns id stored (begun v id byte stop)
-    same = turns_saves_alike most_turns users shut id stored (begun w id byte stop) (begun v id byte stop) (begun_alike users shut id byte stop w v p) (acts_begun users id byte stop w g) h.1
-
-run_saves_alike : (users shut : List ℕ → Bool) (w v : World) (es : List Event) → Alike users shut w v → AllBy users w es → HiddenRun users shut w es → run_saves w es ≡ run_saves v es
-run_saves_alike users shut w v [] p g h = refl
-run_saves_alike users shut w v (e ∷ es) p g h =
-    λ i. step_saves_alike users shut w v e p g.0 h.0 i ++ run_saves_alike users (shut_step shut w e) (step w e) (step v e) es (step_alike users shut w v e p g.0 h.0) g.1 h.1 i
-
 pub hidden_text : HiddenText
 hidden_text users shut w v es p g h =
-    (alike_same users (shut_run shut w es) (run w es) (run v es) (run_alike users shut w v es p g h) (run_hidden users shut w es h), run_saves_alike users shut w v es p g h)
+    let all : Leads users shut (run_worlds w es) (run w es) (run v es) (run_effects w es) (run_effects v es) = run_alike users shut w v es p g h in
+    (alike_same users (still_through shut (run_worlds w es)) (run w es) (run v es) all.0 all.1, ap (flat_map saved_by) all.2)

@@ -4,7 +4,7 @@ use Rattle.std.specs.Option.{option_map}
 use Rattle.mgs_model.specs.Names.{same_name}
 use Rattle.mgs_model.specs.Access.{Directory, Decider, decider, allows, any_right}
 use Rattle.mgs_model.specs.World.{World, Buffer, Session, Window, Place, Search, Shows, Buffer_of, may, is_named, has_id, find_session, find_buffer}
-use Rattle.mgs_model.specs.View.{view, reads, reads_found, session_seen, buffer_seen, window_seen, place_seen, search_seen, in_readable, positions_if, told_if, full_if}
+use Rattle.mgs_model.specs.View.{view, view_of, reads, reads_found, session_seen, buffer_seen, window_seen, place_seen, search_seen, in_readable, positions_if, told_if, full_if}
 use Rattle.mgs_model.specs.Secrecy.{IsOf, has_name}
 use Rattle.mgs_model.specs.Purging.{NoRightsAmong, Closed}
 use Rattle.mgs_model.specs.declared.right.Right.{Right}
@@ -139,6 +139,7 @@ module _ (shut can : List ℕ → Bool) (unseen : (n : List ℕ) → shut n ≡ 
         selected = x.selected;
         places = places_same x.places i;
         search = search_same x.search i;
+        kill = x.kill;
         own = x.own;
       }
   session_same false e x = cc
@@ -193,11 +194,19 @@ pub of_like : (users shut : List ℕ → Bool) (w v : World) (id : ℕ) → Like
 of_like users shut w v id e h =
     of_back users shut (find_session id v.sessions) (subst (IsOf users) (found_like users shut w v id e) (of_there users shut (find_session id w.sessions) h))
 
-pub view_like : (users shut : List ℕ → Bool) (w v : World) (x y : Session) → Like users shut w v → Closed users shut w → users x.user ≡ true → forget users shut x ≡ forget users shut y → view w x ≡ view v y
-view_like users shut w v x y e h g q =
-    sym (view_outline users shut w x g h.no_rights)
-    ∙ (λ i. view (e i) (q i))
-    ∙ view_outline users shut v y (ap users (sym (ap (λ z. z.user) q)) ∙ g) (closed_like users shut w v e h).no_rights
+-- what the session of an id sees
+view_of_outline : (users shut : List ℕ → Bool) (w : World) (id : ℕ) → IsOf users (find_session id w.sessions) → Closed users shut w → view_of (outline users shut w) id ≡ view_of w id
+view_of_outline users shut w id g h = ap (option_map (view (outline users shut w))) (find_forget users shut id w.sessions) ∙ same (find_session id w.sessions) g
+  where
+    same : (o : Option Session) → IsOf users o → option_map (view (outline users shut w)) (option_map (forget users shut) o) ≡ option_map (view w) o
+    same None g = refl
+    same (Some x) g = ap Some (view_outline users shut w x g h.no_rights)
+
+pub view_of_like : (users shut : List ℕ → Bool) (w v : World) (id : ℕ) → Like users shut w v → Closed users shut w → IsOf users (find_session id w.sessions) → view_of w id ≡ view_of v id
+view_of_like users shut w v id e h g =
+    sym (view_of_outline users shut w id g h)
+    ∙ ap (λ x. view_of x id) e
+    ∙ view_of_outline users shut v id (of_like users shut w v id e g) (closed_like users shut w v e h)
 
 pub like_by : (users shut : List ℕ → Bool) (f : World → World) (w v : World) → Like users shut w v → outline users shut (f w) ≡ outline users shut (f (outline users shut w)) → outline users shut (f v) ≡ outline users shut (f (outline users shut v)) → Like users shut (f w) (f v)
 like_by users shut f w v e p q = p ∙ ap (λ x. outline users shut (f x)) e ∙ sym q

@@ -3,17 +3,16 @@ use Rattle.std.specs.Prelude.{ℕ, zero, suc, ◌+◌, Bool, true, false, not, L
 use Rattle.std.specs.List.{list_any}
 use Rattle.std.specs.Option.{option_map}
 use Rattle.mgs_model.specs.Names.{same_name}
-use Rattle.mgs_model.specs.Text.{edited, removed, shift}
-use Rattle.mgs_model.specs.World.{World, Buffer, Session, Window, Place, Search, Own, Shows, Nothing, Buffer_of, List_of, is_named, has_id, find_session}
-use Rattle.mgs_model.specs.View.{view}
-use Rattle.mgs_model.specs.Outcome.{Outcome, PointPlan, Keep, At, At_origin, MarkPlan, Keep_mark, Mark_at, SearchPlan, Keep_search, No_search, Search_at, Source, Old, Come, Slot, is_old, Arrange, Stay, Adjust, Slots, Effect, No_effect, Edit, Unmodified, Relist, Reown, Create, Kill, Save, Quit}
-use Rattle.mgs_model.specs.Plans.{outcome}
+use Rattle.mgs_model.specs.Text.{edited, removed, shift, is_edit}
+use Rattle.mgs_model.specs.World.{World, Buffer, Session, Window, Place, Search, Shows, Nothing, Buffer_of, List_of, is_named, has_id}
+use Rattle.mgs_model.specs.View.{view_of}
+use Rattle.mgs_model.specs.Outcome.{Act, Outcome, PointPlan, Keep, At, At_origin, MarkPlan, Keep_mark, Mark_at, SearchPlan, Keep_search, No_search, Begin, Anchor_at, KillPlan, Keep_kill, Kill_is, Source, Old, Come, Slot, is_old, Arrange, Stay, Adjust, Slots, Effect, No_effect, Edit, Unmodified, Relist, Reown, Create, Kill, Save, Quit}
+use Rattle.mgs_model.specs.Acts.{outcome}
 use Rattle.mgs_model.specs.declared.entry.Entry.{Entry}
 use Rattle.mgs_model.specs.declared.entry.EntryType.TheVariants.{Allow}
 use Rattle.mgs_model.specs.declared.entry.Who.TheVariants.{Owner}
-use Rattle.mgs_model.specs.declared.session.Command.{Command}
 use Rattle.mgs_model.specs.declared.session.Mode.{Mode}
-use Rattle.mgs_model.specs.declared.session.Mode.TheVariants.{Plain}
+use Rattle.mgs_model.specs.declared.session.Mode.TheVariants.{Plain, Prompt, Searching, Replacing}
 
 -- the first element that passes, changed
 abbrev pub change_first : {A : Type 0} → (A → Bool) → (A → A) → List A → List A
@@ -33,15 +32,18 @@ change_at (suc n) f (x ∷ xs) = x ∷ change_at n f xs
 
 -- BUFFERS
 
--- at most 1,000 items are kept
-abbrev pub buffer_edited : ℕ → ℕ → List ℕ → Buffer → Buffer
-buffer_edited a b put x =
+abbrev pub buffer_edited_if : Bool → ℕ → ℕ → List ℕ → Buffer → Buffer
+buffer_edited_if f a b put x =
     record x {
-      text = edited a b put x.text;
-      items = record { serial = x.serial + 1; place = a; removed = removed a b x.text; put = length put } ∷ take 999 x.items;
-      serial = x.serial + 1;
-      modified = true;
+      text = cond f (edited a b put x.text) x.text;
+      items = cond f (record { serial = x.serial + 1; place = a; removed = removed a b x.text; put = length put } ∷ take 999 x.items) x.items;
+      serial = cond f (x.serial + 1) x.serial;
+      modified = cond f true x.modified;
     }
+
+-- what takes out nothing and puts in nothing is no edit; at most 1,000 items are kept
+abbrev pub buffer_edited : ℕ → ℕ → List ℕ → Buffer → Buffer
+buffer_edited a b put x = buffer_edited_if (is_edit a b put) a b put x
 
 abbrev pub buffer_unmodified : Buffer → Buffer
 buffer_unmodified x = record x { modified = false }
@@ -198,14 +200,14 @@ abbrev pub row_after : Option ℕ → ℕ → ℕ
 row_after None old = old
 row_after (Some r) old = r
 
-abbrev pub window_adjusted : Option Search → PointPlan → MarkPlan → PointPlan → Window → Window
-window_adjusted search point mark top x =
+abbrev pub window_adjusted : Option Search → PointPlan → MarkPlan → PointPlan → Option ℕ → Window → Window
+window_adjusted search point mark top row x =
     record {
       shows = x.shows;
       point = point_after x.shows search point x.point;
       mark = mark_after x.shows mark x.mark;
       top = point_after x.shows search top x.top;
-      row = x.row;
+      row = row_after row x.row;
       height = x.height;
     }
 
@@ -222,7 +224,7 @@ window_put slot search x =
 
 abbrev pub windows_arranged : Arrange → Session → List Window
 windows_arranged Stay x = x.windows
-windows_arranged (Adjust point mark top sought) x = change_at x.selected (window_adjusted x.search point mark top) x.windows
+windows_arranged (Adjust point mark top row sought) x = change_at x.selected (window_adjusted x.search point mark top row) x.windows
 windows_arranged (Slots slots selected sought) x =
     map (λ slot. window_put slot x.search (source_window slot.source x.windows (places_left 0 slots x.windows x.places))) slots
 
@@ -237,35 +239,44 @@ selected_arranged _ x = x.selected
 abbrev pub search_after : SearchPlan → Option Search → Option Search
 search_after Keep_search old = old
 search_after No_search old = None
-search_after (Search_at name origin anchor) old = Some (record { name = name; origin = origin; anchor = anchor })
+search_after (Begin name origin anchor) old = Some (record { name = name; origin = origin; anchor = anchor })
+search_after (Anchor_at place) old = option_map {T = Search} (λ x. record x { anchor = place }) old
 
 abbrev pub search_arranged : Arrange → Session → Option Search
 search_arranged Stay x = x.search
-search_arranged (Adjust point mark top sought) x = search_after sought x.search
+search_arranged (Adjust point mark top row sought) x = search_after sought x.search
 search_arranged (Slots slots selected sought) x = search_after sought x.search
 
 -- the positions of a search go with its mode
 abbrev pub searches : Mode → Bool
 searches Plain = false
+searches (Prompt question) = false
+searches Searching = true
+searches Replacing = true
 
-abbrev pub session_arranged : Arrange → Own → Session → Session
-session_arranged arrange own x =
+abbrev pub kill_after : KillPlan → List ℕ → List ℕ
+kill_after Keep_kill old = old
+kill_after (Kill_is text) old = text
+
+abbrev pub session_arranged : Outcome → Session → Session
+session_arranged o x =
     record {
       id = x.id;
       user = x.user;
       rows = x.rows;
       cols = x.cols;
-      windows = windows_arranged arrange x;
-      selected = selected_arranged arrange x;
-      places = places_arranged arrange x;
-      search = cond (searches own.mode) (search_arranged arrange x) None;
-      own = own;
+      windows = windows_arranged o.arrange x;
+      selected = selected_arranged o.arrange x;
+      places = places_arranged o.arrange x;
+      search = cond (searches o.own.mode) (search_arranged o.arrange x) None;
+      kill = kill_after o.kill x.kill;
+      own = o.own;
     }
 
 -- THE WORLD
 
 abbrev pub without_session : ℕ → List Session → List Session
-without_session id sessions = remove_first (has_id id) sessions
+without_session id sessions = filter (λ x. not (has_id id x)) sessions
 
 abbrev pub after_quit : Effect → ℕ → List Session → List Session
 after_quit Quit id sessions = without_session id sessions
@@ -274,20 +285,20 @@ after_quit _ id sessions = sessions
 -- first every position of every session goes by the effect, then the acting session's go by its plan
 abbrev pub sessions_after : ℕ → Outcome → List Session → List Session
 sessions_after id o sessions =
-    after_quit o.effect id (change_first (has_id id) (session_arranged o.arrange o.own) (map (session_after o.effect) sessions))
+    after_quit o.effect id (change_first (has_id id) (session_arranged o) (map (session_after o.effect) sessions))
 
 -- APPLY: buffers and sessions each go by themselves
 abbrev pub apply : World → ℕ → Outcome → World
 apply w id o = record w { buffers = buffers_after o.effect w.buffers; sessions = sessions_after id o w.sessions }
 
--- the outcome of a command of a session, where it is open
-abbrev pub outcome_of : World → Session → Command → Bool → Outcome
-outcome_of w x c stored = outcome (view w x) c stored
+-- what an act of a session comes to, where it is open: decided from its view alone
+abbrev pub outcome_in : World → ℕ → Act → Bool → Option Outcome
+outcome_in w id c stored = option_map (λ v. outcome v c stored) (view_of w id)
 
-abbrev pub act_of : World → Option Session → ℕ → Command → Bool → World
-act_of w None id c stored = w
-act_of w (Some x) id c stored = apply w id (outcome_of w x c stored)
+abbrev pub applied : World → ℕ → Option Outcome → World
+applied w id None = w
+applied w id (Some o) = apply w id o
 
 -- ACT of a session: what it does is decided from its view alone
-abbrev pub act : World → ℕ → Command → Bool → World
-act w id c stored = act_of w (find_session id w.sessions) id c stored
+abbrev pub act : World → ℕ → Act → Bool → World
+act w id c stored = applied w id (outcome_in w id c stored)

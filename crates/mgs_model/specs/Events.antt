@@ -1,14 +1,16 @@
 -- EVENTS, one step of the world, and runs.
-use Rattle.std.specs.Prelude.{◌≡◌, ℕ, zero, suc, ◌+◌, ◌-◌, ◌^◌, nat_le, ◌==◌, Bool, false, not, ◌&&◌, if◌then◌else◌, List, [], ◌∷◌, ◌++◌, map, find, length, Option, Some, None, is_some, cond}
+use Rattle.std.specs.Prelude.{◌≡◌, ℕ, zero, suc, ◌+◌, ◌-◌, ◌^◌, max, nat_le, Bool, true, false, not, ◌&&◌, if◌then◌else◌, List, [], ◌∷◌, ◌++◌, map, find, length, Option, Some, None, is_some, cond}
+use Rattle.std.specs.List.{flat_map}
+use Rattle.std.specs.Option.{option_or}
 use Rattle.mgs_model.specs.Access.{Directory, is_among}
 use Rattle.mgs_model.specs.Lines.{settled_top}
-use Rattle.mgs_model.specs.World.{World, Buffer, Session, Window, Own, first_own, Shows, Nothing, Buffer_of, has_id, find_session, find_buffer, may}
-use Rattle.mgs_model.specs.Outcome.{Outcome, Effect, Save, After, Goes_on, Stops, takes_memory}
-use Rattle.mgs_model.specs.Apply.{change_first, apply, outcome_of, without_session}
-use Rattle.mgs_model.specs.Commands.{command_of}
+use Rattle.mgs_model.specs.World.{World, Buffer, Session, Window, Own, Typed, first_own, Shows, Nothing, Buffer_of, has_id, find_session, find_buffer, may}
+use Rattle.mgs_model.specs.Outcome.{Act, Outcome, Effect, Save, takes_memory}
+use Rattle.mgs_model.specs.Apply.{searches, change_first, outcome_in, act, without_session}
+use Rattle.mgs_model.specs.View.{View, view_of}
+use Rattle.mgs_model.specs.Turns.{Turn, Rest, Keep, Do, next}
 use Rattle.mgs_model.specs.declared.right.Right.TheVariants.{ReadData, ReadAttributes}
-use Rattle.mgs_model.specs.declared.message.Message.TheVariants.{Silent, NoMemory}
-use Rattle.mgs_model.specs.declared.session.Command.{Command}
+use Rattle.mgs_model.specs.declared.message.Message.TheVariants.{NoMemory}
 use Rattle.mgs_model.specs.declared.errors.OpenFault.{OpenFault}
 use Rattle.mgs_model.specs.declared.errors.OpenFault.TheVariants.{NoUser, Size, Full}
 use Rattle.mgs_model.specs.declared.limits.TheConstants.{SESSION_LIMIT}
@@ -61,6 +63,7 @@ new_session directory buffers id user rows cols =
       selected = 0;
       places = [];
       search = None;
+      kill = [];
       own = first_own;
     }
 
@@ -70,100 +73,88 @@ is_size rows cols = nat_le 6 rows && (nat_le rows 64 && (nat_le 20 cols && nat_l
 abbrev pub is_open : ℕ → World → Bool
 is_open id w = is_some (find_session id w.sessions)
 
--- why a session must not be opened: no user of the directory, no size of a screen, 64 sessions are open, or no u64 is left
-abbrev pub open_fault : World → List ℕ → ℕ → ℕ → Option OpenFault
-open_fault w user rows cols =
+-- why the world takes no such session: no user of the directory, no size of a screen, or 64 sessions are open
+abbrev pub session_fault : World → List ℕ → ℕ → ℕ → Option OpenFault
+session_fault w user rows cols =
     if not (is_among user w.directory.users) then Some NoUser
     else if not (is_size rows cols) then Some Size
     else if nat_le SESSION_LIMIT (length w.sessions) then Some Full
-    else if nat_le (2 ^ 64) w.next_id then Some Full
     else None
 
--- no fault is due, and the id is the next
+-- it takes one under any id that is not open
 abbrev pub can_open : World → ℕ → List ℕ → ℕ → ℕ → Bool
-can_open w id user rows cols = not (is_some (open_fault w user rows cols)) && (id == w.next_id)
+can_open w id user rows cols = not (is_some (session_fault w user rows cols)) && not (is_open id w)
+
+-- why an open is refused that takes the next id: the session's own fault, or that no u64 is left
+abbrev pub open_fault : World → List ℕ → ℕ → ℕ → Option OpenFault
+open_fault w user rows cols =
+    option_or (session_fault w user rows cols) (if nat_le (2 ^ 64) w.next_id then Some Full else None)
 
 abbrev pub opened : World → ℕ → List ℕ → ℕ → ℕ → World
 opened w id user rows cols =
-    record w { sessions = w.sessions ++ new_session w.directory w.buffers id user rows cols ∷ []; next_id = w.next_id + 1 }
+    record w { sessions = w.sessions ++ new_session w.directory w.buffers id user rows cols ∷ []; next_id = max w.next_id (id + 1) }
 
--- A BYTE'S ACTS
+-- A BYTE'S TURNS
 
--- what is still to be done in this event: a byte that was typed
-pub data Todo : Type 0 where
-  Typed : (byte : ℕ) → Todo
-
--- an event half done: the world, what is still to be done, and for how many acts there is memory (none: for all)
-pub record Doing : Type 0 where
-  pub world : World
-  pub todo : List Todo
-  pub memory : Option ℕ
-
--- what comes next
-pub data Turn : Type 0 where
-  Rest : Turn
-  Do : (command : Command) → Turn
-  -- memory is refused to this
-  Refuse : (command : Command) → Turn
-
-abbrev pub turn_for : Option ℕ → Command → Turn
-turn_for (Some zero) c = Refuse c
-turn_for _ c = Do c
-
-abbrev pub next : List Todo → Option ℕ → Turn
-next [] memory = Rest
-next (Typed byte ∷ todo) memory = turn_for memory (command_of byte)
-
--- memory was refused: this is told, and what was half read is forgotten
-abbrev pub refused_own : Own → Own
-refused_own own = record own { echo = NoMemory; argument = None; keys = [] }
+-- a session's own record alone changes; the positions of a search go with its mode
+abbrev pub own_set : (Own → Own) → Session → Session
+own_set f x = record x { search = cond (searches (f x.own).mode) x.search None; own = f x.own }
 
 abbrev pub with_own : ℕ → (Own → Own) → World → World
-with_own id f w = record w { sessions = change_first (has_id id) (λ x. record x { own = f x.own }) w.sessions }
+with_own id f w = record w { sessions = change_first (has_id id) (own_set f) w.sessions }
 
-abbrev pub one_less : Option ℕ → Option ℕ
-one_less None = None
-one_less (Some n) = Some (n - 1)
+-- an event half done: the world, and for how many acts there is memory (none: for all). What is still to be done stands in
+-- the session's own record
+pub record Doing : Type 0 where
+  pub world : World
+  pub memory : Option ℕ
 
-abbrev pub rest_of : List Todo → List Todo
-rest_of [] = []
-rest_of (x ∷ xs) = xs
+abbrev pub turn_seen : Option View → Turn
+turn_seen None = Rest
+turn_seen (Some v) = next v
 
--- a failure drops the rest
-abbrev pub still_to_do : After → List Todo → List Todo
-still_to_do Goes_on todo = rest_of todo
-still_to_do Stops todo = []
+-- what comes next for a session, where it is open
+abbrev pub turn_in : World → ℕ → Turn
+turn_in w id = turn_seen (view_of w id)
 
-abbrev pub done : ℕ → Option ℕ → List Todo → World → Outcome → Doing
-done id memory todo w o = record { world = apply w id o; todo = still_to_do o.after todo; memory = one_less memory }
+abbrev pub rests : Turn → Bool
+rests Rest = true
+rests (Keep own) = false
+rests (Do before c) = false
 
-abbrev pub done_by : ℕ → Bool → Command → Doing → Option Session → Doing
-done_by id stored c d None = record d { todo = [] }
-done_by id stored c d (Some x) = done id d.memory d.todo d.world (outcome_of d.world x c stored)
+-- memory was refused: this is told, what was half read is forgotten, and nothing more is done
+abbrev pub refused_own : Own → Own
+refused_own own = record own { echo = NoMemory; argument = None; keys = []; todo = [] }
 
-abbrev pub turn_done : ℕ → Bool → Turn → Doing → Doing
-turn_done id stored Rest d = d
-turn_done id stored (Do c) d = done_by id stored c d (find_session id d.world.sessions)
-turn_done id stored (Refuse c) d = record { world = with_own id refused_own d.world; todo = []; memory = d.memory }
+-- an act is decided with the record that it begins from; a refused one leaves the record that was there before
+abbrev pub act_done : ℕ → Bool → Own → Act → World → Option ℕ → Doing
+act_done id stored own c w None = record { world = act (with_own id (λ old. own) w) id c stored; memory = None }
+act_done id stored own c w (Some zero) = record { world = with_own id refused_own w; memory = Some zero }
+act_done id stored own c w (Some (suc n)) = record { world = act (with_own id (λ old. own) w) id c stored; memory = Some n }
+
+abbrev pub turn_done : ℕ → Bool → Turn → World → Option ℕ → Doing
+turn_done id stored Rest w memory = record { world = w; memory = memory }
+turn_done id stored (Keep own) w memory = record { world = with_own id (λ old. own) w; memory = memory }
+turn_done id stored (Do own c) w memory = act_done id stored own c w memory
 
 abbrev pub turn : ℕ → Bool → Doing → Doing
-turn id stored d = turn_done id stored (next d.todo d.memory) d
+turn id stored d = turn_done id stored (turn_in d.world id) d.world d.memory
 
 -- all that is to be done (`elim`, since its cases wait: a run ends when nothing is left, and not after all its turns)
 unfoldable pub turns : ℕ → ℕ → Bool → Doing → Doing
 turns zero id stored d = d
-turns (suc n) id stored d = elim d.todo [ [] ↦ d | x ∷ xs ↦ turns n id stored (turn id stored d) ]
+turns (suc n) id stored d = elim (rests (turn_in d.world id)) [ true ↦ d | false ↦ turns n id stored (turn id stored d) ]
 
 -- more than one event can have: 51,200 bytes of a macro, with as many replacements each as a text has characters
 unfoldable pub most_turns : ℕ
 most_turns = 2 ^ 40
 
--- a byte comes: the echo text is emptied, and where a macro is recorded the byte is kept
+-- a byte comes: it is what is to be done, and where a macro is recorded it is kept
 abbrev pub begun_own : ℕ → Own → Own
-begun_own byte own = record own { echo = Silent; macro = cond own.recording (own.macro ++ byte ∷ []) own.macro }
+begun_own byte own = record own { todo = Typed byte ∷ []; macro = cond own.recording (own.macro ++ byte ∷ []) own.macro }
 
 abbrev pub begun : World → ℕ → ℕ → Option ℕ → Doing
-begun w id byte stop = record { world = with_own id (begun_own byte) w; todo = Typed byte ∷ []; memory = stop }
+begun w id byte stop = record { world = with_own id (begun_own byte) w; memory = stop }
 
 abbrev pub byte_done : World → ℕ → ℕ → Bool → Option ℕ → World
 byte_done w id byte stored stop = (turns most_turns id stored (begun w id byte stop)).world
@@ -183,6 +174,39 @@ abbrev pub run : World → List Event → World
 run w [] = w
 run w (e ∷ es) = run (step w e) es
 
+-- WHAT WAS DONE: the effects of the acts of an event and of a run, in their order
+
+abbrev pub effect_in : Option Outcome → List Effect
+effect_in None = []
+effect_in (Some o) = o.effect ∷ []
+
+-- what an act of a session does
+abbrev pub act_effects : World → ℕ → Act → Bool → List Effect
+act_effects w id c stored = effect_in (outcome_in w id c stored)
+
+abbrev pub is_used_up : Option ℕ → Bool
+is_used_up None = false
+is_used_up (Some zero) = true
+is_used_up (Some (suc n)) = false
+
+-- an act that is refused does nothing
+abbrev pub turn_effects : ℕ → Bool → Turn → World → Option ℕ → List Effect
+turn_effects id stored (Do own c) w memory = cond (is_used_up memory) [] (act_effects (with_own id (λ old. own) w) id c stored)
+turn_effects id stored _ w memory = []
+
+unfoldable pub turns_effects : ℕ → ℕ → Bool → Doing → List Effect
+turns_effects zero id stored d = []
+turns_effects (suc n) id stored d =
+    elim (rests (turn_in d.world id)) [ true ↦ [] | false ↦ turn_effects id stored (turn_in d.world id) d.world d.memory ++ turns_effects n id stored (turn id stored d) ]
+
+abbrev pub event_effects : World → Event → List Effect
+event_effects w (Byte id byte stored stop) = cond (is_open id w) (turns_effects most_turns id stored (begun w id byte stop)) []
+event_effects w _ = []
+
+abbrev pub run_effects : World → List Event → List Effect
+run_effects w [] = []
+run_effects w (e ∷ es) = event_effects w e ++ run_effects (step w e) es
+
 -- SAVES: what the store accepted
 
 pub record Saved : Type 0 where
@@ -193,40 +217,19 @@ abbrev pub saved_by : Effect → List Saved
 saved_by (Save name text) = record { name = name; text = text } ∷ []
 saved_by _ = []
 
-abbrev pub saves_of : World → Option Session → Command → Bool → List Saved
-saves_of w None c stored = []
-saves_of w (Some x) c stored = saved_by (outcome_of w x c stored).effect
-
-abbrev pub turn_saves : ℕ → Bool → Turn → World → List Saved
-turn_saves id stored (Do c) w = saves_of w (find_session id w.sessions) c stored
-turn_saves id stored _ w = []
-
-unfoldable pub turns_saves : ℕ → ℕ → Bool → Doing → List Saved
-turns_saves zero id stored d = []
-turns_saves (suc n) id stored d =
-    elim d.todo [ [] ↦ [] | x ∷ xs ↦ turn_saves id stored (next d.todo d.memory) d.world ++ turns_saves n id stored (turn id stored d) ]
-
-abbrev pub step_saves : World → Event → List Saved
-step_saves w (Byte id byte stored stop) = cond (is_open id w) (turns_saves most_turns id stored (begun w id byte stop)) []
-step_saves w _ = []
-
 abbrev pub run_saves : World → List Event → List Saved
-run_saves w [] = []
-run_saves w (e ∷ es) = step_saves w e ++ run_saves (step w e) es
+run_saves w es = flat_map saved_by (run_effects w es)
 
 -- WHERE MEMORY IS REFUSED: the outcome that the refused act would have had
 
-abbrev pub refused_of : ℕ → Bool → Turn → World → Option Session → Option Outcome → Option Outcome
-refused_of id stored (Refuse c) w (Some x) later = Some (outcome_of w x c stored)
-refused_of id stored _ w x later = later
+abbrev pub refused_of : ℕ → Bool → Turn → World → Option ℕ → Option Outcome → Option Outcome
+refused_of id stored (Do own c) w memory later = cond (is_used_up memory) (outcome_in (with_own id (λ old. own) w) id c stored) later
+refused_of id stored _ w memory later = later
 
 unfoldable pub refused_in : ℕ → ℕ → Bool → Doing → Option Outcome
 refused_in zero id stored d = None
 refused_in (suc n) id stored d =
-    elim d.todo [
-      | [] ↦ None
-      | x ∷ xs ↦ refused_of id stored (next d.todo d.memory) d.world (find_session id d.world.sessions) (refused_in n id stored (turn id stored d))
-    ]
+    elim (rests (turn_in d.world id)) [ true ↦ None | false ↦ refused_of id stored (turn_in d.world id) d.world d.memory (refused_in n id stored (turn id stored d)) ]
 
 abbrev pub refused_act : World → ℕ → ℕ → Bool → Option ℕ → Option Outcome
 refused_act w id byte stored stop = refused_in most_turns id stored (begun w id byte stop)

@@ -1,15 +1,14 @@
 -- LAWFUL EFFECTS: each comes only with its right.
-use Rattle.std.specs.Prelude.{◌≡◌, Bool, true, false, not, ◌&&◌, ◌||◌, List, ℕ, Option, Some, None, is_some}
-use Rattle.mgs_model.specs.View.{View, BufferSeen, find_seen, is_granted}
-use Rattle.mgs_model.specs.Outcome.{Effect, No_effect, Edit, Unmodified, Relist, Reown, Create, Kill, Save, Quit}
-use Rattle.mgs_model.specs.Plans.{outcome}
+use Rattle.std.specs.Prelude.{◌≡◌, Bool, true, not, ◌&&◌, ◌||◌, List, ℕ, Option, is_some}
+use Rattle.mgs_model.specs.Access.{allows}
+use Rattle.mgs_model.specs.View.{View, BufferSeen, find_seen}
+use Rattle.mgs_model.specs.Outcome.{Act, Effect, No_effect, Edit, Unmodified, Relist, Reown, Create, Kill, Save, Quit}
+use Rattle.mgs_model.specs.Acts.{deciders_found, outcome}
 use Rattle.mgs_model.specs.declared.right.Right.{Right}
 use Rattle.mgs_model.specs.declared.right.Right.TheVariants.{ReadData, WriteData, AppendData, WriteAcl, WriteOwner, Delete}
-use Rattle.mgs_model.specs.declared.session.Command.{Command}
 
 abbrev pub granted_found : Right → Option BufferSeen → Bool
-granted_found right None = false
-granted_found right (Some b) = is_granted b right
+granted_found right found = allows (deciders_found found right)
 
 -- the view's user is granted that right on the buffer of that name
 abbrev pub granted_on : View → List ℕ → Right → Bool
@@ -27,6 +26,6 @@ lawful v (Kill name) = granted_on v name Delete
 lawful v (Save name text) = granted_on v name ReadData && granted_on v name WriteData
 lawful v Quit = true
 
--- whatever a command comes to, its effect is lawful: asking again when it is done would refuse nothing
+-- whatever an act comes to, its effect is lawful: asking again when it is done would refuse nothing
 abbrev pub OutcomesAreLawful : Type 0
-OutcomesAreLawful = (v : View) (c : Command) (stored : Bool) → lawful v (outcome v c stored).effect ≡ true
+OutcomesAreLawful = (v : View) (c : Act) (stored : Bool) → lawful v (outcome v c stored).effect ≡ true

@@ -3,13 +3,18 @@ use Rattle.std.specs.Prelude.{ℕ, List, [], ◌++◌, codes, decimal}
 use Rattle.mgs_model.specs.Rights.{right_name}
 use Rattle.mgs_model.specs.declared.entry.Decision.{Decision}
 use Rattle.mgs_model.specs.declared.entry.Decision.TheVariants.{Granted, DeniedBy, NotGranted}
+use Rattle.mgs_model.specs.declared.message.CursorPosition.{CursorPosition}
 use Rattle.mgs_model.specs.declared.message.Message.{Message}
-use Rattle.mgs_model.specs.declared.message.Message.TheVariants.{Silent, Denied, KeyNotBound, NoBuffer, BeginningOfBuffer, EndOfBuffer, BufferFull, NoMemory}
+use Rattle.mgs_model.specs.declared.message.Message.TheVariants.{Silent, Denied, KeyNotBound, NoBuffer, BeginningOfBuffer, EndOfBuffer, BufferFull, NoMemory, Quitting, MarkSet, NoMark, KillTooLarge, NothingToYank, CharacterAt, EndAt, NoArgument, BadColumn, InMacro, NotInMacro, NoMacro, TooMany, OnlyOneWindow, WindowTooSmall, TooManyWindows, ImpossibleChange, NoSuchBuffer, BadName, TooManyBuffers, NoMatch, NoSuchEntry, NoSuchUser, NoFurtherUndo, NoFile, SaveFailed, Wrote, NoPattern, Replaced}
 
 abbrev pub denial_text : Decision → List ℕ
 denial_text Granted = []
 denial_text (DeniedBy entry bit) = codes "Denied: entry " ++ decimal entry ++ codes " denies " ++ right_name bit
 denial_text (NotGranted bit) = codes "Denied: no entry grants " ++ right_name bit
+
+abbrev pub position_text : CursorPosition → List ℕ
+position_text x =
+    codes " point " ++ decimal x.point ++ codes " of " ++ decimal x.size ++ codes " line " ++ decimal x.line ++ codes " column " ++ decimal x.column
 
 abbrev pub message_text : Message → List ℕ
 message_text Silent = []
@@ -20,3 +25,32 @@ message_text BeginningOfBuffer = codes "Beginning of buffer"
 message_text EndOfBuffer = codes "End of buffer"
 message_text BufferFull = codes "Buffer full"
 message_text NoMemory = codes "No memory"
+message_text Quitting = codes "Quit"
+message_text MarkSet = codes "Mark set"
+message_text NoMark = codes "No mark"
+message_text KillTooLarge = codes "Kill too large"
+message_text NothingToYank = codes "Nothing to yank"
+message_text (CharacterAt c x) = codes "char " ++ decimal c ++ position_text x
+message_text (EndAt x) = codes "end" ++ position_text x
+message_text NoArgument = codes "No argument"
+message_text BadColumn = codes "Bad column"
+message_text InMacro = codes "In macro"
+message_text NotInMacro = codes "Not in macro"
+message_text NoMacro = codes "No macro"
+message_text TooMany = codes "Too many"
+message_text OnlyOneWindow = codes "Only one window"
+message_text WindowTooSmall = codes "Window too small"
+message_text TooManyWindows = codes "Too many windows"
+message_text ImpossibleChange = codes "Impossible change"
+message_text NoSuchBuffer = codes "No such buffer"
+message_text BadName = codes "Bad name"
+message_text TooManyBuffers = codes "Too many buffers"
+message_text NoMatch = codes "No match"
+message_text NoSuchEntry = codes "No such entry"
+message_text NoSuchUser = codes "No such user"
+message_text NoFurtherUndo = codes "No further undo information"
+message_text NoFile = codes "No file"
+message_text SaveFailed = codes "Save failed"
+message_text (Wrote name) = codes "Wrote " ++ name
+message_text NoPattern = codes "No pattern"
+message_text (Replaced n) = codes "Replaced " ++ decimal n

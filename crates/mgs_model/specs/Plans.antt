@@ -1,115 +1,433 @@
--- What each command needs, and what it does: functions of the view.
-use Rattle.std.specs.Prelude.{ℕ, ◌+◌, ◌-◌, nat_lt, nat_le, ◌==◌, Bool, true, false, ◌||◌, List, [], ◌∷◌, length, Option, Some, None, slice_get, if◌then◌else◌}
-use Rattle.std.specs.Option.{option_and_then, option_map}
-use Rattle.mgs_model.specs.Access.{decision_by}
-use Rattle.mgs_model.specs.World.{Own, Shows, Buffer_of}
-use Rattle.mgs_model.specs.View.{View, BufferSeen, WindowSeen, Positions, find_seen, size_told, serial_told}
-use Rattle.mgs_model.specs.Outcome.{Outcome, Stay, Adjust, At, Keep, Keep_mark, Keep_search, No_effect, Edit, Goes_on, Stops}
-use Rattle.mgs_model.specs.declared.right.Right.{Right}
-use Rattle.mgs_model.specs.declared.right.Right.TheVariants.{ReadData, WriteData, AppendData}
-use Rattle.mgs_model.specs.declared.entry.Decision.{Decision}
-use Rattle.mgs_model.specs.declared.entry.Decision.TheVariants.{Granted, DeniedBy, NotGranted}
+-- What the commands of each family do: functions over a text, or over its length alone. A plan is `Err`, with the
+-- failure that is told, or `Ok`. Nothing here knows rights, buffers or sessions.
+use Rattle.std.specs.Prelude.{ℕ, ◌+◌, ◌-◌, ◌/◌, nat_lt, nat_le, ◌==◌, Bool, true, false, ◌&&◌, ◌||◌, List, [], ◌∷◌, ◌++◌, map, find, length, take, drop, replicate, slice_range, slice_get, slice_index, remove, min, max, Option, Some, None, Result, Ok, Err, cond, if◌then◌else◌}
+use Rattle.std.specs.List.{flat_map, repeat, starts_with}
+use Rattle.mgs_model.specs.Names.{same_name}
+use Rattle.mgs_model.specs.Text.{edited}
+use Rattle.mgs_model.specs.Lines.{line_of, line_start, line_end, start_of, column}
+use Rattle.mgs_model.specs.Walks.{forward_words, backward_words, is_first_line, is_last_line, lines_down, lines_up, forward_paragraphs, backward_paragraphs, column_place, indent_end, kill_line_end}
+use Rattle.mgs_model.specs.World.{Own, Item, Played, Shows, Listing}
+use Rattle.mgs_model.specs.View.{WindowSeen}
+use Rattle.mgs_model.specs.Outcome.{PointPlan, Keep, At, MarkPlan, Keep_mark, Mark_at, KillPlan, Keep_kill, Kill_is, SearchPlan, Keep_search, Begin, Anchor_at, Old, Come, Slot, Arrange, Slots}
+use Rattle.mgs_model.specs.declared.message.CursorPosition.{CursorPosition}
 use Rattle.mgs_model.specs.declared.message.Message.{Message}
-use Rattle.mgs_model.specs.declared.message.Message.TheVariants.{Denied, KeyNotBound, NoBuffer, BeginningOfBuffer, EndOfBuffer, BufferFull}
+use Rattle.mgs_model.specs.declared.message.Message.TheVariants.{Silent, BeginningOfBuffer, EndOfBuffer, Quitting, MarkSet, NoMark, NothingToYank, CharacterAt, EndAt, NoArgument, BadColumn, InMacro, NotInMacro, NoMacro, TooMany, OnlyOneWindow, WindowTooSmall, TooManyWindows, ImpossibleChange, NoSuchBuffer, NoSuchEntry, NoFurtherUndo, NoPattern}
 use Rattle.mgs_model.specs.declared.session.Mode.TheVariants.{Plain}
-use Rattle.mgs_model.specs.declared.session.Kind.TheVariants.{Other}
-use Rattle.mgs_model.specs.declared.session.Command.{Command}
-use Rattle.mgs_model.specs.declared.session.Command.TheVariants.{SelfInsert, Newline, ForwardChar, BackwardChar, Unbound}
+use Rattle.mgs_model.specs.declared.session.Kind.{Kind}
+use Rattle.mgs_model.specs.declared.session.Kind.TheVariants.{Other, Kill, Line, Undo}
+use Rattle.mgs_model.specs.declared.session.Insertion.{Insertion}
+use Rattle.mgs_model.specs.declared.session.Insertion.TheVariants.{SelfInsert, Newline, OpenLine, Yank}
+use Rattle.mgs_model.specs.declared.session.ReadingInsertion.{ReadingInsertion}
+use Rattle.mgs_model.specs.declared.session.ReadingInsertion.TheVariants.{NewlineAndIndent}
+use Rattle.mgs_model.specs.declared.session.Motion.{Motion}
+use Rattle.mgs_model.specs.declared.session.Motion.TheVariants.{ForwardChar, BackwardChar, BeginningOfLine, EndOfLine, NextLine, PreviousLine, BufferStart, BufferEnd, ForwardWord, BackwardWord, ForwardParagraph, BackwardParagraph, Recenter, WhatCursorPosition, SetMark, ExchangePointAndMark, MarkWholeBuffer, CopyRegion, StartSearch, SearchOn, StartReplace, SkipMatch}
+use Rattle.mgs_model.specs.declared.session.Alteration.{Alteration}
+use Rattle.mgs_model.specs.declared.session.Alteration.TheVariants.{DeleteChar, DeleteBackwardChar, KillLine, KillWord, BackwardKillWord, KillRegion, TransposeChars, UpcaseWord, ReplaceMatch}
+use Rattle.mgs_model.specs.declared.session.Scrolling.{Scrolling}
+use Rattle.mgs_model.specs.declared.session.Scrolling.TheVariants.{ScrollUp, ScrollDown}
+use Rattle.mgs_model.specs.declared.session.EntryChange.{EntryChange}
+use Rattle.mgs_model.specs.declared.session.EntryChange.TheVariants.{DeleteEntry}
+use Rattle.mgs_model.specs.declared.entry.Entry.{Entry}
+use Rattle.mgs_model.specs.declared.session.Setting.{Setting}
+use Rattle.mgs_model.specs.declared.session.Setting.TheVariants.{SetFillColumn, KeyboardQuit, StartMacro, EndMacro, CallMacro}
+use Rattle.mgs_model.specs.declared.session.Arrangement.{Arrangement}
+use Rattle.mgs_model.specs.declared.session.Arrangement.TheVariants.{DeleteWindow, DeleteOtherWindows, SplitWindow, NextWindow, PreviousWindow, EnlargeWindow, ShrinkWindow, ListBuffers}
+use Rattle.mgs_model.specs.declared.limits.TheConstants.{WINDOW_LIMIT}
 
 -- THE SESSION'S OWN RECORD AFTERWARDS
 
--- a command has failed, or was denied: this is told, its mode ends, and what it began to read is forgotten
+-- that there is nothing more to undo breaks no run of undos
+abbrev pub kind_left : Kind → Kind
+kind_left (Undo buffer target last) = Undo buffer target last
+kind_left _ = Other
+
+-- any other failure breaks a run of kills, of lines or of undos
+abbrev pub kind_failed : Message → Kind → Kind
+kind_failed NoFurtherUndo kind = kind_left kind
+kind_failed _ kind = Other
+
+-- a command has failed, or was denied: this is told, its mode ends, and what was half read or still to be done is forgotten
 abbrev pub failed_own : Message → Own → Own
-failed_own message own = record own { echo = message; argument = None; keys = []; kind = Other; mode = Plain }
+failed_own message own = record own { echo = message; argument = None; keys = []; kind = kind_failed message own.kind; mode = Plain; input = []; todo = [] }
 
 -- a command was done
 abbrev pub acted_own : Own → Own
 acted_own own = record own { argument = None; keys = []; kind = Other }
 
-abbrev pub fails : Own → Message → Outcome
-fails own message = record { own = failed_own message own; arrange = Stay; effect = No_effect; after = Stops }
+-- PLANS OVER A TEXT
 
--- WHERE A COMMAND ACTS
+-- what every plan is given beside the text: the buffer's name, the text's length and last serial, the place of action, the
+-- mark, the anchor of a search, the text to be replaced, the argument, what was typed for it, the kill buffer, the last command's kind, the
+-- window's rows and the fill column
+pub record Around : Type 0 where
+  pub name : List ℕ
+  pub size : ℕ
+  pub serial : ℕ
+  pub place : ℕ
+  pub mark : Option ℕ
+  pub anchor : ℕ
+  pub old : List ℕ
+  pub argument : Option ℕ
+  pub typed : List ℕ
+  pub kill : List ℕ
+  pub kind : Kind
+  pub height : ℕ
+  pub fill : ℕ
 
--- the selected window, and the buffer that it shows
-pub record Target : Type 0 where
-  pub window : WindowSeen
-  pub buffer : BufferSeen
+-- what a command leaves: point, mark, top, search, kill buffer, its kind and what it tells
+pub record Finish : Type 0 where
+  pub point : PointPlan
+  pub mark : MarkPlan
+  pub top : PointPlan
+  pub sought : SearchPlan
+  pub kill : KillPlan
+  pub kind : Kind
+  pub told : Message
+  -- how many more were replaced, and whether that was the last
+  pub replaced : ℕ
+  pub over : Bool
 
-abbrev pub target_in : List BufferSeen → WindowSeen → Shows → Option Target
-target_in buffers x (Buffer_of name) = option_map (λ b. record { window = x; buffer = b }) (find_seen name buffers)
-target_in buffers x _ = None
+-- takes out the characters from a up to b, and puts these there
+pub record Change : Type 0 where
+  pub a : ℕ
+  pub b : ℕ
+  pub put : List ℕ
+  pub finish : Finish
 
-abbrev pub target : View → Option Target
-target v = option_and_then (λ x. target_in v.buffers x x.shows) (slice_get v.session.windows v.session.selected)
+abbrev pub stays : Finish
+stays = record { point = Keep; mark = Keep_mark; top = Keep; sought = Keep_search; kill = Keep_kill; kind = Other; told = Silent; replaced = 0; over = false }
 
--- PLACE OF ACTION: a reader's point; the text's end of one who may not read
-abbrev pub acts_at : Option Positions → ℕ → ℕ
-acts_at None size = size
-acts_at (Some x) size = x.point
+abbrev pub goes : ℕ → Finish
+goes p = record stays { point = At p }
 
--- WHAT IT NEEDS
+abbrev pub puts : ℕ → List ℕ → Result Change Message
+puts p put = Ok (record { a = p; b = p; put = put; finish = goes (p + length put) })
 
--- an insertion at the text's end appends, one elsewhere writes
-abbrev pub insertion_right : Bool → Right
-insertion_right true = AppendData
-insertion_right false = WriteData
+-- the argument, or 1
+abbrev pub count_of : Option ℕ → ℕ
+count_of None = 1
+count_of (Some n) = n
 
--- the rights of a command's one request on the buffer, by whether it acts at the text's end
-abbrev pub needs : Command → Bool → List Right
-needs (SelfInsert c) at_end = insertion_right at_end ∷ []
-needs Newline at_end = insertion_right at_end ∷ []
-needs ForwardChar at_end = ReadData ∷ []
-needs BackwardChar at_end = ReadData ∷ []
-needs Unbound at_end = []
+abbrev pub times : Around → ℕ
+times x = count_of x.argument
 
--- WHAT IT DOES
+-- a command that is to go on at the text's end, or back at its start
+abbrev pub is_at_end : Around → Bool
+is_at_end x = nat_le x.size x.place && nat_lt 0 (times x)
 
--- a failure, an edit with the point after it, or a motion
-pub data Plan : Type 0 where
-  Fails : (message : Message) → Plan
-  Edits : (a : ℕ) → (b : ℕ) → (put : List ℕ) → (point : ℕ) → Plan
-  Goes : (point : ℕ) → Plan
+abbrev pub is_at_start : Around → Bool
+is_at_start x = (x.place == 0) && nat_lt 0 (times x)
 
--- in a text of so many characters, at a place
-abbrev pub plan : Command → ℕ → ℕ → Plan
-plan (SelfInsert c) size p = Edits p p (c ∷ []) (p + 1)
-plan Newline size p = Edits p p (10 ∷ []) (p + 1)
-plan ForwardChar size p = if nat_le size p then Fails EndOfBuffer else Goes (p + 1)
-plan BackwardChar size p = if p == 0 then Fails BeginningOfBuffer else Goes (p - 1)
-plan Unbound size p = Fails KeyNotBound
+-- KILLS: a piece goes behind the last one where that was killed or copied just before, and is the kill buffer elsewhere
+abbrev pub kill_behind : Kind → List ℕ → List ℕ → List ℕ
+kill_behind Kill kill piece = kill ++ piece
+kill_behind _ kill piece = piece
 
--- no room: the text would have more than 1,048,576 characters, or the edit a serial past the last u64
-abbrev pub is_full : ℕ → ℕ → ℕ → ℕ → Bool
-is_full size serial out put = nat_lt 1048576 (size - out + put) || (serial == 18446744073709551615)
+-- one that is killed backwards goes in front of it
+abbrev pub kill_in_front : Kind → List ℕ → List ℕ → List ℕ
+kill_in_front Kill kill piece = piece ++ kill
+kill_in_front _ kill piece = piece
 
--- a command that goes this way; `own` is what its session has
-abbrev pub planned : Own → List ℕ → ℕ → ℕ → Plan → Outcome
-planned own name size serial (Fails message) = fails own message
-planned own name size serial (Edits a b put p) =
-    if is_full size serial (b - a) (length put) then fails own BufferFull
-    else record { own = acted_own own; arrange = Adjust (At p) Keep_mark Keep Keep_search; effect = Edit name a b put; after = Goes_on }
-planned own name size serial (Goes p) =
-    record { own = acted_own own; arrange = Adjust (At p) Keep_mark Keep Keep_search; effect = No_effect; after = Goes_on }
+abbrev pub joined : Around → List ℕ → KillPlan
+joined x piece = Kill_is (kill_behind x.kind x.kill piece)
 
-abbrev pub permitted : Own → Decision → Outcome → Outcome
-permitted own Granted o = o
-permitted own (DeniedBy n right) o = fails own (Denied (DeniedBy n right))
-permitted own (NotGranted right) o = fails own (Denied (NotGranted right))
+abbrev pub joined_front : Around → List ℕ → KillPlan
+joined_front x piece = Kill_is (kill_in_front x.kind x.kill piece)
 
--- in a buffer of so many characters, at a place: first the rights, then the command's own failures, then want of room
-abbrev pub outcome_at : Own → Command → BufferSeen → ℕ → ℕ → Outcome
-outcome_at own c b size p =
-    permitted own (decision_by b.deciders (needs c (p == size))) (planned own b.name size (serial_told b.told) (plan c size p))
+-- INSERTIONS see the length alone
+abbrev pub yanked : Around → List ℕ → Change
+yanked x put = record { a = x.place; b = x.place; put = put; finish = record (goes (x.place + length put)) { mark = Mark_at x.place } }
 
-abbrev pub outcome_on : Own → Command → Option Target → Outcome
-outcome_on own c None = fails own NoBuffer
-outcome_on own c (Some t) = outcome_at own c t.buffer (size_told t.buffer.told) (acts_at t.window.positions (size_told t.buffer.told))
+-- the point stays before what open-line puts in
+abbrev pub insertion : Insertion → Around → Result Change Message
+insertion (SelfInsert c) x = puts x.place (replicate (times x) c)
+insertion Newline x = puts x.place (replicate (times x) 10)
+insertion OpenLine x = Ok (record { a = x.place; b = x.place; put = replicate (times x) 10; finish = goes x.place })
+insertion Yank x = if length x.kill == 0 then Err NothingToYank else Ok (yanked x (repeat (times x) x.kill))
 
--- OUTCOME of a command, by the view and the store's answer to a save
-unfoldable pub outcome : View → Command → Bool → Outcome
-outcome v Unbound stored = fails v.session.own KeyNotBound
-outcome v (SelfInsert c) stored = outcome_on v.session.own (SelfInsert c) (target v)
-outcome v Newline stored = outcome_on v.session.own Newline (target v)
-outcome v ForwardChar stored = outcome_on v.session.own ForwardChar (target v)
-outcome v BackwardChar stored = outcome_on v.session.own BackwardChar (target v)
+-- line feeds, and the white that begins the place's line, as far as it stands before the place
+abbrev pub reading_insertion : ReadingInsertion → List ℕ → Around → Result Change Message
+reading_insertion NewlineAndIndent text x =
+    puts x.place (replicate (times x) 10 ++ slice_range text (line_start text x.place) (indent_end text x.place))
+
+-- MOTIONS cannot edit
+
+abbrev pub copied : List ℕ → Around → Option ℕ → Result Finish Message
+copied text x None = Err NoMark
+copied text x (Some m) = Ok (record stays { kill = joined x (slice_range text (min m x.place) (max m x.place)); kind = Kill })
+
+abbrev pub exchanged : Around → Option ℕ → Result Finish Message
+exchanged x None = Err NoMark
+exchanged x (Some m) = Ok (record (goes m) { mark = Mark_at x.place })
+
+-- the column that a motion by lines goes for: that of the last one in a run of them, else the place's
+abbrev pub goal_in : Kind → ℕ → ℕ
+goal_in (Line goal) column = goal
+goal_in _ column = column
+
+abbrev pub goal_of : List ℕ → Around → ℕ
+goal_of text x = goal_in x.kind (column text x.place)
+
+-- to that column of the line that starts there
+abbrev pub lined : List ℕ → Around → ℕ → Finish
+lined text x start = record (goes (column_place text start (goal_of text x))) { kind = Line (goal_of text x) }
+
+abbrev pub position_of : List ℕ → Around → CursorPosition
+position_of text x = record { point = x.place; size = x.size; line = line_of text x.place + 1; column = column text x.place }
+
+abbrev pub position_told : List ℕ → Around → Option ℕ → Message
+position_told text x None = EndAt (position_of text x)
+position_told text x (Some c) = CharacterAt c (position_of text x)
+
+-- the least place from the i-th on where it stands
+abbrev pub first_match : List ℕ → ℕ → List ℕ → Option ℕ
+first_match pattern i [] = if length pattern == 0 then Some i else None
+first_match pattern i (c ∷ cs) = if starts_with (λ a b. a == b) (c ∷ cs) pattern then Some i else first_match pattern (i + 1) cs
+
+abbrev pub found_at : Around → Option ℕ → Result Finish Message
+found_at x None = Ok stays
+found_at x (Some m) = Ok (record (goes (m + length x.typed)) { sought = Anchor_at m })
+
+-- QUERY-REPLACE
+
+abbrev pub is_match : List ℕ → Around → Bool
+is_match text x = starts_with (λ a b. a == b) (drop x.anchor text) x.old
+
+-- on to the next match from a place on; where there is none it is over
+abbrev pub next_match : Around → ℕ → Finish → List ℕ → Finish
+next_match x from f text =
+    elim (first_match x.old from (drop from text)) [ None ↦ record f { over = true } | Some m ↦ record f { point = At (m + length x.old); sought = Anchor_at m } ]
+
+abbrev pub motion : Motion → List ℕ → Around → Result Finish Message
+motion ForwardChar text x = if is_at_end x then Err EndOfBuffer else Ok (goes (min (x.place + times x) x.size))
+motion BackwardChar text x = if is_at_start x then Err BeginningOfBuffer else Ok (goes (x.place - times x))
+motion BeginningOfLine text x = Ok (goes (line_start text x.place))
+motion EndOfLine text x = Ok (goes (line_end text x.place))
+motion NextLine text x =
+    if is_last_line text x.place && nat_lt 0 (times x) then Err EndOfBuffer else Ok (lined text x (lines_down text x.place (times x)))
+motion PreviousLine text x =
+    if is_first_line text x.place && nat_lt 0 (times x) then Err BeginningOfBuffer else Ok (lined text x (lines_up text x.place (times x)))
+motion BufferStart text x = Ok (goes 0)
+motion BufferEnd text x = Ok (goes x.size)
+motion ForwardWord text x = if is_at_end x then Err EndOfBuffer else Ok (goes (forward_words text x.place (times x)))
+motion BackwardWord text x = if is_at_start x then Err BeginningOfBuffer else Ok (goes (backward_words text x.place (times x)))
+motion ForwardParagraph text x = if is_at_end x then Err EndOfBuffer else Ok (goes (forward_paragraphs text x.place (times x)))
+motion BackwardParagraph text x = if is_at_start x then Err BeginningOfBuffer else Ok (goes (backward_paragraphs text x.place (times x)))
+motion Recenter text x = Ok (record stays { top = At (start_of (line_of text x.place - x.height / 2) text) })
+motion WhatCursorPosition text x = Ok (record stays { told = position_told text x (slice_get text x.place) })
+motion SetMark text x = Ok (record stays { mark = Mark_at x.place; told = MarkSet })
+motion ExchangePointAndMark text x = exchanged x x.mark
+motion MarkWholeBuffer text x = Ok (record (goes 0) { mark = Mark_at x.size })
+motion CopyRegion text x = copied text x x.mark
+motion StartSearch text x = Ok (record stays { sought = Begin x.name x.place x.place })
+motion SearchOn text x = found_at x (first_match x.typed x.anchor (drop x.anchor text))
+motion StartReplace text x =
+    if length x.old == 0 then Err NoPattern
+    else Ok (elim (first_match x.old x.place (drop x.place text)) [ None ↦ record stays { over = true } | Some m ↦ record (goes (m + length x.old)) { sought = Begin x.name x.place m } ])
+motion SkipMatch text x = Ok (next_match x (x.anchor + cond (is_match text x) (length x.old) 0) stays text)
+
+-- SCROLLING: the start of the line that is two lines less than the window's rows away, at least one, or as many lines as
+-- the argument says
+abbrev pub lines_scrolled : Around → ℕ
+lines_scrolled x = elim x.argument [ None ↦ max (x.height - 2) 1 | Some n ↦ n ]
+
+abbrev pub scrolling : Scrolling → List ℕ → Around → Result Finish Message
+scrolling ScrollUp text x =
+    if is_last_line text x.place && nat_lt 0 (lines_scrolled x) then Err EndOfBuffer else Ok (goes (lines_down text x.place (lines_scrolled x)))
+scrolling ScrollDown text x =
+    if is_first_line text x.place && nat_lt 0 (lines_scrolled x) then Err BeginningOfBuffer else Ok (goes (lines_up text x.place (lines_scrolled x)))
+
+-- the top row of a listing or of an access list, in a window of so many rows
+abbrev pub row_scrolled : Scrolling → ℕ → ℕ → ℕ
+row_scrolled ScrollUp row height = min (row + height) 512
+row_scrolled ScrollDown row height = row - height
+
+-- ALTERATIONS take out and replace
+
+abbrev pub deletes : ℕ → ℕ → Result Change Message
+deletes a b = Ok (record { a = a; b = b; put = []; finish = goes a })
+
+-- from the place on up to there, and from there up to the place
+abbrev pub kills : List ℕ → Around → ℕ → Result Change Message
+kills text x b =
+    Ok (record { a = x.place; b = b; put = []; finish = record (goes x.place) { kill = joined x (slice_range text x.place b); kind = Kill } })
+
+abbrev pub kills_back : List ℕ → Around → ℕ → Result Change Message
+kills_back text x a =
+    Ok (record { a = a; b = x.place; put = []; finish = record (goes a) { kill = joined_front x (slice_range text a x.place); kind = Kill } })
+
+-- an argument of 0 kills what is before the place in its line
+abbrev pub kills_line : List ℕ → Around → Result Change Message
+kills_line text x =
+    if times x == 0 then kills_back text x (kill_line_end text x.place x.argument)
+    else if is_at_end x then Err EndOfBuffer
+    else kills text x (kill_line_end text x.place x.argument)
+
+abbrev pub kills_region : List ℕ → Around → Option ℕ → Result Change Message
+kills_region text x None = Err NoMark
+kills_region text x (Some m) =
+    Ok (record {
+      a = min m x.place;
+      b = max m x.place;
+      put = [];
+      finish = record (goes (min m x.place)) { kill = joined x (slice_range text (min m x.place) (max m x.place)); kind = Kill };
+    })
+
+-- the second of two characters that are exchanged: the one after the place, or the one before it at a line's end
+abbrev pub exchanged_at : List ℕ → ℕ → ℕ
+exchanged_at text p = if (p == length text) || (slice_index text p == 10) then p - 1 else p
+
+abbrev pub transposes : List ℕ → ℕ → Result Change Message
+transposes text q =
+    if q == 0 then Err BeginningOfBuffer
+    else Ok (record { a = q - 1; b = q + 1; put = slice_range text q (q + 1) ++ slice_range text (q - 1) q; finish = goes (q + 1) })
+
+abbrev pub upper : ℕ → ℕ
+upper c = if nat_le 97 c && nat_le c 122 then c - 32 else c
+
+abbrev pub alteration : Alteration → List ℕ → Around → Result Change Message
+alteration DeleteChar text x = if is_at_end x then Err EndOfBuffer else deletes x.place (min (x.place + times x) x.size)
+alteration DeleteBackwardChar text x = if is_at_start x then Err BeginningOfBuffer else deletes (x.place - times x) x.place
+alteration KillLine text x = kills_line text x
+alteration KillWord text x = if is_at_end x then Err EndOfBuffer else kills text x (forward_words text x.place (times x))
+alteration BackwardKillWord text x = if is_at_start x then Err BeginningOfBuffer else kills_back text x (backward_words text x.place (times x))
+alteration KillRegion text x = kills_region text x x.mark
+alteration TransposeChars text x = transposes text (exchanged_at text x.place)
+alteration UpcaseWord text x =
+    if is_at_end x then Err EndOfBuffer
+    else Ok (record {
+      a = x.place;
+      b = forward_words text x.place (times x);
+      put = map upper (slice_range text x.place (forward_words text x.place (times x)));
+      finish = goes (forward_words text x.place (times x));
+    })
+-- a match that is no longer there is not replaced
+alteration ReplaceMatch text x =
+    Ok (if is_match text x then record {
+      a = x.anchor;
+      b = x.anchor + length x.old;
+      put = x.typed;
+      finish = next_match x (x.anchor + length x.typed) (record (goes (x.anchor + length x.typed)) { replaced = 1 }) (edited x.anchor (x.anchor + length x.old) x.typed text);
+    }
+    else record { a = x.anchor; b = x.anchor; put = []; finish = next_match x x.anchor stays text })
+
+-- UNDO: the item before the last one undone where nobody added one since, else the newest
+abbrev pub undo_target : Around → ℕ
+undo_target x =
+    elim x.kind [
+      | Undo buffer target last ↦ if same_name buffer x.name && (last == x.serial) then target - 1 else x.serial
+      | Other ↦ x.serial
+      | Kill ↦ x.serial
+      | Line goal ↦ x.serial
+    ]
+
+abbrev pub undone : Around → Option Item → Result Change Message
+undone x None = Err NoFurtherUndo
+undone x (Some item) =
+    Ok (record {
+      a = item.place;
+      b = item.place + item.put;
+      put = item.removed;
+      finish = record (goes (item.place + length item.removed)) { kind = Undo x.name item.serial (x.serial + 1) };
+    })
+
+abbrev pub undo : List Item → Around → Result Change Message
+undo items x = undone x (find (λ (item : Item). item.serial == undo_target x) items)
+
+-- ENTRIES: the list afterwards
+abbrev pub entries_changed : EntryChange → List Entry → Option ℕ → List ℕ → Result (List Entry) Message
+entries_changed DeleteEntry entries None typed = Err NoSuchEntry
+entries_changed DeleteEntry entries (Some n) typed =
+    if nat_le 1 n && nat_le n (length entries) then Ok (take (n - 1) entries ++ drop n entries) else Err NoSuchEntry
+
+-- SETTINGS change the session's own record alone; this one is as after a command that was done
+
+abbrev pub filled : Own → Option ℕ → Result Own Message
+filled own None = Err NoArgument
+filled own (Some n) = if n == 0 then Err BadColumn else Ok (record own { fill = n })
+
+abbrev pub setting : Setting → Own → Option ℕ → Result Own Message
+setting SetFillColumn own n = filled own n
+setting KeyboardQuit own n = Ok (record (failed_own Quitting own) { recording = false; macro = cond own.recording [] own.macro })
+setting StartMacro own n = if own.recording || own.playing then Err InMacro else Ok (record own { recording = true; macro = [] })
+setting EndMacro own n =
+    if own.playing then Err InMacro
+    else if own.recording then Ok (record own { recording = false; macro = take (length own.macro - 2) own.macro })
+    else Err NotInMacro
+setting CallMacro own n =
+    if own.recording || own.playing then Err InMacro
+    else if length own.macro == 0 then Err NoMacro
+    else if nat_lt 100 (count_of n) then Err TooMany
+    else Ok (record own { todo = flat_map (λ (bytes : List ℕ). map Played bytes) (replicate (count_of n) own.macro) ++ own.todo })
+
+-- ARRANGEMENTS change the windows alone
+
+abbrev pub old_slot : ℕ → ℕ → Slot
+old_slot i height = record { source = Old i; point = Keep; mark = Keep_mark; top = Keep; row = None; height = height }
+
+-- the windows as they are, but for their heights, which go by their index and the one before
+abbrev pub resized : (ℕ → ℕ → ℕ) → ℕ → List WindowSeen → List Slot
+resized f i [] = []
+resized f i (x ∷ xs) = old_slot i (f i x.height) ∷ resized f (i + 1) xs
+
+-- the windows as they are, but the one of this number
+abbrev pub slots_but : ℕ → (WindowSeen → List Slot) → ℕ → List WindowSeen → List Slot
+slots_but k other i [] = []
+slots_but k other i (x ∷ xs) = cond (i == k) (other x) (old_slot i x.height ∷ []) ++ slots_but k other (i + 1) xs
+
+abbrev pub height_of : Option WindowSeen → ℕ
+height_of None = 0
+height_of (Some x) = x.height
+
+abbrev pub height_at : ℕ → List WindowSeen → ℕ
+height_at k windows = height_of (slice_get windows k)
+
+-- the rows of all windows and their mode lines
+abbrev pub rows_of : List WindowSeen → ℕ
+rows_of [] = 0
+rows_of (x ∷ xs) = x.height + 1 + rows_of xs
+
+-- the selected window comes to something else
+abbrev pub comes : List WindowSeen → ℕ → Shows → Arrange
+comes windows k shows =
+    Slots (slots_but k (λ x. record (old_slot k x.height) { source = Come shows } ∷ []) 0 windows) k Keep_search
+
+-- as they are, but another is selected
+abbrev pub selects : List WindowSeen → ℕ → Arrange
+selects windows k = Slots (resized (λ i h. h) 0 windows) k Keep_search
+
+-- the one above, or below for the first: it gets the rows of a window that goes
+abbrev pub heir : ℕ → ℕ
+heir k = cond (k == 0) 1 (k - 1)
+
+-- the one below, or above for the last: it gives and takes rows
+abbrev pub neighbor : ℕ → ℕ → ℕ
+neighbor k count = cond (nat_lt (k + 1) count) (k + 1) (k - 1)
+
+-- so many rows go from one window to another, if one stays
+abbrev pub given : List WindowSeen → ℕ → ℕ → ℕ → ℕ → Result Arrange Message
+given windows selected from to n =
+    if nat_le (height_at from windows) n then Err ImpossibleChange
+    else Ok (Slots (resized (λ i h. cond (i == to) (h + n) (cond (i == from) (h - n) h)) 0 windows) selected Keep_search)
+
+abbrev pub arrangement : Arrangement → List WindowSeen → ℕ → Option ℕ → Result Arrange Message
+arrangement DeleteWindow windows k n =
+    if nat_lt (length windows) 2 then Err OnlyOneWindow
+    else Ok (Slots (remove (resized (λ i h. cond (i == heir k) (h + (height_at k windows + 1)) h) 0 windows) k) (k - 1) Keep_search)
+arrangement DeleteOtherWindows windows k n = Ok (Slots (old_slot k (rows_of windows - 1) ∷ []) 0 Keep_search)
+arrangement SplitWindow windows k n =
+    if nat_lt (height_at k windows) 3 then Err WindowTooSmall
+    else if nat_le WINDOW_LIMIT (length windows) then Err TooManyWindows
+    else Ok (Slots (slots_but k (λ x. old_slot k (x.height / 2) ∷ old_slot k (x.height - 1 - x.height / 2) ∷ []) 0 windows) k Keep_search)
+arrangement NextWindow windows k n = Ok (selects windows (cond (nat_lt (k + 1) (length windows)) (k + 1) 0))
+arrangement PreviousWindow windows k n = Ok (selects windows (cond (k == 0) (length windows - 1) (k - 1)))
+arrangement EnlargeWindow windows k n =
+    if nat_lt (length windows) 2 then Err OnlyOneWindow else given windows k (neighbor k (length windows)) k (count_of n)
+arrangement ShrinkWindow windows k n =
+    if nat_lt (length windows) 2 then Err OnlyOneWindow else given windows k k (neighbor k (length windows)) (count_of n)
+arrangement ListBuffers windows k n = Ok (comes windows k Listing)
+
+-- BY NAME: the text of another buffer, where there is one
+abbrev pub inserted : Option (List ℕ) → Around → Result Change Message
+inserted None x = Err NoSuchBuffer
+inserted (Some text) x = Ok (record { a = x.place; b = x.place; put = text; finish = record (goes (x.place + length text)) { mark = Mark_at x.place } })

@@ -1,8 +1,9 @@
 -- VIEW: what a session's acts and its screen may depend on, and nothing else.
 use Rattle.std.specs.Prelude.{ℕ, Bool, true, false, List, [], map, find, length, Option, Some, None}
+use Rattle.std.specs.Option.{option_map}
 use Rattle.mgs_model.specs.Names.{same_name}
 use Rattle.mgs_model.specs.Access.{Directory, Decider, decider, allows, any_right}
-use Rattle.mgs_model.specs.World.{World, Buffer, Item, Session, Window, Place, Search, Own, Shows, Buffer_of, find_buffer, may}
+use Rattle.mgs_model.specs.World.{World, Buffer, Item, Session, Window, Place, Search, Own, Shows, Buffer_of, find_buffer, find_session, may}
 use Rattle.mgs_model.specs.declared.right.Right.{Right}
 use Rattle.mgs_model.specs.declared.right.Right.TheVariants.{ReadData}
 use Rattle.mgs_model.specs.declared.entry.Entry.{Entry}
@@ -37,6 +38,7 @@ pub record SessionSeen : Type 0 where
   pub selected : ℕ
   pub places : List PlaceSeen
   pub search : Option SearchSeen
+  pub kill : List ℕ
   pub own : Own
 
 -- what is told of a buffer on which any right is granted
@@ -102,6 +104,7 @@ session_seen can x =
       selected = x.selected;
       places = map (place_seen can) x.places;
       search = search_seen can x.search;
+      kill = x.kill;
       own = x.own;
     }
 
@@ -129,6 +132,10 @@ view w x =
       session = session_seen (reads w.directory w.buffers x.user) x;
       buffers = map (buffer_seen w.directory x.user) w.buffers;
     }
+
+-- the view of the session of that id
+abbrev pub view_of : World → ℕ → Option View
+view_of w id = option_map (view w) (find_session id w.sessions)
 
 -- LOOK-UPS
 

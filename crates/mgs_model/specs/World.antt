@@ -6,6 +6,7 @@ use Rattle.mgs_model.specs.declared.right.Right.{Right}
 use Rattle.mgs_model.specs.declared.entry.Entry.{Entry}
 use Rattle.mgs_model.specs.declared.message.Message.{Message}
 use Rattle.mgs_model.specs.declared.message.Message.TheVariants.{Silent}
+use Rattle.mgs_model.specs.declared.session.Argument.{Argument}
 use Rattle.mgs_model.specs.declared.session.Mode.{Mode}
 use Rattle.mgs_model.specs.declared.session.Mode.TheVariants.{Plain}
 use Rattle.mgs_model.specs.declared.session.Kind.{Kind}
@@ -58,21 +59,50 @@ pub record Search : Type 0 where
   pub origin : ℕ
   pub anchor : ℕ
 
--- all that a session holds and that is no position
+-- what is still to be done in an event: a byte that was typed, one that a macro plays, or all further replacements
+pub data Todo : Type 0 where
+  Typed : (byte : ℕ) → Todo
+  Played : (byte : ℕ) → Todo
+  Replace_all : Todo
+
+-- all that a session holds beside its positions and its kill buffer
 pub record Own : Type 0 where
   pub echo : Message
-  pub kill : List ℕ
   pub pattern : List ℕ
   pub fill : ℕ
   pub macro : List ℕ
   pub recording : Bool
-  pub argument : Option ℕ
+  -- the byte that is handled is a macro's
+  pub playing : Bool
+  pub argument : Option Argument
   pub keys : List ℕ
   pub kind : Kind
   pub mode : Mode
+  -- what was typed at the prompt
+  pub input : List ℕ
+  -- what is replaced by the input, and how often it was
+  pub old : List ℕ
+  pub count : ℕ
+  pub todo : List Todo
 
 abbrev pub first_own : Own
-first_own = record { echo = Silent; kill = []; pattern = []; fill = 72; macro = []; recording = false; argument = None; keys = []; kind = Other; mode = Plain }
+first_own =
+    record {
+      echo = Silent;
+      pattern = [];
+      fill = 72;
+      macro = [];
+      recording = false;
+      playing = false;
+      argument = None;
+      keys = [];
+      kind = Other;
+      mode = Plain;
+      input = [];
+      old = [];
+      count = 0;
+      todo = [];
+    }
 
 pub record Session : Type 0 where
   pub id : ℕ
@@ -83,6 +113,7 @@ pub record Session : Type 0 where
   pub selected : ℕ
   pub places : List Place
   pub search : Option Search
+  pub kill : List ℕ
   pub own : Own
 
 -- next_id is the id that the next session gets

@@ -1,5 +1,16 @@
 // Echo texts.
 use crate::entry::Decision;
+use crate::name::Name;
+
+/// Where a point stands in its text: the number of characters before it and in all, its line from 1 and its column
+/// from 0.
+#[derive(Clone, Copy, Debug, PartialEq, Eq)]
+pub struct CursorPosition {
+    pub point: usize,
+    pub size: usize,
+    pub line: usize,
+    pub column: usize,
+}
 
 /// What a session's echo line says. `specs/Messages.antt` has the texts.
 #[derive(Clone, Copy, Debug, PartialEq, Eq)]
@@ -16,4 +27,36 @@ pub enum Message {
     /// The text would pass its limit, or the buffer's last serial is used.
     BufferFull,
     NoMemory,
+    /// The text of a C-g.
+    Quitting,
+    MarkSet,
+    NoMark,
+    KillTooLarge,
+    NothingToYank,
+    /// The character after the point, and where the point stands.
+    CharacterAt(char, CursorPosition),
+    /// The point stands at the text's end.
+    EndAt(CursorPosition),
+    NoArgument,
+    BadColumn,
+    InMacro,
+    NotInMacro,
+    NoMacro,
+    TooMany,
+    OnlyOneWindow,
+    WindowTooSmall,
+    TooManyWindows,
+    ImpossibleChange,
+    NoSuchBuffer,
+    BadName,
+    TooManyBuffers,
+    NoMatch,
+    NoSuchEntry,
+    NoSuchUser,
+    NoFurtherUndo,
+    NoFile,
+    SaveFailed,
+    Wrote(Name),
+    NoPattern,
+    Replaced(usize),
 }

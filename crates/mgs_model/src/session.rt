@@ -1,6 +1,5 @@
 // The words for a session's state.
 ghost use Rattle.std.specs.Prelude.{◌≡◌};
-ghost use Rattle.mgs_model.specs.Commands.{command_of};
 
 use crate::name::Name;
 use std::marker::Model;
@@ -40,17 +39,30 @@ impl MarkId {
     }
 }
 
+/// An argument, and whether a digit goes on with it: C-u is 4, and a digit replaces it.
+#[derive(Clone, Copy, Debug, PartialEq, Eq)]
+pub struct Argument {
+    pub value: usize,
+    pub extends: bool,
+}
+
 /// What a session is in the middle of.
 #[derive(Clone, Copy, Debug, PartialEq, Eq)]
 pub enum Mode {
     Plain,
+    /// It types the answer to this.
+    Prompt(Question),
+    /// It types what is searched for.
+    Searching,
+    /// It is asked at each match of a text whether it is replaced.
+    Replacing,
 }
 
 /// The kind of a session's last command.
 #[derive(Clone, Copy, Debug, PartialEq, Eq)]
 pub enum Kind {
     Other,
-    /// A kill: the next one puts its piece behind.
+    /// A kill or a copy: the next one adds its piece.
     Kill,
     /// A motion by lines, and the column that it goes for.
     Line {
@@ -64,31 +76,143 @@ pub enum Kind {
     },
 }
 
-/// What a word of keys tells a session to do.
+/// Puts characters in, and sees nothing of the text but its length.
 #[derive(Clone, Copy, Debug, PartialEq, Eq)]
-pub enum Command {
+pub enum Insertion {
     SelfInsert(char),
     Newline,
-    ForwardChar,
-    BackwardChar,
-    /// The word is none of the key table.
-    Unbound,
+    /// Line feeds after the point.
+    OpenLine,
+    /// The kill buffer.
+    Yank,
 }
 
-#[tactic(auto, unfolding(crate::specs::Commands::command_of))]
-/// The command of a byte.
-pub fn command_of(byte: u8) -> Command
-    ensures { result ≡ command_of byte }
-{
-    if (32 <= byte && byte <= 126) || byte == 9 {
-        Command::SelfInsert(byte as char)
-    } else if byte == 13 {
-        Command::Newline
-    } else if byte == 6 {
-        Command::ForwardChar
-    } else if byte == 2 {
-        Command::BackwardChar
-    } else {
-        Command::Unbound
-    }
+/// Puts in what depends on the text.
+#[derive(Clone, Copy, Debug, PartialEq, Eq)]
+pub enum ReadingInsertion {
+    NewlineAndIndent,
+}
+
+/// Reads the text, and edits nothing.
+#[derive(Clone, Copy, Debug, PartialEq, Eq)]
+pub enum Motion {
+    ForwardChar,
+    BackwardChar,
+    BeginningOfLine,
+    EndOfLine,
+    NextLine,
+    PreviousLine,
+    BufferStart,
+    BufferEnd,
+    ForwardWord,
+    BackwardWord,
+    ForwardParagraph,
+    BackwardParagraph,
+    /// The point's line comes to the middle of the window.
+    Recenter,
+    WhatCursorPosition,
+    SetMark,
+    ExchangePointAndMark,
+    MarkWholeBuffer,
+    CopyRegion,
+    StartSearch,
+    /// The next match of what was typed so far.
+    SearchOn,
+    StartReplace,
+    /// A match stays as it is.
+    SkipMatch,
+}
+
+/// Reads the text and edits it.
+#[derive(Clone, Copy, Debug, PartialEq, Eq)]
+pub enum Alteration {
+    DeleteChar,
+    DeleteBackwardChar,
+    KillLine,
+    KillWord,
+    BackwardKillWord,
+    KillRegion,
+    TransposeChars,
+    UpcaseWord,
+    ReplaceMatch,
+}
+
+/// Goes on or back by a screen: in a text by lines, in a listing or an access list by rows.
+#[derive(Clone, Copy, Debug, PartialEq, Eq)]
+pub enum Scrolling {
+    ScrollUp,
+    ScrollDown,
+}
+
+/// Changes the session's own record alone.
+#[derive(Clone, Copy, Debug, PartialEq, Eq)]
+pub enum Setting {
+    SetFillColumn,
+    KeyboardQuit,
+    StartMacro,
+    EndMacro,
+    CallMacro,
+}
+
+/// Changes the session's windows alone.
+#[derive(Clone, Copy, Debug, PartialEq, Eq)]
+pub enum Arrangement {
+    DeleteWindow,
+    DeleteOtherWindows,
+    SplitWindow,
+    NextWindow,
+    PreviousWindow,
+    EnlargeWindow,
+    ShrinkWindow,
+    ListBuffers,
+}
+
+/// Acts on a buffer by the name that was typed for it.
+#[derive(Clone, Copy, Debug, PartialEq, Eq)]
+pub enum ByName {
+    SwitchToBuffer,
+    KillBuffer,
+    InsertBuffer,
+}
+
+/// Changes an access list.
+#[derive(Clone, Copy, Debug, PartialEq, Eq)]
+pub enum EntryChange {
+    DeleteEntry,
+}
+
+/// What a prompt asks for.
+#[derive(Clone, Copy, Debug, PartialEq, Eq)]
+pub enum Question {
+    SwitchTo,
+    KillWhich,
+    InsertWhich,
+    WhichOwner,
+    ReplaceWhat,
+    ReplaceWith,
+}
+
+/// What a word of keys tells a session to do, by what it may see and do.
+#[derive(Clone, Copy, Debug, PartialEq, Eq)]
+pub enum Command {
+    Insert(Insertion),
+    InsertReading(ReadingInsertion),
+    Move(Motion),
+    Alter(Alteration),
+    Scroll(Scrolling),
+    Set(Setting),
+    Rearrange(Arrangement),
+    /// Opens a prompt.
+    Ask(Question),
+    Named(ByName),
+    Entries(EntryChange),
+    SetOwner,
+    UndoEdit,
+    /// Clears the modified flag.
+    NotModified,
+    SaveBuffer,
+    /// Ends a search where it began.
+    LeaveSearch,
+    /// Ends the session.
+    Exit,
 }

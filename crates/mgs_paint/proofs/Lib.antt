@@ -4,3 +4,4 @@ pub mod Columns
 pub mod Pieces
 pub mod Cursor
 pub mod Changing
+pub mod Numbers

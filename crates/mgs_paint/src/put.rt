@@ -6,11 +6,22 @@ ghost use Rattle.mgs_paint.specs.Operations.{bytes_of, row_operations};
 ghost use Rattle.mgs_model.specs.Picture.{IsPrintable};
 ghost use Rattle.mgs_model.specs.declared.limits.TheConstants.{ROWS_MAX};
 
+use itoa::Buffer;
 use mgs_grid::Line;
 
-const ESCAPE: u8 = 0x1b;
+fn put_bytes(out: &mut Vec<u8>, bytes: &[u8])
+    requires { vec_len out.old + length bytes.now ≤ vec_capacity out.old }
+    ensures items { out.new.items ≡ out.old.items ++ bytes.now }
+    ensures capacity { vec_capacity out.new ≡ vec_capacity out.old }
+    ensures len { vec_len out.new ≡ vec_len out.old + length bytes.now }
+{
+    for byte in bytes {
+        out.push_reserved(*byte);
+    }
+}
 
 /// A number below 1000 in decimal, without leading zeros.
+#[tactic(auto, using(crate::proofs::Numbers::number_in_decimal, crate::proofs::Numbers::number_short))]
 pub fn put_number(out: &mut Vec<u8>, n: usize)
     requires small { n < 1000 }
     requires room { vec_len out.old + 3 ≤ vec_capacity out.old }
@@ -18,16 +29,7 @@ pub fn put_number(out: &mut Vec<u8>, n: usize)
     ensures capacity { vec_capacity out.new ≡ vec_capacity out.old }
     ensures len { vec_len out.new ≤ vec_len out.old + 3 }
 {
-    if n < 10 {
-        out.push_reserved(b'0' + n as u8);
-    } else if n < 100 {
-        out.push_reserved(b'0' + (n / 10) as u8);
-        out.push_reserved(b'0' + (n % 10) as u8);
-    } else {
-        out.push_reserved(b'0' + (n / 100) as u8);
-        out.push_reserved(b'0' + (n / 10 % 10) as u8);
-        out.push_reserved(b'0' + (n % 10) as u8);
-    }
+    put_bytes(out, Buffer::new().format(n).as_bytes());
 }
 
 /// `ESC [ r ; c H`, for a row and a column from 0, below 999.
@@ -39,8 +41,7 @@ pub fn put_goto(out: &mut Vec<u8>, row: usize, col: usize)
     ensures capacity { vec_capacity out.new ≡ vec_capacity out.old }
     ensures len { vec_len out.new ≤ vec_len out.old + 10 }
 {
-    out.push_reserved(ESCAPE);
-    out.push_reserved(b'[');
+    put_bytes(out, b"\x1b[");
     put_number(out, row + 1);
     out.push_reserved(b';');
     put_number(out, col + 1);
@@ -54,12 +55,7 @@ pub fn put_reverse(out: &mut Vec<u8>, reversed: bool)
     ensures capacity { vec_capacity out.new ≡ vec_capacity out.old }
     ensures len { vec_len out.new ≤ vec_len out.old + 4 }
 {
-    out.push_reserved(ESCAPE);
-    out.push_reserved(b'[');
-    if reversed {
-        out.push_reserved(b'7');
-    }
-    out.push_reserved(b'm');
+    put_bytes(out, if reversed { b"\x1b[7m" } else { b"\x1b[m" });
 }
 
 /// `ESC [ ? 7 l`: the cursor stays in the last column.
@@ -69,11 +65,7 @@ pub fn put_unwrap(out: &mut Vec<u8>)
     ensures capacity { vec_capacity out.new ≡ vec_capacity out.old }
     ensures len { vec_len out.new ≤ vec_len out.old + 5 }
 {
-    out.push_reserved(ESCAPE);
-    out.push_reserved(b'[');
-    out.push_reserved(b'?');
-    out.push_reserved(b'7');
-    out.push_reserved(b'l');
+    put_bytes(out, b"\x1b[?7l");
 }
 
 /// The characters themselves.
@@ -109,7 +101,5 @@ pub fn put_erase(out: &mut Vec<u8>)
     ensures capacity { vec_capacity out.new ≡ vec_capacity out.old }
     ensures len { vec_len out.new ≤ vec_len out.old + 3 }
 {
-    out.push_reserved(ESCAPE);
-    out.push_reserved(b'[');
-    out.push_reserved(b'K');
+    put_bytes(out, b"\x1b[K");
 }

@@ -1,12 +1,11 @@
 -- What a script prints for any choices is what it may print.
-use Rattle.std.proofs.Common.{◌≡◌, ℕ, ◌+◌, ◌<◌, ◌==◌, nat_eq, arith, Bool, true, false, cond, List, [], ◌∷◌, ◌++◌, map, Option, Some, None, Result, Err, refl, sym, ap, subst, ◌∙◌, eq-eqb, inl, inr}
+use Rattle.std.proofs.Common.{◌≡◌, ℕ, ◌+◌, ◌<◌, ◌≤◌, ◌^◌, ◌==◌, nat_eq, nat_le, eqb-true, arith, Bool, true, false, cond, List, [], ◌∷◌, ◌++◌, map, Option, Some, None, Result, Err, refl, sym, ap, subst, ◌∙◌, eq-eqb, inl, inr}
 use Rattle.std.specs.Prelude.{◌↔◌, ◌⊎◌, find, All, IsSome, is_some, not, ◌&&◌, if◌then◌else◌}
-use Rattle.std.specs.Option.{option_map}
-use Rattle.std.proofs.lemmas.Bool.{eqb-true}
+use Rattle.std.specs.Option.{option_map, option_or}
 use Rattle.std.proofs.lemmas.Bool.Decides.{nat_tests}
 use Rattle.std.proofs.lemmas.List.Elements.{All-nil, All-cons, All-weaker, All-map, All-append}
 use Rattle.mgs_model.specs.World.{World, Session, find_session}
-use Rattle.mgs_model.specs.Events.{step, is_open, can_open, open_fault, refused_act, may_be_refused}
+use Rattle.mgs_model.specs.Events.{step, is_open, can_open, session_fault, open_fault, refused_act, may_be_refused}
 use Rattle.mgs_model.specs.Events as events
 use Rattle.mgs_model.specs.declared.errors.Keyed.{Keyed}
 use Rattle.mgs_model.specs.declared.errors.Keyed.TheVariants as keyed
@@ -23,16 +22,12 @@ use Rattle.mgs_replay.specs.Players.{Player, Label, label, Standing, Never, Has,
 use Rattle.mgs_replay.specs.Plays.{RefusedAt, Plays, MayPrint}
 use Rattle.mgs_replay.specs.Served.{Differ, IsApart, AreApart}
 use Rattle.mgs_replay.specs.Replayed.{Choice, next_choice, next_choices, later, stop_of, world_keyed, answer_of, key_answer, typed_one, typed, open_answer, did_open, session_text, label_text, closed, did_by, Replayed, after_print, line_then, played_with, replayed_with}
-use Rattle.mgs_replay.proofs.Labels.{differ_never, apart_push, apart_gone, each, both, All-found, HasNot, OnlyCalled, only_called, found_now}
-use Rattle.mgs_replay.proofs.Staying.{Beside, beside_byte, beside_close, stays_refused, opened_next, opened_stays, opened_there}
+use Rattle.mgs_core.proofs.Ids.{All-found}
+use Rattle.mgs_replay.proofs.Labels.{differ_never, apart_push, apart_gone, each}
+use Rattle.mgs_replay.proofs.Staying.{Beside, is_found, beside_close, stays_refused, opened_next, opened_others, opened_stays, opened_there}
+use Rattle.mgs_replay.proofs.There.{IsThere, AreThere, there_now, are_kept, are_still, are_gone, keyed_beside, keyed_still}
 
 -- PLAYERS THAT A SCRIPT COMES TO
-
--- the session that a label has is open
-IsThere : World → Standing → Type 0
-IsThere w Never = Unit {0}
-IsThere w (Has id) = is_open id w ≡ true
-IsThere w (Gone cause) = Unit {0}
 
 -- its id was given already
 IsGiven : ℕ → Standing → Type 0
@@ -40,17 +35,38 @@ IsGiven next Never = Unit {0}
 IsGiven next (Has id) = id < next
 IsGiven next (Gone cause) = Unit {0}
 
+true_false : true ≡ false → ⊥
+true_false e = cc
+
+-- no id from the next one on is open
+IsFresh : World → Type 0
+IsFresh w = (n : ℕ) → w.next_id ≤ n → is_open n w ≡ false
+
+-- an event of a session that is open opens none
+fresh_beside : (w v : World) (id : ℕ) → Beside id w v → is_open id w ≡ true → IsFresh w → IsFresh v
+unfolding IsFresh
+fresh_beside w v id beside there fresh n more = go (nat_eq id n) refl
+  where
+    still : w.next_id ≤ n
+    still = omega (arith, more, beside.next)
+
+    go : (b : Bool) → nat_eq id n ≡ b → is_open n v ≡ false
+    go true e = let q : true ≡ false = sym there ∙ ap (λ k. is_open k w) (eqb-true id n e) ∙ fresh n still in absurd (true_false q)
+    go false e = beside.others n e ∙ fresh n still
+
 -- each label's session is open, and no two labels have the same
 record IsSound (w : World) (ls : List Label) : Type 0 where
-  there : All (λ (x : Label). IsThere w x.standing) ls
+  there : AreThere w ls
   given : All (λ (x : Label). IsGiven w.next_id x.standing) ls
+  fresh : IsFresh w
   apart : AreApart ls
 
 abbrev IsSoundPlayer : Player → Type 0
 IsSoundPlayer s = IsSound s.world s.labels
 
-sound_first : (w : World) → IsSound w []
-sound_first w = record { there = All-nil (λ (x : Label). IsThere w x.standing); given = All-nil (λ (x : Label). IsGiven w.next_id x.standing); apart = tt }
+sound_first : IsSound first_world []
+unfolding IsFresh
+sound_first = record { there = All-nil (λ (x : Label). IsThere first_world x.standing); given = All-nil (λ (x : Label). IsGiven first_world.next_id x.standing); fresh = λ n more. refl; apart = tt }
 
 -- one label more
 sound_never : (w : World) (ls : List Label) (name : List ℕ) → IsSound w ls → IsSound w (ls ++ label name Never ∷ [])
@@ -62,14 +78,9 @@ sound_never w ls name h =
     record {
       there = All-append There ls (x ∷ []) h.there (All-cons There x [] tt (All-nil There));
       given = All-append Given ls (x ∷ []) h.given (All-cons Given x [] tt (All-nil Given));
+      fresh = h.fresh;
       apart = apart_push ls x h.apart (each (λ y. IsApart y x) ls (λ y. differ_never y.standing));
     }
-
-there_kept : (w v : World) → ((id : ℕ) → is_open id w ≡ true → is_open id v ≡ true) → (s : Standing) → IsThere w s → IsThere v s
-unfolding IsThere
-there_kept w v keeps Never h = tt
-there_kept w v keeps (Has id) h = keeps id h
-there_kept w v keeps (Gone cause) h = tt
 
 given_more : (n m : ℕ) → m ≡ n + 1 → (s : Standing) → IsGiven n s → IsGiven m s
 unfolding IsGiven
@@ -83,16 +94,17 @@ given_differs n Never h = tt
 given_differs n (Has id) h = grind (arith, nat_tests)
 given_differs n (Gone cause) h = tt
 
-sound_opened : (w v : World) (ls : List Label) (name : List ℕ) → ((id : ℕ) → is_open id w ≡ true → is_open id v ≡ true) → is_open w.next_id v ≡ true → v.next_id ≡ w.next_id + 1 → IsSound w ls → IsSound v (ls ++ label name (Has w.next_id) ∷ [])
+sound_opened : (w v : World) (ls : List Label) (name : List ℕ) → ((id : ℕ) → is_open id w ≡ true → is_open id v ≡ true) → is_open w.next_id v ≡ true → v.next_id ≡ w.next_id + 1 → IsFresh v → IsSound w ls → IsSound v (ls ++ label name (Has w.next_id) ∷ [])
 unfolding IsThere IsGiven
-sound_opened w v ls name keeps new more h =
+sound_opened w v ls name keeps new more fresh h =
     let x : Label = label name (Has w.next_id) in
     let There : Label → Type 0 = λ y. IsThere v y.standing in
     let Given : Label → Type 0 = λ y. IsGiven v.next_id y.standing in
     let last : w.next_id < v.next_id = omega (arith, more) in
     record {
-      there = All-append There ls (x ∷ []) (All-weaker (λ y. IsThere w y.standing) There (λ y. there_kept w v keeps y.standing) ls h.there) (All-cons There x [] new (All-nil There));
+      there = All-append There ls (x ∷ []) (are_kept w v ls keeps h.there) (All-cons There x [] new (All-nil There));
       given = All-append Given ls (x ∷ []) (All-weaker (λ y. IsGiven w.next_id y.standing) Given (λ y. given_more w.next_id v.next_id more y.standing) ls h.given) (All-cons Given x [] last (All-nil Given));
+      fresh = fresh;
       apart = apart_push ls x h.apart (All-weaker (λ y. IsGiven w.next_id y.standing) (λ y. IsApart y x) (λ y. given_differs w.next_id y.standing) ls h.given);
     }
 
@@ -102,35 +114,13 @@ given_same : (n m : ℕ) → m ≡ n → (s : Standing) → IsGiven n s → IsGi
 given_same n m same s h = subst (λ (k : ℕ). IsGiven k s) (sym same) h
 
 -- it stays open
-there_beside : (w v : World) (id : ℕ) → Beside id w v → is_open id v ≡ true → (s : Standing) → IsThere w s → IsThere v s
-unfolding IsThere
-there_beside w v id beside still Never h = tt
-there_beside w v id beside still (Has own) h = go (nat_eq id own) refl
-  where
-    go : (b : Bool) → nat_eq id own ≡ b → is_open own v ≡ true
-    go true e = ap (λ n. is_open n v) (sym (eqb-true _ _ e)) ∙ still
-    go false e = beside.others own e ∙ h
-there_beside w v id beside still (Gone cause) h = tt
-
-sound_still : (w v : World) (id : ℕ) (ls : List Label) → Beside id w v → is_open id v ≡ true → IsSound w ls → IsSound v ls
-sound_still w v id ls beside still h = record {
-  there = All-weaker (λ y. IsThere w y.standing) (λ y. IsThere v y.standing) (λ y. there_beside w v id beside still y.standing) ls h.there;
+sound_still : (w v : World) (id : ℕ) (ls : List Label) → Beside id w v → is_open id w ≡ true → is_open id v ≡ true → IsSound w ls → IsSound v ls
+sound_still w v id ls beside was still h = record {
+  there = are_still w v id ls beside still h.there;
   given = All-weaker (λ y. IsGiven w.next_id y.standing) (λ y. IsGiven v.next_id y.standing) (λ y. given_same w.next_id v.next_id beside.next y.standing) ls h.given;
+  fresh = fresh_beside w v id beside was h.fresh;
   apart = h.apart;
 }
-
-there_gone : (w v : World) (name : List ℕ) (id : ℕ) (cause : Cause) → Beside id w v → (x : Label) → OnlyCalled name id x → IsThere w x.standing → IsThere v (gone name cause x).standing
-unfolding IsThere HasNot OnlyCalled
-there_gone w v name id cause beside x only h = go (is_called name x) refl
-  where
-    by : (s : Standing) → HasNot id s → IsThere w s → IsThere v s
-    by Never n t = tt
-    by (Has own) n t = beside.others own n ∙ t
-    by (Gone c) n t = tt
-
-    go : (b : Bool) → is_called name x ≡ b → IsThere v (cond b (label x.name (Gone cause)) x).standing
-    go true e = tt
-    go false e = by x.standing (only e) h
 
 given_gone : (n m : ℕ) (name : List ℕ) (cause : Cause) → m ≡ n → (x : Label) → IsGiven n x.standing → IsGiven m (gone name cause x).standing
 unfolding IsGiven
@@ -142,16 +132,13 @@ given_gone n m name cause same x h = go (is_called name x)
 
 -- it ends, and so does its label's
 sound_gone : (w v : World) (name : List ℕ) (id : ℕ) (cause : Cause) (ls : List Label) → Beside id w v → session_now (standing_of name ls) ≡ Some id → IsSound w ls → IsSound v (map (gone name cause) ls)
-sound_gone w v name id cause ls beside now h =
-    let z = found_now (find (is_called name) ls) id now in
-    let only = only_called name id ls z.0 z.1 z.2 h.apart in
-    record {
-      there = All-map (λ (y : Label). IsThere v y.standing) (gone name cause) ls
-          (both (OnlyCalled name id) (λ y. IsThere w y.standing) (λ y. IsThere v (gone name cause y).standing) (λ y. there_gone w v name id cause beside y) ls only h.there);
-      given = All-map (λ (y : Label). IsGiven v.next_id y.standing) (gone name cause) ls
-          (All-weaker (λ y. IsGiven w.next_id y.standing) (λ y. IsGiven v.next_id (gone name cause y).standing) (given_gone w.next_id v.next_id name cause beside.next) ls h.given);
-      apart = apart_gone name cause ls h.apart;
-    }
+sound_gone w v name id cause ls beside now h = record {
+  there = are_gone w v name id cause ls beside now h.apart h.there;
+  given = All-map (λ (y : Label). IsGiven v.next_id y.standing) (gone name cause) ls
+      (All-weaker (λ y. IsGiven w.next_id y.standing) (λ y. IsGiven v.next_id (gone name cause y).standing) (given_gone w.next_id v.next_id name cause beside.next) ls h.given);
+  fresh = fresh_beside w v id beside (there_now w name id ls now h.there) h.fresh;
+  apart = apart_gone name cause ls h.apart;
+}
 
 -- A BYTE
 
@@ -178,13 +165,6 @@ answer_fits (Some x) (Some y) None there kept = (
   ((λ e. absurd cc), (λ e. let none : Some y ≡ None = e.1 in absurd cc)),
 )
 
--- its session is open but where it is told that it ended
-still_open : (o p : Option Session) (stop : Option ℕ) → is_some o ≡ true → (IsSome stop → is_some p ≡ true) → (answer_of o p stop ≡ keyed.Quit → ⊥) → is_some p ≡ true
-still_open None p stop there kept quits = absurd cc
-still_open (Some x) p (Some n) there kept quits = kept refl
-still_open (Some x) None None there kept quits = absurd (quits refl)
-still_open (Some x) (Some y) None there kept quits = refl
-
 refused_may : (c : Choice) (w : World) (id byte : ℕ) → IsSome (stop_of c w id byte) → may_be_refused (refused_act w id byte c.stored (stop_of c w id byte)) ≡ true
 unfolding stop_of
 refused_may c w id byte h = go (may_be_refused (refused_act w id byte c.stored c.stop)) refl h
@@ -196,10 +176,6 @@ refused_may c w id byte h = go (may_be_refused (refused_act w id byte c.stored c
 refused_kept : (c : Choice) (w : World) (id byte : ℕ) → is_open id w ≡ true → IsSome (stop_of c w id byte) → is_open id (world_keyed c w id byte) ≡ true
 unfolding world_keyed
 refused_kept c w id byte there h = stays_refused id byte c.stored (stop_of c w id byte) w there (refused_may c w id byte h)
-
-beside_keyed : (c : Choice) (w : World) (id byte : ℕ) → Beside id w (world_keyed c w id byte)
-unfolding world_keyed
-beside_keyed c w id byte = beside_byte id byte c.stored (stop_of c w id byte) w
 
 keyed_is : (c : Choice) (w : World) (id byte : ℕ) → world_keyed c w id byte ≡ step w (events.Byte id byte c.stored (stop_of c w id byte))
 unfolding world_keyed
@@ -219,31 +195,21 @@ keyed_by c w id byte there =
       may = refused_may c w id byte;
     }
 
-keyed_still : (c : Choice) (w : World) (id byte : ℕ) → is_open id w ≡ true → (key_answer c w id byte ≡ keyed.Quit → ⊥) → is_open id (world_keyed c w id byte) ≡ true
-unfolding key_answer
-keyed_still c w id byte there quits =
-    still_open (find_session id w.sessions) (find_session id (world_keyed c w id byte).sessions) (stop_of c w id byte) there (refused_kept c w id byte there) quits
-
-sound_keyed : (k : Keyed) (w v : World) (name : List ℕ) (id : ℕ) (ls : List Label) → Beside id w v → session_now (standing_of name ls) ≡ Some id → ((k ≡ keyed.Quit → ⊥) → is_open id v ≡ true) → IsSound w ls → IsSound v (labels_keyed k name ls)
-sound_keyed keyed.Quit w v name id ls beside now still h = sound_gone w v name id causes.Quit ls beside now h
-sound_keyed keyed.Done w v name id ls beside now still h = sound_still w v id ls beside (still (λ e. absurd cc)) h
-sound_keyed keyed.NoSession w v name id ls beside now still h = sound_still w v id ls beside (still (λ e. absurd cc)) h
-sound_keyed keyed.Short w v name id ls beside now still h = sound_still w v id ls beside (still (λ e. absurd cc)) h
-
--- the session that a label has
-there_now : (w : World) (name : List ℕ) (id : ℕ) (ls : List Label) → session_now (standing_of name ls) ≡ Some id → IsSound w ls → is_open id w ≡ true
-unfolding IsThere
-there_now w name id ls now h =
-    let z = found_now (find (is_called name) ls) id now in
-    subst (IsThere w) z.2 (All-found (λ (x : Label). IsThere w x.standing) (is_called name) ls z.0 h.there z.1)
+sound_keyed : (k : Keyed) (w v : World) (name : List ℕ) (id byte : ℕ) (ls : List Label) → KeyedBy w v id byte k → session_now (standing_of name ls) ≡ Some id → IsSound w ls → IsSound v (labels_keyed k name ls)
+sound_keyed keyed.Quit w v name id byte ls by now h = sound_gone w v name id causes.Quit ls (keyed_beside w v id byte keyed.Quit by) now h
+sound_keyed keyed.Done w v name id byte ls by now h =
+    sound_still w v id ls (keyed_beside w v id byte keyed.Done by) (there_now w name id ls now h.there) (keyed_still w v id byte keyed.Done by (there_now w name id ls now h.there) (λ e. absurd cc)) h
+sound_keyed keyed.NoSession w v name id byte ls by now h =
+    sound_still w v id ls (keyed_beside w v id byte keyed.NoSession by) (there_now w name id ls now h.there) (keyed_still w v id byte keyed.NoSession by (there_now w name id ls now h.there) (λ e. absurd cc)) h
+sound_keyed keyed.Short w v name id byte ls by now h =
+    sound_still w v id ls (keyed_beside w v id byte keyed.Short by) (there_now w name id ls now h.there) (keyed_still w v id byte keyed.Short by (there_now w name id ls now h.there) (λ e. absurd cc)) h
 
 one_allowed : (c : Choice) (o : Option ℕ) (s : Player) (name : List ℕ) (byte : ℕ) → session_now (standing_of name s.labels) ≡ o → IsSoundPlayer s → TypesOne o s name byte (typed_one c o s name byte) × IsSoundPlayer (typed_one c o s name byte)
 one_allowed c None s name byte now h = (refl, h)
 one_allowed c (Some id) s name byte now h =
-    let there = there_now s.world name id s.labels now h in (
-      (key_answer c s.world id byte, keyed_by c s.world id byte there, refl, refl),
-      sound_keyed (key_answer c s.world id byte) s.world (world_keyed c s.world id byte) name id s.labels (beside_keyed c s.world id byte) now (keyed_still c s.world id byte there) h,
-    )
+    let by = keyed_by c s.world id byte (there_now s.world name id s.labels now h.there) in
+    let k = key_answer c s.world id byte in
+    ((k, by, refl, refl), sound_keyed k s.world (world_keyed c s.world id byte) name id byte s.labels by now h)
 
 all_allowed : (cs : List Choice) (s : Player) (name keys : List ℕ) → IsSoundPlayer s → Types s name keys (typed cs s name keys) × IsSoundPlayer (typed cs s name keys)
 all_allowed cs s name [] h = (refl, h)
@@ -255,7 +221,7 @@ all_allowed cs s name (b ∷ bs) h =
 
 -- AN OPEN
 
-four_faults : (a b c d : Bool) → (if a then Some opening.NoUser else if b then Some opening.Size else if c then Some opening.Full else if d then Some opening.Full else None) ≡ Some opening.Short → ⊥
+four_faults : (a b c d : Bool) → option_or (if a then Some opening.NoUser else if b then Some opening.Size else if c then Some opening.Full else None) (if d then Some opening.Full else None) ≡ Some opening.Short → ⊥
 four_faults true b c d h = cc
 four_faults false true c d h = cc
 four_faults false false true d h = cc
@@ -268,8 +234,21 @@ due_answers w user rows cols opening.Size e = record { ok = tt; err = refl; answ
 due_answers w user rows cols opening.Full e = record { ok = tt; err = refl; answer = e }
 due_answers w user rows cols opening.Short e = absurd (four_faults _ _ _ _ e)
 
-may_open : (w : World) (user : List ℕ) (rows cols : ℕ) → open_fault w user rows cols ≡ None → can_open w w.next_id user rows cols ≡ true
-may_open w user rows cols e = ap (λ (o : Option OpenFault). not (is_some o) && (w.next_id == w.next_id)) e ∙ eq-eqb w.next_id w.next_id refl
+first_none : {A : Type 0} (a b : Option A) → option_or a b ≡ None → a ≡ None
+first_none None b e = refl
+first_none (Some x) b e = cc
+
+may_open : (w : World) (user : List ℕ) (rows cols : ℕ) → IsFresh w → open_fault w user rows cols ≡ None → can_open w w.next_id user rows cols ≡ true
+unfolding IsFresh
+may_open w user rows cols fresh e =
+    ap (λ (o : Option OpenFault). not (is_some o) && not (is_open w.next_id w)) (first_none (session_fault w user rows cols) (if nat_le (2 ^ 64) w.next_id then Some opening.Full else None) e)
+    ∙ ap not (fresh w.next_id (omega arith))
+
+fresh_opened : (w : World) (user : List ℕ) (rows cols : ℕ) → can_open w w.next_id user rows cols ≡ true → IsFresh w → IsFresh (step w (events.Open w.next_id user rows cols))
+unfolding IsFresh
+fresh_opened w user rows cols can fresh n more =
+    let next = opened_next w.next_id user rows cols w refl can in
+    opened_others n w.next_id user rows cols w can (grind (arith, nat_tests, next, more)) ∙ fresh n (omega (arith, next, more))
 
 abbrev OpenAllowed : Player → List ℕ → List ℕ → ℕ → ℕ → Result ℕ OpenFault → Type 0
 OpenAllowed s name user rows cols answer =
@@ -279,17 +258,13 @@ open_allowed : (s : Player) (name user : List ℕ) (rows cols : ℕ) (stop : Opt
 open_allowed s name user rows cols stop (Some fault) e h stored = ((due_answers s.world user rows cols fault e, refl, refl), sound_never s.world s.labels name h)
 open_allowed s name user rows cols (Some n) None e h stored = ((record { ok = tt; err = refl; answer = e }, refl, refl), sound_never s.world s.labels name h)
 open_allowed s name user rows cols None None e h stored =
-    let can = may_open s.world user rows cols e in
+    let can = may_open s.world user rows cols h.fresh e in
     let new : World = step s.world (events.Open s.world.next_id user rows cols) in (
-      (record { ok = (can, refl); err = tt; answer = e }, refl, refl),
-      sound_opened s.world new s.labels name (λ id was. opened_stays id s.world.next_id user rows cols s.world can was) (opened_there s.world.next_id user rows cols s.world can) (opened_next s.world.next_id user rows cols s.world can) h,
+      (record { ok = (refl, can, refl); err = tt; answer = e }, refl, refl),
+      sound_opened s.world new s.labels name (λ id was. opened_stays id s.world.next_id user rows cols s.world can was) (opened_there s.world.next_id user rows cols s.world can) (opened_next s.world.next_id user rows cols s.world refl can) (fresh_opened s.world user rows cols can h.fresh) h,
     )
 
 -- A LINE
-
-is_there : (o : Option Session) → is_some o ≡ true → (x : Session) × (o ≡ Some x)
-is_there None h = absurd cc
-is_there (Some x) h = (x, refl)
 
 IsThereFound : World → Option Standing → Type 0
 IsThereFound w None = Unit {0}
@@ -299,7 +274,7 @@ text_allowed : (w : World) (name : List ℕ) (o : Option Standing) → not (had_
 unfolding IsThere IsThereFound
 text_allowed w name None h there = absurd cc
 text_allowed w name (Some Never) h there = absurd cc
-text_allowed w name (Some (Has id)) h there = let x = is_there (find_session id w.sessions) there in (x.0, x.1, ap (session_text w name) x.1)
+text_allowed w name (Some (Has id)) h there = let x = is_found (find_session id w.sessions) there in (x.0, x.1, ap (session_text w name) x.1)
 text_allowed w name (Some (Gone cause)) h there = refl
 
 found_there : (w : World) (name : List ℕ) (ls : List Label) → IsSound w ls → (o : Option Label) → find (is_called name) ls ≡ o → IsThereFound w (option_map (λ (x : Label). x.standing) o)
@@ -315,13 +290,13 @@ abbrev SaidAllowed : List Choice → Player → Said → Type 0
 SaidAllowed cs s l = Does s l (did_by cs s l).player (did_by cs s l).print × IsSoundPlayer (did_by cs s l).player
 
 said_allowed : (cs : List Choice) (s : Player) (l : Said) → is_refused s l ≡ false → IsSoundPlayer s → SaidAllowed cs s l
-unfolding IsThere
+unfolding IsThere IsFresh
 said_allowed cs s said.Nothing e h = ((refl, refl), h)
-said_allowed cs s (said.User name) e h = ((refl, refl), record { there = h.there; given = h.given; apart = h.apart })
-said_allowed cs s (said.Group name members) e h = ((refl, refl), record { there = h.there; given = h.given; apart = h.apart })
-said_allowed cs s (said.Buffer name owner) e h = ((refl, refl), record { there = h.there; given = h.given; apart = h.apart })
-said_allowed cs s (said.Entry buffer entry) e h = ((refl, refl), record { there = h.there; given = h.given; apart = h.apart })
-said_allowed cs s (said.Text buffer chars) e h = ((refl, refl), record { there = h.there; given = h.given; apart = h.apart })
+said_allowed cs s (said.User name) e h = ((refl, refl), record { there = h.there; given = h.given; fresh = h.fresh; apart = h.apart })
+said_allowed cs s (said.Group name members) e h = ((refl, refl), record { there = h.there; given = h.given; fresh = h.fresh; apart = h.apart })
+said_allowed cs s (said.Buffer name owner) e h = ((refl, refl), record { there = h.there; given = h.given; fresh = h.fresh; apart = h.apart })
+said_allowed cs s (said.Entry buffer entry) e h = ((refl, refl), record { there = h.there; given = h.given; fresh = h.fresh; apart = h.apart })
+said_allowed cs s (said.Text buffer chars) e h = ((refl, refl), record { there = h.there; given = h.given; fresh = h.fresh; apart = h.apart })
 said_allowed cs s (said.Open name user rows cols) e h =
     let due = open_fault s.world user rows cols in
     let did = open_allowed s name user rows cols (next_choice cs).stop due refl h (next_choice cs).stored in
@@ -356,4 +331,4 @@ lines_allowed cs n s (l ∷ ls) h =
 
 pub allowed : (cs : List (List Choice)) (script : List ℕ) → MayPrint first_world script (replayed_with cs script).out (replayed_with cs script).end
 unfolding MayPrint replayed_with
-allowed cs script = lines_allowed cs 1 (setting first_world) (lines_of script) (sound_first first_world)
+allowed cs script = lines_allowed cs 1 (setting first_world) (lines_of script) sound_first

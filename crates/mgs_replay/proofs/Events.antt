@@ -1,37 +1,38 @@
--- What an event makes of the sessions, the queues and the labels.
-use Rattle.std.proofs.Common.{◌≡◌, ℕ, ◌*◌, Bool, true, false, cond, List, [], ◌∷◌, ◌++◌, map, Option, Some, None, refl, sym, ap, subst, ◌∙◌, eq-eqb, arith}
-use Rattle.std.specs.Prelude.{find, nat_eq, All}
-use Rattle.std.specs.Option.{option_map, option_or}
+-- What an event makes of the labels, and of the bytes that wait for their terminals.
+use Rattle.std.proofs.Common.{◌≡◌, ℕ, ◌*◌, Bool, true, false, cond, List, [], ◌∷◌, ◌++◌, map, Option, Some, None, Ok, refl, sym, ap, subst, ◌∙◌, arith}
+use Rattle.std.specs.Prelude.{find, nat_eq, All, is_some}
+use Rattle.std.specs.Option.{option_map}
 use Rattle.std.proofs.lemmas.Bool.{eqb-true}
 use Rattle.std.proofs.lemmas.List.{map-append, length-replicate}
-use Rattle.std.proofs.lemmas.List.Folds.{find-append}
 use Rattle.std.proofs.lemmas.List.Elements.{All-nil, All-cons, All-head, All-tail, All-weaker, All-map, All-append}
 use Rattle.mgs_model.proofs.Firsts.{find-map}
-use Rattle.mgs_model.specs.Apply.{remove_first}
 use Rattle.mgs_model.specs.Names.{same_name}
 use Rattle.mgs_model.specs.Picture.{IsSize}
 use Rattle.mgs_model.specs.World.{World, Session, find_session}
 use Rattle.mgs_model.specs.Draw.{screen, draw}
+use Rattle.mgs_model.specs.Events.{is_open}
 use Rattle.mgs_world.specs.declared.size.Size.{Size}
-use Rattle.mgs_world.specs.Worlds.{sizes, session_size, is_size_of, find_size}
+use Rattle.mgs_world.specs.Worlds.{sizes, session_size, find_size}
 use Rattle.mgs_term.specs.Screen.{IsScreen, blank_cell, blank_screen}
 use Rattle.mgs_term.specs.Terminal.{Terminal, resting}
 use Rattle.mgs_term.specs.Drawing.{Draws, Anything, IsFaithful}
 use Rattle.mgs_term.proofs.Drawing.{Draws-weaken, Draws-at}
 use Rattle.mgs_paint.specs.Painting.{Paints, shown, cells_of}
-use Rattle.mgs_engine.specs.Serving.{Serving, AllTaken, pending_of, queue_ids}
+use Rattle.mgs_engine.specs.Serving.{Serving, AllTaken, pending_of}
 use Rattle.mgs_engine.specs.Queues.{Queue, IsTaken, waiting_in, find_queue}
 use Rattle.mgs_engine.specs.Painted.{Painted, PaintedBy}
-use Rattle.mgs_engine.proofs.ScreenLemmas.{All-unmap}
+use Rattle.mgs_core.specs.Steps.{OpenedBy}
+use Rattle.mgs_core.proofs.Ids.{All-unmap, found_sizes, known_last}
 use Rattle.mgs_replay.specs.declared.client.Labelled.{Labelled}
 use Rattle.mgs_replay.specs.declared.client.Cause.{Cause}
 use Rattle.mgs_replay.specs.declared.client.Client.{Client}
 use Rattle.mgs_replay.specs.declared.client.Client.TheVariants as clients
 use Rattle.mgs_replay.specs.Clients.{is_labelled, client_of, ended_by}
 use Rattle.mgs_replay.specs.Players.{Label, label, Never, Has, Gone, is_called, standing_of, gone}
-use Rattle.mgs_replay.specs.Served.{standing_in, label_of, labels_in, ClientShows, LabelShows, ClientDue, IsLineDue, Differ, IsApart, AreApart, AreUnique, size_id, session_in, IsPlayerServed, IsReady, IsWaiting}
-use Rattle.mgs_replay.proofs.Served.{found_size}
-use Rattle.mgs_replay.proofs.Labels.{differ_never, apart_push, apart_gone, each, both, flip, HasNot, OnlyCalled, only_called, found_now}
+use Rattle.mgs_replay.specs.Served.{standing_in, label_of, labels_in, ClientShows, LabelShows, ClientDue, IsLineDue, Differ, IsApart, AreApart, session_in, IsReady, IsWaiting}
+use Rattle.mgs_replay.proofs.Labels.{differ_never, apart_push, apart_gone, each, both}
+use Rattle.mgs_replay.proofs.Staying.{Beside, is_found, opened_stays}
+use Rattle.mgs_replay.proofs.There.{IsThere, AreThere, are_kept, are_still, are_gone}
 
 -- BYTES THAT WAIT
 
@@ -50,138 +51,30 @@ drawn_by old new id x y taken p =
     Draws-at Anything p.bytes (pending_of id new) (shown (screen old.world x)) (shown (screen old.world x)) (shown (screen new.world y)) all refl
     (Draws-weaken (IsFaithful (cells_of (screen new.world y))) p.bytes (shown (screen old.world x)) (shown (screen new.world y)) p.draws)
 
--- a session that is open stays open
-pub Stays : World → World → ℕ → Type 0
-Stays old new id = (x : Session) → find_session id old.sessions ≡ Some x → (y : Session) × (find_session id new.sessions ≡ Some y)
+-- AN EVENT THAT LEAVES THE SESSIONS OF THE LABELS OPEN
 
--- the session after a label, if it has an open one, is such
-pub ClientStays : World → World → Client → Type 0
-ClientStays old new clients.Never = Unit {0}
-ClientStays old new (clients.Open id term) = Stays old new id
-ClientStays old new (clients.Ended cause) = Unit {0}
-
-client_due : (old new : Serving) (x : Client) → AllTaken old → Painted old new → ClientStays old.world new.world x → ClientShows old.world x → ClientDue new x
-unfolding Stays ClientStays
-client_due old new clients.Never taken painted stays h = tt
-client_due old new (clients.Open id term) taken painted stays h =
-    let y = stays h.0 h.1 in
+client_due : (old new : Serving) (x : Client) → AllTaken old → Painted old new → IsThere new.world (standing_in x) → ClientShows old.world x → ClientDue new x
+unfolding IsThere
+client_due old new clients.Never taken painted there h = tt
+client_due old new (clients.Open id term) taken painted there h =
+    let y = is_found (find_session id new.world.sessions) there in
     (y.0, shown (screen old.world h.0), y.1, h.2, drawn_by old new id h.0 y.0 taken (painted id h.0 y.0 h.1 y.1))
-client_due old new (clients.Ended cause) taken painted stays h = tt
+client_due old new (clients.Ended cause) taken painted there h = tt
 
--- SIZES
+all_due : (old new : Serving) (xs : List Labelled) → AllTaken old → Painted old new → AreThere new.world (labels_in xs) → All (LabelShows old.world) xs → All (IsLineDue new) xs
+all_due old new xs taken painted there h =
+    both (λ x. IsThere new.world (standing_in x.client)) (LabelShows old.world) (IsLineDue new) (λ x t s. client_due old new x.client taken painted t s) xs
+    (All-unmap (λ (x : Label). IsThere new.world x.standing) label_of xs there) h
 
-some_session : (o : Option Session) (z : Size) → option_map session_size o ≡ Some z → (y : Session) × (o ≡ Some y) × (session_size y ≡ z)
-some_session None z h = absurd cc
-some_session (Some y) z h = let e : session_size y ≡ z = cc in (y, refl, e)
+-- between two events each label's session is open
+there_one : (w : World) (x : Client) → ClientShows w x → IsThere w (standing_in x)
+unfolding IsThere
+there_one w clients.Never h = tt
+there_one w (clients.Open id term) h = ap is_some h.1
+there_one w (clients.Ended cause) h = tt
 
-stays_by : (old new : World) (id : ℕ) → ((z : Size) → find_size id (sizes old) ≡ Some z → find_size id (sizes new) ≡ Some z) → Stays old new id
-unfolding Stays
-stays_by old new id h x found =
-    let was : find_size id (sizes old) ≡ Some (session_size x) = found_size id old ∙ ap (option_map session_size) found in
-    let y = some_session (find_session id new.sessions) (session_size x) (sym (found_size id new) ∙ h (session_size x) was) in
-    (y.0, y.1)
-
-client_stays : (old new : World) (x : Client) → ((id : ℕ) → Stays old new id) → ClientStays old new x
-unfolding ClientStays
-client_stays old new clients.Never h = tt
-client_stays old new (clients.Open id term) h = h id
-client_stays old new (clients.Ended cause) h = tt
-
--- all sessions stay
-pub all_due : (old new : Serving) (xs : List Labelled) → AllTaken old → Painted old new → ((id : ℕ) → Stays old.world new.world id) → All (LabelShows old.world) xs → All (IsLineDue new) xs
-all_due old new xs taken painted stays h =
-    All-weaker (LabelShows old.world) (IsLineDue new) (λ x s. client_due old new x.client taken painted (client_stays old.world new.world x.client stays) s) xs h
-
-pub stays_same : (old new : World) → sizes new ≡ sizes old → (id : ℕ) → Stays old new id
-stays_same old new same id = stays_by old new id (λ z h. ap (find_size id) same ∙ h)
-
-pub stays_more : (old new : World) (z : Size) → sizes new ≡ sizes old ++ z ∷ [] → (id : ℕ) → Stays old new id
-stays_more old new z more id =
-    stays_by old new id (λ y h. ap (find_size id) more ∙ find-append (is_size_of id) (sizes old) (z ∷ []) ∙ ap (λ o. option_or o (find_size id (z ∷ []))) h)
-
-find_past : (gone id : ℕ) (zs : List Size) → nat_eq gone id ≡ false → find_size id (remove_first (is_size_of gone) zs) ≡ find_size id zs
-find_past gone id [] other = refl
-find_past gone id (z ∷ zs) other =
-    let goal : Bool → Type 0 = λ b. nat_eq z.id gone ≡ b → find_size id (cond b zs (z ∷ remove_first (is_size_of gone) zs)) ≡ cond (nat_eq z.id id) (Some z) (find_size id zs) in
-    let go : (b : Bool) → goal b =
-    λ b. elim b as goal [
-      | true ↦ λ e.
-          let same : z.id ≡ gone = eqb-true _ _ e in
-          let no : nat_eq z.id id ≡ false = ap (λ n. nat_eq n id) same ∙ other in
-          sym (ap (λ t. cond t (Some z) (find_size id zs)) no)
-      | false ↦ λ e. ap (cond (nat_eq z.id id) (Some z)) (find_past gone id zs other)
-    ]
-    in go (nat_eq z.id gone) refl
-
-stays_past : (old new : World) (gone id : ℕ) → sizes new ≡ remove_first (is_size_of gone) (sizes old) → nat_eq gone id ≡ false → Stays old new id
-stays_past old new gone id less other =
-    stays_by old new id (λ z h. ap (find_size id) less ∙ find_past gone id (sizes old) other ∙ h)
-
--- QUEUES AND SIZES
-
-pub served_same : (old new : Serving) → queue_ids new ≡ queue_ids old → sizes new.world ≡ sizes old.world → IsPlayerServed old → IsPlayerServed new
-served_same old new ids same h = record {
-  queues = ids ∙ h.queues ∙ ap (map size_id) (sym same);
-  unique = subst AreUnique (sym ids) h.unique;
-}
-
-is_id : ℕ → ℕ → Bool
-is_id id x = nat_eq x id
-
-unique_pushed : (id : ℕ) (xs : List ℕ) → find (is_id id) xs ≡ None → AreUnique xs → AreUnique (xs ++ id ∷ [])
-unfolding is_id
-unique_pushed id [] h u = (All-nil (λ (x : ℕ). nat_eq x id ≡ false), tt)
-unique_pushed id (x ∷ xs) h u =
-    let goal : Bool → Type 0 = λ b. nat_eq x id ≡ b → cond b (Some x) (find (is_id id) xs) ≡ None → AreUnique ((x ∷ xs) ++ id ∷ []) in
-    let go : (b : Bool) → goal b =
-    λ b. elim b as goal [
-      | true ↦ λ e n. cc
-      | false ↦ λ e n. (
-        All-append (λ (y : ℕ). nat_eq y x ≡ false) xs (id ∷ []) u.0 (All-cons (λ (y : ℕ). nat_eq y x ≡ false) id [] (flip x id e) (All-nil (λ (y : ℕ). nat_eq y x ≡ false))),
-        unique_pushed id xs n u.1,
-      )
-    ]
-    in go (nat_eq x id) refl h
-
-pub served_more : (old new : Serving) (z : Size) → queue_ids new ≡ queue_ids old ++ z.id ∷ [] → sizes new.world ≡ sizes old.world ++ z ∷ [] → find_size z.id (sizes old.world) ≡ None → IsPlayerServed old → IsPlayerServed new
-unfolding is_id
-served_more old new z ids more fresh h =
-    let free : find (is_id z.id) (queue_ids old) ≡ None =
-    ap (find (is_id z.id)) h.queues ∙ find-map size_id (is_size_of z.id) (is_id z.id) (λ y. refl) (sizes old.world) ∙ ap (option_map size_id) fresh in
-    record {
-      queues = ids ∙ ap (λ (ns : List ℕ). ns ++ z.id ∷ []) h.queues ∙ sym (map-append size_id (sizes old.world) (z ∷ [])) ∙ ap (map size_id) (sym more);
-      unique = subst AreUnique (sym ids) (unique_pushed z.id (queue_ids old) free h.unique);
-    }
-
-ids_removed : (id : ℕ) (zs : List Size) → map size_id (remove_first (is_size_of id) zs) ≡ remove_first (λ x. nat_eq x id) (map size_id zs)
-ids_removed id [] = refl
-ids_removed id (z ∷ zs) =
-    elim (nat_eq z.id id) as (λ b. map size_id (cond b zs (z ∷ remove_first (is_size_of id) zs)) ≡ cond b (map size_id zs) (z.id ∷ remove_first (λ x. nat_eq x id) (map size_id zs))) [
-      | true ↦ refl
-      | false ↦ ap (λ (ns : List ℕ). z.id ∷ ns) (ids_removed id zs)
-    ]
-
-All-removed : {A : Type 0} (P : A → Type 0) (p : A → Bool) (xs : List A) → All P xs → All P (remove_first p xs)
-All-removed P p [] h = h
-All-removed P p (x ∷ xs) h =
-    elim (p x) as (λ b. All P (cond b xs (x ∷ remove_first p xs))) [
-      | true ↦ All-tail P x xs h
-      | false ↦ All-cons P x (remove_first p xs) (All-head P x xs h) (All-removed P p xs (All-tail P x xs h))
-    ]
-
-unique_removed : (p : ℕ → Bool) (xs : List ℕ) → AreUnique xs → AreUnique (remove_first p xs)
-unique_removed p [] h = h
-unique_removed p (x ∷ xs) h =
-    elim (p x) as (λ b. AreUnique (cond b xs (x ∷ remove_first p xs))) [
-      | true ↦ h.1
-      | false ↦ (All-removed (λ (y : ℕ). nat_eq y x ≡ false) p xs h.0, unique_removed p xs h.1)
-    ]
-
-pub served_less : (old new : Serving) (id : ℕ) → queue_ids new ≡ remove_first (λ x. nat_eq x id) (queue_ids old) → sizes new.world ≡ remove_first (is_size_of id) (sizes old.world) → IsPlayerServed old → IsPlayerServed new
-served_less old new id ids less h = record {
-  queues = ids ∙ ap (remove_first (λ x. nat_eq x id)) h.queues ∙ sym (ids_removed id (sizes old.world)) ∙ ap (map size_id) (sym less);
-  unique = subst AreUnique (sym ids) (unique_removed (λ x. nat_eq x id) (queue_ids old) h.unique);
-}
+pub all_there : (w : World) (xs : List Labelled) → All (LabelShows w) xs → AreThere w (labels_in xs)
+all_there w xs h = All-map (λ (x : Label). IsThere w x.standing) label_of xs (All-weaker (LabelShows w) (λ x. IsThere w (standing_in x.client)) (λ x s. there_one w x.client s) xs h)
 
 -- LABELS
 
@@ -226,7 +119,7 @@ fresh_one w id (clients.Open own term) fresh h =
     λ b. elim b as goal [
       | true ↦ λ e.
           let same : id ≡ own = eqb-true _ _ e in
-          let is : find_size own (sizes w) ≡ Some (session_size h.0) = found_size own w ∙ ap (option_map session_size) h.1 in
+          let is : find_size own (sizes w) ≡ Some (session_size h.0) = found_sizes own w ∙ ap (option_map session_size) h.1 in
           let none : find_size own (sizes w) ≡ None = ap (λ (n : ℕ). find_size n (sizes w)) (sym same) ∙ fresh in
           cc
       | false ↦ λ e. refl
@@ -242,59 +135,30 @@ apart_open w xs name id term fresh shows h =
     (All-map (λ x. IsApart x (label name (Has id))) label_of xs
     (All-weaker (LabelShows w) (λ x. IsApart (label_of x) (label name (Has id))) (λ x s. fresh_one w id x.client fresh s) xs shows)))
 
--- AN END
+-- THE SESSION OF THE EVENT STAYS OPEN
 
-ended_due : (e : Serving) (name : List ℕ) (cause : Cause) (x : Labelled) → IsLineDue e x → IsLineDue e (ended_by name cause x)
-ended_due e name cause x h =
-    elim (same_name name x.label) as (λ b. IsLineDue e (cond b (record { label = x.label; client = clients.Ended cause }) x)) [ true ↦ tt | false ↦ h ]
-
--- a label ends where all sessions stayed
-pub waiting_ended : (e : Serving) (name : List ℕ) (cause : Cause) (xs : List Labelled) → IsWaiting e xs → IsWaiting e (map (ended_by name cause) xs)
-waiting_ended e name cause xs h = record {
-  served = h.served;
-  due = All-map (IsLineDue e) (ended_by name cause) xs (All-weaker (IsLineDue e) (λ x. IsLineDue e (ended_by name cause x)) (ended_due e name cause) xs h.due);
-  apart = subst AreApart (sym (labels_gone name cause xs)) (apart_gone name cause (labels_in xs) h.apart);
-}
-
-closed_client : (old new : World) (id : ℕ) (x : Client) → sizes new ≡ remove_first (is_size_of id) (sizes old) → HasNot id (standing_in x) → ClientStays old new x
-unfolding HasNot ClientStays
-closed_client old new id clients.Never less h = tt
-closed_client old new id (clients.Open own term) less h = stays_past old new id own less h
-closed_client old new id (clients.Ended cause) less h = tt
-
-closed_one : (old new : Serving) (name : List ℕ) (id : ℕ) (cause : Cause) (x : Labelled) → AllTaken old → Painted old new → sizes new.world ≡ remove_first (is_size_of id) (sizes old.world) → OnlyCalled name id (label_of x) → LabelShows old.world x → IsLineDue new (ended_by name cause x)
-unfolding OnlyCalled
-closed_one old new name id cause x taken painted less only h =
-    let goal : Bool → Type 0 = λ b. is_labelled name x ≡ b → IsLineDue new (cond b (record { label = x.label; client = clients.Ended cause }) x) in
-    let go : (b : Bool) → goal b =
-    λ b. elim b as goal [
-      | true ↦ λ e. tt
-      | false ↦ λ e. client_due old new x.client taken painted (closed_client old.world new.world id x.client less (only e)) h
-    ]
-    in go (is_labelled name x) refl
-
--- a session is closed, and its label ended
-pub waiting_closed : (old new : Serving) (name : List ℕ) (id : ℕ) (cause : Cause) (xs : List Labelled)
-    → IsReady old xs → session_in name xs ≡ Some id → queue_ids new ≡ remove_first (λ x. nat_eq x id) (queue_ids old) → sizes new.world ≡ remove_first (is_size_of id) (sizes old.world) → Painted old new
-    → IsWaiting new (map (ended_by name cause) xs)
-waiting_closed old new name id cause xs ready now ids less painted =
-    let z = found_now (find (is_called name) (labels_in xs)) id now in
-    let only = All-unmap (OnlyCalled name id) label_of xs (only_called name id (labels_in xs) z.0 z.1 z.2 ready.apart) in
-    record {
-      served = served_less old new id ids less ready.served;
-      due = All-map (IsLineDue new) (ended_by name cause) xs
-          (both (λ x. OnlyCalled name id (label_of x)) (LabelShows old.world) (λ x. IsLineDue new (ended_by name cause x)) (λ x o s. closed_one old new name id cause x ready.taken painted less o s) xs only ready.shows);
-      apart = subst AreApart (sym (labels_gone name cause xs)) (apart_gone name cause (labels_in xs) ready.apart);
-    }
-
--- AN EVENT THAT CHANGES NO SIZE
-
-pub waiting_same : (old new : Serving) (xs : List Labelled) → IsReady old xs → queue_ids new ≡ queue_ids old → sizes new.world ≡ sizes old.world → Painted old new → IsWaiting new xs
-waiting_same old new xs ready ids same painted = record {
-  served = served_same old new ids same ready.served;
-  due = all_due old new xs ready.taken painted (stays_same old.world new.world same) ready.shows;
+pub waiting_still : (old new : Serving) (xs : List Labelled) (id : ℕ) → IsReady old xs → Beside id old.world new.world → is_open id new.world ≡ true → Painted old new → IsWaiting new xs
+waiting_still old new xs id ready beside still painted = record {
+  due = all_due old new xs ready.taken painted (are_still old.world new.world id (labels_in xs) beside still (all_there old.world xs ready.shows)) ready.shows;
   apart = ready.apart;
 }
+
+-- IT ENDS, AND SO DOES ITS LABEL'S
+
+ended_shows : (w : World) (name : List ℕ) (cause : Cause) (x : Labelled) → LabelShows w x → LabelShows w (ended_by name cause x)
+ended_shows w name cause x h =
+    elim (same_name name x.label) as (λ b. LabelShows w (cond b (record { label = x.label; client = clients.Ended cause }) x)) [ true ↦ tt | false ↦ h ]
+
+pub waiting_gone : (old new : Serving) (name : List ℕ) (id : ℕ) (cause : Cause) (xs : List Labelled) → IsReady old xs → session_in name xs ≡ Some id → Beside id old.world new.world → Painted old new → IsWaiting new (map (ended_by name cause) xs)
+waiting_gone old new name id cause xs ready now beside painted =
+    let gone_there : AreThere new.world (map (gone name cause) (labels_in xs)) =
+    are_gone old.world new.world name id cause (labels_in xs) beside now ready.apart (all_there old.world xs ready.shows) in
+    record {
+      due = all_due old new (map (ended_by name cause) xs) ready.taken painted
+          (subst (AreThere new.world) (sym (labels_gone name cause xs)) gone_there)
+          (All-map (LabelShows old.world) (ended_by name cause) xs (All-weaker (LabelShows old.world) (λ x. LabelShows old.world (ended_by name cause x)) (ended_shows old.world name cause) xs ready.shows));
+      apart = subst AreApart (sym (labels_gone name cause xs)) (apart_gone name cause (labels_in xs) ready.apart);
+    }
 
 -- AN OPEN
 
@@ -309,17 +173,11 @@ screen_cols : (w : World) (y : Session) → (screen w y).cols ≡ y.cols
 unfolding draw
 screen_cols w y = refl
 
-known_last : (zs : List Size) (z : Size) → find_size z.id zs ≡ None → find_size z.id (zs ++ z ∷ []) ≡ Some z
-known_last zs z h =
-    find-append (is_size_of z.id) zs (z ∷ [])
-    ∙ ap (λ o. option_or o (find_size z.id (z ∷ []))) h
-    ∙ ap (λ b. cond b (Some z) None) (eq-eqb z.id z.id refl)
-
 opened_due : (new : Serving) (zs : List Size) (id rows cols : ℕ) (y : Session) → IsSize rows cols → sizes new.world ≡ zs ++ record { id = id; rows = rows; cols = cols } ∷ [] → find_size id zs ≡ None
     → find_session id new.world.sessions ≡ Some y → Paints (screen new.world y) (pending_of id new) → ClientDue new (clients.Open id (resting (blank_screen rows cols)))
 opened_due new zs id rows cols y size more fresh found paints =
     let z : Size = record { id = id; rows = rows; cols = cols } in
-    let is : Some (session_size y) ≡ Some z = ap (option_map session_size) (sym found) ∙ sym (found_size id new.world) ∙ ap (find_size id) more ∙ known_last zs z fresh in
+    let is : Some (session_size y) ≡ Some z = ap (option_map session_size) (sym found) ∙ sym (found_sizes id new.world) ∙ ap (find_size id) more ∙ known_last zs z fresh in
     let same : session_size y ≡ z = cc in
     let rows_are : y.rows ≡ rows = ap (λ (s : Size). s.rows) same in
     let cols_are : y.cols ≡ cols = ap (λ (s : Size). s.cols) same in (
@@ -332,17 +190,17 @@ opened_due new zs id rows cols y size more fresh found paints =
     )
 
 -- a session opens, and its label gets a terminal
-pub waiting_opened : (old new : Serving) (xs : List Labelled) (name : List ℕ) (id rows cols : ℕ) (y : Session) → IsReady old xs → IsSize rows cols
-    → queue_ids new ≡ queue_ids old ++ id ∷ [] → sizes new.world ≡ sizes old.world ++ record { id = id; rows = rows; cols = cols } ∷ [] → find_size id (sizes old.world) ≡ None → Painted old new
+pub waiting_opened : (old new : Serving) (xs : List Labelled) (name user : List ℕ) (id rows cols : ℕ) (y : Session) → IsReady old xs → IsSize rows cols → OpenedBy old.world new.world user rows cols (Ok id)
+    → sizes new.world ≡ sizes old.world ++ record { id = id; rows = rows; cols = cols } ∷ [] → find_size id (sizes old.world) ≡ None → Painted old new
     → find_session id new.world.sessions ≡ Some y → Paints (screen new.world y) (pending_of id new)
     → IsWaiting new (xs ++ record { label = name; client = clients.Open id (resting (blank_screen rows cols)) } ∷ [])
-waiting_opened old new xs name id rows cols y ready size ids more fresh painted found paints =
-    let z : Size = record { id = id; rows = rows; cols = cols } in
+waiting_opened old new xs name user id rows cols y ready size opened more fresh painted found paints =
     let last : Labelled = record { label = name; client = clients.Open id (resting (blank_screen rows cols)) } in
+    let keeps : (other : ℕ) → is_open other old.world ≡ true → is_open other new.world ≡ true =
+    λ other there. ap (is_open other) opened.ok.2 ∙ opened_stays other id user rows cols old.world opened.ok.1 there in
     record {
-      served = served_more old new z ids more fresh ready.served;
       due = All-append (IsLineDue new) xs (last ∷ [])
-          (all_due old new xs ready.taken painted (stays_more old.world new.world z more) ready.shows)
+          (all_due old new xs ready.taken painted (are_kept old.world new.world (labels_in xs) keeps (all_there old.world xs ready.shows)) ready.shows)
           (All-cons (IsLineDue new) last [] (opened_due new (sizes old.world) id rows cols y size more fresh found paints) (All-nil (IsLineDue new)));
       apart = apart_open old.world xs name id (resting (blank_screen rows cols)) fresh ready.shows ready.apart;
     }
@@ -350,8 +208,8 @@ waiting_opened old new xs name id rows cols y ready size ids more fresh painted 
 -- nothing opens, and a label is used up
 pub ready_never : (e : Serving) (xs : List Labelled) (name : List ℕ) → IsReady e xs → IsReady e (xs ++ record { label = name; client = clients.Never } ∷ [])
 ready_never e xs name h = record {
-  served = h.served;
   taken = h.taken;
+  told = h.told;
   shows = All-append (LabelShows e.world) xs (record { label = name; client = clients.Never } ∷ []) h.shows (All-cons (LabelShows e.world) (record { label = name; client = clients.Never }) [] tt (All-nil (LabelShows e.world)));
   apart = apart_never xs name h.apart;
 }

@@ -1,10 +1,10 @@
 -- Labels and the sessions that they have: no two have the same.
-use Rattle.std.proofs.Common.{◌≡◌, ℕ, nat_eq, arith, Bool, true, false, cond, List, [], ◌∷◌, ◌++◌, map, Option, Some, None, refl, sym, ap, subst, ◌∙◌}
+use Rattle.std.proofs.Common.{◌≡◌, ℕ, nat_eq, Bool, true, false, cond, List, [], ◌∷◌, ◌++◌, map, Option, Some, None, refl, sym, ap, subst, ◌∙◌}
 use Rattle.std.specs.Prelude.{find, All}
 use Rattle.std.specs.Option.{option_map}
-use Rattle.std.proofs.lemmas.Bool.Decides.{nat_tests}
 use Rattle.std.proofs.lemmas.List.Elements.{All-nil, All-cons, All-head, All-tail, All-weaker, All-map, All-append}
 use Rattle.mgs_model.specs.Names.{same_name}
+use Rattle.mgs_core.proofs.Ids.{All-found, differ}
 use Rattle.mgs_replay.specs.declared.client.Cause.{Cause}
 use Rattle.mgs_replay.specs.Players.{Label, label, Standing, Never, Has, Gone, is_called, session_now, gone}
 use Rattle.mgs_replay.specs.Served.{Differ, IsApart, AreApart}
@@ -15,21 +15,7 @@ pub both : {A : Type 0} (P Q R : A → Type 0) → ((x : A) → P x → Q x → 
 both P Q R f [] h k = All-nil R
 both P Q R f (x ∷ xs) h k = All-cons R x xs (f x (All-head P x xs h) (All-head Q x xs k)) (both P Q R f xs (All-tail P x xs h) (All-tail Q x xs k))
 
-pub All-found : {A : Type 0} (P : A → Type 0) (p : A → Bool) (xs : List A) (z : A) → All P xs → find p xs ≡ Some z → P z
-All-found P p [] z h e = absurd cc
-All-found P p (x ∷ xs) z h e =
-    let goal : Bool → Type 0 = λ b. cond b (Some x) (find p xs) ≡ Some z → P z in
-    let go : (b : Bool) → goal b =
-    λ b. elim b as goal [
-      | true ↦ λ f. let same : x ≡ z = cc in subst P same (All-head P x xs h)
-      | false ↦ λ f. All-found P p xs z (All-tail P x xs h) f
-    ]
-    in go (p x) e
-
 -- APART
-
-pub flip : (a b : ℕ) → nat_eq a b ≡ false → nat_eq b a ≡ false
-flip a b h = grind (arith, nat_tests)
 
 pub differ_never : (s : Standing) → Differ s Never
 differ_never Never = tt
@@ -91,7 +77,7 @@ HasNot id (Gone cause) = Unit {0}
 later_has : (id : ℕ) (s : Standing) → Differ (Has id) s → HasNot id s
 unfolding HasNot
 later_has id Never h = tt
-later_has id (Has own) h = flip own id h
+later_has id (Has own) h = differ own id h
 later_has id (Gone cause) h = tt
 
 earlier_has : (id : ℕ) (s : Standing) → Differ s (Has id) → HasNot id s

@@ -5,6 +5,7 @@ pub mod Mapped
 pub mod Rows
 pub mod Served
 pub mod Labels
+pub mod There
 pub mod Events
 pub mod Players
 pub mod Drafts

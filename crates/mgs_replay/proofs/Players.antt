@@ -8,8 +8,9 @@ use Rattle.mgs_model.specs.Draw.{screen}
 use Rattle.mgs_model.specs.declared.errors.Keyed.{Keyed}
 use Rattle.mgs_model.specs.declared.errors.Keyed.TheVariants as keyed
 use Rattle.mgs_model.specs.declared.errors.OpenFault.{OpenFault}
-use Rattle.mgs_core.specs.Steps.{OpenedBy}
+use Rattle.mgs_core.specs.Steps.{KeyedBy, OpenedBy}
 use Rattle.mgs_engine.specs.Serving.{Serving}
+use Rattle.mgs_engine.specs.Painted.{Painted}
 use Rattle.mgs_term.specs.Terminal.{Terminal}
 use Rattle.mgs_paint.specs.Painting.{shown}
 use Rattle.mgs_script.specs.declared.line.LineFault.{LineFault}
@@ -22,9 +23,10 @@ use Rattle.mgs_script.specs.Lines as said
 use Rattle.mgs_replay.specs.Prints.{refusal_text, screen_text, ended_text}
 use Rattle.mgs_replay.specs.Clients.{is_labelled, client_of, shown_text}
 use Rattle.mgs_replay.specs.Players.{Label, label, Standing, Never, Has, playing, standing_of, had_session, labels_keyed, ShowPrints}
-use Rattle.mgs_replay.specs.Served.{Prints, standing_in, labels_in, ClientShows, LabelShows, IsReady, IsWaiting, clients_keyed, player_of, Runs, NotBad}
-use Rattle.mgs_replay.proofs.Events.{standing_at, labels_gone, labels_push, waiting_ended, ready_never}
-use Rattle.mgs_replay.proofs.Labels.{All-found}
+use Rattle.mgs_replay.specs.Served.{Prints, standing_in, labels_in, ClientShows, LabelShows, IsReady, IsWaiting, session_in, clients_keyed, player_of, Runs, NotBad}
+use Rattle.mgs_replay.proofs.Events.{standing_at, labels_gone, labels_push, all_there, waiting_still, waiting_gone, ready_never}
+use Rattle.mgs_replay.proofs.There.{there_now, keyed_beside, keyed_still}
+use Rattle.mgs_core.proofs.Ids.{All-found}
 
 -- whether a label was used
 used_one : (o : Option Client) → is_some (option_map standing_in o) ≡ is_some o
@@ -42,11 +44,18 @@ labels_keyed_are keyed.Short name xs = refl
 labels_keyed_are keyed.Quit name xs = labels_gone name causes.Quit xs
 labels_keyed_are keyed.NoSession name xs = refl
 
-pub waiting_keyed : (k : Keyed) (e : Serving) (name : List ℕ) (xs : List Labelled) → IsWaiting e xs → IsWaiting e (clients_keyed k name xs)
-waiting_keyed keyed.Done e name xs h = h
-waiting_keyed keyed.Short e name xs h = h
-waiting_keyed keyed.Quit e name xs h = waiting_ended e name causes.Quit xs h
-waiting_keyed keyed.NoSession e name xs h = h
+keyed_on : (k : Keyed) (old new : Serving) (name : List ℕ) (id byte : ℕ) (xs : List Labelled) → IsReady old xs → session_in name xs ≡ Some id → KeyedBy old.world new.world id byte k → Painted old new → (k ≡ keyed.Quit → ⊥) → IsWaiting new xs
+keyed_on k old new name id byte xs ready now by painted other =
+    let there = there_now old.world name id (labels_in xs) now (all_there old.world xs ready.shows) in
+    waiting_still old new xs id ready (keyed_beside old.world new.world id byte k by) (keyed_still old.world new.world id byte k by there other) painted
+
+-- the session of a byte stays open, or it ends and its label's with it
+pub waiting_keyed : (k : Keyed) (old new : Serving) (name : List ℕ) (id byte : ℕ) (xs : List Labelled) → IsReady old xs → session_in name xs ≡ Some id → KeyedBy old.world new.world id byte k → Painted old new → IsWaiting new (clients_keyed k name xs)
+waiting_keyed keyed.Quit old new name id byte xs ready now by painted =
+    waiting_gone old new name id causes.Quit xs ready now (keyed_beside old.world new.world id byte keyed.Quit by) painted
+waiting_keyed keyed.Done old new name id byte xs ready now by painted = keyed_on keyed.Done old new name id byte xs ready now by painted (λ e. absurd cc)
+waiting_keyed keyed.Short old new name id byte xs ready now by painted = keyed_on keyed.Short old new name id byte xs ready now by painted (λ e. absurd cc)
+waiting_keyed keyed.NoSession old new name id byte xs ready now by painted = keyed_on keyed.NoSession old new name id byte xs ready now by painted (λ e. absurd cc)
 
 -- A SHOW
 

@@ -82,13 +82,6 @@ all_typed s name (b ∷ bs) t h =
 
 -- AN OPEN
 
-and_true : (a b : Bool) → cond a b false ≡ true → (a ≡ true) × (b ≡ true)
-and_true true b h = (refl, h)
-and_true false b h = absurd cc
-
-next_is : (w : World) (id : ℕ) (user : List ℕ) (rows cols : ℕ) → can_open w id user rows cols ≡ true → w.next_id ≡ id
-next_is w id user rows cols h = grind (arith, nat_tests)
-
 did_same : (s t : Player) (a b : List ℕ) → s ≡ t → a ≡ b → did s a ≡ did t b
 did_same s t a b e f = cc
 
@@ -98,7 +91,7 @@ playing_same t w ls e f = ap (λ (v : World). playing v ls) (sym f) ∙ sym e
 open_done : (s : Player) (name user : List ℕ) (rows cols : ℕ) (answer : Result ℕ OpenFault) (t : Player) (print : List ℕ) → Opens s name user rows cols answer t print
     → did_open s name user rows cols answer ≡ did t print
 open_done s name user rows cols (Ok id) t print h =
-    did_same _ t [] print (playing_same t (step s.world (events.Open id user rows cols)) (s.labels ++ label name (Has id) ∷ []) h.1 h.0.ok.1) (sym h.2)
+    did_same _ t [] print (playing_same t (step s.world (events.Open id user rows cols)) (s.labels ++ label name (Has id) ∷ []) h.1 h.0.ok.2) (sym h.2)
 open_done s name user rows cols (Err fault) t print h =
     did_same _ t _ print (playing_same t s.world (s.labels ++ label name Never ∷ []) h.1 h.0.err) (sym h.2)
 
@@ -109,7 +102,7 @@ open_choice : (s : Player) (name user : List ℕ) (rows cols : ℕ) (answer : Re
     → (c : Choice) × (open_answer c (open_fault s.world user rows cols) s.world.next_id ≡ answer)
 unfolding refused
 open_choice s name user rows cols (Ok id) t print h =
-    (granted, ap (λ (o : Option OpenFault). open_answer granted o s.world.next_id) h.0.answer ∙ ap Ok (next_is s.world id user rows cols h.0.ok.0))
+    (granted, ap (λ (o : Option OpenFault). open_answer granted o s.world.next_id) h.0.answer ∙ ap Ok (sym h.0.ok.0))
 open_choice s name user rows cols (Err opening.Short) t print h = (refused, ap (λ (o : Option OpenFault). open_answer refused o s.world.next_id) h.0.answer)
 open_choice s name user rows cols (Err opening.NoUser) t print h = (granted, ap (λ (o : Option OpenFault). open_answer granted o s.world.next_id) h.0.answer)
 open_choice s name user rows cols (Err opening.Size) t print h = (granted, ap (λ (o : Option OpenFault). open_answer granted o s.world.next_id) h.0.answer)

@@ -1,26 +1,27 @@
 -- Terminals that are fed what waits for them show their screens.
-use Rattle.std.proofs.Common.{◌≡◌, ℕ, Bool, true, false, cond, List, [], ◌∷◌, map, Option, Some, None, refl, sym, ap, subst, ◌∙◌}
+use Rattle.std.proofs.Common.{◌≡◌, ℕ, Bool, true, false, cond, List, [], ◌∷◌, map, Option, Some, refl, sym, ap, subst, ◌∙◌}
 use Rattle.std.specs.Prelude.{find, nat_eq, All}
 use Rattle.std.specs.List.{AllZip}
 use Rattle.std.specs.Option.{option_map}
 use Rattle.std.proofs.lemmas.Bool.{eqb-true}
 use Rattle.std.proofs.lemmas.List.Elements.{All-nil, All-cons, All-head, All-tail}
 use Rattle.mgs_model.proofs.Firsts.{find-map}
-use Rattle.mgs_model.specs.World.{World, Session, has_id, find_session}
+use Rattle.mgs_model.specs.World.{World, Session, find_session}
 use Rattle.mgs_model.specs.Draw.{screen}
 use Rattle.mgs_world.specs.Worlds.{sizes, session_size, is_size_of, find_size}
 use Rattle.mgs_term.specs.Screen.{Screen}
 use Rattle.mgs_term.specs.Terminal.{Terminal, resting}
 use Rattle.mgs_term.specs.Drawing.{Draws, Anything}
 use Rattle.mgs_paint.specs.Painting.{shown}
-use Rattle.mgs_engine.specs.Serving.{Serving, AllTaken, queue_ids}
+use Rattle.mgs_engine.specs.Serving.{Serving, AllTaken, AreOthers, AreUnique, IsWellFormed, queue_ids, size_id}
 use Rattle.mgs_engine.specs.Queues.{Queue, Handed, queue_id, waiting_in, find_queue, is_queue_of, emptied}
+use Rattle.mgs_core.proofs.Ids.{found_sizes, some_of}
 use Rattle.mgs_replay.specs.declared.client.Labelled.{Labelled}
 use Rattle.mgs_replay.specs.declared.client.Cause.{Cause}
 use Rattle.mgs_replay.specs.declared.client.Client.{Client}
 use Rattle.mgs_replay.specs.declared.client.Client.TheVariants.{Never, Open, Ended}
 use Rattle.mgs_replay.specs.Clients.{Fed, ClientFed, OwnFed, TermFed, TakenBy}
-use Rattle.mgs_replay.specs.Served.{standing_in, label_of, labels_in, ClientShows, LabelShows, ClientDue, IsLineDue, AreOthers, AreUnique, size_id, IsPlayerServed, IsReady, IsWaiting, AreApart}
+use Rattle.mgs_replay.specs.Served.{standing_in, label_of, labels_in, ClientShows, LabelShows, ClientDue, IsLineDue, IsReady, IsWaiting, AreApart}
 
 -- LISTS PLACE BY PLACE
 
@@ -125,23 +126,17 @@ fed_open (p ∷ qs) own term s t q x z unique found is rests draws h =
 
 -- THE QUEUE OF AN OPEN SESSION
 
-pub found_size : (id : ℕ) (w : World) → find_size id (sizes w) ≡ option_map session_size (find_session id w.sessions)
-found_size id w = find-map session_size (has_id id) (is_size_of id) (λ x. refl) w.sessions
-
 is_id : ℕ → ℕ → Bool
 is_id id x = nat_eq x id
 
-some_queue : (o : Option Queue) (k : ℕ) → option_map queue_id o ≡ Some k → (q : Queue) × (o ≡ Some q)
-some_queue None k h = absurd cc
-some_queue (Some q) k h = (q, refl)
-
-queue_there : (e : Serving) (id : ℕ) (x : Session) → IsPlayerServed e → find_session id e.world.sessions ≡ Some x → (q : Queue) × (find_queue id e.queues ≡ Some q)
+queue_there : (e : Serving) (id : ℕ) (x : Session) → IsWellFormed e → find_session id e.world.sessions ≡ Some x → (q : Queue) × (find_queue id e.queues ≡ Some q)
 unfolding is_id
 queue_there e id x served found =
     let by_queues : find (is_id id) (queue_ids e) ≡ option_map queue_id (find_queue id e.queues) = find-map queue_id (is_queue_of id) (is_id id) (λ q. refl) e.queues in
     let by_sizes : find (is_id id) (map size_id (sizes e.world)) ≡ option_map size_id (find_size id (sizes e.world)) = find-map size_id (is_size_of id) (is_id id) (λ z. refl) (sizes e.world) in
-    some_queue (find_queue id e.queues) x.id
-    (sym by_queues ∙ ap (find (is_id id)) served.queues ∙ by_sizes ∙ ap (option_map size_id) (found_size id e.world ∙ ap (option_map session_size) found))
+    let found_queue = some_of queue_id (find_queue id e.queues) x.id
+    (sym by_queues ∙ ap (find (is_id id)) served.queues ∙ by_sizes ∙ ap (option_map size_id) (found_sizes id e.world ∙ ap (option_map session_size) found)) in
+    (found_queue.0, found_queue.1)
 
 -- HANDED OVER
 
@@ -155,7 +150,7 @@ unfolding FedBy
 ended_stays [] cause x z is h = ap (λ (y : Labelled). y.client) h ∙ is
 ended_stays (q ∷ qs) cause x z is h = ended_stays qs cause h.0 z (subst (λ (s : Client). ClientFed q.id q.bytes s h.0.client) is h.1.client) h.2
 
-shows_one : (e : Serving) (x z : Labelled) (client : Client) → IsPlayerServed e → x.client ≡ client → FedBy e.queues x z → ClientDue e client → LabelShows e.world z
+shows_one : (e : Serving) (x z : Labelled) (client : Client) → IsWellFormed e → x.client ≡ client → FedBy e.queues x z → ClientDue e client → LabelShows e.world z
 shows_one e x z Never served is h due = subst (ClientShows e.world) (sym (never_stays e.queues x z is h)) tt
 shows_one e x z (Open id term) served is h due =
     let there = queue_there e id due.0 served due.2 in
@@ -174,16 +169,26 @@ emptied_ids (q ∷ qs) = ap (λ (ns : List ℕ). q.id ∷ ns) (emptied_ids qs)
 pub labels_handed : (e : Serving) (xs zs : List Labelled) → Handed TakenBy xs e.queues zs → labels_in zs ≡ labels_in xs
 labels_handed e xs zs h = zip_map (FedBy e.queues) label_of (same_label e.queues) xs zs (handed_each e.queues xs zs h)
 
--- what was waiting is handed over
-pub ready : (old new : Serving) (xs zs : List Labelled) → IsWaiting old xs → new ≡ record old { queues = map emptied old.queues } → AllTaken new → Handed TakenBy xs old.queues zs → IsReady new zs
-ready old new xs zs waiting is taken h =
-    let world : new.world ≡ old.world = ap (λ (e : Serving). e.world) is in
+-- the queues before they are handed over are those of the open sessions, since those after are
+formed_before : (old new : Serving) → new ≡ record old { queues = map emptied old.queues } → IsWellFormed new → IsWellFormed old
+formed_before old new is formed =
     let ids : queue_ids new ≡ queue_ids old = ap (λ (e : Serving). map queue_id e.queues) is ∙ emptied_ids old.queues in
-    let shows : All (LabelShows old.world) zs =
-    zip_each (FedBy old.queues) (IsLineDue old) (LabelShows old.world) (λ x z f due. shows_one old x z x.client waiting.served refl f due) xs zs (handed_each old.queues xs zs h) waiting.due in
     record {
-      served = record { queues = ids ∙ waiting.served.queues ∙ ap (λ (w : World). map size_id (sizes w)) (sym world); unique = subst AreUnique (sym ids) waiting.served.unique };
+      queues = sym ids ∙ formed.queues ∙ ap (λ (e : Serving). map size_id (sizes e.world)) is;
+      unique = subst AreUnique ids formed.unique;
+    }
+
+-- what was waiting is handed over, and then each that ended is told
+pub ready : (old mid new : Serving) (xs zs : List Labelled) → IsWaiting old xs → mid ≡ record old { queues = map emptied old.queues } → AllTaken mid → IsWellFormed mid → Handed TakenBy xs old.queues zs → new ≡ record mid { ended = [] } → IsReady new zs
+ready old mid new xs zs waiting is taken formed h told =
+    let world : mid.world ≡ old.world = ap (λ (e : Serving). e.world) is in
+    let served : IsWellFormed old = formed_before old mid is formed in
+    let shows : All (LabelShows old.world) zs =
+    zip_each (FedBy old.queues) (IsLineDue old) (LabelShows old.world) (λ x z f due. shows_one old x z x.client served refl f due) xs zs (handed_each old.queues xs zs h) waiting.due in
+    subst (λ (e : Serving). IsReady e zs) (sym told)
+    (record {
       taken = taken;
+      told = refl;
       shows = subst (λ (w : World). All (LabelShows w) zs) (sym world) shows;
       apart = subst AreApart (sym (labels_handed old xs zs h)) waiting.apart;
-    }
+    })

@@ -3,13 +3,11 @@ use Rattle.std.specs.Prelude.{◌≡◌, ℕ, nat_eq, true, false, List, [], ◌
 use Rattle.std.specs.Option.{option_map}
 use Rattle.mgs_model.specs.World.{World, Session, find_session}
 use Rattle.mgs_model.specs.Draw.{screen}
-use Rattle.mgs_world.specs.declared.size.Size.{Size}
-use Rattle.mgs_world.specs.Worlds.{sizes}
 use Rattle.mgs_term.specs.Screen.{Screen}
 use Rattle.mgs_term.specs.Terminal.{resting}
 use Rattle.mgs_term.specs.Drawing.{Draws, Anything}
 use Rattle.mgs_paint.specs.Painting.{shown}
-use Rattle.mgs_engine.specs.Serving.{Serving, AllTaken, pending_of, queue_ids}
+use Rattle.mgs_engine.specs.Serving.{Serving, AllTaken, pending_of}
 use Rattle.mgs_replay.specs.declared.client.Labelled.{Labelled}
 use Rattle.mgs_replay.specs.declared.client.Client.{Client}
 use Rattle.mgs_replay.specs.declared.client.Client.TheVariants as clients
@@ -68,32 +66,15 @@ abbrev pub AreApart : List Label → Type 0
 AreApart [] = Unit {0}
 AreApart (x ∷ xs) = All (IsApart x) xs × AreApart xs
 
--- no id stands twice
-abbrev pub AreOthers : ℕ → List ℕ → Type 0
-AreOthers id xs = All (λ (x : ℕ). nat_eq x id ≡ false) xs
-
-abbrev pub AreUnique : List ℕ → Type 0
-AreUnique [] = Unit {0}
-AreUnique (x ∷ xs) = AreOthers x xs × AreUnique xs
-
-abbrev pub size_id : Size → ℕ
-size_id z = z.id
-
--- there is one queue for each open session
-pub record IsPlayerServed (e : Serving) : Type 0 where
-  pub queues : queue_ids e ≡ map size_id (sizes e.world)
-  pub unique : AreUnique (queue_ids e)
-
 -- between two events
 pub record IsReady (e : Serving) (xs : List Labelled) : Type 0 where
-  pub served : IsPlayerServed e
   pub taken : AllTaken e
+  pub told : e.ended ≡ []
   pub shows : All (LabelShows e.world) xs
   pub apart : AreApart (labels_in xs)
 
 -- after an event, before its bytes are handed over
 pub record IsWaiting (e : Serving) (xs : List Labelled) : Type 0 where
-  pub served : IsPlayerServed e
   pub due : All (IsLineDue e) xs
   pub apart : AreApart (labels_in xs)
 

@@ -80,7 +80,7 @@ fn run_lines<W: Write>(
     writer: &mut W,
 ) -> Result<(), ReplayFault>
     requires queues { server.old.queues ≡ [] }
-    requires sessions { server.old.world.sessions ≡ [] }
+    requires ended { server.old.ended ≡ [] }
     requires first { 1 ≤ first }
     requires counted { first + length text.now ≤ SCRIPT_LIMIT + 1 }
     ensures line { IsPlayed result }
@@ -158,8 +158,8 @@ fn set_up<'a>(
 // The engine over the users and buffers that were set.
 fn server_of(alloc: Global, setup: Setup) -> Result<Server, Short>
     ensures world { IfOk result (λ e. e.world ≡ setup.entry) }
-    ensures sessions { IfOk result (λ e. e.world.sessions ≡ []) }
     ensures queues { IfOk result (λ e. e.queues ≡ []) }
+    ensures ended { IfOk result (λ e. e.ended ≡ []) }
 {
     let core = setup.into_core()?;
     Engine::new(alloc, core)

@@ -52,7 +52,14 @@ fn session_of(clients: &Clients, label: &Name) -> Option<SessionId>
     }
 }
 
-// The terminals take what waits for them.
+// Each session that ended is told.
+fn tell_all(server: &mut Server)
+    ensures { server.new ≡ record server.old { ended = [] } }
+{
+    while let Some(_ended) = server.ended() {}
+}
+
+// The terminals take what waits for them, and each session that ended is told.
 fn hand_over(server: &mut Server, clients: &mut Clients)
     requires { IsWaiting server.old clients.old }
     ensures ready { IsReady server.new clients.new }
@@ -60,6 +67,7 @@ fn hand_over(server: &mut Server, clients: &mut Clients)
     ensures labels { labels_in clients.new ≡ labels_in clients.old }
 {
     server.take_all(clients);
+    tell_all(server);
 }
 
 // A session that was opened gets its label and its terminal, which takes the first bytes.
@@ -139,9 +147,10 @@ fn end_if_quit(clients: &mut Clients, label: &Name, keyed: Keyed)
     }
 }
 
-// One byte of an open session.
+// One byte of the open session of a label. Where it ends the session, it ends the label's.
 fn type_key(server: &mut Server, clients: &mut Clients, label: &Name, id: SessionId, key: u8)
-    requires { IsReady server.old clients.old }
+    requires ready { IsReady server.old clients.old }
+    requires session { session_in label.now clients.old ≡ Some id }
     ensures ready { IsReady server.new clients.new }
     ensures types { TypesOne (Some id) (player_of server.old clients.old) label.now key (player_of server.new clients.new) }
 {

@@ -7,19 +7,17 @@ use Rattle.std.proofs.Math.Seq.{take-append_seam, drop-append-add}
 use Rattle.std.proofs.lemmas.Bool.{ne_eqb}
 use Rattle.std.proofs.lemmas.List.{length-map, length-take, length-drop, drop-drop, drop_all, append-nil, drop_more}
 use Rattle.std.proofs.lemmas.List.Folds.{list_any_at}
-use Rattle.mgs_model.specs.Names.{same_name}
 use Rattle.mgs_model.specs.Rights.{all_rights}
 use Rattle.mgs_model.specs.Access.{Directory, Decider, decider, decision_by, allows, any_right}
 use Rattle.mgs_model.specs.Lines.{line_of, line_start, column}
 use Rattle.mgs_model.specs.Rows.{Row, rows_put, mode_row, buffer_mode, none_mode, blank_rows, unread_rows, text_rows, shift_at, shift_for, echo_row}
 use Rattle.mgs_model.specs.Picture.{Picture}
-use Rattle.mgs_model.specs.World.{Buffer, Buffer_of, may}
-use Rattle.mgs_model.specs.View.{BufferSeen, WindowSeen, buffer_seen, reads, reads_found, window_seen, positions_if, told_if, full_if, text_in}
-use Rattle.mgs_model.specs.Seen.{Shown, shown_of, text_seen, attributes_seen}
-use Rattle.mgs_model.specs.Draw.{draw, screen, find_shown, found_rows, buffer_rows, pane_rows, place_of, point_row, point_shift, found_cursor, text_cursor, window_rows, windows_rows, window_cursor, first_row, heading_of}
+use Rattle.mgs_model.specs.World.{Buffer, may}
+use Rattle.mgs_model.specs.View.{BufferSeen, Positions, buffer_seen, reads, reads_found, window_seen, positions_if, told_if, full_if}
+use Rattle.mgs_model.specs.Seen.{WindowPane, Text_pane, text_seen, attributes_seen, attributes_of, text_pane, window_pane}
+use Rattle.mgs_model.specs.Draw.{draw, screen, read_rows, place_of, point_row, point_shift, window_rows, windows_rows, window_cursor, first_row, heading_of}
 use Rattle.mgs_model.specs.declared.right.Right.{Right}
 use Rattle.mgs_model.specs.declared.right.Right.TheVariants.{ReadData, ReadAttributes}
-use Rattle.mgs_model.proofs.Firsts.{find-map}
 use Rattle.mgs_buffers.specs.MarkedBuffer.{MarkedBuffer, marked_at, HasBuffer, mark_at}
 use Rattle.mgs_windows.specs.declared.WindowMarks.{WindowMarks}
 use Rattle.mgs_windows.specs.declared.Window.{Window}
@@ -27,7 +25,7 @@ use Rattle.mgs_windows.specs.Panes.{room_of}
 use Rattle.mgs_session.specs.declared.Session.{Session}
 use Rattle.mgs_world.specs.Worlds.{buffers_of, window_shown, window_of, world_of, session_of}
 use Rattle.mgs_screen.specs.Screens as screens
-use Rattle.mgs_screen.specs.Screens.{shown_to, window_to, windows_to, heading_to, window_marks_rows, window_marks_cursor}
+use Rattle.mgs_screen.specs.Screens.{window_to, windows_to, heading_to, window_marks_rows, window_marks_cursor}
 use Rattle.mgs_model.specs.declared.entry.Decision.{Decision}
 use Rattle.mgs_world.specs.Sound.{IsWindowSound}
 use Rattle.mgs_world.proofs.Soundness.{mark_is_kept, window_point}
@@ -101,21 +99,21 @@ measured text point top line above row place start is over down at from = record
 
 pub text_drawn : (selected : Bool) (cols height : ℕ) (heading : Option (List ℕ × Bool)) (text : List ℕ) (point top line row place start shift : ℕ) → IsMeasured text point top line row place start → shift ≡ screens.screen_shift selected cols place
     → text_rows cols (shift_at row shift) 0 height (drop start text) ++ mode_row cols (buffer_mode heading (Some (line + 1, place))) ∷ []
-    ≡ pane_rows selected cols height text top point ++ mode_row cols (buffer_mode heading (place_of text point)) ∷ []
+    ≡ read_rows selected cols height text top point ++ mode_row cols (buffer_mode heading (place_of text point)) ∷ []
 text_drawn selected cols height heading text point top line row place start shift is shifted =
     let moved : shift ≡ point_shift selected cols text point = shifted ∙ ap (screens.screen_shift selected cols) is.place_is ∙ shift_same selected cols text point in
     ap (λ (n : ℕ). text_rows cols (shift_at n shift) 0 height (drop start text) ++ mode_row cols (buffer_mode heading (Some (line + 1, place))) ∷ []) is.row_is
     ∙ ap (λ (n : ℕ). text_rows cols (shift_at (point_row text top point) n) 0 height (drop start text) ++ mode_row cols (buffer_mode heading (Some (line + 1, place))) ∷ []) moved
     ∙ ap (λ (n : ℕ). text_rows cols (shift_at (point_row text top point) (point_shift selected cols text point)) 0 height (drop n text) ++ mode_row cols (buffer_mode heading (Some (line + 1, place))) ∷ []) is.start_is
-    ∙ ap (λ (n : ℕ). pane_rows selected cols height text top point ++ mode_row cols (buffer_mode heading (Some (n + 1, place))) ∷ []) is.line_is
-    ∙ ap (λ (n : ℕ). pane_rows selected cols height text top point ++ mode_row cols (buffer_mode heading (Some (line_of text point + 1, n))) ∷ []) is.place_is
+    ∙ ap (λ (n : ℕ). read_rows selected cols height text top point ++ mode_row cols (buffer_mode heading (Some (n + 1, place))) ∷ []) is.line_is
+    ∙ ap (λ (n : ℕ). read_rows selected cols height text top point ++ mode_row cols (buffer_mode heading (Some (line_of text point + 1, n))) ∷ []) is.place_is
 
 pub window_marks_drawn : (selected : Bool) (cols height : ℕ) (ks : List MarkedBuffer) (heading : Option (List ℕ × Bool)) (x : WindowMarks) (text : List ℕ) (point top : ℕ) → text ≡ (marked_at x.name ks).buffer.text → point ≡ mark_at x.name ks x.point → top ≡ mark_at x.name ks x.top
-    → pane_rows selected cols height text top point ++ mode_row cols (buffer_mode heading (place_of text point)) ∷ [] ≡ window_marks_rows selected cols height ks heading x
+    → read_rows selected cols height text top point ++ mode_row cols (buffer_mode heading (place_of text point)) ∷ [] ≡ window_marks_rows selected cols height ks heading x
 window_marks_drawn selected cols height ks heading x text point top t p q =
-    ap (λ (ys : List ℕ). pane_rows selected cols height ys top point ++ mode_row cols (buffer_mode heading (place_of ys point)) ∷ []) t
-    ∙ ap (λ (n : ℕ). pane_rows selected cols height (marked_at x.name ks).buffer.text top n ++ mode_row cols (buffer_mode heading (place_of (marked_at x.name ks).buffer.text n)) ∷ []) p
-    ∙ ap (λ (n : ℕ). pane_rows selected cols height (marked_at x.name ks).buffer.text n (mark_at x.name ks x.point) ++ mode_row cols (buffer_mode heading (place_of (marked_at x.name ks).buffer.text (mark_at x.name ks x.point))) ∷ []) q
+    ap (λ (ys : List ℕ). read_rows selected cols height ys top point ++ mode_row cols (buffer_mode heading (place_of ys point)) ∷ []) t
+    ∙ ap (λ (n : ℕ). read_rows selected cols height (marked_at x.name ks).buffer.text top n ++ mode_row cols (buffer_mode heading (place_of (marked_at x.name ks).buffer.text n)) ∷ []) p
+    ∙ ap (λ (n : ℕ). read_rows selected cols height (marked_at x.name ks).buffer.text n (mark_at x.name ks x.point) ++ mode_row cols (buffer_mode heading (place_of (marked_at x.name ks).buffer.text (mark_at x.name ks x.point))) ∷ []) q
 
 pub cursor_drawn : (cols height : ℕ) (ks : List MarkedBuffer) (x : WindowMarks) (text : List ℕ) (point top line row place start down right : ℕ) → text ≡ (marked_at x.name ks).buffer.text → point ≡ mark_at x.name ks x.point → top ≡ mark_at x.name ks x.top
     → IsMeasured text point top line row place start → down ≡ min row (height - 1) → right ≡ place - shift_for cols place
@@ -129,33 +127,42 @@ cursor_drawn cols height ks x text point top line row place start down right t p
     ∙ ap (λ (n : ℕ). let ys : List ℕ = (marked_at x.name ks).buffer.text in let c : ℕ × ℕ = (min (height - 1) (point_row ys top n), column ys n - shift_for cols (column ys n)) in c) p
     ∙ ap (λ (n : ℕ). let ys : List ℕ = (marked_at x.name ks).buffer.text in let c : ℕ × ℕ = (min (height - 1) (point_row ys n (mark_at x.name ks x.point)), column ys (mark_at x.name ks x.point) - shift_for cols (column ys (mark_at x.name ks x.point))) in c) q
 
--- THE BUFFER OF A WINDOW
-
-found_shown : (d : Directory) (user : List ℕ) (ks : List MarkedBuffer) (name : List ℕ) → HasBuffer name ks → find_shown name (shown_to d user ks) ≡ Some (shown_of (buffer_seen d user (marked_at name ks).buffer))
-found_shown d user ks name kept =
-    find-map shown_of (λ (b : BufferSeen). same_name name b.name) (λ (b : Shown). same_name name b.key) (λ b. refl) (map (buffer_seen d user) (buffers_of ks))
-    ∙ ap (option_map shown_of) (found_seen d user name ks kept)
+-- THE PANE OF A WINDOW
 
 reads_kept : (d : Directory) (user : List ℕ) (ks : List MarkedBuffer) (name : List ℕ) → HasBuffer name ks → reads d (buffers_of ks) user name ≡ may d user ReadData (marked_at name ks).buffer
 reads_kept d user ks name kept = ap (reads_found d user) (found_buffer name ks kept)
 
--- a window that shows a buffer, where it may be read or not
-abbrev window_marks_seen : Bool → List MarkedBuffer → ℕ → WindowMarks → WindowSeen
-window_marks_seen can ks height x = record { shows = Buffer_of x.name; row = 0; height = height; positions = positions_if can (mark_at x.name ks x.point) (option_map (mark_at x.name ks) x.mark) (mark_at x.name ks x.top) }
+-- the positions of a window that shows a buffer, where it may be read or not
+abbrev marks_seen : Bool → List MarkedBuffer → WindowMarks → Option Positions
+marks_seen can ks x = positions_if can (mark_at x.name ks x.point) (option_map (mark_at x.name ks) x.mark) (mark_at x.name ks x.top)
 
--- what is made of a window and of the buffer that it finds
-seen_as : {X : Type 0} (make : WindowSeen → Option Shown → X) (d : Directory) (user : List ℕ) (ks : List MarkedBuffer) (height : ℕ) (x : WindowMarks) → HasBuffer x.name ks
-    → make (window_marks_seen (reads d (buffers_of ks) user x.name) ks height x) (find_shown x.name (shown_to d user ks))
-    ≡ make (window_marks_seen (may d user ReadData (marked_at x.name ks).buffer) ks height x) (Some (shown_of (buffer_seen d user (marked_at x.name ks).buffer)))
-seen_as make d user ks height x kept =
-    ap (λ (can : Bool). make (window_marks_seen can ks height x) (find_shown x.name (shown_to d user ks))) (reads_kept d user ks x.name kept)
-    ∙ ap (λ (o : Option Shown). make (window_marks_seen (may d user ReadData (marked_at x.name ks).buffer) ks height x) o) (found_shown d user ks x.name kept)
+abbrev why_not : Directory → List ℕ → Buffer → Decision
+why_not d user b = decision_by (decider d b.owner user b.entries) (ReadData ∷ [])
+
+-- what such a window shows
+abbrev marks_pane : Directory → List ℕ → List MarkedBuffer → ℕ → Bool → WindowMarks → WindowPane
+marks_pane d user ks height can x =
+    let b : Buffer = (marked_at x.name ks).buffer in
+    record { height = height; pane = Text_pane (text_seen (why_not d user b) (full_if can b) (marks_seen can ks x)) (attributes_of (buffer_seen d user b)) }
+
+-- a window by what it shows
+abbrev window_showing : Directory → List ℕ → List MarkedBuffer → ℕ → Option WindowMarks → WindowPane
+window_showing d user ks height o = window_pane (map (buffer_seen d user) (buffers_of ks)) (window_seen (reads d (buffers_of ks) user) (window_shown ks height o))
+
+pane_shown : (d : Directory) (user : List ℕ) (ks : List MarkedBuffer) (w : Window) (x : WindowMarks) (can : Bool) → w.shows ≡ Some x → HasBuffer x.name ks → may d user ReadData (marked_at x.name ks).buffer ≡ can
+    → window_to d user ks w ≡ marks_pane d user ks w.height can x
+pane_shown d user ks w x can is kept granted =
+    let b : Buffer = (marked_at x.name ks).buffer in
+    ap (window_showing d user ks w.height) is
+    ∙ ap (λ (o : Option BufferSeen). let p : WindowPane = record { height = w.height; pane = text_pane o (marks_seen (reads d (buffers_of ks) user x.name) ks x) } in p) (found_seen d user x.name ks kept)
+    ∙ ap (λ (r : Bool). let p : WindowPane = record { height = w.height; pane = text_pane (Some (buffer_seen d user b)) (marks_seen r ks x) } in p) (reads_kept d user ks x.name kept)
+    ∙ ap (λ (r : Bool). marks_pane d user ks w.height r x) granted
 
 -- a right that is granted is some right
 some_right : (deciders : Right → Decider) → allows (deciders ReadAttributes) ≡ true → any_right deciders ≡ true
 some_right deciders is = list_any_at (λ (right : Right). allows (deciders right)) all_rights 3 ReadAttributes (omega arith) is
 
-heading_seen : (d : Directory) (user : List ℕ) (ks : List MarkedBuffer) (name : List ℕ) → HasBuffer name ks → heading_of (shown_of (buffer_seen d user (marked_at name ks).buffer)).attributes ≡ heading_to d user ks name
+heading_seen : (d : Directory) (user : List ℕ) (ks : List MarkedBuffer) (name : List ℕ) → HasBuffer name ks → heading_of (attributes_of (buffer_seen d user (marked_at name ks).buffer)) ≡ heading_to d user ks name
 heading_seen d user ks name kept =
     let b : Buffer = (marked_at name ks).buffer in
     let deciders : Right → Decider = decider d b.owner user b.entries in
@@ -168,71 +175,29 @@ heading_seen d user ks name kept =
 
 -- WHAT A WINDOW SHOWS
 
-rows_read : (selected : Bool) (cols : ℕ) (d : Directory) (user : List ℕ) (ks : List MarkedBuffer) (height : ℕ) (x : WindowMarks) → HasBuffer x.name ks → may d user ReadData (marked_at x.name ks).buffer ≡ true
-    → window_rows selected cols (shown_to d user ks) (window_marks_seen (reads d (buffers_of ks) user x.name) ks height x) ≡ window_marks_rows selected cols height ks (heading_to d user ks x.name) x
-rows_read selected cols d user ks height x kept can =
-    let b : Buffer = (marked_at x.name ks).buffer in
-    let s : Shown = shown_of (buffer_seen d user b) in
-    seen_as (found_rows selected cols) d user ks height x kept
-    ∙ ap (λ (r : Bool). buffer_rows selected cols (window_marks_seen r ks height x) s (text_seen r (decision_by (decider d b.owner user b.entries) (ReadData ∷ [])) (text_in (full_if r b)))) can
-    ∙ ap (λ (h : Option (List ℕ × Bool)). window_marks_rows selected cols height ks h x) (heading_seen d user ks x.name kept)
-
-rows_unread : (selected : Bool) (cols : ℕ) (d : Directory) (user : List ℕ) (ks : List MarkedBuffer) (height : ℕ) (x : WindowMarks) → HasBuffer x.name ks → may d user ReadData (marked_at x.name ks).buffer ≡ false
-    → window_rows selected cols (shown_to d user ks) (window_marks_seen (reads d (buffers_of ks) user x.name) ks height x)
-    ≡ unread_rows cols height (decision_by (decider d (marked_at x.name ks).buffer.owner user (marked_at x.name ks).buffer.entries) (ReadData ∷ [])) ++ mode_row cols (buffer_mode (heading_to d user ks x.name) None) ∷ []
-rows_unread selected cols d user ks height x kept can =
-    let b : Buffer = (marked_at x.name ks).buffer in
-    let s : Shown = shown_of (buffer_seen d user b) in
-    let decision = decision_by (decider d b.owner user b.entries) (ReadData ∷ []) in
-    seen_as (found_rows selected cols) d user ks height x kept
-    ∙ ap (λ (r : Bool). buffer_rows selected cols (window_marks_seen r ks height x) s (text_seen r decision (text_in (full_if r b)))) can
-    ∙ ap (λ (h : Option (List ℕ × Bool)). unread_rows cols height decision ++ mode_row cols (buffer_mode h None) ∷ []) (heading_seen d user ks x.name kept)
-
-cursor_read : (cols : ℕ) (d : Directory) (user : List ℕ) (ks : List MarkedBuffer) (height : ℕ) (x : WindowMarks) → HasBuffer x.name ks → may d user ReadData (marked_at x.name ks).buffer ≡ true
-    → window_cursor cols (shown_to d user ks) (Some (window_marks_seen (reads d (buffers_of ks) user x.name) ks height x)) ≡ window_marks_cursor cols height ks x
-cursor_read cols d user ks height x kept can =
-    let b : Buffer = (marked_at x.name ks).buffer in
-    seen_as (found_cursor cols) d user ks height x kept
-    ∙ ap (λ (r : Bool). text_cursor cols (window_marks_seen r ks height x) (text_seen r (decision_by (decider d b.owner user b.entries) (ReadData ∷ [])) (text_in (full_if r b)))) can
-
-cursor_unread : (cols : ℕ) (d : Directory) (user : List ℕ) (ks : List MarkedBuffer) (height : ℕ) (x : WindowMarks) → HasBuffer x.name ks → may d user ReadData (marked_at x.name ks).buffer ≡ false
-    → window_cursor cols (shown_to d user ks) (Some (window_marks_seen (reads d (buffers_of ks) user x.name) ks height x)) ≡ (0, 0)
-cursor_unread cols d user ks height x kept can =
-    let b : Buffer = (marked_at x.name ks).buffer in
-    seen_as (found_cursor cols) d user ks height x kept
-    ∙ ap (λ (r : Bool). text_cursor cols (window_marks_seen r ks height x) (text_seen r (decision_by (decider d b.owner user b.entries) (ReadData ∷ [])) (text_in (full_if r b)))) can
-
--- a window by what it shows
-abbrev window_showing : Directory → List ℕ → List MarkedBuffer → ℕ → Option WindowMarks → WindowSeen
-window_showing d user ks height o = window_seen (reads d (buffers_of ks) user) (window_shown ks height o)
-
-window_none : (selected : Bool) (cols : ℕ) (d : Directory) (user : List ℕ) (ks : List MarkedBuffer) (w : Window) → w.shows ≡ None → window_rows selected cols (shown_to d user ks) (window_to d user ks w) ≡ blank_rows cols w.height ++ mode_row cols none_mode ∷ []
-window_none selected cols d user ks w is = ap (λ (o : Option WindowMarks). window_rows selected cols (shown_to d user ks) (window_showing d user ks w.height o)) is
+window_none : (selected : Bool) (cols : ℕ) (d : Directory) (user : List ℕ) (ks : List MarkedBuffer) (w : Window) → w.shows ≡ None → window_rows selected cols (window_to d user ks w) ≡ blank_rows cols w.height ++ mode_row cols none_mode ∷ []
+window_none selected cols d user ks w is = ap (λ (o : Option WindowMarks). window_rows selected cols (window_showing d user ks w.height o)) is
 
 pub window_read : (selected : Bool) (cols : ℕ) (d : Directory) (user : List ℕ) (ks : List MarkedBuffer) (w : Window) (x : WindowMarks) → w.shows ≡ Some x → HasBuffer x.name ks → may d user ReadData (marked_at x.name ks).buffer ≡ true
-    → window_rows selected cols (shown_to d user ks) (window_to d user ks w) ≡ window_marks_rows selected cols w.height ks (heading_to d user ks x.name) x
+    → window_rows selected cols (window_to d user ks w) ≡ window_marks_rows selected cols w.height ks (heading_to d user ks x.name) x
 window_read selected cols d user ks w x is kept can =
-    ap (λ (o : Option WindowMarks). window_rows selected cols (shown_to d user ks) (window_showing d user ks w.height o)) is
-    ∙ rows_read selected cols d user ks w.height x kept can
+    ap (window_rows selected cols) (pane_shown d user ks w x true is kept can)
+    ∙ ap (λ (h : Option (List ℕ × Bool)). window_marks_rows selected cols w.height ks h x) (heading_seen d user ks x.name kept)
 
 pub window_cursor_read : (cols : ℕ) (d : Directory) (user : List ℕ) (ks : List MarkedBuffer) (w : Window) (x : WindowMarks) → w.shows ≡ Some x → HasBuffer x.name ks → may d user ReadData (marked_at x.name ks).buffer ≡ true
-    → window_cursor cols (shown_to d user ks) (Some (window_to d user ks w)) ≡ window_marks_cursor cols w.height ks x
-window_cursor_read cols d user ks w x is kept can =
-    ap (λ (o : Option WindowMarks). window_cursor cols (shown_to d user ks) (Some (window_showing d user ks w.height o))) is
-    ∙ cursor_read cols d user ks w.height x kept can
+    → window_cursor cols (Some (window_to d user ks w)) ≡ window_marks_cursor cols w.height ks x
+window_cursor_read cols d user ks w x is kept can = ap (λ (p : WindowPane). window_cursor cols (Some p)) (pane_shown d user ks w x true is kept can)
 
 pub window_unread : (selected : Bool) (cols : ℕ) (d : Directory) (user : List ℕ) (ks : List MarkedBuffer) (w : Window) (x : WindowMarks) → w.shows ≡ Some x → HasBuffer x.name ks → may d user ReadData (marked_at x.name ks).buffer ≡ false
-    → window_rows selected cols (shown_to d user ks) (window_to d user ks w)
+    → window_rows selected cols (window_to d user ks w)
     ≡ unread_rows cols w.height (decision_by (decider d (marked_at x.name ks).buffer.owner user (marked_at x.name ks).buffer.entries) (ReadData ∷ [])) ++ mode_row cols (buffer_mode (heading_to d user ks x.name) None) ∷ []
 window_unread selected cols d user ks w x is kept can =
-    ap (λ (o : Option WindowMarks). window_rows selected cols (shown_to d user ks) (window_showing d user ks w.height o)) is
-    ∙ rows_unread selected cols d user ks w.height x kept can
+    ap (window_rows selected cols) (pane_shown d user ks w x false is kept can)
+    ∙ ap (λ (h : Option (List ℕ × Bool)). unread_rows cols w.height (why_not d user (marked_at x.name ks).buffer) ++ mode_row cols (buffer_mode h None) ∷ []) (heading_seen d user ks x.name kept)
 
 pub window_cursor_unread : (cols : ℕ) (d : Directory) (user : List ℕ) (ks : List MarkedBuffer) (w : Window) (x : WindowMarks) → w.shows ≡ Some x → HasBuffer x.name ks → may d user ReadData (marked_at x.name ks).buffer ≡ false
-    → window_cursor cols (shown_to d user ks) (Some (window_to d user ks w)) ≡ (0, 0)
-window_cursor_unread cols d user ks w x is kept can =
-    ap (λ (o : Option WindowMarks). window_cursor cols (shown_to d user ks) (Some (window_showing d user ks w.height o))) is
-    ∙ cursor_unread cols d user ks w.height x kept can
+    → window_cursor cols (Some (window_to d user ks w)) ≡ (0, 0)
+window_cursor_unread cols d user ks w x is kept can = ap (λ (p : WindowPane). window_cursor cols (Some p)) (pane_shown d user ks w x false is kept can)
 
 -- THE WINDOWS OF A SESSION
 
@@ -247,12 +212,12 @@ length_window_marks selected cols height ks heading x =
     let top : ℕ = mark_at x.name ks x.top in
     let point : ℕ = mark_at x.name ks x.point in
     let mode : Row = mode_row cols (buffer_mode heading (place_of text point)) in
-    let pane : List Row = pane_rows selected cols height text top point in
+    let pane : List Row = read_rows selected cols height text top point in
     omega (arith, length-append pane (mode ∷ []), length-text_rows cols (shift_at (point_row text top point) (point_shift selected cols text point)) 0 height (drop (line_start text top) text))
 
-pub length_window : (selected : Bool) (cols : ℕ) (d : Directory) (user : List ℕ) (ks : List MarkedBuffer) (w : Window) → IsWindowSound ks w → length (window_rows selected cols (shown_to d user ks) (window_to d user ks w)) ≡ w.height + 1
+pub length_window : (selected : Bool) (cols : ℕ) (d : Directory) (user : List ℕ) (ks : List MarkedBuffer) (w : Window) → IsWindowSound ks w → length (window_rows selected cols (window_to d user ks w)) ≡ w.height + 1
 length_window selected cols d user ks w sound =
-    let goal : Type 0 = length (window_rows selected cols (shown_to d user ks) (window_to d user ks w)) ≡ w.height + 1 in
+    let goal : Type 0 = length (window_rows selected cols (window_to d user ks w)) ≡ w.height + 1 in
     let read : (x : WindowMarks) → w.shows ≡ Some x → (r : Bool) → may d user ReadData (marked_at x.name ks).buffer ≡ r → goal =
     λ x. λ is.
     let kept : HasBuffer x.name ks = shown_kept ks w x sound is in
@@ -273,50 +238,49 @@ length_window selected cols d user ks w sound =
 -- one more window is drawn below those before it
 pub rows_more : (d : Directory) (user : List ℕ) (ks : List MarkedBuffer) (cols selected i first : ℕ) (ws : List Window) (w : Window) (old new : List Row) (rows : List Row)
     → w ≡ get_or ws i w → i < length ws → first + (w.height + 1) ≤ length old
-    → length (window_rows (nat_eq i selected) cols (shown_to d user ks) (window_to d user ks w)) ≡ w.height + 1
-    → new ≡ rows_put first (window_rows (nat_eq i selected) cols (shown_to d user ks) (window_to d user ks w)) old
-    → take first old ++ windows_rows i selected cols (shown_to d user ks) (windows_to d user ks (drop i ws)) ≡ rows
-    → take (first + (w.height + 1)) new ++ windows_rows (i + 1) selected cols (shown_to d user ks) (windows_to d user ks (drop (i + 1) ws)) ≡ rows
+    → length (window_rows (nat_eq i selected) cols (window_to d user ks w)) ≡ w.height + 1
+    → new ≡ rows_put first (window_rows (nat_eq i selected) cols (window_to d user ks w)) old
+    → take first old ++ windows_rows i selected cols (windows_to d user ks (drop i ws)) ≡ rows
+    → take (first + (w.height + 1)) new ++ windows_rows (i + 1) selected cols (windows_to d user ks (drop (i + 1) ws)) ≡ rows
 rows_more d user ks cols selected i first ws w old new rows is within fits size put so_far =
-    let S : List Shown = shown_to d user ks in
-    let mine : List Row = window_rows (nat_eq i selected) cols S (window_to d user ks w) in
-    let rest : List Row = windows_rows (i + 1) selected cols S (windows_to d user ks (drop (i + 1) ws)) in
+    let mine : List Row = window_rows (nat_eq i selected) cols (window_to d user ks w) in
+    let rest : List Row = windows_rows (i + 1) selected cols (windows_to d user ks (drop (i + 1) ws)) in
     let at : first + (w.height + 1) ≡ first + length mine = omega (arith, size) in
     let next : drop i ws ≡ w ∷ drop (i + 1) ws = drop_more ws i w within ∙ ap (λ (v : Window). v ∷ drop (i + 1) ws) (sym is) in
     ap (λ (ls : List Row). take (first + (w.height + 1)) ls ++ rest) put
     ∙ ap (λ (n : ℕ). take n (rows_put first mine old) ++ rest) at
     ∙ ap (λ (ls : List Row). ls ++ rest) (take_put first mine old (omega (arith, fits, size)))
     ∙ append_assoc (take first old) mine rest
-    ∙ sym (ap (λ (vs : List Window). take first old ++ windows_rows i selected cols S (windows_to d user ks vs)) next)
+    ∙ sym (ap (λ (vs : List Window). take first old ++ windows_rows i selected cols (windows_to d user ks vs)) next)
     ∙ so_far
 
 -- the cursor after the rest of the windows, where it is at `cursor` before them
-abbrev pub cursor_from : ℕ → ℕ → ℕ → List Shown → ℕ → ℕ × ℕ → List WindowSeen → ℕ × ℕ
-cursor_from i selected cols S first cursor [] = cursor
-cursor_from i selected cols S first cursor (x ∷ xs) =
-    cursor_from (i + 1) selected cols S (first + (x.height + 1))
-    (if nat_eq i selected then (first + (window_cursor cols S (Some x)).0, (window_cursor cols S (Some x)).1) else cursor) xs
+abbrev pub cursor_from : ℕ → ℕ → ℕ → ℕ → ℕ × ℕ → List WindowPane → ℕ × ℕ
+cursor_from i selected cols first cursor [] = cursor
+cursor_from i selected cols first cursor (x ∷ xs) =
+    cursor_from (i + 1) selected cols (first + (x.height + 1))
+    (if nat_eq i selected then (first + (window_cursor cols (Some x)).0, (window_cursor cols (Some x)).1) else cursor) xs
 
 -- after the selected window it stays
-cursor_stays : (selected cols : ℕ) (S : List Shown) (i first : ℕ) (cursor : ℕ × ℕ) (xs : List WindowSeen) → selected < i → cursor_from i selected cols S first cursor xs ≡ cursor
-cursor_stays selected cols S i first cursor [] past = refl
-cursor_stays selected cols S i first cursor (x ∷ xs) past =
-    rw (ne_eqb i selected (λ e. omega (arith, e, past))) (cursor_stays selected cols S (i + 1) (first + (x.height + 1)) cursor xs (omega (arith, past)))
+cursor_stays : (selected cols : ℕ) (i first : ℕ) (cursor : ℕ × ℕ) (xs : List WindowPane) → selected < i → cursor_from i selected cols first cursor xs ≡ cursor
+cursor_stays selected cols i first cursor [] past = refl
+cursor_stays selected cols i first cursor (x ∷ xs) past =
+    rw (ne_eqb i selected (λ e. omega (arith, e, past))) (cursor_stays selected cols (i + 1) (first + (x.height + 1)) cursor xs (omega (arith, past)))
 
-cursor_at : (cols : ℕ) (S : List Shown) (n i selected first : ℕ) (cursor : ℕ × ℕ) (xs : List WindowSeen) → selected ≡ i + n → n < length xs
-    → cursor_from i selected cols S first cursor xs ≡ (first + first_row n xs + (window_cursor cols S (slice_get xs n)).0, (window_cursor cols S (slice_get xs n)).1)
-cursor_at cols S n i selected first cursor [] at within = absurd (omega arith)
-cursor_at cols S zero i selected first cursor (x ∷ xs) at within =
-    let c : ℕ × ℕ = window_cursor cols S (Some x) in
+cursor_at : (cols : ℕ) (n i selected first : ℕ) (cursor : ℕ × ℕ) (xs : List WindowPane) → selected ≡ i + n → n < length xs
+    → cursor_from i selected cols first cursor xs ≡ (first + first_row n xs + (window_cursor cols (slice_get xs n)).0, (window_cursor cols (slice_get xs n)).1)
+cursor_at cols n i selected first cursor [] at within = absurd (omega arith)
+cursor_at cols zero i selected first cursor (x ∷ xs) at within =
+    let c : ℕ × ℕ = window_cursor cols (Some x) in
     let zero_more : first + c.0 ≡ first + 0 + c.0 = omega arith in
     rw (eq-eqb i selected (omega (arith, at))) (
-    cursor_stays selected cols S (i + 1) (first + (x.height + 1)) (first + c.0, c.1) xs (omega (arith, at))
+    cursor_stays selected cols (i + 1) (first + (x.height + 1)) (first + c.0, c.1) xs (omega (arith, at))
     ∙ ap (λ (k : ℕ). let p : ℕ × ℕ = (k, c.1) in p) zero_more)
-cursor_at cols S (suc n) i selected first cursor (x ∷ xs) at within =
-    let c : ℕ × ℕ = window_cursor cols S (slice_get xs n) in
+cursor_at cols (suc n) i selected first cursor (x ∷ xs) at within =
+    let c : ℕ × ℕ = window_cursor cols (slice_get xs n) in
     let sum : first + (x.height + 1) + first_row n xs + c.0 ≡ first + (x.height + 1 + first_row n xs) + c.0 = omega arith in
     rw (ne_eqb i selected (λ e. omega (arith, at, e))) (
-    cursor_at cols S n (i + 1) selected (first + (x.height + 1)) cursor xs (omega (arith, at)) (omega (arith, within))
+    cursor_at cols n (i + 1) selected (first + (x.height + 1)) cursor xs (omega (arith, at)) (omega (arith, within))
     ∙ ap (λ (k : ℕ). let p : ℕ × ℕ = (k, c.1) in p) sum)
 
 height_shown : (ks : List MarkedBuffer) (height : ℕ) (o : Option WindowMarks) → (window_shown ks height o).height ≡ height
@@ -325,51 +289,52 @@ height_shown ks height (Some x) = refl
 
 -- one more window
 pub cursor_more : (d : Directory) (user : List ℕ) (ks : List MarkedBuffer) (cols selected i first : ℕ) (ws : List Window) (w : Window) (old new c mine : ℕ × ℕ)
-    → w ≡ get_or ws i w → i < length ws → mine ≡ window_cursor cols (shown_to d user ks) (Some (window_to d user ks w))
+    → w ≡ get_or ws i w → i < length ws → mine ≡ window_cursor cols (Some (window_to d user ks w))
     → new ≡ (if nat_eq i selected then (first + mine.0, mine.1) else old)
-    → cursor_from i selected cols (shown_to d user ks) first old (windows_to d user ks (drop i ws)) ≡ c
-    → cursor_from (i + 1) selected cols (shown_to d user ks) (first + (w.height + 1)) new (windows_to d user ks (drop (i + 1) ws)) ≡ c
+    → cursor_from i selected cols first old (windows_to d user ks (drop i ws)) ≡ c
+    → cursor_from (i + 1) selected cols (first + (w.height + 1)) new (windows_to d user ks (drop (i + 1) ws)) ≡ c
 cursor_more d user ks cols selected i first ws w old new c mine is within its here so_far =
-    let S : List Shown = shown_to d user ks in
-    let rest : List WindowSeen = windows_to d user ks (drop (i + 1) ws) in
+    let rest : List WindowPane = windows_to d user ks (drop (i + 1) ws) in
     let next : drop i ws ≡ w ∷ drop (i + 1) ws = drop_more ws i w within ∙ ap (λ (v : Window). v ∷ drop (i + 1) ws) (sym is) in
-    ap (λ (p : ℕ × ℕ). cursor_from (i + 1) selected cols S (first + (w.height + 1)) p rest) here
-    ∙ ap (λ (p : ℕ × ℕ). cursor_from (i + 1) selected cols S (first + (w.height + 1)) (if nat_eq i selected then (first + p.0, p.1) else old) rest) its
-    ∙ ap (λ (n : ℕ). cursor_from (i + 1) selected cols S (first + (n + 1)) (if nat_eq i selected then (first + (window_cursor cols S (Some (window_to d user ks w))).0, (window_cursor cols S (Some (window_to d user ks w))).1) else old) rest) (sym (height_shown ks w.height w.shows))
-    ∙ sym (ap (λ (vs : List Window). cursor_from i selected cols S first old (windows_to d user ks vs)) next)
+    ap (λ (p : ℕ × ℕ). cursor_from (i + 1) selected cols (first + (w.height + 1)) p rest) here
+    ∙ ap (λ (p : ℕ × ℕ). cursor_from (i + 1) selected cols (first + (w.height + 1)) (if nat_eq i selected then (first + p.0, p.1) else old) rest) its
+    ∙ ap (λ (n : ℕ). cursor_from (i + 1) selected cols (first + (n + 1)) (if nat_eq i selected then (first + (window_cursor cols (Some (window_to d user ks w))).0, (window_cursor cols (Some (window_to d user ks w))).1) else old) rest) (sym (height_shown ks w.height w.shows))
+    ∙ sym (ap (λ (vs : List Window). cursor_from i selected cols first old (windows_to d user ks vs)) next)
     ∙ so_far
 
 length_windows : (d : Directory) (user : List ℕ) (ks : List MarkedBuffer) (ws : List Window) → length (windows_to d user ks ws) ≡ length ws
-length_windows d user ks ws = length-map (map (window_of ks) ws) (window_seen (reads d (buffers_of ks) user)) ∙ length-map ws (window_of ks)
+length_windows d user ks ws =
+    length-map (map (window_seen (reads d (buffers_of ks) user)) (map (window_of ks) ws)) (window_pane (map (buffer_seen d user) (buffers_of ks)))
+    ∙ length-map (map (window_of ks) ws) (window_seen (reads d (buffers_of ks) user))
+    ∙ length-map ws (window_of ks)
 
 -- the cursor of the selected window
-abbrev pub cursor_of : ℕ → ℕ → List Shown → List WindowSeen → ℕ × ℕ
-cursor_of selected cols S xs = (first_row selected xs + (window_cursor cols S (slice_get xs selected)).0, (window_cursor cols S (slice_get xs selected)).1)
+abbrev pub cursor_of : ℕ → ℕ → List WindowPane → ℕ × ℕ
+cursor_of selected cols xs = (first_row selected xs + (window_cursor cols (slice_get xs selected)).0, (window_cursor cols (slice_get xs selected)).1)
 
 -- after all windows it is there
 pub cursor_all : (d : Directory) (user : List ℕ) (ks : List MarkedBuffer) (cols selected i first : ℕ) (ws : List Window) (cursor : ℕ × ℕ) → selected < length ws → length ws ≤ i
-    → cursor_from i selected cols (shown_to d user ks) first cursor (windows_to d user ks (drop i ws)) ≡ cursor_from 0 selected cols (shown_to d user ks) 0 (0, 0) (windows_to d user ks ws)
-    → cursor ≡ cursor_of selected cols (shown_to d user ks) (windows_to d user ks ws)
+    → cursor_from i selected cols first cursor (windows_to d user ks (drop i ws)) ≡ cursor_from 0 selected cols 0 (0, 0) (windows_to d user ks ws)
+    → cursor ≡ cursor_of selected cols (windows_to d user ks ws)
 cursor_all d user ks cols selected i first ws cursor within past so_far =
-    let S : List Shown = shown_to d user ks in
-    let xs : List WindowSeen = windows_to d user ks ws in
-    let c : ℕ × ℕ = window_cursor cols S (slice_get xs selected) in
+    let xs : List WindowPane = windows_to d user ks ws in
+    let c : ℕ × ℕ = window_cursor cols (slice_get xs selected) in
     let sum : 0 + first_row selected xs + c.0 ≡ first_row selected xs + c.0 = omega arith in
-    sym (ap (λ (vs : List Window). cursor_from i selected cols S first cursor (windows_to d user ks vs)) (drop_all i ws past))
+    sym (ap (λ (vs : List Window). cursor_from i selected cols first cursor (windows_to d user ks vs)) (drop_all i ws past))
     ∙ so_far
-    ∙ cursor_at cols S selected 0 selected 0 (0, 0) xs (omega arith) (omega (arith, within, length_windows d user ks ws))
+    ∙ cursor_at cols selected 0 selected 0 (0, 0) xs (omega arith) (omega (arith, within, length_windows d user ks ws))
     ∙ ap (λ (n : ℕ). let p : ℕ × ℕ = (n, c.1) in p) sum
 
 -- and the rows are all there, but for the echo row
 pub rows_all : (d : Directory) (user : List ℕ) (ks : List MarkedBuffer) (cols selected i first : ℕ) (ws : List Window) (old rows : List Row) (echo : Row) → length ws ≤ i → first + room_of (drop i ws) + 1 ≡ length old
-    → take first old ++ windows_rows i selected cols (shown_to d user ks) (windows_to d user ks (drop i ws)) ≡ rows
+    → take first old ++ windows_rows i selected cols (windows_to d user ks (drop i ws)) ≡ rows
     → rows_put first (echo ∷ []) old ≡ rows ++ echo ∷ []
 rows_all d user ks cols selected i first ws old rows echo past room so_far =
     let none : drop i ws ≡ [] = drop_all i ws past in
     let full : first + 1 ≡ length old = omega (arith, room, ap room_of none) in
     let done : take first old ≡ rows =
     sym (append-nil (take first old))
-    ∙ sym (ap (λ (vs : List Window). take first old ++ windows_rows i selected cols (shown_to d user ks) (windows_to d user ks vs)) none)
+    ∙ sym (ap (λ (vs : List Window). take first old ++ windows_rows i selected cols (windows_to d user ks vs)) none)
     ∙ so_far in
     ap (λ (rest : List Row). take first old ++ echo ∷ [] ++ rest) (drop_all (first + 1) old (omega (arith, full)))
     ∙ append-nil (take first old ++ echo ∷ [])
@@ -379,9 +344,9 @@ rows_all d user ks cols selected i first ws old rows echo past room so_far =
 
 screen_is : (d : Directory) (ks : List MarkedBuffer) (x : Session) (sessions : List Session) (next : Option ℕ) (p : Picture)
     → p.rows ≡ x.windows.rows → p.cols ≡ x.cols
-    → p.lines ≡ windows_rows 0 x.windows.selected x.cols (shown_to d x.user ks) (windows_to d x.user ks x.windows.windows) ++ echo_row x.cols x.echo ∷ []
-    → p.row ≡ (cursor_of x.windows.selected x.cols (shown_to d x.user ks) (windows_to d x.user ks x.windows.windows)).0
-    → p.col ≡ (cursor_of x.windows.selected x.cols (shown_to d x.user ks) (windows_to d x.user ks x.windows.windows)).1
+    → p.lines ≡ windows_rows 0 x.windows.selected x.cols (windows_to d x.user ks x.windows.windows) ++ echo_row x.cols x.own.echo ∷ []
+    → p.row ≡ (cursor_of x.windows.selected x.cols (windows_to d x.user ks x.windows.windows)).0
+    → p.col ≡ (cursor_of x.windows.selected x.cols (windows_to d x.user ks x.windows.windows)).1
     → p ≡ screen (world_of d ks sessions next) (session_of ks x)
 unfolding draw
 screen_is d ks x sessions next p rows cols lines row col =
@@ -396,20 +361,19 @@ screen_is d ks x sessions next p rows cols lines row col =
 pub session_drawn : (d : Directory) (ks : List MarkedBuffer) (x : Session) (sessions : List Session) (next : Option ℕ) (ws : List Window) (selected cols : ℕ) (cursor : ℕ × ℕ) (p : Picture)
     → ws ≡ x.windows.windows → selected ≡ x.windows.selected → cols ≡ x.cols
     → p.rows ≡ x.windows.rows → p.cols ≡ cols
-    → p.lines ≡ windows_rows 0 selected cols (shown_to d x.user ks) (windows_to d x.user ks ws) ++ echo_row cols x.echo ∷ []
+    → p.lines ≡ windows_rows 0 selected cols (windows_to d x.user ks ws) ++ echo_row cols x.own.echo ∷ []
     → p.row ≡ cursor.0 → p.col ≡ cursor.1
-    → cursor ≡ cursor_of selected cols (shown_to d x.user ks) (windows_to d x.user ks ws)
+    → cursor ≡ cursor_of selected cols (windows_to d x.user ks ws)
     → p ≡ screen (world_of d ks sessions next) (session_of ks x)
 session_drawn d ks x sessions next ws selected cols cursor p all chosen wide rows cols_are lines row col there =
-    let S : List Shown = shown_to d x.user ks in
-    let on : cursor ≡ cursor_of x.windows.selected x.cols S (windows_to d x.user ks x.windows.windows) =
+    let on : cursor ≡ cursor_of x.windows.selected x.cols (windows_to d x.user ks x.windows.windows) =
     there
-    ∙ ap (λ (vs : List Window). cursor_of selected cols S (windows_to d x.user ks vs)) all
-    ∙ ap (λ (n : ℕ). cursor_of n cols S (windows_to d x.user ks x.windows.windows)) chosen
-    ∙ ap (λ (n : ℕ). cursor_of x.windows.selected n S (windows_to d x.user ks x.windows.windows)) wide in
+    ∙ ap (λ (vs : List Window). cursor_of selected cols (windows_to d x.user ks vs)) all
+    ∙ ap (λ (n : ℕ). cursor_of n cols (windows_to d x.user ks x.windows.windows)) chosen
+    ∙ ap (λ (n : ℕ). cursor_of x.windows.selected n (windows_to d x.user ks x.windows.windows)) wide in
     screen_is d ks x sessions next p rows (cols_are ∙ wide)
     (lines
-    ∙ ap (λ (vs : List Window). windows_rows 0 selected cols S (windows_to d x.user ks vs) ++ echo_row cols x.echo ∷ []) all
-    ∙ ap (λ (n : ℕ). windows_rows 0 n cols S (windows_to d x.user ks x.windows.windows) ++ echo_row cols x.echo ∷ []) chosen
-    ∙ ap (λ (n : ℕ). windows_rows 0 x.windows.selected n S (windows_to d x.user ks x.windows.windows) ++ echo_row n x.echo ∷ []) wide)
+    ∙ ap (λ (vs : List Window). windows_rows 0 selected cols (windows_to d x.user ks vs) ++ echo_row cols x.own.echo ∷ []) all
+    ∙ ap (λ (n : ℕ). windows_rows 0 n cols (windows_to d x.user ks x.windows.windows) ++ echo_row cols x.own.echo ∷ []) chosen
+    ∙ ap (λ (n : ℕ). windows_rows 0 x.windows.selected n (windows_to d x.user ks x.windows.windows) ++ echo_row n x.own.echo ∷ []) wide)
     (row ∙ ap (λ (c : ℕ × ℕ). c.0) on) (col ∙ ap (λ (c : ℕ × ℕ). c.1) on)

@@ -4,9 +4,9 @@ use Rattle.mgs_model.specs.Access.{Directory}
 use Rattle.mgs_model.specs.World.{may}
 use Rattle.mgs_model.specs.Lines.{column}
 use Rattle.mgs_model.specs.Rows.{Row, mode_row, shift_for, buffer_mode}
-use Rattle.mgs_model.specs.View.{WindowSeen, buffer_seen, window_seen, reads}
-use Rattle.mgs_model.specs.Seen.{Shown, shown_of}
-use Rattle.mgs_model.specs.Draw.{pane_rows, place_of, point_row}
+use Rattle.mgs_model.specs.View.{buffer_seen, window_seen, reads}
+use Rattle.mgs_model.specs.Seen.{WindowPane, window_pane}
+use Rattle.mgs_model.specs.Draw.{read_rows, place_of, point_row}
 use Rattle.mgs_model.specs.declared.right.Right.TheVariants.{ReadAttributes}
 use Rattle.mgs_buffers.specs.MarkedBuffer.{MarkedBuffer, marked_at, mark_at}
 use Rattle.mgs_windows.specs.declared.WindowMarks.{WindowMarks}
@@ -18,16 +18,14 @@ abbrev pub screen_shift : Bool → ℕ → ℕ → ℕ
 screen_shift true cols column = shift_for cols column
 screen_shift false cols column = 0
 
--- the buffers as a user sees them
-abbrev pub shown_to : Directory → List ℕ → List MarkedBuffer → List Shown
-shown_to directory user ks = map shown_of (map (buffer_seen directory user) (buffers_of ks))
-
 -- windows as their user sees them
-abbrev pub window_to : Directory → List ℕ → List MarkedBuffer → Window → WindowSeen
-window_to directory user ks x = window_seen (reads directory (buffers_of ks) user) (window_of ks x)
+abbrev pub window_to : Directory → List ℕ → List MarkedBuffer → Window → WindowPane
+window_to directory user ks x =
+    window_pane (map (buffer_seen directory user) (buffers_of ks)) (window_seen (reads directory (buffers_of ks) user) (window_of ks x))
 
-abbrev pub windows_to : Directory → List ℕ → List MarkedBuffer → List Window → List WindowSeen
-windows_to directory user ks xs = map (window_seen (reads directory (buffers_of ks) user)) (map (window_of ks) xs)
+abbrev pub windows_to : Directory → List ℕ → List MarkedBuffer → List Window → List WindowPane
+windows_to directory user ks xs =
+    map (window_pane (map (buffer_seen directory user) (buffers_of ks))) (map (window_seen (reads directory (buffers_of ks) user)) (map (window_of ks) xs))
 
 -- a buffer's name and flag, where its attributes may be read
 abbrev pub heading_to : Directory → List ℕ → List MarkedBuffer → List ℕ → Option (List ℕ × Bool)
@@ -37,7 +35,7 @@ heading_to directory user ks name =
 -- the rows of a text that may be read, and its mode line
 abbrev pub window_marks_rows : Bool → ℕ → ℕ → List MarkedBuffer → Option (List ℕ × Bool) → WindowMarks → List Row
 window_marks_rows selected cols height ks heading x =
-    pane_rows selected cols height (marked_at x.name ks).buffer.text (mark_at x.name ks x.top) (mark_at x.name ks x.point)
+    read_rows selected cols height (marked_at x.name ks).buffer.text (mark_at x.name ks x.top) (mark_at x.name ks x.point)
     ++ mode_row cols (buffer_mode heading (place_of (marked_at x.name ks).buffer.text (mark_at x.name ks x.point))) ∷ []
 
 -- where the selected window's cursor is in such a text

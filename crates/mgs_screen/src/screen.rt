@@ -5,7 +5,7 @@ ghost use Rattle.mgs_model.specs.Rows.{rows_put, shift_for};
 ghost use Rattle.mgs_session.specs.declared.Session.{Session};
 ghost use Rattle.mgs_world.specs.Worlds.{world_of, session_of};
 ghost use Rattle.mgs_buffers.specs.MarkedBuffer.{HasBuffer, IsMark};
-ghost use Rattle.mgs_screen.specs.Screens.{screen_shift, shown_to, window_to, heading_to, window_marks_rows, window_marks_cursor};
+ghost use Rattle.mgs_screen.specs.Screens.{screen_shift, window_to, heading_to, window_marks_rows, window_marks_cursor};
 ghost use Rattle.mgs_world.specs.Sound.{IsSessionSound, IsWindowSound};
 
 use mgs_buffers::Buffers;
@@ -108,8 +108,8 @@ fn draw_window<T: Marked + Drop>(
     requires room { place.first + window.now.height < grid.old.rows }
     ensures rows { grid.new.rows ≡ grid.old.rows }
     ensures cols { grid.new.cols ≡ grid.old.cols }
-    ensures lines { grid.new.lines ≡ rows_put place.first (window_rows place.selected grid.old.cols (shown_to directory.now user.now buffers.now) (window_to directory.now user.now buffers.now window.now)) grid.old.lines }
-    ensures cursor { place.selected ≡ true → result ≡ window_cursor grid.old.cols (shown_to directory.now user.now buffers.now) (Some (window_to directory.now user.now buffers.now window.now)) }
+    ensures lines { grid.new.lines ≡ rows_put place.first (window_rows place.selected grid.old.cols (window_to directory.now user.now buffers.now window.now)) grid.old.lines }
+    ensures cursor { place.selected ≡ true → result ≡ window_cursor grid.old.cols (Some (window_to directory.now user.now buffers.now window.now)) }
     ensures row { result.0 < window.now.height }
     ensures col { result.1 < grid.old.cols }
 {
@@ -157,6 +157,6 @@ pub fn draw_session<T: Marked + Drop>(
         }
         first += window.height + 1;
     }
-    grid.draw_echo(first, &session.echo);
+    grid.draw_echo(first, &session.own.echo);
     grid.set_cursor(cursor.0, cursor.1);
 }

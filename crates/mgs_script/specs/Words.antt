@@ -1,10 +1,11 @@
 -- What the words of a script's line say.
-use Rattle.std.specs.Prelude.{ℕ, ◌+◌, ◌-◌, ◌*◌, ◌==◌, nat_le, Bool, ◌&&◌, not, List, [], ◌∷◌, length, codes, slice_index, Option, Some, None, if◌then◌else◌}
+use Rattle.std.specs.Prelude.{ℕ, ◌==◌, nat_le, Bool, ◌&&◌, not, List, [], ◌∷◌, length, codes, Option, Some, None, if◌then◌else◌}
 use Rattle.std.specs.Option.{option_and_then}
 use Rattle.std.specs.List.{list_all}
 use Rattle.std.specs.Str.{bytes_eq}
 use Rattle.mgs_model.specs.Names.{is_name}
 use Rattle.mgs_keys.specs.Words.{word_of, words_after, words_of}
+use Rattle.mgs_keys.specs.Numbers.{number_of}
 use Rattle.mgs_keys.specs.Tokens.{quoted_of, spelled_by}
 
 infixl 10 ◌>>=◌
@@ -21,23 +22,6 @@ is_word w = nat_le 1 (length w) && list_all (λ b. not (b == 13)) w
 
 abbrev pub any_word_of : List ℕ → Option (List ℕ)
 any_word_of w = if is_word w then Some w else None
-
--- a decimal digit, and one that a longer number may begin with
-abbrev pub is_digit : ℕ → Bool
-is_digit b = nat_le 48 b && nat_le b 57
-
-abbrev pub is_first_digit : ℕ → Bool
-is_first_digit b = nat_le 49 b && nat_le b 57
-
--- a number of 1 to 3 digits without leading zeros
-abbrev pub number_of : List ℕ → Option ℕ
-number_of w =
-    if (length w == 1) && is_digit (slice_index w 0) then Some (slice_index w 0 - 48)
-    else if (length w == 2) && (is_first_digit (slice_index w 0) && is_digit (slice_index w 1))
-    then Some ((slice_index w 0 - 48) * 10 + (slice_index w 1 - 48))
-    else if (length w == 3) && (is_first_digit (slice_index w 0) && (is_digit (slice_index w 1) && is_digit (slice_index w 2)))
-    then Some ((slice_index w 0 - 48) * 100 + (slice_index w 1 - 48) * 10 + (slice_index w 2 - 48))
-    else None
 
 -- the characters of one token of a text
 unfoldable pub token_characters : List ℕ → Option (List ℕ)

@@ -1,10 +1,11 @@
 // The words of a script's line.
-ghost use Rattle.std.specs.Prelude.{◌≡◌, ◌==◌, ◌-◌, ◌<◌, ◌≤◌, ◌∷◌, not, length, map, IfOk, IfSome, IsTrue};
+ghost use Rattle.std.specs.Prelude.{◌≡◌, ◌==◌, ◌<◌, ◌∷◌, not, length, map, IfOk, IfSome};
 ghost use Rattle.std.specs.Option.{option_map};
 ghost use Rattle.std.specs.List.{list_all};
 ghost use Rattle.mgs_keys.specs.Words.{is_space, word_of, words_after, words_of, parts_after};
-ghost use Rattle.mgs_script.specs.Words.{name_of, any_word_of, is_digit, is_first_digit, number_of, size_said};
+ghost use Rattle.mgs_script.specs.Words.{name_of, any_word_of, size_said};
 
+use mgs_keys::read_number;
 use mgs_model::{Name, Short};
 use std::alloc::Global;
 
@@ -69,49 +70,12 @@ pub(crate) fn any_word(word: &str) -> Option<&str>
     }
 }
 
-fn is_digit(byte: u8) -> bool
-    ensures { result ≡ is_digit byte }
-{
-    b'0' <= byte && byte <= b'9'
-}
-
-// A digit that a number of two or three digits may begin with.
-fn is_first_digit(byte: u8) -> bool
-    ensures { result ≡ is_first_digit byte }
-{
-    b'1' <= byte && byte <= b'9'
-}
-
-fn value_of(digit: u8) -> usize
-    requires { IsTrue (is_digit digit) }
-    ensures value { result ≡ digit - 48 }
-    ensures limit { result ≤ 9 }
-{
-    (digit - b'0') as usize
-}
-
-// The number of 1 to 3 digits that is written so, without leading zeros.
-fn number(word: &str) -> Option<usize>
-    ensures { result ≡ number_of word.now }
-{
-    match word.as_bytes() {
-        [only] if is_digit(*only) => Some(value_of(*only)),
-        [first, last] if is_first_digit(*first) && is_digit(*last) => {
-            Some(value_of(*first) * 10 + value_of(*last))
-        }
-        [first, second, last] if is_first_digit(*first) && is_digit(*second) && is_digit(*last) => {
-            Some(value_of(*first) * 100 + value_of(*second) * 10 + value_of(*last))
-        }
-        _ => None,
-    }
-}
-
 // The rows and columns that are written so.
 pub(crate) fn size(text: &str) -> Option<(usize, usize)>
     ensures { result ≡ size_said text.now }
 {
     let (rows, rest) = cut_text(text);
-    let rows = number(rows)?;
-    let cols = number(rest?)?;
+    let rows = read_number(rows.as_bytes())?;
+    let cols = read_number(rest?.as_bytes())?;
     Some((rows, cols))
 }

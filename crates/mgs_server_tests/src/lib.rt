@@ -3,6 +3,8 @@
 #![tactic(auto)]
 
 #[cfg(test)]
+mod arguments;
+#[cfg(test)]
 mod calls;
 #[cfg(test)]
 mod config;
@@ -11,10 +13,14 @@ mod fixtures;
 #[cfg(test)]
 mod lockstep;
 #[cfg(test)]
+mod queues;
+#[cfg(test)]
 mod replay;
 #[cfg(test)]
 mod rows;
 #[cfg(test)]
 mod script;
+#[cfg(test)]
+mod windows;
 #[cfg(test)]
 mod wire;

@@ -6,10 +6,10 @@ use std::io::{self, ErrorKind, Read, Write};
 use std::process::Abort;
 use std::test::Fail;
 
-const NOTES: &str = "user ann\nbuffer notes ann\nentry notes ALLOW OWNER@ rwatdcCo\n";
+pub(crate) const NOTES: &str = "user ann\nbuffer notes ann\nentry notes ALLOW OWNER@ rwatdcCo\n";
 
 // A script gives this output and this end.
-fn gives(
+pub(crate) fn gives(
     rt: &impl Abort,
     alloc: Global,
     script: &[u8],
@@ -24,7 +24,7 @@ fn gives(
 }
 
 // The same of lines after the user, the buffer and the entry of `NOTES`.
-fn plays(
+pub(crate) fn plays(
     rt: &impl Abort,
     alloc: Global,
     lines: &str,
@@ -113,9 +113,8 @@ fn other_keys_are_not_bound(rt: HostRuntime) -> Result<(), Fail> {
         |Key not bound       |\n\
         cursor 1 1\n";
     for token in [
-        "C-a", "C-c", "C-d", "C-e", "C-g", "C-h", "C-j", "C-k", "C-l", "C-n", "C-o", "C-p", "C-q",
-        "C-r", "C-s", "C-t", "C-u", "C-v", "C-w", "C-x", "C-y", "C-z", "C-SPC", "C-_", "ESC",
-        "DEL",
+        "C-a", "C-c", "C-d", "C-e", "C-h", "C-j", "C-k", "C-l", "C-n", "C-o", "C-p", "C-q", "C-r",
+        "C-s", "C-t", "C-v", "C-w", "C-y", "C-z", "C-SPC", "C-_", "DEL", "C-x C-z", "M-x",
     ] {
         let mut lines = String::from_str(rt.alloc(), "open a ann 6 20\nkeys a ")?;
         lines.push_str(token)?;
@@ -123,6 +122,42 @@ fn other_keys_are_not_bound(rt: HostRuntime) -> Result<(), Fail> {
         plays(&rt, rt.alloc(), &lines, output, Ok(()))?;
     }
     Ok(())
+}
+
+#[test]
+fn arguments_repeat_and_words_are_ended(rt: HostRuntime) -> Result<(), Fail> {
+    let lines =
+        "open a ann 6 20\nkeys a C-u C-u 'x RET C-u '3 C-u 'y M-2 'z C-u '9 ESC C-g\nshow a\n";
+    let output = "screen a\n\
+        |xxxxxxxxxxxxxxxx    |\n\
+        |yyyyyyyyyyyyzz      |\n\
+        |                    |\n\
+        |                    |\n\
+        !-**-notes-L2-C14----!\n\
+        |Quit                |\n\
+        cursor 2 15\n";
+    plays(&rt, rt.alloc(), lines, output, Ok(()))
+}
+
+#[test]
+fn a_byte_ends_its_session(rt: HostRuntime) -> Result<(), Fail> {
+    // Later bytes of the line, later keys and a close do nothing.
+    let lines =
+        "open a ann 6 20\nkeys a 'hi C-x C-c 'x\nshow a\nkeys a 'y\nclose a\nshow a\nopen b ann 6 20\nshow b\n";
+    let output = "ended a Quit\n\
+        ended a Quit\n\
+        screen b\n\
+        |hi                  |\n\
+        |                    |\n\
+        |                    |\n\
+        |                    |\n\
+        !-**-notes-L1-C0-----!\n\
+        |                    |\n\
+        cursor 1 1\n";
+    plays(&rt, rt.alloc(), lines, output, Ok(()))?;
+    // A session that was closed stays closed.
+    let lines = "open a ann 6 20\nclose a\nkeys a C-x C-c\nshow a\n";
+    plays(&rt, rt.alloc(), lines, "ended a Closed\n", Ok(()))
 }
 
 #[test]

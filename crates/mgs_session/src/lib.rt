@@ -1,11 +1,19 @@
-//! One session: whose it is, its windows, and what its echo line says.
+//! One session: whose it is, its windows, what it has half read, and what its echo line says.
 #![tactic(auto)]
 
-ghost use Rattle.std.specs.Prelude.{◌≡◌, ◌≤◌, ◌-◌, [], ◌∷◌};
-ghost use Rattle.mgs_session.specs.Told.{session_opened, told, silent, window_marks_of};
+ghost use Rattle.std.specs.Prelude.{◌≡◌, ◌≤◌, ◌-◌, [], ◌∷◌, vec_capacity};
+ghost use Rattle.mgs_session.specs.Sessions.{session_opened, told, holding, window_marks_of};
 
+use mgs_maps::Keyboard;
 use mgs_model::{Message, Name, SessionId};
 use mgs_windows::{WindowMarks, Windows};
+
+/// What a session holds beside its windows: its echo text, and the keys and the argument that are half read.
+#[derive(Drop)]
+pub struct Own {
+    pub echo: Message,
+    pub keyboard: Keyboard,
+}
 
 /// The state of a session. A position is a mark in the text of a buffer.
 #[derive(Drop)]
@@ -15,26 +23,32 @@ pub struct Session {
     /// The columns of the screen; its rows are those of the windows.
     pub cols: usize,
     pub windows: Windows,
-    pub echo: Message,
+    pub own: Own,
 }
 
-/// A session with one window.
+/// A session with one window. `places` is empty, and has room for one.
 pub fn opened(
     id: SessionId,
     user: Name,
     rows: usize,
     cols: usize,
     shows: Option<WindowMarks>,
+    places: Vec<WindowMarks>,
 ) -> Session
-    requires { 3 ≤ rows }
-    ensures { result ≡ session_opened id user rows cols shows }
+    requires rows { 3 ≤ rows }
+    requires none { places.items ≡ [] }
+    requires room { 1 ≤ vec_capacity places }
+    ensures { result ≡ session_opened id user rows cols shows (vec_capacity places) }
 {
     Session {
         id,
         user,
         cols,
-        windows: Windows::one(rows, shows),
-        echo: Message::Silent,
+        windows: Windows::one(rows, shows, places),
+        own: Own {
+            echo: Message::Silent,
+            keyboard: Keyboard::new(),
+        },
     }
 }
 
@@ -42,14 +56,17 @@ pub fn opened(
 pub fn set_echo(session: &mut Session, message: Message)
     ensures { session.new ≡ told message session.old }
 {
-    session.echo = message;
+    session.own.echo = message;
 }
 
-/// Empties the echo line, as each byte does before it is handled.
-pub fn clear_echo(session: &mut Session)
-    ensures { session.new ≡ silent session.old }
+/// Holds what was read of a byte, and empties the echo line, as each byte does.
+pub fn hold(session: &mut Session, keyboard: Keyboard)
+    ensures { session.new ≡ holding keyboard session.old }
 {
-    session.echo = Message::Silent;
+    session.own = Own {
+        echo: Message::Silent,
+        keyboard,
+    };
 }
 
 /// The buffer that the selected window shows.

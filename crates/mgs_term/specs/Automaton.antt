@@ -1,5 +1,6 @@
 -- The terminal byte by byte: which place in a sequence it is at, and where the next byte leads.
 use Rattle.std.specs.Prelude.{◌≡◌, ◌⊎◌, ℕ, ◌+◌, ◌-◌, ◌*◌, ◌≤◌, Bool, true, false, not, ◌&&◌, ◌||◌, List, [], ◌∷◌, ◌++◌, nat_le, ◌==◌, if◌then◌else◌}
+use Rattle.std.specs.Char.{is_ascii_digit}
 use Rattle.mgs_term.specs.Screen.{Screen, blank_screen}
 use Rattle.mgs_term.specs.Sequences.{number, spelling, Accepts, after}
 use Rattle.mgs_term.specs.Terminal.{Terminal}
@@ -12,9 +13,6 @@ use Rattle.mgs_term.specs.declared.place.Next.TheVariants.{Stuck, Wait, Perform}
 pub record Automaton : Type 0 where
   pub screen : Screen
   pub place : Place
-
-abbrev pub is_digit : ℕ → Bool
-is_digit b = nat_le 48 b && nat_le b 57
 
 -- A row's number may go up to the rows. 7 may come even where there are fewer, for `ESC [ 7 m`.
 abbrev pub next_step : ℕ → ℕ → Bool → Place → ℕ → Next
@@ -33,13 +31,13 @@ next_step rows cols wrapping (Number n) b =
     if b == 74 && n == 2 then Perform Clear
     else if b == 109 && n == 7 then Perform Reverse
     else if b == 59 && nat_le n rows then Wait (Row n)
-    else if is_digit b && nat_le (n * 10 + (b - 48)) rows then Wait (Number (n * 10 + (b - 48)))
+    else if is_ascii_digit b && nat_le (n * 10 + (b - 48)) rows then Wait (Number (n * 10 + (b - 48)))
     else Stuck
 next_step rows cols wrapping (Row r) b =
     if nat_le 49 b && (nat_le b 57 && nat_le b (48 + cols)) then Wait (Column r (b - 48)) else Stuck
 next_step rows cols wrapping (Column r c) b =
     if b == 72 then Perform (Goto (r - 1) (c - 1))
-    else if is_digit b && nat_le (c * 10 + (b - 48)) cols then Wait (Column r (c * 10 + (b - 48)))
+    else if is_ascii_digit b && nat_le (c * 10 + (b - 48)) cols then Wait (Column r (c * 10 + (b - 48)))
     else Stuck
 next_step rows cols wrapping Question b = if b == 55 then Wait Seven else Stuck
 next_step rows cols wrapping Seven b = if b == 108 then Perform Unwrap else Stuck

@@ -1,6 +1,6 @@
 ghost use Rattle.std.specs.Prelude.{◌≡◌, ℕ, ◌-◌, ◌≤◌};
 ghost use Rattle.mgs_model.specs.Picture.{IsSize};
-ghost use Rattle.mgs_term.specs.Automaton.{next_step, is_digit, IsPlace, IsNext, IsSpelled};
+ghost use Rattle.mgs_term.specs.Automaton.{next_step, IsPlace, IsNext, IsSpelled};
 ghost use Rattle.mgs_term.specs.declared.place.Place.TheVariants.{Bracket, Number, Column};
 
 use crate::operation::Operation;
@@ -40,12 +40,6 @@ pub(crate) enum Next {
 }
 
 const ESCAPE: u8 = 0x1b;
-
-fn is_digit(byte: u8) -> bool
-    ensures { result ≡ is_digit byte }
-{
-    (b'0'..=b'9').contains(&byte)
-}
 
 fn digit_of(byte: u8) -> usize
     requires { 48 ≤ byte }
@@ -139,7 +133,7 @@ fn next_number(rows: usize, cols: usize, wrapping: bool, number: usize, byte: u8
         Next::Perform(Operation::Reverse)
     } else if byte == b';' && number <= rows {
         Next::Wait(Place::Row(number))
-    } else if is_digit(byte) && number * 10 + digit_of(byte) <= rows {
+    } else if byte.is_ascii_digit() && number * 10 + digit_of(byte) <= rows {
         Next::Wait(Place::Number(number * 10 + digit_of(byte)))
     } else {
         Next::Stuck
@@ -162,7 +156,7 @@ fn next_column(
 {
     if byte == b'H' {
         Next::Perform(Operation::Goto(row - 1, column - 1))
-    } else if is_digit(byte) && column * 10 + digit_of(byte) <= cols {
+    } else if byte.is_ascii_digit() && column * 10 + digit_of(byte) <= cols {
         Next::Wait(Place::Column(row, column * 10 + digit_of(byte)))
     } else {
         Next::Stuck

@@ -14,6 +14,8 @@ mod gap;
 #[cfg(test)]
 mod grid;
 #[cfg(test)]
+mod keyboard;
+#[cfg(test)]
 mod keys;
 #[cfg(test)]
 mod lines;
@@ -22,7 +24,11 @@ mod lists;
 #[cfg(test)]
 mod marks;
 #[cfg(test)]
+mod numbers;
+#[cfg(test)]
 mod paint;
+#[cfg(test)]
+mod plans;
 #[cfg(test)]
 mod printing;
 #[cfg(test)]
@@ -33,5 +39,9 @@ mod terminal;
 mod text;
 #[cfg(test)]
 mod undo;
+#[cfg(test)]
+mod undos;
+#[cfg(test)]
+mod walks;
 #[cfg(test)]
 mod windows;

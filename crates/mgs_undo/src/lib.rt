@@ -1,10 +1,14 @@
 //! The latest edits of a text, each with its serial: what undo goes by.
 #![tactic(auto)]
 
-ghost use Rattle.std.specs.Prelude.{◌≡◌, ◌+◌, ◌-◌, ◌<◌, ◌^◌, [], ◌∷◌, IfOk, find, slice_get, take};
+ghost use Rattle.std.specs.Prelude.{◌≡◌, ℕ, List, true, ◌+◌, ◌-◌, ◌<◌, ◌^◌, [], ◌∷◌, IfOk, find, slice_get, take};
 ghost use Rattle.std.specs.Option.{option_copied, option_map};
 ghost use Rattle.mgs_undo.specs.History.{has_serial};
 ghost use Rattle.mgs_undo.specs.Numbered.{item_of};
+ghost use Rattle.mgs_model.specs.World.{Buffer};
+ghost use Rattle.mgs_model.specs.Text.{is_edit};
+ghost use Rattle.mgs_model.specs.Apply.{buffer_edited};
+ghost use Rattle.mgs_undo.specs.Undoing.{history_of, IsEditOf, UndosGoBack, TargetsAreKept};
 
 use circular_buffer::HeapCircularBuffer;
 use mgs_model::Short;
@@ -62,11 +66,13 @@ impl Record {
         self.serial
     }
 
-    /// Keeps an edit under the next serial, and gives back the oldest one where 1,000 were kept. It takes no memory.
+    /// Keeps an edit under the next serial, and gives back the oldest one where 1,000 were kept: of a buffer's record it makes
+    /// that of the edited buffer. It takes no memory.
     /// The caller sees that the last `u64` is not passed.
     pub fn push(&mut self, edit: Edit) -> Option<Edit>
         requires { self.old.serial < 2 ^ 64 - 1 }
         ensures kept { self.new ≡ record { items = item_of (self.old.serial + 1) edit ∷ take 999 self.old.items; serial = self.old.serial + 1 } }
+        ensures buffer { (x : Buffer) (a b : ℕ) (put : List ℕ) → history_of x ≡ self.old → IsEditOf edit a b put x → is_edit a b put ≡ true → self.new ≡ history_of (buffer_edited a b put x) }
         ensures oldest { option_map (item_of (self.old.serial - 999)) result ≡ slice_get self.old.items 999 }
     {
         self.serial += 1;
@@ -88,3 +94,15 @@ impl Record {
         }
     }
 }
+
+/// Undos go back, whoever made the edits: after edits in a row, as many undos in a row give the text before the last so
+/// many edits, while every target is kept, and that of 500 undos is. The first target is the last edit, and each further
+/// one the edit before. An undo is an edit with an item of its own.
+///
+/// This is a law about the definitions that the record and the edits of a buffer meet, so this call takes nothing and does
+/// nothing.
+#[tactic(auto, using(crate::proofs::UndoingLemmas::undos_go_back, crate::proofs::UndoingLemmas::targets_are_kept))]
+pub fn undos_go_back()
+    ensures back { UndosGoBack }
+    ensures kept { TargetsAreKept }
+{}

@@ -1,19 +1,110 @@
--- The windows of a session.
-use Rattle.std.specs.Prelude.{◌≡◌, ℕ, ◌+◌, ◌<◌, ◌≤◌, List, [], ◌∷◌, length, All}
+-- The windows of a session, and the places where windows were.
+use Rattle.std.specs.Prelude.{◌≡◌, ℕ, zero, suc, ◌+◌, ◌-◌, ◌/◌, ◌<◌, ◌≤◌, nat_lt, Bool, List, [], ◌∷◌, Option, Some, None, length, find, remove, slice_get, All, cond}
+use Rattle.std.specs.Option.{option_map, option_and_then}
+use Rattle.mgs_model.specs.Names.{same_name}
+use Rattle.mgs_model.specs.Apply.{change_at}
+use Rattle.mgs_windows.specs.declared.WindowMarks.{WindowMarks}
 use Rattle.mgs_windows.specs.declared.Window.{Window}
 
+-- capacity is how many places have room without more memory
 pub record WindowList : Type 0 where
   pub rows : ℕ
   pub windows : List Window
   pub selected : ℕ
+  pub places : List WindowMarks
+  pub capacity : ℕ
 
 -- the rows of panes and mode lines
 abbrev pub room_of : List Window → ℕ
 room_of [] = 0
 room_of (x ∷ xs) = x.height + 1 + room_of xs
 
--- the selected one is there, each has a row, and together they leave one row
+-- how many windows show a buffer, each of which may leave a place
+abbrev pub one_shown : Option WindowMarks → ℕ
+one_shown None = 0
+one_shown (Some x) = 1
+
+abbrev pub shown_in : List Window → ℕ
+shown_in [] = 0
+shown_in (x ∷ xs) = one_shown x.shows + shown_in xs
+
+-- the selected one is there, each has a row, together they leave one row, and the places of all have room
 pub record IsWindowList (w : WindowList) : Type 0 where
   pub selected : w.selected < length w.windows
   pub some : All (λ (x : Window). 1 ≤ x.height) w.windows
   pub fill : room_of w.windows + 1 ≡ w.rows
+  pub room : length w.places + shown_in w.windows ≤ w.capacity
+
+-- HEIGHTS
+
+abbrev pub height_in : Option Window → ℕ
+height_in None = 0
+height_in (Some x) = x.height
+
+abbrev pub height_at : ℕ → List Window → ℕ
+height_at k windows = height_in (slice_get windows k)
+
+abbrev pub grown : ℕ → Window → Window
+grown n x = record x { height = x.height + n }
+
+abbrev pub shrunk : ℕ → Window → Window
+shrunk n x = record x { height = x.height - n }
+
+abbrev pub given : ℕ → ℕ → ℕ → List Window → List Window
+given from to n windows = change_at from (shrunk n) (change_at to (grown n) windows)
+
+-- PLACES: the marks of the last window that left a buffer; the mark of its top has no meaning then
+
+abbrev pub is_place_in : List ℕ → WindowMarks → Bool
+is_place_in name p = same_name name p.name
+
+-- the place in a buffer, in place of the one before; last where there was none
+abbrev pub with_place : WindowMarks → List WindowMarks → List WindowMarks
+with_place p [] = p ∷ []
+with_place p (q ∷ qs) = cond (same_name p.name q.name) (p ∷ qs) (q ∷ with_place p qs)
+
+abbrev pub places_after : Option WindowMarks → List WindowMarks → List WindowMarks
+places_after None places = places
+places_after (Some x) places = with_place x places
+
+-- the place that another takes
+abbrev pub left_by : Option WindowMarks → List WindowMarks → Option WindowMarks
+left_by None places = None
+left_by (Some x) places = find (is_place_in x.name) places
+
+-- A WINDOW GOES
+
+abbrev pub shows_at : ℕ → List Window → Option WindowMarks
+shows_at k windows = option_and_then (λ (x : Window). x.shows) (slice_get windows k)
+
+-- the selected one, once the window at k is gone
+abbrev pub closer : ℕ → ℕ → ℕ
+closer k selected = cond (nat_lt selected k) selected (selected - 1)
+
+-- its rows go to the heir
+abbrev pub windows_without : ℕ → ℕ → List Window → List Window
+windows_without k heir windows = remove (change_at heir (grown (height_at k windows + 1)) windows) k
+
+abbrev pub window_removed : ℕ → ℕ → WindowList → WindowList
+window_removed k heir w =
+    record w {
+      windows = windows_without k heir w.windows;
+      selected = closer k w.selected;
+      places = places_after (shows_at k w.windows) w.places;
+    }
+
+-- A WINDOW BECOMES TWO
+
+abbrev pub upper_half : Window → Window
+upper_half x = record x { height = x.height / 2 }
+
+abbrev pub lower_half : Option WindowMarks → Window → Window
+lower_half shows x = record { height = x.height - 1 - x.height / 2; shows = shows }
+
+abbrev pub split_at : ℕ → Option WindowMarks → List Window → List Window
+split_at k shows [] = []
+split_at zero shows (x ∷ xs) = upper_half x ∷ lower_half shows x ∷ xs
+split_at (suc k) shows (x ∷ xs) = x ∷ split_at k shows xs
+
+abbrev pub window_split : Option WindowMarks → WindowList → WindowList
+window_split shows w = record w { windows = split_at w.selected shows w.windows }

@@ -1,11 +1,16 @@
-//! The windows of one session: from the top of the screen down, each some rows of a pane and a mode line.
+//! The windows of one session: from the top of the screen down, each some rows of a pane and a mode line. And the places
+//! where the session was in buffers that its windows left.
 #![tactic(auto)]
 
-ghost use Rattle.std.specs.Prelude.{◌≡◌, ◌-◌, ◌+◌, ◌<◌, ◌≤◌, [], ◌∷◌, length, slice_get, Some};
-ghost use Rattle.mgs_windows.specs.Panes.{WindowList, IsWindowList, room_of};
+mod places;
 
+ghost use Rattle.std.specs.Prelude.{◌≡◌, ◌≢◌, ◌-◌, ◌/◌, ◌+◌, ◌<◌, ◌≤◌, [], ◌∷◌, length, slice_get, vec_capacity, Some, OnOk, OnErr, ◌^◌};
+ghost use Rattle.mgs_model.specs.Apply.{change_at};
+ghost use Rattle.mgs_windows.specs.Panes.{WindowList, IsWindowList, closer, given, grown, height_at, left_by, one_shown, places_after, room_of, shown_in, shows_at, shrunk, split_at, window_removed, window_split, windows_without};
+
+use crate::places::put_place;
 use arrayvec::ArrayVec;
-use mgs_model::{MarkId, Name};
+use mgs_model::{MarkId, Name, Short};
 use std::marker::Model;
 
 /// A buffer in a window: the marks of the window's point, mark and top in the buffer's text.
@@ -24,22 +29,25 @@ pub struct Window {
     pub shows: Option<WindowMarks>,
 }
 
-/// The windows of a session, of which one is selected. Panes and mode lines fill all rows but the last.
+/// The windows of a session, of which one is selected, and the places where windows were. Panes and mode lines fill all
+/// rows but the last. There is room for a place of each window, so that none takes memory when it goes.
 #[derive(Drop)]
 pub struct Windows {
     rows: usize,
     list: ArrayVec<Window, 8>,
     selected: usize,
+    places: Vec<WindowMarks>,
 }
 
 impl Model for Windows {
+    ghost use Rattle.std.specs.Prelude.{vec_capacity};
     ghost use Rattle.mgs_windows.specs.Panes.{WindowList, IsWindowList};
 
     ghost Value = { WindowList };
 
-    ghost view = { λ w. record { rows = w.rows; windows = w.list.items; selected = w.selected } };
+    ghost view = { λ w. record { rows = w.rows; windows = w.list.items; selected = w.selected; places = w.places.items; capacity = vec_capacity w.places } };
 
-    ghost invariant = { λ w. IsWindowList (record { rows = w.rows; windows = w.list.items; selected = w.selected }) };
+    ghost invariant = { λ w. IsWindowList (record { rows = w.rows; windows = w.list.items; selected = w.selected; places = w.places.items; capacity = vec_capacity w.places }) };
 }
 
 /// A list of one window.
@@ -53,17 +61,142 @@ fn one_window(height: usize, shows: Option<WindowMarks>) -> ArrayVec<Window, 8>
     list
 }
 
+/// The window at an index gets so many rows more.
+fn grow(windows: &mut [Window], index: usize, rows: usize)
+    requires within { index < length windows.old }
+    requires most { height_at index windows.old + rows < 2 ^ 64 }
+    ensures { windows.new ≡ change_at index (grown rows) windows.old }
+{
+    windows[index].height += rows;
+}
+
+/// The window at an index gets so many rows less.
+fn shrink(windows: &mut [Window], index: usize, rows: usize)
+    requires within { index < length windows.old }
+    requires stays { rows ≤ height_at index windows.old }
+    ensures { windows.new ≡ change_at index (shrunk rows) windows.old }
+{
+    windows[index].height -= rows;
+}
+
+/// How many rows the window at an index has.
+#[tactic(auto, using(crate::proofs::Heights::height_or))]
+fn height_of(windows: &[Window], index: usize) -> usize
+    requires { index < length windows.now }
+    ensures { result ≡ height_at index windows.now }
+{
+    windows[index].height
+}
+
+/// What the window at an index shows.
+#[tactic(auto, using(crate::proofs::Heights::shows_or))]
+fn shows_of(windows: &[Window], index: usize) -> Option<WindowMarks>
+    requires { index < length windows.now }
+    ensures { result ≡ shows_at index windows.now }
+{
+    windows[index].shows
+}
+
+/// So many rows go from one window to another.
+fn give_rows(list: &mut ArrayVec<Window, 8>, from: usize, to: usize, rows: usize)
+    requires from { from < length list.old.items }
+    requires to { to < length list.old.items }
+    requires most { height_at to list.old.items + rows < 2 ^ 64 }
+    requires stays { rows ≤ height_at from (change_at to (grown rows) list.old.items) }
+    ensures { list.new.items ≡ given from to rows list.old.items }
+{
+    grow(list.as_mut_slice(), to, rows);
+    shrink(list.as_mut_slice(), from, rows);
+}
+
+/// Takes out the window at an index, whose rows and mode line go to the heir.
+fn remove_window(list: &mut ArrayVec<Window, 8>, index: usize, heir: usize)
+    requires within { index < length list.old.items }
+    requires heir { heir < length list.old.items }
+    requires most { height_at heir list.old.items + (height_at index list.old.items + 1) < 2 ^ 64 }
+    ensures { list.new.items ≡ windows_without index heir list.old.items }
+{
+    let rows = height_of(list.as_slice(), index) + 1;
+    grow(list.as_mut_slice(), heir, rows);
+    list.remove(index);
+}
+
+/// The window at an index keeps half of its rows.
+#[tactic(auto, using(crate::proofs::Heights::length_changed))]
+fn halve(list: &mut ArrayVec<Window, 8>, index: usize, rows: usize)
+    requires within { index < length list.old.items }
+    requires all { rows ≡ height_at index list.old.items }
+    ensures list { list.new.items ≡ change_at index (shrunk (rows - rows / 2)) list.old.items }
+    ensures len { length list.new.items ≡ length list.old.items }
+{
+    shrink(list.as_mut_slice(), index, rows - rows / 2);
+}
+
+/// The window at an index becomes two.
+fn split_window(list: &mut ArrayVec<Window, 8>, index: usize, shows: Option<WindowMarks>)
+    requires within { index < length list.old.items }
+    requires few { length list.old.items < 8 }
+    requires high { 1 ≤ height_at index list.old.items }
+    ensures { list.new.items ≡ split_at index shows list.old.items }
+{
+    // The prover hands on a window only where each type in it was named.
+    let _mark: Option<MarkId> = None;
+    let rows = height_of(list.as_slice(), index);
+    let height = rows - 1 - rows / 2;
+    halve(list, index, rows);
+    list.insert(index + 1, Window { height, shows });
+}
+
+/// The index of the selected window, once the one at `index` is gone.
+fn closer(index: usize, selected: usize) -> usize
+    ensures { result ≡ closer index selected }
+{
+    if selected < index {
+        selected
+    } else {
+        selected.saturating_sub(1)
+    }
+}
+
+/// Room for so many more places. `Short`: memory was refused.
+fn reserve_places(places: &mut Vec<WindowMarks>, more: usize) -> Result<(), Short>
+    ensures same { places.new.items ≡ places.old.items }
+    ensures room { OnOk result (length places.old.items + more ≤ vec_capacity places.new) }
+    ensures grows { vec_capacity places.old ≤ vec_capacity places.new }
+{
+    match places.reserve(more) {
+        Ok(()) => Ok(()),
+        Err(_) => Err(Short),
+    }
+}
+
+/// Puts the place of a window that goes, and gives back the one before.
+fn leave(places: &mut Vec<WindowMarks>, shows: Option<WindowMarks>) -> Option<WindowMarks>
+    requires { length places.old.items + one_shown shows ≤ vec_capacity places.old }
+    ensures places { places.new.items ≡ places_after shows places.old.items }
+    ensures left { result ≡ left_by shows places.old.items }
+    ensures capacity { vec_capacity places.new ≡ vec_capacity places.old }
+{
+    match shows {
+        Some(window_marks) => put_place(places, window_marks),
+        None => None,
+    }
+}
+
 impl Windows {
-    /// One window on a screen of so many rows.
-    pub fn one(rows: usize, shows: Option<WindowMarks>) -> Windows
-        requires { 3 ≤ rows }
-        ensures { result ≡ record { rows = rows; windows = record { height = rows - 2; shows = shows } ∷ []; selected = 0 } }
+    /// One window on a screen of so many rows. `places` is empty, and has room for one.
+    pub fn one(rows: usize, shows: Option<WindowMarks>, places: Vec<WindowMarks>) -> Windows
+        requires rows { 3 ≤ rows }
+        requires none { places.items ≡ [] }
+        requires room { 1 ≤ vec_capacity places }
+        ensures { result ≡ record { rows = rows; windows = record { height = rows - 2; shows = shows } ∷ []; selected = 0; places = []; capacity = vec_capacity places } }
     {
         let height = rows - 2;
         Windows {
             rows,
             list: one_window(height, shows),
             selected: 0,
+            places,
         }
     }
 
@@ -96,5 +229,75 @@ impl Windows {
         ensures { slice_get self.now.windows self.now.selected ≡ Some result }
     {
         self.list[self.selected]
+    }
+
+    /// How many rows the window at an index has.
+    pub fn height(&self, index: usize) -> usize
+        requires { index < length self.now.windows }
+        ensures { result ≡ height_at index self.now.windows }
+    {
+        height_of(self.list.as_slice(), index)
+    }
+
+    /// The places of the session in buffers that its windows left, one in each.
+    pub fn places(&self) -> &[WindowMarks]
+        ensures value { result.now ≡ self.now.places }
+        ensures form { IsWindowList self.now }
+    {
+        self.places.as_slice()
+    }
+
+    /// Selects the window at an index.
+    pub fn select(&mut self, index: usize)
+        requires { index < length self.old.windows }
+        ensures { self.new ≡ record self.old { selected = index } }
+    {
+        self.selected = index;
+    }
+
+    /// So many rows go from one window to another.
+    pub fn give(&mut self, from: usize, to: usize, rows: usize)
+        requires from { from < length self.old.windows }
+        requires to { to < length self.old.windows }
+        requires apart { from ≢ to }
+        requires stays { rows < height_at from self.old.windows }
+        ensures { self.new ≡ record self.old { windows = given from to rows self.old.windows } }
+    {
+        give_rows(&mut self.list, from, to, rows);
+    }
+
+    /// Makes room for the place of one more window. `Short`: memory was refused, and all is as it was.
+    pub fn reserve(&mut self) -> Result<(), Short>
+        ensures same { self.new ≡ record self.old { capacity = self.new.capacity } }
+        ensures grows { self.old.capacity ≤ self.new.capacity }
+        ensures room { OnOk result (length self.old.places + shown_in self.old.windows + 1 ≤ self.new.capacity) }
+    {
+        reserve_places(&mut self.places, self.list.len() + 1)
+    }
+
+    /// The selected window becomes two: the upper one has half of its rows and shows what it showed, the lower one has
+    /// the other rows but one, which is the upper one's mode line, and shows this.
+    pub fn split(&mut self, shows: Option<WindowMarks>)
+        requires high { 3 ≤ height_at self.old.selected self.old.windows }
+        requires few { length self.old.windows < 8 }
+        requires room { length self.old.places + shown_in self.old.windows + 1 ≤ self.old.capacity }
+        ensures { self.new ≡ window_split shows self.old }
+    {
+        split_window(&mut self.list, self.selected, shows);
+    }
+
+    /// The window at an index goes. Its rows and its mode line's go to the heir, and its marks are the session's place in
+    /// the buffer that it showed. Gives back the place before, whose marks are to be given up.
+    pub fn remove(&mut self, index: usize, heir: usize) -> Option<WindowMarks>
+        requires within { index < length self.old.windows }
+        requires heir { heir < length self.old.windows }
+        requires apart { heir ≢ index }
+        ensures list { self.new ≡ window_removed index heir self.old }
+        ensures left { result ≡ left_by (shows_at index self.old.windows) self.old.places }
+    {
+        let shows = shows_of(self.list.as_slice(), index);
+        remove_window(&mut self.list, index, heir);
+        self.selected = closer(index, self.selected);
+        leave(&mut self.places, shows)
     }
 }

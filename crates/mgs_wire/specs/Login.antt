@@ -1,9 +1,10 @@
 -- LOGIN LINES: who logs in by a line, and why one is refused.
-use Rattle.std.specs.Prelude.{ℕ, ◌+◌, ◌-◌, ◌*◌, ◌==◌, nat_le, Bool, ◌&&◌, List, [], ◌∷◌, ◌++◌, take, length, codes, slice_index, Option, Some, None, Result, Ok, Err, if◌then◌else◌}
+use Rattle.std.specs.Prelude.{ℕ, ◌-◌, ◌==◌, nat_le, Bool, ◌&&◌, List, [], ◌∷◌, ◌++◌, take, length, codes, slice_index, Option, Some, None, Result, Ok, Err, if◌then◌else◌}
 use Rattle.std.specs.Option.{option_and_then}
 use Rattle.std.specs.List.{before_first}
 use Rattle.std.specs.Str.{bytes_eq, is_utf8}
 use Rattle.mgs_keys.specs.Words.{rest_after, words_of}
+use Rattle.mgs_keys.specs.Numbers.{number_of}
 use Rattle.mgs_model.specs.Lines.{is_feed}
 use Rattle.mgs_model.specs.Tickets.{ticket_of}
 use Rattle.mgs_model.specs.declared.errors.OpenFault.{OpenFault}
@@ -30,23 +31,6 @@ abbrev pub without_return : List ℕ → List ℕ
 without_return line = if ends_in_return line then take (length line - 1) line else line
 
 -- ITS WORDS
-
--- a decimal digit, and one that a longer number may begin with
-abbrev pub is_digit : ℕ → Bool
-is_digit b = nat_le 48 b && nat_le b 57
-
-abbrev pub is_first_digit : ℕ → Bool
-is_first_digit b = nat_le 49 b && nat_le b 57
-
--- a number of 1 to 3 digits without leading zeros
-unfoldable pub number_of : List ℕ → Option ℕ
-number_of w =
-    if (length w == 1) && is_digit (slice_index w 0) then Some (slice_index w 0 - 48)
-    else if (length w == 2) && (is_first_digit (slice_index w 0) && is_digit (slice_index w 1))
-    then Some ((slice_index w 0 - 48) * 10 + (slice_index w 1 - 48))
-    else if (length w == 3) && (is_first_digit (slice_index w 0) && (is_digit (slice_index w 1) && is_digit (slice_index w 2)))
-    then Some ((slice_index w 0 - 48) * 100 + (slice_index w 1 - 48) * 10 + (slice_index w 2 - 48))
-    else None
 
 -- what a login line says
 pub record Login : Type 0 where

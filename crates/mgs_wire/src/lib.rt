@@ -9,7 +9,6 @@ mod law;
 mod limits;
 mod line;
 mod login;
-mod number;
 mod pump;
 mod refusal;
 mod sessions;

@@ -1,13 +1,13 @@
 // Login lines.
-ghost use Rattle.std.specs.Prelude.{◌≡◌, ◌∷◌};
+ghost use Rattle.std.specs.Prelude.{◌≡◌};
 ghost use Rattle.std.specs.Option.{option_map};
-ghost use Rattle.mgs_keys.specs.Words.{words_of, is_space, parts_after};
-ghost use Rattle.mgs_wire.specs.Login.{without_return, utf8_of, number_of, login_by, login_of, login_in, admission};
+ghost use Rattle.mgs_keys.specs.Words.{words_of};
+ghost use Rattle.mgs_keys.specs.Numbers.{number_of};
+ghost use Rattle.mgs_wire.specs.Login.{without_return, utf8_of, login_by, login_of, login_in, admission};
 ghost use Rattle.mgs_wire.specs.Parsed.{login_view, Admits};
 
-use crate::number::number;
 use crate::refusal::Refusal;
-use mgs_keys::cut_at;
+use mgs_keys::{cut_word, read_number};
 use mgs_model::Tickets;
 use std::str;
 
@@ -38,14 +38,6 @@ fn without_return(line: &[u8]) -> &[u8]
     }
 }
 
-// The first word of a text, and the words after the space after it, if there is one.
-#[tactic(auto, using(mgs_keys::proofs::Cuts::parts_cut))]
-fn cut_word(text: &[u8]) -> (&[u8], Option<&[u8]>)
-    ensures { words_of text.now ≡ result.0.now ∷ parts_after is_space (option_map (λ x. x.now) result.1) }
-{
-    cut_at(text, b' ')
-}
-
 // A login of these words.
 #[tactic(auto, unfolding(crate::specs::Login::login_by))]
 fn login_by<'a>(
@@ -60,8 +52,8 @@ fn login_by<'a>(
     if word != b"login".as_slice() || name.is_empty() || ticket.is_empty() {
         return None;
     }
-    let rows = number(rows)?;
-    let cols = number(cols)?;
+    let rows = read_number(rows)?;
+    let cols = read_number(cols)?;
     Some(Login {
         name,
         ticket,

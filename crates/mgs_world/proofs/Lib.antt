@@ -7,3 +7,4 @@ pub mod Soundness
 pub mod Found
 pub mod WindowMarks
 pub mod Settles
+pub mod Dropping

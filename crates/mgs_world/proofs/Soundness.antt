@@ -1,19 +1,19 @@
 -- Soundness: the marks in use are those that the sessions use, through edits, placements and changes of a session.
-use Rattle.std.proofs.Common.{◌≡◌, ℕ, zero, suc, ◌+◌, ◌<◌, ◌≤◌, Bool, true, false, List, [], ◌∷◌, ◌++◌, take, drop, length, length-append, get_or, Option, Some, None, refl, sym, ap, subst, ◌∙◌, arith}
+use Rattle.std.proofs.Common.{◌≡◌, ℕ, zero, suc, ◌+◌, ◌-◌, ◌<◌, ◌≤◌, Bool, true, false, cond, ◌||◌, nat_lt, ltb-false, List, [], ◌∷◌, ◌++◌, take, drop, length, length-append, get_or, Option, Some, None, refl, sym, ap, subst, ◌∙◌, arith}
 use Rattle.std.proofs.lemmas.List.{length-take, length-drop}
 use Rattle.std.specs.Prelude.{find, slice_get, slice_set, IsSome, is_some, nat_eq}
 use Rattle.std.specs.Option.{option_map, option_and_then}
 use Rattle.std.proofs.lemmas.Option.{slice_get-get_or, slice_get-map}
 use Rattle.mgs_model.specs.Names.{same_name}
-use Rattle.mgs_model.specs.Text.{shift, shift_all}
+use Rattle.mgs_model.specs.Text.{shift, shift_all, edited, is_edit}
 use Rattle.mgs_model.specs.Apply.{change_first}
 use Rattle.mgs_marks.specs.Marks.{mark_in}
 use Rattle.mgs_buffers.specs.MarkedBuffer.{MarkedBuffer, marked_named, marked_at, marked_or_none, HasBuffer, IsMark, marked_edited, marked_placed}
-use Rattle.mgs_session.specs.Told.{window_marks_of}
+use Rattle.mgs_session.specs.Sessions.{window_marks_of}
 use Rattle.mgs_windows.specs.declared.WindowMarks.{WindowMarks}
 use Rattle.mgs_windows.specs.declared.Window.{Window}
 use Rattle.mgs_session.specs.declared.Session.{Session}
-use Rattle.mgs_world.specs.Sound.{IsSound, IsSessionSound, IsWindowSound, in_use, one_if, option_uses, sum_of, session_uses, uses, window_uses, window_marks_uses}
+use Rattle.mgs_world.specs.Sound.{IsSound, IsSessionSound, IsShownSound, IsWindowSound, in_use, one_if, option_uses, sum_of, session_uses, uses, window_uses, window_marks_uses}
 use Rattle.mgs_world.specs.Worlds.{size_in, sizes_in}
 use Rattle.mgs_world.proofs.Uses.{sum_at}
 use Rattle.mgs_world.proofs.Marks.{is_same, same_is, found_same, found_other}
@@ -49,6 +49,9 @@ session_sound ks xs i x sound is l = record { once = λ n m. omega (arith, sound
 pub window_sound : (ks : List MarkedBuffer) (x : Session) (i : ℕ) (w : Window) → IsSessionSound ks x → w ≡ get_or x.windows.windows i w → i < length x.windows.windows → IsWindowSound ks w
 window_sound ks x i w sound is l = record { once = λ n m. omega (arith, sound.once n m, sum_get (window_uses n m) x.windows.windows i w is l) }
 
+pub shown_sound : (ks : List MarkedBuffer) (w : Window) → IsWindowSound ks w → IsShownSound ks w.shows
+shown_sound ks w sound = record { once = sound.once }
+
 -- what a window shows is in use
 pub point_used : (x : WindowMarks) → 1 ≤ window_marks_uses x.name x.point (Some x)
 point_used x = omega (arith, window_marks_once x)
@@ -71,10 +74,13 @@ mark_used x m is =
 in_use_mark : (ks : List MarkedBuffer) (n : List ℕ) (i : ℕ) → 1 ≤ in_use n i ks → IsMark n i ks
 in_use_mark ks n i h = one_if_is (is_some (mark_in (marked_at n ks).marks i)) h
 
-pub window_point : (ks : List MarkedBuffer) (w : Window) (x : WindowMarks) → IsWindowSound ks w → w.shows ≡ Some x → IsMark x.name x.point ks
-window_point ks w x sound is =
-    let u : window_uses x.name x.point w ≡ window_marks_uses x.name x.point (Some x) = ap (window_marks_uses x.name x.point) is in
+pub shown_point : (ks : List MarkedBuffer) (o : Option WindowMarks) (x : WindowMarks) → IsShownSound ks o → o ≡ Some x → IsMark x.name x.point ks
+shown_point ks o x sound is =
+    let u : window_marks_uses x.name x.point o ≡ window_marks_uses x.name x.point (Some x) = ap (window_marks_uses x.name x.point) is in
     in_use_mark ks x.name x.point (omega (arith, sound.once x.name x.point, u, point_used x))
+
+pub window_point : (ks : List MarkedBuffer) (w : Window) (x : WindowMarks) → IsWindowSound ks w → w.shows ≡ Some x → IsMark x.name x.point ks
+window_point ks w x sound is = shown_point ks w.shows x (shown_sound ks w sound) is
 
 -- the selected window's point
 selected_point : (ks : List MarkedBuffer) (h : Session) (x : WindowMarks) → IsSessionSound ks h → window_marks_of h ≡ Some x → IsMark x.name x.point ks
@@ -157,15 +163,24 @@ sound_set ks xs at h y is same sound = record {
   once = λ n i. omega (arith, sound.once n i, sum_set (session_uses n i) xs at h y is (same n i));
 }
 
--- the text after an insertion is one longer
-pub text_edited : (n : List ℕ) (p c : ℕ) (ks : List MarkedBuffer) → HasBuffer n ks → p ≤ length (marked_at n ks).buffer.text → length (marked_at n (change_first (marked_named n) (marked_edited p p (c ∷ [])) ks)).buffer.text ≡ length (marked_at n ks).buffer.text + 1
-text_edited n p c ks kept within =
+-- the size of a text after an edit
+size_edited : (f : Bool) (a b : ℕ) (put t : List ℕ) → is_edit a b put ≡ f → a ≤ b → b ≤ length t → length (cond f (edited a b put t) t) ≡ length t - (b - a) + length put
+size_edited true a b put t e order within =
+    omega (arith, order, within, length-append (take a t ++ put) (drop b t), length-append (take a t) put, length-take a t, length-drop b t)
+size_edited false a b put t e order within = omega (arith, order, none (nat_lt a b) (nat_lt 0 (length put)) refl refl e)
+  where
+    none : (c d : Bool) → nat_lt a b ≡ c → nat_lt 0 (length put) ≡ d → (c || d) ≡ false → (b ≤ a) × (length put ≤ 0)
+    none true d p q r = cc
+    none false true p q r = cc
+    none false false p q r = (ltb-false a b p, ltb-false 0 (length put) q)
+
+pub text_edited : (n : List ℕ) (a b : ℕ) (put : List ℕ) (ks : List MarkedBuffer) → HasBuffer n ks → a ≤ b → b ≤ length (marked_at n ks).buffer.text → length (marked_at n (change_first (marked_named n) (marked_edited a b put) ks)).buffer.text ≡ length (marked_at n ks).buffer.text - (b - a) + length put
+text_edited n a b put ks kept order within =
     let k = some_from (find (marked_named n) ks) kept in
-    let t = (marked_at n ks).buffer.text in
-    let e : marked_at n (change_first (marked_named n) (marked_edited p p (c ∷ [])) ks) ≡ marked_edited p p (c ∷ []) (marked_at n ks) =
-    ap marked_or_none (found_same n n (marked_edited p p (c ∷ [])) ks (λ k. refl) (is_same n n refl) ∙ ap (option_map (marked_edited p p (c ∷ []))) k.1)
-    ∙ ap (λ o. marked_edited p p (c ∷ []) (marked_or_none o)) (sym k.1) in
-    ap (λ (k : MarkedBuffer). length k.buffer.text) e ∙ omega (arith, length-append (take p t ++ c ∷ []) (drop p t), length-append (take p t) (c ∷ []), length-take p t, length-drop p t, within)
+    let e : marked_at n (change_first (marked_named n) (marked_edited a b put) ks) ≡ marked_edited a b put (marked_at n ks) =
+    ap marked_or_none (found_same n n (marked_edited a b put) ks (λ k. refl) (is_same n n refl) ∙ ap (option_map (marked_edited a b put)) k.1)
+    ∙ ap (λ o. marked_edited a b put (marked_or_none o)) (sym k.1) in
+    ap (λ (k : MarkedBuffer). length k.buffer.text) e ∙ size_edited (is_edit a b put) a b put (marked_at n ks).buffer.text refl order within
 
 -- the sizes stay where a session keeps its own
 pub sizes_set : (xs : List Session) (at : ℕ) (h y : Session) → h ≡ get_or xs at h → size_in y ≡ size_in h → sizes_in (slice_set xs at y) ≡ sizes_in xs

@@ -7,16 +7,19 @@ use Rattle.mgs_model.specs.Names.{same_name}
 use Rattle.mgs_model.specs.Apply.{change_first}
 use Rattle.mgs_marks.specs.Marks.{mark_in, or_zero}
 use Rattle.mgs_buffers.specs.MarkedBuffer.{MarkedBuffer, marked_named, marked_at, marked_or_none, HasBuffer, IsMark, mark_at, with_marks, MarkAdded, MarkDropped}
-use Rattle.mgs_model.specs.World.{Buffer_of}
+use Rattle.mgs_model.specs.World.{Buffer, Buffer_of, find_buffer, is_named}
+use Rattle.mgs_model.proofs.Firsts.{find-map}
+use Rattle.mgs_model.specs.World as model
 use Rattle.mgs_windows.specs.declared.WindowMarks.{WindowMarks}
 use Rattle.mgs_windows.specs.declared.Window.{Window}
 use Rattle.mgs_session.specs.declared.Session.{Session}
-use Rattle.mgs_world.specs.Worlds.{buffers_of, session_of, window_of, window_shown}
-use Rattle.mgs_world.specs.Sound.{in_use, one_if, option_uses, sum_of, session_uses, window_marks_uses, window_uses}
+use Rattle.mgs_world.specs.Worlds.{buffers_of, place_of, session_of, window_of, window_shown}
+use Rattle.mgs_world.specs.Sound.{in_use, one_if, option_uses, sum_of, place_uses, session_uses, window_marks_uses, window_uses}
 use Rattle.mgs_world.specs.WindowMarks.{MarksStay, WindowMarksAdded, WindowMarksDropped}
+use Rattle.mgs_world.proofs.Found.{found_buffer}
 use Rattle.mgs_world.proofs.Frames.{map_local}
 use Rattle.mgs_world.proofs.Marks.{is_same, same_is, false_from, found_same, found_other}
-use Rattle.mgs_world.proofs.Worlds.{map-change_first_same, same_window, same_windows}
+use Rattle.mgs_world.proofs.Worlds.{map-change_first_same, same_place, same_positions, same_window}
 use Rattle.mgs_world.proofs.Soundness.{AreInUse, some_from, one_if_is, point_used, top_used, mark_used}
 
 -- a mark of this buffer and this number
@@ -120,7 +123,7 @@ pub marked_marked_kept : (n : List ℕ) (ms : List (Option ℕ)) (ks new : List 
 marked_marked_kept n ms ks new kept e =
     subst (λ (o : Option MarkedBuffer). IsSome o) (sym (ap (find (marked_named n)) e ∙ found_same n n (with_marks ms) ks (λ k. refl) (is_same n n refl))) (marked_again (find (marked_named n) ks) (with_marks ms) kept)
 
-buffers_marked : (n : List ℕ) (ms : List (Option ℕ)) (ks new : List MarkedBuffer) → new ≡ change_first (marked_named n) (with_marks ms) ks → buffers_of new ≡ buffers_of ks
+pub buffers_marked : (n : List ℕ) (ms : List (Option ℕ)) (ks new : List MarkedBuffer) → new ≡ change_first (marked_named n) (with_marks ms) ks → buffers_of new ≡ buffers_of ks
 buffers_marked n ms ks new e = ap buffers_of e ∙ map-change_first_same (λ (k : MarkedBuffer). k.buffer) (marked_named n) (with_marks ms) (λ k. refl) ks
 
 not_used : (x : Option ℕ) → x ≡ None → 1 ≤ one_if (is_some x) → ⊥
@@ -177,19 +180,61 @@ found_added n p id old new kept h =
     let at : nat_eq id id ≡ true = eq-eqb id id refl in
     mark_after_added n p id old new n id kept h ∙ ap (λ (r : Bool). cond r (cond (nat_eq id id) (Some p) (mark_in (marked_at n old).marks id)) (mark_in (marked_at n old).marks id)) same ∙ ap (λ (r : Bool). cond r (Some p) (mark_in (marked_at n old).marks id)) at
 
-pub window_marks_added : (n : List ℕ) (x : WindowMarks) (a b c : List MarkedBuffer) → HasBuffer n a → MarkAdded n 0 x.point a b → MarkAdded n 0 x.top b c → x.name ≡ n → x.mark ≡ None → WindowMarksAdded n x a c
-window_marks_added n x a b c kept h g named unmarked =
+-- the same buffers have the same texts
+pub buffer_same : (n : List ℕ) (ks ls : List MarkedBuffer) → HasBuffer n ks → buffers_of ls ≡ buffers_of ks → HasBuffer n ls × ((marked_at n ls).buffer ≡ (marked_at n ks).buffer)
+buffer_same n ks ls kept same =
+    let kept_ls : HasBuffer n ls =
+    sym (some_mapped (find (marked_named n) ls))
+    ∙ ap is_some (sym (found_in ls) ∙ ap (find_buffer n) same ∙ found_in ks)
+    ∙ some_mapped (find (marked_named n) ks) ∙ kept in
+    (kept_ls, only _ _ (sym (found_buffer n ls kept_ls) ∙ ap (find_buffer n) same ∙ found_buffer n ks kept))
+  where
+    some_mapped : (o : Option MarkedBuffer) → is_some (option_map (λ (k : MarkedBuffer). k.buffer) o) ≡ is_some o
+    some_mapped None = refl
+    some_mapped (Some k) = refl
+
+    found_in : (ks : List MarkedBuffer) → find_buffer n (buffers_of ks) ≡ option_map (λ (k : MarkedBuffer). k.buffer) (find (marked_named n) ks)
+    found_in ks = find-map (λ (k : MarkedBuffer). k.buffer) (marked_named n) (is_named n) (λ k. refl) ks
+
+    only : (a b : Buffer) → Some a ≡ Some b → a ≡ b
+    only a b e = cc
+
+-- point and top
+pub window_marks_added : (n : List ℕ) (p t : ℕ) (x : WindowMarks) (a b c : List MarkedBuffer) → HasBuffer n a → MarkAdded n p x.point a b → MarkAdded n t x.top b c → x.name ≡ n → x.mark ≡ None → WindowMarksAdded n p None t x a c
+window_marks_added n p t x a b c kept h g named unmarked =
     let kept_b = marked_marked_kept n h.marks a b kept h.shape in
-    let used_point : 1 ≤ in_use n x.point b = let e : in_use n x.point b ≡ 1 = ap (λ (o : Option ℕ). one_if (is_some o)) (found_added n 0 x.point a b kept h) in omega (arith, e) in
+    let used_point : 1 ≤ in_use n x.point b = let e : in_use n x.point b ≡ 1 = ap (λ (o : Option ℕ). one_if (is_some o)) (found_added n p x.point a b kept h) in omega (arith, e) in
     record {
       buffers = buffers_marked n g.marks b c g.shape ∙ buffers_marked n h.marks a b h.shape;
-      uses = λ m i. omega (arith, in_use_added n 0 x.point a b m i kept h, in_use_added n 0 x.top b c m i kept_b g, window_marks_parts n m i x named, no_mark n m i x.mark unmarked);
-      stay = λ m i used after. ap or_zero (stays_added n 0 x.top b c m i kept_b g (omega (arith, used, in_use_added n 0 x.point a b m i kept h)) ∙ stays_added n 0 x.point a b m i kept h used);
+      uses = λ m i. omega (arith, in_use_added n p x.point a b m i kept h, in_use_added n t x.top b c m i kept_b g, window_marks_parts n m i x named, no_mark n m i x.mark unmarked);
+      stay = λ m i used after. ap or_zero (stays_added n t x.top b c m i kept_b g (omega (arith, used, in_use_added n p x.point a b m i kept h)) ∙ stays_added n p x.point a b m i kept h used);
       named = named;
-      mark = unmarked;
-      point = ap or_zero (stays_added n 0 x.top b c n x.point kept_b g used_point ∙ found_added n 0 x.point a b kept h);
-      top = ap or_zero (found_added n 0 x.top b c kept_b g);
+      point = ap or_zero (stays_added n t x.top b c n x.point kept_b g used_point ∙ found_added n p x.point a b kept h);
+      mark = ap (option_map (mark_at n c)) unmarked;
+      top = ap or_zero (found_added n t x.top b c kept_b g);
     }
+
+with_mark_uses : (n m : List ℕ) (i k : ℕ) (x : WindowMarks) → x.name ≡ n → x.mark ≡ None → window_marks_uses m i (Some (record x { mark = Some k })) ≡ window_marks_uses m i (Some x) + this_one n k m i
+with_mark_uses n m i k x named unmarked =
+    omega (arith, window_marks_parts n m i (record x { mark = Some k }) named, window_marks_parts n m i x named, no_mark n m i x.mark unmarked)
+
+-- and the mark
+pub window_mark_added : (n : List ℕ) (p q t k : ℕ) (x : WindowMarks) (a c d : List MarkedBuffer) → HasBuffer n c → WindowMarksAdded n p None t x a c → x.mark ≡ None → MarkAdded n q k c d → WindowMarksAdded n p (Some q) t (record x { mark = Some k }) a d
+window_mark_added n p q t k x a c d kept h unmarked g =
+    let used_point : 1 ≤ in_use n x.point c = omega (arith, h.uses n x.point, used_in n x.point x h.named (point_used x)) in
+    let used_top : 1 ≤ in_use n x.top c = omega (arith, h.uses n x.top, used_in n x.top x h.named (top_used x)) in
+    record {
+      buffers = buffers_marked n g.marks c d g.shape ∙ h.buffers;
+      uses = λ m i. omega (arith, h.uses m i, in_use_added n q k c d m i kept g, with_mark_uses n m i k x h.named unmarked);
+      stay = λ m i used after. let mid : 1 ≤ in_use m i c = omega (arith, used, h.uses m i) in ap or_zero (stays_added n q k c d m i kept g mid) ∙ h.stay m i used mid;
+      named = h.named;
+      point = ap or_zero (stays_added n q k c d n x.point kept g used_point) ∙ h.point;
+      mark = ap (λ (r : ℕ). Some r) (ap or_zero (found_added n q k c d kept g));
+      top = ap or_zero (stays_added n q k c d n x.top kept g used_top) ∙ h.top;
+    }
+  where
+    used_in : (n : List ℕ) (i : ℕ) (x : WindowMarks) → x.name ≡ n → 1 ≤ window_marks_uses x.name i (Some x) → 1 ≤ window_marks_uses n i (Some x)
+    used_in n i x named h = subst (λ (y : List ℕ). 1 ≤ window_marks_uses y i (Some x)) named h
 
 pub sum_append : {A : Type 0} (used : A → ℕ) (xs : List A) (y : A) → sum_of used (xs ++ y ∷ []) ≡ sum_of used xs + used y
 sum_append used [] y = omega arith
@@ -249,6 +294,15 @@ undone n p id a b d kept h g =
       stay = λ m i used after. ap or_zero (stays_dropped n id b d m i kept_b g after ∙ stays_added n p id a b m i kept h used);
     }
 
+-- a window's marks that were added are dropped again
+pub all_undone : (n : List ℕ) (p : ℕ) (m : Option ℕ) (t : ℕ) (x : WindowMarks) (a b d : List MarkedBuffer) → WindowMarksAdded n p m t x a b → WindowMarksDropped (Some x) b d → WindowMarksDropped None a d
+all_undone n p m t x a b d h g =
+    record {
+      buffers = g.buffers ∙ h.buffers;
+      uses = λ m i. omega (arith, h.uses m i, g.uses m i);
+      stay = λ m i used after. let mid : 1 ≤ in_use m i b = omega (arith, used, h.uses m i) in g.stay m i mid after ∙ h.stay m i used mid;
+    }
+
 pub when_err : {A E P : Type 0} (r : Result A E) → P → OnErr r P
 when_err (Ok x) p = tt
 when_err (Err e) p = p
@@ -270,9 +324,16 @@ shown_local ks ls height (Some x) same =
 pub window_local : (ks ls : List MarkedBuffer) (w : Window) → ((n : List ℕ) (i : ℕ) → 1 ≤ window_uses n i w → mark_at n ks i ≡ mark_at n ls i) → window_of ks w ≡ window_of ls w
 window_local ks ls w same = shown_local ks ls w.height w.shows same
 
+pub place_local : (ks ls : List MarkedBuffer) (x : WindowMarks) → ((n : List ℕ) (i : ℕ) → 1 ≤ place_uses n i x → mark_at n ks i ≡ mark_at n ls i) → place_of ks x ≡ place_of ls x
+place_local ks ls x same =
+    let w = shown_local ks ls 0 (Some x) same in
+    same_place x.name _ _ _ _ (ap (λ (y : model.Window). y.point) w) (ap (λ (y : model.Window). y.mark) w)
+
 pub session_local : (ks ls : List MarkedBuffer) (x : Session) → ((n : List ℕ) (i : ℕ) → 1 ≤ session_uses n i x → mark_at n ks i ≡ mark_at n ls i) → session_of ks x ≡ session_of ls x
 session_local ks ls x same =
-    same_windows (session_of ks x) _ _ (map_local (λ s n i. mark_at n s i) window_uses window_of window_local ks ls x.windows.windows same)
+    same_positions (session_of ks x) _ _ _ _
+    (map_local (λ s n i. mark_at n s i) window_uses window_of window_local ks ls x.windows.windows (λ n i u. same n i (omega (arith, u))))
+    (map_local (λ s n i. mark_at n s i) place_uses place_of place_local ks ls x.windows.places (λ n i u. same n i (omega (arith, u))))
 
 -- sessions whose marks are in use before and after
 pub sessions_stay : (ks ls : List MarkedBuffer) (xs : List Session) → AreInUse ks xs → AreInUse ls xs → MarksStay ks ls → map (session_of ls) xs ≡ map (session_of ks) xs

@@ -8,16 +8,16 @@ use Rattle.mgs_model.specs.Text.{shift}
 use Rattle.mgs_model.specs.World.{World, Buffer, Shows, Nothing, Buffer_of, is_named, has_id}
 use Rattle.mgs_model.specs.World as model
 use Rattle.mgs_model.specs.Outcome.{At, Keep, Keep_mark}
-use Rattle.mgs_model.specs.Apply.{change_first, change_at, buffer_edited, window_moved, session_moved, window_adjusted}
+use Rattle.mgs_model.specs.Apply.{change_first, change_at, buffer_edited, window_moved, place_moved, session_moved, window_adjusted}
 use Rattle.mgs_model.proofs.Firsts.{map-change_first}
 use Rattle.mgs_marks.specs.Marks.{mark_in}
 use Rattle.mgs_buffers.specs.MarkedBuffer.{MarkedBuffer, marked_named, marked_at, mark_at, marked_edited, marked_placed}
 use Rattle.mgs_windows.specs.declared.WindowMarks.{WindowMarks}
 use Rattle.mgs_windows.specs.declared.Window.{Window}
 use Rattle.mgs_session.specs.declared.Session.{Session}
-use Rattle.mgs_session.specs.Told.{window_marks_of}
-use Rattle.mgs_world.specs.Worlds.{window_shown, window_of, session_of, buffers_of, session_id}
-use Rattle.mgs_world.specs.Sound.{one_if, option_uses, window_marks_uses, window_uses, session_uses, uses}
+use Rattle.mgs_session.specs.Sessions.{window_marks_of}
+use Rattle.mgs_world.specs.Worlds.{window_shown, window_of, place_of, session_of, buffers_of, session_id}
+use Rattle.mgs_world.specs.Sound.{one_if, option_uses, window_marks_uses, window_uses, place_uses, session_uses, uses}
 use Rattle.mgs_world.proofs.Uses.{map_unused, map_used_at, map_used_first, sum_at, sum_found}
 use Rattle.mgs_world.proofs.Marks.{is_same, mark_edited, mark_kept, mark_unused, marks_unused, mark_placed, apart_from}
 
@@ -44,6 +44,16 @@ same_window s p p' m m' t t' r h ep em et =
 pub same_windows : (x : model.Session) (ws ws' : List model.Window) → ws ≡ ws' → Path model.Session (record x { windows = ws }) (record x { windows = ws' })
 same_windows x ws ws' e = ap (λ (q : List model.Window). let s : model.Session = record x { windows = q } in s) e
 
+pub same_positions : (x : model.Session) (ws ws' : List model.Window) (ps ps' : List model.Place) → ws ≡ ws' → ps ≡ ps' → Path model.Session (record x { windows = ws; places = ps }) (record x { windows = ws'; places = ps' })
+same_positions x ws ws' ps ps' e f =
+    ap (λ (q : List model.Window). let s : model.Session = record x { windows = q; places = ps } in s) e
+    ∙ ap (λ (q : List model.Place). let s : model.Session = record x { windows = ws'; places = q } in s) f
+
+pub same_place : (n : List ℕ) (p p' : ℕ) (m m' : Option ℕ) → p ≡ p' → m ≡ m' → Path model.Place (record { name = n; point = p; mark = m }) (record { name = n; point = p'; mark = m' })
+same_place n p p' m m' ep em =
+    ap (λ (q : ℕ). let w : model.Place = record { name = n; point = q; mark = m } in w) ep
+    ∙ ap (λ (q : Option ℕ). let w : model.Place = record { name = n; point = p'; mark = q } in w) em
+
 pub same_world : (directory : Directory) (bs bs' : List Buffer) (ss ss' : List model.Session) (next : ℕ) → bs ≡ bs' → ss ≡ ss' → Path World (record { directory = directory; buffers = bs; sessions = ss; next_id = next }) (record { directory = directory; buffers = bs'; sessions = ss'; next_id = next })
 same_world directory bs bs' ss ss' next eb es =
     ap (λ (q : List Buffer). let w : World = record { directory = directory; buffers = q; sessions = ss; next_id = next } in w) eb
@@ -69,11 +79,28 @@ window_edited n a b put ks height (Some x) =
     ]
     in go (same_name n x.name) refl
 
+place_edited : (n : List ℕ) (a b : ℕ) (put : List ℕ) (ks : List MarkedBuffer) (x : WindowMarks) → place_of (change_first (marked_named n) (marked_edited a b put) ks) x ≡ place_moved n (shift a b (length put)) (place_of ks x)
+place_edited n a b put ks x =
+    let ks' = change_first (marked_named n) (marked_edited a b put) ks in
+    let move = shift a b (length put) in
+    let goal : Bool → Type 0 = λ r. place_of ks' x ≡ record (place_of ks x) {
+      point = cond r (move (mark_at x.name ks x.point)) (mark_at x.name ks x.point);
+      mark = cond r (option_map move (option_map (mark_at x.name ks) x.mark)) (option_map (mark_at x.name ks) x.mark);
+    } in
+    let go : (r : Bool) → same_name n x.name ≡ r → goal r =
+    λ r. elim r as (λ r. same_name n x.name ≡ r → goal r) [
+      | true ↦ λ e. same_place x.name _ _ _ _ (mark_edited n x.name a b put ks x.point e) (option_mapped_twice (mark_at x.name ks') move (mark_at x.name ks) (λ id. mark_edited n x.name a b put ks id e) x.mark)
+      | false ↦ λ e. same_place x.name _ _ _ _ (mark_kept n x.name (marked_edited a b put) ks x.point (λ k. refl) e) (option_mapped (mark_at x.name ks') (mark_at x.name ks) (λ id. mark_kept n x.name (marked_edited a b put) ks id (λ k. refl) e) x.mark)
+    ]
+    in go (same_name n x.name) refl
+
 session_edited : (n : List ℕ) (a b : ℕ) (put : List ℕ) (ks : List MarkedBuffer) (x : Session) → session_of (change_first (marked_named n) (marked_edited a b put) ks) x ≡ session_moved n (shift a b (length put)) (session_of ks x)
 session_edited n a b put ks x =
     let ks' = change_first (marked_named n) (marked_edited a b put) ks in
-    same_windows (session_of ks x) _ _
-    (mapped_twice (window_of ks') (window_moved n (shift a b (length put))) (window_of ks) (λ (w : Window). window_edited n a b put ks w.height w.shows) x.windows.windows)
+    let move = shift a b (length put) in
+    same_positions (session_of ks x) _ _ _ _
+    (mapped_twice (window_of ks') (window_moved n move) (window_of ks) (λ (w : Window). window_edited n a b put ks w.height w.shows) x.windows.windows)
+    (mapped_twice (place_of ks') (place_moved n move) (place_of ks) (place_edited n a b put ks) x.windows.places)
 
 pub buffers_edited : (n : List ℕ) (a b : ℕ) (put : List ℕ) (ks : List MarkedBuffer) → buffers_of (change_first (marked_named n) (marked_edited a b put) ks) ≡ change_first (is_named n) (buffer_edited a b put) (buffers_of ks)
 buffers_edited n a b put ks =
@@ -101,10 +128,17 @@ window_marks_unused n id p ks height (Some x) h =
 window_unused : (n : List ℕ) (id p : ℕ) (ks : List MarkedBuffer) (w : Window) → window_uses n id w ≡ 0 → window_of (change_first (marked_named n) (marked_placed id p) ks) w ≡ window_of ks w
 window_unused n id p ks w h = window_marks_unused n id p ks w.height w.shows h
 
+place_unused : (n : List ℕ) (id p : ℕ) (ks : List MarkedBuffer) (x : WindowMarks) → place_uses n id x ≡ 0 → place_of (change_first (marked_named n) (marked_placed id p) ks) x ≡ place_of ks x
+place_unused n id p ks x h =
+    let w = window_marks_unused n id p ks 0 (Some x) h in
+    same_place x.name _ _ _ _ (ap (λ (y : model.Window). y.point) w) (ap (λ (y : model.Window). y.mark) w)
+
 session_unused : (n : List ℕ) (id p : ℕ) (ks : List MarkedBuffer) (x : Session) → session_uses n id x ≡ 0 → session_of (change_first (marked_named n) (marked_placed id p) ks) x ≡ session_of ks x
 session_unused n id p ks x none =
     let ks' = change_first (marked_named n) (marked_placed id p) ks in
-    same_windows (session_of ks x) _ _ (map_unused (window_uses n id) (window_of ks') (window_of ks) (window_unused n id p ks) x.windows.windows (omega (arith, none)))
+    same_positions (session_of ks x) _ _ _ _
+    (map_unused (window_uses n id) (window_of ks') (window_of ks) (window_unused n id p ks) x.windows.windows (omega (arith, none)))
+    (map_unused (place_uses n id) (place_of ks') (place_of ks) (place_unused n id p ks) x.windows.places (omega (arith, none)))
 
 -- A POINT IS PLACED: the selected window has it there
 
@@ -116,7 +150,7 @@ window_marks_once x =
     let s : same_name x.name x.name ≡ true = is_same x.name x.name refl in
     rw (s, one_use x.point x.point refl) (omega arith)
 
-window_marks_placed : (p : ℕ) (ks : List MarkedBuffer) (height : ℕ) (x : WindowMarks) → IsSome (mark_in (marked_at x.name ks).marks x.point) → window_marks_uses x.name x.point (Some x) ≤ 1 → window_shown (change_first (marked_named x.name) (marked_placed x.point p) ks) height (Some x) ≡ window_adjusted None (At p) Keep_mark Keep (window_shown ks height (Some x))
+window_marks_placed : (p : ℕ) (ks : List MarkedBuffer) (height : ℕ) (x : WindowMarks) → IsSome (mark_in (marked_at x.name ks).marks x.point) → window_marks_uses x.name x.point (Some x) ≤ 1 → window_shown (change_first (marked_named x.name) (marked_placed x.point p) ks) height (Some x) ≡ window_adjusted None (At p) Keep_mark Keep None (window_shown ks height (Some x))
 window_marks_placed p ks height x mark once =
     let u = window_marks_once x in
     let m : option_uses x.point x.mark ≡ 0 = omega (arith, u, once) in
@@ -132,7 +166,7 @@ selected_window (Some w) x h = (w, refl, h)
 
 -- the selected point of a session goes to p
 abbrev pub point_at : ℕ → model.Session → model.Session
-point_at p x = record x { windows = change_at x.selected (window_adjusted None (At p) Keep_mark Keep) x.windows }
+point_at p x = record x { windows = change_at x.selected (window_adjusted None (At p) Keep_mark Keep None) x.windows }
 
 session_placed : (p : ℕ) (ks : List MarkedBuffer) (h : Session) (x : WindowMarks) → window_marks_of h ≡ Some x → IsSome (mark_in (marked_at x.name ks).marks x.point) → session_uses x.name x.point h ≤ 1 → session_of (change_first (marked_named x.name) (marked_placed x.point p) ks) h ≡ point_at p (session_of ks h)
 session_placed p ks h x sel mark once =
@@ -144,10 +178,11 @@ session_placed p ks h x sel mark once =
     let used_is : window_uses n id w ≡ window_marks_uses n id (Some x) = ap (window_marks_uses n id) got.2 in
     let in_sum = sum_at (window_uses n id) w h.windows.windows h.windows.selected got.1 in
     let u = window_marks_once x in
-    let does : window_of ks' w ≡ window_adjusted None (At p) Keep_mark Keep (window_of ks w) =
-    ap (window_shown ks' w.height) got.2 ∙ window_marks_placed p ks w.height x mark (omega (arith, used_is, in_sum, once)) ∙ sym (ap (λ (o : Option WindowMarks). window_adjusted None (At p) Keep_mark Keep (window_shown ks w.height o)) got.2) in
-    same_windows (session_of ks h) _ _
-    (map_used_at (window_uses n id) (window_of ks') (window_of ks) (window_adjusted None (At p) Keep_mark Keep) (window_unused n id p ks) w (omega (arith, used_is, u)) does h.windows.windows h.windows.selected got.1 (omega (arith, once)))
+    let does : window_of ks' w ≡ window_adjusted None (At p) Keep_mark Keep None (window_of ks w) =
+    ap (window_shown ks' w.height) got.2 ∙ window_marks_placed p ks w.height x mark (omega (arith, used_is, in_sum, once)) ∙ sym (ap (λ (o : Option WindowMarks). window_adjusted None (At p) Keep_mark Keep None (window_shown ks w.height o)) got.2) in
+    same_positions (session_of ks h) _ _ _ _
+    (map_used_at (window_uses n id) (window_of ks') (window_of ks) (window_adjusted None (At p) Keep_mark Keep None) (window_unused n id p ks) w (omega (arith, used_is, u)) does h.windows.windows h.windows.selected got.1 (omega (arith, once)))
+    (map_unused (place_uses n id) (place_of ks') (place_of ks) (place_unused n id p ks) h.windows.places (omega (arith, used_is, u, in_sum, once)))
 
 pub map-change_first_same : {A B : Type 0} (g : A → B) (p : A → Bool) (f : A → A) → ((x : A) → g (f x) ≡ g x) → (xs : List A) → map g (change_first p f xs) ≡ map g xs
 map-change_first_same g p f same [] = refl

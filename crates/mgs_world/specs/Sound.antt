@@ -28,8 +28,11 @@ window_marks_uses name id (Some x) =
 abbrev pub window_uses : List ℕ → ℕ → Window → ℕ
 window_uses name id x = window_marks_uses name id x.shows
 
+abbrev pub place_uses : List ℕ → ℕ → WindowMarks → ℕ
+place_uses name id x = window_marks_uses name id (Some x)
+
 abbrev pub session_uses : List ℕ → ℕ → Session → ℕ
-session_uses name id x = sum_of (window_uses name id) x.windows.windows
+session_uses name id x = sum_of (window_uses name id) x.windows.windows + sum_of (place_uses name id) x.windows.places
 
 abbrev pub uses : List ℕ → ℕ → List Session → ℕ
 uses name id xs = sum_of (session_uses name id) xs
@@ -48,6 +51,10 @@ pub record IsSessionSound (ks : List MarkedBuffer) (x : Session) : Type 0 where
 
 pub record IsWindowSound (ks : List MarkedBuffer) (x : Window) : Type 0 where
   pub once : (name : List ℕ) (id : ℕ) → window_uses name id x ≤ in_use name id ks
+
+-- the marks of what a window shows
+pub record IsShownSound (ks : List MarkedBuffer) (o : Option WindowMarks) : Type 0 where
+  pub once : (name : List ℕ) (id : ℕ) → window_marks_uses name id o ≤ in_use name id ks
 
 -- one step after another
 abbrev pub steps : {S A : Type 0} → (S → A → S) → S → List A → S

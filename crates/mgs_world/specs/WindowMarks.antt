@@ -13,15 +13,15 @@ use Rattle.mgs_world.specs.Sound.{in_use, window_marks_uses}
 abbrev pub MarksStay : List MarkedBuffer → List MarkedBuffer → Type 0
 MarksStay old new = (m : List ℕ) (i : ℕ) → 1 ≤ in_use m i old → 1 ≤ in_use m i new → mark_at m new i ≡ mark_at m old i
 
--- a window's marks are added: point and top at the start of the text, and no mark
-pub record WindowMarksAdded (name : List ℕ) (x : WindowMarks) (old new : List MarkedBuffer) : Type 0 where
+-- a window's marks are added: point and top at these positions, and the mark, where there is one
+pub record WindowMarksAdded (name : List ℕ) (p : ℕ) (m : Option ℕ) (t : ℕ) (x : WindowMarks) (old new : List MarkedBuffer) : Type 0 where
   pub buffers : buffers_of new ≡ buffers_of old
-  pub uses : (m : List ℕ) (i : ℕ) → in_use m i new ≡ in_use m i old + window_marks_uses m i (Some x)
+  pub uses : (n : List ℕ) (i : ℕ) → in_use n i new ≡ in_use n i old + window_marks_uses n i (Some x)
   pub stay : MarksStay old new
   pub named : x.name ≡ name
-  pub mark : x.mark ≡ None
-  pub point : mark_at name new x.point ≡ 0
-  pub top : mark_at name new x.top ≡ 0
+  pub point : mark_at name new x.point ≡ p
+  pub mark : option_map (mark_at name new) x.mark ≡ m
+  pub top : mark_at name new x.top ≡ t
 
 -- what a window showed is given up with its marks
 pub record WindowMarksDropped (o : Option WindowMarks) (old new : List MarkedBuffer) : Type 0 where
@@ -40,4 +40,4 @@ first_name directory user ks = option_map (λ (b : Buffer). b.name) (find (may d
 -- what the first window of a session shows: a buffer at marks that were added, or nothing
 abbrev pub FirstWindowMarks : Option WindowMarks → List MarkedBuffer → List MarkedBuffer → Type 0
 FirstWindowMarks None old new = WindowMarksDropped None old new
-FirstWindowMarks (Some x) old new = WindowMarksAdded x.name x old new
+FirstWindowMarks (Some x) old new = WindowMarksAdded x.name 0 None 0 x old new

@@ -1,15 +1,15 @@
 -- The world that the kept buffers and the sessions stand for.
-use Rattle.std.specs.Prelude.{◌≡◌, ℕ, ◌^◌, Bool, false, nat_eq, List, [], ◌∷◌, Option, Some, None, map, find, All}
+use Rattle.std.specs.Prelude.{◌≡◌, ℕ, ◌^◌, Bool, false, nat_eq, slice_get, List, [], ◌∷◌, Option, Some, None, map, find, All}
 use Rattle.std.specs.Option.{option_map}
 use Rattle.mgs_model.specs.Access.{Directory}
-use Rattle.mgs_model.specs.World.{World, Buffer, Own, first_own, Nothing, Buffer_of}
+use Rattle.mgs_model.specs.World.{World, Buffer, first_own, Nothing, Buffer_of}
 use Rattle.mgs_model.specs.World as model
 use Rattle.mgs_buffers.specs.MarkedBuffer.{MarkedBuffer, mark_at}
 use Rattle.mgs_windows.specs.declared.WindowMarks.{WindowMarks}
 use Rattle.mgs_windows.specs.declared.Window.{Window}
+use Rattle.mgs_session.specs.declared.Own.{Own}
 use Rattle.mgs_session.specs.declared.Session.{Session}
 use Rattle.mgs_model.specs.Picture.{IsSize}
-use Rattle.mgs_model.specs.declared.message.Message.{Message}
 use Rattle.mgs_world.specs.declared.size.Size.{Size}
 
 abbrev pub window_shown : List MarkedBuffer → ℕ → Option WindowMarks → model.Window
@@ -26,8 +26,21 @@ window_shown ks height (Some x) = record {
 abbrev pub window_of : List MarkedBuffer → Window → model.Window
 window_of ks x = window_shown ks x.height x.shows
 
-abbrev pub own_of : Message → Own
-own_of echo = record first_own { echo = echo }
+-- where a session was in a buffer
+abbrev pub place_of : List MarkedBuffer → WindowMarks → model.Place
+place_of ks x = record { name = x.name; point = mark_at x.name ks x.point; mark = option_map (mark_at x.name ks) x.mark }
+
+-- what a session holds: no mode, no macro, and nothing but the echo text and what is half read
+abbrev pub own_of : Own → model.Own
+own_of x = record first_own { echo = x.echo; argument = x.keyboard.argument; keys = x.keyboard.keys }
+
+-- what the session at an index holds
+abbrev pub own_or_first : Option Session → model.Own
+own_or_first None = first_own
+own_or_first (Some x) = own_of x.own
+
+abbrev pub own_at : ℕ → List Session → model.Own
+own_at at xs = own_or_first (slice_get xs at)
 
 abbrev pub session_of : List MarkedBuffer → Session → model.Session
 session_of ks x = record {
@@ -37,9 +50,10 @@ session_of ks x = record {
   cols = x.cols;
   windows = map (window_of ks) x.windows.windows;
   selected = x.windows.selected;
-  places = [];
+  places = map (place_of ks) x.windows.places;
   search = None;
-  own = own_of x.echo;
+  kill = [];
+  own = own_of x.own;
 }
 
 -- the next id; past the last u64 where every id was used

@@ -11,19 +11,19 @@ pub returns-clause-sound : goal.returns-clause-sound
 returns-clause-sound g c =
     let xs = c.args.sessions.now in
     let r = c.index-sessions-at.result in
-    after_sound c.carry_out.result c.args.buffers.now c.carry_out.new.buffers xs c.args.at c.args.window_marks.now (get_or xs c.args.at r) c.carry_out.new.session c.args.action (slice_get-get_or xs c.args.at r c.requires.within) c.carry_out.ensures.ok c.carry_out.ensures.told c.carry_out.ensures.err c.carry_out.ensures.untold (acting_mark c.args.buffers.now xs c.args.at c.args.window_marks.now c.requires.sound c.requires.window_marks) c.requires.sound
+    after_sound c.carry_out.result c.args.buffers.now c.carry_out.new.buffers xs c.args.at c.args.window_marks.now (get_or xs c.args.at r) c.carry_out.new.session c.args.action.now (slice_get-get_or xs c.args.at r c.requires.within) c.carry_out.ensures.ok c.carry_out.ensures.told c.carry_out.ensures.err c.carry_out.ensures.untold (acting_mark c.args.buffers.now xs c.args.at c.args.window_marks.now c.requires.sound c.requires.window_marks) c.requires.sound
 
 pub returns-clause-sizes : goal.returns-clause-sizes
 returns-clause-sizes g c =
     let xs = c.args.sessions.now in
     let r = c.index-sessions-at.result in
-    after_sizes c.carry_out.result xs c.args.at (get_or xs c.args.at r) c.carry_out.new.session c.args.action (slice_get-get_or xs c.args.at r c.requires.within) c.carry_out.ensures.told c.carry_out.ensures.untold
+    after_sizes c.carry_out.result xs c.args.at (get_or xs c.args.at r) c.carry_out.new.session c.args.action.now (slice_get-get_or xs c.args.at r c.requires.within) c.carry_out.ensures.told c.carry_out.ensures.untold
 
 pub returns-clause-ok : goal.returns-clause-ok
 returns-clause-ok g c =
     let xs = c.args.sessions.now in
     let r = c.index-sessions-at.result in
-    after_ok c.carry_out.result c.args.buffers.now c.carry_out.new.buffers xs c.args.at c.args.window_marks.now (get_or xs c.args.at r) c.carry_out.new.session c.args.action (slice_get-get_or xs c.args.at r c.requires.within) c.carry_out.ensures.ok c.carry_out.ensures.told c.requires.sound c.requires.within c.requires.window_marks
+    after_ok c.carry_out.result c.args.buffers.now c.carry_out.new.buffers xs c.args.at c.args.window_marks.now (get_or xs c.args.at r) c.carry_out.new.session c.args.action.now (slice_get-get_or xs c.args.at r c.requires.within) c.carry_out.ensures.ok c.carry_out.ensures.told c.requires.sound c.requires.within c.requires.window_marks c.requires.fresh
 
 pub returns-clause-err : goal.returns-clause-err
 returns-clause-err g c =

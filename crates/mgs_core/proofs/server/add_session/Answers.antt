@@ -1,3 +1,4 @@
+use Rattle.std.specs.Prelude.{vec_capacity}
 use Rattle.std.proofs.Common.{◌∙◌, ◌++◌, ◌∷◌, [], List, ap, sym, subst}
 use Rattle.mgs_session.specs.declared.Session.{Session}
 use Rattle.mgs_world.specs.Worlds.{world_of}
@@ -6,16 +7,16 @@ use Rattle.mgs_core.proofs.Sizes.{opened_sound}
 use Rattle.mgs_core.proofs.Openings.{opened_at, sound_undone, world_undone}
 use Rattle.mgs_core.proofs.server.add_session.Goals as goal
 
-pub returns-in-Ok-clause-sound : goal.returns-in-Ok-clause-sound
-returns-in-Ok-clause-sound g c =
+pub returns-in-Ok-first_window_marks-clause-sound : goal.returns-in-Ok-first_window_marks-clause-sound
+returns-in-Ok-first_window_marks-clause-sound g c =
     subst (λ (xs : List Session). IsSound c.first_window_marks.new.buffers xs)
     (sym (c.push_reserved.ensures.items ∙ ap (λ (xs : List Session). xs ++ c.opened.result ∷ []) c.reserve.ensures.items ∙ ap (λ (x : Session). c.args.sessions.now.items ++ x ∷ []) c.opened.ensures))
-    (opened_sound c.args.buffers.now c.first_window_marks.new.buffers c.args.sessions.now.items c.args.id c.args.user c.args.rows c.args.cols c.in-Ok.shows c.requires.sound c.in-Ok.ensures.ok)
+    (opened_sound c.args.buffers.now c.first_window_marks.new.buffers c.args.sessions.now.items c.args.id c.args.user c.args.rows c.args.cols c.in-Ok-first_window_marks.shows (vec_capacity c.in-Ok.places) c.requires.sound c.in-Ok-first_window_marks.ensures.ok)
 
-pub returns-in-Ok-clause-world : goal.returns-in-Ok-clause-world
-returns-in-Ok-clause-world g c =
-    opened_at c.args.directory.now c.args.buffers.now c.first_window_marks.new.buffers c.args.sessions.now.items c.push_reserved.new.self.items c.args.id c.args.user c.args.rows c.args.cols c.in-Ok.shows
-    c.requires.sound c.in-Ok.ensures.ok c.in-Ok.ensures.name
+pub returns-in-Ok-first_window_marks-clause-world : goal.returns-in-Ok-first_window_marks-clause-world
+returns-in-Ok-first_window_marks-clause-world g c =
+    opened_at c.args.directory.now c.args.buffers.now c.first_window_marks.new.buffers c.args.sessions.now.items c.push_reserved.new.self.items c.args.id c.args.user c.args.rows c.args.cols c.in-Ok-first_window_marks.shows (vec_capacity c.in-Ok.places)
+    c.requires.sound c.in-Ok-first_window_marks.ensures.ok c.in-Ok-first_window_marks.ensures.name
     (c.push_reserved.ensures.items ∙ ap (λ (xs : List Session). xs ++ c.opened.result ∷ []) c.reserve.ensures.items ∙ ap (λ (x : Session). c.args.sessions.now.items ++ x ∷ []) c.opened.ensures)
 
 pub returns-in-Err-clause-err_world : goal.returns-in-Err-clause-err_world

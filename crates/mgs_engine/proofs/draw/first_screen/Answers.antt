@@ -9,7 +9,7 @@ draw_first-requires-clause-known g c =
     ∙ ap (λ (z : Size). Some z) (sym (same_size c.args.size.id c.args.size.rows c.args.size.cols _ _ c.in_ok-screen.ensures.rows c.in_ok-screen.ensures.cols))
 
 pub draw_first-requires-clause-screen : goal.draw_first-requires-clause-screen
-draw_first-requires-clause-screen g c = record { rows = c.in_ok-screen.ensures.screen.rows; cols = c.in_ok-screen.ensures.screen.cols; room = c.in_ok-screen.ensures.screen.room }
+draw_first-requires-clause-screen g c = record { rows = c.in_ok-screen.ensures.screen.rows; cols = c.in_ok-screen.ensures.screen.cols }
 
 pub returns-clause-size : goal.returns-clause-size
 returns-clause-size g c =

@@ -5,7 +5,7 @@ use Rattle.std.proofs.lemmas.Option.{slice_get_within}
 use Rattle.std.proofs.lemmas.List.Elements.{All-push}
 use Rattle.mgs_world.specs.Worlds.{sizes}
 use Rattle.mgs_engine.specs.declared.screen.Screen.{Screen}
-use Rattle.mgs_engine.specs.Screens.{IsSessionScreen, IsDrawn, IsFirst, shown_size}
+use Rattle.mgs_engine.specs.Screens.{IsSessionScreen, IsDrawn, IsFirst, IsOnTime, shown_size}
 use Rattle.mgs_engine.proofs.Repaints.{told_known, told_size, sizes_next, sizes_whole}
 use Rattle.mgs_engine.proofs.draw.first_screens.Goals as goal
 
@@ -39,6 +39,7 @@ loop-size-preserved g c =
           (sizes_next (sizes c.args.core.now) c.loop-size.screens.items c.in_ok-screen.screen c.in-Some.size c.loop-size.invariant.sizes told c.in_ok-screen.ensures.size);
       each = subst (All IsSessionScreen) (sym items) (All-push IsSessionScreen c.loop-size.screens.items c.in_ok-screen.screen c.loop-size.invariant.each c.in_ok-screen.ensures.screen);
       drawn = subst (All (IsDrawn c.args.core.now)) (sym items) (All-push (IsDrawn c.args.core.now) c.loop-size.screens.items c.in_ok-screen.screen c.loop-size.invariant.drawn c.in_ok-screen.ensures.drawn);
+      on_time = subst (All IsOnTime) (sym items) (All-push IsOnTime c.loop-size.screens.items c.in_ok-screen.screen c.loop-size.invariant.on_time c.in_ok-screen.ensures.on_time);
       first = subst (All IsFirst) (sym items) (All-push IsFirst c.loop-size.screens.items c.in_ok-screen.screen c.loop-size.invariant.first c.in_ok-screen.ensures.first);
     }
 

@@ -1,7 +1,7 @@
 use Rattle.std.proofs.Common.{◌≡◌, ◌-◌, length, map, take}
 use Rattle.std.specs.Prelude.{All}
 use Rattle.mgs_world.specs.Worlds.{sizes}
-use Rattle.mgs_engine.specs.Screens.{IsSessionScreen, IsDrawn, IsFirst, shown_size}
+use Rattle.mgs_engine.specs.Screens.{IsSessionScreen, IsDrawn, IsFirst, IsOnTime, shown_size}
 use Rattle.mgs_engine.proofs.draw.first_screens.Given as goal
 
 abbrev pub invariant-loop-size : goal.invariant-loop-size
@@ -9,6 +9,7 @@ invariant-loop-size g l = record {
   sizes : map shown_size l.screens.items ≡ take (length l.screens.items) (sizes l.core);
   each : All IsSessionScreen l.screens.items;
   drawn : All (IsDrawn l.core) l.screens.items;
+  on_time : All IsOnTime l.screens.items;
   first : All IsFirst l.screens.items;
 }
 

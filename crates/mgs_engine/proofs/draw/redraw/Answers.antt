@@ -1,22 +1,19 @@
 use Rattle.std.proofs.Common.{ap, ◌∙◌}
 use Rattle.mgs_engine.specs.declared.screen.Screen.{Screen}
 use Rattle.mgs_engine.specs.Screens.{shown_size}
-use Rattle.mgs_engine.proofs.Repaints.{ahead_screen, ahead_drawn, ahead_repaint}
+use Rattle.mgs_engine.proofs.Repaints.{ahead_redrawn, ahead_screen}
 use Rattle.mgs_engine.proofs.draw.redraw.Goals as goal
 
-pub paint_changed-requires : goal.paint_changed-requires
-paint_changed-requires g c = record {
+pub paint_in_time-requires : goal.paint_in_time-requires
+paint_in_time-requires g c = record {
   screen = ahead_screen c.args.core.now c.args.screen.now c.draw_next.new.screen c.requires.known c.draw_next.ensures c.requires.screen;
-  taken = ap (λ (x : Screen). x.queue.items) c.draw_next.ensures.same ∙ c.requires.taken;
+  on_time = ap (λ (x : Screen). x.late) c.draw_next.ensures.same ∙ c.requires.on_time;
 }
 
 pub returns-clause-size : goal.returns-clause-size
-returns-clause-size g c = c.paint_changed.ensures.size ∙ ap shown_size c.draw_next.ensures.same
+returns-clause-size g c = c.paint_in_time.ensures.size ∙ ap shown_size c.draw_next.ensures.same
 
-pub returns-clause-drawn : goal.returns-clause-drawn
-returns-clause-drawn g c =
-    ahead_drawn c.args.core.now c.args.screen.now c.draw_next.new.screen c.paint_changed.new.screen c.draw_next.ensures c.paint_changed.ensures.size c.paint_changed.ensures.shown
-
-pub returns-clause-repaint : goal.returns-clause-repaint
-returns-clause-repaint g c =
-    ahead_repaint c.args.core.now c.args.screen.now c.draw_next.new.screen c.paint_changed.new.screen c.draw_next.ensures c.paint_changed.ensures.repaint
+pub returns-clause-redrawn : goal.returns-clause-redrawn
+returns-clause-redrawn g c =
+    ahead_redrawn c.args.core.now c.args.screen.now c.draw_next.new.screen c.paint_in_time.new.screen c.draw_next.ensures c.paint_in_time.ensures.size
+    c.paint_in_time.ensures.late c.paint_in_time.ensures.shown c.paint_in_time.ensures.repaint c.paint_in_time.ensures.prompt

@@ -3,8 +3,8 @@ use Rattle.std.proofs.lemmas.Option.{slice_get-get_or}
 use Rattle.mgs_engine.specs.declared.screen.Screen.{Screen}
 use Rattle.std.proofs.lemmas.List.Elements.{All-set}
 use Rattle.mgs_engine.specs.Screens.{IsSessionScreen, shown_size}
-use Rattle.mgs_engine.proofs.ScreenLemmas.{rest_at, rest_after, same_set, taken_at}
-use Rattle.mgs_engine.proofs.Repaints.{drawn_next, drawn_all, repaints_next, repaints_all}
+use Rattle.mgs_engine.proofs.ScreenLemmas.{rest_at, rest_after, same_set}
+use Rattle.mgs_engine.proofs.Repaints.{redrawn_next, redrawn_all}
 use Rattle.mgs_engine.proofs.draw.redraw_each.Goals as goal
 
 pub redraw_at-requires-clause-known : goal.redraw_at-requires-clause-known
@@ -12,10 +12,10 @@ redraw_at-requires-clause-known g c =
     rw (rest_at c.loop-at.screens c.args.screens.now c.loop-at.at c.index-screens-at.result c.loop-at.invariant.rest)
     (c.requires.known c.loop-at.at c.index-screens-at.result (omega arith))
 
-pub redraw_at-requires-clause-taken : goal.redraw_at-requires-clause-taken
-redraw_at-requires-clause-taken g c =
+pub redraw_at-requires-clause-on_time : goal.redraw_at-requires-clause-on_time
+redraw_at-requires-clause-on_time g c =
     rw (rest_at c.loop-at.screens c.args.screens.now c.loop-at.at c.index-screens-at.result c.loop-at.invariant.rest)
-    (taken_at c.args.screens.now c.loop-at.at c.index-screens-at.result (omega arith) c.requires.taken)
+    (c.requires.on_time c.loop-at.at c.index-screens-at.result (omega arith))
 
 pub redraw_at-requires-clause-drawn : goal.redraw_at-requires-clause-drawn
 redraw_at-requires-clause-drawn g c =
@@ -27,13 +27,9 @@ pub loop-at-preserved : goal.loop-at-preserved
 loop-at-preserved g c = record {
   each = All-set IsSessionScreen c.loop-at.screens c.loop-at.at c.redraw_at.new.screen c.redraw_at.ensures.screen c.loop-at.invariant.each;
   sizes = same_set shown_size c.loop-at.screens c.loop-at.at c.index-screens-at.result c.redraw_at.new.screen (omega arith) c.redraw_at.ensures.size ∙ c.loop-at.invariant.sizes;
-  drawn = drawn_next c.args.core.now c.loop-at.screens c.loop-at.at c.redraw_at.new.screen (omega arith) c.loop-at.invariant.drawn c.redraw_at.ensures.drawn;
-  repaints = repaints_next c.loop-at.screens c.args.screens.now c.loop-at.at c.index-screens-at.result c.redraw_at.new.screen (omega arith) (omega arith) c.loop-at.invariant.rest c.loop-at.invariant.repaints c.redraw_at.ensures.repaint;
+  redrawn = redrawn_next c.args.core.now c.loop-at.screens c.args.screens.now c.loop-at.at c.index-screens-at.result c.redraw_at.new.screen (omega arith) (omega arith) c.loop-at.invariant.rest c.loop-at.invariant.redrawn c.redraw_at.ensures.redrawn;
   rest = rest_after c.loop-at.screens c.args.screens.now c.loop-at.at c.redraw_at.new.screen c.loop-at.invariant.rest;
 }
 
-pub returns-clause-drawn : goal.returns-clause-drawn
-returns-clause-drawn g c = drawn_all c.args.core.now c.loop-at.screens c.loop-at.at (omega arith) c.loop-at.invariant.drawn
-
-pub returns-clause-repaints : goal.returns-clause-repaints
-returns-clause-repaints g c = repaints_all c.loop-at.screens c.args.screens.now c.loop-at.at (omega arith) (omega arith) c.loop-at.invariant.repaints
+pub returns-clause-redrawn : goal.returns-clause-redrawn
+returns-clause-redrawn g c = redrawn_all c.args.core.now c.loop-at.screens c.args.screens.now c.loop-at.at (omega arith) (omega arith) c.loop-at.invariant.redrawn

@@ -1,13 +1,12 @@
 use Rattle.std.proofs.Common.{◌≡◌, drop, map, take}
 use Rattle.std.specs.Prelude.{All}
-use Rattle.mgs_engine.specs.Screens.{IsSessionScreen, IsDrawn, AreRepaints, shown_size}
+use Rattle.mgs_engine.specs.Screens.{IsSessionScreen, AreRedrawn, shown_size}
 use Rattle.mgs_engine.proofs.draw.redraw_each.Given as goal
 
 abbrev pub invariant-loop-at : goal.invariant-loop-at
 invariant-loop-at g l = record {
   each : All IsSessionScreen l.screens;
   sizes : map shown_size l.screens ≡ map shown_size l.initial.screens;
-  drawn : All (IsDrawn l.core) (take l.at l.screens);
-  repaints : AreRepaints (take l.at l.initial.screens) (take l.at l.screens);
+  redrawn : AreRedrawn l.core (take l.at l.initial.screens) (take l.at l.screens);
   rest : drop l.at l.screens ≡ drop l.at l.initial.screens;
 }

@@ -1,5 +1,6 @@
 use Rattle.std.proofs.Common.{Bor, sym, ap, ◌∙◌}
 use Rattle.std.specs.Prelude.{is_some}
+use Rattle.mgs_engine.proofs.Prompt.{admits_opens}
 use Rattle.mgs_replay.specs.declared.client.Client.{Client}
 use Rattle.mgs_replay.specs.Served.{labels_in}
 use Rattle.mgs_replay.proofs.Events.{waiting_opened}
@@ -13,13 +14,13 @@ returns-then-is_some-clause-runs c =
 pub client_session-requires-clause-waiting : goal.client_session-requires-clause-waiting
 client_session-requires-clause-waiting c =
     let did = c.in-Ok.ensures in
-    waiting_opened c.args.server.now c.open.new.self c.args.clients.now c.args.label c.in-Ok.id c.args.rows c.args.cols did.first.0 c.requires did.size did.queue did.opened did.fresh did.painted did.first.1 did.first.2
+    waiting_opened c.args.server.now c.open.new.self c.args.clients.now c.args.label c.args.user.now c.in-Ok.id c.args.rows c.args.cols did.first.0 c.requires did.size (admits_opens c.args.server.now c.open.new.self c.args.user.now c.args.rows c.args.cols _ did.admits c.requires.told) did.opened did.fresh did.painted did.first.1 did.first.2
 
 pub returns-in-Ok-clause-runs : goal.returns-in-Ok-clause-runs
 returns-in-Ok-clause-runs c =
     let free = is_used c.args.label c.args.clients.now ∙ ap is_some (sym c.client.ensures) ∙ some_map (λ (x : Bor Client). x.now) c.client.result ∙ sym c.is_some.ensures ∙ c.if-is_some.false in
     opened_runs c.client_session.result c.args.server.now.world c.open.new.self.world c.client_session.new.server.world (labels_in c.args.clients.now) (labels_in c.client_session.new.clients)
-    c.args.label c.args.user.now c.args.rows c.args.cols c.in-Ok.id c.args.out.now.items free c.in-Ok.ensures.world c.client_session.ensures.fault c.client_session.ensures.world c.client_session.ensures.labels
+    c.args.label c.args.user.now c.args.rows c.args.cols c.in-Ok.id c.args.out.now.items free (admits_opens c.args.server.now c.open.new.self c.args.user.now c.args.rows c.args.cols _ c.in-Ok.ensures.admits c.requires.told) c.client_session.ensures.fault c.client_session.ensures.world c.client_session.ensures.labels
 
 pub returns-in-Err-clause-ready : goal.returns-in-Err-clause-ready
 returns-in-Err-clause-ready c =
@@ -29,4 +30,4 @@ pub returns-in-Err-clause-runs : goal.returns-in-Err-clause-runs
 returns-in-Err-clause-runs c =
     let free = is_used c.args.label c.args.clients.now ∙ ap is_some (sym c.client.ensures) ∙ some_map (λ (x : Bor Client). x.now) c.client.result ∙ sym c.is_some.ensures ∙ c.if-is_some.false in
     refused_runs c.refuse_open.result c.args.server.now c.open.new.self c.args.clients.now c.refuse_open.new.clients c.args.label c.args.user.now c.args.rows c.args.cols c.in-Err.fault
-    c.args.out.now.items c.refuse_open.new.out.items free c.in-Err.ensures.world c.refuse_open.ensures.fault c.refuse_open.ensures.clients c.refuse_open.ensures.out
+    c.args.out.now.items c.refuse_open.new.out.items free (admits_opens c.args.server.now c.open.new.self c.args.user.now c.args.rows c.args.cols _ c.in-Err.ensures.admits c.requires.told) c.refuse_open.ensures.fault c.refuse_open.ensures.clients c.refuse_open.ensures.out

@@ -11,7 +11,7 @@ use Rattle.mgs_windows.specs.declared.Window.{Window}
 use Rattle.mgs_windows.specs.Panes.{room_of}
 use Rattle.mgs_session.specs.declared.Session.{Session}
 use Rattle.mgs_world.specs.Sound.{IsWindowSound}
-use Rattle.mgs_screen.specs.Screens.{shown_to, window_to, windows_to}
+use Rattle.mgs_screen.specs.Screens.{window_to, windows_to}
 use Rattle.mgs_world.proofs.Soundness.{window_sound}
 use Rattle.mgs_screen.proofs.Drawings.{length_put, length_window, rows_more, cursor_more, cursor_all, rows_all, session_drawn}
 use Rattle.mgs_screen.proofs.screen.draw_session.Goals as goal
@@ -41,17 +41,17 @@ loop-i-preserved g c =
     let sound : IsWindowSound ks w = window_sound ks c.args.session.now i w c.requires.sound
     (c.window-item.is ∙ ap (λ (vs : List Window). get_or vs i w) v)
     (subst (λ (vs : List Window). i < length vs) v c.loop-i-test.true) in
-    let mine : List Row = window_rows (nat_eq i selected) cols (shown_to d user ks) (window_to d user ks w) in
+    let mine : List Row = window_rows (nat_eq i selected) cols (window_to d user ks w) in
     let size : length mine ≡ w.height + 1 = length_window (nat_eq i selected) cols d user ks w sound in
     let next : room_of (drop i ws) ≡ w.height + 1 + room_of (drop (i + 1) ws) = ap room_of (drop_more ws i w c.loop-i-test.true ∙ ap (λ (u : Window). u ∷ drop (i + 1) ws) (sym c.window-item.is)) in
     let put : c.draw_window-row.new.grid.lines ≡ rows_put first mine old =
-    c.draw_window-row.ensures.lines ∙ ap (λ (n : ℕ). rows_put first (window_rows (nat_eq i selected) n (shown_to d user ks) (window_to d user ks w)) old) inv.cols_stay in
-    let shown : ℕ × ℕ = window_cursor cols (shown_to d user ks) (Some (window_to d user ks w)) in
+    c.draw_window-row.ensures.lines ∙ ap (λ (n : ℕ). rows_put first (window_rows (nat_eq i selected) n (window_to d user ks w)) old) inv.cols_stay in
+    let shown : ℕ × ℕ = window_cursor cols (Some (window_to d user ks w)) in
     let cursor : c.if-i-selected.cursor ≡ (if nat_eq i selected then (first + shown.0, shown.1) else c.loop-i.cursor) = elim c.if-i-selected.branch [
       | then-i-selected b ↦
           let same : nat_eq i selected ≡ true = eq-eqb i selected b.if-i-selected.true in
           b.cursor-is
-          ∙ ap (λ (p : ℕ × ℕ). let q : ℕ × ℕ = (first + p.0, p.1) in q) (c.draw_window-row.ensures.cursor same ∙ ap (λ (n : ℕ). window_cursor n (shown_to d user ks) (Some (window_to d user ks w))) inv.cols_stay)
+          ∙ ap (λ (p : ℕ × ℕ). let q : ℕ × ℕ = (first + p.0, p.1) in q) (c.draw_window-row.ensures.cursor same ∙ ap (λ (n : ℕ). window_cursor n (Some (window_to d user ks w))) inv.cols_stay)
           ∙ sym (ap (λ (r : Bool). if r then (first + shown.0, shown.1) else c.loop-i.cursor) same)
       | else-i-selected b ↦
           b.cursor-is
@@ -87,14 +87,14 @@ returns g c = λ sessions. λ next.
     let p : Picture = c.set_cursor.new.self in
     let ws : List Window = c.as_slice-window-items.result.now in
     let inv = c.loop-i.invariant in
-    let rows : List Row = windows_rows 0 selected old.cols (shown_to d x.user ks) (windows_to d x.user ks ws) in
+    let rows : List Row = windows_rows 0 selected old.cols (windows_to d x.user ks ws) in
     let v : ws ≡ x.windows.windows = c.as_slice-window-items.ensures.value in
     let within : selected < length ws = omega (arith, c.selected-selected.ensures.within, c.selected-selected.ensures.value, ap (λ (vs : List Window). length vs) v) in
-    let lines : p.lines ≡ rows ++ echo_row old.cols x.echo ∷ [] =
+    let lines : p.lines ≡ rows ++ echo_row old.cols x.own.echo ∷ [] =
     ap (λ (q : Picture). q.lines) c.set_cursor.ensures
     ∙ ap (λ (q : Picture). q.lines) c.draw_echo.ensures
-    ∙ ap (λ (n : ℕ). rows_put c.loop-i.first (echo_row n x.echo ∷ []) drawn.lines) inv.cols_stay
-    ∙ rows_all d x.user ks old.cols selected c.loop-i.i c.loop-i.first ws drawn.lines rows (echo_row old.cols x.echo) c.loop-i-test.false (inv.room ∙ sym inv.count) inv.lines_are in
+    ∙ ap (λ (n : ℕ). rows_put c.loop-i.first (echo_row n x.own.echo ∷ []) drawn.lines) inv.cols_stay
+    ∙ rows_all d x.user ks old.cols selected c.loop-i.i c.loop-i.first ws drawn.lines rows (echo_row old.cols x.own.echo) c.loop-i-test.false (inv.room ∙ sym inv.count) inv.lines_are in
     session_drawn d ks x sessions next ws selected old.cols c.loop-i.cursor p v c.selected-selected.ensures.value (sym c.requires.cols)
     (ap (λ (q : Picture). q.rows) c.set_cursor.ensures ∙ ap (λ (q : Picture). q.rows) c.draw_echo.ensures ∙ inv.rows_stay ∙ sym c.requires.rows)
     (ap (λ (q : Picture). q.cols) c.set_cursor.ensures ∙ ap (λ (q : Picture). q.cols) c.draw_echo.ensures ∙ inv.cols_stay)

@@ -5,7 +5,7 @@ use Rattle.mgs_model.specs.Draw.{windows_rows}
 use Rattle.mgs_buffers.specs.MarkedBuffer.{MarkedBuffer}
 use Rattle.mgs_windows.specs.declared.Window.{Window}
 use Rattle.mgs_windows.specs.Panes.{room_of}
-use Rattle.mgs_screen.specs.Screens.{shown_to, windows_to}
+use Rattle.mgs_screen.specs.Screens.{windows_to}
 use Rattle.mgs_screen.proofs.Drawings.{cursor_from}
 use Rattle.mgs_screen.proofs.screen.draw_session.Given as goal
 
@@ -17,8 +17,8 @@ pub record Drawing (d : Directory) (user : List ℕ) (ks : List MarkedBuffer) (s
   pub room : first + room_of (drop i ws) + 1 ≡ old.rows
   pub row_within : cursor.0 < old.rows
   pub col_within : cursor.1 < old.cols
-  pub lines_are : take first new.lines ++ windows_rows i selected old.cols (shown_to d user ks) (windows_to d user ks (drop i ws)) ≡ windows_rows 0 selected old.cols (shown_to d user ks) (windows_to d user ks ws)
-  pub cursor_is : cursor_from i selected old.cols (shown_to d user ks) first cursor (windows_to d user ks (drop i ws)) ≡ cursor_from 0 selected old.cols (shown_to d user ks) 0 (0, 0) (windows_to d user ks ws)
+  pub lines_are : take first new.lines ++ windows_rows i selected old.cols (windows_to d user ks (drop i ws)) ≡ windows_rows 0 selected old.cols (windows_to d user ks ws)
+  pub cursor_is : cursor_from i selected old.cols first cursor (windows_to d user ks (drop i ws)) ≡ cursor_from 0 selected old.cols 0 (0, 0) (windows_to d user ks ws)
 
 abbrev pub invariant-loop-i : goal.invariant-loop-i
 invariant-loop-i g l = Drawing l.directory l.session.user l.buffers l.selected l.i l.first l.window-items l.cursor l.initial.grid l.grid

@@ -9,4 +9,4 @@ returns-clause-ids g c = ids_are c.in_ok-screens.screens.items ∙ ap (map (λ (
 
 pub returns-clause-first : goal.returns-clause-first
 returns-clause-first g c =
-    first_all c.args.core c.in_ok-screens.screens.items c.in_ok-screens.ensures.sizes c.in_ok-screens.ensures.drawn c.in_ok-screens.ensures.first
+    first_all c.args.core c.in_ok-screens.screens.items c.in_ok-ended.ended.items c.in_ok-screens.ensures.sizes c.in_ok-screens.ensures.drawn c.in_ok-screens.ensures.first

@@ -1,10 +1,9 @@
-use Rattle.std.proofs.Common.{◌≡◌, ℕ, List, [], ◌∷◌, ◌++◌, map, Some, Ok, sym, ap, subst, ◌∙◌}
+use Rattle.std.proofs.Common.{◌≡◌, ℕ, List, [], ◌∷◌, ◌++◌, length, map, Some, refl, sym, ap, subst, ◌∙◌, arith}
 use Rattle.mgs_model.specs.World.{Session, find_session}
 use Rattle.mgs_model.specs.Draw.{screen}
 use Rattle.mgs_paint.specs.Painting.{Paints}
 use Rattle.mgs_world.specs.declared.size.Size.{Size}
 use Rattle.mgs_world.specs.Worlds.{sizes, find_size}
-use Rattle.mgs_core.specs.Steps.{OpenedBy}
 use Rattle.mgs_core.proofs.Ids.{known_last}
 use Rattle.mgs_engine.specs.declared.screen.Screen.{Screen}
 use Rattle.mgs_engine.specs.Queues.{Queue, queue_id}
@@ -14,6 +13,7 @@ use Rattle.mgs_engine.specs.Painted.{Painted}
 use Rattle.mgs_engine.specs.Served.{serving_of, IsServed}
 use Rattle.mgs_engine.proofs.Repaints.{same_size}
 use Rattle.mgs_engine.proofs.Screens.{ids_opened}
+use Rattle.mgs_engine.proofs.Slots.{more_slots}
 use Rattle.mgs_engine.proofs.Stays.{served_opened}
 use Rattle.mgs_engine.proofs.Painted.{painted_opened, first_opened, queues_opened}
 use Rattle.mgs_engine.proofs.engine.Engine.open.Goals as goal
@@ -28,10 +28,15 @@ draw_first-requires-clause-known g c =
 pub invariant_of-self-2 : goal.invariant_of-self-2
 invariant_of-self-2 g c =
     let z = c.draw_first.new.screen in
-    served_opened c.self.inside.core c.open.new.self c.in_ok-id.id c.args.user.now c.args.rows c.args.cols c.self.inside.screens.items c.push_reserved.new.self.items z (record { id = c.in_ok-id.id; rows = c.args.rows; cols = c.args.cols })
-    c.self.invariant c.in_ok-id.ensures.rest c.in_ok-id.ensures.opened c.in_ok-id.ensures.fresh
-    (c.push_reserved.ensures.items ∙ ap (λ (xs : List Screen). xs ++ z ∷ []) c.reserve.ensures.items)
-    (c.draw_first.ensures.size ∙ same_size c.in_ok-id.id c.args.rows c.args.cols _ _ c.in-Ok.ensures.rows c.in-Ok.ensures.cols) c.draw_first.ensures.screen c.draw_first.ensures.drawn
+    let items : c.push_reserved.new.self.items ≡ c.self.inside.screens.items ++ z ∷ [] = c.push_reserved.ensures.items ∙ ap (λ (xs : List Screen). xs ++ z ∷ []) c.reserve.ensures.items in
+    let screens : length c.deref.result.now ≡ length c.self.inside.screens.items = ap length c.deref.ensures.value in
+    let ended : length c.deref-2.result.now ≡ length c.self.inside.ended.items = ap length c.deref-2.ensures.value in (
+      served_opened c.self.inside.core c.open.new.self c.in_ok-id.id c.args.user.now c.args.rows c.args.cols c.self.inside.screens.items c.push_reserved.new.self.items z (record { id = c.in_ok-id.id; rows = c.args.rows; cols = c.args.cols })
+          c.self.invariant.0 c.in_ok-id.ensures.rest c.in_ok-id.ensures.opened c.in_ok-id.ensures.fresh
+          (c.push_reserved.ensures.items ∙ ap (λ (xs : List Screen). xs ++ z ∷ []) c.reserve.ensures.items)
+          (c.draw_first.ensures.size ∙ same_size c.in_ok-id.id c.args.rows c.args.cols _ _ c.in-Ok.ensures.rows c.in-Ok.ensures.cols) c.draw_first.ensures.screen c.draw_first.ensures.drawn (c.draw_first.ensures.late ∙ c.in-Ok.ensures.on_time),
+      more_slots c.self.inside.screens.items c.push_reserved.new.self.items z c.self.inside.ended.items _ items c.self.invariant.1 (omega (arith, c.in_default.ensures.slot refl, screens, ended)),
+    )
 
 pub returns-clause-queue : goal.returns-clause-queue
 returns-clause-queue g c =
@@ -45,16 +50,12 @@ pub returns-clause-others : goal.returns-clause-others
 returns-clause-others g c =
     let z = c.draw_first.new.screen in
     let xs = c.self.inside.screens.items in
-    let new : List Screen → Queue = λ ys. record { id = c.in_ok-id.id; bytes = pending_of c.in_ok-id.id (serving_of c.open.new.self ys) } in
+    let new : List Screen → Queue = λ ys. record { id = c.in_ok-id.id; bytes = pending_of c.in_ok-id.id (serving_of c.open.new.self ys c.self.inside.ended.items) } in
     let items : c.push_reserved.new.self.items ≡ xs ++ z ∷ [] = c.push_reserved.ensures.items ∙ ap (λ (ys : List Screen). ys ++ z ∷ []) c.reserve.ensures.items in
     ap queues_of items
-    ∙ queues_opened c.open.new.self xs z c.in_ok-id.id (ap (λ (s : Size). s.id) c.draw_first.ensures.size) (ap (find_size c.in_ok-id.id) c.self.invariant.sizes_are ∙ c.in_ok-id.ensures.fresh)
+    ∙ queues_opened c.open.new.self xs c.self.inside.ended.items z c.in_ok-id.id (ap (λ (s : Size). s.id) c.draw_first.ensures.size) (ap (find_size c.in_ok-id.id) c.self.invariant.0.sizes_are ∙ c.in_ok-id.ensures.fresh)
     ∙ ap (λ (ys : List Screen). queues_of xs ++ new ys ∷ []) (sym items)
     ∙ ap (λ (s : Serving). s.queues ++ new c.push_reserved.new.self.items ∷ []) c.self.view_is
-
-pub returns-clause-world : goal.returns-clause-world
-returns-clause-world g c =
-    subst (λ (s : Serving). OpenedBy s.world c.open.new.self c.args.user.now c.args.rows c.args.cols (Ok c.in_ok-id.id)) c.self.view_is c.in_ok-id.ensures.step
 
 pub returns-clause-painted : goal.returns-clause-painted
 returns-clause-painted g c =
@@ -65,10 +66,10 @@ returns-clause-painted g c =
     let items : c.push_reserved.new.self.items ≡ xs ++ z ∷ [] = c.push_reserved.ensures.items ∙ ap (λ (ys : List Screen). ys ++ z ∷ []) c.reserve.ensures.items in
     let served : IsServed v c.push_reserved.new.self.items =
     served_opened w v c.in_ok-id.id c.args.user.now c.args.rows c.args.cols xs c.push_reserved.new.self.items z (record { id = c.in_ok-id.id; rows = c.args.rows; cols = c.args.cols })
-    c.self.invariant c.in_ok-id.ensures.rest c.in_ok-id.ensures.opened c.in_ok-id.ensures.fresh items
-    (c.draw_first.ensures.size ∙ same_size c.in_ok-id.id c.args.rows c.args.cols _ _ c.in-Ok.ensures.rows c.in-Ok.ensures.cols) c.draw_first.ensures.screen c.draw_first.ensures.drawn in
-    subst (λ (s : Serving). Painted s (serving_of v c.push_reserved.new.self.items)) c.self.view_is
-    (painted_opened w v xs c.push_reserved.new.self.items z items c.self.invariant.sizes_are c.self.invariant.drawn served.drawn)
+    c.self.invariant.0 c.in_ok-id.ensures.rest c.in_ok-id.ensures.opened c.in_ok-id.ensures.fresh items
+    (c.draw_first.ensures.size ∙ same_size c.in_ok-id.id c.args.rows c.args.cols _ _ c.in-Ok.ensures.rows c.in-Ok.ensures.cols) c.draw_first.ensures.screen c.draw_first.ensures.drawn (c.draw_first.ensures.late ∙ c.in-Ok.ensures.on_time) in
+    subst (λ (s : Serving). Painted s (serving_of v c.push_reserved.new.self.items c.self.inside.ended.items)) c.self.view_is
+    (painted_opened w v xs c.push_reserved.new.self.items c.self.inside.ended.items c.self.inside.ended.items z items c.self.invariant.0.sizes_are c.self.invariant.0.drawn served.drawn)
 
 pub returns-clause-first : goal.returns-clause-first
 returns-clause-first g c =
@@ -77,5 +78,5 @@ returns-clause-first g c =
     let xs = c.self.inside.screens.items in
     let z = c.draw_first.new.screen in
     let items : c.push_reserved.new.self.items ≡ xs ++ z ∷ [] = c.push_reserved.ensures.items ∙ ap (λ (ys : List Screen). ys ++ z ∷ []) c.reserve.ensures.items in
-    subst (λ (ys : List Screen). (y : Session) × (find_session id v.sessions ≡ Some y) × Paints (screen v y) (pending_of id (serving_of v ys))) (sym items)
-    (first_opened v xs z id (ap (λ (s : Size). s.id) c.draw_first.ensures.size) (ap (find_size id) c.self.invariant.sizes_are ∙ c.in_ok-id.ensures.fresh) c.draw_first.ensures.drawn c.draw_first.ensures.first)
+    subst (λ (ys : List Screen). (y : Session) × (find_session id v.sessions ≡ Some y) × Paints (screen v y) (pending_of id (serving_of v ys c.self.inside.ended.items))) (sym items)
+    (first_opened v xs c.self.inside.ended.items z id (ap (λ (s : Size). s.id) c.draw_first.ensures.size) (ap (find_size id) c.self.invariant.0.sizes_are ∙ c.in_ok-id.ensures.fresh) c.draw_first.ensures.drawn c.draw_first.ensures.first)

@@ -8,7 +8,7 @@ use Rattle.mgs_engine.proofs.engine.Engine.pending.Goals as goal
 
 pub returns-then-at-len : goal.returns-then-at-len
 returns-then-at-len g c =
-    c.deref-then-at-len.ensures.value
+    c.bytes.ensures
     ∙ sym (queue_at c.args.id c.self.inside.screens.items c.place_of-at.result c.index.result.now
     (c.place_of-at.ensures.value ∙ ap (position_or_len (screen_id c.args.id)) c.deref.ensures.value)
     (omega (arith, c.if-at-len.true, c.len.ensures, c.self.inside.screens.ok.0)) c.index.ensures)

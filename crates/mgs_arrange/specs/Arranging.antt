@@ -1,0 +1,55 @@
+-- What an arrangement does to the marks of its session.
+use Rattle.std.specs.Prelude.{◌≡◌, ℕ, ◌+◌, ◌≤◌, Bool, true, false, List, Option, Some, None, Ok}
+use Rattle.std.specs.Option.{option_map}
+use Rattle.mgs_model.specs.World as model
+use Rattle.mgs_model.specs.declared.session.Arrangement.{Arrangement}
+use Rattle.mgs_model.specs.declared.session.Arrangement.TheVariants.{ListBuffers, SplitWindow}
+use Rattle.mgs_buffers.specs.MarkedBuffer.{MarkedBuffer, mark_at}
+use Rattle.mgs_windows.specs.declared.WindowMarks.{WindowMarks}
+use Rattle.mgs_session.specs.declared.Session.{Session}
+use Rattle.mgs_world.specs.Worlds.{buffers_of, session_of, size_in}
+use Rattle.mgs_world.specs.Sound.{in_use, session_uses}
+use Rattle.mgs_world.specs.WindowMarks.{MarksStay, WindowMarksAdded}
+use Rattle.mgs_arrange.specs.Arranged.{rearranged, arranged_or_told, window_split}
+
+-- the list of buffers is not shown in a window yet
+abbrev pub is_arranged_here : Arrangement → Bool
+is_arranged_here ListBuffers = false
+is_arranged_here _ = true
+
+-- the buffers are the same, and the marks in use go with what the session uses
+pub record Rearranged (ks ls : List MarkedBuffer) (x y : Session) : Type 0 where
+  pub buffers : buffers_of ls ≡ buffers_of ks
+  pub uses : (m : List ℕ) (i : ℕ) → in_use m i ls + session_uses m i x ≡ in_use m i ks + session_uses m i y
+  pub stay : MarksStay ks ls
+  pub size : size_in y ≡ size_in x
+
+-- no mark was added
+pub record Lessened (ks ls : List MarkedBuffer) (x y : Session) : Type 0 where
+  pub rearranged : Rearranged ks ls x y
+  pub less : (m : List ℕ) (i : ℕ) → in_use m i ls ≤ in_use m i ks
+
+-- the session is as the arrangement leaves it
+abbrev pub IsArranged : Arrangement → Option ℕ → List MarkedBuffer → List MarkedBuffer → Session → Session → Type 0
+IsArranged c n ks ls x y = session_of ls y ≡ arranged_or_told (rearranged c n (session_of ks x)) (session_of ks x)
+
+-- the same marks once more
+abbrev pub IsCopied : Option WindowMarks → Option WindowMarks → List MarkedBuffer → List MarkedBuffer → Type 0
+IsCopied None None ks ls = ls ≡ ks
+IsCopied None (Some y) ks ls = ⊥
+IsCopied (Some x) None ks ls = ⊥
+IsCopied (Some x) (Some y) ks ls = WindowMarksAdded x.name (mark_at x.name ks x.point) (option_map (mark_at x.name ks) x.mark) (mark_at x.name ks x.top) y ks ls
+
+-- no mark is used that was not, or the other way round
+pub record IsResized (x y : Session) : Type 0 where
+  pub uses : (m : List ℕ) (i : ℕ) → session_uses m i y ≡ session_uses m i x
+  pub size : size_in y ≡ size_in x
+
+-- the session's window can be split
+abbrev pub MayBeSplit : Option ℕ → model.Session → Type 0
+MayBeSplit n x = rearranged SplitWindow n x ≡ Ok (window_split x)
+
+-- only a split takes memory, where it is made
+abbrev pub MayBeRefused : Arrangement → Option ℕ → model.Session → Type 0
+MayBeRefused SplitWindow n x = MayBeSplit n x
+MayBeRefused _ n x = ⊥

@@ -1,0 +1,81 @@
+// The windows of one of the sessions are arranged anew.
+ghost use Rattle.std.specs.Prelude.{◌≡◌, ◌<◌, ℕ, Option, Result, List, [], None, length, true, OnOk, OnErr};
+ghost use Rattle.std.specs.List.{position_or_len};
+ghost use Rattle.mgs_model.specs.Access.{Directory};
+ghost use Rattle.mgs_model.specs.Apart.{Apart};
+ghost use Rattle.mgs_model.specs.Apply.{act, outcome_in};
+ghost use Rattle.mgs_model.specs.Events.{may_be_refused};
+ghost use Rattle.mgs_model.specs.Outcome.{Run};
+ghost use Rattle.mgs_model.specs.World.{first_own};
+ghost use Rattle.mgs_model.specs.declared.session.Command.TheVariants.{Rearrange};
+ghost use Rattle.mgs_model.specs.declared.touched.Touched.TheVariants.{Nowhere};
+ghost use Rattle.mgs_buffers.specs.MarkedBuffer.{MarkedBuffer};
+ghost use Rattle.mgs_world.specs.Sound.{IsSessionSound, IsSound};
+ghost use Rattle.mgs_world.specs.WindowMarks.{WindowMarksDropped};
+ghost use Rattle.mgs_world.specs.Worlds.{own_at, session_id, session_of, sizes_in, world_of};
+ghost use Rattle.mgs_arrange.specs.Arranging.{IsArranged, IsResized, MayBeRefused, Rearranged, is_arranged_here};
+
+use crate::leaving::{delete, delete_others};
+use crate::resizing::{enlarge, select_next, select_previous, shrink};
+use crate::splitting::split;
+use mgs_buffers::Buffers;
+use mgs_marks::Marked;
+use mgs_model::{Arrangement, Short};
+use mgs_session::Session;
+
+// The windows of a session are arranged anew, as `rearrange` says.
+fn rearrange_session<T: Marked + Drop>(
+    buffers: &mut Buffers<T>,
+    session: &mut Session,
+    arrangement: Arrangement,
+    argument: Option<usize>,
+) -> Result<(), Short>
+    requires sound { IsSessionSound buffers.old session.old }
+    requires here { is_arranged_here arrangement ≡ true }
+    ensures selected { session.old.windows.selected < length session.old.windows.windows }
+    ensures rearranged { OnOk result (Rearranged buffers.old buffers.new session.old session.new) }
+    ensures arranged { OnOk result (IsArranged arrangement argument buffers.old buffers.new session.old session.new) }
+    ensures err { OnErr result (WindowMarksDropped None buffers.old buffers.new) }
+    ensures same { OnErr result (IsResized session.old session.new) }
+    ensures seen { OnErr result ((ks : List MarkedBuffer) → session_of ks session.new ≡ session_of ks session.old) }
+    ensures may { OnErr result ((ks : List MarkedBuffer) → MayBeRefused arrangement argument (session_of ks session.old)) }
+{
+    // For what it says of the selected window.
+    let _selected = session.windows.selected();
+    match arrangement {
+        Arrangement::DeleteWindow => delete(buffers, session),
+        Arrangement::DeleteOtherWindows => delete_others(buffers, session),
+        Arrangement::SplitWindow => return split(buffers, session),
+        Arrangement::NextWindow => select_next(session),
+        Arrangement::PreviousWindow => select_previous(session),
+        Arrangement::EnlargeWindow => enlarge(session, argument),
+        Arrangement::ShrinkWindow => shrink(session, argument),
+        // The list of buffers is not shown in a window yet.
+        Arrangement::ListBuffers => {}
+    }
+    Ok(())
+}
+
+/// Arranges the windows of the session at `at` anew, which has nothing half read and an empty echo line. An arrangement
+/// that cannot be made tells so in the echo line. `Short`: memory was refused, which only a split may be, and the world is
+/// as it was.
+pub fn rearrange<T: Marked + Drop>(
+    buffers: &mut Buffers<T>,
+    sessions: &mut [Session],
+    at: usize,
+    arrangement: Arrangement,
+    argument: Option<usize>,
+) -> Result<(), Short>
+    requires sound { IsSound buffers.old sessions.old }
+    requires within { at < length sessions.old }
+    requires fresh { own_at at sessions.old ≡ first_own }
+    requires here { is_arranged_here arrangement ≡ true }
+    ensures sound { IsSound buffers.new sessions.new }
+    ensures sizes { sizes_in sessions.new ≡ sizes_in sessions.old }
+    ensures ok { OnOk result ((directory : Directory) (id : ℕ) (next : Option ℕ) → at ≡ position_or_len (session_id id) sessions.old → world_of directory buffers.new sessions.new next ≡ act (world_of directory buffers.old sessions.old next) id (Run (Rearrange arrangement) argument []) true) }
+    ensures touched { OnOk result ((directory : Directory) (id : ℕ) (next : Option ℕ) → at ≡ position_or_len (session_id id) sessions.old → Apart Nowhere id (world_of directory buffers.old sessions.old next) (world_of directory buffers.new sessions.new next)) }
+    ensures err { OnErr result ((directory : Directory) (next : Option ℕ) → world_of directory buffers.new sessions.new next ≡ world_of directory buffers.old sessions.old next) }
+    ensures may { OnErr result ((directory : Directory) (id : ℕ) (next : Option ℕ) → at ≡ position_or_len (session_id id) sessions.old → may_be_refused (outcome_in (world_of directory buffers.old sessions.old next) id (Run (Rearrange arrangement) argument []) true) ≡ true) }
+{
+    rearrange_session(buffers, &mut sessions[at], arrangement, argument)
+}

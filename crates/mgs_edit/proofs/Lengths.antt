@@ -1,0 +1,44 @@
+-- How many characters a plan puts in.
+use Rattle.std.proofs.Common.{◌≡◌, ℕ, zero, suc, ◌+◌, ◌-◌, ◌*◌, ◌≤◌, List, ◌++◌, length, drop, refl, ap, ◌∙◌, arith, length-append, length-drop, length-take}
+use Rattle.std.specs.Prelude.{replicate, slice_range}
+use Rattle.std.specs.List.{repeat}
+use Rattle.std.proofs.Math.Nat.{suc-mul}
+use Rattle.std.proofs.lemmas.List.{length-replicate}
+use Rattle.mgs_edit.specs.Reading.{put_read, PutWithin}
+use Rattle.mgs_edit.specs.declared.plan.Put.{Put}
+use Rattle.mgs_edit.specs.declared.plan.Put.TheVariants.{Nothing, Character, KillBuffer, Indented, Exchanged}
+
+-- how many characters that is, where the kill buffer has so many
+abbrev pub put_length : ℕ → Put → ℕ
+put_length killed Nothing = 0
+put_length killed (Character c n) = n
+put_length killed (KillBuffer n) = n * killed
+put_length killed (Indented n a b) = n + (b - a)
+put_length killed (Exchanged q) = 2
+
+length_repeat : (n : ℕ) (xs : List ℕ) → length (repeat n xs) ≡ n * length xs
+length_repeat zero xs = omega arith
+length_repeat (suc n) xs =
+    let both : length (xs ++ repeat n xs) ≡ length xs + length (repeat n xs) = length-append xs (repeat n xs) in
+    let rest : length (repeat n xs) ≡ n * length xs = length_repeat n xs in
+    let all : suc n * length xs ≡ n * length xs + length xs = suc-mul n (length xs) in
+    omega arith
+
+length_range : (xs : List ℕ) (a b : ℕ) → a ≤ b → b ≤ length xs → length (slice_range xs a b) ≡ b - a
+length_range xs a b h k = omega (arith, length-take (b - a) (drop a xs), length-drop a xs)
+
+length_put : (text kill : List ℕ) (p : Put) → PutWithin (length text) p → length (put_read text kill p) ≡ put_length (length kill) p
+length_put text kill Nothing h = refl
+length_put text kill (Character c n) h = length-replicate n c
+length_put text kill (KillBuffer n) h = length_repeat n kill
+length_put text kill (Indented n a b) h =
+    omega (arith, length-append (replicate {A = ℕ} n 10) (slice_range text a b), length-replicate {A = ℕ} n 10, length_range text a b h.0 h.1)
+length_put text kill (Exchanged q) h =
+    let one : 1 ≤ q = h.0 in
+    let within : q + 1 ≤ length text = h.1 in
+    let after : length (slice_range text q (q + 1)) ≡ (q + 1) - q = length_range text q (q + 1) (omega arith) within in
+    let before : length (slice_range text (q - 1) q) ≡ q - (q - 1) = length_range text (q - 1) q (omega arith) (omega arith) in
+    omega (arith, length-append (slice_range text q (q + 1)) (slice_range text (q - 1) q))
+
+pub length_killed : (text kill : List ℕ) (p : Put) (killed : ℕ) → PutWithin (length text) p → length kill ≡ killed → length (put_read text kill p) ≡ put_length killed p
+length_killed text kill p killed h k = length_put text kill p h ∙ ap (λ n. put_length n p) k

@@ -1,0 +1,151 @@
+-- What a plan says: each is read as a plan of the model, given the text and the kill buffer that it is for.
+use Rattle.std.specs.Prelude.{ℕ, ◌+◌, ◌-◌, ◌≤◌, Bool, true, false, List, [], ◌++◌, length, replicate, slice_range, Option, Some, None, Result, Ok, Err}
+use Rattle.std.specs.List.{repeat}
+use Rattle.mgs_model.specs.Outcome.{PointPlan, Keep, At, MarkPlan, Keep_mark, Mark_at, KillPlan, Keep_kill, Kill_is, Keep_search}
+use Rattle.mgs_model.specs.Plans as model
+use Rattle.mgs_model.specs.declared.message.Message.{Message}
+use Rattle.mgs_model.specs.declared.message.Message.TheVariants.{Silent}
+use Rattle.mgs_model.specs.declared.session.Kind.TheVariants.{Other, Kill}
+use Rattle.mgs_model.specs.declared.session.Motion.{Motion}
+use Rattle.mgs_model.specs.declared.session.Motion.TheVariants.{StartSearch, SearchOn, StartReplace, SkipMatch}
+use Rattle.mgs_model.specs.declared.session.Alteration.{Alteration}
+use Rattle.mgs_model.specs.declared.session.Alteration.TheVariants.{UpcaseWord, ReplaceMatch}
+use Rattle.mgs_edit.specs.declared.plan.Around.{Around}
+use Rattle.mgs_edit.specs.declared.plan.Goes.{Goes}
+use Rattle.mgs_edit.specs.declared.plan.Goes.TheVariants.{Stays, To, Behind}
+use Rattle.mgs_edit.specs.declared.plan.Joins.{Joins}
+use Rattle.mgs_edit.specs.declared.plan.Joins.TheVariants.{New, InFront}
+use Rattle.mgs_edit.specs.declared.plan.Joins.TheVariants as joins
+use Rattle.mgs_edit.specs.declared.plan.Piece.{Piece}
+use Rattle.mgs_edit.specs.declared.plan.Finish.{Finish}
+use Rattle.mgs_edit.specs.declared.plan.Put.{Put}
+use Rattle.mgs_edit.specs.declared.plan.Put.TheVariants.{Nothing, Character, KillBuffer, Indented, Exchanged}
+use Rattle.mgs_edit.specs.declared.plan.Change.{Change}
+
+-- GIVEN
+
+-- what is given here, in a text of so many characters; all else is as it is
+abbrev pub surrounded : Around → ℕ → model.Around → model.Around
+surrounded x size rest = record rest { size = size; place = x.place; mark = x.mark; argument = x.argument; kind = x.kind; height = x.height }
+
+-- PLANS
+
+abbrev pub put_read : List ℕ → List ℕ → Put → List ℕ
+put_read text kill Nothing = []
+put_read text kill (Character c n) = replicate n c
+put_read text kill (KillBuffer n) = repeat n kill
+put_read text kill (Indented n a b) = replicate n 10 ++ slice_range text a b
+put_read text kill (Exchanged q) = slice_range text q (q + 1) ++ slice_range text (q - 1) q
+
+-- behind is where what is put in ends
+abbrev pub point_read : ℕ → Goes → PointPlan
+point_read behind Stays = Keep
+point_read behind (To p) = At p
+point_read behind Behind = At behind
+
+abbrev pub mark_read : Option ℕ → MarkPlan
+mark_read None = Keep_mark
+mark_read (Some p) = Mark_at p
+
+abbrev pub top_read : Option ℕ → PointPlan
+top_read None = Keep
+top_read (Some p) = At p
+
+abbrev pub kill_joined : Joins → List ℕ → List ℕ → List ℕ
+kill_joined New kill piece = piece
+kill_joined joins.Behind kill piece = kill ++ piece
+kill_joined InFront kill piece = piece ++ kill
+
+abbrev pub kill_read : List ℕ → List ℕ → Option Piece → KillPlan
+kill_read text kill None = Keep_kill
+kill_read text kill (Some x) = Kill_is (kill_joined x.joins kill (slice_range text x.from x.to))
+
+abbrev pub finish_read : List ℕ → List ℕ → ℕ → Finish → model.Finish
+finish_read text kill behind f =
+    record {
+      point = point_read behind f.point;
+      mark = mark_read f.mark;
+      top = top_read f.top;
+      sought = Keep_search;
+      kill = kill_read text kill f.kill;
+      kind = f.kind;
+      told = f.told;
+      replaced = 0;
+      over = false;
+    }
+
+abbrev pub change_read : List ℕ → List ℕ → Change → model.Change
+change_read text kill c =
+    record { a = c.from; b = c.to; put = put_read text kill c.put; finish = finish_read text kill (c.from + length (put_read text kill c.put)) c.finish }
+
+-- what a planner answers; a motion puts nothing in
+abbrev pub motion_read : List ℕ → List ℕ → Result Finish Message → Result model.Finish Message
+motion_read text kill (Ok f) = Ok (finish_read text kill 0 f)
+motion_read text kill (Err message) = Err message
+
+abbrev pub edit_read : List ℕ → List ℕ → Result Change Message → Result model.Change Message
+edit_read text kill (Ok c) = Ok (change_read text kill c)
+edit_read text kill (Err message) = Err message
+
+-- a finish that moves the point and nothing else
+abbrev pub gone : ℕ → Finish
+gone p = record { point = To p; mark = None; top = None; kill = None; kind = Other; told = Silent }
+
+-- what stands between two positions is taken out, and is killed or not
+abbrev pub deleted : ℕ → ℕ → Change
+deleted a b = record { from = a; to = b; put = Nothing; finish = gone a }
+
+abbrev pub killing : ℕ → ℕ → Joins → Change
+killing a b joins =
+    record { from = a; to = b; put = Nothing; finish = record (gone a) { kill = Some (record { from = a; to = b; joins = joins }); kind = Kill } }
+
+-- WHAT CAN BE DONE: every position lies in its text
+
+abbrev pub IsWithin : ℕ → Option ℕ → Type 0
+IsWithin size None = Unit {0}
+IsWithin size (Some p) = p ≤ size
+
+abbrev pub GoesWithin : ℕ → Goes → Type 0
+GoesWithin size Stays = Unit {0}
+GoesWithin size (To p) = p ≤ size
+GoesWithin size Behind = Unit {0}
+
+abbrev pub PieceWithin : ℕ → Option Piece → Type 0
+PieceWithin size None = Unit {0}
+PieceWithin size (Some x) = (x.from ≤ x.to) × (x.to ≤ size)
+
+abbrev pub PutWithin : ℕ → Put → Type 0
+PutWithin size Nothing = Unit {0}
+PutWithin size (Character c n) = Unit {0}
+PutWithin size (KillBuffer n) = Unit {0}
+PutWithin size (Indented n a b) = (a ≤ b) × (b ≤ size)
+PutWithin size (Exchanged q) = (1 ≤ q) × (q + 1 ≤ size)
+
+-- of a text of so many characters, and so many afterwards
+pub record FinishWithin (size after : ℕ) (f : Finish) : Type 0 where
+  pub point : GoesWithin after f.point
+  pub mark : IsWithin after f.mark
+  pub top : IsWithin after f.top
+  pub kill : PieceWithin size f.kill
+
+pub record ChangeWithin (text kill : List ℕ) (c : Change) : Type 0 where
+  pub order : c.from ≤ c.to
+  pub within : c.to ≤ length text
+  pub put : PutWithin (length text) c.put
+  pub finish : FinishWithin (length text) (length text - (c.to - c.from) + length (put_read text kill c.put)) c.finish
+
+-- COMMANDS
+
+-- the motions that are planned here; those of a search are not
+abbrev pub is_planned : Motion → Bool
+is_planned StartSearch = false
+is_planned SearchOn = false
+is_planned StartReplace = false
+is_planned SkipMatch = false
+is_planned _ = true
+
+-- the alterations that are
+abbrev pub is_alteration_planned : Alteration → Bool
+is_alteration_planned UpcaseWord = false
+is_alteration_planned ReplaceMatch = false
+is_alteration_planned _ = true

@@ -1,0 +1,20 @@
+//! What each command that acts on a text does, as a plan: a small value that says what is taken out, what is put in and
+//! what is left. A planner reads a text and changes nothing, and a plan takes no memory.
+#![tactic(auto)]
+
+mod alterations;
+mod around;
+mod insertions;
+mod motions;
+mod plan;
+mod scrolling;
+mod sizes;
+mod written;
+
+pub use alterations::alteration;
+pub use insertions::{insertion, reading_insertion};
+pub use motions::motion;
+pub use plan::{Around, Change, Finish, Goes, Joins, Piece, Put};
+pub use scrolling::{scroll, scrolled_row};
+pub use sizes::{is_edit, is_kill_too_large, is_too_long};
+pub use written::put_chars;

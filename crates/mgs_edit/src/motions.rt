@@ -1,0 +1,240 @@
+// Motions, which edit nothing.
+ghost use Rattle.std.specs.Prelude.{◌≡◌, ◌≤◌, ◌<◌, ◌^◌, length, IfOk, true};
+ghost use Rattle.mgs_model.specs.Plans as model;
+ghost use Rattle.mgs_model.specs.Plans.{lined, motion};
+ghost use Rattle.mgs_model.specs.declared.session.Motion.TheVariants.{ForwardChar, BackwardChar, NextLine, PreviousLine, ForwardWord, BackwardWord, ForwardParagraph, BackwardParagraph, Recenter, WhatCursorPosition, ExchangePointAndMark, CopyRegion};
+ghost use Rattle.mgs_edit.specs.Reading.{surrounded, finish_read, motion_read, FinishWithin, IsWithin, is_planned};
+
+use crate::around::{goal, goes, is_at_end, is_at_start, joins_behind, times};
+use crate::plan::{Around, Finish, Goes, Piece, STAYS};
+use mgs_lines::{
+    backward_paragraph, backward_word, column, column_place, forward_paragraph, forward_word,
+    is_first_line, is_last_line, line_end, line_start, lines_down, lines_up,
+};
+use mgs_model::{CursorPosition, Kind, Message, Motion};
+use mgs_text::Text;
+
+fn forward_char<T: Text>(text: &T, around: &Around) -> Result<Finish, Message>
+    requires { around.now.place ≤ length (T.text text.now) }
+    ensures plan { (rest : model.Around) → motion_read (T.text text.now) rest.kill result ≡ motion ForwardChar (T.text text.now) (surrounded around.now (length (T.text text.now)) rest) }
+    ensures within { IfOk result (FinishWithin (length (T.text text.now)) (length (T.text text.now))) }
+{
+    let size = text.len();
+    if is_at_end(around, size) {
+        return Err(Message::EndOfBuffer);
+    }
+    let times = times(around);
+    if times > size - around.place {
+        return Ok(goes(size));
+    }
+    Ok(goes(around.place + times))
+}
+
+fn backward_char<T: Text>(text: &T, around: &Around) -> Result<Finish, Message>
+    requires { around.now.place ≤ length (T.text text.now) }
+    ensures plan { (rest : model.Around) → motion_read (T.text text.now) rest.kill result ≡ motion BackwardChar (T.text text.now) (surrounded around.now (length (T.text text.now)) rest) }
+    ensures within { IfOk result (FinishWithin (length (T.text text.now)) (length (T.text text.now))) }
+{
+    if is_at_start(around) {
+        return Err(Message::BeginningOfBuffer);
+    }
+    Ok(goes(around.place.saturating_sub(times(around))))
+}
+
+/// To the column that a motion by lines goes for, in the line that starts at a position.
+fn lined<T: Text>(text: &T, around: &Around, start: usize) -> Finish
+    requires place { around.now.place ≤ length (T.text text.now) }
+    requires start { start ≤ length (T.text text.now) }
+    requires short { length (T.text text.now) < 2 ^ 32 }
+    ensures plan { (rest : model.Around) → finish_read (T.text text.now) rest.kill 0 result ≡ lined (T.text text.now) (surrounded around.now (length (T.text text.now)) rest) start }
+    ensures within { FinishWithin (length (T.text text.now)) (length (T.text text.now)) result }
+{
+    let goal = goal(around.kind, column(text, around.place));
+    Finish {
+        kind: Kind::Line { goal },
+        ..goes(column_place(text, start, goal))
+    }
+}
+
+fn next_line<T: Text>(text: &T, around: &Around) -> Result<Finish, Message>
+    requires place { around.now.place ≤ length (T.text text.now) }
+    requires short { length (T.text text.now) < 2 ^ 32 }
+    ensures plan { (rest : model.Around) → motion_read (T.text text.now) rest.kill result ≡ motion NextLine (T.text text.now) (surrounded around.now (length (T.text text.now)) rest) }
+    ensures within { IfOk result (FinishWithin (length (T.text text.now)) (length (T.text text.now))) }
+{
+    let times = times(around);
+    if is_last_line(text, around.place) && times > 0 {
+        return Err(Message::EndOfBuffer);
+    }
+    let start = lines_down(text, around.place, times);
+    Ok(lined(text, around, start))
+}
+
+fn previous_line<T: Text>(text: &T, around: &Around) -> Result<Finish, Message>
+    requires place { around.now.place ≤ length (T.text text.now) }
+    requires short { length (T.text text.now) < 2 ^ 32 }
+    ensures plan { (rest : model.Around) → motion_read (T.text text.now) rest.kill result ≡ motion PreviousLine (T.text text.now) (surrounded around.now (length (T.text text.now)) rest) }
+    ensures within { IfOk result (FinishWithin (length (T.text text.now)) (length (T.text text.now))) }
+{
+    let times = times(around);
+    if is_first_line(text, around.place) && times > 0 {
+        return Err(Message::BeginningOfBuffer);
+    }
+    let start = lines_up(text, around.place, times);
+    Ok(lined(text, around, start))
+}
+
+fn to_word_end<T: Text>(text: &T, around: &Around) -> Result<Finish, Message>
+    requires { around.now.place ≤ length (T.text text.now) }
+    ensures plan { (rest : model.Around) → motion_read (T.text text.now) rest.kill result ≡ motion ForwardWord (T.text text.now) (surrounded around.now (length (T.text text.now)) rest) }
+    ensures within { IfOk result (FinishWithin (length (T.text text.now)) (length (T.text text.now))) }
+{
+    if is_at_end(around, text.len()) {
+        return Err(Message::EndOfBuffer);
+    }
+    Ok(goes(forward_word(text, around.place, times(around))))
+}
+
+fn to_word_start<T: Text>(text: &T, around: &Around) -> Result<Finish, Message>
+    requires { around.now.place ≤ length (T.text text.now) }
+    ensures plan { (rest : model.Around) → motion_read (T.text text.now) rest.kill result ≡ motion BackwardWord (T.text text.now) (surrounded around.now (length (T.text text.now)) rest) }
+    ensures within { IfOk result (FinishWithin (length (T.text text.now)) (length (T.text text.now))) }
+{
+    if is_at_start(around) {
+        return Err(Message::BeginningOfBuffer);
+    }
+    Ok(goes(backward_word(text, around.place, times(around))))
+}
+
+fn to_paragraph_end<T: Text>(text: &T, around: &Around) -> Result<Finish, Message>
+    requires { around.now.place ≤ length (T.text text.now) }
+    ensures plan { (rest : model.Around) → motion_read (T.text text.now) rest.kill result ≡ motion ForwardParagraph (T.text text.now) (surrounded around.now (length (T.text text.now)) rest) }
+    ensures within { IfOk result (FinishWithin (length (T.text text.now)) (length (T.text text.now))) }
+{
+    if is_at_end(around, text.len()) {
+        return Err(Message::EndOfBuffer);
+    }
+    Ok(goes(forward_paragraph(text, around.place, times(around))))
+}
+
+fn to_paragraph_start<T: Text>(text: &T, around: &Around) -> Result<Finish, Message>
+    requires { around.now.place ≤ length (T.text text.now) }
+    ensures plan { (rest : model.Around) → motion_read (T.text text.now) rest.kill result ≡ motion BackwardParagraph (T.text text.now) (surrounded around.now (length (T.text text.now)) rest) }
+    ensures within { IfOk result (FinishWithin (length (T.text text.now)) (length (T.text text.now))) }
+{
+    if is_at_start(around) {
+        return Err(Message::BeginningOfBuffer);
+    }
+    Ok(goes(backward_paragraph(text, around.place, times(around))))
+}
+
+fn recenter<T: Text>(text: &T, around: &Around) -> Result<Finish, Message>
+    requires { around.now.place ≤ length (T.text text.now) }
+    ensures plan { (rest : model.Around) → motion_read (T.text text.now) rest.kill result ≡ motion Recenter (T.text text.now) (surrounded around.now (length (T.text text.now)) rest) }
+    ensures within { IfOk result (FinishWithin (length (T.text text.now)) (length (T.text text.now))) }
+{
+    let line = text.line_of(around.place);
+    let top = text.start_of(line.saturating_sub(around.height / 2));
+    Ok(Finish {
+        top: Some(top),
+        ..STAYS
+    })
+}
+
+fn what_cursor_position<T: Text>(text: &T, around: &Around) -> Result<Finish, Message>
+    requires place { around.now.place ≤ length (T.text text.now) }
+    requires short { length (T.text text.now) < 2 ^ 32 }
+    ensures plan { (rest : model.Around) → motion_read (T.text text.now) rest.kill result ≡ motion WhatCursorPosition (T.text text.now) (surrounded around.now (length (T.text text.now)) rest) }
+    ensures within { IfOk result (FinishWithin (length (T.text text.now)) (length (T.text text.now))) }
+{
+    let size = text.len();
+    let at = CursorPosition {
+        point: around.place,
+        size,
+        line: text.line_of(around.place) + 1,
+        column: column(text, around.place),
+    };
+    let told = if around.place < size {
+        Message::CharacterAt(text.at(around.place), at)
+    } else {
+        Message::EndAt(at)
+    };
+    Ok(Finish { told, ..STAYS })
+}
+
+fn exchange_point_and_mark<T: Text>(text: &T, around: &Around) -> Result<Finish, Message>
+    requires place { around.now.place ≤ length (T.text text.now) }
+    requires mark { IsWithin (length (T.text text.now)) around.now.mark }
+    ensures plan { (rest : model.Around) → motion_read (T.text text.now) rest.kill result ≡ motion ExchangePointAndMark (T.text text.now) (surrounded around.now (length (T.text text.now)) rest) }
+    ensures within { IfOk result (FinishWithin (length (T.text text.now)) (length (T.text text.now))) }
+{
+    match around.mark {
+        None => Err(Message::NoMark),
+        Some(mark) => Ok(Finish {
+            mark: Some(around.place),
+            ..goes(mark)
+        }),
+    }
+}
+
+fn copy_region<T: Text>(text: &T, around: &Around) -> Result<Finish, Message>
+    requires place { around.now.place ≤ length (T.text text.now) }
+    requires mark { IsWithin (length (T.text text.now)) around.now.mark }
+    ensures plan { (rest : model.Around) → motion_read (T.text text.now) rest.kill result ≡ motion CopyRegion (T.text text.now) (surrounded around.now (length (T.text text.now)) rest) }
+    ensures within { IfOk result (FinishWithin (length (T.text text.now)) (length (T.text text.now))) }
+{
+    match around.mark {
+        None => Err(Message::NoMark),
+        Some(mark) => Ok(Finish {
+            kill: Some(Piece {
+                from: mark.min(around.place),
+                to: mark.max(around.place),
+                joins: joins_behind(around.kind),
+            }),
+            kind: Kind::Kill,
+            ..STAYS
+        }),
+    }
+}
+
+/// What a motion leaves in a text. `EndOfBuffer`, `BeginningOfBuffer`: it is to go on there. `NoMark`: it needs the mark.
+pub fn motion<T: Text>(text: &T, around: &Around, command: Motion) -> Result<Finish, Message>
+    requires place { around.now.place ≤ length (T.text text.now) }
+    requires mark { IsWithin (length (T.text text.now)) around.now.mark }
+    requires short { length (T.text text.now) < 2 ^ 32 }
+    requires planned { is_planned command ≡ true }
+    ensures plan { (rest : model.Around) → motion_read (T.text text.now) rest.kill result ≡ motion command (T.text text.now) (surrounded around.now (length (T.text text.now)) rest) }
+    ensures within { IfOk result (FinishWithin (length (T.text text.now)) (length (T.text text.now))) }
+{
+    match command {
+        Motion::ForwardChar => forward_char(text, around),
+        Motion::BackwardChar => backward_char(text, around),
+        Motion::BeginningOfLine => Ok(goes(line_start(text, around.place))),
+        Motion::EndOfLine => Ok(goes(line_end(text, around.place))),
+        Motion::NextLine => next_line(text, around),
+        Motion::PreviousLine => previous_line(text, around),
+        Motion::BufferStart => Ok(goes(0)),
+        Motion::BufferEnd => Ok(goes(text.len())),
+        Motion::ForwardWord => to_word_end(text, around),
+        Motion::BackwardWord => to_word_start(text, around),
+        Motion::ForwardParagraph => to_paragraph_end(text, around),
+        Motion::BackwardParagraph => to_paragraph_start(text, around),
+        Motion::Recenter => recenter(text, around),
+        Motion::WhatCursorPosition => what_cursor_position(text, around),
+        Motion::SetMark => Ok(Finish {
+            mark: Some(around.place),
+            told: Message::MarkSet,
+            ..STAYS
+        }),
+        Motion::ExchangePointAndMark => exchange_point_and_mark(text, around),
+        Motion::MarkWholeBuffer => Ok(Finish {
+            mark: Some(text.len()),
+            ..goes(0)
+        }),
+        Motion::CopyRegion => copy_region(text, around),
+        // A search has planners of its own.
+        Motion::StartSearch | Motion::SearchOn | Motion::StartReplace | Motion::SkipMatch => Err(
+            Message::KeyNotBound,
+        ),
+    }
+}

@@ -1,0 +1,61 @@
+// What an edit and a kill come to, and where that is too much.
+ghost use Rattle.std.specs.Prelude.{◌≡◌, ℕ, ◌≤◌, ◌-◌, ◌+◌, ◌^◌, List, length, nat_lt, IfSome, None};
+ghost use Rattle.mgs_model.specs.Acts.{is_too_large};
+ghost use Rattle.mgs_model.specs.Text.{is_edit};
+ghost use Rattle.mgs_edit.specs.Reading.{kill_read, put_read, PieceWithin, PutWithin};
+
+use crate::plan::{Change, Finish, Joins, Put};
+use mgs_model::TEXT_LIMIT;
+
+#[tactic(auto, using(crate::proofs::Lengths::length_killed))]
+/// How many characters come in, where the kill buffer has `killed`. `None`: more than a number can say.
+fn put_len(put: &Put, killed: usize) -> Option<usize>
+    ensures some { IfSome result (λ n. (text kill : List ℕ) → PutWithin (length text) put.now → length kill ≡ killed → length (put_read text kill put.now) ≡ n) }
+    ensures none { result ≡ None → (text kill : List ℕ) → PutWithin (length text) put.now → length kill ≡ killed → 2 ^ 64 ≤ length (put_read text kill put.now) }
+{
+    match *put {
+        Put::Nothing => Some(0),
+        Put::Character { put: _, times } => Some(times),
+        Put::KillBuffer { times } => times.checked_mul(killed),
+        Put::Indented { feeds, from, to } => feeds.checked_add(to.saturating_sub(from)),
+        Put::Exchanged { at: _ } => Some(2),
+    }
+}
+
+/// Whether a change takes out or puts in anything, where the kill buffer has `killed` characters.
+pub fn is_edit(change: &Change, killed: usize) -> bool
+    ensures { (text kill : List ℕ) → PutWithin (length text) change.now.put → length kill ≡ killed → result ≡ is_edit change.now.from change.now.to (put_read text kill change.now.put) }
+{
+    match put_len(&change.put, killed) {
+        None => true,
+        Some(len) => change.from < change.to || len > 0,
+    }
+}
+
+/// Whether a change leaves a text of `size` characters with more than a text may have.
+pub fn is_too_long(size: usize, change: &Change, killed: usize) -> bool
+    requires order { change.now.from ≤ change.now.to }
+    requires within { change.now.to ≤ size }
+    requires put { PutWithin size change.now.put }
+    ensures { (text kill : List ℕ) → length text ≡ size → length kill ≡ killed → result ≡ nat_lt TEXT_LIMIT (size - (change.now.to - change.now.from) + length (put_read text kill change.now.put)) }
+{
+    let left = size - (change.to - change.from);
+    match put_len(&change.put, killed) {
+        None => true,
+        Some(len) => left > TEXT_LIMIT || len > TEXT_LIMIT - left,
+    }
+}
+
+/// Whether a kill leaves a kill buffer of `killed` characters with more than it may have.
+pub fn is_kill_too_large(finish: &Finish, killed: usize) -> bool
+    ensures { (text kill : List ℕ) → PieceWithin (length text) finish.now.kill → length kill ≡ killed → result ≡ is_too_large (kill_read text kill finish.now.kill) }
+{
+    let Some(piece) = finish.kill else {
+        return false;
+    };
+    let len = piece.to.saturating_sub(piece.from);
+    match piece.joins {
+        Joins::New => len > TEXT_LIMIT,
+        Joins::Behind | Joins::InFront => killed > TEXT_LIMIT || len > TEXT_LIMIT - killed,
+    }
+}

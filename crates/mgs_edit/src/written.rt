@@ -1,0 +1,73 @@
+// What a plan puts in, written out.
+ghost use Rattle.std.specs.Prelude.{◌≡◌, ◌≤◌, ◌-◌, ◌+◌, ◌++◌, length, replicate, slice_range, IfOk};
+ghost use Rattle.std.specs.List.{repeat};
+ghost use Rattle.mgs_edit.specs.Reading.{put_read, PutWithin};
+
+use crate::plan::Put;
+use mgs_model::Short;
+use mgs_text::Text;
+use std::alloc::Global;
+
+/// The kill buffer so many times.
+fn repeated(alloc: Global, kill: &[char], times: usize) -> Result<Vec<char>, Short>
+    ensures { IfOk result (λ v. v.items ≡ repeat times kill.now) }
+{
+    kill.repeat(alloc, times).map_err(|_| Short)
+}
+
+/// So many line feeds, and a stretch of the text.
+fn indented<T: Text>(
+    alloc: Global,
+    text: &T,
+    feeds: usize,
+    from: usize,
+    to: usize,
+) -> Result<Vec<char>, Short>
+    requires order { from ≤ to }
+    requires within { to ≤ length (T.text text.now) }
+    ensures { IfOk result (λ v. v.items ≡ replicate feeds 10 ++ slice_range (T.text text.now) from to) }
+{
+    let Ok(mut chars) = Vec::from_elem(alloc, '\n', feeds) else {
+        return Err(Short);
+    };
+    let white = text.copy(from, to)?;
+    match chars.extend_from_slice(&white) {
+        Ok(()) => Ok(chars),
+        Err(_) => Err(Short),
+    }
+}
+
+/// What the two characters around a position are in the other order.
+fn exchanged<T: Text>(alloc: Global, text: &T, at: usize) -> Result<Vec<char>, Short>
+    requires some { 1 ≤ at }
+    requires within { at + 1 ≤ length (T.text text.now) }
+    ensures { IfOk result (λ v. v.items ≡ slice_range (T.text text.now) at (at + 1) ++ slice_range (T.text text.now) (at - 1) at) }
+{
+    // A position is far below the greatest number.
+    let _size = text.len();
+    let mut chars = text.copy(at, at + 1)?;
+    let before = text.copy(at - 1, at)?;
+    match chars.extend_from_slice(&before) {
+        Ok(()) => Ok(chars),
+        Err(_) => Err(Short),
+    }
+}
+
+/// What a plan puts in, written out. `Short`: memory was refused.
+pub fn put_chars<T: Text>(
+    alloc: Global,
+    text: &T,
+    kill: &[char],
+    put: &Put,
+) -> Result<Vec<char>, Short>
+    requires { PutWithin (length (T.text text.now)) put.now }
+    ensures { IfOk result (λ v. v.items ≡ put_read (T.text text.now) kill.now put.now) }
+{
+    match *put {
+        Put::Nothing => Ok(Vec::new(alloc)),
+        Put::Character { put, times } => Vec::from_elem(alloc, put, times).map_err(|_| Short),
+        Put::KillBuffer { times } => repeated(alloc, kill, times),
+        Put::Indented { feeds, from, to } => indented(alloc, text, feeds, from, to),
+        Put::Exchanged { at } => exchanged(alloc, text, at),
+    }
+}

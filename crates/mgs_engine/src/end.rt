@@ -1,0 +1,89 @@
+// Sessions end: their screens go, and they are to be told.
+ghost use Rattle.std.specs.Prelude.{◌≡◌, ◌++◌, ◌∷◌, [], Some, map, find, is_some, cond, vec_capacity};
+ghost use Rattle.std.specs.Option.{option_map};
+ghost use Rattle.mgs_model.specs.Apply.{remove_first};
+ghost use Rattle.mgs_model.specs.Events.{Close, run, step};
+ghost use Rattle.mgs_engine.specs.declared.ending.Cause.TheVariants.{Slow};
+ghost use Rattle.mgs_engine.specs.Screens.{AreAmong, is_late, late_ids, screen_id};
+ghost use Rattle.mgs_engine.specs.Served.{HasSlots, IsServed, IsServedInTime, serving_of};
+ghost use Rattle.mgs_engine.specs.Serving.{all_ended_by, ended_by};
+
+use crate::ending::Cause;
+use crate::place::place_of;
+use crate::screen::Screen;
+use mgs_core::Core;
+use mgs_marks::Marked;
+use mgs_model::SessionId;
+
+/// Takes away the first screen of an id, and the bytes that wait with it: its session is to be told with its cause. Where
+/// none has the id, all stay.
+#[tactic(auto, using(crate::proofs::Screens::removed_at, crate::proofs::Screens::removed_none, crate::proofs::Quits::told_none))]
+pub(crate) fn end_screen(
+    screens: &mut Vec<Screen>,
+    ended: &mut Vec<(SessionId, Cause)>,
+    id: SessionId,
+    cause: Cause,
+)
+    requires { HasSlots screens.old.items ended.old.items (vec_capacity ended.old) }
+    ensures screens { screens.new.items ≡ remove_first (screen_id id) screens.old.items }
+    ensures ended { ended.new.items ≡ ended.old.items ++ cond (is_some (find (screen_id id) screens.old.items)) ((id, cause) ∷ []) [] }
+    ensures slots { HasSlots screens.new.items ended.new.items (vec_capacity ended.new) }
+{
+    let at = place_of(screens, id);
+    if at < screens.len() {
+        let _ended = screens.remove(at);
+        ended.push_reserved((id, cause));
+    }
+}
+
+// The session of the first late screen, if there is one.
+fn first_late(screens: &[Screen]) -> Option<SessionId>
+    ensures { result ≡ option_map (λ x. x.id) (find is_late screens.now) }
+{
+    for screen in screens {
+        if screen.late {
+            return Some(screen.id);
+        }
+    }
+    None
+}
+
+// Ends the session of an open screen that is late.
+fn end_slow<T: Marked + Drop>(
+    core: &mut Core<T>,
+    screens: &mut Vec<Screen>,
+    ended: &mut Vec<(SessionId, Cause)>,
+    id: SessionId,
+)
+    requires served { IsServedInTime core.old screens.old.items }
+    requires slots { HasSlots screens.old.items ended.old.items (vec_capacity ended.old) }
+    requires late { option_map (λ x. x.id) (find is_late screens.old.items) ≡ Some id }
+    ensures served { IsServedInTime core.new screens.new.items }
+    ensures slots { HasSlots screens.new.items ended.new.items (vec_capacity ended.new) }
+    ensures ended { serving_of core.new screens.new.items ended.new.items ≡ ended_by Slow id (serving_of core.old screens.old.items ended.old.items) }
+    ensures closes { core.new ≡ step core.old (Close id) }
+    ensures late { late_ids screens.old.items ≡ id ∷ late_ids screens.new.items }
+    ensures kept { AreAmong screens.new.items screens.old.items }
+{
+    core.close(id);
+    end_screen(screens, ended, id, Cause::Slow);
+}
+
+/// Ends the sessions whose screens are late, in the order in which they opened.
+pub(crate) fn end_late<T: Marked + Drop>(
+    core: &mut Core<T>,
+    screens: &mut Vec<Screen>,
+    ended: &mut Vec<(SessionId, Cause)>,
+)
+    requires served { IsServedInTime core.old screens.old.items }
+    requires slots { HasSlots screens.old.items ended.old.items (vec_capacity ended.old) }
+    ensures served { IsServed core.new screens.new.items }
+    ensures slots { HasSlots screens.new.items ended.new.items (vec_capacity ended.new) }
+    ensures ended { serving_of core.new screens.new.items ended.new.items ≡ all_ended_by Slow (late_ids screens.old.items) (serving_of core.old screens.old.items ended.old.items) }
+    ensures closes { core.new ≡ run core.old (map (λ i. Close i) (late_ids screens.old.items)) }
+    ensures kept { AreAmong screens.new.items screens.old.items }
+{
+    while let Some(id) = first_late(screens) {
+        end_slow(core, screens, ended, id);
+    }
+}

@@ -1,0 +1,74 @@
+-- Words in the table: a word that begins a row is that row, or goes on to it.
+use Rattle.std.proofs.Common.{◌≡◌, ℕ, Bool, true, false, ◌&&◌, ◌||◌, cond, List, [], ◌∷◌, map, refl, sym, ap, ◌∙◌}
+use Rattle.std.specs.Prelude.{◌==◌, Option, Some, find, is_some}
+use Rattle.std.specs.List.{list_any}
+use Rattle.std.specs.Option.{option_map}
+use Rattle.mgs_model.specs.Names.{same_name}
+use Rattle.mgs_model.specs.Keys.{KeyRow, key_rows, begins_with, is_prefix, find_row}
+use Rattle.mgs_maps.specs.declared.table.Binding.{Binding}
+use Rattle.mgs_maps.specs.Table.{row_of, rows_of, command_of}
+
+-- a longer word that begins with a word
+abbrev pub goes_on : List ℕ → List ℕ → Bool
+goes_on [] [] = false
+goes_on (k ∷ ks) [] = true
+goes_on [] (b ∷ bs) = false
+goes_on (k ∷ ks) (b ∷ bs) = goes_on ks bs && (b == k)
+
+either_way : (x s g : Bool) → (x && (s || g)) ≡ ((x && s) || (g && x))
+either_way true true true = refl
+either_way true true false = refl
+either_way true false true = refl
+either_way true false false = refl
+either_way false true true = refl
+either_way false true false = refl
+either_way false false true = refl
+either_way false false false = refl
+
+begins : (ks bs : List ℕ) → begins_with ks bs ≡ (same_name bs ks || goes_on ks bs)
+begins [] [] = refl
+begins (k ∷ ks) [] = refl
+begins [] (b ∷ bs) = refl
+begins (k ∷ ks) (b ∷ bs) = ap (λ t. (b == k) && t) (begins ks bs) ∙ either_way (b == k) (same_name bs ks) (goes_on ks bs)
+
+four : (s g t h : Bool) → ((s || g) || (t || h)) ≡ ((s || t) || (g || h))
+four true g t h = refl
+four false true true h = refl
+four false true false h = refl
+four false false t h = refl
+
+some_found : (b : Bool) {A : Type 0} (x : A) (o : Option A) → is_some (cond b (Some x) o) ≡ (b || is_some o)
+some_found true x o = refl
+some_found false x o = refl
+
+any_begins : (word : List ℕ) (rs : List KeyRow) → list_any (λ (r : KeyRow). begins_with r.keys word) rs ≡ (is_some (find (λ (r : KeyRow). same_name word r.keys) rs) || list_any (λ (r : KeyRow). goes_on r.keys word) rs)
+any_begins word [] = refl
+any_begins word (r ∷ rs) =
+    ap (λ t. t || list_any (λ (r : KeyRow). begins_with r.keys word) rs) (begins r.keys word)
+    ∙ ap (λ t. (same_name word r.keys || goes_on r.keys word) || t) (any_begins word rs)
+    ∙ four (same_name word r.keys) (goes_on r.keys word) (is_some (find (λ (r : KeyRow). same_name word r.keys) rs)) (list_any (λ (r : KeyRow). goes_on r.keys word) rs)
+    ∙ ap (λ t. t || (goes_on r.keys word || list_any (λ (r : KeyRow). goes_on r.keys word) rs)) (sym (some_found (same_name word r.keys) r (find (λ (r : KeyRow). same_name word r.keys) rs)))
+
+-- some row is longer
+abbrev pub is_half : List ℕ → Bool
+is_half word = list_any (λ (r : KeyRow). goes_on r.keys word) key_rows
+
+pub prefix_is : (word : List ℕ) → is_prefix word ≡ (is_some (find_row word) || is_half word)
+prefix_is word = any_begins word key_rows
+
+-- THE TABLE OF THE CODE
+
+found_in : (word : List ℕ) (bs : List Binding) → option_map (λ (r : KeyRow). r.command) (find (λ (r : KeyRow). same_name word r.keys) (map row_of bs)) ≡ option_map (λ (b : Binding). b.command) (find (λ (b : Binding). same_name word b.keys.now) bs)
+found_in word [] = refl
+found_in word (b ∷ bs) =
+    let goal : Bool → Type 0 = λ t. option_map (λ (r : KeyRow). r.command) (cond t (Some (row_of b)) (find (λ (r : KeyRow). same_name word r.keys) (map row_of bs))) ≡ option_map (λ (b : Binding). b.command) (cond t (Some b) (find (λ (b : Binding). same_name word b.keys.now) bs)) in
+    let go : (t : Bool) → goal t = λ t. elim t as goal [
+      | true ↦ refl
+      | false ↦ found_in word bs
+    ]
+    in go (same_name word b.keys.now)
+
+pub table_finds : (word : List ℕ) (bs : List Binding) → rows_of bs ≡ key_rows → option_map (λ (b : Binding). b.command) (find (λ (b : Binding). same_name word b.keys.now) bs) ≡ command_of word
+table_finds word bs is =
+    sym (found_in word bs)
+    ∙ ap (λ rs. option_map (λ (r : KeyRow). r.command) (find (λ (r : KeyRow). same_name word r.keys) rs)) is

@@ -1,0 +1,79 @@
+-- What a session has half read, and what a key comes to.
+use Rattle.std.specs.Prelude.{◌≡◌, ℕ, ◌==◌, Bool, true, false, List, [], ◌∷◌, ◌++◌, Option, None, ⊤, if◌then◌else◌}
+use Rattle.mgs_keys.specs.declared.decoder.Key.{Key}
+use Rattle.mgs_keys.specs.declared.decoder.Key.TheVariants.{Plain, Meta}
+use Rattle.mgs_model.specs.Keys.{KeyRead, Half, Bound, Not_bound, key_read}
+use Rattle.mgs_model.specs.declared.session.Argument.{Argument}
+use Rattle.mgs_model.specs.declared.session.Insertion.TheVariants.{SelfInsert, Newline}
+use Rattle.mgs_model.specs.declared.session.Motion.TheVariants.{ForwardChar, BackwardChar}
+use Rattle.mgs_model.specs.declared.session.Setting.TheVariants.{KeyboardQuit}
+use Rattle.mgs_model.specs.declared.session.Arrangement.{Arrangement}
+use Rattle.mgs_model.specs.declared.session.Arrangement.TheVariants.{ShrinkWindow, ListBuffers}
+use Rattle.mgs_model.specs.declared.session.Command.{Command}
+use Rattle.mgs_model.specs.declared.session.Command.TheVariants.{Insert, Move, Set, Rearrange, Exit}
+use Rattle.mgs_maps.specs.declared.maps.Fed.{Fed}
+use Rattle.mgs_maps.specs.declared.maps.Fed.TheVariants.{Pending, Run, Unbound}
+use Rattle.mgs_maps.specs.declared.maps.Prefix.{Prefix}
+use Rattle.mgs_maps.specs.declared.maps.Prefix.TheVariants.{Empty, ControlX}
+use Rattle.mgs_maps.specs.declared.maps.Maps.{Maps}
+
+-- an argument, and the bytes of a word that is half read
+pub record Held : Type 0 where
+  pub argument : Option Argument
+  pub keys : List ℕ
+
+abbrev pub nothing_held : Held
+nothing_held = record { argument = None; keys = [] }
+
+-- a word goes on and is held; else it is used up, and nothing is held
+abbrev pub FedBy : Fed → KeyRead → Held → Type 0
+FedBy Pending read new = read ≡ Half new.argument new.keys
+FedBy (Run c n) read new = (read ≡ Bound c n) × (new ≡ nothing_held)
+FedBy Unbound read new = (read ≡ Not_bound) × (new ≡ nothing_held)
+
+-- the arrangements of the table
+abbrev pub is_bound_arrangement : Arrangement → Bool
+is_bound_arrangement ShrinkWindow = false
+is_bound_arrangement ListBuffers = false
+is_bound_arrangement _ = true
+
+-- the commands of the table, and insertions of a character
+abbrev pub is_bound : Command → Bool
+is_bound (Insert (SelfInsert c)) = true
+is_bound (Insert Newline) = true
+is_bound (Move ForwardChar) = true
+is_bound (Move BackwardChar) = true
+is_bound (Set KeyboardQuit) = true
+is_bound (Rearrange c) = is_bound_arrangement c
+is_bound Exit = true
+is_bound _ = false
+
+abbrev pub IsBoundRun : Fed → Type 0
+IsBoundRun (Run c n) = is_bound c ≡ true
+IsBoundRun _ = ⊤
+
+-- BY KEYS
+
+-- the bytes of a prefix
+abbrev pub prefix_bytes : Prefix → List ℕ
+prefix_bytes Empty = []
+prefix_bytes ControlX = 24 ∷ []
+
+-- what the maps hold, which have whole keys alone
+abbrev pub held_by : Maps → Held
+held_by m = record { argument = m.argument; keys = prefix_bytes m.prefix }
+
+-- what a key comes to: what its last byte does. An ESC that is no Meta is no key
+abbrev pub key_reads : Option Argument → List ℕ → Key → KeyRead
+key_reads argument keys (Plain byte) = if byte == 27 then Not_bound else key_read argument keys byte
+key_reads argument keys (Meta byte) = key_read argument (keys ++ 27 ∷ []) byte
+
+-- BY BYTES
+
+-- an ESC that waits for its byte
+abbrev pub escape_bytes : Bool → List ℕ
+escape_bytes true = 27 ∷ []
+escape_bytes false = []
+
+abbrev pub held_at : Bool → Maps → Held
+held_at escape m = record { argument = m.argument; keys = prefix_bytes m.prefix ++ escape_bytes escape }

@@ -1,0 +1,4 @@
+pub mod Held
+pub mod Words
+pub mod Table
+pub mod Back

@@ -1,0 +1,66 @@
+-- Words of keys, as the maps tell them from each other.
+use Rattle.std.specs.Prelude.{ℕ, ◌==◌, ◌-◌, Bool, true, false, ◌&&◌, ◌||◌, List, [], ◌∷◌, ◌++◌, is_some, Option, Some, None, if◌then◌else◌}
+use Rattle.mgs_keys.specs.declared.decoder.Key.{Key}
+use Rattle.mgs_keys.specs.declared.decoder.Key.TheVariants.{Plain, Meta}
+use Rattle.mgs_model.specs.Keys.{KeyRead, Half, Bound, Not_bound, is_graphic, is_digit, digit_added, four_times, value_of}
+use Rattle.mgs_model.specs.declared.session.Argument.{Argument}
+use Rattle.mgs_model.specs.declared.session.Insertion.TheVariants.{SelfInsert}
+use Rattle.mgs_model.specs.declared.session.Setting.TheVariants.{KeyboardQuit}
+use Rattle.mgs_model.specs.declared.session.Command.{Command}
+use Rattle.mgs_model.specs.declared.session.Command.TheVariants.{Insert, Set}
+use Rattle.mgs_maps.specs.declared.maps.Prefix.{Prefix}
+use Rattle.mgs_maps.specs.declared.maps.Prefix.TheVariants.{Empty, ControlX}
+use Rattle.mgs_maps.specs.Held.{prefix_bytes}
+use Rattle.mgs_maps.specs.Table.{command_of}
+
+abbrev pub last_byte : Key → ℕ
+last_byte (Plain byte) = byte
+last_byte (Meta byte) = byte
+
+abbrev pub key_bytes : Key → List ℕ
+key_bytes (Plain byte) = byte ∷ []
+key_bytes (Meta byte) = 27 ∷ byte ∷ []
+
+abbrev pub word_of : Prefix → Key → List ℕ
+word_of prefix key = prefix_bytes prefix ++ key_bytes key
+
+-- the prefix that a key makes of another
+abbrev pub prefix_after : Prefix → Key → Option Prefix
+prefix_after Empty (Plain byte) = if byte == 24 then Some ControlX else None
+prefix_after _ _ = None
+
+-- the character that a word of one key inserts
+abbrev pub inserted : Prefix → Key → Option ℕ
+inserted Empty (Plain byte) = if is_graphic byte || (byte == 9) then Some byte else None
+inserted _ _ = None
+
+-- what a word is that is no row
+abbrev pub no_row : Option Argument → Option Prefix → Option ℕ → KeyRead
+no_row argument (Some prefix) c = Half argument (prefix_bytes prefix)
+no_row argument None (Some c) = Bound (Insert (SelfInsert c)) (value_of argument)
+no_row argument None None = Not_bound
+
+-- what a word is: the command of its row, or a prefix, or a character
+abbrev pub chosen : Option Argument → Option Command → Option Prefix → Option ℕ → KeyRead
+chosen argument (Some c) prefix character = Bound c (value_of argument)
+chosen argument None prefix character = no_row argument prefix character
+
+abbrev pub word_reads : Option Argument → Prefix → Key → KeyRead
+word_reads argument prefix key = chosen argument (command_of (word_of prefix key)) (prefix_after prefix key) (inserted prefix key)
+
+abbrev pub is_empty : Prefix → Bool
+is_empty Empty = true
+is_empty ControlX = false
+
+abbrev pub plain_reads : Option Argument → Prefix → ℕ → KeyRead
+plain_reads argument prefix byte =
+    if byte == 7 then Bound (Set KeyboardQuit) (value_of argument)
+    else if is_empty prefix && (byte == 21) then Half (Some (four_times argument)) []
+    else if is_digit byte && (is_empty prefix && is_some argument) then Half (Some (digit_added (byte - 48) argument)) []
+    else word_reads argument prefix (Plain byte)
+
+abbrev pub meta_reads : Option Argument → Prefix → ℕ → KeyRead
+meta_reads argument prefix byte =
+    if byte == 7 then Bound (Set KeyboardQuit) (value_of argument)
+    else if is_digit byte && is_empty prefix then Half (Some (digit_added (byte - 48) argument)) []
+    else word_reads argument prefix (Meta byte)

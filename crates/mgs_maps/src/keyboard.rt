@@ -1,0 +1,55 @@
+// What bytes come to.
+ghost use Rattle.std.specs.Prelude.{◌≡◌};
+ghost use Rattle.mgs_model.specs.Keys.{key_read};
+ghost use Rattle.mgs_maps.specs.Held.{FedBy, IsBoundRun, nothing_held};
+
+use crate::maps::{Fed, Maps};
+use mgs_keys::Decoder;
+use std::marker::Model;
+
+/// Makes commands of the bytes that a terminal sends. It holds what a session has half read: an argument, and the word
+/// of keys that goes on.
+#[derive(Clone, Copy, Debug)]
+pub struct Keyboard {
+    decoder: Decoder,
+    maps: Maps,
+}
+
+impl Model for Keyboard {
+    ghost use Rattle.mgs_maps.specs.Held.{Held, held_at};
+    ghost use Rattle.mgs_maps.specs.Back.{prefix_back, escape_back, prefix_told};
+    ghost use Rattle.mgs_model.specs.Keys.{ends_in_escape};
+
+    ghost Value = { Held };
+
+    ghost view = { λ k. held_at k.decoder k.maps };
+
+    ghost inverse = { λ h. record { decoder = ends_in_escape h.keys; maps = record { argument = h.argument; prefix = prefix_back h.keys } } };
+
+    ghost inverse_ok = { λ k h i. record { decoder = escape_back k.decoder k.maps.prefix i; maps = record { argument = k.maps.argument; prefix = prefix_told k.decoder k.maps.prefix i } } };
+}
+
+impl Keyboard {
+    /// Holds nothing.
+    pub fn new() -> Keyboard
+        ensures { result ≡ nothing_held }
+    {
+        Keyboard {
+            decoder: Decoder::new(),
+            maps: Maps::new(),
+        }
+    }
+
+    /// What a byte comes to, after what is held: a word of keys that goes on, a command and its argument, or a word that
+    /// runs no command. A command is one of the table, or inserts the character that was typed.
+    #[tactic(auto, using(crate::proofs::KeyRules::escape_waits))]
+    pub fn feed(&mut self, byte: u8) -> Fed
+        ensures read { FedBy result (key_read self.old.argument self.old.keys byte) self.new }
+        ensures bound { IsBoundRun result }
+    {
+        match self.decoder.feed(byte) {
+            None => Fed::Pending,
+            Some(key) => self.maps.feed(key),
+        }
+    }
+}

@@ -1,0 +1,206 @@
+// What keys come to.
+ghost use Rattle.std.specs.Prelude.{◌≡◌};
+ghost use Rattle.mgs_model.specs.Keys.{Half, Bound, digit_added as extended, four_times as multiplied, value_of, is_digit as tells_digit};
+ghost use Rattle.mgs_maps.specs.Held.{FedBy, IsBoundRun, held_by, key_reads, nothing_held, prefix_bytes};
+ghost use Rattle.mgs_maps.specs.Words.{prefix_after, inserted as inserts, is_empty as begins, word_reads, plain_reads, meta_reads};
+
+use crate::table::{CONTROL_X, find_command};
+use mgs_keys::Key;
+use mgs_model::{Argument, Command, Insertion, Setting};
+
+const KEYBOARD_QUIT: u8 = 0x07;
+
+const UNIVERSAL_ARGUMENT: u8 = 0x15;
+
+const ARGUMENT_LIMIT: usize = 9999;
+
+/// What a key, or a byte, comes to.
+#[derive(Clone, Copy, Debug, PartialEq, Eq)]
+pub enum Fed {
+    /// A word of keys or an argument goes on.
+    Pending,
+    /// A word of keys is complete: its command, and the argument that was typed before it.
+    Run(Command, Option<usize>),
+    /// A word of keys runs no command.
+    Unbound,
+}
+
+// The keys that were typed of a word.
+#[derive(Clone, Copy, Debug, PartialEq, Eq)]
+pub(crate) enum Prefix {
+    Empty,
+    ControlX,
+}
+
+/// Makes commands of keys. It holds the argument that was typed, and the word that goes on.
+#[derive(Clone, Copy, Debug)]
+pub struct Maps {
+    argument: Option<Argument>,
+    prefix: Prefix,
+}
+
+// A digit goes on with a number, or is the first of one.
+fn digit_added(digit: u8, argument: Option<Argument>) -> Argument
+    ensures { result ≡ extended digit argument }
+{
+    let before = match argument {
+        Some(typed) if typed.extends => typed.value,
+        _ => 0,
+    };
+    let value = before
+        .saturating_mul(10)
+        .saturating_add(usize::from(digit))
+        .min(ARGUMENT_LIMIT);
+    Argument {
+        value,
+        extends: true,
+    }
+}
+
+fn four_times(argument: Option<Argument>) -> Argument
+    ensures { result ≡ multiplied argument }
+{
+    let value = match argument {
+        None => 4,
+        Some(argument) => argument.value.saturating_mul(4).min(ARGUMENT_LIMIT),
+    };
+    Argument {
+        value,
+        extends: false,
+    }
+}
+
+fn is_digit(byte: u8) -> bool
+    ensures { result ≡ tells_digit byte }
+{
+    b'0' <= byte && byte <= b'9'
+}
+
+fn is_empty(prefix: Prefix) -> bool
+    ensures { result ≡ begins prefix }
+{
+    matches!(prefix, Prefix::Empty)
+}
+
+// The prefix that a key makes of another.
+fn prefix_with(prefix: Prefix, key: Key) -> Option<Prefix>
+    ensures { result ≡ prefix_after prefix key }
+{
+    match (prefix, key) {
+        (Prefix::Empty, Key::Plain(byte)) if byte == CONTROL_X => Some(Prefix::ControlX),
+        _ => None,
+    }
+}
+
+// The character that a word of one key inserts.
+fn inserted(prefix: Prefix, key: Key) -> Option<char>
+    ensures { result ≡ inserts prefix key }
+{
+    match (prefix, key) {
+        (Prefix::Empty, Key::Plain(byte)) if (b' ' <= byte && byte <= b'~') || byte == b'\t' => {
+            Some(char::from(byte))
+        }
+        _ => None,
+    }
+}
+
+impl Maps {
+    /// Holds nothing.
+    pub fn new() -> Maps
+        ensures { held_by result ≡ nothing_held }
+    {
+        Maps {
+            argument: None,
+            prefix: Prefix::Empty,
+        }
+    }
+
+    // The word goes on.
+    fn wait(argument: Option<Argument>, prefix: Prefix) -> (Fed, Maps)
+        ensures { FedBy result.0 (Half argument (prefix_bytes prefix)) (held_by result.1) }
+    {
+        (Fed::Pending, Maps { argument, prefix })
+    }
+
+    // The word is used up.
+    fn run(command: Command, argument: Option<Argument>) -> (Fed, Maps)
+        ensures { FedBy result.0 (Bound command (value_of argument)) (held_by result.1) }
+    {
+        (
+            Fed::Run(command, argument.map(|typed| typed.value)),
+            Maps::new(),
+        )
+    }
+
+    // What a word is that is no part of an argument.
+    fn look_up(self, key: Key) -> (Fed, Maps)
+        ensures { FedBy result.0 (word_reads self.argument self.prefix key) (held_by result.1) }
+    {
+        if let Some(command) = find_command(self.prefix, key) {
+            return Maps::run(command, self.argument);
+        }
+        if let Some(prefix) = prefix_with(self.prefix, key) {
+            return Maps::wait(self.argument, prefix);
+        }
+        if let Some(character) = inserted(self.prefix, key) {
+            return Maps::run(
+                Command::Insert(Insertion::SelfInsert(character)),
+                self.argument,
+            );
+        }
+        (Fed::Unbound, Maps::new())
+    }
+
+    // A key without Meta: a digit goes on with an argument.
+    fn feed_plain(self, byte: u8) -> (Fed, Maps)
+        ensures { FedBy result.0 (plain_reads self.argument self.prefix byte) (held_by result.1) }
+    {
+        let begins = is_empty(self.prefix);
+        if byte == KEYBOARD_QUIT {
+            return Maps::run(Command::Set(Setting::KeyboardQuit), self.argument);
+        }
+        if begins && byte == UNIVERSAL_ARGUMENT {
+            return Maps::wait(Some(four_times(self.argument)), Prefix::Empty);
+        }
+        if is_digit(byte) && (begins && self.argument.is_some()) {
+            return Maps::wait(Some(digit_added(byte - b'0', self.argument)), Prefix::Empty);
+        }
+        self.look_up(Key::Plain(byte))
+    }
+
+    // A key with Meta: a digit begins an argument, or goes on with one.
+    fn feed_meta(self, byte: u8) -> (Fed, Maps)
+        ensures { FedBy result.0 (meta_reads self.argument self.prefix byte) (held_by result.1) }
+    {
+        if byte == KEYBOARD_QUIT {
+            return Maps::run(Command::Set(Setting::KeyboardQuit), self.argument);
+        }
+        if is_digit(byte) && is_empty(self.prefix) {
+            return Maps::wait(Some(digit_added(byte - b'0', self.argument)), Prefix::Empty);
+        }
+        self.look_up(Key::Meta(byte))
+    }
+
+    // What a key comes to, and what is held after it.
+    #[tactic(auto, using(crate::proofs::KeyRules::plain_is_read, crate::proofs::KeyRules::meta_is_read))]
+    fn read_key(self, key: Key) -> (Fed, Maps)
+        ensures { FedBy result.0 (key_reads self.argument (prefix_bytes self.prefix) key) (held_by result.1) }
+    {
+        match key {
+            Key::Plain(byte) => self.feed_plain(byte),
+            Key::Meta(byte) => self.feed_meta(byte),
+        }
+    }
+
+    /// What a key comes to, after what is held. C-u and digits make an argument, C-g ends every word, and all else goes
+    /// by the table. A plain ESC is no key and is unbound. A command is one of the table, or inserts a character.
+    #[tactic(auto, using(crate::proofs::KeyRules::fed_is_bound))]
+    pub fn feed(&mut self, key: Key) -> Fed
+        ensures read { FedBy result (key_reads (held_by self.old).argument (held_by self.old).keys key) (held_by self.new) }
+        ensures bound { IsBoundRun result }
+    {
+        let (fed, held) = self.read_key(key);
+        *self = held;
+        fed
+    }
+}

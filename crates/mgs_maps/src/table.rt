@@ -1,0 +1,125 @@
+// The table of keys, names and commands.
+ghost use Rattle.std.specs.Prelude.{◌≡◌, find};
+ghost use Rattle.std.specs.Option.{option_map};
+ghost use Rattle.mgs_model.specs.Names.{same_name};
+ghost use Rattle.mgs_model.specs.Keys.{key_rows};
+ghost use Rattle.mgs_maps.specs.Words.{word_of};
+ghost use Rattle.mgs_maps.specs.declared.table.Binding.{Binding};
+ghost use Rattle.mgs_maps.specs.Table.{rows_of, command_of};
+
+use crate::maps::Prefix;
+use mgs_keys::Key;
+use mgs_model::{Arrangement, Command, Insertion, Motion, Setting};
+
+pub(crate) const ESCAPE: u8 = 0x1B;
+
+pub(crate) const CONTROL_X: u8 = 0x18;
+
+/// A row of the table: the bytes of a word of keys, the name of its command, and the command.
+#[derive(Clone, Copy, Debug)]
+pub struct Binding {
+    /// C-x is 0x18, and ESC (0x1B) stands before the byte of a key with Meta.
+    pub keys: &'static [u8],
+    pub name: &'static str,
+    pub command: Command,
+}
+
+static BINDINGS: [Binding; 12] = [
+    Binding {
+        keys: b"\r",
+        name: "newline",
+        command: Command::Insert(Insertion::Newline),
+    },
+    Binding {
+        keys: b"\x06",
+        name: "forward-char",
+        command: Command::Move(Motion::ForwardChar),
+    },
+    Binding {
+        keys: b"\x02",
+        name: "backward-char",
+        command: Command::Move(Motion::BackwardChar),
+    },
+    Binding {
+        keys: b"\x07",
+        name: "keyboard-quit",
+        command: Command::Set(Setting::KeyboardQuit),
+    },
+    Binding {
+        keys: b"\x180",
+        name: "delete-window",
+        command: Command::Rearrange(Arrangement::DeleteWindow),
+    },
+    Binding {
+        keys: b"\x181",
+        name: "delete-other-windows",
+        command: Command::Rearrange(Arrangement::DeleteOtherWindows),
+    },
+    Binding {
+        keys: b"\x182",
+        name: "split-window-vertically",
+        command: Command::Rearrange(Arrangement::SplitWindow),
+    },
+    Binding {
+        keys: b"\x18o",
+        name: "other-window",
+        command: Command::Rearrange(Arrangement::NextWindow),
+    },
+    Binding {
+        keys: b"\x18n",
+        name: "next-window",
+        command: Command::Rearrange(Arrangement::NextWindow),
+    },
+    Binding {
+        keys: b"\x18p",
+        name: "previous-window",
+        command: Command::Rearrange(Arrangement::PreviousWindow),
+    },
+    Binding {
+        keys: b"\x18^",
+        name: "enlarge-window",
+        command: Command::Rearrange(Arrangement::EnlargeWindow),
+    },
+    Binding {
+        keys: b"\x18\x03",
+        name: "save-buffers-kill-emacs",
+        command: Command::Exit,
+    },
+];
+
+/// The words of keys that run a command, with their names and commands: the rows by which keys are read. Beside them one
+/// visible ASCII character, the space and TAB insert themselves.
+pub fn bindings() -> &'static [Binding]
+    ensures { rows_of result.now ≡ key_rows }
+{
+    &BINDINGS
+}
+
+// Whether these bytes are those of the word.
+fn spells(keys: &[u8], prefix: Prefix, key: Key) -> bool
+    ensures { result ≡ same_name (word_of prefix key) keys.now }
+{
+    match (prefix, key) {
+        (Prefix::Empty, Key::Plain(byte)) => [byte].as_slice() == keys,
+        (Prefix::Empty, Key::Meta(byte)) => [ESCAPE, byte].as_slice() == keys,
+        (Prefix::ControlX, Key::Plain(byte)) => [CONTROL_X, byte].as_slice() == keys,
+        (Prefix::ControlX, Key::Meta(byte)) => [CONTROL_X, ESCAPE, byte].as_slice() == keys,
+    }
+}
+
+// The command of a word in a table.
+fn command_in(bindings: &[Binding], prefix: Prefix, key: Key) -> Option<Command>
+    ensures { result ≡ option_map (λ (b : Binding). b.command) (find (λ (b : Binding). same_name (word_of prefix key) b.keys.now) bindings.now) }
+{
+    bindings
+        .iter()
+        .find(|binding| spells(binding.keys, prefix, key))
+        .map(|binding| binding.command)
+}
+
+/// The command of a word of keys: a key after a prefix.
+pub(crate) fn find_command(prefix: Prefix, key: Key) -> Option<Command>
+    ensures { result ≡ command_of (word_of prefix key) }
+{
+    command_in(bindings(), prefix, key)
+}

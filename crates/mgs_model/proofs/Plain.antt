@@ -1,0 +1,254 @@
+-- One byte of a session that is in no mode and neither records nor plays: it is half of a word, or one act.
+use Rattle.std.proofs.Common.{◌≡◌, ℕ, zero, suc, ◌+◌, ◌≤◌, List, [], ◌∷◌, ◌++◌, map, refl, sym, ap, ◌∙◌, Bool, true, false, cond, Option, Some, None, arith}
+use Rattle.std.specs.Prelude.{Result, Ok, Err}
+use Rattle.std.specs.Option.{option_map}
+use Rattle.mgs_model.specs.World.{World, Session, Own, has_id, find_session}
+use Rattle.mgs_model.specs.View.{View, view, view_of, size_told, serial_told, text_in}
+use Rattle.mgs_model.specs.Outcome.{Act, Unbound, Run, Outcome, Effect, No_effect, Quit, Arrange, Stay, Adjust, Keep_kill}
+use Rattle.mgs_model.specs.Plans.{Finish, Change, insertion, motion, arrangement, acted_own}
+use Rattle.mgs_model.specs.Acts.{outcome, permitted, judged, needs, allowed, Target, target, around, edits, edited_by, edit_of, is_full, moves, moved_by, finished, finished_own, is_too_large, arranges, fails, without_all, told_over}
+use Rattle.mgs_model.specs.Apply.{searches, change_first, apply, applied, outcome_in, act, after_quit, session_after, session_arranged}
+use Rattle.mgs_model.specs.Turns.{Turn, Keep, Do, key_turn, byte_turn, todo_turn, next}
+use Rattle.mgs_model.specs.Events.{own_set, with_own, Doing, turn_in, turn_seen, rests, turn, turn_done, turns, most_turns, begun, begun_own, byte_done, refused_own, refused_of, refused_in, refused_act}
+use Rattle.mgs_model.specs.declared.message.Message.{Message}
+use Rattle.mgs_model.specs.declared.message.Message.TheVariants.{Silent, KillTooLarge, BufferFull, InMacro}
+use Rattle.mgs_model.specs.declared.session.Mode.{Mode}
+use Rattle.mgs_model.specs.declared.session.Mode.TheVariants.{Plain}
+use Rattle.mgs_model.specs.declared.session.Setting.TheVariants.{KeyboardQuit}
+use Rattle.mgs_model.specs.declared.session.Command.TheVariants.{Insert, Move, Set, Rearrange, Exit}
+use Rattle.mgs_model.specs.declared.entry.Decision.{Decision}
+use Rattle.mgs_model.specs.declared.entry.Decision.TheVariants.{Granted, DeniedBy, NotGranted}
+use Rattle.mgs_model.proofs.Firsts.{change_first_found, find-change_first}
+use Rattle.mgs_model.proofs.After.{find_after, find_without}
+use Rattle.mgs_model.proofs.Turning.{begun_view, view_with_own}
+
+-- THE OWN RECORD
+
+change_twice : {A : Type 0} (p : A → Bool) (f g h : A → A) → ((x : A) → p (g x) ≡ p x) → ((x : A) → f (g x) ≡ h x) → (xs : List A) → change_first p f (change_first p g xs) ≡ change_first p h xs
+change_twice p f g h stays same [] = refl
+change_twice {A = A} p f g h stays same (x ∷ xs) = by (change_twice p f g h stays same xs) (p x) refl
+  where
+    by : change_first p f (change_first p g xs) ≡ change_first p h xs → (c : Bool) → p x ≡ c → change_first p f (cond c (g x ∷ xs) (x ∷ change_first p g xs)) ≡ cond c (h x ∷ xs) (x ∷ change_first p h xs)
+    by later true e = ap (λ (b : Bool). cond b (f (g x) ∷ xs) (g x ∷ change_first p f xs)) (stays x ∙ e) ∙ ap (λ y. y ∷ xs) (same x)
+    by later false e = ap (λ (b : Bool). cond b (f x ∷ change_first p g xs) (x ∷ change_first p f (change_first p g xs))) e ∙ ap (λ ys. x ∷ ys) later
+
+-- a record that is set twice
+pub own_twice : (id : ℕ) (own : Own) (g : Own → Own) (w : World) → own.mode ≡ Plain → with_own id (λ old. own) (with_own id g w) ≡ with_own id (λ old. own) w
+own_twice id own g w plain =
+    ap (λ xs. record w { sessions = xs }) (change_twice (has_id id) (own_set (λ old. own)) (own_set g) (own_set (λ old. own)) (λ x. refl) (λ x. ap (λ (m : Mode). record x { search = cond (searches m) (cond (searches (g x.own).mode) x.search None) None; own = own }) plain ∙ sym (ap (λ (m : Mode). record x { search = cond (searches m) x.search None; own = own }) plain)) w.sessions)
+
+-- WHAT COMES NEXT
+
+pub seen_begun : (w : World) (id : ℕ) (f : Own → Own) (x : Session) → find_session id w.sessions ≡ Some x → view_of (with_own id f w) id ≡ Some (begun_view f (view w x))
+seen_begun w id f x found = view_with_own w id f ∙ ap (λ o. option_map (begun_view f) (option_map (view w) o)) found
+
+-- the record in which a byte is read
+abbrev pub quiet : Own → Own
+quiet own = record own { echo = Silent; playing = false; todo = [] }
+
+-- the session's own record, which is in no mode, and does not record
+pub record IsPlain (own : Own) : Type 0 where
+  pub mode : own.mode ≡ Plain
+  pub recording : own.recording ≡ false
+
+begun_quiet : (own : Own) (byte : ℕ) → own.recording ≡ false → quiet (begun_own byte own) ≡ quiet own
+begun_quiet own byte e = ap (λ (b : Bool). record (quiet own) { macro = cond b (own.macro ++ byte ∷ []) own.macro }) e
+
+turn_begun : (w : World) (id byte : ℕ) (x : Session) → find_session id w.sessions ≡ Some x → IsPlain x.own → turn_in (with_own id (begun_own byte) w) id ≡ key_turn (quiet x.own) byte
+unfolding next
+turn_begun w id byte x found plain =
+    ap turn_seen (seen_begun w id (begun_own byte) x found)
+    ∙ ap (λ (m : Mode). byte_turn (begun_view (begun_own byte) (view w x)) (quiet (begun_own byte x.own)) byte m) plain.mode
+    ∙ ap (λ own. key_turn own byte) (begun_quiet x.own byte plain.recording)
+
+-- where nothing is left to do
+rests_seen : (v : View) → v.session.own.todo ≡ [] → rests (next v) ≡ true
+unfolding next
+rests_seen v e = ap (λ todo. rests (todo_turn v v.session.own todo)) e
+
+rests_with_own : (w : World) (id : ℕ) (f : Own → Own) (x : Session) → find_session id w.sessions ≡ Some x → (f x.own).todo ≡ [] → rests (turn_in (with_own id f w) id) ≡ true
+rests_with_own w id f x found e =
+    ap (λ o. rests (turn_seen o)) (seen_begun w id f x found) ∙ rests_seen (begun_view f (view w x)) e
+
+rests_found : (w : World) (id : ℕ) (o : Option Session) → find_session id w.sessions ≡ o → ((x : Session) → o ≡ Some x → x.own.todo ≡ []) → rests (turn_in w id) ≡ true
+rests_found w id None found e = ap (λ s. rests (turn_seen (option_map (view w) s))) found
+rests_found w id (Some x) found e = ap (λ s. rests (turn_seen (option_map (view w) s))) found ∙ rests_seen (view w x) (e x refl)
+
+rests_applied : (w : World) (id : ℕ) (o : Outcome) → o.own.todo ≡ [] → rests (turn_in (apply w id o) id) ≡ true
+rests_applied w id o e = by o.effect refl
+  where
+    arranged : (s : Option Session) (y : Session) → option_map (λ x. session_arranged o (session_after o.effect x)) s ≡ Some y → y.own.todo ≡ []
+    arranged None y q = cc
+    arranged (Some x) y q = (let r : session_arranged o (session_after o.effect x) ≡ y = cc in sym (ap (λ (z : Session). z.own.todo) r) ∙ e)
+
+    stays : (q : (xs : List Session) → after_quit o.effect id xs ≡ xs) → rests (turn_in (apply w id o) id) ≡ true
+    stays q =
+        rests_found (apply w id o) id (option_map (λ x. session_arranged o (session_after o.effect x)) (find_session id w.sessions))
+        (ap (find_session id) (q (change_first (has_id id) (session_arranged o) (map (session_after o.effect) w.sessions))) ∙ find_after id o w.sessions)
+        (arranged (find_session id w.sessions))
+
+    by : (f : Effect) → o.effect ≡ f → rests (turn_in (apply w id o) id) ≡ true
+    by Quit q =
+        rests_found (apply w id o) id None
+        (ap (λ f. find_session id (after_quit f id (change_first (has_id id) (session_arranged o) (map (session_after o.effect) w.sessions)))) q ∙ find_without id (change_first (has_id id) (session_arranged o) (map (session_after o.effect) w.sessions)))
+        (λ x r. cc)
+    by f q = stays (λ xs. ap (λ g. after_quit g id xs) q)
+
+-- AN ACT LEAVES NOTHING TO DO
+
+abbrev NothingLeft : Outcome → Type 0
+NothingLeft o = o.own.todo ≡ []
+
+permitted_left : (own : Own) (d : Decision) (o : Outcome) → NothingLeft o → NothingLeft (permitted own d o)
+permitted_left own Granted o h = h
+permitted_left own (DeniedBy n right) o h = refl
+permitted_left own (NotGranted right) o h = refl
+
+finished_left : (own : Own) (f : Finish) (e : Effect) → own.todo ≡ [] → NothingLeft (finished own f e)
+finished_left own f e h = by (is_too_large f.kill)
+  where
+    over : (c : Bool) → (told_over c (own.count + f.replaced) own.todo (record (acted_own own) { echo = f.told; kind = f.kind })).todo ≡ []
+    over true = ap without_all h
+    over false = h
+
+    by : (c : Bool) → NothingLeft (cond c (fails own KillTooLarge) (record { own = finished_own f own; kill = f.kill; arrange = Adjust f.point f.mark f.top None f.sought; effect = e }))
+    by true = refl
+    by false = over f.over
+
+edits_left : (own : Own) (o : Option Target) (plan : Target → Result Change Message) → own.todo ≡ [] → NothingLeft (edits own o plan)
+edits_left own None plan h = refl
+edits_left own (Some t) plan h = by (plan t)
+  where
+    full : (c : Change) (b : Bool) → NothingLeft (cond b (fails own BufferFull) (finished own c.finish (edit_of t.buffer.name c)))
+    full c true = refl
+    full c false = finished_left own c.finish (edit_of t.buffer.name c) h
+
+    by : (p : Result Change Message) → NothingLeft (edited_by own t.buffer p)
+    by (Err message) = refl
+    by (Ok c) = full c (is_full (size_told t.buffer.told) (serial_told t.buffer.told) c)
+
+moves_left : (own : Own) (o : Option Target) (plan : Target → Result Finish Message) → own.todo ≡ [] → NothingLeft (moves own o plan)
+moves_left own None plan h = refl
+moves_left own (Some t) plan h = by (plan t)
+  where
+    by : (p : Result Finish Message) → NothingLeft (moved_by own p)
+    by (Err message) = refl
+    by (Ok f) = finished_left own f No_effect h
+
+arranges_left : (own : Own) (e : Effect) (p : Result Arrange Message) → own.todo ≡ [] → NothingLeft (arranges own e p)
+arranges_left own e (Err message) h = refl
+arranges_left own e (Ok plan) h = h
+
+-- of these acts none leaves more to do
+abbrev pub is_single : Act → Bool
+is_single Unbound = true
+is_single (Run (Insert c) n typed) = true
+is_single (Run (Move c) n typed) = true
+is_single (Run (Set KeyboardQuit) n typed) = true
+is_single (Run (Rearrange c) n typed) = true
+is_single (Run Exit n typed) = true
+is_single _ = false
+
+allowed_left : (v : View) (c : Act) (stored : Bool) → is_single c ≡ true → v.session.own.todo ≡ [] → NothingLeft (allowed v c stored)
+allowed_left v Unbound stored s h = refl
+allowed_left v (Run (Insert c) n typed) stored s h = edits_left v.session.own (target v) (λ t. insertion c (around v.session n typed t)) h
+allowed_left v (Run (Move c) n typed) stored s h = moves_left v.session.own (target v) (λ t. motion c (text_in t.buffer.full) (around v.session n typed t)) h
+allowed_left v (Run (Set KeyboardQuit) n typed) stored s h = refl
+allowed_left v (Run (Rearrange c) n typed) stored s h = arranges_left v.session.own No_effect (arrangement c v.session.windows v.session.selected n) h
+allowed_left v (Run Exit n typed) stored s h = by v.session.own.playing
+  where
+    by : (c : Bool) → NothingLeft (cond c (fails v.session.own InMacro) (record { own = acted_own v.session.own; kill = Keep_kill; arrange = Stay; effect = Quit }))
+    by true = refl
+    by false = h
+allowed_left v _ stored s h = cc
+
+single_left : (v : View) (c : Act) (stored : Bool) → is_single c ≡ true → v.session.own.todo ≡ [] → NothingLeft (outcome v c stored)
+unfolding outcome
+single_left v c stored s h = permitted_left v.session.own (judged v (needs v c)) (allowed v c stored) (allowed_left v c stored s h)
+
+rests_acted : (w : World) (id : ℕ) (own : Own) (c : Act) (stored : Bool) (x : Session) → find_session id w.sessions ≡ Some x → is_single c ≡ true → own.todo ≡ [] → rests (turn_in (act (with_own id (λ old. own) w) id c stored) id) ≡ true
+rests_acted w id own c stored x found s h =
+    let v : View = begun_view (λ old. own) (view w x) in
+    ap (λ o. rests (turn_in (applied (with_own id (λ old. own) w) id (option_map (λ z. outcome z c stored) o)) id)) (seen_begun w id (λ old. own) x found)
+    ∙ rests_applied (with_own id (λ old. own) w) id (outcome v c stored) (single_left v c stored s h)
+
+-- ONE TURN
+
+some_turn : 1 ≤ most_turns
+unfolding most_turns
+some_turn = omega arith
+
+over : (n id : ℕ) (stored : Bool) (d : Doing) → rests (turn_in d.world id) ≡ true → turns n id stored d ≡ d
+unfolding turns
+over zero id stored d e = refl
+over (suc n) id stored d e = ap (λ (b : Bool). elim b [ true ↦ d | false ↦ turns n id stored (turn id stored d) ]) e
+
+one_turn : (n id : ℕ) (stored : Bool) (d : Doing) → 1 ≤ n → rests (turn_in d.world id) ≡ false → rests (turn_in (turn id stored d).world id) ≡ true → turns n id stored d ≡ turn id stored d
+unfolding turns
+one_turn zero id stored d h e f = absurd (omega (arith, h))
+one_turn (suc n) id stored d h e f =
+    ap (λ (b : Bool). elim b [ true ↦ d | false ↦ turns n id stored (turn id stored d) ]) e ∙ over n id stored (turn id stored d) f
+
+-- A BYTE
+
+pub found_own : (w : World) (id : ℕ) (f : Own → Own) (x : Session) → find_session id w.sessions ≡ Some x → find_session id (with_own id f w).sessions ≡ Some (own_set f x)
+found_own w id f x found = find-change_first (has_id id) (own_set f) (λ y. refl) w.sessions ∙ ap (option_map (own_set f)) found
+
+module _ (w : World) (id byte : ℕ) (stored : Bool) (x : Session) (found : find_session id w.sessions ≡ Some x) (plain : IsPlain x.own) where
+  -- what is begun
+  turned : (memory : Option ℕ) (t : Turn) → key_turn (quiet x.own) byte ≡ t → turn id stored (begun w id byte memory) ≡ turn_done id stored t (with_own id (begun_own byte) w) memory
+  turned memory t e = ap (λ (s : Turn). turn_done id stored s (with_own id (begun_own byte) w) memory) (turn_begun w id byte x found plain ∙ e)
+
+  goes_on : (t : Turn) → key_turn (quiet x.own) byte ≡ t → rests t ≡ false → rests (turn_in (with_own id (begun_own byte) w) id) ≡ false
+  goes_on t e r = ap rests (turn_begun w id byte x found plain ∙ e) ∙ r
+
+  -- half of a word
+  pub byte_kept : (own : Own) → key_turn (quiet x.own) byte ≡ Keep own → own.mode ≡ Plain → own.todo ≡ [] → byte_done w id byte stored None ≡ with_own id (λ old. own) w
+  byte_kept own e mode left =
+      let v : World = with_own id (begun_own byte) w in
+      let done : turn id stored (begun w id byte None) ≡ record { world = with_own id (λ old. own) v; memory = None } = turned None (Keep own) e in
+      let after : rests (turn_in (turn id stored (begun w id byte None)).world id) ≡ true =
+      ap (λ (d : Doing). rests (turn_in d.world id)) done ∙ rests_with_own v id (λ old. own) (own_set (begun_own byte) x) (found_own w id (begun_own byte) x found) left in
+      ap (λ (d : Doing). d.world) (one_turn most_turns id stored (begun w id byte None) some_turn (goes_on (Keep own) e refl) after ∙ done)
+      ∙ own_twice id own (begun_own byte) w mode
+
+  -- one act
+  pub byte_acted : (own : Own) (c : Act) → key_turn (quiet x.own) byte ≡ Do own c → own.mode ≡ Plain → own.todo ≡ [] → is_single c ≡ true → byte_done w id byte stored None ≡ act (with_own id (λ old. own) w) id c stored
+  byte_acted own c e mode left single =
+      let v : World = with_own id (begun_own byte) w in
+      let done : turn id stored (begun w id byte None) ≡ record { world = act (with_own id (λ old. own) v) id c stored; memory = None } = turned None (Do own c) e in
+      let after : rests (turn_in (turn id stored (begun w id byte None)).world id) ≡ true =
+      ap (λ (d : Doing). rests (turn_in d.world id)) done ∙ rests_acted v id own c stored (own_set (begun_own byte) x) (found_own w id (begun_own byte) x found) single left in
+      ap (λ (d : Doing). d.world) (one_turn most_turns id stored (begun w id byte None) some_turn (goes_on (Do own c) e refl) after ∙ done)
+      ∙ ap (λ u. act u id c stored) (own_twice id own (begun_own byte) w mode)
+
+  -- one that is refused
+  own_refused : with_own id refused_own (with_own id (begun_own byte) w) ≡ with_own id (λ old. refused_own (begun_own byte x.own)) w
+  own_refused =
+      let own : Own = refused_own (begun_own byte x.own) in
+      ap (λ xs. record w { sessions = xs })
+      (change_twice (has_id id) (own_set refused_own) (own_set (begun_own byte)) (λ y. own_set refused_own (own_set (begun_own byte) y)) (λ y. refl) (λ y. refl) w.sessions
+      ∙ change_first_found (has_id id) (λ y. own_set refused_own (own_set (begun_own byte) y)) (own_set (λ old. own)) x w.sessions found
+      (ap (λ (m : Mode). record x { search = cond (searches m) (cond (searches m) x.search None) None; own = own }) plain.mode ∙ sym (ap (λ (m : Mode). record x { search = cond (searches m) x.search None; own = own }) plain.mode)))
+
+  pub byte_refused : (own : Own) (c : Act) → key_turn (quiet x.own) byte ≡ Do own c → byte_done w id byte stored (Some 0) ≡ with_own id (λ old. refused_own (begun_own byte x.own)) w
+  byte_refused own c e =
+      let v : World = with_own id (begun_own byte) w in
+      let done : turn id stored (begun w id byte (Some 0)) ≡ record { world = with_own id refused_own v; memory = Some 0 } = turned (Some 0) (Do own c) e in
+      let after : rests (turn_in (turn id stored (begun w id byte (Some 0))).world id) ≡ true =
+      ap (λ (d : Doing). rests (turn_in d.world id)) done ∙ rests_with_own v id refused_own (own_set (begun_own byte) x) (found_own w id (begun_own byte) x found) refl in
+      ap (λ (d : Doing). d.world) (one_turn most_turns id stored (begun w id byte (Some 0)) some_turn (goes_on (Do own c) e refl) after ∙ done)
+      ∙ own_refused
+
+  -- and what it would have come to
+  refused_first : (n : ℕ) (own : Own) (c : Act) → 1 ≤ n → key_turn (quiet x.own) byte ≡ Do own c → refused_in n id stored (begun w id byte (Some 0)) ≡ outcome_in (with_own id (λ old. own) (with_own id (begun_own byte) w)) id c stored
+  unfolding refused_in
+  refused_first zero own c h e = absurd (omega (arith, h))
+  refused_first (suc n) own c h e =
+      let v : World = with_own id (begun_own byte) w in
+      let later : Option Outcome = refused_in n id stored (turn id stored (begun w id byte (Some 0))) in
+      ap (λ (t : Turn). elim (rests t) [ true ↦ None | false ↦ refused_of id stored t v (Some 0) later ]) (turn_begun w id byte x found plain ∙ e)
+
+  pub byte_refused_act : (own : Own) (c : Act) → key_turn (quiet x.own) byte ≡ Do own c → own.mode ≡ Plain → refused_act w id byte stored (Some 0) ≡ outcome_in (with_own id (λ old. own) w) id c stored
+  byte_refused_act own c e mode =
+      refused_first most_turns own c some_turn e ∙ ap (λ u. outcome_in u id c stored) (own_twice id own (begun_own byte) w mode)

@@ -1,0 +1,112 @@
+-- KEYS: bytes make words of keys, and words are commands by one table.
+use Rattle.std.specs.Prelude.{ℕ, ◌+◌, ◌-◌, ◌*◌, min, nat_le, ◌==◌, Bool, true, false, not, ◌&&◌, ◌||◌, List, [], ◌∷◌, ◌++◌, find, length, codes, Option, Some, None, is_some, cond, if◌then◌else◌}
+use Rattle.std.specs.Option.{option_map}
+use Rattle.std.specs.List.{list_any, starts_with}
+use Rattle.mgs_model.specs.Names.{same_name}
+use Rattle.mgs_model.specs.declared.session.Argument.{Argument}
+use Rattle.mgs_model.specs.declared.session.Insertion.TheVariants.{SelfInsert, Newline}
+use Rattle.mgs_model.specs.declared.session.Motion.TheVariants.{ForwardChar, BackwardChar}
+use Rattle.mgs_model.specs.declared.session.Setting.TheVariants.{KeyboardQuit}
+use Rattle.mgs_model.specs.declared.session.Arrangement.TheVariants.{DeleteWindow, DeleteOtherWindows, SplitWindow, NextWindow, PreviousWindow, EnlargeWindow}
+use Rattle.mgs_model.specs.declared.session.Command.{Command}
+use Rattle.mgs_model.specs.declared.session.Command.TheVariants.{Insert, Move, Set, Rearrange, Exit}
+
+-- THE TABLE: the bytes of a word, the name of its command, and the command. C-x is 24, ESC is 27
+pub record KeyRow : Type 0 where
+  pub keys : List ℕ
+  pub name : List ℕ
+  pub command : Command
+
+abbrev key : ℕ → List ℕ → Command → KeyRow
+key byte name c = record { keys = byte ∷ []; name = name; command = c }
+
+abbrev control_x : ℕ → List ℕ → Command → KeyRow
+control_x byte name c = record { keys = 24 ∷ byte ∷ []; name = name; command = c }
+
+abbrev pub key_rows : List KeyRow
+key_rows =
+    key 13 (codes "newline") (Insert Newline)
+    ∷ key 6 (codes "forward-char") (Move ForwardChar)
+    ∷ key 2 (codes "backward-char") (Move BackwardChar)
+    ∷ key 7 (codes "keyboard-quit") (Set KeyboardQuit)
+    ∷ control_x 48 (codes "delete-window") (Rearrange DeleteWindow)
+    ∷ control_x 49 (codes "delete-other-windows") (Rearrange DeleteOtherWindows)
+    ∷ control_x 50 (codes "split-window-vertically") (Rearrange SplitWindow)
+    ∷ control_x 111 (codes "other-window") (Rearrange NextWindow)
+    ∷ control_x 110 (codes "next-window") (Rearrange NextWindow)
+    ∷ control_x 112 (codes "previous-window") (Rearrange PreviousWindow)
+    ∷ control_x 94 (codes "enlarge-window") (Rearrange EnlargeWindow)
+    ∷ control_x 3 (codes "save-buffers-kill-emacs") Exit
+    ∷ []
+
+abbrev pub begins_with : List ℕ → List ℕ → Bool
+begins_with text start = starts_with (λ a b. a == b) text start
+
+-- some word goes on from here
+abbrev pub is_prefix : List ℕ → Bool
+is_prefix word = list_any (λ (r : KeyRow). begins_with r.keys word) key_rows
+
+-- visible ASCII and the space
+abbrev pub is_graphic : ℕ → Bool
+is_graphic byte = nat_le 32 byte && nat_le byte 126
+
+-- ARGUMENTS are cut to 9,999. C-u is 4, and 4 times the one before; a digit replaces such a 4 and extends a number
+
+abbrev pub digit_added : ℕ → Option Argument → Argument
+digit_added d None = record { value = d; extends = true }
+digit_added d (Some x) = record { value = min 9999 (cond x.extends (x.value * 10 + d) d); extends = true }
+
+abbrev pub four_times : Option Argument → Argument
+four_times None = record { value = 4; extends = false }
+four_times (Some x) = record { value = min 9999 (x.value * 4); extends = false }
+
+abbrev pub value_of : Option Argument → Option ℕ
+value_of x = option_map (λ (a : Argument). a.value) x
+
+-- A BYTE IS READ
+
+-- what a byte makes of the argument and the word before it: a word that goes on, a command and its argument, or a word that
+-- is none
+pub data KeyRead : Type 0 where
+  Half : (argument : Option Argument) → (keys : List ℕ) → KeyRead
+  Bound : (command : Command) → (argument : Option ℕ) → KeyRead
+  Not_bound : KeyRead
+
+-- ESC makes the next byte a meta key, also after a prefix
+abbrev pub ends_in_escape : List ℕ → Bool
+ends_in_escape [] = false
+ends_in_escape (byte ∷ []) = byte == 27
+ends_in_escape (byte ∷ next ∷ bytes) = ends_in_escape (next ∷ bytes)
+
+-- a plain digit goes on with an argument, and a meta digit begins one too
+abbrev pub takes_digit : Option Argument → List ℕ → Bool
+takes_digit argument keys = ((length keys == 0) && is_some argument) || same_name keys (27 ∷ [])
+
+abbrev pub is_digit : ℕ → Bool
+is_digit byte = nat_le 48 byte && nat_le byte 57
+
+-- visible ASCII, the space and TAB insert themselves
+abbrev pub inserts_itself : ℕ → List ℕ → Bool
+inserts_itself byte word = (length word == 1) && (is_graphic byte || (byte == 9))
+
+abbrev pub found_read : Option Argument → ℕ → List ℕ → Option KeyRow → KeyRead
+found_read argument byte word (Some r) = Bound r.command (value_of argument)
+found_read argument byte word None =
+    if is_prefix word then Half argument word
+    else if inserts_itself byte word then Bound (Insert (SelfInsert byte)) (value_of argument)
+    else Not_bound
+
+abbrev pub find_row : List ℕ → Option KeyRow
+find_row word = find (λ (r : KeyRow). same_name word r.keys) key_rows
+
+abbrev pub word_read : Option Argument → ℕ → List ℕ → KeyRead
+word_read argument byte word = found_read argument byte word (find_row word)
+
+-- C-g ends every word
+unfoldable pub key_read : Option Argument → List ℕ → ℕ → KeyRead
+key_read argument keys byte =
+    if byte == 7 then Bound (Set KeyboardQuit) (value_of argument)
+    else if (byte == 27) && not (ends_in_escape keys) then Half argument (keys ++ 27 ∷ [])
+    else if (length keys == 0) && (byte == 21) then Half (Some (four_times argument)) []
+    else if is_digit byte && takes_digit argument keys then Half (Some (digit_added (byte - 48) argument)) []
+    else word_read argument byte (keys ++ byte ∷ [])

@@ -1,0 +1,142 @@
+-- What comes next in an event: bytes make words of keys, arguments and the input of prompts, and these make acts.
+use Rattle.std.specs.Prelude.{ℕ, ◌-◌, nat_lt, ◌==◌, Bool, true, false, ◌&&◌, ◌||◌, List, [], ◌∷◌, ◌++◌, map, filter, length, take, fold, Option, None, Result, Ok, Err, cond, if◌then◌else◌}
+use Rattle.std.specs.List.{common_prefix_len}
+use Rattle.mgs_model.specs.World.{Own, Todo, Typed, Played, Replace_all}
+use Rattle.mgs_model.specs.Keys.{is_graphic, begins_with, value_of, KeyRead, Half, Bound, Not_bound, key_read}
+use Rattle.mgs_model.specs.View.{View, BufferSeen, is_granted}
+use Rattle.mgs_model.specs.Outcome.{Act, Unbound, Run}
+use Rattle.mgs_model.specs.Plans.{failed_own, acted_own, setting}
+use Rattle.mgs_model.specs.declared.right.Right.TheVariants.{ReadAttributes}
+use Rattle.mgs_model.specs.declared.message.Message.{Message}
+use Rattle.mgs_model.specs.declared.message.Message.TheVariants.{Silent, Quitting, NoMatch, Replaced}
+use Rattle.mgs_model.specs.declared.session.Mode.{Mode}
+use Rattle.mgs_model.specs.declared.session.Mode.TheVariants.{Plain, Prompt, Searching, Replacing}
+use Rattle.mgs_model.specs.declared.session.Motion.TheVariants.{StartSearch, SearchOn, StartReplace, SkipMatch}
+use Rattle.mgs_model.specs.declared.session.Alteration.TheVariants.{ReplaceMatch}
+use Rattle.mgs_model.specs.declared.session.Setting.TheVariants.{CallMacro}
+use Rattle.mgs_model.specs.declared.session.Question.{Question}
+use Rattle.mgs_model.specs.declared.session.Question.TheVariants.{SwitchTo, KillWhich, InsertWhich, WhichOwner, ReplaceWhat, ReplaceWith}
+use Rattle.mgs_model.specs.declared.session.ByName.TheVariants.{SwitchToBuffer, KillBuffer, InsertBuffer}
+use Rattle.mgs_model.specs.declared.session.Command.{Command}
+use Rattle.mgs_model.specs.declared.session.Command.TheVariants.{Move, Alter, Set, Ask, Named, SetOwner, LeaveSearch}
+
+-- TURNS
+
+-- what comes next: nothing; only the session's own record changes; or an act, decided with this own record
+pub data Turn : Type 0 where
+  Rest : Turn
+  Keep : (own : Own) → Turn
+  Do : (before : Own) → (act : Act) → Turn
+
+-- A KEY: the word before it is used up, or goes on
+
+abbrev pub used : Own → Own
+used own = record own { argument = None; keys = [] }
+
+-- a macro that can be played is no act: its bytes are the next to come
+abbrev pub plays : Own → Option ℕ → Result Own Message → Turn
+plays own n (Ok after) = Keep after
+plays own n (Err message) = Do own (Run (Set CallMacro) n [])
+
+abbrev pub command_turn : Own → Option ℕ → Command → Turn
+command_turn own n (Set CallMacro) = plays own n (setting CallMacro (acted_own own) n)
+command_turn own n (Move StartSearch) = Do (record own { mode = Searching; input = [] }) (Run (Move StartSearch) n [])
+command_turn own n c = Do own (Run c n [])
+
+-- what a byte's reading leads to
+abbrev pub read_turn : Own → KeyRead → Turn
+read_turn own (Half argument keys) = Keep (record own { argument = argument; keys = keys })
+read_turn own (Bound c n) = command_turn (used own) n c
+read_turn own Not_bound = Do (used own) Unbound
+
+abbrev pub key_turn : Own → ℕ → Turn
+key_turn own byte = read_turn own (key_read own.argument own.keys byte)
+
+-- THE INPUT OF A PROMPT
+
+-- the command that an answer is for
+abbrev pub answered : Question → Command
+answered SwitchTo = Named SwitchToBuffer
+answered KillWhich = Named KillBuffer
+answered InsertWhich = Named InsertBuffer
+answered WhichOwner = SetOwner
+answered ReplaceWhat = Ask ReplaceWith
+answered ReplaceWith = Move StartReplace
+
+-- what may be completed
+abbrev pub names_buffers : Question → Bool
+names_buffers SwitchTo = true
+names_buffers KillWhich = true
+names_buffers InsertWhich = true
+names_buffers _ = false
+
+-- the names that the user may see and that go on from the input
+abbrev pub candidates : View → List ℕ → List (List ℕ)
+candidates v input =
+    filter (λ name. begins_with name input) (map (λ (b : BufferSeen). b.name) (filter (λ (b : BufferSeen). is_granted b ReadAttributes) v.buffers))
+
+abbrev pub common : List ℕ → List ℕ → List ℕ
+common a b = take (common_prefix_len (λ x y. x == y) a b) a
+
+abbrev pub completed : Own → List (List ℕ) → Own
+completed own [] = record own { echo = NoMatch }
+completed own (name ∷ names) = record own { input = fold common name names }
+
+-- the first of two prompts is no act, and the second begins a mode
+abbrev pub answer_turn : Question → Own → Turn
+answer_turn ReplaceWhat own = Keep (record own { mode = Prompt ReplaceWith; old = own.input; input = [] })
+answer_turn ReplaceWith own = Do (record own { mode = Replacing; argument = None; count = 0 }) (Run (Move StartReplace) None own.input)
+answer_turn c own = Do (record own { mode = Plain; input = []; argument = None }) (Run (answered c) (value_of own.argument) own.input)
+
+abbrev pub prompt_turn : View → Question → Own → ℕ → Turn
+prompt_turn v c own byte =
+    if byte == 13 then answer_turn c own
+    else if byte == 7 then Keep (failed_own Quitting own)
+    else if byte == 127 then Keep (record own { input = take (length own.input - 1) own.input })
+    else if byte == 9 then Keep (completed own (cond (names_buffers c) (candidates v own.input) []))
+    else if is_graphic byte && nat_lt (length own.input) 120 then Keep (record own { input = own.input ++ byte ∷ [] })
+    else Keep own
+
+-- A SEARCH: a byte that is none of its own ends it, and is then a key
+
+abbrev pub searched : Own → Own
+searched own = record own { mode = Plain; pattern = cond (length own.input == 0) own.pattern own.input; input = [] }
+
+abbrev pub search_turn : Own → ℕ → Turn
+search_turn own byte =
+    if is_graphic byte && nat_lt (length own.input) 120 then Do (record own { input = own.input ++ byte ∷ [] }) (Run (Move SearchOn) None (own.input ++ byte ∷ []))
+    else if byte == 13 then Keep (searched own)
+    else if byte == 7 then Do own (Run LeaveSearch None [])
+    else key_turn (searched own) byte
+
+-- A REPLACING: `!` is no act, and queues its replacements
+
+abbrev pub replacing : Own → Turn
+replacing own = Do own (Run (Alter ReplaceMatch) None own.input)
+
+abbrev pub replace_turn : Own → ℕ → Turn
+replace_turn own byte =
+    if (byte == 121) || (byte == 32) then replacing own
+    else if (byte == 110) || (byte == 127) then Do own (Run (Move SkipMatch) None own.input)
+    else if byte == 33 then Keep (record own { todo = Replace_all ∷ own.todo })
+    else if (byte == 113) || (byte == 13) then Keep (record own { echo = Replaced own.count; mode = Plain; input = []; old = []; count = 0 })
+    else if byte == 7 then Keep (failed_own Quitting own)
+    else Keep own
+
+-- NEXT
+
+abbrev pub byte_turn : View → Own → ℕ → Mode → Turn
+byte_turn v own byte Plain = key_turn own byte
+byte_turn v own byte (Prompt c) = prompt_turn v c own byte
+byte_turn v own byte Searching = search_turn own byte
+byte_turn v own byte Replacing = replace_turn own byte
+
+-- each byte empties the echo text
+abbrev pub todo_turn : View → Own → List Todo → Turn
+todo_turn v own [] = Rest
+todo_turn v own (Typed byte ∷ todo) = byte_turn v (record own { echo = Silent; playing = false; todo = todo }) byte own.mode
+todo_turn v own (Played byte ∷ todo) = byte_turn v (record own { echo = Silent; playing = true; todo = todo }) byte own.mode
+todo_turn v own (Replace_all ∷ todo) = replacing own
+
+unfoldable pub next : View → Turn
+next v = todo_turn v v.session.own v.session.own.todo

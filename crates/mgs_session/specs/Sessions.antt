@@ -1,0 +1,29 @@
+-- What a session is at first, what it is told, and what it shows.
+use Rattle.std.specs.Prelude.{ℕ, ◌-◌, List, [], ◌∷◌, Option, slice_get}
+use Rattle.std.specs.Option.{option_and_then}
+use Rattle.mgs_model.specs.declared.message.Message.{Message}
+use Rattle.mgs_model.specs.declared.message.Message.TheVariants.{Silent}
+use Rattle.mgs_maps.specs.Held.{Held, nothing_held}
+use Rattle.mgs_windows.specs.declared.WindowMarks.{WindowMarks}
+use Rattle.mgs_windows.specs.declared.Window.{Window}
+use Rattle.mgs_session.specs.declared.Session.{Session}
+
+abbrev pub session_opened : ℕ → List ℕ → ℕ → ℕ → Option WindowMarks → ℕ → Session
+session_opened id user rows cols shows capacity = record {
+  id = id;
+  user = user;
+  cols = cols;
+  windows = record { rows = rows; windows = record { height = rows - 2; shows = shows } ∷ []; selected = 0; places = []; capacity = capacity };
+  own = record { echo = Silent; keyboard = nothing_held };
+}
+
+abbrev pub told : Message → Session → Session
+told message x = record x { own = record x.own { echo = message } }
+
+-- it holds what was read, and its echo line is empty
+abbrev pub holding : Held → Session → Session
+holding k x = record x { own = record { echo = Silent; keyboard = k } }
+
+-- the buffer of the selected window
+abbrev pub window_marks_of : Session → Option WindowMarks
+window_marks_of x = option_and_then (λ (w : Window). w.shows) (slice_get x.windows.windows x.windows.selected)
