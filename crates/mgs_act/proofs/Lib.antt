@@ -1,2 +1,6 @@
+pub mod Commands
+pub mod Deeds
+pub mod Leaving
 pub mod Outcomes
-pub mod Performing
+pub mod Plans
+pub mod Unmarked

@@ -1,32 +1,32 @@
 -- What the model's outcomes are, through the window's marks of the selected window.
-use Rattle.std.proofs.Common.{◌≡◌, ℕ, Bool, true, false, cond, List, [], ◌∷◌, length, map, Option, Some, None, refl, sym, ap, ◌∙◌, arith, eq-eqb}
-use Rattle.std.specs.Prelude.{slice_get}
+use Rattle.std.proofs.Common.{◌≡◌, ℕ, ◌+◌, ◌==◌, Bool, true, false, cond, List, [], ◌∷◌, length, map, Option, Some, None, refl, sym, ap, ◌∙◌, arith, eq-eqb}
+use Rattle.std.specs.Prelude.{slice_get, Result, Ok, Err}
 use Rattle.std.specs.Option.{option_map, option_and_then}
 use Rattle.std.proofs.lemmas.List.Folds.{list_any_at}
 use Rattle.std.proofs.lemmas.Option.{slice_get-map}
-use Rattle.mgs_model.specs.Access.{Directory, Decider, Nobody, Allows, Denies, decider, decision_by, allows, any_right}
+use Rattle.mgs_model.specs.Access.{Directory, Decider, decider, decision_by, allows, any_right}
 use Rattle.mgs_model.specs.Rights.{all_rights, rights_in}
-use Rattle.mgs_model.specs.World.{Buffer, Own}
-use Rattle.mgs_model.specs.View.{View, BufferSeen, WindowSeen, find_seen, view, reads, reads_found, buffer_seen, window_seen, positions_if, told_if, size_told, serial_told, text_in}
+use Rattle.mgs_model.specs.World.{Buffer, Own, Shows, Nothing, Buffer_of, Listing, List_of}
+use Rattle.mgs_model.specs.View.{View, BufferSeen, WindowSeen, find_seen, view, reads, reads_found, buffer_seen, window_seen, positions_if, told_if, full_if, size_told, serial_told, text_in}
 use Rattle.mgs_model.specs.Outcome.{Outcome}
-use Rattle.mgs_model.specs.Plans.{count_of, insertion, motion}
-use Rattle.mgs_model.specs.Acts.{Target, acts_at, around, deciders_found, edits, fails, here, insertion_right, judged, moves, or_else, outcome, permitted, target, target_in}
+use Rattle.mgs_model.specs.Plans.{Around, Change, Finish, alteration, insertion, motion, reading_insertion, scrolling}
+use Rattle.mgs_model.specs.Acts.{Target, acts_at, around, deciders_found, edited_by, edits, fails, has_rows, here, insertion_right, is_rows, judged, mark_in, moved_by, moves, or_else, outcome, permitted, row_in, scrolls_rows, selected_seen, target, target_in}
 use Rattle.mgs_model.specs.declared.right.Right.{Right}
-use Rattle.mgs_model.specs.declared.right.Right.TheVariants.{ReadData, AppendData}
+use Rattle.mgs_model.specs.declared.right.Right.TheVariants.{ReadData, WriteData, AppendData}
 use Rattle.mgs_model.specs.declared.entry.Decision.{Decision}
 use Rattle.mgs_model.specs.declared.entry.Decision.TheVariants.{Granted, DeniedBy, NotGranted}
+use Rattle.mgs_model.specs.declared.message.Message.{Message}
 use Rattle.mgs_model.specs.declared.message.Message.TheVariants.{NoBuffer}
 use Rattle.mgs_model.specs.declared.session.Command.{Command}
-use Rattle.mgs_model.specs.declared.session.Command.TheVariants.{Insert, Move}
-use Rattle.mgs_model.specs.declared.session.Insertion.TheVariants.{SelfInsert, Newline}
-use Rattle.mgs_model.specs.declared.session.Motion.TheVariants.{ForwardChar, BackwardChar}
+use Rattle.mgs_model.specs.declared.session.Command.TheVariants.{Insert, InsertReading, Move, Alter, Scroll}
+use Rattle.mgs_model.proofs.Outcomes.{granted_each}
 use Rattle.mgs_buffers.specs.MarkedBuffer.{MarkedBuffer, HasBuffer, marked_at, mark_at}
 use Rattle.mgs_windows.specs.declared.WindowMarks.{WindowMarks}
 use Rattle.mgs_windows.specs.declared.Window.{Window}
 use Rattle.mgs_session.specs.Sessions.{window_marks_of}
 use Rattle.mgs_session.specs.declared.Session.{Session}
 use Rattle.mgs_act.specs.declared.acts.KeyAct.TheVariants.{Run}
-use Rattle.mgs_act.specs.Actions.{act_of, inserted_at, is_on_text, outcome_at, plan_in, text_of}
+use Rattle.mgs_act.specs.Actions.{act_of, edit_outcome, granted_outcome, height_or_none, is_on_text, mark_if, outcome_at, place_in, plan_in, selected_height}
 use Rattle.mgs_world.specs.Worlds.{buffers_of, own_of, session_of, window_of, window_shown, world_of}
 use Rattle.mgs_world.proofs.Found.{found_buffer, found_seen, name_kept}
 use Rattle.mgs_world.proofs.Marks.{not_both}
@@ -39,12 +39,9 @@ permitted_same own Granted a b h = h refl
 permitted_same own (DeniedBy n right) a b h = refl
 permitted_same own (NotGranted right) a b h = refl
 
--- one right is granted where its decider allows it
-one_granted : (d : Right → Decider) (right : Right) → decision_by d (right ∷ []) ≡ Granted → allows (d right) ≡ true
-one_granted d right e =
-    let goal : Decider → Type 0 = λ x. decision_by (λ _. x) (right ∷ []) ≡ Granted → allows x ≡ true in
-    let go : (x : Decider) → goal x = λ x. elim x as goal [ Nobody ↦ λ e. cc | Allows n ↦ λ e. refl | Denies n ↦ λ e. cc ] in
-    go (d right) e
+-- reading is granted where all of these rights are
+first_granted : (d : Right → Decider) (rights : List Right) → decision_by d (ReadData ∷ rights) ≡ Granted → allows (d ReadData) ≡ true
+first_granted d rights e = (granted_each d (ReadData ∷ rights) e).0
 
 any_read : (d : Right → Decider) → allows (d ReadData) ≡ true → any_right d ≡ true
 any_read d e = list_any_at (λ right. allows (d right)) all_rights 0 ReadData (omega arith) e
@@ -52,33 +49,95 @@ any_read d e = list_any_at (λ right. allows (d right)) all_rights 0 ReadData (o
 any_append : (d : Right → Decider) → allows (d AppendData) ≡ true → any_right d ≡ true
 any_append d e = list_any_at (λ right. allows (d right)) all_rights 2 ReadData (omega arith) e
 
--- where nothing is told, an act at the text's end comes to the same whatever its size
-untold_same : (own : Own) (c : Command) (n : ℕ) (name : List ℕ) (d : Right → Decider) (size serial : ℕ) → any_right d ≡ false → outcome_at own c n name d 0 0 0 ≡ outcome_at own c n name d size serial size
-untold_same own (Insert i) n name d size serial none =
-    permitted_same own (decision_by d (AppendData ∷ [])) (inserted_at own name 0 0 0 (text_of i n)) (inserted_at own name size serial size (text_of i n)) (λ e. not_both (any_right d) (any_append d (one_granted d AppendData e)) none)
-    ∙ sym (ap (λ (b : Bool). permitted own (decision_by d (rights_in (cond b 4 2))) (inserted_at own name size serial size (text_of i n))) (eq-eqb size size refl))
-untold_same own (Move ForwardChar) n name d size serial none =
-    permitted_same own (decision_by d (ReadData ∷ [])) _ _ (λ e. not_both (any_right d) (any_read d (one_granted d ReadData e)) none)
-untold_same own (Move BackwardChar) n name d size serial none =
-    permitted_same own (decision_by d (ReadData ∷ [])) _ _ (λ e. not_both (any_right d) (any_read d (one_granted d ReadData e)) none)
-untold_same own _ n name d size serial none = refl
+-- WHAT IS TOLD SUFFICES
 
--- what is told suffices
-told_same : (own : Own) (c : Command) (n : ℕ) (name : List ℕ) (d : Right → Decider) (b : Buffer) (point : ℕ) (mark : Option ℕ) (top : ℕ) → outcome_at own c n name d (size_told (told_if (any_right d) b)) (serial_told (told_if (any_right d) b)) (acts_at (positions_if (allows (d ReadData)) point mark top) (size_told (told_if (any_right d) b))) ≡ outcome_at own c n name d (length b.text) b.serial (cond (allows (d ReadData)) point (length b.text))
-told_same own c n name d b point mark top =
-    let goal : Bool → Bool → Type 0 = λ a r. outcome_at own c n name d (size_told (told_if a b)) (serial_told (told_if a b)) (acts_at (positions_if r point mark top) (size_told (told_if a b))) ≡ outcome_at own c n name d (length b.text) b.serial (cond r point (length b.text)) in
-    let told : (r : Bool) → goal true r = λ r. elim r as (goal true) [ true ↦ refl | false ↦ refl ] in
-    let untold : (r : Bool) → any_right d ≡ false → allows (d ReadData) ≡ r → goal false r =
-    λ r. elim r as (λ r. any_right d ≡ false → allows (d ReadData) ≡ r → goal false r) [
-      | true ↦ λ none e. not_both (any_right d) (any_read d e) none
-      | false ↦ λ none e. untold_same own c n name d (length b.text) b.serial none
-    ] in
-    let go : (a : Bool) → any_right d ≡ a → goal a (allows (d ReadData)) =
-    λ a. elim a as (λ a. any_right d ≡ a → goal a (allows (d ReadData))) [
-      | true ↦ λ e. told (allows (d ReadData))
-      | false ↦ λ e. untold (allows (d ReadData)) e refl
-    ]
-    in go (any_right d) refl
+-- what a plan is given of a buffer on which some right is granted or none, and whose text may be read or not
+abbrev surroundings : Bool → Bool → Buffer → List ℕ → ℕ → Option ℕ → ℕ → ℕ → Option ℕ → List ℕ → Own → Around
+surroundings told read b name point mark top height n kill own =
+    record {
+      name = name;
+      size = size_told (told_if told b);
+      serial = serial_told (told_if told b);
+      place = acts_at (positions_if read point mark top) (size_told (told_if told b));
+      mark = mark_in (positions_if read point mark top);
+      anchor = 0;
+      old = own.old;
+      argument = n;
+      typed = [];
+      kill = kill;
+      kind = own.kind;
+      height = height;
+      fill = own.fill;
+    }
+
+-- what is so for a reader
+abbrev all_told : Buffer → Bool → List ℕ → ℕ → Option ℕ → ℕ → Option ℕ → List ℕ → Own → Around
+all_told b read name point mark height n kill own =
+    record {
+      name = name;
+      size = length b.text;
+      serial = b.serial;
+      place = place_in read point (length b.text);
+      mark = mark_if read mark;
+      anchor = 0;
+      old = own.old;
+      argument = n;
+      typed = [];
+      kill = kill;
+      kind = own.kind;
+      height = height;
+      fill = own.fill;
+    }
+
+-- where reading is needed and not granted, nothing is done whatever is there
+unread : (own : Own) (d : Right → Decider) (rights : List Right) (o p : Outcome) → allows (d ReadData) ≡ false → permitted own (decision_by d (ReadData ∷ rights)) o ≡ permitted own (decision_by d (ReadData ∷ rights)) p
+unread own d rights o p none = permitted_same own (decision_by d (ReadData ∷ rights)) o p (λ e. not_both (allows (d ReadData)) (first_granted d rights e) none)
+
+-- the rights of an insertion that reads
+reading_rights : (own : Own) (d : Right → Decider) (end : Bool) (o p : Outcome) → allows (d ReadData) ≡ false → permitted own (decision_by d (rights_in (1 + cond end 4 2))) o ≡ permitted own (decision_by d (rights_in (1 + cond end 4 2))) p
+reading_rights own d true o p none = unread own d (AppendData ∷ []) o p none
+reading_rights own d false o p none = unread own d (WriteData ∷ []) o p none
+
+-- a text that may not be read: what is done does not depend on it
+text_unread : (own : Own) (c : Command) (d : Right → Decider) (text : List ℕ) (a : Around) → allows (d ReadData) ≡ false → outcome_at own c d [] a ≡ outcome_at own c d text a
+text_unread own (Insert i) d text a none = refl
+text_unread own (InsertReading i) d text a none = reading_rights own d (a.place == a.size) _ _ none
+text_unread own (Move m) d text a none = unread own d [] _ _ none
+text_unread own (Alter k) d text a none = unread own d (WriteData ∷ []) _ _ none
+text_unread own (Scroll s) d text a none = unread own d [] _ _ none
+text_unread own _ d text a none = refl
+
+-- nothing is told: nothing is granted
+nothing_granted : (d : Right → Decider) (rights : List Right) → any_right d ≡ false → decision_by d (ReadData ∷ rights) ≡ Granted → ⊥
+nothing_granted d rights none e = not_both (any_right d) (any_read d (first_granted d rights e)) none
+
+nothing_appended : (d : Right → Decider) → any_right d ≡ false → decision_by d (AppendData ∷ []) ≡ Granted → ⊥
+nothing_appended d none e = not_both (any_right d) (any_append d (granted_each d (AppendData ∷ []) e).0) none
+
+at_its_end : (own : Own) (d : Right → Decider) (n : ℕ) (mask : ℕ → ℕ) (o : Outcome) → permitted own (decision_by d (rights_in (mask 4))) o ≡ permitted own (decision_by d (rights_in (mask (cond (n == n) 4 2)))) o
+at_its_end own d n mask o = sym (ap (λ (e : Bool). permitted own (decision_by d (rights_in (mask (cond e 4 2)))) o) (eq-eqb n n refl))
+
+none_told : (own : Own) (c : Command) (d : Right → Decider) (b : Buffer) (name : List ℕ) (point : ℕ) (mark : Option ℕ) (top height : ℕ) (n : Option ℕ) (kill : List ℕ) → any_right d ≡ false → outcome_at own c d [] (surroundings false false b name point mark top height n kill own) ≡ outcome_at own c d b.text (all_told b false name point mark height n kill own)
+none_told own (Insert i) d b name point mark top height n kill none =
+    permitted_same own (decision_by d (AppendData ∷ [])) _ _ (λ e. absurd (nothing_appended d none e))
+    ∙ at_its_end own d (length b.text) (λ m. m) (granted_outcome own (Insert i) b.text (all_told b false name point mark height n kill own))
+none_told own (InsertReading i) d b name point mark top height n kill none =
+    permitted_same own (decision_by d (ReadData ∷ AppendData ∷ [])) _ _ (λ e. absurd (nothing_granted d (AppendData ∷ []) none e))
+    ∙ at_its_end own d (length b.text) (λ m. 1 + m) (granted_outcome own (InsertReading i) b.text (all_told b false name point mark height n kill own))
+none_told own (Move m) d b name point mark top height n kill none = permitted_same own (decision_by d (ReadData ∷ [])) _ _ (λ e. absurd (nothing_granted d [] none e))
+none_told own (Alter k) d b name point mark top height n kill none = permitted_same own (decision_by d (ReadData ∷ WriteData ∷ [])) _ _ (λ e. absurd (nothing_granted d (WriteData ∷ []) none e))
+none_told own (Scroll s) d b name point mark top height n kill none = permitted_same own (decision_by d (ReadData ∷ [])) _ _ (λ e. absurd (nothing_granted d [] none e))
+none_told own _ d b name point mark top height n kill none = permitted_same own (decision_by d (ReadData ∷ [])) _ _ (λ e. absurd (nothing_granted d [] none e))
+
+told_same : (own : Own) (c : Command) (d : Right → Decider) (b : Buffer) (name : List ℕ) (point : ℕ) (mark : Option ℕ) (top height : ℕ) (n : Option ℕ) (kill : List ℕ)
+    → outcome_at own c d (text_in (full_if (allows (d ReadData)) b)) (surroundings (any_right d) (allows (d ReadData)) b name point mark top height n kill own) ≡ outcome_at own c d b.text (all_told b (allows (d ReadData)) name point mark height n kill own)
+told_same own c d b name point mark top height n kill = go (any_right d) (allows (d ReadData)) refl refl
+  where
+    go : (a r : Bool) → any_right d ≡ a → allows (d ReadData) ≡ r → outcome_at own c d (text_in (full_if r b)) (surroundings a r b name point mark top height n kill own) ≡ outcome_at own c d b.text (all_told b r name point mark height n kill own)
+    go true true p q = refl
+    go true false p q = text_unread own c d b.text (all_told b false name point mark height n kill own) q
+    go false true p q = not_both (any_right d) (any_read d q) p
+    go false false p q = none_told own c d b name point mark top height n kill p
 
 -- THE TARGET
 
@@ -109,7 +168,7 @@ target_at directory ks user height x = record {
   buffer = buffer_seen directory user (marked_at x.name ks).buffer;
 }
 
-selected_some : (directory : Directory) (ks : List MarkedBuffer) (xs : List Session) (next : Option ℕ) (h : Session) (x : WindowMarks) → window_marks_of h ≡ Some x → HasBuffer x.name ks → (height : ℕ) × (target (view (world_of directory ks xs next) (session_of ks h)) ≡ Some (target_at directory ks h.user height x))
+selected_some : (directory : Directory) (ks : List MarkedBuffer) (xs : List Session) (next : Option ℕ) (h : Session) (x : WindowMarks) → window_marks_of h ≡ Some x → HasBuffer x.name ks → (height : ℕ) × (target (view (world_of directory ks xs next) (session_of ks h)) ≡ Some (target_at directory ks h.user height x)) × (selected_height h ≡ height)
 selected_some directory ks xs next h x sel kept =
     let can = reads directory (buffers_of ks) h.user in
     let bs = map (buffer_seen directory h.user) (buffers_of ks) in
@@ -123,7 +182,19 @@ selected_some directory ks xs next h x sel kept =
           ∙ ap (option_and_then (λ (w : Window). target_in bs (window_seen can (window_of ks w)) (window_of ks w).shows)) got.1
           ∙ ap (λ (s : Option WindowMarks). target_in bs (window_seen can (window_shown ks w.height s)) (window_shown ks w.height s).shows) got.2
           ∙ ap (option_map (λ (b : BufferSeen). let t : Target = record { window = window_seen can (window_shown ks w.height (Some x)); buffer = b } in t)) (found_seen directory h.user x.name ks kept),
+      ap height_or_none got.1,
     )
+
+-- what is shown as a text has no rows
+text_shown : (bs : List BufferSeen) (o : Option WindowSeen) (t : Target) → option_and_then (λ (x : WindowSeen). target_in bs x x.shows) o ≡ Some t → has_rows o ≡ false
+text_shown bs None t e = refl
+text_shown bs (Some x) t e = go x.shows e
+  where
+    go : (s : Shows) → target_in bs x s ≡ Some t → is_rows s ≡ false
+    go Nothing h = refl
+    go (Buffer_of name) h = refl
+    go Listing h = cc
+    go (List_of name) h = cc
 
 -- THE OUTCOME
 
@@ -138,59 +209,93 @@ judged_here v t rights found =
     only_one (decision_by (deciders_found (find_seen t.buffer.name v.buffers)) (rights_in (rights t)))
     ∙ ap (λ o. decision_by (deciders_found o) (rights_in (rights t))) found
 
+edit_same : (own : Own) (b : BufferSeen) (r : Result Change Message) → edited_by own b r ≡ edit_outcome own b.name (size_told b.told) (serial_told b.told) r
+edit_same own b (Ok c) = refl
+edit_same own b (Err message) = refl
+
+edit_judged : (v : View) (t : Target) (rights : Target → ℕ) (plan : Target → Result Change Message) → target v ≡ Some t → find_seen t.buffer.name v.buffers ≡ Some t.buffer → permitted v.session.own (judged v (here (target v) rights)) (edits v.session.own (target v) plan) ≡ permitted v.session.own (decision_by t.buffer.deciders (rights_in (rights t))) (edit_outcome v.session.own t.buffer.name (size_told t.buffer.told) (serial_told t.buffer.told) (plan t))
+edit_judged v t rights plan is found =
+    ap (λ o. permitted v.session.own (judged v (here o rights)) (edits v.session.own o plan)) is
+    ∙ ap (λ d. permitted v.session.own d (edits v.session.own (Some t) plan)) (judged_here v t rights found)
+    ∙ ap (permitted v.session.own (decision_by t.buffer.deciders (rights_in (rights t)))) (edit_same v.session.own t.buffer (plan t))
+
+motion_judged : (v : View) (t : Target) (plan : Target → Result Finish Message) → target v ≡ Some t → find_seen t.buffer.name v.buffers ≡ Some t.buffer → permitted v.session.own (judged v (here (target v) (λ t. 1))) (moves v.session.own (target v) plan) ≡ permitted v.session.own (decision_by t.buffer.deciders (rights_in 1)) (moved_by v.session.own (plan t))
+motion_judged v t plan is found =
+    ap (λ o. permitted v.session.own (judged v (here o (λ t. 1))) (moves v.session.own o plan)) is
+    ∙ ap (λ d. permitted v.session.own d (moves v.session.own (Some t) plan)) (judged_here v t (λ t. 1) found)
+
 -- what an act comes to on the target
-on_target : (v : View) (t : Target) (c : Command) (n : Option ℕ) → is_on_text c ≡ true → target v ≡ Some t → find_seen t.buffer.name v.buffers ≡ Some t.buffer → outcome v (act_of (Run c n)) true ≡ outcome_at v.session.own c (count_of n) t.buffer.name t.buffer.deciders (size_told t.buffer.told) (serial_told t.buffer.told) (acts_at t.window.positions (size_told t.buffer.told))
+on_target : (v : View) (t : Target) (c : Command) (n : Option ℕ) → is_on_text c ≡ true → target v ≡ Some t → find_seen t.buffer.name v.buffers ≡ Some t.buffer → outcome v (act_of (Run c n)) true ≡ outcome_at v.session.own c t.buffer.deciders (text_in t.buffer.full) (around v.session n [] t)
 unfolding outcome
-on_target v t (Insert (SelfInsert put)) n h is found =
-    let plan = λ (t : Target). insertion (SelfInsert put) (around v.session n [] t) in
-    ap (λ o. permitted v.session.own (judged v (here o insertion_right)) (edits v.session.own o plan)) is
-    ∙ ap (λ d. permitted v.session.own d (edits v.session.own (Some t) plan)) (judged_here v t insertion_right found)
-on_target v t (Insert Newline) n h is found =
-    let plan = λ (t : Target). insertion Newline (around v.session n [] t) in
-    ap (λ o. permitted v.session.own (judged v (here o insertion_right)) (edits v.session.own o plan)) is
-    ∙ ap (λ d. permitted v.session.own d (edits v.session.own (Some t) plan)) (judged_here v t insertion_right found)
-on_target v t (Move ForwardChar) n h is found =
-    let plan = λ (t : Target). motion ForwardChar (text_in t.buffer.full) (around v.session n [] t) in
-    ap (λ o. permitted v.session.own (judged v (here o (λ t. 1))) (moves v.session.own o plan)) is
-    ∙ ap (λ d. permitted v.session.own d (moves v.session.own (Some t) plan)) (judged_here v t (λ t. 1) found)
-on_target v t (Move BackwardChar) n h is found =
-    let plan = λ (t : Target). motion BackwardChar (text_in t.buffer.full) (around v.session n [] t) in
-    ap (λ o. permitted v.session.own (judged v (here o (λ t. 1))) (moves v.session.own o plan)) is
-    ∙ ap (λ d. permitted v.session.own d (moves v.session.own (Some t) plan)) (judged_here v t (λ t. 1) found)
+on_target v t (Insert i) n h is found = edit_judged v t insertion_right (λ t. insertion i (around v.session n [] t)) is found
+on_target v t (InsertReading i) n h is found =
+    edit_judged v t (λ t. 1 + insertion_right t) (λ t. reading_insertion i (text_in t.buffer.full) (around v.session n [] t)) is found
+on_target v t (Move m) n h is found = motion_judged v t (λ t. motion m (text_in t.buffer.full) (around v.session n [] t)) is found
+on_target v t (Alter k) n h is found = edit_judged v t (λ t. 3) (λ t. alteration k (text_in t.buffer.full) (around v.session n [] t)) is found
+on_target v t (Scroll s) n h is found =
+    ap (λ b. permitted v.session.own (judged v (here (target v) (λ t. 1))) (cond b (scrolls_rows v.session.own (row_in s (selected_seen v))) (moves v.session.own (target v) (λ t. scrolling s (text_in t.buffer.full) (around v.session n [] t)))))
+    (text_shown v.buffers (selected_seen v) t is)
+    ∙ motion_judged v t (λ t. scrolling s (text_in t.buffer.full) (around v.session n [] t)) is found
 on_target v t _ n h is found = cc
 
-through : (directory : Directory) (ks : List MarkedBuffer) (own : Own) (user : List ℕ) (height : ℕ) (x : WindowMarks) (c : Command) (n : ℕ) → HasBuffer x.name ks → (let t = target_at directory ks user height x in outcome_at own c n t.buffer.name t.buffer.deciders (size_told t.buffer.told) (serial_told t.buffer.told) (acts_at t.window.positions (size_told t.buffer.told))) ≡ plan_in directory ks own user x c n
-through directory ks own user height x c n kept =
+-- through the window's marks of the selected window, of so many rows
+through : (directory : Directory) (ks : List MarkedBuffer) (xs : List Session) (next : Option ℕ) (h : Session) (height : ℕ) (x : WindowMarks) (c : Command) (n : Option ℕ) → HasBuffer x.name ks
+    → (let t = target_at directory ks h.user height x in outcome_at (own_of h.own) c t.buffer.deciders (text_in t.buffer.full) (around (view (world_of directory ks xs next) (session_of ks h)).session n [] t) ≡ plan_in directory ks (own_of h.own) h.user x height c n h.kill)
+through directory ks xs next h height x c n kept =
     let b = (marked_at x.name ks).buffer in
-    let d = decider directory b.owner user b.entries in
-    let size = size_told (told_if (any_right d) b) in
-    let serial = serial_told (told_if (any_right d) b) in
+    let d = decider directory b.owner h.user b.entries in
+    let own = own_of h.own in
     let point = mark_at x.name ks x.point in
     let mark = option_map (mark_at x.name ks) x.mark in
     let top = mark_at x.name ks x.top in
-    ap (λ (r : Bool). outcome_at own c n b.name d size serial (acts_at (positions_if r point mark top) size)) (ap (reads_found directory user) (found_buffer x.name ks kept))
-    ∙ told_same own c n b.name d b point mark top
-    ∙ ap (λ (m : List ℕ). outcome_at own c n m d (length b.text) b.serial (cond (allows (d ReadData)) point (length b.text))) (name_kept x.name ks kept)
+    ap (λ (r : Bool). outcome_at own c d (text_in (full_if (allows (d ReadData)) b)) (surroundings (any_right d) r b b.name point mark top height n h.kill own)) (ap (reads_found directory h.user) (found_buffer x.name ks kept))
+    ∙ told_same own c d b b.name point mark top height n h.kill
+    ∙ ap (λ (m : List ℕ). outcome_at own c d b.text (all_told b (allows (d ReadData)) m point mark height n h.kill own)) (name_kept x.name ks kept)
 
--- through the window's marks of the selected window
-pub outcome_plan : (directory : Directory) (ks : List MarkedBuffer) (xs : List Session) (next : Option ℕ) (h : Session) (x : WindowMarks) (c : Command) (n : Option ℕ) → is_on_text c ≡ true → window_marks_of h ≡ Some x → HasBuffer x.name ks → outcome (view (world_of directory ks xs next) (session_of ks h)) (act_of (Run c n)) true ≡ plan_in directory ks (own_of h.own) h.user x c (count_of n)
+pub outcome_plan : (directory : Directory) (ks : List MarkedBuffer) (xs : List Session) (next : Option ℕ) (h : Session) (x : WindowMarks) (c : Command) (n : Option ℕ) → is_on_text c ≡ true → window_marks_of h ≡ Some x → HasBuffer x.name ks → outcome (view (world_of directory ks xs next) (session_of ks h)) (act_of (Run c n)) true ≡ plan_in directory ks (own_of h.own) h.user x (selected_height h) c n h.kill
 outcome_plan directory ks xs next h x c n on sel kept =
     let seen = selected_some directory ks xs next h x sel kept in
     let t = target_at directory ks h.user seen.0 x in
     on_target (view (world_of directory ks xs next) (session_of ks h)) t c n on seen.1
     (ap (λ m. find_seen m (map (buffer_seen directory h.user) (buffers_of ks))) (name_kept x.name ks kept) ∙ found_seen directory h.user x.name ks kept)
-    ∙ through directory ks (own_of h.own) h.user seen.0 x c (count_of n) kept
+    ∙ through directory ks xs next h seen.0 x c n kept
+    ∙ ap (λ (height : ℕ). plan_in directory ks (own_of h.own) h.user x height c n h.kill) (sym seen.2)
+
+-- no window shows rows yet
+no_rows : (ks : List MarkedBuffer) (height : ℕ) (s : Option WindowMarks) → is_rows (window_shown ks height s).shows ≡ false
+no_rows ks height None = refl
+no_rows ks height (Some x) = refl
+
+none_has_rows : (can : List ℕ → Bool) (ks : List MarkedBuffer) (o : Option Window) → has_rows (option_map (window_seen can) (option_map (window_of ks) o)) ≡ false
+none_has_rows can ks None = refl
+none_has_rows can ks (Some w) = no_rows ks w.height w.shows
+
+selected_no_rows : (directory : Directory) (ks : List MarkedBuffer) (xs : List Session) (next : Option ℕ) (h : Session) → has_rows (selected_seen (view (world_of directory ks xs next) (session_of ks h))) ≡ false
+selected_no_rows directory ks xs next h =
+    let can = reads directory (buffers_of ks) h.user in
+    let ws = h.windows.windows in
+    ap has_rows (slice_get-map (window_seen can) (map (window_of ks) ws) h.windows.selected ∙ ap (option_map (window_seen can)) (slice_get-map (window_of ks) ws h.windows.selected))
+    ∙ none_has_rows can ks (slice_get ws h.windows.selected)
 
 -- where the selected window shows nothing
-pub outcome_none : (directory : Directory) (ks : List MarkedBuffer) (xs : List Session) (next : Option ℕ) (h : Session) (c : Command) (n : Option ℕ) → is_on_text c ≡ true → window_marks_of h ≡ None → outcome (view (world_of directory ks xs next) (session_of ks h)) (act_of (Run c n)) true ≡ fails (own_of h.own) NoBuffer
+none_edited : (v : View) (rights : Target → ℕ) (plan : Target → Result Change Message) → target v ≡ None → permitted v.session.own (judged v (here (target v) rights)) (edits v.session.own (target v) plan) ≡ fails v.session.own NoBuffer
+none_edited v rights plan none = ap (λ o. permitted v.session.own (judged v (here o rights)) (edits v.session.own o plan)) none
+
+none_moved : (v : View) (plan : Target → Result Finish Message) → target v ≡ None → permitted v.session.own (judged v (here (target v) (λ t. 1))) (moves v.session.own (target v) plan) ≡ fails v.session.own NoBuffer
+none_moved v plan none = ap (λ o. permitted v.session.own (judged v (here o (λ t. 1))) (moves v.session.own o plan)) none
+
+off_target : (v : View) (c : Command) (n : Option ℕ) → is_on_text c ≡ true → target v ≡ None → has_rows (selected_seen v) ≡ false → outcome v (act_of (Run c n)) true ≡ fails v.session.own NoBuffer
 unfolding outcome
-outcome_none directory ks xs next h (Insert i) n on none =
-    let v = view (world_of directory ks xs next) (session_of ks h) in
-    ap (λ o. permitted v.session.own (judged v (here o insertion_right)) (edits v.session.own o (λ t. insertion i (around v.session n [] t)))) (selected_none directory ks xs next h none)
-outcome_none directory ks xs next h (Move ForwardChar) n on none =
-    let v = view (world_of directory ks xs next) (session_of ks h) in
-    ap (λ o. permitted v.session.own (judged v (here o (λ t. 1))) (moves v.session.own o (λ t. motion ForwardChar (text_in t.buffer.full) (around v.session n [] t)))) (selected_none directory ks xs next h none)
-outcome_none directory ks xs next h (Move BackwardChar) n on none =
-    let v = view (world_of directory ks xs next) (session_of ks h) in
-    ap (λ o. permitted v.session.own (judged v (here o (λ t. 1))) (moves v.session.own o (λ t. motion BackwardChar (text_in t.buffer.full) (around v.session n [] t)))) (selected_none directory ks xs next h none)
-outcome_none directory ks xs next h _ n on none = cc
+off_target v (Insert i) n h none rows = none_edited v insertion_right (λ t. insertion i (around v.session n [] t)) none
+off_target v (InsertReading i) n h none rows =
+    none_edited v (λ t. 1 + insertion_right t) (λ t. reading_insertion i (text_in t.buffer.full) (around v.session n [] t)) none
+off_target v (Move m) n h none rows = none_moved v (λ t. motion m (text_in t.buffer.full) (around v.session n [] t)) none
+off_target v (Alter k) n h none rows = none_edited v (λ t. 3) (λ t. alteration k (text_in t.buffer.full) (around v.session n [] t)) none
+off_target v (Scroll s) n h none rows =
+    ap (λ b. permitted v.session.own (judged v (here (target v) (λ t. 1))) (cond b (scrolls_rows v.session.own (row_in s (selected_seen v))) (moves v.session.own (target v) (λ t. scrolling s (text_in t.buffer.full) (around v.session n [] t))))) rows
+    ∙ none_moved v (λ t. scrolling s (text_in t.buffer.full) (around v.session n [] t)) none
+off_target v _ n h none rows = cc
+
+pub outcome_none : (directory : Directory) (ks : List MarkedBuffer) (xs : List Session) (next : Option ℕ) (h : Session) (c : Command) (n : Option ℕ) → is_on_text c ≡ true → window_marks_of h ≡ None → outcome (view (world_of directory ks xs next) (session_of ks h)) (act_of (Run c n)) true ≡ fails (own_of h.own) NoBuffer
+outcome_none directory ks xs next h c n on none =
+    off_target (view (world_of directory ks xs next) (session_of ks h)) c n on (selected_none directory ks xs next h none) (selected_no_rows directory ks xs next h)

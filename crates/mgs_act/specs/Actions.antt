@@ -1,34 +1,46 @@
 -- What is planned, and where.
-use Rattle.std.specs.Prelude.{ℕ, ◌+◌, ◌-◌, ◌<◌, ◌≤◌, ◌^◌, ◌==◌, ◌&&◌, nat_le, nat_lt, min, Bool, true, false, List, [], length, replicate, Result, Ok, Err, cond, if◌then◌else◌}
+use Rattle.std.specs.Global.{Vec}
+use Rattle.std.specs.Prelude.{◌≡◌, ℕ, ◌+◌, ◌-◌, ◌<◌, ◌≤◌, ◌^◌, ◌==◌, ◌&&◌, nat_le, nat_lt, Bool, true, false, List, [], length, Option, Some, None, Result, Ok, Err, slice_get, cond, if◌then◌else◌}
+use Rattle.std.specs.Option.{option_map}
 use Rattle.mgs_model.specs.Access.{Directory, Decider, decider, decision_by}
 use Rattle.mgs_model.specs.Rights.{rights_in}
-use Rattle.mgs_model.specs.World.{World, first_own, find_session, may}
+use Rattle.mgs_model.specs.Text.{is_edit}
+use Rattle.mgs_model.specs.World.{may}
 use Rattle.mgs_model.specs.World as model
-use Rattle.mgs_model.specs.Apply.{change_first}
-use Rattle.mgs_model.specs.Outcome.{Outcome, Effect, No_effect, Edit}
+use Rattle.mgs_model.specs.Apply.{change_first, kill_after}
+use Rattle.mgs_model.specs.Outcome.{Outcome, No_effect, PointPlan, Keep, At, At_origin}
 use Rattle.mgs_model.specs.Outcome as outcomes
-use Rattle.mgs_model.specs.Plans.{Finish, Change, goes}
-use Rattle.mgs_model.specs.Acts.{fails, finished, edit_of, is_full, moved_by, permitted}
+use Rattle.mgs_model.specs.Plans as plans
+use Rattle.mgs_model.specs.Plans.{alteration, insertion, motion, reading_insertion, scrolling}
+use Rattle.mgs_model.specs.Acts.{fails, finished, edit_of, is_full, is_too_large, moved_by, permitted}
 use Rattle.mgs_model.specs.declared.right.Right.{Right}
 use Rattle.mgs_model.specs.declared.right.Right.TheVariants.{ReadData}
 use Rattle.mgs_model.specs.declared.message.Message.{Message}
-use Rattle.mgs_model.specs.declared.message.Message.TheVariants.{KeyNotBound, BufferFull, EndOfBuffer, BeginningOfBuffer}
+use Rattle.mgs_model.specs.declared.message.Message.TheVariants.{KeyNotBound, BufferFull}
 use Rattle.mgs_model.specs.declared.limits.TheConstants.{TEXT_LIMIT}
 use Rattle.mgs_model.specs.declared.session.Command.{Command}
-use Rattle.mgs_model.specs.declared.session.Command.TheVariants.{Insert, Move, Set, Rearrange}
+use Rattle.mgs_model.specs.declared.session.Command.TheVariants.{Insert, InsertReading, Move, Alter, Scroll, Set, Rearrange}
 use Rattle.mgs_model.specs.declared.session.Insertion.{Insertion}
-use Rattle.mgs_model.specs.declared.session.Insertion.TheVariants.{SelfInsert, Newline}
-use Rattle.mgs_model.specs.declared.session.Motion.TheVariants.{ForwardChar, BackwardChar}
+use Rattle.mgs_model.specs.declared.session.Insertion.TheVariants.{Yank}
+use Rattle.mgs_model.specs.declared.session.Motion.{Motion}
+use Rattle.mgs_model.specs.declared.session.Motion.TheVariants.{SetMark, ExchangePointAndMark, MarkWholeBuffer}
+use Rattle.mgs_model.specs.declared.session.Setting.{Setting}
 use Rattle.mgs_model.specs.declared.session.Setting.TheVariants.{KeyboardQuit}
-use Rattle.mgs_buffers.specs.MarkedBuffer.{MarkedBuffer, marked_at, marked_edited, marked_named, marked_placed, mark_at}
+use Rattle.mgs_buffers.specs.MarkedBuffer.{IsMark, MarkedBuffer, marked_at, marked_edited, marked_named, marked_placed, mark_at}
 use Rattle.mgs_windows.specs.declared.WindowMarks.{WindowMarks}
-use Rattle.mgs_session.specs.Sessions.{told}
+use Rattle.mgs_windows.specs.declared.Window.{Window}
+use Rattle.mgs_session.specs.Sessions.{acted, failed, told}
 use Rattle.mgs_session.specs.declared.Session.{Session}
+use Rattle.mgs_edit.specs.Reading.{ChangeWithin, FinishWithin, change_read, finish_read, is_alteration_planned, is_planned, kill_read, put_read}
+use Rattle.mgs_edit.specs.declared.plan.Around.{Around}
+use Rattle.mgs_edit.specs.declared.plan.Change.{Change}
+use Rattle.mgs_edit.specs.declared.plan.Finish.{Finish}
 use Rattle.mgs_arrange.specs.Arranging.{is_arranged_here}
 use Rattle.mgs_act.specs.declared.acts.KeyAct.{KeyAct}
 use Rattle.mgs_act.specs.declared.acts.KeyAct.TheVariants.{Unbound, Run}
-use Rattle.mgs_act.specs.declared.acts.Action.{Action}
-use Rattle.mgs_act.specs.declared.acts.Action.TheVariants.{Fails, Inserts, Goes}
+use Rattle.mgs_act.specs.declared.given.Given.{Given}
+use Rattle.mgs_act.specs.declared.action.Action.{Action}
+use Rattle.mgs_act.specs.declared.action.Action.TheVariants.{Fails, Edits, Moves}
 
 -- ACTS
 
@@ -36,92 +48,208 @@ abbrev pub act_of : KeyAct → outcomes.Act
 act_of Unbound = outcomes.Unbound
 act_of (Run c n) = outcomes.Run c n []
 
+-- a yank sets the mark, which is not done yet
+abbrev pub is_insertion_done : Insertion → Bool
+is_insertion_done Yank = false
+is_insertion_done _ = true
+
+-- those that set the mark are not done yet
+abbrev pub is_motion_done : Motion → Bool
+is_motion_done SetMark = false
+is_motion_done ExchangePointAndMark = false
+is_motion_done MarkWholeBuffer = false
+is_motion_done c = is_planned c
+
 -- the commands that act on the text in the selected window
 abbrev pub is_on_text : Command → Bool
-is_on_text (Insert (SelfInsert c)) = true
-is_on_text (Insert Newline) = true
-is_on_text (Move ForwardChar) = true
-is_on_text (Move BackwardChar) = true
+is_on_text (Insert c) = is_insertion_done c
+is_on_text (InsertReading c) = true
+is_on_text (Move c) = is_motion_done c
+is_on_text (Alter c) = is_alteration_planned c
+is_on_text (Scroll c) = true
 is_on_text _ = false
 
+abbrev pub is_setting_done : Setting → Bool
+is_setting_done KeyboardQuit = true
+is_setting_done _ = false
+
 -- the acts that are done here
+abbrev pub is_command_done : Command → Bool
+is_command_done (Set c) = is_setting_done c
+is_command_done (Rearrange c) = is_arranged_here c
+is_command_done c = is_on_text c
+
 abbrev pub is_done_here : KeyAct → Bool
 is_done_here Unbound = true
-is_done_here (Run (Insert (SelfInsert c)) n) = true
-is_done_here (Run (Insert Newline) n) = true
-is_done_here (Run (Move ForwardChar) n) = true
-is_done_here (Run (Move BackwardChar) n) = true
-is_done_here (Run (Set KeyboardQuit) n) = true
-is_done_here (Run (Rearrange c) n) = is_arranged_here c
-is_done_here _ = false
+is_done_here (Run c n) = is_command_done c
 
--- PLACES
+-- WHAT A PLAN IS GIVEN
 
--- where a user acts through a window's marks
-abbrev pub acts_in : Directory → List MarkedBuffer → List ℕ → WindowMarks → ℕ
-acts_in directory ks user x =
-    if may directory user ReadData (marked_at x.name ks).buffer then mark_at x.name ks x.point
-    else length (marked_at x.name ks).buffer.text
+-- the point and the mark of a window stand in its buffer
+pub record AreMarks (ks : List MarkedBuffer) (x : WindowMarks) : Type 0 where
+  pub point : IsMark x.name x.point ks
+  pub mark : (id : ℕ) → x.mark ≡ Some id → IsMark x.name id ks
+  pub top : IsMark x.name x.top ks
+
+-- where a user acts: at the point, or at the text's end where the text may not be read
+abbrev pub place_in : Bool → ℕ → ℕ → ℕ
+place_in reads point size = cond reads point size
+
+-- the mark, where the text may be read
+abbrev pub mark_if : Bool → Option ℕ → Option ℕ
+mark_if reads mark = cond reads mark None
+
+abbrev pub mark_shown : List MarkedBuffer → WindowMarks → Option ℕ
+mark_shown ks x = option_map (mark_at x.name ks) x.mark
+
+abbrev pub around_given : Directory → List MarkedBuffer → List ℕ → WindowMarks → Given → ℕ → Around
+around_given directory ks user x g killed =
+    let b = (marked_at x.name ks).buffer in
+    let reads = may directory user ReadData b in
+    record {
+      place = place_in reads (mark_at x.name ks x.point) (length b.text);
+      mark = mark_if reads (mark_shown ks x);
+      argument = g.argument;
+      killed = killed;
+      kind = g.kind;
+      height = g.height;
+    }
+
+-- the same, as the model's plans are given it
+abbrev pub around_in : Directory → List MarkedBuffer → List ℕ → WindowMarks → ℕ → Option ℕ → List ℕ → model.Own → plans.Around
+around_in directory ks user x height n kill own =
+    let b = (marked_at x.name ks).buffer in
+    let reads = may directory user ReadData b in
+    record {
+      name = x.name;
+      size = length b.text;
+      serial = b.serial;
+      place = place_in reads (mark_at x.name ks x.point) (length b.text);
+      mark = mark_if reads (mark_shown ks x);
+      anchor = 0;
+      old = own.old;
+      argument = n;
+      typed = [];
+      kill = kill;
+      kind = own.kind;
+      height = height;
+      fill = own.fill;
+    }
 
 -- ACTIONS
 
--- what the buffers ask of an action
-abbrev pub CanBeDone : List MarkedBuffer → WindowMarks → Action → Type 0
-CanBeDone ks x (Fails message) = Unit {0}
-CanBeDone ks x (Inserts at put times) =
-    (at ≤ length (marked_at x.name ks).buffer.text) × (length (marked_at x.name ks).buffer.text + times ≤ TEXT_LIMIT) × ((marked_at x.name ks).buffer.serial + 1 < 2 ^ 64) × (1 ≤ times)
-CanBeDone ks x (Goes place) = place ≤ length (marked_at x.name ks).buffer.text
+-- what the buffers ask of what is left: no mark is set yet
+pub record CanFinish (size after : ℕ) (text kill : List ℕ) (f : Finish) : Type 0 where
+  pub within : FinishWithin size after f
+  pub unmarked : f.mark ≡ None
+  pub small : is_too_large (kill_read text kill f.kill) ≡ false
+
+pub record CanChange (text kill : List ℕ) (serial : ℕ) (c : Change) : Type 0 where
+  pub within : ChangeWithin text kill c
+  pub unmarked : c.finish.mark ≡ None
+  pub small : is_too_large (kill_read text kill c.finish.kill) ≡ false
+  pub room : is_full (length text) serial (change_read text kill c) ≡ false
+
+abbrev pub CanDo : List ℕ → List ℕ → ℕ → Action → Type 0
+CanDo text kill serial (Fails message) = Unit {0}
+CanDo text kill serial (Edits c) = CanChange text kill serial c
+CanDo text kill serial (Moves f) = CanFinish (length text) (length text) text kill f
+
+abbrev pub CanBeDone : List MarkedBuffer → WindowMarks → List ℕ → Action → Type 0
+CanBeDone ks x kill action = CanDo (marked_at x.name ks).buffer.text kill (marked_at x.name ks).buffer.serial action
+
+-- the outcome that an action stands for, in the buffer of this name and text, by a session that holds this and has this kill buffer
+abbrev pub action_outcome : model.Own → List ℕ → List ℕ → List ℕ → Action → Outcome
+action_outcome own name text kill (Fails message) = fails own message
+action_outcome own name text kill (Edits c) = finished own (change_read text kill c).finish (edit_of name (change_read text kill c))
+action_outcome own name text kill (Moves f) = finished own (finish_read text kill 0 f) No_effect
+
+-- what an action comes to through a window's marks
+abbrev pub outcome_through : model.Own → WindowMarks → List MarkedBuffer → List ℕ → Action → Outcome
+outcome_through own x ks kill action = action_outcome own x.name (marked_at x.name ks).buffer.text kill action
+
+-- the rows of the selected window above its mode line
+abbrev pub height_or_none : Option Window → ℕ
+height_or_none None = 0
+height_or_none (Some w) = w.height
+
+abbrev pub selected_height : Session → ℕ
+selected_height h = height_or_none (slice_get h.windows.windows h.windows.selected)
+
+-- the kill buffer of the session at an index
+abbrev pub kill_or_none : Option Session → List ℕ
+kill_or_none None = []
+kill_or_none (Some h) = h.kill
+
+abbrev pub kill_at : ℕ → List Session → List ℕ
+kill_at at xs = kill_or_none (slice_get xs at)
+
+-- WHAT IS DONE
+
+-- one mark goes to a position, if it does
+abbrev pub mark_gone : List ℕ → ℕ → PointPlan → List MarkedBuffer → List MarkedBuffer
+mark_gone name id Keep ks = ks
+mark_gone name id (At p) ks = change_first (marked_named name) (marked_placed id p) ks
+mark_gone name id At_origin ks = ks
+
+-- point and top go where they are to
+abbrev pub marks_gone : WindowMarks → plans.Finish → List MarkedBuffer → List MarkedBuffer
+marks_gone x f ks = mark_gone x.name x.top f.top (mark_gone x.name x.point f.point ks)
+
+-- what takes out nothing and puts in nothing is no edit
+abbrev pub edited_by : List ℕ → plans.Change → List MarkedBuffer → List MarkedBuffer
+edited_by name c ks = cond (is_edit c.a c.b c.put) (change_first (marked_named name) (marked_edited c.a c.b c.put) ks) ks
 
 -- the buffers, and the acting session, once an action is done
-abbrev pub marked_after : WindowMarks → Action → List MarkedBuffer → List MarkedBuffer
-marked_after x (Fails message) ks = ks
-marked_after x (Inserts at put times) ks =
-    change_first (marked_named x.name) (marked_placed x.point (at + times)) (change_first (marked_named x.name) (marked_edited at at (replicate times put)) ks)
-marked_after x (Goes place) ks = change_first (marked_named x.name) (marked_placed x.point place) ks
+abbrev pub marked_after : WindowMarks → List ℕ → List ℕ → Action → List MarkedBuffer → List MarkedBuffer
+marked_after x text kill (Fails message) ks = ks
+marked_after x text kill (Edits c) ks = marks_gone x (change_read text kill c).finish (edited_by x.name (change_read text kill c) ks)
+marked_after x text kill (Moves f) ks = marks_gone x (finish_read text kill 0 f) ks
 
-abbrev pub session_acted : Action → Session → Session
-session_acted (Fails message) h = told message h
-session_acted (Inserts at put times) h = h
-session_acted (Goes place) h = h
+-- the kill buffer that was made, if one was
+abbrev pub kill_set : Option (Vec ℕ) → List ℕ → List ℕ
+kill_set None old = old
+kill_set (Some v) old = v.items
 
--- the outcome that an action stands for, in the buffer of this name and by a session that holds this
-abbrev pub action_outcome : model.Own → List ℕ → Action → Outcome
-action_outcome own name (Fails message) = fails own message
-action_outcome own name (Inserts at put times) = finished own (goes (at + times)) (Edit name at at (replicate times put))
-action_outcome own name (Goes place) = finished own (goes place) No_effect
+abbrev pub session_finished : plans.Finish → Session → Session
+session_finished f h = told f.told (acted f.kind (record h { kill = kill_after f.kill h.kill }))
+
+abbrev pub session_acted : List ℕ → Action → Session → Session
+session_acted text (Fails message) h = failed message h
+session_acted text (Edits c) h = session_finished (change_read text h.kill c).finish h
+session_acted text (Moves f) h = session_finished (finish_read text h.kill 0 f) h
 
 -- OUTCOMES
 
--- what is put in by an insertion of a character
-abbrev pub text_of : Insertion → ℕ → List ℕ
-text_of (SelfInsert c) n = replicate n c
-text_of Newline n = replicate n 10
-text_of _ n = []
+abbrev pub edit_outcome : model.Own → List ℕ → ℕ → ℕ → Result plans.Change Message → Outcome
+edit_outcome own name size serial (Err message) = fails own message
+edit_outcome own name size serial (Ok c) = if is_full size serial c then fails own BufferFull else finished own c.finish (edit_of name c)
 
-abbrev pub insertion_at : ℕ → List ℕ → Change
-insertion_at p put = record { a = p; b = p; put = put; finish = goes (p + length put) }
+-- an insertion at the text's end appends, one elsewhere writes
+abbrev pub insertion_mask : ℕ → ℕ → ℕ
+insertion_mask place size = cond (place == size) 4 2
 
-abbrev pub inserted_at : model.Own → List ℕ → ℕ → ℕ → ℕ → List ℕ → Outcome
-inserted_at own name size serial p put =
-    if is_full size serial (insertion_at p put) then fails own BufferFull
-    else finished own (goes (p + length put)) (edit_of name (insertion_at p put))
+-- the rights that a command needs at a place of a text of so many characters
+abbrev pub mask_at : Command → ℕ → ℕ → ℕ
+mask_at (Insert c) place size = insertion_mask place size
+mask_at (InsertReading c) place size = 1 + insertion_mask place size
+mask_at (Alter c) place size = 3
+mask_at _ place size = 1
 
-abbrev pub forward : ℕ → ℕ → ℕ → Result Finish Message
-forward size p n = if nat_le size p && nat_lt 0 n then Err EndOfBuffer else Ok (goes (min (p + n) size))
+-- what it does where they are granted
+abbrev pub granted_outcome : model.Own → Command → List ℕ → plans.Around → Outcome
+granted_outcome own (Insert c) text a = edit_outcome own a.name a.size a.serial (insertion c a)
+granted_outcome own (InsertReading c) text a = edit_outcome own a.name a.size a.serial (reading_insertion c text a)
+granted_outcome own (Move c) text a = moved_by own (motion c text a)
+granted_outcome own (Alter c) text a = edit_outcome own a.name a.size a.serial (alteration c text a)
+granted_outcome own (Scroll c) text a = moved_by own (scrolling c text a)
+granted_outcome own _ text a = fails own KeyNotBound
 
-abbrev pub backward : ℕ → ℕ → Result Finish Message
-backward p n = if (p == 0) && nat_lt 0 n then Err BeginningOfBuffer else Ok (goes (p - n))
-
--- the outcome of a command in a buffer of so many characters, at a place
-abbrev pub outcome_at : model.Own → Command → ℕ → List ℕ → (Right → Decider) → ℕ → ℕ → ℕ → Outcome
-outcome_at own (Insert c) n name deciders size serial p =
-    permitted own (decision_by deciders (rights_in (cond (p == size) 4 2))) (inserted_at own name size serial p (text_of c n))
-outcome_at own (Move ForwardChar) n name deciders size serial p = permitted own (decision_by deciders (rights_in 1)) (moved_by own (forward size p n))
-outcome_at own (Move BackwardChar) n name deciders size serial p = permitted own (decision_by deciders (rights_in 1)) (moved_by own (backward p n))
-outcome_at own _ n name deciders size serial p = fails own KeyNotBound
+abbrev pub outcome_at : model.Own → Command → (Right → Decider) → List ℕ → plans.Around → Outcome
+outcome_at own c deciders text a = permitted own (decision_by deciders (rights_in (mask_at c a.place a.size))) (granted_outcome own c text a)
 
 -- the outcome of a command through a window's marks
-abbrev pub plan_in : Directory → List MarkedBuffer → model.Own → List ℕ → WindowMarks → Command → ℕ → Outcome
-plan_in directory ks own user x c n =
+abbrev pub plan_in : Directory → List MarkedBuffer → model.Own → List ℕ → WindowMarks → ℕ → Command → Option ℕ → List ℕ → Outcome
+plan_in directory ks own user x height c n kill =
     let b = (marked_at x.name ks).buffer in
-    outcome_at own c n x.name (decider directory b.owner user b.entries) (length b.text) b.serial (acts_in directory ks user x)
+    outcome_at own c (decider directory b.owner user b.entries) b.text (around_in directory ks user x height n kill own)

@@ -1,6 +1,10 @@
 //! One act of a session: it is planned whole, and then done whole or not at all.
 #![tactic(auto)]
 
+mod action;
 mod acts;
+mod given;
+mod performing;
+mod planning;
 
 pub use acts::{KeyAct, act};

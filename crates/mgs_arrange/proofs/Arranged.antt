@@ -16,48 +16,45 @@ use Rattle.mgs_model.specs.declared.message.Message.TheVariants.{NoFurtherUndo, 
 use Rattle.mgs_model.specs.declared.session.Arrangement.{Arrangement}
 use Rattle.mgs_model.specs.declared.session.Arrangement.TheVariants.{DeleteWindow, DeleteOtherWindows, SplitWindow, NextWindow, PreviousWindow, EnlargeWindow, ShrinkWindow, ListBuffers}
 use Rattle.mgs_model.specs.declared.session.Command.TheVariants.{Rearrange}
+use Rattle.mgs_model.specs.declared.session.Kind.{Kind}
 use Rattle.mgs_model.specs.declared.session.Kind.TheVariants.{Other}
 use Rattle.mgs_model.specs.declared.touched.Touched.TheVariants.{Nowhere}
 use Rattle.mgs_model.proofs.Apart.{apart_apply}
 use Rattle.mgs_model.proofs.Firsts.{change_first_found}
-use Rattle.mgs_arrange.specs.Arranged.{arranged_or_told, closer, grown, listing_for, lower_half, next_index, others_gone, previous_index, rearranged, rows_given, rows_given_if, shrunk, upper_half, window_gone, window_lists, window_selected, window_split}
+use Rattle.mgs_world.specs.Worlds.{idle}
+use Rattle.mgs_arrange.specs.Arranged.{arranged_or_told, run_ended, closer, grown, listing_for, lower_half, next_index, others_gone, previous_index, rearranged, rows_given, rows_given_if, shrunk, upper_half, window_gone, window_lists, window_selected, window_split}
 use Rattle.mgs_arrange.proofs.Slots.{all_stay, from_start, halves, halves_take_memory, height_seen, lists, named_all, named_but, named_halves, named_lists, named_one, one_leaves, others_leave, put, put_removed, put_resized, put_slots_but, reheighted, reheighted_not, reheighted_one, reheighted_same, reheighted_twice, replaced_by_one, replaced_by_two, rows_seen, seen}
 
 -- A SESSION IN NO MODE
 
 -- what slots make of it
-slots_done : (x : Session) (slots : List Slot) (selected at : ℕ) (windows : List Window) (places : List Place) → x.own ≡ first_own → x.search ≡ None → map (put x.search x.windows (places_left 0 slots x.windows x.places)) slots ≡ windows → places_left 0 slots x.windows x.places ≡ places → selected ≡ at → session_arranged (arranges x.own No_effect (Ok (Slots slots selected Keep_search))) x ≡ record x { windows = windows; selected = at; places = places }
+slots_done : (x : Session) (slots : List Slot) (selected at : ℕ) (windows : List Window) (places : List Place) → x.own ≡ idle x.own.kind → x.search ≡ None → map (put x.search x.windows (places_left 0 slots x.windows x.places)) slots ≡ windows → places_left 0 slots x.windows x.places ≡ places → selected ≡ at → session_arranged (arranges x.own No_effect (Ok (Slots slots selected Keep_search))) x ≡ run_ended (record x { windows = windows; selected = at; places = places })
 slots_done x slots selected at windows places fresh quiet are left is =
-    let own : acted_own x.own ≡ x.own = ap acted_own fresh ∙ sym fresh in
+    let own : acted_own x.own ≡ record x.own { kind = Other } = ap acted_own fresh ∙ sym (ap (λ (o : Own). record o { kind = Other }) fresh) in
     let search : cond (searches x.own.mode) x.search None ≡ x.search = ap (λ (o : Own). cond (searches o.mode) x.search None) fresh ∙ sym quiet in
     λ t. record x { windows = are t; selected = is t; places = left t; search = search t; own = own t }
 
--- whatever is told, the kind of the last command is none of those that go on
-other_kind : (message : Message) → kind_failed message Other ≡ Other
-other_kind NoFurtherUndo = refl
-other_kind _ = refl
-
-failed_told : (message : Message) (own : Own) → own ≡ first_own → failed_own message own ≡ record own { echo = message }
-failed_told message own fresh =
-    ap (failed_own message) fresh ∙ ap (λ k. record first_own { echo = message; kind = k }) (other_kind message) ∙ ap (λ (o : Own). record o { echo = message }) (sym fresh)
+failed_told : (message : Message) (own : Own) → own ≡ idle own.kind → kind_failed message own.kind ≡ Other → failed_own message own ≡ record own { echo = message; kind = Other }
+failed_told message own fresh broken =
+    ap (failed_own message) fresh ∙ ap (λ k. record first_own { echo = message; kind = k }) broken ∙ sym (ap (λ (o : Own). record o { echo = message; kind = Other }) fresh)
 
 -- what a failure makes of it
-failure_done : (x : Session) (message : Message) → x.own ≡ first_own → x.search ≡ None → session_arranged (fails x.own message) x ≡ arranged_or_told (Err message) x
-failure_done x message fresh quiet = λ t. record x { search = sym quiet t; own = failed_told message x.own fresh t }
+failure_done : (x : Session) (message : Message) → x.own ≡ idle x.own.kind → x.search ≡ None → ((kind : Kind) → kind_failed message kind ≡ Other) → session_arranged (fails x.own message) x ≡ run_ended (arranged_or_told (Err message) x)
+failure_done x message fresh quiet breaks = λ t. record x { search = sym quiet t; own = failed_told message x.own fresh (breaks x.own.kind) t }
 
 -- a failure that is tested first
-failure_first : (x : Session) (test : Bool) (message : Message) (plan : Result Arrange Message) (known : Result Session Message) → x.own ≡ first_own → x.search ≡ None → (test ≡ false → session_arranged (arranges x.own No_effect plan) x ≡ arranged_or_told known x) → session_arranged (arranges x.own No_effect (cond test (Err message) plan)) x ≡ arranged_or_told (cond test (Err message) known) x
-failure_first x test message plan known fresh quiet same = go test refl
+failure_first : (x : Session) (test : Bool) (message : Message) (plan : Result Arrange Message) (known : Result Session Message) → x.own ≡ idle x.own.kind → x.search ≡ None → ((kind : Kind) → kind_failed message kind ≡ Other) → (test ≡ false → session_arranged (arranges x.own No_effect plan) x ≡ run_ended (arranged_or_told known x)) → session_arranged (arranges x.own No_effect (cond test (Err message) plan)) x ≡ run_ended (arranged_or_told (cond test (Err message) known) x)
+failure_first x test message plan known fresh quiet breaks same = go test refl
   where
-    go : (b : Bool) → test ≡ b → session_arranged (arranges x.own No_effect (cond b (Err message) plan)) x ≡ arranged_or_told (cond b (Err message) known) x
-    go true e = failure_done x message fresh quiet
+    go : (b : Bool) → test ≡ b → session_arranged (arranges x.own No_effect (cond b (Err message) plan)) x ≡ run_ended (arranged_or_told (cond b (Err message) known) x)
+    go true e = failure_done x message fresh quiet breaks
     go false e = same e
 
 -- the same test, of windows and of what is seen of them
-failure_seen : (x : Session) (can : List ℕ → Bool) (test : ℕ → Bool) (message : Message) (plan : Result Arrange Message) (known : Result Session Message) → x.own ≡ first_own → x.search ≡ None → (test (length x.windows) ≡ false → session_arranged (arranges x.own No_effect plan) x ≡ arranged_or_told known x) → session_arranged (arranges x.own No_effect (cond (test (length (seen can x.windows))) (Err message) plan)) x ≡ arranged_or_told (cond (test (length x.windows)) (Err message) known) x
-failure_seen x can test message plan known fresh quiet same =
+failure_seen : (x : Session) (can : List ℕ → Bool) (test : ℕ → Bool) (message : Message) (plan : Result Arrange Message) (known : Result Session Message) → x.own ≡ idle x.own.kind → x.search ≡ None → ((kind : Kind) → kind_failed message kind ≡ Other) → (test (length x.windows) ≡ false → session_arranged (arranges x.own No_effect plan) x ≡ run_ended (arranged_or_told known x)) → session_arranged (arranges x.own No_effect (cond (test (length (seen can x.windows))) (Err message) plan)) x ≡ run_ended (arranged_or_told (cond (test (length x.windows)) (Err message) known) x)
+failure_seen x can test message plan known fresh quiet breaks same =
     ap (λ n. session_arranged (arranges x.own No_effect (cond (test n) (Err message) plan)) x) (length-map x.windows (window_seen can))
-    ∙ failure_first x (test (length x.windows)) message plan known fresh quiet same
+    ∙ failure_first x (test (length x.windows)) message plan known fresh quiet breaks same
 
 -- EACH ARRANGEMENT
 
@@ -68,13 +65,13 @@ seen_within can xs j l = omega (arith, l, length-map xs (window_seen can))
 all_named : (x : Session) (can : List ℕ → Bool) (f : ℕ → ℕ → ℕ) → places_left 0 (resized f 0 (seen can x.windows)) x.windows x.places ≡ x.places
 all_named x can f = all_stay (resized f 0 (seen can x.windows)) 0 x.windows x.places (λ j l. named_all f 0 j (seen can x.windows) (seen_within can x.windows j l))
 
-delete_done : (can : List ℕ → Bool) (n : Option ℕ) (x : Session) → x.own ≡ first_own → x.search ≡ None → x.selected < length x.windows → session_arranged (arranges x.own No_effect (arrangement DeleteWindow (seen can x.windows) x.selected n)) x ≡ arranged_or_told (rearranged DeleteWindow n x) x
+delete_done : (can : List ℕ → Bool) (n : Option ℕ) (x : Session) → x.own ≡ idle x.own.kind → x.search ≡ None → x.selected < length x.windows → session_arranged (arranges x.own No_effect (arrangement DeleteWindow (seen can x.windows) x.selected n)) x ≡ run_ended (arranged_or_told (rearranged DeleteWindow n x) x)
 delete_done can n x fresh quiet within =
     let k = x.selected in
     let xs = x.windows in
     let f = λ (d i h : ℕ). cond (i == heir k) (h + (d + 1)) h in
     let slots = remove (resized (f (height_at k (seen can xs))) 0 (seen can xs)) k in
-    failure_seen x can (λ m. nat_lt m 2) OnlyOneWindow (Ok (Slots slots (k - 1) Keep_search)) (Ok (window_gone k (heir k) x)) fresh quiet
+    failure_seen x can (λ m. nat_lt m 2) OnlyOneWindow (Ok (Slots slots (k - 1) Keep_search)) (Ok (window_gone k (heir k) x)) fresh quiet (λ kind. refl)
     (λ e. slots_done x slots (k - 1) (closer k k) (window_gone k (heir k) x).windows (window_gone k (heir k) x).places fresh quiet
     (put_removed x.search xs (places_left 0 slots xs x.places) can (f (height_at k (seen can xs))) k
     ∙ ap (λ d. remove (reheighted (f d) 0 xs) k) (height_seen can k xs)
@@ -82,7 +79,7 @@ delete_done can n x fresh quiet within =
     (one_leaves slots 0 k xs x.places within (λ j l. named_but (f (height_at k (seen can xs))) 0 j k (seen can xs) (seen_within can xs j l)))
     (ap (λ b. cond b k (k - 1)) (sym (le-ltb k k (omega arith)))))
 
-others_done : (can : List ℕ → Bool) (n : Option ℕ) (x : Session) → x.own ≡ first_own → x.search ≡ None → session_arranged (arranges x.own No_effect (arrangement DeleteOtherWindows (seen can x.windows) x.selected n)) x ≡ arranged_or_told (rearranged DeleteOtherWindows n x) x
+others_done : (can : List ℕ → Bool) (n : Option ℕ) (x : Session) → x.own ≡ idle x.own.kind → x.search ≡ None → session_arranged (arranges x.own No_effect (arrangement DeleteOtherWindows (seen can x.windows) x.selected n)) x ≡ run_ended (arranged_or_told (rearranged DeleteOtherWindows n x) x)
 others_done can n x fresh quiet =
     let h = rows_of (seen can x.windows) - 1 in
     let slots = old_slot x.selected h ∷ [] in
@@ -91,7 +88,7 @@ others_done can n x fresh quiet =
     (others_leave slots 0 x.selected x.windows x.places (λ j. named_one x.selected j h))
     refl
 
-split_done : (can : List ℕ → Bool) (n : Option ℕ) (x : Session) → x.own ≡ first_own → x.search ≡ None → x.selected < length x.windows → session_arranged (arranges x.own No_effect (arrangement SplitWindow (seen can x.windows) x.selected n)) x ≡ arranged_or_told (rearranged SplitWindow n x) x
+split_done : (can : List ℕ → Bool) (n : Option ℕ) (x : Session) → x.own ≡ idle x.own.kind → x.search ≡ None → x.selected < length x.windows → session_arranged (arranges x.own No_effect (arrangement SplitWindow (seen can x.windows) x.selected n)) x ≡ run_ended (arranged_or_told (rearranged SplitWindow n x) x)
 split_done can n x fresh quiet within =
     let k = x.selected in
     let xs = x.windows in
@@ -99,8 +96,8 @@ split_done can n x fresh quiet within =
     let plan : Result Arrange Message = cond (nat_le WINDOW_LIMIT (length (seen can xs))) (Err TooManyWindows) (Ok (Slots slots k Keep_search)) in
     let known : Result Session Message = cond (nat_le WINDOW_LIMIT (length xs)) (Err TooManyWindows) (Ok (window_split x)) in
     ap (λ h. session_arranged (arranges x.own No_effect (cond (nat_lt h 3) (Err WindowTooSmall) plan)) x) (height_seen can k xs)
-    ∙ failure_first x (nat_lt (window_at k xs).height 3) WindowTooSmall plan known fresh quiet
-    (λ tall. failure_seen x can (λ m. nat_le WINDOW_LIMIT m) TooManyWindows (Ok (Slots slots k Keep_search)) (Ok (window_split x)) fresh quiet
+    ∙ failure_first x (nat_lt (window_at k xs).height 3) WindowTooSmall plan known fresh quiet (λ kind. refl)
+    (λ tall. failure_seen x can (λ m. nat_le WINDOW_LIMIT m) TooManyWindows (Ok (Slots slots k Keep_search)) (Ok (window_split x)) fresh quiet (λ kind. refl)
     (λ few. slots_done x slots k k (window_split x).windows x.places fresh quiet
     (put_slots_but x.search xs (places_left 0 slots xs x.places) can k (halves k) (λ y. upper_half y ∷ lower_half y ∷ []) 0 k xs
     (λ y is t. (record (is t) { height = (upper_half y).height }) ∷ (record (is t) { height = (lower_half y).height }) ∷ []) (omega arith) (from_start xs)
@@ -108,7 +105,7 @@ split_done can n x fresh quiet within =
     (all_stay slots 0 xs x.places (λ j l. named_halves k 0 j (seen can xs) (seen_within can xs j l)))
     refl))
 
-select_done : (can : List ℕ → Bool) (x : Session) (selected at : ℕ) → x.own ≡ first_own → x.search ≡ None → selected ≡ at → session_arranged (arranges x.own No_effect (Ok (selects (seen can x.windows) selected))) x ≡ window_selected at x
+select_done : (can : List ℕ → Bool) (x : Session) (selected at : ℕ) → x.own ≡ idle x.own.kind → x.search ≡ None → selected ≡ at → session_arranged (arranges x.own No_effect (Ok (selects (seen can x.windows) selected))) x ≡ run_ended (window_selected at x)
 select_done can x selected at fresh quiet is =
     slots_done x (resized (λ i h. h) 0 (seen can x.windows)) selected at x.windows x.places fresh quiet
     (put_resized x.search x.windows (places_left 0 (resized (λ i h. h) 0 (seen can x.windows)) x.windows x.places) can (λ i h. h) 0 x.windows (from_start x.windows)
@@ -127,14 +124,14 @@ given_heights from to n xs apart =
     go j h true e = ap (λ b. cond b (h + n - n) (h + n)) (sym (ne_eqb j from (λ p. apart (sym p ∙ eqb-true j to e))))
     go j h false e = refl
 
-given_done : (can : List ℕ → Bool) (x : Session) (from to n : ℕ) → x.own ≡ first_own → x.search ≡ None → from ≢ to → session_arranged (arranges x.own No_effect (given (seen can x.windows) x.selected from to n)) x ≡ arranged_or_told (rows_given_if from to n x) x
+given_done : (can : List ℕ → Bool) (x : Session) (from to n : ℕ) → x.own ≡ idle x.own.kind → x.search ≡ None → from ≢ to → session_arranged (arranges x.own No_effect (given (seen can x.windows) x.selected from to n)) x ≡ run_ended (arranged_or_told (rows_given_if from to n x) x)
 given_done can x from to n fresh quiet apart =
     let xs = x.windows in
     let f = λ (i h : ℕ). cond (i == to) (h + n) (cond (i == from) (h - n) h) in
     let slots = resized f 0 (seen can xs) in
     let plan : Result Arrange Message = Ok (Slots slots x.selected Keep_search) in
     ap (λ h. session_arranged (arranges x.own No_effect (cond (nat_le h n) (Err ImpossibleChange) plan)) x) (height_seen can from xs)
-    ∙ failure_first x (nat_le (window_at from xs).height n) ImpossibleChange plan (Ok (rows_given from to n x)) fresh quiet
+    ∙ failure_first x (nat_le (window_at from xs).height n) ImpossibleChange plan (Ok (rows_given from to n x)) fresh quiet (λ kind. refl)
     (λ e. slots_done x slots x.selected x.selected (rows_given from to n x).windows x.places fresh quiet
     (put_resized x.search xs (places_left 0 slots xs x.places) can f 0 xs (from_start xs) ∙ given_heights from to n xs apart)
     (all_named x can f) refl)
@@ -146,23 +143,23 @@ neighbor_apart k count many within = go (nat_lt (k + 1) count) refl
     go true e = λ p. omega (arith, p)
     go false e = λ p. omega (arith, p, ltb-false (k + 1) count e, ltb-false count 2 many)
 
-enlarge_done : (can : List ℕ → Bool) (n : Option ℕ) (x : Session) → x.own ≡ first_own → x.search ≡ None → x.selected < length x.windows → session_arranged (arranges x.own No_effect (arrangement EnlargeWindow (seen can x.windows) x.selected n)) x ≡ arranged_or_told (rearranged EnlargeWindow n x) x
+enlarge_done : (can : List ℕ → Bool) (n : Option ℕ) (x : Session) → x.own ≡ idle x.own.kind → x.search ≡ None → x.selected < length x.windows → session_arranged (arranges x.own No_effect (arrangement EnlargeWindow (seen can x.windows) x.selected n)) x ≡ run_ended (arranged_or_told (rearranged EnlargeWindow n x) x)
 enlarge_done can n x fresh quiet within =
     let k = x.selected in
     let xs = x.windows in
-    failure_seen x can (λ m. nat_lt m 2) OnlyOneWindow (given (seen can xs) k (neighbor k (length (seen can xs))) k (count_of n)) (rows_given_if (neighbor k (length xs)) k (count_of n) x) fresh quiet
+    failure_seen x can (λ m. nat_lt m 2) OnlyOneWindow (given (seen can xs) k (neighbor k (length (seen can xs))) k (count_of n)) (rows_given_if (neighbor k (length xs)) k (count_of n) x) fresh quiet (λ kind. refl)
     (λ many. ap (λ m. session_arranged (arranges x.own No_effect (given (seen can xs) k (neighbor k m) k (count_of n))) x) (length-map xs (window_seen can))
     ∙ given_done can x (neighbor k (length xs)) k (count_of n) fresh quiet (neighbor_apart k (length xs) many within))
 
-shrink_done : (can : List ℕ → Bool) (n : Option ℕ) (x : Session) → x.own ≡ first_own → x.search ≡ None → x.selected < length x.windows → session_arranged (arranges x.own No_effect (arrangement ShrinkWindow (seen can x.windows) x.selected n)) x ≡ arranged_or_told (rearranged ShrinkWindow n x) x
+shrink_done : (can : List ℕ → Bool) (n : Option ℕ) (x : Session) → x.own ≡ idle x.own.kind → x.search ≡ None → x.selected < length x.windows → session_arranged (arranges x.own No_effect (arrangement ShrinkWindow (seen can x.windows) x.selected n)) x ≡ run_ended (arranged_or_told (rearranged ShrinkWindow n x) x)
 shrink_done can n x fresh quiet within =
     let k = x.selected in
     let xs = x.windows in
-    failure_seen x can (λ m. nat_lt m 2) OnlyOneWindow (given (seen can xs) k k (neighbor k (length (seen can xs))) (count_of n)) (rows_given_if k (neighbor k (length xs)) (count_of n) x) fresh quiet
+    failure_seen x can (λ m. nat_lt m 2) OnlyOneWindow (given (seen can xs) k k (neighbor k (length (seen can xs))) (count_of n)) (rows_given_if k (neighbor k (length xs)) (count_of n) x) fresh quiet (λ kind. refl)
     (λ many. ap (λ m. session_arranged (arranges x.own No_effect (given (seen can xs) k k (neighbor k m) (count_of n))) x) (length-map xs (window_seen can))
     ∙ given_done can x k (neighbor k (length xs)) (count_of n) fresh quiet (λ p. neighbor_apart k (length xs) many within (sym p)))
 
-list_done : (can : List ℕ → Bool) (n : Option ℕ) (x : Session) → x.own ≡ first_own → x.search ≡ None → x.selected < length x.windows → session_arranged (arranges x.own No_effect (arrangement ListBuffers (seen can x.windows) x.selected n)) x ≡ arranged_or_told (rearranged ListBuffers n x) x
+list_done : (can : List ℕ → Bool) (n : Option ℕ) (x : Session) → x.own ≡ idle x.own.kind → x.search ≡ None → x.selected < length x.windows → session_arranged (arranges x.own No_effect (arrangement ListBuffers (seen can x.windows) x.selected n)) x ≡ run_ended (arranged_or_told (rearranged ListBuffers n x) x)
 list_done can n x fresh quiet within =
     let k = x.selected in
     let xs = x.windows in
@@ -174,7 +171,7 @@ list_done can n x fresh quiet within =
     refl
 
 -- what any arrangement makes of a session
-arrangement_done : (can : List ℕ → Bool) (c : Arrangement) (n : Option ℕ) (x : Session) → x.own ≡ first_own → x.search ≡ None → x.selected < length x.windows → session_arranged (arranges x.own No_effect (arrangement c (seen can x.windows) x.selected n)) x ≡ arranged_or_told (rearranged c n x) x
+arrangement_done : (can : List ℕ → Bool) (c : Arrangement) (n : Option ℕ) (x : Session) → x.own ≡ idle x.own.kind → x.search ≡ None → x.selected < length x.windows → session_arranged (arranges x.own No_effect (arrangement c (seen can x.windows) x.selected n)) x ≡ run_ended (arranged_or_told (rearranged c n x) x)
 arrangement_done can DeleteWindow n x fresh quiet within = delete_done can n x fresh quiet within
 arrangement_done can DeleteOtherWindows n x fresh quiet within = others_done can n x fresh quiet
 arrangement_done can SplitWindow n x fresh quiet within = split_done can n x fresh quiet within
@@ -209,25 +206,13 @@ session_alone w id own (Err message) =
     ap (λ xs. record w { sessions = change_first (has_id id) (session_arranged (arranges own No_effect (Err message))) xs }) (map-id w.sessions)
 
 -- it comes to what is said of the session alone
-pub arranged_act : (w : World) (id : ℕ) (c : Arrangement) (n : Option ℕ) (x : Session) → find_session id w.sessions ≡ Some x → x.own ≡ first_own → x.search ≡ None → x.selected < length x.windows → act w id (Run (Rearrange c) n []) true ≡ record w { sessions = change_first (has_id id) (λ old. arranged_or_told (rearranged c n x) x) w.sessions }
+pub arranged_act : (w : World) (id : ℕ) (c : Arrangement) (n : Option ℕ) (x : Session) → find_session id w.sessions ≡ Some x → x.own ≡ idle x.own.kind → x.search ≡ None → x.selected < length x.windows → act w id (Run (Rearrange c) n []) true ≡ record w { sessions = change_first (has_id id) (λ old. run_ended (arranged_or_told (rearranged c n x) x)) w.sessions }
 arranged_act w id c n x found fresh quiet within =
     let can = reads w.directory w.buffers x.user in
     ap (applied w id) (outcome_is w id c n x found)
     ∙ session_alone w id x.own (arrangement c (seen can x.windows) x.selected n)
     ∙ ap (λ xs. record w { sessions = xs })
-    (change_first_found (has_id id) (session_arranged (planned w x c n)) (λ old. arranged_or_told (rearranged c n x) x) x w.sessions found (arrangement_done can c n x fresh quiet within))
-
--- where it is done
-pub arranged_ok : (w : World) (id : ℕ) (c : Arrangement) (n : Option ℕ) (x y : Session) → find_session id w.sessions ≡ Some x → x.own ≡ first_own → x.search ≡ None → x.selected < length x.windows → rearranged c n x ≡ Ok y → act w id (Run (Rearrange c) n []) true ≡ record w { sessions = change_first (has_id id) (λ old. y) w.sessions }
-arranged_ok w id c n x y found fresh quiet within is =
-    arranged_act w id c n x found fresh quiet within
-    ∙ ap (λ r. record w { sessions = change_first (has_id id) (λ old. arranged_or_told r x) w.sessions }) is
-
--- where it fails, and this is told
-pub arranged_err : (w : World) (id : ℕ) (c : Arrangement) (n : Option ℕ) (x : Session) (message : Message) → find_session id w.sessions ≡ Some x → x.own ≡ first_own → x.search ≡ None → x.selected < length x.windows → rearranged c n x ≡ Err message → act w id (Run (Rearrange c) n []) true ≡ record w { sessions = change_first (has_id id) (λ old. record x { own = record x.own { echo = message } }) w.sessions }
-arranged_err w id c n x message found fresh quiet within is =
-    arranged_act w id c n x found fresh quiet within
-    ∙ ap (λ r. record w { sessions = change_first (has_id id) (λ old. arranged_or_told r x) w.sessions }) is
+    (change_first_found (has_id id) (session_arranged (planned w x c n)) (λ old. run_ended (arranged_or_told (rearranged c n x) x)) x w.sessions found (arrangement_done can c n x fresh quiet within))
 
 -- what it leaves apart
 pub arranged_apart : (w : World) (id : ℕ) (c : Arrangement) (n : Option ℕ) (x : Session) → find_session id w.sessions ≡ Some x → Apart Nowhere id w (act w id (Run (Rearrange c) n []) true)

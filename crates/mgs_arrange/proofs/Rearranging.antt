@@ -8,7 +8,7 @@ use Rattle.mgs_model.specs.Apart.{Apart}
 use Rattle.mgs_model.specs.Apply.{act, change_first, outcome_in}
 use Rattle.mgs_model.specs.Events.{may_be_refused}
 use Rattle.mgs_model.specs.Outcome.{Run}
-use Rattle.mgs_model.specs.World.{World, first_own, find_session, has_id}
+use Rattle.mgs_model.specs.World.{World, find_session, has_id}
 use Rattle.mgs_model.specs.World as model
 use Rattle.mgs_model.specs.declared.session.Arrangement.{Arrangement}
 use Rattle.mgs_model.specs.declared.session.Arrangement.TheVariants.{SplitWindow}
@@ -19,13 +19,13 @@ use Rattle.mgs_buffers.specs.MarkedBuffer.{MarkedBuffer}
 use Rattle.mgs_session.specs.declared.Session.{Session}
 use Rattle.mgs_world.specs.Sound.{IsSessionSound, IsSound, in_use, session_uses, sum_of, uses}
 use Rattle.mgs_world.specs.WindowMarks.{MarksStay, WindowMarksDropped}
-use Rattle.mgs_world.specs.Worlds.{buffers_of, id_after, own_at, own_of, own_or_first, session_id, session_of, size_in, sizes_in, window_of, world_of}
+use Rattle.mgs_world.specs.Worlds.{buffers_of, id_after, idle, own_at, own_of, own_or_first, session_id, session_of, size_in, sizes_in, window_of, world_of}
 use Rattle.mgs_world.proofs.Sessions.{session_some}
 use Rattle.mgs_world.proofs.Soundness.{AreInUse, sizes_set}
 use Rattle.mgs_world.proofs.WindowMarks.{session_local, sessions_stay}
 use Rattle.mgs_world.proofs.Worlds.{same_world}
 use Rattle.mgs_arrange.specs.Arranged.{arranged_or_told, rearranged}
-use Rattle.mgs_arrange.specs.Arranging.{IsArranged, IsResized, MayBeRefused, Rearranged}
+use Rattle.mgs_arrange.specs.Arranging.{IsDone, IsResized, MayBeRefused, Rearranged}
 use Rattle.mgs_arrange.proofs.Arranged.{arranged_act, arranged_apart, split_may_be_refused}
 
 -- LISTS
@@ -98,12 +98,12 @@ after_world d ks ls xs next id at x y sound place is within h =
     (set_seen (session_of ls) (session_of ks) xs at y (sessions_stay ks ls (remove xs at) (others_before ks xs at x sound is within) (others_after ks ls xs at x y sound is within h) h.stay)
     ∙ set_first (has_id id) (map (session_of ks) xs) at (session_of ls y) (place ∙ sym (position_or_len-map (session_of ks) (has_id id) xs)))
 
-own_of_it : (xs : List Session) (at : ℕ) (x : Session) → x ≡ get_or xs at x → at < length xs → own_at at xs ≡ first_own → own_of x.own ≡ first_own
+own_of_it : (xs : List Session) (at : ℕ) (x : Session) → x ≡ get_or xs at x → at < length xs → own_at at xs ≡ idle (own_at at xs).kind → own_of x.own ≡ idle x.own.kind
 own_of_it [] at x is within fresh = absurd (omega (arith, within))
-own_of_it (y ∷ xs) zero x is within fresh = ap (λ (z : Session). own_of z.own) is ∙ fresh
+own_of_it (y ∷ xs) zero x is within fresh = ap (λ (z : Session). own_of z.own) is ∙ fresh ∙ sym (ap (λ (z : Session). idle z.own.kind) is)
 own_of_it (y ∷ xs) (suc at) x is within fresh = own_of_it xs at x is (omega (arith, within)) fresh
 
-pub after_act : (c : Arrangement) (n : Option ℕ) (d : Directory) (ks ls : List MarkedBuffer) (xs : List Session) (next : Option ℕ) (id at : ℕ) (x y : Session) → IsSound ks xs → at ≡ position_or_len (session_id id) xs → x ≡ get_or xs at x → at < length xs → own_at at xs ≡ first_own → x.windows.selected < length x.windows.windows → Rearranged ks ls x y → IsArranged c n ks ls x y
+pub after_act : (c : Arrangement) (n : Option ℕ) (d : Directory) (ks ls : List MarkedBuffer) (xs : List Session) (next : Option ℕ) (id at : ℕ) (x y : Session) → IsSound ks xs → at ≡ position_or_len (session_id id) xs → x ≡ get_or xs at x → at < length xs → own_at at xs ≡ idle (own_at at xs).kind → x.windows.selected < length x.windows.windows → Rearranged ks ls x y → IsDone c n ks ls x y
     → world_of d ls (slice_set xs at y) next ≡ act (world_of d ks xs next) id (Run (Rearrange c) n []) true
 after_act c n d ks ls xs next id at x y sound place is within fresh selected h arranged =
     let w = world_of d ks xs next in

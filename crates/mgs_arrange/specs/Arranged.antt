@@ -6,6 +6,7 @@ use Rattle.mgs_model.specs.Apply.{change_at, left_places, window_at}
 use Rattle.mgs_model.specs.declared.message.Message.{Message}
 use Rattle.mgs_model.specs.declared.message.Message.TheVariants.{OnlyOneWindow, WindowTooSmall, TooManyWindows, ImpossibleChange}
 use Rattle.mgs_model.specs.declared.session.Arrangement.{Arrangement}
+use Rattle.mgs_model.specs.declared.session.Kind.TheVariants.{Other}
 use Rattle.mgs_model.specs.declared.session.Arrangement.TheVariants.{DeleteWindow, DeleteOtherWindows, SplitWindow, NextWindow, PreviousWindow, EnlargeWindow, ShrinkWindow, ListBuffers}
 use Rattle.mgs_model.specs.declared.limits.TheConstants.{WINDOW_LIMIT}
 
@@ -130,3 +131,7 @@ rearranged ListBuffers n x = Ok (window_lists x)
 abbrev pub arranged_or_told : Result Session Message → Session → Session
 arranged_or_told (Ok y) x = y
 arranged_or_told (Err message) x = record x { own = record x.own { echo = message } }
+
+-- and the run of kills, of lines or of undos that the last command may have been in is over
+abbrev pub run_ended : Session → Session
+run_ended x = record x { own = record x.own { kind = Other } }

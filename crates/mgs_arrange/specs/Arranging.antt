@@ -10,7 +10,7 @@ use Rattle.mgs_session.specs.declared.Session.{Session}
 use Rattle.mgs_world.specs.Worlds.{buffers_of, session_of, size_in}
 use Rattle.mgs_world.specs.Sound.{in_use, session_uses}
 use Rattle.mgs_world.specs.WindowMarks.{MarksStay, WindowMarksAdded}
-use Rattle.mgs_arrange.specs.Arranged.{rearranged, arranged_or_told, window_split}
+use Rattle.mgs_arrange.specs.Arranged.{rearranged, arranged_or_told, run_ended, window_split}
 
 -- the list of buffers is not shown in a window yet
 abbrev pub is_arranged_here : Arrangement → Bool
@@ -29,9 +29,13 @@ pub record Lessened (ks ls : List MarkedBuffer) (x y : Session) : Type 0 where
   pub rearranged : Rearranged ks ls x y
   pub less : (m : List ℕ) (i : ℕ) → in_use m i ls ≤ in_use m i ks
 
--- the session is as the arrangement leaves it
+-- the session is as the arrangement leaves its windows
 abbrev pub IsArranged : Arrangement → Option ℕ → List MarkedBuffer → List MarkedBuffer → Session → Session → Type 0
 IsArranged c n ks ls x y = session_of ls y ≡ arranged_or_told (rearranged c n (session_of ks x)) (session_of ks x)
+
+-- and as the act leaves it
+abbrev pub IsDone : Arrangement → Option ℕ → List MarkedBuffer → List MarkedBuffer → Session → Session → Type 0
+IsDone c n ks ls x y = session_of ls y ≡ run_ended (arranged_or_told (rearranged c n (session_of ks x)) (session_of ks x))
 
 -- the same marks once more
 abbrev pub IsCopied : Option WindowMarks → Option WindowMarks → List MarkedBuffer → List MarkedBuffer → Type 0

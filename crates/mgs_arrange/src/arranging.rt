@@ -6,25 +6,24 @@ ghost use Rattle.mgs_model.specs.Apart.{Apart};
 ghost use Rattle.mgs_model.specs.Apply.{act, outcome_in};
 ghost use Rattle.mgs_model.specs.Events.{may_be_refused};
 ghost use Rattle.mgs_model.specs.Outcome.{Run};
-ghost use Rattle.mgs_model.specs.World.{first_own};
 ghost use Rattle.mgs_model.specs.declared.session.Command.TheVariants.{Rearrange};
 ghost use Rattle.mgs_model.specs.declared.touched.Touched.TheVariants.{Nowhere};
 ghost use Rattle.mgs_buffers.specs.MarkedBuffer.{MarkedBuffer};
 ghost use Rattle.mgs_world.specs.Sound.{IsSessionSound, IsSound};
 ghost use Rattle.mgs_world.specs.WindowMarks.{WindowMarksDropped};
-ghost use Rattle.mgs_world.specs.Worlds.{own_at, session_id, session_of, sizes_in, world_of};
-ghost use Rattle.mgs_arrange.specs.Arranging.{IsArranged, IsResized, MayBeRefused, Rearranged, is_arranged_here};
+ghost use Rattle.mgs_world.specs.Worlds.{idle, own_at, session_id, session_of, sizes_in, world_of};
+ghost use Rattle.mgs_arrange.specs.Arranging.{IsArranged, IsDone, IsResized, MayBeRefused, Rearranged, is_arranged_here};
 
 use crate::leaving::{delete, delete_others};
 use crate::resizing::{enlarge, select_next, select_previous, shrink};
 use crate::splitting::split;
 use mgs_buffers::Buffers;
 use mgs_marks::Marked;
-use mgs_model::{Arrangement, Short};
-use mgs_session::Session;
+use mgs_model::{Arrangement, Kind, Short};
+use mgs_session::{Session, set_kind};
 
-// The windows of a session are arranged anew, as `rearrange` says.
-fn rearrange_session<T: Marked + Drop>(
+// The windows of a session are arranged anew.
+fn rearrange_windows<T: Marked + Drop>(
     buffers: &mut Buffers<T>,
     session: &mut Session,
     arrangement: Arrangement,
@@ -56,6 +55,28 @@ fn rearrange_session<T: Marked + Drop>(
     Ok(())
 }
 
+// The windows of a session are arranged anew, as `rearrange` says.
+fn rearrange_session<T: Marked + Drop>(
+    buffers: &mut Buffers<T>,
+    session: &mut Session,
+    arrangement: Arrangement,
+    argument: Option<usize>,
+) -> Result<(), Short>
+    requires sound { IsSessionSound buffers.old session.old }
+    requires here { is_arranged_here arrangement ≡ true }
+    ensures selected { session.old.windows.selected < length session.old.windows.windows }
+    ensures rearranged { OnOk result (Rearranged buffers.old buffers.new session.old session.new) }
+    ensures done { OnOk result (IsDone arrangement argument buffers.old buffers.new session.old session.new) }
+    ensures err { OnErr result (WindowMarksDropped None buffers.old buffers.new) }
+    ensures same { OnErr result (IsResized session.old session.new) }
+    ensures seen { OnErr result ((ks : List MarkedBuffer) → session_of ks session.new ≡ session_of ks session.old) }
+    ensures may { OnErr result ((ks : List MarkedBuffer) → MayBeRefused arrangement argument (session_of ks session.old)) }
+{
+    rearrange_windows(buffers, session, arrangement, argument)?;
+    set_kind(session, Kind::Other);
+    Ok(())
+}
+
 /// Arranges the windows of the session at `at` anew, which has nothing half read and an empty echo line. An arrangement
 /// that cannot be made tells so in the echo line. `Short`: memory was refused, which only a split may be, and the world is
 /// as it was.
@@ -68,7 +89,7 @@ pub fn rearrange<T: Marked + Drop>(
 ) -> Result<(), Short>
     requires sound { IsSound buffers.old sessions.old }
     requires within { at < length sessions.old }
-    requires fresh { own_at at sessions.old ≡ first_own }
+    requires fresh { own_at at sessions.old ≡ idle (own_at at sessions.old).kind }
     requires here { is_arranged_here arrangement ≡ true }
     ensures sound { IsSound buffers.new sessions.new }
     ensures sizes { sizes_in sessions.new ≡ sizes_in sessions.old }

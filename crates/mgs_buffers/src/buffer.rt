@@ -1,14 +1,14 @@
 // What is kept of one buffer beside its name.
 ghost use Rattle.std.specs.Prelude.{◌≡◌, ◌≢◌, ℕ, ◌-◌, ◌<◌, ◌≤◌, ◌^◌, ◌∷◌, [], List, Some, None, length, IsSome, OnOk, OnErr, IfOk};
-ghost use Rattle.mgs_model.specs.Access.{decider, decision_by};
+ghost use Rattle.mgs_model.specs.Access.{decider, decision, decision_by};
 ghost use Rattle.mgs_model.specs.World.{may};
 ghost use Rattle.mgs_marks.specs.Marks.{mark_in};
 ghost use Rattle.mgs_buffers.specs.MarkedBuffer.{marked_new, marked_edited, marked_placed, with_marks};
 ghost use Rattle.mgs_buffers.specs.Contents.{marked_of};
 
 use mgs_marks::Marked;
-use mgs_model::{Decision, MarkId, Name, Right, Short};
-use mgs_policy::{Directory, decide_right, is_granted};
+use mgs_model::{Decision, Mask, MarkId, Name, Right, Short};
+use mgs_policy::{Directory, decide, decide_right, is_granted};
 use mgs_text::Text;
 use mgs_undo::{Edit, Record};
 use std::alloc::Global;
@@ -59,6 +59,13 @@ impl<T: Marked + Drop> Buffer<T> {
         ensures { result ≡ decision_by (decider directory.now self.now.owner user.now self.now.list) (right ∷ []) }
     {
         decide_right(&self.list, &self.owner, user, directory, right)
+    }
+
+    /// What it decides on all rights of a mask.
+    pub fn decide_all(&self, directory: &Directory, user: &Name, mask: Mask) -> Decision
+        ensures { result ≡ decision directory.now self.now.owner user.now self.now.list mask }
+    {
+        decide(&self.list, &self.owner, user, directory, mask)
     }
 
     /// Whether a user is granted a right on the buffer.

@@ -4,7 +4,7 @@ ghost use Rattle.std.specs.Option.{option_map};
 ghost use Rattle.std.specs.Map.{lookup};
 ghost use Rattle.mgs_model.specs.Names.{same_name};
 ghost use Rattle.std.specs.List.{position_or_len};
-ghost use Rattle.mgs_model.specs.Access.{decider, decision_by};
+ghost use Rattle.mgs_model.specs.Access.{decider, decision, decision_by};
 ghost use Rattle.mgs_model.specs.Apply.{change_first};
 ghost use Rattle.mgs_model.specs.World.{may};
 ghost use Rattle.mgs_buffers.specs.Adding.{add_fault, AddAnswers, NamesToAdd};
@@ -16,7 +16,7 @@ use crate::fault::AddFault;
 use indexmap::IndexMap;
 use mgs_acl::user_named;
 use mgs_marks::Marked;
-use mgs_model::{BUFFER_LIMIT, Decision, MarkId, Name, Right, Short, TEXT_LIMIT};
+use mgs_model::{BUFFER_LIMIT, Decision, Mask, MarkId, Name, Right, Short, TEXT_LIMIT};
 use mgs_policy::Directory;
 use mgs_text::Text;
 use std::alloc::Global;
@@ -176,6 +176,20 @@ impl<T: Marked + Drop> Buffers<T> {
         ensures { let b = (marked_at name.now self.now).buffer in result ≡ decision_by (decider directory.now b.owner user.now b.entries) (right ∷ []) }
     {
         self.buffer(name).decide(directory, user, right)
+    }
+
+    /// What the buffer's access list decides on all rights of a mask, in one walk (RFC 8881, section 6.2.1).
+    pub fn decide_all(
+        &self,
+        directory: &Directory,
+        name: &Name,
+        user: &Name,
+        mask: Mask,
+    ) -> Decision
+        requires { HasBuffer name.now self.now }
+        ensures { let b = (marked_at name.now self.now).buffer in result ≡ decision directory.now b.owner user.now b.entries mask }
+    {
+        self.buffer(name).decide_all(directory, user, mask)
     }
 
     /// Whether a user is granted a right on the buffer.

@@ -29,7 +29,7 @@ use Rattle.mgs_model.specs.declared.session.Command.TheVariants.{Insert, InsertR
 -- A REQUEST THAT IS GRANTED GRANTS EACH OF ITS RIGHTS
 
 -- each of the rights has such a decider
-abbrev Each : (Right → Decider) → (Decider → Bool) → List Right → Type 0
+abbrev pub Each : (Right → Decider) → (Decider → Bool) → List Right → Type 0
 Each f p [] = Unit {0}
 Each f p (right ∷ rights) = (p (f right) ≡ true) × Each f p rights
 
@@ -84,7 +84,7 @@ each_allows f (right ∷ rights) p q = (one (f right) p.0 q.0, each_allows f rig
     one (Allows n) r s = refl
     one (Denies n) r s = r
 
-granted_each : (f : Right → Decider) (rights : List Right) → decision_by f rights ≡ Granted → Each f allows rights
+pub granted_each : (f : Right → Decider) (rights : List Right) → decision_by f rights ≡ Granted → Each f allows rights
 granted_each f rights e =
     let gaps : (denial f rights Granted ≡ Granted) × Each f is_someone rights = no_gaps f rights (denial f rights Granted) e in
     each_allows f rights (no_denials f rights Granted gaps.0).1 gaps.1

@@ -3,6 +3,9 @@ use Rattle.std.specs.Prelude.{ℕ, ◌-◌, List, [], ◌∷◌, Option, slice_g
 use Rattle.std.specs.Option.{option_and_then}
 use Rattle.mgs_model.specs.declared.message.Message.{Message}
 use Rattle.mgs_model.specs.declared.message.Message.TheVariants.{Silent}
+use Rattle.mgs_model.specs.Plans.{kind_failed}
+use Rattle.mgs_model.specs.declared.session.Kind.{Kind}
+use Rattle.mgs_model.specs.declared.session.Kind.TheVariants.{Other}
 use Rattle.mgs_maps.specs.Held.{Held, nothing_held}
 use Rattle.mgs_windows.specs.declared.WindowMarks.{WindowMarks}
 use Rattle.mgs_windows.specs.declared.Window.{Window}
@@ -14,15 +17,24 @@ session_opened id user rows cols shows capacity = record {
   user = user;
   cols = cols;
   windows = record { rows = rows; windows = record { height = rows - 2; shows = shows } ∷ []; selected = 0; places = []; capacity = capacity };
-  own = record { echo = Silent; keyboard = nothing_held };
+  kill = [];
+  own = record { echo = Silent; keyboard = nothing_held; kind = Other };
 }
 
 abbrev pub told : Message → Session → Session
 told message x = record x { own = record x.own { echo = message } }
 
--- it holds what was read, and its echo line is empty
+-- a command of this kind was done
+abbrev pub acted : Kind → Session → Session
+acted kind x = record x { own = record x.own { kind = kind } }
+
+-- a command has failed
+abbrev pub failed : Message → Session → Session
+failed message x = told message (acted (kind_failed message x.own.kind) x)
+
+-- it holds what was read, its echo line is empty, and the kind of its last command is the same
 abbrev pub holding : Held → Session → Session
-holding k x = record x { own = record { echo = Silent; keyboard = k } }
+holding k x = record x { own = record { echo = Silent; keyboard = k; kind = x.own.kind } }
 
 -- the buffer of the selected window
 abbrev pub window_marks_of : Session → Option WindowMarks

@@ -1,18 +1,26 @@
-//! One session: whose it is, its windows, what it has half read, and what its echo line says.
+//! One session: whose it is, its windows, what it has half read, what its echo line says, and what it has killed.
 #![tactic(auto)]
 
+mod kill_buffer;
+
 ghost use Rattle.std.specs.Prelude.{◌≡◌, ◌≤◌, ◌-◌, [], ◌∷◌, vec_capacity};
-ghost use Rattle.mgs_session.specs.Sessions.{session_opened, told, holding, window_marks_of};
+ghost use Rattle.mgs_model.specs.Plans.{kind_failed};
+ghost use Rattle.mgs_session.specs.Sessions.{session_opened, acted, failed, told, holding, window_marks_of};
 
 use mgs_maps::Keyboard;
-use mgs_model::{Message, Name, SessionId};
+use mgs_model::{Kind, Message, Name, SessionId};
 use mgs_windows::{WindowMarks, Windows};
+use std::alloc::Global;
 
-/// What a session holds beside its windows: its echo text, and the keys and the argument that are half read.
+pub use kill_buffer::KillBuffer;
+
+/// What a session holds beside its windows and its kill buffer: its echo text, the keys and the argument that are half
+/// read, and the kind of its last command.
 #[derive(Drop)]
 pub struct Own {
     pub echo: Message,
     pub keyboard: Keyboard,
+    pub kind: Kind,
 }
 
 /// The state of a session. A position is a mark in the text of a buffer.
@@ -23,11 +31,13 @@ pub struct Session {
     /// The columns of the screen; its rows are those of the windows.
     pub cols: usize,
     pub windows: Windows,
+    pub kill: KillBuffer,
     pub own: Own,
 }
 
 /// A session with one window. `places` is empty, and has room for one.
 pub fn opened(
+    alloc: Global,
     id: SessionId,
     user: Name,
     rows: usize,
@@ -45,9 +55,11 @@ pub fn opened(
         user,
         cols,
         windows: Windows::one(rows, shows, places),
+        kill: KillBuffer::new(alloc),
         own: Own {
             echo: Message::Silent,
             keyboard: Keyboard::new(),
+            kind: Kind::Other,
         },
     }
 }
@@ -59,13 +71,60 @@ pub fn set_echo(session: &mut Session, message: Message)
     session.own.echo = message;
 }
 
+/// The kind that a failure leaves: that there is nothing more to undo breaks no run of undos, and any other failure
+/// breaks every run.
+fn kind_failed(message: &Message, kind: Kind) -> Kind
+    ensures { result ≡ kind_failed message.now kind }
+{
+    match message {
+        Message::NoFurtherUndo => match kind {
+            Kind::Undo { .. } => kind,
+            Kind::Other | Kind::Kill | Kind::Line { .. } => Kind::Other,
+        },
+        _ => Kind::Other,
+    }
+}
+
+/// A command has failed, or was denied: this is told.
+pub fn fail(session: &mut Session, message: Message)
+    ensures { session.new ≡ failed message session.old }
+{
+    let kind = kind_failed(&message, session.own.kind);
+    set_kind(session, kind);
+    set_echo(session, message);
+}
+
+/// A command of this kind was done.
+pub fn set_kind(session: &mut Session, kind: Kind)
+    ensures { session.new ≡ acted kind session.old }
+{
+    session.own.kind = kind;
+}
+
+/// A command of this kind was done, and tells this.
+pub fn finish(session: &mut Session, kind: Kind, message: Message)
+    ensures { session.new ≡ told message (acted kind session.old) }
+{
+    set_kind(session, kind);
+    set_echo(session, message);
+}
+
+/// The kill buffer holds other characters.
+pub fn set_kill(session: &mut Session, text: Vec<char>)
+    ensures { session.new ≡ record session.old { kill = text.items } }
+{
+    session.kill.set(text);
+}
+
 /// Holds what was read of a byte, and empties the echo line, as each byte does.
 pub fn hold(session: &mut Session, keyboard: Keyboard)
     ensures { session.new ≡ holding keyboard session.old }
 {
+    let kind = session.own.kind;
     session.own = Own {
         echo: Message::Silent,
         keyboard,
+        kind,
     };
 }
 

@@ -71,7 +71,7 @@ mark_used x m is =
     let u : option_uses m x.mark ≡ 1 = ap (option_uses m) is ∙ one_use m m refl in
     rw s (omega (arith, u))
 
-in_use_mark : (ks : List MarkedBuffer) (n : List ℕ) (i : ℕ) → 1 ≤ in_use n i ks → IsMark n i ks
+pub in_use_mark : (ks : List MarkedBuffer) (n : List ℕ) (i : ℕ) → 1 ≤ in_use n i ks → IsMark n i ks
 in_use_mark ks n i h = one_if_is (is_some (mark_in (marked_at n ks).marks i)) h
 
 pub shown_point : (ks : List MarkedBuffer) (o : Option WindowMarks) (x : WindowMarks) → IsShownSound ks o → o ≡ Some x → IsMark x.name x.point ks
@@ -82,12 +82,12 @@ shown_point ks o x sound is =
 pub window_point : (ks : List MarkedBuffer) (w : Window) (x : WindowMarks) → IsWindowSound ks w → w.shows ≡ Some x → IsMark x.name x.point ks
 window_point ks w x sound is = shown_point ks w.shows x (shown_sound ks w sound) is
 
--- the selected window's point
-selected_point : (ks : List MarkedBuffer) (h : Session) (x : WindowMarks) → IsSessionSound ks h → window_marks_of h ≡ Some x → IsMark x.name x.point ks
-selected_point ks h x sound sel =
+-- a mark of the selected window
+pub selected_mark : (ks : List MarkedBuffer) (h : Session) (x : WindowMarks) (id : ℕ) → IsSessionSound ks h → window_marks_of h ≡ Some x → 1 ≤ window_marks_uses x.name id (Some x) → IsMark x.name id ks
+selected_mark ks h x id sound sel used =
     let got = selected_window (slice_get h.windows.windows h.windows.selected) x sel in
-    let u : window_uses x.name x.point got.0 ≡ window_marks_uses x.name x.point (Some x) = ap (window_marks_uses x.name x.point) got.2 in
-    in_use_mark ks x.name x.point (omega (arith, sound.once x.name x.point, u, point_used x, sum_at (window_uses x.name x.point) got.0 h.windows.windows h.windows.selected got.1))
+    let u : window_uses x.name id got.0 ≡ window_marks_uses x.name id (Some x) = ap (window_marks_uses x.name id) got.2 in
+    in_use_mark ks x.name id (omega (arith, sound.once x.name id, u, used, sum_at (window_uses x.name id) got.0 h.windows.windows h.windows.selected got.1))
 
 -- THE SAME MARKS STAY IN USE
 
@@ -192,9 +192,9 @@ pub session_shown : (o : Option Session) (x : WindowMarks) → option_and_then w
 session_shown None x e = cc
 session_shown (Some h) x e = (h, refl, e)
 
--- the acting session's point is a mark in use
-pub acting_mark : (ks : List MarkedBuffer) (xs : List Session) (at : ℕ) (x : WindowMarks) → IsSound ks xs → option_and_then window_marks_of (slice_get xs at) ≡ Some x → IsMark x.name x.point ks
-acting_mark ks xs at x sound sel =
+-- a mark of the acting session's selected window is in use
+pub acting_mark : (ks : List MarkedBuffer) (xs : List Session) (at : ℕ) (x : WindowMarks) (id : ℕ) → IsSound ks xs → option_and_then window_marks_of (slice_get xs at) ≡ Some x → 1 ≤ window_marks_uses x.name id (Some x) → IsMark x.name id ks
+acting_mark ks xs at x id sound sel used =
     let got = session_shown (slice_get xs at) x sel in
     let held : IsSessionSound ks got.0 = record { once = λ n i. omega (arith, sound.once n i, sum_at (session_uses n i) got.0 xs at got.1) } in
-    selected_point ks got.0 x held got.2
+    selected_mark ks got.0 x id held got.2 used

@@ -164,24 +164,25 @@ pub selected_window : (o : Option Window) (x : WindowMarks) → option_and_then 
 selected_window None x h = cc
 selected_window (Some w) x h = (w, refl, h)
 
--- the selected point of a session goes to p
-abbrev pub point_at : ℕ → model.Session → model.Session
-point_at p x = record x { windows = change_at x.selected (window_adjusted None (At p) Keep_mark Keep None) x.windows }
+-- what a mark of the selected window does there when it is placed, it does to that window of the session alone
+abbrev pub PlacesBy : ℕ → ℕ → (model.Window → model.Window) → List MarkedBuffer → WindowMarks → Type 0
+PlacesBy id p f ks x = window_marks_uses x.name id (Some x) ≤ 1 → (height : ℕ) → window_shown (change_first (marked_named x.name) (marked_placed id p) ks) height (Some x) ≡ f (window_shown ks height (Some x))
 
-session_placed : (p : ℕ) (ks : List MarkedBuffer) (h : Session) (x : WindowMarks) → window_marks_of h ≡ Some x → IsSome (mark_in (marked_at x.name ks).marks x.point) → session_uses x.name x.point h ≤ 1 → session_of (change_first (marked_named x.name) (marked_placed x.point p) ks) h ≡ point_at p (session_of ks h)
-session_placed p ks h x sel mark once =
+abbrev pub selected_at : (model.Window → model.Window) → model.Session → model.Session
+selected_at f x = record x { windows = change_at x.selected f x.windows }
+
+session_placed : (id p : ℕ) (f : model.Window → model.Window) (ks : List MarkedBuffer) (h : Session) (x : WindowMarks) → window_marks_of h ≡ Some x → 1 ≤ window_marks_uses x.name id (Some x) → PlacesBy id p f ks x → session_uses x.name id h ≤ 1 → session_of (change_first (marked_named x.name) (marked_placed id p) ks) h ≡ selected_at f (session_of ks h)
+session_placed id p f ks h x sel u places once =
     let n = x.name in
-    let id = x.point in
     let ks' = change_first (marked_named n) (marked_placed id p) ks in
     let got = selected_window (slice_get h.windows.windows h.windows.selected) x sel in
     let w = got.0 in
     let used_is : window_uses n id w ≡ window_marks_uses n id (Some x) = ap (window_marks_uses n id) got.2 in
     let in_sum = sum_at (window_uses n id) w h.windows.windows h.windows.selected got.1 in
-    let u = window_marks_once x in
-    let does : window_of ks' w ≡ window_adjusted None (At p) Keep_mark Keep None (window_of ks w) =
-    ap (window_shown ks' w.height) got.2 ∙ window_marks_placed p ks w.height x mark (omega (arith, used_is, in_sum, once)) ∙ sym (ap (λ (o : Option WindowMarks). window_adjusted None (At p) Keep_mark Keep None (window_shown ks w.height o)) got.2) in
+    let does : window_of ks' w ≡ f (window_of ks w) =
+    ap (window_shown ks' w.height) got.2 ∙ places (omega (arith, used_is, in_sum, once)) w.height ∙ sym (ap (λ (o : Option WindowMarks). f (window_shown ks w.height o)) got.2) in
     same_positions (session_of ks h) _ _ _ _
-    (map_used_at (window_uses n id) (window_of ks') (window_of ks) (window_adjusted None (At p) Keep_mark Keep None) (window_unused n id p ks) w (omega (arith, used_is, u)) does h.windows.windows h.windows.selected got.1 (omega (arith, once)))
+    (map_used_at (window_uses n id) (window_of ks') (window_of ks) f (window_unused n id p ks) w (omega (arith, used_is, u)) does h.windows.windows h.windows.selected got.1 (omega (arith, once)))
     (map_unused (place_uses n id) (place_of ks') (place_of ks) (place_unused n id p ks) h.windows.places (omega (arith, used_is, u, in_sum, once)))
 
 pub map-change_first_same : {A B : Type 0} (g : A → B) (p : A → Bool) (f : A → A) → ((x : A) → g (f x) ≡ g x) → (xs : List A) → map g (change_first p f xs) ≡ map g xs
@@ -195,15 +196,49 @@ map-change_first_same {A = A} {B = B} g p f same (x ∷ xs) =
 pub buffers_placed : (n : List ℕ) (id p : ℕ) (ks : List MarkedBuffer) → buffers_of (change_first (marked_named n) (marked_placed id p) ks) ≡ buffers_of ks
 buffers_placed n id p ks = map-change_first_same (λ (k : MarkedBuffer). k.buffer) (marked_named n) (marked_placed id p) (λ k. refl) ks
 
--- placing the selected point of a session moves that point of the world alone
-pub sessions_placed : (p : ℕ) (ks : List MarkedBuffer) (xs : List Session) (sid : ℕ) (h : Session) (x : WindowMarks) → find (session_id sid) xs ≡ Some h → window_marks_of h ≡ Some x → IsSome (mark_in (marked_at x.name ks).marks x.point) → uses x.name x.point xs ≤ 1 → map (session_of (change_first (marked_named x.name) (marked_placed x.point p) ks)) xs ≡ change_first (has_id sid) (point_at p) (map (session_of ks) xs)
-sessions_placed p ks xs sid h x found sel mark once =
+-- a mark of a session's selected window is placed, and nothing else of the world moves
+pub sessions_placed : (id p : ℕ) (f : model.Window → model.Window) (ks : List MarkedBuffer) (xs : List Session) (sid : ℕ) (h : Session) (x : WindowMarks) → find (session_id sid) xs ≡ Some h → window_marks_of h ≡ Some x → 1 ≤ window_marks_uses x.name id (Some x) → PlacesBy id p f ks x → uses x.name id xs ≤ 1 → map (session_of (change_first (marked_named x.name) (marked_placed id p) ks)) xs ≡ change_first (has_id sid) (selected_at f) (map (session_of ks) xs)
+sessions_placed id p f ks xs sid h x found sel u places once =
     let n = x.name in
-    let id = x.point in
     let ks' = change_first (marked_named n) (marked_placed id p) ks in
     let got = selected_window (slice_get h.windows.windows h.windows.selected) x sel in
     let used_is : window_uses n id got.0 ≡ window_marks_uses n id (Some x) = ap (window_marks_uses n id) got.2 in
     let in_sum = sum_at (window_uses n id) got.0 h.windows.windows h.windows.selected got.1 in
-    let u = window_marks_once x in
     let in_all = sum_found (session_uses n id) (session_id sid) h xs found in
-    map_used_first (session_uses n id) (session_of ks') (session_of ks) (point_at p) (session_id sid) (has_id sid) (session_unused n id p ks) (λ a. refl) h (omega (arith, used_is, in_sum, u)) (session_placed p ks h x sel mark (omega (arith, in_all, once))) xs found once
+    map_used_first (session_uses n id) (session_of ks') (session_of ks) (selected_at f) (session_id sid) (has_id sid) (session_unused n id p ks) (λ a. refl) h (omega (arith, used_is, in_sum, u)) (session_placed id p f ks h x sel u places (omega (arith, in_all, once))) xs found once
+
+-- the point
+abbrev pub point_to : ℕ → model.Window → model.Window
+point_to p x = window_adjusted None (At p) Keep_mark Keep None x
+
+pub point_places : (p : ℕ) (ks : List MarkedBuffer) (x : WindowMarks) → IsSome (mark_in (marked_at x.name ks).marks x.point) → PlacesBy x.point p (point_to p) ks x
+point_places p ks x mark once height = window_marks_placed p ks height x mark once
+
+-- the top
+abbrev pub top_to : ℕ → model.Window → model.Window
+top_to p x = window_adjusted None Keep Keep_mark (At p) None x
+
+top_uses : (x : WindowMarks) → window_marks_uses x.name x.top (Some x) ≡ 1 + (one_if (nat_eq x.point x.top) + option_uses x.top x.mark)
+top_uses x =
+    let s : same_name x.name x.name ≡ true = is_same x.name x.name refl in
+    rw (s, one_use x.top x.top refl) (omega arith)
+
+pub top_used_once : (x : WindowMarks) → 1 ≤ window_marks_uses x.name x.top (Some x)
+top_used_once x = omega (arith, top_uses x)
+
+-- the mark
+pub mark_used_once : (x : WindowMarks) (id : ℕ) → x.mark ≡ Some id → 1 ≤ window_marks_uses x.name id (Some x)
+mark_used_once x id is =
+    let s : same_name x.name x.name ≡ true = is_same x.name x.name refl in
+    let m : option_uses id x.mark ≡ 1 = ap (option_uses id) is ∙ one_use id id refl in
+    rw s (omega (arith, m))
+
+pub top_places : (p : ℕ) (ks : List MarkedBuffer) (x : WindowMarks) → IsSome (mark_in (marked_at x.name ks).marks x.top) → PlacesBy x.top p (top_to p) ks x
+top_places p ks x mark once height =
+    let u = top_uses x in
+    let m : option_uses x.top x.mark ≡ 0 = omega (arith, u, once) in
+    let t : one_if (nat_eq x.point x.top) ≡ 0 = omega (arith, u, once) in
+    same_window (Buffer_of x.name) _ _ _ _ _ _ 0 height
+    (mark_unused x.name x.name x.top p ks x.point (λ s. apart_from x.point x.top t))
+    (marks_unused x.name x.name x.top p ks x.mark (λ s. m))
+    (mark_placed x.name x.top p ks mark)

@@ -36,8 +36,8 @@ returns-clause-ok g c =
     let e = c.rearrange_session.ensures in
     let h = either_rearranged c.rearrange_session.result c.args.buffers.now c.rearrange_session.new.buffers x c.rearrange_session.new.session e.rearranged e.err e.same in
     when_ok c.rearrange_session.result
-    (λ arranged. λ d id next place. after_act c.args.arrangement c.args.argument d c.args.buffers.now c.rearrange_session.new.buffers xs next id c.args.at x c.rearrange_session.new.session c.requires.sound place is c.requires.within c.requires.fresh e.selected h arranged)
-    e.arranged
+    (λ done. λ d id next place. after_act c.args.arrangement c.args.argument d c.args.buffers.now c.rearrange_session.new.buffers xs next id c.args.at x c.rearrange_session.new.session c.requires.sound place is c.requires.within c.requires.fresh e.selected h done)
+    e.done
 
 pub returns-clause-touched : goal.returns-clause-touched
 returns-clause-touched g c =
@@ -47,9 +47,9 @@ returns-clause-touched g c =
     let e = c.rearrange_session.ensures in
     let h = either_rearranged c.rearrange_session.result c.args.buffers.now c.rearrange_session.new.buffers x c.rearrange_session.new.session e.rearranged e.err e.same in
     when_ok c.rearrange_session.result
-    (λ arranged. λ d id next place. after_apart c.args.arrangement c.args.argument d c.args.buffers.now xs next id c.args.at x _ place is c.requires.within
-    (after_act c.args.arrangement c.args.argument d c.args.buffers.now c.rearrange_session.new.buffers xs next id c.args.at x c.rearrange_session.new.session c.requires.sound place is c.requires.within c.requires.fresh e.selected h arranged))
-    e.arranged
+    (λ done. λ d id next place. after_apart c.args.arrangement c.args.argument d c.args.buffers.now xs next id c.args.at x _ place is c.requires.within
+    (after_act c.args.arrangement c.args.argument d c.args.buffers.now c.rearrange_session.new.buffers xs next id c.args.at x c.rearrange_session.new.session c.requires.sound place is c.requires.within c.requires.fresh e.selected h done))
+    e.done
 
 pub returns-clause-err : goal.returns-clause-err
 returns-clause-err g c =

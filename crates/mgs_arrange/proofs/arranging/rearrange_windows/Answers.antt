@@ -5,7 +5,7 @@ use Rattle.mgs_session.specs.declared.Session.{Session}
 use Rattle.mgs_world.specs.Worlds.{session_of}
 use Rattle.mgs_arrange.specs.Arranging.{IsArranged, MayBeRefused}
 use Rattle.mgs_arrange.proofs.Rearranging.{when_ok, when_refused}
-use Rattle.mgs_arrange.proofs.arranging.rearrange_session.Goals as goal
+use Rattle.mgs_arrange.proofs.arranging.rearrange_windows.Goals as goal
 
 -- of the arrangement that it is
 so : (c d : Arrangement) (n : Option ℕ) (ks ls : List MarkedBuffer) (x y : Session) → c ≡ d → IsArranged d n ks ls x y → IsArranged c n ks ls x y

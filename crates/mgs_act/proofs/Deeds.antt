@@ -1,0 +1,292 @@
+-- What an action of a session does to the world.
+use Rattle.std.proofs.Common.{◌≡◌, ℕ, zero, suc, ◌+◌, ◌<◌, ◌≤◌, Bool, true, false, cond, List, [], ◌∷◌, length, map, Option, Some, None, refl, sym, ap, subst, ◌∙◌, arith}
+use Rattle.std.specs.Prelude.{find, slice_get, slice_set, is_some, Result, Ok, Err, OnOk, OnErr}
+use Rattle.std.specs.List.{position_or_len}
+use Rattle.std.specs.Option.{option_and_then, option_map}
+use Rattle.std.proofs.lemmas.List.{map-id, set-get_or}
+use Rattle.std.proofs.lemmas.Option.{get_or_from_slice_get}
+use Rattle.mgs_model.specs.Access.{Directory}
+use Rattle.mgs_model.specs.World.{World, first_own, has_id}
+use Rattle.mgs_model.specs.World as model
+use Rattle.mgs_model.specs.Outcome.{Adjust, Effect, No_effect, Edit, Outcome, PointPlan, Keep, At, At_origin, Keep_mark}
+use Rattle.mgs_model.specs.Plans as plans
+use Rattle.mgs_model.specs.Plans.{failed_own, kind_failed}
+use Rattle.mgs_model.specs.Acts.{edit_of, fails, finished, finished_own, is_too_large}
+use Rattle.mgs_model.specs.Apply.{after_quit, apply, buffers_after, change_at, change_first, kill_after, session_after, session_arranged, window_adjusted}
+use Rattle.mgs_model.specs.Text.{is_edit, shift}
+use Rattle.mgs_model.specs.declared.message.Message.{Message}
+use Rattle.mgs_model.specs.declared.message.Message.TheVariants.{KillTooLarge}
+use Rattle.mgs_model.proofs.Firsts.{change_first_found, find-map, position_or_len-map, written_first}
+use Rattle.mgs_marks.specs.Marks.{mark_in}
+use Rattle.mgs_buffers.specs.MarkedBuffer.{IsMark, MarkedBuffer, marked_at, marked_edited, marked_named, marked_placed}
+use Rattle.mgs_windows.specs.declared.WindowMarks.{WindowMarks}
+use Rattle.mgs_session.specs.Sessions.{failed, window_marks_of}
+use Rattle.mgs_session.specs.declared.Own.{Own}
+use Rattle.mgs_session.specs.declared.Session.{Session}
+use Rattle.mgs_edit.specs.Reading.{change_read, finish_read, kill_read, mark_read, put_read}
+use Rattle.mgs_edit.specs.declared.plan.Finish.{Finish}
+use Rattle.mgs_act.specs.declared.action.Action.{Action}
+use Rattle.mgs_act.specs.declared.action.Action.TheVariants.{Fails, Edits, Moves}
+use Rattle.mgs_act.specs.Actions.{AreMarks, CanBeDone, edited_by, kill_at, kill_or_none, mark_gone, marked_after, marks_gone, outcome_through, session_acted, session_finished}
+use Rattle.mgs_world.specs.Sound.{IsSound, one_if, session_uses, uses, window_marks_uses}
+use Rattle.mgs_world.specs.Worlds.{buffers_of, id_after, idle, own_at, own_of, own_or_first, session_id, session_of, size_in, sizes_in, world_of}
+use Rattle.mgs_world.proofs.Sessions.{session_found}
+use Rattle.mgs_world.proofs.Soundness.{acting_mark, one_if_most, point_used, sizes_set, sound_edited, sound_placed, sound_set}
+use Rattle.mgs_world.proofs.Worlds.{buffers_edited, buffers_placed, mark_used_once, point_places, point_to, same_world, selected_at, sessions_edited, sessions_placed, top_places, top_to, top_used_once}
+use Rattle.mgs_act.proofs.Leaving.{mark_edited_by, mark_still}
+
+-- LISTS
+
+at_same : {A : Type 0} (f : A → A) → ((x : A) → f x ≡ x) → (n : ℕ) (xs : List A) → change_at n f xs ≡ xs
+at_same f same n [] = refl
+at_same f same zero (x ∷ xs) = ap (λ y. y ∷ xs) (same x)
+at_same f same (suc n) (x ∷ xs) = ap (λ ys. x ∷ ys) (at_same f same n xs)
+
+at_twice : {A : Type 0} (f g : A → A) (n : ℕ) (xs : List A) → change_at n g (change_at n f xs) ≡ change_at n (λ x. g (f x)) xs
+at_twice f g n [] = refl
+at_twice f g zero (x ∷ xs) = refl
+at_twice f g (suc n) (x ∷ xs) = ap (λ ys. x ∷ ys) (at_twice f g n xs)
+
+first_same : {A : Type 0} (p : A → Bool) (f : A → A) → ((x : A) → f x ≡ x) → (xs : List A) → change_first p f xs ≡ xs
+first_same p f same [] = refl
+first_same {A = A} p f same (x ∷ xs) = go (p x) (first_same p f same xs)
+  where
+    go : (b : Bool) → change_first p f xs ≡ xs → cond b (f x ∷ xs) (x ∷ change_first p f xs) ≡ x ∷ xs
+    go true rest = ap (λ y. y ∷ xs) (same x)
+    go false rest = ap (λ ys. x ∷ ys) rest
+
+first_twice : {A : Type 0} (p : A → Bool) (f g : A → A) → ((x : A) → p (f x) ≡ p x) → (xs : List A) → change_first p g (change_first p f xs) ≡ change_first p (λ x. g (f x)) xs
+first_twice p f g keeps [] = refl
+first_twice {A = A} p f g keeps (x ∷ xs) = go (p x) refl (first_twice p f g keeps xs)
+  where
+    go : (b : Bool) → p x ≡ b → change_first p g (change_first p f xs) ≡ change_first p (λ x. g (f x)) xs → change_first p g (cond b (f x ∷ xs) (x ∷ change_first p f xs)) ≡ cond b (g (f x) ∷ xs) (x ∷ change_first p (λ x. g (f x)) xs)
+    go true e rest = ap (λ b. cond b (g (f x) ∷ xs) (f x ∷ change_first p g xs)) (keeps x ∙ e)
+    go false e rest = ap (λ b. cond b (g x ∷ change_first p f xs) (x ∷ change_first p g (change_first p f xs))) e ∙ ap (λ ys. x ∷ ys) rest
+
+-- THE SESSION'S OWN RECORD
+
+-- a session that has nothing half read and an empty echo line, once a command has failed
+fresh_failed : (o : Own) (message : Message) → own_of o ≡ idle o.kind → own_of (record o { echo = message; kind = kind_failed message o.kind }) ≡ failed_own message (own_of o)
+fresh_failed o message fresh =
+    λ i. record first_own { echo = message; argument = (fresh i).argument; keys = (fresh i).keys; kind = kind_failed message o.kind }
+
+-- THE ACTING SESSION
+
+-- it is the first of its id
+found_at : (xs : List Session) (id at : ℕ) (h : Session) → at ≡ position_or_len (session_id id) xs → at < length xs → slice_get xs at ≡ Some h → find (session_id id) xs ≡ Some h
+found_at xs id at h place within is = session_found xs id at h place within (sym (get_or_from_slice_get xs at h h is))
+
+pub fresh_own : (xs : List Session) (at : ℕ) (h : Session) → slice_get xs at ≡ Some h → own_at at xs ≡ idle (own_at at xs).kind → own_of h.own ≡ idle h.own.kind
+fresh_own xs at h is fresh = sym (ap own_or_first is) ∙ fresh ∙ ap (λ o. idle (own_or_first o).kind) is
+
+-- WINDOWS
+
+abbrev point_by : PointPlan → model.Window → model.Window
+point_by to x = window_adjusted None to Keep_mark Keep None x
+
+abbrev top_by : PointPlan → model.Window → model.Window
+top_by to x = window_adjusted None Keep Keep_mark to None x
+
+selected_same : (f : model.Window → model.Window) → ((w : model.Window) → f w ≡ w) → (x : model.Session) → selected_at f x ≡ x
+selected_same f same x = ap (λ ws. record x { windows = ws }) (at_same f same x.selected x.windows)
+
+once_used : (ks : List MarkedBuffer) (xs : List Session) (n : List ℕ) (i : ℕ) → IsSound ks xs → uses n i xs ≤ 1
+once_used ks xs n i sound = omega (arith, sound.once n i, one_if_most (is_some (mark_in (marked_at n ks).marks i)))
+
+points_gone : (to : PointPlan) (ks : List MarkedBuffer) (xs : List Session) (id : ℕ) (h : Session) (x : WindowMarks) → find (session_id id) xs ≡ Some h → window_marks_of h ≡ Some x → IsMark x.name x.point ks → uses x.name x.point xs ≤ 1 → map (session_of (mark_gone x.name x.point to ks)) xs ≡ change_first (has_id id) (selected_at (point_by to)) (map (session_of ks) xs)
+points_gone Keep ks xs id h x found sel mark once = sym (first_same (has_id id) (selected_at (point_by Keep)) (selected_same (point_by Keep) (λ w. refl)) (map (session_of ks) xs))
+points_gone (At p) ks xs id h x found sel mark once = sessions_placed x.point p (point_to p) ks xs id h x found sel (point_used x) (point_places p ks x mark) once
+points_gone At_origin ks xs id h x found sel mark once = sym (first_same (has_id id) (selected_at (point_by At_origin)) (selected_same (point_by At_origin) origin) (map (session_of ks) xs))
+  where
+    origin : (w : model.Window) → point_by At_origin w ≡ w
+    origin w = refl
+
+tops_gone : (to : PointPlan) (ks : List MarkedBuffer) (xs : List Session) (id : ℕ) (h : Session) (x : WindowMarks) → find (session_id id) xs ≡ Some h → window_marks_of h ≡ Some x → IsMark x.name x.top ks → uses x.name x.top xs ≤ 1 → map (session_of (mark_gone x.name x.top to ks)) xs ≡ change_first (has_id id) (selected_at (top_by to)) (map (session_of ks) xs)
+tops_gone Keep ks xs id h x found sel mark once = sym (first_same (has_id id) (selected_at (top_by Keep)) (selected_same (top_by Keep) (λ w. refl)) (map (session_of ks) xs))
+tops_gone (At p) ks xs id h x found sel mark once = sessions_placed x.top p (top_to p) ks xs id h x found sel (top_used_once x) (top_places p ks x mark) once
+tops_gone At_origin ks xs id h x found sel mark once = sym (first_same (has_id id) (selected_at (top_by At_origin)) (selected_same (top_by At_origin) origin) (map (session_of ks) xs))
+  where
+    origin : (w : model.Window) → top_by At_origin w ≡ w
+    origin w = refl
+
+-- SOUNDNESS
+
+gone_sound : (name : List ℕ) (id : ℕ) (to : PointPlan) (ks : List MarkedBuffer) (xs : List Session) → IsMark name id ks → IsSound ks xs → IsSound (mark_gone name id to ks) xs
+gone_sound name id Keep ks xs mark sound = sound
+gone_sound name id (At p) ks xs mark sound = sound_placed name id p ks xs mark sound
+gone_sound name id At_origin ks xs mark sound = sound
+
+edited_sound : (name : List ℕ) (c : plans.Change) (ks : List MarkedBuffer) (xs : List Session) → IsSound ks xs → IsSound (edited_by name c ks) xs
+edited_sound name c ks xs sound = go (is_edit c.a c.b c.put)
+  where
+    go : (f : Bool) → IsSound (cond f (change_first (marked_named name) (marked_edited c.a c.b c.put) ks) ks) xs
+    go true = sound_edited name c.a c.b c.put ks xs sound
+    go false = sound
+
+-- WHAT IS DONE
+
+gone_buffers : (name : List ℕ) (id : ℕ) (to : PointPlan) (ks : List MarkedBuffer) → buffers_of (mark_gone name id to ks) ≡ buffers_of ks
+gone_buffers name id Keep ks = refl
+gone_buffers name id (At p) ks = buffers_placed name id p ks
+gone_buffers name id At_origin ks = refl
+
+edited_buffers : (name : List ℕ) (c : plans.Change) (ks : List MarkedBuffer) → buffers_of (edited_by name c ks) ≡ buffers_after (edit_of name c) (buffers_of ks)
+edited_buffers name c ks = go (is_edit c.a c.b c.put)
+  where
+    go : (f : Bool) → buffers_of (cond f (change_first (marked_named name) (marked_edited c.a c.b c.put) ks) ks) ≡ buffers_after (cond f (Edit name c.a c.b c.put) No_effect) (buffers_of ks)
+    go true = buffers_edited name c.a c.b c.put ks
+    go false = refl
+
+edited_sessions : (name : List ℕ) (c : plans.Change) (ks : List MarkedBuffer) (xs : List Session) → map (session_of (edited_by name c ks)) xs ≡ map (session_after (edit_of name c)) (map (session_of ks) xs)
+edited_sessions name c ks xs = go (is_edit c.a c.b c.put)
+  where
+    go : (f : Bool) → map (session_of (cond f (change_first (marked_named name) (marked_edited c.a c.b c.put) ks) ks)) xs ≡ map (session_after (cond f (Edit name c.a c.b c.put) No_effect)) (map (session_of ks) xs)
+    go true = sessions_edited name c.a c.b c.put ks xs
+    go false = sym (map-id (map (session_of ks) xs))
+
+-- what the acting session holds in the end
+abbrev ends : plans.Finish → model.Own → model.Session → model.Session
+ends f own x = record x { kill = kill_after f.kill x.kill; own = finished_own f own }
+
+-- the outcome of a finish that is not too large
+abbrev ended : plans.Finish → Effect → model.Own → Outcome
+ended f e own = record { own = finished_own f own; kill = f.kill; arrange = Adjust f.point f.mark f.top None f.sought; effect = e }
+
+windows_end : (behind : ℕ) (text kill : List ℕ) (f : Finish) (x : model.Session) → f.mark ≡ None
+    → (let left = finish_read text kill behind f in change_at x.selected (top_by left.top) (change_at x.selected (point_by left.point) x.windows) ≡ change_at x.selected (window_adjusted None left.point left.mark left.top None) x.windows)
+windows_end behind text kill f x unmarked =
+    let left = finish_read text kill behind f in
+    at_twice (point_by left.point) (top_by left.top) x.selected x.windows
+    ∙ ap (λ m. change_at x.selected (window_adjusted None left.point (mark_read m) left.top None) x.windows) (sym unmarked)
+
+-- one session, with its marks placed
+one_ends : (behind : ℕ) (text kill : List ℕ) (f : Finish) (e : Effect) (ks : List MarkedBuffer) (h : Session) → f.mark ≡ None
+    → (let left = finish_read text kill behind f in ends left (own_of h.own) (selected_at (top_by left.top) (selected_at (point_by left.point) (session_of ks h))) ≡ session_arranged (ended left e (own_of h.own)) (session_of ks h))
+one_ends behind text kill f e ks h unmarked =
+    let left = finish_read text kill behind f in
+    λ i. record (ends left (own_of h.own) (session_of ks h)) { windows = windows_end behind text kill f (session_of ks h) unmarked i }
+
+-- the session's own record
+own_ends : (behind : ℕ) (text kill : List ℕ) (f : Finish) (ks : List MarkedBuffer) (h : Session) → own_of h.own ≡ idle h.own.kind
+    → (let left = finish_read text kill behind f in session_of ks (session_finished left h) ≡ ends left (own_of h.own) (session_of ks h))
+own_ends behind text kill f ks h fresh =
+    let left = finish_read text kill behind f in
+    λ i. record (session_of ks (session_finished left h)) { own = record first_own { echo = f.told; argument = (fresh i).argument; keys = (fresh i).keys; kind = f.kind } }
+
+no_quit : (name : List ℕ) (c : plans.Change) (id : ℕ) (xs : List model.Session) → after_quit (edit_of name c) id xs ≡ xs
+no_quit name c id xs = go (is_edit c.a c.b c.put)
+  where
+    go : (f : Bool) → after_quit (cond f (Edit name c.a c.b c.put) No_effect) id xs ≡ xs
+    go true = refl
+    go false = refl
+
+finished_sessions : (ks : List MarkedBuffer) (xs : List Session) (id at : ℕ) (h : Session) (x : WindowMarks) (c : plans.Change) (behind : ℕ) (text : List ℕ) (f : Finish) → IsSound ks xs → at ≡ position_or_len (session_id id) xs → at < length xs → slice_get xs at ≡ Some h → window_marks_of h ≡ Some x → AreMarks ks x → own_of h.own ≡ idle h.own.kind → f.mark ≡ None
+    → (let left = finish_read text h.kill behind f in map (session_of (marks_gone x left (edited_by x.name c ks))) (slice_set xs at (session_finished left h)) ≡ change_first (has_id id) (session_arranged (ended left (edit_of x.name c) (own_of h.own))) (map (session_after (edit_of x.name c)) (map (session_of ks) xs)))
+finished_sessions ks xs id at h x c behind text f sound place within is sel marks fresh unmarked =
+    let left = finish_read text h.kill behind f in
+    let own = own_of h.own in
+    let ks1 = edited_by x.name c ks in
+    let ks2 = mark_gone x.name x.point left.point ks1 in
+    let ks3 = mark_gone x.name x.top left.top ks2 in
+    let found = found_at xs id at h place within is in
+    let point = mark_edited_by x.name c ks x.point marks.point in
+    let top = mark_still x.name x.point x.top left.point ks1 point (mark_edited_by x.name c ks x.top marks.top) in
+    let points : model.Session → model.Session = selected_at (point_by left.point) in
+    let tops : model.Session → model.Session = selected_at (top_by left.top) in
+    let zs = map (session_of ks1) xs in
+    written_first (session_of ks3) (has_id id) (ends left own) xs at h (session_finished left h) (place ∙ sym (position_or_len-map (session_of ks3) (has_id id) xs)) within (sym (get_or_from_slice_get xs at h h is)) (own_ends behind text h.kill f ks3 h fresh)
+    ∙ ap (change_first (has_id id) (ends left own)) (tops_gone left.top ks2 xs id h x found sel top (once_used ks xs x.name x.top sound))
+    ∙ ap (λ ys. change_first (has_id id) (ends left own) (change_first (has_id id) tops ys)) (points_gone left.point ks1 xs id h x found sel point (once_used ks xs x.name x.point sound))
+    ∙ ap (change_first (has_id id) (ends left own)) (first_twice (has_id id) points tops (λ z. refl) zs)
+    ∙ first_twice (has_id id) (λ z. tops (points z)) (ends left own) (λ z. refl) zs
+    ∙ change_first_found (has_id id) (λ z. ends left own (tops (points z))) (session_arranged (ended left (edit_of x.name c) own)) (session_of ks1 h) zs
+    (find-map (session_of ks1) (session_id id) (has_id id) (λ z. refl) xs ∙ ap (option_map (session_of ks1)) found)
+    (one_ends behind text h.kill f (edit_of x.name c) ks1 h unmarked)
+    ∙ ap (change_first (has_id id) (session_arranged (ended left (edit_of x.name c) own))) (edited_sessions x.name c ks xs)
+
+finished_so : (directory : Directory) (ks : List MarkedBuffer) (xs : List Session) (next : Option ℕ) (id at : ℕ) (h : Session) (x : WindowMarks) (c : plans.Change) (behind : ℕ) (text : List ℕ) (f : Finish) → IsSound ks xs → at ≡ position_or_len (session_id id) xs → at < length xs → slice_get xs at ≡ Some h → window_marks_of h ≡ Some x → AreMarks ks x → own_of h.own ≡ idle h.own.kind → f.mark ≡ None → is_too_large (kill_read text h.kill f.kill) ≡ false
+    → (let left = finish_read text h.kill behind f in world_of directory (marks_gone x left (edited_by x.name c ks)) (slice_set xs at (session_finished left h)) next ≡ apply (world_of directory ks xs next) id (finished (own_of h.own) left (edit_of x.name c)))
+finished_so directory ks xs next id at h x c behind text f sound place within is sel marks fresh unmarked small =
+    let left = finish_read text h.kill behind f in
+    let own = own_of h.own in
+    let ks1 = edited_by x.name c ks in
+    let ks2 = mark_gone x.name x.point left.point ks1 in
+    same_world directory _ _ _ _ (id_after next)
+    (gone_buffers x.name x.top left.top ks2 ∙ gone_buffers x.name x.point left.point ks1 ∙ edited_buffers x.name c ks)
+    (finished_sessions ks xs id at h x c behind text f sound place within is sel marks fresh unmarked ∙ sym (no_quit x.name c id _))
+    ∙ ap (λ b. apply (world_of directory ks xs next) id (cond b (fails own KillTooLarge) (ended left (edit_of x.name c) own))) (sym small)
+
+pub failed_so : (directory : Directory) (ks : List MarkedBuffer) (xs : List Session) (next : Option ℕ) (id at : ℕ) (h : Session) (message : Message) → at ≡ position_or_len (session_id id) xs → at < length xs → slice_get xs at ≡ Some h → own_of h.own ≡ idle h.own.kind → world_of directory ks (slice_set xs at (failed message h)) next ≡ apply (world_of directory ks xs next) id (fails (own_of h.own) message)
+failed_so directory ks xs next id at h message place within is fresh =
+    let f = session_arranged (fails (own_of h.own) message) in
+    same_world directory _ _ _ _ (id_after next) refl
+    (written_first (session_of ks) (has_id id) f xs at h (failed message h) (place ∙ sym (position_or_len-map (session_of ks) (has_id id) xs)) within (sym (get_or_from_slice_get xs at h h is))
+    (λ i. record (session_of ks h) { own = fresh_failed h.own message fresh i })
+    ∙ ap (change_first (has_id id) f) (sym (map-id (map (session_of ks) xs))))
+
+-- ANY ACTION
+
+done_so : (directory : Directory) (ks : List MarkedBuffer) (xs : List Session) (next : Option ℕ) (id at : ℕ) (x : WindowMarks) (h : Session) (action : Action) → IsSound ks xs → at ≡ position_or_len (session_id id) xs → at < length xs → slice_get xs at ≡ Some h → window_marks_of h ≡ Some x → AreMarks ks x → own_of h.own ≡ idle h.own.kind → CanBeDone ks x h.kill action
+    → (let text = (marked_at x.name ks).buffer.text in world_of directory (marked_after x text h.kill action ks) (slice_set xs at (session_acted text action h)) next ≡ apply (world_of directory ks xs next) id (outcome_through (own_of h.own) x ks h.kill action))
+done_so directory ks xs next id at x h (Fails message) sound place within is sel marks fresh can =
+    failed_so directory ks xs next id at h message place within is fresh
+done_so directory ks xs next id at x h (Edits c) sound place within is sel marks fresh can =
+    let text = (marked_at x.name ks).buffer.text in
+    finished_so directory ks xs next id at h x (change_read text h.kill c) (c.from + length (put_read text h.kill c.put)) text c.finish sound place within is sel marks fresh can.unmarked can.small
+done_so directory ks xs next id at x h (Moves f) sound place within is sel marks fresh can =
+    let text = (marked_at x.name ks).buffer.text in
+    finished_so directory ks xs next id at h x (record { a = 0; b = 0; put = []; finish = finish_read text h.kill 0 f }) 0 text f sound place within is sel marks fresh can.unmarked can.small
+
+kept_sound : (ks : List MarkedBuffer) (xs : List Session) (x : WindowMarks) (text kill : List ℕ) (action : Action) → AreMarks ks x → IsSound ks xs → IsSound (marked_after x text kill action ks) xs
+kept_sound ks xs x text kill (Fails message) marks sound = sound
+kept_sound ks xs x text kill (Edits c) marks sound =
+    let change = change_read text kill c in
+    let ks1 = edited_by x.name change ks in
+    let point = mark_edited_by x.name change ks x.point marks.point in
+    let top = mark_still x.name x.point x.top change.finish.point ks1 point (mark_edited_by x.name change ks x.top marks.top) in
+    gone_sound x.name x.top change.finish.top _ xs top (gone_sound x.name x.point change.finish.point ks1 xs point (edited_sound x.name change ks xs sound))
+kept_sound ks xs x text kill (Moves f) marks sound =
+    let left = finish_read text kill 0 f in
+    gone_sound x.name x.top left.top _ xs (mark_still x.name x.point x.top left.point ks marks.point marks.top) (gone_sound x.name x.point left.point ks xs marks.point sound)
+
+uses_after : (text : List ℕ) (action : Action) (h : Session) (n : List ℕ) (i : ℕ) → session_uses n i (session_acted text action h) ≡ session_uses n i h
+uses_after text (Fails message) h n i = refl
+uses_after text (Edits c) h n i = refl
+uses_after text (Moves f) h n i = refl
+
+size_after : (text : List ℕ) (action : Action) (h : Session) → size_in (session_acted text action h) ≡ size_in h
+size_after text (Fails message) h = refl
+size_after text (Edits c) h = refl
+size_after text (Moves f) h = refl
+
+set_back : (xs : List Session) (at : ℕ) (h : Session) → slice_get xs at ≡ Some h → slice_set xs at h ≡ xs
+set_back xs at h is = ap (slice_set xs at) (sym (get_or_from_slice_get xs at h h is)) ∙ set-get_or xs at h
+
+-- the marks of the window that acts
+pub acting_marks : (ks : List MarkedBuffer) (xs : List Session) (at : ℕ) (x : WindowMarks) → IsSound ks xs → option_and_then window_marks_of (slice_get xs at) ≡ Some x → AreMarks ks x
+acting_marks ks xs at x sound sel = record {
+  point = acting_mark ks xs at x x.point sound sel (point_used x);
+  mark = λ id is. acting_mark ks xs at x id sound sel (mark_used_once x id is);
+  top = acting_mark ks xs at x x.top sound sel (top_used_once x);
+}
+
+pub after_sound : {T E : Type 0} (r : Result T E) (ks ls : List MarkedBuffer) (xs : List Session) (at : ℕ) (x : WindowMarks) (text : List ℕ) (h y : Session) (action : Action) → slice_get xs at ≡ Some h → OnOk r (ls ≡ marked_after x text h.kill action ks) → OnOk r (y ≡ session_acted text action h) → OnErr r (ls ≡ ks) → OnErr r (y ≡ h) → AreMarks ks x → IsSound ks xs → IsSound ls (slice_set xs at y)
+after_sound (Ok o) ks ls xs at x text h y action is ok acts err same marks sound =
+    rw (ok, acts) (sound_set (marked_after x text h.kill action ks) xs at h (session_acted text action h) (sym (get_or_from_slice_get xs at h h is)) (uses_after text action h) (kept_sound ks xs x text h.kill action marks sound))
+after_sound (Err e) ks ls xs at x text h y action is ok acts err same marks sound =
+    rw (err, same) (sound_set ks xs at h h (sym (get_or_from_slice_get xs at h h is)) (λ n i. refl) sound)
+
+pub after_sizes : {T E : Type 0} (r : Result T E) (xs : List Session) (at : ℕ) (text : List ℕ) (h y : Session) (action : Action) → slice_get xs at ≡ Some h → OnOk r (y ≡ session_acted text action h) → OnErr r (y ≡ h) → sizes_in (slice_set xs at y) ≡ sizes_in xs
+after_sizes (Ok o) xs at text h y action is acts same = rw acts (sizes_set xs at h (session_acted text action h) (sym (get_or_from_slice_get xs at h h is)) (size_after text action h))
+after_sizes (Err e) xs at text h y action is acts same = rw same (sizes_set xs at h h (sym (get_or_from_slice_get xs at h h is)) refl)
+
+pub after_ok : {T E : Type 0} (r : Result T E) (ks ls : List MarkedBuffer) (xs : List Session) (at : ℕ) (x : WindowMarks) (h y : Session) (action : Action) → slice_get xs at ≡ Some h → (let text = (marked_at x.name ks).buffer.text in OnOk r (ls ≡ marked_after x text h.kill action ks) → OnOk r (y ≡ session_acted text action h) → IsSound ks xs → at < length xs → option_and_then window_marks_of (slice_get xs at) ≡ Some x → own_at at xs ≡ idle (own_at at xs).kind → CanBeDone ks x (kill_at at xs) action → OnOk r ((directory : Directory) (id : ℕ) (next : Option ℕ) → at ≡ position_or_len (session_id id) xs → world_of directory ls (slice_set xs at y) next ≡ apply (world_of directory ks xs next) id (outcome_through (own_at at xs) x ks (kill_at at xs) action)))
+after_ok (Ok o) ks ls xs at x h y action is ok acts sound within sel fresh can = λ directory id next place.
+    let sel_h : window_marks_of h ≡ Some x = sym (ap (option_and_then window_marks_of) is) ∙ sel in
+    rw (ok, acts) (done_so directory ks xs next id at x h action sound place within is sel_h (acting_marks ks xs at x sound sel) (fresh_own xs at h is fresh) (subst (λ o. CanBeDone ks x (kill_or_none o) action) is can)
+    ∙ ap (λ o. apply (world_of directory ks xs next) id (outcome_through (own_or_first o) x ks (kill_or_none o) action)) (sym is))
+after_ok (Err e) ks ls xs at x h y action is ok acts sound within sel fresh can = tt
+
+pub after_err : {T E : Type 0} (r : Result T E) (ks ls : List MarkedBuffer) (xs : List Session) (at : ℕ) (h y : Session) → slice_get xs at ≡ Some h → OnErr r (ls ≡ ks) → OnErr r (y ≡ h) → OnErr r ((directory : Directory) (next : Option ℕ) → world_of directory ls (slice_set xs at y) next ≡ world_of directory ks xs next)
+after_err (Ok o) ks ls xs at h y is err same = tt
+after_err (Err e) ks ls xs at h y is err same = λ directory next. rw (err, same) (ap (λ (ys : List Session). world_of directory ks ys next) (set_back xs at h is))

@@ -1,0 +1,48 @@
+-- What is planned where the rights are granted, and where they are not.
+use Rattle.std.proofs.Common.{◌≡◌, ℕ, List, length, Option, refl, sym, ap, subst, ◌∙◌}
+use Rattle.mgs_model.specs.Access.{Directory, decider, decision, decision_by}
+use Rattle.mgs_model.specs.Acts.{fails, permitted}
+use Rattle.mgs_model.specs.Outcome.{Outcome}
+use Rattle.mgs_model.specs.Plans as plans
+use Rattle.mgs_model.specs.Rights.{rights_in}
+use Rattle.mgs_model.specs.World as model
+use Rattle.mgs_model.specs.declared.entry.Decision.{Decision}
+use Rattle.mgs_model.specs.declared.entry.Decision.TheVariants.{Granted}
+use Rattle.mgs_model.specs.declared.message.Message.{Message}
+use Rattle.mgs_model.specs.declared.session.Command.{Command}
+use Rattle.mgs_buffers.specs.MarkedBuffer.{MarkedBuffer, marked_at}
+use Rattle.mgs_windows.specs.declared.WindowMarks.{WindowMarks}
+use Rattle.mgs_edit.specs.Reading.{surrounded}
+use Rattle.mgs_edit.specs.declared.plan.Around.{Around}
+use Rattle.mgs_act.specs.declared.action.Action.{Action}
+use Rattle.mgs_act.specs.declared.action.Action.TheVariants.{Fails}
+use Rattle.mgs_act.specs.declared.given.Given.{Given}
+use Rattle.mgs_act.specs.Actions.{action_outcome, around_given, around_in, granted_outcome, mask_at, outcome_through, plan_in}
+use Rattle.mgs_world.specs.Worlds.{idle}
+
+-- what is decided on the rights that a command needs
+abbrev pub needed : Directory → List MarkedBuffer → List ℕ → WindowMarks → Given → Command → ℕ → Decision
+needed directory ks user x g c killed =
+    let b = (marked_at x.name ks).buffer in
+    decision directory b.owner user b.entries (mask_at c (around_given directory ks user x g killed).place (length b.text))
+
+pub granted : (directory : Directory) (ks : List MarkedBuffer) (user : List ℕ) (x : WindowMarks) (g : Given) (c : Command) (kill text : List ℕ) (serial : ℕ) (around : Around) (action : Action)
+    → text ≡ (marked_at x.name ks).buffer.text → serial ≡ (marked_at x.name ks).buffer.serial → around ≡ around_given directory ks user x g (length kill) → needed directory ks user x g c (length kill) ≡ Granted
+    → ((own : model.Own) (rest : plans.Around) → action_outcome own rest.name text kill action ≡ granted_outcome own c text (surrounded around (length text) (record rest { kill = kill; serial = serial })))
+    → outcome_through (idle g.kind) x ks kill action ≡ plan_in directory ks (idle g.kind) user x g.height c g.argument kill
+granted directory ks user x g c kill text serial around action text_is serial_is around_is allowed value =
+    let own = idle g.kind in
+    let b = (marked_at x.name ks).buffer in
+    let rest = around_in directory ks user x g.height g.argument kill own in
+    let in_text = subst (λ (t : List ℕ). action_outcome own x.name t kill action ≡ granted_outcome own c t (surrounded around (length t) (record rest { kill = kill; serial = serial }))) text_is (value own rest) in
+    let by_serial = subst (λ (s : ℕ). action_outcome own x.name b.text kill action ≡ granted_outcome own c b.text (surrounded around (length b.text) (record rest { kill = kill; serial = s }))) serial_is in_text in
+    let by_around = subst (λ (a : Around). action_outcome own x.name b.text kill action ≡ granted_outcome own c b.text (surrounded a (length b.text) (record rest { kill = kill; serial = b.serial }))) around_is by_serial in
+    by_around ∙ sym (ap (λ d. permitted own d (granted_outcome own c b.text rest)) allowed)
+
+pub denied : (directory : Directory) (ks : List MarkedBuffer) (user : List ℕ) (x : WindowMarks) (g : Given) (c : Command) (kill : List ℕ) (message : Message)
+    → ((own : model.Own) (o : Outcome) → permitted own (needed directory ks user x g c (length kill)) o ≡ fails own message)
+    → outcome_through (idle g.kind) x ks kill (Fails message) ≡ plan_in directory ks (idle g.kind) user x g.height c g.argument kill
+denied directory ks user x g c kill message told =
+    let own = idle g.kind in
+    let b = (marked_at x.name ks).buffer in
+    sym (told own (granted_outcome own c b.text (around_in directory ks user x g.height g.argument kill own)))

@@ -1,0 +1,47 @@
+use Rattle.std.proofs.Common.{◌≡◌, get_or, ap, sym, ◌∙◌, subst, true}
+use Rattle.std.specs.Prelude.{OnErr}
+use Rattle.mgs_model.specs.Outcome.{takes_memory}
+use Rattle.mgs_model.specs.World.{Own}
+use Rattle.std.proofs.lemmas.Option.{slice_get-get_or}
+use Rattle.mgs_buffers.specs.MarkedBuffer.{marked_at}
+use Rattle.mgs_act.specs.Actions.{CanBeDone, kill_or_none, outcome_through}
+use Rattle.mgs_act.proofs.Deeds.{acting_marks, after_err, after_ok, after_sizes, after_sound}
+use Rattle.mgs_act.proofs.performing.perform.Goals as goal
+
+pub carry_out-requires-clause-marks : goal.carry_out-requires-clause-marks
+carry_out-requires-clause-marks g c = acting_marks c.args.buffers.now c.args.sessions.now c.args.at c.args.window_marks.now c.requires.sound c.requires.window_marks
+
+pub carry_out-requires-clause-can : goal.carry_out-requires-clause-can
+carry_out-requires-clause-can g c =
+    subst (λ o. CanBeDone c.args.buffers.now c.args.window_marks.now (kill_or_none o) c.args.action.now) (slice_get-get_or c.args.sessions.now c.args.at c.index-sessions-at.result c.requires.within) c.requires.can
+
+pub returns-clause-sound : goal.returns-clause-sound
+returns-clause-sound g c =
+    let xs = c.args.sessions.now in
+    let r = c.index-sessions-at.result in
+    let x = c.args.window_marks.now in
+    after_sound c.carry_out.result c.args.buffers.now c.carry_out.new.buffers xs c.args.at x (marked_at x.name c.args.buffers.now).buffer.text (get_or xs c.args.at r) c.carry_out.new.session c.args.action.now (slice_get-get_or xs c.args.at r c.requires.within) c.carry_out.ensures.ok c.carry_out.ensures.acted c.carry_out.ensures.err c.carry_out.ensures.same (acting_marks c.args.buffers.now xs c.args.at x c.requires.sound c.requires.window_marks) c.requires.sound
+
+pub returns-clause-sizes : goal.returns-clause-sizes
+returns-clause-sizes g c =
+    let xs = c.args.sessions.now in
+    let r = c.index-sessions-at.result in
+    let x = c.args.window_marks.now in
+    after_sizes c.carry_out.result xs c.args.at (marked_at x.name c.args.buffers.now).buffer.text (get_or xs c.args.at r) c.carry_out.new.session c.args.action.now (slice_get-get_or xs c.args.at r c.requires.within) c.carry_out.ensures.acted c.carry_out.ensures.same
+
+pub returns-clause-ok : goal.returns-clause-ok
+returns-clause-ok g c =
+    let xs = c.args.sessions.now in
+    let r = c.index-sessions-at.result in
+    after_ok c.carry_out.result c.args.buffers.now c.carry_out.new.buffers xs c.args.at c.args.window_marks.now (get_or xs c.args.at r) c.carry_out.new.session c.args.action.now (slice_get-get_or xs c.args.at r c.requires.within) c.carry_out.ensures.ok c.carry_out.ensures.acted c.requires.sound c.requires.within c.requires.window_marks c.requires.fresh c.requires.can
+
+pub returns-clause-err : goal.returns-clause-err
+returns-clause-err g c =
+    let xs = c.args.sessions.now in
+    let r = c.index-sessions-at.result in
+    after_err c.carry_out.result c.args.buffers.now c.carry_out.new.buffers xs c.args.at (get_or xs c.args.at r) c.carry_out.new.session (slice_get-get_or xs c.args.at r c.requires.within) c.carry_out.ensures.err c.carry_out.ensures.same
+
+pub returns-clause-may : goal.returns-clause-may
+returns-clause-may g c =
+    let x = c.args.window_marks.now in
+    subst (λ o. OnErr c.carry_out.result ((own : Own) → takes_memory (outcome_through own x c.args.buffers.now (kill_or_none o) c.args.action.now) ≡ true)) (sym (slice_get-get_or c.args.sessions.now c.args.at c.index-sessions-at.result c.requires.within)) c.carry_out.ensures.may

@@ -1,0 +1,13 @@
+// What a command on a text comes to.
+use mgs_edit::{Change, Finish};
+use mgs_model::Message;
+
+/// What a command on a text comes to, once it is decided.
+#[derive(Clone, Copy)]
+pub enum Action {
+    /// It fails, and this is told.
+    Fails(Message),
+    Edits(Change),
+    /// It edits nothing.
+    Moves(Finish),
+}

@@ -1,0 +1,326 @@
+// An action is done: in the buffers, and to the session that acts.
+ghost use Rattle.std.specs.Prelude.{◌≡◌, ◌+◌, ◌++◌, ◌<◌, ◌≤◌, ℕ, List, length, Option, Some, IfOk, OnOk, OnErr, slice_get, true, false};
+ghost use Rattle.std.specs.List.{position_or_len};
+ghost use Rattle.std.specs.Option.{option_and_then};
+ghost use Rattle.mgs_model.specs.Access.{Directory};
+ghost use Rattle.mgs_model.specs.Acts.{is_full};
+ghost use Rattle.mgs_model.specs.Apart.{touched_by};
+ghost use Rattle.mgs_model.specs.Apply.{apply, change_first, kill_after};
+ghost use Rattle.mgs_model.specs.Outcome.{kill_takes_memory, takes_memory};
+ghost use Rattle.mgs_model.specs.Text.{is_edit};
+ghost use Rattle.mgs_model.specs.World.{Own};
+ghost use Rattle.mgs_buffers.specs.MarkedBuffer.{HasBuffer, IsMark, MarkedBuffer, marked_at, marked_edited, marked_named, marked_placed};
+ghost use Rattle.mgs_edit.specs.Reading.{ChangeWithin, GoesWithin, IsWithin, PieceWithin, change_read, kill_read, point_read, put_read, top_read};
+ghost use Rattle.mgs_session.specs.Sessions.{acted, told, window_marks_of};
+ghost use Rattle.mgs_act.specs.declared.action.Action.TheVariants.{Edits, Moves};
+ghost use Rattle.mgs_act.specs.Actions.{AreMarks, CanBeDone, kill_at, edited_by, kill_set, mark_gone, marked_after, outcome_through, session_acted};
+ghost use Rattle.mgs_world.specs.Sound.{IsSound};
+ghost use Rattle.mgs_world.specs.Worlds.{idle, own_at, session_id, sizes_in, world_of};
+
+use crate::action::Action;
+use mgs_buffers::Buffers;
+use mgs_edit::{Change, Finish, Goes, Joins, Piece, Put, is_edit, put_chars};
+use mgs_marks::Marked;
+use mgs_model::{MarkId, Name, Short, Touched};
+use mgs_session::{Session, fail, finish, set_kill};
+use mgs_text::Text;
+use mgs_windows::WindowMarks;
+use std::alloc::Global;
+
+/// One text behind another. `Short`: memory was refused.
+fn joined(alloc: Global, front: &[char], behind: &[char]) -> Result<Vec<char>, Short>
+    ensures { IfOk result (λ v. v.items ≡ front.now ++ behind.now) }
+{
+    let mut chars = Vec::new(alloc);
+    match chars.extend_from_slice(front) {
+        Ok(()) => {}
+        Err(_) => return Err(Short),
+    }
+    match chars.extend_from_slice(behind) {
+        Ok(()) => Ok(chars),
+        Err(_) => Err(Short),
+    }
+}
+
+/// The kill buffer that a piece makes. `Short`: memory was refused.
+fn killed<T: Text>(
+    alloc: Global,
+    text: &T,
+    kill: &[char],
+    piece: &Piece,
+) -> Result<Vec<char>, Short>
+    requires { PieceWithin (length (T.text text.now)) (Some piece.now) }
+    ensures { IfOk result (λ v. (old : List ℕ) → v.items ≡ kill_after (kill_read (T.text text.now) kill.now (Some piece.now)) old) }
+{
+    let chars = text.copy(piece.from, piece.to)?;
+    match piece.joins {
+        Joins::New => Ok(chars),
+        Joins::Behind => joined(alloc, kill, &chars),
+        Joins::InFront => joined(alloc, &chars, kill),
+    }
+}
+
+/// The same, where a piece is killed.
+fn killed_if<T: Text>(
+    alloc: Global,
+    text: &T,
+    kill: &[char],
+    piece: &Option<Piece>,
+) -> Result<Option<Vec<char>>, Short>
+    requires { PieceWithin (length (T.text text.now)) piece.now }
+    ensures ok { IfOk result (λ made. (old : List ℕ) → kill_set made old ≡ kill_after (kill_read (T.text text.now) kill.now piece.now) old) }
+    ensures may { OnErr result (kill_takes_memory (kill_read (T.text text.now) kill.now piece.now) ≡ true) }
+{
+    match piece {
+        None => Ok(None),
+        Some(piece) => match killed(alloc, text, kill, piece) {
+            Ok(chars) => Ok(Some(chars)),
+            Err(short) => Err(short),
+        },
+    }
+}
+
+/// Edits a buffer, and tells where what is put in ends. `Short`: memory was refused, and nothing was done.
+fn edit<T: Marked + Drop>(
+    alloc: Global,
+    buffers: &mut Buffers<T>,
+    name: &Name,
+    kill: &[char],
+    change: &Change,
+) -> Result<usize, Short>
+    requires kept { HasBuffer name.now buffers.old }
+    requires within { ChangeWithin (marked_at name.now buffers.old).buffer.text kill.now change.now }
+    requires edit { is_edit change.now.from change.now.to (put_read (marked_at name.now buffers.old).buffer.text kill.now change.now.put) ≡ true }
+    requires room { is_full (length (marked_at name.now buffers.old).buffer.text) (marked_at name.now buffers.old).buffer.serial (change_read (marked_at name.now buffers.old).buffer.text kill.now change.now) ≡ false }
+    ensures ok { OnOk result (buffers.new ≡ change_first (marked_named name.now) (marked_edited change.now.from change.now.to (put_read (marked_at name.now buffers.old).buffer.text kill.now change.now.put)) buffers.old) }
+    ensures end { IfOk result (λ end. end ≡ change.now.from + length (put_read (marked_at name.now buffers.old).buffer.text kill.now change.now.put)) }
+    ensures err { OnErr result (buffers.new ≡ buffers.old) }
+{
+    // For the range of a serial.
+    let _serial = buffers.serial(name);
+    // One character is the common case, and takes no room beside the text's.
+    if let Put::Character { put, times: 1 } = change.put {
+        buffers.edit(name, change.from, change.to, &[put])?;
+        return Ok(change.from + 1);
+    }
+    let chars = put_chars(alloc, buffers.text(name), kill, &change.put)?;
+    buffers.edit(name, change.from, change.to, &chars)?;
+    Ok(change.from + chars.len())
+}
+
+/// The same, where the change takes out or puts in anything.
+fn edit_if<T: Marked + Drop>(
+    alloc: Global,
+    buffers: &mut Buffers<T>,
+    name: &Name,
+    kill: &[char],
+    change: &Change,
+) -> Result<usize, Short>
+    requires kept { HasBuffer name.now buffers.old }
+    requires within { ChangeWithin (marked_at name.now buffers.old).buffer.text kill.now change.now }
+    requires room { is_full (length (marked_at name.now buffers.old).buffer.text) (marked_at name.now buffers.old).buffer.serial (change_read (marked_at name.now buffers.old).buffer.text kill.now change.now) ≡ false }
+    ensures ok { OnOk result (buffers.new ≡ edited_by name.now (change_read (marked_at name.now buffers.old).buffer.text kill.now change.now) buffers.old) }
+    ensures end { IfOk result (λ end. end ≡ change.now.from + length (put_read (marked_at name.now buffers.old).buffer.text kill.now change.now.put)) }
+    ensures err { OnErr result (buffers.new ≡ buffers.old) }
+    ensures may { OnErr result (is_edit change.now.from change.now.to (put_read (marked_at name.now buffers.old).buffer.text kill.now change.now.put) ≡ true) }
+{
+    if is_edit(change, kill.len()) {
+        return edit(alloc, buffers, name, kill, change);
+    }
+    Ok(change.from)
+}
+
+/// Puts a mark of the window's buffer at a position.
+fn place<T: Marked + Drop>(buffers: &mut Buffers<T>, name: &Name, mark: MarkId, position: usize)
+    requires mark { IsMark name.now mark buffers.old }
+    requires within { position ≤ length (marked_at name.now buffers.old).buffer.text }
+    ensures { buffers.new ≡ change_first (marked_named name.now) (marked_placed mark position) buffers.old }
+{
+    buffers.place(name, mark, position);
+}
+
+/// The window's point goes where it is to. What was put in ends at `behind`.
+fn place_point<T: Marked + Drop>(
+    buffers: &mut Buffers<T>,
+    window_marks: &WindowMarks,
+    goes: &Goes,
+    behind: usize,
+)
+    requires point { IsMark window_marks.now.name window_marks.now.point buffers.old }
+    requires within { GoesWithin (length (marked_at window_marks.now.name buffers.old).buffer.text) goes.now }
+    requires behind { behind ≤ length (marked_at window_marks.now.name buffers.old).buffer.text }
+    ensures { buffers.new ≡ mark_gone window_marks.now.name window_marks.now.point (point_read behind goes.now) buffers.old }
+{
+    match *goes {
+        Goes::Stays => {}
+        Goes::To(position) => place(buffers, &window_marks.name, window_marks.point, position),
+        Goes::Behind => place(buffers, &window_marks.name, window_marks.point, behind),
+    }
+}
+
+/// The window's top goes where it is to.
+fn place_top<T: Marked + Drop>(
+    buffers: &mut Buffers<T>,
+    window_marks: &WindowMarks,
+    top: &Option<usize>,
+)
+    requires top { IsMark window_marks.now.name window_marks.now.top buffers.old }
+    requires within { IsWithin (length (marked_at window_marks.now.name buffers.old).buffer.text) top.now }
+    ensures { buffers.new ≡ mark_gone window_marks.now.name window_marks.now.top (top_read top.now) buffers.old }
+{
+    match *top {
+        None => {}
+        Some(position) => place(buffers, &window_marks.name, window_marks.top, position),
+    }
+}
+
+/// The session holds the kill buffer that was made, if one was.
+fn hold_kill(session: &mut Session, kill: Option<Vec<char>>)
+    ensures { session.new ≡ record session.old { kill = kill_set kill session.old.kill } }
+{
+    match kill {
+        None => {}
+        Some(text) => set_kill(session, text),
+    }
+}
+
+/// Leaves what a command is to leave.
+fn leave<T: Marked + Drop>(
+    buffers: &mut Buffers<T>,
+    session: &mut Session,
+    window_marks: &WindowMarks,
+    left: &Finish,
+    behind: usize,
+    kill: Option<Vec<char>>,
+)
+    requires marks { AreMarks buffers.old window_marks.now }
+    requires point { GoesWithin (length (marked_at window_marks.now.name buffers.old).buffer.text) left.now.point }
+    requires top { IsWithin (length (marked_at window_marks.now.name buffers.old).buffer.text) left.now.top }
+    requires behind { behind ≤ length (marked_at window_marks.now.name buffers.old).buffer.text }
+    ensures marks { buffers.new ≡ mark_gone window_marks.now.name window_marks.now.top (top_read left.now.top) (mark_gone window_marks.now.name window_marks.now.point (point_read behind left.now.point) buffers.old) }
+    ensures session { session.new ≡ told left.now.told (acted left.now.kind (record session.old { kill = kill_set kill session.old.kill })) }
+{
+    place_point(buffers, window_marks, &left.point, behind);
+    place_top(buffers, window_marks, &left.top);
+    hold_kill(session, kill);
+    finish(session, left.kind, left.told);
+}
+
+/// A change is done. `Short`: memory was refused, and nothing was done.
+fn change_text<T: Marked + Drop>(
+    alloc: Global,
+    buffers: &mut Buffers<T>,
+    session: &mut Session,
+    window_marks: &WindowMarks,
+    change: &Change,
+) -> Result<(), Short>
+    requires marks { AreMarks buffers.old window_marks.now }
+    requires can { CanBeDone buffers.old window_marks.now session.old.kill (Edits change.now) }
+    ensures ok { OnOk result (buffers.new ≡ marked_after window_marks.now (marked_at window_marks.now.name buffers.old).buffer.text session.old.kill (Edits change.now) buffers.old) }
+    ensures acted { OnOk result (session.new ≡ session_acted (marked_at window_marks.now.name buffers.old).buffer.text (Edits change.now) session.old) }
+    ensures err { OnErr result (buffers.new ≡ buffers.old) }
+    ensures same { OnErr result (session.new ≡ session.old) }
+    ensures may { OnErr result ((own : Own) → takes_memory (outcome_through own window_marks.now buffers.old session.old.kill (Edits change.now)) ≡ true) }
+{
+    let name = &window_marks.name;
+    let kill = killed_if(
+        alloc,
+        buffers.text(name),
+        session.kill.as_slice(),
+        &change.finish.kill,
+    )?;
+    let behind = edit_if(alloc, buffers, name, session.kill.as_slice(), change)?;
+    leave(buffers, session, window_marks, &change.finish, behind, kill);
+    Ok(())
+}
+
+/// A motion is done. `Short`: memory was refused, and nothing was done.
+fn move_point<T: Marked + Drop>(
+    alloc: Global,
+    buffers: &mut Buffers<T>,
+    session: &mut Session,
+    window_marks: &WindowMarks,
+    left: &Finish,
+) -> Result<(), Short>
+    requires marks { AreMarks buffers.old window_marks.now }
+    requires can { CanBeDone buffers.old window_marks.now session.old.kill (Moves left.now) }
+    ensures ok { OnOk result (buffers.new ≡ marked_after window_marks.now (marked_at window_marks.now.name buffers.old).buffer.text session.old.kill (Moves left.now) buffers.old) }
+    ensures acted { OnOk result (session.new ≡ session_acted (marked_at window_marks.now.name buffers.old).buffer.text (Moves left.now) session.old) }
+    ensures err { OnErr result (buffers.new ≡ buffers.old) }
+    ensures same { OnErr result (session.new ≡ session.old) }
+    ensures may { OnErr result ((own : Own) → takes_memory (outcome_through own window_marks.now buffers.old session.old.kill (Moves left.now)) ≡ true) }
+{
+    let kill = killed_if(
+        alloc,
+        buffers.text(&window_marks.name),
+        session.kill.as_slice(),
+        &left.kill,
+    )?;
+    leave(buffers, session, window_marks, left, 0, kill);
+    Ok(())
+}
+
+/// Does what was planned: in the buffers, and to the acting session. `Short`: memory was refused, and nothing was done.
+fn carry_out<T: Marked + Drop>(
+    alloc: Global,
+    buffers: &mut Buffers<T>,
+    session: &mut Session,
+    window_marks: &WindowMarks,
+    action: &Action,
+) -> Result<(), Short>
+    requires marks { AreMarks buffers.old window_marks.now }
+    requires can { CanBeDone buffers.old window_marks.now session.old.kill action.now }
+    ensures ok { OnOk result (buffers.new ≡ marked_after window_marks.now (marked_at window_marks.now.name buffers.old).buffer.text session.old.kill action.now buffers.old) }
+    ensures acted { OnOk result (session.new ≡ session_acted (marked_at window_marks.now.name buffers.old).buffer.text action.now session.old) }
+    ensures err { OnErr result (buffers.new ≡ buffers.old) }
+    ensures same { OnErr result (session.new ≡ session.old) }
+    ensures may { OnErr result ((own : Own) → takes_memory (outcome_through own window_marks.now buffers.old session.old.kill action.now) ≡ true) }
+{
+    match action {
+        Action::Fails(message) => {
+            fail(session, *message);
+            Ok(())
+        }
+        Action::Edits(change) => change_text(alloc, buffers, session, window_marks, change),
+        Action::Moves(left) => move_point(alloc, buffers, session, window_marks, left),
+    }
+}
+
+/// Does what was planned, for the session at `at`. `Short`: memory was refused, and nothing was done.
+pub fn perform<T: Marked + Drop>(
+    alloc: Global,
+    buffers: &mut Buffers<T>,
+    sessions: &mut [Session],
+    at: usize,
+    window_marks: &WindowMarks,
+    action: &Action,
+) -> Result<(), Short>
+    requires sound { IsSound buffers.old sessions.old }
+    requires within { at < length sessions.old }
+    requires window_marks { option_and_then window_marks_of (slice_get sessions.old at) ≡ Some window_marks.now }
+    requires fresh { own_at at sessions.old ≡ idle (own_at at sessions.old).kind }
+    requires can { CanBeDone buffers.old window_marks.now (kill_at at sessions.old) action.now }
+    ensures sound { IsSound buffers.new sessions.new }
+    ensures sizes { sizes_in sessions.new ≡ sizes_in sessions.old }
+    ensures ok { OnOk result ((directory : Directory) (id : ℕ) (next : Option ℕ) → at ≡ position_or_len (session_id id) sessions.old → world_of directory buffers.new sessions.new next ≡ apply (world_of directory buffers.old sessions.old next) id (outcome_through (own_at at sessions.old) window_marks.now buffers.old (kill_at at sessions.old) action.now)) }
+    ensures err { OnErr result ((directory : Directory) (next : Option ℕ) → world_of directory buffers.new sessions.new next ≡ world_of directory buffers.old sessions.old next) }
+    ensures may { OnErr result ((own : Own) → takes_memory (outcome_through own window_marks.now buffers.old (kill_at at sessions.old) action.now) ≡ true) }
+{
+    carry_out(alloc, buffers, &mut sessions[at], window_marks, action)
+}
+
+/// What an action through a window's marks touches, by a session whose kill buffer has `killed` characters.
+pub fn touched_by(window_marks: &WindowMarks, action: &Action, killed: usize) -> Touched
+    ensures { (own : Own) (ks : List MarkedBuffer) (kill : List ℕ) → length kill ≡ killed → CanBeDone ks window_marks.now kill action.now → result ≡ touched_by (outcome_through own window_marks.now ks kill action.now).effect }
+{
+    match action {
+        Action::Edits(change) => {
+            if is_edit(change, killed) {
+                Touched::In(window_marks.name)
+            } else {
+                Touched::Nowhere
+            }
+        }
+        Action::Fails(_) | Action::Moves(_) => Touched::Nowhere,
+    }
+}

@@ -1,0 +1,216 @@
+// What a command on a text comes to: whether it is permitted, and what its family plans.
+ghost use Rattle.std.specs.Prelude.{◌≡◌, ◌≤◌, ℕ, List, length, Option, None, Ok, IfOk, IfSome, true};
+ghost use Rattle.mgs_model.specs.Acts.{fails, moved_by, permitted};
+ghost use Rattle.mgs_model.specs.Outcome.{Outcome};
+ghost use Rattle.mgs_model.specs.declared.entry.Decision.TheVariants.{Granted};
+ghost use Rattle.mgs_model.specs.Plans as plans;
+ghost use Rattle.mgs_model.specs.World.{Own};
+ghost use Rattle.mgs_buffers.specs.MarkedBuffer.{HasBuffer, marked_at};
+ghost use Rattle.mgs_edit.specs.Reading.{ChangeWithin, FinishWithin, IsWithin, edit_read, motion_read, surrounded};
+ghost use Rattle.mgs_act.specs.Actions.{AreMarks, CanBeDone, CanDo, action_outcome, around_given, edit_outcome, granted_outcome, insertion_mask, is_on_text, mark_shown, mask_at, outcome_through, plan_in};
+ghost use Rattle.mgs_world.specs.Worlds.{idle};
+
+use crate::action::Action;
+use crate::given::Given;
+use mgs_buffers::Buffers;
+use mgs_edit::{
+    Around, Change, Finish, alteration, insertion, is_edit, is_kill_too_large, is_too_long, motion,
+    reading_insertion, scroll,
+};
+use mgs_marks::Marked;
+use mgs_model::{Command, Decision, Mask, Message, Name, Right, TEXT_LIMIT};
+use mgs_policy::Directory;
+use mgs_text::Text;
+use mgs_windows::WindowMarks;
+
+/// Where the window's mark stands.
+fn mark<T: Marked + Drop>(buffers: &Buffers<T>, window_marks: &WindowMarks) -> Option<usize>
+    requires kept { HasBuffer window_marks.now.name buffers.now }
+    requires marks { AreMarks buffers.now window_marks.now }
+    ensures value { result ≡ mark_shown buffers.now window_marks.now }
+    ensures within { IsWithin (length (marked_at window_marks.now.name buffers.now).buffer.text) result }
+{
+    match window_marks.mark {
+        Some(mark) => Some(buffers.pos(&window_marks.name, mark)),
+        None => None,
+    }
+}
+
+/// What a planner is given. A user who may not read the text acts at its end, and has no mark.
+fn around<T: Marked + Drop>(
+    buffers: &Buffers<T>,
+    directory: &Directory,
+    user: &Name,
+    window_marks: &WindowMarks,
+    given: &Given,
+    killed: usize,
+) -> Around
+    requires kept { HasBuffer window_marks.now.name buffers.now }
+    requires marks { AreMarks buffers.now window_marks.now }
+    ensures value { result ≡ around_given directory.now buffers.now user.now window_marks.now given.now killed }
+    ensures place { result.place ≤ length (marked_at window_marks.now.name buffers.now).buffer.text }
+    ensures mark { IsWithin (length (marked_at window_marks.now.name buffers.now).buffer.text) result.mark }
+{
+    let name = &window_marks.name;
+    if buffers.grants(directory, name, user, Right::ReadData) {
+        Around {
+            place: buffers.pos(name, window_marks.point),
+            mark: mark(buffers, window_marks),
+            argument: given.argument,
+            killed,
+            kind: given.kind,
+            height: given.height,
+        }
+    } else {
+        Around {
+            place: buffers.text_len(name),
+            mark: None,
+            argument: given.argument,
+            killed,
+            kind: given.kind,
+            height: given.height,
+        }
+    }
+}
+
+/// The bit of the right that an insertion needs: at the text's end it appends, elsewhere it writes.
+fn insertion_bit(place: usize, size: usize) -> u32
+    ensures value { result ≡ insertion_mask place size }
+    ensures small { result ≤ 4 }
+{
+    if place == size {
+        Right::AppendData.bit()
+    } else {
+        Right::WriteData.bit()
+    }
+}
+
+/// The rights that a command needs at a place of a text of `size` characters.
+fn needs(command: &Command, place: usize, size: usize) -> Mask
+    ensures { result ≡ mask_at command.now place size }
+{
+    let read = Right::ReadData.bit();
+    match *command {
+        Command::Insert(_) => Mask::from_bits(insertion_bit(place, size)),
+        Command::InsertReading(_) => Mask::from_bits(read + insertion_bit(place, size)),
+        Command::Alter(_) => Mask::from_bits(read + Right::WriteData.bit()),
+        _ => Mask::from_bits(read),
+    }
+}
+
+/// What a plan of an edit comes to, where the text has the buffer's last serial.
+fn edits<T: Text>(text: &T, serial: u64, kill: &[char], planned: Result<Change, Message>) -> Action
+    requires within { IfOk planned (ChangeWithin (T.text text.now) kill.now) }
+    requires unmarked { IfOk planned (λ c. c.finish.mark ≡ None) }
+    ensures value { (own : Own) (name : List ℕ) → action_outcome own name (T.text text.now) kill.now result ≡ edit_outcome own name (length (T.text text.now)) serial (edit_read (T.text text.now) kill.now planned) }
+    ensures can { CanDo (T.text text.now) kill.now serial result }
+{
+    match planned {
+        Err(message) => Action::Fails(message),
+        Ok(change) => edits_so(text, serial, kill, change),
+    }
+}
+
+/// The same, of a change.
+fn edits_so<T: Text>(text: &T, serial: u64, kill: &[char], change: Change) -> Action
+    requires within { ChangeWithin (T.text text.now) kill.now change }
+    requires unmarked { change.finish.mark ≡ None }
+    ensures value { (own : Own) (name : List ℕ) → action_outcome own name (T.text text.now) kill.now result ≡ edit_outcome own name (length (T.text text.now)) serial (edit_read (T.text text.now) kill.now (Ok change)) }
+    ensures can { CanDo (T.text text.now) kill.now serial result }
+{
+    let killed = kill.len();
+    if is_edit(&change, killed)
+        && (is_too_long(text.len(), &change, killed) || serial == u64::MAX)
+    {
+        return Action::Fails(Message::BufferFull);
+    }
+    if is_kill_too_large(&change.finish, killed) {
+        return Action::Fails(Message::KillTooLarge);
+    }
+    Action::Edits(change)
+}
+
+/// What a plan of a motion comes to.
+fn moves<T: Text>(text: &T, kill: &[char], planned: Result<Finish, Message>) -> Action
+    requires within { IfOk planned (FinishWithin (length (T.text text.now)) (length (T.text text.now))) }
+    requires unmarked { IfOk planned (λ f. f.mark ≡ None) }
+    ensures value { (own : Own) (name : List ℕ) → action_outcome own name (T.text text.now) kill.now result ≡ moved_by own (motion_read (T.text text.now) kill.now planned) }
+    ensures can { (serial : ℕ) → CanDo (T.text text.now) kill.now serial result }
+{
+    match planned {
+        Err(message) => Action::Fails(message),
+        Ok(finish) => {
+            if is_kill_too_large(&finish, kill.len()) {
+                return Action::Fails(Message::KillTooLarge);
+            }
+            Action::Moves(finish)
+        }
+    }
+}
+
+/// What a command plans where its rights are granted.
+fn plan_granted<T: Text>(
+    text: &T,
+    serial: u64,
+    kill: &[char],
+    around: &Around,
+    command: Command,
+) -> Action
+    requires place { around.now.place ≤ length (T.text text.now) }
+    requires mark { IsWithin (length (T.text text.now)) around.now.mark }
+    requires short { length (T.text text.now) ≤ TEXT_LIMIT }
+    requires killed { length kill.now ≡ around.now.killed }
+    requires here { is_on_text command ≡ true }
+    ensures value { (own : Own) (rest : plans.Around) → action_outcome own rest.name (T.text text.now) kill.now result ≡ granted_outcome own command (T.text text.now) (surrounded around.now (length (T.text text.now)) (record rest { kill = kill.now; serial = serial })) }
+    ensures can { CanDo (T.text text.now) kill.now serial result }
+{
+    match command {
+        Command::Insert(by) => edits(text, serial, kill, insertion(text.len(), around, by)),
+        Command::InsertReading(by) => {
+            edits_so(text, serial, kill, reading_insertion(text, around, by))
+        }
+        Command::Move(by) => moves(text, kill, motion(text, around, by)),
+        Command::Alter(by) => edits(text, serial, kill, alteration(text, around, by)),
+        Command::Scroll(by) => moves(text, kill, scroll(text, around, by)),
+        // No other command acts on the text yet.
+        _ => Action::Fails(Message::KeyNotBound),
+    }
+}
+
+/// What is told where rights are not granted.
+fn denial(decision: Decision) -> Option<Message>
+    ensures denied { IfSome result (λ message. (own : Own) (o : Outcome) → permitted own decision o ≡ fails own message) }
+    ensures granted { result ≡ None → decision ≡ Granted }
+{
+    match decision {
+        Decision::Granted => None,
+        Decision::DeniedBy { .. } | Decision::NotGranted { .. } => Some(Message::Denied(decision)),
+    }
+}
+
+/// What a command on a text comes to through a window's marks, by a user whose session has this kill buffer.
+pub fn plan<T: Marked + Drop>(
+    buffers: &Buffers<T>,
+    directory: &Directory,
+    user: &Name,
+    window_marks: &WindowMarks,
+    given: &Given,
+    kill: &[char],
+    command: Command,
+) -> Action
+    requires kept { HasBuffer window_marks.now.name buffers.now }
+    requires marks { AreMarks buffers.now window_marks.now }
+    requires here { is_on_text command ≡ true }
+    ensures value { outcome_through (idle given.now.kind) window_marks.now buffers.now kill.now result ≡ plan_in directory.now buffers.now (idle given.now.kind) user.now window_marks.now given.now.height command given.now.argument kill.now }
+    ensures can { CanBeDone buffers.now window_marks.now kill.now result }
+{
+    let name = &window_marks.name;
+    let text = buffers.text(name);
+    let size = buffers.text_len(name);
+    let around = around(buffers, directory, user, window_marks, given, kill.len());
+    let mask = needs(&command, around.place, size);
+    match denial(buffers.decide_all(directory, name, user, mask)) {
+        Some(message) => Action::Fails(message),
+        None => plan_granted(text, buffers.serial(name), kill, &around, command),
+    }
+}
