@@ -7,7 +7,7 @@ ghost use Rattle.mgs_buffers.specs.MarkedBuffer.{marked_new, marked_edited, mark
 ghost use Rattle.mgs_buffers.specs.Contents.{marked_of};
 
 use mgs_marks::Marked;
-use mgs_model::{Decision, Mask, MarkId, Name, Right, Short};
+use mgs_model::{Decision, MarkId, Mask, Name, Right, Short};
 use mgs_policy::{Directory, decide, decide_right, is_granted};
 use mgs_text::Text;
 use mgs_undo::{Edit, Record};

@@ -16,7 +16,7 @@ use crate::fault::AddFault;
 use indexmap::IndexMap;
 use mgs_acl::user_named;
 use mgs_marks::Marked;
-use mgs_model::{BUFFER_LIMIT, Decision, Mask, MarkId, Name, Right, Short, TEXT_LIMIT};
+use mgs_model::{BUFFER_LIMIT, Decision, MarkId, Mask, Name, Right, Short, TEXT_LIMIT};
 use mgs_policy::Directory;
 use mgs_text::Text;
 use std::alloc::Global;

@@ -44,33 +44,45 @@ if_character : (g : Bool) (a : Option Argument) (byte : ℕ) → (if g then Boun
 if_character true a byte = refl
 if_character false a byte = refl
 
-plain_word : (a : Option Argument) (byte : ℕ) → not_found a byte (byte ∷ []) (is_half (byte ∷ [])) ≡ no_row a (prefix_after Empty (Plain byte)) (inserted Empty (Plain byte))
-plain_word a byte =
+-- a key that is no ESC alone
+abbrev IsKey : Key → Type 0
+IsKey (Plain byte) = (byte == 27) ≡ false
+IsKey (Meta byte) = Unit {0}
+
+plain_word : (a : Option Argument) (byte : ℕ) → (byte == 27) ≡ false → not_found a byte (byte ∷ []) (is_half (byte ∷ [])) ≡ no_row a (prefix_after Empty (Plain byte)) (inserted Empty (Plain byte))
+plain_word a byte no_escape =
     let goal : ℕ → Type 0 = λ n. not_found a n (n ∷ []) (is_half (n ∷ [])) ≡ no_row a (prefix_after Empty (Plain n)) (inserted Empty (Plain n)) in
     let go : (t : Bool) → (byte == 24) ≡ t → goal byte = λ t. elim t as (λ t. (byte == 24) ≡ t → goal byte) [
       | true ↦ λ e. subst goal (sym (eqb-true byte 24 e)) refl
-      | false ↦ λ e. rw e (if_character (is_graphic byte || (byte == 9)) a byte)
+      | false ↦ λ e. rw (e, no_escape) (if_character (is_graphic byte || (byte == 9)) a byte)
     ]
     in go (byte == 24) refl
 
-chosen_is : (a : Option Argument) (prefix : Prefix) (key : Key) (o : Option Command) → by_command a (last_byte key) (word_of prefix key) o ≡ chosen a o (prefix_after prefix key) (inserted prefix key)
-chosen_is a prefix key (Some c) = refl
-chosen_is a Empty (Plain byte) None = plain_word a byte
-chosen_is a Empty (Meta byte) None = refl
-chosen_is a ControlX (Plain byte) None = refl
-chosen_is a ControlX (Meta byte) None = refl
+chosen_is : (a : Option Argument) (prefix : Prefix) (key : Key) (o : Option Command) → IsKey key → by_command a (last_byte key) (word_of prefix key) o ≡ chosen a o (prefix_after prefix key) (inserted prefix key)
+chosen_is a prefix key (Some c) k = refl
+chosen_is a Empty (Plain byte) None k = plain_word a byte k
+chosen_is a Empty (Meta byte) None k = refl
+chosen_is a ControlX (Plain byte) None k = refl
+chosen_is a ControlX (Meta byte) None k = refl
 
-word_is_read : (a : Option Argument) (prefix : Prefix) (key : Key) → word_read a (last_byte key) (word_of prefix key) ≡ word_reads a prefix key
-word_is_read a prefix key =
+word_is_read : (a : Option Argument) (prefix : Prefix) (key : Key) → IsKey key → word_read a (last_byte key) (word_of prefix key) ≡ word_reads a prefix key
+word_is_read a prefix key k =
     found_by a (last_byte key) (word_of prefix key) (find_row (word_of prefix key)) (prefix_is (word_of prefix key))
-    ∙ chosen_is a prefix key (command_of (word_of prefix key))
+    ∙ chosen_is a prefix key (command_of (word_of prefix key)) k
 
 -- a byte that is no ESC
 other_byte : (a : Option Argument) (prefix : Prefix) (byte : ℕ) → (byte == 27) ≡ false → key_read a (prefix_bytes prefix) byte ≡ plain_reads a prefix byte
 unfolding key_read
-other_byte None Empty byte e = rw (e, word_is_read None Empty (Plain byte)) refl
-other_byte (Some x) Empty byte e = rw (e, word_is_read (Some x) Empty (Plain byte)) refl
-other_byte a ControlX byte e = rw (e, word_is_read a ControlX (Plain byte)) refl
+other_byte None Empty byte e =
+    ap (λ t. if byte == 7 then Bound (Set KeyboardQuit) None else if t && true then Half None (27 ∷ []) else if byte == 21 then Half (Some (four_times None)) [] else if is_digit byte && false then Half (Some (digit_added (byte - 48) None)) [] else word_read None byte (byte ∷ [])) e
+    ∙ ap (λ r. if byte == 7 then Bound (Set KeyboardQuit) None else if byte == 21 then Half (Some (four_times None)) [] else if is_digit byte && false then Half (Some (digit_added (byte - 48) None)) [] else r) (word_is_read None Empty (Plain byte) e)
+other_byte (Some x) Empty byte e =
+    let a : Option Argument = Some x in
+    ap (λ t. if byte == 7 then Bound (Set KeyboardQuit) (value_of a) else if t && true then Half a (27 ∷ []) else if byte == 21 then Half (Some (four_times a)) [] else if is_digit byte && true then Half (Some (digit_added (byte - 48) a)) [] else word_read a byte (byte ∷ [])) e
+    ∙ ap (λ r. if byte == 7 then Bound (Set KeyboardQuit) (value_of a) else if byte == 21 then Half (Some (four_times a)) [] else if is_digit byte && true then Half (Some (digit_added (byte - 48) a)) [] else r) (word_is_read a Empty (Plain byte) e)
+other_byte a ControlX byte e =
+    ap (λ t. if byte == 7 then Bound (Set KeyboardQuit) (value_of a) else if t && true then Half a (24 ∷ 27 ∷ []) else if is_digit byte && false then Half (Some (digit_added (byte - 48) a)) [] else word_read a byte (24 ∷ byte ∷ [])) e
+    ∙ ap (λ r. if byte == 7 then Bound (Set KeyboardQuit) (value_of a) else if is_digit byte && false then Half (Some (digit_added (byte - 48) a)) [] else r) (word_is_read a ControlX (Plain byte) e)
 
 pub plain_is_read : (a : Option Argument) (prefix : Prefix) (byte : ℕ) → key_reads a (prefix_bytes prefix) (Plain byte) ≡ plain_reads a prefix byte
 plain_is_read a prefix byte =
@@ -87,8 +99,8 @@ plain_is_read a prefix byte =
 
 pub meta_is_read : (a : Option Argument) (prefix : Prefix) (byte : ℕ) → key_reads a (prefix_bytes prefix) (Meta byte) ≡ meta_reads a prefix byte
 unfolding key_read
-meta_is_read a Empty byte = rw (and-false (byte == 27), word_is_read a Empty (Meta byte)) refl
-meta_is_read a ControlX byte = rw (and-false (byte == 27), word_is_read a ControlX (Meta byte)) refl
+meta_is_read a Empty byte = rw (and-false (byte == 27), word_is_read a Empty (Meta byte) tt) refl
+meta_is_read a ControlX byte = rw (and-false (byte == 27), word_is_read a ControlX (Meta byte) tt) refl
 
 -- A BYTE, AFTER THE DECODER
 

@@ -4,13 +4,18 @@ use Rattle.mgs_keys.specs.declared.decoder.Key.{Key}
 use Rattle.mgs_keys.specs.declared.decoder.Key.TheVariants.{Plain, Meta}
 use Rattle.mgs_model.specs.Keys.{KeyRead, Half, Bound, Not_bound, key_read}
 use Rattle.mgs_model.specs.declared.session.Argument.{Argument}
-use Rattle.mgs_model.specs.declared.session.Insertion.TheVariants.{SelfInsert, Newline}
-use Rattle.mgs_model.specs.declared.session.Motion.TheVariants.{ForwardChar, BackwardChar}
+use Rattle.mgs_model.specs.declared.session.Insertion.{Insertion}
+use Rattle.mgs_model.specs.declared.session.Insertion.TheVariants.{Yank}
+use Rattle.mgs_model.specs.declared.session.Motion.{Motion}
+use Rattle.mgs_model.specs.declared.session.Motion.TheVariants.{SetMark, ExchangePointAndMark, MarkWholeBuffer, StartSearch, SearchOn, StartReplace, SkipMatch}
+use Rattle.mgs_model.specs.declared.session.Alteration.{Alteration}
+use Rattle.mgs_model.specs.declared.session.Alteration.TheVariants.{UpcaseWord, ReplaceMatch}
+use Rattle.mgs_model.specs.declared.session.Setting.{Setting}
 use Rattle.mgs_model.specs.declared.session.Setting.TheVariants.{KeyboardQuit}
 use Rattle.mgs_model.specs.declared.session.Arrangement.{Arrangement}
 use Rattle.mgs_model.specs.declared.session.Arrangement.TheVariants.{ShrinkWindow, ListBuffers}
 use Rattle.mgs_model.specs.declared.session.Command.{Command}
-use Rattle.mgs_model.specs.declared.session.Command.TheVariants.{Insert, Move, Set, Rearrange, Exit}
+use Rattle.mgs_model.specs.declared.session.Command.TheVariants.{Insert, InsertReading, Move, Alter, Scroll, Set, Rearrange, Exit}
 use Rattle.mgs_maps.specs.declared.maps.Fed.{Fed}
 use Rattle.mgs_maps.specs.declared.maps.Fed.TheVariants.{Pending, Run, Unbound}
 use Rattle.mgs_maps.specs.declared.maps.Prefix.{Prefix}
@@ -37,13 +42,38 @@ is_bound_arrangement ShrinkWindow = false
 is_bound_arrangement ListBuffers = false
 is_bound_arrangement _ = true
 
+-- the insertions, motions, alterations and settings of the table
+abbrev pub is_bound_insertion : Insertion → Bool
+is_bound_insertion Yank = false
+is_bound_insertion _ = true
+
+abbrev pub is_bound_motion : Motion → Bool
+is_bound_motion SetMark = false
+is_bound_motion ExchangePointAndMark = false
+is_bound_motion MarkWholeBuffer = false
+is_bound_motion StartSearch = false
+is_bound_motion SearchOn = false
+is_bound_motion StartReplace = false
+is_bound_motion SkipMatch = false
+is_bound_motion _ = true
+
+abbrev pub is_bound_alteration : Alteration → Bool
+is_bound_alteration UpcaseWord = false
+is_bound_alteration ReplaceMatch = false
+is_bound_alteration _ = true
+
+abbrev pub is_bound_setting : Setting → Bool
+is_bound_setting KeyboardQuit = true
+is_bound_setting _ = false
+
 -- the commands of the table, and insertions of a character
 abbrev pub is_bound : Command → Bool
-is_bound (Insert (SelfInsert c)) = true
-is_bound (Insert Newline) = true
-is_bound (Move ForwardChar) = true
-is_bound (Move BackwardChar) = true
-is_bound (Set KeyboardQuit) = true
+is_bound (Insert c) = is_bound_insertion c
+is_bound (InsertReading c) = true
+is_bound (Move c) = is_bound_motion c
+is_bound (Alter c) = is_bound_alteration c
+is_bound (Scroll c) = true
+is_bound (Set c) = is_bound_setting c
 is_bound (Rearrange c) = is_bound_arrangement c
 is_bound Exit = true
 is_bound _ = false

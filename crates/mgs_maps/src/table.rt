@@ -9,7 +9,9 @@ ghost use Rattle.mgs_maps.specs.Table.{rows_of, command_of};
 
 use crate::maps::Prefix;
 use mgs_keys::Key;
-use mgs_model::{Arrangement, Command, Insertion, Motion, Setting};
+use mgs_model::{
+    Alteration, Arrangement, Command, Insertion, Motion, ReadingInsertion, Scrolling, Setting,
+};
 
 pub(crate) const ESCAPE: u8 = 0x1B;
 
@@ -24,7 +26,7 @@ pub struct Binding {
     pub command: Command,
 }
 
-static BINDINGS: [Binding; 12] = [
+static BINDINGS: [Binding; 36] = [
     Binding {
         keys: b"\r",
         name: "newline",
@@ -39,6 +41,126 @@ static BINDINGS: [Binding; 12] = [
         keys: b"\x02",
         name: "backward-char",
         command: Command::Move(Motion::BackwardChar),
+    },
+    Binding {
+        keys: b"\x0F",
+        name: "open-line",
+        command: Command::Insert(Insertion::OpenLine),
+    },
+    Binding {
+        keys: b"\n",
+        name: "newline-and-indent",
+        command: Command::InsertReading(ReadingInsertion::NewlineAndIndent),
+    },
+    Binding {
+        keys: b"\x01",
+        name: "beginning-of-line",
+        command: Command::Move(Motion::BeginningOfLine),
+    },
+    Binding {
+        keys: b"\x05",
+        name: "end-of-line",
+        command: Command::Move(Motion::EndOfLine),
+    },
+    Binding {
+        keys: b"\x0E",
+        name: "next-line",
+        command: Command::Move(Motion::NextLine),
+    },
+    Binding {
+        keys: b"\x10",
+        name: "previous-line",
+        command: Command::Move(Motion::PreviousLine),
+    },
+    Binding {
+        keys: b"\x16",
+        name: "scroll-up",
+        command: Command::Scroll(Scrolling::ScrollUp),
+    },
+    Binding {
+        keys: b"\x1Bv",
+        name: "scroll-down",
+        command: Command::Scroll(Scrolling::ScrollDown),
+    },
+    Binding {
+        keys: b"\x0C",
+        name: "recenter",
+        command: Command::Move(Motion::Recenter),
+    },
+    Binding {
+        keys: b"\x1B<",
+        name: "beginning-of-buffer",
+        command: Command::Move(Motion::BufferStart),
+    },
+    Binding {
+        keys: b"\x1B>",
+        name: "end-of-buffer",
+        command: Command::Move(Motion::BufferEnd),
+    },
+    Binding {
+        keys: b"\x1Bf",
+        name: "forward-word",
+        command: Command::Move(Motion::ForwardWord),
+    },
+    Binding {
+        keys: b"\x1Bb",
+        name: "backward-word",
+        command: Command::Move(Motion::BackwardWord),
+    },
+    Binding {
+        keys: b"\x1B}",
+        name: "forward-paragraph",
+        command: Command::Move(Motion::ForwardParagraph),
+    },
+    Binding {
+        keys: b"\x1B{",
+        name: "backward-paragraph",
+        command: Command::Move(Motion::BackwardParagraph),
+    },
+    Binding {
+        keys: b"\x18=",
+        name: "what-cursor-position",
+        command: Command::Move(Motion::WhatCursorPosition),
+    },
+    Binding {
+        keys: b"\x04",
+        name: "delete-char",
+        command: Command::Alter(Alteration::DeleteChar),
+    },
+    Binding {
+        keys: b"\x7F",
+        name: "delete-backward-char",
+        command: Command::Alter(Alteration::DeleteBackwardChar),
+    },
+    Binding {
+        keys: b"\x0B",
+        name: "kill-line",
+        command: Command::Alter(Alteration::KillLine),
+    },
+    Binding {
+        keys: b"\x1Bd",
+        name: "kill-word",
+        command: Command::Alter(Alteration::KillWord),
+    },
+    Binding {
+        keys: b"\x1B\x7F",
+        name: "backward-kill-word",
+        command: Command::Alter(Alteration::BackwardKillWord),
+    },
+    Binding {
+        keys: b"\x17",
+        name: "kill-region",
+        command: Command::Alter(Alteration::KillRegion),
+    },
+    Binding {
+        keys: b"\x1Bw",
+        name: "copy-region-as-kill",
+        command: Command::Move(Motion::CopyRegion),
+    },
+    Binding {
+        keys: b"\x14",
+        name: "transpose-chars",
+        command: Command::Alter(Alteration::TransposeChars),
     },
     Binding {
         keys: b"\x07",

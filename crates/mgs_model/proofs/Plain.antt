@@ -5,8 +5,8 @@ use Rattle.std.specs.Option.{option_map}
 use Rattle.mgs_model.specs.World.{World, Session, Own, has_id, find_session}
 use Rattle.mgs_model.specs.View.{View, view, view_of, size_told, serial_told, text_in}
 use Rattle.mgs_model.specs.Outcome.{Act, Unbound, Run, Outcome, Effect, No_effect, Quit, Arrange, Stay, Adjust, Keep_kill}
-use Rattle.mgs_model.specs.Plans.{Finish, Change, insertion, motion, arrangement, acted_own}
-use Rattle.mgs_model.specs.Acts.{outcome, permitted, judged, needs, allowed, Target, target, around, edits, edited_by, edit_of, is_full, moves, moved_by, finished, finished_own, is_too_large, arranges, fails, without_all, told_over}
+use Rattle.mgs_model.specs.Plans.{Finish, Change, alteration, insertion, motion, reading_insertion, scrolling, arrangement, acted_own}
+use Rattle.mgs_model.specs.Acts.{outcome, permitted, judged, needs, allowed, Target, target, around, edits, edited_by, edit_of, has_rows, is_full, moves, row_in, scrolls_rows, selected_seen, moved_by, finished, finished_own, is_too_large, arranges, fails, without_all, told_over}
 use Rattle.mgs_model.specs.Apply.{searches, change_first, apply, applied, outcome_in, act, after_quit, session_after, session_arranged}
 use Rattle.mgs_model.specs.Turns.{Turn, Keep, Do, key_turn, byte_turn, todo_turn, next}
 use Rattle.mgs_model.specs.Events.{own_set, with_own, Doing, turn_in, turn_seen, rests, turn, turn_done, turns, most_turns, begun, begun_own, byte_done, refused_own, refused_of, refused_in, refused_act}
@@ -15,7 +15,7 @@ use Rattle.mgs_model.specs.declared.message.Message.TheVariants.{Silent, KillToo
 use Rattle.mgs_model.specs.declared.session.Mode.{Mode}
 use Rattle.mgs_model.specs.declared.session.Mode.TheVariants.{Plain}
 use Rattle.mgs_model.specs.declared.session.Setting.TheVariants.{KeyboardQuit}
-use Rattle.mgs_model.specs.declared.session.Command.TheVariants.{Insert, Move, Set, Rearrange, Exit}
+use Rattle.mgs_model.specs.declared.session.Command.TheVariants.{Insert, InsertReading, Move, Alter, Scroll, Set, Rearrange, Exit}
 use Rattle.mgs_model.specs.declared.entry.Decision.{Decision}
 use Rattle.mgs_model.specs.declared.entry.Decision.TheVariants.{Granted, DeniedBy, NotGranted}
 use Rattle.mgs_model.proofs.Firsts.{change_first_found, find-change_first}
@@ -143,7 +143,10 @@ arranges_left own e (Ok plan) h = h
 abbrev pub is_single : Act → Bool
 is_single Unbound = true
 is_single (Run (Insert c) n typed) = true
+is_single (Run (InsertReading c) n typed) = true
 is_single (Run (Move c) n typed) = true
+is_single (Run (Alter c) n typed) = true
+is_single (Run (Scroll c) n typed) = true
 is_single (Run (Set KeyboardQuit) n typed) = true
 is_single (Run (Rearrange c) n typed) = true
 is_single (Run Exit n typed) = true
@@ -153,6 +156,15 @@ allowed_left : (v : View) (c : Act) (stored : Bool) → is_single c ≡ true →
 allowed_left v Unbound stored s h = refl
 allowed_left v (Run (Insert c) n typed) stored s h = edits_left v.session.own (target v) (λ t. insertion c (around v.session n typed t)) h
 allowed_left v (Run (Move c) n typed) stored s h = moves_left v.session.own (target v) (λ t. motion c (text_in t.buffer.full) (around v.session n typed t)) h
+allowed_left v (Run (InsertReading c) n typed) stored s h =
+    edits_left v.session.own (target v) (λ t. reading_insertion c (text_in t.buffer.full) (around v.session n typed t)) h
+allowed_left v (Run (Alter c) n typed) stored s h =
+    edits_left v.session.own (target v) (λ t. alteration c (text_in t.buffer.full) (around v.session n typed t)) h
+allowed_left v (Run (Scroll c) n typed) stored s h = scrolls_left (has_rows (selected_seen v))
+  where
+    scrolls_left : (f : Bool) → NothingLeft (cond f (scrolls_rows v.session.own (row_in c (selected_seen v))) (moves v.session.own (target v) (λ t. scrolling c (text_in t.buffer.full) (around v.session n typed t))))
+    scrolls_left true = h
+    scrolls_left false = moves_left v.session.own (target v) (λ t. scrolling c (text_in t.buffer.full) (around v.session n typed t)) h
 allowed_left v (Run (Set KeyboardQuit) n typed) stored s h = refl
 allowed_left v (Run (Rearrange c) n typed) stored s h = arranges_left v.session.own No_effect (arrangement c v.session.windows v.session.selected n) h
 allowed_left v (Run Exit n typed) stored s h = by v.session.own.playing

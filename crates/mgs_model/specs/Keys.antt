@@ -4,12 +4,15 @@ use Rattle.std.specs.Option.{option_map}
 use Rattle.std.specs.List.{list_any, starts_with}
 use Rattle.mgs_model.specs.Names.{same_name}
 use Rattle.mgs_model.specs.declared.session.Argument.{Argument}
-use Rattle.mgs_model.specs.declared.session.Insertion.TheVariants.{SelfInsert, Newline}
-use Rattle.mgs_model.specs.declared.session.Motion.TheVariants.{ForwardChar, BackwardChar}
+use Rattle.mgs_model.specs.declared.session.Insertion.TheVariants.{SelfInsert, Newline, OpenLine}
+use Rattle.mgs_model.specs.declared.session.ReadingInsertion.TheVariants.{NewlineAndIndent}
+use Rattle.mgs_model.specs.declared.session.Motion.TheVariants.{ForwardChar, BackwardChar, BeginningOfLine, EndOfLine, NextLine, PreviousLine, BufferStart, BufferEnd, ForwardWord, BackwardWord, ForwardParagraph, BackwardParagraph, Recenter, WhatCursorPosition, CopyRegion}
+use Rattle.mgs_model.specs.declared.session.Alteration.TheVariants.{DeleteChar, DeleteBackwardChar, KillLine, KillWord, BackwardKillWord, KillRegion, TransposeChars}
+use Rattle.mgs_model.specs.declared.session.Scrolling.TheVariants.{ScrollUp, ScrollDown}
 use Rattle.mgs_model.specs.declared.session.Setting.TheVariants.{KeyboardQuit}
 use Rattle.mgs_model.specs.declared.session.Arrangement.TheVariants.{DeleteWindow, DeleteOtherWindows, SplitWindow, NextWindow, PreviousWindow, EnlargeWindow}
 use Rattle.mgs_model.specs.declared.session.Command.{Command}
-use Rattle.mgs_model.specs.declared.session.Command.TheVariants.{Insert, Move, Set, Rearrange, Exit}
+use Rattle.mgs_model.specs.declared.session.Command.TheVariants.{Insert, InsertReading, Move, Alter, Scroll, Set, Rearrange, Exit}
 
 -- THE TABLE: the bytes of a word, the name of its command, and the command. C-x is 24, ESC is 27
 pub record KeyRow : Type 0 where
@@ -20,6 +23,9 @@ pub record KeyRow : Type 0 where
 abbrev key : ℕ → List ℕ → Command → KeyRow
 key byte name c = record { keys = byte ∷ []; name = name; command = c }
 
+abbrev meta : ℕ → List ℕ → Command → KeyRow
+meta byte name c = record { keys = 27 ∷ byte ∷ []; name = name; command = c }
+
 abbrev control_x : ℕ → List ℕ → Command → KeyRow
 control_x byte name c = record { keys = 24 ∷ byte ∷ []; name = name; command = c }
 
@@ -28,6 +34,30 @@ key_rows =
     key 13 (codes "newline") (Insert Newline)
     ∷ key 6 (codes "forward-char") (Move ForwardChar)
     ∷ key 2 (codes "backward-char") (Move BackwardChar)
+    ∷ key 15 (codes "open-line") (Insert OpenLine)
+    ∷ key 10 (codes "newline-and-indent") (InsertReading NewlineAndIndent)
+    ∷ key 1 (codes "beginning-of-line") (Move BeginningOfLine)
+    ∷ key 5 (codes "end-of-line") (Move EndOfLine)
+    ∷ key 14 (codes "next-line") (Move NextLine)
+    ∷ key 16 (codes "previous-line") (Move PreviousLine)
+    ∷ key 22 (codes "scroll-up") (Scroll ScrollUp)
+    ∷ meta 118 (codes "scroll-down") (Scroll ScrollDown)
+    ∷ key 12 (codes "recenter") (Move Recenter)
+    ∷ meta 60 (codes "beginning-of-buffer") (Move BufferStart)
+    ∷ meta 62 (codes "end-of-buffer") (Move BufferEnd)
+    ∷ meta 102 (codes "forward-word") (Move ForwardWord)
+    ∷ meta 98 (codes "backward-word") (Move BackwardWord)
+    ∷ meta 125 (codes "forward-paragraph") (Move ForwardParagraph)
+    ∷ meta 123 (codes "backward-paragraph") (Move BackwardParagraph)
+    ∷ control_x 61 (codes "what-cursor-position") (Move WhatCursorPosition)
+    ∷ key 4 (codes "delete-char") (Alter DeleteChar)
+    ∷ key 127 (codes "delete-backward-char") (Alter DeleteBackwardChar)
+    ∷ key 11 (codes "kill-line") (Alter KillLine)
+    ∷ meta 100 (codes "kill-word") (Alter KillWord)
+    ∷ meta 127 (codes "backward-kill-word") (Alter BackwardKillWord)
+    ∷ key 23 (codes "kill-region") (Alter KillRegion)
+    ∷ meta 119 (codes "copy-region-as-kill") (Move CopyRegion)
+    ∷ key 20 (codes "transpose-chars") (Alter TransposeChars)
     ∷ key 7 (codes "keyboard-quit") (Set KeyboardQuit)
     ∷ control_x 48 (codes "delete-window") (Rearrange DeleteWindow)
     ∷ control_x 49 (codes "delete-other-windows") (Rearrange DeleteOtherWindows)

@@ -7,12 +7,11 @@ ghost use Rattle.std.specs.Prelude.{◌≡◌, ◌≤◌, ◌-◌, [], ◌∷◌
 ghost use Rattle.mgs_model.specs.Plans.{kind_failed};
 ghost use Rattle.mgs_session.specs.Sessions.{session_opened, acted, failed, told, holding, window_marks_of};
 
+pub use kill_buffer::KillBuffer;
 use mgs_maps::Keyboard;
 use mgs_model::{Kind, Message, Name, SessionId};
 use mgs_windows::{WindowMarks, Windows};
 use std::alloc::Global;
-
-pub use kill_buffer::KillBuffer;
 
 /// What a session holds beside its windows and its kill buffer: its echo text, the keys and the argument that are half
 /// read, and the kind of its last command.
