@@ -1,14 +1,14 @@
 -- Lists of windows of which one is changed, goes, or becomes two.
-use Rattle.std.proofs.Common.{◌≡◌, ℕ, zero, suc, ◌+◌, ◌-◌, ◌*◌, ◌/◌, ◌<◌, ◌≤◌, ◌≢◌, Bool, true, false, cond, List, [], ◌∷◌, ◌++◌, length, take, drop, Option, Some, None, refl, sym, ap, ◌∙◌, arith, ltb-true}
-use Rattle.std.specs.Prelude.{slice_set, slice_get, slice_index_or, remove, nat_lt, All}
+use Rattle.std.proofs.Common.{◌≡◌, ℕ, zero, suc, ◌+◌, ◌-◌, ◌/◌, ◌<◌, ◌≤◌, ◌≢◌, Bool, true, false, cond, List, [], ◌∷◌, length, Option, Some, None, refl, sym, ap, ◌∙◌, arith, ltb-true}
+use Rattle.std.specs.Prelude.{slice_set, slice_index_or, remove, nat_lt, All}
 use Rattle.std.specs.List.{insert}
-use Rattle.std.specs.Option.{option_and_then}
+use Rattle.std.specs.Option.{option_map}
 use Rattle.std.proofs.Math.Nat.{div-mul-le_self}
 use Rattle.std.proofs.lemmas.Nat.{le-div}
 use Rattle.mgs_model.specs.Apply.{change_at}
 use Rattle.mgs_windows.specs.declared.WindowMarks.{WindowMarks}
 use Rattle.mgs_windows.specs.declared.Window.{Window}
-use Rattle.mgs_windows.specs.Panes.{WindowList, IsWindowList, closer, given, grown, height_at, height_in, shows_at, shrunk, split_at, upper_half, lower_half, room_of, shown_in, one_shown, windows_without}
+use Rattle.mgs_windows.specs.Panes.{IsWindowList, closer, given, grown, height_at, mark_set, marked, shows_at, shrunk, split_at, upper_half, room_of, shown_in, one_shown, windows_without}
 
 -- what is read at an index
 pub height_or : (xs : List Window) (i : ℕ) (x : Window) → i < length xs → (slice_index_or xs i x).height ≡ height_at i xs
@@ -30,6 +30,11 @@ pub set_shrunk : (xs : List Window) (i : ℕ) (x y : Window) (n : ℕ) → slice
 set_shrunk [] i x y n = refl
 set_shrunk (z ∷ xs) zero x y n = refl
 set_shrunk (z ∷ xs) (suc i) x y n = ap (λ ws. z ∷ ws) (set_shrunk xs i x y n)
+
+pub set_marked : (xs : List Window) (i : ℕ) (x y : Window) (mark : ℕ) → slice_set xs i (record { height = (slice_index_or xs i x).height; shows = option_map (mark_set mark) (slice_index_or xs i y).shows }) ≡ change_at i (marked mark) xs
+set_marked [] i x y mark = refl
+set_marked (z ∷ xs) zero x y mark = refl
+set_marked (z ∷ xs) (suc i) x y mark = ap (λ ws. z ∷ ws) (set_marked xs i x y mark)
 
 -- AN ELEMENT IS CHANGED
 
@@ -117,6 +122,36 @@ given_list rows from to n xs apart within_from within_to stays fill some =
       omega (arith, room_shrunk n from ys (omega (arith, within_from, len)) (omega (arith, stays, high)), room_grown n to xs within_to, fill),
       shown_same (shrunk n) from ys (λ x. refl) ∙ shown_same (grown n) to xs (λ x. refl),
     )
+
+-- A MARK IS SET
+
+one_marked : (mark : ℕ) (o : Option WindowMarks) → one_shown (option_map (mark_set mark) o) ≡ one_shown o
+one_marked mark None = refl
+one_marked mark (Some x) = refl
+
+shown_marked : (mark i : ℕ) (xs : List Window) → shown_in (change_at i (marked mark) xs) ≡ shown_in xs
+shown_marked mark i [] = refl
+shown_marked mark zero (x ∷ xs) = ap (λ k. k + shown_in xs) (one_marked mark x.shows)
+shown_marked mark (suc i) (x ∷ xs) = ap (λ k. one_shown x.shows + k) (shown_marked mark i xs)
+
+room_marked : (mark i : ℕ) (xs : List Window) → room_of (change_at i (marked mark) xs) ≡ room_of xs
+room_marked mark i [] = refl
+room_marked mark zero (x ∷ xs) = refl
+room_marked mark (suc i) (x ∷ xs) = ap (λ k. x.height + 1 + k) (room_marked mark i xs)
+
+some_marked : (mark i : ℕ) (xs : List Window) → AreHigh xs → AreHigh (change_at i (marked mark) xs)
+some_marked mark i [] all = all
+some_marked mark zero (x ∷ xs) all = all
+some_marked mark (suc i) (x ∷ xs) all = (all.0, some_marked mark i xs all.1)
+
+pub marked_list : (rows selected capacity : ℕ) (xs : List Window) (places : List WindowMarks) (mark : ℕ) → IsWindowList (record { rows = rows; windows = xs; selected = selected; places = places; capacity = capacity })
+    → IsWindowList (record { rows = rows; windows = change_at selected (marked mark) xs; selected = selected; places = places; capacity = capacity })
+marked_list rows selected capacity xs places mark form = record {
+  selected = omega (arith, form.selected, length_changed (marked mark) selected xs);
+  some = of_high _ (some_marked mark selected xs (high_of xs form.some));
+  fill = omega (arith, form.fill, room_marked mark selected xs);
+  room = omega (arith, form.room, shown_marked mark selected xs);
+}
 
 -- A WINDOW GOES
 

@@ -108,3 +108,12 @@ split_at (suc k) shows (x ∷ xs) = x ∷ split_at k shows xs
 
 abbrev pub window_split : Option WindowMarks → WindowList → WindowList
 window_split shows w = record w { windows = split_at w.selected shows w.windows }
+
+-- THE MARK
+
+abbrev pub mark_set : ℕ → WindowMarks → WindowMarks
+mark_set mark x = record x { mark = Some mark }
+
+-- a window with this mark, where it shows a buffer
+abbrev pub marked : ℕ → Window → Window
+marked mark x = record x { shows = option_map (mark_set mark) x.shows }

@@ -6,7 +6,8 @@ mod places;
 
 ghost use Rattle.std.specs.Prelude.{◌≡◌, ◌≢◌, ◌-◌, ◌/◌, ◌+◌, ◌<◌, ◌≤◌, [], ◌∷◌, length, slice_get, vec_capacity, Some, OnOk, OnErr, ◌^◌};
 ghost use Rattle.mgs_model.specs.Apply.{change_at};
-ghost use Rattle.mgs_windows.specs.Panes.{WindowList, IsWindowList, closer, given, grown, height_at, left_by, one_shown, places_after, room_of, shown_in, shows_at, shrunk, split_at, window_removed, window_split, windows_without};
+ghost use Rattle.std.specs.Option.{option_map};
+ghost use Rattle.mgs_windows.specs.Panes.{WindowList, IsWindowList, closer, given, grown, height_at, left_by, mark_set, marked, one_shown, places_after, room_of, shown_in, shows_at, shrunk, split_at, window_removed, window_split, windows_without};
 
 use crate::places::put_place;
 use arrayvec::ArrayVec;
@@ -77,6 +78,38 @@ fn shrink(windows: &mut [Window], index: usize, rows: usize)
     ensures { windows.new ≡ change_at index (shrunk rows) windows.old }
 {
     windows[index].height -= rows;
+}
+
+/// What a window shows, with this mark.
+fn with_mark(shows: Option<WindowMarks>, mark: MarkId) -> Option<WindowMarks>
+    ensures { result ≡ option_map (mark_set mark) shows }
+{
+    match shows {
+        Some(window_marks) => Some(WindowMarks {
+            name: window_marks.name,
+            point: window_marks.point,
+            mark: Some(mark),
+            top: window_marks.top,
+        }),
+        None => None,
+    }
+}
+
+/// The window at an index gets a mark.
+fn mark(windows: &mut [Window], index: usize, mark: MarkId)
+    requires { index < length windows.old }
+    ensures { windows.new ≡ change_at index (marked mark) windows.old }
+{
+    windows[index].shows = with_mark(windows[index].shows, mark);
+}
+
+/// The same in a list.
+#[tactic(auto, using(crate::proofs::Heights::length_changed))]
+fn mark_window(list: &mut ArrayVec<Window, 8>, index: usize, id: MarkId)
+    requires { index < length list.old.items }
+    ensures { list.new.items ≡ change_at index (marked id) list.old.items }
+{
+    mark(list.as_mut_slice(), index, id);
 }
 
 /// How many rows the window at an index has.
@@ -253,6 +286,14 @@ impl Windows {
         ensures { self.new ≡ record self.old { selected = index } }
     {
         self.selected = index;
+    }
+
+    /// The selected window has this mark from now on, where it shows a buffer. A mark that it had before is the caller's to
+    /// give up. It takes no memory.
+    pub fn set_mark(&mut self, id: MarkId)
+        ensures { self.new ≡ record self.old { windows = change_at self.old.selected (marked id) self.old.windows } }
+    {
+        mark_window(&mut self.list, self.selected, id);
     }
 
     /// So many rows go from one window to another.

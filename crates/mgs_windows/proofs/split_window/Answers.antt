@@ -1,4 +1,4 @@
-use Rattle.std.proofs.Common.{List, sym, ap, ◌∙◌, ◌+◌, ◌-◌, ◌/◌}
+use Rattle.std.proofs.Common.{List, ap, ◌∙◌, ◌+◌, ◌-◌, ◌/◌}
 use Rattle.std.specs.List.{insert}
 use Rattle.mgs_windows.specs.Panes.{height_at}
 use Rattle.mgs_windows.specs.declared.Window.{Window}

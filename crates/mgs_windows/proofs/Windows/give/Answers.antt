@@ -1,6 +1,5 @@
-use Rattle.std.proofs.Common.{◌≡◌, ℕ, ◌≤◌, ◌<◌, ◌≢◌, ◌+◌, List, length, arith, sym, ap, subst, ◌∙◌}
-use Rattle.mgs_windows.specs.Panes.{WindowList, IsWindowList, height_at, grown, shown_in}
-use Rattle.mgs_windows.specs.declared.Window.{Window}
+use Rattle.std.proofs.Common.{length, arith, ap}
+use Rattle.mgs_windows.specs.Panes.{WindowList, height_at, grown}
 use Rattle.mgs_windows.proofs.Heights.{given_list, height_other, two_most}
 use Rattle.mgs_windows.proofs.Windows.give.Goals as goal
 

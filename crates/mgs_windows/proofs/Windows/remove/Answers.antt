@@ -1,5 +1,5 @@
-use Rattle.std.proofs.Common.{◌≡◌, ℕ, ◌≤◌, ◌<◌, ◌≢◌, ◌+◌, List, length, arith, sym, ap, subst, ◌∙◌}
-use Rattle.mgs_windows.specs.Panes.{WindowList, IsWindowList, height_at, shown_in, shows_at, one_shown}
+use Rattle.std.proofs.Common.{◌<◌, length, arith, ap, ◌∙◌}
+use Rattle.mgs_windows.specs.Panes.{WindowList, shows_at, one_shown}
 use Rattle.mgs_windows.proofs.Heights.{without_list, two_most, shown_at_most, closer_within, two_at_least}
 use Rattle.mgs_windows.proofs.PlaceLists.{length_left}
 use Rattle.mgs_windows.proofs.Windows.remove.Goals as goal

@@ -1,5 +1,5 @@
-use Rattle.std.proofs.Common.{◌≡◌, ℕ, ◌≤◌, ◌<◌, ◌≢◌, ◌+◌, List, length, arith, sym, ap, subst, ◌∙◌}
-use Rattle.mgs_windows.specs.Panes.{WindowList, IsWindowList, height_at, shown_in}
+use Rattle.std.proofs.Common.{◌+◌, length, arith, ap}
+use Rattle.mgs_windows.specs.Panes.{WindowList, height_at, shown_in}
 use Rattle.mgs_windows.proofs.Heights.{split_list}
 use Rattle.mgs_windows.proofs.Windows.split.Goals as goal
 
