@@ -1,8 +1,7 @@
 -- What takes out nothing and puts in nothing changes nothing; what does is an edit.
-use Rattle.std.proofs.Common.{◌≡◌, ℕ, suc, ◌+◌, ◌-◌, ◌≤◌, Bool, true, false, cond, ◌||◌, ◌==◌, List, [], ◌∷◌, length, Option, Some, None, refl, sym, ap, ◌∙◌, nat_lt, nat_le, nat_eq, eqb-true, arith}
+use Rattle.std.proofs.Common.{◌≡◌, ℕ, suc, Bool, true, false, ◌||◌, ◌==◌, List, [], ◌∷◌, length, Option, Some, None, refl, sym, ap, ◌∙◌, nat_lt, nat_eq, eqb-true, arith}
 use Rattle.std.proofs.lemmas.Bool.Decides.{nat_tests}
-use Rattle.std.specs.Option.{option_map}
-use Rattle.mgs_model.specs.Text.{is_edit, shift, shift_all, edited, removed}
+use Rattle.mgs_model.specs.Text.{is_edit, shift, shift_all}
 use Rattle.mgs_model.specs.Apply.{buffer_edited_if}
 use Rattle.mgs_buffers.specs.MarkedBuffer.{MarkedBuffer, marked_edited}
 

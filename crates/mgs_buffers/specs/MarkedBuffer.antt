@@ -2,7 +2,7 @@
 use Rattle.std.specs.Prelude.{◌≡◌, ◌≢◌, ◌≤◌, ◌∷◌, ℕ, Bool, false, List, [], length, Option, Some, None, find, is_some, slice_set, IsSome}
 use Rattle.mgs_model.specs.Text.{shift_all}
 use Rattle.mgs_model.specs.World.{Buffer, is_named}
-use Rattle.mgs_model.specs.Apply.{change_first, buffer_edited}
+use Rattle.mgs_model.specs.Apply.{change_first, buffer_edited, buffer_unmodified}
 use Rattle.mgs_model.specs.declared.entry.Entry.{Entry}
 use Rattle.mgs_marks.specs.Marks.{mark_in, position_in}
 
@@ -51,6 +51,10 @@ mark_at name ks id = position_in (marked_at name ks).marks id
 -- the characters from a up to b replaced, with every mark moved
 abbrev pub marked_edited : ℕ → ℕ → List ℕ → MarkedBuffer → MarkedBuffer
 marked_edited a b put k = record { buffer = buffer_edited a b put k.buffer; marks = shift_all a b (length put) k.marks }
+
+-- not modified since it was written
+abbrev pub marked_unmodified : MarkedBuffer → MarkedBuffer
+marked_unmodified k = record { buffer = buffer_unmodified k.buffer; marks = k.marks }
 
 -- a mark put at a position
 abbrev pub marked_placed : ℕ → ℕ → MarkedBuffer → MarkedBuffer

@@ -3,7 +3,7 @@ ghost use Rattle.std.specs.Prelude.{◌≡◌, ◌≢◌, ℕ, ◌-◌, ◌<◌,
 ghost use Rattle.mgs_model.specs.Access.{decider, decision, decision_by};
 ghost use Rattle.mgs_model.specs.World.{may};
 ghost use Rattle.mgs_marks.specs.Marks.{mark_in};
-ghost use Rattle.mgs_buffers.specs.MarkedBuffer.{marked_new, marked_edited, marked_placed, with_marks};
+ghost use Rattle.mgs_buffers.specs.MarkedBuffer.{marked_new, marked_edited, marked_placed, marked_unmodified, with_marks};
 ghost use Rattle.mgs_buffers.specs.Contents.{marked_of};
 
 use mgs_marks::Marked;
@@ -128,5 +128,12 @@ impl<T: Marked + Drop> Buffer<T> {
         });
         self.modified = true;
         Ok(())
+    }
+
+    /// Takes back that the buffer was edited: its modified flag is not set any more.
+    pub fn unmodify(&mut self)
+        ensures { (name : List ℕ) → marked_of T.text T.marks name self.new ≡ marked_unmodified (marked_of T.text T.marks name self.old) }
+    {
+        self.modified = false;
     }
 }

@@ -1,6 +1,8 @@
 // All buffers, by name and in order of creation.
 ghost use Rattle.std.specs.Prelude.{◌≡◌, ◌+◌, ℕ, ◌-◌, ◌<◌, ◌≤◌, ◌^◌, ◌∷◌, [], ◌++◌, List, map, find, length, OnOk, OnErr, IfOk, IfSome, None, false};
-ghost use Rattle.std.specs.Option.{option_map};
+ghost use Rattle.std.specs.Option.{option_copied, option_map};
+ghost use Rattle.mgs_undo.specs.History.{has_serial};
+ghost use Rattle.mgs_undo.specs.Numbered.{item_of};
 ghost use Rattle.std.specs.Map.{lookup};
 ghost use Rattle.mgs_model.specs.Names.{same_name};
 ghost use Rattle.std.specs.List.{position_or_len};
@@ -9,7 +11,7 @@ ghost use Rattle.mgs_model.specs.Apply.{change_first};
 ghost use Rattle.mgs_model.specs.World.{may};
 ghost use Rattle.mgs_buffers.specs.Adding.{add_fault, AddAnswers, NamesToAdd};
 ghost use Rattle.mgs_buffers.specs.Contents.{marked_of};
-ghost use Rattle.mgs_buffers.specs.MarkedBuffer.{AreUnmarked, AreWithinLimit, marked_named, marked_at, has_buffer, HasBuffer, IsMark, mark_at, marked_new, marked_edited, marked_placed, MarkAdded, MarkDropped};
+ghost use Rattle.mgs_buffers.specs.MarkedBuffer.{AreUnmarked, AreWithinLimit, marked_named, marked_at, has_buffer, HasBuffer, IsMark, mark_at, marked_new, marked_edited, marked_placed, marked_unmodified, MarkAdded, MarkDropped};
 
 use crate::buffer::{Buffer, new_buffer};
 use crate::fault::AddFault;
@@ -19,6 +21,7 @@ use mgs_marks::Marked;
 use mgs_model::{BUFFER_LIMIT, Decision, MarkId, Mask, Name, Right, Short, TEXT_LIMIT};
 use mgs_policy::Directory;
 use mgs_text::Text;
+use mgs_undo::Edit;
 use std::alloc::Global;
 use std::marker::Model;
 
@@ -249,6 +252,14 @@ impl<T: Marked + Drop> Buffers<T> {
         self.buffer(name).modified
     }
 
+    /// The edit of a serial, where the buffer keeps it: where it was, the characters that it took out, and how many it put in.
+    pub fn item(&self, name: &Name, serial: u64) -> Option<&Edit>
+        requires { HasBuffer name.now self.now }
+        ensures { option_map (item_of serial) (option_copied result) ≡ find (has_serial serial) (marked_at name.now self.now).buffer.items }
+    {
+        self.buffer(name).record.item(serial)
+    }
+
     /// Where a mark of the buffer stands.
     pub fn pos(&self, name: &Name, id: MarkId) -> usize
         requires kept { HasBuffer name.now self.now }
@@ -309,5 +320,15 @@ impl<T: Marked + Drop> Buffers<T> {
         let at = self.place_of(name);
         let (_, buffer) = self.all.pair_mut(at);
         buffer.edit(a, b, put)
+    }
+
+    /// Clears the buffer's modified flag.
+    pub fn unmodify(&mut self, name: &Name)
+        requires { HasBuffer name.now self.old }
+        ensures { self.new ≡ change_first (marked_named name.now) marked_unmodified self.old }
+    {
+        let at = self.place_of(name);
+        let (_, buffer) = self.all.pair_mut(at);
+        buffer.unmodify();
     }
 }
