@@ -5,6 +5,7 @@ use Rattle.mgs_model.specs.Outcome.{PointPlan, Keep, At, MarkPlan, Keep_mark, Ma
 use Rattle.mgs_model.specs.Plans as model
 use Rattle.mgs_model.specs.declared.message.Message.{Message}
 use Rattle.mgs_model.specs.declared.message.Message.TheVariants.{Silent}
+use Rattle.mgs_model.specs.declared.session.Kind.{Kind}
 use Rattle.mgs_model.specs.declared.session.Kind.TheVariants.{Other, Kill}
 use Rattle.mgs_model.specs.declared.session.Motion.{Motion}
 use Rattle.mgs_model.specs.declared.session.Motion.TheVariants.{StartSearch, SearchOn, StartReplace, SkipMatch}
@@ -21,12 +22,17 @@ use Rattle.mgs_edit.specs.declared.plan.Finish.{Finish}
 use Rattle.mgs_edit.specs.declared.plan.Put.{Put}
 use Rattle.mgs_edit.specs.declared.plan.Put.TheVariants.{Nothing, Character, KillBuffer, Indented, Exchanged}
 use Rattle.mgs_edit.specs.declared.plan.Change.{Change}
+use Rattle.mgs_edit.specs.declared.plan.Undone.{Undone}
 
 -- GIVEN
 
 -- what is given here, in a text of so many characters; all else is as it is
 abbrev pub surrounded : Around → ℕ → model.Around → model.Around
 surrounded x size rest = record rest { size = size; place = x.place; mark = x.mark; argument = x.argument; kind = x.kind; height = x.height }
+
+-- what an undo in a buffer goes by
+abbrev pub undoing : Kind → List ℕ → ℕ → model.Around → model.Around
+undoing kind name serial rest = record rest { kind = kind; name = name; serial = serial }
 
 -- PLANS
 
@@ -77,6 +83,11 @@ finish_read text kill behind f =
 abbrev pub change_read : List ℕ → List ℕ → Change → model.Change
 change_read text kill c =
     record { a = c.from; b = c.to; put = put_read text kill c.put; finish = finish_read text kill (c.from + length (put_read text kill c.put)) c.finish }
+
+-- given the characters that the undone edit took out
+abbrev pub undone_read : List ℕ → List ℕ → List ℕ → Undone → model.Change
+undone_read text kill removed u =
+    record { a = u.from; b = u.from + u.gone; put = removed; finish = finish_read text kill (u.from + length removed) u.finish }
 
 -- what a planner answers; a motion puts nothing in
 abbrev pub motion_read : List ℕ → List ℕ → Result Finish Message → Result model.Finish Message

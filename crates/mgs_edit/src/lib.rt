@@ -9,12 +9,14 @@ mod motions;
 mod plan;
 mod scrolling;
 mod sizes;
+mod undoing;
 mod written;
 
 pub use alterations::alteration;
 pub use insertions::{insertion, reading_insertion};
 pub use motions::motion;
-pub use plan::{Around, Change, Finish, Goes, Joins, Piece, Put};
+pub use plan::{Around, Change, Finish, Goes, Joins, Piece, Put, Undone};
 pub use scrolling::{scroll, scrolled_row};
 pub use sizes::{is_edit, is_kill_too_large, is_too_long};
+pub use undoing::{undo, undo_target};
 pub use written::put_chars;

@@ -93,6 +93,19 @@ pub struct Change {
     pub finish: Finish,
 }
 
+/// An undo, and what is left when it is done: `gone` characters from `from` on are taken out, and the characters that the
+/// edit of a serial took out come back in their place.
+#[derive(Clone, Copy, Debug, PartialEq, Eq)]
+pub struct Undone {
+    pub from: usize,
+    pub gone: usize,
+    /// The serial of the edit that is undone.
+    pub serial: u64,
+    /// How many characters come back.
+    pub len: usize,
+    pub finish: Finish,
+}
+
 /// Nothing moves, and nothing is told.
 pub(crate) const STAYS: Finish = Finish {
     point: Goes::Stays,
