@@ -8,3 +8,4 @@ pub mod Found
 pub mod WindowMarks
 pub mod Settles
 pub mod Dropping
+pub mod SelectedMark

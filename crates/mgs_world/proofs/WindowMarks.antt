@@ -95,7 +95,7 @@ one_is true true = refl
 one_is true false = refl
 one_is false this = refl
 
-in_use_added : (n : List ℕ) (p id : ℕ) (old new : List MarkedBuffer) (m : List ℕ) (i : ℕ) → HasBuffer n old → MarkAdded n p id old new → in_use m i new ≡ in_use m i old + this_one n id m i
+pub in_use_added : (n : List ℕ) (p id : ℕ) (old new : List MarkedBuffer) (m : List ℕ) (i : ℕ) → HasBuffer n old → MarkAdded n p id old new → in_use m i new ≡ in_use m i old + this_one n id m i
 in_use_added n p id old new m i kept h =
     let x = mark_in (marked_at m old).marks i in
     let free : same_name n m ≡ true → nat_eq id i ≡ true → x ≡ None =
@@ -104,7 +104,7 @@ in_use_added n p id old new m i kept h =
     ∙ counted (same_name n m) (nat_eq id i) x (Some p) 1 (λ same at. let e : one_if (is_some x) ≡ 0 = ap (λ (o : Option ℕ). one_if (is_some o)) (free same at) in omega (arith, e))
     ∙ ap (λ (k : ℕ). one_if (is_some x) + k) (sym (one_is (same_name n m) (nat_eq id i)))
 
-in_use_dropped : (n : List ℕ) (id : ℕ) (old new : List MarkedBuffer) (m : List ℕ) (i : ℕ) → HasBuffer n old → IsMark n id old → MarkDropped n id old new → in_use m i old ≡ in_use m i new + this_one n id m i
+pub in_use_dropped : (n : List ℕ) (id : ℕ) (old new : List MarkedBuffer) (m : List ℕ) (i : ℕ) → HasBuffer n old → IsMark n id old → MarkDropped n id old new → in_use m i old ≡ in_use m i new + this_one n id m i
 in_use_dropped n id old new m i kept mark h =
     let x = mark_in (marked_at m old).marks i in
     let used : same_name n m ≡ true → nat_eq id i ≡ true → one_if (is_some x) ≡ 1 =
@@ -135,13 +135,13 @@ unless true true x got h = absurd (h refl refl)
 unless true false x got h = refl
 unless false this x got h = refl
 
-stays_added : (n : List ℕ) (p id : ℕ) (old new : List MarkedBuffer) (m : List ℕ) (i : ℕ) → HasBuffer n old → MarkAdded n p id old new → 1 ≤ in_use m i old → mark_in (marked_at m new).marks i ≡ mark_in (marked_at m old).marks i
+pub stays_added : (n : List ℕ) (p id : ℕ) (old new : List MarkedBuffer) (m : List ℕ) (i : ℕ) → HasBuffer n old → MarkAdded n p id old new → 1 ≤ in_use m i old → mark_in (marked_at m new).marks i ≡ mark_in (marked_at m old).marks i
 stays_added n p id old new m i kept h used =
     let x = mark_in (marked_at m old).marks i in
     mark_after_added n p id old new m i kept h
     ∙ unless (same_name n m) (nat_eq id i) x (Some p) (λ same at. not_used x (ap (λ (y : List ℕ). mark_in (marked_at y old).marks i) (sym (same_is n m same)) ∙ ap (mark_in (marked_at n old).marks) (sym (this id i at)) ∙ h.free) used)
 
-stays_dropped : (n : List ℕ) (id : ℕ) (old new : List MarkedBuffer) (m : List ℕ) (i : ℕ) → HasBuffer n old → MarkDropped n id old new → 1 ≤ in_use m i new → mark_in (marked_at m new).marks i ≡ mark_in (marked_at m old).marks i
+pub stays_dropped : (n : List ℕ) (id : ℕ) (old new : List MarkedBuffer) (m : List ℕ) (i : ℕ) → HasBuffer n old → MarkDropped n id old new → 1 ≤ in_use m i new → mark_in (marked_at m new).marks i ≡ mark_in (marked_at m old).marks i
 stays_dropped n id old new m i kept h used =
     let x = mark_in (marked_at m old).marks i in
     let after = mark_after_dropped n id old new m i kept h in
@@ -174,7 +174,7 @@ none_either false = refl
 no_mark : (n m : List ℕ) (i : ℕ) (o : Option ℕ) → o ≡ None → cond (same_name n m) (option_uses i o) 0 ≡ 0
 no_mark n m i o e = ap (λ (q : Option ℕ). cond (same_name n m) (option_uses i q) 0) e ∙ none_either (same_name n m)
 
-found_added : (n : List ℕ) (p id : ℕ) (old new : List MarkedBuffer) → HasBuffer n old → MarkAdded n p id old new → mark_in (marked_at n new).marks id ≡ Some p
+pub found_added : (n : List ℕ) (p id : ℕ) (old new : List MarkedBuffer) → HasBuffer n old → MarkAdded n p id old new → mark_in (marked_at n new).marks id ≡ Some p
 found_added n p id old new kept h =
     let same : same_name n n ≡ true = is_same n n refl in
     let at : nat_eq id id ≡ true = eq-eqb id id refl in
@@ -214,7 +214,7 @@ window_marks_added n p t x a b c kept h g named unmarked =
       top = ap or_zero (found_added n t x.top b c kept_b g);
     }
 
-with_mark_uses : (n m : List ℕ) (i k : ℕ) (x : WindowMarks) → x.name ≡ n → x.mark ≡ None → window_marks_uses m i (Some (record x { mark = Some k })) ≡ window_marks_uses m i (Some x) + this_one n k m i
+pub with_mark_uses : (n m : List ℕ) (i k : ℕ) (x : WindowMarks) → x.name ≡ n → x.mark ≡ None → window_marks_uses m i (Some (record x { mark = Some k })) ≡ window_marks_uses m i (Some x) + this_one n k m i
 with_mark_uses n m i k x named unmarked =
     omega (arith, window_marks_parts n m i (record x { mark = Some k }) named, window_marks_parts n m i x named, no_mark n m i x.mark unmarked)
 

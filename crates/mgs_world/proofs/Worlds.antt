@@ -125,15 +125,15 @@ window_marks_unused n id p ks height (Some x) h =
     (marks_unused n x.name id p ks x.mark (λ s. (parts s).1))
     (mark_unused n x.name id p ks x.top (λ s. apart_from x.top id (parts s).2))
 
-window_unused : (n : List ℕ) (id p : ℕ) (ks : List MarkedBuffer) (w : Window) → window_uses n id w ≡ 0 → window_of (change_first (marked_named n) (marked_placed id p) ks) w ≡ window_of ks w
+pub window_unused : (n : List ℕ) (id p : ℕ) (ks : List MarkedBuffer) (w : Window) → window_uses n id w ≡ 0 → window_of (change_first (marked_named n) (marked_placed id p) ks) w ≡ window_of ks w
 window_unused n id p ks w h = window_marks_unused n id p ks w.height w.shows h
 
-place_unused : (n : List ℕ) (id p : ℕ) (ks : List MarkedBuffer) (x : WindowMarks) → place_uses n id x ≡ 0 → place_of (change_first (marked_named n) (marked_placed id p) ks) x ≡ place_of ks x
+pub place_unused : (n : List ℕ) (id p : ℕ) (ks : List MarkedBuffer) (x : WindowMarks) → place_uses n id x ≡ 0 → place_of (change_first (marked_named n) (marked_placed id p) ks) x ≡ place_of ks x
 place_unused n id p ks x h =
     let w = window_marks_unused n id p ks 0 (Some x) h in
     same_place x.name _ _ _ _ (ap (λ (y : model.Window). y.point) w) (ap (λ (y : model.Window). y.mark) w)
 
-session_unused : (n : List ℕ) (id p : ℕ) (ks : List MarkedBuffer) (x : Session) → session_uses n id x ≡ 0 → session_of (change_first (marked_named n) (marked_placed id p) ks) x ≡ session_of ks x
+pub session_unused : (n : List ℕ) (id p : ℕ) (ks : List MarkedBuffer) (x : Session) → session_uses n id x ≡ 0 → session_of (change_first (marked_named n) (marked_placed id p) ks) x ≡ session_of ks x
 session_unused n id p ks x none =
     let ks' = change_first (marked_named n) (marked_placed id p) ks in
     same_positions (session_of ks x) _ _ _ _
