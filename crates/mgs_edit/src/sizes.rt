@@ -4,7 +4,7 @@ ghost use Rattle.mgs_model.specs.Acts.{is_too_large};
 ghost use Rattle.mgs_model.specs.Text.{is_edit};
 ghost use Rattle.mgs_edit.specs.Reading.{kill_read, put_read, PieceWithin, PutWithin};
 
-use crate::plan::{Change, Finish, Joins, Put};
+use crate::plan::{Change, Finish, Joins, Put, Undone};
 use mgs_model::TEXT_LIMIT;
 
 #[tactic(auto, using(crate::proofs::Lengths::length_killed))]
@@ -44,6 +44,22 @@ pub fn is_too_long(size: usize, change: &Change, killed: usize) -> bool
         None => true,
         Some(len) => left > TEXT_LIMIT || len > TEXT_LIMIT - left,
     }
+}
+
+/// Whether an undo takes out or puts in anything.
+pub fn is_undo_an_edit(undone: &Undone) -> bool
+    ensures { (removed : List ℕ) → length removed ≡ undone.now.len → result ≡ is_edit undone.now.from (undone.now.from + undone.now.gone) removed }
+{
+    undone.gone > 0 || undone.len > 0
+}
+
+/// Whether an undo leaves a text of `size` characters with more than a text may have.
+pub fn is_undo_too_long(size: usize, undone: &Undone) -> bool
+    requires { undone.now.from + undone.now.gone ≤ size }
+    ensures { (removed : List ℕ) → length removed ≡ undone.now.len → result ≡ nat_lt TEXT_LIMIT (size - ((undone.now.from + undone.now.gone) - undone.now.from) + length removed) }
+{
+    let left = size - undone.gone;
+    left > TEXT_LIMIT || undone.len > TEXT_LIMIT - left
 }
 
 /// Whether a kill leaves a kill buffer of `killed` characters with more than it may have.
