@@ -34,6 +34,8 @@ mod printing;
 #[cfg(test)]
 mod rights;
 #[cfg(test)]
+mod taking_back;
+#[cfg(test)]
 mod terminal;
 #[cfg(test)]
 mod text;
