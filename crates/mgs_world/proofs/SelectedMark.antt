@@ -7,10 +7,11 @@ use Rattle.std.proofs.lemmas.Option.{slice_get-get_or}
 use Rattle.mgs_model.specs.World as model
 use Rattle.mgs_model.specs.World.{Buffer_of}
 use Rattle.mgs_model.specs.Names.{same_name}
-use Rattle.mgs_model.specs.Outcome.{Keep, Mark_at}
-use Rattle.mgs_model.specs.Apply.{change_at, change_first, window_adjusted}
+use Rattle.mgs_model.specs.Text.{shift}
+use Rattle.mgs_model.specs.Outcome.{At, Keep, Keep_mark, Mark_at}
+use Rattle.mgs_model.specs.Apply.{change_at, change_first, session_moved, window_adjusted}
 use Rattle.mgs_marks.specs.Marks.{or_zero}
-use Rattle.mgs_buffers.specs.MarkedBuffer.{MarkedBuffer, HasBuffer, IsMark, mark_at, marked_named, marked_placed}
+use Rattle.mgs_buffers.specs.MarkedBuffer.{MarkedBuffer, HasBuffer, IsMark, mark_at, marked_edited, marked_named, marked_placed}
 use Rattle.mgs_windows.specs.Panes.{mark_set, marked}
 use Rattle.mgs_windows.specs.declared.WindowMarks.{WindowMarks}
 use Rattle.mgs_windows.specs.declared.Window.{Window}
@@ -21,10 +22,10 @@ use Rattle.mgs_world.specs.Sound.{IsSound, in_use, one_if, sum_of, place_uses, s
 use Rattle.mgs_world.specs.WindowMarks.{MarksStay, WindowMarksDropped}
 use Rattle.mgs_world.specs.Worlds.{buffers_of, place_of, session_of, window_of, window_shown}
 use Rattle.mgs_world.proofs.Marks.{apart_from, is_same, mark_placed, mark_unused}
-use Rattle.mgs_world.proofs.Soundness.{in_use_mark, in_use_more, mark_used, sound_in_use}
+use Rattle.mgs_world.proofs.Soundness.{in_use_mark, in_use_more, mark_edited_used, mark_used, sound_edited, sound_in_use, sound_placed}
 use Rattle.mgs_world.proofs.Uses.{map_unused, map_used_at, sum_at}
 use Rattle.mgs_world.proofs.WindowMarks.{added_mark, buffers_marked, in_use_added, sessions_stay, stays_added, undone, with_mark_uses}
-use Rattle.mgs_world.proofs.Worlds.{one_use, place_unused, same_positions, same_window, selected_window, session_unused, window_unused}
+use Rattle.mgs_world.proofs.Worlds.{one_use, place_unused, point_at, same_positions, same_window, selected_window, session_unused, sessions_edited, window_unused}
 
 -- LISTS
 
@@ -226,3 +227,32 @@ sessions_marked p id ls xs at h x there sel mark sound =
     let all : uses n id ys ≡ in_use n id ls = sound.once n id in
     map_used_at (session_uses n id) (session_of (change_first (marked_named n) (marked_placed id p) ls)) (session_of ls) (mark_at_place p) (session_unused n id p ls) y (omega (arith, used_is, in_windows, u)) (session_mark_placed p id ls y x sel_y mark (omega (arith, in_all, all, one))) ys at there_y (omega (arith, all, one))
     ∙ change_put (session_of ls) (mark_at_place p) xs at h y there (session_marked_same p id ls h)
+
+-- AN EDIT BETWEEN: the positions moved with it, and then the mark went to p
+pub edited_marked_sound : (p id a b : ℕ) (put : List ℕ) (ks ls : List MarkedBuffer) (xs : List Session) (at : ℕ) (h : Session) (x : WindowMarks) → IsSound ks xs → HasBuffer x.name ks → slice_get xs at ≡ Some h → window_marks_of h ≡ Some x → IsReserved x.name x.mark id ks ls → IsSound (change_first (marked_named x.name) (marked_placed id p) (change_first (marked_named x.name) (marked_edited a b put) ls)) (slice_set xs at (session_marked id h))
+edited_marked_sound p id a b put ks ls xs at h x sound kept there sel r =
+    let ys = slice_set xs at (session_marked id h) in
+    let ms = change_first (marked_named x.name) (marked_edited a b put) ls in
+    let mark = reserved_mark x.mark id ks ls xs at h x refl sound kept there sel r in
+    sound_placed x.name id p ms ys (mark_edited_used x.name x.name a b put ls id mark)
+    (sound_edited x.name a b put ls ys (reserved_sound x id ks ls xs at h sound kept there sel r))
+
+pub edited_marked_sessions : (p id a b : ℕ) (put : List ℕ) (ks ls : List MarkedBuffer) (xs : List Session) (at : ℕ) (h : Session) (x : WindowMarks) → IsSound ks xs → HasBuffer x.name ks → slice_get xs at ≡ Some h → window_marks_of h ≡ Some x → IsReserved x.name x.mark id ks ls → map (session_of (change_first (marked_named x.name) (marked_placed id p) (change_first (marked_named x.name) (marked_edited a b put) ls))) (slice_set xs at (session_marked id h)) ≡ change_at at (mark_at_place p) (map (session_moved x.name (shift a b (length put))) (map (session_of ks) xs))
+edited_marked_sessions p id a b put ks ls xs at h x sound kept there sel r =
+    let ys = slice_set xs at (session_marked id h) in
+    let ms = change_first (marked_named x.name) (marked_edited a b put) ls in
+    let mark = reserved_mark x.mark id ks ls xs at h x refl sound kept there sel r in
+    sessions_marked p id ms xs at h x there sel (mark_edited_used x.name x.name a b put ls id mark)
+    (sound_edited x.name a b put ls ys (reserved_sound x id ks ls xs at h sound kept there sel r))
+    ∙ ap (change_at at (mark_at_place p)) (sessions_edited x.name a b put ls xs ∙ ap (map (session_moved x.name (shift a b (length put)))) (reserved_sessions x id ks ls xs sound kept r))
+
+-- THE POINT TOO: the mark and then the point are one change of the window
+changed_twice : {A : Type 0} (f g : A → A) (k : ℕ) (xs : List A) → change_at k f (change_at k g xs) ≡ change_at k (λ x. f (g x)) xs
+changed_twice f g k [] = refl
+changed_twice f g zero (x ∷ xs) = refl
+changed_twice f g (suc k) (x ∷ xs) = ap (λ ys. x ∷ ys) (changed_twice f g k xs)
+
+pub point_and_mark : (q p : ℕ) (s : model.Session) → point_at q (mark_at_place p s) ≡ record s { windows = change_at s.selected (window_adjusted None (At q) (Mark_at p) Keep None) s.windows }
+point_and_mark q p s =
+    ap (λ (ws : List model.Window). let t : model.Session = record s { windows = ws } in t)
+    (changed_twice (window_adjusted None (At q) Keep_mark Keep None) (window_adjusted None Keep (Mark_at p) Keep None) s.selected s.windows)
