@@ -25,7 +25,7 @@ use Rattle.mgs_world.proofs.Marks.{apart_from, is_same, mark_placed, mark_unused
 use Rattle.mgs_world.proofs.Soundness.{in_use_mark, in_use_more, mark_edited_used, mark_used, sound_edited, sound_in_use, sound_placed}
 use Rattle.mgs_world.proofs.Uses.{map_unused, map_used_at, sum_at}
 use Rattle.mgs_world.proofs.WindowMarks.{added_mark, buffers_marked, in_use_added, sessions_stay, stays_added, undone, with_mark_uses}
-use Rattle.mgs_world.proofs.Worlds.{one_use, place_unused, point_at, same_positions, same_window, selected_window, session_unused, sessions_edited, window_unused}
+use Rattle.mgs_world.proofs.Worlds.{one_use, place_unused, point_to, same_positions, same_window, selected_at, selected_window, session_unused, sessions_edited, window_unused}
 
 -- LISTS
 
@@ -252,7 +252,7 @@ changed_twice f g k [] = refl
 changed_twice f g zero (x ∷ xs) = refl
 changed_twice f g (suc k) (x ∷ xs) = ap (λ ys. x ∷ ys) (changed_twice f g k xs)
 
-pub point_and_mark : (q p : ℕ) (s : model.Session) → point_at q (mark_at_place p s) ≡ record s { windows = change_at s.selected (window_adjusted None (At q) (Mark_at p) Keep None) s.windows }
+pub point_and_mark : (q p : ℕ) (s : model.Session) → selected_at (point_to q) (mark_at_place p s) ≡ record s { windows = change_at s.selected (window_adjusted None (At q) (Mark_at p) Keep None) s.windows }
 point_and_mark q p s =
     ap (λ (ws : List model.Window). let t : model.Session = record s { windows = ws } in t)
     (changed_twice (window_adjusted None (At q) Keep_mark Keep None) (window_adjusted None Keep (Mark_at p) Keep None) s.selected s.windows)
