@@ -9,3 +9,4 @@ pub mod WindowMarks
 pub mod Settles
 pub mod Dropping
 pub mod SelectedMark
+pub mod Unmodified
