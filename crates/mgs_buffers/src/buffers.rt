@@ -1,5 +1,5 @@
 // All buffers, by name and in order of creation.
-ghost use Rattle.std.specs.Prelude.{◌≡◌, ◌+◌, ℕ, ◌-◌, ◌<◌, ◌≤◌, ◌^◌, ◌∷◌, [], ◌++◌, List, map, find, length, OnOk, OnErr, IfOk, IfSome, None, false};
+ghost use Rattle.std.specs.Prelude.{◌≡◌, ◌+◌, ℕ, ◌-◌, ◌<◌, ◌≤◌, ◌^◌, ◌∷◌, [], ◌++◌, List, map, find, length, OnOk, OnErr, IfOk, IfSome, None, false, count_by, is_some};
 ghost use Rattle.std.specs.Option.{option_copied, option_map};
 ghost use Rattle.mgs_undo.specs.History.{has_serial};
 ghost use Rattle.mgs_undo.specs.Numbered.{item_of};
@@ -303,6 +303,14 @@ impl<T: Marked + Drop> Buffers<T> {
         let at = self.place_of(name);
         let (_, buffer) = self.all.pair_mut(at);
         buffer.drop_mark(id);
+    }
+
+    /// How many marks of the buffer are in use.
+    pub fn mark_count(&self, name: &Name) -> usize
+        requires { HasBuffer name.now self.now }
+        ensures { result ≡ count_by is_some (marked_at name.now self.now).marks }
+    {
+        self.buffer(name).text.mark_count()
     }
 
     /// Puts characters in place of those from `a` up to `b` of the buffer's text, moves its marks, records the edit under the

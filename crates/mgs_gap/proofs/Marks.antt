@@ -1,5 +1,7 @@
 -- Lists of marks, and steps of the loops over them.
-use Rattle.std.proofs.Common.{◌≡◌, ℕ, zero, suc, ◌<◌, Option, Some, None, List, [], ◌∷◌, ◌++◌, take, drop, map, set, get_or, length, refl, ap, ap₂, arith}
+use Rattle.std.proofs.Common.{◌≡◌, ℕ, zero, suc, ◌<◌, Option, Some, None, List, [], ◌∷◌, ◌++◌, take, drop, map, set, get_or, length, is_some, cond, refl, sym, ap, ap₂, ◌∙◌, ◌+◌, arith}
+use Rattle.std.specs.List.{count_by}
+use Rattle.std.proofs.lemmas.List.Sums.{sum_by-cons}
 use Rattle.std.specs.Option.{option_map}
 use Rattle.mgs_marks.specs.Marks.{mark_in, position_in, or_zero}
 
@@ -68,3 +70,9 @@ mark_set_other (x ∷ xs) zero y zero h = absurd (h refl)
 mark_set_other (x ∷ xs) zero y (suc k) h = refl
 mark_set_other (x ∷ xs) (suc i) y zero h = refl
 mark_set_other (x ∷ xs) (suc i) y (suc k) h = mark_set_other xs i y k (λ e. h (ap suc e))
+
+-- marks are as many wherever they stand
+pub count_moved : (f : ℕ → ℕ) (xs : List (Option ℕ)) → count_by is_some xs ≡ count_by is_some (map (option_map f) xs)
+count_moved f [] = refl
+count_moved f (None ∷ xs) = sum_by-cons (λ (o : Option ℕ). cond (is_some o) 1 0) None xs ∙ ap (λ n. 0 + n) (count_moved f xs) ∙ sym (sum_by-cons (λ (o : Option ℕ). cond (is_some o) 1 0) None (map (option_map f) xs))
+count_moved f (Some x ∷ xs) = sum_by-cons (λ (o : Option ℕ). cond (is_some o) 1 0) (Some x) xs ∙ ap (λ n. 1 + n) (count_moved f xs) ∙ sym (sum_by-cons (λ (o : Option ℕ). cond (is_some o) 1 0) (Some (f x)) (map (option_map f) xs))

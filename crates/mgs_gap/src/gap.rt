@@ -9,7 +9,7 @@ ghost use Rattle.mgs_gap.specs.RawPlaces.{text_place, raw_place, IsRaw, marks_at
 use crate::block::Block;
 use crate::feeds::Feeds;
 use crate::lined::edit_lined;
-use crate::places::{Edit, Gap, free_slot, leaves_marks, move_places, to_raw, to_text};
+use crate::places::{Edit, Gap, count_used, free_slot, leaves_marks, move_places, to_raw, to_text};
 use mgs_marks::Marked;
 use mgs_model::{MarkId, Short};
 use mgs_text::Text;
@@ -156,5 +156,10 @@ impl Marked for GapText {
 
     fn drop_mark(&mut self, id: MarkId) {
         self.places[id.slot()] = None;
+    }
+
+    #[tactic(auto, using(crate::proofs::Marks::count_moved))]
+    fn mark_count(&self) -> usize {
+        count_used(&self.places)
     }
 }

@@ -1,5 +1,5 @@
 // Raw places and places in the text.
-ghost use Rattle.std.specs.Prelude.{◌≡◌, ℕ, ◌+◌, ◌-◌, ◌<◌, ◌≤◌, ◌^◌, ◌↔◌, List, Option, None, map, length, IsTrue, IfOk, OnErr};
+ghost use Rattle.std.specs.Prelude.{◌≡◌, ℕ, ◌+◌, ◌-◌, ◌<◌, ◌≤◌, ◌^◌, ◌↔◌, List, Option, None, map, length, count_by, is_some, IsTrue, IfOk, OnErr};
 ghost use Rattle.std.specs.Option.{option_map};
 ghost use Rattle.mgs_model.specs.Text.{shift};
 ghost use Rattle.mgs_marks.specs.Marks.{mark_in, position_in, or_zero};
@@ -102,4 +102,17 @@ pub(crate) fn free_slot(places: &mut Vec<Option<usize>>) -> Result<usize, Short>
         places.push(None).map_err(|_| Short)?;
     }
     Ok(id)
+}
+
+// How many slots hold a mark.
+pub(crate) fn count_used(places: &[Option<usize>]) -> usize
+    ensures { result ≡ count_by is_some places.now }
+{
+    let mut used = 0;
+    for place in places {
+        if place.is_some() {
+            used += 1;
+        }
+    }
+    used
 }

@@ -1,7 +1,7 @@
 //! Texts with marks: positions that every edit moves with the text around them.
 #![tactic(auto)]
 
-ghost use Rattle.std.specs.Prelude.{◌≡◌, ◌≢◌, ℕ, ◌≤◌, Some, None, length, slice_set, IsSome, OnErr, IfOk};
+ghost use Rattle.std.specs.Prelude.{◌≡◌, ◌≢◌, ℕ, ◌≤◌, Some, None, length, count_by, is_some, slice_set, IsSome, OnErr, IfOk};
 ghost use Rattle.mgs_marks.specs.Marks.{mark_in};
 
 mod plain;
@@ -44,4 +44,8 @@ pub trait Marked: Text {
         ensures gone { mark_in (Self.marks self.new) id ≡ None }
         ensures others { (k : ℕ) → k ≢ id →
             mark_in (Self.marks self.new) k ≡ mark_in (Self.marks self.old) k };
+
+    /// How many marks are in use.
+    fn mark_count(&self) -> usize
+        ensures { result ≡ count_by is_some (Self.marks self.now) };
 }

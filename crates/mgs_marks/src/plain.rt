@@ -139,4 +139,8 @@ impl Marked for PlainMarked {
     fn drop_mark(&mut self, id: MarkId) {
         self.slots.remove(id.slot());
     }
+
+    fn mark_count(&self) -> usize {
+        self.slots.len()
+    }
 }

@@ -128,6 +128,17 @@ nothing : map (λ (b : Buffer). b.modified) (doing (notes []) (B 21 ∷ B 48 ∷
 unfolding turns most_turns outcome next key_read
 nothing = refl
 
+-- nor is one made of it where the text may not be read: no item and no flag, and the point goes to the end
+abbrev unread : World
+unread = record (notes []) { buffers = buffer_of (codes "notes") (codes "ab") (record { entry_type = Allow; who = User (codes "bob"); mask = 132 } ∷ []) ∷ [] }
+
+nothing_unread_world : World
+nothing_unread_world = doing_bob unread (B 21 ∷ B 48 ∷ B 120 ∷ [])
+
+nothing_unread : (nothing_unread_world.buffers ≡ unread.buffers) × (points nothing_unread_world ≡ Some (2 ∷ [])) × (echo nothing_unread_world ≡ Some Silent)
+unfolding nothing_unread_world turns most_turns outcome next key_read
+nothing_unread = (refl, refl, refl)
+
 -- INSERT READING: C-j behind two spaces
 indented : texts (doing (notes (codes "  a")) (B 6 ∷ B 6 ∷ B 6 ∷ C (InsertReading NewlineAndIndent) None ∷ B 98 ∷ [])) ≡ (codes "  a" ++ 10 ∷ codes "  b") ∷ []
 unfolding turns most_turns outcome next key_read

@@ -176,7 +176,7 @@ fn sessions_read_their_own_words(rt: HostRuntime) -> Result<(), Fail> {
 }
 
 // A core of one buffer of ann.
-fn core_of_ann(alloc: Global, rt: &impl Abort) -> Core<PlainMarked> {
+pub(crate) fn core_of_ann(alloc: Global, rt: &impl Abort) -> Core<PlainMarked> {
     let directory = directory_of(alloc, &["ann"], rt);
     let mut buffers = Buffers::new(alloc);
     let list = list_of(&["ALLOW OWNER@ rwat"], rt);

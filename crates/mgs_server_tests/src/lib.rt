@@ -13,6 +13,8 @@ mod fixtures;
 #[cfg(test)]
 mod lockstep;
 #[cfg(test)]
+mod marks;
+#[cfg(test)]
 mod queues;
 #[cfg(test)]
 mod replay;

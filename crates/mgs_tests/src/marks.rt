@@ -29,7 +29,9 @@ pub(crate) fn move_and_drop<T: Marked + Drop>(alloc: Global, rt: &impl Abort) ->
     let second = text.add_mark(1)?;
     text.place(first, 2);
     assert_eq!(rt; text.pos(first), 2);
+    assert_eq!(rt; text.mark_count(), 2);
     text.drop_mark(second);
+    assert_eq!(rt; text.mark_count(), 1);
     assert_eq!(rt; text.pos(first), 2);
     assert_eq!(rt; text.len(), 2);
     assert_eq!(rt; text.at(1), 'b');

@@ -1,0 +1,11 @@
+use Rattle.std.proofs.Common.{◌∙◌, ap}
+use Rattle.mgs_core.specs.Counts.{marks_of}
+use Rattle.mgs_core.proofs.Counts.{sound_count}
+use Rattle.mgs_core.proofs.server.Core.mark_count.Goals as goal
+
+pub returns : goal.returns
+returns g c =
+    let held = c.self.inside in
+    c.mark_count.ensures
+    ∙ sound_count c.args.name.now held.directory held.buffers held.sessions.items held.next_id c.self.invariant.sound
+    ∙ ap (marks_of c.args.name.now) c.self.view_is
