@@ -1,49 +1,17 @@
-//! Tests of texts, rights, keys, screens and buffers, through their public calls.
+//! Tests of plans, windows, buffers and screens, through their public calls.
 #![tactic(auto)]
 
 #[cfg(test)]
 mod buffers;
 #[cfg(test)]
-mod decisions;
-#[cfg(test)]
-mod directory;
-#[cfg(test)]
-mod entries;
-#[cfg(test)]
-mod gap;
-#[cfg(test)]
 mod grid;
-#[cfg(test)]
-mod keyboard;
-#[cfg(test)]
-mod keys;
-#[cfg(test)]
-mod lines;
-#[cfg(test)]
-mod lists;
-#[cfg(test)]
-mod marks;
-#[cfg(test)]
-mod numbers;
 #[cfg(test)]
 mod paint;
 #[cfg(test)]
 mod plans;
 #[cfg(test)]
-mod printing;
-#[cfg(test)]
-mod rights;
-#[cfg(test)]
 mod taking_back;
 #[cfg(test)]
 mod terminal;
-#[cfg(test)]
-mod text;
-#[cfg(test)]
-mod undo;
-#[cfg(test)]
-mod undos;
-#[cfg(test)]
-mod walks;
 #[cfg(test)]
 mod windows;
