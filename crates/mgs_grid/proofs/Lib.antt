@@ -5,3 +5,4 @@ pub mod CellLemmas
 pub mod Plain
 pub mod Fits
 pub mod Drawn
+pub mod Cuts

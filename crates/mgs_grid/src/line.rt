@@ -14,6 +14,19 @@ use mgs_text::Text;
 use std::alloc::Global;
 use std::marker::Model;
 
+// How far a line in `start..end` has to be read for a row of `cols` columns that shows it from column `shift` on. Each
+// character has a cell at least, and one more than the row's tells that the line goes on.
+fn seen_end(start: usize, end: usize, shift: usize, cols: usize) -> usize
+    requires order { start ≤ end }
+    requires fits { start + (shift + cols) + 1 < 2 ^ 64 }
+    ensures from { start ≤ result }
+    ensures within { result ≤ end }
+    ensures far { result < end → start + (shift + cols) < result }
+{
+    let last = start + (shift + cols) + 1;
+    if last < end { last } else { end }
+}
+
 /// One row of a screen, plain or in reverse as a whole.
 #[derive(Drop)]
 pub struct Line {
@@ -83,7 +96,8 @@ impl Line {
         let end = line_end(text, start);
         let row = self.text.as_mut_slice();
         fill(row, ' ');
-        let column = put_line(row, shift, text, start, end);
+        let seen = seen_end(start, end, shift, row.len());
+        let column = put_line(row, shift, text, start, seen);
         finish(row, shift, column);
         end
     }
