@@ -18,6 +18,7 @@ use Rattle.mgs_model.specs.Seen.{WindowPane, Text_pane, text_seen, attributes_se
 use Rattle.mgs_model.specs.Draw.{draw, screen, read_rows, place_of, point_row, point_shift, window_rows, windows_rows, window_cursor, first_row, heading_of}
 use Rattle.mgs_model.specs.declared.right.Right.{Right}
 use Rattle.mgs_model.specs.declared.right.Right.TheVariants.{ReadData, ReadAttributes}
+use Rattle.mgs_marks.specs.Marks.{mark_in, or_zero, position_in}
 use Rattle.mgs_buffers.specs.MarkedBuffer.{MarkedBuffer, marked_at, HasBuffer, mark_at}
 use Rattle.mgs_windows.specs.declared.WindowMarks.{WindowMarks}
 use Rattle.mgs_windows.specs.declared.Window.{Window}
@@ -107,6 +108,10 @@ text_drawn selected cols height heading text point top line row place start shif
     ∙ ap (λ (n : ℕ). text_rows cols (shift_at (point_row text top point) (point_shift selected cols text point)) 0 height (drop n text) ++ mode_row cols (buffer_mode heading (Some (line + 1, place))) ∷ []) is.start_is
     ∙ ap (λ (n : ℕ). read_rows selected cols height text top point ++ mode_row cols (buffer_mode heading (Some (n + 1, place))) ∷ []) is.line_is
     ∙ ap (λ (n : ℕ). read_rows selected cols height text top point ++ mode_row cols (buffer_mode heading (Some (line_of text point + 1, n))) ∷ []) is.place_is
+
+-- a mark of a text that is a buffer's
+pub mark_here : (name : List ℕ) (ks : List MarkedBuffer) (id p : ℕ) (marks : List (Option ℕ)) → marks ≡ (marked_at name ks).marks → mark_in marks id ≡ Some p → p ≡ mark_at name ks id
+mark_here name ks id p marks same at = sym (ap (λ (k : List (Option ℕ)). position_in k id) (sym same) ∙ ap or_zero at)
 
 pub window_marks_drawn : (selected : Bool) (cols height : ℕ) (ks : List MarkedBuffer) (heading : Option (List ℕ × Bool)) (x : WindowMarks) (text : List ℕ) (point top : ℕ) → text ≡ (marked_at x.name ks).buffer.text → point ≡ mark_at x.name ks x.point → top ≡ mark_at x.name ks x.top
     → read_rows selected cols height text top point ++ mode_row cols (buffer_mode heading (place_of text point)) ∷ [] ≡ window_marks_rows selected cols height ks heading x

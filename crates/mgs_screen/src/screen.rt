@@ -83,8 +83,8 @@ fn draw_text<T: Marked + Drop>(
     let _size = buffers.text_len(&window_marks.name);
     let cols = grid.cols();
     let text = buffers.text(&window_marks.name);
-    let point = buffers.pos(&window_marks.name, window_marks.point);
-    let top = buffers.pos(&window_marks.name, window_marks.top);
+    let point = text.pos(window_marks.point);
+    let top = text.pos(window_marks.top);
     let line = text.line_of(point);
     let row = line.saturating_sub(text.line_of(top));
     let column = column(text, point);
