@@ -28,9 +28,9 @@ use Rattle.mgs_engine.proofs.Stays.{served_closed}
 
 -- IT ENDED ITS SESSION
 
-pub handles_quit : (w v : World) (id byte : ℕ) (k : Keyed) (xs ys : List Screen) (es fs : List (ℕ × Cause)) → IsServed w xs → k ≡ keyed.Quit → KeyedBy w v id byte k → v ≡ closed w id → sizes v ≡ sizes_keyed k id (sizes w)
+pub handles_quit : (w v : World) (id byte : ℕ) (k : Keyed) (xs ys : List Screen) (es fs : List (ℕ × Cause)) → IsServed w xs → k ≡ keyed.Quit → KeyedBy w v id byte k → v ≡ closed w id → sizes v ≡ sizes_keyed k id (sizes w) → v.next_id ≡ w.next_id
     → ys ≡ remove_first (screen_id id) xs → fs ≡ es ++ cond (is_some (find (screen_id id) xs)) ((id, Quit) ∷ []) [] → Handles (serving_of w xs es) (serving_of v ys fs) id byte k
-handles_quit w v id byte k xs ys es fs h is step world size items told =
+handles_quit w v id byte k xs ys es fs h is step world size next items told =
     let old : Serving = serving_of w xs es in
     let new : Serving = serving_of v ys fs in
     let whole : new ≡ ended_by Quit id old = screen_less w v Quit id xs ys es fs world items told in
@@ -41,6 +41,7 @@ handles_quit w v id byte k xs ys es fs h is step world size items told =
       typed = new;
       step = step;
       sizes = size;
+      next = next;
       queues = ap (λ (zs : List Screen). map queue_id (queues_of zs)) items ∙ ids_removed id xs ∙ ap (λ (k : Keyed). ids_keyed k id (queue_ids old)) (sym is);
       ended = ap (λ (s : Serving). s.ended) whole ∙ ap (λ (k : Keyed). ended_keyed k id old) (sym is);
       slow = ap (λ ids. all_ended_by Slow ids new) (sym none);
@@ -66,9 +67,9 @@ typed_in_time w v xs ys h same size each redrawn = record {
   drawn = in_time v xs ys redrawn;
 }
 
-pub handles_typed : (w v u : World) (id byte : ℕ) (k : Keyed) (xs ys zs : List Screen) (es gs : List (ℕ × Cause)) → IsServed w xs → sameb the_type k keyed.Quit ≡ false → KeyedBy w v id byte k → sizes v ≡ sizes_keyed k id (sizes w) → sizes v ≡ sizes w
+pub handles_typed : (w v u : World) (id byte : ℕ) (k : Keyed) (xs ys zs : List Screen) (es gs : List (ℕ × Cause)) → IsServed w xs → sameb the_type k keyed.Quit ≡ false → KeyedBy w v id byte k → sizes v ≡ sizes_keyed k id (sizes w) → v.next_id ≡ w.next_id → sizes v ≡ sizes w
     → map shown_size ys ≡ map shown_size xs → AreRedrawn v xs ys → serving_of u zs gs ≡ all_ended_by Slow (late_ids ys) (serving_of v ys es) → u ≡ run v (map (λ i. Close i) (late_ids ys)) → Handles (serving_of w xs es) (serving_of u zs gs) id byte k
-handles_typed w v u id byte k xs ys zs es gs h not step size same kept redrawn ended closes =
+handles_typed w v u id byte k xs ys zs es gs h not step size next same kept redrawn ended closes =
     let old : Serving = serving_of w xs es in
     let mid : Serving = serving_of v ys es in
     let slow : late_ids ys ≡ slow_ids old v = late_are_slow w v xs ys es (subst IsUnique (sym h.sizes_are) h.unique) (kept ∙ h.sizes_are ∙ sym same) h.drawn redrawn in
@@ -76,6 +77,7 @@ handles_typed w v u id byte k xs ys zs es gs h not step size same kept redrawn e
       typed = mid;
       step = step;
       sizes = size;
+      next = next;
       queues = ids_same ys xs kept ∙ sym (ids_stay k id (queue_ids old) not);
       ended = sym (told_stay k id old not);
       slow = ended ∙ ap (λ ids. all_ended_by Slow ids mid) slow;

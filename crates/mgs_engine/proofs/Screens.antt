@@ -96,6 +96,11 @@ tells (Some x) = (λ e. refl, λ h. refl)
 pub open_tells : (id : ℕ) (w : World) → Decides (is_open id w) (IsSome (find_size id (sizes w)))
 open_tells id w = rw (found_sizes id w) (tells (find_session id w.sessions))
 
+pub open_at : (id : ℕ) (w : World) (xs : List Screen) (at : ℕ) → map shown_size xs ≡ sizes w → at ≡ position_or_len (screen_id id) xs → at < length xs → is_open id w ≡ false → ⊥
+open_at id w xs at e is l closed =
+    let there : is_open id w ≡ true = (open_tells id w).1 ((open_place id (sizes w) xs at e is).0 l) in
+    cc
+
 -- ONE GOES
 
 pub removed_at : (id : ℕ) (xs : List Screen) (at : ℕ) → at ≡ position_or_len (screen_id id) xs → remove xs at ≡ remove_first (screen_id id) xs

@@ -24,6 +24,7 @@ pub record Handles (old new : Serving) (id byte : ℕ) (result : Keyed) : Type 0
   pub typed : Serving
   pub step : KeyedBy old.world typed.world id byte result
   pub sizes : sizes typed.world ≡ sizes_keyed result id (sizes old.world)
+  pub next : typed.world.next_id ≡ old.world.next_id
   pub queues : queue_ids typed ≡ ids_keyed result id (queue_ids old)
   pub ended : typed.ended ≡ ended_keyed result id old
   pub slow : new ≡ all_ended_by Slow (slow_ids old typed.world) typed
