@@ -7,3 +7,5 @@ pub mod Slow
 pub mod Handled
 pub mod Does
 pub mod Waiting
+pub mod Tapes
+pub mod Drives

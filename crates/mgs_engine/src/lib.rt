@@ -5,6 +5,7 @@
 #![tactic(auto)]
 
 mod draw;
+mod driving;
 mod end;
 mod ending;
 mod engine;
@@ -14,7 +15,10 @@ mod same;
 mod screen;
 mod sessions;
 mod take;
+mod tape;
 
+pub use driving::drive;
 pub use ending::Cause;
 pub use engine::Engine;
 pub use take::Taker;
+pub use tape::{Answer, Call, Tape};

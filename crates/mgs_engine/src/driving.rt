@@ -1,0 +1,100 @@
+// Calls of an engine, one after another.
+ghost use Rattle.std.specs.Prelude.{◌≡◌, OnOk, OnErr};
+ghost use Rattle.mgs_engine.specs.Drives.{Makes, Rig, Runs, RunsSome, asked, all_asked, rig, taped};
+ghost use Rattle.mgs_engine.specs.Tapes.{pieces_of};
+
+use crate::engine::Engine;
+use crate::tape::{Answer, Call, Piece, Tape, add_bytes};
+use mgs_marks::Marked;
+use mgs_model::Short;
+use std::alloc::Global;
+
+// Makes one call, after the tape has grown. Where that is refused, it is not made.
+fn make<T: Marked + Drop>(
+    alloc: Global,
+    engine: &mut Engine<T>,
+    call: &Call<'_>,
+    answers: &mut Vec<Answer>,
+    pieces: &mut Vec<Piece>,
+) -> Result<(), Short>
+    ensures ok { OnOk result (Makes (rig engine.old answers.old.items (pieces_of pieces.old.items)) (asked call.now) (rig engine.new answers.new.items (pieces_of pieces.new.items))) }
+    ensures err { OnErr result (rig engine.new answers.new.items (pieces_of pieces.new.items) ≡ rig engine.old answers.old.items (pieces_of pieces.old.items)) }
+{
+    if answers.reserve(1).is_err() {
+        return Err(Short);
+    }
+    match *call {
+        Call::Open(user, rows, cols) => {
+            let answer = engine.open(user, rows, cols);
+            answers.push_reserved(Answer::Open(answer));
+            Ok(())
+        }
+        Call::Byte(id, byte) => {
+            let answer = engine.byte(id, byte);
+            answers.push_reserved(Answer::Byte(answer));
+            Ok(())
+        }
+        Call::Close(id) => {
+            engine.close(id);
+            answers.push_reserved(Answer::Close);
+            Ok(())
+        }
+        Call::Took(id, most) => {
+            let pending = engine.pending(id);
+            let n = most.min(pending.len());
+            if add_bytes(alloc, pieces, id, &pending[..n]).is_err() {
+                return Err(Short);
+            }
+            engine.took(id, n);
+            answers.push_reserved(Answer::Took(n));
+            Ok(())
+        }
+        Call::Ended => {
+            let answer = engine.ended();
+            answers.push_reserved(Answer::Ended(answer));
+            Ok(())
+        }
+    }
+}
+
+// Makes calls in order, until the tape cannot grow.
+fn make_each<T: Marked + Drop>(
+    alloc: Global,
+    engine: &mut Engine<T>,
+    calls: &[Call<'_>],
+    answers: &mut Vec<Answer>,
+    pieces: &mut Vec<Piece>,
+) -> Result<(), Short>
+    ensures ok { OnOk result (Runs (rig engine.old answers.old.items (pieces_of pieces.old.items)) (all_asked calls.now) (rig engine.new answers.new.items (pieces_of pieces.new.items))) }
+    ensures err { OnErr result (RunsSome (rig engine.old answers.old.items (pieces_of pieces.old.items)) (all_asked calls.now) (rig engine.new answers.new.items (pieces_of pieces.new.items))) }
+{
+    for call in calls {
+        match make(alloc, engine, call, answers, pieces) {
+            Ok(()) => {}
+            Err(Short) => return Err(Short),
+        }
+    }
+    Ok(())
+}
+
+/// Makes calls in order, and puts on the tape what each answered and the bytes that were taken. A `Took` is cut to what is
+/// pending. Each call is the engine's own, with its own answers.
+///
+/// `Short`: memory was refused to the tape, which grows before each call. The calls whose answers are on the tape were made,
+/// and no others.
+pub fn drive<T: Marked + Drop>(
+    engine: &mut Engine<T>,
+    calls: &[Call<'_>],
+    tape: &mut Tape,
+) -> Result<(), Short>
+    ensures ok { OnOk result (Runs (taped engine.old tape.old) (all_asked calls.now) (taped engine.new tape.new)) }
+    ensures err { OnErr result (RunsSome (taped engine.old tape.old) (all_asked calls.now) (taped engine.new tape.new)) }
+{
+    make_each(
+        tape.alloc,
+        engine,
+        calls,
+        &mut tape.answers,
+        &mut tape.pieces,
+    )
+}
