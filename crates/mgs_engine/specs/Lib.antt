@@ -9,3 +9,4 @@ pub mod Does
 pub mod Waiting
 pub mod Tapes
 pub mod Drives
+pub mod Driven

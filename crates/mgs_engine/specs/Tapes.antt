@@ -1,5 +1,5 @@
 -- TAPES: what calls answered, and the bytes that were taken of each session.
-use Rattle.std.specs.Prelude.{◌≡◌, ℕ, Bool, nat_eq, cond, List, [], ◌∷◌, ◌++◌, map}
+use Rattle.std.specs.Prelude.{◌≡◌, ℕ, Bool, nat_eq, cond, List, [], ◌++◌, map}
 use Rattle.mgs_engine.specs.declared.tape.Answer.{Answer}
 use Rattle.mgs_engine.specs.declared.tape.Piece.{Piece}
 use Rattle.mgs_engine.specs.Queues.{Queue, find_queue, waiting_in}

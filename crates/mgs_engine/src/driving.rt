@@ -1,5 +1,6 @@
 // Calls of an engine, one after another.
 ghost use Rattle.std.specs.Prelude.{◌≡◌, OnOk, OnErr};
+ghost use Rattle.mgs_engine.specs.Driven.{AreTaped, IsRun, IsRunOfSome};
 ghost use Rattle.mgs_engine.specs.Drives.{Makes, Rig, Runs, RunsSome, asked, all_asked, rig, taped};
 ghost use Rattle.mgs_engine.specs.Tapes.{pieces_of};
 
@@ -80,6 +81,10 @@ fn make_each<T: Marked + Drop>(
 /// Makes calls in order, and puts on the tape what each answered and the bytes that were taken. A `Took` is cut to what is
 /// pending. Each call is the engine's own, with its own answers.
 ///
+/// The world after is the one before after the events of the calls. For each session that was not open before, and is after,
+/// the bytes that were put on the tape of it and then those that wait for it turn any terminal of its size, whatever it
+/// shows, into one that shows its screen.
+///
 /// `Short`: memory was refused to the tape, which grows before each call. The calls whose answers are on the tape were made,
 /// and no others.
 pub fn drive<T: Marked + Drop>(
@@ -89,6 +94,9 @@ pub fn drive<T: Marked + Drop>(
 ) -> Result<(), Short>
     ensures ok { OnOk result (Runs (taped engine.old tape.old) (all_asked calls.now) (taped engine.new tape.new)) }
     ensures err { OnErr result (RunsSome (taped engine.old tape.old) (all_asked calls.now) (taped engine.new tape.new)) }
+    ensures world { OnOk result (IsRun (taped engine.old tape.old) (all_asked calls.now) (taped engine.new tape.new)) }
+    ensures part { OnErr result (IsRunOfSome (taped engine.old tape.old) (all_asked calls.now) (taped engine.new tape.new)) }
+    ensures screens { AreTaped (taped engine.old tape.old) (taped engine.new tape.new) }
 {
     make_each(
         tape.alloc,
