@@ -4,6 +4,7 @@ ghost use Rattle.toml.specs.View.{view};
 ghost use Rattle.mgs_config.specs.Document.{document_in, rows_at};
 ghost use Rattle.mgs_config.specs.Buffers.{buffer_refused};
 ghost use Rattle.mgs_config.specs.Faults.{first_fault, names_of};
+ghost use Rattle.mgs_buffers.specs.MarkedBuffer.{AreUnmarked};
 ghost use Rattle.mgs_config.specs.Files.{AreBuffers};
 ghost use Rattle.mgs_config.specs.World.{fault_of, users_in, directory_in, people_refused, paths_in, IsLaterFault, IsConfigFault};
 ghost use Rattle.mgs_config.specs.declared.fault.TableFault.TheVariants.{Short};
@@ -133,6 +134,7 @@ fn configure<F: Files>(
     ensures directory { IfOk result (λ c. c.directory ≡ directory_in (view document.now)) }
     ensures tickets { IfOk result (λ c. c.tickets ≡ users_in (view document.now)) }
     ensures buffers { IfOk result (λ c. AreBuffers (F.tells files.old) (rows_at (codes "buffer") (view document.now)) c.buffers) }
+    ensures unmarked { IfOk result (λ c. AreUnmarked c.buffers) }
     ensures files { IfOk result (λ c. map (λ f. (string_bytes f.name, string_bytes f.path)) c.files.items ≡ paths_in (rows_at (codes "buffer") (view document.now))) }
     ensures err { IfErr result (λ e. e.fault ≢ Short → IsLaterFault (people_refused (view document.now)) (F.tells files.old) (F.count files.old) (F.count files.new) (view document.now) e) }
 {
@@ -165,6 +167,7 @@ fn read_parts<F: Files>(alloc: Global, text: &str, files: &mut F) -> Result<Conf
     ensures directory { IfOk result (λ c. Some c.directory ≡ option_map directory_in (document_in text.now)) }
     ensures tickets { IfOk result (λ c. Some c.tickets ≡ option_map users_in (document_in text.now)) }
     ensures buffers { IfOk result (λ c. IfSome (document_in text.now) (λ d. AreBuffers (F.tells files.old) (rows_at (codes "buffer") d) c.buffers)) }
+    ensures unmarked { IfOk result (λ c. AreUnmarked c.buffers) }
     ensures files { IfOk result (λ c. Some (map (λ f. (string_bytes f.name, string_bytes f.path)) c.files.items) ≡ option_map (λ d. paths_in (rows_at (codes "buffer") d)) (document_in text.now)) }
     ensures due { OnOk result (IfSome (document_in text.now) (λ d. people_refused d ≡ None)) }
     ensures none { OnOk result (IfSome (document_in text.now) (λ d. first_fault (buffer_refused (names_of (users_in d))) [] (rows_at (codes "buffer") d) ≡ None)) }
@@ -195,6 +198,7 @@ pub fn read_config<F: Files>(
     ensures directory { IfOk result (λ c. Some c.directory ≡ option_map directory_in (document_in text.now)) }
     ensures tickets { IfOk result (λ c. Some c.tickets ≡ option_map users_in (document_in text.now)) }
     ensures buffers { IfOk result (λ c. IfSome (document_in text.now) (λ d. AreBuffers (F.tells files.old) (rows_at (codes "buffer") d) c.buffers)) }
+    ensures unmarked { IfOk result (λ c. AreUnmarked c.buffers) }
     ensures files { IfOk result (λ c. Some (map (λ f. (string_bytes f.name, string_bytes f.path)) c.files.items) ≡ option_map (λ d. paths_in (rows_at (codes "buffer") d)) (document_in text.now)) }
     ensures due { OnOk result (IfSome (document_in text.now) (λ d. people_refused d ≡ None)) }
     ensures none { OnOk result (IfSome (document_in text.now) (λ d. first_fault (buffer_refused (names_of (users_in d))) [] (rows_at (codes "buffer") d) ≡ None)) }

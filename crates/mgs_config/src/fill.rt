@@ -2,7 +2,7 @@
 ghost use Rattle.std.specs.Prelude.{◌≡◌, ◌≢◌, ◌≤◌, [], ◌∷◌, ◌++◌, length, map, IfOk, IfErr, OnOk, None};
 ghost use Rattle.toml.specs.View.{view};
 ghost use Rattle.mgs_model.specs.Access.{is_among};
-ghost use Rattle.mgs_buffers.specs.MarkedBuffer.{has_buffer};
+ghost use Rattle.mgs_buffers.specs.MarkedBuffer.{AreUnmarked, has_buffer};
 ghost use Rattle.mgs_config.specs.Buffers.{name_of, owner_of, listed, path_of, has_file, refused_where, buffer_refused};
 ghost use Rattle.mgs_config.specs.Faults.{first_fault};
 ghost use Rattle.mgs_config.specs.Files.{IsTold, IsFileFault, IsTextOf, IsFaultOf, IsRefusal, buffer_of, IsAdded, AreBuffers, IsBufferFault};
@@ -68,6 +68,7 @@ fn put_buffer(
 ) -> Result<(), TableFault>
     requires { length (listed (view row.now)) ≤ 64 }
     ensures ok { OnOk result (buffers.new ≡ buffers.old ++ buffer_of (view row.now) text.now ∷ []) }
+    ensures unmarked { AreUnmarked buffers.old → AreUnmarked buffers.new }
     ensures err { IfErr result (λ f. f ≡ Short) }
 {
     let list = read_list(listed(row));
@@ -89,6 +90,7 @@ fn add_buffer<F: Files>(
 ) -> Result<(), TableFault>
     ensures due { OnOk result (refused_where (has_buffer (name_of (view row.now)) buffers.old) (is_among (owner_of (view row.now)) directory.now.users) (length buffers.old) (view row.now) ≡ None) }
     ensures added { OnOk result (IsAdded (F.tells files.old) (view row.now) buffers.old buffers.new) }
+    ensures unmarked { AreUnmarked buffers.old → AreUnmarked buffers.new }
     ensures same { F.tells files.new ≡ F.tells files.old }
     ensures count { F.count files.old ≤ F.count files.new }
     ensures err { IfErr result (IsRefusal (refused_where (has_buffer (name_of (view row.now)) buffers.old) (is_among (owner_of (view row.now)) directory.now.users) (length buffers.old) (view row.now)) (IsFaultOf (F.tells files.old) (path_of (view row.now)) (F.count files.old) (F.count files.new))) }
@@ -112,6 +114,7 @@ pub fn read_buffers<F: Files>(
 ) -> Result<Buffers<PlainMarked>, (usize, TableFault)>
     ensures due { OnOk result (first_fault (buffer_refused directory.now.users) [] (map view rows.now) ≡ None) }
     ensures buffers { IfOk result (λ buffers. AreBuffers (F.tells files.old) (map view rows.now) buffers) }
+    ensures unmarked { IfOk result (λ buffers. AreUnmarked buffers) }
     ensures err { IfErr result (λ f. f.1 ≢ Short → IsBufferFault (F.tells files.old) (F.count files.old) (F.count files.new) directory.now.users (map view rows.now) f) }
 {
     let mut buffers = Buffers::new(alloc);

@@ -10,6 +10,7 @@ returns-in-Err-clause-err g c = λ long.
 pub loop-before-preserved : goal.loop-before-preserved
 loop-before-preserved g c = record {
   buffers = loop_buffers _ _ c.args.rows.now c.loop-before.before c.index-rows-before.result c.loop-before.buffers c.add_buffer.new.buffers (omega arith) c.index-rows-before.is c.loop-before.invariant.same c.loop-before.invariant.buffers c.in-Ok.ensures.added;
+  unmarked = c.add_buffer.ensures.unmarked c.loop-before.invariant.unmarked;
   same = c.add_buffer.ensures.same ∙ c.loop-before.invariant.same;
   count = omega (arith, c.loop-before.invariant.count, c.add_buffer.ensures.count);
   left = loop_left _ _ c.args.rows.now c.loop-before.before c.index-rows-before.result c.loop-before.buffers _ (omega arith) c.index-rows-before.is c.loop-before.invariant.buffers c.in-Ok.ensures.due c.loop-before.invariant.left;
