@@ -1,0 +1,70 @@
+// Takes connections.
+use crate::peer::Peer;
+use mgs_model::{SESSION_LIMIT, Short};
+use mgs_wire::Refusal;
+use mio::net::{TcpListener, TcpStream};
+use mio::{Interest, Registry, Token};
+use slab::Slab;
+use std::alloc::Global;
+use std::io::Write;
+
+// The most connections that are taken in one turn.
+const ACCEPTED_AT_ONCE: usize = 64;
+
+/// What a stream is reported for.
+pub(crate) fn both_ways() -> Interest {
+    Interest::READABLE | Interest::WRITABLE
+}
+
+// Tells of a refusal and closes the stream. Where it cannot be written it is lost.
+fn refuse(mut stream: TcpStream, refusal: Refusal) {
+    let _ = stream.write(refusal.line());
+}
+
+// A place for a stream among the connections, or why there is none. The stream is then dropped.
+fn place(alloc: Global, peers: &mut Slab<Peer<TcpStream>>, stream: TcpStream) -> Result<(), Short> {
+    let peer = Peer::new(alloc, stream)?;
+    match peers.insert(peer) {
+        Ok(_) => Ok(()),
+        Err(_) => Err(Short),
+    }
+}
+
+// A stream becomes a connection, or it is refused.
+fn admit(
+    alloc: Global,
+    registry: &Registry,
+    peers: &mut Slab<Peer<TcpStream>>,
+    mut stream: TcpStream,
+) {
+    if peers.len() >= SESSION_LIMIT {
+        refuse(stream, Refusal::Full);
+        return;
+    }
+    if peers.reserve(1).is_err() {
+        refuse(stream, Refusal::Short);
+        return;
+    }
+    let token = Token(peers.vacant_key());
+    if registry.register(&mut stream, token, both_ways()).is_err() {
+        refuse(stream, Refusal::Short);
+        return;
+    }
+    let _ = stream.set_nodelay(true);
+    let _ = place(alloc, peers, stream);
+}
+
+/// Takes the connections that wait, 64 at most. One past the 64th that is open is answered `refused 5 Full` and closed.
+pub(crate) fn accept_all(
+    alloc: Global,
+    registry: &Registry,
+    listener: &TcpListener,
+    peers: &mut Slab<Peer<TcpStream>>,
+) {
+    for _ in 0..ACCEPTED_AT_ONCE {
+        match listener.accept() {
+            Ok((stream, _)) => admit(alloc, registry, peers, stream),
+            Err(_) => return,
+        }
+    }
+}

@@ -1,0 +1,14 @@
+//! A server of terminals over sockets: connections on the loopback address, each with a login line and then a session.
+//!
+//! [`Server::listen`] opens the port and [`Server::turn`] does what is there to be done; both go in one thread.
+#![tactic(auto)]
+
+mod accept;
+mod peer;
+mod server;
+mod sips;
+mod stand_in;
+
+pub use peer::Peer;
+pub use server::{ListenFault, PollFailed, Server};
+pub use sips::{BYTES_AT_ONCE, Sips};
