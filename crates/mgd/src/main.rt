@@ -1,11 +1,17 @@
 //! The editing server's program.
 #![tactic(auto)]
 
+mod arguments;
+mod disk;
+mod serve;
+mod tell;
+
+use arguments::{Task, read_task};
 use mgs_replay::{ReplayFault, replay};
-use std::env::{self, Env};
-use std::fmt::Display;
+use serve::run_serve;
 use std::io::{self, ErrorKind};
 use std::process::ExitCode;
+use tell::tell;
 
 const USAGE: &str = "usage: mgd replay | mgd serve CONFIG PORT";
 
@@ -13,20 +19,6 @@ const NO_MEMORY: &str = "no memory";
 
 /// The program's status where its arguments are wrong.
 const WRONG_ARGUMENTS: u8 = 2;
-
-/// Whether the program's arguments are the one word `replay`.
-///
-/// `OutOfMemory` is out of memory. Any other error is an argument that is not UTF-8.
-fn is_replay<R: Env + Alloc>(rt: &R) -> io::Result<bool> {
-    let mut words = env::args(rt)?.skip(1);
-    let first = words.next();
-    Ok(first.is_some_and(|word| word.as_str() == "replay") && words.next().is_none())
-}
-
-/// Prints a line on standard error. Where that fails the line is lost, and the program's status stays what it is.
-fn tell<R: Eprint>(rt: &R, line: impl Display + Drop) {
-    let _ = eprintln!(rt; "{line}");
-}
 
 /// Replays standard input, and tells of a fault on standard error.
 fn run_replay<R: AllocGlobal + Input + Print + Eprint>(rt: &R) -> ExitCode {
@@ -43,13 +35,14 @@ fn run_replay<R: AllocGlobal + Input + Print + Eprint>(rt: &R) -> ExitCode {
 }
 
 fn main(rt: HostRuntime) -> ExitCode {
-    match is_replay(&rt) {
-        Ok(true) => run_replay(&rt),
+    match read_task(&rt) {
+        Ok(Task::Replay) => run_replay(&rt),
+        Ok(Task::Serve { config, port }) => run_serve(&rt, config.as_str(), port),
         Err(fault) if fault.kind() == ErrorKind::OutOfMemory => {
             tell(&rt, NO_MEMORY);
             ExitCode::FAILURE
         }
-        Ok(false) | Err(_) => {
+        Ok(Task::Wrong) | Err(_) => {
             tell(&rt, USAGE);
             ExitCode::from(WRONG_ARGUMENTS)
         }
