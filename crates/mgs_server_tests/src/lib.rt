@@ -9,6 +9,8 @@ mod calls;
 #[cfg(test)]
 mod config;
 #[cfg(test)]
+mod drive;
+#[cfg(test)]
 mod fixtures;
 #[cfg(test)]
 mod lockstep;
