@@ -21,8 +21,11 @@ def expect(what, is_so, seen=""):
 class Terminal:
     """A socket, and a screen that it paints."""
 
-    def __init__(self, port, login=None, rows=6, cols=40):
-        self.socket = socket.create_connection(("127.0.0.1", port))
+    def __init__(self, port, login=None, rows=6, cols=40, room=None):
+        self.socket = socket.socket()
+        if room is not None:
+            self.socket.setsockopt(socket.SOL_SOCKET, socket.SO_RCVBUF, room)
+        self.socket.connect(("127.0.0.1", port))
         self.rows, self.cols = rows, cols
         self.cells = [[" "] * cols for _ in range(rows)]
         self.row = self.col = 1
@@ -53,6 +56,13 @@ class Terminal:
                 self.ended = True
             self.got += data
             self.paint(data)
+        return self
+
+    def read_some(self, most=20.0):
+        """Waits until something has come."""
+        end = time.time() + most
+        while not self.got and not self.ended and time.time() < end:
+            self.read(quiet=0.2)
         return self
 
     def paint(self, data):
@@ -105,6 +115,7 @@ def answer(port, data, end=False):
     one.send(data)
     if end:
         one.socket.shutdown(socket.SHUT_WR)
+    one.read_some()
     one.read(quiet=1.0)
     one.close()
     return one.got, one.ended
@@ -149,7 +160,7 @@ def try_two(port):
     ann.send(b"still here ")
     ann.read()
     expect("a reset peer leaves ann's session", "still here" in ann.shows(1), ann.shows(1))
-    ann.send(b"\n" * 3000)
+    ann.send(b"\r" * 3000)
     ann.read(quiet=1.0, most=60)
     expect("3,000 pasted lines end nobody", not ann.ended)
     ann.socket.shutdown(socket.SHUT_WR)
@@ -158,36 +169,61 @@ def try_two(port):
     ann.close()
 
 
+def drain(one, quiet, most):
+    """Takes what comes and shows it nowhere: how much it was."""
+    end, count = time.time() + most, 0
+    while not one.ended and time.time() < end:
+        one.socket.settimeout(quiet)
+        try:
+            data = one.socket.recv(1 << 20)
+        except socket.timeout:
+            break
+        except OSError:
+            data = b""
+        one.ended = not data
+        count += len(data)
+    return count
+
+
 def try_slow(port):
-    ann, bob = Terminal(port, "ann apple", 64, 160).read(), Terminal(port, "bob birch", 64, 160)
-    for _ in range(400):
-        ann.send(b"0123456789abcdef\n" * 32)
-        ann.read(quiet=0.01, most=1)
+    """Ann reads, bob does not. Each line feed at the text's start moves all rows of both screens."""
+    ann = Terminal(port, "ann apple", 64, 160)
+    for line in range(64):
+        ann.send(bytes([0x21 + line]) * 150 + b"\r")
+        drain(ann, 0.05, 2)
+    ann.send(b"\x159664\x02")
+    drain(ann, 2.0, 20)
+    bob = Terminal(port, "bob birch", 64, 160, room=4096)
+    time.sleep(0.5)
+    painted = 0
+    for _ in range(12):
+        ann.send(b"\r\x02" * 16)
+        painted += drain(ann, 0.7, 20)
         if ann.ended:
             break
     expect("ann, who reads, is served", not ann.ended)
-    bob.read(quiet=1.0, most=20)
-    expect("bob, who did not read, was ended", bob.ended)
+    got = drain(bob, 2.0, 60)
+    expect(f"bob, who does not read, was ended ({painted} bytes for ann, {got} for bob)", bob.ended)
     ann.send(b"\x18\x03")
-    ann.read(quiet=1.0)
+    drain(ann, 1.0, 2)
     ann.close(), bob.close()
 
 
 def try_full(port):
     all_of_them = [Terminal(port, "ann apple") for _ in range(64)]
     for one in all_of_them:
-        one.read(quiet=0.05)
+        one.read_some()
     expect("64 are served", all(one.got and not one.ended for one in all_of_them))
     got = answer(port, b"")
     expect("the 65th is refused", got == (b"refused 5 Full\n", True), got)
     all_of_them.pop().close()
     time.sleep(0.3)
-    again = Terminal(port, "bob birch").read()
+    again = Terminal(port, "bob birch").read_some()
     expect("one that ended leaves its place", b"\x1b[" in again.got, again.got)
     for one in all_of_them + [again]:
         one.close()
     time.sleep(0.5)
-    last = Terminal(port, "bob birch").read()
+    last = Terminal(port, "bob birch").read_some()
     expect("all that ended leave theirs", b"\x1b[" in last.got, last.got)
     last.close()
 

@@ -1,4 +1,8 @@
 // Takes connections.
+ghost use Rattle.std.specs.Prelude.{◌≡◌, ◌+◌, ◌≤◌, OnOk, OnErr};
+ghost use Rattle.slab.specs.Slab.{slab_len};
+ghost use Rattle.mgs_model.specs.declared.limits.TheConstants.{SESSION_LIMIT};
+
 use crate::peer::Peer;
 use mgs_model::{SESSION_LIMIT, Short};
 use mgs_wire::Refusal;
@@ -22,7 +26,10 @@ fn refuse(mut stream: TcpStream, refusal: Refusal) {
 }
 
 // A place for a stream among the connections, or why there is none. The stream is then dropped.
-fn place(alloc: Global, peers: &mut Slab<Peer<TcpStream>>, stream: TcpStream) -> Result<(), Short> {
+fn place(alloc: Global, peers: &mut Slab<Peer<TcpStream>>, stream: TcpStream) -> Result<(), Short>
+    ensures ok { OnOk result (slab_len peers.new ≡ slab_len peers.old + 1) }
+    ensures err { OnErr result (slab_len peers.new ≡ slab_len peers.old) }
+{
     let peer = Peer::new(alloc, stream)?;
     match peers.insert(peer) {
         Ok(_) => Ok(()),
@@ -36,13 +43,11 @@ fn admit(
     registry: &Registry,
     peers: &mut Slab<Peer<TcpStream>>,
     mut stream: TcpStream,
-) {
+)
+    ensures { slab_len peers.old ≤ SESSION_LIMIT → slab_len peers.new ≤ SESSION_LIMIT }
+{
     if peers.len() >= SESSION_LIMIT {
         refuse(stream, Refusal::Full);
-        return;
-    }
-    if peers.reserve(1).is_err() {
-        refuse(stream, Refusal::Short);
         return;
     }
     let token = Token(peers.vacant_key());
@@ -51,7 +56,10 @@ fn admit(
         return;
     }
     let _ = stream.set_nodelay(true);
-    let _ = place(alloc, peers, stream);
+    match place(alloc, peers, stream) {
+        Ok(()) => {}
+        Err(Short) => {}
+    }
 }
 
 /// Takes the connections that wait, 64 at most. One past the 64th that is open is answered `refused 5 Full` and closed.
@@ -60,7 +68,9 @@ pub(crate) fn accept_all(
     registry: &Registry,
     listener: &TcpListener,
     peers: &mut Slab<Peer<TcpStream>>,
-) {
+)
+    ensures { slab_len peers.old ≤ SESSION_LIMIT → slab_len peers.new ≤ SESSION_LIMIT }
+{
     for _ in 0..ACCEPTED_AT_ONCE {
         match listener.accept() {
             Ok((stream, _)) => admit(alloc, registry, peers, stream),

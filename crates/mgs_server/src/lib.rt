@@ -9,6 +9,5 @@ mod server;
 mod sips;
 mod stand_in;
 
-pub use peer::Peer;
 pub use server::{ListenFault, PollFailed, Server};
-pub use sips::{BYTES_AT_ONCE, Sips};
+pub use sips::BYTES_AT_ONCE;

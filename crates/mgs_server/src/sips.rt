@@ -7,18 +7,18 @@ pub const BYTES_AT_ONCE: usize = 6;
 
 /// A stream of which one read gives at most `BYTES_AT_ONCE` bytes.
 #[derive(Drop)]
-pub struct Sips<S: Drop> {
-    stream: S,
+pub(crate) struct Sips<S: Drop> {
+    pub(crate) stream: S,
 }
 
 impl<S: Drop> Sips<S> {
     /// The stream in sips.
-    pub fn new(stream: S) -> Sips<S> {
+    pub(crate) fn new(stream: S) -> Sips<S> {
         Sips { stream }
     }
 
     /// The stream itself.
-    pub fn stream(&mut self) -> &mut S {
+    pub(crate) fn stream(&mut self) -> &mut S {
         &mut self.stream
     }
 }
