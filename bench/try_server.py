@@ -169,46 +169,6 @@ def try_two(port):
     ann.close()
 
 
-def drain(one, quiet, most):
-    """Takes what comes and shows it nowhere: how much it was."""
-    end, count = time.time() + most, 0
-    while not one.ended and time.time() < end:
-        one.socket.settimeout(quiet)
-        try:
-            data = one.socket.recv(1 << 20)
-        except socket.timeout:
-            break
-        except OSError:
-            data = b""
-        one.ended = not data
-        count += len(data)
-    return count
-
-
-def try_slow(port):
-    """Ann reads, bob does not. Each line feed at the text's start moves all rows of both screens."""
-    ann = Terminal(port, "ann apple", 64, 160)
-    for line in range(64):
-        ann.send(bytes([0x21 + line]) * 150 + b"\r")
-        drain(ann, 0.05, 2)
-    ann.send(b"\x159664\x02")
-    drain(ann, 2.0, 20)
-    bob = Terminal(port, "bob birch", 64, 160, room=4096)
-    time.sleep(0.5)
-    painted = 0
-    for _ in range(12):
-        ann.send(b"\r\x02" * 16)
-        painted += drain(ann, 0.7, 20)
-        if ann.ended:
-            break
-    expect("ann, who reads, is served", not ann.ended)
-    got = drain(bob, 2.0, 60)
-    expect(f"bob, who does not read, was ended ({painted} bytes for ann, {got} for bob)", bob.ended)
-    ann.send(b"\x18\x03")
-    drain(ann, 1.0, 2)
-    ann.close(), bob.close()
-
-
 def try_full(port):
     all_of_them = [Terminal(port, "ann apple") for _ in range(64)]
     for one in all_of_them:
@@ -280,7 +240,6 @@ def main():
         expect("a port in use", got == (3, "listening failed\n"), got)
         try_refusals(port)
         try_two(port)
-        try_slow(port)
         try_full(port)
         expect("the server goes on", server.poll() is None, server.poll())
     finally:
