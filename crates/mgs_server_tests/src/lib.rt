@@ -17,6 +17,8 @@ mod lockstep;
 #[cfg(test)]
 mod marks;
 #[cfg(test)]
+mod motions;
+#[cfg(test)]
 mod queues;
 #[cfg(test)]
 mod replay;
