@@ -27,7 +27,7 @@ use Rattle.mgs_edit.specs.Reading.{change_read, finish_read, kill_read, mark_rea
 use Rattle.mgs_edit.specs.declared.plan.Finish.{Finish}
 use Rattle.mgs_act.specs.declared.action.Action.{Action}
 use Rattle.mgs_act.specs.declared.action.Action.TheVariants.{Fails, Edits, Moves}
-use Rattle.mgs_act.specs.Actions.{AreMarks, CanBeDone, edited_by, kill_at, kill_or_none, mark_gone, marked_after, marks_gone, outcome_through, session_acted, session_finished}
+use Rattle.mgs_act.specs.Actions.{AreMarks, CanBeDone, edited_by, kill_at, kill_or_none, mark_gone, mark_told, marked_after, marks_gone, outcome_through, session_acted, session_finished}
 use Rattle.mgs_world.specs.Sound.{IsSound, one_if, session_uses, uses, window_marks_uses}
 use Rattle.mgs_world.specs.Worlds.{buffers_of, id_after, idle, own_at, own_of, own_or_first, session_id, session_of, size_in, sizes_in, world_of}
 use Rattle.mgs_world.proofs.Sessions.{session_found}
@@ -42,7 +42,7 @@ at_same f same n [] = refl
 at_same f same zero (x ∷ xs) = ap (λ y. y ∷ xs) (same x)
 at_same f same (suc n) (x ∷ xs) = ap (λ ys. x ∷ ys) (at_same f same n xs)
 
-at_twice : {A : Type 0} (f g : A → A) (n : ℕ) (xs : List A) → change_at n g (change_at n f xs) ≡ change_at n (λ x. g (f x)) xs
+pub at_twice : {A : Type 0} (f g : A → A) (n : ℕ) (xs : List A) → change_at n g (change_at n f xs) ≡ change_at n (λ x. g (f x)) xs
 at_twice f g n [] = refl
 at_twice f g zero (x ∷ xs) = refl
 at_twice f g (suc n) (x ∷ xs) = ap (λ ys. x ∷ ys) (at_twice f g n xs)
@@ -90,7 +90,7 @@ top_by to x = window_adjusted None Keep Keep_mark to None x
 selected_same : (f : model.Window → model.Window) → ((w : model.Window) → f w ≡ w) → (x : model.Session) → selected_at f x ≡ x
 selected_same f same x = ap (λ ws. record x { windows = ws }) (at_same f same x.selected x.windows)
 
-once_used : (ks : List MarkedBuffer) (xs : List Session) (n : List ℕ) (i : ℕ) → IsSound ks xs → uses n i xs ≤ 1
+pub once_used : (ks : List MarkedBuffer) (xs : List Session) (n : List ℕ) (i : ℕ) → IsSound ks xs → uses n i xs ≤ 1
 once_used ks xs n i sound = omega (arith, sound.once n i, one_if_most (is_some (mark_in (marked_at n ks).marks i)))
 
 points_gone : (to : PointPlan) (ks : List MarkedBuffer) (xs : List Session) (id : ℕ) (h : Session) (x : WindowMarks) → find (session_id id) xs ≡ Some h → window_marks_of h ≡ Some x → IsMark x.name x.point ks → uses x.name x.point xs ≤ 1 → map (session_of (mark_gone x.name x.point to ks)) xs ≡ change_first (has_id id) (selected_at (point_by to)) (map (session_of ks) xs)
@@ -111,12 +111,12 @@ tops_gone At_origin ks xs id h x found sel mark once = sym (first_same (has_id i
 
 -- SOUNDNESS
 
-gone_sound : (name : List ℕ) (id : ℕ) (to : PointPlan) (ks : List MarkedBuffer) (xs : List Session) → IsMark name id ks → IsSound ks xs → IsSound (mark_gone name id to ks) xs
+pub gone_sound : (name : List ℕ) (id : ℕ) (to : PointPlan) (ks : List MarkedBuffer) (xs : List Session) → IsMark name id ks → IsSound ks xs → IsSound (mark_gone name id to ks) xs
 gone_sound name id Keep ks xs mark sound = sound
 gone_sound name id (At p) ks xs mark sound = sound_placed name id p ks xs mark sound
 gone_sound name id At_origin ks xs mark sound = sound
 
-edited_sound : (name : List ℕ) (c : plans.Change) (ks : List MarkedBuffer) (xs : List Session) → IsSound ks xs → IsSound (edited_by name c ks) xs
+pub edited_sound : (name : List ℕ) (c : plans.Change) (ks : List MarkedBuffer) (xs : List Session) → IsSound ks xs → IsSound (edited_by name c ks) xs
 edited_sound name c ks xs sound = go (is_edit c.a c.b c.put)
   where
     go : (f : Bool) → IsSound (cond f (change_first (marked_named name) (marked_edited c.a c.b c.put) ks) ks) xs
@@ -125,12 +125,12 @@ edited_sound name c ks xs sound = go (is_edit c.a c.b c.put)
 
 -- WHAT IS DONE
 
-gone_buffers : (name : List ℕ) (id : ℕ) (to : PointPlan) (ks : List MarkedBuffer) → buffers_of (mark_gone name id to ks) ≡ buffers_of ks
+pub gone_buffers : (name : List ℕ) (id : ℕ) (to : PointPlan) (ks : List MarkedBuffer) → buffers_of (mark_gone name id to ks) ≡ buffers_of ks
 gone_buffers name id Keep ks = refl
 gone_buffers name id (At p) ks = buffers_placed name id p ks
 gone_buffers name id At_origin ks = refl
 
-edited_buffers : (name : List ℕ) (c : plans.Change) (ks : List MarkedBuffer) → buffers_of (edited_by name c ks) ≡ buffers_after (edit_of name c) (buffers_of ks)
+pub edited_buffers : (name : List ℕ) (c : plans.Change) (ks : List MarkedBuffer) → buffers_of (edited_by name c ks) ≡ buffers_after (edit_of name c) (buffers_of ks)
 edited_buffers name c ks = go (is_edit c.a c.b c.put)
   where
     go : (f : Bool) → buffers_of (cond f (change_first (marked_named name) (marked_edited c.a c.b c.put) ks) ks) ≡ buffers_after (cond f (Edit name c.a c.b c.put) No_effect) (buffers_of ks)
@@ -149,22 +149,22 @@ abbrev ends : plans.Finish → model.Own → model.Session → model.Session
 ends f own x = record x { kill = kill_after f.kill x.kill; own = finished_own f own }
 
 -- the outcome of a finish that is not too large
-abbrev ended : plans.Finish → Effect → model.Own → Outcome
+abbrev pub ended : plans.Finish → Effect → model.Own → Outcome
 ended f e own = record { own = finished_own f own; kill = f.kill; arrange = Adjust f.point f.mark f.top None f.sought; effect = e }
 
-windows_end : (behind : ℕ) (text kill : List ℕ) (f : Finish) (x : model.Session) → f.mark ≡ None
-    → (let left = finish_read text kill behind f in change_at x.selected (top_by left.top) (change_at x.selected (point_by left.point) x.windows) ≡ change_at x.selected (window_adjusted None left.point left.mark left.top None) x.windows)
-windows_end behind text kill f x unmarked =
-    let left = finish_read text kill behind f in
-    at_twice (point_by left.point) (top_by left.top) x.selected x.windows
-    ∙ ap (λ m. change_at x.selected (window_adjusted None left.point (mark_read m) left.top None) x.windows) (sym unmarked)
+windows_end : (point top : PointPlan) (x : model.Session) → change_at x.selected (top_by top) (change_at x.selected (point_by point) x.windows) ≡ change_at x.selected (window_adjusted None point Keep_mark top None) x.windows
+windows_end point top x = at_twice (point_by point) (top_by top) x.selected x.windows
+
+-- a finish but for the mark
+abbrev pub unmarked : plans.Finish → plans.Finish
+unmarked f = record f { mark = Keep_mark }
 
 -- one session, with its marks placed
-one_ends : (behind : ℕ) (text kill : List ℕ) (f : Finish) (e : Effect) (ks : List MarkedBuffer) (h : Session) → f.mark ≡ None
-    → (let left = finish_read text kill behind f in ends left (own_of h.own) (selected_at (top_by left.top) (selected_at (point_by left.point) (session_of ks h))) ≡ session_arranged (ended left e (own_of h.own)) (session_of ks h))
-one_ends behind text kill f e ks h unmarked =
+one_ends : (behind : ℕ) (text kill : List ℕ) (f : Finish) (e : Effect) (ks : List MarkedBuffer) (h : Session)
+    → (let left = finish_read text kill behind f in ends left (own_of h.own) (selected_at (top_by left.top) (selected_at (point_by left.point) (session_of ks h))) ≡ session_arranged (ended (unmarked left) e (own_of h.own)) (session_of ks h))
+one_ends behind text kill f e ks h =
     let left = finish_read text kill behind f in
-    λ i. record (ends left (own_of h.own) (session_of ks h)) { windows = windows_end behind text kill f (session_of ks h) unmarked i }
+    λ i. record (ends left (own_of h.own) (session_of ks h)) { windows = windows_end left.point left.top (session_of ks h) i }
 
 -- the session's own record
 own_ends : (behind : ℕ) (text kill : List ℕ) (f : Finish) (ks : List MarkedBuffer) (h : Session) → own_of h.own ≡ idle h.own.kind
@@ -173,16 +173,16 @@ own_ends behind text kill f ks h fresh =
     let left = finish_read text kill behind f in
     λ i. record (session_of ks (session_finished left h)) { own = record first_own { echo = f.told; argument = (fresh i).argument; keys = (fresh i).keys; kind = f.kind } }
 
-no_quit : (name : List ℕ) (c : plans.Change) (id : ℕ) (xs : List model.Session) → after_quit (edit_of name c) id xs ≡ xs
+pub no_quit : (name : List ℕ) (c : plans.Change) (id : ℕ) (xs : List model.Session) → after_quit (edit_of name c) id xs ≡ xs
 no_quit name c id xs = go (is_edit c.a c.b c.put)
   where
     go : (f : Bool) → after_quit (cond f (Edit name c.a c.b c.put) No_effect) id xs ≡ xs
     go true = refl
     go false = refl
 
-finished_sessions : (ks : List MarkedBuffer) (xs : List Session) (id at : ℕ) (h : Session) (x : WindowMarks) (c : plans.Change) (behind : ℕ) (text : List ℕ) (f : Finish) → IsSound ks xs → at ≡ position_or_len (session_id id) xs → at < length xs → slice_get xs at ≡ Some h → window_marks_of h ≡ Some x → AreMarks ks x → own_of h.own ≡ idle h.own.kind → f.mark ≡ None
-    → (let left = finish_read text h.kill behind f in map (session_of (marks_gone x left (edited_by x.name c ks))) (slice_set xs at (session_finished left h)) ≡ change_first (has_id id) (session_arranged (ended left (edit_of x.name c) (own_of h.own))) (map (session_after (edit_of x.name c)) (map (session_of ks) xs)))
-finished_sessions ks xs id at h x c behind text f sound place within is sel marks fresh unmarked =
+pub finished_sessions : (ks : List MarkedBuffer) (xs : List Session) (id at : ℕ) (h : Session) (x : WindowMarks) (c : plans.Change) (behind : ℕ) (text : List ℕ) (f : Finish) → ((n : List ℕ) (i : ℕ) → uses n i xs ≤ 1) → at ≡ position_or_len (session_id id) xs → at < length xs → slice_get xs at ≡ Some h → window_marks_of h ≡ Some x → AreMarks ks x → own_of h.own ≡ idle h.own.kind
+    → (let left = finish_read text h.kill behind f in map (session_of (marks_gone x left (edited_by x.name c ks))) (slice_set xs at (session_finished left h)) ≡ change_first (has_id id) (session_arranged (ended (unmarked left) (edit_of x.name c) (own_of h.own))) (map (session_after (edit_of x.name c)) (map (session_of ks) xs)))
+finished_sessions ks xs id at h x c behind text f once place within is sel marks fresh =
     let left = finish_read text h.kill behind f in
     let own = own_of h.own in
     let ks1 = edited_by x.name c ks in
@@ -195,25 +195,26 @@ finished_sessions ks xs id at h x c behind text f sound place within is sel mark
     let tops : model.Session → model.Session = selected_at (top_by left.top) in
     let zs = map (session_of ks1) xs in
     written_first (session_of ks3) (has_id id) (ends left own) xs at h (session_finished left h) (place ∙ sym (position_or_len-map (session_of ks3) (has_id id) xs)) within (sym (get_or_from_slice_get xs at h h is)) (own_ends behind text h.kill f ks3 h fresh)
-    ∙ ap (change_first (has_id id) (ends left own)) (tops_gone left.top ks2 xs id h x found sel top (once_used ks xs x.name x.top sound))
-    ∙ ap (λ ys. change_first (has_id id) (ends left own) (change_first (has_id id) tops ys)) (points_gone left.point ks1 xs id h x found sel point (once_used ks xs x.name x.point sound))
+    ∙ ap (change_first (has_id id) (ends left own)) (tops_gone left.top ks2 xs id h x found sel top (once x.name x.top))
+    ∙ ap (λ ys. change_first (has_id id) (ends left own) (change_first (has_id id) tops ys)) (points_gone left.point ks1 xs id h x found sel point (once x.name x.point))
     ∙ ap (change_first (has_id id) (ends left own)) (first_twice (has_id id) points tops (λ z. refl) zs)
     ∙ first_twice (has_id id) (λ z. tops (points z)) (ends left own) (λ z. refl) zs
-    ∙ change_first_found (has_id id) (λ z. ends left own (tops (points z))) (session_arranged (ended left (edit_of x.name c) own)) (session_of ks1 h) zs
+    ∙ change_first_found (has_id id) (λ z. ends left own (tops (points z))) (session_arranged (ended (unmarked left) (edit_of x.name c) own)) (session_of ks1 h) zs
     (find-map (session_of ks1) (session_id id) (has_id id) (λ z. refl) xs ∙ ap (option_map (session_of ks1)) found)
-    (one_ends behind text h.kill f (edit_of x.name c) ks1 h unmarked)
-    ∙ ap (change_first (has_id id) (session_arranged (ended left (edit_of x.name c) own))) (edited_sessions x.name c ks xs)
+    (one_ends behind text h.kill f (edit_of x.name c) ks1 h)
+    ∙ ap (change_first (has_id id) (session_arranged (ended (unmarked left) (edit_of x.name c) own))) (edited_sessions x.name c ks xs)
 
 finished_so : (directory : Directory) (ks : List MarkedBuffer) (xs : List Session) (next : Option ℕ) (id at : ℕ) (h : Session) (x : WindowMarks) (c : plans.Change) (behind : ℕ) (text : List ℕ) (f : Finish) → IsSound ks xs → at ≡ position_or_len (session_id id) xs → at < length xs → slice_get xs at ≡ Some h → window_marks_of h ≡ Some x → AreMarks ks x → own_of h.own ≡ idle h.own.kind → f.mark ≡ None → is_too_large (kill_read text h.kill f.kill) ≡ false
     → (let left = finish_read text h.kill behind f in world_of directory (marks_gone x left (edited_by x.name c ks)) (slice_set xs at (session_finished left h)) next ≡ apply (world_of directory ks xs next) id (finished (own_of h.own) left (edit_of x.name c)))
-finished_so directory ks xs next id at h x c behind text f sound place within is sel marks fresh unmarked small =
+finished_so directory ks xs next id at h x c behind text f sound place within is sel marks fresh none small =
     let left = finish_read text h.kill behind f in
     let own = own_of h.own in
     let ks1 = edited_by x.name c ks in
     let ks2 = mark_gone x.name x.point left.point ks1 in
     same_world directory _ _ _ _ (id_after next)
     (gone_buffers x.name x.top left.top ks2 ∙ gone_buffers x.name x.point left.point ks1 ∙ edited_buffers x.name c ks)
-    (finished_sessions ks xs id at h x c behind text f sound place within is sel marks fresh unmarked ∙ sym (no_quit x.name c id _))
+    (finished_sessions ks xs id at h x c behind text f (λ n i. once_used ks xs n i sound) place within is sel marks fresh ∙ sym (no_quit x.name c id _))
+    ∙ ap (λ m. apply (world_of directory ks xs next) id (ended (record left { mark = mark_read m }) (edit_of x.name c) own)) (sym none)
     ∙ ap (λ b. apply (world_of directory ks xs next) id (cond b (fails own KillTooLarge) (ended left (edit_of x.name c) own))) (sym small)
 
 pub failed_so : (directory : Directory) (ks : List MarkedBuffer) (xs : List Session) (next : Option ℕ) (id at : ℕ) (h : Session) (message : Message) → at ≡ position_or_len (session_id id) xs → at < length xs → slice_get xs at ≡ Some h → own_of h.own ≡ idle h.own.kind → world_of directory ks (slice_set xs at (failed message h)) next ≡ apply (world_of directory ks xs next) id (fails (own_of h.own) message)
@@ -226,18 +227,18 @@ failed_so directory ks xs next id at h message place within is fresh =
 
 -- ANY ACTION
 
-done_so : (directory : Directory) (ks : List MarkedBuffer) (xs : List Session) (next : Option ℕ) (id at : ℕ) (x : WindowMarks) (h : Session) (action : Action) → IsSound ks xs → at ≡ position_or_len (session_id id) xs → at < length xs → slice_get xs at ≡ Some h → window_marks_of h ≡ Some x → AreMarks ks x → own_of h.own ≡ idle h.own.kind → CanBeDone ks x h.kill action
+done_so : (directory : Directory) (ks : List MarkedBuffer) (xs : List Session) (next : Option ℕ) (id at : ℕ) (x : WindowMarks) (h : Session) (action : Action) → IsSound ks xs → at ≡ position_or_len (session_id id) xs → at < length xs → slice_get xs at ≡ Some h → window_marks_of h ≡ Some x → AreMarks ks x → own_of h.own ≡ idle h.own.kind → CanBeDone ks x h.kill action → mark_told action ≡ None
     → (let text = (marked_at x.name ks).buffer.text in world_of directory (marked_after x text h.kill action ks) (slice_set xs at (session_acted text action h)) next ≡ apply (world_of directory ks xs next) id (outcome_through (own_of h.own) x ks h.kill action))
-done_so directory ks xs next id at x h (Fails message) sound place within is sel marks fresh can =
+done_so directory ks xs next id at x h (Fails message) sound place within is sel marks fresh can none =
     failed_so directory ks xs next id at h message place within is fresh
-done_so directory ks xs next id at x h (Edits c) sound place within is sel marks fresh can =
+done_so directory ks xs next id at x h (Edits c) sound place within is sel marks fresh can none =
     let text = (marked_at x.name ks).buffer.text in
-    finished_so directory ks xs next id at h x (change_read text h.kill c) (c.from + length (put_read text h.kill c.put)) text c.finish sound place within is sel marks fresh can.unmarked can.small
-done_so directory ks xs next id at x h (Moves f) sound place within is sel marks fresh can =
+    finished_so directory ks xs next id at h x (change_read text h.kill c) (c.from + length (put_read text h.kill c.put)) text c.finish sound place within is sel marks fresh none can.small
+done_so directory ks xs next id at x h (Moves f) sound place within is sel marks fresh can none =
     let text = (marked_at x.name ks).buffer.text in
-    finished_so directory ks xs next id at h x (record { a = 0; b = 0; put = []; finish = finish_read text h.kill 0 f }) 0 text f sound place within is sel marks fresh can.unmarked can.small
+    finished_so directory ks xs next id at h x (record { a = 0; b = 0; put = []; finish = finish_read text h.kill 0 f }) 0 text f sound place within is sel marks fresh none can.small
 
-kept_sound : (ks : List MarkedBuffer) (xs : List Session) (x : WindowMarks) (text kill : List ℕ) (action : Action) → AreMarks ks x → IsSound ks xs → IsSound (marked_after x text kill action ks) xs
+pub kept_sound : (ks : List MarkedBuffer) (xs : List Session) (x : WindowMarks) (text kill : List ℕ) (action : Action) → AreMarks ks x → IsSound ks xs → IsSound (marked_after x text kill action ks) xs
 kept_sound ks xs x text kill (Fails message) marks sound = sound
 kept_sound ks xs x text kill (Edits c) marks sound =
     let change = change_read text kill c in
@@ -249,17 +250,17 @@ kept_sound ks xs x text kill (Moves f) marks sound =
     let left = finish_read text kill 0 f in
     gone_sound x.name x.top left.top _ xs (mark_still x.name x.point x.top left.point ks marks.point marks.top) (gone_sound x.name x.point left.point ks xs marks.point sound)
 
-uses_after : (text : List ℕ) (action : Action) (h : Session) (n : List ℕ) (i : ℕ) → session_uses n i (session_acted text action h) ≡ session_uses n i h
+pub uses_after : (text : List ℕ) (action : Action) (h : Session) (n : List ℕ) (i : ℕ) → session_uses n i (session_acted text action h) ≡ session_uses n i h
 uses_after text (Fails message) h n i = refl
 uses_after text (Edits c) h n i = refl
 uses_after text (Moves f) h n i = refl
 
-size_after : (text : List ℕ) (action : Action) (h : Session) → size_in (session_acted text action h) ≡ size_in h
+pub size_after : (text : List ℕ) (action : Action) (h : Session) → size_in (session_acted text action h) ≡ size_in h
 size_after text (Fails message) h = refl
 size_after text (Edits c) h = refl
 size_after text (Moves f) h = refl
 
-set_back : (xs : List Session) (at : ℕ) (h : Session) → slice_get xs at ≡ Some h → slice_set xs at h ≡ xs
+pub set_back : (xs : List Session) (at : ℕ) (h : Session) → slice_get xs at ≡ Some h → slice_set xs at h ≡ xs
 set_back xs at h is = ap (slice_set xs at) (sym (get_or_from_slice_get xs at h h is)) ∙ set-get_or xs at h
 
 -- the marks of the window that acts
@@ -280,12 +281,12 @@ pub after_sizes : {T E : Type 0} (r : Result T E) (xs : List Session) (at : ℕ)
 after_sizes (Ok o) xs at text h y action is acts same = rw acts (sizes_set xs at h (session_acted text action h) (sym (get_or_from_slice_get xs at h h is)) (size_after text action h))
 after_sizes (Err e) xs at text h y action is acts same = rw same (sizes_set xs at h h (sym (get_or_from_slice_get xs at h h is)) refl)
 
-pub after_ok : {T E : Type 0} (r : Result T E) (ks ls : List MarkedBuffer) (xs : List Session) (at : ℕ) (x : WindowMarks) (h y : Session) (action : Action) → slice_get xs at ≡ Some h → (let text = (marked_at x.name ks).buffer.text in OnOk r (ls ≡ marked_after x text h.kill action ks) → OnOk r (y ≡ session_acted text action h) → IsSound ks xs → at < length xs → option_and_then window_marks_of (slice_get xs at) ≡ Some x → own_at at xs ≡ idle (own_at at xs).kind → CanBeDone ks x (kill_at at xs) action → OnOk r ((directory : Directory) (id : ℕ) (next : Option ℕ) → at ≡ position_or_len (session_id id) xs → world_of directory ls (slice_set xs at y) next ≡ apply (world_of directory ks xs next) id (outcome_through (own_at at xs) x ks (kill_at at xs) action)))
-after_ok (Ok o) ks ls xs at x h y action is ok acts sound within sel fresh can = λ directory id next place.
+pub after_ok : {T E : Type 0} (r : Result T E) (ks ls : List MarkedBuffer) (xs : List Session) (at : ℕ) (x : WindowMarks) (h y : Session) (action : Action) → slice_get xs at ≡ Some h → (let text = (marked_at x.name ks).buffer.text in OnOk r (ls ≡ marked_after x text h.kill action ks) → OnOk r (y ≡ session_acted text action h) → IsSound ks xs → at < length xs → option_and_then window_marks_of (slice_get xs at) ≡ Some x → own_at at xs ≡ idle (own_at at xs).kind → CanBeDone ks x (kill_at at xs) action → mark_told action ≡ None → OnOk r ((directory : Directory) (id : ℕ) (next : Option ℕ) → at ≡ position_or_len (session_id id) xs → world_of directory ls (slice_set xs at y) next ≡ apply (world_of directory ks xs next) id (outcome_through (own_at at xs) x ks (kill_at at xs) action)))
+after_ok (Ok o) ks ls xs at x h y action is ok acts sound within sel fresh can none = λ directory id next place.
     let sel_h : window_marks_of h ≡ Some x = sym (ap (option_and_then window_marks_of) is) ∙ sel in
-    rw (ok, acts) (done_so directory ks xs next id at x h action sound place within is sel_h (acting_marks ks xs at x sound sel) (fresh_own xs at h is fresh) (subst (λ o. CanBeDone ks x (kill_or_none o) action) is can)
+    rw (ok, acts) (done_so directory ks xs next id at x h action sound place within is sel_h (acting_marks ks xs at x sound sel) (fresh_own xs at h is fresh) (subst (λ o. CanBeDone ks x (kill_or_none o) action) is can) none
     ∙ ap (λ o. apply (world_of directory ks xs next) id (outcome_through (own_or_first o) x ks (kill_or_none o) action)) (sym is))
-after_ok (Err e) ks ls xs at x h y action is ok acts sound within sel fresh can = tt
+after_ok (Err e) ks ls xs at x h y action is ok acts sound within sel fresh can none = tt
 
 pub after_err : {T E : Type 0} (r : Result T E) (ks ls : List MarkedBuffer) (xs : List Session) (at : ℕ) (h y : Session) → slice_get xs at ≡ Some h → OnErr r (ls ≡ ks) → OnErr r (y ≡ h) → OnErr r ((directory : Directory) (next : Option ℕ) → world_of directory ls (slice_set xs at y) next ≡ world_of directory ks xs next)
 after_err (Ok o) ks ls xs at h y is err same = tt

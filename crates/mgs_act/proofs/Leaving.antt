@@ -50,7 +50,7 @@ text_gone name id (At p) ks =
     ∙ placed_text id p (find (marked_named name) ks)
 text_gone name id At_origin ks = refl
 
-used_once : (ks : List MarkedBuffer) (name : List ℕ) (i : ℕ) → IsMark name i ks → in_use name i ks ≡ 1
+pub used_once : (ks : List MarkedBuffer) (name : List ℕ) (i : ℕ) → IsMark name i ks → in_use name i ks ≡ 1
 used_once ks name i mark = ap one_if mark
 
 pub mark_still : (name : List ℕ) (id i : ℕ) (to : PointPlan) (ks : List MarkedBuffer) → IsMark name id ks → IsMark name i ks → IsMark name i (mark_gone name id to ks)

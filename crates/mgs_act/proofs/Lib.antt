@@ -1,6 +1,6 @@
 pub mod Commands
 pub mod Deeds
 pub mod Leaving
+pub mod Marked
 pub mod Outcomes
 pub mod Plans
-pub mod Unmarked

@@ -20,10 +20,6 @@ use Rattle.mgs_model.specs.declared.message.Message.TheVariants.{KeyNotBound, Bu
 use Rattle.mgs_model.specs.declared.limits.TheConstants.{TEXT_LIMIT}
 use Rattle.mgs_model.specs.declared.session.Command.{Command}
 use Rattle.mgs_model.specs.declared.session.Command.TheVariants.{Insert, InsertReading, Move, Alter, Scroll, Set, Rearrange}
-use Rattle.mgs_model.specs.declared.session.Insertion.{Insertion}
-use Rattle.mgs_model.specs.declared.session.Insertion.TheVariants.{Yank}
-use Rattle.mgs_model.specs.declared.session.Motion.{Motion}
-use Rattle.mgs_model.specs.declared.session.Motion.TheVariants.{SetMark, ExchangePointAndMark, MarkWholeBuffer}
 use Rattle.mgs_model.specs.declared.session.Setting.{Setting}
 use Rattle.mgs_model.specs.declared.session.Setting.TheVariants.{KeyboardQuit}
 use Rattle.mgs_buffers.specs.MarkedBuffer.{IsMark, MarkedBuffer, marked_at, marked_edited, marked_named, marked_placed, mark_at}
@@ -36,6 +32,7 @@ use Rattle.mgs_edit.specs.declared.plan.Around.{Around}
 use Rattle.mgs_edit.specs.declared.plan.Change.{Change}
 use Rattle.mgs_edit.specs.declared.plan.Finish.{Finish}
 use Rattle.mgs_arrange.specs.Arranging.{is_arranged_here}
+use Rattle.mgs_world.specs.Marking.{IsReserved, session_marked}
 use Rattle.mgs_act.specs.declared.acts.KeyAct.{KeyAct}
 use Rattle.mgs_act.specs.declared.acts.KeyAct.TheVariants.{Unbound, Run}
 use Rattle.mgs_act.specs.declared.given.Given.{Given}
@@ -48,23 +45,11 @@ abbrev pub act_of : KeyAct → outcomes.Act
 act_of Unbound = outcomes.Unbound
 act_of (Run c n) = outcomes.Run c n []
 
--- a yank sets the mark, which is not done yet
-abbrev pub is_insertion_done : Insertion → Bool
-is_insertion_done Yank = false
-is_insertion_done _ = true
-
--- those that set the mark are not done yet
-abbrev pub is_motion_done : Motion → Bool
-is_motion_done SetMark = false
-is_motion_done ExchangePointAndMark = false
-is_motion_done MarkWholeBuffer = false
-is_motion_done c = is_planned c
-
 -- the commands that act on the text in the selected window
 abbrev pub is_on_text : Command → Bool
-is_on_text (Insert c) = is_insertion_done c
+is_on_text (Insert c) = true
 is_on_text (InsertReading c) = true
-is_on_text (Move c) = is_motion_done c
+is_on_text (Move c) = is_planned c
 is_on_text (Alter c) = is_alteration_planned c
 is_on_text (Scroll c) = true
 is_on_text _ = false
@@ -138,15 +123,13 @@ around_in directory ks user x height n kill own =
 
 -- ACTIONS
 
--- what the buffers ask of what is left: no mark is set yet
+-- what the buffers ask of what is left
 pub record CanFinish (size after : ℕ) (text kill : List ℕ) (f : Finish) : Type 0 where
   pub within : FinishWithin size after f
-  pub unmarked : f.mark ≡ None
   pub small : is_too_large (kill_read text kill f.kill) ≡ false
 
 pub record CanChange (text kill : List ℕ) (serial : ℕ) (c : Change) : Type 0 where
   pub within : ChangeWithin text kill c
-  pub unmarked : c.finish.mark ≡ None
   pub small : is_too_large (kill_read text kill c.finish.kill) ≡ false
   pub room : is_full (length text) serial (change_read text kill c) ≡ false
 
@@ -184,6 +167,12 @@ kill_or_none (Some h) = h.kill
 abbrev pub kill_at : ℕ → List Session → List ℕ
 kill_at at xs = kill_or_none (slice_get xs at)
 
+-- where an action sets the mark, if it does
+abbrev pub mark_told : Action → Option ℕ
+mark_told (Fails message) = None
+mark_told (Edits c) = c.finish.mark
+mark_told (Moves f) = f.mark
+
 -- WHAT IS DONE
 
 -- one mark goes to a position, if it does
@@ -200,7 +189,7 @@ marks_gone x f ks = mark_gone x.name x.top f.top (mark_gone x.name x.point f.poi
 abbrev pub edited_by : List ℕ → plans.Change → List MarkedBuffer → List MarkedBuffer
 edited_by name c ks = cond (is_edit c.a c.b c.put) (change_first (marked_named name) (marked_edited c.a c.b c.put) ks) ks
 
--- the buffers, and the acting session, once an action is done
+-- the buffers, and the acting session, once an action is done, but for the mark
 abbrev pub marked_after : WindowMarks → List ℕ → List ℕ → Action → List MarkedBuffer → List MarkedBuffer
 marked_after x text kill (Fails message) ks = ks
 marked_after x text kill (Edits c) ks = marks_gone x (change_read text kill c).finish (edited_by x.name (change_read text kill c) ks)
@@ -218,6 +207,14 @@ abbrev pub session_acted : List ℕ → Action → Session → Session
 session_acted text (Fails message) h = failed message h
 session_acted text (Edits c) h = session_finished (change_read text h.kill c).finish h
 session_acted text (Moves f) h = session_finished (finish_read text h.kill 0 f) h
+
+-- and once the window's mark is where it is to be: a mark was reserved for the window if it had none
+pub record IsMarked (x : WindowMarks) (position : ℕ) (action : Action) (ks ls : List MarkedBuffer) (h y : Session) : Type 0 where
+  pub id : ℕ
+  pub between : List MarkedBuffer
+  pub reserved : IsReserved x.name x.mark id ks between
+  pub buffers : ls ≡ change_first (marked_named x.name) (marked_placed id position) (marked_after x (marked_at x.name ks).buffer.text h.kill action between)
+  pub session : y ≡ session_marked id (session_acted (marked_at x.name ks).buffer.text action h)
 
 -- OUTCOMES
 

@@ -1,5 +1,5 @@
 // An action is done: in the buffers, and to the session that acts.
-ghost use Rattle.std.specs.Prelude.{◌≡◌, ◌+◌, ◌++◌, ◌<◌, ◌≤◌, ℕ, List, length, Option, Some, IfOk, OnOk, OnErr, slice_get, true, false};
+ghost use Rattle.std.specs.Prelude.{◌≡◌, ◌+◌, ◌++◌, ◌<◌, ◌≤◌, ℕ, List, length, Option, Some, None, IfOk, OnOk, OnErr, slice_get, true, false};
 ghost use Rattle.std.specs.List.{position_or_len};
 ghost use Rattle.std.specs.Option.{option_and_then};
 ghost use Rattle.mgs_model.specs.Access.{Directory};
@@ -13,8 +13,9 @@ ghost use Rattle.mgs_buffers.specs.MarkedBuffer.{HasBuffer, IsMark, MarkedBuffer
 ghost use Rattle.mgs_edit.specs.Reading.{ChangeWithin, GoesWithin, IsWithin, PieceWithin, change_read, kill_read, point_read, put_read, top_read};
 ghost use Rattle.mgs_session.specs.Sessions.{acted, told, window_marks_of};
 ghost use Rattle.mgs_act.specs.declared.action.Action.TheVariants.{Edits, Moves};
-ghost use Rattle.mgs_act.specs.Actions.{AreMarks, CanBeDone, kill_at, edited_by, kill_set, mark_gone, marked_after, outcome_through, session_acted};
+ghost use Rattle.mgs_act.specs.Actions.{AreMarks, CanBeDone, IsMarked, kill_at, edited_by, kill_set, mark_gone, mark_told, marked_after, outcome_through, session_acted};
 ghost use Rattle.mgs_world.specs.Sound.{IsSound};
+ghost use Rattle.mgs_world.specs.WindowMarks.{WindowMarksDropped};
 ghost use Rattle.mgs_world.specs.Worlds.{idle, own_at, session_id, sizes_in, world_of};
 
 use crate::action::Action;
@@ -25,6 +26,7 @@ use mgs_model::{MarkId, Name, Short, Touched};
 use mgs_session::{Session, fail, finish, set_kill};
 use mgs_text::Text;
 use mgs_windows::WindowMarks;
+use mgs_world::{give_up_mark, reserve_mark, set_mark};
 use std::alloc::Global;
 
 /// One text behind another. `Short`: memory was refused.
@@ -286,6 +288,102 @@ fn carry_out<T: Marked + Drop>(
     }
 }
 
+/// Where an action sets the mark, if it does.
+fn mark_of(action: &Action) -> Option<usize>
+    ensures { result ≡ mark_told action.now }
+{
+    match action {
+        Action::Fails(_) => None,
+        Action::Edits(change) => change.finish.mark,
+        Action::Moves(left) => left.mark,
+    }
+}
+
+/// Does what was planned, and sets the mark of the window. `Short`: memory was refused, and nothing was done.
+fn carry_out_marked<T: Marked + Drop>(
+    alloc: Global,
+    buffers: &mut Buffers<T>,
+    session: &mut Session,
+    window_marks: &WindowMarks,
+    action: &Action,
+    position: usize,
+) -> Result<(), Short>
+    requires marks { AreMarks buffers.old window_marks.now }
+    requires can { CanBeDone buffers.old window_marks.now session.old.kill action.now }
+    requires told { mark_told action.now ≡ Some position }
+    ensures ok { OnOk result (IsMarked window_marks.now position action.now buffers.old buffers.new session.old session.new) }
+    ensures err { OnErr result (WindowMarksDropped None buffers.old buffers.new) }
+    ensures same { OnErr result (session.new ≡ session.old) }
+{
+    let mark = reserve_mark(buffers, window_marks)?;
+    match carry_out(alloc, buffers, session, window_marks, action) {
+        Ok(()) => {
+            set_mark(buffers, session, window_marks, mark, position);
+            Ok(())
+        }
+        Err(short) => {
+            give_up_mark(buffers, window_marks, mark);
+            Err(short)
+        }
+    }
+}
+
+/// Does what was planned and sets no mark, as `perform` says.
+fn perform_plain<T: Marked + Drop>(
+    alloc: Global,
+    buffers: &mut Buffers<T>,
+    sessions: &mut [Session],
+    at: usize,
+    window_marks: &WindowMarks,
+    action: &Action,
+) -> Result<(), Short>
+    requires sound { IsSound buffers.old sessions.old }
+    requires within { at < length sessions.old }
+    requires window_marks { option_and_then window_marks_of (slice_get sessions.old at) ≡ Some window_marks.now }
+    requires fresh { own_at at sessions.old ≡ idle (own_at at sessions.old).kind }
+    requires can { CanBeDone buffers.old window_marks.now (kill_at at sessions.old) action.now }
+    requires unmarked { mark_told action.now ≡ None }
+    ensures sound { IsSound buffers.new sessions.new }
+    ensures sizes { sizes_in sessions.new ≡ sizes_in sessions.old }
+    ensures ok { OnOk result ((directory : Directory) (id : ℕ) (next : Option ℕ) → at ≡ position_or_len (session_id id) sessions.old → world_of directory buffers.new sessions.new next ≡ apply (world_of directory buffers.old sessions.old next) id (outcome_through (own_at at sessions.old) window_marks.now buffers.old (kill_at at sessions.old) action.now)) }
+    ensures err { OnErr result ((directory : Directory) (next : Option ℕ) → world_of directory buffers.new sessions.new next ≡ world_of directory buffers.old sessions.old next) }
+    ensures may { OnErr result ((own : Own) → takes_memory (outcome_through own window_marks.now buffers.old (kill_at at sessions.old) action.now) ≡ true) }
+{
+    carry_out(alloc, buffers, &mut sessions[at], window_marks, action)
+}
+
+/// Does what was planned and sets the mark, as `perform` says.
+fn perform_marked<T: Marked + Drop>(
+    alloc: Global,
+    buffers: &mut Buffers<T>,
+    sessions: &mut [Session],
+    at: usize,
+    window_marks: &WindowMarks,
+    action: &Action,
+    position: usize,
+) -> Result<(), Short>
+    requires sound { IsSound buffers.old sessions.old }
+    requires within { at < length sessions.old }
+    requires window_marks { option_and_then window_marks_of (slice_get sessions.old at) ≡ Some window_marks.now }
+    requires fresh { own_at at sessions.old ≡ idle (own_at at sessions.old).kind }
+    requires can { CanBeDone buffers.old window_marks.now (kill_at at sessions.old) action.now }
+    requires told { mark_told action.now ≡ Some position }
+    ensures sound { IsSound buffers.new sessions.new }
+    ensures sizes { sizes_in sessions.new ≡ sizes_in sessions.old }
+    ensures ok { OnOk result ((directory : Directory) (id : ℕ) (next : Option ℕ) → at ≡ position_or_len (session_id id) sessions.old → world_of directory buffers.new sessions.new next ≡ apply (world_of directory buffers.old sessions.old next) id (outcome_through (own_at at sessions.old) window_marks.now buffers.old (kill_at at sessions.old) action.now)) }
+    ensures err { OnErr result ((directory : Directory) (next : Option ℕ) → world_of directory buffers.new sessions.new next ≡ world_of directory buffers.old sessions.old next) }
+    ensures may { OnErr result ((own : Own) → takes_memory (outcome_through own window_marks.now buffers.old (kill_at at sessions.old) action.now) ≡ true) }
+{
+    carry_out_marked(
+        alloc,
+        buffers,
+        &mut sessions[at],
+        window_marks,
+        action,
+        position,
+    )
+}
+
 /// Does what was planned, for the session at `at`. `Short`: memory was refused, and nothing was done.
 pub fn perform<T: Marked + Drop>(
     alloc: Global,
@@ -306,7 +404,18 @@ pub fn perform<T: Marked + Drop>(
     ensures err { OnErr result ((directory : Directory) (next : Option ℕ) → world_of directory buffers.new sessions.new next ≡ world_of directory buffers.old sessions.old next) }
     ensures may { OnErr result ((own : Own) → takes_memory (outcome_through own window_marks.now buffers.old (kill_at at sessions.old) action.now) ≡ true) }
 {
-    carry_out(alloc, buffers, &mut sessions[at], window_marks, action)
+    match mark_of(action) {
+        None => perform_plain(alloc, buffers, sessions, at, window_marks, action),
+        Some(position) => perform_marked(
+            alloc,
+            buffers,
+            sessions,
+            at,
+            window_marks,
+            action,
+            position,
+        ),
+    }
 }
 
 /// What an action through a window's marks touches, by a session whose kill buffer has `killed` characters.

@@ -100,8 +100,7 @@ fn needs(command: &Command, place: usize, size: usize) -> Mask
 
 /// What a plan of an edit comes to, where the text has the buffer's last serial.
 fn edits<T: Text>(text: &T, serial: u64, kill: &[char], planned: Result<Change, Message>) -> Action
-    requires within { IfOk planned (ChangeWithin (T.text text.now) kill.now) }
-    requires unmarked { IfOk planned (λ c. c.finish.mark ≡ None) }
+    requires { IfOk planned (ChangeWithin (T.text text.now) kill.now) }
     ensures value { (own : Own) (name : List ℕ) → action_outcome own name (T.text text.now) kill.now result ≡ edit_outcome own name (length (T.text text.now)) serial (edit_read (T.text text.now) kill.now planned) }
     ensures can { CanDo (T.text text.now) kill.now serial result }
 {
@@ -113,8 +112,7 @@ fn edits<T: Text>(text: &T, serial: u64, kill: &[char], planned: Result<Change, 
 
 /// The same, of a change.
 fn edits_so<T: Text>(text: &T, serial: u64, kill: &[char], change: Change) -> Action
-    requires within { ChangeWithin (T.text text.now) kill.now change }
-    requires unmarked { change.finish.mark ≡ None }
+    requires { ChangeWithin (T.text text.now) kill.now change }
     ensures value { (own : Own) (name : List ℕ) → action_outcome own name (T.text text.now) kill.now result ≡ edit_outcome own name (length (T.text text.now)) serial (edit_read (T.text text.now) kill.now (Ok change)) }
     ensures can { CanDo (T.text text.now) kill.now serial result }
 {
@@ -132,8 +130,7 @@ fn edits_so<T: Text>(text: &T, serial: u64, kill: &[char], change: Change) -> Ac
 
 /// What a plan of a motion comes to.
 fn moves<T: Text>(text: &T, kill: &[char], planned: Result<Finish, Message>) -> Action
-    requires within { IfOk planned (FinishWithin (length (T.text text.now)) (length (T.text text.now))) }
-    requires unmarked { IfOk planned (λ f. f.mark ≡ None) }
+    requires { IfOk planned (FinishWithin (length (T.text text.now)) (length (T.text text.now))) }
     ensures value { (own : Own) (name : List ℕ) → action_outcome own name (T.text text.now) kill.now result ≡ moved_by own (motion_read (T.text text.now) kill.now planned) }
     ensures can { (serial : ℕ) → CanDo (T.text text.now) kill.now serial result }
 {

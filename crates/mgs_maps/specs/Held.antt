@@ -4,10 +4,8 @@ use Rattle.mgs_keys.specs.declared.decoder.Key.{Key}
 use Rattle.mgs_keys.specs.declared.decoder.Key.TheVariants.{Plain, Meta}
 use Rattle.mgs_model.specs.Keys.{KeyRead, Half, Bound, Not_bound, key_read}
 use Rattle.mgs_model.specs.declared.session.Argument.{Argument}
-use Rattle.mgs_model.specs.declared.session.Insertion.{Insertion}
-use Rattle.mgs_model.specs.declared.session.Insertion.TheVariants.{Yank}
 use Rattle.mgs_model.specs.declared.session.Motion.{Motion}
-use Rattle.mgs_model.specs.declared.session.Motion.TheVariants.{SetMark, ExchangePointAndMark, MarkWholeBuffer, StartSearch, SearchOn, StartReplace, SkipMatch}
+use Rattle.mgs_model.specs.declared.session.Motion.TheVariants.{StartSearch, SearchOn, StartReplace, SkipMatch}
 use Rattle.mgs_model.specs.declared.session.Alteration.{Alteration}
 use Rattle.mgs_model.specs.declared.session.Alteration.TheVariants.{UpcaseWord, ReplaceMatch}
 use Rattle.mgs_model.specs.declared.session.Setting.{Setting}
@@ -42,15 +40,8 @@ is_bound_arrangement ShrinkWindow = false
 is_bound_arrangement ListBuffers = false
 is_bound_arrangement _ = true
 
--- the insertions, motions, alterations and settings of the table
-abbrev pub is_bound_insertion : Insertion → Bool
-is_bound_insertion Yank = false
-is_bound_insertion _ = true
-
+-- the motions, alterations and settings of the table
 abbrev pub is_bound_motion : Motion → Bool
-is_bound_motion SetMark = false
-is_bound_motion ExchangePointAndMark = false
-is_bound_motion MarkWholeBuffer = false
 is_bound_motion StartSearch = false
 is_bound_motion SearchOn = false
 is_bound_motion StartReplace = false
@@ -68,7 +59,7 @@ is_bound_setting _ = false
 
 -- the commands of the table, and insertions of a character
 abbrev pub is_bound : Command → Bool
-is_bound (Insert c) = is_bound_insertion c
+is_bound (Insert c) = true
 is_bound (InsertReading c) = true
 is_bound (Move c) = is_bound_motion c
 is_bound (Alter c) = is_bound_alteration c

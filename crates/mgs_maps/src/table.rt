@@ -26,7 +26,7 @@ pub struct Binding {
     pub command: Command,
 }
 
-static BINDINGS: [Binding; 36] = [
+static BINDINGS: [Binding; 40] = [
     Binding {
         keys: b"\r",
         name: "newline",
@@ -161,6 +161,26 @@ static BINDINGS: [Binding; 36] = [
         keys: b"\x14",
         name: "transpose-chars",
         command: Command::Alter(Alteration::TransposeChars),
+    },
+    Binding {
+        keys: b"\x00",
+        name: "set-mark-command",
+        command: Command::Move(Motion::SetMark),
+    },
+    Binding {
+        keys: b"\x18\x18",
+        name: "exchange-point-and-mark",
+        command: Command::Move(Motion::ExchangePointAndMark),
+    },
+    Binding {
+        keys: b"\x18h",
+        name: "mark-whole-buffer",
+        command: Command::Move(Motion::MarkWholeBuffer),
+    },
+    Binding {
+        keys: b"\x19",
+        name: "yank",
+        command: Command::Insert(Insertion::Yank),
     },
     Binding {
         keys: b"\x07",

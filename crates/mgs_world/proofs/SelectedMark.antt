@@ -29,7 +29,7 @@ use Rattle.mgs_world.proofs.Worlds.{one_use, place_unused, point_to, same_positi
 
 -- LISTS
 
-get_set : {A : Type 0} (xs : List A) (at : ℕ) (x y : A) → slice_get xs at ≡ Some x → slice_get (slice_set xs at y) at ≡ Some y
+pub get_set : {A : Type 0} (xs : List A) (at : ℕ) (x y : A) → slice_get xs at ≡ Some x → slice_get (slice_set xs at y) at ≡ Some y
 get_set [] at x y is = cc
 get_set (z ∷ xs) zero x y is = refl
 get_set (z ∷ xs) (suc at) x y is = get_set xs at x y is
@@ -86,7 +86,7 @@ reserved_uses (Some k) x id ks ls is kept h m i =
     let uses : in_use m i ls ≡ in_use m i ks = ap (in_use m i) h.1 in
     omega (arith, same, uses)
 
-reserved_more : (o : Option ℕ) (x : WindowMarks) (id : ℕ) (ks ls : List MarkedBuffer) → x.mark ≡ o → HasBuffer x.name ks → IsReserved x.name o id ks ls → (m : List ℕ) (i : ℕ) → in_use m i ks ≤ in_use m i ls
+pub reserved_more : (o : Option ℕ) (x : WindowMarks) (id : ℕ) (ks ls : List MarkedBuffer) → x.mark ≡ o → HasBuffer x.name ks → IsReserved x.name o id ks ls → (m : List ℕ) (i : ℕ) → in_use m i ks ≤ in_use m i ls
 reserved_more None x id ks ls is kept h m i = omega (arith, in_use_added x.name 0 id ks ls m i kept h)
 reserved_more (Some k) x id ks ls is kept h m i = let uses : in_use m i ls ≡ in_use m i ks = ap (in_use m i) h.1 in omega (arith, uses)
 

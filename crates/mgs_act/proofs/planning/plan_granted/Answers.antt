@@ -7,35 +7,10 @@ use Rattle.mgs_model.specs.declared.session.Command.{Command}
 use Rattle.mgs_model.specs.declared.session.Kind.TheVariants.{Other}
 use Rattle.mgs_edit.specs.Reading.{surrounded}
 use Rattle.mgs_act.specs.Actions.{edit_outcome, granted_outcome, is_on_text}
-use Rattle.mgs_act.proofs.Unmarked.{of_alteration, of_insertion, of_motion, of_reading, of_scrolling}
 use Rattle.mgs_act.proofs.planning.plan_granted.Goals as goal
 
--- any surroundings serve, with the kill buffer that there is
-abbrev around : List ℕ → ℕ → plans.Around
-around kill serial = record { name = []; size = 0; serial = serial; place = 0; mark = None; anchor = 0; old = []; argument = None; typed = []; kill = kill; kind = Other; height = 0; fill = 0 }
-
-pub edits-requires-clause-unmarked : goal.edits-requires-clause-unmarked
-edits-requires-clause-unmarked g c =
-    of_insertion (g.T.Text.text c.args.text.now) c.args.kill.now c.insertion.result c.in-Insert.by _ (c.insertion.ensures.plan (g.T.Text.text c.args.text.now) (around c.args.kill.now 0) c.requires.killed) (sym (ap is_on_text c.in-Insert.is) ∙ c.requires.here)
-
-pub edits_so-requires-clause-within : goal.edits_so-requires-clause-within
-edits_so-requires-clause-within g c = c.reading_insertion.ensures.within c.args.kill.now
-
-pub edits_so-requires-clause-unmarked : goal.edits_so-requires-clause-unmarked
-edits_so-requires-clause-unmarked g c =
-    of_reading (g.T.Text.text c.args.text.now) c.args.kill.now (Ok c.reading_insertion.result) c.in-InsertReading.by _ (c.reading_insertion.ensures.plan (around c.args.kill.now 0))
-
-pub moves-requires-clause-unmarked : goal.moves-requires-clause-unmarked
-moves-requires-clause-unmarked g c =
-    of_motion (g.T.Text.text c.args.text.now) c.args.kill.now c.motion.result c.in-Move.by _ (c.motion.ensures.plan (around c.args.kill.now 0)) (sym (ap is_on_text c.in-Move.is) ∙ c.requires.here)
-
-pub edits-requires-in-Alter-clause-unmarked : goal.edits-requires-in-Alter-clause-unmarked
-edits-requires-in-Alter-clause-unmarked g c =
-    of_alteration (g.T.Text.text c.args.text.now) c.args.kill.now c.alteration.result c.in-Alter.by _ (c.alteration.ensures.plan (around c.args.kill.now 0)) (sym (ap is_on_text c.in-Alter.is) ∙ c.requires.here)
-
-pub moves-requires-in-Scroll-clause-unmarked : goal.moves-requires-in-Scroll-clause-unmarked
-moves-requires-in-Scroll-clause-unmarked g c =
-    of_scrolling (g.T.Text.text c.args.text.now) c.args.kill.now c.scroll.result c.in-Scroll.by _ (c.scroll.ensures.plan (around c.args.kill.now 0))
+pub edits_so-requires : goal.edits_so-requires
+edits_so-requires g c = c.reading_insertion.ensures.within c.args.kill.now
 
 pub returns-in-Insert-clause-value : goal.returns-in-Insert-clause-value
 returns-in-Insert-clause-value g c = λ own rest.

@@ -6,7 +6,7 @@ use Rattle.std.proofs.lemmas.Option.{slice_get-get_or}
 use Rattle.mgs_buffers.specs.MarkedBuffer.{marked_at}
 use Rattle.mgs_act.specs.Actions.{CanBeDone, kill_or_none, outcome_through}
 use Rattle.mgs_act.proofs.Deeds.{acting_marks, after_err, after_ok, after_sizes, after_sound}
-use Rattle.mgs_act.proofs.performing.perform.Goals as goal
+use Rattle.mgs_act.proofs.performing.perform_plain.Goals as goal
 
 pub carry_out-requires-clause-marks : goal.carry_out-requires-clause-marks
 carry_out-requires-clause-marks g c = acting_marks c.args.buffers.now c.args.sessions.now c.args.at c.args.window_marks.now c.requires.sound c.requires.window_marks
@@ -33,7 +33,7 @@ pub returns-clause-ok : goal.returns-clause-ok
 returns-clause-ok g c =
     let xs = c.args.sessions.now in
     let r = c.index-sessions-at.result in
-    after_ok c.carry_out.result c.args.buffers.now c.carry_out.new.buffers xs c.args.at c.args.window_marks.now (get_or xs c.args.at r) c.carry_out.new.session c.args.action.now (slice_get-get_or xs c.args.at r c.requires.within) c.carry_out.ensures.ok c.carry_out.ensures.acted c.requires.sound c.requires.within c.requires.window_marks c.requires.fresh c.requires.can
+    after_ok c.carry_out.result c.args.buffers.now c.carry_out.new.buffers xs c.args.at c.args.window_marks.now (get_or xs c.args.at r) c.carry_out.new.session c.args.action.now (slice_get-get_or xs c.args.at r c.requires.within) c.carry_out.ensures.ok c.carry_out.ensures.acted c.requires.sound c.requires.within c.requires.window_marks c.requires.fresh c.requires.can c.requires.unmarked
 
 pub returns-clause-err : goal.returns-clause-err
 returns-clause-err g c =

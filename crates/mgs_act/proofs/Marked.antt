@@ -1,0 +1,262 @@
+-- What an action does that sets the mark of the window.
+use Rattle.std.proofs.Common.{◌≡◌, ℕ, zero, suc, ◌+◌, ◌<◌, ◌≤◌, Bool, true, false, cond, ◌||◌, List, [], ◌∷◌, length, map, Option, Some, None, refl, sym, ap, subst, ◌∙◌, arith}
+use Rattle.std.specs.Prelude.{find, slice_get, slice_set, Result, Ok, Err, OnOk, OnErr}
+use Rattle.std.specs.List.{position_or_len}
+use Rattle.std.specs.Option.{option_and_then, option_map}
+use Rattle.std.proofs.lemmas.List.{map-id}
+use Rattle.std.proofs.lemmas.Option.{get_or_from_slice_get}
+use Rattle.mgs_model.specs.Text.{is_edit}
+use Rattle.mgs_model.specs.Access.{Directory}
+use Rattle.mgs_model.specs.World.{World, has_id}
+use Rattle.mgs_model.specs.World as model
+use Rattle.mgs_model.specs.Outcome.{Edit, Effect, No_effect, Outcome, Keep, Keep_mark, Mark_at, effect_takes_memory, takes_memory}
+use Rattle.mgs_model.specs.Plans as plans
+use Rattle.mgs_model.specs.Acts.{edit_of, fails, finished, is_too_large}
+use Rattle.mgs_model.specs.Apply.{apply, buffers_after, change_at, change_first, session_after, session_arranged, window_adjusted}
+use Rattle.mgs_model.specs.declared.message.Message.TheVariants.{KillTooLarge}
+use Rattle.mgs_model.proofs.Firsts.{position_or_len-map}
+use Rattle.mgs_buffers.specs.MarkedBuffer.{HasBuffer, IsMark, MarkedBuffer, marked_at, marked_named, marked_or_none, marked_placed, with_marks}
+use Rattle.mgs_windows.specs.declared.WindowMarks.{WindowMarks}
+use Rattle.mgs_session.specs.Sessions.{window_marks_of}
+use Rattle.mgs_session.specs.declared.Session.{Session}
+use Rattle.mgs_edit.specs.Reading.{IsWithin, change_read, finish_read, kill_read, mark_read, put_read}
+use Rattle.mgs_edit.specs.declared.plan.Finish.{Finish}
+use Rattle.mgs_act.specs.declared.action.Action.{Action}
+use Rattle.mgs_act.specs.declared.action.Action.TheVariants.{Fails, Edits, Moves}
+use Rattle.mgs_act.specs.Actions.{AreMarks, CanBeDone, IsMarked, edited_by, kill_at, kill_or_none, mark_gone, mark_told, marked_after, marks_gone, outcome_through, session_acted, session_finished}
+use Rattle.mgs_world.specs.Marking.{IsReserved, mark_at_place, session_marked}
+use Rattle.mgs_world.specs.Sound.{IsSound, session_uses, uses}
+use Rattle.mgs_world.specs.WindowMarks.{WindowMarksDropped}
+use Rattle.mgs_world.specs.Worlds.{buffers_of, id_after, idle, own_at, own_of, own_or_first, session_id, session_of, size_in, sizes_in, world_of}
+use Rattle.mgs_world.proofs.SelectedMark.{changed_first, get_set, given_up_sessions, given_up_sound, reserved_buffers, reserved_mark, reserved_more, reserved_sessions, reserved_sound, sessions_marked}
+use Rattle.mgs_world.proofs.Soundness.{in_use_mark, mark_is_kept, sizes_set, sound_placed, sound_set}
+use Rattle.mgs_world.proofs.Marks.{found_same, is_same}
+use Rattle.mgs_world.proofs.WindowMarks.{added_mark}
+use Rattle.mgs_world.proofs.Worlds.{buffers_placed, same_world}
+use Rattle.mgs_act.proofs.Deeds.{acting_marks, at_twice, edited_buffers, edited_sound, ended, finished_sessions, fresh_own, gone_buffers, gone_sound, kept_sound, no_quit, once_used, set_back, size_after, unmarked, uses_after}
+use Rattle.mgs_act.proofs.Leaving.{length_edited_by, mark_edited_by, mark_still, text_gone, used_once}
+
+-- A MARK THAT IS RESERVED
+
+-- the window's other marks are still there
+pub reserved_marks : (x : WindowMarks) (id : ℕ) (ks ls : List MarkedBuffer) → HasBuffer x.name ks → IsReserved x.name x.mark id ks ls → AreMarks ks x → AreMarks ls x
+reserved_marks x id ks ls kept r marks =
+    let more : (i : ℕ) → IsMark x.name i ks → IsMark x.name i ls =
+    λ i mark. in_use_mark ls x.name i (omega (arith, used_once ks x.name i mark, reserved_more x.mark x id ks ls refl kept r x.name i)) in
+    record { point = more x.point marks.point; mark = λ i is. more i (marks.mark i is); top = more x.top marks.top }
+
+-- the buffer is the same
+same_buffer : (marks : List (Option ℕ)) (o : Option MarkedBuffer) → (marked_or_none (option_map (with_marks marks) o)).buffer ≡ (marked_or_none o).buffer
+same_buffer marks None = refl
+same_buffer marks (Some k) = refl
+
+pub reserved_buffer : (n : List ℕ) (o : Option ℕ) (id : ℕ) (ks ls : List MarkedBuffer) → IsReserved n o id ks ls → (marked_at n ls).buffer ≡ (marked_at n ks).buffer
+reserved_buffer n None id ks ls r =
+    ap (λ (s : List MarkedBuffer). (marked_at n s).buffer) r.shape
+    ∙ ap (λ (o : Option MarkedBuffer). (marked_or_none o).buffer) (found_same n n (with_marks r.marks) ks (λ k. refl) (is_same n n refl))
+    ∙ same_buffer r.marks (find (marked_named n) ks)
+reserved_buffer n (Some m) id ks ls r = ap (λ (s : List MarkedBuffer). (marked_at n s).buffer) r.1
+
+-- and the mark is in use
+pub reserved_in_use : (o : Option ℕ) (x : WindowMarks) (id : ℕ) (ks ls : List MarkedBuffer) → x.mark ≡ o → HasBuffer x.name ks → AreMarks ks x → IsReserved x.name o id ks ls → IsMark x.name id ls
+reserved_in_use None x id ks ls is kept marks r = added_mark x.name 0 id ks ls kept r
+reserved_in_use (Some m) x id ks ls is kept marks r = rw (r.1, r.0) (marks.mark m is)
+
+-- LISTS
+
+set_twice : {A : Type 0} (xs : List A) (at : ℕ) (x y : A) → slice_set (slice_set xs at x) at y ≡ slice_set xs at y
+set_twice [] zero x y = refl
+set_twice [] (suc at) x y = refl
+set_twice (z ∷ zs) zero x y = refl
+set_twice (z ∷ zs) (suc at) x y = ap (λ ys. z ∷ ys) (set_twice zs at x y)
+
+first_pointwise : {A : Type 0} (p : A → Bool) (f g : A → A) → ((x : A) → f x ≡ g x) → (xs : List A) → change_first p f xs ≡ change_first p g xs
+first_pointwise p f g same [] = refl
+first_pointwise {A = A} p f g same (x ∷ xs) = go (p x) (first_pointwise p f g same xs)
+  where
+    go : (b : Bool) → change_first p f xs ≡ change_first p g xs → cond b (f x ∷ xs) (x ∷ change_first p f xs) ≡ cond b (g x ∷ xs) (x ∷ change_first p g xs)
+    go true rest = ap (λ y. y ∷ xs) (same x)
+    go false rest = ap (λ ys. x ∷ ys) rest
+
+-- an edit moves no session
+kept_place : (name : List ℕ) (c : plans.Change) (id : ℕ) (xs : List model.Session) → position_or_len (has_id id) (map (session_after (edit_of name c)) xs) ≡ position_or_len (has_id id) xs
+kept_place name c id xs = go (is_edit c.a c.b c.put)
+  where
+    go : (f : Bool) → position_or_len (has_id id) (map (session_after (cond f (Edit name c.a c.b c.put) No_effect)) xs) ≡ position_or_len (has_id id) xs
+    go true = position_or_len-map (session_after (Edit name c.a c.b c.put)) (has_id id) xs
+    go false = ap (position_or_len (has_id id)) (map-id xs)
+
+-- ONE SESSION
+
+-- the mark goes where the finish says, beside all else
+mark_ends : (p : ℕ) (f : plans.Finish) (e : Effect) (own : model.Own) (x : model.Session) → mark_at_place p (session_arranged (ended (unmarked f) e own) x) ≡ session_arranged (ended (record f { mark = Mark_at p }) e own) x
+mark_ends p f e own x =
+    let whole = session_arranged (ended (record f { mark = Mark_at p }) e own) x in
+    ap (λ (ws : List model.Window). record whole { windows = ws })
+    (at_twice (window_adjusted x.search f.point Keep_mark f.top None) (window_adjusted None Keep (Mark_at p) Keep None) x.selected x.windows)
+
+-- THE SESSIONS
+
+marked_sessions : (ks ls : List MarkedBuffer) (xs : List Session) (id at mid p : ℕ) (h : Session) (x : WindowMarks) (c : plans.Change) (behind : ℕ) (text : List ℕ) (f : Finish) → IsSound ks xs → HasBuffer x.name ks → IsReserved x.name x.mark mid ks ls → at ≡ position_or_len (session_id id) xs → at < length xs → slice_get xs at ≡ Some h → window_marks_of h ≡ Some x → AreMarks ks x → own_of h.own ≡ idle h.own.kind → IsMark x.name mid (marks_gone x (finish_read text h.kill behind f) (edited_by x.name c ls)) → IsSound (marks_gone x (finish_read text h.kill behind f) (edited_by x.name c ls)) (slice_set xs at (session_marked mid (session_finished (finish_read text h.kill behind f) h)))
+    → (let left = finish_read text h.kill behind f in
+    map (session_of (change_first (marked_named x.name) (marked_placed mid p) (marks_gone x left (edited_by x.name c ls)))) (slice_set xs at (session_marked mid (session_finished left h)))
+    ≡ change_first (has_id id) (session_arranged (ended (record left { mark = Mark_at p }) (edit_of x.name c) (own_of h.own))) (map (session_after (edit_of x.name c)) (map (session_of ks) xs)))
+marked_sessions ks ls xs id at mid p h x c behind text f sound kept r place within is sel marks fresh mark held =
+    let left = finish_read text h.kill behind f in
+    let own = own_of h.own in
+    let ls2 = marks_gone x left (edited_by x.name c ls) in
+    let y = session_finished left h in
+    let e = edit_of x.name c in
+    let zs = map (session_after e) (map (session_of ks) xs) in
+    let there : at ≡ position_or_len (has_id id) zs = place ∙ sym (position_or_len-map (session_of ks) (has_id id) xs) ∙ sym (kept_place x.name c id (map (session_of ks) xs)) in
+    let arranged : model.Session → model.Session = session_arranged (ended (unmarked left) e own) in
+    ap (map (session_of (change_first (marked_named x.name) (marked_placed mid p) ls2))) (sym (set_twice xs at y (session_marked mid y)))
+    ∙ sessions_marked p mid ls2 (slice_set xs at y) at y x (get_set xs at h y is) sel mark (subst (IsSound ls2) (sym (set_twice xs at y (session_marked mid y))) held)
+    ∙ ap (change_at at (mark_at_place p))
+    (finished_sessions ls xs id at h x c behind text f (λ n i. once_used ks xs n i sound) place within is sel (reserved_marks x mid ks ls kept r marks) fresh
+    ∙ ap (λ (ss : List model.Session). change_first (has_id id) arranged (map (session_after e) ss)) (reserved_sessions x mid ks ls xs sound kept r)
+    ∙ sym (changed_first (has_id id) arranged zs at there))
+    ∙ at_twice arranged (mark_at_place p) at zs
+    ∙ changed_first (has_id id) (λ z. mark_at_place p (arranged z)) zs at there
+    ∙ first_pointwise (has_id id) (λ z. mark_at_place p (arranged z)) (session_arranged (ended (record left { mark = Mark_at p }) e own)) (mark_ends p left e own) zs
+
+-- THE WORLD
+
+-- the mark is in use when all else is done
+mark_there : (x : WindowMarks) (mid : ℕ) (c : plans.Change) (f : plans.Finish) (ls : List MarkedBuffer) → IsMark x.name mid ls → AreMarks ls x → IsMark x.name mid (marks_gone x f (edited_by x.name c ls))
+mark_there x mid c f ls mark marks =
+    let ls1 = edited_by x.name c ls in
+    let point = mark_edited_by x.name c ls x.point marks.point in
+    let top = mark_still x.name x.point x.top f.point ls1 point (mark_edited_by x.name c ls x.top marks.top) in
+    mark_still x.name x.top mid f.top (mark_gone x.name x.point f.point ls1) top (mark_still x.name x.point mid f.point ls1 point (mark_edited_by x.name c ls mid mark))
+
+pub mark_after_action : (x : WindowMarks) (mid : ℕ) (text kill : List ℕ) (action : Action) (ls : List MarkedBuffer) → IsMark x.name mid ls → AreMarks ls x → IsMark x.name mid (marked_after x text kill action ls)
+mark_after_action x mid text kill (Fails message) ls mark marks = mark
+mark_after_action x mid text kill (Edits c) ls mark marks = mark_there x mid (change_read text kill c) (change_read text kill c).finish ls mark marks
+mark_after_action x mid text kill (Moves f) ls mark marks = mark_there x mid (record { a = 0; b = 0; put = []; finish = finish_read text kill 0 f }) (finish_read text kill 0 f) ls mark marks
+
+-- where the mark is to be, there is a text
+text_left : (x : WindowMarks) (f : plans.Finish) (ls : List MarkedBuffer) → (marked_at x.name (marks_gone x f ls)).buffer.text ≡ (marked_at x.name ls).buffer.text
+text_left x f ls = text_gone x.name x.top f.top (mark_gone x.name x.point f.point ls) ∙ text_gone x.name x.point f.point ls
+
+told_within : (n p : ℕ) (mark : Option ℕ) → mark ≡ Some p → IsWithin n mark → p ≤ n
+told_within n p mark is within = subst (IsWithin n) is within
+
+pub within_after : (x : WindowMarks) (p : ℕ) (kill : List ℕ) (action : Action) (ls : List MarkedBuffer) → HasBuffer x.name ls → CanBeDone ls x kill action → mark_told action ≡ Some p → p ≤ length (marked_at x.name (marked_after x (marked_at x.name ls).buffer.text kill action ls)).buffer.text
+within_after x p kill (Fails message) ls kept can told = cc
+within_after x p kill (Edits c) ls kept can told =
+    let text = (marked_at x.name ls).buffer.text in
+    let change = change_read text kill c in
+    let w = can.within in
+    let same = ap (λ (t : List ℕ). length t) (text_left x change.finish (edited_by x.name change ls)) in
+    omega (arith, same, length_edited_by x.name change ls kept w.order w.within, told_within _ p c.finish.mark told w.finish.mark)
+within_after x p kill (Moves f) ls kept can told =
+    let text = (marked_at x.name ls).buffer.text in
+    let same = ap (λ (t : List ℕ). length t) (text_left x (finish_read text kill 0 f) ls) in
+    omega (arith, same, told_within _ p f.mark told can.within.mark)
+
+-- as the sessions will be
+held_then : (ks ls : List MarkedBuffer) (xs : List Session) (at mid : ℕ) (h : Session) (x : WindowMarks) (c : plans.Change) (f g : plans.Finish) → IsSound ks xs → HasBuffer x.name ks → IsReserved x.name x.mark mid ks ls → slice_get xs at ≡ Some h → window_marks_of h ≡ Some x → AreMarks ls x → IsSound (marks_gone x f (edited_by x.name c ls)) (slice_set xs at (session_marked mid (session_finished g h)))
+held_then ks ls xs at mid h x c f g sound kept r is sel marks =
+    let ls1 = edited_by x.name c ls in
+    let point = mark_edited_by x.name c ls x.point marks.point in
+    let top = mark_still x.name x.point x.top f.point ls1 point (mark_edited_by x.name c ls x.top marks.top) in
+    let ys = slice_set xs at (session_marked mid h) in
+    let after = gone_sound x.name x.top f.top _ ys top (gone_sound x.name x.point f.point ls1 ys point (edited_sound x.name c ls ys (reserved_sound x mid ks ls xs at h sound kept is sel r))) in
+    subst (IsSound (marks_gone x f ls1)) (set_twice xs at (session_marked mid h) (session_marked mid (session_finished g h)))
+    (sound_set (marks_gone x f ls1) ys at (session_marked mid h) (session_marked mid (session_finished g h)) (sym (get_or_from_slice_get ys at (session_marked mid h) (session_marked mid h) (get_set xs at h (session_marked mid h) is))) (λ n i. refl) after)
+
+marked_so : (directory : Directory) (ks ls : List MarkedBuffer) (xs : List Session) (next : Option ℕ) (id at mid p : ℕ) (h : Session) (x : WindowMarks) (c : plans.Change) (behind : ℕ) (text : List ℕ) (f : Finish) → IsSound ks xs → HasBuffer x.name ks → IsReserved x.name x.mark mid ks ls → at ≡ position_or_len (session_id id) xs → at < length xs → slice_get xs at ≡ Some h → window_marks_of h ≡ Some x → AreMarks ks x → own_of h.own ≡ idle h.own.kind → f.mark ≡ Some p → is_too_large (kill_read text h.kill f.kill) ≡ false
+    → (let left = finish_read text h.kill behind f in world_of directory (change_first (marked_named x.name) (marked_placed mid p) (marks_gone x left (edited_by x.name c ls))) (slice_set xs at (session_marked mid (session_finished left h))) next ≡ apply (world_of directory ks xs next) id (finished (own_of h.own) left (edit_of x.name c)))
+marked_so directory ks ls xs next id at mid p h x c behind text f sound kept r place within is sel marks fresh told small =
+    let left = finish_read text h.kill behind f in
+    let own = own_of h.own in
+    let ls1 = edited_by x.name c ls in
+    let ls2 = mark_gone x.name x.point left.point ls1 in
+    let marks_l = reserved_marks x mid ks ls kept r marks in
+    let mark = mark_there x mid c left ls (reserved_mark x.mark mid ks ls xs at h x refl sound kept is sel r) marks_l in
+    same_world directory _ _ _ _ (id_after next)
+    (buffers_placed x.name mid p (marks_gone x left ls1) ∙ gone_buffers x.name x.top left.top ls2 ∙ gone_buffers x.name x.point left.point ls1 ∙ edited_buffers x.name c ls ∙ ap (buffers_after (edit_of x.name c)) (reserved_buffers x.name x.mark mid ks ls r))
+    (marked_sessions ks ls xs id at mid p h x c behind text f sound kept r place within is sel marks fresh mark (held_then ks ls xs at mid h x c left left sound kept r is sel marks_l) ∙ sym (no_quit x.name c id _))
+    ∙ ap (λ m. apply (world_of directory ks xs next) id (ended (record left { mark = mark_read m }) (edit_of x.name c) own)) (sym told)
+    ∙ ap (λ b. apply (world_of directory ks xs next) id (cond b (fails own KillTooLarge) (ended left (edit_of x.name c) own))) (sym small)
+
+-- ANY ACTION
+
+acted_so : (directory : Directory) (ks ls : List MarkedBuffer) (xs : List Session) (next : Option ℕ) (id at p : ℕ) (x : WindowMarks) (h y : Session) (action : Action) → IsSound ks xs → at ≡ position_or_len (session_id id) xs → at < length xs → slice_get xs at ≡ Some h → window_marks_of h ≡ Some x → AreMarks ks x → own_of h.own ≡ idle h.own.kind → CanBeDone ks x h.kill action → mark_told action ≡ Some p → IsMarked x p action ks ls h y → world_of directory ls (slice_set xs at y) next ≡ apply (world_of directory ks xs next) id (outcome_through (own_of h.own) x ks h.kill action)
+acted_so directory ks ls xs next id at p x h y (Fails message) sound place within is sel marks fresh can told m = cc
+acted_so directory ks ls xs next id at p x h y (Edits c) sound place within is sel marks fresh can told m =
+    let text = (marked_at x.name ks).buffer.text in
+    rw (m.buffers, m.session)
+    (marked_so directory ks m.between xs next id at m.id p h x (change_read text h.kill c) (c.from + length (put_read text h.kill c.put)) text c.finish sound (mark_is_kept x.name x.point ks marks.point) m.reserved place within is sel marks fresh told can.small)
+acted_so directory ks ls xs next id at p x h y (Moves f) sound place within is sel marks fresh can told m =
+    let text = (marked_at x.name ks).buffer.text in
+    rw (m.buffers, m.session)
+    (marked_so directory ks m.between xs next id at m.id p h x (record { a = 0; b = 0; put = []; finish = finish_read text h.kill 0 f }) 0 text f sound (mark_is_kept x.name x.point ks marks.point) m.reserved place within is sel marks fresh told can.small)
+
+sound_then : (ks ls : List MarkedBuffer) (xs : List Session) (at p : ℕ) (x : WindowMarks) (h y : Session) (action : Action) → IsSound ks xs → slice_get xs at ≡ Some h → window_marks_of h ≡ Some x → AreMarks ks x → mark_told action ≡ Some p → IsMarked x p action ks ls h y → IsSound ls (slice_set xs at y)
+sound_then ks ls xs at p x h y (Fails message) sound is sel marks told m = cc
+sound_then ks ls xs at p x h y (Edits c) sound is sel marks told m =
+    let text = (marked_at x.name ks).buffer.text in
+    let change = change_read text h.kill c in
+    let kept = mark_is_kept x.name x.point ks marks.point in
+    let marks_l = reserved_marks x m.id ks m.between kept m.reserved marks in
+    let mark = mark_there x m.id change change.finish m.between (reserved_mark x.mark m.id ks m.between xs at h x refl sound kept is sel m.reserved) marks_l in
+    rw (m.buffers, m.session) (sound_placed x.name m.id p _ _ mark (held_then ks m.between xs at m.id h x change change.finish change.finish sound kept m.reserved is sel marks_l))
+sound_then ks ls xs at p x h y (Moves f) sound is sel marks told m =
+    let text = (marked_at x.name ks).buffer.text in
+    let left = finish_read text h.kill 0 f in
+    let change : plans.Change = record { a = 0; b = 0; put = []; finish = left } in
+    let kept = mark_is_kept x.name x.point ks marks.point in
+    let marks_l = reserved_marks x m.id ks m.between kept m.reserved marks in
+    let mark = mark_there x m.id change left m.between (reserved_mark x.mark m.id ks m.between xs at h x refl sound kept is sel m.reserved) marks_l in
+    rw (m.buffers, m.session) (sound_placed x.name m.id p _ _ mark (held_then ks m.between xs at m.id h x change left left sound kept m.reserved is sel marks_l))
+
+size_then : (ks ls : List MarkedBuffer) (p : ℕ) (x : WindowMarks) (h y : Session) (action : Action) → IsMarked x p action ks ls h y → size_in y ≡ size_in h
+size_then ks ls p x h y action m = ap size_in m.session ∙ size_after (marked_at x.name ks).buffer.text action h
+
+pub marked_sound : {T E : Type 0} (r : Result T E) (ks ls : List MarkedBuffer) (xs : List Session) (at p : ℕ) (x : WindowMarks) (h y : Session) (action : Action) → slice_get xs at ≡ Some h → window_marks_of h ≡ Some x → OnOk r (IsMarked x p action ks ls h y) → OnErr r (WindowMarksDropped None ks ls) → OnErr r (y ≡ h) → AreMarks ks x → mark_told action ≡ Some p → IsSound ks xs → IsSound ls (slice_set xs at y)
+marked_sound (Ok o) ks ls xs at p x h y action is sel ok err same marks told sound = sound_then ks ls xs at p x h y action sound is sel marks told ok
+marked_sound (Err e) ks ls xs at p x h y action is sel ok err same marks told sound =
+    rw same (sound_set ls xs at h h (sym (get_or_from_slice_get xs at h h is)) (λ n i. refl) (given_up_sound ks ls xs err sound))
+
+pub marked_sizes : {T E : Type 0} (r : Result T E) (ks ls : List MarkedBuffer) (xs : List Session) (at p : ℕ) (x : WindowMarks) (h y : Session) (action : Action) → slice_get xs at ≡ Some h → OnOk r (IsMarked x p action ks ls h y) → OnErr r (y ≡ h) → sizes_in (slice_set xs at y) ≡ sizes_in xs
+marked_sizes (Ok o) ks ls xs at p x h y action is ok same = sizes_set xs at h y (sym (get_or_from_slice_get xs at h h is)) (size_then ks ls p x h y action ok)
+marked_sizes (Err e) ks ls xs at p x h y action is ok same = rw same (sizes_set xs at h h (sym (get_or_from_slice_get xs at h h is)) refl)
+
+pub marked_ok : {T E : Type 0} (r : Result T E) (ks ls : List MarkedBuffer) (xs : List Session) (at p : ℕ) (x : WindowMarks) (h y : Session) (action : Action) → slice_get xs at ≡ Some h → OnOk r (IsMarked x p action ks ls h y) → IsSound ks xs → at < length xs → option_and_then window_marks_of (slice_get xs at) ≡ Some x → own_at at xs ≡ idle (own_at at xs).kind → CanBeDone ks x (kill_at at xs) action → mark_told action ≡ Some p → OnOk r ((directory : Directory) (id : ℕ) (next : Option ℕ) → at ≡ position_or_len (session_id id) xs → world_of directory ls (slice_set xs at y) next ≡ apply (world_of directory ks xs next) id (outcome_through (own_at at xs) x ks (kill_at at xs) action))
+marked_ok (Ok o) ks ls xs at p x h y action is ok sound within sel fresh can told = λ directory id next place.
+    let sel_h : window_marks_of h ≡ Some x = sym (ap (option_and_then window_marks_of) is) ∙ sel in
+    acted_so directory ks ls xs next id at p x h y action sound place within is sel_h (acting_marks ks xs at x sound sel) (fresh_own xs at h is fresh) (subst (λ o. CanBeDone ks x (kill_or_none o) action) is can) told ok
+    ∙ ap (λ o. apply (world_of directory ks xs next) id (outcome_through (own_or_first o) x ks (kill_or_none o) action)) (sym is)
+marked_ok (Err e) ks ls xs at p x h y action is ok sound within sel fresh can told = ok
+
+pub marked_err : {T E : Type 0} (r : Result T E) (ks ls : List MarkedBuffer) (xs : List Session) (at : ℕ) (h y : Session) → slice_get xs at ≡ Some h → OnErr r (WindowMarksDropped None ks ls) → OnErr r (y ≡ h) → IsSound ks xs → OnErr r ((directory : Directory) (next : Option ℕ) → world_of directory ls (slice_set xs at y) next ≡ world_of directory ks xs next)
+marked_err (Ok o) ks ls xs at h y is err same sound = err
+marked_err (Err e) ks ls xs at h y is err same sound = λ directory next.
+    same_world directory _ _ _ _ (id_after next) err.buffers
+    (rw same (ap (map (session_of ls)) (set_back xs at h is)) ∙ given_up_sessions ks ls xs err sound)
+
+-- what sets a mark may be refused
+or_true : (a : Bool) → (a || true) ≡ true
+or_true true = refl
+or_true false = refl
+
+finish_takes : (own : model.Own) (f : plans.Finish) (e : Effect) (p : ℕ) → is_too_large f.kill ≡ false → f.mark ≡ Mark_at p → takes_memory (finished own f e) ≡ true
+finish_takes own f e p small told =
+    ap (λ b. takes_memory (cond b (fails own KillTooLarge) (ended f e own))) small
+    ∙ ap (λ m. takes_memory (ended (record f { mark = m }) e own)) told
+    ∙ or_true (effect_takes_memory e)
+
+pub marking_takes : (own : model.Own) (x : WindowMarks) (ks : List MarkedBuffer) (kill : List ℕ) (action : Action) (p : ℕ) → CanBeDone ks x kill action → mark_told action ≡ Some p → takes_memory (outcome_through own x ks kill action) ≡ true
+marking_takes own x ks kill (Fails message) p can told = cc
+marking_takes own x ks kill (Edits c) p can told =
+    let text = (marked_at x.name ks).buffer.text in
+    finish_takes own (change_read text kill c).finish (edit_of x.name (change_read text kill c)) p can.small (ap mark_read told)
+marking_takes own x ks kill (Moves f) p can told =
+    let text = (marked_at x.name ks).buffer.text in
+    finish_takes own (finish_read text kill 0 f) No_effect p can.small (ap mark_read told)
+
+pub when_refused : {T E P : Type 0} (r : Result T E) → P → OnErr r P
+when_refused (Ok o) p = tt
+when_refused (Err e) p = p

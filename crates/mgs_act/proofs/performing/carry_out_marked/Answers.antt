@@ -1,0 +1,101 @@
+use Rattle.std.proofs.Common.{◌≡◌, ℕ, List, refl, sym, ap, subst, ◌∙◌}
+use Rattle.mgs_model.specs.Apply.{change_first}
+use Rattle.mgs_model.specs.World.{Buffer}
+use Rattle.mgs_buffers.specs.MarkedBuffer.{MarkedBuffer, marked_at, marked_named, marked_placed}
+use Rattle.mgs_world.specs.Marking.{IsGivenUp, session_marked}
+use Rattle.mgs_world.proofs.SelectedMark.{reserved_given_up}
+use Rattle.mgs_world.proofs.Soundness.{mark_is_kept}
+use Rattle.mgs_act.specs.Actions.{CanDo, marked_after, session_acted}
+use Rattle.mgs_act.proofs.Marked.{mark_after_action, reserved_buffer, reserved_in_use, reserved_marks, within_after}
+use Rattle.mgs_act.proofs.performing.carry_out_marked.Goals as goal
+
+pub carry_out-requires-clause-marks : goal.carry_out-requires-clause-marks
+carry_out-requires-clause-marks g c =
+    let x = c.args.window_marks.now in
+    let ks = c.args.buffers.now in
+    let ls = c.reserve_mark.new.buffers in
+    let mid = c.in_ok-mark.mark in
+    let r = c.in_ok-mark.ensures.ok in
+    let kept = mark_is_kept x.name x.point ks c.requires.marks.point in
+    reserved_marks x mid ks ls kept r c.requires.marks
+
+pub carry_out-requires-clause-can : goal.carry_out-requires-clause-can
+carry_out-requires-clause-can g c =
+    let x = c.args.window_marks.now in
+    let ks = c.args.buffers.now in
+    let ls = c.reserve_mark.new.buffers in
+    let mid = c.in_ok-mark.mark in
+    let r = c.in_ok-mark.ensures.ok in
+    subst (λ (b : Buffer). CanDo b.text c.args.session.now.kill b.serial c.args.action.now) (sym (reserved_buffer x.name x.mark mid ks ls r)) c.requires.can
+
+pub set_mark-requires-clause-mark : goal.set_mark-requires-clause-mark
+set_mark-requires-clause-mark g c =
+    let x = c.args.window_marks.now in
+    let ks = c.args.buffers.now in
+    let ls = c.reserve_mark.new.buffers in
+    let mid = c.in_ok-mark.mark in
+    let r = c.in_ok-mark.ensures.ok in
+    let kept = mark_is_kept x.name x.point ks c.requires.marks.point in
+    let marks = reserved_marks x mid ks ls kept r c.requires.marks in
+    let mark = reserved_in_use x.mark x mid ks ls refl kept c.requires.marks r in
+    let text = (marked_at x.name ls).buffer.text in
+    let there = mark_after_action x mid text c.args.session.now.kill c.args.action.now ls mark marks in
+    rw c.in-Ok.ensures.ok there
+
+pub set_mark-requires-clause-kept : goal.set_mark-requires-clause-kept
+set_mark-requires-clause-kept g c =
+    mark_is_kept c.args.window_marks.now.name c.in_ok-mark.mark c.carry_out.new.buffers (set_mark-requires-clause-mark g c)
+
+pub set_mark-requires-clause-within : goal.set_mark-requires-clause-within
+set_mark-requires-clause-within g c =
+    let x = c.args.window_marks.now in
+    let ks = c.args.buffers.now in
+    let ls = c.reserve_mark.new.buffers in
+    let mid = c.in_ok-mark.mark in
+    let r = c.in_ok-mark.ensures.ok in
+    let kept = mark_is_kept x.name x.point ks c.requires.marks.point in
+    let marks = reserved_marks x mid ks ls kept r c.requires.marks in
+    let mark = reserved_in_use x.mark x mid ks ls refl kept c.requires.marks r in
+    let can = subst (λ (b : Buffer). CanDo b.text c.args.session.now.kill b.serial c.args.action.now) (sym (reserved_buffer x.name x.mark mid ks ls r)) c.requires.can in
+    rw c.in-Ok.ensures.ok (within_after x c.args.position c.args.session.now.kill c.args.action.now ls (mark_is_kept x.name mid ls mark) can c.requires.told)
+
+pub give_up_mark-requires-clause-mark : goal.give_up_mark-requires-clause-mark
+give_up_mark-requires-clause-mark g c =
+    let x = c.args.window_marks.now in
+    let ks = c.args.buffers.now in
+    let ls = c.reserve_mark.new.buffers in
+    let mid = c.in_ok-mark.mark in
+    let r = c.in_ok-mark.ensures.ok in
+    let kept = mark_is_kept x.name x.point ks c.requires.marks.point in
+    rw c.in-Err.ensures.err (reserved_in_use x.mark x mid ks ls refl kept c.requires.marks r)
+
+pub give_up_mark-requires-clause-kept : goal.give_up_mark-requires-clause-kept
+give_up_mark-requires-clause-kept g c =
+    mark_is_kept c.args.window_marks.now.name c.in_ok-mark.mark c.carry_out.new.buffers (give_up_mark-requires-clause-mark g c)
+
+pub returns-in-Ok-clause-ok : goal.returns-in-Ok-clause-ok
+returns-in-Ok-clause-ok g c =
+    let x = c.args.window_marks.now in
+    let ks = c.args.buffers.now in
+    let ls = c.reserve_mark.new.buffers in
+    let mid = c.in_ok-mark.mark in
+    let r = c.in_ok-mark.ensures.ok in
+    let same = reserved_buffer x.name x.mark mid ks ls r in
+    record {
+      id = mid;
+      between = ls;
+      reserved = r;
+      buffers = c.set_mark.ensures.buffers ∙ ap (change_first (marked_named x.name) (marked_placed mid c.args.position)) (c.in-Ok.ensures.ok ∙ ap (λ (b : Buffer). marked_after x b.text c.args.session.now.kill c.args.action.now ls) same);
+      session = c.set_mark.ensures.session ∙ ap (session_marked mid) (c.in-Ok.ensures.acted ∙ ap (λ (b : Buffer). session_acted b.text c.args.action.now c.args.session.now) same);
+    }
+
+pub returns-in-Err-clause-err : goal.returns-in-Err-clause-err
+returns-in-Err-clause-err g c =
+    let x = c.args.window_marks.now in
+    let ks = c.args.buffers.now in
+    let ls = c.reserve_mark.new.buffers in
+    let mid = c.in_ok-mark.mark in
+    let r = c.in_ok-mark.ensures.ok in
+    let kept = mark_is_kept x.name x.point ks c.requires.marks.point in
+    reserved_given_up x.name x.mark mid ks ls c.give_up_mark.new.buffers kept r
+    (subst (λ (s : List MarkedBuffer). IsGivenUp x.name x.mark mid s c.give_up_mark.new.buffers) c.in-Err.ensures.err c.give_up_mark.ensures)
