@@ -30,3 +30,5 @@ mod script;
 mod windows;
 #[cfg(test)]
 mod wire;
+#[cfg(test)]
+mod yanks;

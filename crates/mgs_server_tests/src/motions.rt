@@ -20,7 +20,7 @@ const NO_READ: &str = "Denied: no entry grants READ_DATA";
 
 // A session and its keys, and what its terminal then shows: the rows of the text, the flag and the place of the mode line, the
 // echo line, and the cursor.
-type Step<'a> = (&'a str, &'a [&'a str], &'a str, &'a str, &'a str);
+pub(crate) type Step<'a> = (&'a str, &'a [&'a str], &'a str, &'a str, &'a str);
 
 // A row between two marks, filled up to the last column.
 fn push_row(output: &mut Vec<u8>, edge: u8, text: &[u8], filler: u8) -> Result<(), Fail> {
@@ -71,7 +71,7 @@ fn push_screen(alloc: Global, output: &mut Vec<u8>, step: &Step<'_>) -> Result<(
 }
 
 // After these lines, each step's keys lead to its screen. A step of a label alone looks at that session.
-fn steps_show(
+pub(crate) fn steps_show(
     rt: &impl Abort,
     alloc: Global,
     lines: &[&str],
