@@ -8,31 +8,33 @@ use Rattle.std.proofs.lemmas.Option.{get_or_from_slice_get}
 use Rattle.mgs_model.specs.Access.{Directory}
 use Rattle.mgs_model.specs.World.{World, first_own, has_id}
 use Rattle.mgs_model.specs.World as model
-use Rattle.mgs_model.specs.Outcome.{Adjust, Effect, No_effect, Edit, Outcome, PointPlan, Keep, At, At_origin, Keep_mark}
+use Rattle.mgs_model.specs.Outcome.{Adjust, Effect, No_effect, Edit, Unmodified, Outcome, PointPlan, Keep, At, At_origin, Keep_mark}
 use Rattle.mgs_model.specs.Plans as plans
-use Rattle.mgs_model.specs.Plans.{failed_own, kind_failed}
-use Rattle.mgs_model.specs.Acts.{edit_of, fails, finished, finished_own, is_too_large}
+use Rattle.mgs_model.specs.Plans.{acted_own, failed_own, kind_failed}
+use Rattle.mgs_model.specs.Acts.{edit_of, effects, fails, finished, finished_own, is_too_large}
 use Rattle.mgs_model.specs.Apply.{after_quit, apply, buffers_after, change_at, change_first, kill_after, session_after, session_arranged, window_adjusted}
 use Rattle.mgs_model.specs.Text.{is_edit, shift}
 use Rattle.mgs_model.specs.declared.message.Message.{Message}
-use Rattle.mgs_model.specs.declared.message.Message.TheVariants.{KillTooLarge}
+use Rattle.mgs_model.specs.declared.message.Message.TheVariants.{KillTooLarge, Silent}
+use Rattle.mgs_model.specs.declared.session.Kind.TheVariants.{Other}
 use Rattle.mgs_model.proofs.Firsts.{change_first_found, find-map, position_or_len-map, written_first}
 use Rattle.mgs_marks.specs.Marks.{mark_in}
-use Rattle.mgs_buffers.specs.MarkedBuffer.{IsMark, MarkedBuffer, marked_at, marked_edited, marked_named, marked_placed}
+use Rattle.mgs_buffers.specs.MarkedBuffer.{IsMark, MarkedBuffer, marked_at, marked_edited, marked_named, marked_placed, marked_unmodified}
 use Rattle.mgs_windows.specs.declared.WindowMarks.{WindowMarks}
-use Rattle.mgs_session.specs.Sessions.{failed, window_marks_of}
+use Rattle.mgs_session.specs.Sessions.{acted, failed, told, window_marks_of}
 use Rattle.mgs_session.specs.declared.Own.{Own}
 use Rattle.mgs_session.specs.declared.Session.{Session}
 use Rattle.mgs_edit.specs.Reading.{change_read, finish_read, kill_read, mark_read, put_read}
 use Rattle.mgs_edit.specs.declared.plan.Finish.{Finish}
 use Rattle.mgs_act.specs.declared.action.Action.{Action}
-use Rattle.mgs_act.specs.declared.action.Action.TheVariants.{Fails, Edits, Moves}
+use Rattle.mgs_act.specs.declared.action.Action.TheVariants.{Fails, Edits, Moves, Clears}
 use Rattle.mgs_act.specs.Actions.{AreMarks, CanBeDone, edited_by, kill_at, kill_or_none, mark_gone, mark_told, marked_after, marks_gone, outcome_through, session_acted, session_finished}
 use Rattle.mgs_world.specs.Sound.{IsSound, one_if, session_uses, uses, window_marks_uses}
 use Rattle.mgs_world.specs.Worlds.{buffers_of, id_after, idle, own_at, own_of, own_or_first, session_id, session_of, size_in, sizes_in, world_of}
 use Rattle.mgs_world.proofs.Sessions.{session_found}
 use Rattle.mgs_world.proofs.Soundness.{acting_mark, one_if_most, point_used, sizes_set, sound_edited, sound_placed, sound_set}
 use Rattle.mgs_world.proofs.Worlds.{buffers_edited, buffers_placed, mark_used_once, point_places, point_to, same_world, selected_at, sessions_edited, sessions_placed, top_places, top_to, top_used_once}
+use Rattle.mgs_world.proofs.Unmodified.{buffers_unmodified, sessions_unmodified, sound_unmodified}
 use Rattle.mgs_act.proofs.Leaving.{mark_edited_by, mark_still}
 
 -- LISTS
@@ -225,6 +227,21 @@ failed_so directory ks xs next id at h message place within is fresh =
     (λ i. record (session_of ks h) { own = fresh_failed h.own message fresh i })
     ∙ ap (change_first (has_id id) f) (sym (map-id (map (session_of ks) xs))))
 
+-- a flag is cleared
+fresh_cleared : (o : Own) → own_of o ≡ idle o.kind → own_of (record o { echo = Silent; kind = Other }) ≡ acted_own (own_of o)
+fresh_cleared o fresh =
+    (λ i. record first_own { echo = Silent; argument = (fresh i).argument; keys = (fresh i).keys; kind = Other })
+    ∙ sym (λ i. record first_own { echo = (fresh i).echo; kind = Other })
+
+cleared_so : (directory : Directory) (ks : List MarkedBuffer) (xs : List Session) (next : Option ℕ) (id at : ℕ) (h : Session) (name : List ℕ) → at ≡ position_or_len (session_id id) xs → at < length xs → slice_get xs at ≡ Some h → own_of h.own ≡ idle h.own.kind → world_of directory (change_first (marked_named name) marked_unmodified ks) (slice_set xs at (told Silent (acted Other h))) next ≡ apply (world_of directory ks xs next) id (effects (own_of h.own) (Ok (Unmodified name)))
+cleared_so directory ks xs next id at h name place within is fresh =
+    let f = session_arranged (effects (own_of h.own) (Ok (Unmodified name))) in
+    let ls = change_first (marked_named name) marked_unmodified ks in
+    same_world directory _ _ _ _ (id_after next) (buffers_unmodified name ks)
+    (written_first (session_of ls) (has_id id) f xs at h (told Silent (acted Other h)) (place ∙ sym (position_or_len-map (session_of ls) (has_id id) xs)) within (sym (get_or_from_slice_get xs at h h is))
+    (λ i. record (session_of ls h) { own = fresh_cleared h.own fresh i })
+    ∙ ap (change_first (has_id id) f) (sessions_unmodified name ks xs ∙ sym (map-id (map (session_of ks) xs))))
+
 -- ANY ACTION
 
 done_so : (directory : Directory) (ks : List MarkedBuffer) (xs : List Session) (next : Option ℕ) (id at : ℕ) (x : WindowMarks) (h : Session) (action : Action) → IsSound ks xs → at ≡ position_or_len (session_id id) xs → at < length xs → slice_get xs at ≡ Some h → window_marks_of h ≡ Some x → AreMarks ks x → own_of h.own ≡ idle h.own.kind → CanBeDone ks x h.kill action → mark_told action ≡ None
@@ -237,6 +254,8 @@ done_so directory ks xs next id at x h (Edits c) sound place within is sel marks
 done_so directory ks xs next id at x h (Moves f) sound place within is sel marks fresh can none =
     let text = (marked_at x.name ks).buffer.text in
     finished_so directory ks xs next id at h x (record { a = 0; b = 0; put = []; finish = finish_read text h.kill 0 f }) 0 text f sound place within is sel marks fresh none can.small
+done_so directory ks xs next id at x h Clears sound place within is sel marks fresh can none =
+    cleared_so directory ks xs next id at h x.name place within is fresh
 
 pub kept_sound : (ks : List MarkedBuffer) (xs : List Session) (x : WindowMarks) (text kill : List ℕ) (action : Action) → AreMarks ks x → IsSound ks xs → IsSound (marked_after x text kill action ks) xs
 kept_sound ks xs x text kill (Fails message) marks sound = sound
@@ -249,16 +268,19 @@ kept_sound ks xs x text kill (Edits c) marks sound =
 kept_sound ks xs x text kill (Moves f) marks sound =
     let left = finish_read text kill 0 f in
     gone_sound x.name x.top left.top _ xs (mark_still x.name x.point x.top left.point ks marks.point marks.top) (gone_sound x.name x.point left.point ks xs marks.point sound)
+kept_sound ks xs x text kill Clears marks sound = sound_unmodified x.name ks xs sound
 
 pub uses_after : (text : List ℕ) (action : Action) (h : Session) (n : List ℕ) (i : ℕ) → session_uses n i (session_acted text action h) ≡ session_uses n i h
 uses_after text (Fails message) h n i = refl
 uses_after text (Edits c) h n i = refl
 uses_after text (Moves f) h n i = refl
+uses_after text Clears h n i = refl
 
 pub size_after : (text : List ℕ) (action : Action) (h : Session) → size_in (session_acted text action h) ≡ size_in h
 size_after text (Fails message) h = refl
 size_after text (Edits c) h = refl
 size_after text (Moves f) h = refl
+size_after text Clears h = refl
 
 pub set_back : (xs : List Session) (at : ℕ) (h : Session) → slice_get xs at ≡ Some h → slice_set xs at h ≡ xs
 set_back xs at h is = ap (slice_set xs at) (sym (get_or_from_slice_get xs at h h is)) ∙ set-get_or xs at h

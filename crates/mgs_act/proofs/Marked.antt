@@ -1,6 +1,6 @@
 -- What an action does that sets the mark of the window.
 use Rattle.std.proofs.Common.{◌≡◌, ℕ, zero, suc, ◌+◌, ◌<◌, ◌≤◌, Bool, true, false, cond, ◌||◌, List, [], ◌∷◌, length, map, Option, Some, None, refl, sym, ap, subst, ◌∙◌, arith}
-use Rattle.std.specs.Prelude.{find, slice_get, slice_set, Result, Ok, Err, OnOk, OnErr}
+use Rattle.std.specs.Prelude.{find, is_some, slice_get, slice_set, Result, Ok, Err, OnOk, OnErr}
 use Rattle.std.specs.List.{position_or_len}
 use Rattle.std.specs.Option.{option_and_then, option_map}
 use Rattle.std.proofs.lemmas.List.{map-id}
@@ -15,6 +15,7 @@ use Rattle.mgs_model.specs.Acts.{edit_of, fails, finished, is_too_large}
 use Rattle.mgs_model.specs.Apply.{apply, buffers_after, change_at, change_first, session_after, session_arranged, window_adjusted}
 use Rattle.mgs_model.specs.declared.message.Message.TheVariants.{KillTooLarge}
 use Rattle.mgs_model.proofs.Firsts.{position_or_len-map}
+use Rattle.mgs_marks.specs.Marks.{mark_in}
 use Rattle.mgs_buffers.specs.MarkedBuffer.{HasBuffer, IsMark, MarkedBuffer, marked_at, marked_named, marked_or_none, marked_placed, with_marks}
 use Rattle.mgs_windows.specs.declared.WindowMarks.{WindowMarks}
 use Rattle.mgs_session.specs.Sessions.{window_marks_of}
@@ -22,7 +23,7 @@ use Rattle.mgs_session.specs.declared.Session.{Session}
 use Rattle.mgs_edit.specs.Reading.{IsWithin, change_read, finish_read, kill_read, mark_read, put_read}
 use Rattle.mgs_edit.specs.declared.plan.Finish.{Finish}
 use Rattle.mgs_act.specs.declared.action.Action.{Action}
-use Rattle.mgs_act.specs.declared.action.Action.TheVariants.{Fails, Edits, Moves}
+use Rattle.mgs_act.specs.declared.action.Action.TheVariants.{Fails, Edits, Moves, Clears}
 use Rattle.mgs_act.specs.Actions.{AreMarks, CanBeDone, IsMarked, edited_by, kill_at, kill_or_none, mark_gone, mark_told, marked_after, marks_gone, outcome_through, session_acted, session_finished}
 use Rattle.mgs_world.specs.Marking.{IsReserved, mark_at_place, session_marked}
 use Rattle.mgs_world.specs.Sound.{IsSound, session_uses, uses}
@@ -33,6 +34,7 @@ use Rattle.mgs_world.proofs.Soundness.{in_use_mark, mark_is_kept, sizes_set, sou
 use Rattle.mgs_world.proofs.Marks.{found_same, is_same}
 use Rattle.mgs_world.proofs.WindowMarks.{added_mark}
 use Rattle.mgs_world.proofs.Worlds.{buffers_placed, same_world}
+use Rattle.mgs_world.proofs.Unmodified.{marks_unmodified}
 use Rattle.mgs_act.proofs.Deeds.{acting_marks, at_twice, edited_buffers, edited_sound, ended, finished_sessions, fresh_own, gone_buffers, gone_sound, kept_sound, no_quit, once_used, set_back, size_after, unmarked, uses_after}
 use Rattle.mgs_act.proofs.Leaving.{length_edited_by, mark_edited_by, mark_still, text_gone, used_once}
 
@@ -134,6 +136,7 @@ pub mark_after_action : (x : WindowMarks) (mid : ℕ) (text kill : List ℕ) (ac
 mark_after_action x mid text kill (Fails message) ls mark marks = mark
 mark_after_action x mid text kill (Edits c) ls mark marks = mark_there x mid (change_read text kill c) (change_read text kill c).finish ls mark marks
 mark_after_action x mid text kill (Moves f) ls mark marks = mark_there x mid (record { a = 0; b = 0; put = []; finish = finish_read text kill 0 f }) (finish_read text kill 0 f) ls mark marks
+mark_after_action x mid text kill Clears ls mark marks = ap (λ (ms : List (Option ℕ)). is_some (mark_in ms mid)) (marks_unmodified x.name x.name ls) ∙ mark
 
 -- where the mark is to be, there is a text
 text_left : (x : WindowMarks) (f : plans.Finish) (ls : List MarkedBuffer) → (marked_at x.name (marks_gone x f ls)).buffer.text ≡ (marked_at x.name ls).buffer.text
@@ -154,6 +157,7 @@ within_after x p kill (Moves f) ls kept can told =
     let text = (marked_at x.name ls).buffer.text in
     let same = ap (λ (t : List ℕ). length t) (text_left x (finish_read text kill 0 f) ls) in
     omega (arith, same, told_within _ p f.mark told can.within.mark)
+within_after x p kill Clears ls kept can told = cc
 
 -- as the sessions will be
 held_then : (ks ls : List MarkedBuffer) (xs : List Session) (at mid : ℕ) (h : Session) (x : WindowMarks) (c : plans.Change) (f g : plans.Finish) → IsSound ks xs → HasBuffer x.name ks → IsReserved x.name x.mark mid ks ls → slice_get xs at ≡ Some h → window_marks_of h ≡ Some x → AreMarks ls x → IsSound (marks_gone x f (edited_by x.name c ls)) (slice_set xs at (session_marked mid (session_finished g h)))
@@ -193,6 +197,7 @@ acted_so directory ks ls xs next id at p x h y (Moves f) sound place within is s
     let text = (marked_at x.name ks).buffer.text in
     rw (m.buffers, m.session)
     (marked_so directory ks m.between xs next id at m.id p h x (record { a = 0; b = 0; put = []; finish = finish_read text h.kill 0 f }) 0 text f sound (mark_is_kept x.name x.point ks marks.point) m.reserved place within is sel marks fresh told can.small)
+acted_so directory ks ls xs next id at p x h y Clears sound place within is sel marks fresh can told m = cc
 
 sound_then : (ks ls : List MarkedBuffer) (xs : List Session) (at p : ℕ) (x : WindowMarks) (h y : Session) (action : Action) → IsSound ks xs → slice_get xs at ≡ Some h → window_marks_of h ≡ Some x → AreMarks ks x → mark_told action ≡ Some p → IsMarked x p action ks ls h y → IsSound ls (slice_set xs at y)
 sound_then ks ls xs at p x h y (Fails message) sound is sel marks told m = cc
@@ -211,6 +216,7 @@ sound_then ks ls xs at p x h y (Moves f) sound is sel marks told m =
     let marks_l = reserved_marks x m.id ks m.between kept m.reserved marks in
     let mark = mark_there x m.id change left m.between (reserved_mark x.mark m.id ks m.between xs at h x refl sound kept is sel m.reserved) marks_l in
     rw (m.buffers, m.session) (sound_placed x.name m.id p _ _ mark (held_then ks m.between xs at m.id h x change left left sound kept m.reserved is sel marks_l))
+sound_then ks ls xs at p x h y Clears sound is sel marks told m = cc
 
 size_then : (ks ls : List MarkedBuffer) (p : ℕ) (x : WindowMarks) (h y : Session) (action : Action) → IsMarked x p action ks ls h y → size_in y ≡ size_in h
 size_then ks ls p x h y action m = ap size_in m.session ∙ size_after (marked_at x.name ks).buffer.text action h
@@ -256,6 +262,7 @@ marking_takes own x ks kill (Edits c) p can told =
 marking_takes own x ks kill (Moves f) p can told =
     let text = (marked_at x.name ks).buffer.text in
     finish_takes own (finish_read text kill 0 f) No_effect p can.small (ap mark_read told)
+marking_takes own x ks kill Clears p can told = cc
 
 pub when_refused : {T E P : Type 0} (r : Result T E) → P → OnErr r P
 when_refused (Ok o) p = tt

@@ -8,9 +8,9 @@ use Rattle.mgs_model.specs.Access.{Directory, Decider, decider, decision_by, all
 use Rattle.mgs_model.specs.Rights.{all_rights, rights_in}
 use Rattle.mgs_model.specs.World.{Buffer, Own, Shows, Nothing, Buffer_of, Listing, List_of}
 use Rattle.mgs_model.specs.View.{View, BufferSeen, WindowSeen, find_seen, view, reads, reads_found, buffer_seen, window_seen, positions_if, told_if, full_if, size_told, serial_told, text_in}
-use Rattle.mgs_model.specs.Outcome.{Outcome}
+use Rattle.mgs_model.specs.Outcome.{Effect, Outcome, Unmodified}
 use Rattle.mgs_model.specs.Plans.{Around, Change, Finish, alteration, insertion, motion, reading_insertion, scrolling}
-use Rattle.mgs_model.specs.Acts.{Target, acts_at, around, deciders_found, edited_by, edits, fails, has_rows, here, insertion_right, is_rows, judged, mark_in, moved_by, moves, or_else, outcome, permitted, row_in, scrolls_rows, selected_seen, target, target_in}
+use Rattle.mgs_model.specs.Acts.{Target, about, acts_at, around, deciders_found, edited_by, edits, effects, fails, has_rows, here, insertion_right, is_rows, judged, mark_in, moved_by, moves, or_else, outcome, permitted, row_in, rules, scrolls_rows, selected_seen, shown, target, target_in}
 use Rattle.mgs_model.specs.declared.right.Right.{Right}
 use Rattle.mgs_model.specs.declared.right.Right.TheVariants.{ReadData, WriteData, AppendData}
 use Rattle.mgs_model.specs.declared.entry.Decision.{Decision}
@@ -18,7 +18,7 @@ use Rattle.mgs_model.specs.declared.entry.Decision.TheVariants.{Granted, DeniedB
 use Rattle.mgs_model.specs.declared.message.Message.{Message}
 use Rattle.mgs_model.specs.declared.message.Message.TheVariants.{NoBuffer}
 use Rattle.mgs_model.specs.declared.session.Command.{Command}
-use Rattle.mgs_model.specs.declared.session.Command.TheVariants.{Insert, InsertReading, Move, Alter, Scroll}
+use Rattle.mgs_model.specs.declared.session.Command.TheVariants.{Insert, InsertReading, Move, Alter, Scroll, NotModified}
 use Rattle.mgs_model.proofs.Outcomes.{granted_each}
 use Rattle.mgs_buffers.specs.MarkedBuffer.{MarkedBuffer, HasBuffer, marked_at, mark_at}
 use Rattle.mgs_windows.specs.declared.WindowMarks.{WindowMarks}
@@ -105,6 +105,7 @@ text_unread own (InsertReading i) d text a none = reading_rights own d (a.place 
 text_unread own (Move m) d text a none = unread own d [] _ _ none
 text_unread own (Alter k) d text a none = unread own d (WriteData ∷ []) _ _ none
 text_unread own (Scroll s) d text a none = unread own d [] _ _ none
+text_unread own NotModified d text a none = refl
 text_unread own _ d text a none = refl
 
 -- nothing is told: nothing is granted
@@ -127,6 +128,7 @@ none_told own (InsertReading i) d b name point mark top height n kill none =
 none_told own (Move m) d b name point mark top height n kill none = permitted_same own (decision_by d (ReadData ∷ [])) _ _ (λ e. absurd (nothing_granted d [] none e))
 none_told own (Alter k) d b name point mark top height n kill none = permitted_same own (decision_by d (ReadData ∷ WriteData ∷ [])) _ _ (λ e. absurd (nothing_granted d (WriteData ∷ []) none e))
 none_told own (Scroll s) d b name point mark top height n kill none = permitted_same own (decision_by d (ReadData ∷ [])) _ _ (λ e. absurd (nothing_granted d [] none e))
+none_told own NotModified d b name point mark top height n kill none = permitted_same own (decision_by d (ReadData ∷ WriteData ∷ [])) _ _ (λ e. absurd (nothing_granted d (WriteData ∷ []) none e))
 none_told own _ d b name point mark top height n kill none = permitted_same own (decision_by d (ReadData ∷ [])) _ _ (λ e. absurd (nothing_granted d [] none e))
 
 told_same : (own : Own) (c : Command) (d : Right → Decider) (b : Buffer) (name : List ℕ) (point : ℕ) (mark : Option ℕ) (top height : ℕ) (n : Option ℕ) (kill : List ℕ)
@@ -224,6 +226,11 @@ motion_judged v t plan is found =
     ap (λ o. permitted v.session.own (judged v (here o (λ t. 1))) (moves v.session.own o plan)) is
     ∙ ap (λ d. permitted v.session.own d (moves v.session.own (Some t) plan)) (judged_here v t (λ t. 1) found)
 
+rule_judged : (v : View) (t : Target) (plan : BufferSeen → Result Effect Message) → target v ≡ Some t → find_seen t.buffer.name v.buffers ≡ Some t.buffer → permitted v.session.own (judged v (about (shown v) 3)) (rules v.session.own (shown v) plan) ≡ permitted v.session.own (decision_by t.buffer.deciders (rights_in 3)) (effects v.session.own (plan t.buffer))
+rule_judged v t plan is found =
+    ap (λ (o : Option Target). permitted v.session.own (judged v (about (option_map (λ (t : Target). t.buffer) o) 3)) (rules v.session.own (option_map (λ (t : Target). t.buffer) o) plan)) is
+    ∙ ap (λ d. permitted v.session.own d (effects v.session.own (plan t.buffer))) (judged_here v t (λ t. 3) found)
+
 -- what an act comes to on the target
 on_target : (v : View) (t : Target) (c : Command) (n : Option ℕ) → is_on_text c ≡ true → target v ≡ Some t → find_seen t.buffer.name v.buffers ≡ Some t.buffer → outcome v (act_of (Run c n)) true ≡ outcome_at v.session.own c t.buffer.deciders (text_in t.buffer.full) (around v.session n [] t)
 unfolding outcome
@@ -236,6 +243,7 @@ on_target v t (Scroll s) n h is found =
     ap (λ b. permitted v.session.own (judged v (here (target v) (λ t. 1))) (cond b (scrolls_rows v.session.own (row_in s (selected_seen v))) (moves v.session.own (target v) (λ t. scrolling s (text_in t.buffer.full) (around v.session n [] t)))))
     (text_shown v.buffers (selected_seen v) t is)
     ∙ motion_judged v t (λ t. scrolling s (text_in t.buffer.full) (around v.session n [] t)) is found
+on_target v t NotModified n h is found = rule_judged v t (λ (b : BufferSeen). Ok (Unmodified b.name)) is found
 on_target v t _ n h is found = cc
 
 -- through the window's marks of the selected window, of so many rows
@@ -284,6 +292,9 @@ none_edited v rights plan none = ap (λ o. permitted v.session.own (judged v (he
 none_moved : (v : View) (plan : Target → Result Finish Message) → target v ≡ None → permitted v.session.own (judged v (here (target v) (λ t. 1))) (moves v.session.own (target v) plan) ≡ fails v.session.own NoBuffer
 none_moved v plan none = ap (λ o. permitted v.session.own (judged v (here o (λ t. 1))) (moves v.session.own o plan)) none
 
+none_ruled : (v : View) (plan : BufferSeen → Result Effect Message) → target v ≡ None → permitted v.session.own (judged v (about (shown v) 3)) (rules v.session.own (shown v) plan) ≡ fails v.session.own NoBuffer
+none_ruled v plan none = ap (λ (o : Option Target). permitted v.session.own (judged v (about (option_map (λ (t : Target). t.buffer) o) 3)) (rules v.session.own (option_map (λ (t : Target). t.buffer) o) plan)) none
+
 off_target : (v : View) (c : Command) (n : Option ℕ) → is_on_text c ≡ true → target v ≡ None → has_rows (selected_seen v) ≡ false → outcome v (act_of (Run c n)) true ≡ fails v.session.own NoBuffer
 unfolding outcome
 off_target v (Insert i) n h none rows = none_edited v insertion_right (λ t. insertion i (around v.session n [] t)) none
@@ -294,6 +305,7 @@ off_target v (Alter k) n h none rows = none_edited v (λ t. 3) (λ t. alteration
 off_target v (Scroll s) n h none rows =
     ap (λ b. permitted v.session.own (judged v (here (target v) (λ t. 1))) (cond b (scrolls_rows v.session.own (row_in s (selected_seen v))) (moves v.session.own (target v) (λ t. scrolling s (text_in t.buffer.full) (around v.session n [] t))))) rows
     ∙ none_moved v (λ t. scrolling s (text_in t.buffer.full) (around v.session n [] t)) none
+off_target v NotModified n h none rows = none_ruled v (λ (b : BufferSeen). Ok (Unmodified b.name)) none
 off_target v _ n h none rows = cc
 
 pub outcome_none : (directory : Directory) (ks : List MarkedBuffer) (xs : List Session) (next : Option ℕ) (h : Session) (c : Command) (n : Option ℕ) → is_on_text c ≡ true → window_marks_of h ≡ None → outcome (view (world_of directory ks xs next) (session_of ks h)) (act_of (Run c n)) true ≡ fails (own_of h.own) NoBuffer

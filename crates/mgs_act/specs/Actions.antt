@@ -8,21 +8,22 @@ use Rattle.mgs_model.specs.Text.{is_edit}
 use Rattle.mgs_model.specs.World.{may}
 use Rattle.mgs_model.specs.World as model
 use Rattle.mgs_model.specs.Apply.{change_first, kill_after}
-use Rattle.mgs_model.specs.Outcome.{Outcome, No_effect, PointPlan, Keep, At, At_origin}
+use Rattle.mgs_model.specs.Outcome.{Outcome, No_effect, Unmodified, PointPlan, Keep, At, At_origin}
 use Rattle.mgs_model.specs.Outcome as outcomes
 use Rattle.mgs_model.specs.Plans as plans
 use Rattle.mgs_model.specs.Plans.{alteration, insertion, motion, reading_insertion, scrolling}
-use Rattle.mgs_model.specs.Acts.{fails, finished, edit_of, is_full, is_too_large, moved_by, permitted}
+use Rattle.mgs_model.specs.Acts.{effects, fails, finished, edit_of, is_full, is_too_large, moved_by, permitted}
 use Rattle.mgs_model.specs.declared.right.Right.{Right}
 use Rattle.mgs_model.specs.declared.right.Right.TheVariants.{ReadData}
 use Rattle.mgs_model.specs.declared.message.Message.{Message}
-use Rattle.mgs_model.specs.declared.message.Message.TheVariants.{KeyNotBound, BufferFull}
+use Rattle.mgs_model.specs.declared.message.Message.TheVariants.{KeyNotBound, BufferFull, Silent}
 use Rattle.mgs_model.specs.declared.limits.TheConstants.{TEXT_LIMIT}
 use Rattle.mgs_model.specs.declared.session.Command.{Command}
-use Rattle.mgs_model.specs.declared.session.Command.TheVariants.{Insert, InsertReading, Move, Alter, Scroll, Set, Rearrange}
+use Rattle.mgs_model.specs.declared.session.Command.TheVariants.{Insert, InsertReading, Move, Alter, Scroll, Set, Rearrange, NotModified}
+use Rattle.mgs_model.specs.declared.session.Kind.TheVariants.{Other}
 use Rattle.mgs_model.specs.declared.session.Setting.{Setting}
 use Rattle.mgs_model.specs.declared.session.Setting.TheVariants.{KeyboardQuit}
-use Rattle.mgs_buffers.specs.MarkedBuffer.{IsMark, MarkedBuffer, marked_at, marked_edited, marked_named, marked_placed, mark_at}
+use Rattle.mgs_buffers.specs.MarkedBuffer.{IsMark, MarkedBuffer, marked_at, marked_edited, marked_named, marked_placed, marked_unmodified, mark_at}
 use Rattle.mgs_windows.specs.declared.WindowMarks.{WindowMarks}
 use Rattle.mgs_windows.specs.declared.Window.{Window}
 use Rattle.mgs_session.specs.Sessions.{acted, failed, told}
@@ -37,7 +38,7 @@ use Rattle.mgs_act.specs.declared.acts.KeyAct.{KeyAct}
 use Rattle.mgs_act.specs.declared.acts.KeyAct.TheVariants.{Unbound, Run}
 use Rattle.mgs_act.specs.declared.given.Given.{Given}
 use Rattle.mgs_act.specs.declared.action.Action.{Action}
-use Rattle.mgs_act.specs.declared.action.Action.TheVariants.{Fails, Edits, Moves}
+use Rattle.mgs_act.specs.declared.action.Action.TheVariants.{Fails, Edits, Moves, Clears}
 
 -- ACTS
 
@@ -52,6 +53,7 @@ is_on_text (InsertReading c) = true
 is_on_text (Move c) = is_planned c
 is_on_text (Alter c) = is_alteration_planned c
 is_on_text (Scroll c) = true
+is_on_text NotModified = true
 is_on_text _ = false
 
 abbrev pub is_setting_done : Setting → Bool
@@ -137,6 +139,7 @@ abbrev pub CanDo : List ℕ → List ℕ → ℕ → Action → Type 0
 CanDo text kill serial (Fails message) = Unit {0}
 CanDo text kill serial (Edits c) = CanChange text kill serial c
 CanDo text kill serial (Moves f) = CanFinish (length text) (length text) text kill f
+CanDo text kill serial Clears = Unit {0}
 
 abbrev pub CanBeDone : List MarkedBuffer → WindowMarks → List ℕ → Action → Type 0
 CanBeDone ks x kill action = CanDo (marked_at x.name ks).buffer.text kill (marked_at x.name ks).buffer.serial action
@@ -146,6 +149,7 @@ abbrev pub action_outcome : model.Own → List ℕ → List ℕ → List ℕ →
 action_outcome own name text kill (Fails message) = fails own message
 action_outcome own name text kill (Edits c) = finished own (change_read text kill c).finish (edit_of name (change_read text kill c))
 action_outcome own name text kill (Moves f) = finished own (finish_read text kill 0 f) No_effect
+action_outcome own name text kill Clears = effects own (Ok (Unmodified name))
 
 -- what an action comes to through a window's marks
 abbrev pub outcome_through : model.Own → WindowMarks → List MarkedBuffer → List ℕ → Action → Outcome
@@ -172,6 +176,7 @@ abbrev pub mark_told : Action → Option ℕ
 mark_told (Fails message) = None
 mark_told (Edits c) = c.finish.mark
 mark_told (Moves f) = f.mark
+mark_told Clears = None
 
 -- WHAT IS DONE
 
@@ -194,6 +199,7 @@ abbrev pub marked_after : WindowMarks → List ℕ → List ℕ → Action → L
 marked_after x text kill (Fails message) ks = ks
 marked_after x text kill (Edits c) ks = marks_gone x (change_read text kill c).finish (edited_by x.name (change_read text kill c) ks)
 marked_after x text kill (Moves f) ks = marks_gone x (finish_read text kill 0 f) ks
+marked_after x text kill Clears ks = change_first (marked_named x.name) marked_unmodified ks
 
 -- the kill buffer that was made, if one was
 abbrev pub kill_set : Option (Vec ℕ) → List ℕ → List ℕ
@@ -207,6 +213,7 @@ abbrev pub session_acted : List ℕ → Action → Session → Session
 session_acted text (Fails message) h = failed message h
 session_acted text (Edits c) h = session_finished (change_read text h.kill c).finish h
 session_acted text (Moves f) h = session_finished (finish_read text h.kill 0 f) h
+session_acted text Clears h = told Silent (acted Other h)
 
 -- and once the window's mark is where it is to be: a mark was reserved for the window if it had none
 pub record IsMarked (x : WindowMarks) (position : ℕ) (action : Action) (ks ls : List MarkedBuffer) (h y : Session) : Type 0 where
@@ -231,6 +238,7 @@ abbrev pub mask_at : Command → ℕ → ℕ → ℕ
 mask_at (Insert c) place size = insertion_mask place size
 mask_at (InsertReading c) place size = 1 + insertion_mask place size
 mask_at (Alter c) place size = 3
+mask_at NotModified place size = 3
 mask_at _ place size = 1
 
 -- what it does where they are granted
@@ -240,6 +248,7 @@ granted_outcome own (InsertReading c) text a = edit_outcome own a.name a.size a.
 granted_outcome own (Move c) text a = moved_by own (motion c text a)
 granted_outcome own (Alter c) text a = edit_outcome own a.name a.size a.serial (alteration c text a)
 granted_outcome own (Scroll c) text a = moved_by own (scrolling c text a)
+granted_outcome own NotModified text a = effects own (Ok (Unmodified a.name))
 granted_outcome own _ text a = fails own KeyNotBound
 
 abbrev pub outcome_at : model.Own → Command → (Right → Decider) → List ℕ → plans.Around → Outcome

@@ -10,4 +10,6 @@ pub enum Action {
     Edits(Change),
     /// It edits nothing.
     Moves(Finish),
+    /// The buffer's modified flag is cleared.
+    Clears,
 }

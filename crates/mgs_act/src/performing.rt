@@ -22,7 +22,7 @@ use crate::action::Action;
 use mgs_buffers::Buffers;
 use mgs_edit::{Change, Finish, Goes, Joins, Piece, Put, is_edit, put_chars};
 use mgs_marks::Marked;
-use mgs_model::{MarkId, Name, Short, Touched};
+use mgs_model::{Kind, MarkId, Message, Name, Short, Touched};
 use mgs_session::{Session, fail, finish, set_kill};
 use mgs_text::Text;
 use mgs_windows::WindowMarks;
@@ -285,6 +285,11 @@ fn carry_out<T: Marked + Drop>(
         }
         Action::Edits(change) => change_text(alloc, buffers, session, window_marks, change),
         Action::Moves(left) => move_point(alloc, buffers, session, window_marks, left),
+        Action::Clears => {
+            buffers.unmodify(&window_marks.name);
+            finish(session, Kind::Other, Message::Silent);
+            Ok(())
+        }
     }
 }
 
@@ -293,7 +298,7 @@ fn mark_of(action: &Action) -> Option<usize>
     ensures { result ≡ mark_told action.now }
 {
     match action {
-        Action::Fails(_) => None,
+        Action::Fails(_) | Action::Clears => None,
         Action::Edits(change) => change.finish.mark,
         Action::Moves(left) => left.mark,
     }
@@ -430,6 +435,7 @@ pub fn touched_by(window_marks: &WindowMarks, action: &Action, killed: usize) ->
                 Touched::Nowhere
             }
         }
+        Action::Clears => Touched::In(window_marks.name),
         Action::Fails(_) | Action::Moves(_) => Touched::Nowhere,
     }
 }

@@ -93,7 +93,9 @@ fn needs(command: &Command, place: usize, size: usize) -> Mask
     match *command {
         Command::Insert(_) => Mask::from_bits(insertion_bit(place, size)),
         Command::InsertReading(_) => Mask::from_bits(read + insertion_bit(place, size)),
-        Command::Alter(_) => Mask::from_bits(read + Right::WriteData.bit()),
+        Command::Alter(_) | Command::NotModified => {
+            Mask::from_bits(read + Right::WriteData.bit())
+        }
         _ => Mask::from_bits(read),
     }
 }
@@ -169,6 +171,7 @@ fn plan_granted<T: Text>(
         Command::Move(by) => moves(text, kill, motion(text, around, by)),
         Command::Alter(by) => edits(text, serial, kill, alteration(text, around, by)),
         Command::Scroll(by) => moves(text, kill, scroll(text, around, by)),
+        Command::NotModified => Action::Clears,
         // No other command acts on the text yet.
         _ => Action::Fails(Message::KeyNotBound),
     }

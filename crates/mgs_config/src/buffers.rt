@@ -14,7 +14,7 @@ use crate::fault::TableFault;
 use crate::row::{are_texts, has_only, text_at, values_at};
 use mgs_acl::{List, read_entry, user_named};
 use mgs_buffers::Buffers;
-use mgs_marks::PlainMarked;
+use mgs_gap::GapText;
 use mgs_model::{BUFFER_LIMIT, ENTRY_LIMIT, Name, TEXT_LIMIT};
 use mgs_policy::Directory;
 use std::alloc::{AllocError, Global};
@@ -135,7 +135,7 @@ fn list_len(row: &Value) -> usize
 // Why a table is refused for its names.
 fn names_refused(
     directory: &Directory,
-    buffers: &Buffers<PlainMarked>,
+    buffers: &Buffers<GapText>,
     row: &Value,
 ) -> Option<TableFault>
     ensures { result ≡ names_refused (has_buffer (name_of (view row.now)) buffers.now) (is_among (owner_of (view row.now)) directory.now.users) (view row.now) }
@@ -181,7 +181,7 @@ fn contents_refused(count: usize, row: &Value) -> Option<TableFault>
 /// Why the table of a buffer is refused, what its file holds aside.
 pub fn refusal(
     directory: &Directory,
-    buffers: &Buffers<PlainMarked>,
+    buffers: &Buffers<GapText>,
     row: &Value,
 ) -> Option<TableFault>
     ensures { result ≡ refused_where (has_buffer (name_of (view row.now)) buffers.now) (is_among (owner_of (view row.now)) directory.now.users) (length buffers.now) (view row.now) }

@@ -18,7 +18,7 @@ use crate::fill::read_buffers;
 use crate::row::text_at;
 use crate::users::{read_groups, read_users};
 use mgs_buffers::Buffers;
-use mgs_marks::PlainMarked;
+use mgs_gap::GapText;
 use mgs_model::Tickets;
 use mgs_policy::Directory;
 use std::alloc::{AllocError, Global};
@@ -41,7 +41,7 @@ pub struct Config {
     /// The tickets of the users.
     pub tickets: Tickets,
     /// The buffers, with their texts.
-    pub buffers: Buffers<PlainMarked>,
+    pub buffers: Buffers<GapText>,
     /// The buffers that have files.
     pub files: Vec<BufferFile>,
 }

@@ -13,7 +13,7 @@ use crate::fault::TableFault;
 use crate::files::{Files, FilesFault};
 use crate::row::text_at;
 use mgs_buffers::Buffers;
-use mgs_marks::PlainMarked;
+use mgs_gap::GapText;
 use mgs_model::TEXT_LIMIT;
 use mgs_policy::Directory;
 use std::alloc::Global;
@@ -62,7 +62,7 @@ fn has_file(row: &Value) -> bool
 // Adds the buffer of a table with a text. Its other faults were checked.
 #[tactic(auto, using(crate::proofs::RowLemmas::values_count))]
 fn put_buffer(
-    buffers: &mut Buffers<PlainMarked>,
+    buffers: &mut Buffers<GapText>,
     row: &Value,
     text: &[char],
 ) -> Result<(), TableFault>
@@ -84,7 +84,7 @@ fn put_buffer(
 fn add_buffer<F: Files>(
     alloc: Global,
     directory: &Directory,
-    buffers: &mut Buffers<PlainMarked>,
+    buffers: &mut Buffers<GapText>,
     files: &mut F,
     row: &Value,
 ) -> Result<(), TableFault>
@@ -111,7 +111,7 @@ pub fn read_buffers<F: Files>(
     directory: &Directory,
     files: &mut F,
     rows: &[Value],
-) -> Result<Buffers<PlainMarked>, (usize, TableFault)>
+) -> Result<Buffers<GapText>, (usize, TableFault)>
     ensures due { OnOk result (first_fault (buffer_refused directory.now.users) [] (map view rows.now) ≡ None) }
     ensures buffers { IfOk result (λ buffers. AreBuffers (F.tells files.old) (map view rows.now) buffers) }
     ensures unmarked { IfOk result (λ buffers. AreUnmarked buffers) }

@@ -1,6 +1,6 @@
 -- A key is read as its last byte is.
 use Rattle.std.proofs.Common.{◌≡◌, ℕ, ◌-◌, Bool, true, false, ◌&&◌, ◌||◌, List, [], ◌∷◌, ◌++◌, refl, sym, ap, subst, ◌∙◌, true≢false, not, cond, length}
-use Rattle.std.specs.Prelude.{◌==◌, ⊤, find, Option, Some, None, is_some, if◌then◌else◌}
+use Rattle.std.specs.Prelude.{◌==◌, nat_le, ⊤, find, Option, Some, None, is_some, if◌then◌else◌}
 use Rattle.std.specs.Option.{option_map}
 use Rattle.std.specs.List.{list_all}
 use Rattle.std.proofs.lemmas.Bool.{eqb-true}
@@ -8,7 +8,7 @@ use Rattle.std.proofs.Math.Bool.{and-false}
 use Rattle.std.proofs.lemmas.Option.{none-some}
 use Rattle.mgs_keys.specs.declared.decoder.Key.{Key}
 use Rattle.mgs_keys.specs.declared.decoder.Key.TheVariants.{Plain, Meta}
-use Rattle.mgs_model.specs.Keys.{KeyRow, KeyRead, Half, Bound, Not_bound, is_graphic, is_prefix, inserts_itself, found_read, find_row, word_read, key_read, value_of, key_rows, ends_in_escape, takes_digit, is_digit, digit_added, four_times}
+use Rattle.mgs_model.specs.Keys.{KeyRow, KeyRead, Half, Bound, Not_bound, is_graphic, is_prefix, inserts_itself, found_read, find_row, word_read, key_read, value_of, key_rows, ends_in_escape, takes_digit, is_digit, digit_added, four_times, quotes, quoted_read}
 use Rattle.mgs_model.specs.Names.{same_name}
 use Rattle.mgs_model.specs.declared.session.Argument.{Argument}
 use Rattle.mgs_model.specs.declared.session.Insertion.TheVariants.{SelfInsert}
@@ -16,13 +16,13 @@ use Rattle.mgs_model.specs.declared.session.Command.{Command}
 use Rattle.mgs_model.specs.declared.session.Command.TheVariants.{Insert, Set}
 use Rattle.mgs_model.specs.declared.session.Setting.TheVariants.{KeyboardQuit}
 use Rattle.mgs_maps.specs.declared.maps.Prefix.{Prefix}
-use Rattle.mgs_maps.specs.declared.maps.Prefix.TheVariants.{Empty, ControlX}
+use Rattle.mgs_maps.specs.declared.maps.Prefix.TheVariants.{Empty, ControlX, MetaBracket, Quote}
 use Rattle.mgs_maps.specs.Held.{prefix_bytes, escape_bytes, key_reads, is_bound, Held, FedBy, IsBoundRun}
 use Rattle.mgs_maps.specs.declared.maps.Fed.{Fed}
 use Rattle.mgs_maps.specs.declared.maps.Fed.TheVariants.{Pending, Run, Unbound}
 use Rattle.mgs_keys.specs.Decoded.{decoded, waits_after}
 use Rattle.mgs_maps.specs.Table.{command_of}
-use Rattle.mgs_maps.specs.Words.{last_byte, word_of, prefix_after, inserted, chosen, no_row, word_reads, plain_reads, meta_reads}
+use Rattle.mgs_maps.specs.Words.{last_byte, word_of, prefix_after, inserted, chosen, no_row, is_quote, word_reads, plain_reads, meta_reads}
 use Rattle.mgs_maps.proofs.Rows.{is_half, prefix_is}
 
 -- what is read where no row is found
@@ -58,12 +58,25 @@ plain_word a byte no_escape =
     ]
     in go (byte == 24) refl
 
+meta_word : (a : Option Argument) (byte : ℕ) → not_found a byte (27 ∷ byte ∷ []) (is_half (27 ∷ byte ∷ [])) ≡ no_row a (prefix_after Empty (Meta byte)) None
+meta_word a byte =
+    let goal : ℕ → Type 0 = λ n. not_found a n (27 ∷ n ∷ []) (is_half (27 ∷ n ∷ [])) ≡ no_row a (prefix_after Empty (Meta n)) None in
+    let go : (t : Bool) → (byte == 91) ≡ t → goal byte = λ t. elim t as (λ t. (byte == 91) ≡ t → goal byte) [
+      | true ↦ λ e. subst goal (sym (eqb-true byte 91 e)) refl
+      | false ↦ λ e. rw e refl
+    ]
+    in go (byte == 91) refl
+
 chosen_is : (a : Option Argument) (prefix : Prefix) (key : Key) (o : Option Command) → IsKey key → by_command a (last_byte key) (word_of prefix key) o ≡ chosen a o (prefix_after prefix key) (inserted prefix key)
 chosen_is a prefix key (Some c) k = refl
 chosen_is a Empty (Plain byte) None k = plain_word a byte k
-chosen_is a Empty (Meta byte) None k = refl
-chosen_is a ControlX (Plain byte) None k = refl
+chosen_is a Empty (Meta byte) None k = meta_word a byte
+chosen_is a ControlX (Plain byte) None k = rw (and-false (byte == 91)) refl
 chosen_is a ControlX (Meta byte) None k = refl
+chosen_is a MetaBracket (Plain byte) None k = refl
+chosen_is a MetaBracket (Meta byte) None k = refl
+chosen_is a Quote (Plain byte) None k = rw (and-false (byte == 91)) refl
+chosen_is a Quote (Meta byte) None k = refl
 
 word_is_read : (a : Option Argument) (prefix : Prefix) (key : Key) → IsKey key → word_read a (last_byte key) (word_of prefix key) ≡ word_reads a prefix key
 word_is_read a prefix key k =
@@ -74,48 +87,67 @@ word_is_read a prefix key k =
 other_byte : (a : Option Argument) (prefix : Prefix) (byte : ℕ) → (byte == 27) ≡ false → key_read a (prefix_bytes prefix) byte ≡ plain_reads a prefix byte
 unfolding key_read
 other_byte None Empty byte e =
-    ap (λ t. if byte == 7 then Bound (Set KeyboardQuit) None else if t && true then Half None (27 ∷ []) else if byte == 21 then Half (Some (four_times None)) [] else if is_digit byte && false then Half (Some (digit_added (byte - 48) None)) [] else word_read None byte (byte ∷ [])) e
-    ∙ ap (λ r. if byte == 7 then Bound (Set KeyboardQuit) None else if byte == 21 then Half (Some (four_times None)) [] else if is_digit byte && false then Half (Some (digit_added (byte - 48) None)) [] else r) (word_is_read None Empty (Plain byte) e)
+    ap (λ t. if byte == 7 then Bound (Set KeyboardQuit) None else if t && true then Half None (27 ∷ []) else if byte == 21 then Half (Some (four_times None)) [] else if is_digit byte && false then Half (Some (digit_added (byte - 48) None)) [] else if byte == 17 then Half None (17 ∷ []) else word_read None byte (byte ∷ [])) e
+    ∙ ap (λ r. if byte == 7 then Bound (Set KeyboardQuit) None else if byte == 21 then Half (Some (four_times None)) [] else if is_digit byte && false then Half (Some (digit_added (byte - 48) None)) [] else if byte == 17 then Half None (17 ∷ []) else r) (word_is_read None Empty (Plain byte) e)
 other_byte (Some x) Empty byte e =
     let a : Option Argument = Some x in
-    ap (λ t. if byte == 7 then Bound (Set KeyboardQuit) (value_of a) else if t && true then Half a (27 ∷ []) else if byte == 21 then Half (Some (four_times a)) [] else if is_digit byte && true then Half (Some (digit_added (byte - 48) a)) [] else word_read a byte (byte ∷ [])) e
-    ∙ ap (λ r. if byte == 7 then Bound (Set KeyboardQuit) (value_of a) else if byte == 21 then Half (Some (four_times a)) [] else if is_digit byte && true then Half (Some (digit_added (byte - 48) a)) [] else r) (word_is_read a Empty (Plain byte) e)
+    ap (λ t. if byte == 7 then Bound (Set KeyboardQuit) (value_of a) else if t && true then Half a (27 ∷ []) else if byte == 21 then Half (Some (four_times a)) [] else if is_digit byte && true then Half (Some (digit_added (byte - 48) a)) [] else if byte == 17 then Half a (17 ∷ []) else word_read a byte (byte ∷ [])) e
+    ∙ ap (λ r. if byte == 7 then Bound (Set KeyboardQuit) (value_of a) else if byte == 21 then Half (Some (four_times a)) [] else if is_digit byte && true then Half (Some (digit_added (byte - 48) a)) [] else if byte == 17 then Half a (17 ∷ []) else r) (word_is_read a Empty (Plain byte) e)
 other_byte a ControlX byte e =
     ap (λ t. if byte == 7 then Bound (Set KeyboardQuit) (value_of a) else if t && true then Half a (24 ∷ 27 ∷ []) else if is_digit byte && false then Half (Some (digit_added (byte - 48) a)) [] else word_read a byte (24 ∷ byte ∷ [])) e
     ∙ ap (λ r. if byte == 7 then Bound (Set KeyboardQuit) (value_of a) else if is_digit byte && false then Half (Some (digit_added (byte - 48) a)) [] else r) (word_is_read a ControlX (Plain byte) e)
+other_byte a MetaBracket byte e =
+    ap (λ t. if byte == 7 then Bound (Set KeyboardQuit) (value_of a) else if t && true then Half a (27 ∷ 91 ∷ 27 ∷ []) else if is_digit byte && false then Half (Some (digit_added (byte - 48) a)) [] else word_read a byte (27 ∷ 91 ∷ byte ∷ [])) e
+    ∙ ap (λ r. if byte == 7 then Bound (Set KeyboardQuit) (value_of a) else if is_digit byte && false then Half (Some (digit_added (byte - 48) a)) [] else r) (word_is_read a MetaBracket (Plain byte) e)
+other_byte a Quote byte e = refl
+
+plain_escape : (a : Option Argument) (prefix : Prefix) → key_reads a (prefix_bytes prefix) (Plain 27) ≡ plain_reads a prefix 27
+unfolding key_read
+plain_escape a Empty = refl
+plain_escape a ControlX = refl
+plain_escape a MetaBracket = refl
+plain_escape a Quote = refl
 
 pub plain_is_read : (a : Option Argument) (prefix : Prefix) (byte : ℕ) → key_reads a (prefix_bytes prefix) (Plain byte) ≡ plain_reads a prefix byte
 plain_is_read a prefix byte =
     let goal : ℕ → Type 0 = λ n. key_reads a (prefix_bytes prefix) (Plain n) ≡ plain_reads a prefix n in
     let go : (t : Bool) → (byte == 27) ≡ t → goal byte = λ t. elim t as (λ t. (byte == 27) ≡ t → goal byte) [
-      | true ↦ λ e. subst goal (sym (eqb-true byte 27 e)) (escape prefix)
-      | false ↦ λ e. ap (λ t. if t then Not_bound else key_read a (prefix_bytes prefix) byte) e ∙ other_byte a prefix byte e
+      | true ↦ λ e. subst goal (sym (eqb-true byte 27 e)) (plain_escape a prefix)
+      | false ↦ λ e. ap (λ t. if t && not (quotes (prefix_bytes prefix)) then Not_bound else key_read a (prefix_bytes prefix) byte) e ∙ other_byte a prefix byte e
     ]
     in go (byte == 27) refl
-  where
-    escape : (prefix : Prefix) → Not_bound ≡ plain_reads a prefix 27
-    escape Empty = refl
-    escape ControlX = refl
 
 pub meta_is_read : (a : Option Argument) (prefix : Prefix) (byte : ℕ) → key_reads a (prefix_bytes prefix) (Meta byte) ≡ meta_reads a prefix byte
 unfolding key_read
 meta_is_read a Empty byte = rw (and-false (byte == 27), word_is_read a Empty (Meta byte) tt) refl
 meta_is_read a ControlX byte = rw (and-false (byte == 27), word_is_read a ControlX (Meta byte) tt) refl
+meta_is_read a MetaBracket byte = rw (and-false (byte == 27), word_is_read a MetaBracket (Meta byte) tt) refl
+meta_is_read a Quote byte = refl
 
 -- A BYTE, AFTER THE DECODER
 
-escape_goes_on : (a : Option Argument) (prefix : Prefix) → key_read a (prefix_bytes prefix ++ []) 27 ≡ Half a (prefix_bytes prefix ++ 27 ∷ [])
+-- the byte after C-q is that of a plain key
+pub quoted_is_read : (a : Option Argument) (prefix : Prefix) (escape : Bool) (byte : ℕ) → is_quote prefix ≡ true → key_read a (prefix_bytes prefix ++ escape_bytes escape) byte ≡ key_reads a (prefix_bytes prefix) (Plain byte)
 unfolding key_read
-escape_goes_on a Empty = refl
-escape_goes_on a ControlX = refl
+quoted_is_read a Empty escape byte q = absurd (true≢false (sym q))
+quoted_is_read a ControlX escape byte q = absurd (true≢false (sym q))
+quoted_is_read a MetaBracket escape byte q = absurd (true≢false (sym q))
+quoted_is_read a Quote escape byte q = rw (and-false (byte == 27)) refl
+
+escape_goes_on : (a : Option Argument) (prefix : Prefix) → is_quote prefix ≡ false → key_read a (prefix_bytes prefix ++ []) 27 ≡ Half a (prefix_bytes prefix ++ 27 ∷ [])
+unfolding key_read
+escape_goes_on a Empty q = refl
+escape_goes_on a ControlX q = refl
+escape_goes_on a MetaBracket q = refl
+escape_goes_on a Quote q = absurd (true≢false q)
 
 -- an ESC that begins a key
-pub escape_waits : (a : Option Argument) (prefix : Prefix) (escape : Bool) (byte : ℕ) → decoded escape byte ≡ None → key_read a (prefix_bytes prefix ++ escape_bytes escape) byte ≡ Half a (prefix_bytes prefix ++ escape_bytes (waits_after escape byte))
-escape_waits a prefix true byte h = absurd (none-some (Meta byte) (sym h))
-escape_waits a prefix false byte h =
+pub escape_waits : (a : Option Argument) (prefix : Prefix) (escape : Bool) (byte : ℕ) → is_quote prefix ≡ false → decoded escape byte ≡ None → key_read a (prefix_bytes prefix ++ escape_bytes escape) byte ≡ Half a (prefix_bytes prefix ++ escape_bytes (waits_after escape byte))
+escape_waits a prefix true byte q h = absurd (none-some (Meta byte) (sym h))
+escape_waits a prefix false byte q h =
     let goal : ℕ → Type 0 = λ n. key_read a (prefix_bytes prefix ++ []) n ≡ Half a (prefix_bytes prefix ++ escape_bytes (n == 27)) in
     let go : (t : Bool) → (byte == 27) ≡ t → (if t then None else Some (Plain byte)) ≡ None → goal byte = λ t. elim t as (λ t. (byte == 27) ≡ t → (if t then None else Some (Plain byte)) ≡ None → goal byte) [
-      | true ↦ λ e n. subst goal (sym (eqb-true byte 27 e)) (escape_goes_on a prefix)
+      | true ↦ λ e n. subst goal (sym (eqb-true byte 27 e)) (escape_goes_on a prefix q)
       | false ↦ λ e n. absurd (none-some (Plain byte) (sym n))
     ]
     in go (byte == 27) refl h
@@ -157,14 +189,18 @@ unfolding key_read
 read_is_bound a keys byte =
     let word : List ℕ = keys ++ byte ∷ [] in
     let found : KeyRead = word_read a byte word in
-    let numbered : KeyRead = if is_digit byte && takes_digit a keys then Half (Some (digit_added (byte - 48) a)) [] else found in
+    let quoting : KeyRead = if (length keys == 0) && (byte == 17) then Half a (17 ∷ []) else found in
+    let numbered : KeyRead = if is_digit byte && takes_digit a keys then Half (Some (digit_added (byte - 48) a)) [] else quoting in
     let multiplied : KeyRead = if (length keys == 0) && (byte == 21) then Half (Some (four_times a)) [] else numbered in
     let escaped : KeyRead = if (byte == 27) && not (ends_in_escape keys) then Half a (keys ++ 27 ∷ []) else multiplied in
-    either (byte == 7) (Bound (Set KeyboardQuit) (value_of a)) escaped refl
+    let plain : KeyRead = if byte == 7 then Bound (Set KeyboardQuit) (value_of a) else escaped in
+    either (quotes keys) (quoted_read a byte) plain (either (nat_le byte 127) (Bound (Insert (SelfInsert byte)) (value_of a)) Not_bound refl tt)
+    (either (byte == 7) (Bound (Set KeyboardQuit) (value_of a)) escaped refl
     (either ((byte == 27) && not (ends_in_escape keys)) (Half a (keys ++ 27 ∷ [])) multiplied tt
     (either ((length keys == 0) && (byte == 21)) (Half (Some (four_times a)) []) numbered tt
-    (either (is_digit byte && takes_digit a keys) (Half (Some (digit_added (byte - 48) a)) []) found tt
-    (word_is_bound a byte word (find_row word) (row_is_bound (λ (r : KeyRow). same_name word r.keys) key_rows refl)))))
+    (either (is_digit byte && takes_digit a keys) (Half (Some (digit_added (byte - 48) a)) []) quoting tt
+    (either ((length keys == 0) && (byte == 17)) (Half a (17 ∷ [])) found tt
+    (word_is_bound a byte word (find_row word) (row_is_bound (λ (r : KeyRow). same_name word r.keys) key_rows refl)))))))
 
 run_is_bound : (fed : Fed) (read : KeyRead) (new : Held) → FedBy fed read new → IsBoundRead read → IsBoundRun fed
 run_is_bound Pending read new h b = tt
@@ -172,7 +208,7 @@ run_is_bound (Run c n) read new h b = subst IsBoundRead h.0 b
 run_is_bound Unbound read new h b = tt
 
 key_is_bound : (a : Option Argument) (keys : List ℕ) (key : Key) → IsBoundRead (key_reads a keys key)
-key_is_bound a keys (Plain byte) = either (byte == 27) Not_bound (key_read a keys byte) tt (read_is_bound a keys byte)
+key_is_bound a keys (Plain byte) = either ((byte == 27) && not (quotes keys)) Not_bound (key_read a keys byte) tt (read_is_bound a keys byte)
 key_is_bound a keys (Meta byte) = read_is_bound a (keys ++ 27 ∷ []) byte
 
 -- what a key makes run is bound

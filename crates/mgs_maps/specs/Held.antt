@@ -1,8 +1,8 @@
 -- What a session has half read, and what a key comes to.
-use Rattle.std.specs.Prelude.{◌≡◌, ℕ, ◌==◌, Bool, true, false, List, [], ◌∷◌, ◌++◌, Option, None, ⊤, if◌then◌else◌}
+use Rattle.std.specs.Prelude.{◌≡◌, ℕ, ◌==◌, Bool, true, false, not, ◌&&◌, List, [], ◌∷◌, ◌++◌, Option, None, ⊤, if◌then◌else◌}
 use Rattle.mgs_keys.specs.declared.decoder.Key.{Key}
 use Rattle.mgs_keys.specs.declared.decoder.Key.TheVariants.{Plain, Meta}
-use Rattle.mgs_model.specs.Keys.{KeyRead, Half, Bound, Not_bound, key_read}
+use Rattle.mgs_model.specs.Keys.{KeyRead, Half, Bound, Not_bound, quotes, key_read}
 use Rattle.mgs_model.specs.declared.session.Argument.{Argument}
 use Rattle.mgs_model.specs.declared.session.Motion.{Motion}
 use Rattle.mgs_model.specs.declared.session.Motion.TheVariants.{StartSearch, SearchOn, StartReplace, SkipMatch}
@@ -13,11 +13,11 @@ use Rattle.mgs_model.specs.declared.session.Setting.TheVariants.{KeyboardQuit}
 use Rattle.mgs_model.specs.declared.session.Arrangement.{Arrangement}
 use Rattle.mgs_model.specs.declared.session.Arrangement.TheVariants.{ShrinkWindow, ListBuffers}
 use Rattle.mgs_model.specs.declared.session.Command.{Command}
-use Rattle.mgs_model.specs.declared.session.Command.TheVariants.{Insert, InsertReading, Move, Alter, Scroll, Set, Rearrange, Exit}
+use Rattle.mgs_model.specs.declared.session.Command.TheVariants.{Insert, InsertReading, Move, Alter, Scroll, Set, Rearrange, NotModified, Exit}
 use Rattle.mgs_maps.specs.declared.maps.Fed.{Fed}
 use Rattle.mgs_maps.specs.declared.maps.Fed.TheVariants.{Pending, Run, Unbound}
 use Rattle.mgs_maps.specs.declared.maps.Prefix.{Prefix}
-use Rattle.mgs_maps.specs.declared.maps.Prefix.TheVariants.{Empty, ControlX}
+use Rattle.mgs_maps.specs.declared.maps.Prefix.TheVariants.{Empty, ControlX, MetaBracket, Quote}
 use Rattle.mgs_maps.specs.declared.maps.Maps.{Maps}
 
 -- an argument, and the bytes of a word that is half read
@@ -66,6 +66,7 @@ is_bound (Alter c) = is_bound_alteration c
 is_bound (Scroll c) = true
 is_bound (Set c) = is_bound_setting c
 is_bound (Rearrange c) = is_bound_arrangement c
+is_bound NotModified = true
 is_bound Exit = true
 is_bound _ = false
 
@@ -79,14 +80,16 @@ IsBoundRun _ = ⊤
 abbrev pub prefix_bytes : Prefix → List ℕ
 prefix_bytes Empty = []
 prefix_bytes ControlX = 24 ∷ []
+prefix_bytes MetaBracket = 27 ∷ 91 ∷ []
+prefix_bytes Quote = 17 ∷ []
 
 -- what the maps hold, which have whole keys alone
 abbrev pub held_by : Maps → Held
 held_by m = record { argument = m.argument; keys = prefix_bytes m.prefix }
 
--- what a key comes to: what its last byte does. An ESC that is no Meta is no key
+-- what a key comes to: what its last byte does. An ESC that is no Meta is no key but after C-q
 abbrev pub key_reads : Option Argument → List ℕ → Key → KeyRead
-key_reads argument keys (Plain byte) = if byte == 27 then Not_bound else key_read argument keys byte
+key_reads argument keys (Plain byte) = if (byte == 27) && not (quotes keys) then Not_bound else key_read argument keys byte
 key_reads argument keys (Meta byte) = key_read argument (keys ++ 27 ∷ []) byte
 
 -- BY BYTES

@@ -2,14 +2,14 @@
 use Rattle.std.specs.Prelude.{ℕ, ◌==◌, ◌-◌, Bool, true, false, ◌&&◌, ◌||◌, List, [], ◌∷◌, ◌++◌, is_some, Option, Some, None, if◌then◌else◌}
 use Rattle.mgs_keys.specs.declared.decoder.Key.{Key}
 use Rattle.mgs_keys.specs.declared.decoder.Key.TheVariants.{Plain, Meta}
-use Rattle.mgs_model.specs.Keys.{KeyRead, Half, Bound, Not_bound, is_graphic, is_digit, digit_added, four_times, value_of}
+use Rattle.mgs_model.specs.Keys.{KeyRead, Half, Bound, Not_bound, is_graphic, is_digit, digit_added, four_times, value_of, quoted_read}
 use Rattle.mgs_model.specs.declared.session.Argument.{Argument}
 use Rattle.mgs_model.specs.declared.session.Insertion.TheVariants.{SelfInsert}
 use Rattle.mgs_model.specs.declared.session.Setting.TheVariants.{KeyboardQuit}
 use Rattle.mgs_model.specs.declared.session.Command.{Command}
 use Rattle.mgs_model.specs.declared.session.Command.TheVariants.{Insert, Set}
 use Rattle.mgs_maps.specs.declared.maps.Prefix.{Prefix}
-use Rattle.mgs_maps.specs.declared.maps.Prefix.TheVariants.{Empty, ControlX}
+use Rattle.mgs_maps.specs.declared.maps.Prefix.TheVariants.{Empty, ControlX, MetaBracket, Quote}
 use Rattle.mgs_maps.specs.Held.{prefix_bytes}
 use Rattle.mgs_maps.specs.Table.{command_of}
 
@@ -27,6 +27,7 @@ word_of prefix key = prefix_bytes prefix ++ key_bytes key
 -- the prefix that a key makes of another
 abbrev pub prefix_after : Prefix → Key → Option Prefix
 prefix_after Empty (Plain byte) = if byte == 24 then Some ControlX else None
+prefix_after Empty (Meta byte) = if byte == 91 then Some MetaBracket else None
 prefix_after _ _ = None
 
 -- the character that a word of one key inserts
@@ -51,16 +52,25 @@ word_reads argument prefix key = chosen argument (command_of (word_of prefix key
 abbrev pub is_empty : Prefix → Bool
 is_empty Empty = true
 is_empty ControlX = false
+is_empty MetaBracket = false
+is_empty Quote = false
+
+abbrev pub is_quote : Prefix → Bool
+is_quote Quote = true
+is_quote _ = false
 
 abbrev pub plain_reads : Option Argument → Prefix → ℕ → KeyRead
 plain_reads argument prefix byte =
-    if byte == 7 then Bound (Set KeyboardQuit) (value_of argument)
+    if is_quote prefix then quoted_read argument byte
+    else if byte == 7 then Bound (Set KeyboardQuit) (value_of argument)
     else if is_empty prefix && (byte == 21) then Half (Some (four_times argument)) []
     else if is_digit byte && (is_empty prefix && is_some argument) then Half (Some (digit_added (byte - 48) argument)) []
+    else if is_empty prefix && (byte == 17) then Half argument (17 ∷ [])
     else word_reads argument prefix (Plain byte)
 
 abbrev pub meta_reads : Option Argument → Prefix → ℕ → KeyRead
 meta_reads argument prefix byte =
-    if byte == 7 then Bound (Set KeyboardQuit) (value_of argument)
+    if is_quote prefix then quoted_read argument byte
+    else if byte == 7 then Bound (Set KeyboardQuit) (value_of argument)
     else if is_digit byte && is_empty prefix then Half (Some (digit_added (byte - 48) argument)) []
     else word_reads argument prefix (Meta byte)

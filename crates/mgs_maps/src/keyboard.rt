@@ -4,7 +4,7 @@ ghost use Rattle.mgs_model.specs.Keys.{key_read};
 ghost use Rattle.mgs_maps.specs.Held.{FedBy, IsBoundRun, nothing_held};
 
 use crate::maps::{Fed, Maps};
-use mgs_keys::Decoder;
+use mgs_keys::{Decoder, Key};
 use std::marker::Model;
 
 /// Makes commands of the bytes that a terminal sends. It holds what a session has half read: an argument, and the word
@@ -41,12 +41,18 @@ impl Keyboard {
     }
 
     /// What a byte comes to, after what is held: a word of keys that goes on, a command and its argument, or a word that
-    /// runs no command. A command is one of the table, or inserts the character that was typed.
-    #[tactic(auto, using(crate::proofs::KeyRules::escape_waits))]
+    /// runs no command. A command is one of the table, or inserts the character that was typed. The byte after C-q is no
+    /// key: 0x00 to 0x7F inserts itself, and a greater one runs no command.
+    #[tactic(auto, using(crate::proofs::KeyRules::escape_waits, crate::proofs::KeyRules::quoted_is_read))]
     pub fn feed(&mut self, byte: u8) -> Fed
         ensures read { FedBy result (key_read self.old.argument self.old.keys byte) self.new }
         ensures bound { IsBoundRun result }
     {
+        // The decoder is not asked: it waits for a first byte after this one.
+        if self.maps.quotes() {
+            self.decoder = Decoder::new();
+            return self.maps.feed(Key::Plain(byte));
+        }
         match self.decoder.feed(byte) {
             None => Fed::Pending,
             Some(key) => self.maps.feed(key),

@@ -1,10 +1,10 @@
 // What keys come to.
 ghost use Rattle.std.specs.Prelude.{◌≡◌};
-ghost use Rattle.mgs_model.specs.Keys.{Half, Bound, digit_added as extended, four_times as multiplied, value_of, is_digit as tells_digit};
+ghost use Rattle.mgs_model.specs.Keys.{Half, Bound, quoted_read, digit_added as extended, four_times as multiplied, value_of, is_digit as tells_digit};
 ghost use Rattle.mgs_maps.specs.Held.{FedBy, IsBoundRun, held_by, key_reads, nothing_held, prefix_bytes};
-ghost use Rattle.mgs_maps.specs.Words.{prefix_after, inserted as inserts, is_empty as begins, word_reads, plain_reads, meta_reads};
+ghost use Rattle.mgs_maps.specs.Words.{prefix_after, inserted as inserts, is_empty as begins, is_quote as quotes, word_reads, plain_reads, meta_reads};
 
-use crate::table::{CONTROL_X, find_command};
+use crate::table::{BRACKET, CONTROL_X, QUOTE, find_command};
 use mgs_keys::Key;
 use mgs_model::{Argument, Command, Insertion, Setting};
 
@@ -13,6 +13,8 @@ const KEYBOARD_QUIT: u8 = 0x07;
 const UNIVERSAL_ARGUMENT: u8 = 0x15;
 
 const ARGUMENT_LIMIT: usize = 9999;
+
+const ASCII_LIMIT: u8 = 0x7F;
 
 /// What a key, or a byte, comes to.
 #[derive(Clone, Copy, Debug, PartialEq, Eq)]
@@ -30,6 +32,8 @@ pub enum Fed {
 pub(crate) enum Prefix {
     Empty,
     ControlX,
+    MetaBracket,
+    Quote,
 }
 
 /// Makes commands of keys. It holds the argument that was typed, and the word that goes on.
@@ -82,12 +86,19 @@ fn is_empty(prefix: Prefix) -> bool
     matches!(prefix, Prefix::Empty)
 }
 
+fn is_quote(prefix: Prefix) -> bool
+    ensures { result ≡ quotes prefix }
+{
+    matches!(prefix, Prefix::Quote)
+}
+
 // The prefix that a key makes of another.
 fn prefix_with(prefix: Prefix, key: Key) -> Option<Prefix>
     ensures { result ≡ prefix_after prefix key }
 {
     match (prefix, key) {
         (Prefix::Empty, Key::Plain(byte)) if byte == CONTROL_X => Some(Prefix::ControlX),
+        (Prefix::Empty, Key::Meta(byte)) if byte == BRACKET => Some(Prefix::MetaBracket),
         _ => None,
     }
 }
@@ -115,6 +126,13 @@ impl Maps {
         }
     }
 
+    // Whether the next byte is no key.
+    pub(crate) fn quotes(&self) -> bool
+        ensures { result ≡ quotes self.now.prefix }
+    {
+        is_quote(self.prefix)
+    }
+
     // The word goes on.
     fn wait(argument: Option<Argument>, prefix: Prefix) -> (Fed, Maps)
         ensures { FedBy result.0 (Half argument (prefix_bytes prefix)) (held_by result.1) }
@@ -130,6 +148,19 @@ impl Maps {
             Fed::Run(command, argument.map(|typed| typed.value)),
             Maps::new(),
         )
+    }
+
+    // All of ASCII inserts itself after C-q.
+    fn quoted(self, byte: u8) -> (Fed, Maps)
+        ensures { FedBy result.0 (quoted_read self.argument byte) (held_by result.1) }
+    {
+        if byte <= ASCII_LIMIT {
+            return Maps::run(
+                Command::Insert(Insertion::SelfInsert(char::from(byte))),
+                self.argument,
+            );
+        }
+        (Fed::Unbound, Maps::new())
     }
 
     // What a word is that is no part of an argument.
@@ -155,6 +186,9 @@ impl Maps {
     fn feed_plain(self, byte: u8) -> (Fed, Maps)
         ensures { FedBy result.0 (plain_reads self.argument self.prefix byte) (held_by result.1) }
     {
+        if is_quote(self.prefix) {
+            return self.quoted(byte);
+        }
         let begins = is_empty(self.prefix);
         if byte == KEYBOARD_QUIT {
             return Maps::run(Command::Set(Setting::KeyboardQuit), self.argument);
@@ -165,6 +199,9 @@ impl Maps {
         if is_digit(byte) && (begins && self.argument.is_some()) {
             return Maps::wait(Some(digit_added(byte - b'0', self.argument)), Prefix::Empty);
         }
+        if begins && byte == QUOTE {
+            return Maps::wait(self.argument, Prefix::Quote);
+        }
         self.look_up(Key::Plain(byte))
     }
 
@@ -172,6 +209,9 @@ impl Maps {
     fn feed_meta(self, byte: u8) -> (Fed, Maps)
         ensures { FedBy result.0 (meta_reads self.argument self.prefix byte) (held_by result.1) }
     {
+        if is_quote(self.prefix) {
+            return self.quoted(byte);
+        }
         if byte == KEYBOARD_QUIT {
             return Maps::run(Command::Set(Setting::KeyboardQuit), self.argument);
         }
@@ -194,6 +234,8 @@ impl Maps {
 
     /// What a key comes to, after what is held. C-u and digits make an argument, C-g ends every word, and all else goes
     /// by the table. A plain ESC is no key and is unbound. A command is one of the table, or inserts a character.
+    ///
+    /// After C-q a key inserts its byte, also C-g and ESC; a byte from 0x80 on is unbound.
     #[tactic(auto, using(crate::proofs::KeyRules::fed_is_bound))]
     pub fn feed(&mut self, key: Key) -> Fed
         ensures read { FedBy result (key_reads (held_by self.old).argument (held_by self.old).keys key) (held_by self.new) }

@@ -17,16 +17,23 @@ pub(crate) const ESCAPE: u8 = 0x1B;
 
 pub(crate) const CONTROL_X: u8 = 0x18;
 
+// The byte after it is no key.
+pub(crate) const QUOTE: u8 = 0x11;
+
+// With Meta the first key of a terminal's arrows.
+pub(crate) const BRACKET: u8 = b'[';
+
 /// A row of the table: the bytes of a word of keys, the name of its command, and the command.
 #[derive(Clone, Copy, Debug)]
 pub struct Binding {
     /// C-x is 0x18, and ESC (0x1B) stands before the byte of a key with Meta.
     pub keys: &'static [u8],
+    /// Empty for the arrows (M-[ A, B, C, D), whose commands have their names in other rows.
     pub name: &'static str,
     pub command: Command,
 }
 
-static BINDINGS: [Binding; 40] = [
+static BINDINGS: [Binding; 45] = [
     Binding {
         keys: b"\r",
         name: "newline",
@@ -183,6 +190,11 @@ static BINDINGS: [Binding; 40] = [
         command: Command::Insert(Insertion::Yank),
     },
     Binding {
+        keys: b"\x1b~",
+        name: "not-modified",
+        command: Command::NotModified,
+    },
+    Binding {
         keys: b"\x07",
         name: "keyboard-quit",
         command: Command::Set(Setting::KeyboardQuit),
@@ -227,6 +239,26 @@ static BINDINGS: [Binding; 40] = [
         name: "save-buffers-kill-emacs",
         command: Command::Exit,
     },
+    Binding {
+        keys: b"\x1B[A",
+        name: "",
+        command: Command::Move(Motion::PreviousLine),
+    },
+    Binding {
+        keys: b"\x1B[B",
+        name: "",
+        command: Command::Move(Motion::NextLine),
+    },
+    Binding {
+        keys: b"\x1B[C",
+        name: "",
+        command: Command::Move(Motion::ForwardChar),
+    },
+    Binding {
+        keys: b"\x1B[D",
+        name: "",
+        command: Command::Move(Motion::BackwardChar),
+    },
 ];
 
 /// The words of keys that run a command, with their names and commands: the rows by which keys are read. Beside them one
@@ -246,6 +278,11 @@ fn spells(keys: &[u8], prefix: Prefix, key: Key) -> bool
         (Prefix::Empty, Key::Meta(byte)) => [ESCAPE, byte].as_slice() == keys,
         (Prefix::ControlX, Key::Plain(byte)) => [CONTROL_X, byte].as_slice() == keys,
         (Prefix::ControlX, Key::Meta(byte)) => [CONTROL_X, ESCAPE, byte].as_slice() == keys,
+        (Prefix::Quote, Key::Plain(byte)) => [QUOTE, byte].as_slice() == keys,
+        (Prefix::Quote, Key::Meta(byte)) => [QUOTE, ESCAPE, byte].as_slice() == keys,
+        (Prefix::MetaBracket, Key::Plain(byte)) => [ESCAPE, BRACKET, byte].as_slice() == keys,
+        (Prefix::MetaBracket, Key::Meta(byte)) => [ESCAPE, BRACKET, ESCAPE, byte].as_slice()
+            == keys,
     }
 }
 

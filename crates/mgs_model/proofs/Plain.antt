@@ -1,21 +1,21 @@
 -- One byte of a session that is in no mode and neither records nor plays: it is half of a word, or one act.
-use Rattle.std.proofs.Common.{◌≡◌, ℕ, zero, suc, ◌+◌, ◌≤◌, List, [], ◌∷◌, ◌++◌, map, refl, sym, ap, ◌∙◌, Bool, true, false, cond, Option, Some, None, arith}
-use Rattle.std.specs.Prelude.{Result, Ok, Err}
+use Rattle.std.proofs.Common.{◌≡◌, ℕ, zero, suc, ◌+◌, ◌≤◌, List, [], ◌∷◌, ◌++◌, map, refl, sym, ap, ◌∙◌, Bool, true, false, cond, Option, Some, None, arith, append-nil}
+use Rattle.std.specs.Prelude.{Result, Ok, Err, is_some}
 use Rattle.std.specs.Option.{option_map}
 use Rattle.mgs_model.specs.World.{World, Session, Own, has_id, find_session}
-use Rattle.mgs_model.specs.View.{View, view, view_of, size_told, serial_told, text_in}
-use Rattle.mgs_model.specs.Outcome.{Act, Unbound, Run, Outcome, Effect, No_effect, Quit, Arrange, Stay, Adjust, Keep_kill}
+use Rattle.mgs_model.specs.View.{View, BufferSeen, view, view_of, size_told, serial_told, text_in}
+use Rattle.mgs_model.specs.Outcome.{Act, Unbound, Run, Outcome, Effect, No_effect, Unmodified, Quit, Arrange, Stay, Adjust, Keep_kill}
 use Rattle.mgs_model.specs.Plans.{Finish, Change, alteration, insertion, motion, reading_insertion, scrolling, arrangement, acted_own}
-use Rattle.mgs_model.specs.Acts.{outcome, permitted, judged, needs, allowed, Target, target, around, edits, edited_by, edit_of, has_rows, is_full, moves, row_in, scrolls_rows, selected_seen, moved_by, finished, finished_own, is_too_large, arranges, fails, without_all, told_over}
+use Rattle.mgs_model.specs.Acts.{outcome, permitted, judged, needs, allowed, Target, target, around, edits, edited_by, edit_of, has_rows, is_full, moves, row_in, scrolls_rows, selected_seen, moved_by, finished, finished_own, is_too_large, arranges, effects, rules, shown, fails, without_all, told_over}
 use Rattle.mgs_model.specs.Apply.{searches, change_first, apply, applied, outcome_in, act, after_quit, session_after, session_arranged}
 use Rattle.mgs_model.specs.Turns.{Turn, Keep, Do, key_turn, byte_turn, todo_turn, next}
-use Rattle.mgs_model.specs.Events.{own_set, with_own, Doing, turn_in, turn_seen, rests, turn, turn_done, turns, most_turns, begun, begun_own, byte_done, refused_own, refused_of, refused_in, refused_act}
+use Rattle.mgs_model.specs.Events.{Byte, own_set, with_own, Doing, turn_in, turn_seen, rests, turn, turn_done, turns, most_turns, begun, begun_own, byte_done, refused_own, refused_of, refused_in, refused_act, act_effects, event_effects, turn_effects, turns_effects}
 use Rattle.mgs_model.specs.declared.message.Message.{Message}
 use Rattle.mgs_model.specs.declared.message.Message.TheVariants.{Silent, KillTooLarge, BufferFull, InMacro}
 use Rattle.mgs_model.specs.declared.session.Mode.{Mode}
 use Rattle.mgs_model.specs.declared.session.Mode.TheVariants.{Plain}
 use Rattle.mgs_model.specs.declared.session.Setting.TheVariants.{KeyboardQuit}
-use Rattle.mgs_model.specs.declared.session.Command.TheVariants.{Insert, InsertReading, Move, Alter, Scroll, Set, Rearrange, Exit}
+use Rattle.mgs_model.specs.declared.session.Command.TheVariants.{Insert, InsertReading, Move, Alter, Scroll, Set, Rearrange, NotModified, Exit}
 use Rattle.mgs_model.specs.declared.entry.Decision.{Decision}
 use Rattle.mgs_model.specs.declared.entry.Decision.TheVariants.{Granted, DeniedBy, NotGranted}
 use Rattle.mgs_model.proofs.Firsts.{change_first_found, find-change_first}
@@ -139,6 +139,14 @@ arranges_left : (own : Own) (e : Effect) (p : Result Arrange Message) → own.to
 arranges_left own e (Err message) h = refl
 arranges_left own e (Ok plan) h = h
 
+effects_left : (own : Own) (p : Result Effect Message) → own.todo ≡ [] → NothingLeft (effects own p)
+effects_left own (Err message) h = refl
+effects_left own (Ok e) h = h
+
+rules_left : (own : Own) (o : Option BufferSeen) (plan : BufferSeen → Result Effect Message) → own.todo ≡ [] → NothingLeft (rules own o plan)
+rules_left own None plan h = refl
+rules_left own (Some b) plan h = effects_left own (plan b) h
+
 -- of these acts none leaves more to do
 abbrev pub is_single : Act → Bool
 is_single Unbound = true
@@ -149,6 +157,7 @@ is_single (Run (Alter c) n typed) = true
 is_single (Run (Scroll c) n typed) = true
 is_single (Run (Set KeyboardQuit) n typed) = true
 is_single (Run (Rearrange c) n typed) = true
+is_single (Run NotModified n typed) = true
 is_single (Run Exit n typed) = true
 is_single _ = false
 
@@ -167,6 +176,7 @@ allowed_left v (Run (Scroll c) n typed) stored s h = scrolls_left (has_rows (sel
     scrolls_left false = moves_left v.session.own (target v) (λ t. scrolling c (text_in t.buffer.full) (around v.session n typed t)) h
 allowed_left v (Run (Set KeyboardQuit) n typed) stored s h = refl
 allowed_left v (Run (Rearrange c) n typed) stored s h = arranges_left v.session.own No_effect (arrangement c v.session.windows v.session.selected n) h
+allowed_left v (Run NotModified n typed) stored s h = rules_left v.session.own (shown v) (λ b. Ok (Unmodified b.name)) h
 allowed_left v (Run Exit n typed) stored s h = by v.session.own.playing
   where
     by : (c : Bool) → NothingLeft (cond c (fails v.session.own InMacro) (record { own = acted_own v.session.own; kill = Keep_kill; arrange = Stay; effect = Quit }))
@@ -201,6 +211,21 @@ one_turn zero id stored d h e f = absurd (omega (arith, h))
 one_turn (suc n) id stored d h e f =
     ap (λ (b : Bool). elim b [ true ↦ d | false ↦ turns n id stored (turn id stored d) ]) e ∙ over n id stored (turn id stored d) f
 
+no_effects : (n id : ℕ) (stored : Bool) (d : Doing) → rests (turn_in d.world id) ≡ true → turns_effects n id stored d ≡ []
+unfolding turns_effects
+no_effects zero id stored d e = refl
+no_effects (suc n) id stored d e =
+    ap (λ (b : Bool). elim b [ true ↦ [] | false ↦ turn_effects id stored (turn_in d.world id) d.world d.memory ++ turns_effects n id stored (turn id stored d) ]) e
+
+one_effects : (n id : ℕ) (stored : Bool) (d : Doing) → 1 ≤ n → rests (turn_in d.world id) ≡ false → rests (turn_in (turn id stored d).world id) ≡ true → turns_effects n id stored d ≡ turn_effects id stored (turn_in d.world id) d.world d.memory
+unfolding turns_effects
+one_effects zero id stored d h e f = absurd (omega (arith, h))
+one_effects (suc n) id stored d h e f =
+    let first : List Effect = turn_effects id stored (turn_in d.world id) d.world d.memory in
+    ap (λ (b : Bool). elim b [ true ↦ [] | false ↦ first ++ turns_effects n id stored (turn id stored d) ]) e
+    ∙ ap (λ es. first ++ es) (no_effects n id stored (turn id stored d) f)
+    ∙ append-nil first
+
 -- A BYTE
 
 pub found_own : (w : World) (id : ℕ) (f : Own → Own) (x : Session) → find_session id w.sessions ≡ Some x → find_session id (with_own id f w).sessions ≡ Some (own_set f x)
@@ -214,14 +239,28 @@ module _ (w : World) (id byte : ℕ) (stored : Bool) (x : Session) (found : find
   goes_on : (t : Turn) → key_turn (quiet x.own) byte ≡ t → rests t ≡ false → rests (turn_in (with_own id (begun_own byte) w) id) ≡ false
   goes_on t e r = ap rests (turn_begun w id byte x found plain ∙ e) ∙ r
 
+  -- nothing is left then
+  kept_rests : (own : Own) → key_turn (quiet x.own) byte ≡ Keep own → own.todo ≡ [] → rests (turn_in (turn id stored (begun w id byte None)).world id) ≡ true
+  kept_rests own e left =
+      let v : World = with_own id (begun_own byte) w in
+      ap (λ (d : Doing). rests (turn_in d.world id)) (turned None (Keep own) e) ∙ rests_with_own v id (λ old. own) (own_set (begun_own byte) x) (found_own w id (begun_own byte) x found) left
+
+  acted_rests : (own : Own) (c : Act) → key_turn (quiet x.own) byte ≡ Do own c → own.todo ≡ [] → is_single c ≡ true → rests (turn_in (turn id stored (begun w id byte None)).world id) ≡ true
+  acted_rests own c e left single =
+      let v : World = with_own id (begun_own byte) w in
+      ap (λ (d : Doing). rests (turn_in d.world id)) (turned None (Do own c) e) ∙ rests_acted v id own c stored (own_set (begun_own byte) x) (found_own w id (begun_own byte) x found) single left
+
+  refused_rests : (own : Own) (c : Act) → key_turn (quiet x.own) byte ≡ Do own c → rests (turn_in (turn id stored (begun w id byte (Some 0))).world id) ≡ true
+  refused_rests own c e =
+      let v : World = with_own id (begun_own byte) w in
+      ap (λ (d : Doing). rests (turn_in d.world id)) (turned (Some 0) (Do own c) e) ∙ rests_with_own v id refused_own (own_set (begun_own byte) x) (found_own w id (begun_own byte) x found) refl
+
   -- half of a word
   pub byte_kept : (own : Own) → key_turn (quiet x.own) byte ≡ Keep own → own.mode ≡ Plain → own.todo ≡ [] → byte_done w id byte stored None ≡ with_own id (λ old. own) w
   byte_kept own e mode left =
       let v : World = with_own id (begun_own byte) w in
       let done : turn id stored (begun w id byte None) ≡ record { world = with_own id (λ old. own) v; memory = None } = turned None (Keep own) e in
-      let after : rests (turn_in (turn id stored (begun w id byte None)).world id) ≡ true =
-      ap (λ (d : Doing). rests (turn_in d.world id)) done ∙ rests_with_own v id (λ old. own) (own_set (begun_own byte) x) (found_own w id (begun_own byte) x found) left in
-      ap (λ (d : Doing). d.world) (one_turn most_turns id stored (begun w id byte None) some_turn (goes_on (Keep own) e refl) after ∙ done)
+      ap (λ (d : Doing). d.world) (one_turn most_turns id stored (begun w id byte None) some_turn (goes_on (Keep own) e refl) (kept_rests own e left) ∙ done)
       ∙ own_twice id own (begun_own byte) w mode
 
   -- one act
@@ -229,9 +268,7 @@ module _ (w : World) (id byte : ℕ) (stored : Bool) (x : Session) (found : find
   byte_acted own c e mode left single =
       let v : World = with_own id (begun_own byte) w in
       let done : turn id stored (begun w id byte None) ≡ record { world = act (with_own id (λ old. own) v) id c stored; memory = None } = turned None (Do own c) e in
-      let after : rests (turn_in (turn id stored (begun w id byte None)).world id) ≡ true =
-      ap (λ (d : Doing). rests (turn_in d.world id)) done ∙ rests_acted v id own c stored (own_set (begun_own byte) x) (found_own w id (begun_own byte) x found) single left in
-      ap (λ (d : Doing). d.world) (one_turn most_turns id stored (begun w id byte None) some_turn (goes_on (Do own c) e refl) after ∙ done)
+      ap (λ (d : Doing). d.world) (one_turn most_turns id stored (begun w id byte None) some_turn (goes_on (Do own c) e refl) (acted_rests own c e left single) ∙ done)
       ∙ ap (λ u. act u id c stored) (own_twice id own (begun_own byte) w mode)
 
   -- one that is refused
@@ -247,9 +284,7 @@ module _ (w : World) (id byte : ℕ) (stored : Bool) (x : Session) (found : find
   byte_refused own c e =
       let v : World = with_own id (begun_own byte) w in
       let done : turn id stored (begun w id byte (Some 0)) ≡ record { world = with_own id refused_own v; memory = Some 0 } = turned (Some 0) (Do own c) e in
-      let after : rests (turn_in (turn id stored (begun w id byte (Some 0))).world id) ≡ true =
-      ap (λ (d : Doing). rests (turn_in d.world id)) done ∙ rests_with_own v id refused_own (own_set (begun_own byte) x) (found_own w id (begun_own byte) x found) refl in
-      ap (λ (d : Doing). d.world) (one_turn most_turns id stored (begun w id byte (Some 0)) some_turn (goes_on (Do own c) e refl) after ∙ done)
+      ap (λ (d : Doing). d.world) (one_turn most_turns id stored (begun w id byte (Some 0)) some_turn (goes_on (Do own c) e refl) (refused_rests own c e) ∙ done)
       ∙ own_refused
 
   -- and what it would have come to
@@ -264,3 +299,22 @@ module _ (w : World) (id byte : ℕ) (stored : Bool) (x : Session) (found : find
   pub byte_refused_act : (own : Own) (c : Act) → key_turn (quiet x.own) byte ≡ Do own c → own.mode ≡ Plain → refused_act w id byte stored (Some 0) ≡ outcome_in (with_own id (λ old. own) w) id c stored
   byte_refused_act own c e mode =
       refused_first most_turns own c some_turn e ∙ ap (λ u. outcome_in u id c stored) (own_twice id own (begun_own byte) w mode)
+
+  -- WHAT IS DONE: half of a word and an act that is refused do nothing
+
+  effects_of : (memory : Option ℕ) (t : Turn) → key_turn (quiet x.own) byte ≡ t → rests t ≡ false → rests (turn_in (turn id stored (begun w id byte memory)).world id) ≡ true
+      → event_effects w (Byte id byte stored memory) ≡ turn_effects id stored t (with_own id (begun_own byte) w) memory
+  effects_of memory t e goes after =
+      ap (λ (o : Option Session). cond (is_some o) (turns_effects most_turns id stored (begun w id byte memory)) []) found
+      ∙ one_effects most_turns id stored (begun w id byte memory) some_turn (goes_on t e goes) after
+      ∙ ap (λ (s : Turn). turn_effects id stored s (with_own id (begun_own byte) w) memory) (turn_begun w id byte x found plain ∙ e)
+
+  pub kept_effects : (own : Own) → key_turn (quiet x.own) byte ≡ Keep own → own.todo ≡ [] → event_effects w (Byte id byte stored None) ≡ []
+  kept_effects own e left = effects_of None (Keep own) e refl (kept_rests own e left)
+
+  pub acted_effects : (own : Own) (c : Act) → key_turn (quiet x.own) byte ≡ Do own c → own.mode ≡ Plain → own.todo ≡ [] → is_single c ≡ true → event_effects w (Byte id byte stored None) ≡ act_effects (with_own id (λ old. own) w) id c stored
+  acted_effects own c e mode left single =
+      effects_of None (Do own c) e refl (acted_rests own c e left single) ∙ ap (λ u. act_effects u id c stored) (own_twice id own (begun_own byte) w mode)
+
+  pub refused_effects : (own : Own) (c : Act) → key_turn (quiet x.own) byte ≡ Do own c → event_effects w (Byte id byte stored (Some 0)) ≡ []
+  refused_effects own c e = effects_of (Some 0) (Do own c) e refl (refused_rests own c e)

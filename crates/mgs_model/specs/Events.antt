@@ -217,6 +217,10 @@ abbrev pub saved_by : Effect → List Saved
 saved_by (Save name text) = record { name = name; text = text } ∷ []
 saved_by _ = []
 
+-- by one event, and by a run
+abbrev pub event_saves : World → Event → List Saved
+event_saves w e = flat_map saved_by (event_effects w e)
+
 abbrev pub run_saves : World → List Event → List Saved
 run_saves w es = flat_map saved_by (run_effects w es)
 

@@ -12,9 +12,9 @@ use Rattle.mgs_model.specs.declared.session.Scrolling.TheVariants.{ScrollUp, Scr
 use Rattle.mgs_model.specs.declared.session.Setting.TheVariants.{KeyboardQuit}
 use Rattle.mgs_model.specs.declared.session.Arrangement.TheVariants.{DeleteWindow, DeleteOtherWindows, SplitWindow, NextWindow, PreviousWindow, EnlargeWindow}
 use Rattle.mgs_model.specs.declared.session.Command.{Command}
-use Rattle.mgs_model.specs.declared.session.Command.TheVariants.{Insert, InsertReading, Move, Alter, Scroll, Set, Rearrange, Exit}
+use Rattle.mgs_model.specs.declared.session.Command.TheVariants.{Insert, InsertReading, Move, Alter, Scroll, Set, Rearrange, NotModified, Exit}
 
--- THE TABLE: the bytes of a word, the name of its command, and the command. C-x is 24, ESC is 27
+-- THE TABLE: the bytes of a word, the name of its command, and the command. C-q is 17, C-x 24, ESC 27
 pub record KeyRow : Type 0 where
   pub keys : List ℕ
   pub name : List ℕ
@@ -28,6 +28,10 @@ meta byte name c = record { keys = 27 ∷ byte ∷ []; name = name; command = c 
 
 abbrev control_x : ℕ → List ℕ → Command → KeyRow
 control_x byte name c = record { keys = 24 ∷ byte ∷ []; name = name; command = c }
+
+-- a terminal's arrows are M-[ and a letter: other words of commands whose names stand in other rows
+abbrev arrow : ℕ → Command → KeyRow
+arrow byte c = record { keys = 27 ∷ 91 ∷ byte ∷ []; name = []; command = c }
 
 abbrev pub key_rows : List KeyRow
 key_rows =
@@ -62,6 +66,7 @@ key_rows =
     ∷ control_x 24 (codes "exchange-point-and-mark") (Move ExchangePointAndMark)
     ∷ control_x 104 (codes "mark-whole-buffer") (Move MarkWholeBuffer)
     ∷ key 25 (codes "yank") (Insert Yank)
+    ∷ meta 126 (codes "not-modified") NotModified
     ∷ key 7 (codes "keyboard-quit") (Set KeyboardQuit)
     ∷ control_x 48 (codes "delete-window") (Rearrange DeleteWindow)
     ∷ control_x 49 (codes "delete-other-windows") (Rearrange DeleteOtherWindows)
@@ -71,6 +76,10 @@ key_rows =
     ∷ control_x 112 (codes "previous-window") (Rearrange PreviousWindow)
     ∷ control_x 94 (codes "enlarge-window") (Rearrange EnlargeWindow)
     ∷ control_x 3 (codes "save-buffers-kill-emacs") Exit
+    ∷ arrow 65 (Move PreviousLine)
+    ∷ arrow 66 (Move NextLine)
+    ∷ arrow 67 (Move ForwardChar)
+    ∷ arrow 68 (Move BackwardChar)
     ∷ []
 
 abbrev pub begins_with : List ℕ → List ℕ → Bool
@@ -136,11 +145,21 @@ find_row word = find (λ (r : KeyRow). same_name word r.keys) key_rows
 abbrev pub word_read : Option Argument → ℕ → List ℕ → KeyRead
 word_read argument byte word = found_read argument byte word (find_row word)
 
--- C-g ends every word
+-- C-q, whose next byte is no key: all of ASCII inserts itself there
+abbrev pub quotes : List ℕ → Bool
+quotes [] = false
+quotes (byte ∷ bytes) = byte == 17
+
+abbrev pub quoted_read : Option Argument → ℕ → KeyRead
+quoted_read argument byte = if nat_le byte 127 then Bound (Insert (SelfInsert byte)) (value_of argument) else Not_bound
+
+-- C-g ends every other word
 unfoldable pub key_read : Option Argument → List ℕ → ℕ → KeyRead
 key_read argument keys byte =
-    if byte == 7 then Bound (Set KeyboardQuit) (value_of argument)
+    if quotes keys then quoted_read argument byte
+    else if byte == 7 then Bound (Set KeyboardQuit) (value_of argument)
     else if (byte == 27) && not (ends_in_escape keys) then Half argument (keys ++ 27 ∷ [])
     else if (length keys == 0) && (byte == 21) then Half (Some (four_times argument)) []
     else if is_digit byte && takes_digit argument keys then Half (Some (digit_added (byte - 48) argument)) []
+    else if (length keys == 0) && (byte == 17) then Half argument (17 ∷ [])
     else word_read argument byte (keys ++ byte ∷ [])

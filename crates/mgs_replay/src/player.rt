@@ -15,14 +15,14 @@ use crate::client::{Cause, Client};
 use crate::clients::Clients;
 use crate::print::{print_ended, print_refusal, print_screen};
 use mgs_engine::Engine;
-use mgs_marks::PlainMarked;
+use mgs_gap::GapText;
 use mgs_model::{Keyed, Name, OpenFault, SessionId, Short};
 use mgs_script::{Line, LineFault, read_line, typed_label};
 use mgs_term::Term;
 use std::alloc::{AllocError, Global};
 
 /// An engine whose texts are plain.
-pub(crate) type Server = Engine<PlainMarked>;
+pub(crate) type Server = Engine<GapText>;
 
 fn printed(outcome: Result<(), AllocError>) -> Result<(), LineFault>
     ensures { result ≡ short_or outcome }

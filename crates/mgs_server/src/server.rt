@@ -6,7 +6,7 @@ use crate::peer::Peer;
 use mgs_config::Config;
 use mgs_core::Core;
 use mgs_engine::Engine;
-use mgs_marks::PlainMarked;
+use mgs_gap::GapText;
 use mgs_model::{SESSION_LIMIT, Tickets};
 use mgs_wire::{PumpedIn, Sessions};
 use mio::net::{TcpListener, TcpStream};
@@ -46,7 +46,7 @@ pub struct PollFailed;
 #[derive(Drop)]
 pub struct Server {
     alloc: Global,
-    engine: Engine<PlainMarked>,
+    engine: Engine<GapText>,
     tickets: Tickets,
     peers: Slab<Peer<TcpStream>>,
     listener: TcpListener,
@@ -138,7 +138,7 @@ fn serve_ready<E: Sessions>(
 }
 
 // Hears of each session that ended: its slot is free from then on.
-fn hear_ended(engine: &mut Engine<PlainMarked>) {
+fn hear_ended(engine: &mut Engine<GapText>) {
     for _ in 0..u64::MAX {
         if engine.ended().is_none() {
             return;

@@ -13,6 +13,8 @@ mod drive;
 #[cfg(test)]
 mod fixtures;
 #[cfg(test)]
+mod flags;
+#[cfg(test)]
 mod lockstep;
 #[cfg(test)]
 mod marks;

@@ -454,3 +454,44 @@ fn others_follow_and_rights_come_first(rt: HostRuntime) -> Result<(), Fail> {
         steps,
     )
 }
+
+#[test]
+fn a_terminals_arrows_are_motions(rt: HostRuntime) -> Result<(), Fail> {
+    let whole = ["ab", "cd"].as_slice();
+    let steps: &[Step<'_>] = &[
+        ("a C-e ESC '[D", whole, "--L1-C1", "", "1 2"),
+        ("a ESC '[z", whole, "--L1-C1", "Key not bound", "1 2"),
+        ("a ESC '[B", whole, "--L2-C1", "", "2 2"),
+        ("a ESC '[C", whole, "--L2-C2", "", "2 3"),
+        ("a ESC '[C", whole, "--L2-C2", END, "2 3"),
+        ("a ESC '[A", whole, "--L1-C2", "", "1 3"),
+        ("a M-2 ESC '[D", whole, "--L1-C0", "", "1 1"),
+        ("a ESC '[ C-g", whole, "--L1-C0", "Quit", "1 1"),
+        ("a 'A", ["Aab", "cd"].as_slice(), "**L1-C1", "", "1 2"),
+    ];
+    steps_show(
+        &rt,
+        rt.alloc(),
+        &[NOTES, "text notes 'ab RET 'cd\n", "open a ann 6 60\n"],
+        steps,
+    )
+}
+
+#[test]
+fn c_q_puts_the_next_byte_in(rt: HostRuntime) -> Result<(), Fail> {
+    let control = ["^Aab"].as_slice();
+    let all = ["^A^[^Q^G5ab"].as_slice();
+    let steps: &[Step<'_>] = &[
+        ("a C-q C-a", control, "**L1-C2", "", "1 3"),
+        ("a C-q", control, "**L1-C2", "", "1 3"),
+        ("a ESC", ["^A^[ab"].as_slice(), "**L1-C4", "", "1 5"),
+        ("a C-q C-q C-q C-g C-q '5", all, "**L1-C9", "", "1 10"),
+        ("a C-u '0 C-q C-x C-g", all, "**L1-C9", "Quit", "1 10"),
+    ];
+    steps_show(
+        &rt,
+        rt.alloc(),
+        &[NOTES, "text notes 'ab\n", "open a ann 6 60\n"],
+        steps,
+    )
+}

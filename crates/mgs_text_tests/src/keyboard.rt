@@ -1,6 +1,6 @@
 // Words of keys and arguments, byte by byte.
 use mgs_maps::{Binding, Fed, Keyboard, bindings};
-use mgs_model::{Command, Insertion, Setting};
+use mgs_model::{Command, Insertion, Motion, Setting};
 use std::alloc::Global;
 use std::process::Abort;
 use std::test::Fail;
@@ -35,9 +35,12 @@ fn row_of(word: &[u8]) -> Option<Binding> {
     None
 }
 
-// Whether a word goes on: C-x, ESC, or C-x ESC.
+// Whether a word goes on: C-q, C-x, ESC, M-[, or one of C-x and M-[ and ESC.
 fn goes_on(word: &[u8]) -> bool {
-    matches!(word, [0x18] | [0x1B] | [0x18, 0x1B])
+    matches!(
+        word,
+        [0x11] | [0x18] | [0x1B] | [0x18, 0x1B] | [0x1B, b'['] | [0x1B, b'[', 0x1B]
+    )
 }
 
 // What a word comes to that is no part of an argument.
@@ -56,6 +59,14 @@ fn by_table(word: &[u8], argument: Option<usize>) -> Fed {
     }
 }
 
+// What a byte comes to after C-q.
+fn quoted(byte: u8, argument: Option<usize>) -> Fed {
+    if byte < 0x80 {
+        return character(byte, argument);
+    }
+    Fed::Unbound
+}
+
 // Whether a byte is part of an argument, after these bytes of a word.
 fn is_argument(prefix: &[u8], byte: u8, argument: Option<usize>) -> bool {
     let is_digit = b'0' <= byte && byte <= b'9';
@@ -68,6 +79,9 @@ fn is_argument(prefix: &[u8], byte: u8, argument: Option<usize>) -> bool {
 
 // What a byte comes to, after an argument and these bytes of a word.
 fn answer(alloc: Global, prefix: &[u8], byte: u8, argument: Option<usize>) -> Result<Fed, Fail> {
+    if prefix == [0x11].as_slice() {
+        return Ok(quoted(byte, argument));
+    }
     if byte == 0x07 {
         return Ok(quit(argument));
     }
@@ -117,6 +131,9 @@ fn every_byte_has_an_answer(rt: HostRuntime) -> Result<(), Fail> {
             b"\x18".as_slice(),
             b"\x1B".as_slice(),
             b"\x18\x1B".as_slice(),
+            b"\x1B[".as_slice(),
+            b"\x1B[\x1B".as_slice(),
+            b"\x11".as_slice(),
         ] {
             feed_each(rt.alloc(), held, prefix, argument, &rt)?;
         }
@@ -163,11 +180,39 @@ fn words_end(rt: HostRuntime) {
         (b"\x153\x185".as_slice(), Fed::Unbound),
         (b"\x18\x1B5".as_slice(), Fed::Unbound),
         (b"\x18\x15".as_slice(), Fed::Unbound),
+        (b"\x1B[z".as_slice(), Fed::Unbound),
+        (b"\x1B[\x1BA".as_slice(), Fed::Unbound),
+        (b"\x153\x1B[\x07".as_slice(), quit(Some(3))),
+        (b"\x153\x1B[\x1B\x07".as_slice(), quit(Some(3))),
+        (
+            b"\x153\x1B[D".as_slice(),
+            Fed::Run(Command::Move(Motion::BackwardChar), Some(3)),
+        ),
         (b"\x1B\x1B".as_slice(), Fed::Unbound),
         (
             b"\x153\x18\x03".as_slice(),
             Fed::Run(Command::Exit, Some(3)),
         ),
+    ] {
+        let mut keyboard = Keyboard::new();
+        assert_eq!(rt; last_fed(&mut keyboard, typed), fed);
+        assert_eq!(rt; keyboard.feed(b'2'), character(b'2', None));
+    }
+}
+
+// C-g, ESC, C-u and digits are no keys after C-q, which begins a word alone.
+#[test]
+fn quoted_bytes_are_no_keys(rt: HostRuntime) {
+    for (typed, fed) in [
+        (b"\x11\x01".as_slice(), character(0x01, None)),
+        (b"\x11\x07".as_slice(), character(0x07, None)),
+        (b"\x11\x1B".as_slice(), character(0x1B, None)),
+        (b"\x115".as_slice(), character(b'5', None)),
+        (b"\x15\x11x".as_slice(), character(b'x', Some(4))),
+        (b"\x153\x11\x15".as_slice(), character(0x15, Some(3))),
+        (b"\x153\x11\x80".as_slice(), Fed::Unbound),
+        (b"\x18\x11".as_slice(), Fed::Unbound),
+        (b"\x1B\x11".as_slice(), Fed::Unbound),
     ] {
         let mut keyboard = Keyboard::new();
         assert_eq!(rt; last_fed(&mut keyboard, typed), fed);

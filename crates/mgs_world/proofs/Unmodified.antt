@@ -1,5 +1,5 @@
 -- A modified flag is cleared: no position moves.
-use Rattle.std.proofs.Common.{◌≡◌, ℕ, Bool, true, false, List, Option, Some, None, refl, ap, ◌∙◌}
+use Rattle.std.proofs.Common.{◌≡◌, ℕ, Bool, true, false, List, [], ◌∷◌, map, Option, Some, None, refl, ap, ap₂, ◌∙◌}
 use Rattle.std.specs.Prelude.{find, is_some}
 use Rattle.std.specs.Option.{option_map}
 use Rattle.mgs_model.specs.Names.{same_name}
@@ -19,7 +19,7 @@ pub buffers_unmodified : (n : List ℕ) (ks : List MarkedBuffer) → buffers_of 
 buffers_unmodified n ks =
     map-change_first (λ (k : MarkedBuffer). k.buffer) (marked_named n) (is_named n) marked_unmodified buffer_unmodified (λ k. refl) (λ k e. refl) ks
 
-marks_unmodified : (n m : List ℕ) (ks : List MarkedBuffer) → (marked_at m (change_first (marked_named n) marked_unmodified ks)).marks ≡ (marked_at m ks).marks
+pub marks_unmodified : (n m : List ℕ) (ks : List MarkedBuffer) → (marked_at m (change_first (marked_named n) marked_unmodified ks)).marks ≡ (marked_at m ks).marks
 marks_unmodified n m ks = go (same_name n m) refl
   where
     same : (o : Option MarkedBuffer) → (marked_or_none (option_map marked_unmodified o)).marks ≡ (marked_or_none o).marks
@@ -36,3 +36,7 @@ sound_unmodified n ks xs sound =
 
 pub session_unmodified : (n : List ℕ) (ks : List MarkedBuffer) (x : Session) → session_of (change_first (marked_named n) marked_unmodified ks) x ≡ session_of ks x
 session_unmodified n ks x = session_local _ ks x (λ m i used. ap (λ (ms : List (Option ℕ)). position_in ms i) (marks_unmodified n m ks))
+
+pub sessions_unmodified : (n : List ℕ) (ks : List MarkedBuffer) (xs : List Session) → map (session_of (change_first (marked_named n) marked_unmodified ks)) xs ≡ map (session_of ks) xs
+sessions_unmodified n ks [] = refl
+sessions_unmodified n ks (x ∷ xs) = ap₂ (λ y ys. y ∷ ys) (session_unmodified n ks x) (sessions_unmodified n ks xs)

@@ -1,0 +1,139 @@
+-- What saves: save-buffer alone.
+use Rattle.std.proofs.Common.{◌≡◌, ℕ, Bool, true, false, cond, List, [], ◌∷◌, Option, Some, None, refl, ◌∙◌, append-nil}
+use Rattle.std.specs.Prelude.{Result, Ok, Err, length, nat_le, not}
+use Rattle.std.specs.List.{flat_map}
+use Rattle.std.specs.Option.{option_map}
+use Rattle.mgs_model.specs.Access.{is_among}
+use Rattle.mgs_model.specs.Names.{is_name}
+use Rattle.mgs_model.specs.World.{World, Own, Buffer_of}
+use Rattle.mgs_model.specs.View.{View, BufferSeen, find_seen, size_told, serial_told, text_in, view_of}
+use Rattle.mgs_model.specs.Outcome.{Act, Unbound, Run, Outcome, Effect, No_effect, Edit, Unmodified, Reown, Create, Quit, Arrange, Stay, Adjust, Keep_kill}
+use Rattle.mgs_model.specs.Plans.{Finish, Change, alteration, insertion, motion, reading_insertion, scrolling, setting, arrangement, comes, inserted, undo, entries_changed, acted_own}
+use Rattle.mgs_model.specs.Text.{is_edit}
+use Rattle.mgs_model.specs.Acts.{outcome, permitted, judged, needs, allowed, Target, target, around, edits, edited_by, edit_of, has_rows, is_full, moves, row_in, scrolls_rows, selected_seen, moved_by, finished, is_too_large, arranges, sets, effects, rules, subject, shown, relisted, entries_told, items_in, by_name, created, killed, name_meant, fails, finished_own, shows_named}
+use Rattle.mgs_model.specs.Events.{act_effects, effect_in, saved_by}
+use Rattle.mgs_model.specs.declared.entry.Entry.{Entry}
+use Rattle.mgs_model.specs.declared.message.Message.{Message}
+use Rattle.mgs_model.specs.declared.message.Message.TheVariants.{BadName, BufferFull, InMacro, KillTooLarge, NoSuchUser, TooManyBuffers}
+use Rattle.mgs_model.specs.declared.session.ByName.{ByName}
+use Rattle.mgs_model.specs.declared.session.ByName.TheVariants.{SwitchToBuffer, KillBuffer, InsertBuffer}
+use Rattle.mgs_model.specs.declared.session.Command.{Command}
+use Rattle.mgs_model.specs.declared.session.Command.TheVariants.{Insert, InsertReading, Move, Alter, Scroll, Set, Rearrange, Ask, Named, Entries, SetOwner, UndoEdit, NotModified, SaveBuffer, LeaveSearch, Exit}
+use Rattle.mgs_model.specs.declared.entry.Decision.{Decision}
+use Rattle.mgs_model.specs.declared.entry.Decision.TheVariants.{Granted, DeniedBy, NotGranted}
+
+abbrev pub is_save : Act → Bool
+is_save (Run SaveBuffer n typed) = true
+is_save _ = false
+
+abbrev SavesNothing : Outcome → Type 0
+SavesNothing o = saved_by o.effect ≡ []
+
+either_none : (b : Bool) (o p : Outcome) → SavesNothing o → SavesNothing p → SavesNothing (cond b o p)
+either_none true o p h i = h
+either_none false o p h i = i
+
+permitted_none : (own : Own) (d : Decision) (o : Outcome) → SavesNothing o → SavesNothing (permitted own d o)
+permitted_none own Granted o h = h
+permitted_none own (DeniedBy n right) o h = refl
+permitted_none own (NotGranted right) o h = refl
+
+finished_none : (own : Own) (f : Finish) (e : Effect) → saved_by e ≡ [] → SavesNothing (finished own f e)
+finished_none own f e h = either_none (is_too_large f.kill) (fails own KillTooLarge) (record { own = finished_own f own; kill = f.kill; arrange = Adjust f.point f.mark f.top None f.sought; effect = e }) refl h
+
+edit_none : (name : List ℕ) (c : Change) → saved_by (edit_of name c) ≡ []
+edit_none name c = elim (is_edit c.a c.b c.put) as (λ b. saved_by (cond b (Edit name c.a c.b c.put) No_effect) ≡ []) [ true ↦ refl | false ↦ refl ]
+
+edited_none : (own : Own) (b : BufferSeen) (p : Result Change Message) → SavesNothing (edited_by own b p)
+edited_none own b (Err message) = refl
+edited_none own b (Ok c) =
+    either_none (is_full (size_told b.told) (serial_told b.told) c) (fails own BufferFull) (finished own c.finish (edit_of b.name c)) refl (finished_none own c.finish (edit_of b.name c) (edit_none b.name c))
+
+edits_none : (own : Own) (o : Option Target) (plan : Target → Result Change Message) → SavesNothing (edits own o plan)
+edits_none own None plan = refl
+edits_none own (Some t) plan = edited_none own t.buffer (plan t)
+
+moved_none : (own : Own) (p : Result Finish Message) → SavesNothing (moved_by own p)
+moved_none own (Err message) = refl
+moved_none own (Ok f) = finished_none own f No_effect refl
+
+moves_none : (own : Own) (o : Option Target) (plan : Target → Result Finish Message) → SavesNothing (moves own o plan)
+moves_none own None plan = refl
+moves_none own (Some t) plan = moved_none own (plan t)
+
+sets_none : (own : Own) (p : Result Own Message) → SavesNothing (sets own p)
+sets_none own (Err message) = refl
+sets_none own (Ok after) = refl
+
+arranges_none : (own : Own) (e : Effect) (p : Result Arrange Message) → saved_by e ≡ [] → SavesNothing (arranges own e p)
+arranges_none own e (Err message) h = refl
+arranges_none own e (Ok plan) h = h
+
+rules_none : (own : Own) (o : Option BufferSeen) (plan : BufferSeen → Result Effect Message) → ((b : BufferSeen) → SavesNothing (effects own (plan b))) → SavesNothing (rules own o plan)
+rules_none own None plan h = refl
+rules_none own (Some b) plan h = h b
+
+relisted_none : (own : Own) (name : List ℕ) (p : Result (List Entry) Message) → SavesNothing (effects own (relisted name p))
+relisted_none own name (Err message) = refl
+relisted_none own name (Ok entries) = refl
+
+created_none : (v : View) (name : List ℕ) → SavesNothing (created v name)
+created_none v name =
+    let shows : Outcome = shows_named v name (Create name v.session.user) in
+    let full : Outcome = fails v.session.own TooManyBuffers in
+    either_none (not (is_name name)) (fails v.session.own BadName) (cond (nat_le 256 (length v.buffers)) full shows) refl
+    (either_none (nat_le 256 (length v.buffers)) full shows refl refl)
+
+killed_none : (v : View) (name : List ℕ) (found : Option BufferSeen) → SavesNothing (killed v name found)
+killed_none v [] found = refl
+killed_none v (c ∷ cs) None = refl
+killed_none v (c ∷ cs) (Some b) = refl
+
+named_none : (v : View) (c : ByName) (n : Option ℕ) (typed : List ℕ) → SavesNothing (by_name v c n typed)
+named_none v SwitchToBuffer n typed = by (find_seen typed v.buffers)
+  where
+    by : (o : Option BufferSeen) → SavesNothing (elim o [ None ↦ created v typed | Some b ↦ arranges v.session.own No_effect (Ok (comes v.session.windows v.session.selected (Buffer_of typed))) ])
+    by None = created_none v typed
+    by (Some b) = refl
+named_none v KillBuffer n typed = killed_none v (name_meant v typed) (find_seen (name_meant v typed) v.buffers)
+named_none v InsertBuffer n typed = edits_none v.session.own (target v) (λ t. inserted (option_map (λ b. text_in b.full) (find_seen typed v.buffers)) (around v.session n typed t))
+
+allowed_none : (v : View) (c : Act) (stored : Bool) → is_save c ≡ false → SavesNothing (allowed v c stored)
+allowed_none v Unbound stored h = refl
+allowed_none v (Run (Insert c) n typed) stored h = edits_none v.session.own (target v) (λ t. insertion c (around v.session n typed t))
+allowed_none v (Run (InsertReading c) n typed) stored h = edits_none v.session.own (target v) (λ t. reading_insertion c (text_in t.buffer.full) (around v.session n typed t))
+allowed_none v (Run (Move c) n typed) stored h = moves_none v.session.own (target v) (λ t. motion c (text_in t.buffer.full) (around v.session n typed t))
+allowed_none v (Run (Alter c) n typed) stored h = edits_none v.session.own (target v) (λ t. alteration c (text_in t.buffer.full) (around v.session n typed t))
+allowed_none v (Run (Scroll c) n typed) stored h = by (has_rows (selected_seen v))
+  where
+    by : (f : Bool) → SavesNothing (cond f (scrolls_rows v.session.own (row_in c (selected_seen v))) (moves v.session.own (target v) (λ t. scrolling c (text_in t.buffer.full) (around v.session n typed t))))
+    by true = refl
+    by false = moves_none v.session.own (target v) (λ t. scrolling c (text_in t.buffer.full) (around v.session n typed t))
+allowed_none v (Run (Set c) n typed) stored h = sets_none v.session.own (setting c (acted_own v.session.own) n)
+allowed_none v (Run (Rearrange c) n typed) stored h = arranges_none v.session.own No_effect (arrangement c v.session.windows v.session.selected n) refl
+allowed_none v (Run (Ask c) n typed) stored h = refl
+allowed_none v (Run (Named c) n typed) stored h = named_none v c n typed
+allowed_none v (Run (Entries c) n typed) stored h =
+    rules_none v.session.own (subject v) (λ b. relisted b.name (entries_changed c (entries_told b.told) n typed)) (λ b. relisted_none v.session.own b.name (entries_changed c (entries_told b.told) n typed))
+allowed_none v (Run SetOwner n typed) stored h = rules_none v.session.own (subject v) (λ b. cond (is_among typed v.directory.users) (Ok (Reown b.name typed)) (Err NoSuchUser)) (λ b. by b (is_among typed v.directory.users))
+  where
+    by : (b : BufferSeen) (f : Bool) → SavesNothing (effects v.session.own (cond f (Ok (Reown b.name typed)) (Err NoSuchUser)))
+    by b true = refl
+    by b false = refl
+allowed_none v (Run UndoEdit n typed) stored h = edits_none v.session.own (target v) (λ t. undo (items_in t.buffer.full) (around v.session n typed t))
+allowed_none v (Run NotModified n typed) stored h = rules_none v.session.own (shown v) (λ b. Ok (Unmodified b.name)) (λ b. refl)
+allowed_none v (Run SaveBuffer n typed) stored h = cc
+allowed_none v (Run LeaveSearch n typed) stored h = refl
+allowed_none v (Run Exit n typed) stored h = either_none v.session.own.playing (fails v.session.own InMacro) (record { own = acted_own v.session.own; kill = Keep_kill; arrange = Stay; effect = Quit }) refl refl
+
+outcome_none : (v : View) (c : Act) (stored : Bool) → is_save c ≡ false → SavesNothing (outcome v c stored)
+unfolding outcome
+outcome_none v c stored h = permitted_none v.session.own (judged v (needs v c)) (allowed v c stored) (allowed_none v c stored h)
+
+-- what else a session does saves nothing
+pub act_saves_none : (w : World) (id : ℕ) (c : Act) (stored : Bool) → is_save c ≡ false → flat_map saved_by (act_effects w id c stored) ≡ []
+act_saves_none w id c stored h = by (view_of w id)
+  where
+    by : (o : Option View) → flat_map saved_by (effect_in (option_map (λ v. outcome v c stored) o)) ≡ []
+    by None = refl
+    by (Some v) = append-nil (saved_by (outcome v c stored).effect) ∙ outcome_none v c stored h
