@@ -321,14 +321,22 @@ undo_target x =
       | Line goal ↦ x.serial
     ]
 
+-- what an item put in, from here up to there, cut to a text of that size. An item that is undone lies in its text, since undos
+-- go back (mgs_undo); the cut lets the definition stand without that
+abbrev pub undone_from : ℕ → Item → ℕ
+undone_from size item = min item.place size
+
+abbrev pub undone_to : ℕ → Item → ℕ
+undone_to size item = min (item.place + item.put) size
+
 abbrev pub undone : Around → Option Item → Result Change Message
 undone x None = Err NoFurtherUndo
 undone x (Some item) =
     Ok (record {
-      a = item.place;
-      b = item.place + item.put;
+      a = undone_from x.size item;
+      b = undone_to x.size item;
       put = item.removed;
-      finish = record (goes (item.place + length item.removed)) { kind = Undo x.name item.serial (x.serial + 1) };
+      finish = record (goes (undone_from x.size item + length item.removed)) { kind = Undo x.name item.serial (x.serial + 1) };
     })
 
 abbrev pub undo : List Item → Around → Result Change Message
