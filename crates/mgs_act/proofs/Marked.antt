@@ -23,7 +23,7 @@ use Rattle.mgs_session.specs.declared.Session.{Session}
 use Rattle.mgs_edit.specs.Reading.{IsWithin, change_read, finish_read, kill_read, mark_read, put_read}
 use Rattle.mgs_edit.specs.declared.plan.Finish.{Finish}
 use Rattle.mgs_act.specs.declared.action.Action.{Action}
-use Rattle.mgs_act.specs.declared.action.Action.TheVariants.{Fails, Edits, Moves, Clears}
+use Rattle.mgs_act.specs.declared.action.Action.TheVariants.{Fails, Edits, Undoes, Moves, Clears}
 use Rattle.mgs_act.specs.Actions.{AreMarks, CanBeDone, IsMarked, edited_by, kill_at, kill_or_none, mark_gone, mark_told, marked_after, marks_gone, outcome_through, session_acted, session_finished}
 use Rattle.mgs_world.specs.Marking.{IsReserved, mark_at_place, session_marked}
 use Rattle.mgs_world.specs.Sound.{IsSound, session_uses, uses}
@@ -193,6 +193,7 @@ acted_so directory ks ls xs next id at p x h y (Edits c) sound place within is s
     let text = (marked_at x.name ks).buffer.text in
     rw (m.buffers, m.session)
     (marked_so directory ks m.between xs next id at m.id p h x (change_read text h.kill c) (c.from + length (put_read text h.kill c.put)) text c.finish sound (mark_is_kept x.name x.point ks marks.point) m.reserved place within is sel marks fresh told can.small)
+acted_so directory ks ls xs next id at p x h y (Undoes u) sound place within is sel marks fresh can told m = cc
 acted_so directory ks ls xs next id at p x h y (Moves f) sound place within is sel marks fresh can told m =
     let text = (marked_at x.name ks).buffer.text in
     rw (m.buffers, m.session)
@@ -208,6 +209,7 @@ sound_then ks ls xs at p x h y (Edits c) sound is sel marks told m =
     let marks_l = reserved_marks x m.id ks m.between kept m.reserved marks in
     let mark = mark_there x m.id change change.finish m.between (reserved_mark x.mark m.id ks m.between xs at h x refl sound kept is sel m.reserved) marks_l in
     rw (m.buffers, m.session) (sound_placed x.name m.id p _ _ mark (held_then ks m.between xs at m.id h x change change.finish change.finish sound kept m.reserved is sel marks_l))
+sound_then ks ls xs at p x h y (Undoes u) sound is sel marks told m = cc
 sound_then ks ls xs at p x h y (Moves f) sound is sel marks told m =
     let text = (marked_at x.name ks).buffer.text in
     let left = finish_read text h.kill 0 f in
@@ -259,6 +261,7 @@ marking_takes own x ks kill (Fails message) p can told = cc
 marking_takes own x ks kill (Edits c) p can told =
     let text = (marked_at x.name ks).buffer.text in
     finish_takes own (change_read text kill c).finish (edit_of x.name (change_read text kill c)) p can.small (ap mark_read told)
+marking_takes own x ks kill (Undoes u) p can told = cc
 marking_takes own x ks kill (Moves f) p can told =
     let text = (marked_at x.name ks).buffer.text in
     finish_takes own (finish_read text kill 0 f) No_effect p can.small (ap mark_read told)

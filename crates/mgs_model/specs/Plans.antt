@@ -11,7 +11,7 @@ use Rattle.mgs_model.specs.View.{WindowSeen}
 use Rattle.mgs_model.specs.Outcome.{PointPlan, Keep, At, MarkPlan, Keep_mark, Mark_at, KillPlan, Keep_kill, Kill_is, SearchPlan, Keep_search, Begin, Anchor_at, Old, Come, Slot, Arrange, Slots}
 use Rattle.mgs_model.specs.declared.message.CursorPosition.{CursorPosition}
 use Rattle.mgs_model.specs.declared.message.Message.{Message}
-use Rattle.mgs_model.specs.declared.message.Message.TheVariants.{Silent, BeginningOfBuffer, EndOfBuffer, Quitting, MarkSet, NoMark, NothingToYank, CharacterAt, EndAt, NoArgument, BadColumn, InMacro, NotInMacro, NoMacro, TooMany, OnlyOneWindow, WindowTooSmall, TooManyWindows, ImpossibleChange, NoSuchBuffer, NoSuchEntry, NoFurtherUndo, NoPattern}
+use Rattle.mgs_model.specs.declared.message.Message.TheVariants.{Silent, BeginningOfBuffer, EndOfBuffer, Quitting, MarkSet, NoMark, NothingToYank, CharacterAt, EndAt, NoArgument, BadColumn, InMacro, NotInMacro, NoMacro, TooMany, OnlyOneWindow, WindowTooSmall, TooManyWindows, ImpossibleChange, NoSuchBuffer, NoSuchEntry, NoFurtherUndo, NoPattern, BufferFull}
 use Rattle.mgs_model.specs.declared.session.Mode.TheVariants.{Plain}
 use Rattle.mgs_model.specs.declared.session.Kind.{Kind}
 use Rattle.mgs_model.specs.declared.session.Kind.TheVariants.{Other, Kill, Line, Undo}
@@ -329,15 +329,20 @@ undone_from size item = min item.place size
 abbrev pub undone_to : ℕ → Item → ℕ
 undone_to size item = min (item.place + item.put) size
 
-abbrev pub undone : Around → Option Item → Result Change Message
-undone x None = Err NoFurtherUndo
-undone x (Some item) =
-    Ok (record {
+-- what an item put in goes out, and what it took out comes back
+abbrev pub taken_back : Around → Item → Change
+taken_back x item =
+    record {
       a = undone_from x.size item;
       b = undone_to x.size item;
       put = item.removed;
       finish = record (goes (undone_from x.size item + length item.removed)) { kind = Undo x.name item.serial (x.serial + 1) };
-    })
+    }
+
+-- an undo is an edit, so a serial has to be left for it
+abbrev pub undone : Around → Option Item → Result Change Message
+undone x None = Err NoFurtherUndo
+undone x (Some item) = if x.serial == 18446744073709551615 then Err BufferFull else Ok (taken_back x item)
 
 abbrev pub undo : List Item → Around → Result Change Message
 undo items x = undone x (find (λ (item : Item). item.serial == undo_target x) items)

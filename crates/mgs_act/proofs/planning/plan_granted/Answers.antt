@@ -16,37 +16,37 @@ pub returns-in-Insert-clause-value : goal.returns-in-Insert-clause-value
 returns-in-Insert-clause-value g c = λ own rest.
     let known : plans.Around = record rest { kill = c.args.kill.now; serial = c.args.serial } in
     c.edits.ensures.value own rest.name
-    ∙ ap (edit_outcome own rest.name (length (g.T.Text.text c.args.text.now)) c.args.serial) (c.insertion.ensures.plan (g.T.Text.text c.args.text.now) known c.requires.killed)
-    ∙ ap (λ size. edit_outcome own rest.name (length (g.T.Text.text c.args.text.now)) c.args.serial (insertion c.in-Insert.by (surrounded c.args.around.now size known))) c.len.ensures.value
-    ∙ sym (ap (λ (k : Command). granted_outcome own k (g.T.Text.text c.args.text.now) (surrounded c.args.around.now (length (g.T.Text.text c.args.text.now)) known)) c.in-Insert.is)
+    ∙ ap (edit_outcome own rest.name (length b.text) c.args.serial) (c.insertion.ensures.plan b.text known c.requires.killed)
+    ∙ ap (λ size. edit_outcome own rest.name (length b.text) c.args.serial (insertion c.in-Insert.by (surrounded c.args.around.now size known))) c.len.ensures.value
+    ∙ sym (ap (λ (k : Command). granted_outcome own k b.text b.items (surrounded c.args.around.now (length b.text) known)) c.in-Insert.is)
 
 pub returns-in-InsertReading-clause-value : goal.returns-in-InsertReading-clause-value
 returns-in-InsertReading-clause-value g c = λ own rest.
     let known : plans.Around = record rest { kill = c.args.kill.now; serial = c.args.serial } in
     c.edits_so.ensures.value own rest.name
-    ∙ ap (edit_outcome own rest.name (length (g.T.Text.text c.args.text.now)) c.args.serial) (c.reading_insertion.ensures.plan known)
-    ∙ sym (ap (λ (k : Command). granted_outcome own k (g.T.Text.text c.args.text.now) (surrounded c.args.around.now (length (g.T.Text.text c.args.text.now)) known)) c.in-InsertReading.is)
+    ∙ ap (edit_outcome own rest.name (length b.text) c.args.serial) (c.reading_insertion.ensures.plan known)
+    ∙ sym (ap (λ (k : Command). granted_outcome own k b.text b.items (surrounded c.args.around.now (length b.text) known)) c.in-InsertReading.is)
 
 pub returns-in-Move-clause-value : goal.returns-in-Move-clause-value
 returns-in-Move-clause-value g c = λ own rest.
     let known : plans.Around = record rest { kill = c.args.kill.now; serial = c.args.serial } in
     c.moves.ensures.value own rest.name
     ∙ ap (moved_by own) (c.motion.ensures.plan known)
-    ∙ sym (ap (λ (k : Command). granted_outcome own k (g.T.Text.text c.args.text.now) (surrounded c.args.around.now (length (g.T.Text.text c.args.text.now)) known)) c.in-Move.is)
+    ∙ sym (ap (λ (k : Command). granted_outcome own k b.text b.items (surrounded c.args.around.now (length b.text) known)) c.in-Move.is)
 
 pub returns-in-Alter-clause-value : goal.returns-in-Alter-clause-value
 returns-in-Alter-clause-value g c = λ own rest.
     let known : plans.Around = record rest { kill = c.args.kill.now; serial = c.args.serial } in
     c.edits-in-Alter.ensures.value own rest.name
-    ∙ ap (edit_outcome own rest.name (length (g.T.Text.text c.args.text.now)) c.args.serial) (c.alteration.ensures.plan known)
-    ∙ sym (ap (λ (k : Command). granted_outcome own k (g.T.Text.text c.args.text.now) (surrounded c.args.around.now (length (g.T.Text.text c.args.text.now)) known)) c.in-Alter.is)
+    ∙ ap (edit_outcome own rest.name (length b.text) c.args.serial) (c.alteration.ensures.plan known)
+    ∙ sym (ap (λ (k : Command). granted_outcome own k b.text b.items (surrounded c.args.around.now (length b.text) known)) c.in-Alter.is)
 
 pub returns-in-Scroll-clause-value : goal.returns-in-Scroll-clause-value
 returns-in-Scroll-clause-value g c = λ own rest.
     let known : plans.Around = record rest { kill = c.args.kill.now; serial = c.args.serial } in
     c.moves-in-Scroll.ensures.value own rest.name
     ∙ ap (moved_by own) (c.scroll.ensures.plan known)
-    ∙ sym (ap (λ (k : Command). granted_outcome own k (g.T.Text.text c.args.text.now) (surrounded c.args.around.now (length (g.T.Text.text c.args.text.now)) known)) c.in-Scroll.is)
+    ∙ sym (ap (λ (k : Command). granted_outcome own k b.text b.items (surrounded c.args.around.now (length b.text) known)) c.in-Scroll.is)
 
 pub returns-in-Move-clause-can : goal.returns-in-Move-clause-can
 returns-in-Move-clause-can g c = c.moves.ensures.can c.args.serial
