@@ -185,6 +185,7 @@ pub enum EntryChange {
 #[derive(Clone, Copy, Debug, PartialEq, Eq)]
 pub enum Question {
     SwitchTo,
+    FindWhich,
     KillWhich,
     InsertWhich,
     WhichOwner,
