@@ -24,6 +24,8 @@ mod numbers;
 #[cfg(test)]
 mod printing;
 #[cfg(test)]
+mod prompts;
+#[cfg(test)]
 mod rights;
 #[cfg(test)]
 mod text;
