@@ -252,6 +252,14 @@ impl<T: Marked + Drop> Buffers<T> {
         self.buffer(name).modified
     }
 
+    /// Whether the buffer has a file.
+    pub fn has_file(&self, name: &Name) -> bool
+        requires { HasBuffer name.now self.now }
+        ensures { result ≡ (marked_at name.now self.now).buffer.file }
+    {
+        self.buffer(name).has_file
+    }
+
     /// The edit of a serial, where the buffer keeps it: where it was, the characters that it took out, and how many it put in.
     pub fn item(&self, name: &Name, serial: u64) -> Option<&Edit>
         requires { HasBuffer name.now self.now }
