@@ -20,6 +20,10 @@ use Rattle.mgs_act.specs.declared.given.Given.{Given}
 use Rattle.mgs_act.specs.Actions.{action_outcome, around_given, around_in, granted_outcome, mask_at, outcome_through, plan_in}
 use Rattle.mgs_world.specs.Worlds.{idle}
 
+-- what holds of a text and a serial holds of the buffer's, which are the same
+pub at_buffer : (holds : List ℕ → ℕ → Type 0) (text kept : List ℕ) (serial last : ℕ) → text ≡ kept → serial ≡ last → holds text serial → holds kept last
+at_buffer holds text kept serial last same_text same_serial h = subst (λ n. holds kept n) same_serial (subst (λ t. holds t serial) same_text h)
+
 -- what is decided on the rights that a command needs
 abbrev pub needed : Directory → List MarkedBuffer → List ℕ → WindowMarks → Given → Command → ℕ → Decision
 needed directory ks user x g c killed =

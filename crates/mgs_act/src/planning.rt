@@ -198,7 +198,7 @@ fn plan_granted<T: Marked + Drop>(
 {
     let text = buffers.text(name);
     let serial = buffers.serial(name);
-    let size = buffers.text_len(name);
+    let size = text.len();
     match command {
         Command::Insert(by) => edits(text, serial, kill, insertion(size, around, by)),
         Command::InsertReading(by) => {

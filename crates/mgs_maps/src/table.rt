@@ -33,7 +33,7 @@ pub struct Binding {
     pub command: Command,
 }
 
-static BINDINGS: [Binding; 45] = [
+static BINDINGS: [Binding; 47] = [
     Binding {
         keys: b"\r",
         name: "newline",
@@ -188,6 +188,16 @@ static BINDINGS: [Binding; 45] = [
         keys: b"\x19",
         name: "yank",
         command: Command::Insert(Insertion::Yank),
+    },
+    Binding {
+        keys: b"\x1F",
+        name: "undo",
+        command: Command::UndoEdit,
+    },
+    Binding {
+        keys: b"\x18u",
+        name: "",
+        command: Command::UndoEdit,
     },
     Binding {
         keys: b"\x1b~",

@@ -29,6 +29,8 @@ mod rows;
 #[cfg(test)]
 mod script;
 #[cfg(test)]
+mod undos;
+#[cfg(test)]
 mod windows;
 #[cfg(test)]
 mod wire;
