@@ -28,11 +28,10 @@ use Rattle.mgs_windows.specs.declared.WindowMarks.{WindowMarks}
 use Rattle.mgs_windows.specs.declared.Window.{Window}
 use Rattle.mgs_session.specs.Sessions.{acted, failed, told}
 use Rattle.mgs_session.specs.declared.Session.{Session}
-use Rattle.mgs_edit.specs.Reading.{ChangeWithin, FinishWithin, change_read, finish_read, is_alteration_planned, is_planned, kill_read, put_read, undone_read}
+use Rattle.mgs_edit.specs.Reading.{ChangeWithin, FinishWithin, LeavesBehind, change_read, finish_read, is_alteration_planned, is_planned, kill_read, put_read, undone_read}
 use Rattle.mgs_edit.specs.declared.plan.Around.{Around}
 use Rattle.mgs_edit.specs.declared.plan.Change.{Change}
 use Rattle.mgs_edit.specs.declared.plan.Finish.{Finish}
-use Rattle.mgs_edit.specs.declared.plan.Goes.TheVariants.{Behind}
 use Rattle.mgs_edit.specs.declared.plan.Undone.{Undone}
 use Rattle.mgs_undo.specs.History.{has_serial}
 use Rattle.mgs_arrange.specs.Arranging.{is_arranged_here}
@@ -147,17 +146,10 @@ removed_or_none (Some item) = item.removed
 abbrev pub removed_by : ℕ → List Item → List ℕ
 removed_by serial items = removed_or_none (find (has_serial serial) items)
 
--- an undo sets no mark, kills nothing, and leaves the point behind what comes back
-pub record UndoFinish (f : Finish) : Type 0 where
-  pub point : f.point ≡ Behind
-  pub mark : f.mark ≡ None
-  pub top : f.top ≡ None
-  pub kill : f.kill ≡ None
-
 pub record CanUndo (text : List ℕ) (items : List Item) (kill : List ℕ) (serial : ℕ) (u : Undone) : Type 0 where
   pub within : u.from + u.gone ≤ length text
   pub len : length (removed_by u.serial items) ≡ u.len
-  pub finish : UndoFinish u.finish
+  pub finish : LeavesBehind u.finish
   pub room : is_full (length text) serial (undone_read text kill (removed_by u.serial items) u) ≡ false
 
 abbrev pub CanDo : List ℕ → List Item → List ℕ → ℕ → Action → Type 0

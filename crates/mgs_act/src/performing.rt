@@ -1,5 +1,5 @@
 // An action is done: in the buffers, and to the session that acts.
-ghost use Rattle.std.specs.Prelude.{◌≡◌, ◌+◌, ◌++◌, ◌<◌, ◌≤◌, ℕ, List, length, Option, Some, None, IfOk, OnOk, OnErr, slice_get, true, false};
+ghost use Rattle.std.specs.Prelude.{◌≡◌, ◌+◌, ◌++◌, ◌<◌, ◌≤◌, ℕ, List, [], length, Option, Some, None, IfOk, OnOk, OnErr, slice_get, true, false};
 ghost use Rattle.std.specs.List.{position_or_len};
 ghost use Rattle.std.specs.Option.{option_and_then};
 ghost use Rattle.mgs_model.specs.Access.{Directory};
@@ -155,6 +155,29 @@ fn removed_by<T: Marked + Drop>(
 }
 
 /// Takes an edit back, and tells where what comes back ends. `Short`: memory was refused, and nothing was done.
+fn put_back<T: Marked + Drop>(
+    alloc: Global,
+    buffers: &mut Buffers<T>,
+    name: &Name,
+    undone: &Undone,
+) -> Result<usize, Short>
+    requires kept { HasBuffer name.now buffers.old }
+    requires within { undone.now.from + undone.now.gone ≤ length (marked_at name.now buffers.old).buffer.text }
+    requires edit { is_edit undone.now.from (undone.now.from + undone.now.gone) (removed_by undone.now.serial (marked_at name.now buffers.old).buffer.items) ≡ true }
+    requires room { is_full (length (marked_at name.now buffers.old).buffer.text) (marked_at name.now buffers.old).buffer.serial (undone_read (marked_at name.now buffers.old).buffer.text [] (removed_by undone.now.serial (marked_at name.now buffers.old).buffer.items) undone.now) ≡ false }
+    ensures ok { OnOk result (buffers.new ≡ change_first (marked_named name.now) (marked_edited undone.now.from (undone.now.from + undone.now.gone) (removed_by undone.now.serial (marked_at name.now buffers.old).buffer.items)) buffers.old) }
+    ensures end { IfOk result (λ end. end ≡ undone.now.from + length (removed_by undone.now.serial (marked_at name.now buffers.old).buffer.items)) }
+    ensures err { OnErr result (buffers.new ≡ buffers.old) }
+{
+    // For the ranges of a serial and of a place.
+    let _serial = buffers.serial(name);
+    let _size = buffers.text_len(name);
+    let back = removed_by(alloc, buffers, name, undone.serial)?;
+    buffers.edit(name, undone.from, undone.from + undone.gone, &back)?;
+    Ok(undone.from + back.len())
+}
+
+/// The same, where that takes out or puts in anything.
 fn restore<T: Marked + Drop>(
     alloc: Global,
     buffers: &mut Buffers<T>,
@@ -168,13 +191,10 @@ fn restore<T: Marked + Drop>(
     ensures err { OnErr result (buffers.new ≡ buffers.old) }
     ensures may { OnErr result (is_edit undone.now.from (undone.now.from + undone.now.gone) (removed_by undone.now.serial (marked_at name.now buffers.old).buffer.items) ≡ true) }
 {
-    // For the range of a serial.
-    let _serial = buffers.serial(name);
     if is_undo_an_edit(undone) {
-        let back = removed_by(alloc, buffers, name, undone.serial)?;
-        buffers.edit(name, undone.from, undone.from + undone.gone, &back)?;
+        return put_back(alloc, buffers, name, undone);
     }
-    Ok(undone.from + undone.len)
+    Ok(undone.from)
 }
 
 /// Puts a mark of the window's buffer at a position.

@@ -1,5 +1,5 @@
 // What a command on a text comes to: whether it is permitted, and what its family plans.
-ghost use Rattle.std.specs.Prelude.{◌≡◌, ◌≤◌, ℕ, List, length, find, Option, Some, None, Ok, IfOk, IfSome, true};
+ghost use Rattle.std.specs.Prelude.{◌≡◌, ◌≤◌, ◌+◌, ℕ, List, length, find, Option, Some, None, Ok, IfOk, IfSome, true};
 ghost use Rattle.mgs_model.specs.Acts.{fails, moved_by, permitted};
 ghost use Rattle.mgs_model.specs.Outcome.{Outcome};
 ghost use Rattle.mgs_model.specs.declared.entry.Decision.TheVariants.{Granted};
@@ -9,8 +9,8 @@ ghost use Rattle.mgs_model.specs.World.{Item, Own};
 ghost use Rattle.mgs_undo.specs.History.{has_serial};
 ghost use Rattle.mgs_undo.specs.Numbered.{item_of};
 ghost use Rattle.mgs_buffers.specs.MarkedBuffer.{HasBuffer, marked_at};
-ghost use Rattle.mgs_edit.specs.Reading.{ChangeWithin, FinishWithin, IsWithin, edit_read, motion_read, surrounded, undoing};
-ghost use Rattle.mgs_act.specs.Actions.{AreMarks, CanBeDone, CanDo, action_outcome, around_given, edit_outcome, granted_outcome, insertion_mask, is_on_text, mark_shown, mask_at, outcome_through, plan_in};
+ghost use Rattle.mgs_edit.specs.Reading.{ChangeWithin, FinishWithin, IsWithin, LeavesBehind, edit_read, motion_read, surrounded, undoing, undone_read};
+ghost use Rattle.mgs_act.specs.Actions.{AreMarks, CanBeDone, CanDo, action_outcome, around_given, edit_outcome, granted_outcome, insertion_mask, is_on_text, mark_shown, mask_at, outcome_through, plan_in, removed_by};
 ghost use Rattle.mgs_world.specs.Worlds.{idle};
 
 use crate::action::Action;
@@ -18,7 +18,7 @@ use crate::given::Given;
 use mgs_buffers::Buffers;
 use mgs_edit::{
     Around, Change, Finish, alteration, insertion, is_edit, is_kill_too_large, is_too_long, motion,
-    reading_insertion, is_undo_an_edit, is_undo_too_long, scroll, undo, undo_target,
+    is_undo_an_edit, is_undo_too_long, reading_insertion, scroll, undo, undo_target, Undone,
 };
 use mgs_marks::Marked;
 use mgs_model::{Command, Decision, Kind, Mask, Message, Name, Right};
@@ -151,7 +151,19 @@ fn moves<T: Text>(text: &T, kill: &[char], planned: Result<Finish, Message>) -> 
     }
 }
 
-/// What an undo of an edit comes to, where the text has the buffer's last serial.
+/// What taking an edit back comes to, where the text has the buffer's last serial.
+fn undoes_so<T: Text>(text: &T, serial: u64, undone: Undone) -> Action
+    requires within { undone.from + undone.gone ≤ length (T.text text.now) }
+    ensures value { (own : Own) (name : List ℕ) (items : List Item) (kill : List ℕ) → length (removed_by undone.serial items) ≡ undone.len → action_outcome own name (T.text text.now) items kill result ≡ edit_outcome own name (length (T.text text.now)) serial (Ok (undone_read (T.text text.now) kill (removed_by undone.serial items) undone)) }
+    ensures can { (items : List Item) (kill : List ℕ) → length (removed_by undone.serial items) ≡ undone.len → LeavesBehind undone.finish → CanDo (T.text text.now) items kill serial result }
+{
+    if is_undo_an_edit(&undone) && (is_undo_too_long(text.len(), &undone) || serial == u64::MAX) {
+        return Action::Fails(Message::BufferFull);
+    }
+    Action::Undoes(undone)
+}
+
+/// The same, of an edit that the buffer keeps under the serial `target`.
 fn takes_back<T: Text>(text: &T, serial: u64, name: &Name, target: u64, edit: &Edit) -> Action
     ensures value { (own : Own) (items : List Item) (kill : List ℕ) (kind : Kind) (rest : plans.Around) → find (has_serial target) items ≡ Some (item_of target edit.now) → action_outcome own name.now (T.text text.now) items kill result ≡ edit_outcome own name.now (length (T.text text.now)) serial (undone (undoing kind name.now serial (record rest { size = length (T.text text.now) })) (Some (item_of target edit.now))) }
     ensures can { (items : List Item) (kill : List ℕ) → find (has_serial target) items ≡ Some (item_of target edit.now) → CanDo (T.text text.now) items kill serial result }
@@ -159,11 +171,7 @@ fn takes_back<T: Text>(text: &T, serial: u64, name: &Name, target: u64, edit: &E
     if serial == u64::MAX {
         return Action::Fails(Message::BufferFull);
     }
-    let undone = undo(edit, name, target, serial, text.len());
-    if is_undo_an_edit(&undone) && is_undo_too_long(text.len(), &undone) {
-        return Action::Fails(Message::BufferFull);
-    }
-    Action::Undoes(undone)
+    undoes_so(text, serial, undo(edit, name, target, serial, text.len()))
 }
 
 /// What an undo comes to: in a run of undos the edit before the last one undone is taken back, and elsewhere the last edit.
@@ -198,7 +206,7 @@ fn plan_granted<T: Marked + Drop>(
 {
     let text = buffers.text(name);
     let serial = buffers.serial(name);
-    let size = text.len();
+    let size = buffers.text_len(name);
     match command {
         Command::Insert(by) => edits(text, serial, kill, insertion(size, around, by)),
         Command::InsertReading(by) => {

@@ -1,5 +1,5 @@
 -- What a plan says: each is read as a plan of the model, given the text and the kill buffer that it is for.
-use Rattle.std.specs.Prelude.{ℕ, ◌+◌, ◌-◌, ◌≤◌, Bool, true, false, List, [], ◌++◌, length, replicate, slice_range, Option, Some, None, Result, Ok, Err}
+use Rattle.std.specs.Prelude.{◌≡◌, ℕ, ◌+◌, ◌-◌, ◌≤◌, Bool, true, false, List, [], ◌++◌, length, replicate, slice_range, Option, Some, None, Result, Ok, Err}
 use Rattle.std.specs.List.{repeat}
 use Rattle.mgs_model.specs.Outcome.{PointPlan, Keep, At, MarkPlan, Keep_mark, Mark_at, KillPlan, Keep_kill, Kill_is, Keep_search}
 use Rattle.mgs_model.specs.Plans as model
@@ -160,3 +160,10 @@ abbrev pub is_alteration_planned : Alteration → Bool
 is_alteration_planned UpcaseWord = false
 is_alteration_planned ReplaceMatch = false
 is_alteration_planned _ = true
+
+-- the point goes behind what is put in; no mark is set, the top stays, and nothing is killed
+pub record LeavesBehind (f : Finish) : Type 0 where
+  pub point : f.point ≡ Behind
+  pub mark : f.mark ≡ None
+  pub top : f.top ≡ None
+  pub kill : f.kill ≡ None

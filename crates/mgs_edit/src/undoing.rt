@@ -3,7 +3,7 @@ ghost use Rattle.std.specs.Prelude.{◌≡◌, ℕ, ◌<◌, ◌≤◌, ◌+◌,
 ghost use Rattle.mgs_model.specs.Plans as model;
 ghost use Rattle.mgs_model.specs.Plans.{taken_back, undo_target};
 ghost use Rattle.mgs_undo.specs.Numbered.{item_of};
-ghost use Rattle.mgs_edit.specs.Reading.{undone_read, undoing};
+ghost use Rattle.mgs_edit.specs.Reading.{LeavesBehind, undone_read, undoing};
 
 use crate::plan::{Finish, Goes, STAYS, Undone};
 use mgs_model::{Kind, Name};
@@ -39,6 +39,7 @@ pub fn undo(edit: &Edit, name: &Name, target: u64, serial: u64, size: usize) -> 
     ensures within { result.from + result.gone ≤ size }
     ensures serial { result.serial ≡ target }
     ensures len { result.len ≡ length edit.now.removed.items }
+    ensures finish { LeavesBehind result.finish }
 {
     let from = edit.undone_from(size);
     Undone {

@@ -39,7 +39,7 @@ set_mark-requires-clause-mark g c =
     let marks = reserved_marks x mid ks ls kept r c.requires.marks in
     let mark = reserved_in_use x.mark x mid ks ls refl kept c.requires.marks r in
     let text = (marked_at x.name ls).buffer.text in
-    let there = mark_after_action x mid text c.args.session.now.kill c.args.action.now ls mark marks in
+    let there = mark_after_action x mid text (marked_at x.name ls).buffer.items c.args.session.now.kill c.args.action.now ls mark marks in
     rw c.in-Ok.ensures.ok there
 
 pub set_mark-requires-clause-kept : goal.set_mark-requires-clause-kept

@@ -27,7 +27,7 @@ returns-clause-sizes g c =
     let xs = c.args.sessions.now in
     let r = c.index-sessions-at.result in
     let x = c.args.window_marks.now in
-    after_sizes c.carry_out.result xs c.args.at (marked_at x.name c.args.buffers.now).buffer.text (marked_at x.name c.args.buffers.now).buffer.items (get_or xs c.args.at r) c.carry_out.new.session c.args.action.now (slice_get-get_or xs c.args.at r c.requires.within) c.carry_out.ensures.acted c.carry_out.ensures.same
+    after_sizes c.carry_out.result xs c.args.at (marked_at x.name c.args.buffers.now).buffer.text (get_or xs c.args.at r) c.carry_out.new.session c.args.action.now (slice_get-get_or xs c.args.at r c.requires.within) c.carry_out.ensures.acted c.carry_out.ensures.same
 
 pub returns-clause-ok : goal.returns-clause-ok
 returns-clause-ok g c =

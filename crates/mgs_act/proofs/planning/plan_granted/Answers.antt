@@ -1,4 +1,4 @@
-use Rattle.std.proofs.Common.{◌≡◌, ℕ, List, length, true, refl, sym, ap, ◌∙◌}
+use Rattle.std.proofs.Common.{◌≡◌, ℕ, List, length, true, refl, sym, ap, ◌∙◌, arith}
 use Rattle.std.specs.Prelude.{Ok}
 use Rattle.mgs_model.specs.Acts.{moved_by}
 use Rattle.mgs_model.specs.Plans as plans
@@ -25,7 +25,7 @@ returns-in-Insert-clause-value g c = λ own rest.
     text b.text serial b.serial c.text-text.ensures.text c.serial-serial.ensures
     (c.edits.ensures.value own name b.items
     ∙ ap (edit_outcome own name (length text) serial) (c.insertion.ensures.plan text (known serial) c.requires.killed)
-    ∙ ap (λ size. edit_outcome own name (length text) serial (insertion c.in-Insert.by (surrounded c.args.around.now size (known serial)))) c.len-size.ensures.value
+    ∙ ap (λ size. edit_outcome own name (length text) serial (insertion c.in-Insert.by (surrounded c.args.around.now size (known serial)))) (c.text_len-size.ensures.value ∙ sym (ap (λ (t : List ℕ). length t) c.text-text.ensures.text))
     ∙ sym (ap (λ (k : Command). granted_outcome own k text b.items (surrounded c.args.around.now (length text) (known serial))) c.in-Insert.is))
 
 pub returns-in-Insert-clause-can : goal.returns-in-Insert-clause-can
@@ -54,6 +54,10 @@ returns-in-InsertReading-clause-can g c =
     at_buffer (λ t n. CanDo t b.items c.args.kill.now n c.edits_so.result)
     (g.T.Text.text c.text-text.result.now) b.text c.serial-serial.result b.serial c.text-text.ensures.text c.serial-serial.ensures
     (c.edits_so.ensures.can b.items)
+
+pub motion-requires-clause-short : goal.motion-requires-clause-short
+motion-requires-clause-short g c =
+    omega (arith, ap (λ (t : List ℕ). length t) c.text-text.ensures.text, c.text_len-size.ensures.value, c.text_len-size.ensures.limit)
 
 pub returns-in-Move-clause-value : goal.returns-in-Move-clause-value
 returns-in-Move-clause-value g c = λ own rest.
