@@ -74,3 +74,50 @@ fn another_edit_ends_a_run(rt: HostRuntime) -> Result<(), Fail> {
     ];
     steps_show(&rt, rt.alloc(), THREE, steps)
 }
+
+// A hundred characters, and a hundred undos.
+const TYPED: &str =
+    "keys a 'xxxxxxxxxxxxxxxxxxxxxxxxxxxxxxxxxxxxxxxxxxxxxxxxxxxxxxxxxxxxxxxxxxxxxxxxxxxxxxxxxxxxxxxxxxxxxxxxxxxx\n";
+
+const UNDONE: &str =
+    "keys a C-_ C-_ C-_ C-_ C-_ C-_ C-_ C-_ C-_ C-_ C-_ C-_ C-_ C-_ C-_ C-_ C-_ C-_ C-_ C-_ C-_ C-_ C-_ C-_ C-_ C-_ C-_ C-_ C-_ C-_ C-_ C-_ C-_ C-_ C-_ C-_ C-_ C-_ C-_ C-_ C-_ C-_ C-_ C-_ C-_ C-_ C-_ C-_ C-_ C-_ C-_ C-_ C-_ C-_ C-_ C-_ C-_ C-_ C-_ C-_ C-_ C-_ C-_ C-_ C-_ C-_ C-_ C-_ C-_ C-_ C-_ C-_ C-_ C-_ C-_ C-_ C-_ C-_ C-_ C-_ C-_ C-_ C-_ C-_ C-_ C-_ C-_ C-_ C-_ C-_ C-_ C-_ C-_ C-_ C-_ C-_ C-_ C-_ C-_ C-_\n";
+
+#[test]
+fn a_thousand_edits_are_kept(rt: HostRuntime) -> Result<(), Fail> {
+    let left = ["$xxxxxxxxxxxxxxxxxxxxxxxxxxxxxxxxxxxxx"].as_slice();
+    let none = "No further undo information";
+    let steps: &[Step<'_>] = &[
+        ("a", left, "**L1-C501", "", "1 39"),
+        ("a C-_", left, "**L1-C501", none, "1 39"),
+        ("a C-_", left, "**L1-C501", none, "1 39"),
+    ];
+    // 1,001 characters are typed. Of these edits and those that undo them the record keeps the last 1,000: after 500 undos in a
+    // row the next one to take back is gone.
+    steps_show(
+        &rt,
+        rt.alloc(),
+        &[
+            "user ann\n",
+            "buffer notes ann\n",
+            "entry notes ALLOW ann rwat\n",
+            "open a ann 6 60\n",
+            TYPED,
+            TYPED,
+            TYPED,
+            TYPED,
+            TYPED,
+            TYPED,
+            TYPED,
+            TYPED,
+            TYPED,
+            TYPED,
+            "keys a 'x\n",
+            UNDONE,
+            UNDONE,
+            UNDONE,
+            UNDONE,
+            UNDONE,
+        ],
+        steps,
+    )
+}
