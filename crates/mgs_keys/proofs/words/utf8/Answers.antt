@@ -1,6 +1,6 @@
 use Rattle.std.proofs.Common.{ℕ, List, Some, sym, ap, ◌∙◌}
-use Rattle.mgs_wire.proofs.Utf8.{utf8_of-text, utf8_of-other}
-use Rattle.mgs_wire.proofs.login.utf8.Goals as goal
+use Rattle.mgs_keys.proofs.Utf8Lemmas.{utf8_of-text, utf8_of-other}
+use Rattle.mgs_keys.proofs.words.utf8.Goals as goal
 
 pub returns-in-Ok : goal.returns-in-Ok
 returns-in-Ok c =
