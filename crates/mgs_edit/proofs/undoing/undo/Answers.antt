@@ -1,4 +1,4 @@
-use Rattle.std.proofs.Common.{◌≡◌, ℕ, ◌+◌, ◌-◌, ◌≤◌, length, Ok, refl, sym, ap, subst, ◌∙◌, arith}
+use Rattle.std.proofs.Common.{◌≡◌, ℕ, ◌+◌, ◌-◌, ◌≤◌, length, refl, sym, ap, subst, ◌∙◌, arith}
 use Rattle.mgs_model.specs.Plans as model
 use Rattle.mgs_model.specs.Plans.{goes, undone_from, undone_to}
 use Rattle.mgs_model.specs.declared.session.Kind.TheVariants.{Undo}
@@ -13,4 +13,4 @@ returns-clause-plan c = λ text kill kind rest.
     let order : c.undone_from-from.result ≤ c.undone_to.result = subst (λ n. n ≤ c.undone_to.result) (sym (c.undone_from-from.ensures.place 0)) c.undone_to.ensures.order in
     let end : c.undone_from-from.result + (c.undone_to.result - c.undone_from-from.result) ≡ undone_to c.args.size item =
         (let back : c.undone_from-from.result + (c.undone_to.result - c.undone_from-from.result) ≡ c.undone_to.result = omega (arith, order) in back) ∙ c.undone_to.ensures.place c.args.target in
-    λ i. Ok (record { a = from i; b = end i; put = c.args.edit.now.removed.items; finish = record (goes (from i + length c.args.edit.now.removed.items)) { kind = Undo c.args.name.now c.args.target (c.args.serial + 1) }; })
+    λ i. record { a = from i; b = end i; put = c.args.edit.now.removed.items; finish = record (goes (from i + length c.args.edit.now.removed.items)) { kind = Undo c.args.name.now c.args.target (c.args.serial + 1) }; }
