@@ -6,7 +6,8 @@ ghost use Rattle.mgs_model.specs.declared.session.Alteration.TheVariants.{Delete
 ghost use Rattle.mgs_edit.specs.Reading.{surrounded, edit_read, ChangeWithin, IsWithin, deleted, is_alteration_planned, killing};
 
 use crate::around::{goes, is_at_end, is_at_start, joins_behind, joins_in_front, times};
-use crate::plan::{Around, Change, Finish, Joins, Piece, Put};
+use crate::cases::{case_region, case_words};
+use crate::plan::{Around, Case, Change, Finish, Joins, Piece, Put};
 use mgs_lines::{backward_word, forward_word, kill_line_end};
 use mgs_model::{Alteration, Kind, Message};
 use mgs_text::Text;
@@ -176,7 +177,17 @@ pub fn alteration<T: Text>(
         Alteration::BackwardKillWord => kill_to_word_start(text, around),
         Alteration::KillRegion => kill_region(text, around),
         Alteration::TransposeChars => transpose_chars(text, around),
-        // Words in capitals and replacements have planners of their own.
-        Alteration::UpcaseWord | Alteration::ReplaceMatch => Err(Message::KeyNotBound),
+        Alteration::UpcaseWord => case_words(text, around, Case::Upper),
+        Alteration::DowncaseWord => case_words(text, around, Case::Lower),
+        Alteration::CapitalizeWord => case_words(text, around, Case::Capitalized),
+        Alteration::UpcaseRegion => case_region(text, around, Case::Upper),
+        Alteration::DowncaseRegion => case_region(text, around, Case::Lower),
+        // These have no planners here.
+        Alteration::JustOneSpace
+        | Alteration::DeleteHorizontalSpace
+        | Alteration::DeleteBlankLines
+        | Alteration::JoinLine
+        | Alteration::FillParagraph
+        | Alteration::ReplaceMatch => Err(Message::KeyNotBound),
     }
 }
