@@ -1,5 +1,6 @@
 -- How many characters a plan puts in.
-use Rattle.std.proofs.Common.{◌≡◌, ℕ, zero, suc, ◌+◌, ◌-◌, ◌*◌, ◌≤◌, Bool, true, List, [], ◌∷◌, ◌++◌, length, drop, refl, ap, ◌∙◌, arith, length-append, length-drop, length-take, length-map}
+use Rattle.std.proofs.Common.{◌≡◌, ℕ, zero, suc, ◌+◌, ◌-◌, ◌*◌, ◌≤◌, Bool, true, List, [], ◌∷◌, ◌++◌, length, drop, refl, ap, ◌∙◌, arith, length-append, length-drop, length-take}
+use Rattle.std.proofs.lemmas.List.{length-map}
 use Rattle.std.specs.Prelude.{replicate, slice_range}
 use Rattle.std.specs.List.{repeat}
 use Rattle.std.proofs.Math.Nat.{suc-mul}
@@ -37,8 +38,8 @@ length_capitalized begins [] = refl
 length_capitalized begins (x ∷ xs) = ap suc (length_capitalized (begins_word begins x) xs)
 
 length_cased : (case : Case) (xs : List ℕ) → length (cased case xs) ≡ length xs
-length_cased Upper xs = length-map to_ascii_uppercase xs
-length_cased Lower xs = length-map to_ascii_lowercase xs
+length_cased Upper xs = length-map xs to_ascii_uppercase
+length_cased Lower xs = length-map xs to_ascii_lowercase
 length_cased Capitalized xs = length_capitalized true xs
 
 pub length_cased_range : (case : Case) (xs : List ℕ) (a b : ℕ) → a ≤ b → b ≤ length xs → length (cased case (slice_range xs a b)) ≡ b - a

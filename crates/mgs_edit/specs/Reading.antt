@@ -11,7 +11,7 @@ use Rattle.mgs_model.specs.declared.session.Kind.TheVariants.{Other, Kill}
 use Rattle.mgs_model.specs.declared.session.Motion.{Motion}
 use Rattle.mgs_model.specs.declared.session.Motion.TheVariants.{StartSearch, SearchOn, StartReplace, SkipMatch}
 use Rattle.mgs_model.specs.declared.session.Alteration.{Alteration}
-use Rattle.mgs_model.specs.declared.session.Alteration.TheVariants.{JustOneSpace, DeleteHorizontalSpace, DeleteBlankLines, JoinLine, FillParagraph, ReplaceMatch}
+use Rattle.mgs_model.specs.declared.session.Alteration.TheVariants.{FillParagraph, ReplaceMatch}
 use Rattle.mgs_edit.specs.declared.plan.Around.{Around}
 use Rattle.mgs_edit.specs.declared.plan.Goes.{Goes}
 use Rattle.mgs_edit.specs.declared.plan.Goes.TheVariants.{Stays, To, Behind}
@@ -167,10 +167,6 @@ is_planned _ = true
 
 -- the alterations that are
 abbrev pub is_alteration_planned : Alteration → Bool
-is_alteration_planned JustOneSpace = false
-is_alteration_planned DeleteHorizontalSpace = false
-is_alteration_planned DeleteBlankLines = false
-is_alteration_planned JoinLine = false
 is_alteration_planned FillParagraph = false
 is_alteration_planned ReplaceMatch = false
 is_alteration_planned _ = true

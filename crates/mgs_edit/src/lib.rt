@@ -11,6 +11,7 @@ mod plan;
 mod scrolling;
 mod sizes;
 mod undoing;
+mod whites;
 mod written;
 
 pub use alterations::alteration;

@@ -1,5 +1,6 @@
 // White around a position, and runs of blank lines.
 ghost use Rattle.std.specs.Prelude.{◌≡◌, ◌≤◌, length};
+ghost use Rattle.mgs_model.specs.Lines.{line_end};
 ghost use Rattle.mgs_model.specs.Walks.{is_white};
 ghost use Rattle.mgs_model.specs.Whites.{blanks_end, blanks_start, is_blank_at, white_end, white_start};
 
@@ -74,6 +75,7 @@ pub fn blanks_end<T: Text>(text: &T, p: usize) -> usize
     requires { p ≤ length (T.text text.now) }
     ensures value { result ≡ blanks_end (T.text text.now) p }
     ensures from { p ≤ result }
+    ensures after { line_end (T.text text.now) p ≤ result }
     ensures within { result ≤ length (T.text text.now) }
 {
     let mut end = line_end(text, p);

@@ -11,6 +11,7 @@ loop-end-init g c =
     let xs : List ℕ = g.T.Text.text c.args.text.now in
     rw c.line_end-end.ensures.value (record {
       from = omega arith;
+      after = omega arith;
       within = omega (arith, c.line_end-end.ensures.value);
       at_end = line_end_again xs c.args.p;
       same = ap (λ n. over is_blank (lines xs) (n + 1)) (line_of_end xs c.args.p);
@@ -23,6 +24,7 @@ loop-end-preserved g c =
     let blank = sym c.is_blank_line.ensures ∙ c.if-not-is_blank_line.false in
     rw c.line_end-end-in-loop-end.ensures.value (record {
       from = omega arith;
+      after = omega arith;
       within = omega (arith, c.line_end-end-in-loop-end.ensures.value);
       at_end = line_end_again xs (c.loop-end.end + 1);
       same = run_below is_blank xs c.loop-end.end c.loop-end.invariant.at_end inside blank ∙ c.loop-end.invariant.same;

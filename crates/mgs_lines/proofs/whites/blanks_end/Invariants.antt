@@ -8,6 +8,7 @@ abbrev pub invariant-loop-end : goal.invariant-loop-end
 invariant-loop-end g l =
     record {
       from : l.p ≤ l.end;
+      after : line_end (g.T.Text.text l.text) l.p ≤ l.end;
       within : l.end ≤ length (g.T.Text.text l.text);
       at_end : line_end (g.T.Text.text l.text) l.end ≡ l.end;
       same : over is_blank (lines (g.T.Text.text l.text)) (line_of (g.T.Text.text l.text) l.end + 1) ≡ over is_blank (lines (g.T.Text.text l.text)) (line_of (g.T.Text.text l.text) l.p + 1);
