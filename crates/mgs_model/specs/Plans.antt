@@ -6,6 +6,8 @@ use Rattle.mgs_model.specs.Names.{same_name}
 use Rattle.mgs_model.specs.Text.{edited}
 use Rattle.mgs_model.specs.Lines.{line_of, line_start, line_end, start_of, column}
 use Rattle.mgs_model.specs.Walks.{forward_words, backward_words, is_first_line, is_last_line, lines_down, lines_up, forward_paragraphs, backward_paragraphs, column_place, indent_end, kill_line_end}
+use Rattle.mgs_model.specs.Cases.{uppercased, lowercased, capitalized}
+use Rattle.mgs_model.specs.Whites.{white_start, white_end, is_blank_at, blanks_start, blanks_end, paragraph_start, paragraph_end, refilled}
 use Rattle.mgs_model.specs.World.{Own, Item, Played, Shows, Listing}
 use Rattle.mgs_model.specs.View.{WindowSeen}
 use Rattle.mgs_model.specs.Outcome.{PointPlan, Keep, At, MarkPlan, Keep_mark, Mark_at, KillPlan, Keep_kill, Kill_is, SearchPlan, Keep_search, Begin, Anchor_at, Old, Come, Slot, Arrange, Slots}
@@ -22,7 +24,7 @@ use Rattle.mgs_model.specs.declared.session.ReadingInsertion.TheVariants.{Newlin
 use Rattle.mgs_model.specs.declared.session.Motion.{Motion}
 use Rattle.mgs_model.specs.declared.session.Motion.TheVariants.{ForwardChar, BackwardChar, BeginningOfLine, EndOfLine, NextLine, PreviousLine, BufferStart, BufferEnd, ForwardWord, BackwardWord, ForwardParagraph, BackwardParagraph, Recenter, WhatCursorPosition, SetMark, ExchangePointAndMark, MarkWholeBuffer, CopyRegion, StartSearch, SearchOn, StartReplace, SkipMatch}
 use Rattle.mgs_model.specs.declared.session.Alteration.{Alteration}
-use Rattle.mgs_model.specs.declared.session.Alteration.TheVariants.{DeleteChar, DeleteBackwardChar, KillLine, KillWord, BackwardKillWord, KillRegion, TransposeChars, UpcaseWord, ReplaceMatch}
+use Rattle.mgs_model.specs.declared.session.Alteration.TheVariants.{DeleteChar, DeleteBackwardChar, KillLine, KillWord, BackwardKillWord, KillRegion, TransposeChars, UpcaseWord, DowncaseWord, CapitalizeWord, UpcaseRegion, DowncaseRegion, JustOneSpace, DeleteHorizontalSpace, DeleteBlankLines, JoinLine, FillParagraph, ReplaceMatch}
 use Rattle.mgs_model.specs.declared.session.Scrolling.{Scrolling}
 use Rattle.mgs_model.specs.declared.session.Scrolling.TheVariants.{ScrollUp, ScrollDown}
 use Rattle.mgs_model.specs.declared.session.EntryChange.{EntryChange}
@@ -282,8 +284,49 @@ transposes text q =
     if q == 0 then Err BeginningOfBuffer
     else Ok (record { a = q - 1; b = q + 1; put = slice_range text q (q + 1) ++ slice_range text (q - 1) q; finish = goes (q + 1) })
 
-abbrev pub upper : ℕ → ℕ
-upper c = if nat_le 97 c && nat_le c 122 then c - 32 else c
+-- CASE: the characters from the place on over words, or between the place and the mark, in another case. The point stays
+-- where it is in a region.
+abbrev pub cases_words : (List ℕ → List ℕ) → List ℕ → Around → Result Change Message
+cases_words cased text x =
+    if is_at_end x then Err EndOfBuffer
+    else Ok (record {
+      a = x.place;
+      b = forward_words text x.place (times x);
+      put = cased (slice_range text x.place (forward_words text x.place (times x)));
+      finish = goes (x.place + length (cased (slice_range text x.place (forward_words text x.place (times x)))));
+    })
+
+abbrev pub cases_region : (List ℕ → List ℕ) → List ℕ → Around → Option ℕ → Result Change Message
+cases_region cased text x None = Err NoMark
+cases_region cased text x (Some m) =
+    Ok (record { a = min m x.place; b = max m x.place; put = cased (slice_range text (min m x.place) (max m x.place)); finish = goes x.place })
+
+-- WHITE: blank lines around a blank one become one that is empty; from another line those that directly follow go, and the
+-- point moves as any other position
+abbrev pub deletes_blank_lines : List ℕ → ℕ → Result Change Message
+deletes_blank_lines text p =
+    if is_blank_at text p then deletes (blanks_start text p) (blanks_end text p)
+    else Ok (record { a = line_end text p; b = blanks_end text p; put = []; finish = stays })
+
+-- the line feed before the line that starts here, and the white around it
+abbrev pub joins_line : List ℕ → ℕ → Result Change Message
+joins_line text start =
+    if start == 0 then Err BeginningOfBuffer
+    else Ok (record { a = white_start text (start - 1); b = white_end text start; put = 32 ∷ []; finish = goes (white_start text (start - 1)) })
+
+-- FILLING: nothing in a blank line
+abbrev pub filling : List ℕ → Around → List ℕ
+filling text x = refilled x.fill (slice_range text (paragraph_start text x.place) (paragraph_end text x.place))
+
+abbrev pub fills : List ℕ → Around → Result Change Message
+fills text x =
+    if is_blank_at text x.place then Ok (record { a = x.place; b = x.place; put = []; finish = stays })
+    else Ok (record {
+      a = paragraph_start text x.place;
+      b = paragraph_end text x.place;
+      put = filling text x;
+      finish = goes (paragraph_start text x.place + length (filling text x));
+    })
 
 abbrev pub alteration : Alteration → List ℕ → Around → Result Change Message
 alteration DeleteChar text x = if is_at_end x then Err EndOfBuffer else deletes x.place (min (x.place + times x) x.size)
@@ -293,14 +336,17 @@ alteration KillWord text x = if is_at_end x then Err EndOfBuffer else kills text
 alteration BackwardKillWord text x = if is_at_start x then Err BeginningOfBuffer else kills_back text x (backward_words text x.place (times x))
 alteration KillRegion text x = kills_region text x x.mark
 alteration TransposeChars text x = transposes text (exchanged_at text x.place)
-alteration UpcaseWord text x =
-    if is_at_end x then Err EndOfBuffer
-    else Ok (record {
-      a = x.place;
-      b = forward_words text x.place (times x);
-      put = map upper (slice_range text x.place (forward_words text x.place (times x)));
-      finish = goes (forward_words text x.place (times x));
-    })
+alteration UpcaseWord text x = cases_words uppercased text x
+alteration DowncaseWord text x = cases_words lowercased text x
+alteration CapitalizeWord text x = cases_words capitalized text x
+alteration UpcaseRegion text x = cases_region uppercased text x x.mark
+alteration DowncaseRegion text x = cases_region lowercased text x x.mark
+alteration JustOneSpace text x =
+    Ok (record { a = white_start text x.place; b = white_end text x.place; put = 32 ∷ []; finish = goes (white_start text x.place + 1) })
+alteration DeleteHorizontalSpace text x = deletes (white_start text x.place) (white_end text x.place)
+alteration DeleteBlankLines text x = deletes_blank_lines text x.place
+alteration JoinLine text x = joins_line text (line_start text x.place)
+alteration FillParagraph text x = fills text x
 -- a match that is no longer there is not replaced
 alteration ReplaceMatch text x =
     Ok (if is_match text x then record {

@@ -4,6 +4,8 @@
 #[cfg(test)]
 mod buffers;
 #[cfg(test)]
+mod cases;
+#[cfg(test)]
 mod grid;
 #[cfg(test)]
 mod paint;
