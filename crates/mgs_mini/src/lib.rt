@@ -1,16 +1,20 @@
 //! The input of a prompt, typed byte by byte. It has fixed room and takes no memory.
 #![tactic(auto)]
 
-ghost use Rattle.std.specs.Prelude.{◌≡◌, [], length};
+ghost use Rattle.std.specs.Prelude.{◌≡◌, ◌≤◌, [], length, IfSome};
+ghost use Rattle.std.specs.Option.{option_map};
 ghost use Rattle.mgs_model.specs.Keys.{is_graphic};
 ghost use Rattle.mgs_model.specs.World.{Own};
 ghost use Rattle.mgs_model.specs.View.{View};
 ghost use Rattle.mgs_model.specs.declared.session.Question.{Question};
-ghost use Rattle.mgs_model.specs.Turns.{prompt_turn, prompt_keys, prompt_key};
-ghost use Rattle.mgs_mini.specs.Typing.{keys_of, typed_own, stepped, last_dropped};
+ghost use Rattle.mgs_model.specs.Turns.{prompt_turn, prompt_keys, prompt_key, completed};
+ghost use Rattle.mgs_mini.specs.Typing.{keys_of, typed_own, stepped, last_dropped, told};
 ghost use Rattle.mgs_mini.specs.declared.Waiting.TheVariants.{NoKey};
 
+mod completing;
+
 use arrayvec::ArrayVec;
+pub use completing::{completion, narrowed};
 use mgs_model::Question;
 use std::marker::Model;
 
@@ -88,6 +92,14 @@ fn drop_last(input: &mut ArrayVec<u8, 120>)
     let _last = input.pop();
 }
 
+fn put_input(input: &mut ArrayVec<u8, 120>, text: &[u8])
+    requires { length text.now ≤ 120 }
+    ensures { input.new.items ≡ text.now }
+{
+    input.clear();
+    let _extended = input.try_extend_from_slice(text);
+}
+
 // A key by itself.
 fn feed_key(input: &mut ArrayVec<u8, 120>, byte: u8) -> (Step, Waiting)
     ensures { (v : View) → (c : Question) → (own : Own) → prompt_key v c (typed_own own input.old.items NoKey) byte ≡ stepped v c (typed_own own input.new.items result.1) result.0 }
@@ -150,6 +162,20 @@ impl Prompt {
         let (step, waiting) = feed_byte(&mut self.input, self.waiting, byte);
         self.waiting = waiting;
         step
+    }
+
+    /// What was typed becomes what it is completed to, at most 120 characters. Where that is `None`, it stays as it was, and the
+    /// answer is false: no name begins with it.
+    pub fn complete(&mut self, completion: Option<&[u8]>) -> bool
+        requires { IfSome completion (λ text. length text.now ≤ 120) }
+        ensures question { self.new.question ≡ self.old.question }
+        ensures input { (own : Own) → completed (typed_own own self.old.input self.old.waiting) (option_map (λ text. text.now) completion.entry) ≡ told result (typed_own own self.new.input self.new.waiting) }
+    {
+        let Some(text) = completion else {
+            return false;
+        };
+        put_input(&mut self.input, text);
+        true
     }
 
     /// What was typed.

@@ -1,13 +1,12 @@
 -- What comes next in an event: bytes make words of keys, arguments and the input of prompts, and these make acts.
-use Rattle.std.specs.Prelude.{ℕ, ◌-◌, nat_lt, ◌==◌, Bool, true, false, not, ◌&&◌, ◌||◌, List, [], ◌∷◌, ◌++◌, map, filter, length, take, fold, Option, None, Result, Ok, Err, cond, if◌then◌else◌}
-use Rattle.std.specs.List.{common_prefix_len}
+use Rattle.std.specs.Prelude.{ℕ, ◌-◌, nat_lt, ◌==◌, Bool, true, false, not, ◌&&◌, ◌||◌, List, [], ◌∷◌, ◌++◌, length, take, Option, None, Some, Result, Ok, Err, cond, if◌then◌else◌}
 use Rattle.mgs_model.specs.World.{Own, Todo, Typed, Played, Replace_all}
-use Rattle.mgs_model.specs.Keys.{is_graphic, begins_with, ends_in_escape, value_of, KeyRead, Half, Bound, Not_bound, key_read}
+use Rattle.mgs_model.specs.Keys.{is_graphic, ends_in_escape, value_of, KeyRead, Half, Bound, Not_bound, key_read}
 use Rattle.mgs_model.specs.Names.{same_name}
-use Rattle.mgs_model.specs.View.{View, BufferSeen, is_granted}
+use Rattle.mgs_model.specs.View.{View}
+use Rattle.mgs_model.specs.Completion.{completion, shown_names}
 use Rattle.mgs_model.specs.Outcome.{Act, Unbound, Run}
 use Rattle.mgs_model.specs.Plans.{failed_own, acted_own, setting}
-use Rattle.mgs_model.specs.declared.right.Right.TheVariants.{ReadAttributes}
 use Rattle.mgs_model.specs.declared.message.Message.{Message}
 use Rattle.mgs_model.specs.declared.message.Message.TheVariants.{Silent, Quitting, NoMatch, Replaced}
 use Rattle.mgs_model.specs.declared.session.Mode.{Mode}
@@ -73,17 +72,12 @@ names_buffers KillWhich = true
 names_buffers InsertWhich = true
 names_buffers _ = false
 
--- the names that the user may see and that go on from the input
-abbrev pub candidates : View → List ℕ → List (List ℕ)
-candidates v input =
-    filter (λ name. begins_with name input) (map (λ (b : BufferSeen). b.name) (filter (λ (b : BufferSeen). is_granted b ReadAttributes) v.buffers))
+abbrev pub names_completed : View → Question → List (List ℕ)
+names_completed v c = cond (names_buffers c) (shown_names v) []
 
-abbrev pub common : List ℕ → List ℕ → List ℕ
-common a b = take (common_prefix_len (λ x y. x == y) a b) a
-
-abbrev pub completed : Own → List (List ℕ) → Own
-completed own [] = record own { echo = NoMatch }
-completed own (name ∷ names) = record own { input = fold common name names }
+abbrev pub completed : Own → Option (List ℕ) → Own
+completed own None = record own { echo = NoMatch }
+completed own (Some input) = record own { input = input }
 
 -- the first of two prompts is no act, and the second begins a mode
 abbrev pub answer_turn : Question → Own → Turn
@@ -103,7 +97,7 @@ abbrev pub prompt_key : View → Question → Own → ℕ → Turn
 prompt_key v c own byte =
     if byte == 13 then answer_turn c own
     else if byte == 127 then Keep (record own { input = take (length own.input - 1) own.input })
-    else if byte == 9 then Keep (completed own (cond (names_buffers c) (candidates v own.input) []))
+    else if byte == 9 then Keep (completed own (completion (names_completed v c) own.input))
     else if is_graphic byte && nat_lt (length own.input) 120 then Keep (record own { input = own.input ++ byte ∷ [] })
     else Keep (record own { keys = prompt_keys own.keys byte })
 
