@@ -1,0 +1,29 @@
+// The words for an incremental search.
+
+/// Which way a search goes through a text.
+#[derive(Clone, Copy, Debug, PartialEq, Eq)]
+pub enum Direction {
+    Forward,
+    Backward,
+}
+
+/// What is to be done after a byte of an incremental search. Its origin is where it began, and its anchor where it looks from.
+#[derive(Clone, Copy, Debug, PartialEq, Eq)]
+pub enum SearchStep {
+    /// Nothing.
+    Stays,
+    /// It looks for the pattern from its anchor on, which counts.
+    FromAnchor,
+    /// It looks for the pattern from its anchor on, which does not count.
+    PastAnchor,
+    /// Its anchor is its origin again, and it looks for the pattern from there on, which counts.
+    FromOrigin,
+    /// Its anchor is its origin again, and so is the point.
+    ToOrigin,
+    /// It ends where it is.
+    Ends,
+    /// It is given up, and the point is its origin.
+    Quits,
+    /// It ends where it is, and the byte is a key.
+    Leaves,
+}
