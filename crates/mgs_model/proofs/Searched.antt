@@ -1,9 +1,10 @@
 -- Searches in small texts, computed by the definitions.
-use Rattle.std.proofs.Common.{◌≡◌, ℕ, true, false, List, [], ◌∷◌, ◌++◌, Option, Some, None, refl}
-use Rattle.std.specs.Prelude.{Bool, codes, fold, map, replicate}
-use Rattle.mgs_model.specs.Searching.{matches_at, first_match, last_match_before, last_match, match_from, match_past, Sought, SearchPlaces, read_byte, looked_for, places_after, sought_after}
+use Rattle.std.proofs.Common.{◌≡◌, ℕ, true, false, List, [], ◌∷◌, ◌++◌, Some, None, refl}
+use Rattle.std.specs.Prelude.{Bool, codes, fold}
+use Rattle.mgs_model.specs.Searching.{matches_at, first_match, last_match_before, last_match, match_past, Sought, read_byte, places_after, sought_after}
 use Rattle.mgs_model.specs.declared.search.Direction.{Direction}
 use Rattle.mgs_model.specs.declared.search.Direction.TheVariants.{Forward, Backward}
+use Rattle.mgs_model.specs.declared.search.SearchPlaces.{SearchPlaces}
 use Rattle.mgs_model.specs.declared.search.SearchStep.{SearchStep}
 use Rattle.mgs_model.specs.declared.search.SearchStep.TheVariants.{Stays, FromAnchor, PastAnchor, FromOrigin, ToOrigin, Ends, Quits, Leaves}
 

@@ -15,6 +15,7 @@ use Rattle.std.specs.Char.{eq_ignore_ascii_case}
 use Rattle.mgs_model.specs.Keys.{is_graphic}
 use Rattle.mgs_model.specs.declared.search.Direction.{Direction}
 use Rattle.mgs_model.specs.declared.search.Direction.TheVariants.{Forward, Backward}
+use Rattle.mgs_model.specs.declared.search.SearchPlaces.{SearchPlaces}
 use Rattle.mgs_model.specs.declared.search.SearchStep.{SearchStep}
 use Rattle.mgs_model.specs.declared.search.SearchStep.TheVariants.{Stays, FromAnchor, PastAnchor, FromOrigin, ToOrigin, Ends, Quits, Leaves}
 
@@ -40,7 +41,7 @@ last_match_before pattern text zero = None
 last_match_before pattern text (suc p) = if matches_at pattern text p then Some p else last_match_before pattern text p
 
 abbrev pub last_match : List ℕ → List ℕ → ℕ → Option ℕ
-last_match pattern text p = last_match_before pattern text (p + 1)
+last_match pattern text p = last_match_before pattern text (suc p)
 
 -- IN A DIRECTION
 
@@ -97,12 +98,6 @@ read_byte last s byte =
     else if byte == 13 then (s, Ends)
     else if byte == 7 then (s, Quits)
     else (s, Leaves)
-
--- where it began, where it looks from, and the point
-pub record SearchPlaces : Type 0 where
-  pub origin : ℕ
-  pub anchor : ℕ
-  pub point : ℕ
 
 -- the match that a step looks for in a text
 abbrev pub looked_for : SearchStep → Sought → List ℕ → SearchPlaces → Option ℕ

@@ -7,7 +7,15 @@ pub enum Direction {
     Backward,
 }
 
-/// What is to be done after a byte of an incremental search. Its origin is where it began, and its anchor where it looks from.
+/// The positions of an incremental search: where it began, where it looks from, and the point.
+#[derive(Clone, Copy, Debug, PartialEq, Eq)]
+pub struct SearchPlaces {
+    pub origin: usize,
+    pub anchor: usize,
+    pub point: usize,
+}
+
+/// What is to be done after a byte of an incremental search.
 #[derive(Clone, Copy, Debug, PartialEq, Eq)]
 pub enum SearchStep {
     /// Nothing.
