@@ -1,13 +1,14 @@
 -- What the commands of each family do: functions over a text, or over its length alone. A plan is `Err`, with the
 -- failure that is told, or `Ok`. Nothing here knows rights, buffers or sessions.
 use Rattle.std.specs.Prelude.{ℕ, ◌+◌, ◌-◌, ◌/◌, nat_lt, nat_le, ◌==◌, Bool, true, false, ◌&&◌, ◌||◌, List, [], ◌∷◌, ◌++◌, map, find, length, take, drop, replicate, slice_range, slice_get, slice_index, remove, min, max, Option, Some, None, Result, Ok, Err, cond, if◌then◌else◌}
-use Rattle.std.specs.List.{flat_map, repeat, starts_with}
+use Rattle.std.specs.List.{flat_map, repeat}
 use Rattle.mgs_model.specs.Names.{same_name}
 use Rattle.mgs_model.specs.Text.{edited}
 use Rattle.mgs_model.specs.Lines.{line_of, line_start, line_end, start_of, column}
 use Rattle.mgs_model.specs.Walks.{forward_words, backward_words, is_first_line, is_last_line, lines_down, lines_up, forward_paragraphs, backward_paragraphs, column_place, indent_end, kill_line_end}
 use Rattle.mgs_model.specs.Cases.{uppercased, lowercased, capitalized}
 use Rattle.mgs_model.specs.Whites.{white_start, white_end, is_blank_at, blanks_start, blanks_end, paragraph_start, paragraph_end, refilled}
+use Rattle.mgs_model.specs.Searching.{matches_at, first_match}
 use Rattle.mgs_model.specs.World.{Own, Item, Played, Shows, Listing}
 use Rattle.mgs_model.specs.View.{WindowSeen}
 use Rattle.mgs_model.specs.Outcome.{PointPlan, Keep, At, MarkPlan, Keep_mark, Mark_at, KillPlan, Keep_kill, Kill_is, SearchPlan, Keep_search, Begin, Anchor_at, Old, Come, Slot, Arrange, Slots}
@@ -181,11 +182,6 @@ abbrev pub position_told : List ℕ → Around → Option ℕ → Message
 position_told text x None = EndAt (position_of text x)
 position_told text x (Some c) = CharacterAt c (position_of text x)
 
--- the least place from the i-th on where it stands
-abbrev pub first_match : List ℕ → ℕ → List ℕ → Option ℕ
-first_match pattern i [] = if length pattern == 0 then Some i else None
-first_match pattern i (c ∷ cs) = if starts_with (λ a b. a == b) (c ∷ cs) pattern then Some i else first_match pattern (i + 1) cs
-
 abbrev pub found_at : Around → Option ℕ → Result Finish Message
 found_at x None = Ok stays
 found_at x (Some m) = Ok (record (goes (m + length x.typed)) { sought = Anchor_at m })
@@ -193,12 +189,12 @@ found_at x (Some m) = Ok (record (goes (m + length x.typed)) { sought = Anchor_a
 -- QUERY-REPLACE
 
 abbrev pub is_match : List ℕ → Around → Bool
-is_match text x = starts_with (λ a b. a == b) (drop x.anchor text) x.old
+is_match text x = matches_at x.old text x.anchor
 
 -- on to the next match from a place on; where there is none it is over
 abbrev pub next_match : Around → ℕ → Finish → List ℕ → Finish
 next_match x from f text =
-    elim (first_match x.old from (drop from text)) [ None ↦ record f { over = true } | Some m ↦ record f { point = At (m + length x.old); sought = Anchor_at m } ]
+    elim (first_match x.old text from) [ None ↦ record f { over = true } | Some m ↦ record f { point = At (m + length x.old); sought = Anchor_at m } ]
 
 abbrev pub motion : Motion → List ℕ → Around → Result Finish Message
 motion ForwardChar text x = if is_at_end x then Err EndOfBuffer else Ok (goes (min (x.place + times x) x.size))
@@ -222,10 +218,10 @@ motion ExchangePointAndMark text x = exchanged x x.mark
 motion MarkWholeBuffer text x = Ok (record (goes 0) { mark = Mark_at x.size })
 motion CopyRegion text x = copied text x x.mark
 motion StartSearch text x = Ok (record stays { sought = Begin x.name x.place x.place })
-motion SearchOn text x = found_at x (first_match x.typed x.anchor (drop x.anchor text))
+motion SearchOn text x = found_at x (first_match x.typed text x.anchor)
 motion StartReplace text x =
     if length x.old == 0 then Err NoPattern
-    else Ok (elim (first_match x.old x.place (drop x.place text)) [ None ↦ record stays { over = true } | Some m ↦ record (goes (m + length x.old)) { sought = Begin x.name x.place m } ])
+    else Ok (elim (first_match x.old text x.place) [ None ↦ record stays { over = true } | Some m ↦ record (goes (m + length x.old)) { sought = Begin x.name x.place m } ])
 motion SkipMatch text x = Ok (next_match x (x.anchor + cond (is_match text x) (length x.old) 0) stays text)
 
 -- SCROLLING: the start of the line that is two lines less than the window's rows away, at least one, or as many lines as
