@@ -7,7 +7,7 @@ use Rattle.mgs_model.specs.declared.session.Argument.{Argument}
 use Rattle.mgs_model.specs.declared.session.Motion.{Motion}
 use Rattle.mgs_model.specs.declared.session.Motion.TheVariants.{StartSearch, SearchOn, StartReplace, SkipMatch}
 use Rattle.mgs_model.specs.declared.session.Alteration.{Alteration}
-use Rattle.mgs_model.specs.declared.session.Alteration.TheVariants.{UpcaseWord, DowncaseWord, CapitalizeWord, UpcaseRegion, DowncaseRegion, JustOneSpace, DeleteHorizontalSpace, DeleteBlankLines, JoinLine, FillParagraph, ReplaceMatch}
+use Rattle.mgs_model.specs.declared.session.Alteration.TheVariants.{FillParagraph, ReplaceMatch}
 use Rattle.mgs_model.specs.declared.session.Setting.{Setting}
 use Rattle.mgs_model.specs.declared.session.Setting.TheVariants.{KeyboardQuit}
 use Rattle.mgs_model.specs.declared.session.Arrangement.{Arrangement}
@@ -49,15 +49,6 @@ is_bound_motion SkipMatch = false
 is_bound_motion _ = true
 
 abbrev pub is_bound_alteration : Alteration → Bool
-is_bound_alteration UpcaseWord = false
-is_bound_alteration DowncaseWord = false
-is_bound_alteration CapitalizeWord = false
-is_bound_alteration UpcaseRegion = false
-is_bound_alteration DowncaseRegion = false
-is_bound_alteration JustOneSpace = false
-is_bound_alteration DeleteHorizontalSpace = false
-is_bound_alteration DeleteBlankLines = false
-is_bound_alteration JoinLine = false
 is_bound_alteration FillParagraph = false
 is_bound_alteration ReplaceMatch = false
 is_bound_alteration _ = true

@@ -7,7 +7,7 @@ use Rattle.mgs_model.specs.declared.session.Argument.{Argument}
 use Rattle.mgs_model.specs.declared.session.Insertion.TheVariants.{SelfInsert, Newline, OpenLine, Yank}
 use Rattle.mgs_model.specs.declared.session.ReadingInsertion.TheVariants.{NewlineAndIndent}
 use Rattle.mgs_model.specs.declared.session.Motion.TheVariants.{ForwardChar, BackwardChar, BeginningOfLine, EndOfLine, NextLine, PreviousLine, BufferStart, BufferEnd, ForwardWord, BackwardWord, ForwardParagraph, BackwardParagraph, Recenter, WhatCursorPosition, SetMark, ExchangePointAndMark, MarkWholeBuffer, CopyRegion}
-use Rattle.mgs_model.specs.declared.session.Alteration.TheVariants.{DeleteChar, DeleteBackwardChar, KillLine, KillWord, BackwardKillWord, KillRegion, TransposeChars}
+use Rattle.mgs_model.specs.declared.session.Alteration.TheVariants.{DeleteChar, DeleteBackwardChar, KillLine, KillWord, BackwardKillWord, KillRegion, TransposeChars, UpcaseWord, DowncaseWord, CapitalizeWord, UpcaseRegion, DowncaseRegion, JustOneSpace, DeleteHorizontalSpace, DeleteBlankLines, JoinLine}
 use Rattle.mgs_model.specs.declared.session.Scrolling.TheVariants.{ScrollUp, ScrollDown}
 use Rattle.mgs_model.specs.declared.session.Setting.TheVariants.{KeyboardQuit}
 use Rattle.mgs_model.specs.declared.session.Arrangement.TheVariants.{DeleteWindow, DeleteOtherWindows, SplitWindow, NextWindow, PreviousWindow, EnlargeWindow}
@@ -62,6 +62,15 @@ key_rows =
     ∷ key 23 (codes "kill-region") (Alter KillRegion)
     ∷ meta 119 (codes "copy-region-as-kill") (Move CopyRegion)
     ∷ key 20 (codes "transpose-chars") (Alter TransposeChars)
+    ∷ meta 117 (codes "upcase-word") (Alter UpcaseWord)
+    ∷ meta 108 (codes "downcase-word") (Alter DowncaseWord)
+    ∷ meta 99 (codes "capitalize-word") (Alter CapitalizeWord)
+    ∷ control_x 21 (codes "upcase-region") (Alter UpcaseRegion)
+    ∷ control_x 12 (codes "downcase-region") (Alter DowncaseRegion)
+    ∷ meta 32 (codes "just-one-space") (Alter JustOneSpace)
+    ∷ meta 92 (codes "delete-horizontal-space") (Alter DeleteHorizontalSpace)
+    ∷ control_x 15 (codes "delete-blank-lines") (Alter DeleteBlankLines)
+    ∷ meta 94 (codes "join-line") (Alter JoinLine)
     ∷ key 0 (codes "set-mark-command") (Move SetMark)
     ∷ control_x 24 (codes "exchange-point-and-mark") (Move ExchangePointAndMark)
     ∷ control_x 104 (codes "mark-whole-buffer") (Move MarkWholeBuffer)

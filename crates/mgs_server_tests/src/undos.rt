@@ -84,12 +84,12 @@ const UNDONE: &str =
 
 #[test]
 fn a_thousand_edits_are_kept(rt: HostRuntime) -> Result<(), Fail> {
-    let left = ["$xxxxxxxxxxxxxxxxxxxxxxxxxxxxxxxxxxxxx"].as_slice();
+    let left = ["$xxxxxxxxxxxxxxxxxxxxxxxxxxxxxxxxxxxx"].as_slice();
     let none = "No further undo information";
     let steps: &[Step<'_>] = &[
-        ("a", left, "**L1-C501", "", "1 39"),
-        ("a C-_", left, "**L1-C501", none, "1 39"),
-        ("a C-_", left, "**L1-C501", none, "1 39"),
+        ("a", left, "**L1-C501", "", "1 38"),
+        ("a C-_", left, "**L1-C501", none, "1 38"),
+        ("a C-_", left, "**L1-C501", none, "1 38"),
     ];
     // 1,001 characters are typed. Of these edits and those that undo them the record keeps the last 1,000: after 500 undos in a
     // row the next one to take back is gone.
