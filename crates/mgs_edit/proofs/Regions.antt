@@ -1,5 +1,5 @@
 -- A stretch in another case is as long as before, so each place of the text stays one.
-use Rattle.std.proofs.Common.{◌≡◌, ℕ, ◌+◌, ◌-◌, ◌≤◌, List, length, arith}
+use Rattle.std.proofs.Common.{◌≡◌, ℕ, ◌-◌, ◌≤◌, List, length, arith}
 use Rattle.std.specs.Prelude.{slice_range}
 use Rattle.mgs_edit.specs.Reading.{cased, gone, ChangeWithin}
 use Rattle.mgs_edit.specs.declared.plan.Case.{Case}

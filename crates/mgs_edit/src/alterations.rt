@@ -8,9 +8,7 @@ ghost use Rattle.mgs_edit.specs.Reading.{surrounded, edit_read, ChangeWithin, Is
 use crate::around::{goes, is_at_end, is_at_start, joins_behind, joins_in_front, times};
 use crate::cases::{case_region, case_words};
 use crate::plan::{Around, Case, Change, Finish, Joins, Piece, Put};
-use crate::whites::{
-    delete_blank_lines, delete_horizontal_space, join_line, just_one_space,
-};
+use crate::whites::{delete_blank_lines, delete_horizontal_space, join_line, just_one_space};
 use mgs_lines::{backward_word, forward_word, kill_line_end};
 use mgs_model::{Alteration, Kind, Message};
 use mgs_text::Text;

@@ -12,11 +12,7 @@ use mgs_model::Message;
 use mgs_text::Text;
 
 /// The characters from the place on over words come in another case. `EndOfBuffer`: there are none.
-pub(crate) fn case_words<T: Text>(
-    text: &T,
-    around: &Around,
-    case: Case,
-) -> Result<Change, Message>
+pub(crate) fn case_words<T: Text>(text: &T, around: &Around, case: Case) -> Result<Change, Message>
     requires { around.now.place ≤ length (T.text text.now) }
     ensures plan { (rest : model.Around) → edit_read (T.text text.now) rest.kill result ≡ cases_words (cased case) (T.text text.now) (surrounded around.now (length (T.text text.now)) rest) }
     ensures within { (kill : List ℕ) → IfOk result (ChangeWithin (T.text text.now) kill) }
@@ -38,11 +34,7 @@ pub(crate) fn case_words<T: Text>(
 }
 
 /// Those between the place and the mark do, and the point stays where it is. `NoMark`: there is none.
-pub(crate) fn case_region<T: Text>(
-    text: &T,
-    around: &Around,
-    case: Case,
-) -> Result<Change, Message>
+pub(crate) fn case_region<T: Text>(text: &T, around: &Around, case: Case) -> Result<Change, Message>
     requires place { around.now.place ≤ length (T.text text.now) }
     requires mark { IsWithin (length (T.text text.now)) around.now.mark }
     ensures plan { (rest : model.Around) → edit_read (T.text text.now) rest.kill result ≡ cases_region (cased case) (T.text text.now) (surrounded around.now (length (T.text text.now)) rest) around.now.mark }

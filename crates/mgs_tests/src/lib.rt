@@ -16,4 +16,6 @@ mod taking_back;
 #[cfg(test)]
 mod terminal;
 #[cfg(test)]
+mod whites;
+#[cfg(test)]
 mod windows;

@@ -1,5 +1,4 @@
-use Rattle.std.proofs.Common.{◌≡◌, ◌<◌, ◌≤◌, ◌-◌, ◌+◌, ℕ, List, length, arith, sym, ap, ◌∙◌}
-use Rattle.std.specs.Prelude.{slice_range}
+use Rattle.std.proofs.Common.{◌≡◌, ◌<◌, ◌-◌, ◌+◌, ℕ, List, length, arith, sym, ap, ◌∙◌}
 use Rattle.mgs_model.specs.Lines.{line_end, start_of}
 use Rattle.mgs_model.specs.Walks.{over, lines, is_blank}
 use Rattle.mgs_lines.proofs.Feeds.{line_of_end}

@@ -1,6 +1,6 @@
 use Rattle.std.proofs.Common.{◌≤◌, ◌-◌, ℕ, List, length, arith, sym, ap, ◌∙◌}
 use Rattle.std.specs.Prelude.{slice_range}
-use Rattle.mgs_model.specs.Lines.{line_end, start_of, line_of}
+use Rattle.mgs_model.specs.Lines.{line_end, start_of}
 use Rattle.mgs_model.specs.Walks.{back, lines, is_blank}
 use Rattle.mgs_lines.proofs.Feeds.{line_start_again, line_of_start}
 use Rattle.mgs_lines.proofs.Runs.{run_above, run_starts}
