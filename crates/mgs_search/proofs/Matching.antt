@@ -2,7 +2,7 @@
 use Rattle.std.proofs.Common.{◌≡◌, ℕ, zero, suc, Bool, true, false, ◌+◌, ◌-◌, ◌<◌, ◌≤◌, List, [], ◌∷◌, length, drop, get_or, Option, Some, None, refl, sym, ap, ◌∙◌, arith, length-drop}
 use Rattle.std.proofs.lemmas.List.{drop_more, drop_all, get_or-drop}
 use Rattle.std.specs.Char.{eq_ignore_ascii_case}
-use Rattle.mgs_model.specs.Searching.{begins, matches_at, first_in, first_match, last_match_before}
+use Rattle.mgs_model.specs.Searching.{begins, matches_at, first_in, first_match, last_match_before, last_match}
 
 -- A COMPARISON
 
@@ -68,14 +68,26 @@ first_end (x ∷ ps) xs p past some = ap (first_in (x ∷ ps) p) (drop_all p xs 
 
 -- A WALK BACK
 
-pub last_here : (ps xs : List ℕ) (p : ℕ) → 0 < p → matches_at ps xs (p - 1) ≡ true → last_match_before ps xs p ≡ Some (p - 1)
-last_here ps xs zero some here = absurd (omega arith)
-last_here ps xs (suc p) some here =
-    let same : suc p - 1 ≡ p = omega arith in
-    rw (sym (ap (matches_at ps xs) same) ∙ here) (ap (λ k. Some k) (sym same))
+pub last_here : (ps xs : List ℕ) (p : ℕ) → matches_at ps xs p ≡ true → last_match ps xs p ≡ Some p
+last_here ps xs p here = rw here refl
 
-pub last_next : (ps xs : List ℕ) (p : ℕ) → 0 < p → matches_at ps xs (p - 1) ≡ false → last_match_before ps xs (p - 1) ≡ last_match_before ps xs p
-last_next ps xs zero some other = absurd (omega arith)
-last_next ps xs (suc p) some other =
-    let same : suc p - 1 ≡ p = omega arith in
-    rw (sym (ap (matches_at ps xs) same) ∙ other) (ap (last_match_before ps xs) same)
+before : (ps xs : List ℕ) (p : ℕ) → matches_at ps xs p ≡ false → last_match ps xs p ≡ last_match_before ps xs p
+before ps xs p other = rw other refl
+
+pub last_next : (ps xs : List ℕ) (p : ℕ) → 0 < p → matches_at ps xs p ≡ false → last_match ps xs (p - 1) ≡ last_match ps xs p
+last_next ps xs p some other =
+    let same : suc (p - 1) ≡ p = omega arith in
+    ap (last_match_before ps xs) same ∙ sym (before ps xs p other)
+
+pub last_none : (ps xs : List ℕ) (p : ℕ) → p ≡ 0 → matches_at ps xs p ≡ false → last_match ps xs p ≡ None
+last_none ps xs p first other = before ps xs p other ∙ ap (last_match_before ps xs) first
+
+-- IN A DIRECTION
+
+pub last_before : (ps xs : List ℕ) (p : ℕ) → 0 < p → last_match ps xs (p - 1) ≡ last_match_before ps xs p
+last_before ps xs p some =
+    let same : suc (p - 1) ≡ p = omega arith in
+    ap (last_match_before ps xs) same
+
+pub none_before : (ps xs : List ℕ) (p : ℕ) → p ≡ 0 → last_match_before ps xs p ≡ None
+none_before ps xs p first = ap (last_match_before ps xs) first

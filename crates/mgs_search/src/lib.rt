@@ -1,15 +1,19 @@
 //! Searches in a text: a pattern matches whatever the case of its ASCII letters.
 #![tactic(auto)]
 
-ghost use Rattle.std.specs.Prelude.{◌≡◌, ◌+◌, ◌≤◌, length};
-ghost use Rattle.mgs_model.specs.Searching.{matches_at, first_match, last_match_before};
+ghost use Rattle.std.specs.Prelude.{◌≡◌, ◌+◌, ◌≤◌, length, IfSome, true};
+ghost use Rattle.mgs_model.specs.Searching.{matches_at, first_match, last_match};
 
+mod incremental;
+
+pub use incremental::IncrementalSearch;
 use mgs_text::Text;
 
 /// Whether a pattern stands at a position of a text. The case of ASCII letters is ignored.
 pub fn matches_at<T: Text>(text: &T, p: usize, pattern: &[char]) -> bool
     requires { p ≤ length (T.text text.now) }
-    ensures { result ≡ matches_at pattern.now (T.text text.now) p }
+    ensures value { result ≡ matches_at pattern.now (T.text text.now) p }
+    ensures within { result ≡ true → p + length pattern.now ≤ length (T.text text.now) }
 {
     if text.len() - p < pattern.len() {
         return false;
@@ -25,7 +29,8 @@ pub fn matches_at<T: Text>(text: &T, p: usize, pattern: &[char]) -> bool
 /// The first position from `from` on where a pattern stands.
 pub fn find_forward<T: Text>(text: &T, from: usize, pattern: &[char]) -> Option<usize>
     requires { from ≤ length (T.text text.now) }
-    ensures { result ≡ first_match pattern.now (T.text text.now) from }
+    ensures value { result ≡ first_match pattern.now (T.text text.now) from }
+    ensures within { IfSome result (λ p. p + length pattern.now ≤ length (T.text text.now)) }
 {
     if pattern.is_empty() {
         return Some(from);
@@ -38,17 +43,18 @@ pub fn find_forward<T: Text>(text: &T, from: usize, pattern: &[char]) -> Option<
     None
 }
 
-/// The last position before `end` where a pattern stands.
-pub fn find_backward<T: Text>(text: &T, end: usize, pattern: &[char]) -> Option<usize>
-    requires { end ≤ length (T.text text.now) + 1 }
-    ensures { result ≡ last_match_before pattern.now (T.text text.now) end }
+/// The last position up to `from` where a pattern stands.
+pub fn find_backward<T: Text>(text: &T, from: usize, pattern: &[char]) -> Option<usize>
+    requires { from ≤ length (T.text text.now) }
+    ensures value { result ≡ last_match pattern.now (T.text text.now) from }
+    ensures within { IfSome result (λ p. p + length pattern.now ≤ length (T.text text.now)) }
 {
-    let mut left = end;
-    while left > 0 {
-        left -= 1;
-        if matches_at(text, left, pattern) {
-            return Some(left);
+    let mut p = from;
+    while !matches_at(text, p, pattern) {
+        if p == 0 {
+            return None;
         }
+        p -= 1;
     }
-    None
+    Some(p)
 }

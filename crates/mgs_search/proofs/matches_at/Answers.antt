@@ -2,8 +2,8 @@ use Rattle.std.proofs.Common.{ℕ, List, ◌+◌, ◌<◌, length, arith, drop, 
 use Rattle.mgs_search.proofs.Matching.{match_more, match_not, match_end}
 use Rattle.mgs_search.proofs.matches_at.Goals as goal
 
-pub returns-then-not-eq_ignore_ascii_case : goal.returns-then-not-eq_ignore_ascii_case
-returns-then-not-eq_ignore_ascii_case g c =
+pub returns-then-not-eq_ignore_ascii_case-clause-value : goal.returns-then-not-eq_ignore_ascii_case-clause-value
+returns-then-not-eq_ignore_ascii_case-clause-value g c =
     let xs : List ℕ = g.T.Text.text c.args.text.now in
     let within : c.args.p + c.loop-i.i < length xs = omega arith in
     sym (match_not c.args.pattern.now xs c.args.p c.loop-i.i c.index-pattern-i.result c.at.result c.loop-i-test.true within c.index-pattern-i.is c.at.ensures (sym c.eq_ignore_ascii_case.ensures ∙ c.if-not-eq_ignore_ascii_case.true)) ∙ c.loop-i.invariant
@@ -14,7 +14,7 @@ loop-i-preserved g c =
     let within : c.args.p + c.loop-i.i < length xs = omega arith in
     match_more c.args.pattern.now xs c.args.p c.loop-i.i c.index-pattern-i.result c.at.result c.loop-i-test.true within c.index-pattern-i.is c.at.ensures (sym c.eq_ignore_ascii_case.ensures ∙ c.if-not-eq_ignore_ascii_case.false) ∙ c.loop-i.invariant
 
-pub returns : goal.returns
-returns g c =
+pub returns-clause-value : goal.returns-clause-value
+returns-clause-value g c =
     let xs : List ℕ = g.T.Text.text c.args.text.now in
     sym (match_end c.args.pattern.now (drop c.loop-i.i (drop c.args.p xs)) c.loop-i.i (omega arith)) ∙ c.loop-i.invariant
