@@ -179,11 +179,7 @@ fn contents_refused(count: usize, row: &Value) -> Option<TableFault>
 }
 
 /// Why the table of a buffer is refused, what its file holds aside.
-pub fn refusal(
-    directory: &Directory,
-    buffers: &Buffers<GapText>,
-    row: &Value,
-) -> Option<TableFault>
+pub fn refusal(directory: &Directory, buffers: &Buffers<GapText>, row: &Value) -> Option<TableFault>
     ensures { result ≡ refused_where (has_buffer (name_of (view row.now)) buffers.now) (is_among (owner_of (view row.now)) directory.now.users) (length buffers.now) (view row.now) }
 {
     match names_refused(directory, buffers, row) {

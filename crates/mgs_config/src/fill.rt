@@ -61,11 +61,7 @@ fn has_file(row: &Value) -> bool
 
 // Adds the buffer of a table with a text. Its other faults were checked.
 #[tactic(auto, using(crate::proofs::RowLemmas::values_count))]
-fn put_buffer(
-    buffers: &mut Buffers<GapText>,
-    row: &Value,
-    text: &[char],
-) -> Result<(), TableFault>
+fn put_buffer(buffers: &mut Buffers<GapText>, row: &Value, text: &[char]) -> Result<(), TableFault>
     requires { length (listed (view row.now)) ≤ 64 }
     ensures ok { OnOk result (buffers.new ≡ buffers.old ++ buffer_of (view row.now) text.now ∷ []) }
     ensures unmarked { AreUnmarked buffers.old → AreUnmarked buffers.new }
