@@ -30,7 +30,7 @@ use Rattle.mgs_screen.specs.Screens.{window_to, windows_to, heading_to, window_m
 use Rattle.mgs_model.specs.declared.entry.Decision.{Decision}
 use Rattle.mgs_world.specs.Sound.{IsWindowSound}
 use Rattle.mgs_world.proofs.Soundness.{mark_is_kept, window_point}
-use Rattle.mgs_grid.proofs.Pictures.{length-text_rows, length-blank_rows, length-unread_rows}
+use Rattle.mgs_grid.proofs.Pictures.{length-text_rows, length-blank_rows, length-rows_put, length-unread_rows}
 use Rattle.mgs_world.proofs.Found.{found_buffer, found_seen, name_kept}
 
 -- ROWS BELOW ROWS
@@ -48,10 +48,6 @@ drop_put first k new old fits =
     ap (λ (i : ℕ). drop i (rows_put first new old)) (sym n)
     ∙ drop-append-add (take first old ++ new) (drop (first + length new) old) k
     ∙ drop-drop k (first + length new) old
-
-pub length_put : (first : ℕ) (new old : List Row) → first + length new ≤ length old → length (rows_put first new old) ≡ length old
-length_put first new old fits =
-    omega (arith, length-append (take first old ++ new) (drop (first + length new) old), length-append (take first old) new, length-take first old, length-drop (first + length new) old, fits)
 
 -- rows put below rows
 put_below : (first : ℕ) (new more old : List Row) → first + length new ≤ length old → rows_put (first + length new) more (rows_put first new old) ≡ rows_put first (new ++ more) old
