@@ -5,7 +5,7 @@ use Rattle.std.specs.Option.{option_map}
 use Rattle.std.proofs.Math.Nat.{min_comm}
 use Rattle.std.proofs.Math.Seq.{take-append_seam, drop-append-add}
 use Rattle.std.proofs.lemmas.Bool.{ne_eqb}
-use Rattle.std.proofs.lemmas.List.{length-map, length-take, length-drop, drop-drop, drop_all, append-nil, drop_more}
+use Rattle.std.proofs.lemmas.List.{length-map, length-take, drop-drop, drop_all, append-nil, drop_more}
 use Rattle.std.proofs.lemmas.List.Folds.{list_any_at}
 use Rattle.mgs_model.specs.Rights.{all_rights}
 use Rattle.mgs_model.specs.Access.{Directory, Decider, decider, decision_by, allows, any_right}
@@ -30,7 +30,7 @@ use Rattle.mgs_screen.specs.Screens.{window_to, windows_to, heading_to, window_m
 use Rattle.mgs_model.specs.declared.entry.Decision.{Decision}
 use Rattle.mgs_world.specs.Sound.{IsWindowSound}
 use Rattle.mgs_world.proofs.Soundness.{mark_is_kept, window_point}
-use Rattle.mgs_grid.proofs.Pictures.{length-text_rows, length-blank_rows, length-rows_put, length-unread_rows}
+use Rattle.mgs_grid.proofs.Pictures.{length-text_rows, length-blank_rows, length-unread_rows}
 use Rattle.mgs_world.proofs.Found.{found_buffer, found_seen, name_kept}
 
 -- ROWS BELOW ROWS
