@@ -6,6 +6,8 @@ mod buffers;
 #[cfg(test)]
 mod grid;
 #[cfg(test)]
+mod names;
+#[cfg(test)]
 mod paint;
 #[cfg(test)]
 mod plans;
