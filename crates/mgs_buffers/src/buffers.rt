@@ -11,6 +11,7 @@ ghost use Rattle.mgs_model.specs.Apply.{change_first};
 ghost use Rattle.mgs_model.specs.Completion.{completion, granted_names};
 ghost use Rattle.mgs_model.specs.World.{may};
 ghost use Rattle.mgs_buffers.specs.Adding.{add_fault, AddAnswers, NamesToAdd};
+ghost use Rattle.mgs_buffers.specs.Completed.{IsWithinName};
 ghost use Rattle.mgs_buffers.specs.Contents.{marked_of};
 ghost use Rattle.mgs_buffers.specs.MarkedBuffer.{AreUnmarked, AreWithinLimit, marked_named, marked_at, has_buffer, HasBuffer, IsMark, mark_at, marked_new, marked_edited, marked_placed, marked_unmodified, MarkAdded, MarkDropped};
 
@@ -221,7 +222,8 @@ impl<T: Marked + Drop> Buffers<T> {
     /// What is typed as a buffer's name is completed to: the longest text with which the names begin that begin with `input`, of
     /// the buffers on which a user is granted READ_ATTRIBUTES. `None`: there is no such name.
     pub fn completion(&self, directory: &Directory, user: &Name, input: &[u8]) -> Option<&[u8]>
-        ensures { option_map (λ t. t.now) result ≡ completion (granted_names directory.now user.now (map (λ k. k.buffer) self.now)) input.now }
+        ensures within { IsWithinName (option_map (λ t. t.now) result) }
+        ensures value { option_map (λ t. t.now) result ≡ completion (granted_names directory.now user.now (map (λ k. k.buffer) self.now)) input.now }
     {
         completion(&self.all, directory, user, input)
     }

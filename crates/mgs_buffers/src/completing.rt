@@ -3,6 +3,7 @@ ghost use Rattle.std.specs.Prelude.{◌≡◌, ◌≤◌, List, ℕ, map, length
 ghost use Rattle.std.specs.Option.{option_map};
 ghost use Rattle.mgs_model.specs.World.{may};
 ghost use Rattle.mgs_model.specs.Completion.{completion, narrowed, granted_names};
+ghost use Rattle.mgs_buffers.specs.Completed.{IsWithinName};
 ghost use Rattle.mgs_buffers.specs.Contents.{marked_of, marked_all};
 
 use crate::buffer::Buffer;
@@ -16,13 +17,13 @@ use mgs_policy::Directory;
 fn with_name<'a>(
     found: Option<&'a [u8]>,
     input: &[u8],
-    name: &'a Name,
+    name: &'a [u8],
     counts: bool,
 ) -> Option<&'a [u8]>
     ensures { option_map (λ t. t.now) result ≡ cond counts (narrowed input.now (option_map (λ t. t.now) found.entry) name.now) (option_map (λ t. t.now) found.entry) }
 {
     if counts {
-        narrowed(input, found, name.as_bytes())
+        narrowed(input, found, name)
     } else {
         found
     }
@@ -37,10 +38,11 @@ fn with_buffer<'a, T: Marked + Drop>(
     name: &'a Name,
     buffer: &Buffer<T>,
 ) -> Option<&'a [u8]>
-    ensures { option_map (λ t. t.now) result ≡ cond (may directory.now user.now Right.ReadAttributes (marked_of T.text T.marks name.now buffer.now).buffer) (narrowed input.now (option_map (λ t. t.now) found.entry) name.now) (option_map (λ t. t.now) found.entry) }
+    ensures within { IsWithinName (option_map (λ t. t.now) found.entry) → IsWithinName (option_map (λ t. t.now) result) }
+    ensures value { option_map (λ t. t.now) result ≡ cond (may directory.now user.now Right.ReadAttributes (marked_of T.text T.marks name.now buffer.now).buffer) (narrowed input.now (option_map (λ t. t.now) found.entry) name.now) (option_map (λ t. t.now) found.entry) }
 {
     let counts = buffer.grants(directory, user, Right::ReadAttributes);
-    with_name(found, input, name, counts)
+    with_name(found, input, name.as_bytes(), counts)
 }
 
 #[tactic(auto, using(crate::proofs::Completed::by_names))]
@@ -50,7 +52,8 @@ pub(crate) fn completion<'a, T: Marked + Drop>(
     user: &Name,
     input: &[u8],
 ) -> Option<&'a [u8]>
-    ensures { option_map (λ t. t.now) result ≡ completion (granted_names directory.now user.now (map (λ k. k.buffer) (marked_all T.text T.marks all.now.entries))) input.now }
+    ensures within { IsWithinName (option_map (λ t. t.now) result) }
+    ensures value { option_map (λ t. t.now) result ≡ completion (granted_names directory.now user.now (map (λ k. k.buffer) (marked_all T.text T.marks all.now.entries))) input.now }
 {
     let mut found = None;
     for (name, buffer) in all.iter() {

@@ -8,6 +8,8 @@ mod cases;
 #[cfg(test)]
 mod grid;
 #[cfg(test)]
+mod names;
+#[cfg(test)]
 mod paint;
 #[cfg(test)]
 mod plans;

@@ -1,5 +1,5 @@
 // The input of a prompt, byte by byte.
-use mgs_mini::{Prompt, Step};
+use mgs_mini::{Prompt, Step, completion};
 use mgs_model::Question;
 
 // What the bytes make of a new prompt: what the last one comes to, and the input.
@@ -42,4 +42,38 @@ fn the_input_ends_at_120(rt: HostRuntime) {
     let more = [b'a'; 121];
     assert!(rt; comes_to(&full, Step::GoesOn, &full));
     assert!(rt; comes_to(&more, Step::GoesOn, &full));
+}
+
+#[test]
+fn what_names_have_in_common(rt: HostRuntime) {
+    let names = [
+        b"notes.txt".as_slice(),
+        b"notebook".as_slice(),
+        b"other".as_slice(),
+        b"note".as_slice(),
+    ];
+    for (input, wanted) in [
+        (b"".as_slice(), Some(b"".as_slice())),
+        (b"n".as_slice(), Some(b"note".as_slice())),
+        (b"note".as_slice(), Some(b"note".as_slice())),
+        (b"notes".as_slice(), Some(b"notes.txt".as_slice())),
+        (b"other".as_slice(), Some(b"other".as_slice())),
+        (b"others".as_slice(), None),
+        (b"N".as_slice(), None),
+    ] {
+        assert!(rt; completion(input, &names) == wanted);
+    }
+    assert!(rt; completion(b"", &[]) == None);
+}
+
+#[test]
+fn a_prompt_takes_its_completion_in(rt: HostRuntime) {
+    let mut prompt = Prompt::new(Question::KillWhich);
+    prompt.feed(b'n');
+    assert!(rt; prompt.complete(Some(b"notes".as_slice())));
+    assert!(rt; prompt.input() == b"notes".as_slice());
+    assert!(rt; !prompt.complete(None));
+    assert!(rt; prompt.input() == b"notes".as_slice());
+    assert_eq!(rt; prompt.feed(0x7F), Step::GoesOn);
+    assert!(rt; prompt.input() == b"note".as_slice());
 }
