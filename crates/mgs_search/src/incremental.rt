@@ -1,10 +1,10 @@
 // An incremental search, typed byte by byte.
 ghost use Rattle.std.specs.Prelude.{◌≡◌, ◌+◌, ◌≤◌, [], length, Bool, false, IfSome};
 ghost use Rattle.mgs_model.specs.Keys.{is_graphic};
-ghost use Rattle.mgs_model.specs.Searching.{lengthened, shortened, directed, dropped, read_byte, match_from, match_past, match_point, found_places, is_none, places_after, sought_after};
+ghost use Rattle.mgs_model.specs.Searching.{lengthened, shortened, directed, dropped, read_byte, match_point, found_places, is_none, places_after, sought_after};
 ghost use Rattle.mgs_model.specs.declared.search.Direction.{Direction};
 
-use crate::{find_backward, find_forward};
+use crate::{find_from, find_past};
 use arrayvec::ArrayVec;
 use mgs_model::{Direction, SearchPlaces, SearchStep};
 use mgs_text::Text;
@@ -68,32 +68,6 @@ fn direct(pattern: &mut ArrayVec<char, 120>, last: &[char]) -> SearchStep
     }
     let _fits = pattern.try_extend_from_slice(last);
     SearchStep::FromAnchor
-}
-
-// The next match in a direction from a position on, which counts.
-fn find_from<T: Text>(text: &T, direction: Direction, p: usize, pattern: &[char]) -> Option<usize>
-    requires { p ≤ length (T.text text.now) }
-    ensures value { result ≡ match_from direction pattern.now (T.text text.now) p }
-    ensures within { IfSome result (λ m. m + length pattern.now ≤ length (T.text text.now)) }
-{
-    match direction {
-        Direction::Forward => find_forward(text, p, pattern),
-        Direction::Backward => find_backward(text, p, pattern),
-    }
-}
-
-// The position does not count.
-fn find_past<T: Text>(text: &T, direction: Direction, p: usize, pattern: &[char]) -> Option<usize>
-    requires { p ≤ length (T.text text.now) }
-    ensures value { result ≡ match_past direction pattern.now (T.text text.now) p }
-    ensures within { IfSome result (λ m. m + length pattern.now ≤ length (T.text text.now)) }
-{
-    match direction {
-        Direction::Forward if p < text.len() => find_forward(text, p + 1, pattern),
-        Direction::Backward if p > 0 => find_backward(text, p - 1, pattern),
-        Direction::Forward => None,
-        Direction::Backward => None,
-    }
 }
 
 fn back_at_origin(places: SearchPlaces) -> SearchPlaces
@@ -196,10 +170,17 @@ impl IncrementalSearch {
     }
 
     // What it looked for, where it was found.
-    fn arrive<T: Text>(&mut self, text: &T, found: Option<usize>, places: SearchPlaces) -> SearchPlaces
+    fn arrive<T: Text>(
+        &mut self,
+        text: &T,
+        found: Option<usize>,
+        places: SearchPlaces,
+    ) -> SearchPlaces
         requires { IfSome found (λ m. m + length self.old.pattern ≤ length (T.text text.now)) }
         ensures sought { self.new ≡ record self.old { failing = is_none found } }
         ensures places { result ≡ found_places found self.old places }
+        ensures anchor { places.anchor ≤ length (T.text text.now) → result.anchor ≤ length (T.text text.now) }
+        ensures point { places.point ≤ length (T.text text.now) → result.point ≤ length (T.text text.now) }
     {
         match found {
             None => {
@@ -219,11 +200,18 @@ impl IncrementalSearch {
 
     /// Does a step in a text, and tells the positions afterwards. Where it looks for the pattern and finds nothing, the point
     /// stays, and so does the anchor, but for `FromOrigin`.
-    pub fn look<T: Text>(&mut self, text: &T, step: SearchStep, places: SearchPlaces) -> SearchPlaces
+    pub fn look<T: Text>(
+        &mut self,
+        text: &T,
+        step: SearchStep,
+        places: SearchPlaces,
+    ) -> SearchPlaces
         requires origin { places.origin ≤ length (T.text text.now) }
         requires anchor { places.anchor ≤ length (T.text text.now) }
         ensures sought { self.new ≡ sought_after step self.old (T.text text.now) places }
         ensures places { result ≡ places_after step self.old (T.text text.now) places }
+        ensures anchor { result.anchor ≤ length (T.text text.now) }
+        ensures point { places.point ≤ length (T.text text.now) → result.point ≤ length (T.text text.now) }
     {
         match step {
             SearchStep::FromAnchor => {

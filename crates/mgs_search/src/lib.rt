@@ -2,11 +2,13 @@
 #![tactic(auto)]
 
 ghost use Rattle.std.specs.Prelude.{◌≡◌, ◌+◌, ◌≤◌, length, IfSome, true};
-ghost use Rattle.mgs_model.specs.Searching.{matches_at, first_match, last_match};
+ghost use Rattle.mgs_model.specs.Searching.{matches_at, first_match, last_match, match_from, match_past};
+ghost use Rattle.mgs_model.specs.declared.search.Direction.{Direction};
 
 mod incremental;
 
 pub use incremental::IncrementalSearch;
+use mgs_model::Direction;
 use mgs_text::Text;
 
 /// Whether a pattern stands at a position of a text. The case of ASCII letters is ignored.
@@ -57,4 +59,40 @@ pub fn find_backward<T: Text>(text: &T, from: usize, pattern: &[char]) -> Option
         p -= 1;
     }
     Some(p)
+}
+
+/// The next position in a direction where a pattern stands. The position `p` itself counts.
+pub fn find_from<T: Text>(
+    text: &T,
+    direction: Direction,
+    p: usize,
+    pattern: &[char],
+) -> Option<usize>
+    requires { p ≤ length (T.text text.now) }
+    ensures value { result ≡ match_from direction pattern.now (T.text text.now) p }
+    ensures within { IfSome result (λ m. m + length pattern.now ≤ length (T.text text.now)) }
+{
+    match direction {
+        Direction::Forward => find_forward(text, p, pattern),
+        Direction::Backward => find_backward(text, p, pattern),
+    }
+}
+
+/// The next position in a direction where a pattern stands. The position `p` itself does not count.
+pub fn find_past<T: Text>(
+    text: &T,
+    direction: Direction,
+    p: usize,
+    pattern: &[char],
+) -> Option<usize>
+    requires { p ≤ length (T.text text.now) }
+    ensures value { result ≡ match_past direction pattern.now (T.text text.now) p }
+    ensures within { IfSome result (λ m. m + length pattern.now ≤ length (T.text text.now)) }
+{
+    match direction {
+        Direction::Forward if p < text.len() => find_forward(text, p + 1, pattern),
+        Direction::Backward if p > 0 => find_backward(text, p - 1, pattern),
+        Direction::Forward => None,
+        Direction::Backward => None,
+    }
 }

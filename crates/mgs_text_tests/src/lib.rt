@@ -28,6 +28,8 @@ mod prompts;
 #[cfg(test)]
 mod rights;
 #[cfg(test)]
+mod searches;
+#[cfg(test)]
 mod text;
 #[cfg(test)]
 mod undo;

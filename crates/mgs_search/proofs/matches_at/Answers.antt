@@ -1,4 +1,4 @@
-use Rattle.std.proofs.Common.{ℕ, List, ◌+◌, ◌<◌, length, arith, drop, refl, sym, ◌∙◌}
+use Rattle.std.proofs.Common.{ℕ, List, ◌+◌, ◌<◌, length, arith, drop, sym, ◌∙◌}
 use Rattle.mgs_search.proofs.Matching.{match_more, match_not, match_end}
 use Rattle.mgs_search.proofs.matches_at.Goals as goal
 
