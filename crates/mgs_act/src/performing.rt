@@ -319,14 +319,7 @@ fn take_back<T: Marked + Drop>(
 {
     let name = &window_marks.name;
     let behind = restore(alloc, buffers, name, undone)?;
-    leave(
-        buffers,
-        session,
-        window_marks,
-        &undone.finish,
-        behind,
-        None,
-    );
+    leave(buffers, session, window_marks, &undone.finish, behind, None);
     Ok(())
 }
 

@@ -17,8 +17,8 @@ use crate::action::Action;
 use crate::given::Given;
 use mgs_buffers::Buffers;
 use mgs_edit::{
-    Around, Change, Finish, alteration, insertion, is_edit, is_kill_too_large, is_too_long, motion,
-    is_undo_an_edit, is_undo_too_long, reading_insertion, scroll, undo, undo_target, Undone,
+    Around, Change, Finish, Undone, alteration, insertion, is_edit, is_kill_too_large, is_too_long,
+    is_undo_an_edit, is_undo_too_long, motion, reading_insertion, scroll, undo, undo_target,
 };
 use mgs_marks::Marked;
 use mgs_model::{Command, Decision, Kind, Mask, Message, Name, Right};

@@ -154,8 +154,8 @@ all_within text [] h = refl
 all_within text (name ∷ names) h =
     let rest : Bool = list_all (λ n. begins_with n text) names in
     both (nat_le (length text) (length name)) (list_all (λ n. nat_le (length text) (length n)) names)
-      (le-leb (length text) (length name) (no_longer name text (left (begins_with name text) rest h)))
-      (all_within text names (right (begins_with name text) rest h))
+    (le-leb (length text) (length name) (no_longer name text (left (begins_with name text) rest h)))
+    (all_within text names (right (begins_with name text) rest h))
 
 common_is : (input : List ℕ) (names : List (List ℕ)) → AllBegin names input → IfSome (common_of names) (IsCompletion names input)
 common_is input [] h = tt
