@@ -179,6 +179,7 @@ impl IncrementalSearch {
         requires { IfSome found (λ m. m + length self.old.pattern ≤ length (T.text text.now)) }
         ensures sought { self.new ≡ record self.old { failing = is_none found } }
         ensures places { result ≡ found_places found self.old places }
+        ensures origin { result.origin ≡ places.origin }
         ensures anchor { places.anchor ≤ length (T.text text.now) → result.anchor ≤ length (T.text text.now) }
         ensures point { places.point ≤ length (T.text text.now) → result.point ≤ length (T.text text.now) }
     {
@@ -210,6 +211,7 @@ impl IncrementalSearch {
         requires anchor { places.anchor ≤ length (T.text text.now) }
         ensures sought { self.new ≡ sought_after step self.old (T.text text.now) places }
         ensures places { result ≡ places_after step self.old (T.text text.now) places }
+        ensures origin { result.origin ≡ places.origin }
         ensures anchor { result.anchor ≤ length (T.text text.now) }
         ensures point { places.point ≤ length (T.text text.now) → result.point ≤ length (T.text text.now) }
     {

@@ -2,6 +2,7 @@
 #![tactic(auto)]
 
 ghost use Rattle.std.specs.Prelude.{◌≡◌, ◌+◌, ◌≤◌, length, IfSome, true};
+ghost use Rattle.std.specs.Char.{eq_ignore_ascii_case};
 ghost use Rattle.mgs_model.specs.Searching.{matches_at, first_match, last_match, match_from, match_past};
 ghost use Rattle.mgs_model.specs.declared.search.Direction.{Direction};
 
@@ -10,6 +11,13 @@ mod incremental;
 pub use incremental::IncrementalSearch;
 use mgs_model::Direction;
 use mgs_text::Text;
+
+// The case of ASCII letters is ignored.
+fn is_same(a: char, b: char) -> bool
+    ensures { result ≡ eq_ignore_ascii_case a b }
+{
+    a.eq_ignore_ascii_case(&b)
+}
 
 /// Whether a pattern stands at a position of a text. The case of ASCII letters is ignored.
 pub fn matches_at<T: Text>(text: &T, p: usize, pattern: &[char]) -> bool
@@ -21,7 +29,7 @@ pub fn matches_at<T: Text>(text: &T, p: usize, pattern: &[char]) -> bool
         return false;
     }
     for (i, c) in pattern.iter().enumerate() {
-        if !c.eq_ignore_ascii_case(&text.at(p + i)) {
+        if !is_same(*c, text.at(p + i)) {
             return false;
         }
     }
