@@ -13,7 +13,7 @@ use Rattle.std.proofs.lemmas.Nat.{le_or_l, le_or_r}
 use Rattle.std.proofs.lemmas.List.{at_drop_more}
 use Rattle.std.proofs.lemmas.List.Sums.{AllPass-from_list_all}
 use Rattle.mgs_model.proofs.Firsts.{found_passes}
-use Rattle.mgs_model.specs.Names.{is_user_char, is_user_name}
+use Rattle.mgs_model.specs.Names.{is_space, is_user_char, is_user_name}
 use Rattle.mgs_model.specs.Rights.{bit_of, letter_of, has_right, rights_in, all_rights}
 use Rattle.mgs_model.specs.Draw.{type_text, who_text, entry_text}
 use Rattle.mgs_model.specs.declared.right.Right.{Right}
@@ -23,7 +23,7 @@ use Rattle.mgs_model.specs.declared.entry.EntryType.TheVariants.{Allow, Deny}
 use Rattle.mgs_model.specs.declared.entry.Who.{Who}
 use Rattle.mgs_model.specs.declared.entry.Who.TheVariants.{Owner, Everyone, User, Group}
 use Rattle.mgs_model.specs.declared.entry.Entry.{Entry}
-use Rattle.mgs_acl.specs.Spelling.{is_space, is_filled, words, type_named, after_group, named_who, who_named, right_lettered, is_letter, bit_or_none, with_letter, mask_lettered, said, checked, entry_of_words, entry_in}
+use Rattle.mgs_acl.specs.Spelling.{is_filled, words, type_named, after_group, named_who, who_named, right_lettered, is_letter, bit_or_none, with_letter, mask_lettered, said, checked, entry_of_words, entry_in}
 use Rattle.mgs_acl.specs.Written.{is_writable_who, mask_of, IsWritable}
 use Rattle.mgs_acl.proofs.Masks.{with_right, mask_of-rights_in}
 

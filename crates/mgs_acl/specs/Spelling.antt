@@ -4,7 +4,7 @@ use Rattle.std.specs.Int.Bits.{bit_or}
 use Rattle.std.specs.Option.{option_map, option_and_then}
 use Rattle.std.specs.List.{slice_split, list_all, starts_with}
 use Rattle.std.specs.Str.{bytes_eq}
-use Rattle.mgs_model.specs.Names.{is_user_name}
+use Rattle.mgs_model.specs.Names.{is_space, is_user_name}
 use Rattle.mgs_model.specs.Rights.{bit_of, letter_of, all_rights}
 use Rattle.mgs_model.specs.declared.right.Right.{Right}
 use Rattle.mgs_model.specs.declared.entry.EntryType.{EntryType}
@@ -16,9 +16,6 @@ use Rattle.mgs_acl.specs.declared.spelling.EntryFault.{EntryFault}
 use Rattle.mgs_acl.specs.declared.spelling.EntryFault.TheVariants as faults
 
 -- WORDS
-
-abbrev pub is_space : ℕ → Bool
-is_space c = c == 32
 
 -- there is a character
 abbrev pub is_filled : List ℕ → Bool

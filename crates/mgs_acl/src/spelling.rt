@@ -2,8 +2,9 @@
 ghost use Rattle.std.specs.Prelude.{◌≡◌, ◌<◌};
 ghost use Rattle.std.specs.Option.{option_map};
 ghost use Rattle.std.specs.List.{before_first, after_first};
+ghost use Rattle.mgs_model.specs.Names.{is_space};
 ghost use Rattle.mgs_model.specs.Rights.{letter_of};
-ghost use Rattle.mgs_acl.specs.Spelling.{is_space, words, words_cut, type_named, user_named, after_group, named_who, who_named, right_lettered, mask_lettered, entry_in};
+ghost use Rattle.mgs_acl.specs.Spelling.{words, words_cut, type_named, user_named, after_group, named_who, who_named, right_lettered, mask_lettered, entry_in};
 
 use mgs_model::{Entry, EntryType, Mask, Name, Right, Who};
 use thiserror::Error;

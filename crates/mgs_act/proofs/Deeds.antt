@@ -6,7 +6,7 @@ use Rattle.std.specs.Option.{option_and_then, option_map}
 use Rattle.std.proofs.lemmas.List.{map-id, set-get_or}
 use Rattle.std.proofs.lemmas.Option.{get_or_from_slice_get}
 use Rattle.mgs_model.specs.Access.{Directory}
-use Rattle.mgs_model.specs.World.{World, first_own, has_id}
+use Rattle.mgs_model.specs.World.{Item, World, first_own, has_id}
 use Rattle.mgs_model.specs.World as model
 use Rattle.mgs_model.specs.Outcome.{Adjust, Effect, No_effect, Edit, Unmodified, Outcome, PointPlan, Keep, At, At_origin, Keep_mark}
 use Rattle.mgs_model.specs.Plans as plans
@@ -24,11 +24,11 @@ use Rattle.mgs_windows.specs.declared.WindowMarks.{WindowMarks}
 use Rattle.mgs_session.specs.Sessions.{acted, failed, told, window_marks_of}
 use Rattle.mgs_session.specs.declared.Own.{Own}
 use Rattle.mgs_session.specs.declared.Session.{Session}
-use Rattle.mgs_edit.specs.Reading.{change_read, finish_read, kill_read, mark_read, put_read}
+use Rattle.mgs_edit.specs.Reading.{change_read, finish_read, kill_read, mark_read, put_read, undone_read}
 use Rattle.mgs_edit.specs.declared.plan.Finish.{Finish}
 use Rattle.mgs_act.specs.declared.action.Action.{Action}
-use Rattle.mgs_act.specs.declared.action.Action.TheVariants.{Fails, Edits, Moves, Clears}
-use Rattle.mgs_act.specs.Actions.{AreMarks, CanBeDone, edited_by, kill_at, kill_or_none, mark_gone, mark_told, marked_after, marks_gone, outcome_through, session_acted, session_finished}
+use Rattle.mgs_act.specs.declared.action.Action.TheVariants.{Fails, Edits, Undoes, Moves, Clears}
+use Rattle.mgs_act.specs.Actions.{AreMarks, CanBeDone, edited_by, kill_at, kill_or_none, mark_gone, mark_told, marked_after, marks_gone, outcome_through, removed_by, session_acted, session_finished}
 use Rattle.mgs_world.specs.Sound.{IsSound, one_if, session_uses, uses, window_marks_uses}
 use Rattle.mgs_world.specs.Worlds.{buffers_of, id_after, idle, own_at, own_of, own_or_first, session_id, session_of, size_in, sizes_in, world_of}
 use Rattle.mgs_world.proofs.Sessions.{session_found}
@@ -245,40 +245,52 @@ cleared_so directory ks xs next id at h name place within is fresh =
 -- ANY ACTION
 
 done_so : (directory : Directory) (ks : List MarkedBuffer) (xs : List Session) (next : Option ℕ) (id at : ℕ) (x : WindowMarks) (h : Session) (action : Action) → IsSound ks xs → at ≡ position_or_len (session_id id) xs → at < length xs → slice_get xs at ≡ Some h → window_marks_of h ≡ Some x → AreMarks ks x → own_of h.own ≡ idle h.own.kind → CanBeDone ks x h.kill action → mark_told action ≡ None
-    → (let text = (marked_at x.name ks).buffer.text in world_of directory (marked_after x text h.kill action ks) (slice_set xs at (session_acted text action h)) next ≡ apply (world_of directory ks xs next) id (outcome_through (own_of h.own) x ks h.kill action))
+    → (let text = (marked_at x.name ks).buffer.text in let items = (marked_at x.name ks).buffer.items in world_of directory (marked_after x text items h.kill action ks) (slice_set xs at (session_acted text action h)) next ≡ apply (world_of directory ks xs next) id (outcome_through (own_of h.own) x ks h.kill action))
 done_so directory ks xs next id at x h (Fails message) sound place within is sel marks fresh can none =
     failed_so directory ks xs next id at h message place within is fresh
 done_so directory ks xs next id at x h (Edits c) sound place within is sel marks fresh can none =
     let text = (marked_at x.name ks).buffer.text in
     finished_so directory ks xs next id at h x (change_read text h.kill c) (c.from + length (put_read text h.kill c.put)) text c.finish sound place within is sel marks fresh none can.small
+done_so directory ks xs next id at x h (Undoes u) sound place within is sel marks fresh can none =
+    let text = (marked_at x.name ks).buffer.text in
+    let back = removed_by u.serial (marked_at x.name ks).buffer.items in
+    finished_so directory ks xs next id at h x (undone_read text h.kill back u) (u.from + length back) text u.finish sound place within is sel marks fresh can.finish.mark (ap (λ k. is_too_large (kill_read text h.kill k)) can.finish.kill)
 done_so directory ks xs next id at x h (Moves f) sound place within is sel marks fresh can none =
     let text = (marked_at x.name ks).buffer.text in
     finished_so directory ks xs next id at h x (record { a = 0; b = 0; put = []; finish = finish_read text h.kill 0 f }) 0 text f sound place within is sel marks fresh none can.small
 done_so directory ks xs next id at x h Clears sound place within is sel marks fresh can none =
     cleared_so directory ks xs next id at h x.name place within is fresh
 
-pub kept_sound : (ks : List MarkedBuffer) (xs : List Session) (x : WindowMarks) (text kill : List ℕ) (action : Action) → AreMarks ks x → IsSound ks xs → IsSound (marked_after x text kill action ks) xs
-kept_sound ks xs x text kill (Fails message) marks sound = sound
-kept_sound ks xs x text kill (Edits c) marks sound =
+pub kept_sound : (ks : List MarkedBuffer) (xs : List Session) (x : WindowMarks) (text : List ℕ) (items : List Item) (kill : List ℕ) (action : Action) → AreMarks ks x → IsSound ks xs → IsSound (marked_after x text items kill action ks) xs
+kept_sound ks xs x text items kill (Fails message) marks sound = sound
+kept_sound ks xs x text items kill (Edits c) marks sound =
     let change = change_read text kill c in
     let ks1 = edited_by x.name change ks in
     let point = mark_edited_by x.name change ks x.point marks.point in
     let top = mark_still x.name x.point x.top change.finish.point ks1 point (mark_edited_by x.name change ks x.top marks.top) in
     gone_sound x.name x.top change.finish.top _ xs top (gone_sound x.name x.point change.finish.point ks1 xs point (edited_sound x.name change ks xs sound))
-kept_sound ks xs x text kill (Moves f) marks sound =
+kept_sound ks xs x text items kill (Undoes u) marks sound =
+    let change = undone_read text kill (removed_by u.serial items) u in
+    let ks1 = edited_by x.name change ks in
+    let point = mark_edited_by x.name change ks x.point marks.point in
+    let top = mark_still x.name x.point x.top change.finish.point ks1 point (mark_edited_by x.name change ks x.top marks.top) in
+    gone_sound x.name x.top change.finish.top _ xs top (gone_sound x.name x.point change.finish.point ks1 xs point (edited_sound x.name change ks xs sound))
+kept_sound ks xs x text items kill (Moves f) marks sound =
     let left = finish_read text kill 0 f in
     gone_sound x.name x.top left.top _ xs (mark_still x.name x.point x.top left.point ks marks.point marks.top) (gone_sound x.name x.point left.point ks xs marks.point sound)
-kept_sound ks xs x text kill Clears marks sound = sound_unmodified x.name ks xs sound
+kept_sound ks xs x text items kill Clears marks sound = sound_unmodified x.name ks xs sound
 
 pub uses_after : (text : List ℕ) (action : Action) (h : Session) (n : List ℕ) (i : ℕ) → session_uses n i (session_acted text action h) ≡ session_uses n i h
 uses_after text (Fails message) h n i = refl
 uses_after text (Edits c) h n i = refl
+uses_after text (Undoes u) h n i = refl
 uses_after text (Moves f) h n i = refl
 uses_after text Clears h n i = refl
 
 pub size_after : (text : List ℕ) (action : Action) (h : Session) → size_in (session_acted text action h) ≡ size_in h
 size_after text (Fails message) h = refl
 size_after text (Edits c) h = refl
+size_after text (Undoes u) h = refl
 size_after text (Moves f) h = refl
 size_after text Clears h = refl
 
@@ -293,17 +305,17 @@ acting_marks ks xs at x sound sel = record {
   top = acting_mark ks xs at x x.top sound sel (top_used_once x);
 }
 
-pub after_sound : {T E : Type 0} (r : Result T E) (ks ls : List MarkedBuffer) (xs : List Session) (at : ℕ) (x : WindowMarks) (text : List ℕ) (h y : Session) (action : Action) → slice_get xs at ≡ Some h → OnOk r (ls ≡ marked_after x text h.kill action ks) → OnOk r (y ≡ session_acted text action h) → OnErr r (ls ≡ ks) → OnErr r (y ≡ h) → AreMarks ks x → IsSound ks xs → IsSound ls (slice_set xs at y)
-after_sound (Ok o) ks ls xs at x text h y action is ok acts err same marks sound =
-    rw (ok, acts) (sound_set (marked_after x text h.kill action ks) xs at h (session_acted text action h) (sym (get_or_from_slice_get xs at h h is)) (uses_after text action h) (kept_sound ks xs x text h.kill action marks sound))
-after_sound (Err e) ks ls xs at x text h y action is ok acts err same marks sound =
+pub after_sound : {T E : Type 0} (r : Result T E) (ks ls : List MarkedBuffer) (xs : List Session) (at : ℕ) (x : WindowMarks) (text : List ℕ) (items : List Item) (h y : Session) (action : Action) → slice_get xs at ≡ Some h → OnOk r (ls ≡ marked_after x text items h.kill action ks) → OnOk r (y ≡ session_acted text action h) → OnErr r (ls ≡ ks) → OnErr r (y ≡ h) → AreMarks ks x → IsSound ks xs → IsSound ls (slice_set xs at y)
+after_sound (Ok o) ks ls xs at x text items h y action is ok acts err same marks sound =
+    rw (ok, acts) (sound_set (marked_after x text items h.kill action ks) xs at h (session_acted text action h) (sym (get_or_from_slice_get xs at h h is)) (uses_after text action h) (kept_sound ks xs x text items h.kill action marks sound))
+after_sound (Err e) ks ls xs at x text items h y action is ok acts err same marks sound =
     rw (err, same) (sound_set ks xs at h h (sym (get_or_from_slice_get xs at h h is)) (λ n i. refl) sound)
 
 pub after_sizes : {T E : Type 0} (r : Result T E) (xs : List Session) (at : ℕ) (text : List ℕ) (h y : Session) (action : Action) → slice_get xs at ≡ Some h → OnOk r (y ≡ session_acted text action h) → OnErr r (y ≡ h) → sizes_in (slice_set xs at y) ≡ sizes_in xs
 after_sizes (Ok o) xs at text h y action is acts same = rw acts (sizes_set xs at h (session_acted text action h) (sym (get_or_from_slice_get xs at h h is)) (size_after text action h))
 after_sizes (Err e) xs at text h y action is acts same = rw same (sizes_set xs at h h (sym (get_or_from_slice_get xs at h h is)) refl)
 
-pub after_ok : {T E : Type 0} (r : Result T E) (ks ls : List MarkedBuffer) (xs : List Session) (at : ℕ) (x : WindowMarks) (h y : Session) (action : Action) → slice_get xs at ≡ Some h → (let text = (marked_at x.name ks).buffer.text in OnOk r (ls ≡ marked_after x text h.kill action ks) → OnOk r (y ≡ session_acted text action h) → IsSound ks xs → at < length xs → option_and_then window_marks_of (slice_get xs at) ≡ Some x → own_at at xs ≡ idle (own_at at xs).kind → CanBeDone ks x (kill_at at xs) action → mark_told action ≡ None → OnOk r ((directory : Directory) (id : ℕ) (next : Option ℕ) → at ≡ position_or_len (session_id id) xs → world_of directory ls (slice_set xs at y) next ≡ apply (world_of directory ks xs next) id (outcome_through (own_at at xs) x ks (kill_at at xs) action)))
+pub after_ok : {T E : Type 0} (r : Result T E) (ks ls : List MarkedBuffer) (xs : List Session) (at : ℕ) (x : WindowMarks) (h y : Session) (action : Action) → slice_get xs at ≡ Some h → (let text = (marked_at x.name ks).buffer.text in OnOk r (ls ≡ marked_after x text (marked_at x.name ks).buffer.items h.kill action ks) → OnOk r (y ≡ session_acted text action h) → IsSound ks xs → at < length xs → option_and_then window_marks_of (slice_get xs at) ≡ Some x → own_at at xs ≡ idle (own_at at xs).kind → CanBeDone ks x (kill_at at xs) action → mark_told action ≡ None → OnOk r ((directory : Directory) (id : ℕ) (next : Option ℕ) → at ≡ position_or_len (session_id id) xs → world_of directory ls (slice_set xs at y) next ≡ apply (world_of directory ks xs next) id (outcome_through (own_at at xs) x ks (kill_at at xs) action)))
 after_ok (Ok o) ks ls xs at x h y action is ok acts sound within sel fresh can none = λ directory id next place.
     let sel_h : window_marks_of h ≡ Some x = sym (ap (option_and_then window_marks_of) is) ∙ sel in
     rw (ok, acts) (done_so directory ks xs next id at x h action sound place within is sel_h (acting_marks ks xs at x sound sel) (fresh_own xs at h is fresh) (subst (λ o. CanBeDone ks x (kill_or_none o) action) is can) none

@@ -7,7 +7,7 @@ use Rattle.std.proofs.lemmas.List.{map-id}
 use Rattle.std.proofs.lemmas.Option.{get_or_from_slice_get}
 use Rattle.mgs_model.specs.Text.{is_edit}
 use Rattle.mgs_model.specs.Access.{Directory}
-use Rattle.mgs_model.specs.World.{World, has_id}
+use Rattle.mgs_model.specs.World.{Item, World, has_id}
 use Rattle.mgs_model.specs.World as model
 use Rattle.mgs_model.specs.Outcome.{Edit, Effect, No_effect, Outcome, Keep, Keep_mark, Mark_at, effect_takes_memory, takes_memory}
 use Rattle.mgs_model.specs.Plans as plans
@@ -20,11 +20,11 @@ use Rattle.mgs_buffers.specs.MarkedBuffer.{HasBuffer, IsMark, MarkedBuffer, mark
 use Rattle.mgs_windows.specs.declared.WindowMarks.{WindowMarks}
 use Rattle.mgs_session.specs.Sessions.{window_marks_of}
 use Rattle.mgs_session.specs.declared.Session.{Session}
-use Rattle.mgs_edit.specs.Reading.{IsWithin, change_read, finish_read, kill_read, mark_read, put_read}
+use Rattle.mgs_edit.specs.Reading.{IsWithin, change_read, finish_read, kill_read, mark_read, put_read, undone_read}
 use Rattle.mgs_edit.specs.declared.plan.Finish.{Finish}
 use Rattle.mgs_act.specs.declared.action.Action.{Action}
-use Rattle.mgs_act.specs.declared.action.Action.TheVariants.{Fails, Edits, Moves, Clears}
-use Rattle.mgs_act.specs.Actions.{AreMarks, CanBeDone, IsMarked, edited_by, kill_at, kill_or_none, mark_gone, mark_told, marked_after, marks_gone, outcome_through, session_acted, session_finished}
+use Rattle.mgs_act.specs.declared.action.Action.TheVariants.{Fails, Edits, Undoes, Moves, Clears}
+use Rattle.mgs_act.specs.Actions.{AreMarks, CanBeDone, IsMarked, edited_by, kill_at, kill_or_none, mark_gone, mark_told, marked_after, marks_gone, outcome_through, removed_by, session_acted, session_finished}
 use Rattle.mgs_world.specs.Marking.{IsReserved, mark_at_place, session_marked}
 use Rattle.mgs_world.specs.Sound.{IsSound, session_uses, uses}
 use Rattle.mgs_world.specs.WindowMarks.{WindowMarksDropped}
@@ -132,11 +132,14 @@ mark_there x mid c f ls mark marks =
     let top = mark_still x.name x.point x.top f.point ls1 point (mark_edited_by x.name c ls x.top marks.top) in
     mark_still x.name x.top mid f.top (mark_gone x.name x.point f.point ls1) top (mark_still x.name x.point mid f.point ls1 point (mark_edited_by x.name c ls mid mark))
 
-pub mark_after_action : (x : WindowMarks) (mid : ℕ) (text kill : List ℕ) (action : Action) (ls : List MarkedBuffer) → IsMark x.name mid ls → AreMarks ls x → IsMark x.name mid (marked_after x text kill action ls)
-mark_after_action x mid text kill (Fails message) ls mark marks = mark
-mark_after_action x mid text kill (Edits c) ls mark marks = mark_there x mid (change_read text kill c) (change_read text kill c).finish ls mark marks
-mark_after_action x mid text kill (Moves f) ls mark marks = mark_there x mid (record { a = 0; b = 0; put = []; finish = finish_read text kill 0 f }) (finish_read text kill 0 f) ls mark marks
-mark_after_action x mid text kill Clears ls mark marks = ap (λ (ms : List (Option ℕ)). is_some (mark_in ms mid)) (marks_unmodified x.name x.name ls) ∙ mark
+pub mark_after_action : (x : WindowMarks) (mid : ℕ) (text : List ℕ) (items : List Item) (kill : List ℕ) (action : Action) (ls : List MarkedBuffer) → IsMark x.name mid ls → AreMarks ls x → IsMark x.name mid (marked_after x text items kill action ls)
+mark_after_action x mid text items kill (Fails message) ls mark marks = mark
+mark_after_action x mid text items kill (Edits c) ls mark marks = mark_there x mid (change_read text kill c) (change_read text kill c).finish ls mark marks
+mark_after_action x mid text items kill (Undoes u) ls mark marks =
+    let c = undone_read text kill (removed_by u.serial items) u in
+    mark_there x mid c c.finish ls mark marks
+mark_after_action x mid text items kill (Moves f) ls mark marks = mark_there x mid (record { a = 0; b = 0; put = []; finish = finish_read text kill 0 f }) (finish_read text kill 0 f) ls mark marks
+mark_after_action x mid text items kill Clears ls mark marks = ap (λ (ms : List (Option ℕ)). is_some (mark_in ms mid)) (marks_unmodified x.name x.name ls) ∙ mark
 
 -- where the mark is to be, there is a text
 text_left : (x : WindowMarks) (f : plans.Finish) (ls : List MarkedBuffer) → (marked_at x.name (marks_gone x f ls)).buffer.text ≡ (marked_at x.name ls).buffer.text
@@ -145,7 +148,7 @@ text_left x f ls = text_gone x.name x.top f.top (mark_gone x.name x.point f.poin
 told_within : (n p : ℕ) (mark : Option ℕ) → mark ≡ Some p → IsWithin n mark → p ≤ n
 told_within n p mark is within = subst (IsWithin n) is within
 
-pub within_after : (x : WindowMarks) (p : ℕ) (kill : List ℕ) (action : Action) (ls : List MarkedBuffer) → HasBuffer x.name ls → CanBeDone ls x kill action → mark_told action ≡ Some p → p ≤ length (marked_at x.name (marked_after x (marked_at x.name ls).buffer.text kill action ls)).buffer.text
+pub within_after : (x : WindowMarks) (p : ℕ) (kill : List ℕ) (action : Action) (ls : List MarkedBuffer) → HasBuffer x.name ls → CanBeDone ls x kill action → mark_told action ≡ Some p → p ≤ length (marked_at x.name (marked_after x (marked_at x.name ls).buffer.text (marked_at x.name ls).buffer.items kill action ls)).buffer.text
 within_after x p kill (Fails message) ls kept can told = cc
 within_after x p kill (Edits c) ls kept can told =
     let text = (marked_at x.name ls).buffer.text in
@@ -153,6 +156,7 @@ within_after x p kill (Edits c) ls kept can told =
     let w = can.within in
     let same = ap (λ (t : List ℕ). length t) (text_left x change.finish (edited_by x.name change ls)) in
     omega (arith, same, length_edited_by x.name change ls kept w.order w.within, told_within _ p c.finish.mark told w.finish.mark)
+within_after x p kill (Undoes u) ls kept can told = cc
 within_after x p kill (Moves f) ls kept can told =
     let text = (marked_at x.name ls).buffer.text in
     let same = ap (λ (t : List ℕ). length t) (text_left x (finish_read text kill 0 f) ls) in
@@ -193,6 +197,7 @@ acted_so directory ks ls xs next id at p x h y (Edits c) sound place within is s
     let text = (marked_at x.name ks).buffer.text in
     rw (m.buffers, m.session)
     (marked_so directory ks m.between xs next id at m.id p h x (change_read text h.kill c) (c.from + length (put_read text h.kill c.put)) text c.finish sound (mark_is_kept x.name x.point ks marks.point) m.reserved place within is sel marks fresh told can.small)
+acted_so directory ks ls xs next id at p x h y (Undoes u) sound place within is sel marks fresh can told m = cc
 acted_so directory ks ls xs next id at p x h y (Moves f) sound place within is sel marks fresh can told m =
     let text = (marked_at x.name ks).buffer.text in
     rw (m.buffers, m.session)
@@ -208,6 +213,7 @@ sound_then ks ls xs at p x h y (Edits c) sound is sel marks told m =
     let marks_l = reserved_marks x m.id ks m.between kept m.reserved marks in
     let mark = mark_there x m.id change change.finish m.between (reserved_mark x.mark m.id ks m.between xs at h x refl sound kept is sel m.reserved) marks_l in
     rw (m.buffers, m.session) (sound_placed x.name m.id p _ _ mark (held_then ks m.between xs at m.id h x change change.finish change.finish sound kept m.reserved is sel marks_l))
+sound_then ks ls xs at p x h y (Undoes u) sound is sel marks told m = cc
 sound_then ks ls xs at p x h y (Moves f) sound is sel marks told m =
     let text = (marked_at x.name ks).buffer.text in
     let left = finish_read text h.kill 0 f in
@@ -259,6 +265,7 @@ marking_takes own x ks kill (Fails message) p can told = cc
 marking_takes own x ks kill (Edits c) p can told =
     let text = (marked_at x.name ks).buffer.text in
     finish_takes own (change_read text kill c).finish (edit_of x.name (change_read text kill c)) p can.small (ap mark_read told)
+marking_takes own x ks kill (Undoes u) p can told = cc
 marking_takes own x ks kill (Moves f) p can told =
     let text = (marked_at x.name ks).buffer.text in
     finish_takes own (finish_read text kill 0 f) No_effect p can.small (ap mark_read told)

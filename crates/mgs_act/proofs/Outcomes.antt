@@ -6,11 +6,11 @@ use Rattle.std.proofs.lemmas.List.Folds.{list_any_at}
 use Rattle.std.proofs.lemmas.Option.{slice_get-map}
 use Rattle.mgs_model.specs.Access.{Directory, Decider, decider, decision_by, allows, any_right}
 use Rattle.mgs_model.specs.Rights.{all_rights, rights_in}
-use Rattle.mgs_model.specs.World.{Buffer, Own, Shows, Nothing, Buffer_of, Listing, List_of}
+use Rattle.mgs_model.specs.World.{Item, Buffer, Own, Shows, Nothing, Buffer_of, Listing, List_of}
 use Rattle.mgs_model.specs.View.{View, BufferSeen, WindowSeen, find_seen, view, reads, reads_found, buffer_seen, window_seen, positions_if, told_if, full_if, size_told, serial_told, text_in}
 use Rattle.mgs_model.specs.Outcome.{Effect, Outcome, Unmodified}
-use Rattle.mgs_model.specs.Plans.{Around, Change, Finish, alteration, insertion, motion, reading_insertion, scrolling}
-use Rattle.mgs_model.specs.Acts.{Target, about, acts_at, around, deciders_found, edited_by, edits, effects, fails, has_rows, here, insertion_right, is_rows, judged, mark_in, moved_by, moves, or_else, outcome, permitted, row_in, rules, scrolls_rows, selected_seen, shown, target, target_in}
+use Rattle.mgs_model.specs.Plans.{Around, Change, Finish, alteration, insertion, motion, reading_insertion, scrolling, undo}
+use Rattle.mgs_model.specs.Acts.{Target, about, acts_at, around, deciders_found, edited_by, edits, effects, fails, has_rows, here, insertion_right, is_rows, items_in, judged, mark_in, moved_by, moves, or_else, outcome, permitted, row_in, rules, scrolls_rows, selected_seen, shown, target, target_in}
 use Rattle.mgs_model.specs.declared.right.Right.{Right}
 use Rattle.mgs_model.specs.declared.right.Right.TheVariants.{ReadData, WriteData, AppendData}
 use Rattle.mgs_model.specs.declared.entry.Decision.{Decision}
@@ -18,7 +18,7 @@ use Rattle.mgs_model.specs.declared.entry.Decision.TheVariants.{Granted, DeniedB
 use Rattle.mgs_model.specs.declared.message.Message.{Message}
 use Rattle.mgs_model.specs.declared.message.Message.TheVariants.{NoBuffer}
 use Rattle.mgs_model.specs.declared.session.Command.{Command}
-use Rattle.mgs_model.specs.declared.session.Command.TheVariants.{Insert, InsertReading, Move, Alter, Scroll, NotModified}
+use Rattle.mgs_model.specs.declared.session.Command.TheVariants.{Insert, InsertReading, Move, Alter, Scroll, UndoEdit, NotModified}
 use Rattle.mgs_model.proofs.Outcomes.{granted_each}
 use Rattle.mgs_buffers.specs.MarkedBuffer.{MarkedBuffer, HasBuffer, marked_at, mark_at}
 use Rattle.mgs_windows.specs.declared.WindowMarks.{WindowMarks}
@@ -99,14 +99,15 @@ reading_rights own d true o p none = unread own d (AppendData ∷ []) o p none
 reading_rights own d false o p none = unread own d (WriteData ∷ []) o p none
 
 -- a text that may not be read: what is done does not depend on it
-text_unread : (own : Own) (c : Command) (d : Right → Decider) (text : List ℕ) (a : Around) → allows (d ReadData) ≡ false → outcome_at own c d [] a ≡ outcome_at own c d text a
-text_unread own (Insert i) d text a none = refl
-text_unread own (InsertReading i) d text a none = reading_rights own d (a.place == a.size) _ _ none
-text_unread own (Move m) d text a none = unread own d [] _ _ none
-text_unread own (Alter k) d text a none = unread own d (WriteData ∷ []) _ _ none
-text_unread own (Scroll s) d text a none = unread own d [] _ _ none
-text_unread own NotModified d text a none = refl
-text_unread own _ d text a none = refl
+text_unread : (own : Own) (c : Command) (d : Right → Decider) (text : List ℕ) (items : List Item) (a : Around) → allows (d ReadData) ≡ false → outcome_at own c d [] [] a ≡ outcome_at own c d text items a
+text_unread own (Insert i) d text items a none = refl
+text_unread own (InsertReading i) d text items a none = reading_rights own d (a.place == a.size) _ _ none
+text_unread own (Move m) d text items a none = unread own d [] _ _ none
+text_unread own (Alter k) d text items a none = unread own d (WriteData ∷ []) _ _ none
+text_unread own (Scroll s) d text items a none = unread own d [] _ _ none
+text_unread own UndoEdit d text items a none = unread own d (WriteData ∷ []) _ _ none
+text_unread own NotModified d text items a none = refl
+text_unread own _ d text items a none = refl
 
 -- nothing is told: nothing is granted
 nothing_granted : (d : Right → Decider) (rights : List Right) → any_right d ≡ false → decision_by d (ReadData ∷ rights) ≡ Granted → ⊥
@@ -118,26 +119,27 @@ nothing_appended d none e = not_both (any_right d) (any_append d (granted_each d
 at_its_end : (own : Own) (d : Right → Decider) (n : ℕ) (mask : ℕ → ℕ) (o : Outcome) → permitted own (decision_by d (rights_in (mask 4))) o ≡ permitted own (decision_by d (rights_in (mask (cond (n == n) 4 2)))) o
 at_its_end own d n mask o = sym (ap (λ (e : Bool). permitted own (decision_by d (rights_in (mask (cond e 4 2)))) o) (eq-eqb n n refl))
 
-none_told : (own : Own) (c : Command) (d : Right → Decider) (b : Buffer) (name : List ℕ) (point : ℕ) (mark : Option ℕ) (top height : ℕ) (n : Option ℕ) (kill : List ℕ) → any_right d ≡ false → outcome_at own c d [] (surroundings false false b name point mark top height n kill own) ≡ outcome_at own c d b.text (all_told b false name point mark height n kill own)
+none_told : (own : Own) (c : Command) (d : Right → Decider) (b : Buffer) (name : List ℕ) (point : ℕ) (mark : Option ℕ) (top height : ℕ) (n : Option ℕ) (kill : List ℕ) → any_right d ≡ false → outcome_at own c d [] [] (surroundings false false b name point mark top height n kill own) ≡ outcome_at own c d b.text b.items (all_told b false name point mark height n kill own)
 none_told own (Insert i) d b name point mark top height n kill none =
     permitted_same own (decision_by d (AppendData ∷ [])) _ _ (λ e. absurd (nothing_appended d none e))
-    ∙ at_its_end own d (length b.text) (λ m. m) (granted_outcome own (Insert i) b.text (all_told b false name point mark height n kill own))
+    ∙ at_its_end own d (length b.text) (λ m. m) (granted_outcome own (Insert i) b.text b.items (all_told b false name point mark height n kill own))
 none_told own (InsertReading i) d b name point mark top height n kill none =
     permitted_same own (decision_by d (ReadData ∷ AppendData ∷ [])) _ _ (λ e. absurd (nothing_granted d (AppendData ∷ []) none e))
-    ∙ at_its_end own d (length b.text) (λ m. 1 + m) (granted_outcome own (InsertReading i) b.text (all_told b false name point mark height n kill own))
+    ∙ at_its_end own d (length b.text) (λ m. 1 + m) (granted_outcome own (InsertReading i) b.text b.items (all_told b false name point mark height n kill own))
 none_told own (Move m) d b name point mark top height n kill none = permitted_same own (decision_by d (ReadData ∷ [])) _ _ (λ e. absurd (nothing_granted d [] none e))
 none_told own (Alter k) d b name point mark top height n kill none = permitted_same own (decision_by d (ReadData ∷ WriteData ∷ [])) _ _ (λ e. absurd (nothing_granted d (WriteData ∷ []) none e))
 none_told own (Scroll s) d b name point mark top height n kill none = permitted_same own (decision_by d (ReadData ∷ [])) _ _ (λ e. absurd (nothing_granted d [] none e))
+none_told own UndoEdit d b name point mark top height n kill none = permitted_same own (decision_by d (ReadData ∷ WriteData ∷ [])) _ _ (λ e. absurd (nothing_granted d (WriteData ∷ []) none e))
 none_told own NotModified d b name point mark top height n kill none = permitted_same own (decision_by d (ReadData ∷ WriteData ∷ [])) _ _ (λ e. absurd (nothing_granted d (WriteData ∷ []) none e))
 none_told own _ d b name point mark top height n kill none = permitted_same own (decision_by d (ReadData ∷ [])) _ _ (λ e. absurd (nothing_granted d [] none e))
 
 told_same : (own : Own) (c : Command) (d : Right → Decider) (b : Buffer) (name : List ℕ) (point : ℕ) (mark : Option ℕ) (top height : ℕ) (n : Option ℕ) (kill : List ℕ)
-    → outcome_at own c d (text_in (full_if (allows (d ReadData)) b)) (surroundings (any_right d) (allows (d ReadData)) b name point mark top height n kill own) ≡ outcome_at own c d b.text (all_told b (allows (d ReadData)) name point mark height n kill own)
+    → outcome_at own c d (text_in (full_if (allows (d ReadData)) b)) (items_in (full_if (allows (d ReadData)) b)) (surroundings (any_right d) (allows (d ReadData)) b name point mark top height n kill own) ≡ outcome_at own c d b.text b.items (all_told b (allows (d ReadData)) name point mark height n kill own)
 told_same own c d b name point mark top height n kill = go (any_right d) (allows (d ReadData)) refl refl
   where
-    go : (a r : Bool) → any_right d ≡ a → allows (d ReadData) ≡ r → outcome_at own c d (text_in (full_if r b)) (surroundings a r b name point mark top height n kill own) ≡ outcome_at own c d b.text (all_told b r name point mark height n kill own)
+    go : (a r : Bool) → any_right d ≡ a → allows (d ReadData) ≡ r → outcome_at own c d (text_in (full_if r b)) (items_in (full_if r b)) (surroundings a r b name point mark top height n kill own) ≡ outcome_at own c d b.text b.items (all_told b r name point mark height n kill own)
     go true true p q = refl
-    go true false p q = text_unread own c d b.text (all_told b false name point mark height n kill own) q
+    go true false p q = text_unread own c d b.text b.items (all_told b false name point mark height n kill own) q
     go false true p q = not_both (any_right d) (any_read d q) p
     go false false p q = none_told own c d b name point mark top height n kill p
 
@@ -232,7 +234,7 @@ rule_judged v t plan is found =
     ∙ ap (λ d. permitted v.session.own d (effects v.session.own (plan t.buffer))) (judged_here v t (λ t. 3) found)
 
 -- what an act comes to on the target
-on_target : (v : View) (t : Target) (c : Command) (n : Option ℕ) → is_on_text c ≡ true → target v ≡ Some t → find_seen t.buffer.name v.buffers ≡ Some t.buffer → outcome v (act_of (Run c n)) true ≡ outcome_at v.session.own c t.buffer.deciders (text_in t.buffer.full) (around v.session n [] t)
+on_target : (v : View) (t : Target) (c : Command) (n : Option ℕ) → is_on_text c ≡ true → target v ≡ Some t → find_seen t.buffer.name v.buffers ≡ Some t.buffer → outcome v (act_of (Run c n)) true ≡ outcome_at v.session.own c t.buffer.deciders (text_in t.buffer.full) (items_in t.buffer.full) (around v.session n [] t)
 unfolding outcome
 on_target v t (Insert i) n h is found = edit_judged v t insertion_right (λ t. insertion i (around v.session n [] t)) is found
 on_target v t (InsertReading i) n h is found =
@@ -243,12 +245,13 @@ on_target v t (Scroll s) n h is found =
     ap (λ b. permitted v.session.own (judged v (here (target v) (λ t. 1))) (cond b (scrolls_rows v.session.own (row_in s (selected_seen v))) (moves v.session.own (target v) (λ t. scrolling s (text_in t.buffer.full) (around v.session n [] t)))))
     (text_shown v.buffers (selected_seen v) t is)
     ∙ motion_judged v t (λ t. scrolling s (text_in t.buffer.full) (around v.session n [] t)) is found
+on_target v t UndoEdit n h is found = edit_judged v t (λ t. 3) (λ t. undo (items_in t.buffer.full) (around v.session n [] t)) is found
 on_target v t NotModified n h is found = rule_judged v t (λ (b : BufferSeen). Ok (Unmodified b.name)) is found
 on_target v t _ n h is found = cc
 
 -- through the window's marks of the selected window, of so many rows
 through : (directory : Directory) (ks : List MarkedBuffer) (xs : List Session) (next : Option ℕ) (h : Session) (height : ℕ) (x : WindowMarks) (c : Command) (n : Option ℕ) → HasBuffer x.name ks
-    → (let t = target_at directory ks h.user height x in outcome_at (own_of h.own) c t.buffer.deciders (text_in t.buffer.full) (around (view (world_of directory ks xs next) (session_of ks h)).session n [] t) ≡ plan_in directory ks (own_of h.own) h.user x height c n h.kill)
+    → (let t = target_at directory ks h.user height x in outcome_at (own_of h.own) c t.buffer.deciders (text_in t.buffer.full) (items_in t.buffer.full) (around (view (world_of directory ks xs next) (session_of ks h)).session n [] t) ≡ plan_in directory ks (own_of h.own) h.user x height c n h.kill)
 through directory ks xs next h height x c n kept =
     let b = (marked_at x.name ks).buffer in
     let d = decider directory b.owner h.user b.entries in
@@ -256,9 +259,9 @@ through directory ks xs next h height x c n kept =
     let point = mark_at x.name ks x.point in
     let mark = option_map (mark_at x.name ks) x.mark in
     let top = mark_at x.name ks x.top in
-    ap (λ (r : Bool). outcome_at own c d (text_in (full_if (allows (d ReadData)) b)) (surroundings (any_right d) r b b.name point mark top height n h.kill own)) (ap (reads_found directory h.user) (found_buffer x.name ks kept))
+    ap (λ (r : Bool). outcome_at own c d (text_in (full_if (allows (d ReadData)) b)) (items_in (full_if (allows (d ReadData)) b)) (surroundings (any_right d) r b b.name point mark top height n h.kill own)) (ap (reads_found directory h.user) (found_buffer x.name ks kept))
     ∙ told_same own c d b b.name point mark top height n h.kill
-    ∙ ap (λ (m : List ℕ). outcome_at own c d b.text (all_told b (allows (d ReadData)) m point mark height n h.kill own)) (name_kept x.name ks kept)
+    ∙ ap (λ (m : List ℕ). outcome_at own c d b.text b.items (all_told b (allows (d ReadData)) m point mark height n h.kill own)) (name_kept x.name ks kept)
 
 pub outcome_plan : (directory : Directory) (ks : List MarkedBuffer) (xs : List Session) (next : Option ℕ) (h : Session) (x : WindowMarks) (c : Command) (n : Option ℕ) → is_on_text c ≡ true → window_marks_of h ≡ Some x → HasBuffer x.name ks → outcome (view (world_of directory ks xs next) (session_of ks h)) (act_of (Run c n)) true ≡ plan_in directory ks (own_of h.own) h.user x (selected_height h) c n h.kill
 outcome_plan directory ks xs next h x c n on sel kept =
@@ -305,6 +308,7 @@ off_target v (Alter k) n h none rows = none_edited v (λ t. 3) (λ t. alteration
 off_target v (Scroll s) n h none rows =
     ap (λ b. permitted v.session.own (judged v (here (target v) (λ t. 1))) (cond b (scrolls_rows v.session.own (row_in s (selected_seen v))) (moves v.session.own (target v) (λ t. scrolling s (text_in t.buffer.full) (around v.session n [] t))))) rows
     ∙ none_moved v (λ t. scrolling s (text_in t.buffer.full) (around v.session n [] t)) none
+off_target v UndoEdit n h none rows = none_edited v (λ t. 3) (λ t. undo (items_in t.buffer.full) (around v.session n [] t)) none
 off_target v NotModified n h none rows = none_ruled v (λ (b : BufferSeen). Ok (Unmodified b.name)) none
 off_target v _ n h none rows = cc
 

@@ -20,24 +20,26 @@ use Rattle.mgs_act.specs.declared.given.Given.{Given}
 use Rattle.mgs_act.specs.Actions.{action_outcome, around_given, around_in, granted_outcome, mask_at, outcome_through, plan_in}
 use Rattle.mgs_world.specs.Worlds.{idle}
 
+-- what holds of a text and a serial holds of the buffer's, which are the same
+pub at_buffer : (holds : List ℕ → ℕ → Type 0) (text kept : List ℕ) (serial last : ℕ) → text ≡ kept → serial ≡ last → holds text serial → holds kept last
+at_buffer holds text kept serial last same_text same_serial h = subst (λ n. holds kept n) same_serial (subst (λ t. holds t serial) same_text h)
+
 -- what is decided on the rights that a command needs
 abbrev pub needed : Directory → List MarkedBuffer → List ℕ → WindowMarks → Given → Command → ℕ → Decision
 needed directory ks user x g c killed =
     let b = (marked_at x.name ks).buffer in
     decision directory b.owner user b.entries (mask_at c (around_given directory ks user x g killed).place (length b.text))
 
-pub granted : (directory : Directory) (ks : List MarkedBuffer) (user : List ℕ) (x : WindowMarks) (g : Given) (c : Command) (kill text : List ℕ) (serial : ℕ) (around : Around) (action : Action)
-    → text ≡ (marked_at x.name ks).buffer.text → serial ≡ (marked_at x.name ks).buffer.serial → around ≡ around_given directory ks user x g (length kill) → needed directory ks user x g c (length kill) ≡ Granted
-    → ((own : model.Own) (rest : plans.Around) → action_outcome own rest.name text kill action ≡ granted_outcome own c text (surrounded around (length text) (record rest { kill = kill; serial = serial })))
+pub granted : (directory : Directory) (ks : List MarkedBuffer) (user : List ℕ) (x : WindowMarks) (g : Given) (c : Command) (kill : List ℕ) (around : Around) (action : Action)
+    → around ≡ around_given directory ks user x g (length kill) → needed directory ks user x g c (length kill) ≡ Granted
+    → (let b = (marked_at x.name ks).buffer in (own : model.Own) (rest : plans.Around) → action_outcome own x.name b.text b.items kill action ≡ granted_outcome own c b.text b.items (surrounded around (length b.text) (record rest { name = x.name; kill = kill; serial = b.serial })))
     → outcome_through (idle g.kind) x ks kill action ≡ plan_in directory ks (idle g.kind) user x g.height c g.argument kill
-granted directory ks user x g c kill text serial around action text_is serial_is around_is allowed value =
+granted directory ks user x g c kill around action around_is allowed value =
     let own = idle g.kind in
     let b = (marked_at x.name ks).buffer in
     let rest = around_in directory ks user x g.height g.argument kill own in
-    let in_text = subst (λ (t : List ℕ). action_outcome own x.name t kill action ≡ granted_outcome own c t (surrounded around (length t) (record rest { kill = kill; serial = serial }))) text_is (value own rest) in
-    let by_serial = subst (λ (s : ℕ). action_outcome own x.name b.text kill action ≡ granted_outcome own c b.text (surrounded around (length b.text) (record rest { kill = kill; serial = s }))) serial_is in_text in
-    let by_around = subst (λ (a : Around). action_outcome own x.name b.text kill action ≡ granted_outcome own c b.text (surrounded a (length b.text) (record rest { kill = kill; serial = b.serial }))) around_is by_serial in
-    by_around ∙ sym (ap (λ d. permitted own d (granted_outcome own c b.text rest)) allowed)
+    let by_around = subst (λ (a : Around). action_outcome own x.name b.text b.items kill action ≡ granted_outcome own c b.text b.items (surrounded a (length b.text) (record rest { name = x.name; kill = kill; serial = b.serial }))) around_is (value own rest) in
+    by_around ∙ sym (ap (λ d. permitted own d (granted_outcome own c b.text b.items rest)) allowed)
 
 pub denied : (directory : Directory) (ks : List MarkedBuffer) (user : List ℕ) (x : WindowMarks) (g : Given) (c : Command) (kill : List ℕ) (message : Message)
     → ((own : model.Own) (o : Outcome) → permitted own (needed directory ks user x g c (length kill)) o ≡ fails own message)
@@ -45,4 +47,4 @@ pub denied : (directory : Directory) (ks : List MarkedBuffer) (user : List ℕ) 
 denied directory ks user x g c kill message told =
     let own = idle g.kind in
     let b = (marked_at x.name ks).buffer in
-    sym (told own (granted_outcome own c b.text (around_in directory ks user x g.height g.argument kill own)))
+    sym (told own (granted_outcome own c b.text b.items (around_in directory ks user x g.height g.argument kill own)))

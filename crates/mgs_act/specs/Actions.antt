@@ -1,17 +1,17 @@
 -- What is planned, and where.
 use Rattle.std.specs.Global.{Vec}
-use Rattle.std.specs.Prelude.{◌≡◌, ℕ, ◌+◌, ◌-◌, ◌<◌, ◌≤◌, ◌^◌, ◌==◌, ◌&&◌, nat_le, nat_lt, Bool, true, false, List, [], length, Option, Some, None, Result, Ok, Err, slice_get, cond, if◌then◌else◌}
+use Rattle.std.specs.Prelude.{◌≡◌, ℕ, ◌+◌, ◌-◌, ◌<◌, ◌≤◌, ◌^◌, ◌==◌, ◌&&◌, nat_le, nat_lt, Bool, true, false, List, [], length, Option, Some, None, Result, Ok, Err, slice_get, find, cond, if◌then◌else◌}
 use Rattle.std.specs.Option.{option_map}
 use Rattle.mgs_model.specs.Access.{Directory, Decider, decider, decision_by}
 use Rattle.mgs_model.specs.Rights.{rights_in}
 use Rattle.mgs_model.specs.Text.{is_edit}
-use Rattle.mgs_model.specs.World.{may}
+use Rattle.mgs_model.specs.World.{Item, may}
 use Rattle.mgs_model.specs.World as model
 use Rattle.mgs_model.specs.Apply.{change_first, kill_after}
 use Rattle.mgs_model.specs.Outcome.{Outcome, No_effect, Unmodified, PointPlan, Keep, At, At_origin}
 use Rattle.mgs_model.specs.Outcome as outcomes
 use Rattle.mgs_model.specs.Plans as plans
-use Rattle.mgs_model.specs.Plans.{alteration, insertion, motion, reading_insertion, scrolling}
+use Rattle.mgs_model.specs.Plans.{alteration, insertion, motion, reading_insertion, scrolling, undo}
 use Rattle.mgs_model.specs.Acts.{effects, fails, finished, edit_of, is_full, is_too_large, moved_by, permitted}
 use Rattle.mgs_model.specs.declared.right.Right.{Right}
 use Rattle.mgs_model.specs.declared.right.Right.TheVariants.{ReadData}
@@ -19,7 +19,7 @@ use Rattle.mgs_model.specs.declared.message.Message.{Message}
 use Rattle.mgs_model.specs.declared.message.Message.TheVariants.{KeyNotBound, BufferFull, Silent}
 use Rattle.mgs_model.specs.declared.limits.TheConstants.{TEXT_LIMIT}
 use Rattle.mgs_model.specs.declared.session.Command.{Command}
-use Rattle.mgs_model.specs.declared.session.Command.TheVariants.{Insert, InsertReading, Move, Alter, Scroll, Set, Rearrange, NotModified}
+use Rattle.mgs_model.specs.declared.session.Command.TheVariants.{Insert, InsertReading, Move, Alter, Scroll, Set, Rearrange, UndoEdit, NotModified}
 use Rattle.mgs_model.specs.declared.session.Kind.TheVariants.{Other}
 use Rattle.mgs_model.specs.declared.session.Setting.{Setting}
 use Rattle.mgs_model.specs.declared.session.Setting.TheVariants.{KeyboardQuit}
@@ -28,17 +28,19 @@ use Rattle.mgs_windows.specs.declared.WindowMarks.{WindowMarks}
 use Rattle.mgs_windows.specs.declared.Window.{Window}
 use Rattle.mgs_session.specs.Sessions.{acted, failed, told}
 use Rattle.mgs_session.specs.declared.Session.{Session}
-use Rattle.mgs_edit.specs.Reading.{ChangeWithin, FinishWithin, change_read, finish_read, is_alteration_planned, is_planned, kill_read, put_read}
+use Rattle.mgs_edit.specs.Reading.{ChangeWithin, FinishWithin, LeavesBehind, change_read, finish_read, is_alteration_planned, is_planned, kill_read, put_read, undone_read}
 use Rattle.mgs_edit.specs.declared.plan.Around.{Around}
 use Rattle.mgs_edit.specs.declared.plan.Change.{Change}
 use Rattle.mgs_edit.specs.declared.plan.Finish.{Finish}
+use Rattle.mgs_edit.specs.declared.plan.Undone.{Undone}
+use Rattle.mgs_undo.specs.History.{has_serial}
 use Rattle.mgs_arrange.specs.Arranging.{is_arranged_here}
 use Rattle.mgs_world.specs.Marking.{IsReserved, session_marked}
 use Rattle.mgs_act.specs.declared.acts.KeyAct.{KeyAct}
 use Rattle.mgs_act.specs.declared.acts.KeyAct.TheVariants.{Unbound, Run}
 use Rattle.mgs_act.specs.declared.given.Given.{Given}
 use Rattle.mgs_act.specs.declared.action.Action.{Action}
-use Rattle.mgs_act.specs.declared.action.Action.TheVariants.{Fails, Edits, Moves, Clears}
+use Rattle.mgs_act.specs.declared.action.Action.TheVariants.{Fails, Edits, Undoes, Moves, Clears}
 
 -- ACTS
 
@@ -53,6 +55,7 @@ is_on_text (InsertReading c) = true
 is_on_text (Move c) = is_planned c
 is_on_text (Alter c) = is_alteration_planned c
 is_on_text (Scroll c) = true
+is_on_text UndoEdit = true
 is_on_text NotModified = true
 is_on_text _ = false
 
@@ -135,25 +138,44 @@ pub record CanChange (text kill : List ℕ) (serial : ℕ) (c : Change) : Type 0
   pub small : is_too_large (kill_read text kill c.finish.kill) ≡ false
   pub room : is_full (length text) serial (change_read text kill c) ≡ false
 
-abbrev pub CanDo : List ℕ → List ℕ → ℕ → Action → Type 0
-CanDo text kill serial (Fails message) = Unit {0}
-CanDo text kill serial (Edits c) = CanChange text kill serial c
-CanDo text kill serial (Moves f) = CanFinish (length text) (length text) text kill f
-CanDo text kill serial Clears = Unit {0}
+-- what the edit of a serial took out, where it is kept
+abbrev pub removed_or_none : Option Item → List ℕ
+removed_or_none None = []
+removed_or_none (Some item) = item.removed
+
+abbrev pub removed_by : ℕ → List Item → List ℕ
+removed_by serial items = removed_or_none (find (has_serial serial) items)
+
+pub record CanUndo (text : List ℕ) (items : List Item) (kill : List ℕ) (serial : ℕ) (u : Undone) : Type 0 where
+  pub within : u.from + u.gone ≤ length text
+  pub len : length (removed_by u.serial items) ≡ u.len
+  pub finish : LeavesBehind u.finish
+  pub room : is_full (length text) serial (undone_read text kill (removed_by u.serial items) u) ≡ false
+
+abbrev pub CanDo : List ℕ → List Item → List ℕ → ℕ → Action → Type 0
+CanDo text items kill serial (Fails message) = Unit {0}
+CanDo text items kill serial (Edits c) = CanChange text kill serial c
+CanDo text items kill serial (Undoes u) = CanUndo text items kill serial u
+CanDo text items kill serial (Moves f) = CanFinish (length text) (length text) text kill f
+CanDo text items kill serial Clears = Unit {0}
 
 abbrev pub CanBeDone : List MarkedBuffer → WindowMarks → List ℕ → Action → Type 0
-CanBeDone ks x kill action = CanDo (marked_at x.name ks).buffer.text kill (marked_at x.name ks).buffer.serial action
+CanBeDone ks x kill action = CanDo (marked_at x.name ks).buffer.text (marked_at x.name ks).buffer.items kill (marked_at x.name ks).buffer.serial action
 
--- the outcome that an action stands for, in the buffer of this name and text, by a session that holds this and has this kill buffer
-abbrev pub action_outcome : model.Own → List ℕ → List ℕ → List ℕ → Action → Outcome
-action_outcome own name text kill (Fails message) = fails own message
-action_outcome own name text kill (Edits c) = finished own (change_read text kill c).finish (edit_of name (change_read text kill c))
-action_outcome own name text kill (Moves f) = finished own (finish_read text kill 0 f) No_effect
-action_outcome own name text kill Clears = effects own (Ok (Unmodified name))
+-- the outcome that an action stands for, in the buffer of this name, text and items, by a session that holds this and has this kill
+-- buffer
+abbrev pub action_outcome : model.Own → List ℕ → List ℕ → List Item → List ℕ → Action → Outcome
+action_outcome own name text items kill (Fails message) = fails own message
+action_outcome own name text items kill (Edits c) = finished own (change_read text kill c).finish (edit_of name (change_read text kill c))
+action_outcome own name text items kill (Undoes u) =
+    let c = undone_read text kill (removed_by u.serial items) u in
+    finished own c.finish (edit_of name c)
+action_outcome own name text items kill (Moves f) = finished own (finish_read text kill 0 f) No_effect
+action_outcome own name text items kill Clears = effects own (Ok (Unmodified name))
 
 -- what an action comes to through a window's marks
 abbrev pub outcome_through : model.Own → WindowMarks → List MarkedBuffer → List ℕ → Action → Outcome
-outcome_through own x ks kill action = action_outcome own x.name (marked_at x.name ks).buffer.text kill action
+outcome_through own x ks kill action = action_outcome own x.name (marked_at x.name ks).buffer.text (marked_at x.name ks).buffer.items kill action
 
 -- the rows of the selected window above its mode line
 abbrev pub height_or_none : Option Window → ℕ
@@ -175,6 +197,7 @@ kill_at at xs = kill_or_none (slice_get xs at)
 abbrev pub mark_told : Action → Option ℕ
 mark_told (Fails message) = None
 mark_told (Edits c) = c.finish.mark
+mark_told (Undoes u) = None
 mark_told (Moves f) = f.mark
 mark_told Clears = None
 
@@ -195,11 +218,14 @@ abbrev pub edited_by : List ℕ → plans.Change → List MarkedBuffer → List 
 edited_by name c ks = cond (is_edit c.a c.b c.put) (change_first (marked_named name) (marked_edited c.a c.b c.put) ks) ks
 
 -- the buffers, and the acting session, once an action is done, but for the mark
-abbrev pub marked_after : WindowMarks → List ℕ → List ℕ → Action → List MarkedBuffer → List MarkedBuffer
-marked_after x text kill (Fails message) ks = ks
-marked_after x text kill (Edits c) ks = marks_gone x (change_read text kill c).finish (edited_by x.name (change_read text kill c) ks)
-marked_after x text kill (Moves f) ks = marks_gone x (finish_read text kill 0 f) ks
-marked_after x text kill Clears ks = change_first (marked_named x.name) marked_unmodified ks
+abbrev pub marked_after : WindowMarks → List ℕ → List Item → List ℕ → Action → List MarkedBuffer → List MarkedBuffer
+marked_after x text items kill (Fails message) ks = ks
+marked_after x text items kill (Edits c) ks = marks_gone x (change_read text kill c).finish (edited_by x.name (change_read text kill c) ks)
+marked_after x text items kill (Undoes u) ks =
+    let c = undone_read text kill (removed_by u.serial items) u in
+    marks_gone x c.finish (edited_by x.name c ks)
+marked_after x text items kill (Moves f) ks = marks_gone x (finish_read text kill 0 f) ks
+marked_after x text items kill Clears ks = change_first (marked_named x.name) marked_unmodified ks
 
 -- the kill buffer that was made, if one was
 abbrev pub kill_set : Option (Vec ℕ) → List ℕ → List ℕ
@@ -212,6 +238,7 @@ session_finished f h = told f.told (acted f.kind (record h { kill = kill_after f
 abbrev pub session_acted : List ℕ → Action → Session → Session
 session_acted text (Fails message) h = failed message h
 session_acted text (Edits c) h = session_finished (change_read text h.kill c).finish h
+session_acted text (Undoes u) h = session_finished (finish_read text h.kill 0 u.finish) h
 session_acted text (Moves f) h = session_finished (finish_read text h.kill 0 f) h
 session_acted text Clears h = told Silent (acted Other h)
 
@@ -220,7 +247,7 @@ pub record IsMarked (x : WindowMarks) (position : ℕ) (action : Action) (ks ls 
   pub id : ℕ
   pub between : List MarkedBuffer
   pub reserved : IsReserved x.name x.mark id ks between
-  pub buffers : ls ≡ change_first (marked_named x.name) (marked_placed id position) (marked_after x (marked_at x.name ks).buffer.text h.kill action between)
+  pub buffers : ls ≡ change_first (marked_named x.name) (marked_placed id position) (marked_after x (marked_at x.name ks).buffer.text (marked_at x.name ks).buffer.items h.kill action between)
   pub session : y ≡ session_marked id (session_acted (marked_at x.name ks).buffer.text action h)
 
 -- OUTCOMES
@@ -238,24 +265,26 @@ abbrev pub mask_at : Command → ℕ → ℕ → ℕ
 mask_at (Insert c) place size = insertion_mask place size
 mask_at (InsertReading c) place size = 1 + insertion_mask place size
 mask_at (Alter c) place size = 3
+mask_at UndoEdit place size = 3
 mask_at NotModified place size = 3
 mask_at _ place size = 1
 
 -- what it does where they are granted
-abbrev pub granted_outcome : model.Own → Command → List ℕ → plans.Around → Outcome
-granted_outcome own (Insert c) text a = edit_outcome own a.name a.size a.serial (insertion c a)
-granted_outcome own (InsertReading c) text a = edit_outcome own a.name a.size a.serial (reading_insertion c text a)
-granted_outcome own (Move c) text a = moved_by own (motion c text a)
-granted_outcome own (Alter c) text a = edit_outcome own a.name a.size a.serial (alteration c text a)
-granted_outcome own (Scroll c) text a = moved_by own (scrolling c text a)
-granted_outcome own NotModified text a = effects own (Ok (Unmodified a.name))
-granted_outcome own _ text a = fails own KeyNotBound
+abbrev pub granted_outcome : model.Own → Command → List ℕ → List Item → plans.Around → Outcome
+granted_outcome own (Insert c) text items a = edit_outcome own a.name a.size a.serial (insertion c a)
+granted_outcome own (InsertReading c) text items a = edit_outcome own a.name a.size a.serial (reading_insertion c text a)
+granted_outcome own (Move c) text items a = moved_by own (motion c text a)
+granted_outcome own (Alter c) text items a = edit_outcome own a.name a.size a.serial (alteration c text a)
+granted_outcome own (Scroll c) text items a = moved_by own (scrolling c text a)
+granted_outcome own UndoEdit text items a = edit_outcome own a.name a.size a.serial (undo items a)
+granted_outcome own NotModified text items a = effects own (Ok (Unmodified a.name))
+granted_outcome own _ text items a = fails own KeyNotBound
 
-abbrev pub outcome_at : model.Own → Command → (Right → Decider) → List ℕ → plans.Around → Outcome
-outcome_at own c deciders text a = permitted own (decision_by deciders (rights_in (mask_at c a.place a.size))) (granted_outcome own c text a)
+abbrev pub outcome_at : model.Own → Command → (Right → Decider) → List ℕ → List Item → plans.Around → Outcome
+outcome_at own c deciders text items a = permitted own (decision_by deciders (rights_in (mask_at c a.place a.size))) (granted_outcome own c text items a)
 
 -- the outcome of a command through a window's marks
 abbrev pub plan_in : Directory → List MarkedBuffer → model.Own → List ℕ → WindowMarks → ℕ → Command → Option ℕ → List ℕ → Outcome
 plan_in directory ks own user x height c n kill =
     let b = (marked_at x.name ks).buffer in
-    outcome_at own c (decider directory b.owner user b.entries) b.text (around_in directory ks user x height n kill own)
+    outcome_at own c (decider directory b.owner user b.entries) b.text b.items (around_in directory ks user x height n kill own)

@@ -1,5 +1,5 @@
 // What a command on a text comes to.
-use mgs_edit::{Change, Finish};
+use mgs_edit::{Change, Finish, Undone};
 use mgs_model::Message;
 
 /// What a command on a text comes to, once it is decided.
@@ -8,6 +8,8 @@ pub enum Action {
     /// It fails, and this is told.
     Fails(Message),
     Edits(Change),
+    /// An edit of the buffer's record is taken back.
+    Undoes(Undone),
     /// It edits nothing.
     Moves(Finish),
     /// The buffer's modified flag is cleared.

@@ -1,5 +1,5 @@
 // An action is done: in the buffers, and to the session that acts.
-ghost use Rattle.std.specs.Prelude.{◌≡◌, ◌+◌, ◌++◌, ◌<◌, ◌≤◌, ℕ, List, length, Option, Some, None, IfOk, OnOk, OnErr, slice_get, true, false};
+ghost use Rattle.std.specs.Prelude.{◌≡◌, ◌+◌, ◌++◌, ◌<◌, ◌≤◌, ℕ, List, [], length, Option, Some, None, IfOk, OnOk, OnErr, slice_get, true, false};
 ghost use Rattle.std.specs.List.{position_or_len};
 ghost use Rattle.std.specs.Option.{option_and_then};
 ghost use Rattle.mgs_model.specs.Access.{Directory};
@@ -10,17 +10,19 @@ ghost use Rattle.mgs_model.specs.Outcome.{kill_takes_memory, takes_memory};
 ghost use Rattle.mgs_model.specs.Text.{is_edit};
 ghost use Rattle.mgs_model.specs.World.{Own};
 ghost use Rattle.mgs_buffers.specs.MarkedBuffer.{HasBuffer, IsMark, MarkedBuffer, marked_at, marked_edited, marked_named, marked_placed};
-ghost use Rattle.mgs_edit.specs.Reading.{ChangeWithin, GoesWithin, IsWithin, PieceWithin, change_read, kill_read, point_read, put_read, top_read};
+ghost use Rattle.mgs_edit.specs.Reading.{ChangeWithin, GoesWithin, IsWithin, PieceWithin, change_read, kill_read, point_read, put_read, top_read, undone_read};
 ghost use Rattle.mgs_session.specs.Sessions.{acted, told, window_marks_of};
-ghost use Rattle.mgs_act.specs.declared.action.Action.TheVariants.{Edits, Moves};
-ghost use Rattle.mgs_act.specs.Actions.{AreMarks, CanBeDone, IsMarked, kill_at, edited_by, kill_set, mark_gone, mark_told, marked_after, outcome_through, session_acted};
+ghost use Rattle.mgs_act.specs.declared.action.Action.TheVariants.{Edits, Moves, Undoes};
+ghost use Rattle.mgs_act.specs.Actions.{AreMarks, CanBeDone, CanUndo, IsMarked, kill_at, edited_by, kill_set, mark_gone, mark_told, marked_after, outcome_through, removed_by, session_acted};
 ghost use Rattle.mgs_world.specs.Sound.{IsSound};
 ghost use Rattle.mgs_world.specs.WindowMarks.{WindowMarksDropped};
 ghost use Rattle.mgs_world.specs.Worlds.{idle, own_at, session_id, sizes_in, world_of};
 
 use crate::action::Action;
 use mgs_buffers::Buffers;
-use mgs_edit::{Change, Finish, Goes, Joins, Piece, Put, is_edit, put_chars};
+use mgs_edit::{
+    Change, Finish, Goes, Joins, Piece, Put, Undone, is_edit, is_undo_an_edit, put_chars,
+};
 use mgs_marks::Marked;
 use mgs_model::{Kind, MarkId, Message, Name, Short, Touched};
 use mgs_session::{Session, fail, finish, set_kill};
@@ -132,6 +134,69 @@ fn edit_if<T: Marked + Drop>(
     Ok(change.from)
 }
 
+/// What the edit of a serial took out, or nothing where it is not kept. `Short`: memory was refused.
+fn removed_by<T: Marked + Drop>(
+    alloc: Global,
+    buffers: &Buffers<T>,
+    name: &Name,
+    serial: u64,
+) -> Result<Vec<char>, Short>
+    requires { HasBuffer name.now buffers.now }
+    ensures { IfOk result (λ v. v.items ≡ removed_by serial (marked_at name.now buffers.now).buffer.items) }
+{
+    let mut chars = Vec::new(alloc);
+    let Some(edit) = buffers.item(name, serial) else {
+        return Ok(chars);
+    };
+    match chars.extend_from_slice(&edit.removed) {
+        Ok(()) => Ok(chars),
+        Err(_) => Err(Short),
+    }
+}
+
+/// Takes an edit back, and tells where what comes back ends. `Short`: memory was refused, and nothing was done.
+fn put_back<T: Marked + Drop>(
+    alloc: Global,
+    buffers: &mut Buffers<T>,
+    name: &Name,
+    undone: &Undone,
+) -> Result<usize, Short>
+    requires kept { HasBuffer name.now buffers.old }
+    requires within { undone.now.from + undone.now.gone ≤ length (marked_at name.now buffers.old).buffer.text }
+    requires edit { is_edit undone.now.from (undone.now.from + undone.now.gone) (removed_by undone.now.serial (marked_at name.now buffers.old).buffer.items) ≡ true }
+    requires room { is_full (length (marked_at name.now buffers.old).buffer.text) (marked_at name.now buffers.old).buffer.serial (undone_read (marked_at name.now buffers.old).buffer.text [] (removed_by undone.now.serial (marked_at name.now buffers.old).buffer.items) undone.now) ≡ false }
+    ensures ok { OnOk result (buffers.new ≡ change_first (marked_named name.now) (marked_edited undone.now.from (undone.now.from + undone.now.gone) (removed_by undone.now.serial (marked_at name.now buffers.old).buffer.items)) buffers.old) }
+    ensures end { IfOk result (λ end. end ≡ undone.now.from + length (removed_by undone.now.serial (marked_at name.now buffers.old).buffer.items)) }
+    ensures err { OnErr result (buffers.new ≡ buffers.old) }
+{
+    // For the ranges of a serial and of a place.
+    let _serial = buffers.serial(name);
+    let _size = buffers.text_len(name);
+    let back = removed_by(alloc, buffers, name, undone.serial)?;
+    buffers.edit(name, undone.from, undone.from + undone.gone, &back)?;
+    Ok(undone.from + back.len())
+}
+
+/// The same, where that takes out or puts in anything.
+fn restore<T: Marked + Drop>(
+    alloc: Global,
+    buffers: &mut Buffers<T>,
+    name: &Name,
+    undone: &Undone,
+) -> Result<usize, Short>
+    requires kept { HasBuffer name.now buffers.old }
+    requires can { (kill : List ℕ) → CanUndo (marked_at name.now buffers.old).buffer.text (marked_at name.now buffers.old).buffer.items kill (marked_at name.now buffers.old).buffer.serial undone.now }
+    ensures ok { (kill : List ℕ) → OnOk result (buffers.new ≡ edited_by name.now (undone_read (marked_at name.now buffers.old).buffer.text kill (removed_by undone.now.serial (marked_at name.now buffers.old).buffer.items) undone.now) buffers.old) }
+    ensures end { IfOk result (λ end. end ≡ undone.now.from + length (removed_by undone.now.serial (marked_at name.now buffers.old).buffer.items)) }
+    ensures err { OnErr result (buffers.new ≡ buffers.old) }
+    ensures may { OnErr result (is_edit undone.now.from (undone.now.from + undone.now.gone) (removed_by undone.now.serial (marked_at name.now buffers.old).buffer.items) ≡ true) }
+{
+    if is_undo_an_edit(undone) {
+        return put_back(alloc, buffers, name, undone);
+    }
+    Ok(undone.from)
+}
+
 /// Puts a mark of the window's buffer at a position.
 fn place<T: Marked + Drop>(buffers: &mut Buffers<T>, name: &Name, mark: MarkId, position: usize)
     requires mark { IsMark name.now mark buffers.old }
@@ -218,7 +283,7 @@ fn change_text<T: Marked + Drop>(
 ) -> Result<(), Short>
     requires marks { AreMarks buffers.old window_marks.now }
     requires can { CanBeDone buffers.old window_marks.now session.old.kill (Edits change.now) }
-    ensures ok { OnOk result (buffers.new ≡ marked_after window_marks.now (marked_at window_marks.now.name buffers.old).buffer.text session.old.kill (Edits change.now) buffers.old) }
+    ensures ok { OnOk result (buffers.new ≡ marked_after window_marks.now (marked_at window_marks.now.name buffers.old).buffer.text (marked_at window_marks.now.name buffers.old).buffer.items session.old.kill (Edits change.now) buffers.old) }
     ensures acted { OnOk result (session.new ≡ session_acted (marked_at window_marks.now.name buffers.old).buffer.text (Edits change.now) session.old) }
     ensures err { OnErr result (buffers.new ≡ buffers.old) }
     ensures same { OnErr result (session.new ≡ session.old) }
@@ -236,6 +301,28 @@ fn change_text<T: Marked + Drop>(
     Ok(())
 }
 
+/// An undo is done. `Short`: memory was refused, and nothing was done.
+fn take_back<T: Marked + Drop>(
+    alloc: Global,
+    buffers: &mut Buffers<T>,
+    session: &mut Session,
+    window_marks: &WindowMarks,
+    undone: &Undone,
+) -> Result<(), Short>
+    requires marks { AreMarks buffers.old window_marks.now }
+    requires can { CanBeDone buffers.old window_marks.now session.old.kill (Undoes undone.now) }
+    ensures ok { OnOk result (buffers.new ≡ marked_after window_marks.now (marked_at window_marks.now.name buffers.old).buffer.text (marked_at window_marks.now.name buffers.old).buffer.items session.old.kill (Undoes undone.now) buffers.old) }
+    ensures acted { OnOk result (session.new ≡ session_acted (marked_at window_marks.now.name buffers.old).buffer.text (Undoes undone.now) session.old) }
+    ensures err { OnErr result (buffers.new ≡ buffers.old) }
+    ensures same { OnErr result (session.new ≡ session.old) }
+    ensures may { OnErr result ((own : Own) → takes_memory (outcome_through own window_marks.now buffers.old session.old.kill (Undoes undone.now)) ≡ true) }
+{
+    let name = &window_marks.name;
+    let behind = restore(alloc, buffers, name, undone)?;
+    leave(buffers, session, window_marks, &undone.finish, behind, None);
+    Ok(())
+}
+
 /// A motion is done. `Short`: memory was refused, and nothing was done.
 fn move_point<T: Marked + Drop>(
     alloc: Global,
@@ -246,7 +333,7 @@ fn move_point<T: Marked + Drop>(
 ) -> Result<(), Short>
     requires marks { AreMarks buffers.old window_marks.now }
     requires can { CanBeDone buffers.old window_marks.now session.old.kill (Moves left.now) }
-    ensures ok { OnOk result (buffers.new ≡ marked_after window_marks.now (marked_at window_marks.now.name buffers.old).buffer.text session.old.kill (Moves left.now) buffers.old) }
+    ensures ok { OnOk result (buffers.new ≡ marked_after window_marks.now (marked_at window_marks.now.name buffers.old).buffer.text (marked_at window_marks.now.name buffers.old).buffer.items session.old.kill (Moves left.now) buffers.old) }
     ensures acted { OnOk result (session.new ≡ session_acted (marked_at window_marks.now.name buffers.old).buffer.text (Moves left.now) session.old) }
     ensures err { OnErr result (buffers.new ≡ buffers.old) }
     ensures same { OnErr result (session.new ≡ session.old) }
@@ -272,7 +359,7 @@ fn carry_out<T: Marked + Drop>(
 ) -> Result<(), Short>
     requires marks { AreMarks buffers.old window_marks.now }
     requires can { CanBeDone buffers.old window_marks.now session.old.kill action.now }
-    ensures ok { OnOk result (buffers.new ≡ marked_after window_marks.now (marked_at window_marks.now.name buffers.old).buffer.text session.old.kill action.now buffers.old) }
+    ensures ok { OnOk result (buffers.new ≡ marked_after window_marks.now (marked_at window_marks.now.name buffers.old).buffer.text (marked_at window_marks.now.name buffers.old).buffer.items session.old.kill action.now buffers.old) }
     ensures acted { OnOk result (session.new ≡ session_acted (marked_at window_marks.now.name buffers.old).buffer.text action.now session.old) }
     ensures err { OnErr result (buffers.new ≡ buffers.old) }
     ensures same { OnErr result (session.new ≡ session.old) }
@@ -284,6 +371,7 @@ fn carry_out<T: Marked + Drop>(
             Ok(())
         }
         Action::Edits(change) => change_text(alloc, buffers, session, window_marks, change),
+        Action::Undoes(undone) => take_back(alloc, buffers, session, window_marks, undone),
         Action::Moves(left) => move_point(alloc, buffers, session, window_marks, left),
         Action::Clears => {
             buffers.unmodify(&window_marks.name);
@@ -298,7 +386,7 @@ fn mark_of(action: &Action) -> Option<usize>
     ensures { result ≡ mark_told action.now }
 {
     match action {
-        Action::Fails(_) | Action::Clears => None,
+        Action::Fails(_) | Action::Undoes(_) | Action::Clears => None,
         Action::Edits(change) => change.finish.mark,
         Action::Moves(left) => left.mark,
     }
@@ -430,6 +518,13 @@ pub fn touched_by(window_marks: &WindowMarks, action: &Action, killed: usize) ->
     match action {
         Action::Edits(change) => {
             if is_edit(change, killed) {
+                Touched::In(window_marks.name)
+            } else {
+                Touched::Nowhere
+            }
+        }
+        Action::Undoes(undone) => {
+            if is_undo_an_edit(undone) {
                 Touched::In(window_marks.name)
             } else {
                 Touched::Nowhere

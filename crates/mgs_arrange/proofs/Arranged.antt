@@ -12,7 +12,7 @@ use Rattle.mgs_model.specs.Apart.{Apart, touched_by}
 use Rattle.mgs_model.specs.Events.{may_be_refused}
 use Rattle.mgs_model.specs.declared.limits.TheConstants.{WINDOW_LIMIT}
 use Rattle.mgs_model.specs.declared.message.Message.{Message}
-use Rattle.mgs_model.specs.declared.message.Message.TheVariants.{NoFurtherUndo, OnlyOneWindow, WindowTooSmall, TooManyWindows, ImpossibleChange}
+use Rattle.mgs_model.specs.declared.message.Message.TheVariants.{OnlyOneWindow, WindowTooSmall, TooManyWindows, ImpossibleChange}
 use Rattle.mgs_model.specs.declared.session.Arrangement.{Arrangement}
 use Rattle.mgs_model.specs.declared.session.Arrangement.TheVariants.{DeleteWindow, DeleteOtherWindows, SplitWindow, NextWindow, PreviousWindow, EnlargeWindow, ShrinkWindow, ListBuffers}
 use Rattle.mgs_model.specs.declared.session.Command.TheVariants.{Rearrange}
@@ -21,8 +21,9 @@ use Rattle.mgs_model.specs.declared.session.Kind.TheVariants.{Other}
 use Rattle.mgs_model.specs.declared.touched.Touched.TheVariants.{Nowhere}
 use Rattle.mgs_model.proofs.Apart.{apart_apply}
 use Rattle.mgs_model.proofs.Firsts.{change_first_found}
+use Rattle.mgs_windows.specs.Panes.{closer}
 use Rattle.mgs_world.specs.Worlds.{idle}
-use Rattle.mgs_arrange.specs.Arranged.{arranged_or_told, run_ended, closer, grown, listing_for, lower_half, next_index, others_gone, previous_index, rearranged, rows_given, rows_given_if, shrunk, upper_half, window_gone, window_lists, window_selected, window_split}
+use Rattle.mgs_arrange.specs.Arranged.{arranged_or_told, run_ended, grown, listing_for, lower_half, next_index, others_gone, previous_index, rearranged, rows_given, rows_given_if, shrunk, upper_half, window_gone, window_lists, window_selected, window_split}
 use Rattle.mgs_arrange.proofs.Slots.{all_stay, from_start, halves, halves_take_memory, height_seen, lists, named_all, named_but, named_halves, named_lists, named_one, one_leaves, others_leave, put, put_removed, put_resized, put_slots_but, reheighted, reheighted_not, reheighted_one, reheighted_same, reheighted_twice, replaced_by_one, replaced_by_two, rows_seen, seen}
 
 -- A SESSION IN NO MODE

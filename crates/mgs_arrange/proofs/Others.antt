@@ -2,7 +2,8 @@
 use Rattle.std.proofs.Common.{◌≡◌, ℕ, zero, suc, ◌+◌, ◌-◌, ◌<◌, cond, List, [], ◌∷◌, length, refl, sym, ap, subst, ◌∙◌, arith, le-ltb}
 use Rattle.mgs_model.specs.World.{Place, Session, Window}
 use Rattle.mgs_model.specs.Apply.{change_at, window_at}
-use Rattle.mgs_arrange.specs.Arranged.{closer, grown, left_by, left_by_others, others_gone, rows_in, window_gone}
+use Rattle.mgs_windows.specs.Panes.{closer}
+use Rattle.mgs_arrange.specs.Arranged.{grown, left_by, left_by_others, others_gone, rows_in, window_gone}
 
 -- A WINDOW THAT GREW
 

@@ -1,11 +1,11 @@
 -- One session is arranged anew among the others.
-use Rattle.std.proofs.Common.{◌≡◌, ℕ, zero, suc, ◌+◌, ◌<◌, ◌≤◌, Bool, true, false, cond, List, [], ◌∷◌, length, map, get_or, Option, Some, None, refl, sym, ap, subst, ◌∙◌, arith}
-use Rattle.std.specs.Prelude.{find, remove, slice_get, slice_set, Result, Ok, Err, OnOk, OnErr}
+use Rattle.std.proofs.Common.{◌≡◌, ℕ, zero, suc, ◌+◌, ◌<◌, Bool, true, List, [], ◌∷◌, length, map, get_or, Option, None, refl, sym, ap, subst, ◌∙◌, arith}
+use Rattle.std.specs.Prelude.{remove, slice_set, Result, Ok, Err, OnOk, OnErr}
 use Rattle.std.specs.List.{position_or_len}
 use Rattle.std.proofs.lemmas.List.{length-map}
 use Rattle.mgs_model.specs.Access.{Directory}
 use Rattle.mgs_model.specs.Apart.{Apart}
-use Rattle.mgs_model.specs.Apply.{act, change_first, outcome_in}
+use Rattle.mgs_model.specs.Apply.{act, change_at, change_first, outcome_in}
 use Rattle.mgs_model.specs.Events.{may_be_refused}
 use Rattle.mgs_model.specs.Outcome.{Run}
 use Rattle.mgs_model.specs.World.{World, find_session, has_id}
@@ -14,17 +14,18 @@ use Rattle.mgs_model.specs.declared.session.Arrangement.{Arrangement}
 use Rattle.mgs_model.specs.declared.session.Arrangement.TheVariants.{SplitWindow}
 use Rattle.mgs_model.specs.declared.session.Command.TheVariants.{Rearrange}
 use Rattle.mgs_model.specs.declared.touched.Touched.TheVariants.{Nowhere}
+use Rattle.mgs_model.proofs.Basics.{cons_head, cons_tail}
 use Rattle.mgs_model.proofs.Firsts.{position_or_len-map}
 use Rattle.mgs_buffers.specs.MarkedBuffer.{MarkedBuffer}
 use Rattle.mgs_session.specs.declared.Session.{Session}
-use Rattle.mgs_world.specs.Sound.{IsSessionSound, IsSound, in_use, session_uses, sum_of, uses}
-use Rattle.mgs_world.specs.WindowMarks.{MarksStay, WindowMarksDropped}
-use Rattle.mgs_world.specs.Worlds.{buffers_of, id_after, idle, own_at, own_of, own_or_first, session_id, session_of, size_in, sizes_in, window_of, world_of}
+use Rattle.mgs_world.specs.Sound.{IsSound, session_uses, sum_of}
+use Rattle.mgs_world.specs.WindowMarks.{WindowMarksDropped}
+use Rattle.mgs_world.specs.Worlds.{id_after, idle, own_at, own_of, session_id, session_of, sizes_in, window_of, world_of}
+use Rattle.mgs_world.proofs.SelectedMark.{changed_first}
 use Rattle.mgs_world.proofs.Sessions.{session_some}
 use Rattle.mgs_world.proofs.Soundness.{AreInUse, sizes_set}
 use Rattle.mgs_world.proofs.WindowMarks.{session_local, sessions_stay}
 use Rattle.mgs_world.proofs.Worlds.{same_world}
-use Rattle.mgs_arrange.specs.Arranged.{arranged_or_told, rearranged}
 use Rattle.mgs_arrange.specs.Arranging.{IsDone, IsResized, MayBeRefused, Rearranged}
 use Rattle.mgs_arrange.proofs.Arranged.{arranged_act, arranged_apart, split_may_be_refused}
 
@@ -40,12 +41,6 @@ sum_set used [] at y within = absurd (omega (arith, within))
 sum_set used (x ∷ xs) zero y within = refl
 sum_set used (x ∷ xs) (suc at) y within = omega (arith, sum_set used xs at y (omega (arith, within)))
 
-cons_head : {A : Type 0} (x y : A) (xs ys : List A) → x ∷ xs ≡ y ∷ ys → x ≡ y
-cons_head x y xs ys e = cc
-
-cons_tail : {A : Type 0} (x y : A) (xs ys : List A) → x ∷ xs ≡ y ∷ ys → xs ≡ ys
-cons_tail x y xs ys e = cc
-
 -- the others are seen as before
 set_seen : {A B : Type 0} (F G : A → B) (xs : List A) (at : ℕ) (y : A) → map F (remove xs at) ≡ map G (remove xs at) → map F (slice_set xs at y) ≡ slice_set (map G xs) at (F y)
 set_seen F G [] zero y same = refl
@@ -56,23 +51,12 @@ set_seen F G (x ∷ xs) (suc at) y same =
 
 -- the first that passes is set
 set_first : {A : Type 0} (p : A → Bool) (xs : List A) (at : ℕ) (y : A) → at ≡ position_or_len p xs → slice_set xs at y ≡ change_first p (λ x. y) xs
-set_first p [] at y place = refl
-set_first {A = A} p (x ∷ xs) at y place = go (p x) refl at place (λ at. set_first p xs at y)
+set_first {A = A} p xs at y place = set_at xs at ∙ changed_first p (λ x. y) xs at place
   where
-    go : (b : Bool) → p x ≡ b → (at : ℕ) → at ≡ position_or_len p (x ∷ xs) → ((at : ℕ) → at ≡ position_or_len p xs → slice_set xs at y ≡ change_first p (λ x. y) xs) → slice_set (x ∷ xs) at y ≡ cond b (y ∷ xs) (x ∷ change_first p (λ x. y) xs)
-    go true e zero place more = refl
-    go true e (suc at) place more = let none : suc at ≡ 0 = place ∙ here e in cc
-      where
-        here : p x ≡ true → position_or_len p (x ∷ xs) ≡ 0
-        here e = rw e refl
-    go false e zero place more = let some : 0 ≡ 1 + position_or_len p xs = place ∙ there e in absurd (omega (arith, some))
-      where
-        there : p x ≡ false → position_or_len p (x ∷ xs) ≡ 1 + position_or_len p xs
-        there e = rw e refl
-    go false e (suc at) place more = let some : suc at ≡ 1 + position_or_len p xs = place ∙ there e in ap (λ ys. x ∷ ys) (more at (omega (arith, some)))
-      where
-        there : p x ≡ false → position_or_len p (x ∷ xs) ≡ 1 + position_or_len p xs
-        there e = rw e refl
+    set_at : (xs : List A) (at : ℕ) → slice_set xs at y ≡ change_at at (λ x. y) xs
+    set_at [] at = refl
+    set_at (x ∷ xs) zero = refl
+    set_at (x ∷ xs) (suc at) = ap (λ ys. x ∷ ys) (set_at xs at)
 
 -- THE OTHERS
 
@@ -116,14 +100,6 @@ after_apart c n d ks xs next id at x v place is within e =
     subst (Apart Nowhere id (world_of d ks xs next)) (sym e) (arranged_apart (world_of d ks xs next) id c n (session_of ks x) (session_some d ks xs next id at x place within is))
 
 -- MEMORY IS REFUSED
-
-pub when_ok : {A E P Q : Type 0} (r : Result A E) → (P → Q) → OnOk r P → OnOk r Q
-when_ok (Ok a) f h = f h
-when_ok (Err e) f h = h
-
-pub when_refused : {A E P Q : Type 0} (r : Result A E) → (P → Q) → OnErr r P → OnErr r Q
-when_refused (Ok a) f h = h
-when_refused (Err e) f h = f h
 
 pub either_rearranged : {A E : Type 0} (r : Result A E) (ks ls : List MarkedBuffer) (x y : Session) → OnOk r (Rearranged ks ls x y) → OnErr r (WindowMarksDropped None ks ls) → OnErr r (IsResized x y) → Rearranged ks ls x y
 either_rearranged (Ok a) ks ls x y ok err same = ok

@@ -8,6 +8,7 @@ use Rattle.mgs_model.specs.View.{WindowSeen, window_seen}
 use Rattle.mgs_model.specs.Outcome.{Come, Slot, is_old, slots_take_memory}
 use Rattle.mgs_model.specs.Plans.{height_at, old_slot, resized, rows_of, slots_but}
 use Rattle.mgs_model.specs.Apply.{change_at, places_left, source_window, window_at, window_put}
+use Rattle.mgs_model.proofs.Basics.{or_true}
 use Rattle.mgs_arrange.specs.Arranged.{left_by, left_by_all, left_by_others, rows_in}
 
 -- WHAT IS SEEN OF THE WINDOWS
@@ -143,10 +144,6 @@ replaced_by_two f g m xs l = go m xs l ∙ ap (λ n. insert (change_at m f xs) n
     go (suc m) (x ∷ xs) l = ap (λ ys. x ∷ ys) (go m xs (omega (arith, l)))
 
 -- WHICH WINDOWS ARE NAMED
-
-or_true : (a b : Bool) → b ≡ true → (a || b) ≡ true
-or_true true b e = refl
-or_true false b e = e
 
 -- a window is named by the slots that go on from its index, or only from a later one
 named_later : (i j : ℕ) (slots : List Slot) (b : Bool) → list_any (is_old (i + 1 + j)) slots ≡ b → list_any (is_old (i + suc j)) slots ≡ b

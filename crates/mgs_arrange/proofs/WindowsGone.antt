@@ -1,5 +1,5 @@
 -- A window goes: what is seen of its session, and the marks that it uses.
-use Rattle.std.proofs.Common.{◌≡◌, ◌≢◌, ℕ, zero, suc, ◌+◌, ◌-◌, ◌<◌, ◌≤◌, Bool, true, false, cond, List, [], ◌∷◌, length, map, Option, Some, None, refl, sym, ap, subst, ◌∙◌, arith}
+use Rattle.std.proofs.Common.{◌≡◌, ℕ, zero, suc, ◌+◌, ◌-◌, ◌<◌, ◌≤◌, Bool, true, false, cond, List, [], ◌∷◌, length, map, Option, Some, None, refl, sym, ap, ◌∙◌, arith}
 use Rattle.std.specs.Prelude.{find, remove, nat_lt, Ok, Err}
 use Rattle.std.proofs.lemmas.List.{length-map}
 use Rattle.std.proofs.lemmas.Bool.{lt-ltb}
@@ -11,7 +11,7 @@ use Rattle.mgs_model.specs.Apply.{change_at, set_place, window_at}
 use Rattle.mgs_model.specs.Plans.{heir}
 use Rattle.mgs_model.specs.declared.message.Message.TheVariants.{OnlyOneWindow}
 use Rattle.mgs_model.specs.declared.session.Arrangement.TheVariants.{DeleteWindow}
-use Rattle.mgs_buffers.specs.MarkedBuffer.{MarkedBuffer, mark_at}
+use Rattle.mgs_buffers.specs.MarkedBuffer.{MarkedBuffer}
 use Rattle.mgs_windows.specs.Panes as panes
 use Rattle.mgs_windows.specs.Panes.{height_at, is_place_in, places_after, shows_at, window_removed, windows_without, with_place}
 use Rattle.mgs_windows.specs.declared.WindowMarks.{WindowMarks}
@@ -19,13 +19,13 @@ use Rattle.mgs_windows.specs.declared.Window.{Window}
 use Rattle.mgs_windows.proofs.Heights.{length_changed, length_removed, shows_same}
 use Rattle.mgs_session.specs.declared.Session.{Session}
 use Rattle.mgs_session.specs.Sessions.{told}
-use Rattle.mgs_world.specs.Worlds.{buffers_of, place_of, session_of, size_in, window_of, window_shown}
+use Rattle.mgs_world.specs.Worlds.{place_of, session_of, window_of, window_shown}
 use Rattle.mgs_world.specs.Sound.{IsSessionSound, IsShownSound, in_use, place_uses, session_uses, sum_of, window_marks_uses, window_uses}
-use Rattle.mgs_world.specs.WindowMarks.{MarksStay, WindowMarksDropped}
+use Rattle.mgs_world.specs.WindowMarks.{WindowMarksDropped}
 use Rattle.mgs_world.proofs.WindowMarks.{session_local}
 use Rattle.mgs_world.proofs.Worlds.{same_positions}
 use Rattle.mgs_arrange.specs.Arranged.{arranged_or_told, grown, left_by, others_gone, rearranged, shrunk, window_gone}
-use Rattle.mgs_arrange.specs.Arranging.{Lessened, Rearranged}
+use Rattle.mgs_arrange.specs.Arranging.{Lessened}
 use Rattle.mgs_arrange.proofs.Others.{others_after_above, others_after_below, others_of_one}
 
 -- LISTS

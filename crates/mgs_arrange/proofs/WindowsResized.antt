@@ -1,8 +1,7 @@
 -- Rows go from one window to another.
-use Rattle.std.proofs.Common.{◌≡◌, ℕ, ◌+◌, ◌<◌, ◌≤◌, Bool, true, false, cond, List, length, map, refl, sym, ap, ◌∙◌, arith}
+use Rattle.std.proofs.Common.{◌≡◌, ℕ, ◌<◌, ◌≤◌, Bool, true, false, cond, List, length, map, refl, sym, ap, ◌∙◌, arith}
 use Rattle.std.specs.Prelude.{nat_le, Ok, Err}
 use Rattle.std.proofs.lemmas.Bool.Decides.{nat_tests}
-use Rattle.mgs_model.specs.World as model
 use Rattle.mgs_model.specs.Apply.{change_at}
 use Rattle.mgs_model.specs.declared.message.Message.TheVariants.{ImpossibleChange}
 use Rattle.mgs_buffers.specs.MarkedBuffer.{MarkedBuffer}
@@ -11,8 +10,8 @@ use Rattle.mgs_windows.specs.Panes.{given, height_at}
 use Rattle.mgs_windows.specs.declared.Window.{Window}
 use Rattle.mgs_session.specs.declared.Session.{Session}
 use Rattle.mgs_session.specs.Sessions.{told}
-use Rattle.mgs_world.specs.Worlds.{session_of, window_of, window_shown}
-use Rattle.mgs_world.specs.Sound.{sum_of, window_uses}
+use Rattle.mgs_world.specs.Worlds.{session_of, window_of}
+use Rattle.mgs_world.specs.Sound.{window_uses}
 use Rattle.mgs_world.proofs.Worlds.{same_windows}
 use Rattle.mgs_arrange.specs.Arranged.{arranged_or_told, grown, rows_given, rows_given_if, shrunk}
 use Rattle.mgs_arrange.specs.Arranging.{IsResized}

@@ -1,5 +1,5 @@
 -- A window becomes two.
-use Rattle.std.proofs.Common.{◌≡◌, ℕ, zero, suc, ◌+◌, ◌-◌, ◌/◌, ◌<◌, ◌≤◌, Bool, true, false, cond, List, [], ◌∷◌, length, map, Option, Some, None, refl, sym, ap, subst, ◌∙◌, arith}
+use Rattle.std.proofs.Common.{◌≡◌, ℕ, zero, suc, ◌+◌, ◌-◌, ◌/◌, ◌<◌, ◌≤◌, Bool, true, false, cond, List, [], ◌∷◌, length, map, Option, Some, None, refl, sym, ap, ◌∙◌, arith}
 use Rattle.std.specs.Prelude.{nat_le, nat_lt, slice_get, Ok, Err}
 use Rattle.std.specs.List.{insert}
 use Rattle.std.specs.Option.{option_and_then, option_map}
@@ -18,9 +18,9 @@ use Rattle.mgs_windows.specs.declared.WindowMarks.{WindowMarks}
 use Rattle.mgs_windows.specs.declared.Window.{Window}
 use Rattle.mgs_session.specs.declared.Session.{Session}
 use Rattle.mgs_session.specs.Sessions.{told}
-use Rattle.mgs_world.specs.Worlds.{buffers_of, place_of, session_of, size_in, window_of, window_shown}
+use Rattle.mgs_world.specs.Worlds.{buffers_of, session_of, window_of, window_shown}
 use Rattle.mgs_world.specs.Sound.{IsSessionSound, IsShownSound, in_use, session_uses, sum_of, window_marks_uses, window_uses}
-use Rattle.mgs_world.specs.WindowMarks.{MarksStay, WindowMarksAdded}
+use Rattle.mgs_world.specs.WindowMarks.{MarksStay}
 use Rattle.mgs_world.proofs.WindowMarks.{session_local, window_local}
 use Rattle.mgs_world.proofs.Worlds.{same_window, same_windows}
 use Rattle.mgs_arrange.specs.Arranged.{arranged_or_told, lower_half, rearranged, upper_half, window_split}

@@ -3,6 +3,7 @@ use Rattle.std.specs.Prelude.{ℕ, zero, suc, ◌+◌, ◌-◌, ◌/◌, nat_lt,
 use Rattle.mgs_model.specs.World.{Place, Window, Session, Listing}
 use Rattle.mgs_model.specs.Plans.{count_of, heir, neighbor}
 use Rattle.mgs_model.specs.Apply.{change_at, left_places, window_at}
+use Rattle.mgs_windows.specs.Panes.{closer}
 use Rattle.mgs_model.specs.declared.message.Message.{Message}
 use Rattle.mgs_model.specs.declared.message.Message.TheVariants.{OnlyOneWindow, WindowTooSmall, TooManyWindows, ImpossibleChange}
 use Rattle.mgs_model.specs.declared.session.Arrangement.{Arrangement}
@@ -41,10 +42,6 @@ left_by_others zero (x ∷ xs) places = left_by_all xs places
 left_by_others (suc k) (x ∷ xs) places = left_by_others k xs (left_by x places)
 
 -- WINDOWS THAT GO
-
--- the selected index, once the window at k is gone
-abbrev pub closer : ℕ → ℕ → ℕ
-closer k selected = cond (nat_lt selected k) selected (selected - 1)
 
 -- the window at k goes, and the one at `to` gets its rows
 abbrev pub window_gone : ℕ → ℕ → Session → Session

@@ -1,5 +1,5 @@
 // Windows go, and leave their places.
-ghost use Rattle.std.specs.Prelude.{◌≡◌, ◌≢◌, ◌<◌, ◌-◌, ℕ, Option, length, cond, nat_eq, ◌==◌};
+ghost use Rattle.std.specs.Prelude.{◌≡◌, ◌≢◌, ◌<◌, ◌-◌, ℕ, Option, length, ◌==◌};
 ghost use Rattle.mgs_model.specs.Plans.{heir};
 ghost use Rattle.mgs_model.specs.declared.session.Arrangement.TheVariants.{DeleteWindow, DeleteOtherWindows};
 ghost use Rattle.mgs_windows.specs.Panes.{window_removed};

@@ -3,8 +3,7 @@ ghost use Rattle.std.specs.Prelude.{◌≡◌, ◌≢◌, ◌<◌, ◌+◌, ℕ,
 ghost use Rattle.mgs_model.specs.Plans.{count_of, neighbor};
 ghost use Rattle.mgs_model.specs.declared.session.Arrangement.TheVariants.{NextWindow, PreviousWindow, EnlargeWindow, ShrinkWindow};
 ghost use Rattle.mgs_buffers.specs.MarkedBuffer.{MarkedBuffer};
-ghost use Rattle.mgs_world.specs.Sound.{session_uses};
-ghost use Rattle.mgs_world.specs.Worlds.{session_of, size_in};
+ghost use Rattle.mgs_world.specs.Worlds.{session_of};
 ghost use Rattle.mgs_arrange.specs.Arranged.{arranged_or_told, next_index, previous_index, rows_given_if};
 ghost use Rattle.mgs_arrange.specs.Arranging.{IsArranged, IsResized};
 

@@ -3,3 +3,4 @@ pub mod MarkedLemmas
 pub mod Limits
 pub mod Changes
 pub mod Unmarked
+mod Completed

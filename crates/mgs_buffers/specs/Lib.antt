@@ -1,3 +1,4 @@
 pub mod Adding
 pub mod MarkedBuffer
 pub mod Contents
+pub mod Completed

@@ -8,12 +8,15 @@ ghost use Rattle.mgs_model.specs.Names.{same_name};
 ghost use Rattle.std.specs.List.{position_or_len};
 ghost use Rattle.mgs_model.specs.Access.{decider, decision, decision_by};
 ghost use Rattle.mgs_model.specs.Apply.{change_first};
+ghost use Rattle.mgs_model.specs.Completion.{completion, granted_names};
 ghost use Rattle.mgs_model.specs.World.{may};
 ghost use Rattle.mgs_buffers.specs.Adding.{add_fault, AddAnswers, NamesToAdd};
+ghost use Rattle.mgs_buffers.specs.Completed.{IsWithinName};
 ghost use Rattle.mgs_buffers.specs.Contents.{marked_of};
 ghost use Rattle.mgs_buffers.specs.MarkedBuffer.{AreUnmarked, AreWithinLimit, marked_named, marked_at, has_buffer, HasBuffer, IsMark, mark_at, marked_new, marked_edited, marked_placed, marked_unmodified, MarkAdded, MarkDropped};
 
 use crate::buffer::{Buffer, new_buffer};
+use crate::completing::completion;
 use crate::fault::AddFault;
 use indexmap::IndexMap;
 use mgs_acl::user_named;
@@ -216,6 +219,15 @@ impl<T: Marked + Drop> Buffers<T> {
         None
     }
 
+    /// What is typed as a buffer's name is completed to: the longest text with which the names begin that begin with `input`, of
+    /// the buffers on which a user is granted READ_ATTRIBUTES. `None`: there is no such name.
+    pub fn completion(&self, directory: &Directory, user: &Name, input: &[u8]) -> Option<&[u8]>
+        ensures within { IsWithinName (option_map (λ t. t.now) result) }
+        ensures value { option_map (λ t. t.now) result ≡ completion (granted_names directory.now user.now (map (λ k. k.buffer) self.now)) input.now }
+    {
+        completion(&self.all, directory, user, input)
+    }
+
     /// The buffer's text, with its marks.
     pub fn text(&self, name: &Name) -> &T
         requires { HasBuffer name.now self.now }
@@ -250,6 +262,14 @@ impl<T: Marked + Drop> Buffers<T> {
         ensures { result ≡ (marked_at name.now self.now).buffer.modified }
     {
         self.buffer(name).modified
+    }
+
+    /// Whether the buffer has a file.
+    pub fn has_file(&self, name: &Name) -> bool
+        requires { HasBuffer name.now self.now }
+        ensures { result ≡ (marked_at name.now self.now).buffer.file }
+    {
+        self.buffer(name).has_file
     }
 
     /// The edit of a serial, where the buffer keeps it: where it was, the characters that it took out, and how many it put in.

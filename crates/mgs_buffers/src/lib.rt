@@ -3,6 +3,7 @@
 
 mod buffer;
 mod buffers;
+mod completing;
 mod fault;
 
 pub use buffer::{Buffer, new_buffer};

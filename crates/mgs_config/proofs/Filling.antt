@@ -1,8 +1,8 @@
 -- Buffers, table by table.
 use Rattle.std.proofs.Common.{◌≡◌, ◌≢◌, ℕ, ◌+◌, ◌<◌, ◌≤◌, refl, sym, ap, ◌∙◌, arith, Bool, true, false, cond, List, [], ◌∷◌, ◌++◌, length, map, get_or, take, drop, Option, Some, None, inl, inr, suc, subst}
-use Rattle.std.specs.Prelude.{◌||◌, find, is_some, not, nat_lt, nat_le}
+use Rattle.std.specs.Prelude.{◌||◌, find, is_some, not, nat_lt}
 use Rattle.std.specs.List.{list_all}
-use Rattle.std.proofs.lemmas.List.{take_more, drop_more, map-append, take-append-drop}
+use Rattle.std.proofs.lemmas.List.{map-append, take-append-drop}
 use Rattle.std.proofs.lemmas.Bool.Decides.{nat_tests}
 use Rattle.toml.specs.Data.{Data}
 use Rattle.toml.specs.View.{view}
@@ -12,9 +12,9 @@ use Rattle.mgs_model.specs.Access.{is_among}
 use Rattle.mgs_buffers.specs.MarkedBuffer.{MarkedBuffer, has_buffer, marked_named}
 use Rattle.mgs_config.specs.declared.fault.TableFault.{TableFault}
 use Rattle.mgs_config.specs.declared.fault.TableFault.TheVariants.{Toml, Key, Name, Twice, Unknown, Entry, Long, File, Short}
-use Rattle.mgs_config.specs.Faults.{first_fault, or_later}
+use Rattle.mgs_config.specs.Faults.{first_fault}
 use Rattle.mgs_config.specs.Buffers.{name_of, owner_of, listed, path_of, is_entry, refused_where, names_refused, contents_refused, buffer_refused}
-use Rattle.mgs_config.specs.Files.{IsAdded, IsBufferOf, AreBuffers, IsTextOf, buffer_of, IsRefusal, IsFaultOf, IsBufferFault, IsFileFaultAt}
+use Rattle.mgs_config.specs.Files.{IsAdded, AreBuffers, IsTextOf, buffer_of, IsRefusal, IsFaultOf, IsBufferFault}
 use Rattle.mgs_config.proofs.Firsts.{rows_before, rows_from, rows_more, rows_less, rows_count, passed, found}
 
 few_if : {A : Type 0} (listed : Bool) (n : ℕ) (x y : A) (rest : Option A) → cond (not listed) (Some x) (cond (nat_lt 64 n) (Some y) rest) ≡ None → n ≤ 64

@@ -1,12 +1,12 @@
 -- The first fault of tables, table by table.
-use Rattle.std.proofs.Common.{◌≡◌, ◌≢◌, ℕ, ◌+◌, ◌<◌, ◌≤◌, refl, sym, ap, ◌∙◌, arith, List, [], ◌∷◌, ◌++◌, length, map, get_or, take, drop, Option, Some, None, length-take}
+use Rattle.std.proofs.Common.{◌≡◌, ◌≢◌, ℕ, ◌+◌, ◌<◌, ◌≤◌, sym, ap, ◌∙◌, arith, List, [], ◌∷◌, ◌++◌, length, map, get_or, take, drop, Option, Some, None, length-take}
 use Rattle.std.proofs.lemmas.List.{take_more, drop_more, map-append, length-map}
 use Rattle.toml.specs.Data.{Data}
 use Rattle.toml.specs.View.{view}
 use Rattle.toml.specs.declared.value.Value.{Value}
 use Rattle.mgs_config.specs.declared.fault.TableFault.{TableFault}
 use Rattle.mgs_config.specs.declared.fault.TableFault.TheVariants.{Short}
-use Rattle.mgs_config.specs.Faults.{first_fault, or_later}
+use Rattle.mgs_config.specs.Faults.{first_fault}
 
 -- the first i tables, and the others
 abbrev pub rows_before : List Value → ℕ → List Data

@@ -1,7 +1,7 @@
 -- Lists of strings and of keys, as code has them.
-use Rattle.std.proofs.Common.{◌≡◌, ℕ, refl, sym, ap, ◌∙◌, Bool, true, false, cond, List, [], ◌∷◌, map, Bor, length}
+use Rattle.std.proofs.Common.{◌≡◌, ℕ, refl, ap, cond, List, [], ◌∷◌, map, Bor, length}
 use Rattle.std.proofs.lemmas.List.{length-map}
-use Rattle.std.specs.Prelude.{Option, Some, None, ◌||◌}
+use Rattle.std.specs.Prelude.{Some, None, ◌||◌}
 use Rattle.std.specs.List.{list_all, list_any}
 use Rattle.std.proofs.lemmas.List.Folds.{list_all-map}
 use Rattle.mgs_model.specs.Names.{same_name}

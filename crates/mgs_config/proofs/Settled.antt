@@ -1,5 +1,5 @@
 -- A fault that is answered as it is.
-use Rattle.std.proofs.Common.{◌≡◌, ◌≢◌, ℕ, List, Option, sym, ap, ◌∙◌, subst}
+use Rattle.std.proofs.Common.{◌≡◌, ◌≢◌, ℕ, List, Option, sym, subst}
 use Rattle.toml.specs.Data.{Data}
 use Rattle.mgs_config.specs.World.{IsConfigFault}
 use Rattle.mgs_config.specs.declared.fault.TableFault.TheVariants.{Short}

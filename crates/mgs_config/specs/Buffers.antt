@@ -1,18 +1,16 @@
 -- The tables of buffers.
-use Rattle.std.specs.Prelude.{◌≡◌, ◌≢◌, ◌<◌, ◌+◌, ◌-◌, ◌^◌, ℕ, nat_le, nat_lt, not, Bool, true, false, ◌&&◌, ◌||◌, List, [], ◌∷◌, ◌++◌, length, map, codes, Option, Some, None, is_some, IfSome, Result, Ok, Err, if◌then◌else◌}
+use Rattle.std.specs.Prelude.{ℕ, nat_le, nat_lt, not, Bool, true, false, ◌&&◌, List, [], ◌∷◌, length, map, codes, Option, Some, None, is_some, Result, Ok, Err, if◌then◌else◌}
 use Rattle.std.specs.Option.{option_map, unwrap_or}
 use Rattle.std.specs.List.{list_all}
 use Rattle.std.specs.Str.{chars}
-use Rattle.toml.specs.Data.{Data, get, as_str}
+use Rattle.toml.specs.Data.{Data, get}
 use Rattle.mgs_model.specs.Names.{is_name, is_user_name}
 use Rattle.mgs_model.specs.Access.{is_among}
 use Rattle.mgs_model.specs.declared.entry.Entry.{Entry}
 use Rattle.mgs_acl.specs.Spelling.{entry_in}
-use Rattle.mgs_buffers.specs.MarkedBuffer.{MarkedBuffer, marked_new}
 use Rattle.mgs_config.specs.Rows.{has_only, text_at, values_at, is_text, text_of}
-use Rattle.mgs_config.specs.Faults.{first_fault}
 use Rattle.mgs_config.specs.declared.fault.TableFault.{TableFault}
-use Rattle.mgs_config.specs.declared.fault.TableFault.TheVariants.{Toml, Key, Name, Twice, Unknown, Entry as NoEntry, Long, File, Short}
+use Rattle.mgs_config.specs.declared.fault.TableFault.TheVariants.{Key, Name, Twice, Unknown, Entry as NoEntry, Long}
 
 -- WHAT A TABLE GIVES
 

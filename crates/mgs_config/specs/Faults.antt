@@ -1,5 +1,5 @@
 -- Which table of a configuration is at fault, and why.
-use Rattle.std.specs.Prelude.{◌≡◌, ◌≢◌, ◌+◌, ℕ, List, [], ◌∷◌, ◌++◌, length, map, Option, Some, None}
+use Rattle.std.specs.Prelude.{◌+◌, ℕ, List, [], ◌∷◌, ◌++◌, length, map, Option, Some, None}
 use Rattle.std.specs.Option.{option_map, unwrap_or}
 use Rattle.toml.specs.Data.{Data}
 use Rattle.mgs_model.specs.Access.{UserGroup, Directory}

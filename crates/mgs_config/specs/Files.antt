@@ -5,7 +5,7 @@ use Rattle.mgs_buffers.specs.MarkedBuffer.{MarkedBuffer, marked_new}
 use Rattle.mgs_config.specs.Faults.{first_fault}
 use Rattle.mgs_config.specs.Buffers.{name_of, owner_of, listed, entries_in, written, path_of, has_file, buffer_refused}
 use Rattle.mgs_config.specs.declared.fault.TableFault.{TableFault}
-use Rattle.mgs_config.specs.declared.fault.TableFault.TheVariants.{Toml, Key, Name, Twice, Unknown, Entry, Long, File, Short}
+use Rattle.mgs_config.specs.declared.fault.TableFault.TheVariants.{Long, File, Short}
 
 -- a count of faults rose, or stood at the last u64
 abbrev pub HasRisen : ℕ → ℕ → Type 0

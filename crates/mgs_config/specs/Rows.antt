@@ -3,7 +3,7 @@ use Rattle.std.specs.Prelude.{ℕ, Bool, true, false, ◌&&◌, List, [], ◌∷
 use Rattle.std.specs.Option.{option_map, option_and_then, unwrap_or}
 use Rattle.std.specs.List.{list_all}
 use Rattle.toml.specs.Data.{Data, table, Items, no_items, item, Members, no_members, member, get, as_str, as_array}
-use Rattle.mgs_model.specs.Access.{UserGroup, is_among}
+use Rattle.mgs_model.specs.Access.{is_among}
 
 -- the values of an array
 abbrev pub data_in : Items → List Data

@@ -1,11 +1,11 @@
 -- What a configuration gives, or why it is refused.
-use Rattle.std.specs.Prelude.{◌≡◌, ℕ, not, List, [], ◌∷◌, map, codes, string_bytes, Option, Some, None, if◌then◌else◌, Vec}
+use Rattle.std.specs.Prelude.{◌≡◌, ℕ, not, List, [], ◌∷◌, map, codes, Option, Some, None, if◌then◌else◌}
 use Rattle.std.specs.Option.{option_map}
 use Rattle.toml.specs.Data.{Data}
 use Rattle.mgs_model.specs.Access.{Directory}
 use Rattle.mgs_config.specs.Faults.{first_fault, user_of, user_refused, names_of, group_of, group_refused}
 use Rattle.mgs_config.specs.Buffers.{name_of, path_of}
-use Rattle.mgs_config.specs.Files.{AreBuffers, IsBufferFault}
+use Rattle.mgs_config.specs.Files.{IsBufferFault}
 use Rattle.mgs_config.specs.Document.{is_configuration, rows_at}
 use Rattle.mgs_config.specs.declared.fault.TableFault.{TableFault}
 use Rattle.mgs_config.specs.declared.fault.TableFault.TheVariants.{Toml, Key}

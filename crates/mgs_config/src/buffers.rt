@@ -1,13 +1,11 @@
 // The buffers of a configuration.
-ghost use Rattle.std.specs.Prelude.{◌≡◌, ◌≢◌, ◌≤◌, [], ◌∷◌, ◌++◌, codes, length, map, true, IfOk, IfErr, OnOk, Some, None, is_some};
+ghost use Rattle.std.specs.Prelude.{◌≡◌, ◌≤◌, [], ◌∷◌, ◌++◌, length, map, true, IfOk, Some, None, is_some};
 ghost use Rattle.std.specs.List.{list_all};
 ghost use Rattle.std.specs.Str.{chars};
 ghost use Rattle.toml.specs.Data.{get};
 ghost use Rattle.toml.specs.View.{view};
 ghost use Rattle.mgs_model.specs.Access.{is_among};
-ghost use Rattle.mgs_model.specs.Names.{is_name, is_user_name};
-ghost use Rattle.mgs_buffers.specs.MarkedBuffer.{has_buffer, marked_new};
-ghost use Rattle.mgs_config.specs.Rows.{is_text, text_of};
+ghost use Rattle.mgs_buffers.specs.MarkedBuffer.{has_buffer};
 ghost use Rattle.mgs_config.specs.Buffers.{string_at, name_of, owner_of, listed, written, text_or_none, is_list_at, has_content, has_names, is_buffer_row, is_entry, entries_in, names_refused, contents_refused, refused_where};
 
 use crate::fault::TableFault;

@@ -1,8 +1,7 @@
 // The document of a configuration.
-ghost use Rattle.std.specs.Prelude.{◌≡◌, ◌≢◌, ◌∷◌, [], codes, map, IfOk, IfErr, Some, None};
+ghost use Rattle.std.specs.Prelude.{◌≡◌, ◌≢◌, [], map, IfOk, IfErr, Some, None};
 ghost use Rattle.std.specs.List.{list_all};
 ghost use Rattle.toml.specs.View.{view};
-ghost use Rattle.toml.specs.Data.{as_table};
 ghost use Rattle.mgs_config.specs.Document.{document_in, is_table, are_tables_at, is_configuration, rows_at};
 ghost use Rattle.mgs_config.specs.declared.fault.TableFault.TheVariants.{Toml, Short};
 

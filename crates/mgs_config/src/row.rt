@@ -1,5 +1,5 @@
 // How the tables of a configuration are read.
-ghost use Rattle.std.specs.Prelude.{◌≡◌, [], ◌∷◌, codes, map, option_map, IfOk};
+ghost use Rattle.std.specs.Prelude.{◌≡◌, map, option_map, IfOk};
 ghost use Rattle.std.specs.List.{list_all, list_any};
 ghost use Rattle.mgs_model.specs.Names.{same_name};
 ghost use Rattle.toml.specs.View.{table_view, view};

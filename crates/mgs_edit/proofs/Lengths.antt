@@ -1,12 +1,17 @@
 -- How many characters a plan puts in.
-use Rattle.std.proofs.Common.{◌≡◌, ℕ, zero, suc, ◌+◌, ◌-◌, ◌*◌, ◌≤◌, List, ◌++◌, length, drop, refl, ap, ◌∙◌, arith, length-append, length-drop, length-take}
+use Rattle.std.proofs.Common.{◌≡◌, ℕ, zero, suc, ◌+◌, ◌-◌, ◌*◌, ◌≤◌, Bool, true, List, [], ◌∷◌, ◌++◌, length, drop, refl, ap, ◌∙◌, arith, length-append, length-drop, length-take}
+use Rattle.std.proofs.lemmas.List.{length-map}
 use Rattle.std.specs.Prelude.{replicate, slice_range}
 use Rattle.std.specs.List.{repeat}
 use Rattle.std.proofs.Math.Nat.{suc-mul}
 use Rattle.std.proofs.lemmas.List.{length-replicate}
-use Rattle.mgs_edit.specs.Reading.{put_read, PutWithin}
+use Rattle.std.specs.Char.{to_ascii_lowercase, to_ascii_uppercase}
+use Rattle.mgs_model.specs.Cases.{begins_word, capitalized_from}
+use Rattle.mgs_edit.specs.Reading.{put_read, PutWithin, cased}
+use Rattle.mgs_edit.specs.declared.plan.Case.{Case}
+use Rattle.mgs_edit.specs.declared.plan.Case.TheVariants.{Upper, Lower, Capitalized}
 use Rattle.mgs_edit.specs.declared.plan.Put.{Put}
-use Rattle.mgs_edit.specs.declared.plan.Put.TheVariants.{Nothing, Character, KillBuffer, Indented, Exchanged}
+use Rattle.mgs_edit.specs.declared.plan.Put.TheVariants.{Nothing, Character, KillBuffer, Indented, Exchanged, Cased}
 
 -- how many characters that is, where the kill buffer has so many
 abbrev pub put_length : ℕ → Put → ℕ
@@ -15,6 +20,7 @@ put_length killed (Character c n) = n
 put_length killed (KillBuffer n) = n * killed
 put_length killed (Indented n a b) = n + (b - a)
 put_length killed (Exchanged q) = 2
+put_length killed (Cased a b case) = b - a
 
 length_repeat : (n : ℕ) (xs : List ℕ) → length (repeat n xs) ≡ n * length xs
 length_repeat zero xs = omega arith
@@ -26,6 +32,18 @@ length_repeat (suc n) xs =
 
 length_range : (xs : List ℕ) (a b : ℕ) → a ≤ b → b ≤ length xs → length (slice_range xs a b) ≡ b - a
 length_range xs a b h k = omega (arith, length-take (b - a) (drop a xs), length-drop a xs)
+
+length_capitalized : (begins : Bool) (xs : List ℕ) → length (capitalized_from begins xs) ≡ length xs
+length_capitalized begins [] = refl
+length_capitalized begins (x ∷ xs) = ap suc (length_capitalized (begins_word begins x) xs)
+
+length_cased : (case : Case) (xs : List ℕ) → length (cased case xs) ≡ length xs
+length_cased Upper xs = length-map xs to_ascii_uppercase
+length_cased Lower xs = length-map xs to_ascii_lowercase
+length_cased Capitalized xs = length_capitalized true xs
+
+pub length_cased_range : (case : Case) (xs : List ℕ) (a b : ℕ) → a ≤ b → b ≤ length xs → length (cased case (slice_range xs a b)) ≡ b - a
+length_cased_range case xs a b h k = length_cased case (slice_range xs a b) ∙ length_range xs a b h k
 
 length_put : (text kill : List ℕ) (p : Put) → PutWithin (length text) p → length (put_read text kill p) ≡ put_length (length kill) p
 length_put text kill Nothing h = refl
@@ -39,6 +57,7 @@ length_put text kill (Exchanged q) h =
     let after : length (slice_range text q (q + 1)) ≡ (q + 1) - q = length_range text q (q + 1) (omega arith) within in
     let before : length (slice_range text (q - 1) q) ≡ q - (q - 1) = length_range text (q - 1) q (omega arith) (omega arith) in
     omega (arith, length-append (slice_range text q (q + 1)) (slice_range text (q - 1) q))
+length_put text kill (Cased a b case) h = length_cased_range case text a b h.0 h.1
 
 pub length_killed : (text kill : List ℕ) (p : Put) (killed : ℕ) → PutWithin (length text) p → length kill ≡ killed → length (put_read text kill p) ≡ put_length killed p
 length_killed text kill p killed h k = length_put text kill p h ∙ ap (λ n. put_length n p) k

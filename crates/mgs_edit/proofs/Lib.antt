@@ -1,1 +1,3 @@
 pub mod Lengths
+mod Stretches
+mod Regions

@@ -1,7 +1,8 @@
 -- What a plan says: each is read as a plan of the model, given the text and the kill buffer that it is for.
-use Rattle.std.specs.Prelude.{ℕ, ◌+◌, ◌-◌, ◌≤◌, Bool, true, false, List, [], ◌++◌, length, replicate, slice_range, Option, Some, None, Result, Ok, Err}
+use Rattle.std.specs.Prelude.{◌≡◌, ℕ, ◌+◌, ◌-◌, ◌≤◌, Bool, true, false, List, [], ◌++◌, length, replicate, slice_range, Option, Some, None, Result, Ok, Err}
 use Rattle.std.specs.List.{repeat}
 use Rattle.mgs_model.specs.Outcome.{PointPlan, Keep, At, MarkPlan, Keep_mark, Mark_at, KillPlan, Keep_kill, Kill_is, Keep_search}
+use Rattle.mgs_model.specs.Cases.{uppercased, lowercased, capitalized}
 use Rattle.mgs_model.specs.Plans as model
 use Rattle.mgs_model.specs.declared.message.Message.{Message}
 use Rattle.mgs_model.specs.declared.message.Message.TheVariants.{Silent}
@@ -10,7 +11,7 @@ use Rattle.mgs_model.specs.declared.session.Kind.TheVariants.{Other, Kill}
 use Rattle.mgs_model.specs.declared.session.Motion.{Motion}
 use Rattle.mgs_model.specs.declared.session.Motion.TheVariants.{StartSearch, SearchOn, StartReplace, SkipMatch}
 use Rattle.mgs_model.specs.declared.session.Alteration.{Alteration}
-use Rattle.mgs_model.specs.declared.session.Alteration.TheVariants.{UpcaseWord, ReplaceMatch}
+use Rattle.mgs_model.specs.declared.session.Alteration.TheVariants.{FillParagraph, ReplaceMatch}
 use Rattle.mgs_edit.specs.declared.plan.Around.{Around}
 use Rattle.mgs_edit.specs.declared.plan.Goes.{Goes}
 use Rattle.mgs_edit.specs.declared.plan.Goes.TheVariants.{Stays, To, Behind}
@@ -19,8 +20,10 @@ use Rattle.mgs_edit.specs.declared.plan.Joins.TheVariants.{New, InFront}
 use Rattle.mgs_edit.specs.declared.plan.Joins.TheVariants as joins
 use Rattle.mgs_edit.specs.declared.plan.Piece.{Piece}
 use Rattle.mgs_edit.specs.declared.plan.Finish.{Finish}
+use Rattle.mgs_edit.specs.declared.plan.Case.{Case}
+use Rattle.mgs_edit.specs.declared.plan.Case.TheVariants.{Upper, Lower, Capitalized}
 use Rattle.mgs_edit.specs.declared.plan.Put.{Put}
-use Rattle.mgs_edit.specs.declared.plan.Put.TheVariants.{Nothing, Character, KillBuffer, Indented, Exchanged}
+use Rattle.mgs_edit.specs.declared.plan.Put.TheVariants.{Nothing, Character, KillBuffer, Indented, Exchanged, Cased}
 use Rattle.mgs_edit.specs.declared.plan.Change.{Change}
 use Rattle.mgs_edit.specs.declared.plan.Undone.{Undone}
 
@@ -36,12 +39,18 @@ undoing kind name serial rest = record rest { kind = kind; name = name; serial =
 
 -- PLANS
 
+abbrev pub cased : Case → List ℕ → List ℕ
+cased Upper chars = uppercased chars
+cased Lower chars = lowercased chars
+cased Capitalized chars = capitalized chars
+
 abbrev pub put_read : List ℕ → List ℕ → Put → List ℕ
 put_read text kill Nothing = []
 put_read text kill (Character c n) = replicate n c
 put_read text kill (KillBuffer n) = repeat n kill
 put_read text kill (Indented n a b) = replicate n 10 ++ slice_range text a b
 put_read text kill (Exchanged q) = slice_range text q (q + 1) ++ slice_range text (q - 1) q
+put_read text kill (Cased a b case) = cased case (slice_range text a b)
 
 -- behind is where what is put in ends
 abbrev pub point_read : ℕ → Goes → PointPlan
@@ -131,6 +140,7 @@ PutWithin size (Character c n) = Unit {0}
 PutWithin size (KillBuffer n) = Unit {0}
 PutWithin size (Indented n a b) = (a ≤ b) × (b ≤ size)
 PutWithin size (Exchanged q) = (1 ≤ q) × (q + 1 ≤ size)
+PutWithin size (Cased a b case) = (a ≤ b) × (b ≤ size)
 
 -- of a text of so many characters, and so many afterwards
 pub record FinishWithin (size after : ℕ) (f : Finish) : Type 0 where
@@ -157,6 +167,13 @@ is_planned _ = true
 
 -- the alterations that are
 abbrev pub is_alteration_planned : Alteration → Bool
-is_alteration_planned UpcaseWord = false
+is_alteration_planned FillParagraph = false
 is_alteration_planned ReplaceMatch = false
 is_alteration_planned _ = true
+
+-- the point goes behind what is put in; no mark is set, the top stays, and nothing is killed
+pub record LeavesBehind (f : Finish) : Type 0 where
+  pub point : f.point ≡ Behind
+  pub mark : f.mark ≡ None
+  pub top : f.top ≡ None
+  pub kill : f.kill ≡ None

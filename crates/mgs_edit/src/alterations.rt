@@ -6,13 +6,15 @@ ghost use Rattle.mgs_model.specs.declared.session.Alteration.TheVariants.{Delete
 ghost use Rattle.mgs_edit.specs.Reading.{surrounded, edit_read, ChangeWithin, IsWithin, deleted, is_alteration_planned, killing};
 
 use crate::around::{goes, is_at_end, is_at_start, joins_behind, joins_in_front, times};
-use crate::plan::{Around, Change, Finish, Joins, Piece, Put};
+use crate::cases::{case_region, case_words};
+use crate::plan::{Around, Case, Change, Finish, Joins, Piece, Put};
+use crate::whites::{delete_blank_lines, delete_horizontal_space, join_line, just_one_space};
 use mgs_lines::{backward_word, forward_word, kill_line_end};
 use mgs_model::{Alteration, Kind, Message};
 use mgs_text::Text;
 
 /// The characters between two positions are taken out, and the point stands where they were.
-fn deletion(from: usize, to: usize) -> Change
+pub(crate) fn deletion(from: usize, to: usize) -> Change
     ensures { result ≡ deleted from to }
 {
     Change {
@@ -176,7 +178,16 @@ pub fn alteration<T: Text>(
         Alteration::BackwardKillWord => kill_to_word_start(text, around),
         Alteration::KillRegion => kill_region(text, around),
         Alteration::TransposeChars => transpose_chars(text, around),
-        // Words in capitals and replacements have planners of their own.
-        Alteration::UpcaseWord | Alteration::ReplaceMatch => Err(Message::KeyNotBound),
+        Alteration::UpcaseWord => case_words(text, around, Case::Upper),
+        Alteration::DowncaseWord => case_words(text, around, Case::Lower),
+        Alteration::CapitalizeWord => case_words(text, around, Case::Capitalized),
+        Alteration::UpcaseRegion => case_region(text, around, Case::Upper),
+        Alteration::DowncaseRegion => case_region(text, around, Case::Lower),
+        Alteration::JustOneSpace => Ok(just_one_space(text, around)),
+        Alteration::DeleteHorizontalSpace => Ok(delete_horizontal_space(text, around)),
+        Alteration::DeleteBlankLines => Ok(delete_blank_lines(text, around)),
+        Alteration::JoinLine => join_line(text, around),
+        // Paragraphs and replacements have no planners here.
+        Alteration::FillParagraph | Alteration::ReplaceMatch => Err(Message::KeyNotBound),
     }
 }

@@ -4,18 +4,20 @@
 
 mod alterations;
 mod around;
+mod cases;
 mod insertions;
 mod motions;
 mod plan;
 mod scrolling;
 mod sizes;
 mod undoing;
+mod whites;
 mod written;
 
 pub use alterations::alteration;
 pub use insertions::{insertion, reading_insertion};
 pub use motions::motion;
-pub use plan::{Around, Change, Finish, Goes, Joins, Piece, Put, Undone};
+pub use plan::{Around, Case, Change, Finish, Goes, Joins, Piece, Put, Undone};
 pub use scrolling::{scroll, scrolled_row};
 pub use sizes::{is_edit, is_kill_too_large, is_too_long, is_undo_an_edit, is_undo_too_long};
 pub use undoing::{undo, undo_target};

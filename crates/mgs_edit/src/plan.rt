@@ -58,6 +58,15 @@ pub struct Finish {
     pub told: Message,
 }
 
+/// The case that letters come in.
+#[derive(Clone, Copy, Debug, PartialEq, Eq)]
+pub enum Case {
+    Upper,
+    Lower,
+    /// Upper case for the first letter of each word, and lower case for the others.
+    Capitalized,
+}
+
 /// What is put in.
 #[derive(Clone, Copy, Debug, PartialEq, Eq)]
 pub enum Put {
@@ -80,6 +89,12 @@ pub enum Put {
     /// The two characters of the text before and after a position, in the other order.
     Exchanged {
         at: usize,
+    },
+    /// The characters of the text from `from` up to `to`, in another case.
+    Cased {
+        from: usize,
+        to: usize,
+        case: Case,
     },
 }
 

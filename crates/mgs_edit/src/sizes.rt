@@ -19,6 +19,7 @@ fn put_len(put: &Put, killed: usize) -> Option<usize>
         Put::KillBuffer { times } => times.checked_mul(killed),
         Put::Indented { feeds, from, to } => feeds.checked_add(to.saturating_sub(from)),
         Put::Exchanged { at: _ } => Some(2),
+        Put::Cased { from, to, case: _ } => Some(to.saturating_sub(from)),
     }
 }
 

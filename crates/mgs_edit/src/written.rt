@@ -1,9 +1,10 @@
 // What a plan puts in, written out.
 ghost use Rattle.std.specs.Prelude.{◌≡◌, ◌≤◌, ◌-◌, ◌+◌, ◌++◌, length, replicate, slice_range, IfOk};
 ghost use Rattle.std.specs.List.{repeat};
-ghost use Rattle.mgs_edit.specs.Reading.{put_read, PutWithin};
+ghost use Rattle.mgs_edit.specs.Reading.{put_read, PutWithin, cased};
 
-use crate::plan::Put;
+use crate::cases::change_case;
+use crate::plan::{Case, Put};
 use mgs_model::Short;
 use mgs_text::Text;
 use std::alloc::Global;
@@ -53,6 +54,17 @@ fn exchanged<T: Text>(alloc: Global, text: &T, at: usize) -> Result<Vec<char>, S
     }
 }
 
+/// A stretch of the text, in another case.
+fn cased<T: Text>(text: &T, from: usize, to: usize, case: Case) -> Result<Vec<char>, Short>
+    requires order { from ≤ to }
+    requires within { to ≤ length (T.text text.now) }
+    ensures { IfOk result (λ v. v.items ≡ cased case (slice_range (T.text text.now) from to)) }
+{
+    let mut chars = text.copy(from, to)?;
+    change_case(&mut chars, case);
+    Ok(chars)
+}
+
 /// What a plan puts in, written out. `Short`: memory was refused.
 pub fn put_chars<T: Text>(
     alloc: Global,
@@ -69,5 +81,6 @@ pub fn put_chars<T: Text>(
         Put::KillBuffer { times } => repeated(alloc, kill, times),
         Put::Indented { feeds, from, to } => indented(alloc, text, feeds, from, to),
         Put::Exchanged { at } => exchanged(alloc, text, at),
+        Put::Cased { from, to, case } => cased(text, from, to, case),
     }
 }

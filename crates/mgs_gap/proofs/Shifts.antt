@@ -4,6 +4,7 @@ use Rattle.std.proofs.lemmas.Bool.Decides.{nat_tests}
 use Rattle.std.specs.Option.{option_map}
 use Rattle.mgs_model.specs.Text.{shift, shift_all}
 use Rattle.mgs_marks.specs.Marks.{position_in}
+use Rattle.mgs_marks.proofs.Moves.{shift_bound}
 use Rattle.mgs_gap.proofs.Marks.{map_map, map_same, position_map}
 use Rattle.mgs_gap.specs.RawPlaces.{text_place, raw_place, IsRaw, moved, marks_at}
 
@@ -22,9 +23,6 @@ insertion_raw n g k p h e = grind (arith, nat_tests)
 
 pub insertion_within : (n g k len p : ℕ) → k ≤ g → n ≤ len → text_place n g p ≤ len → text_place (n + k) (g - k) p ≤ len + k
 insertion_within n g k len p h within e = grind (arith, nat_tests)
-
-pub shift_bound : (a b n len m : ℕ) → a ≤ b → b ≤ len → m ≤ len → shift a b n m ≤ len - (b - a) + n
-shift_bound a b n len m h k l = grind (arith, nat_tests)
 
 pub marks_moved : (n g a b k m h : ℕ) (xs : List (Option ℕ)) → marks_at m h (map (option_map (moved n g a b k m h)) xs) ≡ shift_all a b k (marks_at n g xs)
 marks_moved n g a b k m h xs =

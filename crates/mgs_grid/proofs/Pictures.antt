@@ -73,8 +73,8 @@ put_all : (P : Row → Type 0) (first : ℕ) (new old : List Row) → All P old 
 put_all P first new old all more =
     All-append P (take first old ++ new) (drop (first + length new) old) (All-append P (take first old) new (All-take P first old all) more) (All-drop P (first + length new) old all)
 
-length-put : (first : ℕ) (new old : List Row) → first + length new ≤ length old → length (rows_put first new old) ≡ length old
-length-put first new old fits =
+pub length-rows_put : (first : ℕ) (new old : List Row) → first + length new ≤ length old → length (rows_put first new old) ≡ length old
+length-rows_put first new old fits =
     omega (arith, length-append (take first old ++ new) (drop (first + length new) old), length-append (take first old) new, length-take first old, length-drop (first + length new) old)
 
 -- the rows as they are written back
@@ -82,7 +82,7 @@ pub put_picture : (p : Picture) (first n : ℕ) (more lines new : List Row) → 
 put_picture p first n more lines new is same count put fits each =
     let long : length lines ≡ p.rows = ap length same ∙ is.count in
     let old : All (IsRow p.cols) lines = All-same (IsRow p.cols) lines p.lines same is.each in
-    let size : length new ≡ n = ap length put ∙ length-put first more lines (omega arith) ∙ count in
+    let size : length new ≡ n = ap length put ∙ length-rows_put first more lines (omega arith) ∙ count in
     let back : take n (new ++ drop (length new) p.lines) ≡ new = ap (λ k. take k (new ++ drop (length new) p.lines)) (sym size) ∙ take-append_seam new (drop (length new) p.lines) in
     record {
       size = is.size;

@@ -1,7 +1,8 @@
 -- Words taken one after the other.
 use Rattle.std.proofs.Common.{◌≡◌, ℕ, false, List, ◌∷◌, ◌++◌, Option, Some, None, is_some, is_none, Bor, refl, sym, ap, ◌∙◌, append_assoc}
 use Rattle.std.specs.Option.{option_map}
-use Rattle.mgs_keys.specs.Words.{is_space, words_of, word_of, words_after, parts_after}
+use Rattle.mgs_model.specs.Names.{is_space}
+use Rattle.mgs_keys.specs.Words.{words_of, word_of, words_after, parts_after}
 use Rattle.mgs_keys.specs.Tokens.{spelled_by, then_bytes, bytes_in}
 use Rattle.mgs_keys.specs.declared.spelling.Spelling.{Spelling}
 use Rattle.mgs_keys.proofs.Cuts.{parts_cut}

@@ -1,8 +1,9 @@
 -- The words of a text, parted by single spaces.
-use Rattle.std.specs.Prelude.{ℕ, ◌+◌, ◌==◌, nat_le, Bool, ◌&&◌, List, [], length, drop, position, Option, Some, None}
-use Rattle.std.specs.Option.{option_map}
+use Rattle.std.specs.Prelude.{ℕ, ◌+◌, nat_le, Bool, ◌&&◌, List, [], length, drop, position, Option, Some, None, if◌then◌else◌}
+use Rattle.std.specs.Option.{option_map, option_and_then}
 use Rattle.std.specs.List.{slice_split, before_first, list_all}
-use Rattle.mgs_model.specs.Names.{is_visible}
+use Rattle.std.specs.Str.{is_utf8}
+use Rattle.mgs_model.specs.Names.{is_space, is_visible}
 
 -- what stands after the first byte that passes, if there is one
 abbrev pub rest_after : (ℕ → Bool) → List ℕ → Option (List ℕ)
@@ -12,9 +13,6 @@ rest_after p t = option_map (λ i. drop (i + 1) t) (position p t)
 abbrev pub parts_after : (ℕ → Bool) → Option (List ℕ) → List (List ℕ)
 parts_after p None = []
 parts_after p (Some t) = slice_split p t
-
-abbrev pub is_space : ℕ → Bool
-is_space b = b == 32
 
 -- a text is at least one word; between two spaces that touch stands an empty one
 abbrev pub words_of : List ℕ → List (List ℕ)
@@ -31,3 +29,12 @@ words_after t = rest_after is_space t
 -- one or more characters, each of them visible
 abbrev pub is_quotable : List ℕ → Bool
 is_quotable bs = nat_le 1 (length bs) && list_all is_visible bs
+
+-- the text that bytes are, where they are UTF-8
+abbrev pub utf8_of : List ℕ → Option (List ℕ)
+utf8_of bytes = if is_utf8 bytes then Some bytes else None
+
+-- what is read of what was read before
+infixl 10 ◌>>=◌
+abbrev pub ◌>>=◌ : {A B : Type 0} → Option A → (A → Option B) → Option B
+o >>= f = option_and_then f o

@@ -12,7 +12,7 @@ pub use numbers::read_number;
 pub use spelling::{Spelling, Tokens, cut_word, quoted, read_tokens};
 use thiserror::Error;
 pub use tokens::read_keys;
-pub use words::cut_at;
+pub use words::{cut_at, utf8};
 
 /// Why a text spells nothing.
 #[derive(Clone, Copy, Debug, PartialEq, Eq, Error)]

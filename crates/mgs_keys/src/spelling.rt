@@ -1,7 +1,8 @@
 // Texts written as tokens.
 ghost use Rattle.std.specs.Prelude.{◌≡◌, ◌<◌, ◌++◌, ◌∷◌, length, IfSome, OnOk, is_some};
 ghost use Rattle.std.specs.Option.{option_map};
-ghost use Rattle.mgs_keys.specs.Words.{is_space, words_of, parts_after};
+ghost use Rattle.mgs_model.specs.Names.{is_space};
+ghost use Rattle.mgs_keys.specs.Words.{words_of, parts_after};
 ghost use Rattle.mgs_keys.specs.Tokens.{quoted_of, spelled_by, bytes_in, GivesKeys};
 
 use crate::KeysFault;

@@ -1,9 +1,11 @@
-// Parts of a text between bytes of one value.
+// Parts of a text between bytes of one value, and bytes that are a text.
 ghost use Rattle.std.specs.Prelude.{◌≡◌, ◌==◌, ◌<◌, length, position, IfSome};
 ghost use Rattle.std.specs.Option.{option_map};
 ghost use Rattle.std.specs.List.{before_first, list_all};
 ghost use Rattle.mgs_model.specs.Names.{is_visible};
-ghost use Rattle.mgs_keys.specs.Words.{is_quotable, rest_after};
+ghost use Rattle.mgs_keys.specs.Words.{is_quotable, rest_after, utf8_of};
+
+use std::str;
 
 // The place of the first byte of that value.
 fn place_of(text: &[u8], separator: u8) -> Option<usize>
@@ -36,4 +38,14 @@ pub(crate) fn is_quotable(bytes: &[u8]) -> bool
     ensures { result ≡ is_quotable bytes.now }
 {
     !bytes.is_empty() && all_visible(bytes)
+}
+
+/// The bytes as a text. None where they are not UTF-8.
+pub fn utf8(bytes: &[u8]) -> Option<&str>
+    ensures { option_map (λ x. x.now) result ≡ utf8_of bytes.now }
+{
+    match str::from_utf8(bytes) {
+        Ok(text) => Some(text),
+        Err(_) => None,
+    }
 }

@@ -11,12 +11,14 @@ ghost use Rattle.mgs_model.specs.Lines.{line_of, line_start, line_end, column, s
 mod kills;
 mod paragraphs;
 mod vertical;
+mod whites;
 mod words;
 
 pub use kills::kill_line_end;
 use mgs_text::Text;
 pub use paragraphs::{backward_paragraph, forward_paragraph};
 pub use vertical::{column_place, indent_end, is_first_line, is_last_line, lines_down, lines_up};
+pub use whites::{blanks_end, blanks_start, is_blank_at, white_end, white_start};
 pub use words::{backward_word, forward_word};
 
 /// Where the line of a position starts: after the line feed before it, or at the text's start.

@@ -7,7 +7,7 @@ use crate::{line_end, line_start};
 use mgs_text::Text;
 
 // Whether the line that starts at a position has only white.
-fn is_blank_line<T: Text>(text: &T, start: usize) -> bool
+pub(crate) fn is_blank_line<T: Text>(text: &T, start: usize) -> bool
     requires { start ≤ length (T.text text.now) }
     ensures { result ≡ is_blank (slice_range (T.text text.now) start (line_end (T.text text.now) start)) }
 {

@@ -7,13 +7,13 @@ use Rattle.mgs_model.specs.declared.session.Argument.{Argument}
 use Rattle.mgs_model.specs.declared.session.Motion.{Motion}
 use Rattle.mgs_model.specs.declared.session.Motion.TheVariants.{StartSearch, SearchOn, StartReplace, SkipMatch}
 use Rattle.mgs_model.specs.declared.session.Alteration.{Alteration}
-use Rattle.mgs_model.specs.declared.session.Alteration.TheVariants.{UpcaseWord, ReplaceMatch}
+use Rattle.mgs_model.specs.declared.session.Alteration.TheVariants.{FillParagraph, ReplaceMatch}
 use Rattle.mgs_model.specs.declared.session.Setting.{Setting}
 use Rattle.mgs_model.specs.declared.session.Setting.TheVariants.{KeyboardQuit}
 use Rattle.mgs_model.specs.declared.session.Arrangement.{Arrangement}
 use Rattle.mgs_model.specs.declared.session.Arrangement.TheVariants.{ShrinkWindow, ListBuffers}
 use Rattle.mgs_model.specs.declared.session.Command.{Command}
-use Rattle.mgs_model.specs.declared.session.Command.TheVariants.{Insert, InsertReading, Move, Alter, Scroll, Set, Rearrange, NotModified, Exit}
+use Rattle.mgs_model.specs.declared.session.Command.TheVariants.{Insert, InsertReading, Move, Alter, Scroll, Set, Rearrange, UndoEdit, NotModified, Exit}
 use Rattle.mgs_maps.specs.declared.maps.Fed.{Fed}
 use Rattle.mgs_maps.specs.declared.maps.Fed.TheVariants.{Pending, Run, Unbound}
 use Rattle.mgs_maps.specs.declared.maps.Prefix.{Prefix}
@@ -49,7 +49,7 @@ is_bound_motion SkipMatch = false
 is_bound_motion _ = true
 
 abbrev pub is_bound_alteration : Alteration → Bool
-is_bound_alteration UpcaseWord = false
+is_bound_alteration FillParagraph = false
 is_bound_alteration ReplaceMatch = false
 is_bound_alteration _ = true
 
@@ -66,6 +66,7 @@ is_bound (Alter c) = is_bound_alteration c
 is_bound (Scroll c) = true
 is_bound (Set c) = is_bound_setting c
 is_bound (Rearrange c) = is_bound_arrangement c
+is_bound UndoEdit = true
 is_bound NotModified = true
 is_bound Exit = true
 is_bound _ = false

@@ -33,7 +33,7 @@ pub struct Binding {
     pub command: Command,
 }
 
-static BINDINGS: [Binding; 45] = [
+static BINDINGS: [Binding; 56] = [
     Binding {
         keys: b"\r",
         name: "newline",
@@ -170,6 +170,51 @@ static BINDINGS: [Binding; 45] = [
         command: Command::Alter(Alteration::TransposeChars),
     },
     Binding {
+        keys: b"\x1Bu",
+        name: "upcase-word",
+        command: Command::Alter(Alteration::UpcaseWord),
+    },
+    Binding {
+        keys: b"\x1Bl",
+        name: "downcase-word",
+        command: Command::Alter(Alteration::DowncaseWord),
+    },
+    Binding {
+        keys: b"\x1Bc",
+        name: "capitalize-word",
+        command: Command::Alter(Alteration::CapitalizeWord),
+    },
+    Binding {
+        keys: b"\x18\x15",
+        name: "upcase-region",
+        command: Command::Alter(Alteration::UpcaseRegion),
+    },
+    Binding {
+        keys: b"\x18\x0C",
+        name: "downcase-region",
+        command: Command::Alter(Alteration::DowncaseRegion),
+    },
+    Binding {
+        keys: b"\x1B ",
+        name: "just-one-space",
+        command: Command::Alter(Alteration::JustOneSpace),
+    },
+    Binding {
+        keys: b"\x1B\\",
+        name: "delete-horizontal-space",
+        command: Command::Alter(Alteration::DeleteHorizontalSpace),
+    },
+    Binding {
+        keys: b"\x18\x0F",
+        name: "delete-blank-lines",
+        command: Command::Alter(Alteration::DeleteBlankLines),
+    },
+    Binding {
+        keys: b"\x1B^",
+        name: "join-line",
+        command: Command::Alter(Alteration::JoinLine),
+    },
+    Binding {
         keys: b"\x00",
         name: "set-mark-command",
         command: Command::Move(Motion::SetMark),
@@ -188,6 +233,16 @@ static BINDINGS: [Binding; 45] = [
         keys: b"\x19",
         name: "yank",
         command: Command::Insert(Insertion::Yank),
+    },
+    Binding {
+        keys: b"\x1F",
+        name: "undo",
+        command: Command::UndoEdit,
+    },
+    Binding {
+        keys: b"\x18u",
+        name: "",
+        command: Command::UndoEdit,
     },
     Binding {
         keys: b"\x1b~",

@@ -203,6 +203,16 @@ completed : texts (doing (notes (codes "abc")) (C (Ask KillWhich) None ∷ B 110
 unfolding turns most_turns outcome next key_read
 completed = refl
 
+-- ESC and the key after it, and M-[ with any other key, leave the input: the b of M-b and the A of M-[ A do not come to it
+passed_over : texts (doing (notes (codes "abc")) (C (Ask SwitchTo) None ∷ B 120 ∷ B 27 ∷ B 98 ∷ B 27 ∷ B 91 ∷ B 65 ∷ B 27 ∷ B 91 ∷ B 27 ∷ B 99 ∷ B 13 ∷ B 120 ∷ C (Ask SwitchTo) None ∷ B 120 ∷ B 13 ∷ B 121 ∷ [])) ≡ codes "abc" ∷ codes "xy" ∷ []
+unfolding turns most_turns outcome next key_read
+passed_over = refl
+
+-- C-g after M-[ quits, and the x is typed into the text
+quit_after_arrow : texts (doing (notes []) (C (Ask SwitchTo) None ∷ B 120 ∷ B 27 ∷ B 91 ∷ B 7 ∷ B 120 ∷ [])) ≡ codes "x" ∷ []
+unfolding turns most_turns outcome next key_read
+quit_after_arrow = refl
+
 -- the text of a buffer into itself
 inserted : texts (doing (notes (codes "abc")) (C (Ask InsertWhich) None ∷ B 110 ∷ B 111 ∷ B 116 ∷ B 101 ∷ B 115 ∷ B 13 ∷ [])) ≡ codes "abcabc" ∷ []
 unfolding turns most_turns outcome next key_read

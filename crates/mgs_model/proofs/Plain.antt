@@ -5,8 +5,8 @@ use Rattle.std.specs.Option.{option_map}
 use Rattle.mgs_model.specs.World.{World, Session, Own, has_id, find_session}
 use Rattle.mgs_model.specs.View.{View, BufferSeen, view, view_of, size_told, serial_told, text_in}
 use Rattle.mgs_model.specs.Outcome.{Act, Unbound, Run, Outcome, Effect, No_effect, Unmodified, Quit, Arrange, Stay, Adjust, Keep_kill}
-use Rattle.mgs_model.specs.Plans.{Finish, Change, alteration, insertion, motion, reading_insertion, scrolling, arrangement, acted_own}
-use Rattle.mgs_model.specs.Acts.{outcome, permitted, judged, needs, allowed, Target, target, around, edits, edited_by, edit_of, has_rows, is_full, moves, row_in, scrolls_rows, selected_seen, moved_by, finished, finished_own, is_too_large, arranges, effects, rules, shown, fails, without_all, told_over}
+use Rattle.mgs_model.specs.Plans.{Finish, Change, alteration, insertion, motion, reading_insertion, scrolling, arrangement, acted_own, undo}
+use Rattle.mgs_model.specs.Acts.{outcome, permitted, judged, needs, allowed, Target, target, around, edits, edited_by, edit_of, has_rows, items_in, is_full, moves, row_in, scrolls_rows, selected_seen, moved_by, finished, finished_own, is_too_large, arranges, effects, rules, shown, fails, without_all, told_over}
 use Rattle.mgs_model.specs.Apply.{searches, change_first, apply, applied, outcome_in, act, after_quit, session_after, session_arranged}
 use Rattle.mgs_model.specs.Turns.{Turn, Keep, Do, key_turn, byte_turn, todo_turn, next}
 use Rattle.mgs_model.specs.Events.{Byte, own_set, with_own, Doing, turn_in, turn_seen, rests, turn, turn_done, turns, most_turns, begun, begun_own, byte_done, refused_own, refused_of, refused_in, refused_act, act_effects, event_effects, turn_effects, turns_effects}
@@ -15,7 +15,7 @@ use Rattle.mgs_model.specs.declared.message.Message.TheVariants.{Silent, KillToo
 use Rattle.mgs_model.specs.declared.session.Mode.{Mode}
 use Rattle.mgs_model.specs.declared.session.Mode.TheVariants.{Plain}
 use Rattle.mgs_model.specs.declared.session.Setting.TheVariants.{KeyboardQuit}
-use Rattle.mgs_model.specs.declared.session.Command.TheVariants.{Insert, InsertReading, Move, Alter, Scroll, Set, Rearrange, NotModified, Exit}
+use Rattle.mgs_model.specs.declared.session.Command.TheVariants.{Insert, InsertReading, Move, Alter, Scroll, Set, Rearrange, UndoEdit, NotModified, Exit}
 use Rattle.mgs_model.specs.declared.entry.Decision.{Decision}
 use Rattle.mgs_model.specs.declared.entry.Decision.TheVariants.{Granted, DeniedBy, NotGranted}
 use Rattle.mgs_model.proofs.Firsts.{change_first_found, find-change_first}
@@ -157,6 +157,7 @@ is_single (Run (Alter c) n typed) = true
 is_single (Run (Scroll c) n typed) = true
 is_single (Run (Set KeyboardQuit) n typed) = true
 is_single (Run (Rearrange c) n typed) = true
+is_single (Run UndoEdit n typed) = true
 is_single (Run NotModified n typed) = true
 is_single (Run Exit n typed) = true
 is_single _ = false
@@ -176,6 +177,8 @@ allowed_left v (Run (Scroll c) n typed) stored s h = scrolls_left (has_rows (sel
     scrolls_left false = moves_left v.session.own (target v) (λ t. scrolling c (text_in t.buffer.full) (around v.session n typed t)) h
 allowed_left v (Run (Set KeyboardQuit) n typed) stored s h = refl
 allowed_left v (Run (Rearrange c) n typed) stored s h = arranges_left v.session.own No_effect (arrangement c v.session.windows v.session.selected n) h
+allowed_left v (Run UndoEdit n typed) stored s h =
+    edits_left v.session.own (target v) (λ t. undo (items_in t.buffer.full) (around v.session n typed t)) h
 allowed_left v (Run NotModified n typed) stored s h = rules_left v.session.own (shown v) (λ b. Ok (Unmodified b.name)) h
 allowed_left v (Run Exit n typed) stored s h = by v.session.own.playing
   where

@@ -1,5 +1,6 @@
 -- What saves: save-buffer alone.
-use Rattle.std.proofs.Common.{◌≡◌, ℕ, Bool, true, false, cond, List, [], ◌∷◌, Option, Some, None, refl, ◌∙◌, append-nil}
+use Rattle.std.proofs.Common.{◌≡◌, ℕ, Bool, true, false, cond, List, [], ◌∷◌, ◌++◌, map, Option, Some, None, refl, sym, ap, ◌∙◌, append-nil, append_assoc}
+use Rattle.std.proofs.lemmas.Grind.{flat_map-append}
 use Rattle.std.specs.Prelude.{Result, Ok, Err, length, nat_le, not}
 use Rattle.std.specs.List.{flat_map}
 use Rattle.std.specs.Option.{option_map}
@@ -11,13 +12,12 @@ use Rattle.mgs_model.specs.Outcome.{Act, Unbound, Run, Outcome, Effect, No_effec
 use Rattle.mgs_model.specs.Plans.{Finish, Change, alteration, insertion, motion, reading_insertion, scrolling, setting, arrangement, comes, inserted, undo, entries_changed, acted_own}
 use Rattle.mgs_model.specs.Text.{is_edit}
 use Rattle.mgs_model.specs.Acts.{outcome, permitted, judged, needs, allowed, Target, target, around, edits, edited_by, edit_of, has_rows, is_full, moves, row_in, scrolls_rows, selected_seen, moved_by, finished, is_too_large, arranges, sets, effects, rules, subject, shown, relisted, entries_told, items_in, by_name, created, killed, name_meant, fails, finished_own, shows_named}
-use Rattle.mgs_model.specs.Events.{act_effects, effect_in, saved_by}
+use Rattle.mgs_model.specs.Events.{Event, Close, Saved, act_effects, effect_in, event_effects, event_saves, run, run_effects, run_saves, saved_by, step}
 use Rattle.mgs_model.specs.declared.entry.Entry.{Entry}
 use Rattle.mgs_model.specs.declared.message.Message.{Message}
 use Rattle.mgs_model.specs.declared.message.Message.TheVariants.{BadName, BufferFull, InMacro, KillTooLarge, NoSuchUser, TooManyBuffers}
 use Rattle.mgs_model.specs.declared.session.ByName.{ByName}
 use Rattle.mgs_model.specs.declared.session.ByName.TheVariants.{SwitchToBuffer, KillBuffer, InsertBuffer}
-use Rattle.mgs_model.specs.declared.session.Command.{Command}
 use Rattle.mgs_model.specs.declared.session.Command.TheVariants.{Insert, InsertReading, Move, Alter, Scroll, Set, Rearrange, Ask, Named, Entries, SetOwner, UndoEdit, NotModified, SaveBuffer, LeaveSearch, Exit}
 use Rattle.mgs_model.specs.declared.entry.Decision.{Decision}
 use Rattle.mgs_model.specs.declared.entry.Decision.TheVariants.{Granted, DeniedBy, NotGranted}
@@ -137,3 +137,22 @@ act_saves_none w id c stored h = by (view_of w id)
     by : (o : Option View) → flat_map saved_by (effect_in (option_map (λ v. outcome v c stored) o)) ≡ []
     by None = refl
     by (Some v) = append-nil (saved_by (outcome v c stored).effect) ∙ outcome_none v c stored h
+
+-- RUNS
+
+-- what a run saves is what its events save
+pub saves_next : (w : World) (e : Event) (es : List Event) → run_saves w (e ∷ es) ≡ event_saves w e ++ run_saves (step w e) es
+saves_next w e es = flat_map-append saved_by (event_effects w e) (run_effects (step w e) es)
+
+pub saves_behind : (w : World) (es fs : List Event) → run_saves w (es ++ fs) ≡ run_saves w es ++ run_saves (run w es) fs
+saves_behind w [] fs = refl
+saves_behind w (e ∷ es) fs =
+    saves_next w e (es ++ fs)
+    ∙ ap (λ (xs : List Saved). event_saves w e ++ xs) (saves_behind (step w e) es fs)
+    ∙ sym (append_assoc (event_saves w e) (run_saves (step w e) es) (run_saves (run (step w e) es) fs))
+    ∙ ap (λ (xs : List Saved). xs ++ run_saves (run (step w e) es) fs) (sym (saves_next w e es))
+
+-- sessions that close save nothing
+pub closes_save_none : (w : World) (ids : List ℕ) → run_saves w (map (λ i. Close i) ids) ≡ []
+closes_save_none w [] = refl
+closes_save_none w (i ∷ ids) = closes_save_none (step w (Close i)) ids

@@ -1,5 +1,5 @@
 -- The view of users who have no right on closed buffers sees only the outline.
-use Rattle.std.proofs.Common.{◌≡◌, ℕ, List, [], ◌∷◌, map, refl, sym, ap, ◌∙◌, subst, Bool, true, false, cond, ◌||◌, Option, Some, None, is_some}
+use Rattle.std.proofs.Common.{◌≡◌, ℕ, List, [], ◌∷◌, map, refl, sym, ap, ◌∙◌, subst, Bool, true, false, cond, Option, Some, None, is_some}
 use Rattle.std.specs.Option.{option_map}
 use Rattle.mgs_model.specs.Names.{same_name}
 use Rattle.mgs_model.specs.Access.{Directory, Decider, decider, allows, any_right}
@@ -9,6 +9,7 @@ use Rattle.mgs_model.specs.Secrecy.{IsOf, has_name}
 use Rattle.mgs_model.specs.Purging.{NoRightsAmong, Closed}
 use Rattle.mgs_model.specs.declared.right.Right.{Right}
 use Rattle.mgs_model.specs.declared.right.Right.TheVariants.{ReadData, WriteData, AppendData, ReadAttributes, Delete, ReadAcl, WriteAcl, WriteOwner}
+use Rattle.mgs_model.proofs.Basics.{or_left, or_right}
 use Rattle.mgs_model.proofs.Blind.{is_some_map, same_names}
 use Rattle.mgs_model.proofs.Firsts.{find-map}
 use Rattle.mgs_model.specs.Lawful.{granted_found}
@@ -19,15 +20,6 @@ abbrev pub Like : (List ℕ → Bool) → (List ℕ → Bool) → World → Worl
 Like users shut w v = outline users shut w ≡ outline users shut v
 
 -- NO RIGHT IS NONE OF THE EIGHT
-
-or_left : (a b : Bool) → (a || b) ≡ false → a ≡ false
-or_left true b e = e
-or_left false b e = refl
-
-or_right : (a b : Bool) → (a || b) ≡ false → b ≡ false
-or_right true true e = e
-or_right true false e = refl
-or_right false b e = e
 
 pub none_of : (f : Right → Decider) → any_right f ≡ false → (r : Right) → allows (f r) ≡ false
 none_of f e ReadData = or_left _ _ e

@@ -7,12 +7,12 @@ use Rattle.mgs_model.specs.declared.session.Argument.{Argument}
 use Rattle.mgs_model.specs.declared.session.Insertion.TheVariants.{SelfInsert, Newline, OpenLine, Yank}
 use Rattle.mgs_model.specs.declared.session.ReadingInsertion.TheVariants.{NewlineAndIndent}
 use Rattle.mgs_model.specs.declared.session.Motion.TheVariants.{ForwardChar, BackwardChar, BeginningOfLine, EndOfLine, NextLine, PreviousLine, BufferStart, BufferEnd, ForwardWord, BackwardWord, ForwardParagraph, BackwardParagraph, Recenter, WhatCursorPosition, SetMark, ExchangePointAndMark, MarkWholeBuffer, CopyRegion}
-use Rattle.mgs_model.specs.declared.session.Alteration.TheVariants.{DeleteChar, DeleteBackwardChar, KillLine, KillWord, BackwardKillWord, KillRegion, TransposeChars}
+use Rattle.mgs_model.specs.declared.session.Alteration.TheVariants.{DeleteChar, DeleteBackwardChar, KillLine, KillWord, BackwardKillWord, KillRegion, TransposeChars, UpcaseWord, DowncaseWord, CapitalizeWord, UpcaseRegion, DowncaseRegion, JustOneSpace, DeleteHorizontalSpace, DeleteBlankLines, JoinLine}
 use Rattle.mgs_model.specs.declared.session.Scrolling.TheVariants.{ScrollUp, ScrollDown}
 use Rattle.mgs_model.specs.declared.session.Setting.TheVariants.{KeyboardQuit}
 use Rattle.mgs_model.specs.declared.session.Arrangement.TheVariants.{DeleteWindow, DeleteOtherWindows, SplitWindow, NextWindow, PreviousWindow, EnlargeWindow}
 use Rattle.mgs_model.specs.declared.session.Command.{Command}
-use Rattle.mgs_model.specs.declared.session.Command.TheVariants.{Insert, InsertReading, Move, Alter, Scroll, Set, Rearrange, NotModified, Exit}
+use Rattle.mgs_model.specs.declared.session.Command.TheVariants.{Insert, InsertReading, Move, Alter, Scroll, Set, Rearrange, UndoEdit, NotModified, Exit}
 
 -- THE TABLE: the bytes of a word, the name of its command, and the command. C-q is 17, C-x 24, ESC 27
 pub record KeyRow : Type 0 where
@@ -29,7 +29,7 @@ meta byte name c = record { keys = 27 ∷ byte ∷ []; name = name; command = c 
 abbrev control_x : ℕ → List ℕ → Command → KeyRow
 control_x byte name c = record { keys = 24 ∷ byte ∷ []; name = name; command = c }
 
--- a terminal's arrows are M-[ and a letter: other words of commands whose names stand in other rows
+-- a terminal's arrows are M-[ and a letter: other words of commands whose names stand in other rows, as C-x u is
 abbrev arrow : ℕ → Command → KeyRow
 arrow byte c = record { keys = 27 ∷ 91 ∷ byte ∷ []; name = []; command = c }
 
@@ -62,10 +62,21 @@ key_rows =
     ∷ key 23 (codes "kill-region") (Alter KillRegion)
     ∷ meta 119 (codes "copy-region-as-kill") (Move CopyRegion)
     ∷ key 20 (codes "transpose-chars") (Alter TransposeChars)
+    ∷ meta 117 (codes "upcase-word") (Alter UpcaseWord)
+    ∷ meta 108 (codes "downcase-word") (Alter DowncaseWord)
+    ∷ meta 99 (codes "capitalize-word") (Alter CapitalizeWord)
+    ∷ control_x 21 (codes "upcase-region") (Alter UpcaseRegion)
+    ∷ control_x 12 (codes "downcase-region") (Alter DowncaseRegion)
+    ∷ meta 32 (codes "just-one-space") (Alter JustOneSpace)
+    ∷ meta 92 (codes "delete-horizontal-space") (Alter DeleteHorizontalSpace)
+    ∷ control_x 15 (codes "delete-blank-lines") (Alter DeleteBlankLines)
+    ∷ meta 94 (codes "join-line") (Alter JoinLine)
     ∷ key 0 (codes "set-mark-command") (Move SetMark)
     ∷ control_x 24 (codes "exchange-point-and-mark") (Move ExchangePointAndMark)
     ∷ control_x 104 (codes "mark-whole-buffer") (Move MarkWholeBuffer)
     ∷ key 25 (codes "yank") (Insert Yank)
+    ∷ key 31 (codes "undo") UndoEdit
+    ∷ control_x 117 [] UndoEdit
     ∷ meta 126 (codes "not-modified") NotModified
     ∷ key 7 (codes "keyboard-quit") (Set KeyboardQuit)
     ∷ control_x 48 (codes "delete-window") (Rearrange DeleteWindow)

@@ -1,17 +1,20 @@
 -- What the commands of each family do: functions over a text, or over its length alone. A plan is `Err`, with the
 -- failure that is told, or `Ok`. Nothing here knows rights, buffers or sessions.
 use Rattle.std.specs.Prelude.{ℕ, ◌+◌, ◌-◌, ◌/◌, nat_lt, nat_le, ◌==◌, Bool, true, false, ◌&&◌, ◌||◌, List, [], ◌∷◌, ◌++◌, map, find, length, take, drop, replicate, slice_range, slice_get, slice_index, remove, min, max, Option, Some, None, Result, Ok, Err, cond, if◌then◌else◌}
-use Rattle.std.specs.List.{flat_map, repeat, starts_with}
+use Rattle.std.specs.List.{flat_map, repeat}
 use Rattle.mgs_model.specs.Names.{same_name}
 use Rattle.mgs_model.specs.Text.{edited}
 use Rattle.mgs_model.specs.Lines.{line_of, line_start, line_end, start_of, column}
 use Rattle.mgs_model.specs.Walks.{forward_words, backward_words, is_first_line, is_last_line, lines_down, lines_up, forward_paragraphs, backward_paragraphs, column_place, indent_end, kill_line_end}
+use Rattle.mgs_model.specs.Cases.{uppercased, lowercased, capitalized}
+use Rattle.mgs_model.specs.Whites.{white_start, white_end, is_blank_at, blanks_start, blanks_end, paragraph_start, paragraph_end, refilled}
+use Rattle.mgs_model.specs.Searching.{matches_at, first_match}
 use Rattle.mgs_model.specs.World.{Own, Item, Played, Shows, Listing}
 use Rattle.mgs_model.specs.View.{WindowSeen}
 use Rattle.mgs_model.specs.Outcome.{PointPlan, Keep, At, MarkPlan, Keep_mark, Mark_at, KillPlan, Keep_kill, Kill_is, SearchPlan, Keep_search, Begin, Anchor_at, Old, Come, Slot, Arrange, Slots}
 use Rattle.mgs_model.specs.declared.message.CursorPosition.{CursorPosition}
 use Rattle.mgs_model.specs.declared.message.Message.{Message}
-use Rattle.mgs_model.specs.declared.message.Message.TheVariants.{Silent, BeginningOfBuffer, EndOfBuffer, Quitting, MarkSet, NoMark, NothingToYank, CharacterAt, EndAt, NoArgument, BadColumn, InMacro, NotInMacro, NoMacro, TooMany, OnlyOneWindow, WindowTooSmall, TooManyWindows, ImpossibleChange, NoSuchBuffer, NoSuchEntry, NoFurtherUndo, NoPattern}
+use Rattle.mgs_model.specs.declared.message.Message.TheVariants.{Silent, BeginningOfBuffer, EndOfBuffer, Quitting, MarkSet, NoMark, NothingToYank, CharacterAt, EndAt, NoArgument, BadColumn, InMacro, NotInMacro, NoMacro, TooMany, OnlyOneWindow, WindowTooSmall, TooManyWindows, ImpossibleChange, NoSuchBuffer, NoSuchEntry, NoFurtherUndo, NoPattern, BufferFull}
 use Rattle.mgs_model.specs.declared.session.Mode.TheVariants.{Plain}
 use Rattle.mgs_model.specs.declared.session.Kind.{Kind}
 use Rattle.mgs_model.specs.declared.session.Kind.TheVariants.{Other, Kill, Line, Undo}
@@ -22,7 +25,7 @@ use Rattle.mgs_model.specs.declared.session.ReadingInsertion.TheVariants.{Newlin
 use Rattle.mgs_model.specs.declared.session.Motion.{Motion}
 use Rattle.mgs_model.specs.declared.session.Motion.TheVariants.{ForwardChar, BackwardChar, BeginningOfLine, EndOfLine, NextLine, PreviousLine, BufferStart, BufferEnd, ForwardWord, BackwardWord, ForwardParagraph, BackwardParagraph, Recenter, WhatCursorPosition, SetMark, ExchangePointAndMark, MarkWholeBuffer, CopyRegion, StartSearch, SearchOn, StartReplace, SkipMatch}
 use Rattle.mgs_model.specs.declared.session.Alteration.{Alteration}
-use Rattle.mgs_model.specs.declared.session.Alteration.TheVariants.{DeleteChar, DeleteBackwardChar, KillLine, KillWord, BackwardKillWord, KillRegion, TransposeChars, UpcaseWord, ReplaceMatch}
+use Rattle.mgs_model.specs.declared.session.Alteration.TheVariants.{DeleteChar, DeleteBackwardChar, KillLine, KillWord, BackwardKillWord, KillRegion, TransposeChars, UpcaseWord, DowncaseWord, CapitalizeWord, UpcaseRegion, DowncaseRegion, JustOneSpace, DeleteHorizontalSpace, DeleteBlankLines, JoinLine, FillParagraph, ReplaceMatch}
 use Rattle.mgs_model.specs.declared.session.Scrolling.{Scrolling}
 use Rattle.mgs_model.specs.declared.session.Scrolling.TheVariants.{ScrollUp, ScrollDown}
 use Rattle.mgs_model.specs.declared.session.EntryChange.{EntryChange}
@@ -179,11 +182,6 @@ abbrev pub position_told : List ℕ → Around → Option ℕ → Message
 position_told text x None = EndAt (position_of text x)
 position_told text x (Some c) = CharacterAt c (position_of text x)
 
--- the least place from the i-th on where it stands
-abbrev pub first_match : List ℕ → ℕ → List ℕ → Option ℕ
-first_match pattern i [] = if length pattern == 0 then Some i else None
-first_match pattern i (c ∷ cs) = if starts_with (λ a b. a == b) (c ∷ cs) pattern then Some i else first_match pattern (i + 1) cs
-
 abbrev pub found_at : Around → Option ℕ → Result Finish Message
 found_at x None = Ok stays
 found_at x (Some m) = Ok (record (goes (m + length x.typed)) { sought = Anchor_at m })
@@ -191,12 +189,12 @@ found_at x (Some m) = Ok (record (goes (m + length x.typed)) { sought = Anchor_a
 -- QUERY-REPLACE
 
 abbrev pub is_match : List ℕ → Around → Bool
-is_match text x = starts_with (λ a b. a == b) (drop x.anchor text) x.old
+is_match text x = matches_at x.old text x.anchor
 
 -- on to the next match from a place on; where there is none it is over
 abbrev pub next_match : Around → ℕ → Finish → List ℕ → Finish
 next_match x from f text =
-    elim (first_match x.old from (drop from text)) [ None ↦ record f { over = true } | Some m ↦ record f { point = At (m + length x.old); sought = Anchor_at m } ]
+    elim (first_match x.old text from) [ None ↦ record f { over = true } | Some m ↦ record f { point = At (m + length x.old); sought = Anchor_at m } ]
 
 abbrev pub motion : Motion → List ℕ → Around → Result Finish Message
 motion ForwardChar text x = if is_at_end x then Err EndOfBuffer else Ok (goes (min (x.place + times x) x.size))
@@ -220,10 +218,10 @@ motion ExchangePointAndMark text x = exchanged x x.mark
 motion MarkWholeBuffer text x = Ok (record (goes 0) { mark = Mark_at x.size })
 motion CopyRegion text x = copied text x x.mark
 motion StartSearch text x = Ok (record stays { sought = Begin x.name x.place x.place })
-motion SearchOn text x = found_at x (first_match x.typed x.anchor (drop x.anchor text))
+motion SearchOn text x = found_at x (first_match x.typed text x.anchor)
 motion StartReplace text x =
     if length x.old == 0 then Err NoPattern
-    else Ok (elim (first_match x.old x.place (drop x.place text)) [ None ↦ record stays { over = true } | Some m ↦ record (goes (m + length x.old)) { sought = Begin x.name x.place m } ])
+    else Ok (elim (first_match x.old text x.place) [ None ↦ record stays { over = true } | Some m ↦ record (goes (m + length x.old)) { sought = Begin x.name x.place m } ])
 motion SkipMatch text x = Ok (next_match x (x.anchor + cond (is_match text x) (length x.old) 0) stays text)
 
 -- SCROLLING: the start of the line that is two lines less than the window's rows away, at least one, or as many lines as
@@ -282,8 +280,49 @@ transposes text q =
     if q == 0 then Err BeginningOfBuffer
     else Ok (record { a = q - 1; b = q + 1; put = slice_range text q (q + 1) ++ slice_range text (q - 1) q; finish = goes (q + 1) })
 
-abbrev pub upper : ℕ → ℕ
-upper c = if nat_le 97 c && nat_le c 122 then c - 32 else c
+-- CASE: the characters from the place on over words, or between the place and the mark, in another case. The point stays
+-- where it is in a region.
+abbrev pub cases_words : (List ℕ → List ℕ) → List ℕ → Around → Result Change Message
+cases_words cased text x =
+    if is_at_end x then Err EndOfBuffer
+    else Ok (record {
+      a = x.place;
+      b = forward_words text x.place (times x);
+      put = cased (slice_range text x.place (forward_words text x.place (times x)));
+      finish = goes (x.place + length (cased (slice_range text x.place (forward_words text x.place (times x)))));
+    })
+
+abbrev pub cases_region : (List ℕ → List ℕ) → List ℕ → Around → Option ℕ → Result Change Message
+cases_region cased text x None = Err NoMark
+cases_region cased text x (Some m) =
+    Ok (record { a = min m x.place; b = max m x.place; put = cased (slice_range text (min m x.place) (max m x.place)); finish = goes x.place })
+
+-- WHITE: blank lines around a blank one become one that is empty; from another line those that directly follow go, and the
+-- point moves as any other position
+abbrev pub deletes_blank_lines : List ℕ → ℕ → Result Change Message
+deletes_blank_lines text p =
+    if is_blank_at text p then deletes (blanks_start text p) (blanks_end text p)
+    else Ok (record { a = line_end text p; b = blanks_end text p; put = []; finish = stays })
+
+-- the line feed before the line that starts here, and the white around it
+abbrev pub joins_line : List ℕ → ℕ → Result Change Message
+joins_line text start =
+    if start == 0 then Err BeginningOfBuffer
+    else Ok (record { a = white_start text (start - 1); b = white_end text start; put = 32 ∷ []; finish = goes (white_start text (start - 1)) })
+
+-- FILLING: nothing in a blank line
+abbrev pub filling : List ℕ → Around → List ℕ
+filling text x = refilled x.fill (slice_range text (paragraph_start text x.place) (paragraph_end text x.place))
+
+abbrev pub fills : List ℕ → Around → Result Change Message
+fills text x =
+    if is_blank_at text x.place then Ok (record { a = x.place; b = x.place; put = []; finish = stays })
+    else Ok (record {
+      a = paragraph_start text x.place;
+      b = paragraph_end text x.place;
+      put = filling text x;
+      finish = goes (paragraph_start text x.place + length (filling text x));
+    })
 
 abbrev pub alteration : Alteration → List ℕ → Around → Result Change Message
 alteration DeleteChar text x = if is_at_end x then Err EndOfBuffer else deletes x.place (min (x.place + times x) x.size)
@@ -293,14 +332,17 @@ alteration KillWord text x = if is_at_end x then Err EndOfBuffer else kills text
 alteration BackwardKillWord text x = if is_at_start x then Err BeginningOfBuffer else kills_back text x (backward_words text x.place (times x))
 alteration KillRegion text x = kills_region text x x.mark
 alteration TransposeChars text x = transposes text (exchanged_at text x.place)
-alteration UpcaseWord text x =
-    if is_at_end x then Err EndOfBuffer
-    else Ok (record {
-      a = x.place;
-      b = forward_words text x.place (times x);
-      put = map upper (slice_range text x.place (forward_words text x.place (times x)));
-      finish = goes (forward_words text x.place (times x));
-    })
+alteration UpcaseWord text x = cases_words uppercased text x
+alteration DowncaseWord text x = cases_words lowercased text x
+alteration CapitalizeWord text x = cases_words capitalized text x
+alteration UpcaseRegion text x = cases_region uppercased text x x.mark
+alteration DowncaseRegion text x = cases_region lowercased text x x.mark
+alteration JustOneSpace text x =
+    Ok (record { a = white_start text x.place; b = white_end text x.place; put = 32 ∷ []; finish = goes (white_start text x.place + 1) })
+alteration DeleteHorizontalSpace text x = deletes (white_start text x.place) (white_end text x.place)
+alteration DeleteBlankLines text x = deletes_blank_lines text x.place
+alteration JoinLine text x = joins_line text (line_start text x.place)
+alteration FillParagraph text x = fills text x
 -- a match that is no longer there is not replaced
 alteration ReplaceMatch text x =
     Ok (if is_match text x then record {
@@ -321,15 +363,28 @@ undo_target x =
       | Line goal ↦ x.serial
     ]
 
+-- what an item put in, from here up to there, cut to a text of that size. An item that is undone lies in its text, since undos
+-- go back (mgs_undo); the cut lets the definition stand without that
+abbrev pub undone_from : ℕ → Item → ℕ
+undone_from size item = min item.place size
+
+abbrev pub undone_to : ℕ → Item → ℕ
+undone_to size item = min (item.place + item.put) size
+
+-- what an item put in goes out, and what it took out comes back
+abbrev pub taken_back : Around → Item → Change
+taken_back x item =
+    record {
+      a = undone_from x.size item;
+      b = undone_to x.size item;
+      put = item.removed;
+      finish = record (goes (undone_from x.size item + length item.removed)) { kind = Undo x.name item.serial (x.serial + 1) };
+    }
+
+-- an undo is an edit, so a serial has to be left for it
 abbrev pub undone : Around → Option Item → Result Change Message
 undone x None = Err NoFurtherUndo
-undone x (Some item) =
-    Ok (record {
-      a = item.place;
-      b = item.place + item.put;
-      put = item.removed;
-      finish = record (goes (item.place + length item.removed)) { kind = Undo x.name item.serial (x.serial + 1) };
-    })
+undone x (Some item) = if x.serial == 18446744073709551615 then Err BufferFull else Ok (taken_back x item)
 
 abbrev pub undo : List Item → Around → Result Change Message
 undo items x = undone x (find (λ (item : Item). item.serial == undo_target x) items)

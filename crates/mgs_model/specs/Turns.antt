@@ -1,12 +1,12 @@
 -- What comes next in an event: bytes make words of keys, arguments and the input of prompts, and these make acts.
-use Rattle.std.specs.Prelude.{ℕ, ◌-◌, nat_lt, ◌==◌, Bool, true, false, ◌&&◌, ◌||◌, List, [], ◌∷◌, ◌++◌, map, filter, length, take, fold, Option, None, Result, Ok, Err, cond, if◌then◌else◌}
-use Rattle.std.specs.List.{common_prefix_len}
+use Rattle.std.specs.Prelude.{ℕ, ◌-◌, nat_lt, ◌==◌, Bool, true, false, not, ◌&&◌, ◌||◌, List, [], ◌∷◌, ◌++◌, length, take, Option, None, Some, Result, Ok, Err, cond, if◌then◌else◌}
 use Rattle.mgs_model.specs.World.{Own, Todo, Typed, Played, Replace_all}
-use Rattle.mgs_model.specs.Keys.{is_graphic, begins_with, value_of, KeyRead, Half, Bound, Not_bound, key_read}
-use Rattle.mgs_model.specs.View.{View, BufferSeen, is_granted}
+use Rattle.mgs_model.specs.Keys.{is_graphic, ends_in_escape, value_of, KeyRead, Half, Bound, Not_bound, key_read}
+use Rattle.mgs_model.specs.Names.{same_name}
+use Rattle.mgs_model.specs.View.{View}
+use Rattle.mgs_model.specs.Completion.{completion, shown_names}
 use Rattle.mgs_model.specs.Outcome.{Act, Unbound, Run}
 use Rattle.mgs_model.specs.Plans.{failed_own, acted_own, setting}
-use Rattle.mgs_model.specs.declared.right.Right.TheVariants.{ReadAttributes}
 use Rattle.mgs_model.specs.declared.message.Message.{Message}
 use Rattle.mgs_model.specs.declared.message.Message.TheVariants.{Silent, Quitting, NoMatch, Replaced}
 use Rattle.mgs_model.specs.declared.session.Mode.{Mode}
@@ -15,7 +15,7 @@ use Rattle.mgs_model.specs.declared.session.Motion.TheVariants.{StartSearch, Sea
 use Rattle.mgs_model.specs.declared.session.Alteration.TheVariants.{ReplaceMatch}
 use Rattle.mgs_model.specs.declared.session.Setting.TheVariants.{CallMacro}
 use Rattle.mgs_model.specs.declared.session.Question.{Question}
-use Rattle.mgs_model.specs.declared.session.Question.TheVariants.{SwitchTo, KillWhich, InsertWhich, WhichOwner, ReplaceWhat, ReplaceWith}
+use Rattle.mgs_model.specs.declared.session.Question.TheVariants.{SwitchTo, FindWhich, KillWhich, InsertWhich, WhichOwner, ReplaceWhat, ReplaceWith}
 use Rattle.mgs_model.specs.declared.session.ByName.TheVariants.{SwitchToBuffer, KillBuffer, InsertBuffer}
 use Rattle.mgs_model.specs.declared.session.Command.{Command}
 use Rattle.mgs_model.specs.declared.session.Command.TheVariants.{Move, Alter, Set, Ask, Named, SetOwner, LeaveSearch}
@@ -54,9 +54,10 @@ key_turn own byte = read_turn own (key_read own.argument own.keys byte)
 
 -- THE INPUT OF A PROMPT
 
--- the command that an answer is for
+-- the command that an answer is for: a file that is looked for is a buffer of its name
 abbrev pub answered : Question → Command
 answered SwitchTo = Named SwitchToBuffer
+answered FindWhich = Named SwitchToBuffer
 answered KillWhich = Named KillBuffer
 answered InsertWhich = Named InsertBuffer
 answered WhichOwner = SetOwner
@@ -66,21 +67,17 @@ answered ReplaceWith = Move StartReplace
 -- what may be completed
 abbrev pub names_buffers : Question → Bool
 names_buffers SwitchTo = true
+names_buffers FindWhich = true
 names_buffers KillWhich = true
 names_buffers InsertWhich = true
 names_buffers _ = false
 
--- the names that the user may see and that go on from the input
-abbrev pub candidates : View → List ℕ → List (List ℕ)
-candidates v input =
-    filter (λ name. begins_with name input) (map (λ (b : BufferSeen). b.name) (filter (λ (b : BufferSeen). is_granted b ReadAttributes) v.buffers))
+abbrev pub names_completed : View → Question → List (List ℕ)
+names_completed v c = cond (names_buffers c) (shown_names v) []
 
-abbrev pub common : List ℕ → List ℕ → List ℕ
-common a b = take (common_prefix_len (λ x y. x == y) a b) a
-
-abbrev pub completed : Own → List (List ℕ) → Own
-completed own [] = record own { echo = NoMatch }
-completed own (name ∷ names) = record own { input = fold common name names }
+abbrev pub completed : Own → Option (List ℕ) → Own
+completed own None = record own { echo = NoMatch }
+completed own (Some input) = record own { input = input }
 
 -- the first of two prompts is no act, and the second begins a mode
 abbrev pub answer_turn : Question → Own → Turn
@@ -88,14 +85,28 @@ answer_turn ReplaceWhat own = Keep (record own { mode = Prompt ReplaceWith; old 
 answer_turn ReplaceWith own = Do (record own { mode = Replacing; argument = None; count = 0 }) (Run (Move StartReplace) None own.input)
 answer_turn c own = Do (record own { mode = Plain; input = []; argument = None }) (Run (answered c) (value_of own.argument) own.input)
 
+-- what a byte makes of the keys before it: ESC waits for the byte of a meta key, and M-[ for one more key
+abbrev pub prompt_keys : List ℕ → ℕ → List ℕ
+prompt_keys keys byte =
+    if (byte == 27) && not (ends_in_escape keys) then keys ++ 27 ∷ []
+    else if (byte == 91) && same_name keys (27 ∷ []) then 27 ∷ 91 ∷ []
+    else []
+
+-- a key by itself
+abbrev pub prompt_key : View → Question → Own → ℕ → Turn
+prompt_key v c own byte =
+    if byte == 13 then answer_turn c own
+    else if byte == 127 then Keep (record own { input = take (length own.input - 1) own.input })
+    else if byte == 9 then Keep (completed own (completion (names_completed v c) own.input))
+    else if is_graphic byte && nat_lt (length own.input) 120 then Keep (record own { input = own.input ++ byte ∷ [] })
+    else Keep (record own { keys = prompt_keys own.keys byte })
+
+-- C-g quits also in the middle of a word of keys. Such a word does nothing
 abbrev pub prompt_turn : View → Question → Own → ℕ → Turn
 prompt_turn v c own byte =
-    if byte == 13 then answer_turn c own
-    else if byte == 7 then Keep (failed_own Quitting own)
-    else if byte == 127 then Keep (record own { input = take (length own.input - 1) own.input })
-    else if byte == 9 then Keep (completed own (cond (names_buffers c) (candidates v own.input) []))
-    else if is_graphic byte && nat_lt (length own.input) 120 then Keep (record own { input = own.input ++ byte ∷ [] })
-    else Keep own
+    if byte == 7 then Keep (failed_own Quitting own)
+    else if length own.keys == 0 then prompt_key v c own byte
+    else Keep (record own { keys = prompt_keys own.keys byte })
 
 -- A SEARCH: a byte that is none of its own ends it, and is then a key
 

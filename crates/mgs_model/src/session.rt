@@ -134,6 +134,17 @@ pub enum Alteration {
     KillRegion,
     TransposeChars,
     UpcaseWord,
+    DowncaseWord,
+    CapitalizeWord,
+    UpcaseRegion,
+    DowncaseRegion,
+    /// The white around the point becomes one space.
+    JustOneSpace,
+    DeleteHorizontalSpace,
+    DeleteBlankLines,
+    /// The line is joined to the one above.
+    JoinLine,
+    FillParagraph,
     ReplaceMatch,
 }
 
@@ -185,6 +196,7 @@ pub enum EntryChange {
 #[derive(Clone, Copy, Debug, PartialEq, Eq)]
 pub enum Question {
     SwitchTo,
+    FindWhich,
     KillWhich,
     InsertWhich,
     WhichOwner,

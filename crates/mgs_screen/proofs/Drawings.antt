@@ -5,7 +5,7 @@ use Rattle.std.specs.Option.{option_map}
 use Rattle.std.proofs.Math.Nat.{min_comm}
 use Rattle.std.proofs.Math.Seq.{take-append_seam, drop-append-add}
 use Rattle.std.proofs.lemmas.Bool.{ne_eqb}
-use Rattle.std.proofs.lemmas.List.{length-map, length-take, length-drop, drop-drop, drop_all, append-nil, drop_more}
+use Rattle.std.proofs.lemmas.List.{length-map, length-take, drop-drop, drop_all, append-nil, drop_more}
 use Rattle.std.proofs.lemmas.List.Folds.{list_any_at}
 use Rattle.mgs_model.specs.Rights.{all_rights}
 use Rattle.mgs_model.specs.Access.{Directory, Decider, decider, decision_by, allows, any_right}
@@ -48,10 +48,6 @@ drop_put first k new old fits =
     ap (λ (i : ℕ). drop i (rows_put first new old)) (sym n)
     ∙ drop-append-add (take first old ++ new) (drop (first + length new) old) k
     ∙ drop-drop k (first + length new) old
-
-pub length_put : (first : ℕ) (new old : List Row) → first + length new ≤ length old → length (rows_put first new old) ≡ length old
-length_put first new old fits =
-    omega (arith, length-append (take first old ++ new) (drop (first + length new) old), length-append (take first old) new, length-take first old, length-drop (first + length new) old, fits)
 
 -- rows put below rows
 put_below : (first : ℕ) (new more old : List Row) → first + length new ≤ length old → rows_put (first + length new) more (rows_put first new old) ≡ rows_put first (new ++ more) old

@@ -2,9 +2,9 @@
 use Rattle.std.proofs.Common.{◌≡◌, ℕ, List, Option, Some, None, refl, subst}
 use Rattle.std.specs.Prelude.{IfSome}
 use Rattle.std.specs.Option.{option_map}
-use Rattle.mgs_keys.specs.Words.{word_of, words_after, words_of}
+use Rattle.mgs_keys.specs.Words.{◌>>=◌, word_of, words_after, words_of}
 use Rattle.mgs_keys.specs.Tokens.{keys_of}
-use Rattle.mgs_script.specs.Words.{◌>>=◌, name_of, any_word_of, text_of, size_said}
+use Rattle.mgs_script.specs.Words.{name_of, any_word_of, text_of, size_said}
 use Rattle.mgs_script.specs.Lines.{Said, Group, Buffer, Entry, Text, Open, Keys, Show, Close, group_said, buffer_said, entry_said, text_said, open_said, keys_said, kind_named, said_as, said_by_kind, label_typed, label_after}
 use Rattle.mgs_script.specs.declared.kind.Kind.{Kind}
 use Rattle.mgs_script.specs.declared.kind.Kind.TheVariants as kinds

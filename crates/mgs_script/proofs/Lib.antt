@@ -1,4 +1,3 @@
-pub mod Utf8
 pub mod Feeds
 pub mod WordByWord
 pub mod Labels

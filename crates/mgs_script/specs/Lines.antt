@@ -1,10 +1,10 @@
 -- What the lines of a script say.
 use Rattle.std.specs.Prelude.{◌≡◌, ℕ, ◌==◌, Bool, ◌||◌, List, length, map, codes, slice_index, Option, Some, None, true, false, Result, Ok, Err, if◌then◌else◌}
 use Rattle.std.specs.Option.{option_map}
-use Rattle.std.specs.Str.{bytes_eq, is_utf8}
-use Rattle.mgs_keys.specs.Words.{word_of, words_after, words_of}
+use Rattle.std.specs.Str.{bytes_eq}
+use Rattle.mgs_keys.specs.Words.{◌>>=◌, word_of, words_after, words_of, utf8_of}
 use Rattle.mgs_keys.specs.Tokens.{keys_of}
-use Rattle.mgs_script.specs.Words.{◌>>=◌, name_of, any_word_of, text_of, size_said}
+use Rattle.mgs_script.specs.Words.{name_of, any_word_of, text_of, size_said}
 use Rattle.mgs_script.specs.declared.line.Line.{Line}
 use Rattle.mgs_script.specs.declared.line.Line.TheVariants as code
 use Rattle.mgs_script.specs.declared.line.LineFault.{LineFault}
@@ -102,10 +102,6 @@ said_by_kind t = do
 -- empty lines, and those that begin with `#`
 abbrev pub is_passed_over : List ℕ → Bool
 is_passed_over t = (length t == 0) || (slice_index t 0 == 35)
-
--- bytes that are UTF-8
-abbrev pub utf8_of : List ℕ → Option (List ℕ)
-utf8_of t = if is_utf8 t then Some t else None
 
 -- what a line says; one that is passed over may hold any bytes
 abbrev pub said_in : List ℕ → Option Said

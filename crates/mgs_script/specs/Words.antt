@@ -1,16 +1,11 @@
 -- What the words of a script's line say.
 use Rattle.std.specs.Prelude.{ℕ, ◌==◌, nat_le, Bool, ◌&&◌, not, List, [], ◌∷◌, length, codes, Option, Some, None, if◌then◌else◌}
-use Rattle.std.specs.Option.{option_and_then}
 use Rattle.std.specs.List.{list_all}
 use Rattle.std.specs.Str.{bytes_eq}
 use Rattle.mgs_model.specs.Names.{is_name}
-use Rattle.mgs_keys.specs.Words.{word_of, words_after, words_of}
+use Rattle.mgs_keys.specs.Words.{◌>>=◌, word_of, words_after, words_of}
 use Rattle.mgs_keys.specs.Numbers.{number_of}
 use Rattle.mgs_keys.specs.Tokens.{quoted_of, spelled_by}
-
-infixl 10 ◌>>=◌
-abbrev pub ◌>>=◌ : {A B : Type 0} → Option A → (A → Option B) → Option B
-o >>= f = option_and_then f o
 
 -- a label or a buffer's name
 abbrev pub name_of : List ℕ → Option (List ℕ)

@@ -1,16 +1,15 @@
 // How a script's line is read.
 ghost use Rattle.std.specs.Prelude.{◌≡◌, Some, IfSome};
 ghost use Rattle.std.specs.Option.{option_map};
-ghost use Rattle.mgs_script.specs.Lines.{line_view, group_said, buffer_said, entry_said, text_said, open_said, keys_said, said_by_kind, said_in, is_passed_over, utf8_of, GivesLine, label_typed, label_after};
+ghost use Rattle.mgs_script.specs.Lines.{line_view, group_said, buffer_said, entry_said, text_said, open_said, keys_said, said_by_kind, said_in, is_passed_over, GivesLine, label_typed, label_after};
 
 use crate::kind::{Kind, kind_of};
 use crate::line::{Line, LineFault};
 use crate::text::read_text;
 use crate::word::{any_word, cut_text, name_in, size, words};
-use mgs_keys::{KeysFault, read_keys};
+use mgs_keys::{KeysFault, read_keys, utf8};
 use mgs_model::{Name, Short};
 use std::alloc::Global;
-use std::str;
 
 #[tactic(auto, unfolding(crate::specs::Lines::group_said))]
 fn group_line(alloc: Global, text: &str) -> Result<Line<'_>, LineFault>
@@ -124,15 +123,6 @@ fn passed_over(line: &[u8]) -> bool
     match line {
         [] => true,
         [first, ..] => *first == b'#',
-    }
-}
-
-fn utf8(line: &[u8]) -> Option<&str>
-    ensures { option_map (λ x. x.now) result ≡ utf8_of line.now }
-{
-    match str::from_utf8(line) {
-        Ok(text) => Some(text),
-        Err(_) => None,
     }
 }
 

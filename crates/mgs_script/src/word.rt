@@ -2,7 +2,8 @@
 ghost use Rattle.std.specs.Prelude.{◌≡◌, ◌==◌, ◌<◌, ◌∷◌, not, length, map, IfOk, IfSome};
 ghost use Rattle.std.specs.Option.{option_map};
 ghost use Rattle.std.specs.List.{list_all};
-ghost use Rattle.mgs_keys.specs.Words.{is_space, word_of, words_after, words_of, parts_after};
+ghost use Rattle.mgs_model.specs.Names.{is_space};
+ghost use Rattle.mgs_keys.specs.Words.{word_of, words_after, words_of, parts_after};
 ghost use Rattle.mgs_script.specs.Words.{name_of, any_word_of, size_said};
 
 use mgs_keys::read_number;

@@ -56,6 +56,26 @@ fn nothing_of_an_argument_is_put_in_past_the_limit(rt: HostRuntime) -> Result<()
     on_a_text_of(&rt, rt.alloc(), 1_038_578, "C-u '9999x", output)
 }
 
+// A text of all the characters that it may have is gone over, killed, put back, and its edits taken back; no character more goes in.
+#[test]
+fn a_full_text_is_killed_and_comes_back(rt: HostRuntime) -> Result<(), Fail> {
+    let output = "screen a\n\
+        |aaaaaaaaaaaaaaaaaaa$|\n\
+        |                    |\n\
+        |                    |\n\
+        |                    |\n\
+        !-**-notes-L1-C0-----!\n\
+        |Buffer full         |\n\
+        cursor 1 1\n";
+    on_a_text_of(
+        &rt,
+        rt.alloc(),
+        1_048_576,
+        "C-k C-y C-_ C-_ M-> C-b C-t C-_ M-b M-f C-a 'x",
+        output,
+    )
+}
+
 // With an argument of 0 nothing is put in, the buffer is not modified, and the right is needed all the same.
 #[test]
 fn nothing_is_put_in_by_an_argument_of_0(rt: HostRuntime) {

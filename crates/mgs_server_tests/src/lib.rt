@@ -7,6 +7,8 @@ mod arguments;
 #[cfg(test)]
 mod calls;
 #[cfg(test)]
+mod cases;
+#[cfg(test)]
 mod config;
 #[cfg(test)]
 mod drive;
@@ -28,6 +30,8 @@ mod replay;
 mod rows;
 #[cfg(test)]
 mod script;
+#[cfg(test)]
+mod undos;
 #[cfg(test)]
 mod windows;
 #[cfg(test)]

@@ -4,7 +4,11 @@
 #[cfg(test)]
 mod buffers;
 #[cfg(test)]
+mod cases;
+#[cfg(test)]
 mod grid;
+#[cfg(test)]
+mod names;
 #[cfg(test)]
 mod paint;
 #[cfg(test)]
@@ -13,5 +17,7 @@ mod plans;
 mod taking_back;
 #[cfg(test)]
 mod terminal;
+#[cfg(test)]
+mod whites;
 #[cfg(test)]
 mod windows;

@@ -30,12 +30,12 @@ fn take_back<T: Marked + Drop>(
     let Some(edit) = all.item(name, target) else {
         panic!(rt; "not kept");
     };
-    let undone = undo(edit, name, target, serial);
+    let size = all.text_len(name);
+    let undone = undo(edit, name, target, serial, size);
     assert_eq!(rt; undone.serial, target);
     assert!(rt; undone.finish.point == Goes::Behind);
     assert!(rt; is_undo_an_edit(&undone));
     let removed = edit.removed.clone()?;
-    let size = all.text_len(name);
     assert!(rt; undone.from <= size && undone.gone <= size - undone.from);
     assert!(rt; !is_undo_too_long(size, &undone));
     assert!(rt; size < 1000 && removed.len() < 1000);

@@ -24,7 +24,11 @@ mod numbers;
 #[cfg(test)]
 mod printing;
 #[cfg(test)]
+mod prompts;
+#[cfg(test)]
 mod rights;
+#[cfg(test)]
+mod searches;
 #[cfg(test)]
 mod text;
 #[cfg(test)]

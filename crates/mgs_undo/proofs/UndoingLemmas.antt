@@ -1,6 +1,7 @@
 -- Undos in a row, by induction over the edits.
-use Rattle.std.proofs.Common.{◌≡◌, ◌<◌, ◌≤◌, ◌+◌, ◌-◌, ◌*◌, ℕ, zero, suc, Bool, true, false, cond, List, [], ◌∷◌, ◌++◌, length, take, drop, Some, None, refl, sym, ap, ◌∙◌, arith, inl, inr, append_assoc, length-append, length-drop, length-take}
-use Rattle.std.specs.Prelude.{find, ◌==◌, nat_lt}
+use Rattle.std.proofs.Common.{subst, ◌≡◌, ◌<◌, ◌≤◌, ◌+◌, ◌-◌, ◌*◌, ℕ, zero, suc, Bool, true, false, cond, List, [], ◌∷◌, ◌++◌, length, take, drop, Some, None, refl, sym, ap, ◌∙◌, arith, inl, inr, append_assoc, length-append, length-drop, length-take}
+use Rattle.std.specs.Prelude.{find, min, ◌==◌, nat_lt}
+use Rattle.std.proofs.Math.Nat.{min-eq_left}
 use Rattle.std.specs.Option.{option_and_then, option_or, is_some, IsSome}
 use Rattle.std.proofs.lemmas.Option.{same_Some, none-some, option_and_then_some}
 use Rattle.std.proofs.lemmas.List.{take-append-le, take-append-drop, drop-append-le, length-take-le, take_all, drop_all, drop-drop, take-take}
@@ -124,10 +125,10 @@ target_found e es us x w i back edits found =
     let first : find (has_serial t) (us ++ all_items (e ∷ es) x) ≡ Some j = find_past (has_serial t) us (all_items (e ∷ es) x) (back.later t (omega arith)) ∙ ap (λ b. cond b (Some j) (find (has_serial t) (all_items es x))) (target_is e es us x w back edits) in
     same_Some j i (sym first ∙ whole)
 
--- one undo more
-back_next : (e : Replacement) (es : List Replacement) (us : List Item) (x w : Buffer) → IsBack (e ∷ es) us x w → AreEdits (e ∷ es) x
-    → IsBack es (item_for e.a (e.a + length e.put) (removed e.a e.b (after es x).text) w ∷ (us ++ item_for e.a e.b e.put (after es x) ∷ [])) x (item_undone w (item_for e.a e.b e.put (after es x)))
-back_next e es us x w back edits =
+-- the inverse of the latest edit that is left leads back one edit more
+back_inverse : (e : Replacement) (es : List Replacement) (us : List Item) (x w : Buffer) → IsBack (e ∷ es) us x w → AreEdits (e ∷ es) x
+    → IsBack es (item_for e.a (e.a + length e.put) (removed e.a e.b (after es x).text) w ∷ (us ++ item_for e.a e.b e.put (after es x) ∷ [])) x (buffer_edited e.a (e.a + length e.put) (removed e.a e.b (after es x).text) w)
+back_inverse e es us x w back edits =
     let t : List ℕ = (after es x).text in
     let i : Item = item_for e.a e.b e.put (after es x) in
     let u : Item = item_for e.a (e.a + length e.put) (removed e.a e.b t) w in
@@ -148,6 +149,31 @@ back_next e es us x w back edits =
           ∙ (find_past (has_serial n) us (i ∷ []) (back.later n (omega arith)) ∙ ap (λ b. cond b (Some i) None) not_i);
       counted = omega (arith, serial_edited e.a (e.a + length e.put) (removed e.a e.b t) w is, back.counted);
     }
+
+-- what an edit put in lies in the text that it leaves
+put_within : (a b : ℕ) (put text : List ℕ) → a ≤ b → b ≤ length text → a + length put ≤ length (edited a b put text)
+put_within a b put text order within =
+    let front : length (take a text) ≡ a = length-take-le a text (omega arith) in
+    omega (arith, front, length-append (take a text) put, length-append (take a text ++ put) (drop b text))
+
+-- so an undo in its turn is not cut
+uncut : (e : Replacement) (es : List Replacement) (us : List Item) (x w : Buffer) → IsBack (e ∷ es) us x w → AreEdits (e ∷ es) x
+    → buffer_edited e.a (e.a + length e.put) (removed e.a e.b (after es x).text) w ≡ item_undone w (item_for e.a e.b e.put (after es x))
+uncut e es us x w back edits =
+    let out : List ℕ = removed e.a e.b (after es x).text in
+    let n : ℕ = length w.text in
+    let same : n ≡ length (edited e.a e.b e.put (after es x).text) = ap length (back.text ∙ text_edited e.a e.b e.put (after es x) edits.2) in
+    let in_ : e.a + length e.put ≤ n = omega (arith, same, put_within e.a e.b e.put (after es x).text edits.0 edits.1) in
+    let low : e.a ≤ n = omega (arith, in_) in
+    let from : min e.a n ≡ e.a = min-eq_left low in
+    let to : min (e.a + length e.put) n ≡ e.a + length e.put = min-eq_left in_ in
+    ap (λ a. buffer_edited a (e.a + length e.put) out w) (sym from) ∙ ap (λ b. buffer_edited (min e.a n) b out w) (sym to)
+
+-- one undo more
+back_next : (e : Replacement) (es : List Replacement) (us : List Item) (x w : Buffer) → IsBack (e ∷ es) us x w → AreEdits (e ∷ es) x
+    → IsBack es (item_for e.a (e.a + length e.put) (removed e.a e.b (after es x).text) w ∷ (us ++ item_for e.a e.b e.put (after es x) ∷ [])) x (item_undone w (item_for e.a e.b e.put (after es x)))
+back_next e es us x w back edits =
+    subst (λ y. IsBack es (item_for e.a (e.a + length e.put) (removed e.a e.b (after es x).text) w ∷ (us ++ item_for e.a e.b e.put (after es x) ∷ [])) x y) (uncut e es us x w back edits) (back_inverse e es us x w back edits)
 
 goes_back : (k : ℕ) (es : List Replacement) (us : List Item) (x w y : Buffer) → IsBack es us x w → AreEdits es x → k ≤ length es → undos k (x.serial + length es) w ≡ Some y → y.text ≡ (after (drop k es) x).text
 goes_back zero es us x w y back edits few done = ap (λ (b : Buffer). b.text) (sym (same_Some w y done)) ∙ back.text

@@ -1,10 +1,11 @@
 -- Edits of a buffer in a row, and undos in a row. Each undo is an edit too, with an item of its own, and goes by its target:
 -- the serial of the item that it undoes.
-use Rattle.std.specs.Prelude.{ℕ, zero, suc, ◌+◌, ◌-◌, ◌≤◌, ◌≡◌, true, List, [], ◌∷◌, length, drop, find, Option, Some}
+use Rattle.std.specs.Prelude.{ℕ, zero, suc, ◌-◌, ◌≤◌, ◌≡◌, true, List, [], ◌∷◌, length, drop, find, Option, Some}
 use Rattle.std.specs.Option.{option_and_then, IsSome}
 use Rattle.mgs_model.specs.Text.{removed, is_edit}
 use Rattle.mgs_model.specs.World.{Buffer, Item}
 use Rattle.mgs_model.specs.Apply.{buffer_edited}
+use Rattle.mgs_model.specs.Plans.{undone_from, undone_to}
 use Rattle.mgs_undo.specs.declared.Edit.{Edit}
 use Rattle.mgs_undo.specs.History.{History, has_serial}
 
@@ -34,7 +35,7 @@ AreEdits (e ∷ es) x = (e.a ≤ e.b) × (e.b ≤ length (after es x).text) × (
 
 -- an item undone: what it put in goes out, and what it took out comes back
 abbrev pub item_undone : Buffer → Item → Buffer
-item_undone x item = buffer_edited item.place (item.place + item.put) item.removed x
+item_undone x item = buffer_edited (undone_from (length x.text) item) (undone_to (length x.text) item) item.removed x
 
 -- so many undos in a row: each has the serial before as its target. None where a target is not kept
 abbrev pub undos : ℕ → ℕ → Buffer → Option Buffer

@@ -1,13 +1,14 @@
 //! The latest edits of a text, each with its serial: what undo goes by.
 #![tactic(auto)]
 
-ghost use Rattle.std.specs.Prelude.{◌≡◌, ℕ, List, true, ◌+◌, ◌-◌, ◌<◌, ◌^◌, [], ◌∷◌, IfOk, find, slice_get, take};
+ghost use Rattle.std.specs.Prelude.{◌≡◌, ℕ, List, true, ◌+◌, ◌-◌, ◌<◌, ◌≤◌, ◌^◌, [], ◌∷◌, IfOk, find, slice_get, take};
 ghost use Rattle.std.specs.Option.{option_copied, option_map};
 ghost use Rattle.mgs_undo.specs.History.{has_serial};
 ghost use Rattle.mgs_undo.specs.Numbered.{item_of};
 ghost use Rattle.mgs_model.specs.World.{Buffer};
 ghost use Rattle.mgs_model.specs.Text.{is_edit};
 ghost use Rattle.mgs_model.specs.Apply.{buffer_edited};
+ghost use Rattle.mgs_model.specs.Plans.{undone_from, undone_to};
 ghost use Rattle.mgs_undo.specs.Undoing.{history_of, IsEditOf, UndosGoBack, TargetsAreKept};
 
 use circular_buffer::HeapCircularBuffer;
@@ -27,6 +28,28 @@ pub struct Edit {
     pub removed: Vec<char>,
     /// How many characters it put in their place.
     pub added: usize,
+}
+
+impl Edit {
+    /// From where an undo in a text of `size` characters takes out what this edit put in: its place, or the text's end.
+    pub fn undone_from(&self, size: usize) -> usize
+        ensures place { (serial : ℕ) → result ≡ undone_from size (item_of serial self.now) }
+        ensures within { result ≤ size }
+    {
+        self.at.min(size)
+    }
+
+    /// Up to where an undo in a text of `size` characters takes out what this edit put in: the end of that, or the text's.
+    pub fn undone_to(&self, size: usize) -> usize
+        ensures place { (serial : ℕ) → result ≡ undone_to size (item_of serial self.now) }
+        ensures within { result ≤ size }
+        ensures order { undone_from size (item_of 0 self.now) ≤ result }
+    {
+        match self.at.checked_add(self.added) {
+            Some(end) => end.min(size),
+            None => size,
+        }
+    }
 }
 
 /// The latest edits of a text, 1,000 at most. Their serials count up by one, and the first edit's is 1.

@@ -2,5 +2,4 @@ pub mod Appending
 pub mod Feeds
 pub mod Pieces
 pub mod Typing
-pub mod Utf8
 pub mod Words

@@ -1,6 +1,7 @@
 -- What is said by words that are parted once more.
 use Rattle.std.proofs.Common.{◌≡◌, ℕ, List, ◌∷◌, None, ap}
-use Rattle.mgs_keys.specs.Words.{is_space, words_of}
+use Rattle.mgs_model.specs.Names.{is_space}
+use Rattle.mgs_keys.specs.Words.{words_of}
 use Rattle.mgs_keys.proofs.Cuts.{parts_first}
 use Rattle.mgs_wire.specs.Login.{login_of}
 

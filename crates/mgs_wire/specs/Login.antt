@@ -1,9 +1,8 @@
 -- LOGIN LINES: who logs in by a line, and why one is refused.
 use Rattle.std.specs.Prelude.{ℕ, ◌-◌, ◌==◌, nat_le, Bool, ◌&&◌, List, [], ◌∷◌, ◌++◌, take, length, codes, slice_index, Option, Some, None, Result, Ok, Err, if◌then◌else◌}
-use Rattle.std.specs.Option.{option_and_then}
 use Rattle.std.specs.List.{before_first}
-use Rattle.std.specs.Str.{bytes_eq, is_utf8}
-use Rattle.mgs_keys.specs.Words.{rest_after, words_of}
+use Rattle.std.specs.Str.{bytes_eq}
+use Rattle.mgs_keys.specs.Words.{◌>>=◌, rest_after, words_of, utf8_of}
 use Rattle.mgs_keys.specs.Numbers.{number_of}
 use Rattle.mgs_model.specs.Lines.{is_feed}
 use Rattle.mgs_model.specs.Tickets.{ticket_of}
@@ -39,10 +38,6 @@ pub record Login : Type 0 where
   pub rows : ℕ
   pub cols : ℕ
 
-infixl 10 ◌>>=◌
-abbrev pub ◌>>=◌ : {A B : Type 0} → Option A → (A → Option B) → Option B
-o >>= f = option_and_then f o
-
 -- the word `login`, a name and a ticket, each of at least one byte, and a size
 unfoldable pub login_by : List ℕ → List ℕ → List ℕ → Option ℕ → Option ℕ → Option Login
 login_by word name ticket rows cols =
@@ -69,10 +64,6 @@ pub record Opening : Type 0 where
   pub user : List ℕ
   pub rows : ℕ
   pub cols : ℕ
-
--- bytes that are UTF-8
-abbrev pub utf8_of : List ℕ → Option (List ℕ)
-utf8_of bytes = if is_utf8 bytes then Some bytes else None
 
 -- the ticket of the user of this name; names are texts, so that no user has one that is not UTF-8
 abbrev pub ticket_for : List ℕ → List (List ℕ × List ℕ) → Option (List ℕ)

@@ -3,13 +3,12 @@ ghost use Rattle.std.specs.Prelude.{◌≡◌};
 ghost use Rattle.std.specs.Option.{option_map};
 ghost use Rattle.mgs_keys.specs.Words.{words_of};
 ghost use Rattle.mgs_keys.specs.Numbers.{number_of};
-ghost use Rattle.mgs_wire.specs.Login.{without_return, utf8_of, login_by, login_of, login_in, admission};
+ghost use Rattle.mgs_wire.specs.Login.{without_return, login_by, login_of, login_in, admission};
 ghost use Rattle.mgs_wire.specs.Parsed.{login_view, Admits};
 
 use crate::refusal::Refusal;
-use mgs_keys::{cut_word, read_number};
+use mgs_keys::{cut_word, read_number, utf8};
 use mgs_model::Tickets;
-use std::str;
 
 // What a login line says. The texts are the line's own.
 #[derive(Clone, Copy)]
@@ -90,16 +89,6 @@ fn read_login(line: &[u8]) -> Option<Login<'_>>
     ensures { option_map login_view result ≡ login_in line.now }
 {
     login_of_words(without_return(line))
-}
-
-// The bytes as a text, where they are one.
-fn utf8(bytes: &[u8]) -> Option<&str>
-    ensures { option_map (λ x. x.now) result ≡ utf8_of bytes.now }
-{
-    match str::from_utf8(bytes) {
-        Ok(text) => Some(text),
-        Err(_) => None,
-    }
 }
 
 /// The session that a line opens. A line without its line feed is refused where it is no login line (`Line`), where no ticket

@@ -10,6 +10,7 @@ use Rattle.mgs_model.specs.Names.{same_name}
 use Rattle.mgs_model.specs.Text.{shift}
 use Rattle.mgs_model.specs.Outcome.{At, Keep, Keep_mark, Mark_at}
 use Rattle.mgs_model.specs.Apply.{change_at, change_first, session_moved, window_adjusted}
+use Rattle.mgs_model.proofs.Firsts.{change_at_twice}
 use Rattle.mgs_marks.specs.Marks.{or_zero}
 use Rattle.mgs_buffers.specs.MarkedBuffer.{MarkedBuffer, HasBuffer, IsMark, mark_at, marked_edited, marked_named, marked_placed}
 use Rattle.mgs_windows.specs.Panes.{mark_set, marked}
@@ -247,12 +248,7 @@ edited_marked_sessions p id a b put ks ls xs at h x sound kept there sel r =
     ∙ ap (change_at at (mark_at_place p)) (sessions_edited x.name a b put ls xs ∙ ap (map (session_moved x.name (shift a b (length put)))) (reserved_sessions x id ks ls xs sound kept r))
 
 -- THE POINT TOO: the mark and then the point are one change of the window
-changed_twice : {A : Type 0} (f g : A → A) (k : ℕ) (xs : List A) → change_at k f (change_at k g xs) ≡ change_at k (λ x. f (g x)) xs
-changed_twice f g k [] = refl
-changed_twice f g zero (x ∷ xs) = refl
-changed_twice f g (suc k) (x ∷ xs) = ap (λ ys. x ∷ ys) (changed_twice f g k xs)
-
 pub point_and_mark : (q p : ℕ) (s : model.Session) → selected_at (point_to q) (mark_at_place p s) ≡ record s { windows = change_at s.selected (window_adjusted None (At q) (Mark_at p) Keep None) s.windows }
 point_and_mark q p s =
     ap (λ (ws : List model.Window). let t : model.Session = record s { windows = ws } in t)
-    (changed_twice (window_adjusted None (At q) Keep_mark Keep None) (window_adjusted None Keep (Mark_at p) Keep None) s.selected s.windows)
+    (change_at_twice (window_adjusted None (At q) Keep_mark Keep None) (window_adjusted None Keep (Mark_at p) Keep None) s.selected s.windows)

@@ -26,7 +26,7 @@ carry_out-requires-clause-can g c =
     let ls = c.reserve_mark.new.buffers in
     let mid = c.in_ok-mark.mark in
     let r = c.in_ok-mark.ensures.ok in
-    subst (λ (b : Buffer). CanDo b.text c.args.session.now.kill b.serial c.args.action.now) (sym (reserved_buffer x.name x.mark mid ks ls r)) c.requires.can
+    subst (λ (b : Buffer). CanDo b.text b.items c.args.session.now.kill b.serial c.args.action.now) (sym (reserved_buffer x.name x.mark mid ks ls r)) c.requires.can
 
 pub set_mark-requires-clause-mark : goal.set_mark-requires-clause-mark
 set_mark-requires-clause-mark g c =
@@ -39,7 +39,7 @@ set_mark-requires-clause-mark g c =
     let marks = reserved_marks x mid ks ls kept r c.requires.marks in
     let mark = reserved_in_use x.mark x mid ks ls refl kept c.requires.marks r in
     let text = (marked_at x.name ls).buffer.text in
-    let there = mark_after_action x mid text c.args.session.now.kill c.args.action.now ls mark marks in
+    let there = mark_after_action x mid text (marked_at x.name ls).buffer.items c.args.session.now.kill c.args.action.now ls mark marks in
     rw c.in-Ok.ensures.ok there
 
 pub set_mark-requires-clause-kept : goal.set_mark-requires-clause-kept
@@ -56,7 +56,7 @@ set_mark-requires-clause-within g c =
     let kept = mark_is_kept x.name x.point ks c.requires.marks.point in
     let marks = reserved_marks x mid ks ls kept r c.requires.marks in
     let mark = reserved_in_use x.mark x mid ks ls refl kept c.requires.marks r in
-    let can = subst (λ (b : Buffer). CanDo b.text c.args.session.now.kill b.serial c.args.action.now) (sym (reserved_buffer x.name x.mark mid ks ls r)) c.requires.can in
+    let can = subst (λ (b : Buffer). CanDo b.text b.items c.args.session.now.kill b.serial c.args.action.now) (sym (reserved_buffer x.name x.mark mid ks ls r)) c.requires.can in
     rw c.in-Ok.ensures.ok (within_after x c.args.position c.args.session.now.kill c.args.action.now ls (mark_is_kept x.name mid ls mark) can c.requires.told)
 
 pub give_up_mark-requires-clause-mark : goal.give_up_mark-requires-clause-mark
@@ -85,7 +85,7 @@ returns-in-Ok-clause-ok g c =
       id = mid;
       between = ls;
       reserved = r;
-      buffers = c.set_mark.ensures.buffers ∙ ap (change_first (marked_named x.name) (marked_placed mid c.args.position)) (c.in-Ok.ensures.ok ∙ ap (λ (b : Buffer). marked_after x b.text c.args.session.now.kill c.args.action.now ls) same);
+      buffers = c.set_mark.ensures.buffers ∙ ap (change_first (marked_named x.name) (marked_placed mid c.args.position)) (c.in-Ok.ensures.ok ∙ ap (λ (b : Buffer). marked_after x b.text b.items c.args.session.now.kill c.args.action.now ls) same);
       session = c.set_mark.ensures.session ∙ ap (session_marked mid) (c.in-Ok.ensures.acted ∙ ap (λ (b : Buffer). session_acted b.text c.args.action.now c.args.session.now) same);
     }
 

@@ -20,7 +20,7 @@ returns-clause-sound g c =
     let xs = c.args.sessions.now in
     let r = c.index-sessions-at.result in
     let x = c.args.window_marks.now in
-    after_sound c.carry_out.result c.args.buffers.now c.carry_out.new.buffers xs c.args.at x (marked_at x.name c.args.buffers.now).buffer.text (get_or xs c.args.at r) c.carry_out.new.session c.args.action.now (slice_get-get_or xs c.args.at r c.requires.within) c.carry_out.ensures.ok c.carry_out.ensures.acted c.carry_out.ensures.err c.carry_out.ensures.same (acting_marks c.args.buffers.now xs c.args.at x c.requires.sound c.requires.window_marks) c.requires.sound
+    after_sound c.carry_out.result c.args.buffers.now c.carry_out.new.buffers xs c.args.at x (marked_at x.name c.args.buffers.now).buffer.text (marked_at x.name c.args.buffers.now).buffer.items (get_or xs c.args.at r) c.carry_out.new.session c.args.action.now (slice_get-get_or xs c.args.at r c.requires.within) c.carry_out.ensures.ok c.carry_out.ensures.acted c.carry_out.ensures.err c.carry_out.ensures.same (acting_marks c.args.buffers.now xs c.args.at x c.requires.sound c.requires.window_marks) c.requires.sound
 
 pub returns-clause-sizes : goal.returns-clause-sizes
 returns-clause-sizes g c =

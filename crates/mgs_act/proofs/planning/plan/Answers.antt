@@ -20,8 +20,8 @@ returns-in-None-clause-value g c =
     c.decide_all.ensures
     ∙ ap (decision c.args.directory.now b.owner c.args.user.now b.entries)
     (c.needs-mask.ensures ∙ ap (λ (a : Around). mask_at c.args.command a.place c.text_len-size.result) c.around-around.ensures.value ∙ ap (mask_at c.args.command given_here.place) c.text_len-size.ensures.value) in
-    granted c.args.directory.now ks c.args.user.now x c.args.given.now c.args.command c.args.kill.now (g.T.Text.text c.text-text.result.now) c.serial.result c.around-around.result c.plan_granted.result
-    c.text-text.ensures.text c.serial.ensures c.around-around.ensures.value (sym decided ∙ c.in-None.ensures.granted refl) c.plan_granted.ensures.value
+    granted c.args.directory.now ks c.args.user.now x c.args.given.now c.args.command c.args.kill.now c.around-around.result c.plan_granted.result
+    c.around-around.ensures.value (sym decided ∙ c.in-None.ensures.granted refl) c.plan_granted.ensures.value
 
 pub returns-in-Some-clause-value : goal.returns-in-Some-clause-value
 returns-in-Some-clause-value g c =

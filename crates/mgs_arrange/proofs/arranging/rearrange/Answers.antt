@@ -1,8 +1,9 @@
-use Rattle.std.proofs.Common.{◌≡◌, ℕ, List, get_or, ap, subst}
+use Rattle.std.proofs.Common.{◌≡◌, get_or, ap, subst}
+use Rattle.mgs_buffers.proofs.MarkedLemmas.{OnErr-map, OnOk-map}
 use Rattle.mgs_session.specs.declared.Session.{Session}
 use Rattle.mgs_world.specs.Sound.{IsSessionSound}
 use Rattle.mgs_world.proofs.Soundness.{session_sound}
-use Rattle.mgs_arrange.proofs.Rearranging.{after_act, after_apart, after_sizes, after_sound, either_rearranged, refused_all, refused_may, when_ok, when_refused}
+use Rattle.mgs_arrange.proofs.Rearranging.{after_act, after_apart, after_sizes, after_sound, either_rearranged, refused_all, refused_may}
 use Rattle.mgs_arrange.proofs.arranging.rearrange.Goals as goal
 
 pub rearrange_session-requires-clause-sound : goal.rearrange_session-requires-clause-sound
@@ -35,7 +36,7 @@ returns-clause-ok g c =
     let is : x ≡ get_or xs c.args.at x = ap (λ (s : Session). get_or xs c.args.at s) c.index-sessions-at.is in
     let e = c.rearrange_session.ensures in
     let h = either_rearranged c.rearrange_session.result c.args.buffers.now c.rearrange_session.new.buffers x c.rearrange_session.new.session e.rearranged e.err e.same in
-    when_ok c.rearrange_session.result
+    OnOk-map c.rearrange_session.result
     (λ done. λ d id next place. after_act c.args.arrangement c.args.argument d c.args.buffers.now c.rearrange_session.new.buffers xs next id c.args.at x c.rearrange_session.new.session c.requires.sound place is c.requires.within c.requires.fresh e.selected h done)
     e.done
 
@@ -46,7 +47,7 @@ returns-clause-touched g c =
     let is : x ≡ get_or xs c.args.at x = ap (λ (s : Session). get_or xs c.args.at s) c.index-sessions-at.is in
     let e = c.rearrange_session.ensures in
     let h = either_rearranged c.rearrange_session.result c.args.buffers.now c.rearrange_session.new.buffers x c.rearrange_session.new.session e.rearranged e.err e.same in
-    when_ok c.rearrange_session.result
+    OnOk-map c.rearrange_session.result
     (λ done. λ d id next place. after_apart c.args.arrangement c.args.argument d c.args.buffers.now xs next id c.args.at x _ place is c.requires.within
     (after_act c.args.arrangement c.args.argument d c.args.buffers.now c.rearrange_session.new.buffers xs next id c.args.at x c.rearrange_session.new.session c.requires.sound place is c.requires.within c.requires.fresh e.selected h done))
     e.done
@@ -66,6 +67,6 @@ returns-clause-may g c =
     let x : Session = get_or xs c.args.at c.index-sessions-at.result in
     let is : x ≡ get_or xs c.args.at x = ap (λ (s : Session). get_or xs c.args.at s) c.index-sessions-at.is in
     let e = c.rearrange_session.ensures in
-    when_refused c.rearrange_session.result
+    OnErr-map c.rearrange_session.result
     (λ may. λ d id next place. refused_may c.args.arrangement c.args.argument d c.args.buffers.now xs next id c.args.at x place is c.requires.within e.selected (may c.args.buffers.now))
     e.may

@@ -1,10 +1,10 @@
 use Rattle.std.proofs.Common.{◌≡◌, ℕ, List, Option, sym, subst}
 use Rattle.mgs_model.specs.declared.session.Arrangement.{Arrangement}
 use Rattle.mgs_buffers.specs.MarkedBuffer.{MarkedBuffer}
+use Rattle.mgs_buffers.proofs.MarkedLemmas.{OnErr-map, OnOk-map}
 use Rattle.mgs_session.specs.declared.Session.{Session}
 use Rattle.mgs_world.specs.Worlds.{session_of}
 use Rattle.mgs_arrange.specs.Arranging.{IsArranged, MayBeRefused}
-use Rattle.mgs_arrange.proofs.Rearranging.{when_ok, when_refused}
 use Rattle.mgs_arrange.proofs.arranging.rearrange_windows.Goals as goal
 
 -- of the arrangement that it is
@@ -13,11 +13,11 @@ so c d n ks ls x y is h = subst (λ (a : Arrangement). IsArranged a n ks ls x y)
 
 pub returns-in-SplitWindow-clause-arranged : goal.returns-in-SplitWindow-clause-arranged
 returns-in-SplitWindow-clause-arranged g c =
-    when_ok c.split.result (λ h. so c.args.arrangement _ c.args.argument c.args.buffers.now c.split.new.buffers c.args.session.now c.split.new.session c.in-SplitWindow.is (h c.args.argument)) c.split.ensures.arranged
+    OnOk-map c.split.result (λ h. so c.args.arrangement _ c.args.argument c.args.buffers.now c.split.new.buffers c.args.session.now c.split.new.session c.in-SplitWindow.is (h c.args.argument)) c.split.ensures.arranged
 
 pub returns-in-SplitWindow-clause-may : goal.returns-in-SplitWindow-clause-may
 returns-in-SplitWindow-clause-may g c =
-    when_refused c.split.result (λ h. λ ks. subst (λ (a : Arrangement). MayBeRefused a c.args.argument (session_of ks c.args.session.now)) (sym c.in-SplitWindow.is) (h c.args.argument ks)) c.split.ensures.may
+    OnErr-map c.split.result (λ h. λ ks. subst (λ (a : Arrangement). MayBeRefused a c.args.argument (session_of ks c.args.session.now)) (sym c.in-SplitWindow.is) (h c.args.argument ks)) c.split.ensures.may
 
 pub returns-in-DeleteWindow-clause-arranged : goal.returns-in-DeleteWindow-clause-arranged
 returns-in-DeleteWindow-clause-arranged g c =

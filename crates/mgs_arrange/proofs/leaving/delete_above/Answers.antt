@@ -1,4 +1,4 @@
-use Rattle.std.proofs.Common.{◌≡◌, ◌<◌, ◌∙◌, ℕ, ap, length, arith}
+use Rattle.std.proofs.Common.{◌<◌, ◌∙◌, ℕ, ap, arith}
 use Rattle.mgs_world.specs.Worlds.{session_of}
 use Rattle.mgs_arrange.specs.Arranged.{window_gone}
 use Rattle.mgs_arrange.proofs.WindowsGone.{above_step, lessened_twice}

@@ -1,4 +1,4 @@
-use Rattle.std.proofs.Common.{◌≡◌, ◌<◌, ◌∙◌, ap, length, arith}
+use Rattle.std.proofs.Common.{◌∙◌, ap, length, arith}
 use Rattle.mgs_session.specs.declared.Session.{Session}
 use Rattle.mgs_arrange.proofs.WindowsGone.{below_step, first_stays, lessened_twice}
 use Rattle.mgs_arrange.proofs.leaving.delete_below.Goals as goal

@@ -1,9 +1,7 @@
-use Rattle.std.proofs.Common.{◌≡◌, ◌∙◌, List, sym, ap, subst, arith}
-use Rattle.mgs_buffers.specs.MarkedBuffer.{MarkedBuffer}
+use Rattle.std.proofs.Common.{◌∙◌, sym, ap, subst, arith}
 use Rattle.mgs_session.specs.declared.Session.{Session}
 use Rattle.mgs_windows.specs.Panes.{WindowList}
 use Rattle.mgs_world.specs.Worlds.{session_of}
-use Rattle.mgs_arrange.specs.Arranged.{arranged_or_told, rows_given_if}
 use Rattle.mgs_arrange.specs.Arranging.{IsResized}
 use Rattle.mgs_arrange.proofs.WindowsResized.{given_not, given_so, given_uses}
 use Rattle.mgs_arrange.proofs.resizing.give.Goals as goal

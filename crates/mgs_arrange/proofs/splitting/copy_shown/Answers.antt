@@ -1,4 +1,3 @@
-use Rattle.std.proofs.Common.{Some}
 use Rattle.mgs_world.proofs.Soundness.{mark_is_kept, shown_point}
 use Rattle.mgs_arrange.proofs.splitting.copy_shown.Goals as goal
 

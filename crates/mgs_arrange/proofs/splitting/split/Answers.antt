@@ -1,13 +1,10 @@
-use Rattle.std.proofs.Common.{◌≡◌, ◌∙◌, ◌≤◌, ◌<◌, ℕ, List, Option, length, sym, ap, subst, arith}
-use Rattle.std.specs.Prelude.{OnErr}
-use Rattle.mgs_model.specs.declared.limits.TheConstants.{WINDOW_LIMIT}
-use Rattle.mgs_buffers.specs.MarkedBuffer.{MarkedBuffer}
+use Rattle.std.proofs.Common.{◌∙◌, length, sym, ap, subst, arith}
 use Rattle.mgs_session.specs.declared.Session.{Session}
 use Rattle.mgs_windows.specs.Panes.{WindowList, window_split}
 use Rattle.mgs_world.specs.Worlds.{session_of}
 use Rattle.mgs_world.proofs.WindowMarks.{when_err}
 use Rattle.mgs_arrange.specs.Arranged.{arranged_or_told}
-use Rattle.mgs_arrange.specs.Arranging.{MayBeSplit, Rearranged}
+use Rattle.mgs_arrange.specs.Arranging.{Rearranged}
 use Rattle.mgs_arrange.proofs.WindowsSplit.{may_split, selected_sound, split_many, split_rearranged, split_seen, split_small}
 use Rattle.mgs_arrange.proofs.splitting.split.Goals as goal
 

@@ -13,7 +13,8 @@ use Rattle.mgs_session.specs.declared.Session.{Session}
 use Rattle.mgs_world.specs.Sound.{IsWindowSound}
 use Rattle.mgs_screen.specs.Screens.{window_to, windows_to}
 use Rattle.mgs_world.proofs.Soundness.{window_sound}
-use Rattle.mgs_screen.proofs.Drawings.{length_put, length_window, rows_more, cursor_more, cursor_all, rows_all, session_drawn}
+use Rattle.mgs_grid.proofs.Pictures.{length-rows_put}
+use Rattle.mgs_screen.proofs.Drawings.{length_window, rows_more, cursor_more, cursor_all, rows_all, session_drawn}
 use Rattle.mgs_screen.proofs.screen.draw_session.Goals as goal
 use Rattle.mgs_screen.proofs.screen.draw_session.Goals.{then-i-selected, else-i-selected}
 
@@ -68,7 +69,7 @@ loop-i-preserved g c =
     record {
       rows_stay = c.draw_window-row.ensures.rows ∙ inv.rows_stay;
       cols_stay = c.draw_window-row.ensures.cols ∙ inv.cols_stay;
-      count = ap length put ∙ length_put first mine old (omega (arith, size, inv.room, inv.count, next)) ∙ inv.count;
+      count = ap length put ∙ length-rows_put first mine old (omega (arith, size, inv.room, inv.count, next)) ∙ inv.count;
       room = omega (arith, inv.room, next);
       row_within = row;
       col_within = col;

@@ -1,0 +1,187 @@
+//! The input of a prompt, typed byte by byte. It has fixed room and takes no memory.
+#![tactic(auto)]
+
+ghost use Rattle.std.specs.Prelude.{◌≡◌, ◌≤◌, [], length, IfSome};
+ghost use Rattle.std.specs.Option.{option_map};
+ghost use Rattle.mgs_model.specs.Keys.{is_graphic};
+ghost use Rattle.mgs_model.specs.World.{Own};
+ghost use Rattle.mgs_model.specs.View.{View};
+ghost use Rattle.mgs_model.specs.declared.session.Question.{Question};
+ghost use Rattle.mgs_model.specs.Turns.{prompt_turn, prompt_keys, prompt_key, completed};
+ghost use Rattle.mgs_mini.specs.Typing.{keys_of, typed_own, stepped, last_dropped, told};
+ghost use Rattle.mgs_mini.specs.declared.Waiting.TheVariants.{NoKey};
+
+mod completing;
+
+use arrayvec::ArrayVec;
+pub use completing::{completion, narrowed};
+use mgs_model::Question;
+use std::marker::Model;
+
+const ESCAPE: u8 = 0x1B;
+
+const QUIT: u8 = 0x07;
+
+const DELETE: u8 = 0x7F;
+
+/// The keys that are half read in a prompt.
+#[derive(Clone, Copy, Debug, PartialEq, Eq)]
+pub enum Waiting {
+    NoKey,
+    /// ESC (0x1B) came.
+    Escape,
+    /// M-[ came.
+    Arrow,
+    /// M-[ and ESC (0x1B) came.
+    ArrowEscape,
+}
+
+/// What a byte comes to in a prompt.
+#[derive(Clone, Copy, Debug, PartialEq, Eq)]
+pub enum Step {
+    /// More is typed.
+    GoesOn,
+    /// The input is the answer.
+    Answered,
+    /// The prompt is given up.
+    Quit,
+    /// The input is to be completed.
+    Completes,
+}
+
+/// A question and what was typed as its answer so far, at most 120 characters.
+#[derive(Drop)]
+pub struct Prompt {
+    question: Question,
+    input: ArrayVec<u8, 120>,
+    waiting: Waiting,
+}
+
+impl Model for Prompt {
+    ghost use Rattle.mgs_mini.specs.Typing.{PromptInput};
+
+    ghost Value = { PromptInput };
+
+    ghost view = { λ p. record { question = p.question; input = p.input.items; waiting = p.waiting } };
+}
+
+// What waits after a byte that is typed behind what waited.
+fn waiting_after(waiting: Waiting, byte: u8) -> Waiting
+    ensures { keys_of result ≡ prompt_keys (keys_of waiting) byte }
+{
+    match waiting {
+        Waiting::NoKey if byte == ESCAPE => Waiting::Escape,
+        Waiting::NoKey => Waiting::NoKey,
+        Waiting::Escape if byte == b'[' => Waiting::Arrow,
+        Waiting::Escape => Waiting::NoKey,
+        Waiting::Arrow if byte == ESCAPE => Waiting::ArrowEscape,
+        Waiting::Arrow => Waiting::NoKey,
+        Waiting::ArrowEscape => Waiting::NoKey,
+    }
+}
+
+fn is_graphic(byte: u8) -> bool
+    ensures { result ≡ is_graphic byte }
+{
+    32 <= byte && byte <= 126
+}
+
+fn drop_last(input: &mut ArrayVec<u8, 120>)
+    ensures { input.new.items ≡ last_dropped input.old.items }
+{
+    let _last = input.pop();
+}
+
+fn put_input(input: &mut ArrayVec<u8, 120>, text: &[u8])
+    requires { length text.now ≤ 120 }
+    ensures { input.new.items ≡ text.now }
+{
+    input.clear();
+    let _extended = input.try_extend_from_slice(text);
+}
+
+// A key by itself.
+fn feed_key(input: &mut ArrayVec<u8, 120>, byte: u8) -> (Step, Waiting)
+    ensures { (v : View) → (c : Question) → (own : Own) → prompt_key v c (typed_own own input.old.items NoKey) byte ≡ stepped v c (typed_own own input.new.items result.1) result.0 }
+{
+    if byte == b'\r' {
+        (Step::Answered, Waiting::NoKey)
+    } else if byte == DELETE {
+        drop_last(input);
+        (Step::GoesOn, Waiting::NoKey)
+    } else if byte == b'\t' {
+        (Step::Completes, Waiting::NoKey)
+    } else if is_graphic(byte) && input.len() < 120 {
+        input.push(byte);
+        (Step::GoesOn, Waiting::NoKey)
+    } else {
+        (Step::GoesOn, waiting_after(Waiting::NoKey, byte))
+    }
+}
+
+// A byte behind keys that may be half read.
+fn feed_byte(input: &mut ArrayVec<u8, 120>, waiting: Waiting, byte: u8) -> (Step, Waiting)
+    ensures { (v : View) → (c : Question) → (own : Own) → prompt_turn v c (typed_own own input.old.items waiting) byte ≡ stepped v c (typed_own own input.new.items result.1) result.0 }
+{
+    if byte == QUIT {
+        return (Step::Quit, Waiting::NoKey);
+    }
+    match waiting {
+        Waiting::NoKey => feed_key(input, byte),
+        Waiting::Escape => (Step::GoesOn, waiting_after(Waiting::Escape, byte)),
+        Waiting::Arrow => (Step::GoesOn, waiting_after(Waiting::Arrow, byte)),
+        Waiting::ArrowEscape => (Step::GoesOn, waiting_after(Waiting::ArrowEscape, byte)),
+    }
+}
+
+impl Prompt {
+    /// A question with nothing typed.
+    pub fn new(question: Question) -> Prompt
+        ensures { result ≡ record { question = question; input = []; waiting = NoKey } }
+    {
+        Prompt {
+            question,
+            input: ArrayVec::new(),
+            waiting: Waiting::NoKey,
+        }
+    }
+
+    /// The question.
+    pub fn question(&self) -> Question
+        ensures { result ≡ self.now.question }
+    {
+        self.question
+    }
+
+    /// What a byte comes to. The input and the keys that are half read are then as the byte left them; an answer, a prompt
+    /// that is given up and an input to complete leave the input as it was.
+    pub fn feed(&mut self, byte: u8) -> Step
+        ensures question { self.new.question ≡ self.old.question }
+        ensures turn { (v : View) → (own : Own) → prompt_turn v self.old.question (typed_own own self.old.input self.old.waiting) byte ≡ stepped v self.old.question (typed_own own self.new.input self.new.waiting) result }
+    {
+        let (step, waiting) = feed_byte(&mut self.input, self.waiting, byte);
+        self.waiting = waiting;
+        step
+    }
+
+    /// What was typed becomes what it is completed to, at most 120 characters. Where that is `None`, it stays as it was, and the
+    /// answer is false: no name begins with it.
+    pub fn complete(&mut self, completion: Option<&[u8]>) -> bool
+        requires { IfSome completion (λ text. length text.now ≤ 120) }
+        ensures question { self.new.question ≡ self.old.question }
+        ensures input { (own : Own) → completed (typed_own own self.old.input self.old.waiting) (option_map (λ text. text.now) completion.entry) ≡ told result (typed_own own self.new.input self.new.waiting) }
+    {
+        let Some(text) = completion else {
+            return false;
+        };
+        put_input(&mut self.input, text);
+        true
+    }
+
+    /// What was typed.
+    pub fn input(&self) -> &[u8]
+        ensures { result.now ≡ self.now.input }
+    {
+        self.input.as_slice()
+    }
+}

@@ -1,0 +1,37 @@
+// The words for an incremental search.
+
+/// Which way a search goes through a text.
+#[derive(Clone, Copy, Debug, PartialEq, Eq)]
+pub enum Direction {
+    Forward,
+    Backward,
+}
+
+/// The positions of an incremental search: where it began, where it looks from, and the point.
+#[derive(Clone, Copy, Debug, PartialEq, Eq)]
+pub struct SearchPlaces {
+    pub origin: usize,
+    pub anchor: usize,
+    pub point: usize,
+}
+
+/// What is to be done after a byte of an incremental search.
+#[derive(Clone, Copy, Debug, PartialEq, Eq)]
+pub enum SearchStep {
+    /// Nothing.
+    Stays,
+    /// It looks for the pattern from its anchor on, which counts.
+    FromAnchor,
+    /// It looks for the pattern from its anchor on, which does not count.
+    PastAnchor,
+    /// Its anchor is its origin again, and it looks for the pattern from there on, which counts.
+    FromOrigin,
+    /// Its anchor is its origin again, and so is the point.
+    ToOrigin,
+    /// It ends where it is.
+    Ends,
+    /// It is given up, and the point is its origin.
+    Quits,
+    /// It ends where it is, and the byte is a key.
+    Leaves,
+}
