@@ -75,6 +75,64 @@ fn another_edit_ends_a_run(rt: HostRuntime) -> Result<(), Fail> {
     steps_show(&rt, rt.alloc(), THREE, steps)
 }
 
+#[test]
+fn two_people_undo_in_turn(rt: HostRuntime) -> Result<(), Fail> {
+    let both = ["ab"].as_slice();
+    let one = ["a"].as_slice();
+    let steps: &[Step<'_>] = &[
+        ("a 'ab", both, "**L1-C2", "", "1 3"),
+        ("b C-_", one, "**L1-C1", "", "1 2"),
+        ("a C-_", both, "**L1-C2", "", "1 3"),
+        ("a C-_", one, "**L1-C1", "", "1 2"),
+        ("a C-_", [].as_slice(), "**L1-C0", "", "1 1"),
+        ("a C-a C-_", one, "**L1-C1", "", "1 2"),
+    ];
+    steps_show(
+        &rt,
+        rt.alloc(),
+        &[
+            "user ann\n",
+            "user bob\n",
+            "buffer notes ann\n",
+            "entry notes ALLOW EVERYONE@ rwat\n",
+            "open a ann 6 60\n",
+            "open b bob 6 60\n",
+        ],
+        steps,
+    )
+}
+
+// Who may not read a text may not take back what he put into it himself.
+#[test]
+fn an_undo_needs_reading(rt: HostRuntime) -> Result<(), Fail> {
+    let unread = ["[no read: no entry]"].as_slice();
+    let steps: &[Step<'_>] = &[
+        ("b 'x", unread, "**(no read)", "", "1 1"),
+        (
+            "b C-_",
+            unread,
+            "**(no read)",
+            "Denied: no entry grants READ_DATA",
+            "1 1",
+        ),
+        ("a", ["x"].as_slice(), "**L1-C0", "", "1 1"),
+    ];
+    steps_show(
+        &rt,
+        rt.alloc(),
+        &[
+            "user ann\n",
+            "user bob\n",
+            "buffer notes ann\n",
+            "entry notes ALLOW ann rwat\n",
+            "entry notes ALLOW bob at\n",
+            "open a ann 6 60\n",
+            "open b bob 6 60\n",
+        ],
+        steps,
+    )
+}
+
 // A hundred characters, and a hundred undos.
 const TYPED: &str =
     "keys a 'xxxxxxxxxxxxxxxxxxxxxxxxxxxxxxxxxxxxxxxxxxxxxxxxxxxxxxxxxxxxxxxxxxxxxxxxxxxxxxxxxxxxxxxxxxxxxxxxxxxx\n";

@@ -1,6 +1,6 @@
 // Words of keys and arguments, byte by byte.
 use mgs_maps::{Binding, Fed, Keyboard, bindings};
-use mgs_model::{Command, Insertion, Motion, Setting};
+use mgs_model::{Alteration, Command, Insertion, Motion, Setting};
 use std::alloc::Global;
 use std::process::Abort;
 use std::test::Fail;
@@ -179,7 +179,10 @@ fn words_end(rt: HostRuntime) {
         (b"\x153\x18\x1B\x07".as_slice(), quit(Some(3))),
         (b"\x153\x185".as_slice(), Fed::Unbound),
         (b"\x18\x1B5".as_slice(), Fed::Unbound),
-        (b"\x18\x15".as_slice(), Fed::Unbound),
+        (
+            b"\x153\x18\x15".as_slice(),
+            Fed::Run(Command::Alter(Alteration::UpcaseRegion), Some(3)),
+        ),
         (b"\x1B[z".as_slice(), Fed::Unbound),
         (b"\x1B[\x1BA".as_slice(), Fed::Unbound),
         (b"\x153\x1B[\x07".as_slice(), quit(Some(3))),
