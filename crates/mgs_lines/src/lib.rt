@@ -8,12 +8,14 @@ ghost use Rattle.std.specs.Int.Digits.{digits_of};
 ghost use Rattle.mgs_model.specs.Cells.{glyph};
 ghost use Rattle.mgs_model.specs.Lines.{line_of, line_start, line_end, column, settled_top};
 
+mod filling;
 mod kills;
 mod paragraphs;
 mod vertical;
 mod whites;
 mod words;
 
+pub use filling::{paragraph_end, paragraph_start};
 pub use kills::kill_line_end;
 use mgs_text::Text;
 pub use paragraphs::{backward_paragraph, forward_paragraph};
