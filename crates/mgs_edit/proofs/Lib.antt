@@ -1,3 +1,4 @@
 pub mod Lengths
 mod Stretches
 mod Regions
+mod Words

@@ -5,6 +5,7 @@
 mod alterations;
 mod around;
 mod cases;
+mod fills;
 mod insertions;
 mod motions;
 mod plan;
@@ -15,6 +16,7 @@ mod whites;
 mod written;
 
 pub use alterations::alteration;
+pub use fills::refill;
 pub use insertions::{insertion, reading_insertion};
 pub use motions::motion;
 pub use plan::{Around, Case, Change, Finish, Goes, Joins, Piece, Put, Undone};
