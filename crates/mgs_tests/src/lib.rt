@@ -6,6 +6,8 @@ mod buffers;
 #[cfg(test)]
 mod cases;
 #[cfg(test)]
+mod fills;
+#[cfg(test)]
 mod grid;
 #[cfg(test)]
 mod names;
