@@ -1,6 +1,5 @@
 -- What a plan says: each is read as a plan of the model, given the text and the kill buffer that it is for.
-use Rattle.std.specs.Prelude.{◌≡◌, ℕ, ◌+◌, ◌-◌, ◌≤◌, Bool, true, false, List, [], ◌++◌, length, replicate, slice_range, Option, Some, None, Result, Ok, Err}
-use Rattle.std.specs.Prelude.{ℕ, ◌+◌, ◌-◌, ◌≤◌, Bool, true, false, not, List, [], ◌++◌, length, replicate, slice_range, Option, Some, None, Result, Ok, Err}
+use Rattle.std.specs.Prelude.{◌≡◌, ℕ, ◌+◌, ◌-◌, ◌≤◌, Bool, true, false, not, List, [], ◌++◌, length, replicate, slice_range, Option, Some, None, Result, Ok, Err}
 use Rattle.std.specs.List.{repeat}
 use Rattle.mgs_model.specs.Outcome.{PointPlan, Keep, At, MarkPlan, Keep_mark, Mark_at, KillPlan, Keep_kill, Kill_is, Keep_search}
 use Rattle.mgs_model.specs.Whites.{is_between}
@@ -179,6 +178,7 @@ pub record LeavesBehind (f : Finish) : Type 0 where
   pub mark : f.mark ≡ None
   pub top : f.top ≡ None
   pub kill : f.kill ≡ None
+
 -- FILLING: a character of a word
 abbrev pub is_in_word : ℕ → Bool
 is_in_word c = not (is_between c)
