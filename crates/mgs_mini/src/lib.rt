@@ -7,7 +7,7 @@ ghost use Rattle.mgs_model.specs.Keys.{is_graphic};
 ghost use Rattle.mgs_model.specs.World.{Own};
 ghost use Rattle.mgs_model.specs.View.{View};
 ghost use Rattle.mgs_model.specs.declared.session.Question.{Question};
-ghost use Rattle.mgs_model.specs.Turns.{prompt_turn, prompt_keys, prompt_key, completed};
+ghost use Rattle.mgs_model.specs.Turns.{prompt_turn, prompt_keys, prompt_key, completed, names_buffers};
 ghost use Rattle.mgs_mini.specs.Typing.{keys_of, typed_own, stepped, last_dropped, told};
 ghost use Rattle.mgs_mini.specs.declared.Waiting.TheVariants.{NoKey};
 
@@ -63,6 +63,16 @@ impl Model for Prompt {
     ghost Value = { PromptInput };
 
     ghost view = { λ p. record { question = p.question; input = p.input.items; waiting = p.waiting } };
+}
+
+fn names_buffers(question: Question) -> bool
+    ensures { result ≡ names_buffers question }
+{
+    match question {
+        Question::SwitchTo | Question::FindWhich | Question::KillWhich | Question::InsertWhich =>
+            true,
+        Question::WhichOwner | Question::ReplaceWhat | Question::ReplaceWith => false,
+    }
 }
 
 // What waits after a byte that is typed behind what waited.
@@ -151,6 +161,13 @@ impl Prompt {
         ensures { result ≡ self.now.question }
     {
         self.question
+    }
+
+    /// Whether the answer names a buffer: a TAB then completes it.
+    pub fn names_buffer(&self) -> bool
+        ensures { result ≡ names_buffers self.now.question }
+    {
+        names_buffers(self.question)
     }
 
     /// What a byte comes to. The input and the keys that are half read are then as the byte left them; an answer, a prompt
