@@ -4,3 +4,4 @@ pub mod Leaving
 pub mod Marked
 pub mod Outcomes
 pub mod Plans
+pub mod Spelled

@@ -34,16 +34,16 @@ use Rattle.mgs_world.proofs.Worlds.{selected_window}
 
 -- RIGHTS
 
-permitted_same : (own : Own) (d : Decision) (a b : Outcome) → (d ≡ Granted → a ≡ b) → permitted own d a ≡ permitted own d b
+pub permitted_same : (own : Own) (d : Decision) (a b : Outcome) → (d ≡ Granted → a ≡ b) → permitted own d a ≡ permitted own d b
 permitted_same own Granted a b h = h refl
 permitted_same own (DeniedBy n right) a b h = refl
 permitted_same own (NotGranted right) a b h = refl
 
 -- reading is granted where all of these rights are
-first_granted : (d : Right → Decider) (rights : List Right) → decision_by d (ReadData ∷ rights) ≡ Granted → allows (d ReadData) ≡ true
+pub first_granted : (d : Right → Decider) (rights : List Right) → decision_by d (ReadData ∷ rights) ≡ Granted → allows (d ReadData) ≡ true
 first_granted d rights e = (granted_each d (ReadData ∷ rights) e).0
 
-any_read : (d : Right → Decider) → allows (d ReadData) ≡ true → any_right d ≡ true
+pub any_read : (d : Right → Decider) → allows (d ReadData) ≡ true → any_right d ≡ true
 any_read d e = list_any_at (λ right. allows (d right)) all_rights 0 ReadData (omega arith) e
 
 any_append : (d : Right → Decider) → allows (d AppendData) ≡ true → any_right d ≡ true
@@ -155,7 +155,7 @@ none_shown bs can ks None e = refl
 none_shown bs can ks (Some w) e =
     ap (λ (s : Option WindowMarks). target_in bs (window_seen can (window_shown ks w.height s)) (window_shown ks w.height s).shows) e
 
-selected_none : (directory : Directory) (ks : List MarkedBuffer) (xs : List Session) (next : Option ℕ) (h : Session) → window_marks_of h ≡ None → target (view (world_of directory ks xs next) (session_of ks h)) ≡ None
+pub selected_none : (directory : Directory) (ks : List MarkedBuffer) (xs : List Session) (next : Option ℕ) (h : Session) → window_marks_of h ≡ None → target (view (world_of directory ks xs next) (session_of ks h)) ≡ None
 selected_none directory ks xs next h none =
     let can = reads directory (buffers_of ks) h.user in
     let bs = map (buffer_seen directory h.user) (buffers_of ks) in
@@ -166,13 +166,13 @@ selected_none directory ks xs next h none =
     ∙ none_shown bs can ks (slice_get ws h.windows.selected) none
 
 -- the target through a window's marks
-abbrev target_at : Directory → List MarkedBuffer → List ℕ → ℕ → WindowMarks → Target
+abbrev pub target_at : Directory → List MarkedBuffer → List ℕ → ℕ → WindowMarks → Target
 target_at directory ks user height x = record {
   window = window_seen (reads directory (buffers_of ks) user) (window_shown ks height (Some x));
   buffer = buffer_seen directory user (marked_at x.name ks).buffer;
 }
 
-selected_some : (directory : Directory) (ks : List MarkedBuffer) (xs : List Session) (next : Option ℕ) (h : Session) (x : WindowMarks) → window_marks_of h ≡ Some x → HasBuffer x.name ks → (height : ℕ) × (target (view (world_of directory ks xs next) (session_of ks h)) ≡ Some (target_at directory ks h.user height x)) × (selected_height h ≡ height)
+pub selected_some : (directory : Directory) (ks : List MarkedBuffer) (xs : List Session) (next : Option ℕ) (h : Session) (x : WindowMarks) → window_marks_of h ≡ Some x → HasBuffer x.name ks → (height : ℕ) × (target (view (world_of directory ks xs next) (session_of ks h)) ≡ Some (target_at directory ks h.user height x)) × (selected_height h ≡ height)
 selected_some directory ks xs next h x sel kept =
     let can = reads directory (buffers_of ks) h.user in
     let bs = map (buffer_seen directory h.user) (buffers_of ks) in
@@ -208,7 +208,7 @@ only_one (DeniedBy n right) = refl
 only_one (NotGranted right) = refl
 
 -- one request on the target is judged by its deciders
-judged_here : (v : View) (t : Target) (rights : Target → ℕ) → find_seen t.buffer.name v.buffers ≡ Some t.buffer → judged v (here (Some t) rights) ≡ decision_by t.buffer.deciders (rights_in (rights t))
+pub judged_here : (v : View) (t : Target) (rights : Target → ℕ) → find_seen t.buffer.name v.buffers ≡ Some t.buffer → judged v (here (Some t) rights) ≡ decision_by t.buffer.deciders (rights_in (rights t))
 judged_here v t rights found =
     only_one (decision_by (deciders_found (find_seen t.buffer.name v.buffers)) (rights_in (rights t)))
     ∙ ap (λ o. decision_by (deciders_found o) (rights_in (rights t))) found

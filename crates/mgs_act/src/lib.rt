@@ -6,5 +6,6 @@ mod acts;
 mod given;
 mod performing;
 mod planning;
+mod saving;
 
 pub use acts::{KeyAct, act};
