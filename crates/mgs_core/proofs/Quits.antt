@@ -1,7 +1,7 @@
 -- A byte that ends its session leaves the world as a close does.
 use Rattle.std.proofs.Common.{◌≡◌, ℕ, ◌<◌, Bool, true, false, not, cond, List, [], ◌∷◌, map, get_or, length, Option, Some, refl, sym, ap, subst, ◌∙◌}
 use Rattle.std.specs.Prelude.{is_some}
-use Rattle.std.specs.List.{position_or_len}
+use Rattle.std.specs.List.{flat_map, position_or_len}
 use Rattle.std.specs.Option.{option_map}
 use Rattle.std.proofs.lemmas.List.{map-id}
 use Rattle.mgs_model.specs.Access.{Directory}
@@ -13,14 +13,16 @@ use Rattle.mgs_model.specs.Plans.{acted_own}
 use Rattle.mgs_model.specs.Acts.{outcome}
 use Rattle.mgs_model.specs.Apply.{act, applied, apply, change_first, remove_first, session_arranged, session_after, without_session}
 use Rattle.mgs_model.specs.Keys.{key_read}
-use Rattle.mgs_model.specs.Events.{own_set, with_own, settled}
+use Rattle.mgs_model.specs.Events.{own_set, with_own, saved_by, settled}
 use Rattle.mgs_model.specs.Apart.{Apart}
 use Rattle.mgs_model.specs.declared.touched.Touched.TheVariants.{Anywhere}
 use Rattle.mgs_model.specs.declared.errors.Keyed.TheVariants as keyed
 use Rattle.mgs_model.specs.declared.session.Command.TheVariants.{Exit}
 use Rattle.mgs_model.proofs.After.{find_without}
 use Rattle.mgs_model.proofs.Turning.{begun_view}
-use Rattle.mgs_model.proofs.Plain.{seen_begun, byte_acted}
+use Rattle.mgs_model.proofs.Plain.{seen_begun, byte_acted, acted_effects}
+use Rattle.mgs_model.proofs.Saves.{act_saves_none}
+use Rattle.mgs_store.specs.Stores.{StoreTold}
 use Rattle.mgs_buffers.specs.MarkedBuffer.{MarkedBuffer}
 use Rattle.mgs_maps.specs.Held.{Held, FedBy, IsBoundRun}
 use Rattle.mgs_maps.specs.declared.maps.Fed.{Fed}
@@ -68,36 +70,38 @@ act_exit w kind id n x found =
     ∙ ap (apply v id) (exit_outcome w kind x n)
     ∙ ends_world w kind id
 
-pub keyed_exit : (d : Directory) (ks : List MarkedBuffer) (xs : List code.Session) (next : Option ℕ) (id at byte : ℕ) (f : Fed) (k : Held) (h : code.Session) → at ≡ position_or_len (session_id id) xs → at < length xs → h ≡ get_or xs at h
+pub keyed_exit : (d : Directory) (ks : List MarkedBuffer) (xs : List code.Session) (next : Option ℕ) (t : StoreTold) (id at byte : ℕ) (f : Fed) (k : Held) (h : code.Session) → at ≡ position_or_len (session_id id) xs → at < length xs → h ≡ get_or xs at h
     → FedBy f (key_read h.own.keyboard.argument h.own.keyboard.keys byte) k → IsBoundRun f → is_exit f ≡ true
     → IsUnique (sizes_in xs) → AreSettled d ks xs
-    → KeyedBy (world_of d ks xs next) (closed (world_of d ks xs next) id) id byte keyed.Quit
-keyed_exit d ks xs next id at byte f k h place within is read bound exit unique rests =
+    → KeyedBy (world_of d ks xs next) (closed (world_of d ks xs next) id) t t id byte keyed.Quit
+keyed_exit d ks xs next t id at byte f k h place within is read bound exit unique rests =
     let w : World = world_of d ks xs next in
     let found = session_some d ks xs next id at h place within is in
     let turn = exit_turn h.own byte k f read bound exit in
     let alone : without_session id w.sessions ≡ remove_first (has_id id) w.sessions = without_first id w.sessions (subst IsUnique (sym (sizes_world d ks xs next)) unique) in
-    keyed_quit w (closed w id) id byte (ap is_some found) (ap (find_session id) (sym alone) ∙ find_without id w.sessions)
+    keyed_quit w (closed w id) t id byte (ap is_some found) (ap (find_session id) (sym alone) ∙ find_without id w.sessions)
     (sym
     (ap settled (byte_acted w id byte true (session_of ks h) found (plain h.own) (idle h.own.kind) (Run Exit turn.0 []) turn.1 refl refl refl ∙ act_exit w h.own.kind id turn.0 (session_of ks h) found ∙ ap (λ ys. record w { sessions = ys }) alone)
     ∙ closed_rests w id (rests next)))
+    (ap (flat_map saved_by) (acted_effects w id byte true (session_of ks h) found (plain h.own) (idle h.own.kind) (Run Exit turn.0 []) turn.1 refl refl refl)
+    ∙ act_saves_none (with_own id (λ old. idle h.own.kind) w) id (Run Exit turn.0 []) true refl)
 
 -- nothing is said to stay
 pub apart_closed : (w : World) (id : ℕ) → Apart Anywhere id w (closed w id)
 apart_closed w id = record { directory = refl; buffers = tt; sessions = λ h. cc }
 
 -- what was typed, where it ends the session and where it does not
-pub typed_quit : (v w : World) (id byte : ℕ) (k : Keyed) → k ≡ keyed.Quit → TypedBy v w id byte k → KeyedBy v (closed v id) id byte keyed.Quit
-typed_quit v w id byte keyed.Quit e h = h
-typed_quit v w id byte keyed.Done e h = cc
-typed_quit v w id byte keyed.Short e h = cc
-typed_quit v w id byte keyed.NoSession e h = cc
+pub typed_quit : (v w : World) (before after : StoreTold) (id byte : ℕ) (k : Keyed) → k ≡ keyed.Quit → TypedBy v w before after id byte k → KeyedBy v (closed v id) before after id byte keyed.Quit
+typed_quit v w before after id byte keyed.Quit e h = h
+typed_quit v w before after id byte keyed.Done e h = cc
+typed_quit v w before after id byte keyed.Short e h = cc
+typed_quit v w before after id byte keyed.NoSession e h = cc
 
-pub typed_other : (v w : World) (id byte : ℕ) (k : Keyed) → (k ≡ keyed.Quit → ⊥) → TypedBy v w id byte k → KeyedBy v w id byte k
-typed_other v w id byte keyed.Quit e h = absurd (e refl)
-typed_other v w id byte keyed.Done e h = h
-typed_other v w id byte keyed.Short e h = h
-typed_other v w id byte keyed.NoSession e h = h
+pub typed_other : (v w : World) (before after : StoreTold) (id byte : ℕ) (k : Keyed) → (k ≡ keyed.Quit → ⊥) → TypedBy v w before after id byte k → KeyedBy v w before after id byte k
+typed_other v w before after id byte keyed.Quit e h = absurd (e refl)
+typed_other v w before after id byte keyed.Done e h = h
+typed_other v w before after id byte keyed.Short e h = h
+typed_other v w before after id byte keyed.NoSession e h = h
 
 pub sizes_other : (k : Keyed) (id : ℕ) (zs : List Size) → (k ≡ keyed.Quit → ⊥) → zs ≡ sizes_keyed k id zs
 sizes_other keyed.Quit id zs e = absurd (e refl)

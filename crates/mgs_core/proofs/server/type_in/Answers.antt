@@ -12,7 +12,7 @@ use Rattle.mgs_core.proofs.server.type_in.Goals as goal
 
 pub returns-then-is_exit-clause-keyed : goal.returns-then-is_exit-clause-keyed
 returns-then-is_exit-clause-keyed g c next =
-    keyed_exit c.args.directory.now c.args.buffers.now c.args.sessions.now next c.args.id c.args.at c.args.byte c.feed-fed.result c.feed-fed.new.self (get_or c.args.sessions.now c.args.at c.index-sessions-at.result)
+    keyed_exit c.args.directory.now c.args.buffers.now c.args.sessions.now next _ c.args.id c.args.at c.args.byte c.feed-fed.result c.feed-fed.new.self (get_or c.args.sessions.now c.args.at c.index-sessions-at.result)
     c.requires.place c.requires.within (ap (get_or c.args.sessions.now c.args.at) c.index-sessions-at.is) c.feed-fed.ensures.read c.feed-fed.ensures.bound (sym c.is_exit.ensures ∙ c.if-is_exit.true) c.requires.unique c.requires.settles
 
 pub settle_apart-requires : goal.settle_apart-requires
@@ -30,7 +30,7 @@ returns-in_default-clause-keyed g c next =
     let is_h = ap (get_or xs c.args.at) c.index-sessions-at-2.is in
     let same_h = get_or_default xs c.args.at c.index-sessions-at.result c.index-sessions-at-2.result c.requires.within in
     let pending = is_pending c.feed-fed.result (sym c.key_act.ensures ∙ c.in_default.is) in
-    keyed_kept c.args.directory.now c.args.buffers.now c.settle_apart.new.buffers xs (slice_set xs c.args.at c.hold.new.session) next c.args.id c.args.at c.args.byte c.feed-fed.new.self h c.hold.new.session
+    keyed_kept c.args.directory.now c.args.buffers.now c.settle_apart.new.buffers xs (slice_set xs c.args.at c.hold.new.session) next _ c.args.id c.args.at c.args.byte c.feed-fed.new.self h c.hold.new.session
     c.requires.place c.requires.within is_h c.hold.ensures
     (subst (λ f. FedBy f (key_read h.own.keyboard.argument h.own.keyboard.keys c.args.byte) c.feed-fed.new.self) pending
     (subst (λ (s : Session). FedBy c.feed-fed.result (key_read s.own.keyboard.argument s.own.keyboard.keys c.args.byte) c.feed-fed.new.self) same_h c.feed-fed.ensures.read))
@@ -46,32 +46,32 @@ returns-in_default-clause-touched g c next =
     (kept_apart c.args.directory.now c.args.buffers.now c.settle_apart.new.buffers xs (slice_set xs c.args.at c.hold.new.session) next c.args.id c.args.at c.feed-fed.new.self h c.hold.new.session
     c.requires.settles c.requires.place c.requires.within is_h c.hold.ensures refl (c.settle_apart.ensures.world next)).1
 
-pub act-requires-clause-sound : goal.act-requires-clause-sound
-act-requires-clause-sound g c =
+pub do_act-requires-clause-sound : goal.do_act-requires-clause-sound
+do_act-requires-clause-sound g c =
     rw c.hold.ensures (sound_set c.args.buffers.now c.args.sessions.now c.args.at (get_or c.args.sessions.now c.args.at c.index-sessions-at-2.result) _ (ap (get_or c.args.sessions.now c.args.at) c.index-sessions-at-2.is) (λ n i. refl) c.requires.sound)
 
-pub act-requires-clause-fresh : goal.act-requires-clause-fresh
-act-requires-clause-fresh g c =
+pub do_act-requires-clause-fresh : goal.do_act-requires-clause-fresh
+do_act-requires-clause-fresh g c =
     let xs = c.args.sessions.now in
     fresh_at xs c.args.at c.feed-fed.new.self (get_or xs c.args.at c.index-sessions-at-2.result) c.hold.new.session c.requires.within c.hold.ensures
     (acts_nothing c.feed-fed.result c.in-Some.done _ c.feed-fed.new.self c.feed-fed.ensures.read (sym c.key_act.ensures ∙ c.in-Some.is))
 
-pub act-requires-clause-here : goal.act-requires-clause-here
-act-requires-clause-here g c = not_exit c.feed-fed.result c.in-Some.done c.feed-fed.ensures.bound (sym c.is_exit.ensures ∙ c.if-is_exit.false) (sym c.key_act.ensures ∙ c.in-Some.is)
+pub do_act-requires-clause-here : goal.do_act-requires-clause-here
+do_act-requires-clause-here g c = not_exit c.feed-fed.result c.in-Some.done c.feed-fed.ensures.bound (sym c.is_exit.ensures ∙ c.if-is_exit.false) (sym c.key_act.ensures ∙ c.in-Some.is)
 
 pub settle_apart-requires-in-Err : goal.settle_apart-requires-in-Err
 settle_apart-requires-in-Err g c =
-    rw c.set_echo.ensures (sound_set c.act.new.buffers c.act.new.sessions c.args.at (get_or c.act.new.sessions c.args.at c.index-sessions-at-in-Err.result) _ (ap (get_or c.act.new.sessions c.args.at) c.index-sessions-at-in-Err.is) (λ n i. refl) c.act.ensures.sound)
+    rw c.set_echo.ensures (sound_set c.do_act.new.buffers c.do_act.new.sessions c.args.at (get_or c.do_act.new.sessions c.args.at c.index-sessions-at-in-Err.result) _ (ap (get_or c.do_act.new.sessions c.args.at) c.index-sessions-at-in-Err.is) (λ n i. refl) c.do_act.ensures.sound)
 
 pub returns-in-Ok-clause-sizes : goal.returns-in-Ok-clause-sizes
 returns-in-Ok-clause-sizes g c =
-    c.act.ensures.sizes
+    c.do_act.ensures.sizes
     ∙ rw c.hold.ensures (sizes_set c.args.sessions.now c.args.at (get_or c.args.sessions.now c.args.at c.index-sessions-at-2.result) _ (ap (get_or c.args.sessions.now c.args.at) c.index-sessions-at-2.is) refl)
 
 pub returns-in-Err-clause-sizes : goal.returns-in-Err-clause-sizes
 returns-in-Err-clause-sizes g c =
-    rw c.set_echo.ensures (sizes_set c.act.new.sessions c.args.at (get_or c.act.new.sessions c.args.at c.index-sessions-at-in-Err.result) _ (ap (get_or c.act.new.sessions c.args.at) c.index-sessions-at-in-Err.is) refl)
-    ∙ c.act.ensures.sizes
+    rw c.set_echo.ensures (sizes_set c.do_act.new.sessions c.args.at (get_or c.do_act.new.sessions c.args.at c.index-sessions-at-in-Err.result) _ (ap (get_or c.do_act.new.sessions c.args.at) c.index-sessions-at-in-Err.is) refl)
+    ∙ c.do_act.ensures.sizes
     ∙ rw c.hold.ensures (sizes_set c.args.sessions.now c.args.at (get_or c.args.sessions.now c.args.at c.index-sessions-at-2.result) _ (ap (get_or c.args.sessions.now c.args.at) c.index-sessions-at-2.is) refl)
 
 pub returns-in-Ok-clause-keyed : goal.returns-in-Ok-clause-keyed
@@ -80,12 +80,12 @@ returns-in-Ok-clause-keyed g c next =
     let h = get_or xs c.args.at c.index-sessions-at-2.result in
     let is_h = ap (get_or xs c.args.at) c.index-sessions-at-2.is in
     let same_h = get_or_default xs c.args.at c.index-sessions-at.result c.index-sessions-at-2.result c.requires.within in
-    keyed_at c.args.directory.now c.args.buffers.now c.act.new.buffers c.settle_apart-in-Ok.new.buffers xs c.act.new.sessions next c.args.id c.args.at c.args.byte c.feed-fed.result c.in-Some.done c.feed-fed.new.self h c.hold.new.session
+    keyed_at c.args.directory.now c.args.buffers.now c.do_act.new.buffers c.settle_apart-in-Ok.new.buffers xs c.do_act.new.sessions next _ _ c.args.id c.args.at c.args.byte c.feed-fed.result c.in-Some.done c.feed-fed.new.self h c.hold.new.session
     c.requires.place c.requires.within is_h c.hold.ensures
     (subst (λ (s : Session). FedBy c.feed-fed.result (key_read s.own.keyboard.argument s.own.keyboard.keys c.args.byte) c.feed-fed.new.self) same_h c.feed-fed.ensures.read)
     c.feed-fed.ensures.bound (sym c.key_act.ensures ∙ c.in-Some.is)
     (returns-in-Ok-clause-sizes g c) (c.in-Ok.ensures.ok c.args.id next)
-    (acted_apart c.args.directory.now c.args.buffers.now c.act.new.buffers c.settle_apart-in-Ok.new.buffers xs c.act.new.sessions next c.args.id c.args.at c.feed-fed.new.self h c.hold.new.session c.in-Ok.touched
+    (acted_apart c.args.directory.now c.args.buffers.now c.do_act.new.buffers c.settle_apart-in-Ok.new.buffers xs c.do_act.new.sessions next c.args.id c.args.at c.feed-fed.new.self h c.hold.new.session c.in-Ok.touched
     c.requires.settles c.requires.place c.requires.within is_h c.hold.ensures (c.in-Ok.ensures.touched c.args.id next) (c.settle_apart-in-Ok.ensures.world next)).0
 
 pub returns-in-Ok-clause-touched : goal.returns-in-Ok-clause-touched
@@ -93,34 +93,35 @@ returns-in-Ok-clause-touched g c next =
     let xs = c.args.sessions.now in
     let h = get_or xs c.args.at c.index-sessions-at-2.result in
     let is_h = ap (get_or xs c.args.at) c.index-sessions-at-2.is in
-    (acted_apart c.args.directory.now c.args.buffers.now c.act.new.buffers c.settle_apart-in-Ok.new.buffers xs c.act.new.sessions next c.args.id c.args.at c.feed-fed.new.self h c.hold.new.session c.in-Ok.touched
+    (acted_apart c.args.directory.now c.args.buffers.now c.do_act.new.buffers c.settle_apart-in-Ok.new.buffers xs c.do_act.new.sessions next c.args.id c.args.at c.feed-fed.new.self h c.hold.new.session c.in-Ok.touched
     c.requires.settles c.requires.place c.requires.within is_h c.hold.ensures (c.in-Ok.ensures.touched c.args.id next) (c.settle_apart-in-Ok.ensures.world next)).1
 
 pub returns-in-Err-clause-keyed : goal.returns-in-Err-clause-keyed
 returns-in-Err-clause-keyed g c next =
     let xs = c.args.sessions.now in
-    let ys = c.act.new.sessions in
+    let ys = c.do_act.new.sessions in
     let h = get_or xs c.args.at c.index-sessions-at-2.result in
     let is_h = ap (get_or xs c.args.at) c.index-sessions-at-2.is in
     let same_h = get_or_default xs c.args.at c.index-sessions-at.result c.index-sessions-at-2.result c.requires.within in
     let k = get_or ys c.args.at c.index-sessions-at-in-Err.result in
     let is_k = ap (get_or ys c.args.at) c.index-sessions-at-in-Err.is in
     let acts = sym c.key_act.ensures ∙ c.in-Some.is in
-    keyed_short_at c.args.directory.now c.args.buffers.now c.act.new.buffers c.settle_apart-in-Err.new.buffers xs ys (slice_set ys c.args.at c.set_echo.new.session) next c.args.id c.args.at c.args.byte c.feed-fed.result c.in-Some.done c.feed-fed.new.self h c.hold.new.session k c.set_echo.new.session
+    keyed_short_at c.args.directory.now c.args.buffers.now c.do_act.new.buffers c.settle_apart-in-Err.new.buffers xs ys (slice_set ys c.args.at c.set_echo.new.session) next _ _ c.args.id c.args.at c.args.byte c.feed-fed.result c.in-Some.done c.feed-fed.new.self h c.hold.new.session k c.set_echo.new.session
     c.requires.place c.requires.within is_h c.hold.ensures
     (subst (λ (s : Session). FedBy c.feed-fed.result (key_read s.own.keyboard.argument s.own.keyboard.keys c.args.byte) c.feed-fed.new.self) same_h c.feed-fed.ensures.read)
     c.feed-fed.ensures.bound acts
-    (c.act.ensures.sizes ∙ rw c.hold.ensures (sizes_set xs c.args.at h _ is_h refl)) (c.in-Err.ensures.err next) (c.in-Err.ensures.may c.args.id next) is_k c.set_echo.ensures refl (returns-in-Err-clause-sizes g c)
-    (refused_apart c.args.directory.now c.args.buffers.now c.act.new.buffers c.settle_apart-in-Err.new.buffers xs ys (slice_set ys c.args.at c.set_echo.new.session) next c.args.id c.args.at c.feed-fed.new.self h c.hold.new.session k c.set_echo.new.session
-    c.requires.settles c.requires.place c.requires.within is_h c.hold.ensures (acts_nothing c.feed-fed.result c.in-Some.done _ c.feed-fed.new.self c.feed-fed.ensures.read acts) (c.act.ensures.sizes ∙ rw c.hold.ensures (sizes_set xs c.args.at h _ is_h refl)) (c.in-Err.ensures.err next) is_k c.set_echo.ensures refl (c.settle_apart-in-Err.ensures.world next)).0
+    (c.do_act.ensures.sizes ∙ rw c.hold.ensures (sizes_set xs c.args.at h _ is_h refl)) (c.in-Err.ensures.err next) (c.in-Err.ensures.may c.args.id next) is_k c.set_echo.ensures refl (returns-in-Err-clause-sizes g c)
+    (refused_apart c.args.directory.now c.args.buffers.now c.do_act.new.buffers c.settle_apart-in-Err.new.buffers xs ys (slice_set ys c.args.at c.set_echo.new.session) next c.args.id c.args.at c.feed-fed.new.self h c.hold.new.session k c.set_echo.new.session
+    c.requires.settles c.requires.place c.requires.within is_h c.hold.ensures (acts_nothing c.feed-fed.result c.in-Some.done _ c.feed-fed.new.self c.feed-fed.ensures.read acts) (c.do_act.ensures.sizes ∙ rw c.hold.ensures (sizes_set xs c.args.at h _ is_h refl)) (c.in-Err.ensures.err next) is_k c.set_echo.ensures refl (c.settle_apart-in-Err.ensures.world next)).0
+    c.in-Err.ensures.accepted
 
 pub returns-in-Err-clause-touched : goal.returns-in-Err-clause-touched
 returns-in-Err-clause-touched g c next =
     let xs = c.args.sessions.now in
-    let ys = c.act.new.sessions in
+    let ys = c.do_act.new.sessions in
     let h = get_or xs c.args.at c.index-sessions-at-2.result in
     let is_h = ap (get_or xs c.args.at) c.index-sessions-at-2.is in
     let k = get_or ys c.args.at c.index-sessions-at-in-Err.result in
     let is_k = ap (get_or ys c.args.at) c.index-sessions-at-in-Err.is in
-    (refused_apart c.args.directory.now c.args.buffers.now c.act.new.buffers c.settle_apart-in-Err.new.buffers xs ys (slice_set ys c.args.at c.set_echo.new.session) next c.args.id c.args.at c.feed-fed.new.self h c.hold.new.session k c.set_echo.new.session
-    c.requires.settles c.requires.place c.requires.within is_h c.hold.ensures (acts_nothing c.feed-fed.result c.in-Some.done _ c.feed-fed.new.self c.feed-fed.ensures.read (sym c.key_act.ensures ∙ c.in-Some.is)) (c.act.ensures.sizes ∙ rw c.hold.ensures (sizes_set xs c.args.at h _ is_h refl)) (c.in-Err.ensures.err next) is_k c.set_echo.ensures refl (c.settle_apart-in-Err.ensures.world next)).1
+    (refused_apart c.args.directory.now c.args.buffers.now c.do_act.new.buffers c.settle_apart-in-Err.new.buffers xs ys (slice_set ys c.args.at c.set_echo.new.session) next c.args.id c.args.at c.feed-fed.new.self h c.hold.new.session k c.set_echo.new.session
+    c.requires.settles c.requires.place c.requires.within is_h c.hold.ensures (acts_nothing c.feed-fed.result c.in-Some.done _ c.feed-fed.new.self c.feed-fed.ensures.read (sym c.key_act.ensures ∙ c.in-Some.is)) (c.do_act.ensures.sizes ∙ rw c.hold.ensures (sizes_set xs c.args.at h _ is_h refl)) (c.in-Err.ensures.err next) is_k c.set_echo.ensures refl (c.settle_apart-in-Err.ensures.world next)).1

@@ -4,16 +4,17 @@ use Rattle.mgs_model.specs.Draw.{screen}
 use Rattle.mgs_session.specs.declared.Session.{Session}
 use Rattle.mgs_world.specs.Worlds.{sizes, sizes_in, find_size, world_of}
 use Rattle.mgs_core.proofs.Sizes.{sizes_world}
+use Rattle.mgs_core.proofs.Kept.{world_is}
 use Rattle.mgs_core.proofs.server.Core.draw.Goals as goal
 
 pub draw_in-requires-clause-open : goal.draw_in-requires-clause-open
 draw_in-requires-clause-open g c =
     let i = c.self.inside in
     ap (λ (xs : List Session). find_size c.args.id (sizes_in xs)) c.deref.ensures.value
-    ∙ ap (find_size c.args.id) (sym (sizes_world i.directory i.buffers i.sessions.items i.next_id) ∙ ap sizes c.self.view_is) ∙ c.requires
+    ∙ ap (find_size c.args.id) (sym (sizes_world i.directory i.buffers i.sessions.items i.next_id) ∙ ap sizes (world_is _ _ c.self.view_is)) ∙ c.requires
 
 pub returns : goal.returns
 returns g c x found =
     let i = c.self.inside in
-    let e : world_of i.directory i.buffers c.deref.result.now i.next_id ≡ c.args.self.now = ap (λ (xs : List Session). world_of i.directory i.buffers xs i.next_id) c.deref.ensures.value ∙ c.self.view_is in
+    let e : world_of i.directory i.buffers c.deref.result.now i.next_id ≡ c.args.self.now.world = ap (λ (xs : List Session). world_of i.directory i.buffers xs i.next_id) c.deref.ensures.value ∙ (world_is _ _ c.self.view_is) in
     c.draw_in.ensures i.next_id x (ap (λ (w : World). find_session c.args.id w.sessions) e ∙ found) ∙ ap (λ (w : World). screen w x) e

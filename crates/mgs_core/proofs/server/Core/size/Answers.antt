@@ -6,6 +6,7 @@ use Rattle.mgs_session.specs.declared.Session.{Session}
 use Rattle.mgs_world.specs.declared.size.Size.{Size}
 use Rattle.mgs_world.specs.Worlds.{sizes, sizes_in, IsOfSize, IsUnique}
 use Rattle.mgs_core.proofs.Sizes.{sizes_world}
+use Rattle.mgs_core.proofs.Kept.{world_is}
 use Rattle.mgs_core.proofs.server.Core.size.Goals as goal
 
 pub returns-clause-value : goal.returns-clause-value
@@ -13,17 +14,17 @@ returns-clause-value g c =
     let i = c.self.inside in
     c.size_at.ensures
     ∙ ap (λ (xs : List Session). slice_get (sizes_in xs) c.args.at) c.deref.ensures.value
-    ∙ ap (λ (zs : List Size). slice_get zs c.args.at) (sym (sizes_world i.directory i.buffers i.sessions.items i.next_id) ∙ ap sizes c.self.view_is)
+    ∙ ap (λ (zs : List Size). slice_get zs c.args.at) (sym (sizes_world i.directory i.buffers i.sessions.items i.next_id) ∙ ap sizes (world_is _ _ c.self.view_is))
 
 pub returns-clause-each : goal.returns-clause-each
 returns-clause-each g c =
     let i = c.self.inside in
-    subst (All IsOfSize) (sym (sizes_world i.directory i.buffers i.sessions.items i.next_id) ∙ ap sizes c.self.view_is) c.self.invariant.each
+    subst (All IsOfSize) (sym (sizes_world i.directory i.buffers i.sessions.items i.next_id) ∙ ap sizes (world_is _ _ c.self.view_is)) c.self.invariant.each
 
 pub returns-clause-unique : goal.returns-clause-unique
 returns-clause-unique g c =
     let i = c.self.inside in
-    subst IsUnique (sym (sizes_world i.directory i.buffers i.sessions.items i.next_id) ∙ ap sizes c.self.view_is) c.self.invariant.unique
+    subst IsUnique (sym (sizes_world i.directory i.buffers i.sessions.items i.next_id) ∙ ap sizes (world_is _ _ c.self.view_is)) c.self.invariant.unique
 
 pub returns-clause-settled : goal.returns-clause-settled
-returns-clause-settled g c = subst (λ (w : World). settled w ≡ w) c.self.view_is (c.self.invariant.settles c.self.inside.next_id)
+returns-clause-settled g c = subst (λ (w : World). settled w ≡ w) (world_is _ _ c.self.view_is) (c.self.invariant.settles c.self.inside.next_id)

@@ -1,0 +1,36 @@
+-- What the store tells of acts that save nothing.
+use Rattle.std.proofs.Common.{◌≡◌, ℕ, true, false, refl, subst}
+use Rattle.std.specs.List.{flat_map}
+use Rattle.mgs_model.specs.World.{World}
+use Rattle.mgs_model.specs.Outcome.{Act}
+use Rattle.mgs_model.specs.Apply.{act}
+use Rattle.mgs_model.specs.Events.{act_effects, saved_by}
+use Rattle.mgs_model.specs.declared.errors.Keyed.{Keyed}
+use Rattle.mgs_model.specs.declared.session.Command.TheVariants.{SaveBuffer}
+use Rattle.mgs_model.proofs.Saves.{is_save, act_saves_none}
+use Rattle.mgs_store.specs.Stores.{StoreTold}
+use Rattle.mgs_store.proofs.Told.{told_none}
+use Rattle.mgs_act.specs.declared.acts.KeyAct.{KeyAct}
+use Rattle.mgs_act.specs.declared.acts.KeyAct.TheVariants.{Unbound, Run}
+use Rattle.mgs_act.specs.Actions.{act_of, is_done_here}
+use Rattle.mgs_core.specs.Kept.{Kept}
+use Rattle.mgs_core.specs.Steps.{ActedBy, KeyedBy}
+
+-- what is done by the act is no save
+done_saves_none : (a : KeyAct) → is_done_here a ≡ true → is_save (act_of a) ≡ false
+done_saves_none Unbound h = refl
+done_saves_none (Run SaveBuffer n) h = cc
+done_saves_none (Run _ n) h = refl
+
+-- such an act leaves the store
+pub acted_quietly : (old new : World) (t : StoreTold) (id : ℕ) (a : KeyAct) → is_done_here a ≡ true → new ≡ act old id (act_of a) true → ActedBy old new t t id (act_of a)
+acted_quietly old new t id a here world = record {
+  stored = true;
+  world = world;
+  fault = λ e. cc;
+  saves = told_none t.accepted (flat_map saved_by (act_effects old id (act_of a) true)) (act_saves_none old id (act_of a) true (done_saves_none a here));
+}
+
+-- what is seen of a server
+pub keyed_seen : (k l : Kept) (v : World) (t : StoreTold) (id byte : ℕ) (result : Keyed) → k ≡ l → KeyedBy k.world v k.store t id byte result → KeyedBy l.world v l.store t id byte result
+keyed_seen k l v t id byte result e h = subst (λ (m : Kept). KeyedBy m.world v m.store t id byte result) e h
