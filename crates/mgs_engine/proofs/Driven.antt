@@ -9,7 +9,10 @@ use Rattle.std.proofs.Math.Nat.{le-max_left, le-max_right}
 use Rattle.mgs_model.proofs.Firsts.{find-change_first, find-change_first_other}
 use Rattle.mgs_model.specs.Apply.{change_first, remove_first}
 use Rattle.mgs_model.specs.Draw.{screen}
-use Rattle.mgs_model.specs.Events.{Event, Open, Byte, Close, can_open, is_open, opened, run, settled, step}
+use Rattle.mgs_model.specs.Events.{Event, Open, Byte, Close, Saved, can_open, event_saves, is_open, opened, run, run_saves, settled, step}
+use Rattle.mgs_model.proofs.Saves.{closes_save_none, saves_behind, saves_next}
+use Rattle.mgs_store.specs.Stores.{StoreTold, told_more}
+use Rattle.mgs_store.proofs.Told.{told_none, told_twice}
 use Rattle.mgs_model.specs.Picture.{Picture}
 use Rattle.mgs_model.specs.World.{World, Session, find_session, has_id}
 use Rattle.mgs_model.specs.declared.errors.Keyed.{Keyed}
@@ -45,6 +48,15 @@ run-append : (w : World) (es fs : List Event) → run w (es ++ fs) ≡ run (run 
 run-append w [] fs = refl
 run-append w (e ∷ es) fs = run-append (step w e) es fs
 
+-- ends leave the store
+store_left : (cause : Cause) (ids : List ℕ) (s : Serving) → (all_ended_by cause ids s).store ≡ s.store
+store_left cause [] s = refl
+store_left cause (id ∷ ids) s = store_left cause ids (ended_by cause id s)
+
+-- and save nothing behind an event
+saves_first : (w : World) (e : Event) (ids : List ℕ) → run_saves w (e ∷ map (λ i. Close i) ids) ≡ event_saves w e
+saves_first w e ids = saves_next w e (map (λ i. Close i) ids) ∙ ap (λ (xs : List Saved). event_saves w e ++ xs) (closes_save_none (step w e) ids) ∙ append-nil (event_saves w e)
+
 -- THE EVENTS OF A CALL, AND OF ALL
 
 record Made (r : Rig) (c : Asked) (s : Rig) : Type 0 where
@@ -53,6 +65,7 @@ record Made (r : Rig) (c : Asked) (s : Rig) : Type 0 where
   events : List Event
   of : AreOf c answer events
   world : s.serving.world ≡ run r.serving.world events
+  saves : s.serving.store.accepted ≡ told_more (run_saves r.serving.world events) r.serving.store.accepted
 
 made_open : (r s : Rig) (user : List ℕ) (rows cols : ℕ) (a : Result ℕ OpenFault) → Does r.serving (wire.Open user rows cols a) s.serving → s.tape ≡ answered (answers.Open a) r.tape → Made r (Opens user rows cols) s
 made_open r s user rows cols (Ok id) d t = record {
@@ -61,6 +74,7 @@ made_open r s user rows cols (Ok id) d t = record {
   events = Open id user rows cols ∷ [];
   of = refl;
   world = d.0.ok.2;
+  saves = ap (λ (t : StoreTold). t.accepted) d.0.store ∙ told_none r.serving.store.accepted [] refl;
 }
 made_open r s user rows cols (Err fault) d t = record {
   answer = answers.Open (Err fault);
@@ -68,6 +82,7 @@ made_open r s user rows cols (Err fault) d t = record {
   events = [];
   of = refl;
   world = ap (λ (x : Serving). x.world) d.0.err;
+  saves = ap (λ (x : Serving). x.store.accepted) d.0.err ∙ told_none r.serving.store.accepted [] refl;
 }
 
 made : (r s : Rig) (c : Asked) → Makes r c s → Made r c s
@@ -81,10 +96,15 @@ made r s (Types id byte) m =
       events = Byte id byte h.step.stored h.step.stop ∷ slow;
       of = (h.step.stored, h.step.stop, slow_ids r.serving h.typed.world, refl);
       world = h.closes ∙ ap (λ (w : World). run w slow) h.step.step;
+      saves =
+          ap (λ (x : Serving). x.store.accepted) h.slow
+          ∙ ap (λ (t : StoreTold). t.accepted) (store_left Slow (slow_ids r.serving h.typed.world) h.typed)
+          ∙ h.step.saves
+          ∙ ap (λ (xs : List Saved). told_more xs r.serving.store.accepted) (sym (saves_first r.serving.world (Byte id byte h.step.stored h.step.stop) (slow_ids r.serving h.typed.world)));
     }
-made r s (Closes id) m = record { answer = answers.Close; told = ap (λ (x : Told). x.answers) m.2; events = Close id ∷ []; of = refl; world = m.1 }
-made r s (Takes id most) m = record { answer = answers.Took m.0; told = m.4; events = []; of = refl; world = ap (λ (x : Serving). x.world) m.3 }
-made r s Asks m = record { answer = answers.Ended m.0; told = ap (λ (x : Told). x.answers) m.3; events = []; of = refl; world = ap (λ (x : Serving). x.world) m.2 }
+made r s (Closes id) m = record { answer = answers.Close; told = ap (λ (x : Told). x.answers) m.2; events = Close id ∷ []; of = refl; world = m.1; saves = ap (λ (x : Serving). x.store.accepted) m.0.0 ∙ told_none r.serving.store.accepted [] refl }
+made r s (Takes id most) m = record { answer = answers.Took m.0; told = m.4; events = []; of = refl; world = ap (λ (x : Serving). x.world) m.3; saves = ap (λ (x : Serving). x.store.accepted) m.3 ∙ told_none r.serving.store.accepted [] refl }
+made r s Asks m = record { answer = answers.Ended m.0; told = ap (λ (x : Told). x.answers) m.3; events = []; of = refl; world = ap (λ (x : Serving). x.world) m.2; saves = ap (λ (x : Serving). x.store.accepted) m.2 ∙ told_none r.serving.store.accepted [] refl }
 
 pub runs_events : (r s : Rig) (cs : List Asked) → Runs r cs s → IsRun r cs s
 runs_events r s [] h = record {
@@ -93,6 +113,7 @@ runs_events r s [] h = record {
   events = [];
   each = refl;
   world = ap (λ (x : Rig). x.serving.world) h;
+  saves = ap (λ (x : Rig). x.serving.store.accepted) h ∙ told_none r.serving.store.accepted [] refl;
 }
 runs_events r s (c ∷ cs) h =
     let first : Made r c h.0 = made r h.0 c h.1 in
@@ -103,6 +124,12 @@ runs_events r s (c ∷ cs) h =
       events = first.events ++ rest.events;
       each = (first.events, rest.events, first.of, rest.each, refl);
       world = rest.world ∙ ap (λ (w : World). run w rest.events) first.world ∙ sym (run-append r.serving.world first.events rest.events);
+      saves =
+          rest.saves
+          ∙ ap (λ (w : World). told_more (run_saves w rest.events) h.0.serving.store.accepted) first.world
+          ∙ ap (told_more (run_saves (run r.serving.world first.events) rest.events)) first.saves
+          ∙ told_twice r.serving.store.accepted (run_saves r.serving.world first.events) (run_saves (run r.serving.world first.events) rest.events)
+          ∙ ap (λ (xs : List Saved). told_more xs r.serving.store.accepted) (sym (saves_behind r.serving.world first.events rest.events));
     }
 
 -- A SCREEN, FROM BYTES TO BYTES

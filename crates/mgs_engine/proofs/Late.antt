@@ -10,6 +10,7 @@ use Rattle.mgs_model.specs.Draw.{screen}
 use Rattle.mgs_model.specs.Picture.{Picture}
 use Rattle.mgs_model.specs.World.{World, Session, find_session}
 use Rattle.mgs_world.specs.Worlds.{session_size, sizes, IsOther, IsUnique}
+use Rattle.mgs_core.specs.Kept.{Kept}
 use Rattle.mgs_core.proofs.Ids.{All-found, All-unmap, some_of, unique_found}
 use Rattle.mgs_engine.specs.declared.ending.Cause.{Cause}
 use Rattle.mgs_engine.specs.declared.screen.Screen.{Screen}
@@ -43,7 +44,7 @@ still_one s v x d e =
 
 -- ALL
 
-pendings : (w : World) (xs : List Screen) (es : List (ℕ × Cause)) → IsUnique (map shown_size xs) → All (λ (x : Screen). pending_of x.id (serving_of w xs es) ≡ x.queue) xs
+pendings : (w : Kept) (xs : List Screen) (es : List (ℕ × Cause)) → IsUnique (map shown_size xs) → All (λ (x : Screen). pending_of x.id (serving_of w xs es) ≡ x.queue) xs
 pendings w xs es u = λ i d l.
     pending_found w xs es (get_or xs i d).id (get_or xs i d) (unique_found shown_size xs u i (get_or xs i d) (slice_get-get_or xs i d l))
 
@@ -87,7 +88,7 @@ late_slow s v ys e h =
     ∙ ap (filter (is_slow s v)) (sym (screen_ids ys) ∙ ap (map size_id) e ∙ session_ids v.sessions)
 
 -- the sessions of late screens are those that fall behind
-pub late_are_slow : (w v : World) (xs ys : List Screen) (es : List (ℕ × Cause)) → IsUnique (map shown_size xs) → map shown_size ys ≡ sizes v → All (IsDrawn w) xs → AreRedrawn v xs ys → late_ids ys ≡ slow_ids (serving_of w xs es) v
+pub late_are_slow : (w : Kept) (v : World) (xs ys : List Screen) (es : List (ℕ × Cause)) → IsUnique (map shown_size xs) → map shown_size ys ≡ sizes v → All (IsDrawn w.world) xs → AreRedrawn v xs ys → late_ids ys ≡ slow_ids (serving_of w xs es) v
 late_are_slow w v xs ys es u e d h = late_slow (serving_of w xs es) v ys e (late_each (serving_of w xs es) v xs ys d (pendings w xs es u) h)
 
 pub none_late : (xs : List Screen) → All IsOnTime xs → late_ids xs ≡ []

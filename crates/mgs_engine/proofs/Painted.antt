@@ -21,6 +21,7 @@ use Rattle.mgs_engine.specs.declared.screen.Screen.{Screen}
 use Rattle.mgs_engine.specs.Queues.{waiting_in, is_queue_of}
 use Rattle.mgs_engine.specs.declared.ending.Cause.{Cause}
 use Rattle.mgs_engine.specs.Screens.{queue_of, queues_of, shown_size, Drawn, drawn_of, screen_id, IsDrawn, IsOnTime, IsRedrawn, IsRepaint, AreAmong, AreRedrawn, IsFirst}
+use Rattle.mgs_core.specs.Kept.{Kept}
 use Rattle.mgs_core.proofs.Ids.{All-found, find-remove_first_other, found_sizes, none_of, others_left, same_some, some_of}
 use Rattle.mgs_engine.proofs.Repaints.{no_repaint, screen_cols, screen_rows}
 use Rattle.mgs_engine.specs.Serving.{pending_of}
@@ -99,7 +100,7 @@ found_kept k id xs s u e =
 
 -- WHAT THE BYTES DRAW
 
-pub pending_found : (w : World) (xs : List Screen) (es : List (ℕ × Cause)) (id : ℕ) (s : Screen) → find (screen_id id) xs ≡ Some s → pending_of id (serving_of w xs es) ≡ s.queue
+pub pending_found : (w : Kept) (xs : List Screen) (es : List (ℕ × Cause)) (id : ℕ) (s : Screen) → find (screen_id id) xs ≡ Some s → pending_of id (serving_of w xs es) ≡ s.queue
 pending_found w xs es id s e = ap waiting_in (find-map queue_of (screen_id id) (is_queue_of id) (λ x. refl) xs ∙ ap (option_map queue_of) e)
 
 -- a terminal shows the screen of its session
@@ -109,52 +110,52 @@ shows_session w xs id x s h e f =
     let g : find_session id w.sessions ≡ Some d.session = ap (λ n. find_session n w.sessions) (sym (found_id id xs s e)) ∙ d.found in
     d.picture ∙ ap (screen w) (same_some d.session x (sym g ∙ f))
 
-painted_pair : (w v : World) (olds news : List Screen) (es fs : List (ℕ × Cause)) (id : ℕ) (x y : Session) (s t : Screen)
-    → All (IsDrawn w) olds → All (IsDrawn v) news → find (screen_id id) olds ≡ Some s → find (screen_id id) news ≡ Some t → IsRepaint s t
-    → find_session id w.sessions ≡ Some x → find_session id v.sessions ≡ Some y → PaintedBy (serving_of w olds es) (serving_of v news fs) id x y
+painted_pair : (w v : Kept) (olds news : List Screen) (es fs : List (ℕ × Cause)) (id : ℕ) (x y : Session) (s t : Screen)
+    → All (IsDrawn w.world) olds → All (IsDrawn v.world) news → find (screen_id id) olds ≡ Some s → find (screen_id id) news ≡ Some t → IsRepaint s t
+    → find_session id w.world.sessions ≡ Some x → find_session id v.world.sessions ≡ Some y → PaintedBy (serving_of w olds es) (serving_of v news fs) id x y
 painted_pair w v olds news es fs id x y s t od nd os nt r fx fy =
-    let before : s.shown ≡ screen w x = shows_session w olds id x s od os fx in
-    let after : t.shown ≡ screen v y = shows_session v news id y t nd nt fy in
+    let before : s.shown ≡ screen w.world x = shows_session w.world olds id x s od os fx in
+    let after : t.shown ≡ screen v.world y = shows_session v.world news id y t nd nt fy in
     record {
       bytes = r.bytes;
       appended = pending_found v news fs id t nt ∙ r.appended ∙ ap (λ (bs : List ℕ). bs ++ r.bytes) (sym (pending_found w olds es id s os));
       draws =
-          subst (λ (p : Picture). Draws (IsFaithful (cells_of p)) r.bytes (shown (screen w x)) (shown p)) after
+          subst (λ (p : Picture). Draws (IsFaithful (cells_of p)) r.bytes (shown (screen w.world x)) (shown p)) after
           (subst (λ (p : Picture). Draws (IsFaithful (cells_of t.shown)) r.bytes (shown p) (shown t.shown)) before r.draws);
       quiet = λ same. r.quiet (before ∙ same ∙ sym after);
       bound =
-          subst (λ (n : ℕ). length r.bytes ≤ bound_of n y.cols) (screen_rows v y)
-          (subst (λ (n : ℕ). length r.bytes ≤ bound_of (screen v y).rows n) (screen_cols v y)
+          subst (λ (n : ℕ). length r.bytes ≤ bound_of n y.cols) (screen_rows v.world y)
+          (subst (λ (n : ℕ). length r.bytes ≤ bound_of (screen v.world y).rows n) (screen_cols v.world y)
           (subst (λ (p : Picture). length r.bytes ≤ bound_of p.rows p.cols) after r.bound));
     }
 
 -- each screen is drawn again in one world, and those that are late are taken out in another
-pub painted_all : (w v u : World) (olds mids news : List Screen) (es fs : List (ℕ × Cause)) → map shown_size olds ≡ sizes w → All (IsDrawn w) olds → AreRedrawn v olds mids → IsServed u news → AreAmong news mids → Painted (serving_of w olds es) (serving_of u news fs)
+pub painted_all : (w : Kept) (v : World) (u : Kept) (olds mids news : List Screen) (es fs : List (ℕ × Cause)) → map shown_size olds ≡ sizes w.world → All (IsDrawn w.world) olds → AreRedrawn v olds mids → IsServed u.world news → AreAmong news mids → Painted (serving_of w olds es) (serving_of u news fs)
 painted_all w v u olds mids news es fs e od h served among = λ id x y fx fy.
-    let s = screen_known w olds id x e fx in
-    let t = screen_known u news id y served.sizes_are fy in
+    let s = screen_known w.world olds id x e fx in
+    let t = screen_known u.world news id y served.sizes_are fy in
     let m = found_after v id olds mids s.0 h s.1 in
     let one : m.0 ≡ t.0 = same_some m.0 t.0 (sym m.1 ∙ among id t.0 t.1) in
     let late : t.0.late ≡ false = All-found IsOnTime (screen_id id) news t.0 served.on_time t.1 in
     painted_pair w u olds news es fs id x y s.0 t.0 od served.drawn s.1 t.1 (subst (λ (z : Screen). IsRepaint s.0 z) one (m.2.repaint (ap (λ (z : Screen). z.late) one ∙ late))) fx fy
 
 -- one more screen comes
-pub painted_opened : (w v : World) (xs ys : List Screen) (es fs : List (ℕ × Cause)) (z : Screen) → ys ≡ xs ++ z ∷ [] → map shown_size xs ≡ sizes w → All (IsDrawn w) xs → All (IsDrawn v) ys → Painted (serving_of w xs es) (serving_of v ys fs)
+pub painted_opened : (w v : Kept) (xs ys : List Screen) (es fs : List (ℕ × Cause)) (z : Screen) → ys ≡ xs ++ z ∷ [] → map shown_size xs ≡ sizes w.world → All (IsDrawn w.world) xs → All (IsDrawn v.world) ys → Painted (serving_of w xs es) (serving_of v ys fs)
 painted_opened w v xs ys es fs z is e od nd = λ id x y fx fy.
-    let s = screen_known w xs id x e fx in
+    let s = screen_known w.world xs id x e fx in
     let f : find (screen_id id) ys ≡ Some s.0 = ap (find (screen_id id)) is ∙ find-append (screen_id id) xs (z ∷ []) ∙ ap (λ o. option_or o (find (screen_id id) (z ∷ []))) s.1 in
     painted_pair w v xs ys es fs id x y s.0 s.0 od nd s.1 f (no_repaint s.0) fx fy
 
 -- one is taken out
-pub painted_closed : (w v : World) (k : ℕ) (xs ys : List Screen) (es fs : List (ℕ × Cause)) → ys ≡ remove_first (screen_id k) xs → IsUnique (map shown_size xs) → map shown_size ys ≡ sizes v → All (IsDrawn w) xs → All (IsDrawn v) ys → Painted (serving_of w xs es) (serving_of v ys fs)
+pub painted_closed : (w v : Kept) (k : ℕ) (xs ys : List Screen) (es fs : List (ℕ × Cause)) → ys ≡ remove_first (screen_id k) xs → IsUnique (map shown_size xs) → map shown_size ys ≡ sizes v.world → All (IsDrawn w.world) xs → All (IsDrawn v.world) ys → Painted (serving_of w xs es) (serving_of v ys fs)
 painted_closed w v k xs ys es fs is u e od nd = λ id x y fx fy.
-    let s = screen_known v ys id y e fy in
+    let s = screen_known v.world ys id y e fy in
     painted_pair w v xs ys es fs id x y s.0 s.0 od nd (found_kept k id xs s.0 u (ap (find (screen_id id)) (sym is) ∙ s.1)) s.1 (no_repaint s.0) fx fy
 
 -- the bytes of a screen that was first drawn paint the screen of its session
-first_shown : (w : World) (xs : List Screen) (es : List (ℕ × Cause)) (id : ℕ) (x : Session) (s : Screen) → All (IsDrawn w) xs → find (screen_id id) xs ≡ Some s → find_session id w.sessions ≡ Some x → IsFirst s → Paints (screen w x) (pending_of id (serving_of w xs es))
+first_shown : (w : Kept) (xs : List Screen) (es : List (ℕ × Cause)) (id : ℕ) (x : Session) (s : Screen) → All (IsDrawn w.world) xs → find (screen_id id) xs ≡ Some s → find_session id w.world.sessions ≡ Some x → IsFirst s → Paints (screen w.world x) (pending_of id (serving_of w xs es))
 first_shown w xs es id x s h e f p =
-    subst (λ (z : Picture). Paints z (pending_of id (serving_of w xs es))) (shows_session w xs id x s h e f)
+    subst (λ (z : Picture). Paints z (pending_of id (serving_of w xs es))) (shows_session w.world xs id x s h e f)
     (subst (Paints s.shown) (sym (pending_found w xs es id s e)) p)
 
 found_opened : (id : ℕ) (xs : List Screen) (z : Screen) → z.id ≡ id → find_size id (map shown_size xs) ≡ None → find (screen_id id) (xs ++ z ∷ []) ≡ Some z
@@ -164,23 +165,23 @@ found_opened id xs z i n =
     ∙ ap (λ b. cond b (Some z) None) (eq-eqb z.id id i)
 
 -- the queues are those before and that of the new screen
-pub queues_opened : (w : World) (xs : List Screen) (es : List (ℕ × Cause)) (z : Screen) (id : ℕ) → z.id ≡ id → find_size id (map shown_size xs) ≡ None → queues_of (xs ++ z ∷ []) ≡ queues_of xs ++ record { id = id; bytes = pending_of id (serving_of w (xs ++ z ∷ []) es) } ∷ []
+pub queues_opened : (w : Kept) (xs : List Screen) (es : List (ℕ × Cause)) (z : Screen) (id : ℕ) → z.id ≡ id → find_size id (map shown_size xs) ≡ None → queues_of (xs ++ z ∷ []) ≡ queues_of xs ++ record { id = id; bytes = pending_of id (serving_of w (xs ++ z ∷ []) es) } ∷ []
 queues_opened w xs es z id i n =
     map-append queue_of xs (z ∷ [])
     ∙ ap (λ (k : ℕ). queues_of xs ++ record { id = k; bytes = z.queue } ∷ []) i
     ∙ ap (λ (bs : List ℕ). queues_of xs ++ record { id = id; bytes = bs } ∷ []) (sym (pending_found w (xs ++ z ∷ []) es id z (found_opened id xs z i n)))
 
 -- and its bytes paint its screen
-pub first_opened : (w : World) (xs : List Screen) (es : List (ℕ × Cause)) (z : Screen) (id : ℕ) → z.id ≡ id → find_size id (map shown_size xs) ≡ None → IsDrawn w z → IsFirst z → (x : Session) × (find_session id w.sessions ≡ Some x) × Paints (screen w x) (pending_of id (serving_of w (xs ++ z ∷ []) es))
+pub first_opened : (w : Kept) (xs : List Screen) (es : List (ℕ × Cause)) (z : Screen) (id : ℕ) → z.id ≡ id → find_size id (map shown_size xs) ≡ None → IsDrawn w.world z → IsFirst z → (x : Session) × (find_session id w.world.sessions ≡ Some x) × Paints (screen w.world x) (pending_of id (serving_of w (xs ++ z ∷ []) es))
 first_opened w xs es z id i n d p =
     let bytes : List ℕ = pending_of id (serving_of w (xs ++ z ∷ []) es) in
     let all : bytes ≡ z.queue = pending_found w (xs ++ z ∷ []) es id z (found_opened id xs z i n) in
-    (d.session, ap (λ k. find_session k w.sessions) (sym i) ∙ d.found, subst (λ (q : Picture). Paints q bytes) d.picture (subst (Paints z.shown) (sym all) p))
+    (d.session, ap (λ k. find_session k w.world.sessions) (sym i) ∙ d.found, subst (λ (q : Picture). Paints q bytes) d.picture (subst (Paints z.shown) (sym all) p))
 
 -- ALL AT FIRST
 
 -- each session's bytes paint its screen
-pub first_all : (w : World) (xs : List Screen) (es : List (ℕ × Cause)) → map shown_size xs ≡ sizes w → All (IsDrawn w) xs → All IsFirst xs → (id : ℕ) (x : Session) → find_session id w.sessions ≡ Some x → Paints (screen w x) (pending_of id (serving_of w xs es))
+pub first_all : (w : Kept) (xs : List Screen) (es : List (ℕ × Cause)) → map shown_size xs ≡ sizes w.world → All (IsDrawn w.world) xs → All IsFirst xs → (id : ℕ) (x : Session) → find_session id w.world.sessions ≡ Some x → Paints (screen w.world x) (pending_of id (serving_of w xs es))
 first_all w xs es e h p id x f =
-    let s = screen_known w xs id x e f in
+    let s = screen_known w.world xs id x e f in
     first_shown w xs es id x s.0 h s.1 f (All-found IsFirst (screen_id id) xs s.0 p s.1)

@@ -41,7 +41,7 @@ admits_opens s t user rows cols (Err fault) h e = record {
 -- A BYTE
 
 -- none falls behind
-pub handles_prompt : (s t : Serving) (id byte : ℕ) (result : Keyed) → Handles s t id byte result → AllTaken s → KeyedBy s.world t.world id byte result
+pub handles_prompt : (s t : Serving) (id byte : ℕ) (result : Keyed) → Handles s t id byte result → AllTaken s → KeyedBy s.world t.world s.store t.store id byte result
 handles_prompt s t id byte result h taken =
     let all : t ≡ h.typed = h.slow ∙ ap (λ ids. all_ended_by Slow ids h.typed) (h.prompt taken) in
-    subst (λ (x : Serving). KeyedBy s.world x.world id byte result) (sym all) h.step
+    subst (λ (x : Serving). KeyedBy s.world x.world s.store x.store id byte result) (sym all) h.step

@@ -17,6 +17,8 @@ use Rattle.mgs_core.specs.Steps.{closed, sizes_keyed}
 use Rattle.mgs_engine.specs.declared.screen.Screen.{Screen}
 use Rattle.mgs_engine.specs.Screens.{queue_of, queues_of, screen_id}
 use Rattle.mgs_engine.specs.Served.{serving_of}
+use Rattle.mgs_core.specs.Kept.{Kept, kept}
+use Rattle.mgs_store.specs.Stores.{StoreTold}
 use Rattle.mgs_engine.specs.declared.ending.Cause.{Cause}
 use Rattle.mgs_engine.specs.Serving.{Serving, ended_by, ended_keyed, ids_keyed, to_tell}
 use Rattle.mgs_engine.proofs.Screens.{queues_removed}
@@ -69,11 +71,13 @@ told_none id cause xs es at e most past =
     sym (append-nil es) ∙ ap (λ (o : Option Screen). es ++ cond (is_some o) ((id, cause) ∷ []) []) (sym (find_none (screen_id id) xs (omega (arith, e, most, past))))
 
 -- its screen goes with it, and it is to be told
-pub screen_less : (w v : World) (cause : Cause) (id : ℕ) (xs ys : List Screen) (es fs : List (ℕ × Cause)) → v ≡ closed w id → ys ≡ remove_first (screen_id id) xs → fs ≡ es ++ cond (is_some (find (screen_id id) xs)) ((id, cause) ∷ []) []
+pub screen_less : (w v : Kept) (cause : Cause) (id : ℕ) (xs ys : List Screen) (es fs : List (ℕ × Cause)) → v.world ≡ closed w.world id → v.store ≡ w.store → ys ≡ remove_first (screen_id id) xs → fs ≡ es ++ cond (is_some (find (screen_id id) xs)) ((id, cause) ∷ []) []
     → serving_of v ys fs ≡ ended_by cause id (serving_of w xs es)
-screen_less w v cause id xs ys es fs world items told =
+screen_less w v cause id xs ys es fs world store items told =
+    let left : Kept = kept (closed w.world id) w.store in
     let told_is : fs ≡ es ++ to_tell cause id (serving_of w xs es) = told ∙ ap (λ b. es ++ cond b ((id, cause) ∷ []) []) (is_served_by id xs) in
-    ap (λ (u : World). serving_of u ys fs) world
-    ∙ ap (λ (zs : List Screen). serving_of (closed w id) zs fs) items
-    ∙ ap (serving_of (closed w id) (remove_first (screen_id id) xs)) told_is
-    ∙ ap (λ qs. let s : Serving = record { world = closed w id; queues = qs; ended = es ++ to_tell cause id (serving_of w xs es) } in s) (queues_removed id xs)
+    ap (λ (u : World). serving_of (kept u v.store) ys fs) world
+    ∙ ap (λ (t : StoreTold). serving_of (kept (closed w.world id) t) ys fs) store
+    ∙ ap (λ (zs : List Screen). serving_of left zs fs) items
+    ∙ ap (serving_of left (remove_first (screen_id id) xs)) told_is
+    ∙ ap (λ qs. let s : Serving = record { world = closed w.world id; store = w.store; queues = qs; ended = es ++ to_tell cause id (serving_of w xs es) } in s) (queues_removed id xs)

@@ -9,6 +9,7 @@ use Rattle.std.proofs.lemmas.List.Elements.{All-cons, All-map, All-nil, All-weak
 use Rattle.std.specs.Option.{option_map}
 use Rattle.mgs_model.proofs.Firsts.{find-map, find_none, place_found}
 use Rattle.mgs_model.specs.Apply.{remove_first}
+use Rattle.mgs_core.specs.Kept.{Kept}
 use Rattle.mgs_core.proofs.Ids.{differ, found_sizes, known_at, mapped_got, map-remove_first, remove_at_first, remove_none}
 use Rattle.mgs_model.specs.World.{World, Session, find_session}
 use Rattle.mgs_world.specs.declared.size.Size.{Size}
@@ -42,10 +43,10 @@ pub ids_are : (xs : List Screen) → map queue_id (queues_of xs) ≡ map (λ (x 
 ids_are [] = refl
 ids_are (x ∷ xs) = ap (λ ys. x.id ∷ ys) (ids_are xs)
 
-pub well_formed : (w : World) (xs : List Screen) (es : List (ℕ × Cause)) → IsServed w xs → IsWellFormed (serving_of w xs es)
+pub well_formed : (w : Kept) (xs : List Screen) (es : List (ℕ × Cause)) → IsServed w.world xs → IsWellFormed (serving_of w xs es)
 well_formed w xs es h =
-    let ids : map queue_id (queues_of xs) ≡ map size_id (sizes w) = ids_are xs ∙ ap (map size_id) h.sizes_are in
-    record { queues = ids; unique = subst AreUnique (sym ids) (unique_ids (sizes w) h.unique) }
+    let ids : map queue_id (queues_of xs) ≡ map size_id (sizes w.world) = ids_are xs ∙ ap (map size_id) h.sizes_are in
+    record { queues = ids; unique = subst AreUnique (sym ids) (unique_ids (sizes w.world) h.unique) }
 
 pub ids_same : (xs ys : List Screen) → map shown_size xs ≡ map shown_size ys → map queue_id (queues_of xs) ≡ map queue_id (queues_of ys)
 ids_same xs ys e = ids_are xs ∙ ap (map (λ (x : Size). x.id)) e ∙ sym (ids_are ys)

@@ -12,6 +12,7 @@ use Rattle.mgs_model.specs.declared.errors.OpenFault.TheVariants.{NoUser, Size, 
 use Rattle.mgs_model.specs.declared.limits.TheConstants.{SESSION_LIMIT}
 use Rattle.mgs_world.specs.Worlds.{session_size, sizes}
 use Rattle.mgs_core.specs.Steps.{OpenAnswers, OpenedBy}
+use Rattle.mgs_core.specs.Kept.{Kept}
 use Rattle.mgs_core.proofs.Ids.{same_some}
 use Rattle.mgs_core.proofs.Openings.{opened_fault}
 use Rattle.mgs_engine.specs.declared.ending.Cause.{Cause}
@@ -45,18 +46,18 @@ told_slots xs es n h =
 pub fault_first : (s : Serving) (user : List ℕ) (rows cols : ℕ) (fault : OpenFault) → Some fault ≡ open_fault s.world user rows cols → Some fault ≡ opening_fault s user rows cols
 fault_first s user rows cols fault e = ap (λ o. option_or o (if nat_le SESSION_LIMIT (slots_used s) then Some Full else None)) e
 
-pub fault_last : (w : World) (xs : List Screen) (es : List (ℕ × Cause)) (user : List ℕ) (rows cols : ℕ) → map shown_size xs ≡ sizes w → None ≡ open_fault w user rows cols → SESSION_LIMIT ≤ length xs + length es → Some Full ≡ opening_fault (serving_of w xs es) user rows cols
+pub fault_last : (w : Kept) (xs : List Screen) (es : List (ℕ × Cause)) (user : List ℕ) (rows cols : ℕ) → map shown_size xs ≡ sizes w.world → None ≡ open_fault w.world user rows cols → SESSION_LIMIT ≤ length xs + length es → Some Full ≡ opening_fault (serving_of w xs es) user rows cols
 fault_last w xs es user rows cols e n l =
-    let used : nat_le SESSION_LIMIT (length w.sessions + length es) ≡ true = le-leb SESSION_LIMIT (length w.sessions + length es) (omega (arith, l, open_screens w xs e)) in
+    let used : nat_le SESSION_LIMIT (length w.world.sessions + length es) ≡ true = le-leb SESSION_LIMIT (length w.world.sessions + length es) (omega (arith, l, open_screens w.world xs e)) in
     ap (λ b. if b then Some Full else None) (sym used)
-    ∙ ap (λ o. option_or o (if nat_le SESSION_LIMIT (length w.sessions + length es) then Some Full else None)) n
+    ∙ ap (λ o. option_or o (if nat_le SESSION_LIMIT (length w.world.sessions + length es) then Some Full else None)) n
 
-pub fault_none : (w : World) (xs : List Screen) (es : List (ℕ × Cause)) (user : List ℕ) (rows cols : ℕ) → map shown_size xs ≡ sizes w → None ≡ open_fault w user rows cols → length xs + length es < SESSION_LIMIT → None ≡ opening_fault (serving_of w xs es) user rows cols
+pub fault_none : (w : Kept) (xs : List Screen) (es : List (ℕ × Cause)) (user : List ℕ) (rows cols : ℕ) → map shown_size xs ≡ sizes w.world → None ≡ open_fault w.world user rows cols → length xs + length es < SESSION_LIMIT → None ≡ opening_fault (serving_of w xs es) user rows cols
 fault_none w xs es user rows cols e n l =
-    let same : length w.sessions ≡ length xs = open_screens w xs e in
-    let used : nat_le SESSION_LIMIT (length w.sessions + length es) ≡ false = grind (arith, nat_tests, same, l) in
+    let same : length w.world.sessions ≡ length xs = open_screens w.world xs e in
+    let used : nat_le SESSION_LIMIT (length w.world.sessions + length es) ≡ false = grind (arith, nat_tests, same, l) in
     ap (λ b. if b then Some Full else None) (sym used)
-    ∙ ap (λ o. option_or o (if nat_le SESSION_LIMIT (length w.sessions + length es) then Some Full else None)) n
+    ∙ ap (λ o. option_or o (if nat_le SESSION_LIMIT (length w.world.sessions + length es) then Some Full else None)) n
 
 -- THE ANSWER
 
@@ -79,10 +80,10 @@ fault_answers s user rows cols fault e =
     in go (open_fault s.world user rows cols) refl e
 
 pub admits_fault : (s : Serving) (user : List ℕ) (rows cols : ℕ) (fault : OpenFault) → opening_fault s user rows cols ≡ Some fault → Admits s s user rows cols (Err fault)
-admits_fault s user rows cols fault e = record { ok = tt; ended = refl; err = refl; answer = fault_answers s user rows cols fault e }
+admits_fault s user rows cols fault e = record { ok = tt; store = refl; ended = refl; err = refl; answer = fault_answers s user rows cols fault e }
 
 pub admits_short : (s : Serving) (user : List ℕ) (rows cols : ℕ) → opening_fault s user rows cols ≡ None → Admits s s user rows cols (Err Short)
-admits_short s user rows cols e = record { ok = tt; ended = refl; err = refl; answer = e }
+admits_short s user rows cols e = record { ok = tt; store = refl; ended = refl; err = refl; answer = e }
 
 first_none : {A : Type 0} (a b : Option A) → option_or a b ≡ None → a ≡ None
 first_none None b e = refl
@@ -98,5 +99,5 @@ admits_err s w user rows cols NoUser e o = absurd (never NoUser (sym (first_none
 admits_err s w user rows cols Size e o = absurd (never Size (sym (first_none (open_fault s.world user rows cols) _ e) ∙ o.answer))
 admits_err s w user rows cols Full e o = absurd (never Full (sym (first_none (open_fault s.world user rows cols) _ e) ∙ o.answer))
 
-pub admits_ok : (s t : Serving) (user : List ℕ) (rows cols id : ℕ) → opening_fault s user rows cols ≡ None → OpenedBy s.world t.world user rows cols (Ok id) → t.ended ≡ s.ended → Admits s t user rows cols (Ok id)
-admits_ok s t user rows cols id e o told = record { ok = o.ok; ended = told; err = tt; answer = e }
+pub admits_ok : (s t : Serving) (user : List ℕ) (rows cols id : ℕ) → opening_fault s user rows cols ≡ None → OpenedBy s.world t.world user rows cols (Ok id) → t.store ≡ s.store → t.ended ≡ s.ended → Admits s t user rows cols (Ok id)
+admits_ok s t user rows cols id e o store told = record { ok = o.ok; store = store; ended = told; err = tt; answer = e }

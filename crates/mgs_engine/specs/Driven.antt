@@ -1,12 +1,13 @@
 -- WHAT A LIST OF CALLS DOES: the world is the run of its events, and the bytes draw the last screens.
 use Rattle.std.specs.Prelude.{◌≡◌, ℕ, ◌<◌, Bool, List, [], ◌∷◌, ◌++◌, Option, Some, None, Ok, Err, length, take, map}
 use Rattle.mgs_model.specs.Draw.{screen}
-use Rattle.mgs_model.specs.Events.{Event, Open, Byte, Close, run}
+use Rattle.mgs_model.specs.Events.{Event, Open, Byte, Close, run, run_saves}
 use Rattle.mgs_model.specs.Picture.{Picture}
 use Rattle.mgs_model.specs.World.{Session, find_session}
 use Rattle.mgs_term.specs.Drawing.{Anything, Draws}
 use Rattle.mgs_term.specs.Screen.{Screen, IsScreen}
 use Rattle.mgs_paint.specs.Painting.{shown}
+use Rattle.mgs_store.specs.Stores.{told_more}
 use Rattle.mgs_engine.specs.declared.tape.Answer.{Answer}
 use Rattle.mgs_engine.specs.declared.tape.Answer.TheVariants as answers
 use Rattle.mgs_engine.specs.Drives.{Asked, Opens, Types, Closes, Takes, Asks, Rig}
@@ -36,6 +37,8 @@ pub record IsRun (r : Rig) (cs : List Asked) (s : Rig) : Type 0 where
   pub events : List Event
   pub each : AreAllOf cs answers events
   pub world : s.serving.world ≡ run r.serving.world events
+  -- what the store accepted is what they save
+  pub saves : s.serving.store.accepted ≡ told_more (run_saves r.serving.world events) r.serving.store.accepted
 
 -- the same of those in front, and no others
 abbrev pub IsRunOfSome : Rig → List Asked → Rig → Type 0

@@ -14,6 +14,7 @@ use Rattle.mgs_engine.specs.Slow.{slow_ids}
 -- where it is due, and changes nothing.
 pub record Admits (old new : Serving) (user : List ℕ) (rows cols : ℕ) (result : Result ℕ OpenFault) : Type 0 where
   pub ok : IfOk result (λ id. (id ≡ old.world.next_id) × (can_open old.world id user rows cols ≡ true) × (new.world ≡ step old.world (Open id user rows cols)))
+  pub store : new.store ≡ old.store
   pub ended : new.ended ≡ old.ended
   pub err : OnErr result (new ≡ old)
   pub answer : OpenAnswers result (opening_fault old user rows cols)
@@ -22,7 +23,7 @@ pub record Admits (old new : Serving) (user : List ℕ) (rows cols : ℕ) (resul
 pub record Handles (old new : Serving) (id byte : ℕ) (result : Keyed) : Type 0 where
   -- what is served after the byte's own step
   pub typed : Serving
-  pub step : KeyedBy old.world typed.world id byte result
+  pub step : KeyedBy old.world typed.world old.store typed.store id byte result
   pub sizes : sizes typed.world ≡ sizes_keyed result id (sizes old.world)
   pub next : typed.world.next_id ≡ old.world.next_id
   pub queues : queue_ids typed ≡ ids_keyed result id (queue_ids old)

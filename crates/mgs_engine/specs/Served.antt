@@ -2,14 +2,15 @@
 use Rattle.std.specs.Prelude.{◌≡◌, ℕ, ◌+◌, ◌≤◌, false, List, map, length, All}
 use Rattle.mgs_world.specs.Worlds.{sizes, IsUnique}
 use Rattle.mgs_model.specs.World.{World}
+use Rattle.mgs_core.specs.Kept.{Kept}
 use Rattle.mgs_model.specs.declared.limits.TheConstants.{SESSION_LIMIT}
 use Rattle.mgs_engine.specs.declared.ending.Cause.{Cause}
 use Rattle.mgs_engine.specs.declared.screen.Screen.{Screen}
 use Rattle.mgs_engine.specs.Screens.{IsDrawn, IsOnTime, IsSessionScreen, queues_of, shown_size}
 use Rattle.mgs_engine.specs.Serving.{Serving}
 
-abbrev pub serving_of : World → List Screen → List (ℕ × Cause) → Serving
-serving_of world xs ended = record { world = world; queues = queues_of xs; ended = ended }
+abbrev pub serving_of : Kept → List Screen → List (ℕ × Cause) → Serving
+serving_of core xs ended = record { world = core.world; store = core.store; queues = queues_of xs; ended = ended }
 
 -- there is a screen for each open session, in their order, and it is the one that the world has for the session
 pub record IsServed (world : World) (xs : List Screen) : Type 0 where

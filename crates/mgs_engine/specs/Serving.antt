@@ -1,4 +1,4 @@
--- A world that is served: for each open session, the bytes that wait for its terminal.
+-- A world that is served: for each open session, the bytes that wait for its terminal. Beside it what its store tells.
 use Rattle.std.specs.Prelude.{◌≡◌, ℕ, ◌+◌, nat_le, Bool, false, cond, is_some, nat_eq, List, [], ◌∷◌, ◌++◌, map, length, All, Option, Some, None, if◌then◌else◌}
 use Rattle.std.specs.Option.{option_or}
 use Rattle.mgs_model.specs.World.{World}
@@ -10,6 +10,7 @@ use Rattle.mgs_model.specs.declared.errors.OpenFault.TheVariants.{Full}
 use Rattle.mgs_model.specs.declared.limits.TheConstants.{SESSION_LIMIT}
 use Rattle.mgs_model.specs.Events.{open_fault}
 use Rattle.mgs_core.specs.Steps.{closed}
+use Rattle.mgs_store.specs.Stores.{StoreTold}
 use Rattle.mgs_world.specs.declared.size.Size.{Size}
 use Rattle.mgs_world.specs.Worlds.{sizes}
 use Rattle.mgs_engine.specs.declared.ending.Cause.{Cause}
@@ -19,6 +20,7 @@ use Rattle.mgs_engine.specs.Queues.{IsTaken, Queue, is_queue_of, waiting_in, fin
 -- the sessions that ended stand with their causes until they are told, the oldest first
 pub record Serving : Type 0 where
   pub world : World
+  pub store : StoreTold
   pub queues : List Queue
   pub ended : List (ℕ × Cause)
 
@@ -50,7 +52,7 @@ abbrev pub to_tell : Cause → ℕ → Serving → List (ℕ × Cause)
 to_tell cause id s = cond (is_served id s) ((id, cause) ∷ []) []
 
 abbrev pub ended_by : Cause → ℕ → Serving → Serving
-ended_by cause id s = record { world = closed s.world id; queues = remove_first (is_queue_of id) s.queues; ended = s.ended ++ to_tell cause id s }
+ended_by cause id s = record { world = closed s.world id; store = s.store; queues = remove_first (is_queue_of id) s.queues; ended = s.ended ++ to_tell cause id s }
 
 -- one after another
 abbrev pub all_ended_by : Cause → List ℕ → Serving → Serving

@@ -8,12 +8,13 @@ use crate::engine::Engine;
 use crate::tape::{Answer, Call, Piece, Tape, add_bytes};
 use mgs_marks::Marked;
 use mgs_model::Short;
+use mgs_store::Store;
 use std::alloc::Global;
 
 // Makes one call, after the tape has grown. Where that is refused, it is not made.
-fn make<T: Marked + Drop>(
+fn make<T: Marked + Drop, S: Store + Drop>(
     alloc: Global,
-    engine: &mut Engine<T>,
+    engine: &mut Engine<T, S>,
     call: &Call<'_>,
     answers: &mut Vec<Answer>,
     pieces: &mut Vec<Piece>,
@@ -59,9 +60,9 @@ fn make<T: Marked + Drop>(
 }
 
 // Makes calls in order, until the tape cannot grow.
-fn make_each<T: Marked + Drop>(
+fn make_each<T: Marked + Drop, S: Store + Drop>(
     alloc: Global,
-    engine: &mut Engine<T>,
+    engine: &mut Engine<T, S>,
     calls: &[Call<'_>],
     answers: &mut Vec<Answer>,
     pieces: &mut Vec<Piece>,
@@ -87,8 +88,8 @@ fn make_each<T: Marked + Drop>(
 ///
 /// `Short`: memory was refused to the tape, which grows before each call. The calls whose answers are on the tape were made,
 /// and no others.
-pub fn drive<T: Marked + Drop>(
-    engine: &mut Engine<T>,
+pub fn drive<T: Marked + Drop, S: Store + Drop>(
+    engine: &mut Engine<T, S>,
     calls: &[Call<'_>],
     tape: &mut Tape,
 ) -> Result<(), Short>

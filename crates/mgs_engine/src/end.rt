@@ -14,6 +14,7 @@ use crate::screen::Screen;
 use mgs_core::Core;
 use mgs_marks::Marked;
 use mgs_model::SessionId;
+use mgs_store::Store;
 
 /// Takes away the first screen of an id, and the bytes that wait with it: its session is to be told with its cause. Where
 /// none has the id, all stay.
@@ -49,19 +50,19 @@ fn first_late(screens: &[Screen]) -> Option<SessionId>
 }
 
 // Ends the session of an open screen that is late.
-fn end_slow<T: Marked + Drop>(
-    core: &mut Core<T>,
+fn end_slow<T: Marked + Drop, S: Store + Drop>(
+    core: &mut Core<T, S>,
     screens: &mut Vec<Screen>,
     ended: &mut Vec<(SessionId, Cause)>,
     id: SessionId,
 )
-    requires served { IsServedInTime core.old screens.old.items }
+    requires served { IsServedInTime core.old.world screens.old.items }
     requires slots { HasSlots screens.old.items ended.old.items (vec_capacity ended.old) }
     requires late { option_map (λ x. x.id) (find is_late screens.old.items) ≡ Some id }
-    ensures served { IsServedInTime core.new screens.new.items }
+    ensures served { IsServedInTime core.new.world screens.new.items }
     ensures slots { HasSlots screens.new.items ended.new.items (vec_capacity ended.new) }
     ensures ended { serving_of core.new screens.new.items ended.new.items ≡ ended_by Slow id (serving_of core.old screens.old.items ended.old.items) }
-    ensures closes { core.new ≡ step core.old (Close id) }
+    ensures closes { core.new.world ≡ step core.old.world (Close id) }
     ensures late { late_ids screens.old.items ≡ id ∷ late_ids screens.new.items }
     ensures kept { AreAmong screens.new.items screens.old.items }
 {
@@ -70,17 +71,17 @@ fn end_slow<T: Marked + Drop>(
 }
 
 /// Ends the sessions whose screens are late, in the order in which they opened.
-pub(crate) fn end_late<T: Marked + Drop>(
-    core: &mut Core<T>,
+pub(crate) fn end_late<T: Marked + Drop, S: Store + Drop>(
+    core: &mut Core<T, S>,
     screens: &mut Vec<Screen>,
     ended: &mut Vec<(SessionId, Cause)>,
 )
-    requires served { IsServedInTime core.old screens.old.items }
+    requires served { IsServedInTime core.old.world screens.old.items }
     requires slots { HasSlots screens.old.items ended.old.items (vec_capacity ended.old) }
-    ensures served { IsServed core.new screens.new.items }
+    ensures served { IsServed core.new.world screens.new.items }
     ensures slots { HasSlots screens.new.items ended.new.items (vec_capacity ended.new) }
     ensures ended { serving_of core.new screens.new.items ended.new.items ≡ all_ended_by Slow (late_ids screens.old.items) (serving_of core.old screens.old.items ended.old.items) }
-    ensures closes { core.new ≡ run core.old (map (λ i. Close i) (late_ids screens.old.items)) }
+    ensures closes { core.new.world ≡ run core.old.world (map (λ i. Close i) (late_ids screens.old.items)) }
     ensures kept { AreAmong screens.new.items screens.old.items }
 {
     while let Some(id) = first_late(screens) {

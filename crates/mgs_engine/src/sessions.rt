@@ -2,9 +2,10 @@
 use crate::engine::Engine;
 use mgs_marks::Marked;
 use mgs_model::{Keyed, OpenFault, SessionId};
+use mgs_store::Store;
 use mgs_wire::Sessions;
 
-impl<T: Marked + Drop> Sessions for Engine<T> {
+impl<T: Marked + Drop, S: Store + Drop> Sessions for Engine<T, S> {
     ghost use Rattle.mgs_model.specs.Events.{is_open};
     ghost use Rattle.mgs_engine.specs.Does.{Does};
     ghost use Rattle.mgs_engine.specs.Serving.{pending_of};

@@ -8,7 +8,7 @@ draw-requires g c = rw (c.requires.screen.rows, c.requires.screen.cols) c.requir
 
 pub returns : goal.returns
 returns g c =
-    let s = session_known c.args.core.now c.args.screen.now c.requires.known in
+    let s = session_known c.args.core.now.world c.args.screen.now c.requires.known in
     record {
       session = s.0;
       found = s.1;

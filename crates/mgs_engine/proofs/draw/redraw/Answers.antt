@@ -6,7 +6,7 @@ use Rattle.mgs_engine.proofs.draw.redraw.Goals as goal
 
 pub paint_in_time-requires : goal.paint_in_time-requires
 paint_in_time-requires g c = record {
-  screen = ahead_screen c.args.core.now c.args.screen.now c.draw_next.new.screen c.requires.known c.draw_next.ensures c.requires.screen;
+  screen = ahead_screen c.args.core.now.world c.args.screen.now c.draw_next.new.screen c.requires.known c.draw_next.ensures c.requires.screen;
   on_time = ap (λ (x : Screen). x.late) c.draw_next.ensures.same ∙ c.requires.on_time;
 }
 
@@ -15,5 +15,5 @@ returns-clause-size g c = c.paint_in_time.ensures.size ∙ ap shown_size c.draw_
 
 pub returns-clause-redrawn : goal.returns-clause-redrawn
 returns-clause-redrawn g c =
-    ahead_redrawn c.args.core.now c.args.screen.now c.draw_next.new.screen c.paint_in_time.new.screen c.draw_next.ensures c.paint_in_time.ensures.size
+    ahead_redrawn c.args.core.now.world c.args.screen.now c.draw_next.new.screen c.paint_in_time.new.screen c.draw_next.ensures c.paint_in_time.ensures.size
     c.paint_in_time.ensures.late c.paint_in_time.ensures.shown c.paint_in_time.ensures.repaint c.paint_in_time.ensures.prompt

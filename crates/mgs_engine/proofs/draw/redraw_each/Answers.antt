@@ -27,9 +27,9 @@ pub loop-at-preserved : goal.loop-at-preserved
 loop-at-preserved g c = record {
   each = All-set IsSessionScreen c.loop-at.screens c.loop-at.at c.redraw_at.new.screen c.redraw_at.ensures.screen c.loop-at.invariant.each;
   sizes = same_set shown_size c.loop-at.screens c.loop-at.at c.index-screens-at.result c.redraw_at.new.screen (omega arith) c.redraw_at.ensures.size ∙ c.loop-at.invariant.sizes;
-  redrawn = redrawn_next c.args.core.now c.loop-at.screens c.args.screens.now c.loop-at.at c.index-screens-at.result c.redraw_at.new.screen (omega arith) (omega arith) c.loop-at.invariant.rest c.loop-at.invariant.redrawn c.redraw_at.ensures.redrawn;
+  redrawn = redrawn_next c.args.core.now.world c.loop-at.screens c.args.screens.now c.loop-at.at c.index-screens-at.result c.redraw_at.new.screen (omega arith) (omega arith) c.loop-at.invariant.rest c.loop-at.invariant.redrawn c.redraw_at.ensures.redrawn;
   rest = rest_after c.loop-at.screens c.args.screens.now c.loop-at.at c.redraw_at.new.screen c.loop-at.invariant.rest;
 }
 
 pub returns-clause-redrawn : goal.returns-clause-redrawn
-returns-clause-redrawn g c = redrawn_all c.args.core.now c.loop-at.screens c.args.screens.now c.loop-at.at (omega arith) (omega arith) c.loop-at.invariant.redrawn
+returns-clause-redrawn g c = redrawn_all c.args.core.now.world c.loop-at.screens c.args.screens.now c.loop-at.at (omega arith) (omega arith) c.loop-at.invariant.redrawn

@@ -17,7 +17,7 @@ returns-clause-served g c =
     let none : find is_late c.loop-id.screens.items ≡ None =
     none_of (λ (x : Screen). x.id) (find is_late c.loop-id.screens.items)
     (sym (c.first_late.ensures ∙ ap (λ xs. option_map (λ (x : Screen). x.id) (find is_late xs)) c.deref.ensures.value) ∙ c.in_default.is) in
-    served_again c.loop-id.core c.loop-id.screens.items c.loop-id.invariant.served (on_time_all c.loop-id.screens.items none)
+    served_again c.loop-id.core.world c.loop-id.screens.items c.loop-id.invariant.served (on_time_all c.loop-id.screens.items none)
 
 pub returns-clause-ended : goal.returns-clause-ended
 returns-clause-ended g c =
@@ -33,4 +33,4 @@ returns-clause-closes g c =
     none_of (λ (x : Screen). x.id) (find is_late c.loop-id.screens.items)
     (sym (c.first_late.ensures ∙ ap (λ xs. option_map (λ (x : Screen). x.id) (find is_late xs)) c.deref.ensures.value) ∙ c.in_default.is) in
     let time : All IsOnTime c.loop-id.screens.items = on_time_all c.loop-id.screens.items none in
-    ap (λ is. run c.loop-id.core (map (λ i. Close i) is)) (sym (none_late c.loop-id.screens.items time)) ∙ c.loop-id.invariant.closes
+    ap (λ is. run c.loop-id.core.world (map (λ i. Close i) is)) (sym (none_late c.loop-id.screens.items time)) ∙ c.loop-id.invariant.closes

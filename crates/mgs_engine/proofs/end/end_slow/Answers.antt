@@ -11,12 +11,12 @@ use Rattle.mgs_engine.proofs.end.end_slow.Goals as goal
 
 pub returns-clause-served : goal.returns-clause-served
 returns-clause-served g c =
-    closed_in_time c.args.core.now c.close.new.self c.args.id c.args.screens.now.items c.end_screen.new.screens.items c.requires.served c.close.ensures.rest c.close.ensures.sizes c.end_screen.ensures.screens
+    closed_in_time c.args.core.now.world c.close.new.self.world c.args.id c.args.screens.now.items c.end_screen.new.screens.items c.requires.served c.close.ensures.rest c.close.ensures.sizes c.end_screen.ensures.screens
 
 pub returns-clause-ended : goal.returns-clause-ended
 returns-clause-ended g c =
     screen_less c.args.core.now c.close.new.self Slow c.args.id c.args.screens.now.items c.end_screen.new.screens.items c.args.ended.now.items c.end_screen.new.ended.items
-    c.close.ensures.rest c.end_screen.ensures.screens c.end_screen.ensures.ended
+    c.close.ensures.rest c.close.ensures.store c.end_screen.ensures.screens c.end_screen.ensures.ended
 
 pub returns-clause-late : goal.returns-clause-late
 returns-clause-late g c =

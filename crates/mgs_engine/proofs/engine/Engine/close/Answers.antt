@@ -16,7 +16,7 @@ use Rattle.mgs_engine.proofs.engine.Engine.close.Goals as goal
 
 pub invariant_of-self : goal.invariant_of-self
 invariant_of-self g c =
-    (served_closed c.self.inside.core c.close.new.self c.args.id c.self.inside.screens.items c.end_screen.new.screens.items c.self.invariant.0 c.close.ensures.rest c.close.ensures.sizes c.end_screen.ensures.screens, c.end_screen.ensures.slots)
+    (served_closed c.self.inside.core.world c.close.new.self.world c.args.id c.self.inside.screens.items c.end_screen.new.screens.items c.self.invariant.0 c.close.ensures.rest c.close.ensures.sizes c.end_screen.ensures.screens, c.end_screen.ensures.slots)
 
 pub returns-clause-queues : goal.returns-clause-queues
 returns-clause-queues g c =
@@ -27,13 +27,13 @@ returns-clause-queues g c =
 pub returns-clause-ended : goal.returns-clause-ended
 returns-clause-ended g c =
     screen_less c.self.inside.core c.close.new.self Closed c.args.id c.self.inside.screens.items c.end_screen.new.screens.items c.self.inside.ended.items c.end_screen.new.ended.items
-    c.close.ensures.rest c.end_screen.ensures.screens c.end_screen.ensures.ended
+    c.close.ensures.rest c.close.ensures.store c.end_screen.ensures.screens c.end_screen.ensures.ended
     ∙ ap (ended_by Closed c.args.id) c.self.view_is
 
 pub returns-clause-painted : goal.returns-clause-painted
 returns-clause-painted g c =
     let xs = c.self.inside.screens.items in
     let ys = c.end_screen.new.screens.items in
-    let served : IsServed c.close.new.self ys = served_closed c.self.inside.core c.close.new.self c.args.id xs ys c.self.invariant.0 c.close.ensures.rest c.close.ensures.sizes c.end_screen.ensures.screens in
+    let served : IsServed c.close.new.self.world ys = served_closed c.self.inside.core.world c.close.new.self.world c.args.id xs ys c.self.invariant.0 c.close.ensures.rest c.close.ensures.sizes c.end_screen.ensures.screens in
     subst (λ (s : Serving). Painted s (serving_of c.close.new.self ys c.end_screen.new.ended.items)) c.self.view_is
     (painted_closed c.self.inside.core c.close.new.self c.args.id xs ys c.self.inside.ended.items c.end_screen.new.ended.items c.end_screen.ensures.screens (subst IsUnique (sym c.self.invariant.0.sizes_are) c.self.invariant.0.unique) served.sizes_are c.self.invariant.0.drawn served.drawn)

@@ -22,7 +22,7 @@ pub draw_first-requires-clause-known : goal.draw_first-requires-clause-known
 draw_first-requires-clause-known g c =
     let y : Size = record { id = c.in_ok-id.id; rows = c.args.rows; cols = c.args.cols } in
     ap (find_size c.in_ok-id.id) c.in_ok-id.ensures.opened
-    ∙ known_last (sizes c.self.inside.core) y c.in_ok-id.ensures.fresh
+    ∙ known_last (sizes c.self.inside.core.world) y c.in_ok-id.ensures.fresh
     ∙ ap (λ (s : Size). Some s) (sym (same_size c.in_ok-id.id c.args.rows c.args.cols _ _ c.in-Ok.ensures.rows c.in-Ok.ensures.cols))
 
 pub invariant_of-self-2 : goal.invariant_of-self-2
@@ -31,7 +31,7 @@ invariant_of-self-2 g c =
     let items : c.push_reserved.new.self.items ≡ c.self.inside.screens.items ++ z ∷ [] = c.push_reserved.ensures.items ∙ ap (λ (xs : List Screen). xs ++ z ∷ []) c.reserve.ensures.items in
     let screens : length c.deref.result.now ≡ length c.self.inside.screens.items = ap length c.deref.ensures.value in
     let ended : length c.deref-2.result.now ≡ length c.self.inside.ended.items = ap length c.deref-2.ensures.value in (
-      served_opened c.self.inside.core c.open.new.self c.in_ok-id.id c.args.user.now c.args.rows c.args.cols c.self.inside.screens.items c.push_reserved.new.self.items z (record { id = c.in_ok-id.id; rows = c.args.rows; cols = c.args.cols })
+      served_opened c.self.inside.core.world c.open.new.self.world c.in_ok-id.id c.args.user.now c.args.rows c.args.cols c.self.inside.screens.items c.push_reserved.new.self.items z (record { id = c.in_ok-id.id; rows = c.args.rows; cols = c.args.cols })
           c.self.invariant.0 c.in_ok-id.ensures.rest c.in_ok-id.ensures.opened c.in_ok-id.ensures.fresh
           (c.push_reserved.ensures.items ∙ ap (λ (xs : List Screen). xs ++ z ∷ []) c.reserve.ensures.items)
           (c.draw_first.ensures.size ∙ same_size c.in_ok-id.id c.args.rows c.args.cols _ _ c.in-Ok.ensures.rows c.in-Ok.ensures.cols) c.draw_first.ensures.screen c.draw_first.ensures.drawn (c.draw_first.ensures.late ∙ c.in-Ok.ensures.on_time),
@@ -64,8 +64,8 @@ returns-clause-painted g c =
     let xs = c.self.inside.screens.items in
     let z = c.draw_first.new.screen in
     let items : c.push_reserved.new.self.items ≡ xs ++ z ∷ [] = c.push_reserved.ensures.items ∙ ap (λ (ys : List Screen). ys ++ z ∷ []) c.reserve.ensures.items in
-    let served : IsServed v c.push_reserved.new.self.items =
-    served_opened w v c.in_ok-id.id c.args.user.now c.args.rows c.args.cols xs c.push_reserved.new.self.items z (record { id = c.in_ok-id.id; rows = c.args.rows; cols = c.args.cols })
+    let served : IsServed v.world c.push_reserved.new.self.items =
+    served_opened w.world v.world c.in_ok-id.id c.args.user.now c.args.rows c.args.cols xs c.push_reserved.new.self.items z (record { id = c.in_ok-id.id; rows = c.args.rows; cols = c.args.cols })
     c.self.invariant.0 c.in_ok-id.ensures.rest c.in_ok-id.ensures.opened c.in_ok-id.ensures.fresh items
     (c.draw_first.ensures.size ∙ same_size c.in_ok-id.id c.args.rows c.args.cols _ _ c.in-Ok.ensures.rows c.in-Ok.ensures.cols) c.draw_first.ensures.screen c.draw_first.ensures.drawn (c.draw_first.ensures.late ∙ c.in-Ok.ensures.on_time) in
     subst (λ (s : Serving). Painted s (serving_of v c.push_reserved.new.self.items c.self.inside.ended.items)) c.self.view_is
@@ -78,5 +78,5 @@ returns-clause-first g c =
     let xs = c.self.inside.screens.items in
     let z = c.draw_first.new.screen in
     let items : c.push_reserved.new.self.items ≡ xs ++ z ∷ [] = c.push_reserved.ensures.items ∙ ap (λ (ys : List Screen). ys ++ z ∷ []) c.reserve.ensures.items in
-    subst (λ (ys : List Screen). (y : Session) × (find_session id v.sessions ≡ Some y) × Paints (screen v y) (pending_of id (serving_of v ys c.self.inside.ended.items))) (sym items)
+    subst (λ (ys : List Screen). (y : Session) × (find_session id v.world.sessions ≡ Some y) × Paints (screen v.world y) (pending_of id (serving_of v ys c.self.inside.ended.items))) (sym items)
     (first_opened v xs c.self.inside.ended.items z id (ap (λ (s : Size). s.id) c.draw_first.ensures.size) (ap (find_size id) c.self.invariant.0.sizes_are ∙ c.in_ok-id.ensures.fresh) c.draw_first.ensures.drawn c.draw_first.ensures.first)

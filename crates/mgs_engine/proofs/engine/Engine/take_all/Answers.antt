@@ -14,7 +14,7 @@ invariant_of-self g c = (
     sizes_are = sizes_same c.hand_all.new.screens.items c.self.inside.screens.items c.hand_all.ensures.drawn ∙ c.self.invariant.0.sizes_are;
     unique = c.self.invariant.0.unique;
     each = c.hand_all.ensures.each;
-    drawn = drawn_same c.self.inside.core c.hand_all.new.screens.items c.self.inside.screens.items c.hand_all.ensures.drawn c.self.invariant.0.drawn;
+    drawn = drawn_same c.self.inside.core.world c.hand_all.new.screens.items c.self.inside.screens.items c.hand_all.ensures.drawn c.self.invariant.0.drawn;
     on_time = on_time_same c.hand_all.new.screens.items c.self.inside.screens.items c.hand_all.ensures.drawn c.self.invariant.0.on_time;
   },
   same_slots c.self.inside.screens.items c.hand_all.new.screens.items c.self.inside.ended.items _ (sizes_same c.hand_all.new.screens.items c.self.inside.screens.items c.hand_all.ensures.drawn) c.self.invariant.1,
@@ -27,6 +27,6 @@ returns-clause-formed g c =
       sizes_are = sizes_same c.hand_all.new.screens.items c.self.inside.screens.items c.hand_all.ensures.drawn ∙ c.self.invariant.0.sizes_are;
       unique = c.self.invariant.0.unique;
       each = c.hand_all.ensures.each;
-      drawn = drawn_same c.self.inside.core c.hand_all.new.screens.items c.self.inside.screens.items c.hand_all.ensures.drawn c.self.invariant.0.drawn;
+      drawn = drawn_same c.self.inside.core.world c.hand_all.new.screens.items c.self.inside.screens.items c.hand_all.ensures.drawn c.self.invariant.0.drawn;
       on_time = on_time_same c.hand_all.new.screens.items c.self.inside.screens.items c.hand_all.ensures.drawn c.self.invariant.0.on_time;
     })

@@ -9,7 +9,7 @@ invariant_of-self g c = (
     sizes_are = sizes_same c.take_from.new.screens.items c.self.inside.screens.items c.take_from.ensures.drawn ∙ c.self.invariant.0.sizes_are;
     unique = c.self.invariant.0.unique;
     each = c.take_from.ensures.each;
-    drawn = drawn_same c.self.inside.core c.take_from.new.screens.items c.self.inside.screens.items c.take_from.ensures.drawn c.self.invariant.0.drawn;
+    drawn = drawn_same c.self.inside.core.world c.take_from.new.screens.items c.self.inside.screens.items c.take_from.ensures.drawn c.self.invariant.0.drawn;
     on_time = on_time_same c.take_from.new.screens.items c.self.inside.screens.items c.take_from.ensures.drawn c.self.invariant.0.on_time;
   },
   same_slots c.self.inside.screens.items c.take_from.new.screens.items c.self.inside.ended.items _ (sizes_same c.take_from.new.screens.items c.self.inside.screens.items c.take_from.ensures.drawn) c.self.invariant.1,
