@@ -4,4 +4,5 @@ pub mod Leaving
 pub mod Marked
 pub mod Outcomes
 pub mod Plans
+pub mod Saves
 pub mod Spelled

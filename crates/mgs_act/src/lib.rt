@@ -9,3 +9,4 @@ mod planning;
 mod saving;
 
 pub use acts::{KeyAct, act};
+pub use saving::save;

@@ -119,3 +119,73 @@ fn touched_by(name: &Name, stored: bool) -> Touched
         Touched::Nowhere
     }
 }
+
+/// A save that nothing stands against, by the session at `at`, and whether it was stored. `Short`: memory was refused, the
+/// world is as it was, and the store was not asked.
+fn save_text<T: Marked + Drop, S: Store>(
+    buffers: &mut Buffers<T>,
+    sessions: &mut [Session],
+    at: usize,
+    name: &Name,
+    store: &mut S,
+) -> Result<bool, Short>
+    requires sound { IsSound buffers.old sessions.old }
+    requires within { at < length sessions.old }
+    requires kept { HasBuffer name.now buffers.old }
+    requires fresh { own_at at sessions.old ≡ idle (own_at at sessions.old).kind }
+    ensures sound { IsSound buffers.new sessions.new }
+    ensures sizes { sizes_in sessions.new ≡ sizes_in sessions.old }
+    ensures ok { IfOk result (λ stored. (directory : Directory) (id : ℕ) (next : Option ℕ) → at ≡ position_or_len (session_id id) sessions.old → world_of directory buffers.new sessions.new next ≡ apply (world_of directory buffers.old sessions.old next) id (save_answered (own_at at sessions.old) name.now (marked_at name.now buffers.old).buffer.text stored)) }
+    ensures saved { IfOk result (λ stored. S.accepted store.new ≡ told_more (saves_if stored name.now (marked_at name.now buffers.old).buffer.text) (S.accepted store.old)) }
+    ensures fault { IfOk result (λ stored. stored ≡ false → IsCounted (S.failed store.old) (S.failed store.new)) }
+    ensures err { OnErr result ((directory : Directory) (next : Option ℕ) → world_of directory buffers.new sessions.new next ≡ world_of directory buffers.old sessions.old next) }
+    ensures unasked { OnErr result (store.new ≡ store.old) }
+{
+    match ask_store(buffers, name, store) {
+        Ok(stored) => {
+            note_answer(buffers, &mut sessions[at], name, stored);
+            Ok(stored)
+        }
+        Err(short) => Err(short),
+    }
+}
+
+/// Saves the text that the selected window of the session at `at` shows, where its user may read and write it and it has a
+/// file. The session has nothing half read and an empty echo line. It tells what it touched. A save that the store
+/// refused is told as such, and the store counted the fault. `Short`: memory was refused, the world is as it was, the store was
+/// not asked, and the act is one that may be refused.
+pub fn save<T: Marked + Drop, S: Store>(
+    buffers: &mut Buffers<T>,
+    directory: &Directory,
+    sessions: &mut [Session],
+    at: usize,
+    store: &mut S,
+) -> Result<Touched, Short>
+    requires sound { IsSound buffers.old sessions.old }
+    requires within { at < length sessions.old }
+    requires fresh { own_at at sessions.old ≡ idle (own_at at sessions.old).kind }
+    ensures sound { IsSound buffers.new sessions.new }
+    ensures sizes { sizes_in sessions.new ≡ sizes_in sessions.old }
+    ensures ok { OnOk result ((id : ℕ) (next : Option ℕ) (n : Option ℕ) → at ≡ position_or_len (session_id id) sessions.old → SavedBy (world_of directory.now buffers.old sessions.old next) (world_of directory.now buffers.new sessions.new next) (record { failed = S.failed store.old; accepted = S.accepted store.old }) (record { failed = S.failed store.new; accepted = S.accepted store.new }) id n) }
+    ensures touched { IfOk result (λ touched. (id : ℕ) (next : Option ℕ) → at ≡ position_or_len (session_id id) sessions.old → Apart touched id (world_of directory.now buffers.old sessions.old next) (world_of directory.now buffers.new sessions.new next)) }
+    ensures err { OnErr result ((next : Option ℕ) → world_of directory.now buffers.new sessions.new next ≡ world_of directory.now buffers.old sessions.old next) }
+    ensures unasked { OnErr result (store.new ≡ store.old) }
+    ensures may { OnErr result ((id : ℕ) (next : Option ℕ) (n : Option ℕ) → at ≡ position_or_len (session_id id) sessions.old → may_be_refused (outcome_in (world_of directory.now buffers.old sessions.old next) id (Run SaveBuffer n []) true) ≡ true) }
+{
+    let session = &sessions[at];
+    let Some(window_marks) = selected_window_marks(session) else {
+        fail(&mut sessions[at], Message::NoBuffer);
+        return Ok(Touched::Nowhere);
+    };
+    let name = window_marks.name;
+    match refusal(buffers, directory, &session.user, &name) {
+        Some(message) => {
+            fail(&mut sessions[at], message);
+            Ok(Touched::Nowhere)
+        }
+        None => match save_text(buffers, sessions, at, &name, store) {
+            Ok(stored) => Ok(touched_by(&name, stored)),
+            Err(short) => Err(short),
+        },
+    }
+}
