@@ -1,10 +1,11 @@
--- What the store tells of acts that save nothing.
-use Rattle.std.proofs.Common.{◌≡◌, ℕ, true, false, refl, subst}
+-- What the store tells of an act, of one that saves and of one that does not.
+use Rattle.std.proofs.Common.{◌≡◌, ◌||◌, ℕ, Bool, true, false, List, [], Option, refl, sym, ap, ◌∙◌, subst}
 use Rattle.std.specs.List.{flat_map}
 use Rattle.mgs_model.specs.World.{World}
 use Rattle.mgs_model.specs.Outcome.{Act}
-use Rattle.mgs_model.specs.Apply.{act}
-use Rattle.mgs_model.specs.Events.{act_effects, saved_by}
+use Rattle.mgs_model.specs.Outcome as outcomes
+use Rattle.mgs_model.specs.Apply.{act, outcome_in}
+use Rattle.mgs_model.specs.Events.{act_effects, may_be_refused, saved_by}
 use Rattle.mgs_model.specs.declared.errors.Keyed.{Keyed}
 use Rattle.mgs_model.specs.declared.session.Command.TheVariants.{SaveBuffer}
 use Rattle.mgs_model.proofs.Saves.{is_save, act_saves_none}
@@ -13,8 +14,9 @@ use Rattle.mgs_store.proofs.Told.{told_none}
 use Rattle.mgs_act.specs.declared.acts.KeyAct.{KeyAct}
 use Rattle.mgs_act.specs.declared.acts.KeyAct.TheVariants.{Unbound, Run}
 use Rattle.mgs_act.specs.Actions.{act_of, is_done_here}
+use Rattle.mgs_act.specs.Saving.{SavedBy}
 use Rattle.mgs_core.specs.Kept.{Kept}
-use Rattle.mgs_core.specs.Steps.{ActedBy, KeyedBy}
+use Rattle.mgs_core.specs.Steps.{ActedBy, KeyedBy, asks_store, is_acted}
 
 -- what is done by the act is no save
 done_saves_none : (a : KeyAct) → is_done_here a ≡ true → is_save (act_of a) ≡ false
@@ -30,6 +32,22 @@ acted_quietly old new t id a here world = record {
   fault = λ e. cc;
   saves = told_none t.accepted (flat_map saved_by (act_effects old id (act_of a) true)) (act_saves_none old id (act_of a) true (done_saves_none a here));
 }
+
+-- what does not ask it is done as any other act
+pub done_else : (a : KeyAct) → is_acted a ≡ true → asks_store a ≡ false → is_done_here a ≡ true
+done_else a acts none = sym (ap (λ (b : Bool). b || is_done_here a) none) ∙ acts
+
+-- a save, whatever its argument
+pub acted_saving : (old new : World) (before after : StoreTold) (id : ℕ) (a : KeyAct) → asks_store a ≡ true → ((n : Option ℕ) → SavedBy old new before after id n) → ActedBy old new before after id (act_of a)
+acted_saving old new before after id Unbound h saved = cc
+acted_saving old new before after id (Run SaveBuffer n) h saved =
+    let by = saved n in record { stored = by.stored; world = by.world; fault = by.fault; saves = by.saves }
+acted_saving old new before after id (Run _ n) h saved = cc
+
+pub may_saving : (w : World) (id : ℕ) (a : KeyAct) → asks_store a ≡ true → ((n : Option ℕ) → may_be_refused (outcome_in w id (outcomes.Run SaveBuffer n []) true) ≡ true) → may_be_refused (outcome_in w id (act_of a) true) ≡ true
+may_saving w id Unbound h may = cc
+may_saving w id (Run SaveBuffer n) h may = may n
+may_saving w id (Run _ n) h may = cc
 
 -- what is seen of a server
 pub keyed_seen : (k l : Kept) (v : World) (t : StoreTold) (id byte : ℕ) (result : Keyed) → k ≡ l → KeyedBy k.world v k.store t id byte result → KeyedBy l.world v l.store t id byte result
