@@ -11,6 +11,7 @@ use Rattle.mgs_model.specs.declared.errors.Keyed.{Keyed}
 use Rattle.mgs_model.specs.declared.errors.Keyed.TheVariants as keyed
 use Rattle.mgs_model.specs.declared.errors.OpenFault.{OpenFault}
 use Rattle.mgs_model.specs.declared.errors.OpenFault.TheVariants as opening
+use Rattle.mgs_store.specs.Stores.{StoreTold}
 use Rattle.mgs_core.specs.Steps.{KeyedBy, OpenedBy}
 use Rattle.mgs_script.specs.Lines.{Said, said_in}
 use Rattle.mgs_script.specs.Lines as said
@@ -181,8 +182,12 @@ keyed_is : (c : Choice) (w : World) (id byte : ℕ) → world_keyed c w id byte 
 unfolding world_keyed
 keyed_is c w id byte = refl
 
-keyed_by : (c : Choice) (w : World) (id byte : ℕ) → is_open id w ≡ true → KeyedBy w (world_keyed c w id byte) id byte (key_answer c w id byte)
-unfolding key_answer
+-- a store that counts its fault and tells nothing
+silent : ℕ → StoreTold
+silent faults = record { failed = faults; accepted = None }
+
+keyed_by : (c : Choice) (w : World) (id byte : ℕ) → is_open id w ≡ true → KeyedBy w (world_keyed c w id byte) (silent 0) (silent 1) id byte (key_answer c w id byte)
+unfolding key_answer silent
 keyed_by c w id byte there =
     let fits = answer_fits (find_session id w.sessions) (find_session id (world_keyed c w id byte).sessions) (stop_of c w id byte) there (refused_kept c w id byte there) in
     record {
@@ -193,9 +198,11 @@ keyed_by c w id byte there =
       no_session = fits.1;
       quit = fits.2;
       may = refused_may c w id byte;
+      fault = λ e. inl (omega arith);
+      saves = refl;
     }
 
-sound_keyed : (k : Keyed) (w v : World) (name : List ℕ) (id byte : ℕ) (ls : List Label) → KeyedBy w v id byte k → session_now (standing_of name ls) ≡ Some id → IsSound w ls → IsSound v (labels_keyed k name ls)
+sound_keyed : {before after : StoreTold} (k : Keyed) (w v : World) (name : List ℕ) (id byte : ℕ) (ls : List Label) → KeyedBy w v before after id byte k → session_now (standing_of name ls) ≡ Some id → IsSound w ls → IsSound v (labels_keyed k name ls)
 sound_keyed keyed.Quit w v name id byte ls by now h = sound_gone w v name id causes.Quit ls (keyed_beside w v id byte keyed.Quit by) now h
 sound_keyed keyed.Done w v name id byte ls by now h =
     sound_still w v id ls (keyed_beside w v id byte keyed.Done by) (there_now w name id ls now h.there) (keyed_still w v id byte keyed.Done by (there_now w name id ls now h.there) (λ e. absurd cc)) h
@@ -209,7 +216,7 @@ one_allowed c None s name byte now h = (refl, h)
 one_allowed c (Some id) s name byte now h =
     let by = keyed_by c s.world id byte (there_now s.world name id s.labels now h.there) in
     let k = key_answer c s.world id byte in
-    ((k, by, refl, refl), sound_keyed k s.world (world_keyed c s.world id byte) name id byte s.labels by now h)
+    ((k, (silent 0, silent 1, by), refl, refl), sound_keyed k s.world (world_keyed c s.world id byte) name id byte s.labels by now h)
 
 all_allowed : (cs : List Choice) (s : Player) (name keys : List ℕ) → IsSoundPlayer s → Types s name keys (typed cs s name keys) × IsSoundPlayer (typed cs s name keys)
 all_allowed cs s name [] h = (refl, h)

@@ -8,6 +8,7 @@ use Rattle.mgs_model.specs.Draw.{screen}
 use Rattle.mgs_model.specs.declared.errors.Keyed.{Keyed}
 use Rattle.mgs_model.specs.declared.errors.Keyed.TheVariants as keyed
 use Rattle.mgs_model.specs.declared.errors.OpenFault.{OpenFault}
+use Rattle.mgs_store.specs.Stores.{StoreTold}
 use Rattle.mgs_core.specs.Steps.{KeyedBy, OpenedBy}
 use Rattle.mgs_engine.specs.Serving.{Serving}
 use Rattle.mgs_engine.specs.Painted.{Painted}
@@ -44,13 +45,13 @@ labels_keyed_are keyed.Short name xs = refl
 labels_keyed_are keyed.Quit name xs = labels_gone name causes.Quit xs
 labels_keyed_are keyed.NoSession name xs = refl
 
-keyed_on : (k : Keyed) (old new : Serving) (name : List ℕ) (id byte : ℕ) (xs : List Labelled) → IsReady old xs → session_in name xs ≡ Some id → KeyedBy old.world new.world id byte k → Painted old new → (k ≡ keyed.Quit → ⊥) → IsWaiting new xs
+keyed_on : {before after : StoreTold} (k : Keyed) (old new : Serving) (name : List ℕ) (id byte : ℕ) (xs : List Labelled) → IsReady old xs → session_in name xs ≡ Some id → KeyedBy old.world new.world before after id byte k → Painted old new → (k ≡ keyed.Quit → ⊥) → IsWaiting new xs
 keyed_on k old new name id byte xs ready now by painted other =
     let there = there_now old.world name id (labels_in xs) now (all_there old.world xs ready.shows) in
     waiting_still old new xs id ready (keyed_beside old.world new.world id byte k by) (keyed_still old.world new.world id byte k by there other) painted
 
 -- the session of a byte stays open, or it ends and its label's with it
-pub waiting_keyed : (k : Keyed) (old new : Serving) (name : List ℕ) (id byte : ℕ) (xs : List Labelled) → IsReady old xs → session_in name xs ≡ Some id → KeyedBy old.world new.world id byte k → Painted old new → IsWaiting new (clients_keyed k name xs)
+pub waiting_keyed : {before after : StoreTold} (k : Keyed) (old new : Serving) (name : List ℕ) (id byte : ℕ) (xs : List Labelled) → IsReady old xs → session_in name xs ≡ Some id → KeyedBy old.world new.world before after id byte k → Painted old new → IsWaiting new (clients_keyed k name xs)
 waiting_keyed keyed.Quit old new name id byte xs ready now by painted =
     waiting_gone old new name id causes.Quit xs ready now (keyed_beside old.world new.world id byte keyed.Quit by) painted
 waiting_keyed keyed.Done old new name id byte xs ready now by painted = keyed_on keyed.Done old new name id byte xs ready now by painted (λ e. absurd cc)

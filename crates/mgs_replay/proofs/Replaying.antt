@@ -10,6 +10,7 @@ use Rattle.mgs_model.specs.declared.errors.Keyed.{Keyed}
 use Rattle.mgs_model.specs.declared.errors.Keyed.TheVariants as keyed
 use Rattle.mgs_model.specs.declared.errors.OpenFault.{OpenFault}
 use Rattle.mgs_model.specs.declared.errors.OpenFault.TheVariants as opening
+use Rattle.mgs_store.specs.Stores.{StoreTold}
 use Rattle.mgs_core.specs.Steps.{KeyedBy}
 use Rattle.mgs_model.specs.Events.{open_fault}
 use Rattle.mgs_script.specs.Lines.{Said, said_in}
@@ -43,19 +44,19 @@ player w ls b = record { world = w; labels = ls; begun = b }
 player_same : (p : Player) (w : World) (ls : List Label) (b : Bool) → w ≡ p.world → ls ≡ p.labels → b ≡ p.begun → player w ls b ≡ p
 player_same p w ls b e f g = ap (λ (x : World). player x ls b) e ∙ ap (λ (x : List Label). player p.world x b) f ∙ ap (λ (x : Bool). player p.world p.labels x) g
 
-choice_of : (old new : World) (id byte : ℕ) (answer : Keyed) → KeyedBy old new id byte answer → Choice
+choice_of : {before after : StoreTold} (old new : World) (id byte : ℕ) (answer : Keyed) → KeyedBy old new before after id byte answer → Choice
 choice_of old new id byte answer k = record { stored = k.stored; stop = k.stop }
 
-stop_is : (old new : World) (id byte : ℕ) (answer : Keyed) (k : KeyedBy old new id byte answer) → stop_of (choice_of old new id byte answer k) old id byte ≡ k.stop
+stop_is : {before after : StoreTold} (old new : World) (id byte : ℕ) (answer : Keyed) (k : KeyedBy old new before after id byte answer) → stop_of (choice_of old new id byte answer k) old id byte ≡ k.stop
 unfolding stop_of choice_of
 stop_is old new id byte answer k = cond_stop (may_be_refused (refused_act old id byte k.stored k.stop)) k.stop k.may
 
-world_is : (old new : World) (id byte : ℕ) (answer : Keyed) (k : KeyedBy old new id byte answer) → world_keyed (choice_of old new id byte answer k) old id byte ≡ new
+world_is : {before after : StoreTold} (old new : World) (id byte : ℕ) (answer : Keyed) (k : KeyedBy old new before after id byte answer) → world_keyed (choice_of old new id byte answer k) old id byte ≡ new
 unfolding world_keyed choice_of
 world_is old new id byte answer k =
     ap (λ (stop : Option ℕ). step old (events.Byte id byte k.stored stop)) (stop_is old new id byte answer k) ∙ sym k.step
 
-key_is : (old new : World) (id byte : ℕ) (answer : Keyed) (k : KeyedBy old new id byte answer) → key_answer (choice_of old new id byte answer k) old id byte ≡ answer
+key_is : {before after : StoreTold} (old new : World) (id byte : ℕ) (answer : Keyed) (k : KeyedBy old new before after id byte answer) → key_answer (choice_of old new id byte answer k) old id byte ≡ answer
 unfolding key_answer
 key_is old new id byte answer k =
     ap (λ (stop : Option ℕ). answer_of (find_session id old.sessions) (find_session id (world_keyed (choice_of old new id byte answer k) old id byte).sessions) stop) (stop_is old new id byte answer k)
@@ -65,11 +66,11 @@ key_is old new id byte answer k =
 one_typed : (o : Option ℕ) (s : Player) (name : List ℕ) (byte : ℕ) (t : Player) → TypesOne o s name byte t → (c : Choice) × (typed_one c o s name byte ≡ t)
 one_typed None s name byte t h = (granted, sym h)
 one_typed (Some id) s name byte t h =
-    let c = choice_of s.world t.world id byte h.0 h.1 in (
+    let c = choice_of s.world t.world id byte h.0 h.1.2 in (
       c,
       player_same t (world_keyed c s.world id byte) (labels_keyed (key_answer c s.world id byte) name s.labels) s.begun
-          (world_is s.world t.world id byte h.0 h.1)
-          (ap (λ (k : Keyed). labels_keyed k name s.labels) (key_is s.world t.world id byte h.0 h.1) ∙ sym h.2)
+          (world_is s.world t.world id byte h.0 h.1.2)
+          (ap (λ (k : Keyed). labels_keyed k name s.labels) (key_is s.world t.world id byte h.0 h.1.2) ∙ sym h.2)
           (sym h.3),
     )
 

@@ -7,6 +7,7 @@ use Rattle.mgs_model.specs.World.{World, Session, find_session}
 use Rattle.mgs_model.specs.Events.{is_open}
 use Rattle.mgs_model.specs.declared.errors.Keyed.{Keyed}
 use Rattle.mgs_model.specs.declared.errors.Keyed.TheVariants as keyed
+use Rattle.mgs_store.specs.Stores.{StoreTold}
 use Rattle.mgs_core.specs.Steps.{KeyedBy}
 use Rattle.mgs_core.proofs.Ids.{All-found}
 use Rattle.mgs_replay.specs.declared.client.Cause.{Cause}
@@ -77,7 +78,7 @@ are_gone w v name id cause ls beside now apart h =
 
 -- A BYTE: by the worlds before and after it
 
-pub keyed_beside : (w v : World) (id byte : ℕ) (k : Keyed) → KeyedBy w v id byte k → Beside id w v
+pub keyed_beside : {before after : StoreTold} (w v : World) (id byte : ℕ) (k : Keyed) → KeyedBy w v before after id byte k → Beside id w v
 keyed_beside w v id byte k by = subst (Beside id w) (sym by.step) (beside_byte id byte by.stored by.stop w)
 
 open_unless : (o p : Option Session) (k : Keyed) → is_some o ≡ true → (k ≡ keyed.Quit → ⊥) → (IsSome o × (p ≡ None) → k ≡ keyed.Quit) → is_some p ≡ true
@@ -85,5 +86,5 @@ open_unless o None k there other quits = absurd (other (quits (there, refl)))
 open_unless o (Some y) k there other quits = refl
 
 -- its session is open but where it is told that it ended
-pub keyed_still : (w v : World) (id byte : ℕ) (k : Keyed) → KeyedBy w v id byte k → is_open id w ≡ true → (k ≡ keyed.Quit → ⊥) → is_open id v ≡ true
+pub keyed_still : {before after : StoreTold} (w v : World) (id byte : ℕ) (k : Keyed) → KeyedBy w v before after id byte k → is_open id w ≡ true → (k ≡ keyed.Quit → ⊥) → is_open id v ≡ true
 keyed_still w v id byte k by there other = open_unless (find_session id w.sessions) (find_session id v.sessions) k there other by.quit.1

@@ -9,6 +9,7 @@ use Rattle.mgs_model.specs.Events as events
 use Rattle.mgs_model.specs.declared.errors.Keyed.{Keyed}
 use Rattle.mgs_model.specs.declared.errors.Keyed.TheVariants as keyed
 use Rattle.mgs_model.specs.declared.errors.OpenFault.{OpenFault}
+use Rattle.mgs_store.specs.Stores.{StoreTold}
 use Rattle.mgs_core.specs.Steps.{KeyedBy, OpenedBy}
 use Rattle.mgs_paint.specs.Painting.{shown}
 use Rattle.mgs_replay.specs.declared.client.Cause.{Cause}
@@ -104,11 +105,15 @@ labels_keyed keyed.Done name xs = xs
 labels_keyed keyed.NoSession name xs = xs
 labels_keyed keyed.Short name xs = xs
 
+-- what a byte of a session leads to, with what some store tells
+abbrev pub KeyedSo : World → World → ℕ → ℕ → Keyed → Type 0
+KeyedSo old new id byte answer = (before : StoreTold) × (after : StoreTold) × KeyedBy old new before after id byte answer
+
 -- a byte of a label is one event; none of a session that ended
 abbrev pub TypesOne : Option ℕ → Player → List ℕ → ℕ → Player → Type 0
 TypesOne None s name byte t = t ≡ s
 TypesOne (Some id) s name byte t =
-    (answer : Keyed) × KeyedBy s.world t.world id byte answer × (t.labels ≡ labels_keyed answer name s.labels) × (t.begun ≡ s.begun)
+    (answer : Keyed) × KeyedSo s.world t.world id byte answer × (t.labels ≡ labels_keyed answer name s.labels) × (t.begun ≡ s.begun)
 
 -- bytes of a label, one after another
 abbrev pub Types : Player → List ℕ → List ℕ → Player → Type 0

@@ -18,11 +18,12 @@ use mgs_engine::Engine;
 use mgs_gap::GapText;
 use mgs_model::{Keyed, Name, OpenFault, SessionId, Short};
 use mgs_script::{Line, LineFault, read_line, typed_label};
+use mgs_store::RefusingStore;
 use mgs_term::Term;
 use std::alloc::{AllocError, Global};
 
-/// An engine whose texts are plain.
-pub(crate) type Server = Engine<GapText>;
+/// An engine of texts that no store takes.
+pub(crate) type Server = Engine<GapText, RefusingStore>;
 
 fn printed(outcome: Result<(), AllocError>) -> Result<(), LineFault>
     ensures { result ≡ short_or outcome }

@@ -14,6 +14,7 @@ use mgs_gap::GapText;
 use mgs_model::{BUFFER_LIMIT, Name, Short, TEXT_LIMIT};
 use mgs_policy::{Directory, DirectoryFault};
 use mgs_script::{Line, LineFault};
+use mgs_store::RefusingStore;
 use std::alloc::Global;
 use std::marker::Model;
 
@@ -239,11 +240,11 @@ impl<'a> Setup<'a> {
         }
     }
 
-    /// A server over these users and buffers, without a session.
+    /// A server over these users and buffers, without a session. No buffer of a script has a file, so nothing is saved.
     #[tactic(auto, using(crate::proofs::Drafts::marked_buffers, crate::proofs::Drafts::unmarked_drafts))]
-    pub(crate) fn into_core(self) -> Result<Core<GapText>, Short>
-        ensures world { IfOk result (λ c. c ≡ self.entry) }
-        ensures sessions { IfOk result (λ c. c.sessions ≡ []) }
+    pub(crate) fn into_core(self) -> Result<Core<GapText, RefusingStore>, Short>
+        ensures world { IfOk result (λ c. c.world ≡ self.entry) }
+        ensures sessions { IfOk result (λ c. c.world.sessions ≡ []) }
     {
         let Setup {
             alloc,
@@ -251,6 +252,6 @@ impl<'a> Setup<'a> {
             drafts,
         } = self;
         let buffers = buffers_of(alloc, &drafts)?;
-        Ok(Core::new(alloc, directory, buffers))
+        Ok(Core::new(alloc, directory, buffers, RefusingStore::new()))
     }
 }

@@ -8,6 +8,7 @@ use mgs_core::Core;
 use mgs_engine::Engine;
 use mgs_gap::GapText;
 use mgs_model::{SESSION_LIMIT, Tickets};
+use mgs_store::RefusingStore;
 use mgs_wire::{PumpedIn, Sessions};
 use mio::net::{TcpListener, TcpStream};
 use mio::{Events, Interest, Poll, Registry, Token};
@@ -46,7 +47,7 @@ pub struct PollFailed;
 #[derive(Drop)]
 pub struct Server {
     alloc: Global,
-    engine: Engine<GapText>,
+    engine: Engine<GapText, RefusingStore>,
     tickets: Tickets,
     peers: Slab<Peer<TcpStream>>,
     listener: TcpListener,
@@ -138,7 +139,7 @@ fn serve_ready<E: Sessions>(
 }
 
 // Hears of each session that ended: its slot is free from then on.
-fn hear_ended(engine: &mut Engine<GapText>) {
+fn hear_ended(engine: &mut Engine<GapText, RefusingStore>) {
     for _ in 0..u64::MAX {
         if engine.ended().is_none() {
             return;
@@ -170,7 +171,7 @@ impl Server {
         let Ok(peers) = Slab::with_capacity(alloc, SESSION_LIMIT) else {
             return Err(ListenFault::Short);
         };
-        let core = Core::new(alloc, config.directory, config.buffers);
+        let core = Core::new(alloc, config.directory, config.buffers, RefusingStore::new());
         let Ok(engine) = Engine::new(alloc, core) else {
             return Err(ListenFault::Short);
         };

@@ -5,6 +5,7 @@ use mgs_buffers::Buffers;
 use mgs_core::Core;
 use mgs_marks::PlainMarked;
 use mgs_model::{Keyed, SessionId};
+use mgs_store::RefusingStore;
 use std::alloc::Global;
 use std::process::Abort;
 use std::test::Fail;
@@ -196,15 +197,15 @@ fn sessions_read_their_own_words(rt: HostRuntime) -> Result<(), Fail> {
 }
 
 // A core of one buffer of ann.
-pub(crate) fn core_of_ann(alloc: Global, rt: &impl Abort) -> Core<PlainMarked> {
+pub(crate) fn core_of_ann(alloc: Global, rt: &impl Abort) -> Core<PlainMarked, RefusingStore> {
     let directory = directory_of(alloc, &["ann"], rt);
     let mut buffers = Buffers::new(alloc);
     let list = list_of(&["ALLOW OWNER@ rwat"], rt);
     assert!(rt; buffers.add("notes", "ann", list, &[], false).is_ok());
-    Core::new(alloc, directory, buffers)
+    Core::new(alloc, directory, buffers, RefusingStore::new())
 }
 
-fn answer(core: &mut Core<PlainMarked>, id: SessionId, byte: u8) -> Keyed {
+fn answer(core: &mut Core<PlainMarked, RefusingStore>, id: SessionId, byte: u8) -> Keyed {
     core.key(id, byte).0
 }
 

@@ -5,6 +5,7 @@ use mgs_engine::{Engine, Taker};
 use mgs_marks::PlainMarked;
 use mgs_model::{Keyed, SessionId};
 use mgs_policy::Directory;
+use mgs_store::RefusingStore;
 use std::alloc::Global;
 use std::process::Abort;
 use std::test::Fail;
@@ -22,7 +23,7 @@ impl Taker for Seen {
 }
 
 // The world of ann, and of a buffer that she may read and write.
-fn world(alloc: Global, rt: &impl Abort) -> Core<PlainMarked> {
+fn world(alloc: Global, rt: &impl Abort) -> Core<PlainMarked, RefusingStore> {
     let mut directory = Directory::new(alloc);
     assert!(rt; directory.add_user("ann").is_ok());
     let Ok(entry) = read_entry("ALLOW OWNER@ rwt") else {
@@ -36,7 +37,7 @@ fn world(alloc: Global, rt: &impl Abort) -> Core<PlainMarked> {
             .add("notes", "ann", list, &['a', 'b'], false)
             .is_ok()
     );
-    Core::new(alloc, directory, buffers)
+    Core::new(alloc, directory, buffers, RefusingStore::new())
 }
 
 #[test]

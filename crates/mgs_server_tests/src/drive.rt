@@ -5,18 +5,19 @@ use mgs_core::Core;
 use mgs_engine::{Answer, Call, Cause, Engine, Tape, drive};
 use mgs_marks::PlainMarked;
 use mgs_model::Keyed;
+use mgs_store::RefusingStore;
 use mgs_term::Term;
 use std::alloc::Global;
 use std::process::Abort;
 use std::test::Fail;
 
 // The empty buffer `notes` of ann.
-fn serve(alloc: Global, rt: &impl Abort) -> Engine<PlainMarked> {
+fn serve(alloc: Global, rt: &impl Abort) -> Engine<PlainMarked, RefusingStore> {
     let directory = directory_of(alloc, &["ann"], rt);
     let list = list_of(&["ALLOW OWNER@ rwat"], rt);
     let mut buffers = Buffers::new(alloc);
     assert!(rt; buffers.add("notes", "ann", list, &[], false).is_ok());
-    match Engine::new(alloc, Core::new(alloc, directory, buffers)) {
+    match Engine::new(alloc, Core::new(alloc, directory, buffers, RefusingStore::new())) {
         Ok(engine) => engine,
         Err(_) => panic!(rt; "no memory"),
     }

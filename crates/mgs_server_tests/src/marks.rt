@@ -3,16 +3,17 @@ use super::arguments::core_of_ann;
 use mgs_core::Core;
 use mgs_marks::PlainMarked;
 use mgs_model::{Name, SessionId};
+use mgs_store::RefusingStore;
 use std::test::Fail;
 
-fn type_keys(core: &mut Core<PlainMarked>, id: SessionId, keys: &[u8]) {
+fn type_keys(core: &mut Core<PlainMarked, RefusingStore>, id: SessionId, keys: &[u8]) {
     for key in keys {
         core.key(id, *key);
     }
 }
 
 // Each session of 1 to 64 whose id leaves this rest by 4 types these keys, not in the order of the ids.
-fn quarter_types(core: &mut Core<PlainMarked>, rest: u64, keys: &[u8]) {
+fn quarter_types(core: &mut Core<PlainMarked, RefusingStore>, rest: u64, keys: &[u8]) {
     for turn in 1..65u64 {
         let id = turn * 37 % 65;
         if id % 4 == rest {
@@ -22,7 +23,7 @@ fn quarter_types(core: &mut Core<PlainMarked>, rest: u64, keys: &[u8]) {
 }
 
 // The same sessions are closed.
-fn quarter_closes(core: &mut Core<PlainMarked>, rest: u64) {
+fn quarter_closes(core: &mut Core<PlainMarked, RefusingStore>, rest: u64) {
     for turn in 1..65u64 {
         let id = turn * 37 % 65;
         if id % 4 == rest {

@@ -5,25 +5,26 @@ use mgs_core::Core;
 use mgs_engine::{Cause, Engine};
 use mgs_marks::PlainMarked;
 use mgs_model::{Keyed, OpenFault, SessionId};
+use mgs_store::RefusingStore;
 use mgs_term::Term;
 use std::alloc::Global;
 use std::process::Abort;
 use std::test::Fail;
 
 // The buffer `notes` of ann, which bob may use too.
-fn serve(alloc: Global, text: &[char], rt: &impl Abort) -> Engine<PlainMarked> {
+fn serve(alloc: Global, text: &[char], rt: &impl Abort) -> Engine<PlainMarked, RefusingStore> {
     let directory = directory_of(alloc, &["ann", "bob"], rt);
     let list = list_of(&["ALLOW OWNER@ rwat", "ALLOW bob rwat"], rt);
     let mut buffers = Buffers::new(alloc);
     assert!(rt; buffers.add("notes", "ann", list, text, false).is_ok());
-    match Engine::new(alloc, Core::new(alloc, directory, buffers)) {
+    match Engine::new(alloc, Core::new(alloc, directory, buffers, RefusingStore::new())) {
         Ok(engine) => engine,
         Err(_) => panic!(rt; "no memory"),
     }
 }
 
 fn open(
-    engine: &mut Engine<PlainMarked>,
+    engine: &mut Engine<PlainMarked, RefusingStore>,
     user: &str,
     rows: usize,
     cols: usize,
@@ -36,7 +37,7 @@ fn open(
 }
 
 // A terminal takes up to so many of the bytes that wait for it.
-fn take(engine: &mut Engine<PlainMarked>, id: SessionId, most: usize, term: &mut Term) {
+fn take(engine: &mut Engine<PlainMarked, RefusingStore>, id: SessionId, most: usize, term: &mut Term) {
     let pending = engine.pending(id);
     let count = pending.len().min(most);
     let _ = term.feed_all(&pending[..count]);

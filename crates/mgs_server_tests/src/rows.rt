@@ -5,6 +5,7 @@ use mgs_core::Core;
 use mgs_engine::Engine;
 use mgs_marks::PlainMarked;
 use mgs_model::{Keyed, SessionId};
+use mgs_store::RefusingStore;
 use mgs_term::{Cell, Term};
 use std::alloc::Global;
 use std::process::Abort;
@@ -17,13 +18,13 @@ const COLS: usize = 20;
 const MODE_ROW: usize = 4;
 
 // The buffer `notes` of ann, with this list and text. The users are ann, bob and cat, and the staff is ann and bob.
-fn serve(alloc: Global, entries: &[&str], text: &[char], rt: &impl Abort) -> Engine<PlainMarked> {
+fn serve(alloc: Global, entries: &[&str], text: &[char], rt: &impl Abort) -> Engine<PlainMarked, RefusingStore> {
     let mut directory = directory_of(alloc, &["ann", "bob", "cat"], rt);
     assert!(rt; directory.add_group("staff", &["ann", "bob"]).is_ok());
     let mut buffers = Buffers::new(alloc);
     let list = list_of(entries, rt);
     assert!(rt; buffers.add("notes", "ann", list, text, false).is_ok());
-    match Engine::new(alloc, Core::new(alloc, directory, buffers)) {
+    match Engine::new(alloc, Core::new(alloc, directory, buffers, RefusingStore::new())) {
         Ok(engine) => engine,
         Err(_) => panic!(rt; "no memory"),
     }
@@ -32,7 +33,7 @@ fn serve(alloc: Global, entries: &[&str], text: &[char], rt: &impl Abort) -> Eng
 // A session of a user takes a client.
 fn sit(
     alloc: Global,
-    engine: &mut Engine<PlainMarked>,
+    engine: &mut Engine<PlainMarked, RefusingStore>,
     clients: &mut Clients,
     user: &str,
     rt: &impl Abort,
@@ -55,7 +56,7 @@ fn sit(
 
 // Bytes of a session, each of which is done; all that they paint reaches the terminals.
 fn press(
-    engine: &mut Engine<PlainMarked>,
+    engine: &mut Engine<PlainMarked, RefusingStore>,
     clients: &mut Clients,
     id: SessionId,
     bytes: &[u8],
