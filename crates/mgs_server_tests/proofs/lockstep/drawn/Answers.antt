@@ -8,5 +8,5 @@ use Rattle.mgs_server_tests.proofs.lockstep.drawn.Goals as goal
 pub draw-requires : goal.draw-requires
 draw-requires c =
     let z = c.in-Some.size in
-    told_known (sizes c.args.core.now) c.args.at z c.size.ensures.unique (sym c.size.ensures.value ∙ c.in-Some.is)
+    told_known (sizes c.args.core.now.world) c.args.at z c.size.ensures.unique (sym c.size.ensures.value ∙ c.in-Some.is)
     ∙ ap (λ (p : Picture). Some (let y : Size = record { id = z.id; rows = p.rows; cols = p.cols } in y)) (sym c.in-Ok.ensures)
