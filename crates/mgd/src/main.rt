@@ -4,6 +4,7 @@
 mod arguments;
 mod disk;
 mod serve;
+mod store;
 mod tell;
 
 use arguments::{Task, read_task};

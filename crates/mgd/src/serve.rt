@@ -3,13 +3,15 @@ ghost use Rattle.std.specs.Prelude.{IfOk};
 ghost use Rattle.mgs_buffers.specs.MarkedBuffer.{AreUnmarked};
 
 use crate::disk::{Disk, read_bytes};
+use crate::store::FileStore;
 use crate::tell::tell;
 use mgs_config::{Config, ConfigFault, ConfigTable, FilesFault, TableFault, read_config};
 use mgs_server::Server;
+use mgs_store::Store;
 use std::net::Net;
 use std::process::ExitCode;
 use std::sync::Wait;
-use std::{fs, str};
+use std::{fs, mem, str};
 
 /// The program's status where it cannot listen, or not learn who is ready.
 const NO_SOCKETS: u8 = 3;
@@ -40,7 +42,7 @@ fn read_file<R: fs::Files + AllocGlobal>(rt: &R, path: &str) -> Result<Config, C
 }
 
 // Serves without end. It returns where the system does not tell who is ready.
-fn serve<R: Print + Eprint + Wait>(rt: &R, mut server: Server) -> ExitCode {
+fn serve<R: Print + Eprint + Wait, S: Store + Drop>(rt: &R, mut server: Server<S>) -> ExitCode {
     let port = server.port();
     let _ = println!(rt; "listening 127.0.0.1:{port}");
     for _ in rt.forever() {
@@ -59,14 +61,15 @@ pub fn run_serve<R: AllocGlobal + fs::Files + Net + Print + Eprint + Wait>(
     path: &str,
     port: u16,
 ) -> ExitCode {
-    let config = match read_file(rt, path) {
+    let mut config = match read_file(rt, path) {
         Ok(config) => config,
         Err(fault) => {
             tell(rt, fault);
             return ExitCode::FAILURE;
         }
     };
-    match Server::listen(rt, rt.alloc(), port, config) {
+    let files = mem::replace(&mut config.files, Vec::new(rt.alloc()));
+    match Server::listen(rt, rt.alloc(), port, config, FileStore::new(rt, files)) {
         Ok(server) => serve(rt, server),
         Err(fault) => {
             tell(rt, fault);

@@ -8,7 +8,7 @@ use mgs_core::Core;
 use mgs_engine::Engine;
 use mgs_gap::GapText;
 use mgs_model::{SESSION_LIMIT, Tickets};
-use mgs_store::RefusingStore;
+use mgs_store::Store;
 use mgs_wire::{PumpedIn, Sessions};
 use mio::net::{TcpListener, TcpStream};
 use mio::{Events, Interest, Poll, Registry, Token};
@@ -43,11 +43,11 @@ pub enum ListenFault {
 #[error("poll failed")]
 pub struct PollFailed;
 
-/// A server of terminals: its world, and its connections on the loopback address.
+/// A server of terminals: its world with the store where buffers are saved, and its connections on the loopback address.
 #[derive(Drop)]
-pub struct Server {
+pub struct Server<S: Store + Drop> {
     alloc: Global,
-    engine: Engine<GapText, RefusingStore>,
+    engine: Engine<GapText, S>,
     tickets: Tickets,
     peers: Slab<Peer<TcpStream>>,
     listener: TcpListener,
@@ -139,7 +139,7 @@ fn serve_ready<E: Sessions>(
 }
 
 // Hears of each session that ended: its slot is free from then on.
-fn hear_ended(engine: &mut Engine<GapText, RefusingStore>) {
+fn hear_ended<S: Store + Drop>(engine: &mut Engine<GapText, S>) {
     for _ in 0..u64::MAX {
         if engine.ended().is_none() {
             return;
@@ -147,20 +147,21 @@ fn hear_ended(engine: &mut Engine<GapText, RefusingStore>) {
     }
 }
 
-impl Server {
+impl<S: Store + Drop> Server<S> {
     /// Listens on a port of the loopback address, on one that the system chooses where it is 0, and serves the world of a
-    /// configuration, none of whose buffers has a mark in use, as of one that was read. Nothing is served before the first
-    /// `turn`.
+    /// configuration, none of whose buffers has a mark in use, as of one that was read. Its buffers are saved in the store. Nothing is
+    /// served before the first `turn`.
     ///
     /// # Errors
     ///
-    /// `Port`: the port cannot be had. `Short`: memory was refused. The configuration is dropped then.
+    /// `Port`: the port cannot be had. `Short`: memory was refused. Configuration and store are dropped then.
     pub fn listen<N: Net>(
         net: &N,
         alloc: Global,
         port: u16,
         config: Config,
-    ) -> Result<Server, ListenFault>
+        store: S,
+    ) -> Result<Server<S>, ListenFault>
         requires { AreUnmarked config.buffers }
     {
         let (mut listener, port) = bind(net, port).map_err(listen_fault)?;
@@ -171,7 +172,7 @@ impl Server {
         let Ok(peers) = Slab::with_capacity(alloc, SESSION_LIMIT) else {
             return Err(ListenFault::Short);
         };
-        let core = Core::new(alloc, config.directory, config.buffers, RefusingStore::new());
+        let core = Core::new(alloc, config.directory, config.buffers, store);
         let Ok(engine) = Engine::new(alloc, core) else {
             return Err(ListenFault::Short);
         };
