@@ -33,7 +33,7 @@ pub struct Binding {
     pub command: Command,
 }
 
-static BINDINGS: [Binding; 56] = [
+static BINDINGS: [Binding; 57] = [
     Binding {
         keys: b"\r",
         name: "newline",
@@ -288,6 +288,11 @@ static BINDINGS: [Binding; 56] = [
         keys: b"\x18^",
         name: "enlarge-window",
         command: Command::Rearrange(Arrangement::EnlargeWindow),
+    },
+    Binding {
+        keys: b"\x18\x13",
+        name: "save-buffer",
+        command: Command::SaveBuffer,
     },
     Binding {
         keys: b"\x18\x03",

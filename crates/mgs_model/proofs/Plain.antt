@@ -1,21 +1,21 @@
 -- One byte of a session that is in no mode and neither records nor plays: it is half of a word, or one act.
 use Rattle.std.proofs.Common.{◌≡◌, ℕ, zero, suc, ◌+◌, ◌≤◌, List, [], ◌∷◌, ◌++◌, map, refl, sym, ap, ◌∙◌, Bool, true, false, cond, Option, Some, None, arith, append-nil}
-use Rattle.std.specs.Prelude.{Result, Ok, Err, is_some}
+use Rattle.std.specs.Prelude.{Result, Ok, Err, is_some, not}
 use Rattle.std.specs.Option.{option_map}
 use Rattle.mgs_model.specs.World.{World, Session, Own, has_id, find_session}
 use Rattle.mgs_model.specs.View.{View, BufferSeen, view, view_of, size_told, serial_told, text_in}
-use Rattle.mgs_model.specs.Outcome.{Act, Unbound, Run, Outcome, Effect, No_effect, Unmodified, Quit, Arrange, Stay, Adjust, Keep_kill}
+use Rattle.mgs_model.specs.Outcome.{Act, Unbound, Run, Outcome, Effect, No_effect, Unmodified, Save, Quit, Arrange, Stay, Adjust, Keep_kill}
 use Rattle.mgs_model.specs.Plans.{Finish, Change, alteration, insertion, motion, reading_insertion, scrolling, arrangement, acted_own, undo}
-use Rattle.mgs_model.specs.Acts.{outcome, permitted, judged, needs, allowed, Target, target, around, edits, edited_by, edit_of, has_rows, items_in, is_full, moves, row_in, scrolls_rows, selected_seen, moved_by, finished, finished_own, is_too_large, arranges, effects, rules, shown, fails, without_all, told_over}
+use Rattle.mgs_model.specs.Acts.{outcome, permitted, judged, needs, allowed, Target, target, around, edits, edited_by, edit_of, has_file, has_rows, items_in, is_full, moves, row_in, scrolls_rows, selected_seen, moved_by, finished, finished_own, is_too_large, arranges, effects, rules, saves, shown, fails, without_all, told_over}
 use Rattle.mgs_model.specs.Apply.{searches, change_first, apply, applied, outcome_in, act, after_quit, session_after, session_arranged}
 use Rattle.mgs_model.specs.Turns.{Turn, Keep, Do, key_turn, byte_turn, todo_turn, next}
 use Rattle.mgs_model.specs.Events.{Byte, own_set, with_own, Doing, turn_in, turn_seen, rests, turn, turn_done, turns, most_turns, begun, begun_own, byte_done, refused_own, refused_of, refused_in, refused_act, act_effects, event_effects, turn_effects, turns_effects}
 use Rattle.mgs_model.specs.declared.message.Message.{Message}
-use Rattle.mgs_model.specs.declared.message.Message.TheVariants.{Silent, KillTooLarge, BufferFull, InMacro}
+use Rattle.mgs_model.specs.declared.message.Message.TheVariants.{Silent, KillTooLarge, BufferFull, InMacro, NoFile, SaveFailed, Wrote}
 use Rattle.mgs_model.specs.declared.session.Mode.{Mode}
 use Rattle.mgs_model.specs.declared.session.Mode.TheVariants.{Plain}
 use Rattle.mgs_model.specs.declared.session.Setting.TheVariants.{KeyboardQuit}
-use Rattle.mgs_model.specs.declared.session.Command.TheVariants.{Insert, InsertReading, Move, Alter, Scroll, Set, Rearrange, UndoEdit, NotModified, Exit}
+use Rattle.mgs_model.specs.declared.session.Command.TheVariants.{Insert, InsertReading, Move, Alter, Scroll, Set, Rearrange, UndoEdit, NotModified, SaveBuffer, Exit}
 use Rattle.mgs_model.specs.declared.entry.Decision.{Decision}
 use Rattle.mgs_model.specs.declared.entry.Decision.TheVariants.{Granted, DeniedBy, NotGranted}
 use Rattle.mgs_model.proofs.Firsts.{change_first_found, find-change_first}
@@ -147,6 +147,16 @@ rules_left : (own : Own) (o : Option BufferSeen) (plan : BufferSeen → Result E
 rules_left own None plan h = refl
 rules_left own (Some b) plan h = effects_left own (plan b) h
 
+saves_left : (own : Own) (o : Option Target) (stored : Bool) → own.todo ≡ [] → NothingLeft (saves own o stored)
+saves_left own None stored h = refl
+saves_left own (Some t) stored h = by own.playing (not (has_file t.buffer.told)) (not stored)
+  where
+    by : (p f s : Bool) → NothingLeft (cond p (fails own InMacro) (cond f (fails own NoFile) (cond s (fails own SaveFailed) (record { own = record (acted_own own) { echo = Wrote t.buffer.name }; kill = Keep_kill; arrange = Stay; effect = Save t.buffer.name (text_in t.buffer.full) }))))
+    by true f s = refl
+    by false true s = refl
+    by false false true = refl
+    by false false false = h
+
 -- of these acts none leaves more to do
 abbrev pub is_single : Act → Bool
 is_single Unbound = true
@@ -159,6 +169,7 @@ is_single (Run (Set KeyboardQuit) n typed) = true
 is_single (Run (Rearrange c) n typed) = true
 is_single (Run UndoEdit n typed) = true
 is_single (Run NotModified n typed) = true
+is_single (Run SaveBuffer n typed) = true
 is_single (Run Exit n typed) = true
 is_single _ = false
 
@@ -180,6 +191,7 @@ allowed_left v (Run (Rearrange c) n typed) stored s h = arranges_left v.session.
 allowed_left v (Run UndoEdit n typed) stored s h =
     edits_left v.session.own (target v) (λ t. undo (items_in t.buffer.full) (around v.session n typed t)) h
 allowed_left v (Run NotModified n typed) stored s h = rules_left v.session.own (shown v) (λ b. Ok (Unmodified b.name)) h
+allowed_left v (Run SaveBuffer n typed) stored s h = saves_left v.session.own (target v) stored h
 allowed_left v (Run Exit n typed) stored s h = by v.session.own.playing
   where
     by : (c : Bool) → NothingLeft (cond c (fails v.session.own InMacro) (record { own = acted_own v.session.own; kill = Keep_kill; arrange = Stay; effect = Quit }))

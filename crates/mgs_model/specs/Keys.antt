@@ -12,7 +12,7 @@ use Rattle.mgs_model.specs.declared.session.Scrolling.TheVariants.{ScrollUp, Scr
 use Rattle.mgs_model.specs.declared.session.Setting.TheVariants.{KeyboardQuit}
 use Rattle.mgs_model.specs.declared.session.Arrangement.TheVariants.{DeleteWindow, DeleteOtherWindows, SplitWindow, NextWindow, PreviousWindow, EnlargeWindow}
 use Rattle.mgs_model.specs.declared.session.Command.{Command}
-use Rattle.mgs_model.specs.declared.session.Command.TheVariants.{Insert, InsertReading, Move, Alter, Scroll, Set, Rearrange, UndoEdit, NotModified, Exit}
+use Rattle.mgs_model.specs.declared.session.Command.TheVariants.{Insert, InsertReading, Move, Alter, Scroll, Set, Rearrange, UndoEdit, NotModified, SaveBuffer, Exit}
 
 -- THE TABLE: the bytes of a word, the name of its command, and the command. C-q is 17, C-x 24, ESC 27
 pub record KeyRow : Type 0 where
@@ -86,6 +86,7 @@ key_rows =
     ∷ control_x 110 (codes "next-window") (Rearrange NextWindow)
     ∷ control_x 112 (codes "previous-window") (Rearrange PreviousWindow)
     ∷ control_x 94 (codes "enlarge-window") (Rearrange EnlargeWindow)
+    ∷ control_x 19 (codes "save-buffer") SaveBuffer
     ∷ control_x 3 (codes "save-buffers-kill-emacs") Exit
     ∷ arrow 65 (Move PreviousLine)
     ∷ arrow 66 (Move NextLine)
