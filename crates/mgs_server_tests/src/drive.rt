@@ -17,7 +17,10 @@ fn serve(alloc: Global, rt: &impl Abort) -> Engine<PlainMarked, RefusingStore> {
     let list = list_of(&["ALLOW OWNER@ rwat"], rt);
     let mut buffers = Buffers::new(alloc);
     assert!(rt; buffers.add("notes", "ann", list, &[], false).is_ok());
-    match Engine::new(alloc, Core::new(alloc, directory, buffers, RefusingStore::new())) {
+    match Engine::new(
+        alloc,
+        Core::new(alloc, directory, buffers, RefusingStore::new()),
+    ) {
         Ok(engine) => engine,
         Err(_) => panic!(rt; "no memory"),
     }

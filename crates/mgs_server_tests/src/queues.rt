@@ -17,7 +17,10 @@ fn serve(alloc: Global, text: &[char], rt: &impl Abort) -> Engine<PlainMarked, R
     let list = list_of(&["ALLOW OWNER@ rwat", "ALLOW bob rwat"], rt);
     let mut buffers = Buffers::new(alloc);
     assert!(rt; buffers.add("notes", "ann", list, text, false).is_ok());
-    match Engine::new(alloc, Core::new(alloc, directory, buffers, RefusingStore::new())) {
+    match Engine::new(
+        alloc,
+        Core::new(alloc, directory, buffers, RefusingStore::new()),
+    ) {
         Ok(engine) => engine,
         Err(_) => panic!(rt; "no memory"),
     }
@@ -37,7 +40,12 @@ fn open(
 }
 
 // A terminal takes up to so many of the bytes that wait for it.
-fn take(engine: &mut Engine<PlainMarked, RefusingStore>, id: SessionId, most: usize, term: &mut Term) {
+fn take(
+    engine: &mut Engine<PlainMarked, RefusingStore>,
+    id: SessionId,
+    most: usize,
+    term: &mut Term,
+) {
     let pending = engine.pending(id);
     let count = pending.len().min(most);
     let _ = term.feed_all(&pending[..count]);

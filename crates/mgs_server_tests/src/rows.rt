@@ -18,13 +18,21 @@ const COLS: usize = 20;
 const MODE_ROW: usize = 4;
 
 // The buffer `notes` of ann, with this list and text. The users are ann, bob and cat, and the staff is ann and bob.
-fn serve(alloc: Global, entries: &[&str], text: &[char], rt: &impl Abort) -> Engine<PlainMarked, RefusingStore> {
+fn serve(
+    alloc: Global,
+    entries: &[&str],
+    text: &[char],
+    rt: &impl Abort,
+) -> Engine<PlainMarked, RefusingStore> {
     let mut directory = directory_of(alloc, &["ann", "bob", "cat"], rt);
     assert!(rt; directory.add_group("staff", &["ann", "bob"]).is_ok());
     let mut buffers = Buffers::new(alloc);
     let list = list_of(entries, rt);
     assert!(rt; buffers.add("notes", "ann", list, text, false).is_ok());
-    match Engine::new(alloc, Core::new(alloc, directory, buffers, RefusingStore::new())) {
+    match Engine::new(
+        alloc,
+        Core::new(alloc, directory, buffers, RefusingStore::new()),
+    ) {
         Ok(engine) => engine,
         Err(_) => panic!(rt; "no memory"),
     }
