@@ -29,6 +29,8 @@ mod replay;
 #[cfg(test)]
 mod rows;
 #[cfg(test)]
+mod saves;
+#[cfg(test)]
 mod script;
 #[cfg(test)]
 mod undos;

@@ -5,7 +5,7 @@ use mgs_core::Core;
 use mgs_engine::Engine;
 use mgs_marks::PlainMarked;
 use mgs_model::{Keyed, SessionId};
-use mgs_store::RefusingStore;
+use mgs_store::{RefusingStore, Store};
 use mgs_term::{Cell, Term};
 use std::alloc::Global;
 use std::process::Abort;
@@ -39,9 +39,9 @@ fn serve(
 }
 
 // A session of a user takes a client.
-fn sit(
+pub(crate) fn sit<S: Store + Drop>(
     alloc: Global,
-    engine: &mut Engine<PlainMarked, RefusingStore>,
+    engine: &mut Engine<PlainMarked, S>,
     clients: &mut Clients,
     user: &str,
     rt: &impl Abort,
@@ -63,8 +63,8 @@ fn sit(
 }
 
 // Bytes of a session, each of which is done; all that they paint reaches the terminals.
-fn press(
-    engine: &mut Engine<PlainMarked, RefusingStore>,
+pub(crate) fn press<S: Store + Drop>(
+    engine: &mut Engine<PlainMarked, S>,
     clients: &mut Clients,
     id: SessionId,
     bytes: &[u8],
@@ -93,7 +93,12 @@ fn is_cell(rows: &[&str], i: usize, cell: &Cell) -> bool {
 }
 
 // Whether the terminal of a session took all its bytes, and shows these rows and this cursor.
-fn shows(clients: &Clients, id: SessionId, rows: &[&str], cursor: (usize, usize)) -> bool {
+pub(crate) fn shows(
+    clients: &Clients,
+    id: SessionId,
+    rows: &[&str],
+    cursor: (usize, usize),
+) -> bool {
     clients.all.iter().any(|client| {
         client.id == id
             && !client.refused
