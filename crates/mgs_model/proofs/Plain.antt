@@ -1,21 +1,24 @@
--- One byte of a session that is in no mode and neither records nor plays: it is half of a word, or one act.
+-- One byte of a session that is in no search and neither records nor plays: it is a part of what is typed, or one act.
 use Rattle.std.proofs.Common.{◌≡◌, ℕ, zero, suc, ◌+◌, ◌≤◌, List, [], ◌∷◌, ◌++◌, map, refl, sym, ap, ◌∙◌, Bool, true, false, cond, Option, Some, None, arith, append-nil}
-use Rattle.std.specs.Prelude.{Result, Ok, Err, is_some, not}
+use Rattle.std.specs.Prelude.{Result, Ok, Err, is_some, not, ◌||◌, ◌==◌, ◌-◌, nat_le, length, take}
 use Rattle.std.specs.Option.{option_map}
+use Rattle.mgs_model.specs.Access.{is_among}
+use Rattle.mgs_model.specs.Names.{is_name}
 use Rattle.mgs_model.specs.World.{World, Session, Own, has_id, find_session}
-use Rattle.mgs_model.specs.View.{View, BufferSeen, view, view_of, size_told, serial_told, text_in}
-use Rattle.mgs_model.specs.Outcome.{Act, Unbound, Run, Outcome, Effect, No_effect, Unmodified, Save, Quit, Arrange, Stay, Adjust, Keep_kill}
-use Rattle.mgs_model.specs.Plans.{Finish, Change, alteration, insertion, motion, reading_insertion, scrolling, arrangement, acted_own, undo}
-use Rattle.mgs_model.specs.Acts.{outcome, permitted, judged, needs, allowed, Target, target, around, edits, edited_by, edit_of, has_file, has_rows, items_in, is_full, moves, row_in, scrolls_rows, selected_seen, moved_by, finished, finished_own, is_too_large, arranges, effects, rules, saves, shown, fails, without_all, told_over}
+use Rattle.mgs_model.specs.View.{View, BufferSeen, view, view_of, find_seen, size_told, serial_told, text_in}
+use Rattle.mgs_model.specs.Outcome.{Act, Unbound, Run, Outcome, Effect, No_effect, Unmodified, Reown, Create, Save, Quit, Arrange, Stay, Adjust, Keep_kill}
+use Rattle.mgs_model.specs.Plans.{Finish, Change, alteration, insertion, motion, reading_insertion, scrolling, arrangement, acted_own, setting, undo, entries_changed, inserted}
+use Rattle.mgs_model.specs.Acts.{outcome, permitted, judged, needs, allowed, Target, target, around, edits, edited_by, edit_of, has_file, has_rows, items_in, is_full, moves, row_in, scrolls_rows, selected_seen, moved_by, finished, finished_own, is_too_large, arranges, effects, rules, saves, sets, shown, shows_named, subject, relisted, entries_told, by_name, created, killed, name_meant, fails, without_all, told_over}
 use Rattle.mgs_model.specs.Apply.{searches, change_first, apply, applied, outcome_in, act, after_quit, session_after, session_arranged}
-use Rattle.mgs_model.specs.Turns.{Turn, Keep, Do, key_turn, byte_turn, todo_turn, next}
+use Rattle.mgs_model.specs.Turns.{Turn, Keep, Do, byte_turn, todo_turn, next}
 use Rattle.mgs_model.specs.Events.{Byte, own_set, with_own, Doing, turn_in, turn_seen, rests, turn, turn_done, turns, most_turns, begun, begun_own, byte_done, refused_own, refused_of, refused_in, refused_act, act_effects, event_effects, turn_effects, turns_effects}
 use Rattle.mgs_model.specs.declared.message.Message.{Message}
-use Rattle.mgs_model.specs.declared.message.Message.TheVariants.{Silent, KillTooLarge, BufferFull, InMacro, NoFile, SaveFailed, Wrote}
-use Rattle.mgs_model.specs.declared.session.Mode.{Mode}
-use Rattle.mgs_model.specs.declared.session.Mode.TheVariants.{Plain}
-use Rattle.mgs_model.specs.declared.session.Setting.TheVariants.{KeyboardQuit}
-use Rattle.mgs_model.specs.declared.session.Command.TheVariants.{Insert, InsertReading, Move, Alter, Scroll, Set, Rearrange, UndoEdit, NotModified, SaveBuffer, Exit}
+use Rattle.mgs_model.specs.declared.message.Message.TheVariants.{Silent, KillTooLarge, BadColumn, BadName, BufferFull, InMacro, NoFile, NoSuchUser, NotInMacro, SaveFailed, TooManyBuffers, Wrote}
+use Rattle.mgs_model.specs.declared.session.ByName.{ByName}
+use Rattle.mgs_model.specs.declared.session.ByName.TheVariants.{SwitchToBuffer, KillBuffer, InsertBuffer}
+use Rattle.mgs_model.specs.declared.session.Setting.{Setting}
+use Rattle.mgs_model.specs.declared.session.Setting.TheVariants.{SetFillColumn, KeyboardQuit, StartMacro, EndMacro, CallMacro}
+use Rattle.mgs_model.specs.declared.session.Command.TheVariants.{Insert, InsertReading, Move, Alter, Scroll, Set, Rearrange, Ask, Named, Entries, SetOwner, UndoEdit, NotModified, SaveBuffer, LeaveSearch, Exit}
 use Rattle.mgs_model.specs.declared.entry.Decision.{Decision}
 use Rattle.mgs_model.specs.declared.entry.Decision.TheVariants.{Granted, DeniedBy, NotGranted}
 use Rattle.mgs_model.proofs.Firsts.{change_first_found, find-change_first}
@@ -33,9 +36,9 @@ change_twice {A = A} p f g h stays same (x ∷ xs) = by (change_twice p f g h st
     by later false e = ap (λ (b : Bool). cond b (f x ∷ change_first p g xs) (x ∷ change_first p f (change_first p g xs))) e ∙ ap (λ ys. x ∷ ys) later
 
 -- a record that is set twice
-pub own_twice : (id : ℕ) (own : Own) (g : Own → Own) (w : World) → own.mode ≡ Plain → with_own id (λ old. own) (with_own id g w) ≡ with_own id (λ old. own) w
-own_twice id own g w plain =
-    ap (λ xs. record w { sessions = xs }) (change_twice (has_id id) (own_set (λ old. own)) (own_set g) (own_set (λ old. own)) (λ x. refl) (λ x. ap (λ (m : Mode). record x { search = cond (searches m) (cond (searches (g x.own).mode) x.search None) None; own = own }) plain ∙ sym (ap (λ (m : Mode). record x { search = cond (searches m) x.search None; own = own }) plain)) w.sessions)
+pub own_twice : (id : ℕ) (own : Own) (g : Own → Own) (w : World) → searches own.mode ≡ false → with_own id (λ old. own) (with_own id g w) ≡ with_own id (λ old. own) w
+own_twice id own g w still =
+    ap (λ xs. record w { sessions = xs }) (change_twice (has_id id) (own_set (λ old. own)) (own_set g) (own_set (λ old. own)) (λ x. refl) (λ x. ap (λ (c : Bool). record x { search = cond c (cond (searches (g x.own).mode) x.search None) None; own = own }) still ∙ sym (ap (λ (c : Bool). record x { search = cond c x.search None; own = own }) still)) w.sessions)
 
 -- WHAT COMES NEXT
 
@@ -46,20 +49,23 @@ seen_begun w id f x found = view_with_own w id f ∙ ap (λ o. option_map (begun
 abbrev pub quiet : Own → Own
 quiet own = record own { echo = Silent; playing = false; todo = [] }
 
--- the session's own record, which is in no mode, and does not record
-pub record IsPlain (own : Own) : Type 0 where
-  pub mode : own.mode ≡ Plain
+-- the own record of a session that is in no search, and does not record
+pub record IsStill (own : Own) : Type 0 where
+  pub mode : searches own.mode ≡ false
   pub recording : own.recording ≡ false
+
+-- what a byte comes to
+abbrev pub turn_of : World → Session → ℕ → Turn
+turn_of w x byte = byte_turn (begun_view (begun_own byte) (view w x)) (quiet x.own) byte x.own.mode
 
 begun_quiet : (own : Own) (byte : ℕ) → own.recording ≡ false → quiet (begun_own byte own) ≡ quiet own
 begun_quiet own byte e = ap (λ (b : Bool). record (quiet own) { macro = cond b (own.macro ++ byte ∷ []) own.macro }) e
 
-turn_begun : (w : World) (id byte : ℕ) (x : Session) → find_session id w.sessions ≡ Some x → IsPlain x.own → turn_in (with_own id (begun_own byte) w) id ≡ key_turn (quiet x.own) byte
+turn_begun : (w : World) (id byte : ℕ) (x : Session) → find_session id w.sessions ≡ Some x → IsStill x.own → turn_in (with_own id (begun_own byte) w) id ≡ turn_of w x byte
 unfolding next
-turn_begun w id byte x found plain =
+turn_begun w id byte x found still =
     ap turn_seen (seen_begun w id (begun_own byte) x found)
-    ∙ ap (λ (m : Mode). byte_turn (begun_view (begun_own byte) (view w x)) (quiet (begun_own byte x.own)) byte m) plain.mode
-    ∙ ap (λ own. key_turn own byte) (begun_quiet x.own byte plain.recording)
+    ∙ ap (λ own. byte_turn (begun_view (begun_own byte) (view w x)) own byte x.own.mode) (begun_quiet x.own byte still.recording)
 
 -- where nothing is left to do
 rests_seen : (v : View) → v.session.own.todo ≡ [] → rests (next v) ≡ true
@@ -157,21 +163,65 @@ saves_left own (Some t) stored h = by own.playing (not (has_file t.buffer.told))
     by false false true = refl
     by false false false = h
 
--- of these acts none leaves more to do
+-- no act leaves more to do but the playing of a macro
+abbrev pub is_replayed : Setting → Bool
+is_replayed CallMacro = true
+is_replayed _ = false
+
 abbrev pub is_single : Act → Bool
-is_single Unbound = true
-is_single (Run (Insert c) n typed) = true
-is_single (Run (InsertReading c) n typed) = true
-is_single (Run (Move c) n typed) = true
-is_single (Run (Alter c) n typed) = true
-is_single (Run (Scroll c) n typed) = true
-is_single (Run (Set KeyboardQuit) n typed) = true
-is_single (Run (Rearrange c) n typed) = true
-is_single (Run UndoEdit n typed) = true
-is_single (Run NotModified n typed) = true
-is_single (Run SaveBuffer n typed) = true
-is_single (Run Exit n typed) = true
-is_single _ = false
+is_single (Run (Set c) n typed) = not (is_replayed c)
+is_single _ = true
+
+not_replayed : (c : Setting) → not (is_replayed c) ≡ true → is_replayed c ≡ false
+not_replayed CallMacro h = cc
+not_replayed SetFillColumn h = refl
+not_replayed KeyboardQuit h = refl
+not_replayed StartMacro h = refl
+not_replayed EndMacro h = refl
+
+setting_left : (own : Own) (c : Setting) (n : Option ℕ) → is_replayed c ≡ false → own.todo ≡ [] → NothingLeft (sets own (setting c (acted_own own) n))
+setting_left own SetFillColumn None r h = refl
+setting_left own SetFillColumn (Some n) r h = by (n == 0)
+  where
+    by : (c : Bool) → NothingLeft (sets own (cond c (Err BadColumn) (Ok (record (acted_own own) { fill = n }))))
+    by true = refl
+    by false = h
+setting_left own KeyboardQuit n r h = refl
+setting_left own StartMacro n r h = by (own.recording || own.playing)
+  where
+    by : (c : Bool) → NothingLeft (sets own (cond c (Err InMacro) (Ok (record (acted_own own) { recording = true; macro = [] }))))
+    by true = refl
+    by false = h
+setting_left own EndMacro n r h = by own.playing own.recording
+  where
+    by : (c d : Bool) → NothingLeft (sets own (cond c (Err InMacro) (cond d (Ok (record (acted_own own) { recording = false; macro = take (length own.macro - 2) own.macro })) (Err NotInMacro))))
+    by true d = refl
+    by false true = h
+    by false false = refl
+setting_left own CallMacro n r h = cc
+
+created_left : (v : View) (name : List ℕ) → v.session.own.todo ≡ [] → NothingLeft (created v name)
+created_left v name h = by (not (is_name name)) (nat_le 256 (length v.buffers))
+  where
+    by : (c d : Bool) → NothingLeft (cond c (fails v.session.own BadName) (cond d (fails v.session.own TooManyBuffers) (shows_named v name (Create name v.session.user))))
+    by true d = refl
+    by false true = refl
+    by false false = h
+
+killed_left : (v : View) (name : List ℕ) (found : Option BufferSeen) → v.session.own.todo ≡ [] → NothingLeft (killed v name found)
+killed_left v [] found h = refl
+killed_left v (c ∷ cs) None h = refl
+killed_left v (c ∷ cs) (Some b) h = h
+
+named_left : (v : View) (c : ByName) (n : Option ℕ) (typed : List ℕ) → v.session.own.todo ≡ [] → NothingLeft (by_name v c n typed)
+named_left v SwitchToBuffer n typed h = by (find_seen typed v.buffers)
+  where
+    by : (o : Option BufferSeen) → NothingLeft (elim o [ None ↦ created v typed | Some b ↦ shows_named v typed No_effect ])
+    by None = created_left v typed h
+    by (Some b) = h
+named_left v KillBuffer n typed h = killed_left v (name_meant v typed) (find_seen (name_meant v typed) v.buffers) h
+named_left v InsertBuffer n typed h =
+    edits_left v.session.own (target v) (λ t. inserted (option_map (λ b. text_in b.full) (find_seen typed v.buffers)) (around v.session n typed t)) h
 
 allowed_left : (v : View) (c : Act) (stored : Bool) → is_single c ≡ true → v.session.own.todo ≡ [] → NothingLeft (allowed v c stored)
 allowed_left v Unbound stored s h = refl
@@ -186,7 +236,7 @@ allowed_left v (Run (Scroll c) n typed) stored s h = scrolls_left (has_rows (sel
     scrolls_left : (f : Bool) → NothingLeft (cond f (scrolls_rows v.session.own (row_in c (selected_seen v))) (moves v.session.own (target v) (λ t. scrolling c (text_in t.buffer.full) (around v.session n typed t))))
     scrolls_left true = h
     scrolls_left false = moves_left v.session.own (target v) (λ t. scrolling c (text_in t.buffer.full) (around v.session n typed t)) h
-allowed_left v (Run (Set KeyboardQuit) n typed) stored s h = refl
+allowed_left v (Run (Set c) n typed) stored s h = setting_left v.session.own c n (not_replayed c s) h
 allowed_left v (Run (Rearrange c) n typed) stored s h = arranges_left v.session.own No_effect (arrangement c v.session.windows v.session.selected n) h
 allowed_left v (Run UndoEdit n typed) stored s h =
     edits_left v.session.own (target v) (λ t. undo (items_in t.buffer.full) (around v.session n typed t)) h
@@ -197,7 +247,13 @@ allowed_left v (Run Exit n typed) stored s h = by v.session.own.playing
     by : (c : Bool) → NothingLeft (cond c (fails v.session.own InMacro) (record { own = acted_own v.session.own; kill = Keep_kill; arrange = Stay; effect = Quit }))
     by true = refl
     by false = h
-allowed_left v _ stored s h = cc
+allowed_left v (Run (Ask c) n typed) stored s h = h
+allowed_left v (Run (Named c) n typed) stored s h = named_left v c n typed h
+allowed_left v (Run (Entries c) n typed) stored s h =
+    rules_left v.session.own (subject v) (λ b. relisted b.name (entries_changed c (entries_told b.told) n typed)) h
+allowed_left v (Run SetOwner n typed) stored s h =
+    rules_left v.session.own (subject v) (λ b. cond (is_among typed v.directory.users) (Ok (Reown b.name typed)) (Err NoSuchUser)) h
+allowed_left v (Run LeaveSearch n typed) stored s h = refl
 
 single_left : (v : View) (c : Act) (stored : Bool) → is_single c ≡ true → v.session.own.todo ≡ [] → NothingLeft (outcome v c stored)
 unfolding outcome
@@ -246,32 +302,32 @@ one_effects (suc n) id stored d h e f =
 pub found_own : (w : World) (id : ℕ) (f : Own → Own) (x : Session) → find_session id w.sessions ≡ Some x → find_session id (with_own id f w).sessions ≡ Some (own_set f x)
 found_own w id f x found = find-change_first (has_id id) (own_set f) (λ y. refl) w.sessions ∙ ap (option_map (own_set f)) found
 
-module _ (w : World) (id byte : ℕ) (stored : Bool) (x : Session) (found : find_session id w.sessions ≡ Some x) (plain : IsPlain x.own) where
+module _ (w : World) (id byte : ℕ) (stored : Bool) (x : Session) (found : find_session id w.sessions ≡ Some x) (still : IsStill x.own) where
   -- what is begun
-  turned : (memory : Option ℕ) (t : Turn) → key_turn (quiet x.own) byte ≡ t → turn id stored (begun w id byte memory) ≡ turn_done id stored t (with_own id (begun_own byte) w) memory
-  turned memory t e = ap (λ (s : Turn). turn_done id stored s (with_own id (begun_own byte) w) memory) (turn_begun w id byte x found plain ∙ e)
+  turned : (memory : Option ℕ) (t : Turn) → turn_of w x byte ≡ t → turn id stored (begun w id byte memory) ≡ turn_done id stored t (with_own id (begun_own byte) w) memory
+  turned memory t e = ap (λ (s : Turn). turn_done id stored s (with_own id (begun_own byte) w) memory) (turn_begun w id byte x found still ∙ e)
 
-  goes_on : (t : Turn) → key_turn (quiet x.own) byte ≡ t → rests t ≡ false → rests (turn_in (with_own id (begun_own byte) w) id) ≡ false
-  goes_on t e r = ap rests (turn_begun w id byte x found plain ∙ e) ∙ r
+  goes_on : (t : Turn) → turn_of w x byte ≡ t → rests t ≡ false → rests (turn_in (with_own id (begun_own byte) w) id) ≡ false
+  goes_on t e r = ap rests (turn_begun w id byte x found still ∙ e) ∙ r
 
   -- nothing is left then
-  kept_rests : (own : Own) → key_turn (quiet x.own) byte ≡ Keep own → own.todo ≡ [] → rests (turn_in (turn id stored (begun w id byte None)).world id) ≡ true
+  kept_rests : (own : Own) → turn_of w x byte ≡ Keep own → own.todo ≡ [] → rests (turn_in (turn id stored (begun w id byte None)).world id) ≡ true
   kept_rests own e left =
       let v : World = with_own id (begun_own byte) w in
       ap (λ (d : Doing). rests (turn_in d.world id)) (turned None (Keep own) e) ∙ rests_with_own v id (λ old. own) (own_set (begun_own byte) x) (found_own w id (begun_own byte) x found) left
 
-  acted_rests : (own : Own) (c : Act) → key_turn (quiet x.own) byte ≡ Do own c → own.todo ≡ [] → is_single c ≡ true → rests (turn_in (turn id stored (begun w id byte None)).world id) ≡ true
+  acted_rests : (own : Own) (c : Act) → turn_of w x byte ≡ Do own c → own.todo ≡ [] → is_single c ≡ true → rests (turn_in (turn id stored (begun w id byte None)).world id) ≡ true
   acted_rests own c e left single =
       let v : World = with_own id (begun_own byte) w in
       ap (λ (d : Doing). rests (turn_in d.world id)) (turned None (Do own c) e) ∙ rests_acted v id own c stored (own_set (begun_own byte) x) (found_own w id (begun_own byte) x found) single left
 
-  refused_rests : (own : Own) (c : Act) → key_turn (quiet x.own) byte ≡ Do own c → rests (turn_in (turn id stored (begun w id byte (Some 0))).world id) ≡ true
+  refused_rests : (own : Own) (c : Act) → turn_of w x byte ≡ Do own c → rests (turn_in (turn id stored (begun w id byte (Some 0))).world id) ≡ true
   refused_rests own c e =
       let v : World = with_own id (begun_own byte) w in
       ap (λ (d : Doing). rests (turn_in d.world id)) (turned (Some 0) (Do own c) e) ∙ rests_with_own v id refused_own (own_set (begun_own byte) x) (found_own w id (begun_own byte) x found) refl
 
-  -- half of a word
-  pub byte_kept : (own : Own) → key_turn (quiet x.own) byte ≡ Keep own → own.mode ≡ Plain → own.todo ≡ [] → byte_done w id byte stored None ≡ with_own id (λ old. own) w
+  -- a part of what is typed
+  pub byte_kept : (own : Own) → turn_of w x byte ≡ Keep own → searches own.mode ≡ false → own.todo ≡ [] → byte_done w id byte stored None ≡ with_own id (λ old. own) w
   byte_kept own e mode left =
       let v : World = with_own id (begun_own byte) w in
       let done : turn id stored (begun w id byte None) ≡ record { world = with_own id (λ old. own) v; memory = None } = turned None (Keep own) e in
@@ -279,7 +335,7 @@ module _ (w : World) (id byte : ℕ) (stored : Bool) (x : Session) (found : find
       ∙ own_twice id own (begun_own byte) w mode
 
   -- one act
-  pub byte_acted : (own : Own) (c : Act) → key_turn (quiet x.own) byte ≡ Do own c → own.mode ≡ Plain → own.todo ≡ [] → is_single c ≡ true → byte_done w id byte stored None ≡ act (with_own id (λ old. own) w) id c stored
+  pub byte_acted : (own : Own) (c : Act) → turn_of w x byte ≡ Do own c → searches own.mode ≡ false → own.todo ≡ [] → is_single c ≡ true → byte_done w id byte stored None ≡ act (with_own id (λ old. own) w) id c stored
   byte_acted own c e mode left single =
       let v : World = with_own id (begun_own byte) w in
       let done : turn id stored (begun w id byte None) ≡ record { world = act (with_own id (λ old. own) v) id c stored; memory = None } = turned None (Do own c) e in
@@ -293,9 +349,9 @@ module _ (w : World) (id byte : ℕ) (stored : Bool) (x : Session) (found : find
       ap (λ xs. record w { sessions = xs })
       (change_twice (has_id id) (own_set refused_own) (own_set (begun_own byte)) (λ y. own_set refused_own (own_set (begun_own byte) y)) (λ y. refl) (λ y. refl) w.sessions
       ∙ change_first_found (has_id id) (λ y. own_set refused_own (own_set (begun_own byte) y)) (own_set (λ old. own)) x w.sessions found
-      (ap (λ (m : Mode). record x { search = cond (searches m) (cond (searches m) x.search None) None; own = own }) plain.mode ∙ sym (ap (λ (m : Mode). record x { search = cond (searches m) x.search None; own = own }) plain.mode)))
+      (ap (λ (c : Bool). record x { search = cond c (cond c x.search None) None; own = own }) still.mode ∙ sym (ap (λ (c : Bool). record x { search = cond c x.search None; own = own }) still.mode)))
 
-  pub byte_refused : (own : Own) (c : Act) → key_turn (quiet x.own) byte ≡ Do own c → byte_done w id byte stored (Some 0) ≡ with_own id (λ old. refused_own (begun_own byte x.own)) w
+  pub byte_refused : (own : Own) (c : Act) → turn_of w x byte ≡ Do own c → byte_done w id byte stored (Some 0) ≡ with_own id (λ old. refused_own (begun_own byte x.own)) w
   byte_refused own c e =
       let v : World = with_own id (begun_own byte) w in
       let done : turn id stored (begun w id byte (Some 0)) ≡ record { world = with_own id refused_own v; memory = Some 0 } = turned (Some 0) (Do own c) e in
@@ -303,33 +359,33 @@ module _ (w : World) (id byte : ℕ) (stored : Bool) (x : Session) (found : find
       ∙ own_refused
 
   -- and what it would have come to
-  refused_first : (n : ℕ) (own : Own) (c : Act) → 1 ≤ n → key_turn (quiet x.own) byte ≡ Do own c → refused_in n id stored (begun w id byte (Some 0)) ≡ outcome_in (with_own id (λ old. own) (with_own id (begun_own byte) w)) id c stored
+  refused_first : (n : ℕ) (own : Own) (c : Act) → 1 ≤ n → turn_of w x byte ≡ Do own c → refused_in n id stored (begun w id byte (Some 0)) ≡ outcome_in (with_own id (λ old. own) (with_own id (begun_own byte) w)) id c stored
   unfolding refused_in
   refused_first zero own c h e = absurd (omega (arith, h))
   refused_first (suc n) own c h e =
       let v : World = with_own id (begun_own byte) w in
       let later : Option Outcome = refused_in n id stored (turn id stored (begun w id byte (Some 0))) in
-      ap (λ (t : Turn). elim (rests t) [ true ↦ None | false ↦ refused_of id stored t v (Some 0) later ]) (turn_begun w id byte x found plain ∙ e)
+      ap (λ (t : Turn). elim (rests t) [ true ↦ None | false ↦ refused_of id stored t v (Some 0) later ]) (turn_begun w id byte x found still ∙ e)
 
-  pub byte_refused_act : (own : Own) (c : Act) → key_turn (quiet x.own) byte ≡ Do own c → own.mode ≡ Plain → refused_act w id byte stored (Some 0) ≡ outcome_in (with_own id (λ old. own) w) id c stored
+  pub byte_refused_act : (own : Own) (c : Act) → turn_of w x byte ≡ Do own c → searches own.mode ≡ false → refused_act w id byte stored (Some 0) ≡ outcome_in (with_own id (λ old. own) w) id c stored
   byte_refused_act own c e mode =
       refused_first most_turns own c some_turn e ∙ ap (λ u. outcome_in u id c stored) (own_twice id own (begun_own byte) w mode)
 
-  -- WHAT IS DONE: half of a word and an act that is refused do nothing
+  -- WHAT IS DONE: a part of what is typed and an act that is refused do nothing
 
-  effects_of : (memory : Option ℕ) (t : Turn) → key_turn (quiet x.own) byte ≡ t → rests t ≡ false → rests (turn_in (turn id stored (begun w id byte memory)).world id) ≡ true
+  effects_of : (memory : Option ℕ) (t : Turn) → turn_of w x byte ≡ t → rests t ≡ false → rests (turn_in (turn id stored (begun w id byte memory)).world id) ≡ true
       → event_effects w (Byte id byte stored memory) ≡ turn_effects id stored t (with_own id (begun_own byte) w) memory
   effects_of memory t e goes after =
       ap (λ (o : Option Session). cond (is_some o) (turns_effects most_turns id stored (begun w id byte memory)) []) found
       ∙ one_effects most_turns id stored (begun w id byte memory) some_turn (goes_on t e goes) after
-      ∙ ap (λ (s : Turn). turn_effects id stored s (with_own id (begun_own byte) w) memory) (turn_begun w id byte x found plain ∙ e)
+      ∙ ap (λ (s : Turn). turn_effects id stored s (with_own id (begun_own byte) w) memory) (turn_begun w id byte x found still ∙ e)
 
-  pub kept_effects : (own : Own) → key_turn (quiet x.own) byte ≡ Keep own → own.todo ≡ [] → event_effects w (Byte id byte stored None) ≡ []
+  pub kept_effects : (own : Own) → turn_of w x byte ≡ Keep own → own.todo ≡ [] → event_effects w (Byte id byte stored None) ≡ []
   kept_effects own e left = effects_of None (Keep own) e refl (kept_rests own e left)
 
-  pub acted_effects : (own : Own) (c : Act) → key_turn (quiet x.own) byte ≡ Do own c → own.mode ≡ Plain → own.todo ≡ [] → is_single c ≡ true → event_effects w (Byte id byte stored None) ≡ act_effects (with_own id (λ old. own) w) id c stored
+  pub acted_effects : (own : Own) (c : Act) → turn_of w x byte ≡ Do own c → searches own.mode ≡ false → own.todo ≡ [] → is_single c ≡ true → event_effects w (Byte id byte stored None) ≡ act_effects (with_own id (λ old. own) w) id c stored
   acted_effects own c e mode left single =
       effects_of None (Do own c) e refl (acted_rests own c e left single) ∙ ap (λ u. act_effects u id c stored) (own_twice id own (begun_own byte) w mode)
 
-  pub refused_effects : (own : Own) (c : Act) → key_turn (quiet x.own) byte ≡ Do own c → event_effects w (Byte id byte stored (Some 0)) ≡ []
+  pub refused_effects : (own : Own) (c : Act) → turn_of w x byte ≡ Do own c → event_effects w (Byte id byte stored (Some 0)) ≡ []
   refused_effects own c e = effects_of (Some 0) (Do own c) e refl (refused_rests own c e)
