@@ -35,7 +35,7 @@ use Rattle.mgs_model.specs.declared.errors.Keyed.{Keyed}
 use Rattle.mgs_core.specs.Steps.{KeyedBy, TypedBy, closed, is_exit, sizes_keyed}
 use Rattle.mgs_core.proofs.Sizes.{sizes_world}
 use Rattle.mgs_core.proofs.Stays.{closed_rests, without_first}
-use Rattle.mgs_core.proofs.Steps.{exit_turn, keyed_quit, plain}
+use Rattle.mgs_core.proofs.Steps.{exit_turn, keyed_quit, still}
 
 -- a change of those that go leaves the others
 without_changed : (id : ℕ) (f : Session → Session) → ((x : Session) → has_id id (f x) ≡ has_id id x) → (xs : List Session) → without_session id (change_first (has_id id) f xs) ≡ without_session id xs
@@ -81,9 +81,9 @@ keyed_exit d ks xs next t id at byte f k h place within is read bound exit uniqu
     let alone : without_session id w.sessions ≡ remove_first (has_id id) w.sessions = without_first id w.sessions (subst IsUnique (sym (sizes_world d ks xs next)) unique) in
     keyed_quit w (closed w id) t id byte (ap is_some found) (ap (find_session id) (sym alone) ∙ find_without id w.sessions)
     (sym
-    (ap settled (byte_acted w id byte true (session_of ks h) found (plain h.own) (idle h.own.kind) (Run Exit turn.0 []) turn.1 refl refl refl ∙ act_exit w h.own.kind id turn.0 (session_of ks h) found ∙ ap (λ ys. record w { sessions = ys }) alone)
+    (ap settled (byte_acted w id byte true (session_of ks h) found (still h.own) (idle h.own.kind) (Run Exit turn.0 []) turn.1 refl refl refl ∙ act_exit w h.own.kind id turn.0 (session_of ks h) found ∙ ap (λ ys. record w { sessions = ys }) alone)
     ∙ closed_rests w id (rests next)))
-    (ap (flat_map saved_by) (acted_effects w id byte true (session_of ks h) found (plain h.own) (idle h.own.kind) (Run Exit turn.0 []) turn.1 refl refl refl)
+    (ap (flat_map saved_by) (acted_effects w id byte true (session_of ks h) found (still h.own) (idle h.own.kind) (Run Exit turn.0 []) turn.1 refl refl refl)
     ∙ act_saves_none (with_own id (λ old. idle h.own.kind) w) id (Run Exit turn.0 []) true refl)
 
 -- nothing is said to stay

@@ -7,9 +7,9 @@ use Rattle.mgs_model.specs.declared.session.Argument.{Argument}
 use Rattle.mgs_model.specs.declared.session.Motion.{Motion}
 use Rattle.mgs_model.specs.declared.session.Motion.TheVariants.{StartSearch, SearchOn, StartReplace, SkipMatch}
 use Rattle.mgs_model.specs.declared.session.Alteration.{Alteration}
-use Rattle.mgs_model.specs.declared.session.Alteration.TheVariants.{FillParagraph, ReplaceMatch}
+use Rattle.mgs_model.specs.declared.session.Alteration.TheVariants.{ReplaceMatch}
 use Rattle.mgs_model.specs.declared.session.Setting.{Setting}
-use Rattle.mgs_model.specs.declared.session.Setting.TheVariants.{KeyboardQuit}
+use Rattle.mgs_model.specs.declared.session.Setting.TheVariants.{SetFillColumn, KeyboardQuit}
 use Rattle.mgs_model.specs.declared.session.Arrangement.{Arrangement}
 use Rattle.mgs_model.specs.declared.session.Arrangement.TheVariants.{ShrinkWindow, ListBuffers}
 use Rattle.mgs_model.specs.declared.session.Command.{Command}
@@ -49,11 +49,11 @@ is_bound_motion SkipMatch = false
 is_bound_motion _ = true
 
 abbrev pub is_bound_alteration : Alteration → Bool
-is_bound_alteration FillParagraph = false
 is_bound_alteration ReplaceMatch = false
 is_bound_alteration _ = true
 
 abbrev pub is_bound_setting : Setting → Bool
+is_bound_setting SetFillColumn = true
 is_bound_setting KeyboardQuit = true
 is_bound_setting _ = false
 

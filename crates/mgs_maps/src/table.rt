@@ -33,7 +33,7 @@ pub struct Binding {
     pub command: Command,
 }
 
-static BINDINGS: [Binding; 57] = [
+static BINDINGS: [Binding; 59] = [
     Binding {
         keys: b"\r",
         name: "newline",
@@ -215,6 +215,11 @@ static BINDINGS: [Binding; 57] = [
         command: Command::Alter(Alteration::JoinLine),
     },
     Binding {
+        keys: b"\x1Bq",
+        name: "fill-paragraph",
+        command: Command::Alter(Alteration::FillParagraph),
+    },
+    Binding {
         keys: b"\x00",
         name: "set-mark-command",
         command: Command::Move(Motion::SetMark),
@@ -248,6 +253,11 @@ static BINDINGS: [Binding; 57] = [
         keys: b"\x1b~",
         name: "not-modified",
         command: Command::NotModified,
+    },
+    Binding {
+        keys: b"\x18f",
+        name: "set-fill-column",
+        command: Command::Set(Setting::SetFillColumn),
     },
     Binding {
         keys: b"\x07",

@@ -7,9 +7,9 @@ use Rattle.mgs_model.specs.declared.session.Argument.{Argument}
 use Rattle.mgs_model.specs.declared.session.Insertion.TheVariants.{SelfInsert, Newline, OpenLine, Yank}
 use Rattle.mgs_model.specs.declared.session.ReadingInsertion.TheVariants.{NewlineAndIndent}
 use Rattle.mgs_model.specs.declared.session.Motion.TheVariants.{ForwardChar, BackwardChar, BeginningOfLine, EndOfLine, NextLine, PreviousLine, BufferStart, BufferEnd, ForwardWord, BackwardWord, ForwardParagraph, BackwardParagraph, Recenter, WhatCursorPosition, SetMark, ExchangePointAndMark, MarkWholeBuffer, CopyRegion}
-use Rattle.mgs_model.specs.declared.session.Alteration.TheVariants.{DeleteChar, DeleteBackwardChar, KillLine, KillWord, BackwardKillWord, KillRegion, TransposeChars, UpcaseWord, DowncaseWord, CapitalizeWord, UpcaseRegion, DowncaseRegion, JustOneSpace, DeleteHorizontalSpace, DeleteBlankLines, JoinLine}
+use Rattle.mgs_model.specs.declared.session.Alteration.TheVariants.{DeleteChar, DeleteBackwardChar, KillLine, KillWord, BackwardKillWord, KillRegion, TransposeChars, UpcaseWord, DowncaseWord, CapitalizeWord, UpcaseRegion, DowncaseRegion, JustOneSpace, DeleteHorizontalSpace, DeleteBlankLines, JoinLine, FillParagraph}
 use Rattle.mgs_model.specs.declared.session.Scrolling.TheVariants.{ScrollUp, ScrollDown}
-use Rattle.mgs_model.specs.declared.session.Setting.TheVariants.{KeyboardQuit}
+use Rattle.mgs_model.specs.declared.session.Setting.TheVariants.{SetFillColumn, KeyboardQuit}
 use Rattle.mgs_model.specs.declared.session.Arrangement.TheVariants.{DeleteWindow, DeleteOtherWindows, SplitWindow, NextWindow, PreviousWindow, EnlargeWindow}
 use Rattle.mgs_model.specs.declared.session.Command.{Command}
 use Rattle.mgs_model.specs.declared.session.Command.TheVariants.{Insert, InsertReading, Move, Alter, Scroll, Set, Rearrange, UndoEdit, NotModified, SaveBuffer, Exit}
@@ -71,6 +71,7 @@ key_rows =
     ∷ meta 92 (codes "delete-horizontal-space") (Alter DeleteHorizontalSpace)
     ∷ control_x 15 (codes "delete-blank-lines") (Alter DeleteBlankLines)
     ∷ meta 94 (codes "join-line") (Alter JoinLine)
+    ∷ meta 113 (codes "fill-paragraph") (Alter FillParagraph)
     ∷ key 0 (codes "set-mark-command") (Move SetMark)
     ∷ control_x 24 (codes "exchange-point-and-mark") (Move ExchangePointAndMark)
     ∷ control_x 104 (codes "mark-whole-buffer") (Move MarkWholeBuffer)
@@ -78,6 +79,7 @@ key_rows =
     ∷ key 31 (codes "undo") UndoEdit
     ∷ control_x 117 [] UndoEdit
     ∷ meta 126 (codes "not-modified") NotModified
+    ∷ control_x 102 (codes "set-fill-column") (Set SetFillColumn)
     ∷ key 7 (codes "keyboard-quit") (Set KeyboardQuit)
     ∷ control_x 48 (codes "delete-window") (Rearrange DeleteWindow)
     ∷ control_x 49 (codes "delete-other-windows") (Rearrange DeleteOtherWindows)
