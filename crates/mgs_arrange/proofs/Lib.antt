@@ -5,3 +5,4 @@ pub mod Slots
 pub mod WindowsGone
 pub mod WindowsResized
 pub mod WindowsSplit
+pub mod WindowShown

@@ -62,7 +62,7 @@ shown_shrunk ks n h (Some x) = refl
 pub seen_shrunk : (ks : List MarkedBuffer) (n : ℕ) (x : Window) → window_of ks (panes.shrunk n x) ≡ shrunk n (window_of ks x)
 seen_shrunk ks n x = shown_shrunk ks n x.height x.shows
 
-height_shown : (ks : List MarkedBuffer) (h : ℕ) (o : Option WindowMarks) → (window_shown ks h o).height ≡ h
+pub height_shown : (ks : List MarkedBuffer) (h : ℕ) (o : Option WindowMarks) → (window_shown ks h o).height ≡ h
 height_shown ks h None = refl
 height_shown ks h (Some x) = refl
 
@@ -91,7 +91,7 @@ place_put ks x (q ∷ qs) =
       | false ↦ ap (λ ps. place_of ks q ∷ ps) (place_put ks x qs)
     ]
 
-places_seen : (ks : List MarkedBuffer) (h : ℕ) (o : Option WindowMarks) (ps : List WindowMarks) → map (place_of ks) (places_after o ps) ≡ left_by (window_shown ks h o) (map (place_of ks) ps)
+pub places_seen : (ks : List MarkedBuffer) (h : ℕ) (o : Option WindowMarks) (ps : List WindowMarks) → map (place_of ks) (places_after o ps) ≡ left_by (window_shown ks h o) (map (place_of ks) ps)
 places_seen ks h None ps = refl
 places_seen ks h (Some x) ps = place_put ks x ps
 
@@ -126,7 +126,7 @@ put_uses m i x (q ∷ qs) =
       | false ↦ omega (arith, put_uses m i x qs)
     ]
 
-after_uses : (m : List ℕ) (i : ℕ) (o : Option WindowMarks) (ps : List WindowMarks) → sum_of (place_uses m i) (places_after o ps) + window_marks_uses m i (panes.left_by o ps) ≡ sum_of (place_uses m i) ps + window_marks_uses m i o
+pub after_uses : (m : List ℕ) (i : ℕ) (o : Option WindowMarks) (ps : List WindowMarks) → sum_of (place_uses m i) (places_after o ps) + window_marks_uses m i (panes.left_by o ps) ≡ sum_of (place_uses m i) ps + window_marks_uses m i o
 after_uses m i None ps = omega arith
 after_uses m i (Some x) ps = put_uses m i x ps
 

@@ -71,7 +71,7 @@ may_split n ks x w e high few =
 
 -- THE MARKS THAT ARE USED
 
-shown_uses : (m : List ℕ) (i k : ℕ) (xs : List Window) → window_marks_uses m i (shows_at k xs) ≤ sum_of (window_uses m i) xs
+pub shown_uses : (m : List ℕ) (i k : ℕ) (xs : List Window) → window_marks_uses m i (shows_at k xs) ≤ sum_of (window_uses m i) xs
 shown_uses m i k [] = omega arith
 shown_uses m i zero (x ∷ xs) = omega arith
 shown_uses m i (suc k) (x ∷ xs) = omega (arith, shown_uses m i k xs)

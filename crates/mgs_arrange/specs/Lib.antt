@@ -1,2 +1,3 @@
 pub mod Arranged
 pub mod Arranging
+pub mod Showing

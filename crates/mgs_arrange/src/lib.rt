@@ -4,6 +4,7 @@
 mod arranging;
 mod leaving;
 mod resizing;
+mod showing;
 mod splitting;
 
 pub use arranging::rearrange;

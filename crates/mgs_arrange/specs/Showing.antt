@@ -1,0 +1,39 @@
+-- A window comes to show a buffer.
+use Rattle.std.specs.Prelude.{ℕ, Bool, false, List, Option, None, Some, find}
+use Rattle.mgs_model.specs.Names.{same_name}
+use Rattle.std.specs.Option.{option_map}
+use Rattle.mgs_model.specs.World.{Place, Window, Session, Buffer_of}
+use Rattle.mgs_model.specs.Apply.{change_at, comer, place_mark, place_point, window_at}
+use Rattle.mgs_buffers.specs.MarkedBuffer.{MarkedBuffer}
+use Rattle.mgs_windows.specs.Panes.{WindowList, is_place_in, places_after, shows_at}
+use Rattle.mgs_windows.specs.declared.WindowMarks.{WindowMarks}
+use Rattle.mgs_world.specs.Worlds.{place_of}
+use Rattle.mgs_arrange.specs.Arranged.{left_by}
+
+-- what a window shows is the buffer of this name
+abbrev pub is_shown : List ℕ → Option WindowMarks → Bool
+is_shown name None = false
+is_shown name (Some x) = same_name name x.name
+
+-- where a session stands in a buffer to which its selected window comes: where that window stood, or the last that left it
+abbrev pub standing : List ℕ → WindowList → Option WindowMarks
+standing name w = find (is_place_in name) (places_after (shows_at w.selected w.windows) w.places)
+
+-- the point and the mark there; the start of the text where the session was not there
+abbrev pub standing_point : List MarkedBuffer → Option WindowMarks → ℕ
+standing_point ks o = place_point (option_map (place_of ks) o)
+
+abbrev pub standing_mark : List MarkedBuffer → Option WindowMarks → Option ℕ
+standing_mark ks o = place_mark (option_map (place_of ks) o)
+
+-- a window comes to a buffer where one of these places is
+abbrev pub coming : List ℕ → List Place → Window → Window
+coming name places x = record (comer (Buffer_of name) places) { height = x.height }
+
+-- the selected window leaves its place, and comes to the buffer
+abbrev pub window_shows : List ℕ → Session → Session
+window_shows name x =
+    record x {
+      windows = change_at x.selected (coming name (left_by (window_at x.selected x.windows) x.places)) x.windows;
+      places = left_by (window_at x.selected x.windows) x.places;
+    }
