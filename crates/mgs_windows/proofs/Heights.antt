@@ -8,7 +8,7 @@ use Rattle.std.proofs.lemmas.Nat.{le-div}
 use Rattle.mgs_model.specs.Apply.{change_at}
 use Rattle.mgs_windows.specs.declared.WindowMarks.{WindowMarks}
 use Rattle.mgs_windows.specs.declared.Window.{Window}
-use Rattle.mgs_windows.specs.Panes.{IsWindowList, closer, given, grown, height_at, mark_set, marked, shows_at, shrunk, split_at, upper_half, room_of, shown_in, one_shown, windows_without}
+use Rattle.mgs_windows.specs.Panes.{IsWindowList, closer, given, grown, height_at, mark_set, marked, showing, shows_at, shrunk, split_at, upper_half, room_of, shown_in, one_shown, windows_without}
 
 -- what is read at an index
 pub height_or : (xs : List Window) (i : ℕ) (x : Window) → i < length xs → (slice_index_or xs i x).height ≡ height_at i xs
@@ -35,6 +35,11 @@ pub set_marked : (xs : List Window) (i : ℕ) (x y : Window) (mark : ℕ) → sl
 set_marked [] i x y mark = refl
 set_marked (z ∷ xs) zero x y mark = refl
 set_marked (z ∷ xs) (suc i) x y mark = ap (λ ws. z ∷ ws) (set_marked xs i x y mark)
+
+pub set_showing : (xs : List Window) (i : ℕ) (x : Window) (y : WindowMarks) → slice_set xs i (record { height = (slice_index_or xs i x).height; shows = Some y }) ≡ change_at i (showing y) xs
+set_showing [] i x y = refl
+set_showing (z ∷ xs) zero x y = refl
+set_showing (z ∷ xs) (suc i) x y = ap (λ ws. z ∷ ws) (set_showing xs i x y)
 
 -- AN ELEMENT IS CHANGED
 
@@ -151,6 +156,33 @@ marked_list rows selected capacity xs places mark form = record {
   some = of_high _ (some_marked mark selected xs (high_of xs form.some));
   fill = omega (arith, form.fill, room_marked mark selected xs);
   room = omega (arith, form.room, shown_marked mark selected xs);
+}
+
+-- A WINDOW COMES TO SHOW A BUFFER
+
+room_showing : (y : WindowMarks) (i : ℕ) (xs : List Window) → room_of (change_at i (showing y) xs) ≡ room_of xs
+room_showing y i [] = refl
+room_showing y zero (x ∷ xs) = refl
+room_showing y (suc i) (x ∷ xs) = omega (arith, room_showing y i xs)
+
+shown_showing : (y : WindowMarks) (i : ℕ) (xs : List Window) → i < length xs → shown_in (change_at i (showing y) xs) + one_shown (shows_at i xs) ≡ shown_in xs + 1
+shown_showing y i [] within = absurd (omega (arith, within))
+shown_showing y zero (x ∷ xs) within = omega arith
+shown_showing y (suc i) (x ∷ xs) within = omega (arith, shown_showing y i xs (omega (arith, within)))
+
+some_showing : (y : WindowMarks) (i : ℕ) (xs : List Window) → AreHigh xs → AreHigh (change_at i (showing y) xs)
+some_showing y i [] all = all
+some_showing y zero (x ∷ xs) all = all
+some_showing y (suc i) (x ∷ xs) all = (all.0, some_showing y i xs all.1)
+
+pub showing_list : (rows selected capacity after : ℕ) (xs : List Window) (places left : List WindowMarks) (y : WindowMarks) → IsWindowList (record { rows = rows; windows = xs; selected = selected; places = places; capacity = capacity })
+    → length left ≤ length places + one_shown (shows_at selected xs) → length places + shown_in xs + 1 ≤ after
+    → IsWindowList (record { rows = rows; windows = change_at selected (showing y) xs; selected = selected; places = left; capacity = after })
+showing_list rows selected capacity after xs places left y form most room = record {
+  selected = omega (arith, form.selected, length_changed (showing y) selected xs);
+  some = of_high _ (some_showing y selected xs (high_of xs form.some));
+  fill = omega (arith, form.fill, room_showing y selected xs);
+  room = omega (arith, most, room, shown_showing y selected xs form.selected);
 }
 
 -- A WINDOW GOES

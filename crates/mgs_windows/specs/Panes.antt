@@ -117,3 +117,13 @@ mark_set mark x = record x { mark = Some mark }
 -- a window with this mark, where it shows a buffer
 abbrev pub marked : ℕ → Window → Window
 marked mark x = record x { shows = option_map (mark_set mark) x.shows }
+
+-- A WINDOW COMES TO SHOW A BUFFER
+
+abbrev pub showing : WindowMarks → Window → Window
+showing y x = record x { shows = Some y }
+
+-- the selected one, which leaves its place in what it showed
+abbrev pub window_shown : WindowMarks → WindowList → WindowList
+window_shown y w =
+    record w { windows = change_at w.selected (showing y) w.windows; places = places_after (shows_at w.selected w.windows) w.places }

@@ -7,7 +7,7 @@ mod places;
 ghost use Rattle.std.specs.Prelude.{◌≡◌, ◌≢◌, ◌-◌, ◌/◌, ◌+◌, ◌<◌, ◌≤◌, [], ◌∷◌, length, slice_get, vec_capacity, Some, OnOk, OnErr, ◌^◌};
 ghost use Rattle.mgs_model.specs.Apply.{change_at};
 ghost use Rattle.std.specs.Option.{option_map};
-ghost use Rattle.mgs_windows.specs.Panes.{WindowList, IsWindowList, closer, given, grown, height_at, left_by, mark_set, marked, one_shown, places_after, room_of, shown_in, shows_at, shrunk, split_at, window_removed, window_split, windows_without};
+ghost use Rattle.mgs_windows.specs.Panes.{WindowList, IsWindowList, closer, given, grown, height_at, left_by, mark_set, marked, one_shown, places_after, room_of, showing, shown_in, shows_at, shrunk, split_at, window_removed, window_shown, window_split, windows_without};
 
 use crate::places::put_place;
 use arrayvec::ArrayVec;
@@ -110,6 +110,23 @@ fn mark_window(list: &mut ArrayVec<Window, 8>, index: usize, id: MarkId)
     ensures { list.new.items ≡ change_at index (marked id) list.old.items }
 {
     mark(list.as_mut_slice(), index, id);
+}
+
+/// The window at an index shows this.
+fn show(windows: &mut [Window], index: usize, window_marks: WindowMarks)
+    requires { index < length windows.old }
+    ensures { windows.new ≡ change_at index (showing window_marks) windows.old }
+{
+    windows[index].shows = Some(window_marks);
+}
+
+/// The same in a list.
+#[tactic(auto, using(crate::proofs::Heights::length_changed))]
+fn show_window(list: &mut ArrayVec<Window, 8>, index: usize, window_marks: WindowMarks)
+    requires { index < length list.old.items }
+    ensures { list.new.items ≡ change_at index (showing window_marks) list.old.items }
+{
+    show(list.as_mut_slice(), index, window_marks);
 }
 
 /// How many rows the window at an index has.
@@ -325,6 +342,18 @@ impl Windows {
         ensures { self.new ≡ window_split shows self.old }
     {
         split_window(&mut self.list, self.selected, shows);
+    }
+
+    /// The selected window shows this from now on. Its marks are the session's place in the buffer that it showed. Gives back
+    /// the place before, whose marks are to be given up. It takes no memory.
+    pub fn show(&mut self, window_marks: WindowMarks) -> Option<WindowMarks>
+        requires { length self.old.places + shown_in self.old.windows + 1 ≤ self.old.capacity }
+        ensures list { self.new ≡ window_shown window_marks self.old }
+        ensures left { result ≡ left_by (shows_at self.old.selected self.old.windows) self.old.places }
+    {
+        let shows = shows_of(self.list.as_slice(), self.selected);
+        show_window(&mut self.list, self.selected, window_marks);
+        leave(&mut self.places, shows)
     }
 
     /// The window at an index goes. Its rows and its mode line's go to the heir, and its marks are the session's place in
