@@ -76,7 +76,7 @@ after_sizes ks ls xs at x y is h = sizes_set xs at x y is h.size
 
 -- THE WORLD
 
-after_world : (d : Directory) (ks ls : List MarkedBuffer) (xs : List Session) (next : Option ℕ) (id at : ℕ) (x y : Session) → IsSound ks xs → at ≡ position_or_len (session_id id) xs → x ≡ get_or xs at x → at < length xs → Rearranged ks ls x y → world_of d ls (slice_set xs at y) next ≡ record (world_of d ks xs next) { sessions = change_first (has_id id) (λ old. session_of ls y) (map (session_of ks) xs) }
+pub after_world : (d : Directory) (ks ls : List MarkedBuffer) (xs : List Session) (next : Option ℕ) (id at : ℕ) (x y : Session) → IsSound ks xs → at ≡ position_or_len (session_id id) xs → x ≡ get_or xs at x → at < length xs → Rearranged ks ls x y → world_of d ls (slice_set xs at y) next ≡ record (world_of d ks xs next) { sessions = change_first (has_id id) (λ old. session_of ls y) (map (session_of ks) xs) }
 after_world d ks ls xs next id at x y sound place is within h =
     same_world d _ _ _ _ (id_after next) h.buffers
     (set_seen (session_of ls) (session_of ks) xs at y (sessions_stay ks ls (remove xs at) (others_before ks xs at x sound is within) (others_after ks ls xs at x y sound is within h) h.stay)

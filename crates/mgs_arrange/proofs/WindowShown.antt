@@ -1,11 +1,13 @@
 -- A window comes to show a buffer: what is seen of its session, and the marks that it uses.
-use Rattle.std.proofs.Common.{◌≡◌, ℕ, zero, suc, ◌+◌, ◌<◌, ◌≤◌, Bool, true, false, cond, List, [], ◌∷◌, length, map, Option, Some, None, refl, sym, ap, subst, ◌∙◌, arith}
-use Rattle.std.specs.Prelude.{find, slice_get, IfSome}
+use Rattle.std.proofs.Common.{◌≡◌, ℕ, zero, suc, ◌+◌, ◌<◌, ◌≤◌, Bool, true, false, cond, List, [], ◌∷◌, length, map, Option, Some, None, get_or, refl, sym, ap, subst, ◌∙◌, arith}
+use Rattle.std.specs.Prelude.{find, slice_get, slice_set, IfSome}
+use Rattle.std.specs.List.{position_or_len}
 use Rattle.std.specs.Option.{option_map, option_and_then}
+use Rattle.mgs_model.specs.Access.{Directory}
 use Rattle.mgs_model.specs.Names.{same_name}
-use Rattle.mgs_model.specs.World.{Buffer_of}
+use Rattle.mgs_model.specs.World.{World, Buffer_of, find_session, has_id}
 use Rattle.mgs_model.specs.World as model
-use Rattle.mgs_model.specs.Apply.{change_at, comer, place_in, place_mark, place_point, window_at}
+use Rattle.mgs_model.specs.Apply.{change_at, change_first, comer, place_in, place_mark, place_point, window_at}
 use Rattle.mgs_model.proofs.Blind.{is_name, same_names}
 use Rattle.mgs_model.proofs.Firsts.{find-map}
 use Rattle.mgs_buffers.specs.MarkedBuffer.{MarkedBuffer, mark_at}
@@ -14,14 +16,16 @@ use Rattle.mgs_windows.specs.Panes.{WindowList, height_at, is_place_in, places_a
 use Rattle.mgs_windows.specs.declared.WindowMarks.{WindowMarks}
 use Rattle.mgs_windows.specs.declared.Window.{Window}
 use Rattle.mgs_session.specs.declared.Session.{Session}
-use Rattle.mgs_world.specs.Worlds.{buffers_of, place_of, session_of, window_of, window_shown}
-use Rattle.mgs_world.specs.Sound.{IsSessionSound, IsShownSound, in_use, place_uses, session_uses, sum_of, window_marks_uses, window_uses}
+use Rattle.mgs_world.specs.Worlds.{buffers_of, place_of, session_id, session_of, window_of, window_shown, world_of}
+use Rattle.mgs_world.specs.Sound.{IsSessionSound, IsShownSound, IsSound, in_use, place_uses, session_uses, sum_of, window_marks_uses, window_uses}
 use Rattle.mgs_world.specs.WindowMarks.{WindowMarksAdded, WindowMarksDropped}
 use Rattle.mgs_world.proofs.WindowMarks.{place_local, session_local}
+use Rattle.mgs_world.proofs.Sessions.{session_some}
 use Rattle.mgs_world.proofs.Worlds.{same_positions}
-use Rattle.mgs_arrange.specs.Arranged.{left_by}
+use Rattle.mgs_arrange.specs.Arranged.{left_by, run_ended}
 use Rattle.mgs_arrange.specs.Arranging.{Rearranged}
-use Rattle.mgs_arrange.specs.Showing.{coming, is_shown, standing, standing_mark, standing_point, window_shows}
+use Rattle.mgs_arrange.specs.Showing.{coming, is_shown, shown_in, standing, standing_mark, standing_point, window_shows}
+use Rattle.mgs_arrange.proofs.Rearranging.{after_world}
 use Rattle.mgs_arrange.proofs.WindowsGone.{after_uses, height_shown, map_changed, places_seen, window_seen}
 use Rattle.mgs_arrange.proofs.WindowsSplit.{shown_uses}
 
@@ -188,3 +192,16 @@ module _ (name : List ℕ) (p : ℕ) (q : Option ℕ) (capacity : ℕ) (y : Wind
           (map_changed (window_of ls) (shown_there y) (coming name (left_by (window_at x.windows.selected (map (window_of ls) x.windows.windows)) (map (place_of ls) x.windows.places))) x.windows.selected x.windows.windows comer_seen)
           places_left
           ∙ ap (window_shows name) (session_local ls ks x used_stay)
+
+-- THE WORLD AFTERWARDS
+
+pub shown_world : (d : Directory) (ks ls : List MarkedBuffer) (xs : List Session) (next : Option ℕ) (id at : ℕ) (name : List ℕ) (x y : Session) (z : model.Session) → IsSound ks xs → at ≡ position_or_len (session_id id) xs → x ≡ get_or xs at x → at < length xs → Rearranged ks ls x y
+    → session_of ls y ≡ run_ended (window_shows name (session_of ks x)) → find_session id (world_of d ks xs next).sessions ≡ Some z → world_of d ls (slice_set xs at y) next ≡ shown_in id name z (world_of d ks xs next)
+shown_world d ks ls xs next id at name x y z sound place is within h shown found =
+    let w = world_of d ks xs next in
+    let same : session_of ks x ≡ z = some_same (sym (session_some d ks xs next id at x place within is) ∙ found) in
+    after_world d ks ls xs next id at x y sound place is within h
+    ∙ ap (λ (s : model.Session). let v : World = record w { sessions = change_first (has_id id) (λ old. s) w.sessions } in v) (shown ∙ ap (λ (s : model.Session). run_ended (window_shows name s)) same)
+  where
+    some_same : {A : Type 0} {a b : A} → Path (Option A) (Some a) (Some b) → a ≡ b
+    some_same e = cc

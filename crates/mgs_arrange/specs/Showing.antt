@@ -2,13 +2,13 @@
 use Rattle.std.specs.Prelude.{ℕ, Bool, false, List, Option, None, Some, find}
 use Rattle.mgs_model.specs.Names.{same_name}
 use Rattle.std.specs.Option.{option_map}
-use Rattle.mgs_model.specs.World.{Place, Window, Session, Buffer_of}
-use Rattle.mgs_model.specs.Apply.{change_at, comer, place_mark, place_point, window_at}
+use Rattle.mgs_model.specs.World.{Place, Window, Session, World, Buffer_of, has_id}
+use Rattle.mgs_model.specs.Apply.{change_at, change_first, comer, place_mark, place_point, window_at}
 use Rattle.mgs_buffers.specs.MarkedBuffer.{MarkedBuffer}
 use Rattle.mgs_windows.specs.Panes.{WindowList, is_place_in, places_after, shows_at}
 use Rattle.mgs_windows.specs.declared.WindowMarks.{WindowMarks}
 use Rattle.mgs_world.specs.Worlds.{place_of}
-use Rattle.mgs_arrange.specs.Arranged.{left_by}
+use Rattle.mgs_arrange.specs.Arranged.{left_by, run_ended}
 
 -- what a window shows is the buffer of this name
 abbrev pub is_shown : List ℕ → Option WindowMarks → Bool
@@ -37,3 +37,7 @@ window_shows name x =
       windows = change_at x.selected (coming name (left_by (window_at x.selected x.windows) x.places)) x.windows;
       places = left_by (window_at x.selected x.windows) x.places;
     }
+
+-- the world in which that was done by the session of an id
+abbrev pub shown_in : ℕ → List ℕ → Session → World → World
+shown_in id name x w = record w { sessions = change_first (has_id id) (λ old. run_ended (window_shows name x)) w.sessions }

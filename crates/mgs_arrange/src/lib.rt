@@ -8,3 +8,4 @@ mod showing;
 mod splitting;
 
 pub use arranging::rearrange;
+pub use showing::show;

@@ -1,13 +1,17 @@
 // A window comes to show a buffer.
-ghost use Rattle.std.specs.Prelude.{◌≡◌, ℕ, List, Option, None, find, IfOk, IfSome, OnOk, OnErr};
+ghost use Rattle.std.specs.Prelude.{◌≡◌, ◌<◌, ℕ, List, Option, None, Some, find, length, IfOk, IfSome, OnOk, OnErr};
+ghost use Rattle.std.specs.List.{position_or_len};
+ghost use Rattle.mgs_model.specs.Access.{Directory};
+ghost use Rattle.mgs_model.specs.World.{find_session};
+ghost use Rattle.mgs_model.specs.World as model;
 ghost use Rattle.mgs_buffers.specs.MarkedBuffer.{HasBuffer, MarkedBuffer};
 ghost use Rattle.mgs_windows.specs.Panes.{is_place_in};
-ghost use Rattle.mgs_world.specs.Sound.{IsSessionSound, IsShownSound};
+ghost use Rattle.mgs_world.specs.Sound.{IsSessionSound, IsShownSound, IsSound};
 ghost use Rattle.mgs_world.specs.WindowMarks.{WindowMarksAdded, WindowMarksDropped};
-ghost use Rattle.mgs_world.specs.Worlds.{session_of};
+ghost use Rattle.mgs_world.specs.Worlds.{session_id, session_of, sizes_in, world_of};
 ghost use Rattle.mgs_arrange.specs.Arranged.{run_ended};
 ghost use Rattle.mgs_arrange.specs.Arranging.{IsResized, Rearranged};
-ghost use Rattle.mgs_arrange.specs.Showing.{is_shown, standing, standing_mark, standing_point, window_shows};
+ghost use Rattle.mgs_arrange.specs.Showing.{is_shown, shown_in, standing, standing_mark, standing_point, window_shows};
 
 use mgs_buffers::Buffers;
 use mgs_marks::Marked;
@@ -73,3 +77,47 @@ fn add_standing<T: Marked + Drop>(
     add_window_marks(buffers, &window_marks.name, point, mark, 0)
 }
 
+// The selected window of a session comes to show the buffer of this name, as `show` says.
+fn show_in_session<T: Marked + Drop>(
+    buffers: &mut Buffers<T>,
+    session: &mut Session,
+    name: &Name,
+) -> Result<(), Short>
+    requires sound { IsSessionSound buffers.old session.old }
+    requires kept { HasBuffer name.now buffers.old }
+    ensures rearranged { OnOk result (Rearranged buffers.old buffers.new session.old session.new) }
+    ensures shown { OnOk result (session_of buffers.new session.new ≡ run_ended (window_shows name.now (session_of buffers.old session.old))) }
+    ensures err { OnErr result (WindowMarksDropped None buffers.old buffers.new) }
+    ensures same { OnErr result (IsResized session.old session.new) }
+    ensures seen { OnErr result ((ks : List MarkedBuffer) → session_of ks session.new ≡ session_of ks session.old) }
+{
+    // For what it says of the selected window.
+    let _selected = session.windows.selected();
+    let stood = standing(&session.windows, name);
+    session.windows.reserve()?;
+    let window_marks = add_standing(buffers, name, stood)?;
+    let before = session.windows.show(window_marks);
+    drop_window_marks(buffers, before);
+    set_kind(session, Kind::Other);
+    Ok(())
+}
+
+/// The selected window of the session at `at` comes to show the buffer of this name, where the session stood there last: at
+/// the point and the mark of that window or of the one that left the buffer last, or at the start. What the window showed
+/// gets its place. `Short`: memory was refused, and the world is as it was.
+pub fn show<T: Marked + Drop>(
+    buffers: &mut Buffers<T>,
+    sessions: &mut [Session],
+    at: usize,
+    name: &Name,
+) -> Result<(), Short>
+    requires sound { IsSound buffers.old sessions.old }
+    requires within { at < length sessions.old }
+    requires kept { HasBuffer name.now buffers.old }
+    ensures sound { IsSound buffers.new sessions.new }
+    ensures sizes { sizes_in sessions.new ≡ sizes_in sessions.old }
+    ensures ok { OnOk result ((directory : Directory) (id : ℕ) (next : Option ℕ) (x : model.Session) → at ≡ position_or_len (session_id id) sessions.old → find_session id (world_of directory buffers.old sessions.old next).sessions ≡ Some x → world_of directory buffers.new sessions.new next ≡ shown_in id name.now x (world_of directory buffers.old sessions.old next)) }
+    ensures err { OnErr result ((directory : Directory) (next : Option ℕ) → world_of directory buffers.new sessions.new next ≡ world_of directory buffers.old sessions.old next) }
+{
+    show_in_session(buffers, &mut sessions[at], name)
+}
