@@ -129,6 +129,7 @@ fn filled_by(in_word: bool, c: char) -> usize
     }
 }
 
+#[tactic(auto, using(crate::proofs::Counts::counted_next, crate::proofs::Counts::counted_all))]
 /// How many characters `refill` makes of those between two positions, whichever the fill column: a space and a line feed
 /// each take one.
 fn filled_len<T: Text>(text: &T, from: usize, to: usize) -> usize
