@@ -11,7 +11,7 @@ use Rattle.mgs_edit.specs.Reading.{put_read, PutWithin, cased}
 use Rattle.mgs_edit.specs.declared.plan.Case.{Case}
 use Rattle.mgs_edit.specs.declared.plan.Case.TheVariants.{Upper, Lower, Capitalized}
 use Rattle.mgs_edit.specs.declared.plan.Put.{Put}
-use Rattle.mgs_edit.specs.declared.plan.Put.TheVariants.{Nothing, Character, KillBuffer, Indented, Exchanged, Cased}
+use Rattle.mgs_edit.specs.declared.plan.Put.TheVariants.{Nothing, Character, KillBuffer, Indented, Exchanged, Cased, Filled}
 
 -- how many characters that is, where the kill buffer has so many
 abbrev pub put_length : ℕ → Put → ℕ
@@ -21,6 +21,7 @@ put_length killed (KillBuffer n) = n * killed
 put_length killed (Indented n a b) = n + (b - a)
 put_length killed (Exchanged q) = 2
 put_length killed (Cased a b case) = b - a
+put_length killed (Filled a b fill len) = len
 
 length_repeat : (n : ℕ) (xs : List ℕ) → length (repeat n xs) ≡ n * length xs
 length_repeat zero xs = omega arith
@@ -45,7 +46,7 @@ length_cased Capitalized xs = length_capitalized true xs
 pub length_cased_range : (case : Case) (xs : List ℕ) (a b : ℕ) → a ≤ b → b ≤ length xs → length (cased case (slice_range xs a b)) ≡ b - a
 length_cased_range case xs a b h k = length_cased case (slice_range xs a b) ∙ length_range xs a b h k
 
-length_put : (text kill : List ℕ) (p : Put) → PutWithin (length text) p → length (put_read text kill p) ≡ put_length (length kill) p
+length_put : (text kill : List ℕ) (p : Put) → PutWithin text p → length (put_read text kill p) ≡ put_length (length kill) p
 length_put text kill Nothing h = refl
 length_put text kill (Character c n) h = length-replicate n c
 length_put text kill (KillBuffer n) h = length_repeat n kill
@@ -58,6 +59,7 @@ length_put text kill (Exchanged q) h =
     let before : length (slice_range text (q - 1) q) ≡ q - (q - 1) = length_range text (q - 1) q (omega arith) (omega arith) in
     omega (arith, length-append (slice_range text q (q + 1)) (slice_range text (q - 1) q))
 length_put text kill (Cased a b case) h = length_cased_range case text a b h.0 h.1
+length_put text kill (Filled a b fill len) h = h.2
 
-pub length_killed : (text kill : List ℕ) (p : Put) (killed : ℕ) → PutWithin (length text) p → length kill ≡ killed → length (put_read text kill p) ≡ put_length killed p
+pub length_killed : (text kill : List ℕ) (p : Put) (killed : ℕ) → PutWithin text p → length kill ≡ killed → length (put_read text kill p) ≡ put_length killed p
 length_killed text kill p killed h k = length_put text kill p h ∙ ap (λ n. put_length n p) k

@@ -2,3 +2,4 @@ pub mod Lengths
 mod Stretches
 mod Regions
 mod Words
+mod Counts

@@ -1,8 +1,8 @@
 -- The words of a text, one after another.
-use Rattle.std.proofs.Common.{◌≡◌, ℕ, zero, suc, ◌+◌, ◌-◌, ◌<◌, ◌≤◌, true, false, not, cond, List, [], ◌∷◌, ◌++◌, length, take, drop, get_or, refl, sym, ap, ◌∙◌, arith, inl, inr, subst, leb, append_assoc, length-drop}
+use Rattle.std.proofs.Common.{◌≡◌, ℕ, zero, suc, ◌+◌, ◌-◌, ◌<◌, ◌≤◌, true, false, not, cond, List, [], ◌∷◌, ◌++◌, length, take, drop, get_or, refl, sym, ap, ◌∙◌, arith, inl, inr, subst, leb, min, append_assoc, length-drop}
 use Rattle.std.specs.Prelude.{filter, slice_range}
 use Rattle.std.specs.List.{slice_split, onto_first, prefix_len}
-use Rattle.std.proofs.lemmas.Bool.{cases_Bool, cases_lt, le-leb}
+use Rattle.std.proofs.lemmas.Bool.{cases_Bool, cases_lt, le-leb, lt-leb, leb-true, leb-false}
 use Rattle.std.proofs.lemmas.List.{drop_all, drop_more, get_or-drop, take_all, append-nil}
 use Rattle.std.proofs.lemmas.List.Sums.{prefix_len_stops}
 use Rattle.mgs_model.specs.Cells.{cells}
@@ -17,7 +17,7 @@ drop_on (suc a) n e [] is = drop_all e [] (omega arith) ∙ sym (drop_all n [] (
 drop_on (suc a) n e (x ∷ xs) is = let more : e ≡ suc (a + n) = omega arith in ap (λ k. drop k (x ∷ xs)) more ∙ drop_on a n (a + n) xs refl
 
 -- what parts words is passed over
-words_past : (c : ℕ) (cs : List ℕ) → is_between c ≡ true → words (c ∷ cs) ≡ words cs
+pub words_past : (c : ℕ) (cs : List ℕ) → is_between c ≡ true → words (c ∷ cs) ≡ words cs
 words_past c cs between = ap (filter has_any) (slice_split-cons_yes is_between c cs between)
 
 words_over : (xs : List ℕ) → words xs ≡ words (drop (prefix_len is_between xs) xs)
@@ -33,14 +33,14 @@ words_over (c ∷ cs) =
     ]
 
 -- the pieces behind the first
-abbrev behind : List ℕ → List (List ℕ)
+abbrev pub behind : List ℕ → List (List ℕ)
 behind [] = []
 behind (c ∷ cs) = cond (is_between c) (slice_split is_between cs) (behind cs)
 
-in_word_more : (c : ℕ) (cs : List ℕ) → is_between c ≡ false → prefix_len is_in_word (c ∷ cs) ≡ suc (prefix_len is_in_word cs)
+pub in_word_more : (c : ℕ) (cs : List ℕ) → is_between c ≡ false → prefix_len is_in_word (c ∷ cs) ≡ suc (prefix_len is_in_word cs)
 in_word_more c cs word = ap (λ b. cond (not b) (1 + prefix_len is_in_word cs) 0) word ∙ omega arith
 
-in_word_none : (c : ℕ) (cs : List ℕ) → is_between c ≡ true → prefix_len is_in_word (c ∷ cs) ≡ 0
+pub in_word_none : (c : ℕ) (cs : List ℕ) → is_between c ≡ true → prefix_len is_in_word (c ∷ cs) ≡ 0
 in_word_none c cs between = ap (λ b. cond (not b) (1 + prefix_len is_in_word cs) 0) between
 
 first_piece : (xs : List ℕ) → slice_split is_between xs ≡ take (prefix_len is_in_word xs) xs ∷ behind xs
@@ -55,7 +55,7 @@ first_piece (c ∷ cs) =
           slice_split-cons_no is_between c cs e ∙ (ap (onto_first c) (first_piece cs) ∙ (sym (ap (λ k. take k (c ∷ cs) ∷ behind cs) (in_word_more c cs e)) ∙ sym (ap (λ ls. take (prefix_len is_in_word (c ∷ cs)) (c ∷ cs) ∷ ls) rest)))
     ]
 
-rest_of_words : (xs : List ℕ) → filter has_any (behind xs) ≡ words (drop (prefix_len is_in_word xs) xs)
+pub rest_of_words : (xs : List ℕ) → filter has_any (behind xs) ≡ words (drop (prefix_len is_in_word xs) xs)
 rest_of_words [] = refl
 rest_of_words (c ∷ cs) =
     elim (cases_Bool (is_between c)) [
@@ -68,7 +68,7 @@ rest_of_words (c ∷ cs) =
     ]
 
 -- a word that begins here
-words_here : (c : ℕ) (cs : List ℕ) → is_between c ≡ false → words (c ∷ cs) ≡ take (prefix_len is_in_word (c ∷ cs)) (c ∷ cs) ∷ words (drop (prefix_len is_in_word (c ∷ cs)) (c ∷ cs))
+pub words_here : (c : ℕ) (cs : List ℕ) → is_between c ≡ false → words (c ∷ cs) ≡ take (prefix_len is_in_word (c ∷ cs)) (c ∷ cs) ∷ words (drop (prefix_len is_in_word (c ∷ cs)) (c ∷ cs))
 words_here c cs word =
     let n : ℕ = prefix_len is_in_word (c ∷ cs) in
     let any : has_any (take n (c ∷ cs)) ≡ true = ap (λ k. has_any (take k (c ∷ cs))) (in_word_more c cs word) ∙ le-leb 1 (suc (length (take (prefix_len is_in_word cs) cs))) (omega arith) in
@@ -109,15 +109,35 @@ word_is_some xs at s e start within end =
     let some : prefix_len is_in_word (drop s xs) ≡ suc (prefix_len is_in_word (drop (s + 1) xs)) = ap (prefix_len is_in_word) cut ∙ in_word_more (get_or xs s 0) (drop (s + 1) xs) (between_stops xs at s start within) in
     omega (arith, some)
 
--- FILLING
+-- FILLING: widths are measured no further than the fill column
 
-pub filled_first : (fill s e wide : ℕ) (xs out : List ℕ) → s ≡ over is_between xs 0 → s ≤ length xs → e ≡ over is_in_word xs s → s ≤ e → e ≤ length xs → wide ≡ length (cells (slice_range xs s e)) → out ≡ slice_range xs s e
+-- a line that is full already takes no word, whatever its width
+filled_full : (fill c d : ℕ) (ws : List (List ℕ)) → fill ≤ c → fill ≤ d → filled_from fill c ws ≡ filled_from fill d ws
+filled_full fill c d [] h k = refl
+filled_full fill c d (w ∷ ws) h k =
+    let one : leb (c + 1 + length (cells w)) fill ≡ false = lt-leb (c + 1 + length (cells w)) fill (omega arith) in
+    let other : leb (d + 1 + length (cells w)) fill ≡ false = lt-leb (d + 1 + length (cells w)) fill (omega arith) in
+    rw (one, other) refl
+
+filled_cut : (fill column : ℕ) (ws : List (List ℕ)) → filled_from fill (min column fill) ws ≡ filled_from fill column ws
+filled_cut fill column ws =
+    elim (cases_lt column fill) [
+      | inl less ↦
+          let same : min column fill ≡ column = omega arith in
+          ap (λ n. filled_from fill n ws) same
+      | inr more ↦
+          let cut : fill ≤ min column fill = omega arith in
+          filled_full fill (min column fill) column ws cut more
+    ]
+
+pub filled_first : (fill s e wide : ℕ) (xs out : List ℕ) → s ≡ over is_between xs 0 → s ≤ length xs → e ≡ over is_in_word xs s → s ≤ e → e ≤ length xs → wide ≡ min (length (cells (slice_range xs s e))) fill → out ≡ slice_range xs s e
     → out ++ filled_from fill wide (words (drop e xs)) ≡ refilled fill xs
 filled_first fill s e wide xs out start inside end order within is same =
     elim (cases_lt s (length xs)) [
       | inl more ↦
           let all : words xs ≡ slice_range xs s e ∷ words (drop e xs) = next_word xs 0 s e start more end in
-          ap (λ o. o ++ filled_from fill wide (words (drop e xs))) same ∙ (ap (λ w. slice_range xs s e ++ filled_from fill w (words (drop e xs))) is ∙ sym (ap (filled_words fill) all))
+          let cut : filled_from fill wide (words (drop e xs)) ≡ filled_from fill (length (cells (slice_range xs s e))) (words (drop e xs)) = ap (λ w. filled_from fill w (words (drop e xs))) is ∙ filled_cut fill (length (cells (slice_range xs s e))) (words (drop e xs)) in
+          ap (λ o. o ++ filled_from fill wide (words (drop e xs))) same ∙ (ap (λ o. slice_range xs s e ++ o) cut ∙ sym (ap (filled_words fill) all))
       | inr past ↦
           let none : words xs ≡ [] = no_word xs 0 s start (omega arith) in
           let left : words (drop e xs) ≡ [] = ap words (drop_all e xs (omega arith)) in
@@ -125,28 +145,33 @@ filled_first fill s e wide xs out start inside end order within is same =
           ap (λ o. o ++ filled_from fill wide (words (drop e xs))) (same ∙ empty) ∙ (ap (filled_from fill wide) left ∙ sym (ap (filled_words fill) none))
     ]
 
-pub filled_on : (fill column at s e wide : ℕ) (xs out new all : List ℕ) → s ≡ over is_between xs at → s < length xs → e ≡ over is_in_word xs s → wide ≡ length (cells (slice_range xs s e)) → leb (column + 1 + wide) fill ≡ true
+-- a word that fits was measured to its end
+pub filled_on : (fill column at s e wide : ℕ) (xs out new all : List ℕ) → s ≡ over is_between xs at → s < length xs → e ≡ over is_in_word xs s → wide ≡ min (length (cells (slice_range xs s e))) fill → leb (column + 1 + wide) fill ≡ true
     → new ≡ out ++ (32 ∷ slice_range xs s e) → out ++ filled_from fill column (words (drop at xs)) ≡ all → new ++ filled_from fill (column + (1 + wide)) (words (drop e xs)) ≡ all
 filled_on fill column at s e wide xs out new all start within end is fits put before =
     let w : List ℕ = slice_range xs s e in
     let k : ℕ = length (cells w) in
     let rest : List (List ℕ) = words (drop e xs) in
-    let fit : leb (column + 1 + k) fill ≡ true = sym (ap (λ n. leb (column + 1 + n) fill) is) ∙ fits in
+    let inside : column + 1 + wide ≤ fill = leb-true (column + 1 + wide) fill fits in
+    let whole : wide ≡ k = omega arith in
+    let fit : leb (column + 1 + k) fill ≡ true = sym (ap (λ n. leb (column + 1 + n) fill) whole) ∙ fits in
     let width : column + (1 + wide) ≡ column + 1 + k = omega arith in
     let line : filled_from fill column (w ∷ rest) ≡ 32 ∷ (w ++ filled_from fill (column + 1 + k) rest) = rw fit refl in
     let next : filled_from fill column (words (drop at xs)) ≡ 32 ∷ (w ++ filled_from fill (column + 1 + k) rest) = ap (filled_from fill column) (next_word xs at s e start within end) ∙ line in
     ap (λ o. o ++ filled_from fill (column + (1 + wide)) rest) put ∙ (ap (λ n. (out ++ (32 ∷ w)) ++ filled_from fill n rest) width ∙ (append_assoc out (32 ∷ w) (filled_from fill (column + 1 + k) rest) ∙ (sym (ap (λ o. out ++ o) next) ∙ before)))
 
-pub filled_below : (fill column at s e wide : ℕ) (xs out new all : List ℕ) → s ≡ over is_between xs at → s < length xs → e ≡ over is_in_word xs s → wide ≡ length (cells (slice_range xs s e)) → leb (column + 1 + wide) fill ≡ false
+pub filled_below : (fill column at s e wide : ℕ) (xs out new all : List ℕ) → s ≡ over is_between xs at → s < length xs → e ≡ over is_in_word xs s → wide ≡ min (length (cells (slice_range xs s e))) fill → leb (column + 1 + wide) fill ≡ false
     → new ≡ out ++ (10 ∷ slice_range xs s e) → out ++ filled_from fill column (words (drop at xs)) ≡ all → new ++ filled_from fill wide (words (drop e xs)) ≡ all
 filled_below fill column at s e wide xs out new all start within end is fits put before =
     let w : List ℕ = slice_range xs s e in
     let k : ℕ = length (cells w) in
     let rest : List (List ℕ) = words (drop e xs) in
-    let fit : leb (column + 1 + k) fill ≡ false = sym (ap (λ n. leb (column + 1 + n) fill) is) ∙ fits in
+    let past : fill < column + 1 + wide = leb-false (column + 1 + wide) fill fits in
+    let fit : leb (column + 1 + k) fill ≡ false = lt-leb (column + 1 + k) fill (omega arith) in
     let line : filled_from fill column (w ∷ rest) ≡ 10 ∷ (w ++ filled_from fill k rest) = rw fit refl in
     let next : filled_from fill column (words (drop at xs)) ≡ 10 ∷ (w ++ filled_from fill k rest) = ap (filled_from fill column) (next_word xs at s e start within end) ∙ line in
-    ap (λ o. o ++ filled_from fill wide rest) put ∙ (ap (λ n. (out ++ (10 ∷ w)) ++ filled_from fill n rest) is ∙ (append_assoc out (10 ∷ w) (filled_from fill k rest) ∙ (sym (ap (λ o. out ++ o) next) ∙ before)))
+    let cut : filled_from fill wide rest ≡ filled_from fill k rest = ap (λ n. filled_from fill n rest) is ∙ filled_cut fill k rest in
+    ap (λ o. o ++ filled_from fill wide rest) put ∙ (ap (λ o. (out ++ (10 ∷ w)) ++ o) cut ∙ (append_assoc out (10 ∷ w) (filled_from fill k rest) ∙ (sym (ap (λ o. out ++ o) next) ∙ before)))
 
 pub filled_end : (fill column at : ℕ) (xs out all : List ℕ) → words (drop at xs) ≡ [] → out ++ filled_from fill column (words (drop at xs)) ≡ all → out ≡ all
 filled_end fill column at xs out all none before = sym (append-nil out) ∙ (sym (ap (λ ws. out ++ filled_from fill column ws) none) ∙ before)

@@ -1,8 +1,8 @@
 -- What a plan says: each is read as a plan of the model, given the text and the kill buffer that it is for.
-use Rattle.std.specs.Prelude.{◌≡◌, ℕ, ◌+◌, ◌-◌, ◌≤◌, Bool, true, false, not, List, [], ◌++◌, length, replicate, slice_range, Option, Some, None, Result, Ok, Err}
+use Rattle.std.specs.Prelude.{◌≡◌, ℕ, ◌+◌, ◌-◌, ◌≤◌, Bool, true, false, not, List, [], ◌++◌, length, replicate, slice_range, Option, Some, None, Result, Ok, Err, if◌then◌else◌}
 use Rattle.std.specs.List.{repeat}
 use Rattle.mgs_model.specs.Outcome.{PointPlan, Keep, At, MarkPlan, Keep_mark, Mark_at, KillPlan, Keep_kill, Kill_is, Keep_search}
-use Rattle.mgs_model.specs.Whites.{is_between}
+use Rattle.mgs_model.specs.Whites.{is_between, refilled}
 use Rattle.mgs_model.specs.Cases.{uppercased, lowercased, capitalized}
 use Rattle.mgs_model.specs.Plans as model
 use Rattle.mgs_model.specs.declared.message.Message.{Message}
@@ -12,7 +12,7 @@ use Rattle.mgs_model.specs.declared.session.Kind.TheVariants.{Other, Kill}
 use Rattle.mgs_model.specs.declared.session.Motion.{Motion}
 use Rattle.mgs_model.specs.declared.session.Motion.TheVariants.{StartSearch, SearchOn, StartReplace, SkipMatch}
 use Rattle.mgs_model.specs.declared.session.Alteration.{Alteration}
-use Rattle.mgs_model.specs.declared.session.Alteration.TheVariants.{FillParagraph, ReplaceMatch}
+use Rattle.mgs_model.specs.declared.session.Alteration.TheVariants.{ReplaceMatch}
 use Rattle.mgs_edit.specs.declared.plan.Around.{Around}
 use Rattle.mgs_edit.specs.declared.plan.Goes.{Goes}
 use Rattle.mgs_edit.specs.declared.plan.Goes.TheVariants.{Stays, To, Behind}
@@ -24,7 +24,7 @@ use Rattle.mgs_edit.specs.declared.plan.Finish.{Finish}
 use Rattle.mgs_edit.specs.declared.plan.Case.{Case}
 use Rattle.mgs_edit.specs.declared.plan.Case.TheVariants.{Upper, Lower, Capitalized}
 use Rattle.mgs_edit.specs.declared.plan.Put.{Put}
-use Rattle.mgs_edit.specs.declared.plan.Put.TheVariants.{Nothing, Character, KillBuffer, Indented, Exchanged, Cased}
+use Rattle.mgs_edit.specs.declared.plan.Put.TheVariants.{Nothing, Character, KillBuffer, Indented, Exchanged, Cased, Filled}
 use Rattle.mgs_edit.specs.declared.plan.Change.{Change}
 use Rattle.mgs_edit.specs.declared.plan.Undone.{Undone}
 
@@ -32,7 +32,7 @@ use Rattle.mgs_edit.specs.declared.plan.Undone.{Undone}
 
 -- what is given here, in a text of so many characters; all else is as it is
 abbrev pub surrounded : Around → ℕ → model.Around → model.Around
-surrounded x size rest = record rest { size = size; place = x.place; mark = x.mark; argument = x.argument; kind = x.kind; height = x.height }
+surrounded x size rest = record rest { size = size; place = x.place; mark = x.mark; argument = x.argument; kind = x.kind; height = x.height; fill = x.fill }
 
 -- what an undo in a buffer goes by
 abbrev pub undoing : Kind → List ℕ → ℕ → model.Around → model.Around
@@ -52,6 +52,7 @@ put_read text kill (KillBuffer n) = repeat n kill
 put_read text kill (Indented n a b) = replicate n 10 ++ slice_range text a b
 put_read text kill (Exchanged q) = slice_range text q (q + 1) ++ slice_range text (q - 1) q
 put_read text kill (Cased a b case) = cased case (slice_range text a b)
+put_read text kill (Filled a b fill len) = refilled fill (slice_range text a b)
 
 -- behind is where what is put in ends
 abbrev pub point_read : ℕ → Goes → PointPlan
@@ -135,13 +136,15 @@ abbrev pub PieceWithin : ℕ → Option Piece → Type 0
 PieceWithin size None = Unit {0}
 PieceWithin size (Some x) = (x.from ≤ x.to) × (x.to ≤ size)
 
-abbrev pub PutWithin : ℕ → Put → Type 0
-PutWithin size Nothing = Unit {0}
-PutWithin size (Character c n) = Unit {0}
-PutWithin size (KillBuffer n) = Unit {0}
-PutWithin size (Indented n a b) = (a ≤ b) × (b ≤ size)
-PutWithin size (Exchanged q) = (1 ≤ q) × (q + 1 ≤ size)
-PutWithin size (Cased a b case) = (a ≤ b) × (b ≤ size)
+-- what is filled has the length that the plan says
+abbrev pub PutWithin : List ℕ → Put → Type 0
+PutWithin text Nothing = Unit {0}
+PutWithin text (Character c n) = Unit {0}
+PutWithin text (KillBuffer n) = Unit {0}
+PutWithin text (Indented n a b) = (a ≤ b) × (b ≤ length text)
+PutWithin text (Exchanged q) = (1 ≤ q) × (q + 1 ≤ length text)
+PutWithin text (Cased a b case) = (a ≤ b) × (b ≤ length text)
+PutWithin text (Filled a b fill len) = (a ≤ b) × (b ≤ length text) × (length (refilled fill (slice_range text a b)) ≡ len)
 
 -- of a text of so many characters, and so many afterwards
 pub record FinishWithin (size after : ℕ) (f : Finish) : Type 0 where
@@ -153,7 +156,7 @@ pub record FinishWithin (size after : ℕ) (f : Finish) : Type 0 where
 pub record ChangeWithin (text kill : List ℕ) (c : Change) : Type 0 where
   pub order : c.from ≤ c.to
   pub within : c.to ≤ length text
-  pub put : PutWithin (length text) c.put
+  pub put : PutWithin text c.put
   pub finish : FinishWithin (length text) (length text - (c.to - c.from) + length (put_read text kill c.put)) c.finish
 
 -- COMMANDS
@@ -168,7 +171,6 @@ is_planned _ = true
 
 -- the alterations that are
 abbrev pub is_alteration_planned : Alteration → Bool
-is_alteration_planned FillParagraph = false
 is_alteration_planned ReplaceMatch = false
 is_alteration_planned _ = true
 
@@ -182,3 +184,8 @@ pub record LeavesBehind (f : Finish) : Type 0 where
 -- FILLING: a character of a word
 abbrev pub is_in_word : ℕ → Bool
 is_in_word c = not (is_between c)
+
+-- how many characters come in for one, behind a character of a word or behind another: a word has one before it that parts
+-- it from the word before
+abbrev pub filled_by : Bool → ℕ → ℕ
+filled_by in_word c = if is_between c then 0 else if in_word then 1 else 2

@@ -7,6 +7,7 @@ ghost use Rattle.mgs_edit.specs.Reading.{surrounded, edit_read, ChangeWithin, Is
 
 use crate::around::{goes, is_at_end, is_at_start, joins_behind, joins_in_front, times};
 use crate::cases::{case_region, case_words};
+use crate::fills::fill_paragraph;
 use crate::plan::{Around, Case, Change, Finish, Joins, Piece, Put};
 use crate::whites::{delete_blank_lines, delete_horizontal_space, join_line, just_one_space};
 use mgs_lines::{backward_word, forward_word, kill_line_end};
@@ -187,7 +188,8 @@ pub fn alteration<T: Text>(
         Alteration::DeleteHorizontalSpace => Ok(delete_horizontal_space(text, around)),
         Alteration::DeleteBlankLines => Ok(delete_blank_lines(text, around)),
         Alteration::JoinLine => join_line(text, around),
-        // Paragraphs and replacements have no planners here.
-        Alteration::FillParagraph | Alteration::ReplaceMatch => Err(Message::KeyNotBound),
+        Alteration::FillParagraph => Ok(fill_paragraph(text, around)),
+        // Replacements have no planner here.
+        Alteration::ReplaceMatch => Err(Message::KeyNotBound),
     }
 }

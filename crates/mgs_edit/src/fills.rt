@@ -1,12 +1,17 @@
 // Paragraphs that are filled.
-ghost use Rattle.std.specs.Prelude.{◌≡◌, ◌+◌, ◌<◌, ◌≤◌, ◌^◌, ◌++◌, ◌∷◌, length, nat_le, IfOk, OnOk};
+ghost use Rattle.std.specs.Prelude.{◌≡◌, ℕ, ◌+◌, ◌≤◌, ◌++◌, ◌∷◌, List, length, min, nat_le, slice_range, Ok, IfOk, OnOk};
 ghost use Rattle.mgs_model.specs.Cells.{cells};
+ghost use Rattle.mgs_model.specs.Plans as model;
+ghost use Rattle.mgs_model.specs.Plans.{alteration};
 ghost use Rattle.mgs_model.specs.Walks.{over};
 ghost use Rattle.mgs_model.specs.Whites.{is_between, refilled};
-ghost use Rattle.mgs_edit.specs.Reading.{is_in_word};
+ghost use Rattle.mgs_model.specs.declared.session.Alteration.TheVariants.{FillParagraph};
+ghost use Rattle.mgs_edit.specs.Reading.{ChangeWithin, edit_read, filled_by, is_in_word, surrounded};
 
-use mgs_lines::width;
+use crate::plan::{Around, Change, Finish, Goes, Put, STAYS};
+use mgs_lines::{is_blank_at, paragraph_end, paragraph_start, width};
 use mgs_model::Short;
+use mgs_text::Text;
 use std::alloc::Global;
 
 fn is_between(c: char) -> bool
@@ -45,14 +50,17 @@ fn over_word(chars: &[char], at: usize) -> usize
     chars.len()
 }
 
-/// How many cells characters take that begin a line.
-fn cells_wide(chars: &[char]) -> usize
-    requires { length chars.now < 2 ^ 32 }
-    ensures { result ≡ length (cells chars.now) }
+/// How many cells characters take that begin a line, or the fill column where they pass it.
+fn cells_wide(chars: &[char], fill: usize) -> usize
+    ensures { result ≡ min (length (cells chars.now)) fill }
 {
     let mut wide = 0;
     for i in 0..chars.len() {
-        wide += width(wide, chars[i]);
+        let more = width(wide, chars[i]);
+        if more > fill - wide {
+            return fill;
+        }
+        wide += more;
     }
     wide
 }
@@ -80,12 +88,11 @@ fn put_word(filled: &mut Vec<char>, parted: char, word: &[char]) -> Result<(), S
 /// Characters as their words are written when they are filled: one space between them, or a line feed where the next word
 /// would pass the fill column. `Short`: memory was refused.
 pub fn refill(alloc: Global, chars: &[char], fill: usize) -> Result<Vec<char>, Short>
-    requires { length chars.now < 2 ^ 32 }
     ensures { IfOk result (λ v. v.items ≡ refilled fill chars.now) }
 {
     let first = over_between(chars, 0);
     let mut at = over_word(chars, first);
-    let mut column = cells_wide(&chars[first..at]);
+    let mut column = cells_wide(&chars[first..at], fill);
     let Ok(mut filled) = Vec::from_slice(alloc, &chars[first..at]) else {
         return Err(Short);
     };
@@ -95,7 +102,7 @@ pub fn refill(alloc: Global, chars: &[char], fill: usize) -> Result<Vec<char>, S
             break;
         }
         let end = over_word(chars, start);
-        let wide = cells_wide(&chars[start..end]);
+        let wide = cells_wide(&chars[start..end], fill);
         if fits(column, wide, fill) {
             put_word(&mut filled, ' ', &chars[start..end])?;
             column += 1 + wide;
@@ -106,4 +113,72 @@ pub fn refill(alloc: Global, chars: &[char], fill: usize) -> Result<Vec<char>, S
         at = end;
     }
     Ok(filled)
+}
+
+/// How many characters come in for one, behind a character of a word or behind another.
+fn filled_by(in_word: bool, c: char) -> usize
+    ensures value { result ≡ filled_by in_word c }
+    ensures few { result ≤ 2 }
+{
+    if is_between(c) {
+        0
+    } else if in_word {
+        1
+    } else {
+        2
+    }
+}
+
+#[tactic(auto, using(crate::proofs::Counts::counted_next, crate::proofs::Counts::counted_all))]
+/// How many characters `refill` makes of those between two positions, whichever the fill column: a space and a line feed
+/// each take one.
+fn filled_len<T: Text>(text: &T, from: usize, to: usize) -> usize
+    requires order { from ≤ to }
+    requires within { to ≤ length (T.text text.now) }
+    ensures { (fill : ℕ) → length (refilled fill (slice_range (T.text text.now) from to)) ≡ result }
+{
+    // A position is far below the greatest number.
+    let _size = text.len();
+    let mut len = 0;
+    let mut in_word = false;
+    for i in from..to {
+        let c = text.at(i);
+        len += filled_by(in_word, c);
+        in_word = !is_between(c);
+    }
+    // Nothing stands before the first word.
+    len.saturating_sub(1)
+}
+
+/// The paragraph around the place is filled, and the point goes behind it. In a blank line nothing is.
+pub(crate) fn fill_paragraph<T: Text>(text: &T, around: &Around) -> Change
+    requires { around.now.place ≤ length (T.text text.now) }
+    ensures plan { (rest : model.Around) → edit_read (T.text text.now) rest.kill (Ok result) ≡ alteration FillParagraph (T.text text.now) (surrounded around.now (length (T.text text.now)) rest) }
+    ensures within { (kill : List ℕ) → ChangeWithin (T.text text.now) kill result }
+{
+    let at = around.place;
+    if is_blank_at(text, at) {
+        return Change {
+            from: at,
+            to: at,
+            put: Put::Nothing,
+            finish: STAYS,
+        };
+    }
+    let from = paragraph_start(text, at);
+    let to = paragraph_end(text, at);
+    Change {
+        from,
+        to,
+        put: Put::Filled {
+            from,
+            to,
+            fill: around.fill,
+            len: filled_len(text, from, to),
+        },
+        finish: Finish {
+            point: Goes::Behind,
+            ..STAYS
+        },
+    }
 }

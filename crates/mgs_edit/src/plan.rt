@@ -14,6 +14,8 @@ pub struct Around {
     pub kind: Kind,
     /// How many rows the window has above its mode line.
     pub height: usize,
+    /// The fill column, 1 to 9,999.
+    pub fill: usize,
 }
 
 /// Where the point goes.
@@ -95,6 +97,13 @@ pub enum Put {
         from: usize,
         to: usize,
         case: Case,
+    },
+    /// The words from `from` up to `to`, filled up to a column: `len` characters.
+    Filled {
+        from: usize,
+        to: usize,
+        fill: usize,
+        len: usize,
     },
 }
 

@@ -10,8 +10,8 @@ use mgs_model::TEXT_LIMIT;
 #[tactic(auto, using(crate::proofs::Lengths::length_killed))]
 /// How many characters come in, where the kill buffer has `killed`. `None`: more than a number can say.
 fn put_len(put: &Put, killed: usize) -> Option<usize>
-    ensures some { IfSome result (λ n. (text kill : List ℕ) → PutWithin (length text) put.now → length kill ≡ killed → length (put_read text kill put.now) ≡ n) }
-    ensures none { result ≡ None → (text kill : List ℕ) → PutWithin (length text) put.now → length kill ≡ killed → 2 ^ 64 ≤ length (put_read text kill put.now) }
+    ensures some { IfSome result (λ n. (text kill : List ℕ) → PutWithin text put.now → length kill ≡ killed → length (put_read text kill put.now) ≡ n) }
+    ensures none { result ≡ None → (text kill : List ℕ) → PutWithin text put.now → length kill ≡ killed → 2 ^ 64 ≤ length (put_read text kill put.now) }
 {
     match *put {
         Put::Nothing => Some(0),
@@ -20,12 +20,18 @@ fn put_len(put: &Put, killed: usize) -> Option<usize>
         Put::Indented { feeds, from, to } => feeds.checked_add(to.saturating_sub(from)),
         Put::Exchanged { at: _ } => Some(2),
         Put::Cased { from, to, case: _ } => Some(to.saturating_sub(from)),
+        Put::Filled {
+            from: _,
+            to: _,
+            fill: _,
+            len,
+        } => Some(len),
     }
 }
 
 /// Whether a change takes out or puts in anything, where the kill buffer has `killed` characters.
 pub fn is_edit(change: &Change, killed: usize) -> bool
-    ensures { (text kill : List ℕ) → PutWithin (length text) change.now.put → length kill ≡ killed → result ≡ is_edit change.now.from change.now.to (put_read text kill change.now.put) }
+    ensures { (text kill : List ℕ) → PutWithin text change.now.put → length kill ≡ killed → result ≡ is_edit change.now.from change.now.to (put_read text kill change.now.put) }
 {
     match put_len(&change.put, killed) {
         None => true,
@@ -37,8 +43,7 @@ pub fn is_edit(change: &Change, killed: usize) -> bool
 pub fn is_too_long(size: usize, change: &Change, killed: usize) -> bool
     requires order { change.now.from ≤ change.now.to }
     requires within { change.now.to ≤ size }
-    requires put { PutWithin size change.now.put }
-    ensures { (text kill : List ℕ) → length text ≡ size → length kill ≡ killed → result ≡ nat_lt TEXT_LIMIT (size - (change.now.to - change.now.from) + length (put_read text kill change.now.put)) }
+    ensures { (text kill : List ℕ) → length text ≡ size → PutWithin text change.now.put → length kill ≡ killed → result ≡ nat_lt TEXT_LIMIT (size - (change.now.to - change.now.from) + length (put_read text kill change.now.put)) }
 {
     let left = size - (change.to - change.from);
     match put_len(&change.put, killed) {

@@ -1,9 +1,11 @@
 // What a plan puts in, written out.
 ghost use Rattle.std.specs.Prelude.{◌≡◌, ◌≤◌, ◌-◌, ◌+◌, ◌++◌, length, replicate, slice_range, IfOk};
 ghost use Rattle.std.specs.List.{repeat};
+ghost use Rattle.mgs_model.specs.Whites.{refilled};
 ghost use Rattle.mgs_edit.specs.Reading.{put_read, PutWithin, cased};
 
 use crate::cases::change_case;
+use crate::fills::refill;
 use crate::plan::{Case, Put};
 use mgs_model::Short;
 use mgs_text::Text;
@@ -65,6 +67,22 @@ fn cased<T: Text>(text: &T, from: usize, to: usize, case: Case) -> Result<Vec<ch
     Ok(chars)
 }
 
+/// A stretch of the text, filled.
+fn filled<T: Text>(
+    alloc: Global,
+    text: &T,
+    from: usize,
+    to: usize,
+    fill: usize,
+) -> Result<Vec<char>, Short>
+    requires order { from ≤ to }
+    requires within { to ≤ length (T.text text.now) }
+    ensures { IfOk result (λ v. v.items ≡ refilled fill (slice_range (T.text text.now) from to)) }
+{
+    let chars = text.copy(from, to)?;
+    refill(alloc, &chars, fill)
+}
+
 /// What a plan puts in, written out. `Short`: memory was refused.
 pub fn put_chars<T: Text>(
     alloc: Global,
@@ -72,7 +90,7 @@ pub fn put_chars<T: Text>(
     kill: &[char],
     put: &Put,
 ) -> Result<Vec<char>, Short>
-    requires { PutWithin (length (T.text text.now)) put.now }
+    requires { PutWithin (T.text text.now) put.now }
     ensures { IfOk result (λ v. v.items ≡ put_read (T.text text.now) kill.now put.now) }
 {
     match *put {
@@ -82,5 +100,11 @@ pub fn put_chars<T: Text>(
         Put::Indented { feeds, from, to } => indented(alloc, text, feeds, from, to),
         Put::Exchanged { at } => exchanged(alloc, text, at),
         Put::Cased { from, to, case } => cased(text, from, to, case),
+        Put::Filled {
+            from,
+            to,
+            fill,
+            len: _,
+        } => filled(alloc, text, from, to, fill),
     }
 }

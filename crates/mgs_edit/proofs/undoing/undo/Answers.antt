@@ -1,5 +1,4 @@
-use Rattle.std.proofs.Common.{◌≡◌, ℕ, ◌+◌, ◌-◌, ◌≤◌, length, refl, sym, ap, subst, ◌∙◌, arith}
-use Rattle.mgs_model.specs.Plans as model
+use Rattle.std.proofs.Common.{◌≡◌, ◌+◌, ◌-◌, ◌≤◌, length, sym, subst, ◌∙◌, arith}
 use Rattle.mgs_model.specs.Plans.{goes, undone_from, undone_to}
 use Rattle.mgs_model.specs.declared.session.Kind.TheVariants.{Undo}
 use Rattle.mgs_undo.specs.Numbered.{item_of}
