@@ -2,7 +2,7 @@
 use Rattle.std.proofs.Common.{◌≡◌, ℕ, ◌+◌, ◌-◌, ◌<◌, ◌≢◌, ◌==◌, nat_lt, nat_le, Bool, true, false, cond, List, [], ◌∷◌, map, length, remove, Option, None, Some, Result, Ok, Err, refl, sym, ap, ap₂, subst, ◌∙◌, ◌||◌, map-id, arith, eqb-true, ne_eqb, le-ltb, ltb-false}
 use Rattle.std.specs.Option.{option_map}
 use Rattle.std.proofs.lemmas.List.{length-map}
-use Rattle.mgs_model.specs.World.{Own, Place, Session, Window, World, first_own, find_session, has_id}
+use Rattle.mgs_model.specs.World.{Own, Place, Session, Window, World, find_session, has_id}
 use Rattle.mgs_model.specs.View.{reads, view, window_seen}
 use Rattle.mgs_model.specs.Outcome.{Arrange, No_effect, Keep_search, Outcome, Run, Slot, Slots, takes_memory}
 use Rattle.mgs_model.specs.Plans.{acted_own, arrangement, count_of, failed_own, given, heir, height_at, kind_failed, neighbor, old_slot, resized, rows_of, selects, slots_but}
@@ -29,22 +29,22 @@ use Rattle.mgs_arrange.proofs.Slots.{all_stay, from_start, halves, halves_take_m
 -- A SESSION IN NO MODE
 
 -- what slots make of it
-slots_done : (x : Session) (slots : List Slot) (selected at : ℕ) (windows : List Window) (places : List Place) → x.own ≡ idle x.own.kind → x.search ≡ None → map (put x.search x.windows (places_left 0 slots x.windows x.places)) slots ≡ windows → places_left 0 slots x.windows x.places ≡ places → selected ≡ at → session_arranged (arranges x.own No_effect (Ok (Slots slots selected Keep_search))) x ≡ run_ended (record x { windows = windows; selected = at; places = places })
+slots_done : (x : Session) (slots : List Slot) (selected at : ℕ) (windows : List Window) (places : List Place) → x.own ≡ idle x.own → x.search ≡ None → map (put x.search x.windows (places_left 0 slots x.windows x.places)) slots ≡ windows → places_left 0 slots x.windows x.places ≡ places → selected ≡ at → session_arranged (arranges x.own No_effect (Ok (Slots slots selected Keep_search))) x ≡ run_ended (record x { windows = windows; selected = at; places = places })
 slots_done x slots selected at windows places fresh quiet are left is =
     let own : acted_own x.own ≡ record x.own { kind = Other } = ap acted_own fresh ∙ sym (ap (λ (o : Own). record o { kind = Other }) fresh) in
     let search : cond (searches x.own.mode) x.search None ≡ x.search = ap (λ (o : Own). cond (searches o.mode) x.search None) fresh ∙ sym quiet in
     λ t. record x { windows = are t; selected = is t; places = left t; search = search t; own = own t }
 
-failed_told : (message : Message) (own : Own) → own ≡ idle own.kind → kind_failed message own.kind ≡ Other → failed_own message own ≡ record own { echo = message; kind = Other }
+failed_told : (message : Message) (own : Own) → own ≡ idle own → kind_failed message own.kind ≡ Other → failed_own message own ≡ record own { echo = message; kind = Other }
 failed_told message own fresh broken =
-    ap (failed_own message) fresh ∙ ap (λ k. record first_own { echo = message; kind = k }) broken ∙ sym (ap (λ (o : Own). record o { echo = message; kind = Other }) fresh)
+    ap (failed_own message) fresh ∙ ap (λ k. record (idle own) { echo = message; kind = k }) broken ∙ sym (ap (λ (o : Own). record o { echo = message; kind = Other }) fresh)
 
 -- what a failure makes of it
-failure_done : (x : Session) (message : Message) → x.own ≡ idle x.own.kind → x.search ≡ None → ((kind : Kind) → kind_failed message kind ≡ Other) → session_arranged (fails x.own message) x ≡ run_ended (arranged_or_told (Err message) x)
+failure_done : (x : Session) (message : Message) → x.own ≡ idle x.own → x.search ≡ None → ((kind : Kind) → kind_failed message kind ≡ Other) → session_arranged (fails x.own message) x ≡ run_ended (arranged_or_told (Err message) x)
 failure_done x message fresh quiet breaks = λ t. record x { search = sym quiet t; own = failed_told message x.own fresh (breaks x.own.kind) t }
 
 -- a failure that is tested first
-failure_first : (x : Session) (test : Bool) (message : Message) (plan : Result Arrange Message) (known : Result Session Message) → x.own ≡ idle x.own.kind → x.search ≡ None → ((kind : Kind) → kind_failed message kind ≡ Other) → (test ≡ false → session_arranged (arranges x.own No_effect plan) x ≡ run_ended (arranged_or_told known x)) → session_arranged (arranges x.own No_effect (cond test (Err message) plan)) x ≡ run_ended (arranged_or_told (cond test (Err message) known) x)
+failure_first : (x : Session) (test : Bool) (message : Message) (plan : Result Arrange Message) (known : Result Session Message) → x.own ≡ idle x.own → x.search ≡ None → ((kind : Kind) → kind_failed message kind ≡ Other) → (test ≡ false → session_arranged (arranges x.own No_effect plan) x ≡ run_ended (arranged_or_told known x)) → session_arranged (arranges x.own No_effect (cond test (Err message) plan)) x ≡ run_ended (arranged_or_told (cond test (Err message) known) x)
 failure_first x test message plan known fresh quiet breaks same = go test refl
   where
     go : (b : Bool) → test ≡ b → session_arranged (arranges x.own No_effect (cond b (Err message) plan)) x ≡ run_ended (arranged_or_told (cond b (Err message) known) x)
@@ -52,7 +52,7 @@ failure_first x test message plan known fresh quiet breaks same = go test refl
     go false e = same e
 
 -- the same test, of windows and of what is seen of them
-failure_seen : (x : Session) (can : List ℕ → Bool) (test : ℕ → Bool) (message : Message) (plan : Result Arrange Message) (known : Result Session Message) → x.own ≡ idle x.own.kind → x.search ≡ None → ((kind : Kind) → kind_failed message kind ≡ Other) → (test (length x.windows) ≡ false → session_arranged (arranges x.own No_effect plan) x ≡ run_ended (arranged_or_told known x)) → session_arranged (arranges x.own No_effect (cond (test (length (seen can x.windows))) (Err message) plan)) x ≡ run_ended (arranged_or_told (cond (test (length x.windows)) (Err message) known) x)
+failure_seen : (x : Session) (can : List ℕ → Bool) (test : ℕ → Bool) (message : Message) (plan : Result Arrange Message) (known : Result Session Message) → x.own ≡ idle x.own → x.search ≡ None → ((kind : Kind) → kind_failed message kind ≡ Other) → (test (length x.windows) ≡ false → session_arranged (arranges x.own No_effect plan) x ≡ run_ended (arranged_or_told known x)) → session_arranged (arranges x.own No_effect (cond (test (length (seen can x.windows))) (Err message) plan)) x ≡ run_ended (arranged_or_told (cond (test (length x.windows)) (Err message) known) x)
 failure_seen x can test message plan known fresh quiet breaks same =
     ap (λ n. session_arranged (arranges x.own No_effect (cond (test n) (Err message) plan)) x) (length-map x.windows (window_seen can))
     ∙ failure_first x (test (length x.windows)) message plan known fresh quiet breaks same
@@ -66,7 +66,7 @@ seen_within can xs j l = omega (arith, l, length-map xs (window_seen can))
 all_named : (x : Session) (can : List ℕ → Bool) (f : ℕ → ℕ → ℕ) → places_left 0 (resized f 0 (seen can x.windows)) x.windows x.places ≡ x.places
 all_named x can f = all_stay (resized f 0 (seen can x.windows)) 0 x.windows x.places (λ j l. named_all f 0 j (seen can x.windows) (seen_within can x.windows j l))
 
-delete_done : (can : List ℕ → Bool) (n : Option ℕ) (x : Session) → x.own ≡ idle x.own.kind → x.search ≡ None → x.selected < length x.windows → session_arranged (arranges x.own No_effect (arrangement DeleteWindow (seen can x.windows) x.selected n)) x ≡ run_ended (arranged_or_told (rearranged DeleteWindow n x) x)
+delete_done : (can : List ℕ → Bool) (n : Option ℕ) (x : Session) → x.own ≡ idle x.own → x.search ≡ None → x.selected < length x.windows → session_arranged (arranges x.own No_effect (arrangement DeleteWindow (seen can x.windows) x.selected n)) x ≡ run_ended (arranged_or_told (rearranged DeleteWindow n x) x)
 delete_done can n x fresh quiet within =
     let k = x.selected in
     let xs = x.windows in
@@ -80,7 +80,7 @@ delete_done can n x fresh quiet within =
     (one_leaves slots 0 k xs x.places within (λ j l. named_but (f (height_at k (seen can xs))) 0 j k (seen can xs) (seen_within can xs j l)))
     (ap (λ b. cond b k (k - 1)) (sym (le-ltb k k (omega arith)))))
 
-others_done : (can : List ℕ → Bool) (n : Option ℕ) (x : Session) → x.own ≡ idle x.own.kind → x.search ≡ None → session_arranged (arranges x.own No_effect (arrangement DeleteOtherWindows (seen can x.windows) x.selected n)) x ≡ run_ended (arranged_or_told (rearranged DeleteOtherWindows n x) x)
+others_done : (can : List ℕ → Bool) (n : Option ℕ) (x : Session) → x.own ≡ idle x.own → x.search ≡ None → session_arranged (arranges x.own No_effect (arrangement DeleteOtherWindows (seen can x.windows) x.selected n)) x ≡ run_ended (arranged_or_told (rearranged DeleteOtherWindows n x) x)
 others_done can n x fresh quiet =
     let h = rows_of (seen can x.windows) - 1 in
     let slots = old_slot x.selected h ∷ [] in
@@ -89,7 +89,7 @@ others_done can n x fresh quiet =
     (others_leave slots 0 x.selected x.windows x.places (λ j. named_one x.selected j h))
     refl
 
-split_done : (can : List ℕ → Bool) (n : Option ℕ) (x : Session) → x.own ≡ idle x.own.kind → x.search ≡ None → x.selected < length x.windows → session_arranged (arranges x.own No_effect (arrangement SplitWindow (seen can x.windows) x.selected n)) x ≡ run_ended (arranged_or_told (rearranged SplitWindow n x) x)
+split_done : (can : List ℕ → Bool) (n : Option ℕ) (x : Session) → x.own ≡ idle x.own → x.search ≡ None → x.selected < length x.windows → session_arranged (arranges x.own No_effect (arrangement SplitWindow (seen can x.windows) x.selected n)) x ≡ run_ended (arranged_or_told (rearranged SplitWindow n x) x)
 split_done can n x fresh quiet within =
     let k = x.selected in
     let xs = x.windows in
@@ -106,7 +106,7 @@ split_done can n x fresh quiet within =
     (all_stay slots 0 xs x.places (λ j l. named_halves k 0 j (seen can xs) (seen_within can xs j l)))
     refl))
 
-select_done : (can : List ℕ → Bool) (x : Session) (selected at : ℕ) → x.own ≡ idle x.own.kind → x.search ≡ None → selected ≡ at → session_arranged (arranges x.own No_effect (Ok (selects (seen can x.windows) selected))) x ≡ run_ended (window_selected at x)
+select_done : (can : List ℕ → Bool) (x : Session) (selected at : ℕ) → x.own ≡ idle x.own → x.search ≡ None → selected ≡ at → session_arranged (arranges x.own No_effect (Ok (selects (seen can x.windows) selected))) x ≡ run_ended (window_selected at x)
 select_done can x selected at fresh quiet is =
     slots_done x (resized (λ i h. h) 0 (seen can x.windows)) selected at x.windows x.places fresh quiet
     (put_resized x.search x.windows (places_left 0 (resized (λ i h. h) 0 (seen can x.windows)) x.windows x.places) can (λ i h. h) 0 x.windows (from_start x.windows)
@@ -125,7 +125,7 @@ given_heights from to n xs apart =
     go j h true e = ap (λ b. cond b (h + n - n) (h + n)) (sym (ne_eqb j from (λ p. apart (sym p ∙ eqb-true j to e))))
     go j h false e = refl
 
-given_done : (can : List ℕ → Bool) (x : Session) (from to n : ℕ) → x.own ≡ idle x.own.kind → x.search ≡ None → from ≢ to → session_arranged (arranges x.own No_effect (given (seen can x.windows) x.selected from to n)) x ≡ run_ended (arranged_or_told (rows_given_if from to n x) x)
+given_done : (can : List ℕ → Bool) (x : Session) (from to n : ℕ) → x.own ≡ idle x.own → x.search ≡ None → from ≢ to → session_arranged (arranges x.own No_effect (given (seen can x.windows) x.selected from to n)) x ≡ run_ended (arranged_or_told (rows_given_if from to n x) x)
 given_done can x from to n fresh quiet apart =
     let xs = x.windows in
     let f = λ (i h : ℕ). cond (i == to) (h + n) (cond (i == from) (h - n) h) in
@@ -144,7 +144,7 @@ neighbor_apart k count many within = go (nat_lt (k + 1) count) refl
     go true e = λ p. omega (arith, p)
     go false e = λ p. omega (arith, p, ltb-false (k + 1) count e, ltb-false count 2 many)
 
-enlarge_done : (can : List ℕ → Bool) (n : Option ℕ) (x : Session) → x.own ≡ idle x.own.kind → x.search ≡ None → x.selected < length x.windows → session_arranged (arranges x.own No_effect (arrangement EnlargeWindow (seen can x.windows) x.selected n)) x ≡ run_ended (arranged_or_told (rearranged EnlargeWindow n x) x)
+enlarge_done : (can : List ℕ → Bool) (n : Option ℕ) (x : Session) → x.own ≡ idle x.own → x.search ≡ None → x.selected < length x.windows → session_arranged (arranges x.own No_effect (arrangement EnlargeWindow (seen can x.windows) x.selected n)) x ≡ run_ended (arranged_or_told (rearranged EnlargeWindow n x) x)
 enlarge_done can n x fresh quiet within =
     let k = x.selected in
     let xs = x.windows in
@@ -152,7 +152,7 @@ enlarge_done can n x fresh quiet within =
     (λ many. ap (λ m. session_arranged (arranges x.own No_effect (given (seen can xs) k (neighbor k m) k (count_of n))) x) (length-map xs (window_seen can))
     ∙ given_done can x (neighbor k (length xs)) k (count_of n) fresh quiet (neighbor_apart k (length xs) many within))
 
-shrink_done : (can : List ℕ → Bool) (n : Option ℕ) (x : Session) → x.own ≡ idle x.own.kind → x.search ≡ None → x.selected < length x.windows → session_arranged (arranges x.own No_effect (arrangement ShrinkWindow (seen can x.windows) x.selected n)) x ≡ run_ended (arranged_or_told (rearranged ShrinkWindow n x) x)
+shrink_done : (can : List ℕ → Bool) (n : Option ℕ) (x : Session) → x.own ≡ idle x.own → x.search ≡ None → x.selected < length x.windows → session_arranged (arranges x.own No_effect (arrangement ShrinkWindow (seen can x.windows) x.selected n)) x ≡ run_ended (arranged_or_told (rearranged ShrinkWindow n x) x)
 shrink_done can n x fresh quiet within =
     let k = x.selected in
     let xs = x.windows in
@@ -160,7 +160,7 @@ shrink_done can n x fresh quiet within =
     (λ many. ap (λ m. session_arranged (arranges x.own No_effect (given (seen can xs) k k (neighbor k m) (count_of n))) x) (length-map xs (window_seen can))
     ∙ given_done can x k (neighbor k (length xs)) (count_of n) fresh quiet (λ p. neighbor_apart k (length xs) many within (sym p)))
 
-list_done : (can : List ℕ → Bool) (n : Option ℕ) (x : Session) → x.own ≡ idle x.own.kind → x.search ≡ None → x.selected < length x.windows → session_arranged (arranges x.own No_effect (arrangement ListBuffers (seen can x.windows) x.selected n)) x ≡ run_ended (arranged_or_told (rearranged ListBuffers n x) x)
+list_done : (can : List ℕ → Bool) (n : Option ℕ) (x : Session) → x.own ≡ idle x.own → x.search ≡ None → x.selected < length x.windows → session_arranged (arranges x.own No_effect (arrangement ListBuffers (seen can x.windows) x.selected n)) x ≡ run_ended (arranged_or_told (rearranged ListBuffers n x) x)
 list_done can n x fresh quiet within =
     let k = x.selected in
     let xs = x.windows in
@@ -172,7 +172,7 @@ list_done can n x fresh quiet within =
     refl
 
 -- what any arrangement makes of a session
-arrangement_done : (can : List ℕ → Bool) (c : Arrangement) (n : Option ℕ) (x : Session) → x.own ≡ idle x.own.kind → x.search ≡ None → x.selected < length x.windows → session_arranged (arranges x.own No_effect (arrangement c (seen can x.windows) x.selected n)) x ≡ run_ended (arranged_or_told (rearranged c n x) x)
+arrangement_done : (can : List ℕ → Bool) (c : Arrangement) (n : Option ℕ) (x : Session) → x.own ≡ idle x.own → x.search ≡ None → x.selected < length x.windows → session_arranged (arranges x.own No_effect (arrangement c (seen can x.windows) x.selected n)) x ≡ run_ended (arranged_or_told (rearranged c n x) x)
 arrangement_done can DeleteWindow n x fresh quiet within = delete_done can n x fresh quiet within
 arrangement_done can DeleteOtherWindows n x fresh quiet within = others_done can n x fresh quiet
 arrangement_done can SplitWindow n x fresh quiet within = split_done can n x fresh quiet within
@@ -207,7 +207,7 @@ session_alone w id own (Err message) =
     ap (λ xs. record w { sessions = change_first (has_id id) (session_arranged (arranges own No_effect (Err message))) xs }) (map-id w.sessions)
 
 -- it comes to what is said of the session alone
-pub arranged_act : (w : World) (id : ℕ) (c : Arrangement) (n : Option ℕ) (x : Session) → find_session id w.sessions ≡ Some x → x.own ≡ idle x.own.kind → x.search ≡ None → x.selected < length x.windows → act w id (Run (Rearrange c) n []) true ≡ record w { sessions = change_first (has_id id) (λ old. run_ended (arranged_or_told (rearranged c n x) x)) w.sessions }
+pub arranged_act : (w : World) (id : ℕ) (c : Arrangement) (n : Option ℕ) (x : Session) → find_session id w.sessions ≡ Some x → x.own ≡ idle x.own → x.search ≡ None → x.selected < length x.windows → act w id (Run (Rearrange c) n []) true ≡ record w { sessions = change_first (has_id id) (λ old. run_ended (arranged_or_told (rearranged c n x) x)) w.sessions }
 arranged_act w id c n x found fresh quiet within =
     let can = reads w.directory w.buffers x.user in
     ap (applied w id) (outcome_is w id c n x found)

@@ -82,12 +82,12 @@ after_world d ks ls xs next id at x y sound place is within h =
     (set_seen (session_of ls) (session_of ks) xs at y (sessions_stay ks ls (remove xs at) (others_before ks xs at x sound is within) (others_after ks ls xs at x y sound is within h) h.stay)
     ∙ set_first (has_id id) (map (session_of ks) xs) at (session_of ls y) (place ∙ sym (position_or_len-map (session_of ks) (has_id id) xs)))
 
-own_of_it : (xs : List Session) (at : ℕ) (x : Session) → x ≡ get_or xs at x → at < length xs → own_at at xs ≡ idle (own_at at xs).kind → own_of x.own ≡ idle x.own.kind
+own_of_it : (xs : List Session) (at : ℕ) (x : Session) → x ≡ get_or xs at x → at < length xs → own_at at xs ≡ idle (own_at at xs) → own_of x.own ≡ idle (own_of x.own)
 own_of_it [] at x is within fresh = absurd (omega (arith, within))
-own_of_it (y ∷ xs) zero x is within fresh = ap (λ (z : Session). own_of z.own) is ∙ fresh ∙ sym (ap (λ (z : Session). idle z.own.kind) is)
+own_of_it (y ∷ xs) zero x is within fresh = ap (λ (z : Session). own_of z.own) is ∙ fresh ∙ sym (ap (λ (z : Session). idle (own_of z.own)) is)
 own_of_it (y ∷ xs) (suc at) x is within fresh = own_of_it xs at x is (omega (arith, within)) fresh
 
-pub after_act : (c : Arrangement) (n : Option ℕ) (d : Directory) (ks ls : List MarkedBuffer) (xs : List Session) (next : Option ℕ) (id at : ℕ) (x y : Session) → IsSound ks xs → at ≡ position_or_len (session_id id) xs → x ≡ get_or xs at x → at < length xs → own_at at xs ≡ idle (own_at at xs).kind → x.windows.selected < length x.windows.windows → Rearranged ks ls x y → IsDone c n ks ls x y
+pub after_act : (c : Arrangement) (n : Option ℕ) (d : Directory) (ks ls : List MarkedBuffer) (xs : List Session) (next : Option ℕ) (id at : ℕ) (x y : Session) → IsSound ks xs → at ≡ position_or_len (session_id id) xs → x ≡ get_or xs at x → at < length xs → own_at at xs ≡ idle (own_at at xs) → x.windows.selected < length x.windows.windows → Rearranged ks ls x y → IsDone c n ks ls x y
     → world_of d ls (slice_set xs at y) next ≡ act (world_of d ks xs next) id (Run (Rearrange c) n []) true
 after_act c n d ks ls xs next id at x y sound place is within fresh selected h arranged =
     let w = world_of d ks xs next in

@@ -89,7 +89,7 @@ pub fn rearrange<T: Marked + Drop>(
 ) -> Result<(), Short>
     requires sound { IsSound buffers.old sessions.old }
     requires within { at < length sessions.old }
-    requires fresh { own_at at sessions.old ≡ idle (own_at at sessions.old).kind }
+    requires fresh { own_at at sessions.old ≡ idle (own_at at sessions.old) }
     requires here { is_arranged_here arrangement ≡ true }
     ensures sound { IsSound buffers.new sessions.new }
     ensures sizes { sizes_in sessions.new ≡ sizes_in sessions.old }

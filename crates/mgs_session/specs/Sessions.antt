@@ -4,6 +4,7 @@ use Rattle.std.specs.Option.{option_and_then}
 use Rattle.mgs_model.specs.declared.message.Message.{Message}
 use Rattle.mgs_model.specs.declared.message.Message.TheVariants.{Silent}
 use Rattle.mgs_model.specs.Plans.{kind_failed}
+use Rattle.mgs_model.specs.World.{first_own}
 use Rattle.mgs_model.specs.declared.session.Kind.{Kind}
 use Rattle.mgs_model.specs.declared.session.Kind.TheVariants.{Other}
 use Rattle.mgs_maps.specs.Held.{Held, nothing_held}
@@ -18,7 +19,7 @@ session_opened id user rows cols shows capacity = record {
   cols = cols;
   windows = record { rows = rows; windows = record { height = rows - 2; shows = shows } ∷ []; selected = 0; places = []; capacity = capacity };
   kill = [];
-  own = record { echo = Silent; keyboard = nothing_held; kind = Other };
+  own = record { echo = Silent; keyboard = nothing_held; kind = Other; fill = first_own.fill };
 }
 
 abbrev pub told : Message → Session → Session
@@ -32,9 +33,13 @@ acted kind x = record x { own = record x.own { kind = kind } }
 abbrev pub failed : Message → Session → Session
 failed message x = told message (acted (kind_failed message x.own.kind) x)
 
--- it holds what was read, its echo line is empty, and the kind of its last command is the same
+-- the fill column is set
+abbrev pub filling : ℕ → Session → Session
+filling column x = record x { own = record x.own { fill = column } }
+
+-- it holds what was read, and its echo line is empty; what it keeps from command to command is the same
 abbrev pub holding : Held → Session → Session
-holding k x = record x { own = record { echo = Silent; keyboard = k; kind = x.own.kind } }
+holding k x = record x { own = record x.own { echo = Silent; keyboard = k } }
 
 -- the buffer of the selected window
 abbrev pub window_marks_of : Session → Option WindowMarks

@@ -5,7 +5,7 @@ mod kill_buffer;
 
 ghost use Rattle.std.specs.Prelude.{◌≡◌, ◌≤◌, ◌-◌, [], ◌∷◌, vec_capacity};
 ghost use Rattle.mgs_model.specs.Plans.{kind_failed};
-ghost use Rattle.mgs_session.specs.Sessions.{session_opened, acted, failed, told, holding, window_marks_of};
+ghost use Rattle.mgs_session.specs.Sessions.{session_opened, acted, failed, filling, told, holding, window_marks_of};
 
 pub use kill_buffer::KillBuffer;
 use mgs_maps::Keyboard;
@@ -13,13 +13,17 @@ use mgs_model::{Kind, Message, Name, SessionId};
 use mgs_windows::{WindowMarks, Windows};
 use std::alloc::Global;
 
+/// The fill column of a session that has set none.
+pub const FILL_COLUMN: usize = 72;
+
 /// What a session holds beside its windows and its kill buffer: its echo text, the keys and the argument that are half
-/// read, and the kind of its last command.
+/// read, the kind of its last command, and the column up to which it fills lines (1 to 9,999).
 #[derive(Drop)]
 pub struct Own {
     pub echo: Message,
     pub keyboard: Keyboard,
     pub kind: Kind,
+    pub fill: usize,
 }
 
 /// The state of a session. A position is a mark in the text of a buffer.
@@ -59,6 +63,7 @@ pub fn opened(
             echo: Message::Silent,
             keyboard: Keyboard::new(),
             kind: Kind::Other,
+            fill: FILL_COLUMN,
         },
     }
 }
@@ -100,6 +105,13 @@ pub fn set_kind(session: &mut Session, kind: Kind)
     session.own.kind = kind;
 }
 
+/// The fill column is set.
+pub fn set_fill(session: &mut Session, column: usize)
+    ensures { session.new ≡ filling column session.old }
+{
+    session.own.fill = column;
+}
+
 /// A command of this kind was done, and tells this.
 pub fn finish(session: &mut Session, kind: Kind, message: Message)
     ensures { session.new ≡ told message (acted kind session.old) }
@@ -120,10 +132,12 @@ pub fn hold(session: &mut Session, keyboard: Keyboard)
     ensures { session.new ≡ holding keyboard session.old }
 {
     let kind = session.own.kind;
+    let fill = session.own.fill;
     session.own = Own {
         echo: Message::Silent,
         keyboard,
         kind,
+        fill,
     };
 }
 

@@ -4,7 +4,8 @@ use Rattle.std.specs.Option.{option_map}
 use Rattle.mgs_model.specs.Access.{Directory}
 use Rattle.mgs_model.specs.World.{World, Buffer, first_own, Nothing, Buffer_of}
 use Rattle.mgs_model.specs.World as model
-use Rattle.mgs_model.specs.declared.session.Kind.{Kind}
+use Rattle.mgs_model.specs.declared.message.Message.TheVariants.{Silent}
+use Rattle.mgs_model.specs.declared.session.Mode.TheVariants.{Plain}
 use Rattle.mgs_buffers.specs.MarkedBuffer.{MarkedBuffer, mark_at}
 use Rattle.mgs_windows.specs.declared.WindowMarks.{WindowMarks}
 use Rattle.mgs_windows.specs.declared.Window.{Window}
@@ -31,13 +32,14 @@ window_of ks x = window_shown ks x.height x.shows
 abbrev pub place_of : List MarkedBuffer → WindowMarks → model.Place
 place_of ks x = record { name = x.name; point = mark_at x.name ks x.point; mark = option_map (mark_at x.name ks) x.mark }
 
--- what a session holds: no mode, no macro, and nothing but the echo text, what is half read and the last command's kind
+-- what a session holds: no mode, no macro, and nothing but the echo text, what is half read, the last command's kind and
+-- the fill column
 abbrev pub own_of : Own → model.Own
-own_of x = record first_own { echo = x.echo; argument = x.keyboard.argument; keys = x.keyboard.keys; kind = x.kind }
+own_of x = record first_own { echo = x.echo; fill = x.fill; argument = x.keyboard.argument; keys = x.keyboard.keys; kind = x.kind }
 
--- nothing is half read, and nothing is told
-abbrev pub idle : Kind → model.Own
-idle kind = record first_own { kind = kind }
+-- nothing is half read, nothing is told, and nothing is still to be done
+abbrev pub idle : model.Own → model.Own
+idle own = record own { echo = Silent; playing = false; argument = None; keys = []; mode = Plain; input = []; old = []; count = 0; todo = [] }
 
 -- what the session at an index holds
 abbrev pub own_or_first : Option Session → model.Own
