@@ -1,17 +1,18 @@
 -- What an act of a session comes to, and that what is done is the act.
-use Rattle.std.proofs.Common.{◌≡◌, ℕ, ◌<◌, true, List, [], length, Option, Some, None, refl, sym, ap, subst, ◌∙◌}
+use Rattle.std.proofs.Common.{◌≡◌, ℕ, ◌<◌, ◌==◌, Bool, true, false, cond, List, [], length, map, Option, Some, None, Result, Ok, Err, refl, sym, ap, subst, ◌∙◌, map-id}
 use Rattle.std.specs.Prelude.{slice_get, slice_set}
 use Rattle.std.specs.List.{position_or_len}
 use Rattle.std.specs.Option.{option_and_then, option_map}
 use Rattle.std.proofs.lemmas.Option.{get_or_from_slice_get}
 use Rattle.mgs_model.specs.Access.{Directory}
-use Rattle.mgs_model.specs.World.{World, find_session}
+use Rattle.mgs_model.specs.World.{World, find_session, first_own, has_id}
 use Rattle.mgs_model.specs.World as model
 use Rattle.mgs_model.specs.View.{view}
 use Rattle.mgs_model.specs.Outcome.{takes_memory}
 use Rattle.mgs_model.specs.Outcome as outcomes
-use Rattle.mgs_model.specs.Acts.{fails, outcome}
-use Rattle.mgs_model.specs.Apply.{act, applied, apply, outcome_in}
+use Rattle.mgs_model.specs.Acts.{fails, outcome, owns, sets}
+use Rattle.mgs_model.specs.Apply.{act, applied, apply, change_first, outcome_in, session_arranged}
+use Rattle.mgs_model.specs.Plans.{acted_own, setting}
 use Rattle.mgs_model.specs.Apart.{Apart, touched_by}
 use Rattle.mgs_model.specs.Events.{may_be_refused}
 use Rattle.mgs_model.specs.declared.touched.Touched.{Touched}
@@ -20,22 +21,27 @@ use Rattle.mgs_model.specs.declared.session.Command.{Command}
 use Rattle.mgs_model.specs.declared.session.Command.TheVariants.{Set, Rearrange}
 use Rattle.mgs_model.specs.declared.session.Arrangement.{Arrangement}
 use Rattle.mgs_model.specs.declared.session.Setting.{Setting}
-use Rattle.mgs_model.specs.declared.session.Setting.TheVariants.{KeyboardQuit}
+use Rattle.mgs_model.specs.declared.session.Setting.TheVariants.{SetFillColumn, KeyboardQuit}
 use Rattle.mgs_model.specs.declared.message.Message.{Message}
-use Rattle.mgs_model.specs.declared.message.Message.TheVariants.{KeyNotBound, NoBuffer, Quitting}
+use Rattle.mgs_model.specs.declared.message.Message.TheVariants.{BadColumn, KeyNotBound, NoArgument, NoBuffer, Quitting}
+use Rattle.mgs_model.specs.declared.session.Kind.TheVariants.{Other}
 use Rattle.mgs_model.proofs.Apart.{apart_apply}
+use Rattle.mgs_model.proofs.Firsts.{position_or_len-map, written_first}
 use Rattle.mgs_buffers.specs.MarkedBuffer.{MarkedBuffer}
 use Rattle.mgs_windows.specs.declared.WindowMarks.{WindowMarks}
-use Rattle.mgs_session.specs.Sessions.{failed, window_marks_of}
+use Rattle.mgs_session.specs.Sessions.{acted, failed, filling, window_marks_of}
+use Rattle.mgs_session.specs.declared.Own.{Own}
 use Rattle.mgs_session.specs.declared.Session.{Session}
 use Rattle.mgs_act.specs.declared.acts.KeyAct.{KeyAct}
 use Rattle.mgs_act.specs.declared.acts.KeyAct.TheVariants.{Unbound, Run}
 use Rattle.mgs_act.specs.declared.action.Action.{Action}
-use Rattle.mgs_act.specs.Actions.{act_of, is_done_here, is_on_text, kill_at, kill_or_none, outcome_through, plan_in, selected_height}
+use Rattle.mgs_act.specs.Actions.{act_of, is_done_here, is_on_text, is_setting_done, kill_at, kill_or_none, outcome_through, plan_in, selected_height}
 use Rattle.mgs_world.specs.Sound.{IsSound}
-use Rattle.mgs_world.specs.Worlds.{idle, own_at, own_of, own_or_first, session_id, session_of, world_of}
+use Rattle.mgs_act.specs.Setting.{session_set}
+use Rattle.mgs_world.specs.Worlds.{id_after, idle, own_at, own_of, own_or_first, session_id, session_of, world_of}
 use Rattle.mgs_world.proofs.Sessions.{session_some}
 use Rattle.mgs_world.proofs.Soundness.{mark_is_kept}
+use Rattle.mgs_world.proofs.Worlds.{same_world}
 use Rattle.mgs_act.proofs.Deeds.{acting_marks, failed_so, fresh_own}
 use Rattle.mgs_act.proofs.Outcomes.{outcome_none, outcome_plan}
 
@@ -54,16 +60,16 @@ outcome_known directory ks xs next id at h c place within is =
 -- that what is planned for a session is the command's plan
 abbrev pub IsPlanned : Directory → List MarkedBuffer → Session → WindowMarks → Command → Option ℕ → Action → Type 0
 IsPlanned directory ks h x c n action =
-    outcome_through (idle h.own.kind) x ks h.kill action ≡ plan_in directory ks (idle h.own.kind) h.user x (selected_height h) c n h.kill
+    outcome_through (idle (own_of h.own)) x ks h.kill action ≡ plan_in directory ks (idle (own_of h.own)) h.user x (selected_height h) c n h.kill
 
-outcome_planned : (directory : Directory) (ks : List MarkedBuffer) (xs : List Session) (next : Option ℕ) (at : ℕ) (h : Session) (x : WindowMarks) (c : Command) (n : Option ℕ) (action : Action) → is_on_text c ≡ true → IsSound ks xs → slice_get xs at ≡ Some h → own_at at xs ≡ idle (own_at at xs).kind → window_marks_of h ≡ Some x → IsPlanned directory ks h x c n action → outcome (view (world_of directory ks xs next) (session_of ks h)) (act_of (Run c n)) true ≡ outcome_through (own_of h.own) x ks h.kill action
+outcome_planned : (directory : Directory) (ks : List MarkedBuffer) (xs : List Session) (next : Option ℕ) (at : ℕ) (h : Session) (x : WindowMarks) (c : Command) (n : Option ℕ) (action : Action) → is_on_text c ≡ true → IsSound ks xs → slice_get xs at ≡ Some h → own_at at xs ≡ idle (own_at at xs) → window_marks_of h ≡ Some x → IsPlanned directory ks h x c n action → outcome (view (world_of directory ks xs next) (session_of ks h)) (act_of (Run c n)) true ≡ outcome_through (own_of h.own) x ks h.kill action
 outcome_planned directory ks xs next at h x c n action here sound is fresh sel planned =
     let marks = acting_marks ks xs at x sound (ap (option_and_then window_marks_of) is ∙ sel) in
     outcome_plan directory ks xs next h x c n here sel (mark_is_kept x.name x.point ks marks.point)
     ∙ sym (subst (λ (own : model.Own). outcome_through own x ks h.kill action ≡ plan_in directory ks own h.user x (selected_height h) c n h.kill) (sym (fresh_own xs at h is fresh)) planned)
 
 -- where what is planned is done, the act is
-pub act_planned : (directory : Directory) (ks : List MarkedBuffer) (xs : List Session) (next : Option ℕ) (new : World) (id at : ℕ) (h : Session) (x : WindowMarks) (c : Command) (n : Option ℕ) (action : Action) → is_on_text c ≡ true → IsSound ks xs → at ≡ position_or_len (session_id id) xs → at < length xs → slice_get xs at ≡ Some h → own_at at xs ≡ idle (own_at at xs).kind → window_marks_of h ≡ Some x → IsPlanned directory ks h x c n action → new ≡ apply (world_of directory ks xs next) id (outcome_through (own_at at xs) x ks (kill_at at xs) action) → new ≡ act (world_of directory ks xs next) id (act_of (Run c n)) true
+pub act_planned : (directory : Directory) (ks : List MarkedBuffer) (xs : List Session) (next : Option ℕ) (new : World) (id at : ℕ) (h : Session) (x : WindowMarks) (c : Command) (n : Option ℕ) (action : Action) → is_on_text c ≡ true → IsSound ks xs → at ≡ position_or_len (session_id id) xs → at < length xs → slice_get xs at ≡ Some h → own_at at xs ≡ idle (own_at at xs) → window_marks_of h ≡ Some x → IsPlanned directory ks h x c n action → new ≡ apply (world_of directory ks xs next) id (outcome_through (own_at at xs) x ks (kill_at at xs) action) → new ≡ act (world_of directory ks xs next) id (act_of (Run c n)) true
 act_planned directory ks xs next new id at h x c n action here sound place within is fresh sel planned done =
     let w = world_of directory ks xs next in
     done
@@ -72,7 +78,7 @@ act_planned directory ks xs next new id at h x c n action here sound place withi
     ∙ sym (ap (applied w id) (outcome_known directory ks xs next id at h (act_of (Run c n)) place within is))
 
 -- the act may be refused where what is planned takes memory
-pub may_planned : (directory : Directory) (ks : List MarkedBuffer) (xs : List Session) (next : Option ℕ) (id at : ℕ) (h : Session) (x : WindowMarks) (c : Command) (n : Option ℕ) (action : Action) → is_on_text c ≡ true → IsSound ks xs → at ≡ position_or_len (session_id id) xs → at < length xs → slice_get xs at ≡ Some h → own_at at xs ≡ idle (own_at at xs).kind → window_marks_of h ≡ Some x → IsPlanned directory ks h x c n action → ((own : model.Own) → takes_memory (outcome_through own x ks (kill_at at xs) action) ≡ true) → may_be_refused (outcome_in (world_of directory ks xs next) id (act_of (Run c n)) true) ≡ true
+pub may_planned : (directory : Directory) (ks : List MarkedBuffer) (xs : List Session) (next : Option ℕ) (id at : ℕ) (h : Session) (x : WindowMarks) (c : Command) (n : Option ℕ) (action : Action) → is_on_text c ≡ true → IsSound ks xs → at ≡ position_or_len (session_id id) xs → at < length xs → slice_get xs at ≡ Some h → own_at at xs ≡ idle (own_at at xs) → window_marks_of h ≡ Some x → IsPlanned directory ks h x c n action → ((own : model.Own) → takes_memory (outcome_through own x ks (kill_at at xs) action) ≡ true) → may_be_refused (outcome_in (world_of directory ks xs next) id (act_of (Run c n)) true) ≡ true
 may_planned directory ks xs next id at h x c n action here sound place within is fresh sel planned takes =
     ap may_be_refused (outcome_known directory ks xs next id at h (act_of (Run c n)) place within is)
     ∙ ap takes_memory (outcome_planned directory ks xs next at h x c n action here sound is fresh sel planned)
@@ -81,41 +87,72 @@ may_planned directory ks xs next id at h x c n action here sound place within is
 
 -- FAILED BEFORE ANYTHING IS PLANNED
 
-act_failed : (directory : Directory) (ks : List MarkedBuffer) (xs : List Session) (next : Option ℕ) (id at : ℕ) (h : Session) (c : outcomes.Act) (message : Message) → at ≡ position_or_len (session_id id) xs → at < length xs → slice_get xs at ≡ Some h → own_at at xs ≡ idle (own_at at xs).kind → outcome (view (world_of directory ks xs next) (session_of ks h)) c true ≡ fails (own_of h.own) message → world_of directory ks (slice_set xs at (failed message h)) next ≡ act (world_of directory ks xs next) id c true
+act_failed : (directory : Directory) (ks : List MarkedBuffer) (xs : List Session) (next : Option ℕ) (id at : ℕ) (h : Session) (c : outcomes.Act) (message : Message) → at ≡ position_or_len (session_id id) xs → at < length xs → slice_get xs at ≡ Some h → own_at at xs ≡ idle (own_at at xs) → outcome (view (world_of directory ks xs next) (session_of ks h)) c true ≡ fails (own_of h.own) message → world_of directory ks (slice_set xs at (failed message h)) next ≡ act (world_of directory ks xs next) id c true
 act_failed directory ks xs next id at h c message place within is fresh known =
     let w = world_of directory ks xs next in
     failed_so directory ks xs next id at h message place within is (fresh_own xs at h is fresh)
     ∙ ap (apply w id) (sym known)
     ∙ sym (ap (applied w id) (outcome_known directory ks xs next id at h c place within is))
 
-pub act_unbound : (directory : Directory) (ks : List MarkedBuffer) (xs : List Session) (next : Option ℕ) (id at : ℕ) (h : Session) → at ≡ position_or_len (session_id id) xs → at < length xs → slice_get xs at ≡ Some h → own_at at xs ≡ idle (own_at at xs).kind → world_of directory ks (slice_set xs at (failed KeyNotBound h)) next ≡ act (world_of directory ks xs next) id (act_of Unbound) true
+pub act_unbound : (directory : Directory) (ks : List MarkedBuffer) (xs : List Session) (next : Option ℕ) (id at : ℕ) (h : Session) → at ≡ position_or_len (session_id id) xs → at < length xs → slice_get xs at ≡ Some h → own_at at xs ≡ idle (own_at at xs) → world_of directory ks (slice_set xs at (failed KeyNotBound h)) next ≡ act (world_of directory ks xs next) id (act_of Unbound) true
 unfolding outcome
 act_unbound directory ks xs next id at h place within is fresh =
     act_failed directory ks xs next id at h (act_of Unbound) KeyNotBound place within is fresh refl
 
-pub act_nowhere : (directory : Directory) (ks : List MarkedBuffer) (xs : List Session) (next : Option ℕ) (id at : ℕ) (h : Session) (c : Command) (n : Option ℕ) → is_on_text c ≡ true → at ≡ position_or_len (session_id id) xs → at < length xs → slice_get xs at ≡ Some h → own_at at xs ≡ idle (own_at at xs).kind → window_marks_of h ≡ None → world_of directory ks (slice_set xs at (failed NoBuffer h)) next ≡ act (world_of directory ks xs next) id (act_of (Run c n)) true
+pub act_nowhere : (directory : Directory) (ks : List MarkedBuffer) (xs : List Session) (next : Option ℕ) (id at : ℕ) (h : Session) (c : Command) (n : Option ℕ) → is_on_text c ≡ true → at ≡ position_or_len (session_id id) xs → at < length xs → slice_get xs at ≡ Some h → own_at at xs ≡ idle (own_at at xs) → window_marks_of h ≡ None → world_of directory ks (slice_set xs at (failed NoBuffer h)) next ≡ act (world_of directory ks xs next) id (act_of (Run c n)) true
 act_nowhere directory ks xs next id at h c n here place within is fresh none =
     act_failed directory ks xs next id at h (act_of (Run c n)) NoBuffer place within is fresh (outcome_none directory ks xs next h c n here none)
 
-act_quit : (directory : Directory) (ks : List MarkedBuffer) (xs : List Session) (next : Option ℕ) (id at : ℕ) (h : Session) (n : Option ℕ) → at ≡ position_or_len (session_id id) xs → at < length xs → slice_get xs at ≡ Some h → own_at at xs ≡ idle (own_at at xs).kind → world_of directory ks (slice_set xs at (failed Quitting h)) next ≡ act (world_of directory ks xs next) id (act_of (Run (Set KeyboardQuit) n)) true
-unfolding outcome
-act_quit directory ks xs next id at h n place within is fresh =
-    act_failed directory ks xs next id at h (act_of (Run (Set KeyboardQuit) n)) Quitting place within is fresh refl
+-- A SETTING
 
--- the one setting that is done here is keyboard-quit
-quit_only : (c : Command) (s : Setting) (n : Option ℕ) → c ≡ Set s → is_done_here (Run c n) ≡ true → c ≡ Set KeyboardQuit
-quit_only c s n is here = is ∙ only s (sym (ap (λ (k : Command). is_done_here (Run k n)) is) ∙ here)
-  where
-    only : (s : Setting) → is_done_here (Run (Set s) n) ≡ true → Set s ≡ Set KeyboardQuit
-    only KeyboardQuit h = refl
-    only _ h = cc
+fresh_filled : (o : Own) (column : ℕ) → own_of o ≡ idle (own_of o) → own_of (record o { kind = Other; fill = column }) ≡ record (acted_own (own_of o)) { fill = column }
+fresh_filled o column fresh = λ i. record first_own { echo = o.echo; fill = column; argument = (fresh i).argument; keys = (fresh i).keys; kind = Other }
 
-pub act_set : (directory : Directory) (ks : List MarkedBuffer) (xs : List Session) (next : Option ℕ) (id at : ℕ) (h : Session) (a : KeyAct) (c : Command) (s : Setting) (n : Option ℕ) → a ≡ Run c n → c ≡ Set s → is_done_here a ≡ true → at ≡ position_or_len (session_id id) xs → at < length xs → slice_get xs at ≡ Some h → own_at at xs ≡ idle (own_at at xs).kind → world_of directory ks (slice_set xs at (failed Quitting h)) next ≡ act (world_of directory ks xs next) id (act_of a) true
-act_set directory ks xs next id at h a c s n is set here place within found fresh =
-    let quit : c ≡ Set KeyboardQuit = quit_only c s n set (sym (ap is_done_here is) ∙ here) in
-    act_quit directory ks xs next id at h n place within found fresh
-    ∙ ap (λ (k : Command). act (world_of directory ks xs next) id (act_of (Run k n)) true) (sym quit)
-    ∙ ap (λ (k : KeyAct). act (world_of directory ks xs next) id (act_of k) true) (sym is)
+module _ (directory : Directory) (ks : List MarkedBuffer) (xs : List Session) (next : Option ℕ) (id at : ℕ) (h : Session) (place : at ≡ position_or_len (session_id id) xs) (within : at < length xs) (found : slice_get xs at ≡ Some h) (fresh : own_at at xs ≡ idle (own_at at xs)) where
+  failed_set : (message : Message) → world_of directory ks (slice_set xs at (failed message h)) next ≡ apply (world_of directory ks xs next) id (fails (own_of h.own) message)
+  failed_set message = failed_so directory ks xs next id at h message place within found (fresh_own xs at h found fresh)
+
+  filled_so : (column : ℕ) → world_of directory ks (slice_set xs at (filling column (acted Other h))) next ≡ apply (world_of directory ks xs next) id (owns (record (acted_own (own_of h.own)) { fill = column }))
+  filled_so column =
+      let f = session_arranged (owns (record (acted_own (own_of h.own)) { fill = column })) in
+      same_world directory _ _ _ _ (id_after next) refl
+      (written_first (session_of ks) (has_id id) f xs at h (filling column (acted Other h)) (place ∙ sym (position_or_len-map (session_of ks) (has_id id) xs)) within (sym (get_or_from_slice_get xs at h h found))
+      (λ i. record (session_of ks h) { own = fresh_filled h.own column (fresh_own xs at h found fresh) i })
+      ∙ ap (change_first (has_id id) f) (sym (map-id (map (session_of ks) xs))))
+
+  set_so : (s : Setting) (n : Option ℕ) → is_setting_done s ≡ true → world_of directory ks (slice_set xs at (session_set s n h)) next ≡ apply (world_of directory ks xs next) id (sets (own_of h.own) (setting s (acted_own (own_of h.own)) n))
+  set_so SetFillColumn None here = failed_set NoArgument
+  set_so SetFillColumn (Some n) here = by (n == 0)
+    where
+      by : (b : Bool) → world_of directory ks (slice_set xs at (cond b (failed BadColumn h) (filling n (acted Other h)))) next ≡ apply (world_of directory ks xs next) id (sets (own_of h.own) (cond b (Err BadColumn) (Ok (record (acted_own (own_of h.own)) { fill = n }))))
+      by true = failed_set BadColumn
+      by false = filled_so n
+  set_so KeyboardQuit n here = failed_set Quitting
+  set_so _ n here = cc
+
+  set_known : (s : Setting) (n : Option ℕ) → outcome (view (world_of directory ks xs next) (session_of ks h)) (act_of (Run (Set s) n)) true ≡ sets (own_of h.own) (setting s (acted_own (own_of h.own)) n)
+  unfolding outcome
+  set_known s n = refl
+
+  pub act_set : (a : KeyAct) (c : Command) (s : Setting) (n : Option ℕ) → a ≡ Run c n → c ≡ Set s → is_done_here a ≡ true → world_of directory ks (slice_set xs at (session_set s n h)) next ≡ act (world_of directory ks xs next) id (act_of a) true
+  act_set a c s n is set here =
+      let same : a ≡ Run (Set s) n = is ∙ ap (λ (k : Command). Run k n) set in
+      let w = world_of directory ks xs next in
+      set_so s n (sym (ap is_done_here same) ∙ here)
+      ∙ ap (apply w id) (sym (set_known s n))
+      ∙ sym (ap (applied w id) (outcome_known directory ks xs next id at h (act_of (Run (Set s) n)) place within found))
+      ∙ ap (λ (k : KeyAct). act w id (act_of k) true) (sym same)
+
+  sets_nothing : (own : model.Own) (r : Result model.Own Message) → touched_by (sets own r).effect ≡ Nowhere
+  sets_nothing own (Err message) = refl
+  sets_nothing own (Ok after) = refl
+
+  pub set_apart : (a : KeyAct) (c : Command) (s : Setting) (n : Option ℕ) → a ≡ Run c n → c ≡ Set s → is_done_here a ≡ true → Apart Nowhere id (world_of directory ks xs next) (world_of directory ks (slice_set xs at (session_set s n h)) next)
+  set_apart a c s n is set here =
+      let same : a ≡ Run (Set s) n = is ∙ ap (λ (k : Command). Run k n) set in
+      let w = world_of directory ks xs next in
+      let o = sets (own_of h.own) (setting s (acted_own (own_of h.own)) n) in
+      rw (set_so s n (sym (ap is_done_here same) ∙ here)) (subst (λ t. Apart t id w (apply w id o)) (sets_nothing (own_of h.own) (setting s (acted_own (own_of h.own)) n)) (apart_apply w id o))
 
 -- an act that arranges windows
 pub rearranging : (a : KeyAct) (c : Command) (k : Arrangement) (n : Option ℕ) → a ≡ Run c n → c ≡ Rearrange k → act_of a ≡ outcomes.Run (Rearrange k) n []
@@ -123,7 +160,7 @@ rearranging a c k n a_is c_is = ap act_of a_is ∙ ap (λ (x : Command). outcome
 
 -- WHAT IS TOUCHED
 
-pub failed_apart : (directory : Directory) (ks : List MarkedBuffer) (xs : List Session) (next : Option ℕ) (id at : ℕ) (h : Session) (message : Message) → at ≡ position_or_len (session_id id) xs → at < length xs → slice_get xs at ≡ Some h → own_at at xs ≡ idle (own_at at xs).kind → Apart Nowhere id (world_of directory ks xs next) (world_of directory ks (slice_set xs at (failed message h)) next)
+pub failed_apart : (directory : Directory) (ks : List MarkedBuffer) (xs : List Session) (next : Option ℕ) (id at : ℕ) (h : Session) (message : Message) → at ≡ position_or_len (session_id id) xs → at < length xs → slice_get xs at ≡ Some h → own_at at xs ≡ idle (own_at at xs) → Apart Nowhere id (world_of directory ks xs next) (world_of directory ks (slice_set xs at (failed message h)) next)
 failed_apart directory ks xs next id at h message place within is fresh =
     let w = world_of directory ks xs next in
     subst (Apart Nowhere id w) (sym (failed_so directory ks xs next id at h message place within is (fresh_own xs at h is fresh))) (apart_apply w id (fails (own_of h.own) message))

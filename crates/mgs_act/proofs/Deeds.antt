@@ -68,9 +68,9 @@ first_twice {A = A} p f g keeps (x ∷ xs) = go (p x) refl (first_twice p f g ke
 -- THE SESSION'S OWN RECORD
 
 -- a session that has nothing half read and an empty echo line, once a command has failed
-fresh_failed : (o : Own) (message : Message) → own_of o ≡ idle o.kind → own_of (record o { echo = message; kind = kind_failed message o.kind }) ≡ failed_own message (own_of o)
+fresh_failed : (o : Own) (message : Message) → own_of o ≡ idle (own_of o) → own_of (record o { echo = message; kind = kind_failed message o.kind }) ≡ failed_own message (own_of o)
 fresh_failed o message fresh =
-    λ i. record first_own { echo = message; argument = (fresh i).argument; keys = (fresh i).keys; kind = kind_failed message o.kind }
+    λ i. record first_own { echo = message; fill = o.fill; argument = (fresh i).argument; keys = (fresh i).keys; kind = kind_failed message o.kind }
 
 -- THE ACTING SESSION
 
@@ -78,8 +78,8 @@ fresh_failed o message fresh =
 found_at : (xs : List Session) (id at : ℕ) (h : Session) → at ≡ position_or_len (session_id id) xs → at < length xs → slice_get xs at ≡ Some h → find (session_id id) xs ≡ Some h
 found_at xs id at h place within is = session_found xs id at h place within (sym (get_or_from_slice_get xs at h h is))
 
-pub fresh_own : (xs : List Session) (at : ℕ) (h : Session) → slice_get xs at ≡ Some h → own_at at xs ≡ idle (own_at at xs).kind → own_of h.own ≡ idle h.own.kind
-fresh_own xs at h is fresh = sym (ap own_or_first is) ∙ fresh ∙ ap (λ o. idle (own_or_first o).kind) is
+pub fresh_own : (xs : List Session) (at : ℕ) (h : Session) → slice_get xs at ≡ Some h → own_at at xs ≡ idle (own_at at xs) → own_of h.own ≡ idle (own_of h.own)
+fresh_own xs at h is fresh = sym (ap own_or_first is) ∙ fresh ∙ ap (λ o. idle (own_or_first o)) is
 
 -- WINDOWS
 
@@ -169,11 +169,11 @@ one_ends behind text kill f e ks h =
     λ i. record (ends left (own_of h.own) (session_of ks h)) { windows = windows_end left.point left.top (session_of ks h) i }
 
 -- the session's own record
-own_ends : (behind : ℕ) (text kill : List ℕ) (f : Finish) (ks : List MarkedBuffer) (h : Session) → own_of h.own ≡ idle h.own.kind
+own_ends : (behind : ℕ) (text kill : List ℕ) (f : Finish) (ks : List MarkedBuffer) (h : Session) → own_of h.own ≡ idle (own_of h.own)
     → (let left = finish_read text kill behind f in session_of ks (session_finished left h) ≡ ends left (own_of h.own) (session_of ks h))
 own_ends behind text kill f ks h fresh =
     let left = finish_read text kill behind f in
-    λ i. record (session_of ks (session_finished left h)) { own = record first_own { echo = f.told; argument = (fresh i).argument; keys = (fresh i).keys; kind = f.kind } }
+    λ i. record (session_of ks (session_finished left h)) { own = record first_own { echo = f.told; fill = h.own.fill; argument = (fresh i).argument; keys = (fresh i).keys; kind = f.kind } }
 
 pub no_quit : (name : List ℕ) (c : plans.Change) (id : ℕ) (xs : List model.Session) → after_quit (edit_of name c) id xs ≡ xs
 no_quit name c id xs = go (is_edit c.a c.b c.put)
@@ -182,7 +182,7 @@ no_quit name c id xs = go (is_edit c.a c.b c.put)
     go true = refl
     go false = refl
 
-pub finished_sessions : (ks : List MarkedBuffer) (xs : List Session) (id at : ℕ) (h : Session) (x : WindowMarks) (c : plans.Change) (behind : ℕ) (text : List ℕ) (f : Finish) → ((n : List ℕ) (i : ℕ) → uses n i xs ≤ 1) → at ≡ position_or_len (session_id id) xs → at < length xs → slice_get xs at ≡ Some h → window_marks_of h ≡ Some x → AreMarks ks x → own_of h.own ≡ idle h.own.kind
+pub finished_sessions : (ks : List MarkedBuffer) (xs : List Session) (id at : ℕ) (h : Session) (x : WindowMarks) (c : plans.Change) (behind : ℕ) (text : List ℕ) (f : Finish) → ((n : List ℕ) (i : ℕ) → uses n i xs ≤ 1) → at ≡ position_or_len (session_id id) xs → at < length xs → slice_get xs at ≡ Some h → window_marks_of h ≡ Some x → AreMarks ks x → own_of h.own ≡ idle (own_of h.own)
     → (let left = finish_read text h.kill behind f in map (session_of (marks_gone x left (edited_by x.name c ks))) (slice_set xs at (session_finished left h)) ≡ change_first (has_id id) (session_arranged (ended (unmarked left) (edit_of x.name c) (own_of h.own))) (map (session_after (edit_of x.name c)) (map (session_of ks) xs)))
 finished_sessions ks xs id at h x c behind text f once place within is sel marks fresh =
     let left = finish_read text h.kill behind f in
@@ -206,7 +206,7 @@ finished_sessions ks xs id at h x c behind text f once place within is sel marks
     (one_ends behind text h.kill f (edit_of x.name c) ks1 h)
     ∙ ap (change_first (has_id id) (session_arranged (ended (unmarked left) (edit_of x.name c) own))) (edited_sessions x.name c ks xs)
 
-finished_so : (directory : Directory) (ks : List MarkedBuffer) (xs : List Session) (next : Option ℕ) (id at : ℕ) (h : Session) (x : WindowMarks) (c : plans.Change) (behind : ℕ) (text : List ℕ) (f : Finish) → IsSound ks xs → at ≡ position_or_len (session_id id) xs → at < length xs → slice_get xs at ≡ Some h → window_marks_of h ≡ Some x → AreMarks ks x → own_of h.own ≡ idle h.own.kind → f.mark ≡ None → is_too_large (kill_read text h.kill f.kill) ≡ false
+finished_so : (directory : Directory) (ks : List MarkedBuffer) (xs : List Session) (next : Option ℕ) (id at : ℕ) (h : Session) (x : WindowMarks) (c : plans.Change) (behind : ℕ) (text : List ℕ) (f : Finish) → IsSound ks xs → at ≡ position_or_len (session_id id) xs → at < length xs → slice_get xs at ≡ Some h → window_marks_of h ≡ Some x → AreMarks ks x → own_of h.own ≡ idle (own_of h.own) → f.mark ≡ None → is_too_large (kill_read text h.kill f.kill) ≡ false
     → (let left = finish_read text h.kill behind f in world_of directory (marks_gone x left (edited_by x.name c ks)) (slice_set xs at (session_finished left h)) next ≡ apply (world_of directory ks xs next) id (finished (own_of h.own) left (edit_of x.name c)))
 finished_so directory ks xs next id at h x c behind text f sound place within is sel marks fresh none small =
     let left = finish_read text h.kill behind f in
@@ -219,7 +219,7 @@ finished_so directory ks xs next id at h x c behind text f sound place within is
     ∙ ap (λ m. apply (world_of directory ks xs next) id (ended (record left { mark = mark_read m }) (edit_of x.name c) own)) (sym none)
     ∙ ap (λ b. apply (world_of directory ks xs next) id (cond b (fails own KillTooLarge) (ended left (edit_of x.name c) own))) (sym small)
 
-pub failed_so : (directory : Directory) (ks : List MarkedBuffer) (xs : List Session) (next : Option ℕ) (id at : ℕ) (h : Session) (message : Message) → at ≡ position_or_len (session_id id) xs → at < length xs → slice_get xs at ≡ Some h → own_of h.own ≡ idle h.own.kind → world_of directory ks (slice_set xs at (failed message h)) next ≡ apply (world_of directory ks xs next) id (fails (own_of h.own) message)
+pub failed_so : (directory : Directory) (ks : List MarkedBuffer) (xs : List Session) (next : Option ℕ) (id at : ℕ) (h : Session) (message : Message) → at ≡ position_or_len (session_id id) xs → at < length xs → slice_get xs at ≡ Some h → own_of h.own ≡ idle (own_of h.own) → world_of directory ks (slice_set xs at (failed message h)) next ≡ apply (world_of directory ks xs next) id (fails (own_of h.own) message)
 failed_so directory ks xs next id at h message place within is fresh =
     let f = session_arranged (fails (own_of h.own) message) in
     same_world directory _ _ _ _ (id_after next) refl
@@ -228,12 +228,12 @@ failed_so directory ks xs next id at h message place within is fresh =
     ∙ ap (change_first (has_id id) f) (sym (map-id (map (session_of ks) xs))))
 
 -- a flag is cleared
-fresh_cleared : (o : Own) → own_of o ≡ idle o.kind → own_of (record o { echo = Silent; kind = Other }) ≡ acted_own (own_of o)
+fresh_cleared : (o : Own) → own_of o ≡ idle (own_of o) → own_of (record o { echo = Silent; kind = Other }) ≡ acted_own (own_of o)
 fresh_cleared o fresh =
-    (λ i. record first_own { echo = Silent; argument = (fresh i).argument; keys = (fresh i).keys; kind = Other })
-    ∙ sym (λ i. record first_own { echo = (fresh i).echo; kind = Other })
+    (λ i. record first_own { echo = Silent; fill = o.fill; argument = (fresh i).argument; keys = (fresh i).keys; kind = Other })
+    ∙ sym (λ i. record first_own { echo = (fresh i).echo; fill = o.fill; kind = Other })
 
-cleared_so : (directory : Directory) (ks : List MarkedBuffer) (xs : List Session) (next : Option ℕ) (id at : ℕ) (h : Session) (name : List ℕ) → at ≡ position_or_len (session_id id) xs → at < length xs → slice_get xs at ≡ Some h → own_of h.own ≡ idle h.own.kind → world_of directory (change_first (marked_named name) marked_unmodified ks) (slice_set xs at (told Silent (acted Other h))) next ≡ apply (world_of directory ks xs next) id (effects (own_of h.own) (Ok (Unmodified name)))
+cleared_so : (directory : Directory) (ks : List MarkedBuffer) (xs : List Session) (next : Option ℕ) (id at : ℕ) (h : Session) (name : List ℕ) → at ≡ position_or_len (session_id id) xs → at < length xs → slice_get xs at ≡ Some h → own_of h.own ≡ idle (own_of h.own) → world_of directory (change_first (marked_named name) marked_unmodified ks) (slice_set xs at (told Silent (acted Other h))) next ≡ apply (world_of directory ks xs next) id (effects (own_of h.own) (Ok (Unmodified name)))
 cleared_so directory ks xs next id at h name place within is fresh =
     let f = session_arranged (effects (own_of h.own) (Ok (Unmodified name))) in
     let ls = change_first (marked_named name) marked_unmodified ks in
@@ -244,7 +244,7 @@ cleared_so directory ks xs next id at h name place within is fresh =
 
 -- ANY ACTION
 
-done_so : (directory : Directory) (ks : List MarkedBuffer) (xs : List Session) (next : Option ℕ) (id at : ℕ) (x : WindowMarks) (h : Session) (action : Action) → IsSound ks xs → at ≡ position_or_len (session_id id) xs → at < length xs → slice_get xs at ≡ Some h → window_marks_of h ≡ Some x → AreMarks ks x → own_of h.own ≡ idle h.own.kind → CanBeDone ks x h.kill action → mark_told action ≡ None
+done_so : (directory : Directory) (ks : List MarkedBuffer) (xs : List Session) (next : Option ℕ) (id at : ℕ) (x : WindowMarks) (h : Session) (action : Action) → IsSound ks xs → at ≡ position_or_len (session_id id) xs → at < length xs → slice_get xs at ≡ Some h → window_marks_of h ≡ Some x → AreMarks ks x → own_of h.own ≡ idle (own_of h.own) → CanBeDone ks x h.kill action → mark_told action ≡ None
     → (let text = (marked_at x.name ks).buffer.text in let items = (marked_at x.name ks).buffer.items in world_of directory (marked_after x text items h.kill action ks) (slice_set xs at (session_acted text action h)) next ≡ apply (world_of directory ks xs next) id (outcome_through (own_of h.own) x ks h.kill action))
 done_so directory ks xs next id at x h (Fails message) sound place within is sel marks fresh can none =
     failed_so directory ks xs next id at h message place within is fresh
@@ -315,7 +315,7 @@ pub after_sizes : {T E : Type 0} (r : Result T E) (xs : List Session) (at : ℕ)
 after_sizes (Ok o) xs at text h y action is acts same = rw acts (sizes_set xs at h (session_acted text action h) (sym (get_or_from_slice_get xs at h h is)) (size_after text action h))
 after_sizes (Err e) xs at text h y action is acts same = rw same (sizes_set xs at h h (sym (get_or_from_slice_get xs at h h is)) refl)
 
-pub after_ok : {T E : Type 0} (r : Result T E) (ks ls : List MarkedBuffer) (xs : List Session) (at : ℕ) (x : WindowMarks) (h y : Session) (action : Action) → slice_get xs at ≡ Some h → (let text = (marked_at x.name ks).buffer.text in OnOk r (ls ≡ marked_after x text (marked_at x.name ks).buffer.items h.kill action ks) → OnOk r (y ≡ session_acted text action h) → IsSound ks xs → at < length xs → option_and_then window_marks_of (slice_get xs at) ≡ Some x → own_at at xs ≡ idle (own_at at xs).kind → CanBeDone ks x (kill_at at xs) action → mark_told action ≡ None → OnOk r ((directory : Directory) (id : ℕ) (next : Option ℕ) → at ≡ position_or_len (session_id id) xs → world_of directory ls (slice_set xs at y) next ≡ apply (world_of directory ks xs next) id (outcome_through (own_at at xs) x ks (kill_at at xs) action)))
+pub after_ok : {T E : Type 0} (r : Result T E) (ks ls : List MarkedBuffer) (xs : List Session) (at : ℕ) (x : WindowMarks) (h y : Session) (action : Action) → slice_get xs at ≡ Some h → (let text = (marked_at x.name ks).buffer.text in OnOk r (ls ≡ marked_after x text (marked_at x.name ks).buffer.items h.kill action ks) → OnOk r (y ≡ session_acted text action h) → IsSound ks xs → at < length xs → option_and_then window_marks_of (slice_get xs at) ≡ Some x → own_at at xs ≡ idle (own_at at xs) → CanBeDone ks x (kill_at at xs) action → mark_told action ≡ None → OnOk r ((directory : Directory) (id : ℕ) (next : Option ℕ) → at ≡ position_or_len (session_id id) xs → world_of directory ls (slice_set xs at y) next ≡ apply (world_of directory ks xs next) id (outcome_through (own_at at xs) x ks (kill_at at xs) action)))
 after_ok (Ok o) ks ls xs at x h y action is ok acts sound within sel fresh can none = λ directory id next place.
     let sel_h : window_marks_of h ≡ Some x = sym (ap (option_and_then window_marks_of) is) ∙ sel in
     rw (ok, acts) (done_so directory ks xs next id at x h action sound place within is sel_h (acting_marks ks xs at x sound sel) (fresh_own xs at h is fresh) (subst (λ o. CanBeDone ks x (kill_or_none o) action) is can) none

@@ -5,4 +5,5 @@ pub mod Marked
 pub mod Outcomes
 pub mod Plans
 pub mod Saves
+pub mod Settings
 pub mod Spelled

@@ -99,7 +99,7 @@ mark_ends p f e own x =
 
 -- THE SESSIONS
 
-marked_sessions : (ks ls : List MarkedBuffer) (xs : List Session) (id at mid p : ℕ) (h : Session) (x : WindowMarks) (c : plans.Change) (behind : ℕ) (text : List ℕ) (f : Finish) → IsSound ks xs → HasBuffer x.name ks → IsReserved x.name x.mark mid ks ls → at ≡ position_or_len (session_id id) xs → at < length xs → slice_get xs at ≡ Some h → window_marks_of h ≡ Some x → AreMarks ks x → own_of h.own ≡ idle h.own.kind → IsMark x.name mid (marks_gone x (finish_read text h.kill behind f) (edited_by x.name c ls)) → IsSound (marks_gone x (finish_read text h.kill behind f) (edited_by x.name c ls)) (slice_set xs at (session_marked mid (session_finished (finish_read text h.kill behind f) h)))
+marked_sessions : (ks ls : List MarkedBuffer) (xs : List Session) (id at mid p : ℕ) (h : Session) (x : WindowMarks) (c : plans.Change) (behind : ℕ) (text : List ℕ) (f : Finish) → IsSound ks xs → HasBuffer x.name ks → IsReserved x.name x.mark mid ks ls → at ≡ position_or_len (session_id id) xs → at < length xs → slice_get xs at ≡ Some h → window_marks_of h ≡ Some x → AreMarks ks x → own_of h.own ≡ idle (own_of h.own) → IsMark x.name mid (marks_gone x (finish_read text h.kill behind f) (edited_by x.name c ls)) → IsSound (marks_gone x (finish_read text h.kill behind f) (edited_by x.name c ls)) (slice_set xs at (session_marked mid (session_finished (finish_read text h.kill behind f) h)))
     → (let left = finish_read text h.kill behind f in
     map (session_of (change_first (marked_named x.name) (marked_placed mid p) (marks_gone x left (edited_by x.name c ls)))) (slice_set xs at (session_marked mid (session_finished left h)))
     ≡ change_first (has_id id) (session_arranged (ended (record left { mark = Mark_at p }) (edit_of x.name c) (own_of h.own))) (map (session_after (edit_of x.name c)) (map (session_of ks) xs)))
@@ -174,7 +174,7 @@ held_then ks ls xs at mid h x c f g sound kept r is sel marks =
     subst (IsSound (marks_gone x f ls1)) (set_twice xs at (session_marked mid h) (session_marked mid (session_finished g h)))
     (sound_set (marks_gone x f ls1) ys at (session_marked mid h) (session_marked mid (session_finished g h)) (sym (get_or_from_slice_get ys at (session_marked mid h) (session_marked mid h) (get_set xs at h (session_marked mid h) is))) (λ n i. refl) after)
 
-marked_so : (directory : Directory) (ks ls : List MarkedBuffer) (xs : List Session) (next : Option ℕ) (id at mid p : ℕ) (h : Session) (x : WindowMarks) (c : plans.Change) (behind : ℕ) (text : List ℕ) (f : Finish) → IsSound ks xs → HasBuffer x.name ks → IsReserved x.name x.mark mid ks ls → at ≡ position_or_len (session_id id) xs → at < length xs → slice_get xs at ≡ Some h → window_marks_of h ≡ Some x → AreMarks ks x → own_of h.own ≡ idle h.own.kind → f.mark ≡ Some p → is_too_large (kill_read text h.kill f.kill) ≡ false
+marked_so : (directory : Directory) (ks ls : List MarkedBuffer) (xs : List Session) (next : Option ℕ) (id at mid p : ℕ) (h : Session) (x : WindowMarks) (c : plans.Change) (behind : ℕ) (text : List ℕ) (f : Finish) → IsSound ks xs → HasBuffer x.name ks → IsReserved x.name x.mark mid ks ls → at ≡ position_or_len (session_id id) xs → at < length xs → slice_get xs at ≡ Some h → window_marks_of h ≡ Some x → AreMarks ks x → own_of h.own ≡ idle (own_of h.own) → f.mark ≡ Some p → is_too_large (kill_read text h.kill f.kill) ≡ false
     → (let left = finish_read text h.kill behind f in world_of directory (change_first (marked_named x.name) (marked_placed mid p) (marks_gone x left (edited_by x.name c ls))) (slice_set xs at (session_marked mid (session_finished left h))) next ≡ apply (world_of directory ks xs next) id (finished (own_of h.own) left (edit_of x.name c)))
 marked_so directory ks ls xs next id at mid p h x c behind text f sound kept r place within is sel marks fresh told small =
     let left = finish_read text h.kill behind f in
@@ -191,7 +191,7 @@ marked_so directory ks ls xs next id at mid p h x c behind text f sound kept r p
 
 -- ANY ACTION
 
-acted_so : (directory : Directory) (ks ls : List MarkedBuffer) (xs : List Session) (next : Option ℕ) (id at p : ℕ) (x : WindowMarks) (h y : Session) (action : Action) → IsSound ks xs → at ≡ position_or_len (session_id id) xs → at < length xs → slice_get xs at ≡ Some h → window_marks_of h ≡ Some x → AreMarks ks x → own_of h.own ≡ idle h.own.kind → CanBeDone ks x h.kill action → mark_told action ≡ Some p → IsMarked x p action ks ls h y → world_of directory ls (slice_set xs at y) next ≡ apply (world_of directory ks xs next) id (outcome_through (own_of h.own) x ks h.kill action)
+acted_so : (directory : Directory) (ks ls : List MarkedBuffer) (xs : List Session) (next : Option ℕ) (id at p : ℕ) (x : WindowMarks) (h y : Session) (action : Action) → IsSound ks xs → at ≡ position_or_len (session_id id) xs → at < length xs → slice_get xs at ≡ Some h → window_marks_of h ≡ Some x → AreMarks ks x → own_of h.own ≡ idle (own_of h.own) → CanBeDone ks x h.kill action → mark_told action ≡ Some p → IsMarked x p action ks ls h y → world_of directory ls (slice_set xs at y) next ≡ apply (world_of directory ks xs next) id (outcome_through (own_of h.own) x ks h.kill action)
 acted_so directory ks ls xs next id at p x h y (Fails message) sound place within is sel marks fresh can told m = cc
 acted_so directory ks ls xs next id at p x h y (Edits c) sound place within is sel marks fresh can told m =
     let text = (marked_at x.name ks).buffer.text in
@@ -236,7 +236,7 @@ pub marked_sizes : {T E : Type 0} (r : Result T E) (ks ls : List MarkedBuffer) (
 marked_sizes (Ok o) ks ls xs at p x h y action is ok same = sizes_set xs at h y (sym (get_or_from_slice_get xs at h h is)) (size_then ks ls p x h y action ok)
 marked_sizes (Err e) ks ls xs at p x h y action is ok same = rw same (sizes_set xs at h h (sym (get_or_from_slice_get xs at h h is)) refl)
 
-pub marked_ok : {T E : Type 0} (r : Result T E) (ks ls : List MarkedBuffer) (xs : List Session) (at p : ℕ) (x : WindowMarks) (h y : Session) (action : Action) → slice_get xs at ≡ Some h → OnOk r (IsMarked x p action ks ls h y) → IsSound ks xs → at < length xs → option_and_then window_marks_of (slice_get xs at) ≡ Some x → own_at at xs ≡ idle (own_at at xs).kind → CanBeDone ks x (kill_at at xs) action → mark_told action ≡ Some p → OnOk r ((directory : Directory) (id : ℕ) (next : Option ℕ) → at ≡ position_or_len (session_id id) xs → world_of directory ls (slice_set xs at y) next ≡ apply (world_of directory ks xs next) id (outcome_through (own_at at xs) x ks (kill_at at xs) action))
+pub marked_ok : {T E : Type 0} (r : Result T E) (ks ls : List MarkedBuffer) (xs : List Session) (at p : ℕ) (x : WindowMarks) (h y : Session) (action : Action) → slice_get xs at ≡ Some h → OnOk r (IsMarked x p action ks ls h y) → IsSound ks xs → at < length xs → option_and_then window_marks_of (slice_get xs at) ≡ Some x → own_at at xs ≡ idle (own_at at xs) → CanBeDone ks x (kill_at at xs) action → mark_told action ≡ Some p → OnOk r ((directory : Directory) (id : ℕ) (next : Option ℕ) → at ≡ position_or_len (session_id id) xs → world_of directory ls (slice_set xs at y) next ≡ apply (world_of directory ks xs next) id (outcome_through (own_at at xs) x ks (kill_at at xs) action))
 marked_ok (Ok o) ks ls xs at p x h y action is ok sound within sel fresh can told = λ directory id next place.
     let sel_h : window_marks_of h ≡ Some x = sym (ap (option_and_then window_marks_of) is) ∙ sel in
     acted_so directory ks ls xs next id at p x h y action sound place within is sel_h (acting_marks ks xs at x sound sel) (fresh_own xs at h is fresh) (subst (λ o. CanBeDone ks x (kill_or_none o) action) is can) told ok

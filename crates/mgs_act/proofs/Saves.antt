@@ -50,10 +50,10 @@ kept_here ks xs at h x sound is sel = mark_is_kept x.name x.point ks (acting_mar
 
 -- WHAT IS LEFT
 
-fresh_wrote : (o : Own) (name : List ℕ) → own_of o ≡ idle o.kind → own_of (record o { echo = Wrote name; kind = Other }) ≡ record (acted_own (own_of o)) { echo = Wrote name }
-fresh_wrote o name fresh = λ i. record first_own { echo = Wrote name; argument = (fresh i).argument; keys = (fresh i).keys; kind = Other }
+fresh_wrote : (o : Own) (name : List ℕ) → own_of o ≡ idle (own_of o) → own_of (record o { echo = Wrote name; kind = Other }) ≡ record (acted_own (own_of o)) { echo = Wrote name }
+fresh_wrote o name fresh = λ i. record first_own { echo = Wrote name; fill = o.fill; argument = (fresh i).argument; keys = (fresh i).keys; kind = Other }
 
-wrote_so : (directory : Directory) (ks : List MarkedBuffer) (xs : List Session) (next : Option ℕ) (id at : ℕ) (h : Session) (name text : List ℕ) → at ≡ position_or_len (session_id id) xs → at < length xs → slice_get xs at ≡ Some h → own_of h.own ≡ idle h.own.kind → world_of directory (change_first (marked_named name) marked_unmodified ks) (slice_set xs at (told (Wrote name) (acted Other h))) next ≡ apply (world_of directory ks xs next) id (save_answered (own_of h.own) name text true)
+wrote_so : (directory : Directory) (ks : List MarkedBuffer) (xs : List Session) (next : Option ℕ) (id at : ℕ) (h : Session) (name text : List ℕ) → at ≡ position_or_len (session_id id) xs → at < length xs → slice_get xs at ≡ Some h → own_of h.own ≡ idle (own_of h.own) → world_of directory (change_first (marked_named name) marked_unmodified ks) (slice_set xs at (told (Wrote name) (acted Other h))) next ≡ apply (world_of directory ks xs next) id (save_answered (own_of h.own) name text true)
 wrote_so directory ks xs next id at h name text place within is fresh =
     let f = session_arranged (save_answered (own_of h.own) name text true) in
     let ls = change_first (marked_named name) marked_unmodified ks in
@@ -62,12 +62,12 @@ wrote_so directory ks xs next id at h name text place within is fresh =
     (λ i. record (session_of ls h) { own = fresh_wrote h.own name fresh i })
     ∙ ap (change_first (has_id id) f) (sessions_unmodified name ks xs ∙ sym (map-id (map (session_of ks) xs))))
 
-saved_so : (directory : Directory) (ks : List MarkedBuffer) (xs : List Session) (next : Option ℕ) (id at : ℕ) (h : Session) (name text : List ℕ) (stored : Bool) → at ≡ position_or_len (session_id id) xs → at < length xs → slice_get xs at ≡ Some h → own_of h.own ≡ idle h.own.kind → world_of directory (buffers_saved stored name ks) (slice_set xs at (session_saved stored name h)) next ≡ apply (world_of directory ks xs next) id (save_answered (own_of h.own) name text stored)
+saved_so : (directory : Directory) (ks : List MarkedBuffer) (xs : List Session) (next : Option ℕ) (id at : ℕ) (h : Session) (name text : List ℕ) (stored : Bool) → at ≡ position_or_len (session_id id) xs → at < length xs → slice_get xs at ≡ Some h → own_of h.own ≡ idle (own_of h.own) → world_of directory (buffers_saved stored name ks) (slice_set xs at (session_saved stored name h)) next ≡ apply (world_of directory ks xs next) id (save_answered (own_of h.own) name text stored)
 saved_so directory ks xs next id at h name text true place within is fresh = wrote_so directory ks xs next id at h name text place within is fresh
 saved_so directory ks xs next id at h name text false place within is fresh = failed_so directory ks xs next id at h SaveFailed place within is fresh
 
 -- what an answered save leaves, from the session at its place
-pub saved_at : (directory : Directory) (ks ls : List MarkedBuffer) (xs : List Session) (next : Option ℕ) (id at : ℕ) (h y : Session) (name text : List ℕ) (stored : Bool) → ls ≡ buffers_saved stored name ks → y ≡ session_saved stored name h → at ≡ position_or_len (session_id id) xs → at < length xs → slice_get xs at ≡ Some h → own_at at xs ≡ idle (own_at at xs).kind → world_of directory ls (slice_set xs at y) next ≡ apply (world_of directory ks xs next) id (save_answered (own_at at xs) name text stored)
+pub saved_at : (directory : Directory) (ks ls : List MarkedBuffer) (xs : List Session) (next : Option ℕ) (id at : ℕ) (h y : Session) (name text : List ℕ) (stored : Bool) → ls ≡ buffers_saved stored name ks → y ≡ session_saved stored name h → at ≡ position_or_len (session_id id) xs → at < length xs → slice_get xs at ≡ Some h → own_at at xs ≡ idle (own_at at xs) → world_of directory ls (slice_set xs at y) next ≡ apply (world_of directory ks xs next) id (save_answered (own_at at xs) name text stored)
 saved_at directory ks ls xs next id at h y name text stored ls_is y_is place within is fresh =
     rw (ls_is, y_is) (saved_so directory ks xs next id at h name text stored place within is (fresh_own xs at h is fresh)
     ∙ ap (λ o. apply (world_of directory ks xs next) id (save_answered (own_or_first o) name text stored)) (sym is))
@@ -154,7 +154,7 @@ saved_act w new before after id n stored o known done fault saves = record {
 }
 
 -- it failed before the store was asked
-failed_save : (directory : Directory) (ks : List MarkedBuffer) (xs : List Session) (next : Option ℕ) (before : StoreTold) (id at : ℕ) (h : Session) (n : Option ℕ) (message : Message) → at ≡ position_or_len (session_id id) xs → at < length xs → slice_get xs at ≡ Some h → own_at at xs ≡ idle (own_at at xs).kind → outcome (view (world_of directory ks xs next) (session_of ks h)) (Run SaveBuffer n []) true ≡ fails (own_of h.own) message → SavedBy (world_of directory ks xs next) (world_of directory ks (slice_set xs at (failed message h)) next) before before id n
+failed_save : (directory : Directory) (ks : List MarkedBuffer) (xs : List Session) (next : Option ℕ) (before : StoreTold) (id at : ℕ) (h : Session) (n : Option ℕ) (message : Message) → at ≡ position_or_len (session_id id) xs → at < length xs → slice_get xs at ≡ Some h → own_at at xs ≡ idle (own_at at xs) → outcome (view (world_of directory ks xs next) (session_of ks h)) (Run SaveBuffer n []) true ≡ fails (own_of h.own) message → SavedBy (world_of directory ks xs next) (world_of directory ks (slice_set xs at (failed message h)) next) before before id n
 failed_save directory ks xs next before id at h n message place within is fresh known =
     saved_act (world_of directory ks xs next) _ before before id n true (fails (own_of h.own) message)
     (known_at directory ks xs next id at h n true place within is ∙ ap (λ o. Some o) known)
@@ -162,11 +162,11 @@ failed_save directory ks xs next before id at h n message place within is fresh 
     (λ e. cc)
     (told_none before.accepted [] refl)
 
-pub saved_nowhere : (directory : Directory) (ks : List MarkedBuffer) (xs : List Session) (next : Option ℕ) (before : StoreTold) (id at : ℕ) (h : Session) (n : Option ℕ) → at ≡ position_or_len (session_id id) xs → at < length xs → slice_get xs at ≡ Some h → own_at at xs ≡ idle (own_at at xs).kind → window_marks_of h ≡ None → SavedBy (world_of directory ks xs next) (world_of directory ks (slice_set xs at (failed NoBuffer h)) next) before before id n
+pub saved_nowhere : (directory : Directory) (ks : List MarkedBuffer) (xs : List Session) (next : Option ℕ) (before : StoreTold) (id at : ℕ) (h : Session) (n : Option ℕ) → at ≡ position_or_len (session_id id) xs → at < length xs → slice_get xs at ≡ Some h → own_at at xs ≡ idle (own_at at xs) → window_marks_of h ≡ None → SavedBy (world_of directory ks xs next) (world_of directory ks (slice_set xs at (failed NoBuffer h)) next) before before id n
 saved_nowhere directory ks xs next before id at h n place within is fresh none =
     failed_save directory ks xs next before id at h n NoBuffer place within is fresh (save_nowhere directory ks xs next h n true none)
 
-pub saved_refused : (directory : Directory) (ks : List MarkedBuffer) (xs : List Session) (next : Option ℕ) (before : StoreTold) (id at : ℕ) (h : Session) (x : WindowMarks) (n : Option ℕ) (message : Message) → at ≡ position_or_len (session_id id) xs → at < length xs → slice_get xs at ≡ Some h → own_at at xs ≡ idle (own_at at xs).kind → window_marks_of h ≡ Some x → HasBuffer x.name ks → ((own : model.Own) (stored : Bool) → save_outcome directory h.user x.name ks own stored ≡ fails own message) → SavedBy (world_of directory ks xs next) (world_of directory ks (slice_set xs at (failed message h)) next) before before id n
+pub saved_refused : (directory : Directory) (ks : List MarkedBuffer) (xs : List Session) (next : Option ℕ) (before : StoreTold) (id at : ℕ) (h : Session) (x : WindowMarks) (n : Option ℕ) (message : Message) → at ≡ position_or_len (session_id id) xs → at < length xs → slice_get xs at ≡ Some h → own_at at xs ≡ idle (own_at at xs) → window_marks_of h ≡ Some x → HasBuffer x.name ks → ((own : model.Own) (stored : Bool) → save_outcome directory h.user x.name ks own stored ≡ fails own message) → SavedBy (world_of directory ks xs next) (world_of directory ks (slice_set xs at (failed message h)) next) before before id n
 saved_refused directory ks xs next before id at h x n message place within is fresh sel kept refused =
     failed_save directory ks xs next before id at h n message place within is fresh (save_known directory ks xs next h x n true sel kept ∙ refused (own_of h.own) true)
 

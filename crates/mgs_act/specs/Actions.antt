@@ -5,7 +5,7 @@ use Rattle.std.specs.Option.{option_map}
 use Rattle.mgs_model.specs.Access.{Directory, Decider, decider, decision_by}
 use Rattle.mgs_model.specs.Rights.{rights_in}
 use Rattle.mgs_model.specs.Text.{is_edit}
-use Rattle.mgs_model.specs.World.{Item, may}
+use Rattle.mgs_model.specs.World.{Item, first_own, may}
 use Rattle.mgs_model.specs.World as model
 use Rattle.mgs_model.specs.Apply.{change_first, kill_after}
 use Rattle.mgs_model.specs.Outcome.{Outcome, No_effect, Unmodified, PointPlan, Keep, At, At_origin}
@@ -22,7 +22,7 @@ use Rattle.mgs_model.specs.declared.session.Command.{Command}
 use Rattle.mgs_model.specs.declared.session.Command.TheVariants.{Insert, InsertReading, Move, Alter, Scroll, Set, Rearrange, UndoEdit, NotModified}
 use Rattle.mgs_model.specs.declared.session.Kind.TheVariants.{Other}
 use Rattle.mgs_model.specs.declared.session.Setting.{Setting}
-use Rattle.mgs_model.specs.declared.session.Setting.TheVariants.{KeyboardQuit}
+use Rattle.mgs_model.specs.declared.session.Setting.TheVariants.{SetFillColumn, KeyboardQuit}
 use Rattle.mgs_buffers.specs.MarkedBuffer.{IsMark, MarkedBuffer, marked_at, marked_edited, marked_named, marked_placed, marked_unmodified, mark_at}
 use Rattle.mgs_windows.specs.declared.WindowMarks.{WindowMarks}
 use Rattle.mgs_windows.specs.declared.Window.{Window}
@@ -60,6 +60,7 @@ is_on_text NotModified = true
 is_on_text _ = false
 
 abbrev pub is_setting_done : Setting → Bool
+is_setting_done SetFillColumn = true
 is_setting_done KeyboardQuit = true
 is_setting_done _ = false
 
@@ -92,6 +93,10 @@ mark_if reads mark = cond reads mark None
 abbrev pub mark_shown : List MarkedBuffer → WindowMarks → Option ℕ
 mark_shown ks x = option_map (mark_at x.name ks) x.mark
 
+-- what a session holds beside, as far as a plan goes by it
+abbrev pub given_own : Given → model.Own
+given_own g = record first_own { kind = g.kind; fill = g.fill }
+
 abbrev pub around_given : Directory → List MarkedBuffer → List ℕ → WindowMarks → Given → ℕ → Around
 around_given directory ks user x g killed =
     let b = (marked_at x.name ks).buffer in
@@ -103,6 +108,7 @@ around_given directory ks user x g killed =
       killed = killed;
       kind = g.kind;
       height = g.height;
+      fill = g.fill;
     }
 
 -- the same, as the model's plans are given it

@@ -9,4 +9,6 @@ pub struct Given {
     pub kind: Kind,
     /// How many rows the selected window has above its mode line.
     pub height: usize,
+    /// The session's fill column.
+    pub fill: usize,
 }

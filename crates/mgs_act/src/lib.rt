@@ -7,6 +7,7 @@ mod given;
 mod performing;
 mod planning;
 mod saving;
+mod setting;
 
 pub use acts::{KeyAct, act};
 pub use saving::save;

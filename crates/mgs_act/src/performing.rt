@@ -433,7 +433,7 @@ fn perform_plain<T: Marked + Drop>(
     requires sound { IsSound buffers.old sessions.old }
     requires within { at < length sessions.old }
     requires window_marks { option_and_then window_marks_of (slice_get sessions.old at) ≡ Some window_marks.now }
-    requires fresh { own_at at sessions.old ≡ idle (own_at at sessions.old).kind }
+    requires fresh { own_at at sessions.old ≡ idle (own_at at sessions.old) }
     requires can { CanBeDone buffers.old window_marks.now (kill_at at sessions.old) action.now }
     requires unmarked { mark_told action.now ≡ None }
     ensures sound { IsSound buffers.new sessions.new }
@@ -458,7 +458,7 @@ fn perform_marked<T: Marked + Drop>(
     requires sound { IsSound buffers.old sessions.old }
     requires within { at < length sessions.old }
     requires window_marks { option_and_then window_marks_of (slice_get sessions.old at) ≡ Some window_marks.now }
-    requires fresh { own_at at sessions.old ≡ idle (own_at at sessions.old).kind }
+    requires fresh { own_at at sessions.old ≡ idle (own_at at sessions.old) }
     requires can { CanBeDone buffers.old window_marks.now (kill_at at sessions.old) action.now }
     requires told { mark_told action.now ≡ Some position }
     ensures sound { IsSound buffers.new sessions.new }
@@ -489,7 +489,7 @@ pub fn perform<T: Marked + Drop>(
     requires sound { IsSound buffers.old sessions.old }
     requires within { at < length sessions.old }
     requires window_marks { option_and_then window_marks_of (slice_get sessions.old at) ≡ Some window_marks.now }
-    requires fresh { own_at at sessions.old ≡ idle (own_at at sessions.old).kind }
+    requires fresh { own_at at sessions.old ≡ idle (own_at at sessions.old) }
     requires can { CanBeDone buffers.old window_marks.now (kill_at at sessions.old) action.now }
     ensures sound { IsSound buffers.new sessions.new }
     ensures sizes { sizes_in sessions.new ≡ sizes_in sessions.old }

@@ -10,8 +10,7 @@ ghost use Rattle.mgs_undo.specs.History.{has_serial};
 ghost use Rattle.mgs_undo.specs.Numbered.{item_of};
 ghost use Rattle.mgs_buffers.specs.MarkedBuffer.{HasBuffer, marked_at};
 ghost use Rattle.mgs_edit.specs.Reading.{ChangeWithin, FinishWithin, IsWithin, LeavesBehind, edit_read, motion_read, surrounded, undoing, undone_read};
-ghost use Rattle.mgs_act.specs.Actions.{AreMarks, CanBeDone, CanDo, action_outcome, around_given, edit_outcome, granted_outcome, insertion_mask, is_on_text, mark_shown, mask_at, outcome_through, plan_in, removed_by};
-ghost use Rattle.mgs_world.specs.Worlds.{idle};
+ghost use Rattle.mgs_act.specs.Actions.{AreMarks, CanBeDone, CanDo, action_outcome, around_given, edit_outcome, given_own, granted_outcome, insertion_mask, is_on_text, mark_shown, mask_at, outcome_through, plan_in, removed_by};
 
 use crate::action::Action;
 use crate::given::Given;
@@ -64,6 +63,7 @@ fn around<T: Marked + Drop>(
             killed,
             kind: given.kind,
             height: given.height,
+            fill: given.fill,
         }
     } else {
         Around {
@@ -73,6 +73,7 @@ fn around<T: Marked + Drop>(
             killed,
             kind: given.kind,
             height: given.height,
+            fill: given.fill,
         }
     }
 }
@@ -246,7 +247,7 @@ pub fn plan<T: Marked + Drop>(
     requires kept { HasBuffer window_marks.now.name buffers.now }
     requires marks { AreMarks buffers.now window_marks.now }
     requires here { is_on_text command ≡ true }
-    ensures value { outcome_through (idle given.now.kind) window_marks.now buffers.now kill.now result ≡ plan_in directory.now buffers.now (idle given.now.kind) user.now window_marks.now given.now.height command given.now.argument kill.now }
+    ensures value { outcome_through (given_own given.now) window_marks.now buffers.now kill.now result ≡ plan_in directory.now buffers.now (given_own given.now) user.now window_marks.now given.now.height command given.now.argument kill.now }
     ensures can { CanBeDone buffers.now window_marks.now kill.now result }
 {
     let name = &window_marks.name;

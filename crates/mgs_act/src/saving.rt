@@ -132,7 +132,7 @@ fn save_text<T: Marked + Drop, S: Store>(
     requires sound { IsSound buffers.old sessions.old }
     requires within { at < length sessions.old }
     requires kept { HasBuffer name.now buffers.old }
-    requires fresh { own_at at sessions.old ≡ idle (own_at at sessions.old).kind }
+    requires fresh { own_at at sessions.old ≡ idle (own_at at sessions.old) }
     ensures sound { IsSound buffers.new sessions.new }
     ensures sizes { sizes_in sessions.new ≡ sizes_in sessions.old }
     ensures ok { IfOk result (λ stored. (directory : Directory) (id : ℕ) (next : Option ℕ) → at ≡ position_or_len (session_id id) sessions.old → world_of directory buffers.new sessions.new next ≡ apply (world_of directory buffers.old sessions.old next) id (save_answered (own_at at sessions.old) name.now (marked_at name.now buffers.old).buffer.text stored)) }
@@ -163,7 +163,7 @@ pub fn save<T: Marked + Drop, S: Store>(
 ) -> Result<Touched, Short>
     requires sound { IsSound buffers.old sessions.old }
     requires within { at < length sessions.old }
-    requires fresh { own_at at sessions.old ≡ idle (own_at at sessions.old).kind }
+    requires fresh { own_at at sessions.old ≡ idle (own_at at sessions.old) }
     ensures sound { IsSound buffers.new sessions.new }
     ensures sizes { sizes_in sessions.new ≡ sizes_in sessions.old }
     ensures ok { OnOk result ((id : ℕ) (next : Option ℕ) (n : Option ℕ) → at ≡ position_or_len (session_id id) sessions.old → SavedBy (world_of directory.now buffers.old sessions.old next) (world_of directory.now buffers.new sessions.new next) (record { failed = S.failed store.old; accepted = S.accepted store.old }) (record { failed = S.failed store.new; accepted = S.accepted store.new }) id n) }
