@@ -5,9 +5,8 @@ use Rattle.std.specs.List.{flat_map, position_or_len}
 use Rattle.std.specs.Option.{option_map}
 use Rattle.std.proofs.lemmas.List.{map-id}
 use Rattle.mgs_model.specs.Access.{Directory}
-use Rattle.mgs_model.specs.World.{World, Session, first_own, has_id, find_session}
+use Rattle.mgs_model.specs.World.{Own, World, Session, has_id, find_session}
 use Rattle.mgs_model.specs.View.{view}
-use Rattle.mgs_model.specs.declared.session.Kind.{Kind}
 use Rattle.mgs_model.specs.Outcome.{Run, Outcome, Quit, Keep_kill, Stay}
 use Rattle.mgs_model.specs.Plans.{acted_own}
 use Rattle.mgs_model.specs.Acts.{outcome}
@@ -27,7 +26,7 @@ use Rattle.mgs_buffers.specs.MarkedBuffer.{MarkedBuffer}
 use Rattle.mgs_maps.specs.Held.{Held, FedBy, IsBoundRun}
 use Rattle.mgs_maps.specs.declared.maps.Fed.{Fed}
 use Rattle.mgs_session.specs.declared.Session as code
-use Rattle.mgs_world.specs.Worlds.{IsUnique, idle, session_id, session_of, sizes_in, world_of}
+use Rattle.mgs_world.specs.Worlds.{IsUnique, idle, own_of, session_id, session_of, sizes_in, world_of}
 use Rattle.mgs_world.proofs.Sessions.{session_some}
 use Rattle.mgs_core.specs.Held.{AreSettled}
 use Rattle.mgs_world.specs.declared.size.Size.{Size}
@@ -47,28 +46,28 @@ without_changed id f same (x ∷ xs) = by (without_changed id f same xs) (has_id
     by later false e = ap (λ (b : Bool). cond (not b) (x ∷ without_session id (change_first (has_id id) f xs)) (without_session id (change_first (has_id id) f xs))) e ∙ ap (λ ys. x ∷ ys) later
 
 -- the outcome of the command that ends a session
-ends : Outcome
-ends = record { own = acted_own first_own; kill = Keep_kill; arrange = Stay; effect = Quit }
+ends : Own → Outcome
+ends own = record { own = acted_own (idle own); kill = Keep_kill; arrange = Stay; effect = Quit }
 
-exit_outcome : (w : World) (kind : Kind) (x : Session) (n : Option ℕ) → outcome (begun_view (λ old. idle kind) (view w x)) (Run Exit n []) true ≡ ends
+exit_outcome : (w : World) (own : Own) (x : Session) (n : Option ℕ) → outcome (begun_view (λ old. idle own) (view w x)) (Run Exit n []) true ≡ ends own
 unfolding outcome ends
-exit_outcome w kind x n = refl
+exit_outcome w own x n = refl
 
-ends_world : (w : World) (kind : Kind) (id : ℕ) → apply (with_own id (λ old. idle kind) w) id ends ≡ record w { sessions = without_session id w.sessions }
+ends_world : (w : World) (own : Own) (id : ℕ) → apply (with_own id (λ old. idle own) w) id (ends own) ≡ record w { sessions = without_session id w.sessions }
 unfolding ends
-ends_world w kind id =
-    let set : Session → Session = own_set (λ old. idle kind) in
+ends_world w own id =
+    let set : Session → Session = own_set (λ old. idle own) in
     ap (λ xs. record w { sessions = xs })
-    (without_changed id (session_arranged ends) (λ x. refl) (map (session_after Quit) (change_first (has_id id) set w.sessions))
+    (without_changed id (session_arranged (ends own)) (λ x. refl) (map (session_after Quit) (change_first (has_id id) set w.sessions))
     ∙ ap (without_session id) (map-id (change_first (has_id id) set w.sessions))
     ∙ without_changed id set (λ x. refl) w.sessions)
 
-act_exit : (w : World) (kind : Kind) (id : ℕ) (n : Option ℕ) (x : Session) → find_session id w.sessions ≡ Some x → act (with_own id (λ old. idle kind) w) id (Run Exit n []) true ≡ record w { sessions = without_session id w.sessions }
-act_exit w kind id n x found =
-    let v : World = with_own id (λ old. idle kind) w in
-    ap (λ o. applied v id (option_map (λ z. outcome z (Run Exit n []) true) o)) (seen_begun w id (λ old. idle kind) x found)
-    ∙ ap (apply v id) (exit_outcome w kind x n)
-    ∙ ends_world w kind id
+act_exit : (w : World) (own : Own) (id : ℕ) (n : Option ℕ) (x : Session) → find_session id w.sessions ≡ Some x → act (with_own id (λ old. idle own) w) id (Run Exit n []) true ≡ record w { sessions = without_session id w.sessions }
+act_exit w own id n x found =
+    let v : World = with_own id (λ old. idle own) w in
+    ap (λ o. applied v id (option_map (λ z. outcome z (Run Exit n []) true) o)) (seen_begun w id (λ old. idle own) x found)
+    ∙ ap (apply v id) (exit_outcome w own x n)
+    ∙ ends_world w own id
 
 pub keyed_exit : (d : Directory) (ks : List MarkedBuffer) (xs : List code.Session) (next : Option ℕ) (t : StoreTold) (id at byte : ℕ) (f : Fed) (k : Held) (h : code.Session) → at ≡ position_or_len (session_id id) xs → at < length xs → h ≡ get_or xs at h
     → FedBy f (key_read h.own.keyboard.argument h.own.keyboard.keys byte) k → IsBoundRun f → is_exit f ≡ true
@@ -81,10 +80,10 @@ keyed_exit d ks xs next t id at byte f k h place within is read bound exit uniqu
     let alone : without_session id w.sessions ≡ remove_first (has_id id) w.sessions = without_first id w.sessions (subst IsUnique (sym (sizes_world d ks xs next)) unique) in
     keyed_quit w (closed w id) t id byte (ap is_some found) (ap (find_session id) (sym alone) ∙ find_without id w.sessions)
     (sym
-    (ap settled (byte_acted w id byte true (session_of ks h) found (still h.own) (idle h.own.kind) (Run Exit turn.0 []) turn.1 refl refl refl ∙ act_exit w h.own.kind id turn.0 (session_of ks h) found ∙ ap (λ ys. record w { sessions = ys }) alone)
+    (ap settled (byte_acted w id byte true (session_of ks h) found (still h.own) (idle (own_of h.own)) (Run Exit turn.0 []) turn.1 refl refl refl ∙ act_exit w (own_of h.own) id turn.0 (session_of ks h) found ∙ ap (λ ys. record w { sessions = ys }) alone)
     ∙ closed_rests w id (rests next)))
-    (ap (flat_map saved_by) (acted_effects w id byte true (session_of ks h) found (still h.own) (idle h.own.kind) (Run Exit turn.0 []) turn.1 refl refl refl)
-    ∙ act_saves_none (with_own id (λ old. idle h.own.kind) w) id (Run Exit turn.0 []) true refl)
+    (ap (flat_map saved_by) (acted_effects w id byte true (session_of ks h) found (still h.own) (idle (own_of h.own)) (Run Exit turn.0 []) turn.1 refl refl refl)
+    ∙ act_saves_none (with_own id (λ old. idle (own_of h.own)) w) id (Run Exit turn.0 []) true refl)
 
 -- nothing is said to stay
 pub apart_closed : (w : World) (id : ℕ) → Apart Anywhere id w (closed w id)
