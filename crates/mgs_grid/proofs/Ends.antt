@@ -1,6 +1,5 @@
 -- A line is shown to its end: what the row shows of it from a column on.
-use Rattle.std.proofs.Common.{◌≡◌, ℕ, zero, suc, ◌+◌, ◌-◌, ◌<◌, ◌≤◌, List, [], ◌∷◌, length, drop, get_or, set, refl, sym, ap, ◌∙◌, arith, inl, inr, All, length-drop, add-one}
-use Rattle.std.specs.Prelude.{cond}
+use Rattle.std.proofs.Common.{◌≡◌, ℕ, suc, ◌+◌, ◌-◌, ◌≤◌, List, ◌∷◌, length, drop, get_or, set, refl, ap, ◌∙◌, arith, inl, inr, All, length-drop}
 use Rattle.std.proofs.lemmas.Bool.{cases_lt, lt-ltb, le-ltb, le-leb, ne_eqb}
 use Rattle.std.proofs.lemmas.List.{drop_more}
 use Rattle.std.proofs.lemmas.List.Elements.{All-cons, All-drop}
@@ -24,7 +23,7 @@ behind cols s xs wide long is =
 
 -- from that column on it is the `$` and the end
 pub shown_to_end : (cols : ℕ) (xs : List ℕ) → 2 ≤ cols → shown_row cols (length xs - (cols - 1)) xs ≡ fitted 32 cols (line_shown cols xs)
-unfolding (shown_row, line_shown)
+unfolding shown_row line_shown
 shown_to_end cols xs wide =
     elim (cases_lt (length xs) cols) [
       | inl short ↦

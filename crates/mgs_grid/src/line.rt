@@ -8,7 +8,7 @@ ghost use Rattle.mgs_model.specs.Messages.{message_text};
 ghost use Rattle.mgs_model.specs.Picture.{IsPrintable};
 
 use crate::cells::{fill, finish, put_bytes, put_line};
-use crate::words::{put_heading, put_message, put_place, put_prompt, put_unread, prompt_width};
+use crate::words::{prompt_width, put_heading, put_message, put_place, put_prompt, put_unread};
 use mgs_lines::line_end;
 use mgs_model::{Decision, Message, Name, Question, Short};
 use mgs_text::Text;
