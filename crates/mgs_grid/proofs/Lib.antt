@@ -6,3 +6,4 @@ pub mod Plain
 pub mod Fits
 pub mod Drawn
 pub mod Cuts
+pub mod Ends

@@ -1,9 +1,9 @@
 // Cells written into a row one after another.
-ghost use Rattle.std.specs.Prelude.{◌≡◌, ℕ, ◌+◌, ◌-◌, ◌%◌, ◌<◌, ◌≤◌, ◌^◌, List, length, map, replicate, decimal, slice_range, IsTrue};
+ghost use Rattle.std.specs.Prelude.{◌≡◌, ℕ, ◌+◌, ◌-◌, ◌*◌, ◌%◌, ◌<◌, ◌≤◌, ◌^◌, List, length, map, replicate, decimal, slice_range, IsTrue};
 ghost use Rattle.std.specs.List.{list_all};
 ghost use Rattle.std.specs.Int.Digits.{digits_of};
 ghost use Rattle.std.specs.Char.{digit_char};
-ghost use Rattle.mgs_model.specs.Cells.{glyph, escape, cells};
+ghost use Rattle.mgs_model.specs.Cells.{glyph, escape, cells, cells_from};
 ghost use Rattle.mgs_grid.specs.Cells.{put, over, finished, is_plain, Wrote};
 
 use itoa::Buffer;
@@ -138,6 +138,22 @@ fn put_escape(row: &mut [char], shift: usize, column: usize, c: char) -> usize
     let at = put_hex(row, shift, column + 3, c as usize);
     put(row, shift, at, '}');
     at + 1
+}
+
+/// Writes the cells of characters, of which the first begins in a column of its line, into a row that shows the line from
+/// column `shift` on, and tells the column after them. Cells that are not in sight are passed over.
+pub(crate) fn put_chars(row: &mut [char], shift: usize, column: usize, chars: &[u8]) -> usize
+    requires column { column < 2 ^ 32 }
+    requires short { length chars.now < 2 ^ 32 }
+    ensures row { row.new ≡ over row.old shift column (cells_from column chars.now) }
+    ensures next { result ≡ column + length (cells_from column chars.now) }
+    ensures few { result ≤ column + 12 * length chars.now }
+{
+    let mut at = column;
+    for c in chars {
+        at = put_glyph(row, shift, at, *c as char);
+    }
+    at
 }
 
 /// Writes the cells of the line that stands in `start..end` of a text into a row that shows it from column `shift` on,

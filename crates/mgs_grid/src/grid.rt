@@ -1,11 +1,12 @@
 // The rows of a screen, and a cursor.
-ghost use Rattle.std.specs.Prelude.{◌≡◌, ℕ, ◌+◌, ◌<◌, ◌≤◌, ◌^◌, List, [], ◌∷◌, length, drop, IfOk};
-ghost use Rattle.mgs_model.specs.Rows.{text_rows, shift_at, blank_rows, unread_rows, mode_row, buffer_mode, none_mode, echo_row, rows_put};
+ghost use Rattle.std.specs.Prelude.{◌≡◌, ℕ, ◌+◌, ◌<◌, ◌≤◌, ◌^◌, List, [], ◌∷◌, length, drop, None, IfOk};
+ghost use Rattle.mgs_model.specs.Rows.{text_rows, shift_at, blank_rows, unread_rows, mode_row, buffer_mode, none_mode, echo_row, line_row, line_end_column, rows_put};
+ghost use Rattle.mgs_model.specs.Prompts.{prompt_line};
 ghost use Rattle.mgs_model.specs.Picture.{Picture, IsPicture, IsSize, blank_picture};
 
 use crate::line::Line;
 use crate::window::{clear_rows, draw_rows};
-use mgs_model::{Decision, Message, Name, Short};
+use mgs_model::{Decision, Message, Name, Question, Short};
 use mgs_text::Text;
 use std::alloc::Global;
 use std::marker::Model;
@@ -160,11 +161,23 @@ impl Grid {
         self.lines[row].draw_none_mode();
     }
 
-    /// Draws the echo row.
+    /// Draws an echo text in the echo row.
     pub fn draw_echo(&mut self, row: usize, message: &Message)
         requires { row < self.old.rows }
-        ensures { self.new ≡ record self.old { lines = rows_put row (echo_row self.old.cols message.now ∷ []) self.old.lines } }
+        ensures { self.new ≡ record self.old { lines = rows_put row (echo_row self.old.cols None message.now ∷ []) self.old.lines } }
     {
         self.lines[row].draw_echo(message);
+    }
+
+    /// Draws the line of a prompt in the echo row: the prompt and, behind it, what was typed. A line that leaves no cell behind
+    /// it is shown as a `$` and its end. Tells the column behind it, where the cursor belongs.
+    pub fn draw_prompt(&mut self, row: usize, question: Question, input: &[u8]) -> usize
+        requires row { row < self.old.rows }
+        requires short { length input.now < 2 ^ 32 }
+        ensures grid { self.new ≡ record self.old { lines = rows_put row (line_row self.old.cols (prompt_line question input.now) ∷ []) self.old.lines } }
+        ensures column { result ≡ line_end_column self.old.cols (prompt_line question input.now) }
+        ensures within { result < self.old.cols }
+    {
+        self.lines[row].draw_prompt(question, input)
     }
 }

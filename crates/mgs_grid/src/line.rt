@@ -1,15 +1,16 @@
 // A row of a screen.
-ghost use Rattle.std.specs.Prelude.{◌≡◌, ℕ, ◌+◌, ◌<◌, ◌≤◌, ◌^◌, List, [], length, slice_range, replicate, All, false, IfOk};
+ghost use Rattle.std.specs.Prelude.{◌≡◌, ℕ, ◌+◌, ◌-◌, ◌<◌, ◌≤◌, ◌^◌, List, [], length, slice_range, replicate, All, false, IfOk};
 ghost use Rattle.mgs_model.specs.Cells.{cells};
 ghost use Rattle.mgs_model.specs.Lines.{line_end};
-ghost use Rattle.mgs_model.specs.Rows.{shown_row, plain_row, mode_row, echo_row, unread_text, buffer_mode, none_mode, Row};
+ghost use Rattle.mgs_model.specs.Rows.{shown_row, plain_row, mode_row, line_row, line_end_column, unread_text, buffer_mode, none_mode, Row};
+ghost use Rattle.mgs_model.specs.Prompts.{prompt_line};
 ghost use Rattle.mgs_model.specs.Messages.{message_text};
 ghost use Rattle.mgs_model.specs.Picture.{IsPrintable};
 
 use crate::cells::{fill, finish, put_bytes, put_line};
-use crate::words::{put_heading, put_message, put_place, put_unread};
+use crate::words::{prompt_width, put_heading, put_message, put_place, put_prompt, put_unread};
 use mgs_lines::line_end;
-use mgs_model::{Decision, Message, Name, Short};
+use mgs_model::{Decision, Message, Name, Question, Short};
 use mgs_text::Text;
 use std::alloc::Global;
 use std::marker::Model;
@@ -25,6 +26,14 @@ fn seen_end(start: usize, end: usize, shift: usize, cols: usize) -> usize
 {
     let last = start + (shift + cols) + 1;
     if last < end { last } else { end }
+}
+
+// From which column a line of so many cells is shown in a row of `cols` columns, so that a cell is left behind its end.
+fn shift_to_end(cols: usize, width: usize) -> usize
+    requires { 0 < cols }
+    ensures { result ≡ width - (cols - 1) }
+{
+    width.saturating_sub(cols - 1)
 }
 
 /// One row of a screen, plain or in reverse as a whole.
@@ -149,7 +158,7 @@ impl Line {
     pub(crate) fn draw_echo(&mut self, message: &Message)
         requires some { 0 < length self.old.text }
         requires width { length self.old.text < 2 ^ 62 }
-        ensures row { self.new ≡ echo_row (length self.old.text) message.now }
+        ensures row { self.new ≡ plain_row (length self.old.text) (message_text message.now) }
         ensures printable { All IsPrintable (message_text message.now) }
     {
         self.reversed = false;
@@ -157,5 +166,23 @@ impl Line {
         fill(row, ' ');
         let end = put_message(row, message);
         finish(row, 0, end);
+    }
+
+    /// Draws the line of a prompt, plain: the prompt and, behind it, what was typed. A line that leaves no cell behind it is
+    /// shown as a `$` and its end. Tells the column behind it.
+    pub(crate) fn draw_prompt(&mut self, question: Question, input: &[u8]) -> usize
+        requires some { 2 ≤ length self.old.text }
+        requires width { length self.old.text < 2 ^ 62 }
+        requires short { length input.now < 2 ^ 32 }
+        ensures row { self.new ≡ line_row (length self.old.text) (prompt_line question input.now) }
+        ensures column { result ≡ line_end_column (length self.old.text) (prompt_line question input.now) }
+    {
+        self.reversed = false;
+        let row = self.text.as_mut_slice();
+        fill(row, ' ');
+        let shift = shift_to_end(row.len(), prompt_width(question, input));
+        let end = put_prompt(row, shift, question, input);
+        finish(row, shift, end);
+        end - shift
     }
 }

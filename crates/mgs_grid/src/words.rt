@@ -1,12 +1,14 @@
-// Mode lines and messages written into a row.
-ghost use Rattle.std.specs.Prelude.{◌≡◌, ℕ, ◌+◌, ◌<◌, ◌≤◌, ◌^◌, ◌++◌, codes};
+// Mode lines, messages and prompts written into a row.
+ghost use Rattle.std.specs.Prelude.{◌≡◌, ℕ, ◌+◌, ◌<◌, ◌≤◌, ◌^◌, ◌++◌, length, codes};
 ghost use Rattle.mgs_model.specs.Rows.{heading_text, place_text, cause_text, unread_text};
 ghost use Rattle.mgs_model.specs.Rights.{right_name};
 ghost use Rattle.mgs_model.specs.Messages.{denial_text, message_text, position_text};
-ghost use Rattle.mgs_grid.specs.Cells.{Wrote};
+ghost use Rattle.mgs_model.specs.Cells.{cells};
+ghost use Rattle.mgs_model.specs.Prompts.{prompt_text, prompt_line};
+ghost use Rattle.mgs_grid.specs.Cells.{over, Wrote};
 
-use crate::cells::{put_bytes, put_decimal};
-use mgs_model::{CursorPosition, Decision, Message, Name, Right};
+use crate::cells::{put_bytes, put_chars, put_decimal};
+use mgs_model::{CursorPosition, Decision, Message, Name, Question, Right};
 
 #[tactic(auto, using(crate::proofs::Plain::name_plain, crate::proofs::Plain::name_short))]
 fn put_name(row: &mut [char], column: usize, name: &Name) -> usize
@@ -199,4 +201,39 @@ pub(crate) fn put_message(row: &mut [char], message: &Message) -> usize
             put_decimal(row, at, count)
         }
     }
+}
+
+fn prompt_text(question: Question) -> &'static [u8]
+    ensures { result.now ≡ prompt_text question }
+{
+    match question {
+        Question::SwitchTo => b"Switch to buffer: ",
+        Question::FindWhich => b"Find file: ",
+        Question::KillWhich => b"Kill buffer: ",
+        Question::InsertWhich => b"Insert buffer: ",
+        Question::WhichOwner => b"Owner: ",
+        Question::ReplaceWhat => b"Query replace: ",
+        Question::ReplaceWith => b"With: ",
+    }
+}
+
+/// Writes the cells of a prompt's line into a row that shows the line from column `shift` on, and tells the column after
+/// them: the prompt and, behind it, what was typed. Cells that are not in sight are passed over.
+pub(crate) fn put_prompt(row: &mut [char], shift: usize, question: Question, input: &[u8]) -> usize
+    requires short { length input.now < 2 ^ 32 }
+    ensures row { row.new ≡ over row.old shift 0 (cells (prompt_line question input.now)) }
+    ensures next { result ≡ length (cells (prompt_line question input.now)) }
+    ensures few { result < 2 ^ 40 }
+{
+    let start = put_chars(row, shift, 0, prompt_text(question));
+    put_chars(row, shift, start, input)
+}
+
+/// How many cells a prompt's line has.
+pub(crate) fn prompt_width(question: Question, input: &[u8]) -> usize
+    requires short { length input.now < 2 ^ 32 }
+    ensures width { result ≡ length (cells (prompt_line question input.now)) }
+    ensures few { result < 2 ^ 40 }
+{
+    put_prompt(&mut [], 0, question, input)
 }

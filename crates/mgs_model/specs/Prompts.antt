@@ -1,5 +1,7 @@
--- What a prompt shows.
-use Rattle.std.specs.Prelude.{ℕ, List, ◌++◌, codes}
+-- The lines of the modes in the echo row.
+use Rattle.std.specs.Prelude.{ℕ, List, ◌++◌, Option, Some, None, codes}
+use Rattle.mgs_model.specs.declared.session.Mode.{Mode}
+use Rattle.mgs_model.specs.declared.session.Mode.TheVariants.{Plain, Prompt, Searching, Replacing}
 use Rattle.mgs_model.specs.declared.session.Question.{Question}
 use Rattle.mgs_model.specs.declared.session.Question.TheVariants.{SwitchTo, FindWhich, KillWhich, InsertWhich, WhichOwner, ReplaceWhat, ReplaceWith}
 
@@ -15,3 +17,10 @@ prompt_text ReplaceWith = codes "With: "
 -- the input stands behind the prompt
 abbrev pub prompt_line : Question → List ℕ → List ℕ
 prompt_line c input = prompt_text c ++ input
+
+-- the line of a mode, with what was typed in it; a search has none yet, since its direction is not kept
+abbrev pub line_in_mode : Mode → List ℕ → Option (List ℕ)
+line_in_mode Plain input = None
+line_in_mode (Prompt c) input = Some (prompt_line c input)
+line_in_mode Searching input = None
+line_in_mode Replacing input = Some (codes "Replace? ")

@@ -345,7 +345,7 @@ rows_all d user ks cols selected i first ws old rows echo past room so_far =
 
 screen_is : (d : Directory) (ks : List MarkedBuffer) (x : Session) (sessions : List Session) (next : Option ℕ) (p : Picture)
     → p.rows ≡ x.windows.rows → p.cols ≡ x.cols
-    → p.lines ≡ windows_rows 0 x.windows.selected x.cols (windows_to d x.user ks x.windows.windows) ++ echo_row x.cols x.own.echo ∷ []
+    → p.lines ≡ windows_rows 0 x.windows.selected x.cols (windows_to d x.user ks x.windows.windows) ++ echo_row x.cols None x.own.echo ∷ []
     → p.row ≡ (cursor_of x.windows.selected x.cols (windows_to d x.user ks x.windows.windows)).0
     → p.col ≡ (cursor_of x.windows.selected x.cols (windows_to d x.user ks x.windows.windows)).1
     → p ≡ screen (world_of d ks sessions next) (session_of ks x)
@@ -362,7 +362,7 @@ screen_is d ks x sessions next p rows cols lines row col =
 pub session_drawn : (d : Directory) (ks : List MarkedBuffer) (x : Session) (sessions : List Session) (next : Option ℕ) (ws : List Window) (selected cols : ℕ) (cursor : ℕ × ℕ) (p : Picture)
     → ws ≡ x.windows.windows → selected ≡ x.windows.selected → cols ≡ x.cols
     → p.rows ≡ x.windows.rows → p.cols ≡ cols
-    → p.lines ≡ windows_rows 0 selected cols (windows_to d x.user ks ws) ++ echo_row cols x.own.echo ∷ []
+    → p.lines ≡ windows_rows 0 selected cols (windows_to d x.user ks ws) ++ echo_row cols None x.own.echo ∷ []
     → p.row ≡ cursor.0 → p.col ≡ cursor.1
     → cursor ≡ cursor_of selected cols (windows_to d x.user ks ws)
     → p ≡ screen (world_of d ks sessions next) (session_of ks x)
@@ -374,7 +374,7 @@ session_drawn d ks x sessions next ws selected cols cursor p all chosen wide row
     ∙ ap (λ (n : ℕ). cursor_of x.windows.selected n (windows_to d x.user ks x.windows.windows)) wide in
     screen_is d ks x sessions next p rows (cols_are ∙ wide)
     (lines
-    ∙ ap (λ (vs : List Window). windows_rows 0 selected cols (windows_to d x.user ks vs) ++ echo_row cols x.own.echo ∷ []) all
-    ∙ ap (λ (n : ℕ). windows_rows 0 n cols (windows_to d x.user ks x.windows.windows) ++ echo_row cols x.own.echo ∷ []) chosen
-    ∙ ap (λ (n : ℕ). windows_rows 0 x.windows.selected n (windows_to d x.user ks x.windows.windows) ++ echo_row n x.own.echo ∷ []) wide)
+    ∙ ap (λ (vs : List Window). windows_rows 0 selected cols (windows_to d x.user ks vs) ++ echo_row cols None x.own.echo ∷ []) all
+    ∙ ap (λ (n : ℕ). windows_rows 0 n cols (windows_to d x.user ks x.windows.windows) ++ echo_row cols None x.own.echo ∷ []) chosen
+    ∙ ap (λ (n : ℕ). windows_rows 0 x.windows.selected n (windows_to d x.user ks x.windows.windows) ++ echo_row n None x.own.echo ∷ []) wide)
     (row ∙ ap (λ (c : ℕ × ℕ). c.0) on) (col ∙ ap (λ (c : ℕ × ℕ). c.1) on)

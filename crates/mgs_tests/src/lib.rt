@@ -10,6 +10,8 @@ mod fills;
 #[cfg(test)]
 mod grid;
 #[cfg(test)]
+mod lines;
+#[cfg(test)]
 mod names;
 #[cfg(test)]
 mod paint;

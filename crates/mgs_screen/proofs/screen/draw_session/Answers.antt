@@ -1,4 +1,4 @@
-use Rattle.std.proofs.Common.{◌≡◌, ◌+◌, ◌<◌, ◌++◌, ℕ, Bool, true, List, [], ◌∷◌, length, drop, get_or, Some, refl, sym, ap, ◌∙◌, subst, arith, eq-eqb}
+use Rattle.std.proofs.Common.{◌≡◌, ◌+◌, ◌<◌, ◌++◌, ℕ, Bool, true, List, [], ◌∷◌, length, drop, get_or, Some, refl, sym, ap, ◌∙◌, subst, arith, eq-eqb, None}
 use Rattle.std.specs.Prelude.{nat_eq, if◌then◌else◌}
 use Rattle.std.proofs.lemmas.Bool.{ne_eqb}
 use Rattle.std.proofs.lemmas.List.{drop_more}
@@ -91,11 +91,11 @@ returns g c = λ sessions. λ next.
     let rows : List Row = windows_rows 0 selected old.cols (windows_to d x.user ks ws) in
     let v : ws ≡ x.windows.windows = c.as_slice-window-items.ensures.value in
     let within : selected < length ws = omega (arith, c.selected-selected.ensures.within, c.selected-selected.ensures.value, ap (λ (vs : List Window). length vs) v) in
-    let lines : p.lines ≡ rows ++ echo_row old.cols x.own.echo ∷ [] =
+    let lines : p.lines ≡ rows ++ echo_row old.cols None x.own.echo ∷ [] =
     ap (λ (q : Picture). q.lines) c.set_cursor.ensures
     ∙ ap (λ (q : Picture). q.lines) c.draw_echo.ensures
-    ∙ ap (λ (n : ℕ). rows_put c.loop-i.first (echo_row n x.own.echo ∷ []) drawn.lines) inv.cols_stay
-    ∙ rows_all d x.user ks old.cols selected c.loop-i.i c.loop-i.first ws drawn.lines rows (echo_row old.cols x.own.echo) c.loop-i-test.false (inv.room ∙ sym inv.count) inv.lines_are in
+    ∙ ap (λ (n : ℕ). rows_put c.loop-i.first (echo_row n None x.own.echo ∷ []) drawn.lines) inv.cols_stay
+    ∙ rows_all d x.user ks old.cols selected c.loop-i.i c.loop-i.first ws drawn.lines rows (echo_row old.cols None x.own.echo) c.loop-i-test.false (inv.room ∙ sym inv.count) inv.lines_are in
     session_drawn d ks x sessions next ws selected old.cols c.loop-i.cursor p v c.selected-selected.ensures.value (sym c.requires.cols)
     (ap (λ (q : Picture). q.rows) c.set_cursor.ensures ∙ ap (λ (q : Picture). q.rows) c.draw_echo.ensures ∙ inv.rows_stay ∙ sym c.requires.rows)
     (ap (λ (q : Picture). q.cols) c.set_cursor.ensures ∙ ap (λ (q : Picture). q.cols) c.draw_echo.ensures ∙ inv.cols_stay)
