@@ -4,7 +4,7 @@ use Rattle.std.proofs.lemmas.List.{length-take, length-drop}
 use Rattle.std.specs.Prelude.{find, Result, Ok, Err, OnOk, OnErr}
 use Rattle.mgs_model.specs.Text.{is_edit, edited}
 use Rattle.mgs_model.specs.Apply.{change_first}
-use Rattle.mgs_buffers.specs.MarkedBuffer.{MarkedBuffer, marked_named, marked_at, marked_or_none, marked_edited, AreWithinLimit}
+use Rattle.mgs_buffers.specs.MarkedBuffer.{MarkedBuffer, marked_named, marked_at, marked_or_none, marked_edited, without_marked, AreWithinLimit}
 
 abbrev size : MarkedBuffer → ℕ
 size k = length k.buffer.text
@@ -45,6 +45,11 @@ limit-edited name a b put ks h order within room =
 pub limit-added : (ks : List MarkedBuffer) (k : MarkedBuffer) → AreWithinLimit ks → size k ≤ 1048576 → AreWithinLimit (ks ++ k ∷ [])
 limit-added [] k h room = (room, tt)
 limit-added (x ∷ xs) k h room = (h.0, limit-added xs k h.1 room)
+
+pub limit-removed : (name : List ℕ) (ks : List MarkedBuffer) → AreWithinLimit ks → AreWithinLimit (without_marked name ks)
+limit-removed name [] h = h
+limit-removed name (k ∷ ks) h =
+    elim (marked_named name k) as (λ b. AreWithinLimit (cond b ks (k ∷ without_marked name ks))) [ true ↦ h.1 | false ↦ (h.0, limit-removed name ks h.1) ]
 
 -- however a call ended
 pub ended : {A E P Q X : Type 0} (r : Result A E) → OnOk r P → OnErr r Q → (P → X) → (Q → X) → X

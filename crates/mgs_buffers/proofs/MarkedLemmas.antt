@@ -3,14 +3,14 @@ use Rattle.std.proofs.Common.{◌≡◌, ℕ, zero, suc, ◌+◌, not, one-add, 
 use Rattle.std.specs.Prelude.{find, is_some, IfSome, Result, Ok, Err, OnOk, OnErr, IfOk}
 use Rattle.std.specs.Option.{option_map, option_copied}
 use Rattle.std.specs.List.{position_or_len}
-use Rattle.std.specs.Map.{lookup, keys_of}
+use Rattle.std.specs.Map.{lookup, keys_of, remove_entry}
 use Rattle.indexmap.specs.IndexMap.{set_value_at}
 use Rattle.mgs_model.specs.Names.{same_name}
 use Rattle.mgs_model.specs.Apply.{change_first}
 use Rattle.mgs_model.specs.World as model
 use Rattle.mgs_model.proofs.Blind.{same_names, is_name}
 use Rattle.mgs_buffers.specs.declared.buffer.Buffer.{Buffer}
-use Rattle.mgs_buffers.specs.MarkedBuffer.{MarkedBuffer, marked_named, marked_at, marked_or_none, has_buffer, HasBuffer}
+use Rattle.mgs_buffers.specs.MarkedBuffer.{MarkedBuffer, marked_named, marked_at, marked_or_none, has_buffer, HasBuffer, without_marked}
 use Rattle.mgs_buffers.specs.Contents.{marked_of, marked_all}
 
 module _ {T : Type 0} (text : T → List ℕ) (marks : T → List (Option ℕ)) where
@@ -102,6 +102,16 @@ module _ {T : Type 0} (text : T → List ℕ) (marks : T → List (Option ℕ)) 
   pub kept-added : (es fs : List (List ℕ × Buffer T)) (ks : List MarkedBuffer) (n : List ℕ) (s : Buffer T) (k : MarkedBuffer) → marked_all text marks es ≡ ks → fs ≡ es ++ (n, s) ∷ [] → marked_of text marks n s ≡ k → marked_all text marks fs ≡ ks ++ k ∷ []
   kept-added es fs ks n s k view more is =
       ap (marked_all text marks) more ∙ marked_all-append es ((n, s) ∷ []) ∙ ap (λ xs. xs ++ marked_of text marks n s ∷ []) view ∙ ap (λ x. ks ++ x ∷ []) is
+
+  -- a buffer less
+  pub kept-removed : (name : List ℕ) (es : List (List ℕ × Buffer T)) → marked_all text marks (remove_entry (same_name name) es) ≡ without_marked name (marked_all text marks es)
+  kept-removed name [] = refl
+  kept-removed name (e ∷ es) =
+      let goal : Bool → Type 0 = λ b. marked_all text marks (cond b es (e ∷ remove_entry (same_name name) es)) ≡ cond b (marked_all text marks es) (marked_of text marks e.0 e.1 ∷ without_marked name (marked_all text marks es)) in
+      elim (same_name name e.0) as goal [ true ↦ refl | false ↦ ap (λ ks. marked_of text marks e.0 e.1 ∷ ks) (kept-removed name es) ]
+
+  pub kept-without : (name : List ℕ) (es fs : List (List ℕ × Buffer T)) (ks : List MarkedBuffer) → marked_all text marks es ≡ ks → fs ≡ remove_entry (same_name name) es → marked_all text marks fs ≡ without_marked name ks
+  kept-without name es fs ks view less = ap (marked_all text marks) less ∙ kept-removed name es ∙ ap (without_marked name) view
 
   -- the buffer at the head of what is left, where it passes, is the first of all that does
   pub found-first : (p : model.Buffer → Bool) (left rest : List (List ℕ × Buffer T)) (ks : List MarkedBuffer) (n : List ℕ) (s : Buffer T) → left ≡ (n, s) ∷ rest

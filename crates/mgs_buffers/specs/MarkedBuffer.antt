@@ -2,7 +2,7 @@
 use Rattle.std.specs.Prelude.{◌≡◌, ◌≢◌, ◌≤◌, ◌∷◌, ℕ, Bool, false, List, [], length, Option, Some, None, find, is_some, slice_set, IsSome}
 use Rattle.mgs_model.specs.Text.{shift_all}
 use Rattle.mgs_model.specs.World.{Buffer, is_named}
-use Rattle.mgs_model.specs.Apply.{change_first, buffer_edited, buffer_unmodified}
+use Rattle.mgs_model.specs.Apply.{change_first, remove_first, new_buffer, buffer_edited, buffer_unmodified}
 use Rattle.mgs_model.specs.declared.entry.Entry.{Entry}
 use Rattle.mgs_marks.specs.Marks.{mark_in, position_in}
 
@@ -21,6 +21,10 @@ marked_new name owner entries text file =
       marks = [];
     }
 
+-- a buffer that was created, as the model has it, and no marks
+abbrev pub marked_created : List ℕ → List ℕ → MarkedBuffer
+marked_created name owner = record { buffer = new_buffer name owner; marks = [] }
+
 abbrev pub marked_or_none : Option MarkedBuffer → MarkedBuffer
 marked_or_none None = marked_new [] [] [] [] false
 marked_or_none (Some k) = k
@@ -35,6 +39,10 @@ has_buffer name ks = is_some (find (marked_named name) ks)
 
 abbrev pub HasBuffer : List ℕ → List MarkedBuffer → Type 0
 HasBuffer name ks = IsSome (find (marked_named name) ks)
+
+-- the first of that name is gone, with its marks
+abbrev pub without_marked : List ℕ → List MarkedBuffer → List MarkedBuffer
+without_marked name ks = remove_first (marked_named name) ks
 
 -- the mark is in use
 abbrev pub IsMark : List ℕ → ℕ → List MarkedBuffer → Type 0

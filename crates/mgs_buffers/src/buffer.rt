@@ -1,11 +1,13 @@
 // What is kept of one buffer beside its name.
 ghost use Rattle.std.specs.Prelude.{◌≡◌, ◌≢◌, ℕ, ◌-◌, ◌<◌, ◌≤◌, ◌^◌, ◌∷◌, [], List, Some, None, length, IsSome, OnOk, OnErr, IfOk};
 ghost use Rattle.mgs_model.specs.Access.{decider, decision, decision_by};
+ghost use Rattle.mgs_model.specs.Apply.{first_entries};
 ghost use Rattle.mgs_model.specs.World.{may};
 ghost use Rattle.mgs_marks.specs.Marks.{mark_in};
 ghost use Rattle.mgs_buffers.specs.MarkedBuffer.{marked_new, marked_edited, marked_placed, marked_unmodified, with_marks};
 ghost use Rattle.mgs_buffers.specs.Contents.{marked_of};
 
+use mgs_acl::{Entry, EntryType, Who};
 use mgs_marks::Marked;
 use mgs_model::{Decision, MarkId, Mask, Name, Right, Short};
 use mgs_policy::{Directory, decide, decide_right, is_granted};
@@ -28,6 +30,25 @@ pub struct Buffer<T: Marked + Drop> {
     pub modified: bool,
     /// Whether the buffer has a file.
     pub has_file: bool,
+}
+
+// The bits of every right.
+const ALL_RIGHTS: u32 = 983_175;
+
+// An access list that grants the owner every right, and nobody else any.
+pub(crate) fn owners_list() -> mgs_acl::List
+    ensures { result ≡ first_entries }
+{
+    let mut list = mgs_acl::List::new();
+    let _ = list.insert(
+        0,
+        Entry {
+            entry_type: EntryType::Allow,
+            who: Who::Owner,
+            mask: Mask::from_bits(ALL_RIGHTS),
+        },
+    );
+    list
 }
 
 /// A buffer with a text that was not edited: it has no marks, no edit is recorded, and its serial is 0. It takes its

@@ -3,7 +3,7 @@ ghost use Rattle.std.specs.Prelude.{◌≡◌, ◌+◌, ℕ, ◌-◌, ◌<◌, �
 ghost use Rattle.std.specs.Option.{option_copied, option_map};
 ghost use Rattle.mgs_undo.specs.History.{has_serial};
 ghost use Rattle.mgs_undo.specs.Numbered.{item_of};
-ghost use Rattle.std.specs.Map.{lookup};
+ghost use Rattle.std.specs.Map.{lookup, remove_entry};
 ghost use Rattle.mgs_model.specs.Names.{same_name};
 ghost use Rattle.std.specs.List.{position_or_len};
 ghost use Rattle.mgs_model.specs.Access.{decider, decision, decision_by};
@@ -13,9 +13,9 @@ ghost use Rattle.mgs_model.specs.World.{may};
 ghost use Rattle.mgs_buffers.specs.Adding.{add_fault, AddAnswers, NamesToAdd};
 ghost use Rattle.mgs_buffers.specs.Completed.{IsWithinName};
 ghost use Rattle.mgs_buffers.specs.Contents.{marked_of};
-ghost use Rattle.mgs_buffers.specs.MarkedBuffer.{AreUnmarked, AreWithinLimit, marked_named, marked_at, has_buffer, HasBuffer, IsMark, mark_at, marked_new, marked_edited, marked_placed, marked_unmodified, MarkAdded, MarkDropped};
+ghost use Rattle.mgs_buffers.specs.MarkedBuffer.{AreUnmarked, AreWithinLimit, marked_named, marked_at, has_buffer, HasBuffer, IsMark, mark_at, marked_created, marked_new, marked_edited, marked_placed, marked_unmodified, without_marked, MarkAdded, MarkDropped};
 
-use crate::buffer::{Buffer, new_buffer};
+use crate::buffer::{Buffer, new_buffer, owners_list};
 use crate::completing::completion;
 use crate::fault::AddFault;
 use indexmap::IndexMap;
@@ -66,6 +66,14 @@ fn put_last<T: Marked + Drop>(
         Ok(_) => Ok(()),
         Err(_) => Err(Short),
     }
+}
+
+// Takes a buffer out. The others keep their order.
+fn take_out<T: Marked + Drop>(all: &mut IndexMap<Name, Buffer<T>>, name: &Name)
+    ensures entries { all.new.entries ≡ remove_entry (same_name name.now) all.old.entries }
+    ensures gone { lookup (same_name name.now) all.new.entries ≡ None }
+{
+    all.shift_remove(name);
 }
 
 // Whether a user is granted READ_ATTRIBUTES.
@@ -126,13 +134,46 @@ impl<T: Marked + Drop> Buffers<T> {
             Ok(names) => names,
             Err(fault) => return Err(fault),
         };
-        let Ok(buffer) = new_buffer(self.alloc, owner, list, text, has_file) else {
-            return Err(AddFault::Short);
-        };
-        match put_last(&mut self.all, name, buffer) {
+        match self.add_last(name, owner, list, text, has_file) {
             Ok(()) => Ok(()),
             Err(Short) => Err(AddFault::Short),
         }
+    }
+
+    /// Makes an empty buffer without a file, as the last. Its access list grants its owner every right, and nobody else any.
+    /// `Short`: memory was refused, and all is as it was.
+    pub fn create(&mut self, name: Name, owner: Name) -> Result<(), Short>
+        requires { has_buffer name self.old ≡ false }
+        ensures ok { OnOk result (self.new ≡ self.old ++ marked_created name owner ∷ []) }
+        ensures err { OnErr result (self.new ≡ self.old) }
+    {
+        self.add_last(name, owner, owners_list(), &[], false)
+    }
+
+    /// Takes the buffer of a name out, with its marks. The others keep their order and their marks.
+    pub fn kill(&mut self, name: &Name)
+        ensures value { self.new ≡ without_marked name.now self.old }
+        ensures gone { has_buffer name.now self.new ≡ false }
+    {
+        take_out(&mut self.all, name);
+    }
+
+    // Adds a buffer as the last. `Short`: memory was refused, and all is as it was.
+    fn add_last(
+        &mut self,
+        name: Name,
+        owner: Name,
+        list: mgs_acl::List,
+        text: &[char],
+        has_file: bool,
+    ) -> Result<(), Short>
+        requires free { has_buffer name self.old ≡ false }
+        requires room { length text.now ≤ 1048576 }
+        ensures ok { OnOk result (self.new ≡ self.old ++ marked_new name owner list text.now has_file ∷ []) }
+        ensures err { OnErr result (self.new ≡ self.old) }
+    {
+        let buffer = new_buffer(self.alloc, owner, list, text, has_file)?;
+        put_last(&mut self.all, name, buffer)
     }
 
     // The name and the owner's name, where a buffer of these and with a text of this size may be added.
