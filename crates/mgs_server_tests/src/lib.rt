@@ -33,6 +33,8 @@ mod saves;
 #[cfg(test)]
 mod script;
 #[cfg(test)]
+mod steps;
+#[cfg(test)]
 mod undos;
 #[cfg(test)]
 mod windows;
