@@ -13,6 +13,8 @@ mod config;
 #[cfg(test)]
 mod drive;
 #[cfg(test)]
+mod fills;
+#[cfg(test)]
 mod fixtures;
 #[cfg(test)]
 mod flags;

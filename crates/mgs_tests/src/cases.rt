@@ -18,6 +18,7 @@ fn at(place: usize, argument: Option<usize>) -> Around
         killed: 0,
         kind: Kind::Other,
         height: 4,
+        fill: 72,
     }
 }
 

@@ -6,6 +6,8 @@ mod buffers;
 #[cfg(test)]
 mod cases;
 #[cfg(test)]
+mod filling;
+#[cfg(test)]
 mod fills;
 #[cfg(test)]
 mod grid;

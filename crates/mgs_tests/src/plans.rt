@@ -24,6 +24,7 @@ fn at(place: usize) -> Around
         killed: 0,
         kind: Kind::Other,
         height: 4,
+        fill: 72,
     }
 }
 

@@ -17,6 +17,7 @@ fn at(place: usize) -> Around
         killed: 0,
         kind: Kind::Other,
         height: 4,
+        fill: 72,
     }
 }
 
