@@ -14,8 +14,11 @@ hand_over-requires c =
 pub returns-clause-types : goal.returns-clause-types
 returns-clause-types c = (
   c.byte-keyed.result,
-  (c.args.server.now.store, c.byte-keyed.new.self.store,
-  subst (λ (w : World). KeyedBy c.args.server.now.world w c.args.server.now.store c.byte-keyed.new.self.store c.args.id c.args.key c.byte-keyed.result) (sym c.hand_over.ensures.world) (handles_prompt c.args.server.now c.byte-keyed.new.self c.args.id c.args.key c.byte-keyed.result c.byte-keyed.ensures.handles c.requires.ready.taken)),
+  (
+    c.args.server.now.store,
+    c.byte-keyed.new.self.store,
+    subst (λ (w : World). KeyedBy c.args.server.now.world w c.args.server.now.store c.byte-keyed.new.self.store c.args.id c.args.key c.byte-keyed.result) (sym c.hand_over.ensures.world) (handles_prompt c.args.server.now c.byte-keyed.new.self c.args.id c.args.key c.byte-keyed.result c.byte-keyed.ensures.handles c.requires.ready.taken),
+  ),
   c.hand_over.ensures.labels ∙ ap labels_in c.end_if_quit.ensures ∙ labels_keyed_are c.byte-keyed.result c.args.label.now c.args.clients.now,
   refl,
 )
