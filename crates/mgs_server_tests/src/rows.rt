@@ -1,5 +1,6 @@
 // What terminals of 6 rows and 20 columns show, row by row.
 use super::fixtures::{Client, Clients, directory_of, list_of};
+use super::steps::cut_field;
 use mgs_buffers::Buffers;
 use mgs_core::Core;
 use mgs_engine::Engine;
@@ -16,6 +17,8 @@ const ROWS: usize = 6;
 const COLS: usize = 20;
 
 const MODE_ROW: usize = 4;
+
+const ECHO_ROW: usize = 5;
 
 // The buffer `notes` of ann, with this list and text. The users are ann, bob and cat, and the staff is ann and bob.
 fn serve(
@@ -77,26 +80,36 @@ pub(crate) fn press<S: Store + Drop>(
     engine.take_all(clients);
 }
 
-// Whether a cell is that of these rows. Behind the text of a row there are blanks.
-fn is_cell(rows: &[&str], i: usize, cell: &Cell) -> bool {
-    let row = i / COLS;
-    match rows.get(row) {
-        Some(text) => {
-            let character = match text.as_bytes().get(i % COLS) {
-                Some(byte) => *byte as char,
-                None => ' ',
-            };
-            cell.character == character && cell.reversed == (row == MODE_ROW)
-        }
-        None => false,
+// A row of a screen that is told as
+//     FIRST ROW | MODE LINE | ECHO LINE
+// The rows from the first to the mode line are blank, and an echo line that is blank too may be left out.
+fn row_of(screen: &str, row: usize) -> &str {
+    let (text, rest) = cut_field(screen);
+    let (mode, echo) = cut_field(rest);
+    match row {
+        0 => text,
+        MODE_ROW => mode,
+        ECHO_ROW => echo,
+        _ => "",
     }
 }
 
-// Whether the terminal of a session took all its bytes, and shows these rows and this cursor.
+// Whether a cell is that of this screen. Behind the text of a row there are blanks.
+fn is_cell(screen: &str, i: usize, cell: &Cell) -> bool {
+    let row = i / COLS;
+    let character = match row_of(screen, row).as_bytes().get(i % COLS) {
+        Some(byte) => *byte as char,
+        None => ' ',
+    };
+    row < ROWS && cell.character == character && cell.reversed == (row == MODE_ROW)
+}
+
+// Whether the terminal of a session took all its bytes, and shows this screen and this cursor. The screen is told in one text,
+// since a proof of a test goes over each literal.
 pub(crate) fn shows(
     clients: &Clients,
     id: SessionId,
-    rows: &[&str],
+    screen: &str,
     cursor: (usize, usize),
 ) -> bool {
     clients.all.iter().any(|client| {
@@ -108,7 +121,7 @@ pub(crate) fn shows(
                 .grid()
                 .iter()
                 .enumerate()
-                .all(|(i, cell)| is_cell(rows, i, cell))
+                .all(|(i, cell)| is_cell(screen, i, cell))
     })
 }
 
@@ -121,15 +134,8 @@ fn control_characters_take_more_cells(rt: HostRuntime) -> Result<(), Fail> {
         all: Vec::new(alloc),
     };
     let ann = sit(alloc, &mut engine, &mut clients, "ann", &rt);
-    let rows = [
-        "        x^A^?\\u{e9} ",
-        "                    ",
-        "                    ",
-        "                    ",
-        "----notes-L1-C0-----",
-        "                    ",
-    ];
-    assert!(rt; shows(&clients, ann, &rows, (1, 1)));
+    let rows = "        x^A^?\\u{e9} | ----notes-L1-C0-----";
+    assert!(rt; shows(&clients, ann, rows, (1, 1)));
     Ok(())
 }
 
@@ -142,15 +148,8 @@ fn a_tab_reaches_the_next_multiple_of_eight(rt: HostRuntime) -> Result<(), Fail>
     };
     let ann = sit(alloc, &mut engine, &mut clients, "ann", &rt);
     press(&mut engine, &mut clients, ann, b"\tx", &rt);
-    let rows = [
-        "        x           ",
-        "                    ",
-        "                    ",
-        "                    ",
-        "-**-notes-L1-C9-----",
-        "                    ",
-    ];
-    assert!(rt; shows(&clients, ann, &rows, (1, 10)));
+    let rows = "        x | -**-notes-L1-C9-----";
+    assert!(rt; shows(&clients, ann, rows, (1, 10)));
     Ok(())
 }
 
@@ -165,35 +164,14 @@ fn who_may_not_read_writes_at_the_end(rt: HostRuntime) -> Result<(), Fail> {
     let ann = sit(alloc, &mut engine, &mut clients, "ann", &rt);
     let bob = sit(alloc, &mut engine, &mut clients, "bob", &rt);
     press(&mut engine, &mut clients, bob, b"x", &rt);
-    let masked = [
-        "[no read: no entry] ",
-        "                    ",
-        "                    ",
-        "                    ",
-        "-**-notes-(no read)-",
-        "                    ",
-    ];
-    assert!(rt; shows(&clients, bob, &masked, (1, 1)));
-    let read = [
-        "abcx                ",
-        "                    ",
-        "                    ",
-        "                    ",
-        "-**-notes-L1-C0-----",
-        "                    ",
-    ];
-    assert!(rt; shows(&clients, ann, &read, (1, 1)));
+    let masked = "[no read: no entry] | -**-notes-(no read)-";
+    assert!(rt; shows(&clients, bob, masked, (1, 1)));
+    let read = "abcx | -**-notes-L1-C0-----";
+    assert!(rt; shows(&clients, ann, read, (1, 1)));
     press(&mut engine, &mut clients, bob, b"\x06", &rt);
-    let denied = [
-        "[no read: no entry] ",
-        "                    ",
-        "                    ",
-        "                    ",
-        "-**-notes-(no read)-",
-        "Denied: no entry gr$",
-    ];
-    assert!(rt; shows(&clients, bob, &denied, (1, 1)));
-    assert!(rt; shows(&clients, ann, &read, (1, 1)));
+    let denied = "[no read: no entry] | -**-notes-(no read)- | Denied: no entry gr$";
+    assert!(rt; shows(&clients, bob, denied, (1, 1)));
+    assert!(rt; shows(&clients, ann, read, (1, 1)));
     Ok(())
 }
 
@@ -206,25 +184,11 @@ fn a_denial_names_the_entry(rt: HostRuntime) -> Result<(), Fail> {
         all: Vec::new(alloc),
     };
     let bob = sit(alloc, &mut engine, &mut clients, "bob", &rt);
-    let masked = [
-        "[no read: entry 1]  ",
-        "                    ",
-        "                    ",
-        "                    ",
-        "----notes-(no read)-",
-        "                    ",
-    ];
-    assert!(rt; shows(&clients, bob, &masked, (1, 1)));
+    let masked = "[no read: entry 1] | ----notes-(no read)-";
+    assert!(rt; shows(&clients, bob, masked, (1, 1)));
     press(&mut engine, &mut clients, bob, b"\x06", &rt);
-    let denied = [
-        "[no read: entry 1]  ",
-        "                    ",
-        "                    ",
-        "                    ",
-        "----notes-(no read)-",
-        "Denied: entry 1 den$",
-    ];
-    assert!(rt; shows(&clients, bob, &denied, (1, 1)));
+    let denied = "[no read: entry 1] | ----notes-(no read)- | Denied: entry 1 den$";
+    assert!(rt; shows(&clients, bob, denied, (1, 1)));
     Ok(())
 }
 
@@ -238,35 +202,14 @@ fn a_group_reads_and_others_see_no_buffer(rt: HostRuntime) -> Result<(), Fail> {
     };
     let bob = sit(alloc, &mut engine, &mut clients, "bob", &rt);
     let cat = sit(alloc, &mut engine, &mut clients, "cat", &rt);
-    let read = [
-        "abc                 ",
-        "                    ",
-        "                    ",
-        "                    ",
-        "----notes-L1-C0-----",
-        "                    ",
-    ];
-    assert!(rt; shows(&clients, bob, &read, (1, 1)));
-    let none = [
-        "                    ",
-        "                    ",
-        "                    ",
-        "                    ",
-        "-None---------------",
-        "                    ",
-    ];
-    assert!(rt; shows(&clients, cat, &none, (1, 1)));
+    let read = "abc | ----notes-L1-C0-----";
+    assert!(rt; shows(&clients, bob, read, (1, 1)));
+    let none = " | -None---------------";
+    assert!(rt; shows(&clients, cat, none, (1, 1)));
     press(&mut engine, &mut clients, cat, b"x", &rt);
-    let told = [
-        "                    ",
-        "                    ",
-        "                    ",
-        "                    ",
-        "-None---------------",
-        "No buffer           ",
-    ];
-    assert!(rt; shows(&clients, cat, &told, (1, 1)));
-    assert!(rt; shows(&clients, bob, &read, (1, 1)));
+    let told = " | -None--------------- | No buffer";
+    assert!(rt; shows(&clients, cat, told, (1, 1)));
+    assert!(rt; shows(&clients, bob, read, (1, 1)));
     Ok(())
 }
 
@@ -283,24 +226,10 @@ fn a_full_text_takes_no_more(rt: HostRuntime) -> Result<(), Fail> {
     };
     let ann = sit(alloc, &mut engine, &mut clients, "ann", &rt);
     press(&mut engine, &mut clients, ann, b"xxxxxx", &rt);
-    let full = [
-        "xxxxxxaaaaaaaaaaaaa$",
-        "                    ",
-        "                    ",
-        "                    ",
-        "-**-notes-L1-C6-----",
-        "                    ",
-    ];
-    assert!(rt; shows(&clients, ann, &full, (1, 7)));
+    let full = "xxxxxxaaaaaaaaaaaaa$ | -**-notes-L1-C6-----";
+    assert!(rt; shows(&clients, ann, full, (1, 7)));
     press(&mut engine, &mut clients, ann, b"x", &rt);
-    let told = [
-        "xxxxxxaaaaaaaaaaaaa$",
-        "                    ",
-        "                    ",
-        "                    ",
-        "-**-notes-L1-C6-----",
-        "Buffer full         ",
-    ];
-    assert!(rt; shows(&clients, ann, &told, (1, 7)));
+    let told = "xxxxxxaaaaaaaaaaaaa$ | -**-notes-L1-C6----- | Buffer full";
+    assert!(rt; shows(&clients, ann, told, (1, 7)));
     Ok(())
 }

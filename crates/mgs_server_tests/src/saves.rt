@@ -37,8 +37,8 @@ impl Store for Stand {
     }
 }
 
-// ann types a character into a text that has a file, saves it, and is shown these rows.
-fn saving_shows(rt: &impl Abort, alloc: Global, takes: bool, rows: &[&str]) -> Result<(), Fail> {
+// ann types a character into a text that has a file, saves it, and is shown this screen.
+fn saving_shows(rt: &impl Abort, alloc: Global, takes: bool, screen: &str) -> Result<(), Fail> {
     let directory = directory_of(alloc, &["ann"], rt);
     let mut buffers = Buffers::new(alloc);
     let list = list_of(&["ALLOW ann rwat"], rt);
@@ -53,32 +53,18 @@ fn saving_shows(rt: &impl Abort, alloc: Global, takes: bool, rows: &[&str]) -> R
     };
     let ann = sit::<Stand>(alloc, &mut engine, &mut clients, "ann", rt);
     press::<Stand>(&mut engine, &mut clients, ann, b"x\x18\x13", rt);
-    assert!(rt; shows(&clients, ann, rows, (1, 2)));
+    assert!(rt; shows(&clients, ann, screen, (1, 2)));
     Ok(())
 }
 
 #[test]
 fn a_saved_text_is_not_modified(rt: HostRuntime) -> Result<(), Fail> {
-    let rows = [
-        "xab                 ",
-        "                    ",
-        "                    ",
-        "                    ",
-        "----notes-L1-C1-----",
-        "Wrote notes         ",
-    ];
-    saving_shows(&rt, rt.alloc(), true, &rows)
+    let screen = "xab | ----notes-L1-C1----- | Wrote notes";
+    saving_shows(&rt, rt.alloc(), true, screen)
 }
 
 #[test]
 fn a_store_may_refuse(rt: HostRuntime) -> Result<(), Fail> {
-    let rows = [
-        "xab                 ",
-        "                    ",
-        "                    ",
-        "                    ",
-        "-**-notes-L1-C1-----",
-        "Save failed         ",
-    ];
-    saving_shows(&rt, rt.alloc(), false, &rows)
+    let screen = "xab | -**-notes-L1-C1----- | Save failed";
+    saving_shows(&rt, rt.alloc(), false, screen)
 }

@@ -9,7 +9,7 @@ const COLS: usize = 60;
 const HEIGHT: usize = 4;
 
 // What comes before the next `|` of a line, less the blanks before the mark, and what comes behind the mark and a blank.
-fn cut_field(line: &str) -> (&str, &str) {
+pub(crate) fn cut_field(line: &str) -> (&str, &str) {
     match line.split_once('|') {
         Some((field, rest)) => (field.trim_end(), rest.strip_prefix(' ').unwrap_or(rest)),
         None => (line.trim_end(), ""),

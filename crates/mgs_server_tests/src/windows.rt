@@ -1,215 +1,169 @@
 // Windows of a session: how they share its rows, and what they show.
 use super::replay::{NOTES, gives, plays};
-use mgs_replay::replay;
+use super::steps::cut_field;
 use std::alloc::Global;
 use std::process::Abort;
 use std::test::Fail;
 
 const COLS: usize = 20;
 
-// What a session's terminal shows after these keys: the heights of its windows, its echo line, and the row of its cursor.
-type Step<'a> = (&'a str, &'a [usize], &'a str, &'a str);
-
 // A row of the screen, up to the last column.
-fn push_padded(output: &mut Vec<u8>, text: &str) -> Result<(), Fail> {
-    output.extend_from_slice(text.as_bytes())?;
+fn push_row(output: &mut String, text: &str) -> Result<(), Fail> {
+    output.push('|')?;
+    output.push_str(text)?;
     for _ in text.len()..COLS {
-        output.push(b' ')?;
+        output.push(' ')?;
     }
+    output.push_str("|\n")?;
     Ok(())
 }
 
-fn push_row(output: &mut Vec<u8>, text: &str) -> Result<(), Fail> {
-    output.push(b'|')?;
-    push_padded(output, text)?;
-    output.extend_from_slice(b"|\n")?;
+// A window that shows an empty text.
+fn push_window(output: &mut String, height: &str) -> Result<(), Fail> {
+    let height = height.parse::<usize>().map_err(|_| "no height")?;
+    for _ in 0..height {
+        push_row(output, "")?;
+    }
+    output.push_str("!----notes-L1-C0-----!\n")?;
     Ok(())
 }
 
-// The screen of windows that show an empty text.
-fn push_screen(
-    output: &mut Vec<u8>,
-    heights: &[usize],
-    echo: &str,
-    cursor_row: &str,
-) -> Result<(), Fail> {
-    output.extend_from_slice(b"screen a\n")?;
-    for height in heights {
-        for _ in 0..*height {
-            push_row(output, "")?;
-        }
-        output.extend_from_slice(b"!----notes-L1-C0-----!\n")?;
+// The screen of a step: its fields behind the keys.
+fn push_screen(output: &mut String, fields: &str) -> Result<(), Fail> {
+    let (heights, rest) = cut_field(fields);
+    let (cursor_row, echo) = cut_field(rest);
+    output.push_str("screen a\n")?;
+    for height in heights.split(' ') {
+        push_window(output, height)?;
     }
     push_row(output, echo)?;
-    output.extend_from_slice(b"cursor ")?;
-    output.extend_from_slice(cursor_row.as_bytes())?;
-    output.extend_from_slice(b" 1\n")?;
+    output.push_str("cursor ")?;
+    output.push_str(cursor_row)?;
+    output.push_str(" 1\n")?;
     Ok(())
 }
 
-// On an empty text, each step's keys lead to its screen.
-fn arranges(rt: &impl Abort, alloc: Global, rows: &str, steps: &[Step<'_>]) -> Result<(), Fail> {
-    let mut script = Vec::from_slice(alloc, NOTES.as_bytes())?;
-    script.extend_from_slice(b"open a ann ")?;
-    script.extend_from_slice(rows.as_bytes())?;
-    script.extend_from_slice(b" 20\n")?;
-    let mut output = Vec::new(alloc);
-    for (keys, heights, echo, cursor_row) in steps {
-        script.extend_from_slice(b"keys a ")?;
-        script.extend_from_slice(keys.as_bytes())?;
-        script.extend_from_slice(b"\nshow a\n")?;
-        push_screen(&mut output, heights, echo, cursor_row)?;
+fn push_step(script: &mut String, output: &mut String, step: &str) -> Result<(), Fail> {
+    let (keys, fields) = cut_field(step);
+    script.push_str("keys a ")?;
+    script.push_str(keys)?;
+    script.push_str("\nshow a\n")?;
+    push_screen(output, fields)
+}
+
+// On an empty text and a terminal of so many rows, each line that is not blank is a step:
+//     KEYS | HEIGHTS OF THE WINDOWS | ROW OF THE CURSOR | ECHO LINE
+// A step without an echo line ends behind its row. All is told in one text, since a proof of a test goes over each literal.
+fn arranges(rt: &impl Abort, alloc: Global, rows: &str, steps: &str) -> Result<(), Fail> {
+    let mut script = format!(in alloc; "{NOTES}open a ann {rows} 20\n")?;
+    let mut output = String::new(alloc);
+    for line in steps.lines() {
+        let step = line.trim_start();
+        if !step.is_empty() {
+            push_step(&mut script, &mut output, step)?;
+        }
     }
-    let mut reader = script.as_slice();
-    let mut written = Vec::new(alloc);
-    assert_eq!(rt; replay(alloc, &mut reader, &mut written), Ok(()));
-    assert!(rt; written.as_slice() == output.as_slice());
+    gives(rt, alloc, script.as_bytes(), output.as_str(), Ok(()));
     Ok(())
 }
 
 #[test]
 fn four_rows_are_split_into_two_and_one(rt: HostRuntime) -> Result<(), Fail> {
-    arranges(
-        &rt,
-        rt.alloc(),
-        "6",
-        &[
-            ("C-x '2", [2, 1].as_slice(), "", "1"),
-            ("C-x '2", [2, 1].as_slice(), "Window too small", "1"),
-            ("C-x 'o C-x '2", [2, 1].as_slice(), "Window too small", "4"),
-            ("C-x '1", [4].as_slice(), "", "1"),
-        ],
-    )
+    let steps = "
+        C-x '2        | 2 1 | 1
+        C-x '2        | 2 1 | 1 | Window too small
+        C-x 'o C-x '2 | 2 1 | 4 | Window too small
+        C-x '1        | 4   | 1
+    ";
+    arranges(&rt, rt.alloc(), "6", steps)
 }
 
 #[test]
 fn three_rows_are_split_into_one_and_one(rt: HostRuntime) -> Result<(), Fail> {
-    arranges(
-        &rt,
-        rt.alloc(),
-        "10",
-        &[
-            ("C-x '2 C-x '2", [2, 1, 3].as_slice(), "", "1"),
-            ("C-x 'p C-x '2", [2, 1, 1, 1].as_slice(), "", "6"),
-        ],
-    )
+    let steps = "
+        C-x '2 C-x '2 | 2 1 3   | 1
+        C-x 'p C-x '2 | 2 1 1 1 | 6
+    ";
+    arranges(&rt, rt.alloc(), "10", steps)
 }
 
 #[test]
 fn windows_are_selected_in_a_circle(rt: HostRuntime) -> Result<(), Fail> {
-    let three = [2, 1, 3].as_slice();
-    arranges(
-        &rt,
-        rt.alloc(),
-        "10",
-        &[
-            ("C-x 'o C-x 'n C-x 'p", [8].as_slice(), "", "1"),
-            ("C-x '2 C-x '2", three, "", "1"),
-            ("C-x 'o", three, "", "4"),
-            ("C-x 'n", three, "", "6"),
-            ("C-x 'o", three, "", "1"),
-            ("C-x 'p", three, "", "6"),
-            ("C-x 'p", three, "", "4"),
-            ("C-u '2 C-x 'p", three, "", "1"),
-        ],
-    )
+    let steps = "
+        C-x 'o C-x 'n C-x 'p | 8     | 1
+        C-x '2 C-x '2        | 2 1 3 | 1
+        C-x 'o               | 2 1 3 | 4
+        C-x 'n               | 2 1 3 | 6
+        C-x 'o               | 2 1 3 | 1
+        C-x 'p               | 2 1 3 | 6
+        C-x 'p               | 2 1 3 | 4
+        C-u '2 C-x 'p        | 2 1 3 | 1
+    ";
+    arranges(&rt, rt.alloc(), "10", steps)
 }
 
 #[test]
 fn rows_of_a_deleted_window_go_to_the_one_above(rt: HostRuntime) -> Result<(), Fail> {
-    arranges(
-        &rt,
-        rt.alloc(),
-        "10",
-        &[
-            ("C-x '0", [8].as_slice(), "Only one window", "1"),
-            ("C-x '2 C-x '2 C-x 'o", [2, 1, 3].as_slice(), "", "4"),
-            ("C-x '0", [4, 3].as_slice(), "", "1"),
-            ("C-x 'o", [4, 3].as_slice(), "", "6"),
-            ("C-x '0", [8].as_slice(), "", "1"),
-            ("C-x '0", [8].as_slice(), "Only one window", "1"),
-        ],
-    )
+    let steps = "
+        C-x '0               | 8     | 1 | Only one window
+        C-x '2 C-x '2 C-x 'o | 2 1 3 | 4
+        C-x '0               | 4 3   | 1
+        C-x 'o               | 4 3   | 6
+        C-x '0               | 8     | 1
+        C-x '0               | 8     | 1 | Only one window
+    ";
+    arranges(&rt, rt.alloc(), "10", steps)
 }
 
 #[test]
 fn rows_of_the_first_window_go_to_the_one_below(rt: HostRuntime) -> Result<(), Fail> {
-    arranges(
-        &rt,
-        rt.alloc(),
-        "10",
-        &[
-            ("C-x '2 C-x '2 C-x '0", [4, 3].as_slice(), "", "1"),
-            ("C-x '0", [8].as_slice(), "", "1"),
-        ],
-    )
+    let steps = "
+        C-x '2 C-x '2 C-x '0 | 4 3 | 1
+        C-x '0               | 8   | 1
+    ";
+    arranges(&rt, rt.alloc(), "10", steps)
 }
 
 #[test]
 fn other_windows_are_deleted(rt: HostRuntime) -> Result<(), Fail> {
-    arranges(
-        &rt,
-        rt.alloc(),
-        "10",
-        &[
-            ("C-x '1", [8].as_slice(), "", "1"),
-            ("C-x '2 C-x '2 C-x 'o C-x '1", [8].as_slice(), "", "1"),
-        ],
-    )
+    let steps = "
+        C-x '1                      | 8 | 1
+        C-x '2 C-x '2 C-x 'o C-x '1 | 8 | 1
+    ";
+    arranges(&rt, rt.alloc(), "10", steps)
 }
 
 #[test]
 fn rows_are_given_by_the_window_below_or_above(rt: HostRuntime) -> Result<(), Fail> {
-    let (three, equal) = ([2, 1, 3].as_slice(), [2, 2, 2].as_slice());
-    let impossible = "Impossible change";
-    arranges(
-        &rt,
-        rt.alloc(),
-        "10",
-        &[
-            ("C-x '^", [8].as_slice(), "Only one window", "1"),
-            ("C-u '0 C-x '^", [8].as_slice(), "Only one window", "1"),
-            ("C-x '2 C-x '2 C-x '^", three, impossible, "1"),
-            ("C-u '0 C-x '^", three, "", "1"),
-            ("C-x 'p C-x '^", three, impossible, "6"),
-            ("C-x 'p C-x '^", equal, "", "4"),
-            ("C-u '2 C-x '^", equal, impossible, "4"),
-            ("C-u '9999 C-x '^", equal, impossible, "4"),
-            ("C-x 'o C-x '^", three, "", "6"),
-            ("C-x '1", [8].as_slice(), "", "1"),
-        ],
-    )
+    let steps = "
+        C-x '^               | 8     | 1 | Only one window
+        C-u '0 C-x '^        | 8     | 1 | Only one window
+        C-x '2 C-x '2 C-x '^ | 2 1 3 | 1 | Impossible change
+        C-u '0 C-x '^        | 2 1 3 | 1
+        C-x 'p C-x '^        | 2 1 3 | 6 | Impossible change
+        C-x 'p C-x '^        | 2 2 2 | 4
+        C-u '2 C-x '^        | 2 2 2 | 4 | Impossible change
+        C-u '9999 C-x '^     | 2 2 2 | 4 | Impossible change
+        C-x 'o C-x '^        | 2 1 3 | 6
+        C-x '1               | 8     | 1
+    ";
+    arranges(&rt, rt.alloc(), "10", steps)
 }
 
 // Where there are eight, one that is too small says so first.
 #[test]
 fn eight_windows_are_the_most(rt: HostRuntime) -> Result<(), Fail> {
-    let eight = [2, 2, 2, 2, 2, 3, 1, 1].as_slice();
-    arranges(
-        &rt,
-        rt.alloc(),
-        "24",
-        &[
-            ("C-x '2 C-x '2 C-x '2", [2, 2, 5, 10].as_slice(), "", "1"),
-            ("C-x 'n C-x 'n C-x '2", [2, 2, 2, 2, 10].as_slice(), "", "7"),
-            (
-                "C-x 'n C-x 'n C-x '2 C-x '2",
-                [2, 2, 2, 2, 2, 2, 4].as_slice(),
-                "",
-                "13",
-            ),
-            (
-                "C-x 'p C-x 'n C-x 'n C-x 'n C-x '2",
-                [2, 2, 2, 2, 2, 2, 2, 1].as_slice(),
-                "",
-                "19",
-            ),
-            ("C-x 'p C-x '^", eight, "", "16"),
-            ("C-x '2", eight, "Too many windows", "16"),
-            ("C-x 'n C-x '2", eight, "Window too small", "20"),
-            ("C-x '1", [22].as_slice(), "", "1"),
-        ],
-    )
+    let steps = "
+        C-x '2 C-x '2 C-x '2               | 2 2 5 10        | 1
+        C-x 'n C-x 'n C-x '2               | 2 2 2 2 10      | 7
+        C-x 'n C-x 'n C-x '2 C-x '2        | 2 2 2 2 2 2 4   | 13
+        C-x 'p C-x 'n C-x 'n C-x 'n C-x '2 | 2 2 2 2 2 2 2 1 | 19
+        C-x 'p C-x '^                      | 2 2 2 2 2 3 1 1 | 16
+        C-x '2                             | 2 2 2 2 2 3 1 1 | 16 | Too many windows
+        C-x 'n C-x '2                      | 2 2 2 2 2 3 1 1 | 20 | Window too small
+        C-x '1                             | 22              | 1
+    ";
+    arranges(&rt, rt.alloc(), "24", steps)
 }
 
 // Two windows of one session on one text: points that another's edit and an edit in the other window move.
