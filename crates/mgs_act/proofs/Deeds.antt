@@ -13,13 +13,13 @@ use Rattle.mgs_model.specs.Plans as plans
 use Rattle.mgs_model.specs.Plans.{acted_own, failed_own, kind_failed}
 use Rattle.mgs_model.specs.Acts.{edit_of, effects, fails, finished, finished_own, is_too_large}
 use Rattle.mgs_model.specs.Apply.{after_quit, apply, buffers_after, change_at, change_first, kill_after, session_after, session_arranged, window_adjusted}
-use Rattle.mgs_model.specs.Text.{is_edit, shift}
+use Rattle.mgs_model.specs.Text.{is_edit}
 use Rattle.mgs_model.specs.declared.message.Message.{Message}
 use Rattle.mgs_model.specs.declared.message.Message.TheVariants.{KillTooLarge, Silent}
 use Rattle.mgs_model.specs.declared.session.Kind.TheVariants.{Other}
 use Rattle.mgs_model.proofs.Firsts.{change_first_found, find-map, position_or_len-map, written_first}
 use Rattle.mgs_marks.specs.Marks.{mark_in}
-use Rattle.mgs_buffers.specs.MarkedBuffer.{IsMark, MarkedBuffer, marked_at, marked_edited, marked_named, marked_placed, marked_unmodified}
+use Rattle.mgs_buffers.specs.MarkedBuffer.{IsMark, MarkedBuffer, marked_at, marked_edited, marked_named, marked_unmodified}
 use Rattle.mgs_windows.specs.declared.WindowMarks.{WindowMarks}
 use Rattle.mgs_session.specs.Sessions.{acted, failed, told, window_marks_of}
 use Rattle.mgs_session.specs.declared.Own.{Own}
@@ -29,7 +29,7 @@ use Rattle.mgs_edit.specs.declared.plan.Finish.{Finish}
 use Rattle.mgs_act.specs.declared.action.Action.{Action}
 use Rattle.mgs_act.specs.declared.action.Action.TheVariants.{Fails, Edits, Undoes, Moves, Clears}
 use Rattle.mgs_act.specs.Actions.{AreMarks, CanBeDone, edited_by, kill_at, kill_or_none, mark_gone, mark_told, marked_after, marks_gone, outcome_through, removed_by, session_acted, session_finished}
-use Rattle.mgs_world.specs.Sound.{IsSound, one_if, session_uses, uses, window_marks_uses}
+use Rattle.mgs_world.specs.Sound.{IsSound, session_uses, uses}
 use Rattle.mgs_world.specs.Worlds.{buffers_of, id_after, idle, own_at, own_of, own_or_first, session_id, session_of, size_in, sizes_in, world_of}
 use Rattle.mgs_world.proofs.Sessions.{session_found}
 use Rattle.mgs_world.proofs.Soundness.{acting_mark, one_if_most, point_used, sizes_set, sound_edited, sound_placed, sound_set}

@@ -9,7 +9,7 @@ use Rattle.mgs_model.specs.Text.{is_edit}
 use Rattle.mgs_model.specs.Access.{Directory}
 use Rattle.mgs_model.specs.World.{Item, World, has_id}
 use Rattle.mgs_model.specs.World as model
-use Rattle.mgs_model.specs.Outcome.{Edit, Effect, No_effect, Outcome, Keep, Keep_mark, Mark_at, effect_takes_memory, takes_memory}
+use Rattle.mgs_model.specs.Outcome.{Edit, Effect, No_effect, Keep, Keep_mark, Mark_at, effect_takes_memory, takes_memory}
 use Rattle.mgs_model.specs.Plans as plans
 use Rattle.mgs_model.specs.Acts.{edit_of, fails, finished, is_too_large}
 use Rattle.mgs_model.specs.Apply.{apply, buffers_after, change_at, change_first, session_after, session_arranged, window_adjusted}
@@ -24,18 +24,18 @@ use Rattle.mgs_edit.specs.Reading.{IsWithin, change_read, finish_read, kill_read
 use Rattle.mgs_edit.specs.declared.plan.Finish.{Finish}
 use Rattle.mgs_act.specs.declared.action.Action.{Action}
 use Rattle.mgs_act.specs.declared.action.Action.TheVariants.{Fails, Edits, Undoes, Moves, Clears}
-use Rattle.mgs_act.specs.Actions.{AreMarks, CanBeDone, IsMarked, edited_by, kill_at, kill_or_none, mark_gone, mark_told, marked_after, marks_gone, outcome_through, removed_by, session_acted, session_finished}
+use Rattle.mgs_act.specs.Actions.{AreMarks, CanBeDone, IsMarked, edited_by, kill_at, kill_or_none, mark_gone, mark_told, marked_after, marks_gone, outcome_through, removed_by, session_finished}
 use Rattle.mgs_world.specs.Marking.{IsReserved, mark_at_place, session_marked}
-use Rattle.mgs_world.specs.Sound.{IsSound, session_uses, uses}
+use Rattle.mgs_world.specs.Sound.{IsSound}
 use Rattle.mgs_world.specs.WindowMarks.{WindowMarksDropped}
-use Rattle.mgs_world.specs.Worlds.{buffers_of, id_after, idle, own_at, own_of, own_or_first, session_id, session_of, size_in, sizes_in, world_of}
+use Rattle.mgs_world.specs.Worlds.{id_after, idle, own_at, own_of, own_or_first, session_id, session_of, size_in, sizes_in, world_of}
 use Rattle.mgs_world.proofs.SelectedMark.{changed_first, get_set, given_up_sessions, given_up_sound, reserved_buffers, reserved_mark, reserved_more, reserved_sessions, reserved_sound, sessions_marked}
 use Rattle.mgs_world.proofs.Soundness.{in_use_mark, mark_is_kept, sizes_set, sound_placed, sound_set}
 use Rattle.mgs_world.proofs.Marks.{found_same, is_same}
 use Rattle.mgs_world.proofs.WindowMarks.{added_mark}
 use Rattle.mgs_world.proofs.Worlds.{buffers_placed, same_world}
 use Rattle.mgs_world.proofs.Unmodified.{marks_unmodified}
-use Rattle.mgs_act.proofs.Deeds.{acting_marks, at_twice, edited_buffers, edited_sound, ended, finished_sessions, fresh_own, gone_buffers, gone_sound, kept_sound, no_quit, once_used, set_back, size_after, unmarked, uses_after}
+use Rattle.mgs_act.proofs.Deeds.{acting_marks, at_twice, edited_buffers, edited_sound, ended, finished_sessions, fresh_own, gone_buffers, gone_sound, no_quit, once_used, set_back, size_after, unmarked}
 use Rattle.mgs_act.proofs.Leaving.{length_edited_by, mark_edited_by, mark_still, text_gone, used_once}
 
 -- A MARK THAT IS RESERVED

@@ -1,10 +1,9 @@
 -- What is planned where the rights are granted, and where they are not.
-use Rattle.std.proofs.Common.{◌≡◌, ℕ, List, length, Option, refl, sym, ap, subst, ◌∙◌}
-use Rattle.mgs_model.specs.Access.{Directory, decider, decision, decision_by}
+use Rattle.std.proofs.Common.{◌≡◌, ℕ, List, length, sym, ap, subst, ◌∙◌}
+use Rattle.mgs_model.specs.Access.{Directory, decision}
 use Rattle.mgs_model.specs.Acts.{fails, permitted}
 use Rattle.mgs_model.specs.Outcome.{Outcome}
 use Rattle.mgs_model.specs.Plans as plans
-use Rattle.mgs_model.specs.Rights.{rights_in}
 use Rattle.mgs_model.specs.World as model
 use Rattle.mgs_model.specs.declared.entry.Decision.{Decision}
 use Rattle.mgs_model.specs.declared.entry.Decision.TheVariants.{Granted}

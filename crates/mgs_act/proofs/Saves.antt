@@ -1,5 +1,5 @@
 -- What a save comes to, and that what is done is the act with the store's answer.
-use Rattle.std.proofs.Common.{◌≡◌, ℕ, ◌<◌, Bool, true, false, cond, List, [], ◌∷◌, length, map, Option, Some, None, refl, sym, ap, subst, ◌∙◌, append-nil}
+use Rattle.std.proofs.Common.{◌≡◌, ℕ, ◌<◌, Bool, true, false, cond, List, [], ◌∷◌, length, map, Option, Some, None, refl, sym, ap, ◌∙◌, append-nil}
 use Rattle.std.specs.Prelude.{slice_get, slice_set, not}
 use Rattle.std.specs.List.{position_or_len, flat_map}
 use Rattle.std.specs.Option.{option_and_then, option_map}
@@ -10,12 +10,12 @@ use Rattle.mgs_model.specs.Rights.{rights_in}
 use Rattle.mgs_model.specs.World.{World, Buffer, find_session, first_own, has_id}
 use Rattle.mgs_model.specs.World as model
 use Rattle.mgs_model.specs.View.{buffer_seen, find_seen, full_if, text_in, told_if, view}
-use Rattle.mgs_model.specs.Outcome.{Keep_kill, Outcome, Run, Save, Stay, takes_memory}
+use Rattle.mgs_model.specs.Outcome.{Keep_kill, Outcome, Run, Save, Stay}
 use Rattle.mgs_model.specs.Plans.{acted_own}
 use Rattle.mgs_model.specs.Acts.{fails, has_file, here, judged, outcome, permitted, saves}
-use Rattle.mgs_model.specs.Apply.{act, applied, apply, change_first, outcome_in, session_arranged}
+use Rattle.mgs_model.specs.Apply.{applied, apply, change_first, outcome_in, session_arranged}
 use Rattle.mgs_model.specs.Apart.{Apart, touched_by}
-use Rattle.mgs_model.specs.Events.{Saved, act_effects, effect_in, may_be_refused, saved_by}
+use Rattle.mgs_model.specs.Events.{Saved, effect_in, may_be_refused, saved_by}
 use Rattle.mgs_model.specs.declared.right.Right.{Right}
 use Rattle.mgs_model.specs.declared.right.Right.TheVariants.{ReadData, WriteData}
 use Rattle.mgs_model.specs.declared.entry.Decision.TheVariants.{Granted}

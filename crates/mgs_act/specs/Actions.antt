@@ -1,6 +1,6 @@
 -- What is planned, and where.
 use Rattle.std.specs.Global.{Vec}
-use Rattle.std.specs.Prelude.{◌≡◌, ℕ, ◌+◌, ◌-◌, ◌<◌, ◌≤◌, ◌^◌, ◌==◌, ◌&&◌, nat_le, nat_lt, Bool, true, false, List, [], length, Option, Some, None, Result, Ok, Err, slice_get, find, cond, if◌then◌else◌}
+use Rattle.std.specs.Prelude.{◌≡◌, ℕ, ◌+◌, ◌≤◌, ◌==◌, Bool, true, false, List, [], length, Option, Some, None, Result, Ok, Err, slice_get, find, cond, if◌then◌else◌}
 use Rattle.std.specs.Option.{option_map}
 use Rattle.mgs_model.specs.Access.{Directory, Decider, decider, decision_by}
 use Rattle.mgs_model.specs.Rights.{rights_in}
@@ -17,7 +17,6 @@ use Rattle.mgs_model.specs.declared.right.Right.{Right}
 use Rattle.mgs_model.specs.declared.right.Right.TheVariants.{ReadData}
 use Rattle.mgs_model.specs.declared.message.Message.{Message}
 use Rattle.mgs_model.specs.declared.message.Message.TheVariants.{KeyNotBound, BufferFull, Silent}
-use Rattle.mgs_model.specs.declared.limits.TheConstants.{TEXT_LIMIT}
 use Rattle.mgs_model.specs.declared.session.Command.{Command}
 use Rattle.mgs_model.specs.declared.session.Command.TheVariants.{Insert, InsertReading, Move, Alter, Scroll, Set, Rearrange, UndoEdit, NotModified}
 use Rattle.mgs_model.specs.declared.session.Kind.TheVariants.{Other}
@@ -28,7 +27,7 @@ use Rattle.mgs_windows.specs.declared.WindowMarks.{WindowMarks}
 use Rattle.mgs_windows.specs.declared.Window.{Window}
 use Rattle.mgs_session.specs.Sessions.{acted, failed, told}
 use Rattle.mgs_session.specs.declared.Session.{Session}
-use Rattle.mgs_edit.specs.Reading.{ChangeWithin, FinishWithin, LeavesBehind, change_read, finish_read, is_alteration_planned, is_planned, kill_read, put_read, undone_read}
+use Rattle.mgs_edit.specs.Reading.{ChangeWithin, FinishWithin, LeavesBehind, change_read, finish_read, is_alteration_planned, is_planned, kill_read, undone_read}
 use Rattle.mgs_edit.specs.declared.plan.Around.{Around}
 use Rattle.mgs_edit.specs.declared.plan.Change.{Change}
 use Rattle.mgs_edit.specs.declared.plan.Finish.{Finish}

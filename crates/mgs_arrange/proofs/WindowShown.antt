@@ -7,7 +7,7 @@ use Rattle.mgs_model.specs.Access.{Directory}
 use Rattle.mgs_model.specs.Names.{same_name}
 use Rattle.mgs_model.specs.World.{World, Buffer_of, find_session, has_id}
 use Rattle.mgs_model.specs.World as model
-use Rattle.mgs_model.specs.Apply.{change_at, change_first, comer, place_in, place_mark, place_point, window_at}
+use Rattle.mgs_model.specs.Apply.{change_at, change_first, place_in, place_mark, place_point, window_at}
 use Rattle.mgs_model.proofs.Blind.{is_name, same_names}
 use Rattle.mgs_model.proofs.Firsts.{find-map}
 use Rattle.mgs_buffers.specs.MarkedBuffer.{MarkedBuffer, mark_at}
@@ -16,7 +16,7 @@ use Rattle.mgs_windows.specs.Panes.{WindowList, height_at, is_place_in, places_a
 use Rattle.mgs_windows.specs.declared.WindowMarks.{WindowMarks}
 use Rattle.mgs_windows.specs.declared.Window.{Window}
 use Rattle.mgs_session.specs.declared.Session.{Session}
-use Rattle.mgs_world.specs.Worlds.{buffers_of, place_of, session_id, session_of, window_of, window_shown, world_of}
+use Rattle.mgs_world.specs.Worlds.{place_of, session_id, session_of, window_of, world_of}
 use Rattle.mgs_world.specs.Sound.{IsSessionSound, IsShownSound, IsSound, in_use, place_uses, session_uses, sum_of, window_marks_uses, window_uses}
 use Rattle.mgs_world.specs.WindowMarks.{WindowMarksAdded, WindowMarksDropped}
 use Rattle.mgs_world.proofs.WindowMarks.{place_local, session_local}

@@ -6,7 +6,7 @@ use Rattle.mgs_session.specs.Sessions.{window_marks_of}
 use Rattle.mgs_world.specs.Worlds.{world_of}
 use Rattle.mgs_world.proofs.Soundness.{sound_set, sizes_set}
 use Rattle.mgs_model.specs.declared.message.Message.TheVariants.{NoBuffer}
-use Rattle.mgs_act.specs.Actions.{CanBeDone, kill_at, kill_or_none, plan_in}
+use Rattle.mgs_act.specs.Actions.{CanBeDone, kill_at, kill_or_none}
 use Rattle.mgs_world.specs.Worlds.{own_at}
 use Rattle.mgs_act.proofs.Commands.{act_nowhere, act_planned, may_planned, failed_apart, action_apart}
 use Rattle.mgs_act.proofs.Deeds.{acting_marks}

@@ -1,4 +1,4 @@
-use Rattle.std.proofs.Common.{◌≡◌, ℕ, List, ◌∙◌, sym, ap}
+use Rattle.std.proofs.Common.{◌∙◌, sym, ap}
 use Rattle.mgs_edit.specs.Reading.{kill_read}
 use Rattle.mgs_model.specs.Apply.{kill_after}
 use Rattle.mgs_act.proofs.performing.killed_if.Goals as goal

@@ -1,5 +1,4 @@
-use Rattle.std.proofs.Common.{◌≡◌, ℕ, ◌≤◌, List, length, sym, ap, subst}
-use Rattle.mgs_buffers.specs.MarkedBuffer.{IsMark}
+use Rattle.std.proofs.Common.{ℕ, List, length, sym, subst}
 use Rattle.mgs_edit.specs.Reading.{IsWithin, point_read}
 use Rattle.mgs_act.proofs.Leaving.{mark_still, text_gone}
 use Rattle.mgs_act.proofs.performing.leave.Goals as goal

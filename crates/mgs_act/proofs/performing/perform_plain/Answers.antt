@@ -1,4 +1,4 @@
-use Rattle.std.proofs.Common.{◌≡◌, get_or, ap, sym, ◌∙◌, subst, true}
+use Rattle.std.proofs.Common.{◌≡◌, get_or, sym, subst, true}
 use Rattle.std.specs.Prelude.{OnErr}
 use Rattle.mgs_model.specs.Outcome.{takes_memory}
 use Rattle.mgs_model.specs.World.{Own}

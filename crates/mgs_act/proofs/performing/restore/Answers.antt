@@ -1,8 +1,8 @@
-use Rattle.std.proofs.Common.{◌≡◌, ℕ, ◌+◌, Bool, true, false, cond, List, [], length, sym, ap, subst, ◌∙◌, arith}
+use Rattle.std.proofs.Common.{◌≡◌, ◌+◌, Bool, true, cond, [], sym, ap, subst, ◌∙◌, arith}
 use Rattle.std.specs.Prelude.{OnOk, OnErr, Result, Ok, Err}
 use Rattle.mgs_model.specs.Text.{is_edit}
 use Rattle.mgs_model.specs.Apply.{change_first}
-use Rattle.mgs_buffers.specs.MarkedBuffer.{MarkedBuffer, marked_at, marked_edited, marked_named}
+use Rattle.mgs_buffers.specs.MarkedBuffer.{marked_at, marked_edited, marked_named}
 use Rattle.mgs_act.specs.Actions.{removed_by}
 use Rattle.mgs_act.proofs.Leaving.{no_edit}
 use Rattle.mgs_act.proofs.performing.restore.Goals as goal

@@ -1,4 +1,4 @@
-use Rattle.std.proofs.Common.{◌≡◌, ℕ, List, length, ◌∙◌, refl, sym, ap, subst}
+use Rattle.std.proofs.Common.{◌≡◌, length, ◌∙◌, refl, sym, ap, subst}
 use Rattle.mgs_model.specs.Access.{decision}
 use Rattle.mgs_model.specs.Acts.{fails, permitted}
 use Rattle.mgs_model.specs.Outcome.{Outcome}

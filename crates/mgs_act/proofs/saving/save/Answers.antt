@@ -1,4 +1,4 @@
-use Rattle.std.proofs.Common.{◌≡◌, ◌∙◌, get_or, refl, sym, ap, Some}
+use Rattle.std.proofs.Common.{◌∙◌, get_or, refl, sym, ap}
 use Rattle.std.proofs.lemmas.List.{get_or_default}
 use Rattle.std.proofs.lemmas.Option.{slice_get-get_or}
 use Rattle.mgs_model.specs.declared.message.Message.TheVariants.{NoBuffer}

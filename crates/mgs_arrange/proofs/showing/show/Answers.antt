@@ -1,4 +1,4 @@
-use Rattle.std.proofs.Common.{◌≡◌, Option, get_or, ap, subst, sym, ◌∙◌}
+use Rattle.std.proofs.Common.{◌≡◌, get_or, ap, subst}
 use Rattle.mgs_buffers.proofs.MarkedLemmas.{OnOk-map}
 use Rattle.mgs_session.specs.declared.Session.{Session}
 use Rattle.mgs_world.specs.Sound.{IsSessionSound}

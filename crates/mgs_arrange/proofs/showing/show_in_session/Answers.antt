@@ -9,7 +9,7 @@ use Rattle.mgs_world.specs.WindowMarks.{WindowMarksDropped}
 use Rattle.mgs_world.specs.Worlds.{session_of}
 use Rattle.mgs_arrange.specs.Arranged.{run_ended}
 use Rattle.mgs_arrange.specs.Arranging.{Rearranged}
-use Rattle.mgs_arrange.specs.Showing.{standing, standing_mark, standing_point}
+use Rattle.mgs_arrange.specs.Showing.{standing_mark, standing_point}
 use Rattle.mgs_arrange.proofs.WindowShown.{before_sound, given_up, shown_rearranged, shown_seen, shown_session, standing_named, standing_sound}
 use Rattle.mgs_arrange.proofs.showing.show_in_session.Goals as goal
 
