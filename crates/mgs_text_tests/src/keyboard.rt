@@ -141,86 +141,80 @@ fn every_byte_has_an_answer(rt: HostRuntime) -> Result<(), Fail> {
     Ok(())
 }
 
+// What typed bytes come to, and that nothing is held then: the next byte inserts itself. The tests give it their literals one
+// by one, since a proof of a table of them is dear.
+fn comes_to(rt: &impl Abort, typed: &[u8], fed: Fed, next: u8) {
+    let mut keyboard = Keyboard::new();
+    assert_eq!(rt; last_fed(&mut keyboard, typed), fed);
+    assert_eq!(rt; keyboard.feed(next), character(next, None));
+}
+
+fn argument_is(rt: &impl Abort, typed: &[u8], argument: usize) {
+    comes_to(rt, typed, character(b'x', Some(argument)), b'y');
+}
+
+fn ends(rt: &impl Abort, typed: &[u8], fed: Fed) {
+    comes_to(rt, typed, fed, b'2');
+}
+
 #[test]
 fn arguments_are_read(rt: HostRuntime) {
-    for (typed, argument) in [
-        (b"\x15x".as_slice(), 4),
-        (b"\x15\x15x".as_slice(), 16),
-        (b"\x153\x15x".as_slice(), 12),
-        (b"\x153\x152x".as_slice(), 2),
-        (b"\x1512x".as_slice(), 12),
-        (b"\x1503x".as_slice(), 3),
-        (b"\x150\x15x".as_slice(), 0),
-        (b"\x1B2x".as_slice(), 2),
-        (b"\x1B23x".as_slice(), 23),
-        (b"\x1B2\x1B3x".as_slice(), 23),
-        (b"\x15\x1B2x".as_slice(), 2),
-        (b"\x153\x15\x1B2x".as_slice(), 2),
-        (b"\x159999x".as_slice(), 9999),
-        (b"\x1599999x".as_slice(), 9999),
-        (b"\x15\x15\x15\x15\x15\x15\x15x".as_slice(), 9999),
-    ] {
-        let mut keyboard = Keyboard::new();
-        assert_eq!(rt;
-            last_fed(&mut keyboard, typed),
-            character(b'x', Some(argument))
-        );
-        assert_eq!(rt; keyboard.feed(b'y'), character(b'y', None));
-    }
+    argument_is(&rt, b"\x15x", 4);
+    argument_is(&rt, b"\x15\x15x", 16);
+    argument_is(&rt, b"\x153\x15x", 12);
+    argument_is(&rt, b"\x153\x152x", 2);
+    argument_is(&rt, b"\x1512x", 12);
+    argument_is(&rt, b"\x1503x", 3);
+    argument_is(&rt, b"\x150\x15x", 0);
+    argument_is(&rt, b"\x1B2x", 2);
+    argument_is(&rt, b"\x1B23x", 23);
+    argument_is(&rt, b"\x1B2\x1B3x", 23);
+    argument_is(&rt, b"\x15\x1B2x", 2);
+    argument_is(&rt, b"\x153\x15\x1B2x", 2);
+    argument_is(&rt, b"\x159999x", 9999);
+    argument_is(&rt, b"\x1599999x", 9999);
+    argument_is(&rt, b"\x15\x15\x15\x15\x15\x15\x15x", 9999);
 }
 
 // A word that goes on keeps the argument, and an argument is typed before its word alone.
 #[test]
 fn words_end(rt: HostRuntime) {
-    for (typed, fed) in [
-        (b"\x18\x1Bx".as_slice(), Fed::Unbound),
-        (b"\x1B\x07".as_slice(), quit(None)),
-        (b"\x153\x18\x07".as_slice(), quit(Some(3))),
-        (b"\x153\x18\x1B\x07".as_slice(), quit(Some(3))),
-        (b"\x153\x185".as_slice(), Fed::Unbound),
-        (b"\x18\x1B5".as_slice(), Fed::Unbound),
-        (
-            b"\x153\x18\x15".as_slice(),
-            Fed::Run(Command::Alter(Alteration::UpcaseRegion), Some(3)),
-        ),
-        (b"\x1B[z".as_slice(), Fed::Unbound),
-        (b"\x1B[\x1BA".as_slice(), Fed::Unbound),
-        (b"\x153\x1B[\x07".as_slice(), quit(Some(3))),
-        (b"\x153\x1B[\x1B\x07".as_slice(), quit(Some(3))),
-        (
-            b"\x153\x1B[D".as_slice(),
-            Fed::Run(Command::Move(Motion::BackwardChar), Some(3)),
-        ),
-        (b"\x1B\x1B".as_slice(), Fed::Unbound),
-        (
-            b"\x153\x18\x03".as_slice(),
-            Fed::Run(Command::Exit, Some(3)),
-        ),
-    ] {
-        let mut keyboard = Keyboard::new();
-        assert_eq!(rt; last_fed(&mut keyboard, typed), fed);
-        assert_eq!(rt; keyboard.feed(b'2'), character(b'2', None));
-    }
+    ends(&rt, b"\x18\x1Bx", Fed::Unbound);
+    ends(&rt, b"\x1B\x07", quit(None));
+    ends(&rt, b"\x153\x18\x07", quit(Some(3)));
+    ends(&rt, b"\x153\x18\x1B\x07", quit(Some(3)));
+    ends(&rt, b"\x153\x185", Fed::Unbound);
+    ends(&rt, b"\x18\x1B5", Fed::Unbound);
+    ends(
+        &rt,
+        b"\x153\x18\x15",
+        Fed::Run(Command::Alter(Alteration::UpcaseRegion), Some(3)),
+    );
+    ends(&rt, b"\x1B[z", Fed::Unbound);
+    ends(&rt, b"\x1B[\x1BA", Fed::Unbound);
+    ends(&rt, b"\x153\x1B[\x07", quit(Some(3)));
+    ends(&rt, b"\x153\x1B[\x1B\x07", quit(Some(3)));
+    ends(
+        &rt,
+        b"\x153\x1B[D",
+        Fed::Run(Command::Move(Motion::BackwardChar), Some(3)),
+    );
+    ends(&rt, b"\x1B\x1B", Fed::Unbound);
+    ends(&rt, b"\x153\x18\x03", Fed::Run(Command::Exit, Some(3)));
 }
 
 // C-g, ESC, C-u and digits are no keys after C-q, which begins a word alone.
 #[test]
 fn quoted_bytes_are_no_keys(rt: HostRuntime) {
-    for (typed, fed) in [
-        (b"\x11\x01".as_slice(), character(0x01, None)),
-        (b"\x11\x07".as_slice(), character(0x07, None)),
-        (b"\x11\x1B".as_slice(), character(0x1B, None)),
-        (b"\x115".as_slice(), character(b'5', None)),
-        (b"\x15\x11x".as_slice(), character(b'x', Some(4))),
-        (b"\x153\x11\x15".as_slice(), character(0x15, Some(3))),
-        (b"\x153\x11\x80".as_slice(), Fed::Unbound),
-        (b"\x18\x11".as_slice(), Fed::Unbound),
-        (b"\x1B\x11".as_slice(), Fed::Unbound),
-    ] {
-        let mut keyboard = Keyboard::new();
-        assert_eq!(rt; last_fed(&mut keyboard, typed), fed);
-        assert_eq!(rt; keyboard.feed(b'2'), character(b'2', None));
-    }
+    ends(&rt, b"\x11\x01", character(0x01, None));
+    ends(&rt, b"\x11\x07", character(0x07, None));
+    ends(&rt, b"\x11\x1B", character(0x1B, None));
+    ends(&rt, b"\x115", character(b'5', None));
+    ends(&rt, b"\x15\x11x", character(b'x', Some(4)));
+    ends(&rt, b"\x153\x11\x15", character(0x15, Some(3)));
+    ends(&rt, b"\x153\x11\x80", Fed::Unbound);
+    ends(&rt, b"\x18\x11", Fed::Unbound);
+    ends(&rt, b"\x1B\x11", Fed::Unbound);
 }
 
 #[test]

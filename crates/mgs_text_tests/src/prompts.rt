@@ -1,6 +1,7 @@
 // The input of a prompt, byte by byte.
 use mgs_mini::{Prompt, Step, completion};
 use mgs_model::Question;
+use std::process::Abort;
 
 // What the bytes make of a new prompt: what the last one comes to, and the input.
 fn comes_to(bytes: &[u8], last: Step, input: &[u8]) -> bool {
@@ -12,28 +13,28 @@ fn comes_to(bytes: &[u8], last: Step, input: &[u8]) -> bool {
     step == last && prompt.input() == input
 }
 
+fn makes(rt: &impl Abort, bytes: &[u8], last: Step, input: &[u8]) {
+    assert!(rt; comes_to(bytes, last, input));
+}
+
 #[test]
 fn each_key_of_a_prompt(rt: HostRuntime) {
-    for (bytes, last, input) in [
-        (b"ab ~".as_slice(), Step::GoesOn, b"ab ~".as_slice()),
-        (b"ab\x7F".as_slice(), Step::GoesOn, b"a".as_slice()),
-        (b"\x7F".as_slice(), Step::GoesOn, b"".as_slice()),
-        (b"ab\r".as_slice(), Step::Answered, b"ab".as_slice()),
-        (b"a\t".as_slice(), Step::Completes, b"a".as_slice()),
-        (b"a\x07".as_slice(), Step::Quit, b"a".as_slice()),
-        (b"a\x1B\x07".as_slice(), Step::Quit, b"a".as_slice()),
-        (b"a\x1B[\x07".as_slice(), Step::Quit, b"a".as_slice()),
-        (b"a\x1B[\x1B\x07".as_slice(), Step::Quit, b"a".as_slice()),
-        (b"a\x1Bbc".as_slice(), Step::GoesOn, b"ac".as_slice()),
-        (b"a\x1B\r".as_slice(), Step::GoesOn, b"a".as_slice()),
-        (b"a\x1B[Ac".as_slice(), Step::GoesOn, b"ac".as_slice()),
-        (b"a\x1B[\x1Bbc".as_slice(), Step::GoesOn, b"ac".as_slice()),
-        (b"a\x1B\x1Bc".as_slice(), Step::GoesOn, b"ac".as_slice()),
-        (b"a\x18c".as_slice(), Step::GoesOn, b"ac".as_slice()),
-        (b"a\x80c".as_slice(), Step::GoesOn, b"ac".as_slice()),
-    ] {
-        assert!(rt; comes_to(bytes, last, input));
-    }
+    makes(&rt, b"ab ~", Step::GoesOn, b"ab ~");
+    makes(&rt, b"ab\x7F", Step::GoesOn, b"a");
+    makes(&rt, b"\x7F", Step::GoesOn, b"");
+    makes(&rt, b"ab\r", Step::Answered, b"ab");
+    makes(&rt, b"a\t", Step::Completes, b"a");
+    makes(&rt, b"a\x07", Step::Quit, b"a");
+    makes(&rt, b"a\x1B\x07", Step::Quit, b"a");
+    makes(&rt, b"a\x1B[\x07", Step::Quit, b"a");
+    makes(&rt, b"a\x1B[\x1B\x07", Step::Quit, b"a");
+    makes(&rt, b"a\x1Bbc", Step::GoesOn, b"ac");
+    makes(&rt, b"a\x1B\r", Step::GoesOn, b"a");
+    makes(&rt, b"a\x1B[Ac", Step::GoesOn, b"ac");
+    makes(&rt, b"a\x1B[\x1Bbc", Step::GoesOn, b"ac");
+    makes(&rt, b"a\x1B\x1Bc", Step::GoesOn, b"ac");
+    makes(&rt, b"a\x18c", Step::GoesOn, b"ac");
+    makes(&rt, b"a\x80c", Step::GoesOn, b"ac");
 }
 
 #[test]
