@@ -1,5 +1,6 @@
 -- What a session has half read, and what a key comes to.
 use Rattle.std.specs.Prelude.{◌≡◌, ℕ, ◌==◌, Bool, true, false, not, ◌&&◌, List, [], ◌∷◌, ◌++◌, Option, None, ⊤, if◌then◌else◌}
+use Rattle.std.specs.Option.{option_map}
 use Rattle.mgs_keys.specs.declared.decoder.Key.{Key}
 use Rattle.mgs_keys.specs.declared.decoder.Key.TheVariants.{Plain, Meta}
 use Rattle.mgs_model.specs.Keys.{KeyRead, Half, Bound, Not_bound, quotes, key_read}
@@ -27,6 +28,10 @@ pub record Held : Type 0 where
 
 abbrev pub nothing_held : Held
 nothing_held = record { argument = None; keys = [] }
+
+-- an argument alone, which no digit goes on with
+abbrev pub argument_held : Option ℕ → Held
+argument_held n = record { argument = option_map (λ k. record { value = k; extends = false }) n; keys = [] }
 
 -- a word goes on and is held; else it is used up, and nothing is held
 abbrev pub FedBy : Fed → KeyRead → Held → Type 0

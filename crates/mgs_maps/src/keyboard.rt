@@ -1,7 +1,7 @@
 // What bytes come to.
 ghost use Rattle.std.specs.Prelude.{◌≡◌};
-ghost use Rattle.mgs_model.specs.Keys.{key_read};
-ghost use Rattle.mgs_maps.specs.Held.{FedBy, IsBoundRun, nothing_held};
+ghost use Rattle.mgs_model.specs.Keys.{key_read, value_of};
+ghost use Rattle.mgs_maps.specs.Held.{FedBy, IsBoundRun, argument_held, nothing_held};
 
 use crate::maps::{Fed, Maps};
 use mgs_keys::{Decoder, Key};
@@ -38,6 +38,23 @@ impl Keyboard {
             decoder: Decoder::new(),
             maps: Maps::new(),
         }
+    }
+
+    /// Holds an argument alone, which no digit goes on with: the argument of the command that a prompt is for.
+    pub fn holding(argument: Option<usize>) -> Keyboard
+        ensures { result ≡ argument_held argument }
+    {
+        Keyboard {
+            decoder: Decoder::new(),
+            maps: Maps::holding(argument),
+        }
+    }
+
+    /// The argument that is held.
+    pub fn argument(&self) -> Option<usize>
+        ensures { result ≡ value_of self.now.argument }
+    {
+        self.maps.argument()
     }
 
     /// What a byte comes to, after what is held: a word of keys that goes on, a command and its argument, or a word that

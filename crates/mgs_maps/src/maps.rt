@@ -1,7 +1,7 @@
 // What keys come to.
 ghost use Rattle.std.specs.Prelude.{◌≡◌};
 ghost use Rattle.mgs_model.specs.Keys.{Half, Bound, quoted_read, digit_added as extended, four_times as multiplied, value_of, is_digit as tells_digit};
-ghost use Rattle.mgs_maps.specs.Held.{FedBy, IsBoundRun, held_by, key_reads, nothing_held, prefix_bytes};
+ghost use Rattle.mgs_maps.specs.Held.{FedBy, IsBoundRun, argument_held, held_by, key_reads, nothing_held, prefix_bytes};
 ghost use Rattle.mgs_maps.specs.Words.{prefix_after, inserted as inserts, is_empty as begins, is_quote as quotes, word_reads, plain_reads, meta_reads};
 
 use crate::table::{BRACKET, CONTROL_X, QUOTE, find_command};
@@ -123,6 +123,33 @@ impl Maps {
         Maps {
             argument: None,
             prefix: Prefix::Empty,
+        }
+    }
+
+    // Holds an argument alone, which no digit goes on with.
+    pub(crate) fn holding(argument: Option<usize>) -> Maps
+        ensures { held_by result ≡ argument_held argument }
+    {
+        let argument = match argument {
+            None => None,
+            Some(value) => Some(Argument {
+                value,
+                extends: false,
+            }),
+        };
+        Maps {
+            argument,
+            prefix: Prefix::Empty,
+        }
+    }
+
+    // The argument that is held.
+    pub(crate) fn argument(&self) -> Option<usize>
+        ensures { result ≡ value_of self.now.argument }
+    {
+        match self.argument {
+            None => None,
+            Some(typed) => Some(typed.value),
         }
     }
 

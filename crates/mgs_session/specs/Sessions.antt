@@ -1,5 +1,5 @@
 -- What a session is at first, what it is told, and what it shows.
-use Rattle.std.specs.Prelude.{ℕ, ◌-◌, List, [], ◌∷◌, Option, slice_get}
+use Rattle.std.specs.Prelude.{ℕ, ◌-◌, List, [], ◌∷◌, Option, None, Some, slice_get}
 use Rattle.std.specs.Option.{option_and_then}
 use Rattle.mgs_model.specs.declared.message.Message.{Message}
 use Rattle.mgs_model.specs.declared.message.Message.TheVariants.{Silent}
@@ -7,7 +7,10 @@ use Rattle.mgs_model.specs.Plans.{kind_failed}
 use Rattle.mgs_model.specs.World.{first_own}
 use Rattle.mgs_model.specs.declared.session.Kind.{Kind}
 use Rattle.mgs_model.specs.declared.session.Kind.TheVariants.{Other}
-use Rattle.mgs_maps.specs.Held.{Held, nothing_held}
+use Rattle.mgs_model.specs.declared.session.Question.{Question}
+use Rattle.mgs_maps.specs.Held.{Held, argument_held, nothing_held}
+use Rattle.mgs_mini.specs.Typing.{PromptInput}
+use Rattle.mgs_mini.specs.declared.Waiting.TheVariants.{NoKey}
 use Rattle.mgs_windows.specs.declared.WindowMarks.{WindowMarks}
 use Rattle.mgs_windows.specs.declared.Window.{Window}
 use Rattle.mgs_session.specs.declared.Session.{Session}
@@ -19,7 +22,7 @@ session_opened id user rows cols shows capacity = record {
   cols = cols;
   windows = record { rows = rows; windows = record { height = rows - 2; shows = shows } ∷ []; selected = 0; places = []; capacity = capacity };
   kill = [];
-  own = record { echo = Silent; keyboard = nothing_held; kind = Other; fill = first_own.fill };
+  own = record { echo = Silent; keyboard = nothing_held; kind = Other; fill = first_own.fill; prompt = None };
 }
 
 abbrev pub told : Message → Session → Session
@@ -29,17 +32,38 @@ told message x = record x { own = record x.own { echo = message } }
 abbrev pub acted : Kind → Session → Session
 acted kind x = record x { own = record x.own { kind = kind } }
 
--- a command has failed
-abbrev pub failed : Message → Session → Session
-failed message x = told message (acted (kind_failed message x.own.kind) x)
-
 -- the fill column is set
 abbrev pub filling : ℕ → Session → Session
 filling column x = record x { own = record x.own { fill = column } }
 
--- it holds what was read, and its echo line is empty; what it keeps from command to command is the same
+-- it holds what was read, and no prompt, and its echo line is empty; what it keeps from command to command is the same
 abbrev pub holding : Held → Session → Session
-holding k x = record x { own = record x.own { echo = Silent; keyboard = k } }
+holding k x = record x { own = record x.own { echo = Silent; keyboard = k; prompt = None } }
+
+-- nothing is half read, and nothing is told
+abbrev pub resting : Session → Session
+resting x = holding nothing_held x
+
+-- a command has failed
+abbrev pub failed : Message → Session → Session
+failed message x = told message (acted (kind_failed message x.own.kind) (resting x))
+
+-- PROMPTS
+
+-- nothing is typed
+abbrev pub first_input : Question → PromptInput
+first_input c = record { question = c; input = []; waiting = NoKey }
+
+-- a question is asked, and the argument waits for the command that its answer is for
+abbrev pub asking : Question → Option ℕ → Session → Session
+asking c n x = acted Other (record x { own = record x.own { keyboard = argument_held n; prompt = Some (first_input c) } })
+
+abbrev pub unprompted : Session → Session
+unprompted x = record x { own = record x.own { prompt = None } }
+
+-- it is at a prompt, and its echo line is empty
+abbrev pub prompting : PromptInput → Session → Session
+prompting p x = told Silent (record x { own = record x.own { prompt = Some p } })
 
 -- the buffer of the selected window
 abbrev pub window_marks_of : Session → Option WindowMarks

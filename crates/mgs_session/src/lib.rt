@@ -5,11 +5,12 @@ mod kill_buffer;
 
 ghost use Rattle.std.specs.Prelude.{◌≡◌, ◌≤◌, ◌-◌, [], ◌∷◌, vec_capacity};
 ghost use Rattle.mgs_model.specs.Plans.{kind_failed};
-ghost use Rattle.mgs_session.specs.Sessions.{session_opened, acted, failed, filling, told, holding, window_marks_of};
+ghost use Rattle.mgs_session.specs.Sessions.{session_opened, acted, asking, failed, filling, holding, prompting, resting, told, unprompted, window_marks_of};
 
 pub use kill_buffer::KillBuffer;
 use mgs_maps::Keyboard;
-use mgs_model::{Kind, Message, Name, SessionId};
+use mgs_mini::Prompt;
+use mgs_model::{Kind, Message, Name, Question, SessionId};
 use mgs_windows::{WindowMarks, Windows};
 use std::alloc::Global;
 
@@ -17,13 +18,15 @@ use std::alloc::Global;
 pub const FILL_COLUMN: usize = 72;
 
 /// What a session holds beside its windows and its kill buffer: its echo text, the keys and the argument that are half
-/// read, the kind of its last command, and the column up to which it fills lines (1 to 9,999).
+/// read, the kind of its last command, the column up to which it fills lines (1 to 9,999), and the prompt that it answers.
+/// While there is a prompt, the keyboard holds the argument of the command that the prompt is for, and no keys.
 #[derive(Drop)]
 pub struct Own {
     pub echo: Message,
     pub keyboard: Keyboard,
     pub kind: Kind,
     pub fill: usize,
+    pub prompt: Option<Prompt>,
 }
 
 /// The state of a session. A position is a mark in the text of a buffer.
@@ -64,6 +67,7 @@ pub fn opened(
             keyboard: Keyboard::new(),
             kind: Kind::Other,
             fill: FILL_COLUMN,
+            prompt: None,
         },
     }
 }
@@ -89,11 +93,12 @@ fn kind_failed(message: &Message, kind: Kind) -> Kind
     }
 }
 
-/// A command has failed, or was denied: this is told.
+/// A command has failed, or was denied: this is told, nothing is half read, and a prompt is given up.
 pub fn fail(session: &mut Session, message: Message)
     ensures { session.new ≡ failed message session.old }
 {
     let kind = kind_failed(&message, session.own.kind);
+    rest(session);
     set_kind(session, kind);
     set_echo(session, message);
 }
@@ -127,7 +132,7 @@ pub fn set_kill(session: &mut Session, text: Vec<char>)
     session.kill.set(text);
 }
 
-/// Holds what was read of a byte, and empties the echo line, as each byte does.
+/// Holds what was read of a byte that is no prompt's, and empties the echo line, as each byte does.
 pub fn hold(session: &mut Session, keyboard: Keyboard)
     ensures { session.new ≡ holding keyboard session.old }
 {
@@ -138,7 +143,40 @@ pub fn hold(session: &mut Session, keyboard: Keyboard)
         keyboard,
         kind,
         fill,
+        prompt: None,
     };
+}
+
+/// Nothing is half read, a prompt is over, and the echo line is empty: an act can begin.
+pub fn rest(session: &mut Session)
+    ensures { session.new ≡ resting session.old }
+{
+    hold(session, Keyboard::new());
+}
+
+/// Asks a question. The argument waits for the command that the answer is for.
+pub fn ask(session: &mut Session, question: Question, argument: Option<usize>)
+    ensures { session.new ≡ asking question argument session.old }
+{
+    session.own.keyboard = Keyboard::holding(argument);
+    session.own.prompt = Some(Prompt::new(question));
+    set_kind(session, Kind::Other);
+}
+
+/// The prompt, which is taken out. All else stays, and `hold_prompt` puts it back.
+pub fn take_prompt(session: &mut Session) -> Option<Prompt>
+    ensures prompt { result ≡ session.old.own.prompt }
+    ensures rest { session.new ≡ unprompted session.old }
+{
+    session.own.prompt.take()
+}
+
+/// Holds what a prompt makes of a byte, and empties the echo line, as each byte does.
+pub fn hold_prompt(session: &mut Session, prompt: Prompt)
+    ensures { session.new ≡ prompting prompt session.old }
+{
+    session.own.prompt = Some(prompt);
+    set_echo(session, Message::Silent);
 }
 
 /// The buffer that the selected window shows.

@@ -10,3 +10,4 @@ pub mod Settles
 pub mod Dropping
 pub mod SelectedMark
 pub mod Unmodified
+pub mod Owns

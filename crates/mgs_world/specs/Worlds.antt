@@ -5,7 +5,9 @@ use Rattle.mgs_model.specs.Access.{Directory}
 use Rattle.mgs_model.specs.World.{World, Buffer, first_own, Nothing, Buffer_of}
 use Rattle.mgs_model.specs.World as model
 use Rattle.mgs_model.specs.declared.message.Message.TheVariants.{Silent}
-use Rattle.mgs_model.specs.declared.session.Mode.TheVariants.{Plain}
+use Rattle.mgs_model.specs.declared.session.Mode.{Mode}
+use Rattle.mgs_model.specs.declared.session.Mode.TheVariants.{Plain, Prompt}
+use Rattle.mgs_mini.specs.Typing.{PromptInput, keys_of}
 use Rattle.mgs_buffers.specs.MarkedBuffer.{MarkedBuffer, mark_at}
 use Rattle.mgs_windows.specs.declared.WindowMarks.{WindowMarks}
 use Rattle.mgs_windows.specs.declared.Window.{Window}
@@ -32,10 +34,32 @@ window_of ks x = window_shown ks x.height x.shows
 abbrev pub place_of : List MarkedBuffer → WindowMarks → model.Place
 place_of ks x = record { name = x.name; point = mark_at x.name ks x.point; mark = option_map (mark_at x.name ks) x.mark }
 
--- what a session holds: no mode, no macro, and nothing but the echo text, what is half read, the last command's kind and
--- the fill column
+-- the mode, the keys that are half read and the input, by the prompt where there is one
+abbrev pub mode_in : Option PromptInput → Mode
+mode_in None = Plain
+mode_in (Some p) = Prompt p.question
+
+abbrev pub keys_in : List ℕ → Option PromptInput → List ℕ
+keys_in keys None = keys
+keys_in keys (Some p) = keys_of p.waiting
+
+abbrev pub input_in : Option PromptInput → List ℕ
+input_in None = []
+input_in (Some p) = p.input
+
+-- what a session holds: no mode but that of a prompt, no macro, and nothing but the echo text, what is half read, the last
+-- command's kind and the fill column
 abbrev pub own_of : Own → model.Own
-own_of x = record first_own { echo = x.echo; fill = x.fill; argument = x.keyboard.argument; keys = x.keyboard.keys; kind = x.kind }
+own_of x =
+    record first_own {
+      echo = x.echo;
+      fill = x.fill;
+      argument = x.keyboard.argument;
+      keys = keys_in x.keyboard.keys x.prompt;
+      kind = x.kind;
+      mode = mode_in x.prompt;
+      input = input_in x.prompt;
+    }
 
 -- nothing is half read, nothing is told, and nothing is still to be done
 abbrev pub idle : model.Own → model.Own
