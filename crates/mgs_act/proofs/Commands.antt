@@ -5,7 +5,7 @@ use Rattle.std.specs.List.{position_or_len}
 use Rattle.std.specs.Option.{option_and_then, option_map}
 use Rattle.std.proofs.lemmas.Option.{get_or_from_slice_get}
 use Rattle.mgs_model.specs.Access.{Directory}
-use Rattle.mgs_model.specs.World.{World, find_session, first_own, has_id}
+use Rattle.mgs_model.specs.World.{World, find_session, has_id}
 use Rattle.mgs_model.specs.World as model
 use Rattle.mgs_model.specs.View.{view}
 use Rattle.mgs_model.specs.Outcome.{takes_memory}
@@ -40,6 +40,7 @@ use Rattle.mgs_world.specs.Sound.{IsSound}
 use Rattle.mgs_act.specs.Setting.{session_set}
 use Rattle.mgs_world.specs.Worlds.{id_after, idle, own_at, own_of, own_or_first, session_id, session_of, world_of}
 use Rattle.mgs_world.proofs.Sessions.{session_some}
+use Rattle.mgs_world.proofs.Owns.{at_rest, no_search}
 use Rattle.mgs_world.proofs.Soundness.{mark_is_kept}
 use Rattle.mgs_world.proofs.Worlds.{same_world}
 use Rattle.mgs_act.proofs.Deeds.{acting_marks, failed_so, fresh_own}
@@ -106,7 +107,7 @@ act_nowhere directory ks xs next id at h c n here place within is fresh none =
 -- A SETTING
 
 fresh_filled : (o : Own) (column : ℕ) → own_of o ≡ idle (own_of o) → own_of (record o { kind = Other; fill = column }) ≡ record (acted_own (own_of o)) { fill = column }
-fresh_filled o column fresh = λ i. record first_own { echo = o.echo; fill = column; argument = (fresh i).argument; keys = (fresh i).keys; kind = Other }
+fresh_filled o column fresh = at_rest (λ (own : model.Own). record own { kind = Other; fill = column }) (λ own. record (acted_own own) { fill = column }) (λ own. refl) (own_of o) fresh
 
 module _ (directory : Directory) (ks : List MarkedBuffer) (xs : List Session) (next : Option ℕ) (id at : ℕ) (h : Session) (place : at ≡ position_or_len (session_id id) xs) (within : at < length xs) (found : slice_get xs at ≡ Some h) (fresh : own_at at xs ≡ idle (own_at at xs)) where
   failed_set : (message : Message) → world_of directory ks (slice_set xs at (failed message h)) next ≡ apply (world_of directory ks xs next) id (fails (own_of h.own) message)
@@ -117,7 +118,7 @@ module _ (directory : Directory) (ks : List MarkedBuffer) (xs : List Session) (n
       let f = session_arranged (owns (record (acted_own (own_of h.own)) { fill = column })) in
       same_world directory _ _ _ _ (id_after next) refl
       (written_first (session_of ks) (has_id id) f xs at h (filling column (acted Other h)) (place ∙ sym (position_or_len-map (session_of ks) (has_id id) xs)) within (sym (get_or_from_slice_get xs at h h found))
-      (λ i. record (session_of ks h) { own = fresh_filled h.own column (fresh_own xs at h found fresh) i })
+      (λ i. record (session_of ks h) { own = fresh_filled h.own column (fresh_own xs at h found fresh) i; search = no_search h.own.prompt i })
       ∙ ap (change_first (has_id id) f) (sym (map-id (map (session_of ks) xs))))
 
   set_so : (s : Setting) (n : Option ℕ) → is_setting_done s ≡ true → world_of directory ks (slice_set xs at (session_set s n h)) next ≡ apply (world_of directory ks xs next) id (sets (own_of h.own) (setting s (acted_own (own_of h.own)) n))

@@ -6,7 +6,7 @@ use Rattle.std.specs.Option.{option_and_then, option_map}
 use Rattle.std.proofs.lemmas.List.{map-id, set-get_or}
 use Rattle.std.proofs.lemmas.Option.{get_or_from_slice_get}
 use Rattle.mgs_model.specs.Access.{Directory}
-use Rattle.mgs_model.specs.World.{Item, World, first_own, has_id}
+use Rattle.mgs_model.specs.World.{Item, World, has_id}
 use Rattle.mgs_model.specs.World as model
 use Rattle.mgs_model.specs.Outcome.{Adjust, Effect, No_effect, Edit, Unmodified, Outcome, PointPlan, Keep, At, At_origin, Keep_mark}
 use Rattle.mgs_model.specs.Plans as plans
@@ -32,6 +32,7 @@ use Rattle.mgs_act.specs.Actions.{AreMarks, CanBeDone, edited_by, kill_at, kill_
 use Rattle.mgs_world.specs.Sound.{IsSound, session_uses, uses}
 use Rattle.mgs_world.specs.Worlds.{buffers_of, id_after, idle, own_at, own_of, own_or_first, session_id, session_of, size_in, sizes_in, world_of}
 use Rattle.mgs_world.proofs.Sessions.{session_found}
+use Rattle.mgs_world.proofs.Owns.{at_rest, no_search, own_failed}
 use Rattle.mgs_world.proofs.Soundness.{acting_mark, one_if_most, point_used, sizes_set, sound_edited, sound_placed, sound_set}
 use Rattle.mgs_world.proofs.Worlds.{buffers_edited, buffers_placed, mark_used_once, point_places, point_to, same_world, selected_at, sessions_edited, sessions_placed, top_places, top_to, top_used_once}
 use Rattle.mgs_world.proofs.Unmodified.{buffers_unmodified, sessions_unmodified, sound_unmodified}
@@ -64,13 +65,6 @@ first_twice {A = A} p f g keeps (x ∷ xs) = go (p x) refl (first_twice p f g ke
     go : (b : Bool) → p x ≡ b → change_first p g (change_first p f xs) ≡ change_first p (λ x. g (f x)) xs → change_first p g (cond b (f x ∷ xs) (x ∷ change_first p f xs)) ≡ cond b (g (f x) ∷ xs) (x ∷ change_first p (λ x. g (f x)) xs)
     go true e rest = ap (λ b. cond b (g (f x) ∷ xs) (f x ∷ change_first p g xs)) (keeps x ∙ e)
     go false e rest = ap (λ b. cond b (g x ∷ change_first p f xs) (x ∷ change_first p g (change_first p f xs))) e ∙ ap (λ ys. x ∷ ys) rest
-
--- THE SESSION'S OWN RECORD
-
--- a session that has nothing half read and an empty echo line, once a command has failed
-fresh_failed : (o : Own) (message : Message) → own_of o ≡ idle (own_of o) → own_of (record o { echo = message; kind = kind_failed message o.kind }) ≡ failed_own message (own_of o)
-fresh_failed o message fresh =
-    λ i. record first_own { echo = message; fill = o.fill; argument = (fresh i).argument; keys = (fresh i).keys; kind = kind_failed message o.kind }
 
 -- THE ACTING SESSION
 
@@ -166,14 +160,14 @@ one_ends : (behind : ℕ) (text kill : List ℕ) (f : Finish) (e : Effect) (ks :
     → (let left = finish_read text kill behind f in ends left (own_of h.own) (selected_at (top_by left.top) (selected_at (point_by left.point) (session_of ks h))) ≡ session_arranged (ended (unmarked left) e (own_of h.own)) (session_of ks h))
 one_ends behind text kill f e ks h =
     let left = finish_read text kill behind f in
-    λ i. record (ends left (own_of h.own) (session_of ks h)) { windows = windows_end left.point left.top (session_of ks h) i }
+    λ i. record (ends left (own_of h.own) (session_of ks h)) { windows = windows_end left.point left.top (session_of ks h) i; search = no_search h.own.prompt i }
 
 -- the session's own record
 own_ends : (behind : ℕ) (text kill : List ℕ) (f : Finish) (ks : List MarkedBuffer) (h : Session) → own_of h.own ≡ idle (own_of h.own)
     → (let left = finish_read text kill behind f in session_of ks (session_finished left h) ≡ ends left (own_of h.own) (session_of ks h))
 own_ends behind text kill f ks h fresh =
     let left = finish_read text kill behind f in
-    λ i. record (session_of ks (session_finished left h)) { own = record first_own { echo = f.told; fill = h.own.fill; argument = (fresh i).argument; keys = (fresh i).keys; kind = f.kind } }
+    λ i. record (session_of ks (session_finished left h)) { own = at_rest (λ (own : model.Own). record own { echo = f.told; kind = f.kind }) (finished_own left) (λ own. refl) (own_of h.own) fresh i }
 
 pub no_quit : (name : List ℕ) (c : plans.Change) (id : ℕ) (xs : List model.Session) → after_quit (edit_of name c) id xs ≡ xs
 no_quit name c id xs = go (is_edit c.a c.b c.put)
@@ -224,14 +218,12 @@ failed_so directory ks xs next id at h message place within is fresh =
     let f = session_arranged (fails (own_of h.own) message) in
     same_world directory _ _ _ _ (id_after next) refl
     (written_first (session_of ks) (has_id id) f xs at h (failed message h) (place ∙ sym (position_or_len-map (session_of ks) (has_id id) xs)) within (sym (get_or_from_slice_get xs at h h is))
-    (λ i. record (session_of ks h) { own = fresh_failed h.own message fresh i })
+    (λ i. record (session_of ks h) { own = own_failed message h i })
     ∙ ap (change_first (has_id id) f) (sym (map-id (map (session_of ks) xs))))
 
 -- a flag is cleared
 fresh_cleared : (o : Own) → own_of o ≡ idle (own_of o) → own_of (record o { echo = Silent; kind = Other }) ≡ acted_own (own_of o)
-fresh_cleared o fresh =
-    (λ i. record first_own { echo = Silent; fill = o.fill; argument = (fresh i).argument; keys = (fresh i).keys; kind = Other })
-    ∙ sym (λ i. record first_own { echo = (fresh i).echo; fill = o.fill; kind = Other })
+fresh_cleared o fresh = at_rest (λ (own : model.Own). record own { echo = Silent; kind = Other }) acted_own (λ own. refl) (own_of o) fresh
 
 cleared_so : (directory : Directory) (ks : List MarkedBuffer) (xs : List Session) (next : Option ℕ) (id at : ℕ) (h : Session) (name : List ℕ) → at ≡ position_or_len (session_id id) xs → at < length xs → slice_get xs at ≡ Some h → own_of h.own ≡ idle (own_of h.own) → world_of directory (change_first (marked_named name) marked_unmodified ks) (slice_set xs at (told Silent (acted Other h))) next ≡ apply (world_of directory ks xs next) id (effects (own_of h.own) (Ok (Unmodified name)))
 cleared_so directory ks xs next id at h name place within is fresh =
@@ -239,7 +231,7 @@ cleared_so directory ks xs next id at h name place within is fresh =
     let ls = change_first (marked_named name) marked_unmodified ks in
     same_world directory _ _ _ _ (id_after next) (buffers_unmodified name ks)
     (written_first (session_of ls) (has_id id) f xs at h (told Silent (acted Other h)) (place ∙ sym (position_or_len-map (session_of ls) (has_id id) xs)) within (sym (get_or_from_slice_get xs at h h is))
-    (λ i. record (session_of ls h) { own = fresh_cleared h.own fresh i })
+    (λ i. record (session_of ls h) { own = fresh_cleared h.own fresh i; search = no_search h.own.prompt i })
     ∙ ap (change_first (has_id id) f) (sessions_unmodified name ks xs ∙ sym (map-id (map (session_of ks) xs))))
 
 -- ANY ACTION

@@ -7,7 +7,7 @@ use Rattle.std.proofs.lemmas.List.{map-id}
 use Rattle.std.proofs.lemmas.Option.{get_or_from_slice_get}
 use Rattle.mgs_model.specs.Access.{Directory, Decider, allows, any_right, decider, decision_by}
 use Rattle.mgs_model.specs.Rights.{rights_in}
-use Rattle.mgs_model.specs.World.{World, Buffer, find_session, first_own, has_id}
+use Rattle.mgs_model.specs.World.{World, Buffer, find_session, has_id}
 use Rattle.mgs_model.specs.World as model
 use Rattle.mgs_model.specs.View.{buffer_seen, find_seen, full_if, text_in, told_if, view}
 use Rattle.mgs_model.specs.Outcome.{Keep_kill, Outcome, Run, Save, Stay}
@@ -38,6 +38,7 @@ use Rattle.mgs_world.specs.Sound.{IsSound, session_uses}
 use Rattle.mgs_world.specs.Worlds.{buffers_of, id_after, idle, own_at, own_of, own_or_first, session_id, session_of, size_in, sizes_in, world_of}
 use Rattle.mgs_world.proofs.Found.{found_seen, name_kept}
 use Rattle.mgs_world.proofs.Sessions.{session_some}
+use Rattle.mgs_world.proofs.Owns.{at_rest, no_search}
 use Rattle.mgs_world.proofs.Soundness.{mark_is_kept, sizes_set, sound_set}
 use Rattle.mgs_world.proofs.Worlds.{same_world}
 use Rattle.mgs_world.proofs.Unmodified.{buffers_unmodified, sessions_unmodified, sound_unmodified}
@@ -51,7 +52,7 @@ kept_here ks xs at h x sound is sel = mark_is_kept x.name x.point ks (acting_mar
 -- WHAT IS LEFT
 
 fresh_wrote : (o : Own) (name : List ℕ) → own_of o ≡ idle (own_of o) → own_of (record o { echo = Wrote name; kind = Other }) ≡ record (acted_own (own_of o)) { echo = Wrote name }
-fresh_wrote o name fresh = λ i. record first_own { echo = Wrote name; fill = o.fill; argument = (fresh i).argument; keys = (fresh i).keys; kind = Other }
+fresh_wrote o name fresh = at_rest (λ (own : model.Own). record own { echo = Wrote name; kind = Other }) (λ own. record (acted_own own) { echo = Wrote name }) (λ own. refl) (own_of o) fresh
 
 wrote_so : (directory : Directory) (ks : List MarkedBuffer) (xs : List Session) (next : Option ℕ) (id at : ℕ) (h : Session) (name text : List ℕ) → at ≡ position_or_len (session_id id) xs → at < length xs → slice_get xs at ≡ Some h → own_of h.own ≡ idle (own_of h.own) → world_of directory (change_first (marked_named name) marked_unmodified ks) (slice_set xs at (told (Wrote name) (acted Other h))) next ≡ apply (world_of directory ks xs next) id (save_answered (own_of h.own) name text true)
 wrote_so directory ks xs next id at h name text place within is fresh =
@@ -59,7 +60,7 @@ wrote_so directory ks xs next id at h name text place within is fresh =
     let ls = change_first (marked_named name) marked_unmodified ks in
     same_world directory _ _ _ _ (id_after next) (buffers_unmodified name ks)
     (written_first (session_of ls) (has_id id) f xs at h (told (Wrote name) (acted Other h)) (place ∙ sym (position_or_len-map (session_of ls) (has_id id) xs)) within (sym (get_or_from_slice_get xs at h h is))
-    (λ i. record (session_of ls h) { own = fresh_wrote h.own name fresh i })
+    (λ i. record (session_of ls h) { own = fresh_wrote h.own name fresh i; search = no_search h.own.prompt i })
     ∙ ap (change_first (has_id id) f) (sessions_unmodified name ks xs ∙ sym (map-id (map (session_of ks) xs))))
 
 saved_so : (directory : Directory) (ks : List MarkedBuffer) (xs : List Session) (next : Option ℕ) (id at : ℕ) (h : Session) (name text : List ℕ) (stored : Bool) → at ≡ position_or_len (session_id id) xs → at < length xs → slice_get xs at ≡ Some h → own_of h.own ≡ idle (own_of h.own) → world_of directory (buffers_saved stored name ks) (slice_set xs at (session_saved stored name h)) next ≡ apply (world_of directory ks xs next) id (save_answered (own_of h.own) name text stored)

@@ -1,7 +1,8 @@
 -- What the calls of a session come to in the model's words, and what a prompt makes of a byte.
 use Rattle.std.proofs.Common.{◌≡◌, ℕ, Bool, true, false, cond, List, [], ◌∷◌, length, take, ◌++◌, ◌-◌, nat_lt, ◌==◌, ◌&&◌, Option, None, Some, refl, sym, ap, ◌∙◌}
 use Rattle.mgs_model.specs.Keys.{is_graphic, value_of}
-use Rattle.mgs_model.specs.World.{Own}
+use Rattle.mgs_model.specs.World.{Own, Search}
+use Rattle.mgs_model.specs.Apply.{searches}
 use Rattle.mgs_model.specs.View.{View}
 use Rattle.mgs_model.specs.Acts.{asks}
 use Rattle.mgs_model.specs.Completion.{completion}
@@ -20,11 +21,16 @@ use Rattle.mgs_mini.specs.declared.Waiting.{Waiting}
 use Rattle.mgs_mini.specs.declared.Waiting.TheVariants.{NoKey, Escape, Arrow, ArrowEscape}
 use Rattle.mgs_session.specs.declared.Session.{Session}
 use Rattle.mgs_session.specs.Sessions.{asking, failed, prompting, resting}
-use Rattle.mgs_world.specs.Worlds.{idle, own_of}
+use Rattle.mgs_world.specs.Worlds.{idle, mode_in, own_of}
 
 -- what two functions of a record at rest make of it is the same where it computes to the same
 pub at_rest : {A : Type 0} (f g : Own → A) → ((own : Own) → f (idle own) ≡ g (idle own)) → (own : Own) → own ≡ idle own → f own ≡ g own
 at_rest f g same own fresh = ap f fresh ∙ same own ∙ sym (ap g fresh)
+
+-- no mode of a session in code has positions of a search
+pub no_search : (p : Option PromptInput) → Path (Option Search) None (cond (searches (mode_in p)) None None)
+no_search None = refl
+no_search (Some p) = refl
 
 -- CALLS
 
