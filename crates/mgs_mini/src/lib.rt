@@ -1,14 +1,14 @@
 //! The input of a prompt, typed byte by byte. It has fixed room and takes no memory.
 #![tactic(auto)]
 
-ghost use Rattle.std.specs.Prelude.{◌≡◌, ◌≤◌, [], length, IfSome};
+ghost use Rattle.std.specs.Prelude.{◌≡◌, ◌≤◌, [], length, true, IfSome};
 ghost use Rattle.std.specs.Option.{option_map};
 ghost use Rattle.mgs_model.specs.Keys.{is_graphic};
 ghost use Rattle.mgs_model.specs.World.{Own};
 ghost use Rattle.mgs_model.specs.View.{View};
 ghost use Rattle.mgs_model.specs.declared.session.Question.{Question};
 ghost use Rattle.mgs_model.specs.Turns.{prompt_turn, prompt_keys, prompt_key, completed, names_buffers};
-ghost use Rattle.mgs_mini.specs.Typing.{keys_of, typed_own, stepped, last_dropped, told};
+ghost use Rattle.mgs_mini.specs.Typing.{is_asked, keys_of, typed_own, stepped, last_dropped, told};
 ghost use Rattle.mgs_mini.specs.declared.Waiting.TheVariants.{NoKey};
 
 mod completing;
@@ -63,6 +63,11 @@ impl Model for Prompt {
     ghost Value = { PromptInput };
 
     ghost view = { λ p. record { question = p.question; input = p.input.items; waiting = p.waiting } };
+
+    ghost use Rattle.std.specs.Prelude.{◌≡◌, true};
+    ghost use Rattle.mgs_mini.specs.Typing.{is_asked};
+
+    ghost invariant = { λ p. is_asked p.question ≡ true };
 }
 
 fn names_buffers(question: Question) -> bool
@@ -147,6 +152,7 @@ fn feed_byte(input: &mut ArrayVec<u8, 120>, waiting: Waiting, byte: u8) -> (Step
 impl Prompt {
     /// A question with nothing typed.
     pub fn new(question: Question) -> Prompt
+        requires { is_asked question ≡ true }
         ensures { result ≡ record { question = question; input = []; waiting = NoKey } }
     {
         Prompt {
@@ -156,9 +162,10 @@ impl Prompt {
         }
     }
 
-    /// The question.
+    /// The question: one of those that are asked.
     pub fn question(&self) -> Question
-        ensures { result ≡ self.now.question }
+        ensures value { result ≡ self.now.question }
+        ensures asked { is_asked self.now.question ≡ true }
     {
         self.question
     }
@@ -195,9 +202,10 @@ impl Prompt {
         true
     }
 
-    /// What was typed.
+    /// What was typed, at most 120 characters.
     pub fn input(&self) -> &[u8]
-        ensures { result.now ≡ self.now.input }
+        ensures value { result.now ≡ self.now.input }
+        ensures within { length result.now ≤ 120 }
     {
         self.input.as_slice()
     }

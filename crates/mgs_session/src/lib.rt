@@ -3,8 +3,9 @@
 
 mod kill_buffer;
 
-ghost use Rattle.std.specs.Prelude.{◌≡◌, ◌≤◌, ◌-◌, [], ◌∷◌, vec_capacity};
+ghost use Rattle.std.specs.Prelude.{◌≡◌, ◌≤◌, ◌-◌, [], ◌∷◌, true, vec_capacity};
 ghost use Rattle.mgs_model.specs.Plans.{kind_failed};
+ghost use Rattle.mgs_mini.specs.Typing.{is_asked};
 ghost use Rattle.mgs_session.specs.Sessions.{session_opened, acted, asking, failed, filling, holding, prompting, resting, told, unprompted, window_marks_of};
 
 pub use kill_buffer::KillBuffer;
@@ -156,6 +157,7 @@ pub fn rest(session: &mut Session)
 
 /// Asks a question. The argument waits for the command that the answer is for.
 pub fn ask(session: &mut Session, question: Question, argument: Option<usize>)
+    requires { is_asked question ≡ true }
     ensures { session.new ≡ asking question argument session.old }
 {
     session.own.keyboard = Keyboard::holding(argument);
