@@ -1,13 +1,16 @@
 -- What a screen shows of the kept buffers.
 use Rattle.std.specs.Prelude.{ℕ, ◌-◌, min, Bool, true, false, List, [], ◌∷◌, ◌++◌, map, Option, Some, None, if◌then◌else◌}
 use Rattle.mgs_model.specs.Access.{Directory}
-use Rattle.mgs_model.specs.World.{may}
+use Rattle.mgs_model.specs.World.{Own, may}
 use Rattle.mgs_model.specs.Lines.{column}
-use Rattle.mgs_model.specs.Rows.{Row, mode_row, shift_for, buffer_mode}
+use Rattle.mgs_model.specs.Picture.{Picture}
+use Rattle.mgs_model.specs.Prompts.{prompt_line}
+use Rattle.mgs_model.specs.Rows.{Row, rows_put, mode_row, echo_row, line_row, line_end_column, shift_for, buffer_mode}
 use Rattle.mgs_model.specs.View.{buffer_seen, window_seen, reads}
 use Rattle.mgs_model.specs.Seen.{WindowPane, window_pane}
-use Rattle.mgs_model.specs.Draw.{read_rows, place_of, point_row}
+use Rattle.mgs_model.specs.Draw.{read_rows, place_of, point_row, own_line, cursor_in_mode}
 use Rattle.mgs_model.specs.declared.right.Right.TheVariants.{ReadAttributes}
+use Rattle.mgs_mini.specs.Typing.{PromptInput}
 use Rattle.mgs_buffers.specs.MarkedBuffer.{MarkedBuffer, marked_at, mark_at}
 use Rattle.mgs_windows.specs.declared.WindowMarks.{WindowMarks}
 use Rattle.mgs_windows.specs.declared.Window.{Window}
@@ -44,3 +47,19 @@ window_marks_cursor cols height ks x = (
   min (height - 1) (point_row (marked_at x.name ks).buffer.text (mark_at x.name ks x.top) (mark_at x.name ks x.point)),
   column (marked_at x.name ks).buffer.text (mark_at x.name ks x.point) - shift_for cols (column (marked_at x.name ks).buffer.text (mark_at x.name ks x.point)),
 )
+
+-- the line of a prompt in a row, and the cursor behind it
+abbrev pub prompt_drawn : PromptInput → ℕ → Picture → Picture
+prompt_drawn x row p = record p {
+  lines = rows_put row (line_row p.cols (prompt_line x.question x.input) ∷ []) p.lines;
+  row = row;
+  col = line_end_column p.cols (prompt_line x.question x.input);
+}
+
+-- the last row and the cursor of one who holds this, where the point is shown here
+abbrev pub last_row_drawn : Own → ℕ → ℕ × ℕ → Picture → Picture
+last_row_drawn own row point p = record p {
+  lines = rows_put row (echo_row p.cols (own_line own) own.echo ∷ []) p.lines;
+  row = (cursor_in_mode own.mode p.rows p.cols (own_line own) point).0;
+  col = (cursor_in_mode own.mode p.rows p.cols (own_line own) point).1;
+}

@@ -1,20 +1,21 @@
 // The screen of a session, drawn into a grid that is there.
 ghost use Rattle.std.specs.Prelude.{◌≡◌, ◌+◌, ◌-◌, ◌<◌, ◌≤◌, ℕ, true, List, Option, Some};
 ghost use Rattle.mgs_model.specs.Draw.{screen, window_rows, window_cursor};
-ghost use Rattle.mgs_model.specs.Rows.{rows_put, shift_for};
+ghost use Rattle.mgs_model.specs.Rows.{rows_put, shift_for, is_silent};
 ghost use Rattle.mgs_session.specs.declared.Session.{Session};
-ghost use Rattle.mgs_world.specs.Worlds.{world_of, session_of};
+ghost use Rattle.mgs_world.specs.Worlds.{world_of, session_of, own_of};
 ghost use Rattle.mgs_buffers.specs.MarkedBuffer.{HasBuffer, IsMark};
-ghost use Rattle.mgs_screen.specs.Screens.{screen_shift, window_to, heading_to, window_marks_rows, window_marks_cursor};
+ghost use Rattle.mgs_screen.specs.Screens.{screen_shift, window_to, heading_to, window_marks_rows, window_marks_cursor, prompt_drawn, last_row_drawn};
 ghost use Rattle.mgs_world.specs.Sound.{IsSessionSound, IsWindowSound};
 
 use mgs_buffers::Buffers;
 use mgs_grid::{Grid, shift_for};
 use mgs_lines::{column, line_start};
 use mgs_marks::Marked;
-use mgs_model::{Name, Right};
+use mgs_mini::Prompt;
+use mgs_model::{Message, Name, Right};
 use mgs_policy::Directory;
-use mgs_session::Session;
+use mgs_session::{Own, Session};
 use mgs_text::Text;
 use mgs_windows::{Window, WindowMarks};
 
@@ -130,6 +131,38 @@ fn draw_window<T: Marked + Drop>(
     (0, 0)
 }
 
+fn is_silent(message: &Message) -> bool
+    ensures { result ≡ is_silent message.now }
+{
+    matches!(message, Message::Silent)
+}
+
+/// Draws the line of a prompt, and puts the cursor behind it.
+fn draw_prompt(prompt: &Prompt, row: usize, grid: &mut Grid)
+    requires { row < grid.old.rows }
+    ensures { grid.new ≡ prompt_drawn prompt.now row grid.old }
+{
+    let column = grid.draw_prompt(row, prompt.question(), prompt.input());
+    grid.set_cursor(row, column);
+}
+
+/// Draws the last row: the line of the prompt where there is one and nothing is told, and else the echo text. Puts the
+/// cursor behind that line, and else at the point.
+fn draw_last_row(own: &Own, row: usize, point: (usize, usize), grid: &mut Grid)
+    requires last { row + 1 ≡ grid.old.rows }
+    requires row { point.0 < grid.old.rows }
+    requires col { point.1 < grid.old.cols }
+    ensures { grid.new ≡ last_row_drawn (own_of own.now) row point grid.old }
+{
+    match &own.prompt {
+        Some(prompt) if is_silent(&own.echo) => draw_prompt(prompt, row, grid),
+        _ => {
+            grid.draw_echo(row, &own.echo);
+            grid.set_cursor(point.0, point.1);
+        }
+    }
+}
+
 /// Draws a session's screen. It takes no memory.
 pub fn draw_session<T: Marked + Drop>(
     buffers: &Buffers<T>,
@@ -157,6 +190,5 @@ pub fn draw_session<T: Marked + Drop>(
         }
         first += window.height + 1;
     }
-    grid.draw_echo(first, &session.own.echo);
-    grid.set_cursor(cursor.0, cursor.1);
+    draw_last_row(&session.own, first, cursor, grid);
 }

@@ -1,20 +1,21 @@
-use Rattle.std.proofs.Common.{◌≡◌, ◌+◌, ◌<◌, ◌++◌, ℕ, Bool, true, List, [], ◌∷◌, length, drop, get_or, Some, refl, sym, ap, ◌∙◌, subst, arith, eq-eqb, None}
+use Rattle.std.proofs.Common.{◌≡◌, ◌+◌, ◌<◌, ◌++◌, ℕ, Bool, true, List, [], ◌∷◌, length, drop, get_or, Some, refl, sym, ap, ◌∙◌, subst, arith, eq-eqb}
 use Rattle.std.specs.Prelude.{nat_eq, if◌then◌else◌}
 use Rattle.std.proofs.lemmas.Bool.{ne_eqb}
 use Rattle.std.proofs.lemmas.List.{drop_more}
 use Rattle.mgs_model.specs.Access.{Directory}
 use Rattle.mgs_model.specs.Rows.{Row, rows_put, echo_row}
 use Rattle.mgs_model.specs.Picture.{Picture}
-use Rattle.mgs_model.specs.Draw.{window_rows, windows_rows, window_cursor}
+use Rattle.mgs_model.specs.Draw.{window_rows, windows_rows, window_cursor, own_line}
 use Rattle.mgs_buffers.specs.MarkedBuffer.{MarkedBuffer}
 use Rattle.mgs_windows.specs.declared.Window.{Window}
 use Rattle.mgs_windows.specs.Panes.{room_of}
 use Rattle.mgs_session.specs.declared.Session.{Session}
 use Rattle.mgs_world.specs.Sound.{IsWindowSound}
+use Rattle.mgs_world.specs.Worlds.{own_of}
 use Rattle.mgs_screen.specs.Screens.{window_to, windows_to}
 use Rattle.mgs_world.proofs.Soundness.{window_sound}
 use Rattle.mgs_grid.proofs.Pictures.{length-rows_put}
-use Rattle.mgs_screen.proofs.Drawings.{length_window, rows_more, cursor_more, cursor_all, rows_all, session_drawn}
+use Rattle.mgs_screen.proofs.Drawings.{length_window, rows_more, cursor_more, cursor_in, cursor_all, rows_all, session_drawn}
 use Rattle.mgs_screen.proofs.screen.draw_session.Goals as goal
 use Rattle.mgs_screen.proofs.screen.draw_session.Goals.{then-i-selected, else-i-selected}
 
@@ -85,21 +86,23 @@ returns g c = λ sessions. λ next.
     let selected : ℕ = c.selected-selected.result in
     let old : Picture = c.args.grid.now in
     let drawn : Picture = c.loop-i.grid in
-    let p : Picture = c.set_cursor.new.self in
+    let p : Picture = c.draw_last_row.new.grid in
     let ws : List Window = c.as_slice-window-items.result.now in
     let inv = c.loop-i.invariant in
     let rows : List Row = windows_rows 0 selected old.cols (windows_to d x.user ks ws) in
+    let echo : ℕ → Row = λ n. echo_row n (own_line (own_of x.own)) x.own.echo in
     let v : ws ≡ x.windows.windows = c.as_slice-window-items.ensures.value in
     let within : selected < length ws = omega (arith, c.selected-selected.ensures.within, c.selected-selected.ensures.value, ap (λ (vs : List Window). length vs) v) in
-    let lines : p.lines ≡ rows ++ echo_row old.cols None x.own.echo ∷ [] =
-    ap (λ (q : Picture). q.lines) c.set_cursor.ensures
-    ∙ ap (λ (q : Picture). q.lines) c.draw_echo.ensures
-    ∙ ap (λ (n : ℕ). rows_put c.loop-i.first (echo_row n None x.own.echo ∷ []) drawn.lines) inv.cols_stay
-    ∙ rows_all d x.user ks old.cols selected c.loop-i.i c.loop-i.first ws drawn.lines rows (echo_row old.cols None x.own.echo) c.loop-i-test.false (inv.room ∙ sym inv.count) inv.lines_are in
-    session_drawn d ks x sessions next ws selected old.cols c.loop-i.cursor p v c.selected-selected.ensures.value (sym c.requires.cols)
-    (ap (λ (q : Picture). q.rows) c.set_cursor.ensures ∙ ap (λ (q : Picture). q.rows) c.draw_echo.ensures ∙ inv.rows_stay ∙ sym c.requires.rows)
-    (ap (λ (q : Picture). q.cols) c.set_cursor.ensures ∙ ap (λ (q : Picture). q.cols) c.draw_echo.ensures ∙ inv.cols_stay)
+    let lines : p.lines ≡ rows ++ echo old.cols ∷ [] =
+    ap (λ (q : Picture). q.lines) c.draw_last_row.ensures
+    ∙ ap (λ (n : ℕ). rows_put c.loop-i.first (echo n ∷ []) drawn.lines) inv.cols_stay
+    ∙ rows_all d x.user ks old.cols selected c.loop-i.i c.loop-i.first ws drawn.lines rows (echo old.cols) c.loop-i-test.false (inv.room ∙ sym inv.count) inv.lines_are in
+    let cursor : cursor_in x.own drawn.rows drawn.cols c.loop-i.cursor ≡ cursor_in x.own old.rows old.cols c.loop-i.cursor =
+    ap (λ (n : ℕ). cursor_in x.own n drawn.cols c.loop-i.cursor) inv.rows_stay ∙ ap (λ (n : ℕ). cursor_in x.own old.rows n c.loop-i.cursor) inv.cols_stay in
+    session_drawn d ks x sessions next ws selected old.rows old.cols c.loop-i.cursor p v c.selected-selected.ensures.value (sym c.requires.rows) (sym c.requires.cols)
+    (ap (λ (q : Picture). q.rows) c.draw_last_row.ensures ∙ inv.rows_stay)
+    (ap (λ (q : Picture). q.cols) c.draw_last_row.ensures ∙ inv.cols_stay)
     lines
-    (ap (λ (q : Picture). q.row) c.set_cursor.ensures)
-    (ap (λ (q : Picture). q.col) c.set_cursor.ensures)
+    (ap (λ (q : Picture). q.row) c.draw_last_row.ensures ∙ ap (λ (n : ℕ × ℕ). n.0) cursor)
+    (ap (λ (q : Picture). q.col) c.draw_last_row.ensures ∙ ap (λ (n : ℕ × ℕ). n.1) cursor)
     (cursor_all d x.user ks old.cols selected c.loop-i.i c.loop-i.first ws c.loop-i.cursor within c.loop-i-test.false inv.cursor_is)
