@@ -14,7 +14,8 @@ use Rattle.mgs_model.specs.declared.session.Setting.TheVariants.{SetFillColumn, 
 use Rattle.mgs_model.specs.declared.session.Arrangement.{Arrangement}
 use Rattle.mgs_model.specs.declared.session.Arrangement.TheVariants.{ShrinkWindow, ListBuffers}
 use Rattle.mgs_model.specs.declared.session.Command.{Command}
-use Rattle.mgs_model.specs.declared.session.Command.TheVariants.{Insert, InsertReading, Move, Alter, Scroll, Set, Rearrange, UndoEdit, NotModified, SaveBuffer, Exit}
+use Rattle.mgs_model.specs.declared.session.Command.TheVariants.{Insert, InsertReading, Move, Alter, Scroll, Set, Rearrange, Ask, UndoEdit, NotModified, SaveBuffer, Exit}
+use Rattle.mgs_mini.specs.Typing.{is_asked}
 use Rattle.mgs_maps.specs.declared.maps.Fed.{Fed}
 use Rattle.mgs_maps.specs.declared.maps.Fed.TheVariants.{Pending, Run, Unbound}
 use Rattle.mgs_maps.specs.declared.maps.Prefix.{Prefix}
@@ -71,6 +72,7 @@ is_bound (Alter c) = is_bound_alteration c
 is_bound (Scroll c) = true
 is_bound (Set c) = is_bound_setting c
 is_bound (Rearrange c) = is_bound_arrangement c
+is_bound (Ask c) = is_asked c
 is_bound UndoEdit = true
 is_bound NotModified = true
 is_bound SaveBuffer = true

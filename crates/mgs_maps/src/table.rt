@@ -10,7 +10,8 @@ ghost use Rattle.mgs_maps.specs.Table.{rows_of, command_of};
 use crate::maps::Prefix;
 use mgs_keys::Key;
 use mgs_model::{
-    Alteration, Arrangement, Command, Insertion, Motion, ReadingInsertion, Scrolling, Setting,
+    Alteration, Arrangement, Command, Insertion, Motion, Question, ReadingInsertion, Scrolling,
+    Setting,
 };
 
 pub(crate) const ESCAPE: u8 = 0x1B;
@@ -33,7 +34,7 @@ pub struct Binding {
     pub command: Command,
 }
 
-static BINDINGS: [Binding; 59] = [
+static BINDINGS: [Binding; 61] = [
     Binding {
         keys: b"\r",
         name: "newline",
@@ -258,6 +259,16 @@ static BINDINGS: [Binding; 59] = [
         keys: b"\x18f",
         name: "set-fill-column",
         command: Command::Set(Setting::SetFillColumn),
+    },
+    Binding {
+        keys: b"\x18b",
+        name: "switch-to-buffer",
+        command: Command::Ask(Question::SwitchTo),
+    },
+    Binding {
+        keys: b"\x18\x06",
+        name: "find-file",
+        command: Command::Ask(Question::FindWhich),
     },
     Binding {
         keys: b"\x07",
