@@ -78,15 +78,15 @@ room_shrunk n zero (x ∷ xs) within stays = omega (arith, stays)
 room_shrunk n (suc i) (x ∷ xs) within stays = omega (arith, room_shrunk n i xs (omega (arith, within)) stays)
 
 -- each has a row
-abbrev AreHigh : List Window → Type 0
+abbrev pub AreHigh : List Window → Type 0
 AreHigh [] = Unit {0}
 AreHigh (x ∷ xs) = (1 ≤ x.height) × AreHigh xs
 
-high_of : (xs : List Window) → All (λ (x : Window). 1 ≤ x.height) xs → AreHigh xs
+pub high_of : (xs : List Window) → All (λ (x : Window). 1 ≤ x.height) xs → AreHigh xs
 high_of [] all = tt
 high_of (x ∷ xs) all = (all 0 x (omega arith), high_of xs (λ k d h. all (suc k) d (omega (arith, h))))
 
-of_high : (xs : List Window) → AreHigh xs → All (λ (x : Window). 1 ≤ x.height) xs
+pub of_high : (xs : List Window) → AreHigh xs → All (λ (x : Window). 1 ≤ x.height) xs
 of_high [] high k d h = absurd (omega (arith, h))
 of_high (x ∷ xs) high zero d h = high.0
 of_high (x ∷ xs) high (suc k) d h = of_high xs high.1 k d (omega (arith, h))

@@ -1,5 +1,5 @@
 -- The windows of a session, and the places where windows were.
-use Rattle.std.specs.Prelude.{◌≡◌, ℕ, zero, suc, ◌+◌, ◌-◌, ◌/◌, ◌<◌, ◌≤◌, nat_lt, Bool, List, [], ◌∷◌, Option, Some, None, length, find, remove, slice_get, All, cond}
+use Rattle.std.specs.Prelude.{◌≡◌, ℕ, zero, suc, ◌+◌, ◌-◌, ◌/◌, ◌<◌, ◌≤◌, nat_lt, Bool, List, [], ◌∷◌, Option, Some, None, length, map, find, filter, remove, slice_get, All, cond, not}
 use Rattle.std.specs.Option.{option_map, option_and_then}
 use Rattle.mgs_model.specs.Names.{same_name}
 use Rattle.mgs_model.specs.Apply.{change_at}
@@ -127,3 +127,18 @@ showing y x = record x { shows = Some y }
 abbrev pub window_shown : WindowMarks → WindowList → WindowList
 window_shown y w =
     record w { windows = change_at w.selected (showing y) w.windows; places = places_after (shows_at w.selected w.windows) w.places }
+
+-- A BUFFER IS GONE: windows that show it show nothing, and places in it go
+
+abbrev pub shows_bereft : List ℕ → Option WindowMarks → Option WindowMarks
+shows_bereft name None = None
+shows_bereft name (Some x) = cond (same_name name x.name) None (Some x)
+
+abbrev pub window_bereft : List ℕ → Window → Window
+window_bereft name x = record x { shows = shows_bereft name x.shows }
+
+abbrev pub places_bereft : List ℕ → List WindowMarks → List WindowMarks
+places_bereft name places = filter (λ p. not (is_place_in name p)) places
+
+abbrev pub list_bereft : List ℕ → WindowList → WindowList
+list_bereft name w = record w { windows = map (window_bereft name) w.windows; places = places_bereft name w.places }

@@ -2,13 +2,15 @@
 //! where the session was in buffers that its windows left.
 #![tactic(auto)]
 
+mod bereft;
 mod places;
 
 ghost use Rattle.std.specs.Prelude.{◌≡◌, ◌≢◌, ◌-◌, ◌/◌, ◌+◌, ◌<◌, ◌≤◌, [], ◌∷◌, length, slice_get, vec_capacity, Some, OnOk, OnErr, ◌^◌};
 ghost use Rattle.mgs_model.specs.Apply.{change_at};
 ghost use Rattle.std.specs.Option.{option_map};
-ghost use Rattle.mgs_windows.specs.Panes.{WindowList, IsWindowList, closer, given, grown, height_at, left_by, mark_set, marked, one_shown, places_after, room_of, showing, shown_in, shows_at, shrunk, split_at, window_removed, window_shown, window_split, windows_without};
+ghost use Rattle.mgs_windows.specs.Panes.{WindowList, IsWindowList, closer, given, grown, height_at, left_by, list_bereft, mark_set, marked, one_shown, places_after, room_of, showing, shown_in, shows_at, shrunk, split_at, window_removed, window_shown, window_split, windows_without};
 
+use crate::bereft::{leave_places, leave_windows};
 use crate::places::put_place;
 use arrayvec::ArrayVec;
 use mgs_model::{MarkId, Name, Short};
@@ -369,5 +371,14 @@ impl Windows {
         remove_window(&mut self.list, index, heir);
         self.selected = closer(index, self.selected);
         leave(&mut self.places, shows)
+    }
+
+    /// The buffer of this name is gone: windows that show it show nothing from now on, and the place in it is taken out. Their
+    /// marks go with the buffer. It takes no memory.
+    pub fn forget(&mut self, name: &Name)
+        ensures { self.new ≡ list_bereft name.now self.old }
+    {
+        leave_windows(&mut self.list, name);
+        leave_places(&mut self.places, name);
     }
 }

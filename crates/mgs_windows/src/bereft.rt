@@ -1,0 +1,48 @@
+// A buffer is gone: no window shows it, and there is no place in it.
+ghost use Rattle.std.specs.Prelude.{◌≡◌, map, vec_capacity};
+ghost use Rattle.mgs_windows.specs.Panes.{places_bereft, shows_bereft, window_bereft};
+
+use crate::{Window, WindowMarks};
+use arrayvec::ArrayVec;
+use mgs_model::Name;
+
+/// What a window shows from now on.
+fn shows_bereft(shows: Option<WindowMarks>, name: &Name) -> Option<WindowMarks>
+    ensures { result ≡ shows_bereft name.now shows }
+{
+    match shows {
+        Some(window_marks) => {
+            if *name == window_marks.name {
+                None
+            } else {
+                Some(window_marks)
+            }
+        }
+        None => None,
+    }
+}
+
+/// The windows that showed the buffer show nothing.
+fn leave_slice(windows: &mut [Window], name: &Name)
+    ensures { windows.new ≡ map (window_bereft name.now) windows.old }
+{
+    for window in windows.iter_mut() {
+        window.shows = shows_bereft(window.shows, name);
+    }
+}
+
+/// The same in a list.
+#[tactic(auto, using(crate::proofs::BufferGone::length_bereft))]
+pub fn leave_windows(list: &mut ArrayVec<Window, 8>, name: &Name)
+    ensures { list.new.items ≡ map (window_bereft name.now) list.old.items }
+{
+    leave_slice(list.as_mut_slice(), name);
+}
+
+/// The place in the buffer is taken out.
+pub fn leave_places(places: &mut Vec<WindowMarks>, name: &Name)
+    ensures places { places.new.items ≡ places_bereft name.now places.old.items }
+    ensures capacity { vec_capacity places.new ≡ vec_capacity places.old }
+{
+    places.retain(|place| *name != place.name);
+}
