@@ -7,3 +7,4 @@ pub mod Plans
 pub mod Saves
 pub mod Settings
 pub mod Spelled
+pub mod Kills

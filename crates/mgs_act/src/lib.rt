@@ -4,10 +4,12 @@
 mod action;
 mod acts;
 mod given;
+mod killing;
 mod performing;
 mod planning;
 mod saving;
 mod setting;
 
 pub use acts::{KeyAct, act};
+pub use killing::kill;
 pub use saving::save;

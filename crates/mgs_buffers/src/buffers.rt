@@ -4,7 +4,7 @@ ghost use Rattle.std.specs.Option.{option_copied, option_map};
 ghost use Rattle.mgs_undo.specs.History.{has_serial};
 ghost use Rattle.mgs_undo.specs.Numbered.{item_of};
 ghost use Rattle.std.specs.Map.{lookup, remove_entry};
-ghost use Rattle.mgs_model.specs.Names.{same_name};
+ghost use Rattle.mgs_model.specs.Names.{IsName, same_name};
 ghost use Rattle.std.specs.List.{position_or_len};
 ghost use Rattle.mgs_model.specs.Access.{decider, decision, decision_by};
 ghost use Rattle.mgs_model.specs.Apply.{change_first};
@@ -18,6 +18,7 @@ ghost use Rattle.mgs_buffers.specs.MarkedBuffer.{AreUnmarked, AreWithinLimit, ma
 use crate::buffer::{Buffer, new_buffer, owners_list};
 use crate::completing::completion;
 use crate::fault::AddFault;
+use crate::naming::name_typed;
 use indexmap::IndexMap;
 use mgs_acl::user_named;
 use mgs_marks::Marked;
@@ -109,6 +110,15 @@ impl<T: Marked + Drop> Buffers<T> {
         ensures { result ≡ has_buffer name.now self.now }
     {
         self.all.contains_key(name)
+    }
+
+    /// The name that was typed, where a buffer has it. What is no name is the name of none.
+    pub fn name_typed(&self, typed: &[u8]) -> Option<Name>
+        ensures value { IfSome result (λ n. n ≡ typed.now) }
+        ensures form { IfSome result (λ n. IsName n) }
+        ensures there { is_some result ≡ has_buffer typed.now self.now }
+    {
+        name_typed(&self.all, typed)
     }
 
     /// Adds a buffer with this text as the last, without marks and with no edit recorded: its serial is 0. That its owner is

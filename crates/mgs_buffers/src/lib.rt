@@ -5,6 +5,7 @@ mod buffer;
 mod buffers;
 mod completing;
 mod fault;
+mod naming;
 
 pub use buffer::{Buffer, new_buffer};
 pub use buffers::Buffers;

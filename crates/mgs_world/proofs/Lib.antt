@@ -11,3 +11,4 @@ pub mod Dropping
 pub mod SelectedMark
 pub mod Unmodified
 pub mod Owns
+pub mod Killed

@@ -27,7 +27,7 @@ false_from false h = refl
 pub not_both : {X : Type 0} (b : Bool) → b ≡ true → b ≡ false → X
 not_both b p q = cc
 
-other_name : (n m x : List ℕ) → same_name n m ≡ false → same_name n x ≡ true → same_name m x ≡ false
+pub other_name : (n m x : List ℕ) → same_name n m ≡ false → same_name n x ≡ true → same_name m x ≡ false
 other_name n m x apart is =
     false_from (same_name m x) (λ e. not_both (same_name n m) (is_same n m (same_is n x is ∙ sym (same_is m x e))) apart)
 

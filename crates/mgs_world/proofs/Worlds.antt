@@ -23,7 +23,7 @@ use Rattle.mgs_world.proofs.Marks.{is_same, mark_edited, mark_kept, mark_unused,
 
 -- CONGRUENCE
 
-option_mapped : {A B : Type 0} (f g : A → B) → ((a : A) → f a ≡ g a) → (o : Option A) → option_map f o ≡ option_map g o
+pub option_mapped : {A B : Type 0} (f g : A → B) → ((a : A) → f a ≡ g a) → (o : Option A) → option_map f o ≡ option_map g o
 option_mapped f g same None = refl
 option_mapped f g same (Some a) = ap (λ b. Some b) (same a)
 

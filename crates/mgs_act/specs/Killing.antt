@@ -1,0 +1,49 @@
+-- What the killing of a buffer comes to.
+use Rattle.std.specs.Prelude.{ℕ, ◌==◌, List, [], ◌∷◌, length, Option, Some, None, Result, Ok, Err, find, if◌then◌else◌}
+use Rattle.mgs_model.specs.Access.{Directory, decision}
+use Rattle.mgs_model.specs.World.{Own}
+use Rattle.mgs_model.specs.Outcome.{Outcome, Keep_kill, Stay, Kill}
+use Rattle.mgs_model.specs.Plans.{acted_own}
+use Rattle.mgs_model.specs.Acts.{fails, permitted}
+use Rattle.mgs_model.specs.declared.entry.Decision.{Decision}
+use Rattle.mgs_model.specs.declared.entry.Decision.TheVariants.{Granted}
+use Rattle.mgs_model.specs.declared.message.Message.{Message}
+use Rattle.mgs_model.specs.declared.message.Message.TheVariants.{NoBuffer, NoSuchBuffer}
+use Rattle.mgs_buffers.specs.MarkedBuffer.{MarkedBuffer, marked_named}
+use Rattle.mgs_windows.specs.declared.WindowMarks.{WindowMarks}
+
+-- the name that was typed, or else that of what a window shows; none where it shows nothing
+abbrev pub name_in : Option WindowMarks → List ℕ
+name_in None = []
+name_in (Some x) = x.name
+
+abbrev pub name_meant : Option WindowMarks → List ℕ → List ℕ
+name_meant shows typed = if length typed == 0 then name_in shows else typed
+
+-- the buffer goes
+abbrev pub killing : Own → List ℕ → Outcome
+killing own name = record { own = acted_own own; kill = Keep_kill; arrange = Stay; effect = Kill name }
+
+-- the buffer of the name that is answered goes, or what stands against it is told
+abbrev pub kill_answered : Own → Result (List ℕ) Message → Outcome
+kill_answered own (Ok name) = killing own name
+kill_answered own (Err message) = fails own message
+
+-- what is decided on its deletion
+abbrev pub kill_decision : Directory → List ℕ → Option MarkedBuffer → Decision
+kill_decision directory user None = Granted
+kill_decision directory user (Some k) = decision directory k.buffer.owner user k.buffer.entries 65536
+
+-- what it comes to where that is granted
+abbrev pub kill_granted : Own → List ℕ → Option MarkedBuffer → Outcome
+kill_granted own [] found = fails own NoBuffer
+kill_granted own (c ∷ cs) None = fails own NoSuchBuffer
+kill_granted own (c ∷ cs) (Some k) = killing own (c ∷ cs)
+
+abbrev pub kill_named : Directory → List MarkedBuffer → Own → List ℕ → List ℕ → Outcome
+kill_named directory ks own user name =
+    permitted own (kill_decision directory user (find (marked_named name) ks)) (kill_granted own name (find (marked_named name) ks))
+
+-- what it comes to for a user whose selected window shows this
+abbrev pub kill_outcome : Directory → List MarkedBuffer → Own → List ℕ → Option WindowMarks → List ℕ → Outcome
+kill_outcome directory ks own user shows typed = kill_named directory ks own user (name_meant shows typed)

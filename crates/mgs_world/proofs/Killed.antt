@@ -1,0 +1,185 @@
+-- A buffer is killed: what its sessions used of it goes with it, and all else stays.
+use Rattle.std.proofs.Common.{◌≡◌, ℕ, ◌+◌, Bool, true, false, not, cond, List, [], ◌∷◌, map, Option, Some, None, refl, sym, ap, subst, ◌∙◌, arith}
+use Rattle.std.specs.Prelude.{filter, find, is_some, nat_eq}
+use Rattle.mgs_model.specs.Access.{Directory}
+use Rattle.mgs_model.specs.Names.{same_name}
+use Rattle.mgs_model.specs.World.{Buffer, Buffer_of, is_named}
+use Rattle.mgs_model.specs.World as model
+use Rattle.mgs_model.specs.Apply.{remove_first, session_bereft, window_bereft_if, without_buffer}
+use Rattle.mgs_model.specs.Apply as model_apply
+use Rattle.mgs_buffers.specs.MarkedBuffer.{MarkedBuffer, has_buffer, mark_at, marked_at, marked_named, marked_or_none, without_marked}
+use Rattle.mgs_marks.specs.Marks.{mark_in, position_in}
+use Rattle.mgs_windows.specs.declared.WindowMarks.{WindowMarks}
+use Rattle.mgs_windows.specs.declared.Window.{Window}
+use Rattle.mgs_windows.specs.Panes.{is_place_in, places_bereft, shows_bereft, window_bereft}
+use Rattle.mgs_session.specs.declared.Session.{Session}
+use Rattle.mgs_world.specs.Killing.{session_forgetting, world_without}
+use Rattle.mgs_world.specs.Sound.{IsSound, in_use, one_if, option_uses, place_uses, session_uses, sum_of, uses, window_marks_uses, window_uses}
+use Rattle.mgs_world.specs.Worlds.{buffers_of, place_of, session_of, size_in, sizes_in, window_of, window_shown, world_of}
+use Rattle.mgs_world.proofs.Marks.{other_name, same_is}
+use Rattle.mgs_world.proofs.Worlds.{option_mapped, same_place, same_positions, same_window, same_world}
+
+-- WHAT IS KEPT
+
+-- a look-up by a test that fails at what goes
+find_removed : {A : Type 0} (p q : A → Bool) → ((x : A) → p x ≡ true → q x ≡ false) → (xs : List A) → find q (remove_first p xs) ≡ find q xs
+find_removed p q apart [] = refl
+find_removed {A = A} p q apart (x ∷ xs) = go (p x) refl (find_removed p q apart xs)
+  where
+    go : (b : Bool) → p x ≡ b → find q (remove_first p xs) ≡ find q xs → find q (cond b xs (x ∷ remove_first p xs)) ≡ cond (q x) (Some x) (find q xs)
+    go true e more = ap (λ b. cond b (Some x) (find q xs)) (sym (apart x e))
+    go false e more = ap (cond (q x) (Some x)) more
+
+kept_other : (n m : List ℕ) (ks : List MarkedBuffer) → same_name n m ≡ false → marked_at m (without_marked n ks) ≡ marked_at m ks
+kept_other n m ks apart =
+    ap marked_or_none (find_removed (marked_named n) (marked_named m) (λ k e. other_name n m k.buffer.name apart e) ks)
+
+map_removed : {A B : Type 0} (h : A → B) (p : B → Bool) (xs : List A) → map h (remove_first (λ x. p (h x)) xs) ≡ remove_first p (map h xs)
+map_removed h p [] = refl
+map_removed h p (x ∷ xs) = go (p (h x)) (map_removed h p xs)
+  where
+    go : (b : Bool) → map h (remove_first (λ x. p (h x)) xs) ≡ remove_first p (map h xs) → map h (cond b xs (x ∷ remove_first (λ x. p (h x)) xs)) ≡ cond b (map h xs) (h x ∷ remove_first p (map h xs))
+    go true more = refl
+    go false more = ap (λ ys. h x ∷ ys) more
+
+pub buffers_killed : (n : List ℕ) (ks : List MarkedBuffer) → buffers_of (without_marked n ks) ≡ without_buffer n (buffers_of ks)
+buffers_killed n ks = map_removed (λ (k : MarkedBuffer). k.buffer) (is_named n) ks
+
+-- WHAT THE SESSIONS SHOW
+
+window_killed : (n : List ℕ) (ks : List MarkedBuffer) (height : ℕ) (o : Option WindowMarks) → window_shown (without_marked n ks) height (shows_bereft n o) ≡ model_apply.window_bereft n (window_shown ks height o)
+window_killed n ks height None = refl
+window_killed n ks height (Some x) = go (same_name n x.name) refl
+  where
+    go : (r : Bool) → same_name n x.name ≡ r → window_shown (without_marked n ks) height (cond r None (Some x)) ≡ window_bereft_if r (window_shown ks height (Some x))
+    go true e = refl
+    go false e =
+        let there : (id : ℕ) → mark_at x.name (without_marked n ks) id ≡ mark_at x.name ks id =
+        λ id. ap (λ (k : MarkedBuffer). position_in k.marks id) (kept_other n x.name ks e) in
+        same_window (Buffer_of x.name) _ _ _ _ _ _ 0 height (there x.point) (option_mapped _ _ there x.mark) (there x.top)
+
+places_killed : (n : List ℕ) (ks : List MarkedBuffer) (ps : List WindowMarks) → map (place_of (without_marked n ks)) (places_bereft n ps) ≡ filter (λ (p : model.Place). not (same_name n p.name)) (map (place_of ks) ps)
+places_killed n ks [] = refl
+places_killed n ks (x ∷ xs) = go (same_name n x.name) refl (places_killed n ks xs)
+  where
+    left : List model.Place
+    left = filter (λ (p : model.Place). not (same_name n p.name)) (map (place_of ks) xs)
+
+    go : (r : Bool) → same_name n x.name ≡ r → map (place_of (without_marked n ks)) (places_bereft n xs) ≡ left → map (place_of (without_marked n ks)) (cond (not r) (x ∷ places_bereft n xs) (places_bereft n xs)) ≡ cond (not r) (place_of ks x ∷ left) left
+    go true e more = more
+    go false e more =
+        let there : (id : ℕ) → mark_at x.name (without_marked n ks) id ≡ mark_at x.name ks id =
+        λ id. ap (λ (k : MarkedBuffer). position_in k.marks id) (kept_other n x.name ks e) in
+        ap (λ p. p ∷ map (place_of (without_marked n ks)) (places_bereft n xs)) (same_place x.name _ _ _ _ (there x.point) (option_mapped _ _ there x.mark))
+        ∙ ap (λ ps. place_of ks x ∷ ps) more
+
+windows_killed : (n : List ℕ) (ks : List MarkedBuffer) (ws : List Window) → map (window_of (without_marked n ks)) (map (window_bereft n) ws) ≡ map (model_apply.window_bereft n) (map (window_of ks) ws)
+windows_killed n ks [] = refl
+windows_killed n ks (w ∷ ws) =
+    ap (λ y. y ∷ map (window_of (without_marked n ks)) (map (window_bereft n) ws)) (window_killed n ks w.height w.shows)
+    ∙ ap (λ ys. model_apply.window_bereft n (window_of ks w) ∷ ys) (windows_killed n ks ws)
+
+session_killed : (n : List ℕ) (ks : List MarkedBuffer) (x : Session) → session_of (without_marked n ks) (session_forgetting n x) ≡ session_bereft n (session_of ks x)
+session_killed n ks x =
+    same_positions (session_of ks x) _ _ _ _ (windows_killed n ks x.windows.windows) (places_killed n ks x.windows.places)
+
+sessions_killed : (n : List ℕ) (ks : List MarkedBuffer) (xs : List Session) → map (session_of (without_marked n ks)) (map (session_forgetting n) xs) ≡ map (session_bereft n) (map (session_of ks) xs)
+sessions_killed n ks [] = refl
+sessions_killed n ks (x ∷ xs) =
+    ap (λ y. y ∷ map (session_of (without_marked n ks)) (map (session_forgetting n) xs)) (session_killed n ks x)
+    ∙ ap (λ ys. session_bereft n (session_of ks x) ∷ ys) (sessions_killed n ks xs)
+
+pub world_killed : (directory : Directory) (n : List ℕ) (ks : List MarkedBuffer) (xs : List Session) (next : Option ℕ) → world_of directory (without_marked n ks) (map (session_forgetting n) xs) next ≡ world_without n (world_of directory ks xs next)
+world_killed directory n ks xs next = same_world directory _ _ _ _ _ (buffers_killed n ks) (sessions_killed n ks xs)
+
+pub sizes_killed : (n : List ℕ) (xs : List Session) → sizes_in (map (session_forgetting n) xs) ≡ sizes_in xs
+sizes_killed n [] = refl
+sizes_killed n (x ∷ xs) = ap (λ ss. size_in x ∷ ss) (sizes_killed n xs)
+
+-- WHAT IS USED
+
+sum_none : {A : Type 0} (f : A → ℕ) (g : A → A) → ((a : A) → f (g a) ≡ 0) → (xs : List A) → sum_of f (map g xs) ≡ 0
+sum_none f g none [] = refl
+sum_none f g none (x ∷ xs) = omega (arith, none x, sum_none f g none xs)
+
+sum_same : {A : Type 0} (f : A → ℕ) (g : A → A) → ((a : A) → f (g a) ≡ f a) → (xs : List A) → sum_of f (map g xs) ≡ sum_of f xs
+sum_same f g same [] = refl
+sum_same f g same (x ∷ xs) = omega (arith, same x, sum_same f g same xs)
+
+-- of what is left
+sum_filtered_none : {A : Type 0} (f : A → ℕ) (t : A → Bool) → ((a : A) → t a ≡ true → f a ≡ 0) → (xs : List A) → sum_of f (filter t xs) ≡ 0
+sum_filtered_none f t none [] = refl
+sum_filtered_none f t none (x ∷ xs) = go (t x) refl (sum_filtered_none f t none xs)
+  where
+    go : (b : Bool) → t x ≡ b → sum_of f (filter t xs) ≡ 0 → sum_of f (cond b (x ∷ filter t xs) (filter t xs)) ≡ 0
+    go true e more = omega (arith, none x e, more)
+    go false e more = more
+
+sum_filtered_same : {A : Type 0} (f : A → ℕ) (t : A → Bool) → ((a : A) → t a ≡ false → f a ≡ 0) → (xs : List A) → sum_of f (filter t xs) ≡ sum_of f xs
+sum_filtered_same f t none [] = refl
+sum_filtered_same f t none (x ∷ xs) = go (t x) refl (sum_filtered_same f t none xs)
+  where
+    go : (b : Bool) → t x ≡ b → sum_of f (filter t xs) ≡ sum_of f xs → sum_of f (cond b (x ∷ filter t xs) (filter t xs)) ≡ f x + sum_of f xs
+    go true e more = ap (λ k. f x + k) more
+    go false e more = omega (arith, none x e, more)
+
+-- what shows another buffer uses nothing of this one
+elsewhere : (n : List ℕ) (i : ℕ) (x : WindowMarks) → same_name n x.name ≡ false → place_uses n i x ≡ 0
+elsewhere n i x apart =
+    ap (λ b. cond b (one_if (nat_eq x.point i) + option_uses i x.mark + one_if (nat_eq x.top i)) 0) apart
+
+shown_none : (n : List ℕ) (i : ℕ) (o : Option WindowMarks) → window_marks_uses n i (shows_bereft n o) ≡ 0
+shown_none n i None = refl
+shown_none n i (Some x) = go (same_name n x.name) refl
+  where
+    go : (r : Bool) → same_name n x.name ≡ r → window_marks_uses n i (cond r None (Some x)) ≡ 0
+    go true e = refl
+    go false e = elsewhere n i x e
+
+shown_same : (n m : List ℕ) (i : ℕ) (o : Option WindowMarks) → same_name n m ≡ false → window_marks_uses m i (shows_bereft n o) ≡ window_marks_uses m i o
+shown_same n m i None apart = refl
+shown_same n m i (Some x) apart = go (same_name n x.name) refl
+  where
+    go : (r : Bool) → same_name n x.name ≡ r → window_marks_uses m i (cond r None (Some x)) ≡ window_marks_uses m i (Some x)
+    go true e = sym (elsewhere m i x (other_name n m x.name apart e))
+    go false e = refl
+
+not_true : (b : Bool) → not b ≡ true → b ≡ false
+not_true true e = cc
+not_true false e = refl
+
+not_false : (b : Bool) → not b ≡ false → b ≡ true
+not_false true e = refl
+not_false false e = cc
+
+session_none : (n : List ℕ) (i : ℕ) (x : Session) → session_uses n i (session_forgetting n x) ≡ 0
+session_none n i x =
+    omega (
+      arith,
+      sum_none (window_uses n i) (window_bereft n) (λ w. shown_none n i w.shows) x.windows.windows,
+      sum_filtered_none (place_uses n i) (λ p. not (is_place_in n p)) (λ p e. elsewhere n i p (not_true _ e)) x.windows.places,
+    )
+
+session_same : (n m : List ℕ) (i : ℕ) (x : Session) → same_name n m ≡ false → session_uses m i (session_forgetting n x) ≡ session_uses m i x
+session_same n m i x apart =
+    omega (
+      arith,
+      sum_same (window_uses m i) (window_bereft n) (λ w. shown_same n m i w.shows apart) x.windows.windows,
+      sum_filtered_same (place_uses m i) (λ p. not (is_place_in n p)) (λ p e. elsewhere m i p (other_name n m p.name apart (not_false _ e))) x.windows.places,
+    )
+
+none_left : (n : List ℕ) (i : ℕ) (o : Option MarkedBuffer) → is_some o ≡ false → one_if (is_some (mark_in (marked_or_none o).marks i)) ≡ 0
+none_left n i None e = refl
+none_left n i (Some k) e = cc
+
+pub sound_killed : (n : List ℕ) (ks : List MarkedBuffer) (xs : List Session) → has_buffer n (without_marked n ks) ≡ false → IsSound ks xs → IsSound (without_marked n ks) (map (session_forgetting n) xs)
+sound_killed n ks xs gone sound = record { once = λ m i. go m i (same_name n m) refl }
+  where
+    go : (m : List ℕ) (i : ℕ) (r : Bool) → same_name n m ≡ r → uses m i (map (session_forgetting n) xs) ≡ in_use m i (without_marked n ks)
+    go m i true e =
+        subst (λ (m : List ℕ). uses m i (map (session_forgetting n) xs) ≡ in_use m i (without_marked n ks)) (same_is n m e)
+        (sum_none (session_uses n i) (session_forgetting n) (session_none n i) xs ∙ sym (none_left n i (find (marked_named n) (without_marked n ks)) gone))
+    go m i false e =
+        sum_same (session_uses m i) (session_forgetting n) (λ x. session_same n m i x e) xs
+        ∙ sound.once m i
+        ∙ sym (ap (λ (k : MarkedBuffer). one_if (is_some (mark_in k.marks i))) (kept_other n m ks e))

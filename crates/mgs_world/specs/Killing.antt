@@ -1,0 +1,15 @@
+-- A buffer is killed.
+use Rattle.std.specs.Prelude.{ℕ, List, map}
+use Rattle.mgs_model.specs.World.{World}
+use Rattle.mgs_model.specs.Apply.{buffers_after, session_after}
+use Rattle.mgs_model.specs.Outcome.{Kill}
+use Rattle.mgs_windows.specs.Panes.{list_bereft}
+use Rattle.mgs_session.specs.declared.Session.{Session}
+
+-- windows that show the buffer show nothing, and places in it go
+abbrev pub session_forgetting : List ℕ → Session → Session
+session_forgetting name x = record x { windows = list_bereft name x.windows }
+
+-- the same of the model's world, where the buffer is gone
+abbrev pub world_without : List ℕ → World → World
+world_without name w = record w { buffers = buffers_after (Kill name) w.buffers; sessions = map (session_after (Kill name)) w.sessions }

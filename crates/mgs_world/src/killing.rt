@@ -1,0 +1,39 @@
+// A buffer is killed.
+ghost use Rattle.std.specs.Prelude.{◌≡◌, ℕ, Option, map};
+ghost use Rattle.mgs_model.specs.Access.{Directory};
+ghost use Rattle.mgs_buffers.specs.MarkedBuffer.{HasBuffer};
+ghost use Rattle.mgs_world.specs.Killing.{session_forgetting, world_without};
+ghost use Rattle.mgs_world.specs.Sound.{IsSound};
+ghost use Rattle.mgs_world.specs.Worlds.{sizes_in, world_of};
+
+use mgs_buffers::Buffers;
+use mgs_marks::Marked;
+use mgs_model::Name;
+use mgs_session::Session;
+
+/// No window of these sessions shows the buffer of this name any longer, and no place is in it.
+fn forget(sessions: &mut [Session], name: &Name)
+    ensures { sessions.new ≡ map (session_forgetting name.now) sessions.old }
+{
+    for session in sessions.iter_mut() {
+        session.windows.forget(name);
+    }
+}
+
+/// The buffer of this name is taken out: windows of all sessions that show it show nothing, and places in it go. It takes
+/// no memory.
+#[tactic(auto, using(crate::proofs::Killed::sound_killed, crate::proofs::Killed::sizes_killed))]
+pub fn kill_buffer<T: Marked + Drop>(
+    buffers: &mut Buffers<T>,
+    sessions: &mut [Session],
+    name: &Name,
+)
+    requires sound { IsSound buffers.old sessions.old }
+    requires kept { HasBuffer name.now buffers.old }
+    ensures sound { IsSound buffers.new sessions.new }
+    ensures sizes { sizes_in sessions.new ≡ sizes_in sessions.old }
+    ensures world { (directory : Directory) (next : Option ℕ) → world_of directory buffers.new sessions.new next ≡ world_without name.now (world_of directory buffers.old sessions.old next) }
+{
+    buffers.kill(name);
+    forget(sessions, name);
+}
