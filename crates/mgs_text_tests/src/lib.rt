@@ -10,6 +10,8 @@ mod entries;
 #[cfg(test)]
 mod gap;
 #[cfg(test)]
+mod judge;
+#[cfg(test)]
 mod keyboard;
 #[cfg(test)]
 mod keys;
