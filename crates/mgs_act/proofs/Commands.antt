@@ -52,7 +52,7 @@ session_known directory ks xs next id at h place within is =
     session_some directory ks xs next id at h place within (sym (get_or_from_slice_get xs at h h is))
 
 -- what an act comes to, by the session that does it
-outcome_known : (directory : Directory) (ks : List MarkedBuffer) (xs : List Session) (next : Option ℕ) (id at : ℕ) (h : Session) (c : outcomes.Act) → at ≡ position_or_len (session_id id) xs → at < length xs → slice_get xs at ≡ Some h → outcome_in (world_of directory ks xs next) id c true ≡ Some (outcome (view (world_of directory ks xs next) (session_of ks h)) c true)
+pub outcome_known : (directory : Directory) (ks : List MarkedBuffer) (xs : List Session) (next : Option ℕ) (id at : ℕ) (h : Session) (c : outcomes.Act) → at ≡ position_or_len (session_id id) xs → at < length xs → slice_get xs at ≡ Some h → outcome_in (world_of directory ks xs next) id c true ≡ Some (outcome (view (world_of directory ks xs next) (session_of ks h)) c true)
 outcome_known directory ks xs next id at h c place within is =
     let w = world_of directory ks xs next in
     ap (λ o. option_map (λ v. outcome v c true) (option_map (view w) o)) (session_known directory ks xs next id at h place within is)
