@@ -1,4 +1,5 @@
 pub mod Commands
+pub mod Created
 pub mod Deeds
 pub mod Leaving
 pub mod Marked
@@ -8,3 +9,4 @@ pub mod Saves
 pub mod Settings
 pub mod Spelled
 pub mod Kills
+pub mod Switches

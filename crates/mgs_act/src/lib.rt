@@ -3,13 +3,16 @@
 
 mod action;
 mod acts;
+mod answering;
 mod given;
 mod killing;
 mod performing;
 mod planning;
 mod saving;
 mod setting;
+mod switching;
 
 pub use acts::{KeyAct, act};
 pub use killing::kill;
+pub use answering::answer;
 pub use saving::save;
