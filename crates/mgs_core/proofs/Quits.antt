@@ -1,5 +1,5 @@
 -- A byte that ends its session leaves the world as a close does.
-use Rattle.std.proofs.Common.{◌≡◌, ℕ, ◌<◌, Bool, true, false, not, cond, List, [], ◌∷◌, map, get_or, length, Option, Some, refl, sym, ap, subst, ◌∙◌}
+use Rattle.std.proofs.Common.{◌≡◌, ℕ, ◌<◌, Bool, true, false, not, cond, List, [], ◌∷◌, map, get_or, length, Option, Some, None, refl, sym, ap, subst, ◌∙◌}
 use Rattle.std.specs.Prelude.{is_some}
 use Rattle.std.specs.List.{flat_map, position_or_len}
 use Rattle.std.specs.Option.{option_map}
@@ -34,7 +34,7 @@ use Rattle.mgs_model.specs.declared.errors.Keyed.{Keyed}
 use Rattle.mgs_core.specs.Steps.{KeyedBy, TypedBy, closed, is_exit, sizes_keyed}
 use Rattle.mgs_core.proofs.Sizes.{sizes_world}
 use Rattle.mgs_core.proofs.Stays.{closed_rests, without_first}
-use Rattle.mgs_core.proofs.Steps.{exit_turn, keyed_quit, still}
+use Rattle.mgs_core.proofs.Steps.{exit_turn, keyed_quit, seen_at, still}
 
 -- a change of those that go leaves the others
 without_changed : (id : ℕ) (f : Session → Session) → ((x : Session) → has_id id (f x) ≡ has_id id x) → (xs : List Session) → without_session id (change_first (has_id id) f xs) ≡ without_session id xs
@@ -70,19 +70,19 @@ act_exit w own id n x found =
     ∙ ends_world w own id
 
 pub keyed_exit : (d : Directory) (ks : List MarkedBuffer) (xs : List code.Session) (next : Option ℕ) (t : StoreTold) (id at byte : ℕ) (f : Fed) (k : Held) (h : code.Session) → at ≡ position_or_len (session_id id) xs → at < length xs → h ≡ get_or xs at h
-    → FedBy f (key_read h.own.keyboard.argument h.own.keyboard.keys byte) k → IsBoundRun f → is_exit f ≡ true
+    → h.own.prompt ≡ None → FedBy f (key_read h.own.keyboard.argument h.own.keyboard.keys byte) k → IsBoundRun f → is_exit f ≡ true
     → IsUnique (sizes_in xs) → AreSettled d ks xs
     → KeyedBy (world_of d ks xs next) (closed (world_of d ks xs next) id) t t id byte keyed.Quit
-keyed_exit d ks xs next t id at byte f k h place within is read bound exit unique rests =
+keyed_exit d ks xs next t id at byte f k h place within is none read bound exit unique rests =
     let w : World = world_of d ks xs next in
     let found = session_some d ks xs next id at h place within is in
-    let turn = exit_turn h.own byte k f read bound exit in
+    let turn = exit_turn h.own byte k f none read bound exit in
     let alone : without_session id w.sessions ≡ remove_first (has_id id) w.sessions = without_first id w.sessions (subst IsUnique (sym (sizes_world d ks xs next)) unique) in
     keyed_quit w (closed w id) t id byte (ap is_some found) (ap (find_session id) (sym alone) ∙ find_without id w.sessions)
     (sym
-    (ap settled (byte_acted w id byte true (session_of ks h) found (still h.own) (idle (own_of h.own)) (Run Exit turn.0 []) turn.1 refl refl refl ∙ act_exit w (own_of h.own) id turn.0 (session_of ks h) found ∙ ap (λ ys. record w { sessions = ys }) alone)
+    (ap settled (byte_acted w id byte true (session_of ks h) found (still h.own) (idle (own_of h.own)) (Run Exit turn.0 []) (turn.1 (seen_at w (session_of ks h) byte)) refl refl refl ∙ act_exit w (own_of h.own) id turn.0 (session_of ks h) found ∙ ap (λ ys. record w { sessions = ys }) alone)
     ∙ closed_rests w id (rests next)))
-    (ap (flat_map saved_by) (acted_effects w id byte true (session_of ks h) found (still h.own) (idle (own_of h.own)) (Run Exit turn.0 []) turn.1 refl refl refl)
+    (ap (flat_map saved_by) (acted_effects w id byte true (session_of ks h) found (still h.own) (idle (own_of h.own)) (Run Exit turn.0 []) (turn.1 (seen_at w (session_of ks h) byte)) refl refl refl)
     ∙ act_saves_none (with_own id (λ old. idle (own_of h.own)) w) id (Run Exit turn.0 []) true refl)
 
 -- nothing is said to stay

@@ -1,9 +1,12 @@
 //! The server's world: its directory, buffers and sessions. One call of `Core` is one event.
 #![tactic(auto)]
 
+mod answering;
+mod keying;
 mod laws;
 mod secrecy;
 mod server;
+mod typing;
 
 pub use laws::{kill_stays, outcomes_are_lawful, settled_stays};
 pub use mgs_world::Size;

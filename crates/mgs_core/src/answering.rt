@@ -1,0 +1,44 @@
+// STANDS IN for the call of mgs_act, which is not there yet: its contract, and no body.
+ghost use Rattle.std.specs.Prelude.{◌≡◌, ◌<◌, ◌≤◌, ℕ, Option, IfOk, OnOk, OnErr, length, true};
+ghost use Rattle.std.specs.List.{position_or_len};
+ghost use Rattle.mgs_model.specs.Apart.{Apart};
+ghost use Rattle.mgs_model.specs.Apply.{act, outcome_in};
+ghost use Rattle.mgs_model.specs.Events.{may_be_refused};
+ghost use Rattle.mgs_model.specs.Outcome as outcomes;
+ghost use Rattle.mgs_model.specs.Turns.{answered};
+ghost use Rattle.mgs_mini.specs.Typing.{is_asked};
+ghost use Rattle.mgs_world.specs.Sound.{IsSound};
+ghost use Rattle.mgs_world.specs.Worlds.{idle, own_at, session_id, sizes_in, world_of};
+
+use mgs_buffers::Buffers;
+use mgs_marks::Marked;
+use mgs_model::{Question, Short, Touched};
+use mgs_policy::Directory;
+use mgs_session::Session;
+use std::alloc::Global;
+
+/// The command that a question is for is done by the session at `at`, which is at rest: `typed` is the answer.
+pub fn answer<T: Marked + Drop>(
+    alloc: Global,
+    buffers: &mut Buffers<T>,
+    directory: &Directory,
+    sessions: &mut [Session],
+    at: usize,
+    question: Question,
+    argument: Option<usize>,
+    typed: &[u8],
+) -> Result<Touched, Short>
+    requires sound { IsSound buffers.old sessions.old }
+    requires within { at < length sessions.old }
+    requires fresh { own_at at sessions.old ≡ idle (own_at at sessions.old) }
+    requires here { is_asked question ≡ true }
+    requires few { length typed.now ≤ 120 }
+    ensures sound { IsSound buffers.new sessions.new }
+    ensures sizes { sizes_in sessions.new ≡ sizes_in sessions.old }
+    ensures ok { OnOk result ((id : ℕ) (next : Option ℕ) → at ≡ position_or_len (session_id id) sessions.old → world_of directory.now buffers.new sessions.new next ≡ act (world_of directory.now buffers.old sessions.old next) id (outcomes.Run (answered question) argument typed.now) true) }
+    ensures touched { IfOk result (λ touched. (id : ℕ) (next : Option ℕ) → at ≡ position_or_len (session_id id) sessions.old → Apart touched id (world_of directory.now buffers.old sessions.old next) (world_of directory.now buffers.new sessions.new next)) }
+    ensures err { OnErr result ((next : Option ℕ) → world_of directory.now buffers.new sessions.new next ≡ world_of directory.now buffers.old sessions.old next) }
+    ensures may { OnErr result ((id : ℕ) (next : Option ℕ) → at ≡ position_or_len (session_id id) sessions.old → may_be_refused (outcome_in (world_of directory.now buffers.old sessions.old next) id (outcomes.Run (answered question) argument typed.now) true) ≡ true) }
+{
+    Err(Short)
+}
