@@ -5,7 +5,7 @@ use Rattle.mgs_model.specs.declared.entry.Decision.{Decision}
 use Rattle.mgs_model.specs.declared.entry.Decision.TheVariants.{Granted, DeniedBy, NotGranted}
 use Rattle.mgs_model.specs.declared.message.CursorPosition.{CursorPosition}
 use Rattle.mgs_model.specs.declared.message.Message.{Message}
-use Rattle.mgs_model.specs.declared.message.Message.TheVariants.{Silent, Denied, KeyNotBound, NoBuffer, BeginningOfBuffer, EndOfBuffer, BufferFull, NoMemory, Quitting, MarkSet, NoMark, KillTooLarge, NothingToYank, CharacterAt, EndAt, NoArgument, BadColumn, InMacro, NotInMacro, NoMacro, TooMany, OnlyOneWindow, WindowTooSmall, TooManyWindows, ImpossibleChange, NoSuchBuffer, BadName, TooManyBuffers, NoMatch, NoSuchEntry, NoSuchUser, NoFurtherUndo, NoFile, SaveFailed, Wrote, NoPattern, Replaced}
+use Rattle.mgs_model.specs.declared.message.Message.TheVariants.{Silent, Denied, KeyNotBound, NoBuffer, BeginningOfBuffer, EndOfBuffer, BufferFull, NoMemory, Quitting, MarkSet, NoMark, KillTooLarge, NothingToYank, CharacterAt, EndAt, NoArgument, BadColumn, InMacro, NotInMacro, NoMacro, TooMany, OnlyOneWindow, WindowTooSmall, TooManyWindows, ImpossibleChange, NoSuchBuffer, BadName, TooManyBuffers, NoMatch, NoSuchCommand, NoSuchEntry, NoSuchUser, NoFurtherUndo, NoFile, SaveFailed, Wrote, NoPattern, Replaced}
 
 abbrev pub denial_text : Decision → List ℕ
 denial_text Granted = []
@@ -46,6 +46,7 @@ message_text NoSuchBuffer = codes "No such buffer"
 message_text BadName = codes "Bad name"
 message_text TooManyBuffers = codes "Too many buffers"
 message_text NoMatch = codes "No match"
+message_text NoSuchCommand = codes "No such command"
 message_text NoSuchEntry = codes "No such entry"
 message_text NoSuchUser = codes "No such user"
 message_text NoFurtherUndo = codes "No further undo information"

@@ -51,6 +51,7 @@ pub enum Message {
     BadName,
     TooManyBuffers,
     NoMatch,
+    NoSuchCommand,
     NoSuchEntry,
     NoSuchUser,
     NoFurtherUndo,

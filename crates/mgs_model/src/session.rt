@@ -199,6 +199,8 @@ pub enum Question {
     FindWhich,
     KillWhich,
     InsertWhich,
+    /// The name of a command, which is then run.
+    RunWhich,
     WhichOwner,
     ReplaceWhat,
     ReplaceWith,
