@@ -76,8 +76,13 @@ fn names_buffers(question: Question) -> bool
     match question {
         Question::SwitchTo | Question::FindWhich | Question::KillWhich | Question::InsertWhich =>
             true,
-        Question::RunWhich | Question::WhichOwner | Question::ReplaceWhat | Question::ReplaceWith =>
-            false,
+        Question::RunWhich
+        | Question::GoToWhich
+        | Question::EntryToInsert
+        | Question::EntryToReplace
+        | Question::WhichOwner
+        | Question::ReplaceWhat
+        | Question::ReplaceWith => false,
     }
 }
 

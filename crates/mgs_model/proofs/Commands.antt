@@ -4,10 +4,10 @@ use Rattle.std.specs.Prelude.{Result, Ok, Err}
 use Rattle.mgs_model.specs.World.{Own}
 use Rattle.mgs_model.specs.Outcome.{Act, Run}
 use Rattle.mgs_model.specs.Plans.{acted_own, setting}
-use Rattle.mgs_model.specs.Turns.{Turn, Keep, Do, plays, command_turn, named_turn}
+use Rattle.mgs_model.specs.Turns.{Turn, Keep, Do, plays, line_turn, command_turn, named_turn}
 use Rattle.mgs_model.specs.declared.message.Message.{Message}
 use Rattle.mgs_model.specs.declared.session.Motion.{Motion}
-use Rattle.mgs_model.specs.declared.session.Motion.TheVariants.{StartSearch}
+use Rattle.mgs_model.specs.declared.session.Motion.TheVariants.{GoToLine, StartSearch}
 use Rattle.mgs_model.specs.declared.session.Setting.{Setting}
 use Rattle.mgs_model.specs.declared.session.Setting.TheVariants.{CallMacro}
 use Rattle.mgs_model.specs.declared.session.Command.{Command}
@@ -19,8 +19,13 @@ module _ (keys : Turn → List ℕ) (kept : (own : Own) → keys (Keep own) ≡ 
   plays_alone own n (Ok after) none = kept after
   plays_alone own n (Err message) none = done own (Run (Set CallMacro) n []) ∙ none
 
+  line_alone : (own : Own) (n : Option ℕ) → own.keys ≡ [] → keys (line_turn own n) ≡ []
+  line_alone own None none = done own _ ∙ none
+  line_alone own (Some n) none = done own _ ∙ none
+
   motion_alone : (own : Own) (n : Option ℕ) (c : Motion) → own.keys ≡ [] → keys (command_turn own n (Move c)) ≡ []
   motion_alone own n StartSearch none = done _ (Run (Move StartSearch) n []) ∙ none
+  motion_alone own n GoToLine none = line_alone own n none
   motion_alone own n c none = done own (Run (Move c) n []) ∙ none
 
   setting_alone : (own : Own) (n : Option ℕ) (c : Setting) → own.keys ≡ [] → keys (command_turn own n (Set c)) ≡ []

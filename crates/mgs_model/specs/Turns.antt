@@ -12,14 +12,15 @@ use Rattle.mgs_model.specs.declared.message.Message.{Message}
 use Rattle.mgs_model.specs.declared.message.Message.TheVariants.{Silent, Quitting, NoMatch, NoSuchCommand, Replaced}
 use Rattle.mgs_model.specs.declared.session.Mode.{Mode}
 use Rattle.mgs_model.specs.declared.session.Mode.TheVariants.{Plain, Prompt, Searching, Replacing}
-use Rattle.mgs_model.specs.declared.session.Motion.TheVariants.{StartSearch, SearchOn, StartReplace, SkipMatch}
+use Rattle.mgs_model.specs.declared.session.Motion.TheVariants.{GoToLine, StartSearch, SearchOn, StartReplace, SkipMatch}
 use Rattle.mgs_model.specs.declared.session.Alteration.TheVariants.{ReplaceMatch}
 use Rattle.mgs_model.specs.declared.session.Setting.TheVariants.{CallMacro}
 use Rattle.mgs_model.specs.declared.session.Question.{Question}
-use Rattle.mgs_model.specs.declared.session.Question.TheVariants.{SwitchTo, FindWhich, KillWhich, InsertWhich, RunWhich, WhichOwner, ReplaceWhat, ReplaceWith}
+use Rattle.mgs_model.specs.declared.session.Question.TheVariants.{SwitchTo, FindWhich, KillWhich, InsertWhich, RunWhich, GoToWhich, EntryToInsert, EntryToReplace, WhichOwner, ReplaceWhat, ReplaceWith}
 use Rattle.mgs_model.specs.declared.session.ByName.TheVariants.{SwitchToBuffer, KillBuffer, InsertBuffer}
+use Rattle.mgs_model.specs.declared.session.EntryChange.TheVariants.{InsertEntry, ReplaceEntry}
 use Rattle.mgs_model.specs.declared.session.Command.{Command}
-use Rattle.mgs_model.specs.declared.session.Command.TheVariants.{Move, Alter, Set, Ask, Named, SetOwner, LeaveSearch}
+use Rattle.mgs_model.specs.declared.session.Command.TheVariants.{Move, Alter, Set, Ask, Named, Entries, SetOwner, LeaveSearch}
 
 -- TURNS
 
@@ -39,8 +40,14 @@ abbrev pub plays : Own → Option ℕ → Result Own Message → Turn
 plays own n (Ok after) = Keep after
 plays own n (Err message) = Do own (Run (Set CallMacro) n [])
 
+-- a line's number that is not the argument is asked for
+abbrev pub line_turn : Own → Option ℕ → Turn
+line_turn own None = Do own (Run (Ask GoToWhich) None [])
+line_turn own (Some n) = Do own (Run (Move GoToLine) (Some n) [])
+
 abbrev pub command_turn : Own → Option ℕ → Command → Turn
 command_turn own n (Set CallMacro) = plays own n (setting CallMacro (acted_own own) n)
+command_turn own n (Move GoToLine) = line_turn own n
 command_turn own n (Move StartSearch) = Do (record own { mode = Searching; input = [] }) (Run (Move StartSearch) n [])
 command_turn own n c = Do own (Run c n [])
 
@@ -62,6 +69,9 @@ answered FindWhich = Named SwitchToBuffer
 answered KillWhich = Named KillBuffer
 answered InsertWhich = Named InsertBuffer
 answered RunWhich = Ask RunWhich
+answered GoToWhich = Move GoToLine
+answered EntryToInsert = Entries InsertEntry
+answered EntryToReplace = Entries ReplaceEntry
 answered WhichOwner = SetOwner
 answered ReplaceWhat = Ask ReplaceWith
 answered ReplaceWith = Move StartReplace

@@ -14,7 +14,7 @@ use Rattle.mgs_model.specs.declared.message.Message.{Message}
 use Rattle.mgs_model.specs.declared.message.Message.TheVariants.{Silent, Quitting}
 use Rattle.mgs_model.specs.declared.session.Mode.TheVariants.{Plain, Prompt}
 use Rattle.mgs_model.specs.declared.session.Question.{Question}
-use Rattle.mgs_model.specs.declared.session.Question.TheVariants.{SwitchTo, FindWhich, KillWhich, InsertWhich, RunWhich, WhichOwner, ReplaceWhat, ReplaceWith}
+use Rattle.mgs_model.specs.declared.session.Question.TheVariants.{SwitchTo, FindWhich, KillWhich, InsertWhich, RunWhich, GoToWhich, EntryToInsert, EntryToReplace, WhichOwner, ReplaceWhat, ReplaceWith}
 use Rattle.mgs_model.proofs.Commands.{named_alone}
 use Rattle.mgs_mini.specs.Typing.{PromptInput, keys_of, stepped, typed_own}
 use Rattle.mgs_mini.specs.declared.Step.{Step}
@@ -69,6 +69,9 @@ no_keys_answered FindWhich own none = none
 no_keys_answered KillWhich own none = none
 no_keys_answered InsertWhich own none = none
 no_keys_answered RunWhich own none = named_alone keys_before (λ o. refl) (λ o act. refl) (plain_own own) (value_of own.argument) (find_command own.input) none
+no_keys_answered GoToWhich own none = none
+no_keys_answered EntryToInsert own none = none
+no_keys_answered EntryToReplace own none = none
 no_keys_answered WhichOwner own none = none
 no_keys_answered ReplaceWhat own none = refl
 no_keys_answered ReplaceWith own none = none
