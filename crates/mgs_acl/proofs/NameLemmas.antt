@@ -3,7 +3,7 @@ use Rattle.std.proofs.Common.{◌≡◌, ℕ, List, refl, Bool, true, false}
 use Rattle.std.specs.Prelude.{None}
 use Rattle.mgs_model.specs.Names.{is_user_name, IsName}
 use Rattle.mgs_model.proofs.NameLemmas.{is_name-user_name}
-use Rattle.mgs_acl.specs.Spelling.{user_named}
+use Rattle.mgs_model.specs.Spelling.{user_named}
 
 no_user_named : (bs : List ℕ) (b : Bool) → is_user_name bs ≡ b → (IsName bs → ⊥) → user_named bs ≡ None
 no_user_named bs true is not_name = absurd (not_name (is_name-user_name bs is))

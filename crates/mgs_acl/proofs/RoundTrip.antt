@@ -23,7 +23,7 @@ use Rattle.mgs_model.specs.declared.entry.EntryType.TheVariants.{Allow, Deny}
 use Rattle.mgs_model.specs.declared.entry.Who.{Who}
 use Rattle.mgs_model.specs.declared.entry.Who.TheVariants.{Owner, Everyone, User, Group}
 use Rattle.mgs_model.specs.declared.entry.Entry.{Entry}
-use Rattle.mgs_acl.specs.Spelling.{is_filled, words, type_named, after_group, named_who, who_named, right_lettered, is_letter, bit_or_none, with_letter, mask_lettered, said, checked, entry_of_words, entry_in}
+use Rattle.mgs_model.specs.Spelling.{is_filled, words, type_named, after_group, named_who, who_named, right_lettered, is_letter, bit_or_none, with_letter, mask_lettered, said, checked, entry_of_words, entry_in}
 use Rattle.mgs_acl.specs.Written.{is_writable_who, mask_of, IsWritable}
 use Rattle.mgs_acl.proofs.Masks.{with_right, mask_of-rights_in}
 

@@ -6,6 +6,6 @@ mod printing;
 mod spelling;
 
 pub use list::{List, ListFault};
-pub use mgs_model::{Entry, EntryType, Who};
+pub use mgs_model::{Entry, EntryFault, EntryType, Who};
 pub use printing::print_entry;
-pub use spelling::{EntryFault, read_entry, user_named};
+pub use spelling::{read_entry, user_named};

@@ -4,27 +4,9 @@ ghost use Rattle.std.specs.Option.{option_map};
 ghost use Rattle.std.specs.List.{before_first, after_first};
 ghost use Rattle.mgs_model.specs.Names.{is_space};
 ghost use Rattle.mgs_model.specs.Rights.{letter_of};
-ghost use Rattle.mgs_acl.specs.Spelling.{words, words_cut, type_named, user_named, after_group, named_who, who_named, right_lettered, mask_lettered, entry_in};
+ghost use Rattle.mgs_model.specs.Spelling.{words, words_cut, type_named, user_named, after_group, named_who, who_named, right_lettered, mask_lettered, entry_in};
 
-use mgs_model::{Entry, EntryType, Mask, Name, Right, Who};
-use thiserror::Error;
-
-/// Why a text is no entry, in the order in which the faults are checked.
-#[derive(Clone, Copy, Debug, PartialEq, Eq, Error)]
-pub enum EntryFault {
-    /// The first word is neither `ALLOW` nor `DENY`, or there is none.
-    #[error("the type is neither ALLOW nor DENY")]
-    Kind,
-    /// The second word is neither `OWNER@` nor `EVERYONE@` nor a user's name nor `group:` and a group's name, or there is none.
-    #[error("it is neither OWNER@ nor EVERYONE@ nor a user nor a group")]
-    Who,
-    /// The third word is not made of letters of rights, or there is none.
-    #[error("the letters are not those of rights")]
-    Letters,
-    /// There is a fourth word.
-    #[error("there is a word after the letters")]
-    Trailing,
-}
+use mgs_model::{Entry, EntryFault, EntryType, Mask, Name, Right, Who};
 
 /// The text up to its first space, and the text after it.
 fn cut(text: &str) -> (&str, &str)

@@ -10,7 +10,7 @@ use Rattle.mgs_model.specs.declared.message.Message.TheVariants.{Silent}
 use Rattle.mgs_model.specs.declared.session.Kind.{Kind}
 use Rattle.mgs_model.specs.declared.session.Kind.TheVariants.{Other, Kill}
 use Rattle.mgs_model.specs.declared.session.Motion.{Motion}
-use Rattle.mgs_model.specs.declared.session.Motion.TheVariants.{StartSearch, SearchOn, StartReplace, SkipMatch}
+use Rattle.mgs_model.specs.declared.session.Motion.TheVariants.{GoToLine, StartSearch, SearchOn, StartReplace, SkipMatch}
 use Rattle.mgs_model.specs.declared.session.Alteration.{Alteration}
 use Rattle.mgs_model.specs.declared.session.Alteration.TheVariants.{ReplaceMatch}
 use Rattle.mgs_edit.specs.declared.plan.Around.{Around}
@@ -163,6 +163,7 @@ pub record ChangeWithin (text kill : List ℕ) (c : Change) : Type 0 where
 
 -- the motions that are planned here; those of a search are not
 abbrev pub is_planned : Motion → Bool
+is_planned GoToLine = false
 is_planned StartSearch = false
 is_planned SearchOn = false
 is_planned StartReplace = false

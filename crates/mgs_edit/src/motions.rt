@@ -232,9 +232,11 @@ pub fn motion<T: Text>(text: &T, around: &Around, command: Motion) -> Result<Fin
             ..goes(0)
         }),
         Motion::CopyRegion => copy_region(text, around),
-        // A search has planners of its own.
-        Motion::StartSearch | Motion::SearchOn | Motion::StartReplace | Motion::SkipMatch => Err(
-            Message::KeyNotBound,
-        ),
+        // A search has planners of its own; a line is not gone to yet.
+        Motion::GoToLine
+        | Motion::StartSearch
+        | Motion::SearchOn
+        | Motion::StartReplace
+        | Motion::SkipMatch => Err(Message::KeyNotBound),
     }
 }

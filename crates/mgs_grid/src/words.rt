@@ -2,13 +2,13 @@
 ghost use Rattle.std.specs.Prelude.{◌≡◌, ℕ, ◌+◌, ◌<◌, ◌≤◌, ◌^◌, ◌++◌, length, codes};
 ghost use Rattle.mgs_model.specs.Rows.{heading_text, place_text, cause_text, unread_text};
 ghost use Rattle.mgs_model.specs.Rights.{right_name};
-ghost use Rattle.mgs_model.specs.Messages.{denial_text, message_text, position_text};
+ghost use Rattle.mgs_model.specs.Messages.{denial_text, fault_name, message_text, position_text};
 ghost use Rattle.mgs_model.specs.Cells.{cells};
 ghost use Rattle.mgs_model.specs.Prompts.{prompt_text, prompt_line};
 ghost use Rattle.mgs_grid.specs.Cells.{over, Wrote};
 
 use crate::cells::{put_bytes, put_chars, put_decimal};
-use mgs_model::{CursorPosition, Decision, Message, Name, Question, Right};
+use mgs_model::{CursorPosition, Decision, EntryFault, Message, Name, Question, Right};
 
 #[tactic(auto, using(crate::proofs::Plain::name_plain, crate::proofs::Plain::name_short))]
 fn put_name(row: &mut [char], column: usize, name: &Name) -> usize
@@ -128,6 +128,20 @@ fn put_denial(row: &mut [char], decision: Decision) -> usize
     }
 }
 
+// Why a text is no entry.
+fn put_fault(row: &mut [char], fault: EntryFault) -> usize
+    ensures wrote { Wrote row.old 0 (codes "Bad entry: " ++ fault_name fault) row.new result }
+    ensures few { result ≤ 32 }
+{
+    let at = put_bytes(row, 0, b"Bad entry: ");
+    match fault {
+        EntryFault::Kind => put_bytes(row, at, b"Kind"),
+        EntryFault::Who => put_bytes(row, at, b"Who"),
+        EntryFault::Letters => put_bytes(row, at, b"Letters"),
+        EntryFault::Trailing => put_bytes(row, at, b"Trailing"),
+    }
+}
+
 // Where a point stands in its text.
 fn put_position(row: &mut [char], column: usize, at: &CursorPosition) -> usize
     requires { column < 2 ^ 60 }
@@ -186,7 +200,11 @@ pub(crate) fn put_message(row: &mut [char], message: &Message) -> usize
         Message::BadName => put_bytes(row, 0, b"Bad name"),
         Message::TooManyBuffers => put_bytes(row, 0, b"Too many buffers"),
         Message::NoMatch => put_bytes(row, 0, b"No match"),
+        Message::NoSuchCommand => put_bytes(row, 0, b"No such command"),
+        Message::NotANumber => put_bytes(row, 0, b"Not a number"),
+        Message::BadEntry(fault) => put_fault(row, fault),
         Message::NoSuchEntry => put_bytes(row, 0, b"No such entry"),
+        Message::ListFull => put_bytes(row, 0, b"List full"),
         Message::NoSuchUser => put_bytes(row, 0, b"No such user"),
         Message::NoFurtherUndo => put_bytes(row, 0, b"No further undo information"),
         Message::NoFile => put_bytes(row, 0, b"No file"),
@@ -211,6 +229,10 @@ fn prompt_text(question: Question) -> &'static [u8]
         Question::FindWhich => b"Find file: ",
         Question::KillWhich => b"Kill buffer: ",
         Question::InsertWhich => b"Insert buffer: ",
+        Question::RunWhich => b"M-x ",
+        Question::GoToWhich => b"Goto line: ",
+        Question::EntryToInsert => b"Entry: ",
+        Question::EntryToReplace => b"Entry: ",
         Question::WhichOwner => b"Owner: ",
         Question::ReplaceWhat => b"Query replace: ",
         Question::ReplaceWith => b"With: ",

@@ -58,17 +58,15 @@ prefix_is word = any_begins word key_rows
 
 -- THE TABLE OF THE CODE
 
-found_in : (word : List ℕ) (bs : List Binding) → option_map (λ (r : KeyRow). r.command) (find (λ (r : KeyRow). same_name word r.keys) (map row_of bs)) ≡ option_map (λ (b : Binding). b.command) (find (λ (b : Binding). same_name word b.keys.now) bs)
-found_in word [] = refl
-found_in word (b ∷ bs) =
-    let goal : Bool → Type 0 = λ t. option_map (λ (r : KeyRow). r.command) (cond t (Some (row_of b)) (find (λ (r : KeyRow). same_name word r.keys) (map row_of bs))) ≡ option_map (λ (b : Binding). b.command) (cond t (Some b) (find (λ (b : Binding). same_name word b.keys.now) bs)) in
-    let go : (t : Bool) → goal t = λ t. elim t as goal [
+pub found_in : (p : KeyRow → Bool) (bs : List Binding) → option_map (λ (r : KeyRow). r.command) (find p (map row_of bs)) ≡ option_map (λ (b : Binding). b.command) (find (λ (b : Binding). p (row_of b)) bs)
+found_in p [] = refl
+found_in p (b ∷ bs) =
+    elim (p (row_of b)) as (λ t. option_map (λ (r : KeyRow). r.command) (cond t (Some (row_of b)) (find p (map row_of bs))) ≡ option_map (λ (b : Binding). b.command) (cond t (Some b) (find (λ (b : Binding). p (row_of b)) bs))) [
       | true ↦ refl
-      | false ↦ found_in word bs
+      | false ↦ found_in p bs
     ]
-    in go (same_name word b.keys.now)
 
 pub table_finds : (word : List ℕ) (bs : List Binding) → rows_of bs ≡ key_rows → option_map (λ (b : Binding). b.command) (find (λ (b : Binding). same_name word b.keys.now) bs) ≡ command_of word
 table_finds word bs is =
-    sym (found_in word bs)
+    sym (found_in (λ (r : KeyRow). same_name word r.keys) bs)
     ∙ ap (λ rs. option_map (λ (r : KeyRow). r.command) (find (λ (r : KeyRow). same_name word r.keys) rs)) is

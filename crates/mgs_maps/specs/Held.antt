@@ -6,13 +6,13 @@ use Rattle.mgs_keys.specs.declared.decoder.Key.TheVariants.{Plain, Meta}
 use Rattle.mgs_model.specs.Keys.{KeyRead, Half, Bound, Not_bound, quotes, key_read}
 use Rattle.mgs_model.specs.declared.session.Argument.{Argument}
 use Rattle.mgs_model.specs.declared.session.Motion.{Motion}
-use Rattle.mgs_model.specs.declared.session.Motion.TheVariants.{StartSearch, SearchOn, StartReplace, SkipMatch}
+use Rattle.mgs_model.specs.declared.session.Motion.TheVariants.{GoToLine, StartSearch, SearchOn, StartReplace, SkipMatch}
 use Rattle.mgs_model.specs.declared.session.Alteration.{Alteration}
 use Rattle.mgs_model.specs.declared.session.Alteration.TheVariants.{ReplaceMatch}
 use Rattle.mgs_model.specs.declared.session.Setting.{Setting}
 use Rattle.mgs_model.specs.declared.session.Setting.TheVariants.{SetFillColumn, KeyboardQuit}
 use Rattle.mgs_model.specs.declared.session.Arrangement.{Arrangement}
-use Rattle.mgs_model.specs.declared.session.Arrangement.TheVariants.{ShrinkWindow, ListBuffers}
+use Rattle.mgs_model.specs.declared.session.Arrangement.TheVariants.{ListBuffers}
 use Rattle.mgs_model.specs.declared.session.Command.{Command}
 use Rattle.mgs_model.specs.declared.session.Command.TheVariants.{Insert, InsertReading, Move, Alter, Scroll, Set, Rearrange, Ask, UndoEdit, NotModified, SaveBuffer, Exit}
 use Rattle.mgs_mini.specs.Typing.{is_asked}
@@ -40,14 +40,14 @@ FedBy Pending read new = read ≡ Half new.argument new.keys
 FedBy (Run c n) read new = (read ≡ Bound c n) × (new ≡ nothing_held)
 FedBy Unbound read new = (read ≡ Not_bound) × (new ≡ nothing_held)
 
--- the arrangements of the table
+-- the arrangements of the table, and those that have a name alone
 abbrev pub is_bound_arrangement : Arrangement → Bool
-is_bound_arrangement ShrinkWindow = false
 is_bound_arrangement ListBuffers = false
 is_bound_arrangement _ = true
 
 -- the motions, alterations and settings of the table
 abbrev pub is_bound_motion : Motion → Bool
+is_bound_motion GoToLine = false
 is_bound_motion StartSearch = false
 is_bound_motion SearchOn = false
 is_bound_motion StartReplace = false
@@ -63,7 +63,7 @@ is_bound_setting SetFillColumn = true
 is_bound_setting KeyboardQuit = true
 is_bound_setting _ = false
 
--- the commands of the table, and insertions of a character
+-- the commands of the table, those that have a name alone, and insertions of a character
 abbrev pub is_bound : Command → Bool
 is_bound (Insert c) = true
 is_bound (InsertReading c) = true

@@ -1,7 +1,9 @@
 -- The table of the code, as the rows by which keys are read.
-use Rattle.std.specs.Prelude.{ℕ, List, map, Option}
+use Rattle.std.specs.Prelude.{ℕ, List, map, Option, cond}
 use Rattle.std.specs.Option.{option_map}
 use Rattle.mgs_model.specs.Keys.{KeyRow, find_row}
+use Rattle.mgs_model.specs.Commands.{has_name}
+use Rattle.mgs_model.specs.Completion.{narrowed}
 use Rattle.mgs_model.specs.declared.session.Command.{Command}
 use Rattle.mgs_maps.specs.declared.table.Binding.{Binding}
 
@@ -14,3 +16,7 @@ rows_of bindings = map row_of bindings
 -- the command of a word in the table
 abbrev pub command_of : List ℕ → Option Command
 command_of word = option_map (λ (r : KeyRow). r.command) (find_row word)
+
+-- what the names so far have in common that begin with what was typed, with the name of a row
+abbrev pub narrowed_row : List ℕ → Option (List ℕ) → KeyRow → Option (List ℕ)
+narrowed_row input found r = cond (has_name r) (narrowed input found r.name) found

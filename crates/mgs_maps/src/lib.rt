@@ -3,8 +3,10 @@
 
 mod keyboard;
 mod maps;
+mod names;
 mod table;
 
 pub use keyboard::Keyboard;
 pub use maps::{Fed, Maps};
+pub use names::{command_named, name_completion};
 pub use table::{Binding, bindings};

@@ -3,6 +3,7 @@ ghost use Rattle.std.specs.Prelude.{◌≡◌, find};
 ghost use Rattle.std.specs.Option.{option_map};
 ghost use Rattle.mgs_model.specs.Names.{same_name};
 ghost use Rattle.mgs_model.specs.Keys.{key_rows};
+ghost use Rattle.mgs_model.specs.Commands.{keyless_rows};
 ghost use Rattle.mgs_maps.specs.Words.{word_of};
 ghost use Rattle.mgs_maps.specs.declared.table.Binding.{Binding};
 ghost use Rattle.mgs_maps.specs.Table.{rows_of, command_of};
@@ -27,9 +28,10 @@ pub(crate) const BRACKET: u8 = b'[';
 /// A row of the table: the bytes of a word of keys, the name of its command, and the command.
 #[derive(Clone, Copy, Debug)]
 pub struct Binding {
-    /// C-x is 0x18, and ESC (0x1B) stands before the byte of a key with Meta.
+    /// C-x is 0x18, and ESC (0x1B) stands before the byte of a key with Meta. Empty where no word runs the command.
     pub keys: &'static [u8],
-    /// Empty for the arrows (M-[ A, B, C, D), whose commands have their names in other rows.
+    /// Empty for the arrows (M-[ A, B, C, D) and other words of commands that have their names in other rows, and for
+    /// commands that M-x does not know.
     pub name: &'static str,
     pub command: Command,
 }
@@ -342,12 +344,25 @@ static BINDINGS: [Binding; 61] = [
     },
 ];
 
+static KEYLESS: [Binding; 1] = [Binding {
+    keys: b"",
+    name: "shrink-window",
+    command: Command::Rearrange(Arrangement::ShrinkWindow),
+}];
+
 /// The words of keys that run a command, with their names and commands: the rows by which keys are read. Beside them one
 /// visible ASCII character, the space and TAB insert themselves.
 pub fn bindings() -> &'static [Binding]
     ensures { rows_of result.now ≡ key_rows }
 {
     &BINDINGS
+}
+
+// The commands that no word of keys runs, with their names.
+pub(crate) fn keyless() -> &'static [Binding]
+    ensures { rows_of result.now ≡ keyless_rows }
+{
+    &KEYLESS
 }
 
 // Whether these bytes are those of the word.

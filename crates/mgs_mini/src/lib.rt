@@ -76,7 +76,13 @@ fn names_buffers(question: Question) -> bool
     match question {
         Question::SwitchTo | Question::FindWhich | Question::KillWhich | Question::InsertWhich =>
             true,
-        Question::WhichOwner | Question::ReplaceWhat | Question::ReplaceWith => false,
+        Question::RunWhich
+        | Question::GoToWhich
+        | Question::EntryToInsert
+        | Question::EntryToReplace
+        | Question::WhichOwner
+        | Question::ReplaceWhat
+        | Question::ReplaceWith => false,
     }
 }
 

@@ -1,6 +1,6 @@
 -- What a completion is: name by name, and in plain words.
 use Rattle.std.proofs.Common.{◌≡◌, ℕ, ◌+◌, one-add, ◌≤◌, Bool, true, false, ◌&&◌, cond, List, [], ◌∷◌, map, length, take, Some, None, refl, sym, ap, ◌∙◌, arith}
-use Rattle.std.proofs.lemmas.Bool.{eq-eqb, eqb-true, le-leb}
+use Rattle.std.proofs.lemmas.Bool.{eq-eqb, eqb-true, le-leb, leb-true}
 use Rattle.std.specs.Prelude.{◌==◌, nat_le, filter, fold, IfSome}
 use Rattle.std.specs.List.{common_prefix_len, list_all}
 use Rattle.mgs_model.specs.Access.{Directory}
@@ -168,3 +168,25 @@ common_is input (name ∷ names) h =
 
 pub completion_is : (names : List (List ℕ)) (input : List ℕ) → IfSome (completion names input) (IsCompletion (candidates names input) input)
 completion_is names input = common_is input (candidates names input) (candidates_begin names input)
+
+-- ROOM: what names are completed to is no longer than they are
+
+candidates_within : (limit : ℕ) (names : List (List ℕ)) (input : List ℕ) → list_all (λ name. nat_le (length name) limit) names ≡ true → list_all (λ name. nat_le (length name) limit) (candidates names input) ≡ true
+candidates_within limit [] input h = refl
+candidates_within limit (name ∷ names) input h =
+    let first : nat_le (length name) limit ≡ true = left (nat_le (length name) limit) (list_all (λ n. nat_le (length n) limit) names) h in
+    let rest : list_all (λ n. nat_le (length n) limit) (candidates names input) ≡ true = candidates_within limit names input (right (nat_le (length name) limit) (list_all (λ n. nat_le (length n) limit) names) h) in
+    elim (begins_with name input) as (λ t. list_all (λ n. nat_le (length n) limit) (cond t (name ∷ candidates names input) (candidates names input)) ≡ true) [
+      | true ↦ both (nat_le (length name) limit) (list_all (λ n. nat_le (length n) limit) (candidates names input)) first rest
+      | false ↦ rest
+    ]
+
+common_within : (limit : ℕ) (names : List (List ℕ)) → list_all (λ name. nat_le (length name) limit) names ≡ true → IfSome (common_of names) (λ text. length text ≤ limit)
+common_within limit [] h = tt
+common_within limit (name ∷ names) h =
+    let first : length name ≤ limit = leb-true (length name) limit (left (nat_le (length name) limit) (list_all (λ n. nat_le (length n) limit) names) h) in
+    let no_more : length (fold common name names) ≤ length name = no_longer name (fold common name names) (fold_first name names) in
+    omega (arith, first, no_more)
+
+pub completion_within : (limit : ℕ) (names : List (List ℕ)) (input : List ℕ) → list_all (λ name. nat_le (length name) limit) names ≡ true → IfSome (completion names input) (λ text. length text ≤ limit)
+completion_within limit names input h = common_within limit (candidates names input) (candidates_within limit names input h)

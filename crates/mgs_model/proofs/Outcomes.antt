@@ -10,7 +10,7 @@ use Rattle.mgs_model.specs.World.{Own}
 use Rattle.mgs_model.specs.View.{View, BufferSeen, find_seen, size_told, serial_told, text_in}
 use Rattle.mgs_model.specs.Outcome.{Act, Unbound, Run, Outcome, Keep_kill, Stay, Adjust, Arrange, Effect, No_effect, Edit, Unmodified, Reown, Create, Save, Quit}
 use Rattle.mgs_model.specs.Plans.{acted_own, Finish, Change, insertion, reading_insertion, motion, alteration, scrolling, setting, arrangement, undo, entries_changed, inserted}
-use Rattle.mgs_model.specs.Acts.{Target, target, around, is_at_text_end, moved_by, needs_by_name, Request, insertion_right, here, name_meant, needs, deciders_found, request_judged, or_else, judged, fails, is_too_large, is_full, finished_own, finished, edit_of, edited_by, edits, moves, sets, arranges, shows_named, created, killed, by_name, has_file, entries_told, items_in, relisted, effects, rules, saves, about, shown, subject, selected_seen, has_rows, row_in, scrolls_rows, scrolls, allowed, permitted, outcome}
+use Rattle.mgs_model.specs.Acts.{Target, target, around, is_at_text_end, moved_by, needs_by_name, Request, insertion_right, here, name_meant, needs, deciders_found, request_judged, or_else, judged, fails, is_too_large, is_full, finished_own, finished, edit_of, edited_by, edits, moves, sets, arranges, shows_named, created, killed, by_name, has_file, entries_told, items_in, relisted, effects, rules, lists, saves, about, shown, subject, selected_seen, has_rows, row_in, scrolls_rows, scrolls, allowed, permitted, outcome}
 use Rattle.mgs_model.specs.Lawful.{granted_on, lawful}
 use Rattle.mgs_model.specs.declared.right.Right.{Right}
 use Rattle.mgs_model.specs.declared.right.Right.TheVariants.{WriteData, AppendData}
@@ -22,7 +22,7 @@ use Rattle.mgs_model.specs.declared.message.Message.TheVariants.{BufferFull, Kil
 use Rattle.mgs_model.specs.declared.session.ByName.{ByName}
 use Rattle.mgs_model.specs.declared.session.Scrolling.{Scrolling}
 use Rattle.mgs_model.specs.declared.session.ByName.TheVariants.{SwitchToBuffer, KillBuffer, InsertBuffer}
-use Rattle.mgs_model.specs.declared.session.Command.TheVariants.{Insert, InsertReading, Move, Alter, Scroll, Set, Rearrange, Ask, Named, Entries, SetOwner, UndoEdit, NotModified, SaveBuffer, LeaveSearch, Exit}
+use Rattle.mgs_model.specs.declared.session.Command.TheVariants.{Insert, InsertReading, Move, Alter, Scroll, Set, Rearrange, Ask, Named, Entries, ListEntries, SetOwner, UndoEdit, NotModified, SaveBuffer, LeaveSearch, Exit}
 
 -- AN EFFECT COMES ONLY WITH ITS RIGHT
 
@@ -244,6 +244,10 @@ saves_lawful v own stored (Some t) e = choose own.playing (not (has_file t.buffe
 
 -- EVERY ACT
 
+lists_lawful : (v : View) (o : Option BufferSeen) → lawful v (lists v o).effect ≡ true
+lists_lawful v None = refl
+lists_lawful v (Some b) = refl
+
 scrolls_lawful : (v : View) (c : Scrolling) (n : Option ℕ) (typed : List ℕ) → lawful v (scrolls v c n typed).effect ≡ true
 scrolls_lawful v c n typed = choose (has_rows (selected_seen v))
   where
@@ -271,6 +275,7 @@ allowed_lawful v (Run (Ask c) n typed) stored e = refl
 allowed_lawful v (Run (Named c) n typed) stored e = named_lawful v c n typed e
 allowed_lawful v (Run (Entries c) n typed) stored e =
     rules_lawful v v.session.own 262144 (λ b. relisted b.name (entries_changed c (entries_told b.told) n typed)) (λ b. relisted_lawful v v.session.own b (entries_changed c (entries_told b.told) n typed)) (subject v) e
+allowed_lawful v (Run ListEntries n typed) stored e = lists_lawful v (subject v)
 allowed_lawful v (Run SetOwner n typed) stored e =
     rules_lawful v v.session.own 524288 (λ b. cond (is_among typed v.directory.users) (Ok (Reown b.name typed)) (Err NoSuchUser)) (reowned_lawful v v.session.own typed (is_among typed v.directory.users)) (subject v) e
 allowed_lawful v (Run UndoEdit n typed) stored e =

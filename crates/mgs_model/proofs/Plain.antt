@@ -8,7 +8,7 @@ use Rattle.mgs_model.specs.World.{World, Session, Own, has_id, find_session}
 use Rattle.mgs_model.specs.View.{View, BufferSeen, view, view_of, find_seen, size_told, serial_told, text_in}
 use Rattle.mgs_model.specs.Outcome.{Act, Unbound, Run, Outcome, Effect, No_effect, Unmodified, Reown, Create, Save, Quit, Arrange, Stay, Adjust, Keep_kill}
 use Rattle.mgs_model.specs.Plans.{Finish, Change, alteration, insertion, motion, reading_insertion, scrolling, arrangement, acted_own, setting, undo, entries_changed, inserted}
-use Rattle.mgs_model.specs.Acts.{outcome, permitted, judged, needs, allowed, Target, target, around, edits, edited_by, edit_of, has_file, has_rows, items_in, is_full, moves, row_in, scrolls_rows, selected_seen, moved_by, finished, finished_own, is_too_large, arranges, effects, rules, saves, sets, shown, shows_named, subject, relisted, entries_told, by_name, created, killed, name_meant, fails, without_all, told_over}
+use Rattle.mgs_model.specs.Acts.{outcome, permitted, judged, needs, allowed, Target, target, around, edits, edited_by, edit_of, has_file, has_rows, items_in, is_full, moves, row_in, scrolls_rows, selected_seen, moved_by, finished, finished_own, is_too_large, arranges, effects, rules, lists, saves, sets, shown, shows_named, subject, relisted, entries_told, by_name, created, killed, name_meant, fails, without_all, told_over}
 use Rattle.mgs_model.specs.Apply.{searches, change_first, apply, applied, outcome_in, act, after_quit, session_after, session_arranged}
 use Rattle.mgs_model.specs.Turns.{Turn, Keep, Do, byte_turn, todo_turn, next}
 use Rattle.mgs_model.specs.Events.{Byte, own_set, with_own, Doing, turn_in, turn_seen, rests, turn, turn_done, turns, most_turns, begun, begun_own, byte_done, refused_own, refused_of, refused_in, refused_act, act_effects, event_effects, turn_effects, turns_effects}
@@ -18,7 +18,7 @@ use Rattle.mgs_model.specs.declared.session.ByName.{ByName}
 use Rattle.mgs_model.specs.declared.session.ByName.TheVariants.{SwitchToBuffer, KillBuffer, InsertBuffer}
 use Rattle.mgs_model.specs.declared.session.Setting.{Setting}
 use Rattle.mgs_model.specs.declared.session.Setting.TheVariants.{SetFillColumn, KeyboardQuit, StartMacro, EndMacro, CallMacro}
-use Rattle.mgs_model.specs.declared.session.Command.TheVariants.{Insert, InsertReading, Move, Alter, Scroll, Set, Rearrange, Ask, Named, Entries, SetOwner, UndoEdit, NotModified, SaveBuffer, LeaveSearch, Exit}
+use Rattle.mgs_model.specs.declared.session.Command.TheVariants.{Insert, InsertReading, Move, Alter, Scroll, Set, Rearrange, Ask, Named, Entries, ListEntries, SetOwner, UndoEdit, NotModified, SaveBuffer, LeaveSearch, Exit}
 use Rattle.mgs_model.specs.declared.entry.Decision.{Decision}
 use Rattle.mgs_model.specs.declared.entry.Decision.TheVariants.{Granted, DeniedBy, NotGranted}
 use Rattle.mgs_model.proofs.Firsts.{change_first_found, find-change_first}
@@ -153,6 +153,10 @@ rules_left : (own : Own) (o : Option BufferSeen) (plan : BufferSeen → Result E
 rules_left own None plan h = refl
 rules_left own (Some b) plan h = effects_left own (plan b) h
 
+lists_left : (v : View) (o : Option BufferSeen) → v.session.own.todo ≡ [] → NothingLeft (lists v o)
+lists_left v None h = refl
+lists_left v (Some b) h = h
+
 saves_left : (own : Own) (o : Option Target) (stored : Bool) → own.todo ≡ [] → NothingLeft (saves own o stored)
 saves_left own None stored h = refl
 saves_left own (Some t) stored h = by own.playing (not (has_file t.buffer.told)) (not stored)
@@ -251,6 +255,7 @@ allowed_left v (Run (Ask c) n typed) stored s h = h
 allowed_left v (Run (Named c) n typed) stored s h = named_left v c n typed h
 allowed_left v (Run (Entries c) n typed) stored s h =
     rules_left v.session.own (subject v) (λ b. relisted b.name (entries_changed c (entries_told b.told) n typed)) h
+allowed_left v (Run ListEntries n typed) stored s h = lists_left v (subject v) h
 allowed_left v (Run SetOwner n typed) stored s h =
     rules_left v.session.own (subject v) (λ b. cond (is_among typed v.directory.users) (Ok (Reown b.name typed)) (Err NoSuchUser)) h
 allowed_left v (Run LeaveSearch n typed) stored s h = refl

@@ -11,14 +11,14 @@ use Rattle.mgs_model.specs.View.{View, BufferSeen, find_seen, size_told, serial_
 use Rattle.mgs_model.specs.Outcome.{Act, Unbound, Run, Outcome, Effect, No_effect, Edit, Unmodified, Reown, Create, Quit, Arrange, Stay, Adjust, Keep_kill}
 use Rattle.mgs_model.specs.Plans.{Finish, Change, alteration, insertion, motion, reading_insertion, scrolling, setting, arrangement, comes, inserted, undo, entries_changed, acted_own}
 use Rattle.mgs_model.specs.Text.{is_edit}
-use Rattle.mgs_model.specs.Acts.{outcome, permitted, judged, needs, allowed, Target, target, around, edits, edited_by, edit_of, has_rows, is_full, moves, row_in, scrolls_rows, selected_seen, moved_by, finished, is_too_large, arranges, sets, effects, rules, subject, shown, relisted, entries_told, items_in, by_name, created, killed, name_meant, fails, finished_own, shows_named}
+use Rattle.mgs_model.specs.Acts.{outcome, permitted, judged, needs, allowed, Target, target, around, edits, edited_by, edit_of, has_rows, is_full, moves, row_in, scrolls_rows, selected_seen, moved_by, finished, is_too_large, arranges, sets, effects, rules, lists, subject, shown, relisted, entries_told, items_in, by_name, created, killed, name_meant, fails, finished_own, shows_named}
 use Rattle.mgs_model.specs.Events.{Event, Close, Saved, act_effects, effect_in, event_effects, event_saves, run, run_effects, run_saves, saved_by, step}
 use Rattle.mgs_model.specs.declared.entry.Entry.{Entry}
 use Rattle.mgs_model.specs.declared.message.Message.{Message}
 use Rattle.mgs_model.specs.declared.message.Message.TheVariants.{BadName, BufferFull, InMacro, KillTooLarge, NoSuchUser, TooManyBuffers}
 use Rattle.mgs_model.specs.declared.session.ByName.{ByName}
 use Rattle.mgs_model.specs.declared.session.ByName.TheVariants.{SwitchToBuffer, KillBuffer, InsertBuffer}
-use Rattle.mgs_model.specs.declared.session.Command.TheVariants.{Insert, InsertReading, Move, Alter, Scroll, Set, Rearrange, Ask, Named, Entries, SetOwner, UndoEdit, NotModified, SaveBuffer, LeaveSearch, Exit}
+use Rattle.mgs_model.specs.declared.session.Command.TheVariants.{Insert, InsertReading, Move, Alter, Scroll, Set, Rearrange, Ask, Named, Entries, ListEntries, SetOwner, UndoEdit, NotModified, SaveBuffer, LeaveSearch, Exit}
 use Rattle.mgs_model.specs.declared.entry.Decision.{Decision}
 use Rattle.mgs_model.specs.declared.entry.Decision.TheVariants.{Granted, DeniedBy, NotGranted}
 
@@ -77,6 +77,10 @@ relisted_none : (own : Own) (name : List ℕ) (p : Result (List Entry) Message) 
 relisted_none own name (Err message) = refl
 relisted_none own name (Ok entries) = refl
 
+lists_none : (v : View) (o : Option BufferSeen) → SavesNothing (lists v o)
+lists_none v None = refl
+lists_none v (Some b) = refl
+
 created_none : (v : View) (name : List ℕ) → SavesNothing (created v name)
 created_none v name =
     let shows : Outcome = shows_named v name (Create name v.session.user) in
@@ -115,6 +119,7 @@ allowed_none v (Run (Ask c) n typed) stored h = refl
 allowed_none v (Run (Named c) n typed) stored h = named_none v c n typed
 allowed_none v (Run (Entries c) n typed) stored h =
     rules_none v.session.own (subject v) (λ b. relisted b.name (entries_changed c (entries_told b.told) n typed)) (λ b. relisted_none v.session.own b.name (entries_changed c (entries_told b.told) n typed))
+allowed_none v (Run ListEntries n typed) stored h = lists_none v (subject v)
 allowed_none v (Run SetOwner n typed) stored h = rules_none v.session.own (subject v) (λ b. cond (is_among typed v.directory.users) (Ok (Reown b.name typed)) (Err NoSuchUser)) (λ b. by b (is_among typed v.directory.users))
   where
     by : (b : BufferSeen) (f : Bool) → SavesNothing (effects v.session.own (cond f (Ok (Reown b.name typed)) (Err NoSuchUser)))

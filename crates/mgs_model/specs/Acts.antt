@@ -21,7 +21,7 @@ use Rattle.mgs_model.specs.declared.session.Question.{Question}
 use Rattle.mgs_model.specs.declared.session.Scrolling.{Scrolling}
 use Rattle.mgs_model.specs.declared.session.ByName.{ByName}
 use Rattle.mgs_model.specs.declared.session.ByName.TheVariants.{SwitchToBuffer, KillBuffer, InsertBuffer}
-use Rattle.mgs_model.specs.declared.session.Command.TheVariants.{Insert, InsertReading, Move, Alter, Scroll, Set, Rearrange, Ask, Named, Entries, SetOwner, UndoEdit, NotModified, SaveBuffer, LeaveSearch, Exit}
+use Rattle.mgs_model.specs.declared.session.Command.TheVariants.{Insert, InsertReading, Move, Alter, Scroll, Set, Rearrange, Ask, Named, Entries, ListEntries, SetOwner, UndoEdit, NotModified, SaveBuffer, LeaveSearch, Exit}
 
 -- WHERE A COMMAND ACTS
 
@@ -139,6 +139,7 @@ needs v (Run (Rearrange c) n typed) = []
 needs v (Run (Ask c) n typed) = []
 needs v (Run (Named c) n typed) = needs_by_name v c typed
 needs v (Run (Entries c) n typed) = about (subject v) 262144
+needs v (Run ListEntries n typed) = about (subject v) 131072
 needs v (Run SetOwner n typed) = about (subject v) 524288
 needs v (Run UndoEdit n typed) = here (target v) (λ t. 3)
 needs v (Run NotModified n typed) = about (shown v) 3
@@ -281,6 +282,11 @@ abbrev pub rules : Own → Option BufferSeen → (BufferSeen → Result Effect M
 rules own None plan = fails own NoBuffer
 rules own (Some b) plan = effects own (plan b)
 
+-- the selected window comes to the access list of the buffer that it shows, or whose list it shows
+abbrev pub lists : View → Option BufferSeen → Outcome
+lists v None = fails v.session.own NoBuffer
+lists v (Some b) = arranges v.session.own No_effect (Ok (comes v.session.windows v.session.selected (List_of b.name)))
+
 abbrev pub saves : Own → Option Target → Bool → Outcome
 saves own None stored = fails own NoBuffer
 saves own (Some t) stored =
@@ -319,6 +325,7 @@ allowed v (Run (Rearrange c) n typed) stored = arranges v.session.own No_effect 
 allowed v (Run (Ask c) n typed) stored = owns (asks c n v.session.own)
 allowed v (Run (Named c) n typed) stored = by_name v c n typed
 allowed v (Run (Entries c) n typed) stored = rules v.session.own (subject v) (λ b. relisted b.name (entries_changed c (entries_told b.told) n typed))
+allowed v (Run ListEntries n typed) stored = lists v (subject v)
 allowed v (Run SetOwner n typed) stored =
     rules v.session.own (subject v) (λ b. if is_among typed v.directory.users then Ok (Reown b.name typed) else Err NoSuchUser)
 allowed v (Run UndoEdit n typed) stored = edits v.session.own (target v) (λ t. undo (items_in t.buffer.full) (around v.session n typed t))

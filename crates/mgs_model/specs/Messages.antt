@@ -3,9 +3,11 @@ use Rattle.std.specs.Prelude.{ℕ, List, [], ◌++◌, codes, decimal}
 use Rattle.mgs_model.specs.Rights.{right_name}
 use Rattle.mgs_model.specs.declared.entry.Decision.{Decision}
 use Rattle.mgs_model.specs.declared.entry.Decision.TheVariants.{Granted, DeniedBy, NotGranted}
+use Rattle.mgs_model.specs.declared.entry.EntryFault.{EntryFault}
+use Rattle.mgs_model.specs.declared.entry.EntryFault.TheVariants.{Kind, Who, Letters, Trailing}
 use Rattle.mgs_model.specs.declared.message.CursorPosition.{CursorPosition}
 use Rattle.mgs_model.specs.declared.message.Message.{Message}
-use Rattle.mgs_model.specs.declared.message.Message.TheVariants.{Silent, Denied, KeyNotBound, NoBuffer, BeginningOfBuffer, EndOfBuffer, BufferFull, NoMemory, Quitting, MarkSet, NoMark, KillTooLarge, NothingToYank, CharacterAt, EndAt, NoArgument, BadColumn, InMacro, NotInMacro, NoMacro, TooMany, OnlyOneWindow, WindowTooSmall, TooManyWindows, ImpossibleChange, NoSuchBuffer, BadName, TooManyBuffers, NoMatch, NoSuchEntry, NoSuchUser, NoFurtherUndo, NoFile, SaveFailed, Wrote, NoPattern, Replaced}
+use Rattle.mgs_model.specs.declared.message.Message.TheVariants.{Silent, Denied, KeyNotBound, NoBuffer, BeginningOfBuffer, EndOfBuffer, BufferFull, NoMemory, Quitting, MarkSet, NoMark, KillTooLarge, NothingToYank, CharacterAt, EndAt, NoArgument, BadColumn, InMacro, NotInMacro, NoMacro, TooMany, OnlyOneWindow, WindowTooSmall, TooManyWindows, ImpossibleChange, NoSuchBuffer, BadName, TooManyBuffers, NoMatch, NoSuchCommand, NotANumber, BadEntry, NoSuchEntry, ListFull, NoSuchUser, NoFurtherUndo, NoFile, SaveFailed, Wrote, NoPattern, Replaced}
 
 abbrev pub denial_text : Decision → List ℕ
 denial_text Granted = []
@@ -15,6 +17,12 @@ denial_text (NotGranted bit) = codes "Denied: no entry grants " ++ right_name bi
 abbrev pub position_text : CursorPosition → List ℕ
 position_text x =
     codes " point " ++ decimal x.point ++ codes " of " ++ decimal x.size ++ codes " line " ++ decimal x.line ++ codes " column " ++ decimal x.column
+
+abbrev pub fault_name : EntryFault → List ℕ
+fault_name Kind = codes "Kind"
+fault_name Who = codes "Who"
+fault_name Letters = codes "Letters"
+fault_name Trailing = codes "Trailing"
 
 abbrev pub message_text : Message → List ℕ
 message_text Silent = []
@@ -46,7 +54,11 @@ message_text NoSuchBuffer = codes "No such buffer"
 message_text BadName = codes "Bad name"
 message_text TooManyBuffers = codes "Too many buffers"
 message_text NoMatch = codes "No match"
+message_text NoSuchCommand = codes "No such command"
+message_text NotANumber = codes "Not a number"
+message_text (BadEntry fault) = codes "Bad entry: " ++ fault_name fault
 message_text NoSuchEntry = codes "No such entry"
+message_text ListFull = codes "List full"
 message_text NoSuchUser = codes "No such user"
 message_text NoFurtherUndo = codes "No further undo information"
 message_text NoFile = codes "No file"

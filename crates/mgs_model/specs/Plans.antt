@@ -1,7 +1,8 @@
 -- What the commands of each family do: functions over a text, or over its length alone. A plan is `Err`, with the
 -- failure that is told, or `Ok`. Nothing here knows rights, buffers or sessions.
-use Rattle.std.specs.Prelude.{ℕ, ◌+◌, ◌-◌, ◌/◌, nat_lt, nat_le, ◌==◌, Bool, true, false, ◌&&◌, ◌||◌, List, [], ◌∷◌, ◌++◌, map, find, length, take, drop, replicate, slice_range, slice_get, slice_index, remove, min, max, Option, Some, None, Result, Ok, Err, cond, if◌then◌else◌}
-use Rattle.std.specs.List.{flat_map, repeat}
+use Rattle.std.specs.Prelude.{ℕ, ◌+◌, ◌-◌, ◌*◌, ◌/◌, nat_lt, nat_le, ◌==◌, Bool, true, false, ◌&&◌, ◌||◌, List, [], ◌∷◌, ◌++◌, map, find, fold, length, take, replicate, slice_range, slice_get, slice_index, slice_set, insert, remove, not, min, max, Option, Some, None, Result, Ok, Err, cond, if◌then◌else◌}
+use Rattle.std.specs.List.{flat_map, list_all, repeat}
+use Rattle.std.specs.Char.{is_ascii_digit}
 use Rattle.mgs_model.specs.Names.{same_name}
 use Rattle.mgs_model.specs.Text.{edited}
 use Rattle.mgs_model.specs.Lines.{line_of, line_start, line_end, start_of, column}
@@ -9,12 +10,13 @@ use Rattle.mgs_model.specs.Walks.{forward_words, backward_words, is_first_line, 
 use Rattle.mgs_model.specs.Cases.{uppercased, lowercased, capitalized}
 use Rattle.mgs_model.specs.Whites.{white_start, white_end, is_blank_at, blanks_start, blanks_end, paragraph_start, paragraph_end, refilled}
 use Rattle.mgs_model.specs.Searching.{matches_at, first_match}
+use Rattle.mgs_model.specs.Spelling.{entry_in}
 use Rattle.mgs_model.specs.World.{Own, Item, Played, Shows, Listing}
 use Rattle.mgs_model.specs.View.{WindowSeen}
 use Rattle.mgs_model.specs.Outcome.{PointPlan, Keep, At, MarkPlan, Keep_mark, Mark_at, KillPlan, Keep_kill, Kill_is, SearchPlan, Keep_search, Begin, Anchor_at, Old, Come, Slot, Arrange, Slots}
 use Rattle.mgs_model.specs.declared.message.CursorPosition.{CursorPosition}
 use Rattle.mgs_model.specs.declared.message.Message.{Message}
-use Rattle.mgs_model.specs.declared.message.Message.TheVariants.{Silent, BeginningOfBuffer, EndOfBuffer, Quitting, MarkSet, NoMark, NothingToYank, CharacterAt, EndAt, NoArgument, BadColumn, InMacro, NotInMacro, NoMacro, TooMany, OnlyOneWindow, WindowTooSmall, TooManyWindows, ImpossibleChange, NoSuchBuffer, NoSuchEntry, NoFurtherUndo, NoPattern, BufferFull}
+use Rattle.mgs_model.specs.declared.message.Message.TheVariants.{Silent, BeginningOfBuffer, EndOfBuffer, Quitting, MarkSet, NoMark, NothingToYank, CharacterAt, EndAt, NoArgument, BadColumn, InMacro, NotInMacro, NoMacro, TooMany, OnlyOneWindow, WindowTooSmall, TooManyWindows, ImpossibleChange, NoSuchBuffer, NotANumber, BadEntry, NoSuchEntry, ListFull, NoFurtherUndo, NoPattern, BufferFull}
 use Rattle.mgs_model.specs.declared.session.Mode.TheVariants.{Plain}
 use Rattle.mgs_model.specs.declared.session.Kind.{Kind}
 use Rattle.mgs_model.specs.declared.session.Kind.TheVariants.{Other, Kill, Line, Undo}
@@ -23,19 +25,20 @@ use Rattle.mgs_model.specs.declared.session.Insertion.TheVariants.{SelfInsert, N
 use Rattle.mgs_model.specs.declared.session.ReadingInsertion.{ReadingInsertion}
 use Rattle.mgs_model.specs.declared.session.ReadingInsertion.TheVariants.{NewlineAndIndent}
 use Rattle.mgs_model.specs.declared.session.Motion.{Motion}
-use Rattle.mgs_model.specs.declared.session.Motion.TheVariants.{ForwardChar, BackwardChar, BeginningOfLine, EndOfLine, NextLine, PreviousLine, BufferStart, BufferEnd, ForwardWord, BackwardWord, ForwardParagraph, BackwardParagraph, Recenter, WhatCursorPosition, SetMark, ExchangePointAndMark, MarkWholeBuffer, CopyRegion, StartSearch, SearchOn, StartReplace, SkipMatch}
+use Rattle.mgs_model.specs.declared.session.Motion.TheVariants.{ForwardChar, BackwardChar, BeginningOfLine, EndOfLine, NextLine, PreviousLine, BufferStart, BufferEnd, GoToLine, ForwardWord, BackwardWord, ForwardParagraph, BackwardParagraph, Recenter, WhatCursorPosition, SetMark, ExchangePointAndMark, MarkWholeBuffer, CopyRegion, StartSearch, SearchOn, StartReplace, SkipMatch}
 use Rattle.mgs_model.specs.declared.session.Alteration.{Alteration}
 use Rattle.mgs_model.specs.declared.session.Alteration.TheVariants.{DeleteChar, DeleteBackwardChar, KillLine, KillWord, BackwardKillWord, KillRegion, TransposeChars, UpcaseWord, DowncaseWord, CapitalizeWord, UpcaseRegion, DowncaseRegion, JustOneSpace, DeleteHorizontalSpace, DeleteBlankLines, JoinLine, FillParagraph, ReplaceMatch}
 use Rattle.mgs_model.specs.declared.session.Scrolling.{Scrolling}
 use Rattle.mgs_model.specs.declared.session.Scrolling.TheVariants.{ScrollUp, ScrollDown}
 use Rattle.mgs_model.specs.declared.session.EntryChange.{EntryChange}
-use Rattle.mgs_model.specs.declared.session.EntryChange.TheVariants.{DeleteEntry}
+use Rattle.mgs_model.specs.declared.session.EntryChange.TheVariants.{InsertEntry, DeleteEntry, ReplaceEntry}
 use Rattle.mgs_model.specs.declared.entry.Entry.{Entry}
+use Rattle.mgs_model.specs.declared.entry.EntryFault.{EntryFault}
 use Rattle.mgs_model.specs.declared.session.Setting.{Setting}
 use Rattle.mgs_model.specs.declared.session.Setting.TheVariants.{SetFillColumn, KeyboardQuit, StartMacro, EndMacro, CallMacro}
 use Rattle.mgs_model.specs.declared.session.Arrangement.{Arrangement}
 use Rattle.mgs_model.specs.declared.session.Arrangement.TheVariants.{DeleteWindow, DeleteOtherWindows, SplitWindow, NextWindow, PreviousWindow, EnlargeWindow, ShrinkWindow, ListBuffers}
-use Rattle.mgs_model.specs.declared.limits.TheConstants.{WINDOW_LIMIT}
+use Rattle.mgs_model.specs.declared.limits.TheConstants.{ENTRY_LIMIT, WINDOW_LIMIT}
 
 -- THE SESSION'S OWN RECORD AFTERWARDS
 
@@ -186,6 +189,23 @@ abbrev pub found_at : Around → Option ℕ → Result Finish Message
 found_at x None = Ok stays
 found_at x (Some m) = Ok (record (goes (m + length x.typed)) { sought = Anchor_at m })
 
+-- A LINE BY ITS NUMBER: 1 to 7 digits of ASCII, where it is typed
+
+abbrev pub is_number : List ℕ → Bool
+is_number typed = nat_le 1 (length typed) && (nat_le (length typed) 7 && list_all is_ascii_digit typed)
+
+abbrev pub number_typed : List ℕ → ℕ
+number_typed typed = fold (λ n c. n * 10 + (c - 48)) 0 typed
+
+abbrev pub line_wanted : Option ℕ → List ℕ → Option ℕ
+line_wanted None typed = if is_number typed then Some (number_typed typed) else None
+line_wanted (Some n) typed = Some n
+
+-- lines count from 1 here; 0 is the first one too, and what is past the last one is the last one
+abbrev pub goes_to_line : List ℕ → Option ℕ → Result Finish Message
+goes_to_line text None = Err NotANumber
+goes_to_line text (Some n) = Ok (goes (lines_down text 0 (n - 1)))
+
 -- QUERY-REPLACE
 
 abbrev pub is_match : List ℕ → Around → Bool
@@ -207,6 +227,7 @@ motion PreviousLine text x =
     if is_first_line text x.place && nat_lt 0 (times x) then Err BeginningOfBuffer else Ok (lined text x (lines_up text x.place (times x)))
 motion BufferStart text x = Ok (goes 0)
 motion BufferEnd text x = Ok (goes x.size)
+motion GoToLine text x = goes_to_line text (line_wanted x.argument x.typed)
 motion ForwardWord text x = if is_at_end x then Err EndOfBuffer else Ok (goes (forward_words text x.place (times x)))
 motion BackwardWord text x = if is_at_start x then Err BeginningOfBuffer else Ok (goes (backward_words text x.place (times x)))
 motion ForwardParagraph text x = if is_at_end x then Err EndOfBuffer else Ok (goes (forward_paragraphs text x.place (times x)))
@@ -389,11 +410,34 @@ undone x (Some item) = if x.serial == 18446744073709551615 then Err BufferFull e
 abbrev pub undo : List Item → Around → Result Change Message
 undo items x = undone x (find (λ (item : Item). item.serial == undo_target x) items)
 
--- ENTRIES: the list afterwards
+-- ENTRIES: the list afterwards. They count from 1, and without an argument the first is meant
+
+abbrev pub has_entry : List Entry → Option ℕ → Bool
+has_entry entries n = nat_le 1 (count_of n) && nat_le (count_of n) (length entries)
+
+-- a new one is put before the one of the argument, and without an argument last
+abbrev pub new_number : List Entry → Option ℕ → ℕ
+new_number entries None = length entries + 1
+new_number entries (Some n) = n
+
+abbrev pub entry_inserted : List Entry → ℕ → Entry → Result (List Entry) Message
+entry_inserted entries n e =
+    if not (nat_le 1 n && nat_le n (length entries + 1)) then Err NoSuchEntry
+    else if nat_le ENTRY_LIMIT (length entries) then Err ListFull
+    else Ok (insert entries (n - 1) e)
+
+abbrev pub entry_replaced : List Entry → Option ℕ → Entry → Result (List Entry) Message
+entry_replaced entries n e = if has_entry entries n then Ok (slice_set entries (count_of n - 1) e) else Err NoSuchEntry
+
+-- what is done with the entry that was typed
+abbrev pub with_entry : (Entry → Result (List Entry) Message) → Result Entry EntryFault → Result (List Entry) Message
+with_entry change (Err fault) = Err (BadEntry fault)
+with_entry change (Ok e) = change e
+
 abbrev pub entries_changed : EntryChange → List Entry → Option ℕ → List ℕ → Result (List Entry) Message
-entries_changed DeleteEntry entries None typed = Err NoSuchEntry
-entries_changed DeleteEntry entries (Some n) typed =
-    if nat_le 1 n && nat_le n (length entries) then Ok (take (n - 1) entries ++ drop n entries) else Err NoSuchEntry
+entries_changed InsertEntry entries n typed = with_entry (entry_inserted entries (new_number entries n)) (entry_in typed)
+entries_changed DeleteEntry entries n typed = if has_entry entries n then Ok (remove entries (count_of n - 1)) else Err NoSuchEntry
+entries_changed ReplaceEntry entries n typed = with_entry (entry_replaced entries n) (entry_in typed)
 
 -- SETTINGS change the session's own record alone; this one is as after a command that was done
 

@@ -3,13 +3,17 @@ use Rattle.std.specs.Prelude.{ℕ, List, ◌++◌, Option, Some, None, codes}
 use Rattle.mgs_model.specs.declared.session.Mode.{Mode}
 use Rattle.mgs_model.specs.declared.session.Mode.TheVariants.{Plain, Prompt, Searching, Replacing}
 use Rattle.mgs_model.specs.declared.session.Question.{Question}
-use Rattle.mgs_model.specs.declared.session.Question.TheVariants.{SwitchTo, FindWhich, KillWhich, InsertWhich, WhichOwner, ReplaceWhat, ReplaceWith}
+use Rattle.mgs_model.specs.declared.session.Question.TheVariants.{SwitchTo, FindWhich, KillWhich, InsertWhich, RunWhich, GoToWhich, EntryToInsert, EntryToReplace, WhichOwner, ReplaceWhat, ReplaceWith}
 
 abbrev pub prompt_text : Question → List ℕ
 prompt_text SwitchTo = codes "Switch to buffer: "
 prompt_text FindWhich = codes "Find file: "
 prompt_text KillWhich = codes "Kill buffer: "
 prompt_text InsertWhich = codes "Insert buffer: "
+prompt_text RunWhich = codes "M-x "
+prompt_text GoToWhich = codes "Goto line: "
+prompt_text EntryToInsert = codes "Entry: "
+prompt_text EntryToReplace = codes "Entry: "
 prompt_text WhichOwner = codes "Owner: "
 prompt_text ReplaceWhat = codes "Query replace: "
 prompt_text ReplaceWith = codes "With: "

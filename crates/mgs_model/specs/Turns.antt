@@ -2,23 +2,25 @@
 use Rattle.std.specs.Prelude.{ℕ, ◌-◌, nat_lt, ◌==◌, Bool, true, false, not, ◌&&◌, ◌||◌, List, [], ◌∷◌, ◌++◌, length, take, Option, None, Some, Result, Ok, Err, cond, if◌then◌else◌}
 use Rattle.mgs_model.specs.World.{Own, Todo, Typed, Played, Replace_all}
 use Rattle.mgs_model.specs.Keys.{is_graphic, ends_in_escape, value_of, KeyRead, Half, Bound, Not_bound, key_read}
+use Rattle.mgs_model.specs.Commands.{find_command, command_names}
 use Rattle.mgs_model.specs.Names.{same_name}
 use Rattle.mgs_model.specs.View.{View}
 use Rattle.mgs_model.specs.Completion.{completion, shown_names}
 use Rattle.mgs_model.specs.Outcome.{Act, Unbound, Run}
 use Rattle.mgs_model.specs.Plans.{failed_own, acted_own, setting}
 use Rattle.mgs_model.specs.declared.message.Message.{Message}
-use Rattle.mgs_model.specs.declared.message.Message.TheVariants.{Silent, Quitting, NoMatch, Replaced}
+use Rattle.mgs_model.specs.declared.message.Message.TheVariants.{Silent, Quitting, NoMatch, NoSuchCommand, Replaced}
 use Rattle.mgs_model.specs.declared.session.Mode.{Mode}
 use Rattle.mgs_model.specs.declared.session.Mode.TheVariants.{Plain, Prompt, Searching, Replacing}
-use Rattle.mgs_model.specs.declared.session.Motion.TheVariants.{StartSearch, SearchOn, StartReplace, SkipMatch}
+use Rattle.mgs_model.specs.declared.session.Motion.TheVariants.{GoToLine, StartSearch, SearchOn, StartReplace, SkipMatch}
 use Rattle.mgs_model.specs.declared.session.Alteration.TheVariants.{ReplaceMatch}
 use Rattle.mgs_model.specs.declared.session.Setting.TheVariants.{CallMacro}
 use Rattle.mgs_model.specs.declared.session.Question.{Question}
-use Rattle.mgs_model.specs.declared.session.Question.TheVariants.{SwitchTo, FindWhich, KillWhich, InsertWhich, WhichOwner, ReplaceWhat, ReplaceWith}
+use Rattle.mgs_model.specs.declared.session.Question.TheVariants.{SwitchTo, FindWhich, KillWhich, InsertWhich, RunWhich, GoToWhich, EntryToInsert, EntryToReplace, WhichOwner, ReplaceWhat, ReplaceWith}
 use Rattle.mgs_model.specs.declared.session.ByName.TheVariants.{SwitchToBuffer, KillBuffer, InsertBuffer}
+use Rattle.mgs_model.specs.declared.session.EntryChange.TheVariants.{InsertEntry, ReplaceEntry}
 use Rattle.mgs_model.specs.declared.session.Command.{Command}
-use Rattle.mgs_model.specs.declared.session.Command.TheVariants.{Move, Alter, Set, Ask, Named, SetOwner, LeaveSearch}
+use Rattle.mgs_model.specs.declared.session.Command.TheVariants.{Move, Alter, Set, Ask, Named, Entries, SetOwner, LeaveSearch}
 
 -- TURNS
 
@@ -38,8 +40,14 @@ abbrev pub plays : Own → Option ℕ → Result Own Message → Turn
 plays own n (Ok after) = Keep after
 plays own n (Err message) = Do own (Run (Set CallMacro) n [])
 
+-- a line's number that is not the argument is asked for
+abbrev pub line_turn : Own → Option ℕ → Turn
+line_turn own None = Do own (Run (Ask GoToWhich) None [])
+line_turn own (Some n) = Do own (Run (Move GoToLine) (Some n) [])
+
 abbrev pub command_turn : Own → Option ℕ → Command → Turn
 command_turn own n (Set CallMacro) = plays own n (setting CallMacro (acted_own own) n)
+command_turn own n (Move GoToLine) = line_turn own n
 command_turn own n (Move StartSearch) = Do (record own { mode = Searching; input = [] }) (Run (Move StartSearch) n [])
 command_turn own n c = Do own (Run c n [])
 
@@ -54,17 +62,21 @@ key_turn own byte = read_turn own (key_read own.argument own.keys byte)
 
 -- THE INPUT OF A PROMPT
 
--- the command that an answer is for: a file that is looked for is a buffer of its name
+-- the command that an answer is for: a file that is looked for is a buffer of its name, and a command's name is looked up
 abbrev pub answered : Question → Command
 answered SwitchTo = Named SwitchToBuffer
 answered FindWhich = Named SwitchToBuffer
 answered KillWhich = Named KillBuffer
 answered InsertWhich = Named InsertBuffer
+answered RunWhich = Ask RunWhich
+answered GoToWhich = Move GoToLine
+answered EntryToInsert = Entries InsertEntry
+answered EntryToReplace = Entries ReplaceEntry
 answered WhichOwner = SetOwner
 answered ReplaceWhat = Ask ReplaceWith
 answered ReplaceWith = Move StartReplace
 
--- what may be completed
+-- what may be completed: the name of a buffer, or of a command
 abbrev pub names_buffers : Question → Bool
 names_buffers SwitchTo = true
 names_buffers FindWhich = true
@@ -72,18 +84,32 @@ names_buffers KillWhich = true
 names_buffers InsertWhich = true
 names_buffers _ = false
 
+abbrev pub names_commands : Question → Bool
+names_commands RunWhich = true
+names_commands _ = false
+
 abbrev pub names_completed : View → Question → List (List ℕ)
-names_completed v c = cond (names_buffers c) (shown_names v) []
+names_completed v c = cond (names_buffers c) (shown_names v) (cond (names_commands c) command_names [])
 
 abbrev pub completed : Own → Option (List ℕ) → Own
 completed own None = record own { echo = NoMatch }
 completed own (Some input) = record own { input = input }
 
--- the first of two prompts is no act, and the second begins a mode
+-- the command of a name that was typed
+abbrev pub named_turn : Own → Option ℕ → Option Command → Turn
+named_turn own n None = Keep (failed_own NoSuchCommand own)
+named_turn own n (Some c) = command_turn own n c
+
+-- an answer is handled in plain mode
+abbrev pub plain_own : Own → Own
+plain_own own = record own { mode = Plain; input = []; argument = None }
+
+-- a name is no act, but that of its command; the first of two prompts is none, and the second begins a mode
 abbrev pub answer_turn : Question → Own → Turn
+answer_turn RunWhich own = named_turn (plain_own own) (value_of own.argument) (find_command own.input)
 answer_turn ReplaceWhat own = Keep (record own { mode = Prompt ReplaceWith; old = own.input; input = [] })
 answer_turn ReplaceWith own = Do (record own { mode = Replacing; argument = None; count = 0 }) (Run (Move StartReplace) None own.input)
-answer_turn c own = Do (record own { mode = Plain; input = []; argument = None }) (Run (answered c) (value_of own.argument) own.input)
+answer_turn c own = Do (plain_own own) (Run (answered c) (value_of own.argument) own.input)
 
 -- what a byte makes of the keys before it: ESC waits for the byte of a meta key, and M-[ for one more key
 abbrev pub prompt_keys : List ℕ → ℕ → List ℕ

@@ -1,5 +1,5 @@
 // Echo texts.
-use crate::entry::Decision;
+use crate::entry::{Decision, EntryFault};
 use crate::name::Name;
 
 /// Where a point stands in its text: the number of characters before it and in all, its line from 1 and its column
@@ -51,7 +51,13 @@ pub enum Message {
     BadName,
     TooManyBuffers,
     NoMatch,
+    NoSuchCommand,
+    NotANumber,
+    /// The text that was typed is no entry.
+    BadEntry(EntryFault),
     NoSuchEntry,
+    /// The access list has as many entries as it may have.
+    ListFull,
     NoSuchUser,
     NoFurtherUndo,
     NoFile,

@@ -104,6 +104,8 @@ pub enum Motion {
     PreviousLine,
     BufferStart,
     BufferEnd,
+    /// To the start of the line of a number.
+    GoToLine,
     ForwardWord,
     BackwardWord,
     ForwardParagraph,
@@ -189,7 +191,9 @@ pub enum ByName {
 /// Changes an access list.
 #[derive(Clone, Copy, Debug, PartialEq, Eq)]
 pub enum EntryChange {
+    InsertEntry,
     DeleteEntry,
+    ReplaceEntry,
 }
 
 /// What a prompt asks for.
@@ -199,6 +203,14 @@ pub enum Question {
     FindWhich,
     KillWhich,
     InsertWhich,
+    /// The name of a command, which is then run.
+    RunWhich,
+    /// The number of a line.
+    GoToWhich,
+    /// The text of an entry that is put in.
+    EntryToInsert,
+    /// The text of an entry that takes the place of another.
+    EntryToReplace,
     WhichOwner,
     ReplaceWhat,
     ReplaceWith,
@@ -218,6 +230,8 @@ pub enum Command {
     Ask(Question),
     Named(ByName),
     Entries(EntryChange),
+    /// Shows the access list.
+    ListEntries,
     SetOwner,
     UndoEdit,
     /// Clears the modified flag.

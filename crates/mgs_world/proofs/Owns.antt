@@ -5,15 +5,17 @@ use Rattle.mgs_model.specs.World.{Own, Search}
 use Rattle.mgs_model.specs.Apply.{searches}
 use Rattle.mgs_model.specs.View.{View}
 use Rattle.mgs_model.specs.Acts.{asks}
+use Rattle.mgs_model.specs.Commands.{find_command}
 use Rattle.mgs_model.specs.Completion.{completion}
 use Rattle.mgs_model.specs.Outcome.{Run}
 use Rattle.mgs_model.specs.Plans.{failed_own}
-use Rattle.mgs_model.specs.Turns.{Turn, Rest, Keep, Do, answered, answer_turn, completed, names_completed, prompt_key, prompt_keys, prompt_turn}
+use Rattle.mgs_model.specs.Turns.{Turn, Rest, Keep, Do, answered, answer_turn, completed, names_completed, plain_own, prompt_key, prompt_keys, prompt_turn}
 use Rattle.mgs_model.specs.declared.message.Message.{Message}
 use Rattle.mgs_model.specs.declared.message.Message.TheVariants.{Silent, Quitting}
 use Rattle.mgs_model.specs.declared.session.Mode.TheVariants.{Plain, Prompt}
 use Rattle.mgs_model.specs.declared.session.Question.{Question}
-use Rattle.mgs_model.specs.declared.session.Question.TheVariants.{SwitchTo, FindWhich, KillWhich, InsertWhich, WhichOwner, ReplaceWhat, ReplaceWith}
+use Rattle.mgs_model.specs.declared.session.Question.TheVariants.{SwitchTo, FindWhich, KillWhich, InsertWhich, RunWhich, GoToWhich, EntryToInsert, EntryToReplace, WhichOwner, ReplaceWhat, ReplaceWith}
+use Rattle.mgs_model.proofs.Commands.{named_alone}
 use Rattle.mgs_mini.specs.Typing.{PromptInput, keys_of, stepped, typed_own}
 use Rattle.mgs_mini.specs.declared.Step.{Step}
 use Rattle.mgs_mini.specs.declared.Step.TheVariants.{Answered}
@@ -66,6 +68,10 @@ no_keys_answered SwitchTo own none = none
 no_keys_answered FindWhich own none = none
 no_keys_answered KillWhich own none = none
 no_keys_answered InsertWhich own none = none
+no_keys_answered RunWhich own none = named_alone keys_before (λ o. refl) (λ o act. refl) (plain_own own) (value_of own.argument) (find_command own.input) none
+no_keys_answered GoToWhich own none = none
+no_keys_answered EntryToInsert own none = none
+no_keys_answered EntryToReplace own none = none
 no_keys_answered WhichOwner own none = none
 no_keys_answered ReplaceWhat own none = refl
 no_keys_answered ReplaceWith own none = none

@@ -1,5 +1,5 @@
 use Rattle.std.proofs.Common.{◌∙◌, ap}
-use Rattle.mgs_acl.specs.Spelling.{entry_in}
+use Rattle.mgs_model.specs.Spelling.{entry_in}
 use Rattle.mgs_acl.proofs.RoundTrip.{entry_in-entry_text, entry_in-printed}
 use Rattle.mgs_acl.proofs.printing.print_entry.Goals as goal
 

@@ -1,7 +1,7 @@
 use Rattle.std.proofs.Common.{◌≡◌, drop}
 use Rattle.std.specs.Prelude.{fold}
 use Rattle.std.specs.List.{list_all}
-use Rattle.mgs_acl.specs.Spelling.{is_letter, with_letter}
+use Rattle.mgs_model.specs.Spelling.{is_letter, with_letter}
 use Rattle.mgs_acl.proofs.spelling.mask_lettered.Given as goal
 
 -- the letters that are left decide, and their bits come to those so far

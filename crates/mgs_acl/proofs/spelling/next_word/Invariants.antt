@@ -1,7 +1,7 @@
 use Rattle.std.proofs.Common.{◌≡◌, length}
 use denote.Text.{Utf8}
 use denote.Shadow.{shadow}
-use Rattle.mgs_acl.specs.Spelling.{words}
+use Rattle.mgs_model.specs.Spelling.{words}
 use Rattle.mgs_acl.proofs.spelling.next_word.Given as goal
 
 abbrev pub invariant-loop-text : goal.invariant-loop-text

@@ -31,6 +31,15 @@ returns-in-NoSuchBuffer-clause-wrote c = rw c.in-NoSuchBuffer.is c.put_bytes-in-
 pub returns-in-TooManyBuffers-clause-wrote : goal.returns-in-TooManyBuffers-clause-wrote
 returns-in-TooManyBuffers-clause-wrote c = rw c.in-TooManyBuffers.is c.put_bytes-in-TooManyBuffers.ensures.wrote
 
+pub returns-in-NoSuchCommand-clause-wrote : goal.returns-in-NoSuchCommand-clause-wrote
+returns-in-NoSuchCommand-clause-wrote c = rw c.in-NoSuchCommand.is c.put_bytes-in-NoSuchCommand.ensures.wrote
+
+pub returns-in-NotANumber-clause-wrote : goal.returns-in-NotANumber-clause-wrote
+returns-in-NotANumber-clause-wrote c = rw c.in-NotANumber.is c.put_bytes-in-NotANumber.ensures.wrote
+
+pub returns-in-BadEntry-clause-wrote : goal.returns-in-BadEntry-clause-wrote
+returns-in-BadEntry-clause-wrote c = rw c.in-BadEntry.is c.put_fault.ensures.wrote
+
 pub returns-in-NoSuchEntry-clause-wrote : goal.returns-in-NoSuchEntry-clause-wrote
 returns-in-NoSuchEntry-clause-wrote c = rw c.in-NoSuchEntry.is c.put_bytes-in-NoSuchEntry.ensures.wrote
 

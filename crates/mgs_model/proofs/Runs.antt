@@ -1,0 +1,78 @@
+-- Worked runs: what a session does, and what is told of the world then.
+use Rattle.std.proofs.Common.{ℕ, false, true, List, [], ◌∷◌, map, Option, Some, None}
+use Rattle.std.specs.Prelude.{codes}
+use Rattle.std.specs.Option.{option_map}
+use Rattle.mgs_model.specs.World.{World, Buffer, Session, Window, Own, first_own, Shows, find_session}
+use Rattle.mgs_model.specs.Turns.{command_turn}
+use Rattle.mgs_model.specs.Events.{Open, Byte, step, settled, turns, turn_done, with_own, most_turns}
+use Rattle.mgs_model.specs.declared.message.Message.{Message}
+use Rattle.mgs_model.specs.declared.message.Message.TheVariants.{Silent}
+use Rattle.mgs_model.specs.declared.session.Command.{Command}
+use Rattle.mgs_model.specs.declared.entry.Entry.{Entry}
+use Rattle.mgs_model.specs.declared.entry.EntryType.TheVariants.{Allow}
+use Rattle.mgs_model.specs.declared.entry.Who.TheVariants.{Owner}
+
+abbrev pub buffer_of : List ℕ → List ℕ → List Entry → Buffer
+buffer_of name text entries = record { name = name; owner = codes "ann"; entries = entries; text = text; items = []; serial = 0; modified = false; file = false }
+
+abbrev pub full : List Entry
+full = record { entry_type = Allow; who = Owner; mask = 983175 } ∷ []
+
+abbrev pub notes : List ℕ → World
+notes text = record { directory = record { users = codes "ann" ∷ codes "bob" ∷ []; groups = [] }; buffers = buffer_of (codes "notes") text full ∷ []; sessions = []; next_id = 1 }
+
+-- what a session does: a byte of it, or a command that no key may lead to yet, with its argument
+pub data Doing : Type 0 where
+  B : (byte : ℕ) → Doing
+  -- memory is refused after so many acts
+  S : (byte : ℕ) → (acts : ℕ) → Doing
+  C : (command : Command) → (argument : Option ℕ) → Doing
+  R : (command : Command) → (argument : Option ℕ) → (acts : ℕ) → Doing
+  -- a macro that it has
+  M : (bytes : List ℕ) → Doing
+
+abbrev pub own_in : World → Own
+own_in w = elim (find_session 1 w.sessions) [ None ↦ first_own | Some x ↦ x.own ]
+
+abbrev pub commanded : World → Command → Option ℕ → Option ℕ → World
+commanded w c n stop = settled (turns most_turns 1 true (turn_done 1 true (command_turn (record (own_in w) { echo = Silent }) n c) w stop)).world
+
+abbrev pub does : World → Doing → World
+does w (B byte) = step w (Byte 1 byte true None)
+does w (S byte acts) = step w (Byte 1 byte true (Some acts))
+does w (C c n) = commanded w c n None
+does w (R c n acts) = commanded w c n (Some acts)
+does w (M bytes) = with_own 1 (λ own. record own { macro = bytes }) w
+
+abbrev pub all_done : World → List Doing → World
+all_done w [] = w
+all_done w (x ∷ xs) = all_done (does w x) xs
+
+-- ann opens a session and does these
+abbrev pub doing : World → List Doing → World
+doing w xs = all_done (step w (Open 1 (codes "ann") 24 80)) xs
+
+-- the same of bob
+abbrev pub doing_bob : World → List Doing → World
+doing_bob w xs = all_done (step w (Open 1 (codes "bob") 24 80)) xs
+
+abbrev pub texts : World → List (List ℕ)
+texts w = map (λ (b : Buffer). b.text) w.buffers
+
+abbrev pub of_one : {A : Type 0} → (Session → A) → World → Option A
+of_one f w = option_map f (find_session 1 w.sessions)
+
+abbrev pub echo : World → Option Message
+echo w = of_one (λ (x : Session). x.own.echo) w
+
+abbrev pub kill : World → Option (List ℕ)
+kill w = of_one (λ (x : Session). x.kill) w
+
+abbrev pub points : World → Option (List ℕ)
+points w = of_one (λ (x : Session). map (λ (y : Window). y.point) x.windows) w
+
+abbrev pub heights : World → Option (List ℕ)
+heights w = of_one (λ (x : Session). map (λ (y : Window). y.height) x.windows) w
+
+abbrev pub shown : World → Option (List Shows)
+shown w = of_one (λ (x : Session). map (λ (y : Window). y.shows) x.windows) w

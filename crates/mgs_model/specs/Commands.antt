@@ -1,0 +1,30 @@
+-- COMMANDS BY NAME: what M-x knows.
+use Rattle.std.specs.Prelude.{ℕ, nat_lt, Bool, List, [], ◌∷◌, ◌++◌, map, filter, find, length, codes, Option}
+use Rattle.std.specs.Option.{option_map}
+use Rattle.mgs_model.specs.Names.{same_name}
+use Rattle.mgs_model.specs.Keys.{KeyRow, key_rows}
+use Rattle.mgs_model.specs.declared.session.Arrangement.TheVariants.{ShrinkWindow}
+use Rattle.mgs_model.specs.declared.session.Command.{Command}
+use Rattle.mgs_model.specs.declared.session.Command.TheVariants.{Rearrange}
+
+abbrev keyless : List ℕ → Command → KeyRow
+keyless name c = record { keys = []; name = name; command = c }
+
+-- commands that no word of keys runs
+abbrev pub keyless_rows : List KeyRow
+keyless_rows = keyless (codes "shrink-window") (Rearrange ShrinkWindow) ∷ []
+
+-- a row without a name is another word of a command that has its name in another row, or the word of one that M-x does not know
+abbrev pub has_name : KeyRow → Bool
+has_name r = nat_lt 0 (length r.name)
+
+abbrev pub command_rows : List KeyRow
+command_rows = filter has_name (key_rows ++ keyless_rows)
+
+-- the command of a name
+unfoldable pub find_command : List ℕ → Option Command
+find_command name = option_map (λ (r : KeyRow). r.command) (find (λ (r : KeyRow). same_name name r.name) command_rows)
+
+-- the names, which are the candidates of a TAB
+unfoldable pub command_names : List (List ℕ)
+command_names = map (λ (r : KeyRow). r.name) command_rows
