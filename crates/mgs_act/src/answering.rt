@@ -10,6 +10,7 @@ ghost use Rattle.mgs_mini.specs.Typing.{is_asked};
 ghost use Rattle.mgs_world.specs.Sound.{IsSound};
 ghost use Rattle.mgs_world.specs.Worlds.{idle, own_at, session_id, sizes_in, world_of};
 
+use crate::killing::kill;
 use crate::switching::switch_to;
 use mgs_buffers::Buffers;
 use mgs_marks::Marked;
@@ -18,9 +19,9 @@ use mgs_policy::Directory;
 use mgs_session::Session;
 use std::alloc::Global;
 
-/// The command that a question is for is done by the session at `at`, which is at rest: `typed` is the answer. So far the
-/// selected window comes to show the buffer of that name, which is made for the session's user where it is not there. A
-/// refused right, a text that is no name, and a buffer too many are told in the echo line. It tells what it touched, and what it
+/// The command that a question is for is done by the session at `at`, which is at rest: `typed` is the answer. The
+/// selected window comes to show the buffer of that name, which is made for the session's user where it is not there; or the
+/// buffer of that name is killed. A refused right, a text that is no name, and a buffer too many are told in the echo line. It tells what it touched, and what it
 /// did not touch is as it was. `Short`: memory was refused, the world is as it was, and the act is one that may be refused.
 pub fn answer<T: Marked + Drop>(
     alloc: Global,
@@ -48,6 +49,7 @@ pub fn answer<T: Marked + Drop>(
         Question::SwitchTo | Question::FindWhich => {
             switch_to(buffers, directory, sessions, at, typed)
         }
+        Question::KillWhich => Ok(kill(buffers, directory, sessions, at, typed)),
         // No other question is asked yet.
         _ => Ok(Touched::Nowhere),
     }

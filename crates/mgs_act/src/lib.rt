@@ -13,6 +13,5 @@ mod setting;
 mod switching;
 
 pub use acts::{KeyAct, act};
-pub use killing::kill;
 pub use answering::answer;
 pub use saving::save;

@@ -18,7 +18,7 @@ use Rattle.mgs_model.specs.declared.errors.Keyed.{Keyed}
 use Rattle.mgs_model.specs.declared.message.Message.TheVariants.{Silent, NoMemory, Quitting}
 use Rattle.mgs_model.specs.declared.session.Mode.TheVariants.{Plain, Prompt}
 use Rattle.mgs_model.specs.declared.session.Question.{Question}
-use Rattle.mgs_model.specs.declared.session.Question.TheVariants.{SwitchTo, FindWhich, KillWhich, InsertWhich, WhichOwner, ReplaceWhat, ReplaceWith}
+use Rattle.mgs_model.specs.declared.session.Question.TheVariants.{SwitchTo, FindWhich, KillWhich, InsertWhich, RunWhich, GoToWhich, EntryToInsert, EntryToReplace, WhichOwner, ReplaceWhat, ReplaceWith}
 use Rattle.mgs_model.proofs.Completing.{shown_names_of}
 use Rattle.mgs_model.proofs.Plain.{is_single, turn_of}
 use Rattle.mgs_model.proofs.Saves.{is_save, act_saves_none}
@@ -47,6 +47,7 @@ use Rattle.mgs_core.proofs.Steps.{seen_at, world_changed}
 asked_turn : (c : Question) → is_asked c ≡ true → (own : model.Own) → answer_turn c own ≡ Do (record own { mode = Plain; input = []; argument = None }) (Run (answered c) (value_of own.argument) own.input)
 asked_turn SwitchTo h own = refl
 asked_turn FindWhich h own = refl
+asked_turn KillWhich h own = refl
 asked_turn _ h own = cc
 
 -- it is one act, and saves nothing
@@ -55,6 +56,10 @@ answered_single SwitchTo n typed = refl
 answered_single FindWhich n typed = refl
 answered_single KillWhich n typed = refl
 answered_single InsertWhich n typed = refl
+answered_single RunWhich n typed = refl
+answered_single GoToWhich n typed = refl
+answered_single EntryToInsert n typed = refl
+answered_single EntryToReplace n typed = refl
 answered_single WhichOwner n typed = refl
 answered_single ReplaceWhat n typed = refl
 answered_single ReplaceWith n typed = refl
@@ -64,6 +69,10 @@ answered_saves_none SwitchTo n typed = refl
 answered_saves_none FindWhich n typed = refl
 answered_saves_none KillWhich n typed = refl
 answered_saves_none InsertWhich n typed = refl
+answered_saves_none RunWhich n typed = refl
+answered_saves_none GoToWhich n typed = refl
+answered_saves_none EntryToInsert n typed = refl
+answered_saves_none EntryToReplace n typed = refl
 answered_saves_none WhichOwner n typed = refl
 answered_saves_none ReplaceWhat n typed = refl
 answered_saves_none ReplaceWith n typed = refl

@@ -36,7 +36,7 @@ pub struct Binding {
     pub command: Command,
 }
 
-static BINDINGS: [Binding; 61] = [
+static BINDINGS: [Binding; 62] = [
     Binding {
         keys: b"\r",
         name: "newline",
@@ -271,6 +271,11 @@ static BINDINGS: [Binding; 61] = [
         keys: b"\x18\x06",
         name: "find-file",
         command: Command::Ask(Question::FindWhich),
+    },
+    Binding {
+        keys: b"\x18k",
+        name: "kill-buffer",
+        command: Command::Ask(Question::KillWhich),
     },
     Binding {
         keys: b"\x07",
