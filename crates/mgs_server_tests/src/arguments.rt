@@ -1,11 +1,5 @@
-// Arguments, words of keys, and bytes that end their session: what terminals show, and what calls answer.
-use super::fixtures::{directory_of, list_of};
+// Arguments and words of keys: what terminals show.
 use super::replay::{NOTES, gives, plays};
-use mgs_buffers::Buffers;
-use mgs_core::Core;
-use mgs_marks::PlainMarked;
-use mgs_model::{Keyed, SessionId};
-use mgs_store::RefusingStore;
 use std::alloc::Global;
 use std::process::Abort;
 use std::test::Fail;
@@ -194,34 +188,4 @@ fn sessions_read_their_own_words(rt: HostRuntime) -> Result<(), Fail> {
         |Quit                |\n\
         cursor 1 5\n";
     plays(&rt, rt.alloc(), lines, output, Ok(()))
-}
-
-// A core of one buffer of ann.
-pub(crate) fn core_of_ann(alloc: Global, rt: &impl Abort) -> Core<PlainMarked, RefusingStore> {
-    let directory = directory_of(alloc, &["ann"], rt);
-    let mut buffers = Buffers::new(alloc);
-    let list = list_of(&["ALLOW OWNER@ rwat"], rt);
-    assert!(rt; buffers.add("notes", "ann", list, &[], false).is_ok());
-    Core::new(alloc, directory, buffers, RefusingStore::new())
-}
-
-fn answer(core: &mut Core<PlainMarked, RefusingStore>, id: SessionId, byte: u8) -> Keyed {
-    core.key(id, byte).0
-}
-
-#[test]
-fn the_id_of_an_ended_session_is_not_used_again(rt: HostRuntime) -> Result<(), Fail> {
-    let mut core = core_of_ann(rt.alloc(), &rt);
-    let first = core.open("ann", 6, 20).map_err(|_| "not opened")?;
-    let second = core.open("ann", 6, 20).map_err(|_| "not opened")?;
-    assert_eq!(rt; answer(&mut core, first, 0x18), Keyed::Done);
-    assert_eq!(rt; answer(&mut core, second, 0x03), Keyed::Done);
-    assert_eq!(rt; answer(&mut core, first, 0x03), Keyed::Quit);
-    assert_eq!(rt; answer(&mut core, first, b'x'), Keyed::NoSession);
-    assert_eq!(rt; answer(&mut core, second, b'x'), Keyed::Done);
-    let third = core.open("ann", 6, 20).map_err(|_| "not opened")?;
-    assert_ne!(rt; third, first);
-    assert_ne!(rt; third, second);
-    assert_eq!(rt; answer(&mut core, first, b'x'), Keyed::NoSession);
-    Ok(())
 }

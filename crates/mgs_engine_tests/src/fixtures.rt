@@ -1,8 +1,12 @@
-// What the tests share: directories, lists by their entries, and sessions at terminals.
+// What the tests share: directories, lists by their entries, a core, and sessions at terminals.
 use mgs_acl::{List, read_entry};
+use mgs_buffers::Buffers;
+use mgs_core::Core;
 use mgs_engine::Taker;
+use mgs_marks::PlainMarked;
 use mgs_model::SessionId;
 use mgs_policy::Directory;
+use mgs_store::RefusingStore;
 use mgs_term::Term;
 use std::alloc::Global;
 use std::process::Abort;
@@ -53,4 +57,13 @@ pub(crate) fn list_of(entries: &[&str], rt: &impl Abort) -> List {
         }
     }
     list
+}
+
+// A core of one buffer of ann.
+pub(crate) fn core_of_ann(alloc: Global, rt: &impl Abort) -> Core<PlainMarked, RefusingStore> {
+    let directory = directory_of(alloc, &["ann"], rt);
+    let mut buffers = Buffers::new(alloc);
+    let list = list_of(&["ALLOW OWNER@ rwat"], rt);
+    assert!(rt; buffers.add("notes", "ann", list, &[], false).is_ok());
+    Core::new(alloc, directory, buffers, RefusingStore::new())
 }

@@ -3,7 +3,7 @@ use Rattle.mgs_model.specs.Picture.{Picture}
 use Rattle.mgs_world.specs.declared.size.Size.{Size}
 use Rattle.mgs_world.specs.Worlds.{sizes}
 use Rattle.mgs_engine.proofs.Repaints.{told_known}
-use Rattle.mgs_server_tests.proofs.lockstep.drawn.Goals as goal
+use Rattle.mgs_engine_tests.proofs.lockstep.drawn.Goals as goal
 
 pub draw-requires : goal.draw-requires
 draw-requires c =

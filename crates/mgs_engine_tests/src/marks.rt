@@ -1,5 +1,5 @@
 // The marks of a buffer, counted while sessions split windows, delete them and end.
-use super::arguments::core_of_ann;
+use super::fixtures::core_of_ann;
 use mgs_core::Core;
 use mgs_marks::PlainMarked;
 use mgs_model::{Name, SessionId};

@@ -1,6 +1,5 @@
 // What terminals of 6 rows and 20 columns show, row by row.
 use super::fixtures::{Client, Clients, directory_of, list_of};
-use super::steps::cut_field;
 use mgs_buffers::Buffers;
 use mgs_core::Core;
 use mgs_engine::Engine;
@@ -84,8 +83,8 @@ pub(crate) fn press<S: Store + Drop>(
 //     FIRST ROW | MODE LINE | ECHO LINE
 // The rows from the first to the mode line are blank, and an echo line that is blank too may be left out.
 fn row_of(screen: &str, row: usize) -> &str {
-    let (text, rest) = cut_field(screen);
-    let (mode, echo) = cut_field(rest);
+    let (text, rest) = screen.split_once(" | ").unwrap_or((screen, ""));
+    let (mode, echo) = rest.split_once(" | ").unwrap_or((rest, ""));
     match row {
         0 => text,
         MODE_ROW => mode,

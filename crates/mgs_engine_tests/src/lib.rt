@@ -1,0 +1,26 @@
+//! Tests of what a server is made of: configurations, connections, and the engine, from the bytes of sessions to terminals
+//! that are fed theirs.
+#![tactic(auto)]
+
+#[cfg(test)]
+mod calls;
+#[cfg(test)]
+mod config;
+#[cfg(test)]
+mod drive;
+#[cfg(test)]
+mod fixtures;
+#[cfg(test)]
+mod ids;
+#[cfg(test)]
+mod lockstep;
+#[cfg(test)]
+mod marks;
+#[cfg(test)]
+mod queues;
+#[cfg(test)]
+mod rows;
+#[cfg(test)]
+mod saves;
+#[cfg(test)]
+mod wire;
