@@ -14,7 +14,7 @@ use Rattle.mgs_model.proofs.Completing.{completion_by_names, completion_within}
 use Rattle.mgs_model.specs.declared.session.Command.{Command}
 use Rattle.mgs_maps.specs.declared.table.Binding.{Binding}
 use Rattle.mgs_maps.specs.Held.{is_bound}
-use Rattle.mgs_maps.specs.Table.{rows_of, narrowed_row}
+use Rattle.mgs_maps.specs.Table.{rows_of, named_row, narrowed_row}
 use Rattle.mgs_maps.proofs.Rows.{found_in}
 
 -- A COMMAND IN TWO TABLES
@@ -70,17 +70,17 @@ unfolding find_command
 no_name [] e = sym (ap (option_map (λ (r : KeyRow). r.command)) (none_named (key_rows ++ keyless_rows)))
 no_name (c ∷ cs) e = let none : length (c ∷ cs) ≡ 0 = eqb-true (length (c ∷ cs)) 0 e in absurd (omega (arith, none))
 
-abbrev pub named : List ℕ → List Binding → Option Command
-named name bs = option_map (λ (b : Binding). b.command) (find (λ (b : Binding). same_name name b.name.now) bs)
+pub in_rows : (name : List ℕ) (bs : List Binding) → option_map (λ (b : Binding). b.command) (find (λ (b : Binding). same_name name b.name.now) bs) ≡ named_row name (rows_of bs)
+in_rows name bs = sym (found_in (λ (r : KeyRow). same_name name r.name) bs)
 
-pub by_tables : (name : List ℕ) (bs cs : List Binding) → (length name == 0) ≡ false → rows_of bs ≡ key_rows → rows_of cs ≡ keyless_rows → option_or (named name bs) (named name cs) ≡ find_command name
+pub in_tables : (name : List ℕ) (ts us : List KeyRow) → ts ≡ key_rows → us ≡ keyless_rows → (length name == 0) ≡ false → option_or (named_row name ts) (named_row name us) ≡ find_command name
 unfolding find_command
-by_tables [] bs cs some b_is c_is = cc
-by_tables (c ∷ k) bs cs some b_is c_is =
+in_tables [] ts us t_is u_is some = cc
+in_tables (c ∷ k) ts us t_is u_is some =
     let p : KeyRow → Bool = λ r. same_name (c ∷ k) r.name in
     let command : KeyRow → Command = λ r. r.command in
-    ap (λ o. option_or o (named (c ∷ k) cs)) (sym (found_in p bs) ∙ ap (λ rs. option_map command (find p rs)) b_is)
-    ∙ ap (option_or (option_map command (find p key_rows))) (sym (found_in p cs) ∙ ap (λ rs. option_map command (find p rs)) c_is)
+    ap (λ rs. option_or (named_row (c ∷ k) rs) (named_row (c ∷ k) us)) t_is
+    ∙ ap (λ rs. option_or (named_row (c ∷ k) key_rows) (named_row (c ∷ k) rs)) u_is
     ∙ sym (either command (find p key_rows) (find p keyless_rows))
     ∙ ap (option_map command) (sym (find-append p key_rows keyless_rows) ∙ sym (found_named c k (key_rows ++ keyless_rows)))
 

@@ -1,4 +1,4 @@
-//! The key map: keys become commands and their arguments, by one table.
+//! The key map: keys become commands and their arguments, by one table, and so do the names of commands.
 #![tactic(auto)]
 
 mod keyboard;

@@ -6,14 +6,14 @@ ghost use Rattle.mgs_model.specs.Commands.{find_command, command_names};
 ghost use Rattle.mgs_model.specs.Completion.{completion};
 ghost use Rattle.mgs_maps.specs.declared.table.Binding.{Binding};
 ghost use Rattle.mgs_maps.specs.Held.{is_bound};
-ghost use Rattle.mgs_maps.specs.Table.{row_of, rows_of, narrowed_row};
+ghost use Rattle.mgs_maps.specs.Table.{row_of, rows_of, named_row, narrowed_row};
 
 use crate::table::{Binding, bindings, keyless};
 use mgs_mini::narrowed;
 use mgs_model::Command;
 
 // The command of a name in a table.
-fn named_in(bindings: &[Binding], name: &[u8]) -> Option<Command>
+fn command_in(bindings: &[Binding], name: &[u8]) -> Option<Command>
     ensures { result ≡ option_map (λ (b : Binding). b.command) (find (λ (b : Binding). same_name name.now b.name.now) bindings.now) }
 {
     bindings
@@ -22,6 +22,14 @@ fn named_in(bindings: &[Binding], name: &[u8]) -> Option<Command>
         .map(|binding| binding.command)
 }
 
+// The same, told of its rows.
+fn named_in(bindings: &[Binding], name: &[u8]) -> Option<Command>
+    ensures { result ≡ named_row name.now (rows_of bindings.now) }
+{
+    command_in(bindings, name)
+}
+
+#[tactic(auto, using(crate::proofs::Named::no_name, crate::proofs::Named::in_tables))]
 fn find_command(name: &[u8]) -> Option<Command>
     ensures { result ≡ find_command name.now }
 {
