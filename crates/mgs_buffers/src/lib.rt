@@ -5,7 +5,9 @@ mod buffer;
 mod buffers;
 mod completing;
 mod fault;
+mod telling;
 
 pub use buffer::{Buffer, new_buffer};
 pub use buffers::Buffers;
 pub use fault::AddFault;
+pub use telling::Attributes;
