@@ -2,3 +2,4 @@ pub mod WordLemmas
 pub mod NameLemmas
 pub mod Masks
 pub mod RoundTrip
+pub mod Printable

@@ -1,7 +1,7 @@
 -- What entries can be written.
 use Rattle.std.specs.Prelude.{◌≡◌, ℕ, ◌<◌, Bool, true, List, fold}
 use Rattle.std.specs.Int.Bits.{bit_or}
-use Rattle.mgs_model.specs.Names.{is_user_name}
+use Rattle.mgs_model.specs.Names.{is_user_name, IsName}
 use Rattle.mgs_model.specs.Rights.{bit_of, rights_in}
 use Rattle.mgs_model.specs.declared.right.Right.{Right}
 use Rattle.mgs_model.specs.declared.entry.Who.{Who}
@@ -18,6 +18,13 @@ is_writable_who (Group name) = is_user_name name
 -- the mask of these rights
 abbrev pub mask_of : List Right → ℕ
 mask_of rights = fold (λ mask right. bit_or mask (bit_of right)) 0 rights
+
+-- a name that an entry has is a name
+abbrev pub HasName : Who → Type 0
+HasName Owner = Unit {0}
+HasName Everyone = Unit {0}
+HasName (User name) = IsName name
+HasName (Group name) = IsName name
 
 -- an entry that can be written: its mask has a right, and no bit but those of rights
 pub record IsWritable (e : Entry) : Type 0 where

@@ -1,10 +1,12 @@
 // How an entry is printed.
-ghost use Rattle.std.specs.Prelude.{◌≡◌, ℕ, ◌+◌, ◌<◌, ◌≤◌, List, [], ◌∷◌, ◌++◌, map, Ok};
+ghost use Rattle.std.specs.Prelude.{◌≡◌, ℕ, ◌+◌, ◌<◌, ◌≤◌, List, [], ◌∷◌, ◌++◌, map, Ok, All};
 ghost use Rattle.arrayvec.specs.ArrayString.{array_string_len};
+ghost use Rattle.mgs_model.specs.Names.{IsName};
+ghost use Rattle.mgs_model.specs.Picture.{IsPrintable};
 ghost use Rattle.mgs_model.specs.Rights.{letter_of, rights_in};
 ghost use Rattle.mgs_model.specs.Draw.{type_text, who_text, entry_text};
 ghost use Rattle.mgs_acl.specs.Spelling.{entry_in};
-ghost use Rattle.mgs_acl.specs.Written.{IsWritable};
+ghost use Rattle.mgs_acl.specs.Written.{IsWritable, HasName};
 
 use crate::spelling::letter_of;
 use arrayvec::ArrayString;
@@ -22,6 +24,7 @@ fn type_text(entry_type: EntryType) -> &'static str
 fn push_name(text: &mut ArrayString<64>, name: &Name)
     requires { array_string_len text.old ≤ 32 }
     ensures value { text.new.bytes ≡ text.old.bytes ++ name.now }
+    ensures form { IsName name.now }
     ensures room { array_string_len text.new ≤ array_string_len text.old + 32 }
 {
     for byte in name.as_bytes() {
@@ -32,6 +35,7 @@ fn push_name(text: &mut ArrayString<64>, name: &Name)
 fn push_who(text: &mut ArrayString<64>, who: &Who)
     requires { array_string_len text.old ≤ 6 }
     ensures value { text.new.bytes ≡ text.old.bytes ++ who_text who.now }
+    ensures form { HasName who.now }
     ensures room { array_string_len text.new ≤ array_string_len text.old + 38 }
 {
     match who {
@@ -65,7 +69,8 @@ fn push_letters(text: &mut ArrayString<64>, mask: Mask)
 }
 
 fn printed(entry: &Entry) -> ArrayString<64>
-    ensures { result.bytes ≡ entry_text entry.now }
+    ensures text { result.bytes ≡ entry_text entry.now }
+    ensures form { HasName entry.now.who }
 {
     let mut text = ArrayString::new();
     text.push_str(type_text(entry.entry_type));
@@ -81,6 +86,7 @@ fn printed(entry: &Entry) -> ArrayString<64>
 /// `read_entry` reads an entry that can be written back from it, and so what it made of any text.
 pub fn print_entry(entry: &Entry) -> ArrayString<64>
     ensures text { result.bytes ≡ entry_text entry.now }
+    ensures printable { All IsPrintable result.bytes }
     ensures read_back { IsWritable entry.now → entry_in result.bytes ≡ Ok entry.now }
     ensures canonical { (text : List ℕ) → entry_in text ≡ Ok entry.now → entry_in result.bytes ≡ Ok entry.now }
 {

@@ -4,3 +4,4 @@ pub mod Limits
 pub mod Changes
 pub mod Unmarked
 mod Completed
+pub mod Told

@@ -2,3 +2,4 @@ pub mod Adding
 pub mod MarkedBuffer
 pub mod Contents
 pub mod Completed
+pub mod Told

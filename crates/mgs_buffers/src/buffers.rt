@@ -1,5 +1,5 @@
 // All buffers, by name and in order of creation.
-ghost use Rattle.std.specs.Prelude.{◌≡◌, ◌+◌, ℕ, ◌-◌, ◌<◌, ◌≤◌, ◌^◌, ◌∷◌, [], ◌++◌, List, map, find, length, OnOk, OnErr, IfOk, IfSome, None, false, count_by, is_some};
+ghost use Rattle.std.specs.Prelude.{◌≡◌, ◌+◌, ℕ, ◌-◌, ◌<◌, ◌≤◌, ◌^◌, ◌∷◌, [], ◌++◌, List, map, find, length, OnOk, OnErr, IfOk, IfSome, None, false, count_by, is_some, slice_get};
 ghost use Rattle.std.specs.Option.{option_copied, option_map};
 ghost use Rattle.mgs_undo.specs.History.{has_serial};
 ghost use Rattle.mgs_undo.specs.Numbered.{item_of};
@@ -13,14 +13,16 @@ ghost use Rattle.mgs_model.specs.World.{may};
 ghost use Rattle.mgs_buffers.specs.Adding.{add_fault, AddAnswers, NamesToAdd};
 ghost use Rattle.mgs_buffers.specs.Completed.{IsWithinName};
 ghost use Rattle.mgs_buffers.specs.Contents.{marked_of};
+ghost use Rattle.mgs_buffers.specs.Told.{attributes_read, attributes_found};
 ghost use Rattle.mgs_buffers.specs.MarkedBuffer.{AreUnmarked, AreWithinLimit, marked_named, marked_at, has_buffer, HasBuffer, IsMark, mark_at, marked_created, marked_new, marked_edited, marked_placed, marked_unmodified, without_marked, MarkAdded, MarkDropped};
 
 use crate::buffer::{Buffer, new_buffer, owners_list};
 use crate::completing::completion;
 use crate::fault::AddFault;
 use crate::naming::name_typed;
+use crate::telling::{Attributes, is_shown, told};
 use indexmap::IndexMap;
-use mgs_acl::user_named;
+use mgs_acl::{Entry, user_named};
 use mgs_marks::Marked;
 use mgs_model::{BUFFER_LIMIT, Decision, MarkId, Mask, Name, Right, Short, TEXT_LIMIT};
 use mgs_policy::Directory;
@@ -75,13 +77,6 @@ fn take_out<T: Marked + Drop>(all: &mut IndexMap<Name, Buffer<T>>, name: &Name)
     ensures gone { lookup (same_name name.now) all.new.entries ≡ None }
 {
     all.shift_remove(name);
-}
-
-// Whether a user is granted READ_ATTRIBUTES.
-fn is_shown<T: Marked + Drop>(buffer: &Buffer<T>, directory: &Directory, user: &Name) -> bool
-    ensures { (name : List ℕ) → result ≡ may directory.now user.now Right.ReadAttributes (marked_of T.text T.marks name buffer.now).buffer }
-{
-    buffer.grants(directory, user, Right::ReadAttributes)
 }
 
 impl<T: Marked + Drop> Buffers<T> {
@@ -263,7 +258,7 @@ impl<T: Marked + Drop> Buffers<T> {
         ensures kept { IfSome result (λ n. HasBuffer n self.now) }
     {
         for (name, buffer) in self.all.iter() {
-            if is_shown(buffer, directory, user) {
+            if is_shown(name, buffer, directory, user) {
                 return Some(*name);
             }
         }
@@ -277,6 +272,25 @@ impl<T: Marked + Drop> Buffers<T> {
         ensures value { option_map (λ t. t.now) result ≡ completion (granted_names directory.now user.now (map (λ k. k.buffer) self.now)) input.now }
     {
         completion(&self.all, directory, user, input)
+    }
+
+    /// What a user is told of the `i`-th buffer, in the order of creation: `None` where READ_ATTRIBUTES is not granted, and
+    /// where there are no more than `i` buffers.
+    pub fn attributes(&self, directory: &Directory, user: &Name, i: usize) -> Option<Attributes>
+        ensures { option_map attributes_read result ≡ attributes_found directory.now user.now (slice_get self.now i) }
+    {
+        match self.all.get_index(i) {
+            Some((name, buffer)) => told(name, buffer, directory, user),
+            None => None,
+        }
+    }
+
+    /// The entries of the buffer's access list, in order.
+    pub fn entries(&self, name: &Name) -> &[Entry]
+        requires { HasBuffer name.now self.now }
+        ensures { result.now ≡ (marked_at name.now self.now).buffer.entries }
+    {
+        self.buffer(name).list.as_slice()
     }
 
     /// The buffer's text, with its marks.

@@ -6,7 +6,9 @@ mod buffers;
 mod completing;
 mod fault;
 mod naming;
+mod telling;
 
 pub use buffer::{Buffer, new_buffer};
 pub use buffers::Buffers;
 pub use fault::AddFault;
+pub use telling::Attributes;

@@ -7,3 +7,4 @@ pub mod Fits
 pub mod Drawn
 pub mod Cuts
 pub mod Ends
+pub mod OneRow

@@ -3,7 +3,7 @@ use Rattle.std.proofs.Common.{ℕ, ◌^◌, ◌+◌, ◌%◌, ◌<◌, ◌≤◌
 use Rattle.std.specs.Prelude.{decimal, IsTrue}
 use Rattle.std.specs.List.{list_all}
 use Rattle.std.proofs.lemmas.Bool.{and_parts, and_from, leb-true, le-leb}
-use Rattle.std.proofs.lemmas.List.Elements.{All-nil, All-cons}
+use Rattle.std.proofs.lemmas.List.Elements.{All-nil, All-cons, All-head, All-tail}
 use Rattle.std.proofs.lemmas.Fmt.{decimal_by_steps, length-decimal-le}
 use Rattle.std.proofs.lemmas.List.Folds.{list_all-append}
 use Rattle.std.proofs.lemmas.Bool.Decides.{nat_tests}
@@ -23,6 +23,12 @@ plain_printable (x ∷ xs) h =
     let both = and_parts (is_plain x) (list_all is_plain xs) h in
     let bounds = and_parts _ _ both.0 in
     All-cons IsPrintable x xs (leb-true 32 x bounds.0, leb-true x 126 bounds.1) (plain_printable xs both.1)
+
+pub printable_plain : (xs : List ℕ) → All IsPrintable xs → IsTrue (list_all is_plain xs)
+printable_plain [] h = refl
+printable_plain (x ∷ xs) h =
+    let here : IsPrintable x = All-head IsPrintable x xs h in
+    and_from (is_plain x) (list_all is_plain xs) (and_from _ _ (le-leb 32 x here.0) (le-leb x 126 here.1)) (printable_plain xs (All-tail IsPrintable x xs h))
 
 visible_plain : (xs : List ℕ) → IsTrue (list_all is_visible xs) → IsTrue (list_all is_plain xs)
 visible_plain [] h = refl

@@ -43,7 +43,7 @@ pub(crate) fn put(row: &mut [char], shift: usize, column: usize, c: char)
     }
 }
 
-fn put_blanks(row: &mut [char], shift: usize, column: usize, count: usize)
+pub(crate) fn put_blanks(row: &mut [char], shift: usize, column: usize, count: usize)
     requires { column + count < 2 ^ 64 }
     ensures { row.new ≡ over row.old shift column (replicate count 32) }
 {

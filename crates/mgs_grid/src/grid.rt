@@ -1,8 +1,10 @@
 // The rows of a screen, and a cursor.
-ghost use Rattle.std.specs.Prelude.{◌≡◌, ℕ, ◌+◌, ◌<◌, ◌≤◌, ◌^◌, List, [], ◌∷◌, length, drop, None, IfOk};
-ghost use Rattle.mgs_model.specs.Rows.{text_rows, shift_at, blank_rows, unread_rows, mode_row, buffer_mode, none_mode, echo_row, line_row, line_end_column, rows_put};
+ghost use Rattle.std.specs.Prelude.{◌≡◌, ℕ, ◌+◌, ◌<◌, ◌≤◌, ◌^◌, List, [], ◌∷◌, ◌++◌, length, drop, decimal, codes, All, None, IfOk};
+ghost use Rattle.mgs_model.specs.Rows.{text_rows, shift_at, blank_rows, unread_rows, cause_text, plain_row, mode_row, buffer_mode, none_mode, echo_row, line_row, line_end_column, rows_put};
+ghost use Rattle.mgs_model.specs.Draw.{listing_text};
 ghost use Rattle.mgs_model.specs.Prompts.{prompt_line};
-ghost use Rattle.mgs_model.specs.Picture.{Picture, IsPicture, IsSize, blank_picture};
+ghost use Rattle.mgs_model.specs.Picture.{Picture, IsPicture, IsPrintable, IsSize, blank_picture};
+ghost use Rattle.mgs_grid.specs.Lists.{acl_mode};
 
 use crate::line::Line;
 use crate::window::{clear_rows, draw_rows};
@@ -179,5 +181,54 @@ impl Grid {
         ensures within { result < self.old.cols }
     {
         self.lines[row].draw_prompt(question, input)
+    }
+
+    /// Draws a row of the listing of all buffers: whether the buffer is modified, its size, its name and its owner.
+    pub fn draw_listed(
+        &mut self,
+        row: usize,
+        modified: bool,
+        size: usize,
+        name: &Name,
+        owner: &Name,
+    )
+        requires { row < self.old.rows }
+        ensures { self.new ≡ record self.old { lines = rows_put row (plain_row self.old.cols (listing_text (record { name = name.now; modified = modified; size = size; owner = owner.now })) ∷ []) self.old.lines } }
+    {
+        self.lines[row].draw_listed(modified, size, name, owner);
+    }
+
+    /// Draws a row of an access list: the entry's number and the entry as it is printed.
+    pub fn draw_entry(&mut self, row: usize, number: usize, entry: &[u8])
+        requires row { row < self.old.rows }
+        requires short { length entry.now < 2 ^ 32 }
+        requires printable { All IsPrintable entry.now }
+        ensures { self.new ≡ record self.old { lines = rows_put row (plain_row self.old.cols (decimal number ++ 32 ∷ entry.now) ∷ []) self.old.lines } }
+    {
+        self.lines[row].draw_entry(number, entry);
+    }
+
+    /// Draws a row that says why an access list may not be read.
+    pub fn draw_unlisted(&mut self, row: usize, decision: Decision)
+        requires { row < self.old.rows }
+        ensures { self.new ≡ record self.old { lines = rows_put row (plain_row self.old.cols (codes "[no acl: " ++ cause_text decision ++ codes "]") ∷ []) self.old.lines } }
+    {
+        self.lines[row].draw_unlisted(decision);
+    }
+
+    /// Draws the mode line of the listing of all buffers.
+    pub fn draw_buffers_mode(&mut self, row: usize)
+        requires { row < self.old.rows }
+        ensures { self.new ≡ record self.old { lines = rows_put row (mode_row self.old.cols (codes "-Buffers") ∷ []) self.old.lines } }
+    {
+        self.lines[row].draw_buffers_mode();
+    }
+
+    /// Draws the mode line of an access list: the buffer's name. `None` stands for what may not be told.
+    pub fn draw_acl_mode(&mut self, row: usize, name: Option<Name>)
+        requires { row < self.old.rows }
+        ensures { self.new ≡ record self.old { lines = rows_put row (mode_row self.old.cols (acl_mode name) ∷ []) self.old.lines } }
+    {
+        self.lines[row].draw_acl_mode(name);
     }
 }

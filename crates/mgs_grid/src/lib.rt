@@ -7,6 +7,7 @@
 mod cells;
 mod grid;
 mod line;
+mod lists;
 mod shift;
 mod window;
 mod words;

@@ -1,13 +1,16 @@
 // A row of a screen.
-ghost use Rattle.std.specs.Prelude.{◌≡◌, ℕ, ◌+◌, ◌-◌, ◌<◌, ◌≤◌, ◌^◌, List, [], length, slice_range, replicate, All, false, IfOk};
+ghost use Rattle.std.specs.Prelude.{◌≡◌, ℕ, ◌+◌, ◌-◌, ◌<◌, ◌≤◌, ◌^◌, List, [], ◌∷◌, ◌++◌, length, slice_range, replicate, decimal, codes, All, false, IfOk};
 ghost use Rattle.mgs_model.specs.Cells.{cells};
 ghost use Rattle.mgs_model.specs.Lines.{line_end};
-ghost use Rattle.mgs_model.specs.Rows.{shown_row, plain_row, mode_row, line_row, line_end_column, unread_text, buffer_mode, none_mode, Row};
+ghost use Rattle.mgs_model.specs.Rows.{shown_row, plain_row, mode_row, line_row, line_end_column, unread_text, buffer_mode, none_mode, cause_text, Row};
+ghost use Rattle.mgs_model.specs.Draw.{listing_text};
 ghost use Rattle.mgs_model.specs.Prompts.{prompt_line};
 ghost use Rattle.mgs_model.specs.Messages.{message_text};
 ghost use Rattle.mgs_model.specs.Picture.{IsPrintable};
+ghost use Rattle.mgs_grid.specs.Lists.{acl_mode};
 
 use crate::cells::{fill, finish, put_bytes, put_line};
+use crate::lists::{put_acl_mode, put_entry, put_listed, put_unlisted};
 use crate::words::{prompt_width, put_heading, put_message, put_place, put_prompt, put_unread};
 use mgs_lines::line_end;
 use mgs_model::{Decision, Message, Name, Question, Short};
@@ -184,5 +187,76 @@ impl Line {
         let end = put_prompt(row, shift, question, input);
         finish(row, shift, end);
         end - shift
+    }
+
+    /// Draws a row of the listing of all buffers, plain: whether the buffer is modified, its size, its name and its owner.
+    pub(crate) fn draw_listed(&mut self, modified: bool, size: usize, name: &Name, owner: &Name)
+        requires some { 0 < length self.old.text }
+        requires width { length self.old.text < 2 ^ 62 }
+        ensures row { self.new ≡ plain_row (length self.old.text) (listing_text (record { name = name.now; modified = modified; size = size; owner = owner.now })) }
+        ensures printable { All IsPrintable (listing_text (record { name = name.now; modified = modified; size = size; owner = owner.now })) }
+    {
+        self.reversed = false;
+        let row = self.text.as_mut_slice();
+        fill(row, ' ');
+        let end = put_listed(row, modified, size, name, owner);
+        finish(row, 0, end);
+    }
+
+    /// Draws a row of an access list, plain: the entry's number and the entry as it is printed.
+    pub(crate) fn draw_entry(&mut self, number: usize, entry: &[u8])
+        requires some { 0 < length self.old.text }
+        requires width { length self.old.text < 2 ^ 62 }
+        requires short { length entry.now < 2 ^ 32 }
+        requires printable { All IsPrintable entry.now }
+        ensures row { self.new ≡ plain_row (length self.old.text) (decimal number ++ 32 ∷ entry.now) }
+        ensures printable { All IsPrintable (decimal number ++ 32 ∷ entry.now) }
+    {
+        self.reversed = false;
+        let row = self.text.as_mut_slice();
+        fill(row, ' ');
+        let end = put_entry(row, number, entry);
+        finish(row, 0, end);
+    }
+
+    /// Draws why an access list may not be read, plain.
+    pub(crate) fn draw_unlisted(&mut self, decision: Decision)
+        requires some { 0 < length self.old.text }
+        requires width { length self.old.text < 2 ^ 62 }
+        ensures row { self.new ≡ plain_row (length self.old.text) (codes "[no acl: " ++ cause_text decision ++ codes "]") }
+        ensures printable { All IsPrintable (codes "[no acl: " ++ cause_text decision ++ codes "]") }
+    {
+        self.reversed = false;
+        let row = self.text.as_mut_slice();
+        fill(row, ' ');
+        let end = put_unlisted(row, decision);
+        finish(row, 0, end);
+    }
+
+    /// Draws the mode line of the listing of all buffers, in reverse.
+    pub(crate) fn draw_buffers_mode(&mut self)
+        requires some { 0 < length self.old.text }
+        requires width { length self.old.text < 2 ^ 62 }
+        ensures { self.new ≡ mode_row (length self.old.text) (codes "-Buffers") }
+    {
+        self.reversed = true;
+        let row = self.text.as_mut_slice();
+        fill(row, '-');
+        let end = put_bytes(row, 0, b"-Buffers");
+        finish(row, 0, end);
+    }
+
+    /// Draws the mode line of an access list, in reverse: the buffer's name. `None` stands for what may not be told.
+    pub(crate) fn draw_acl_mode(&mut self, name: Option<Name>)
+        requires some { 0 < length self.old.text }
+        requires width { length self.old.text < 2 ^ 62 }
+        ensures row { self.new ≡ mode_row (length self.old.text) (acl_mode name) }
+        ensures printable { All IsPrintable (acl_mode name) }
+    {
+        self.reversed = true;
+        let row = self.text.as_mut_slice();
+        fill(row, '-');
+        let end = put_acl_mode(row, name);
+        finish(row, 0, end);
     }
 }

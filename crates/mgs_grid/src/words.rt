@@ -11,7 +11,7 @@ use crate::cells::{put_bytes, put_chars, put_decimal};
 use mgs_model::{CursorPosition, Decision, EntryFault, Message, Name, Question, Right};
 
 #[tactic(auto, using(crate::proofs::Plain::name_plain, crate::proofs::Plain::name_short))]
-fn put_name(row: &mut [char], column: usize, name: &Name) -> usize
+pub(crate) fn put_name(row: &mut [char], column: usize, name: &Name) -> usize
     requires { column < 2 ^ 62 }
     ensures wrote { Wrote row.old column name.now row.new result }
     ensures few { result ≤ column + 32 }
@@ -82,7 +82,7 @@ pub(crate) fn put_place(row: &mut [char], column: usize, place: Option<(usize, u
 }
 
 // Why a text may not be read.
-fn put_cause(row: &mut [char], column: usize, decision: Decision) -> usize
+pub(crate) fn put_cause(row: &mut [char], column: usize, decision: Decision) -> usize
     requires { column < 2 ^ 60 }
     ensures wrote { Wrote row.old column (cause_text decision) row.new result }
     ensures few { result ≤ column + 64 }

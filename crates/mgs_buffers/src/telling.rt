@@ -1,0 +1,62 @@
+// What a user is told of a buffer in the listing of all.
+ghost use Rattle.std.specs.Prelude.{◌≡◌};
+ghost use Rattle.std.specs.Option.{option_map};
+ghost use Rattle.mgs_model.specs.World.{may};
+ghost use Rattle.mgs_buffers.specs.Contents.{marked_of};
+ghost use Rattle.mgs_buffers.specs.Told.{attributes_read, attributes_to};
+
+use crate::buffer::Buffer;
+use mgs_marks::Marked;
+use mgs_model::{Name, Right};
+use mgs_policy::{Directory, is_granted};
+use mgs_text::Text;
+
+/// What is told of a buffer to those to whom READ_ATTRIBUTES is granted.
+#[derive(Clone, Copy)]
+pub struct Attributes {
+    pub name: Name,
+    /// Whether the buffer was edited since it was made or last written to its file.
+    pub modified: bool,
+    /// The number of characters of its text.
+    pub size: usize,
+    pub owner: Name,
+}
+
+// Whether a user is granted READ_ATTRIBUTES.
+pub(crate) fn is_shown<T: Marked + Drop>(
+    name: &Name,
+    buffer: &Buffer<T>,
+    directory: &Directory,
+    user: &Name,
+) -> bool
+    ensures { result ≡ may directory.now user.now Right.ReadAttributes (marked_of T.text T.marks name.now buffer.now).buffer }
+{
+    is_granted(
+        &buffer.list,
+        &buffer.owner,
+        user,
+        directory,
+        Right::ReadAttributes,
+    )
+}
+
+// What a user is told of a buffer.
+pub(crate) fn told<T: Marked + Drop>(
+    name: &Name,
+    buffer: &Buffer<T>,
+    directory: &Directory,
+    user: &Name,
+) -> Option<Attributes>
+    ensures { option_map attributes_read result ≡ attributes_to directory.now user.now (marked_of T.text T.marks name.now buffer.now).buffer }
+{
+    if is_shown(name, buffer, directory, user) {
+        Some(Attributes {
+            name: *name,
+            modified: buffer.modified,
+            size: buffer.text.len(),
+            owner: buffer.owner,
+        })
+    } else {
+        None
+    }
+}
