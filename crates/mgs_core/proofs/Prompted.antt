@@ -1,7 +1,8 @@
 -- A byte of a session at a prompt.
-use Rattle.std.proofs.Common.{◌≡◌, ℕ, zero, suc, ◌<◌, Bool, true, false, cond, List, [], ◌∷◌, ◌++◌, length, take, ◌-◌, nat_lt, ◌==◌, ◌&&◌, get_or, Option, Some, None, refl, sym, ap, subst, ◌∙◌}
+use Rattle.std.proofs.Common.{◌≡◌, ℕ, zero, suc, ◌<◌, Bool, true, false, cond, List, [], ◌∷◌, ◌++◌, length, take, ◌-◌, nat_lt, ◌==◌, ◌&&◌, get_or, Option, Some, None, refl, sym, ap, subst, ◌∙◌, arith}
 use Rattle.std.specs.Prelude.{slice_set}
 use Rattle.std.specs.List.{flat_map, position_or_len}
+use Rattle.std.proofs.lemmas.List.{length-map}
 use Rattle.mgs_model.specs.Access.{Directory}
 use Rattle.mgs_model.specs.Keys.{is_graphic, value_of}
 use Rattle.mgs_model.specs.World.{World, has_id}
@@ -30,13 +31,14 @@ use Rattle.mgs_mini.specs.declared.Waiting.TheVariants.{NoKey, Escape, Arrow, Ar
 use Rattle.mgs_buffers.specs.MarkedBuffer.{MarkedBuffer}
 use Rattle.mgs_session.specs.declared.Own.{Own}
 use Rattle.mgs_session.specs.declared.Session.{Session}
-use Rattle.mgs_session.specs.Sessions.{failed, prompting, resting, unprompted}
+use Rattle.mgs_session.specs.Sessions.{failed, prompting, resting, told, unprompted}
 use Rattle.mgs_store.specs.Stores.{StoreTold}
 use Rattle.mgs_store.proofs.Told.{told_none}
-use Rattle.mgs_world.specs.Worlds.{buffers_of, idle, mode_in, own_of, session_id, session_of, world_of}
+use Rattle.mgs_world.specs.Worlds.{buffers_of, idle, is_size_of, own_of, session_id, session_of, size_in, sizes_in, world_of}
 use Rattle.mgs_world.proofs.Owns.{no_search, prompt_answered, prompt_fed}
 use Rattle.mgs_core.specs.Prompted.{IsAnswered, IsKept, asked_again, names_for, own_turn}
 use Rattle.mgs_core.specs.Steps.{ActedBy, TypedBy}
+use Rattle.mgs_core.proofs.Sizes.{place_sized}
 use Rattle.mgs_core.proofs.Steps.{seen_at, world_changed}
 
 -- WHAT AN ANSWER IS FOR
@@ -191,9 +193,12 @@ kept_turn d ks xs next h y byte kept =
     let w : World = world_of d ks xs next in
     kept.turn (seen_at w (session_of ks h) byte) (shown_names_of w (session_of ks h))
 
--- the session is at its prompt again
-pub again_world : (d : Directory) (K : List MarkedBuffer) (ys : List Session) (next : Option ℕ) (id at : ℕ) (k z : Session) (q : PromptInput) → at ≡ position_or_len (session_id id) ys → at < length ys → k ≡ get_or ys at k → session_of K z ≡ own_set (asked_again q) (session_of K k) → world_of d K (slice_set ys at z) next ≡ with_own id (asked_again q) (world_of d K ys next)
-again_world d K ys next id at k z q place within is does = world_changed (asked_again q) d K ys next id at k z place within is does
+-- the session is at its prompt again, where an act left the sizes
+pub again_world : (d : Directory) (K : List MarkedBuffer) (xs ys : List Session) (next : Option ℕ) (id at : ℕ) (k z : Session) (q : PromptInput) → at ≡ position_or_len (session_id id) xs → at < length xs → sizes_in ys ≡ sizes_in xs → k ≡ get_or ys at k → z ≡ told NoMemory (prompting q k) → world_of d K (slice_set ys at z) next ≡ with_own id (asked_again q) (world_of d K ys next)
+again_world d K xs ys next id at k z q place within same is does =
+    let within_y : at < length ys = omega (arith, within, sym (length-map xs size_in) ∙ sym (ap length same) ∙ length-map ys size_in) in
+    let place_y : at ≡ position_or_len (session_id id) ys = place ∙ place_sized id xs ∙ ap (position_or_len (is_size_of id)) (sym same) ∙ sym (place_sized id ys) in
+    world_changed (asked_again q) d K ys next id at k z place_y within_y is (ap (session_of K) does)
 
 again_twice : (id : ℕ) (q : PromptInput) (own : model.Own) (xs : List model.Session) → change_first (has_id id) (own_set (asked_again q)) (change_first (has_id id) (own_set (λ old. own)) xs) ≡ change_first (has_id id) (own_set (λ old. asked_again q own)) xs
 again_twice id q own [] = refl
