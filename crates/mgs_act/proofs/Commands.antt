@@ -10,7 +10,7 @@ use Rattle.mgs_model.specs.World as model
 use Rattle.mgs_model.specs.View.{view}
 use Rattle.mgs_model.specs.Outcome.{takes_memory}
 use Rattle.mgs_model.specs.Outcome as outcomes
-use Rattle.mgs_model.specs.Acts.{fails, outcome, owns, sets}
+use Rattle.mgs_model.specs.Acts.{asks, fails, outcome, owns, sets}
 use Rattle.mgs_model.specs.Apply.{act, applied, apply, change_first, outcome_in, session_arranged}
 use Rattle.mgs_model.specs.Plans.{acted_own, setting}
 use Rattle.mgs_model.specs.Apart.{Apart, touched_by}
@@ -18,8 +18,9 @@ use Rattle.mgs_model.specs.Events.{may_be_refused}
 use Rattle.mgs_model.specs.declared.touched.Touched.{Touched}
 use Rattle.mgs_model.specs.declared.touched.Touched.TheVariants.{Nowhere}
 use Rattle.mgs_model.specs.declared.session.Command.{Command}
-use Rattle.mgs_model.specs.declared.session.Command.TheVariants.{Set, Rearrange}
+use Rattle.mgs_model.specs.declared.session.Command.TheVariants.{Ask, Set, Rearrange}
 use Rattle.mgs_model.specs.declared.session.Arrangement.{Arrangement}
+use Rattle.mgs_model.specs.declared.session.Question.{Question}
 use Rattle.mgs_model.specs.declared.session.Setting.{Setting}
 use Rattle.mgs_model.specs.declared.session.Setting.TheVariants.{SetFillColumn, KeyboardQuit}
 use Rattle.mgs_model.specs.declared.message.Message.{Message}
@@ -29,7 +30,7 @@ use Rattle.mgs_model.proofs.Apart.{apart_apply}
 use Rattle.mgs_model.proofs.Firsts.{position_or_len-map, written_first}
 use Rattle.mgs_buffers.specs.MarkedBuffer.{MarkedBuffer}
 use Rattle.mgs_windows.specs.declared.WindowMarks.{WindowMarks}
-use Rattle.mgs_session.specs.Sessions.{acted, failed, filling, window_marks_of}
+use Rattle.mgs_session.specs.Sessions.{acted, asking, failed, filling, window_marks_of}
 use Rattle.mgs_session.specs.declared.Own.{Own}
 use Rattle.mgs_session.specs.declared.Session.{Session}
 use Rattle.mgs_act.specs.declared.acts.KeyAct.{KeyAct}
@@ -40,7 +41,7 @@ use Rattle.mgs_world.specs.Sound.{IsSound}
 use Rattle.mgs_act.specs.Setting.{session_set}
 use Rattle.mgs_world.specs.Worlds.{id_after, idle, own_at, own_of, own_or_first, session_id, session_of, world_of}
 use Rattle.mgs_world.proofs.Sessions.{session_some}
-use Rattle.mgs_world.proofs.Owns.{at_rest, no_search}
+use Rattle.mgs_world.proofs.Owns.{at_rest, no_search, own_asking}
 use Rattle.mgs_world.proofs.Soundness.{mark_is_kept}
 use Rattle.mgs_world.proofs.Worlds.{same_world}
 use Rattle.mgs_act.proofs.Deeds.{acting_marks, failed_so, fresh_own}
@@ -51,7 +52,7 @@ session_known directory ks xs next id at h place within is =
     session_some directory ks xs next id at h place within (sym (get_or_from_slice_get xs at h h is))
 
 -- what an act comes to, by the session that does it
-outcome_known : (directory : Directory) (ks : List MarkedBuffer) (xs : List Session) (next : Option ℕ) (id at : ℕ) (h : Session) (c : outcomes.Act) → at ≡ position_or_len (session_id id) xs → at < length xs → slice_get xs at ≡ Some h → outcome_in (world_of directory ks xs next) id c true ≡ Some (outcome (view (world_of directory ks xs next) (session_of ks h)) c true)
+pub outcome_known : (directory : Directory) (ks : List MarkedBuffer) (xs : List Session) (next : Option ℕ) (id at : ℕ) (h : Session) (c : outcomes.Act) → at ≡ position_or_len (session_id id) xs → at < length xs → slice_get xs at ≡ Some h → outcome_in (world_of directory ks xs next) id c true ≡ Some (outcome (view (world_of directory ks xs next) (session_of ks h)) c true)
 outcome_known directory ks xs next id at h c place within is =
     let w = world_of directory ks xs next in
     ap (λ o. option_map (λ v. outcome v c true) (option_map (view w) o)) (session_known directory ks xs next id at h place within is)
@@ -154,6 +155,35 @@ module _ (directory : Directory) (ks : List MarkedBuffer) (xs : List Session) (n
       let w = world_of directory ks xs next in
       let o = sets (own_of h.own) (setting s (acted_own (own_of h.own)) n) in
       rw (set_so s n (sym (ap is_done_here same) ∙ here)) (subst (λ t. Apart t id w (apply w id o)) (sets_nothing (own_of h.own) (setting s (acted_own (own_of h.own)) n)) (apart_apply w id o))
+
+-- A QUESTION
+
+module _ (directory : Directory) (ks : List MarkedBuffer) (xs : List Session) (next : Option ℕ) (id at : ℕ) (h : Session) (place : at ≡ position_or_len (session_id id) xs) (within : at < length xs) (found : slice_get xs at ≡ Some h) where
+  asked_so : (c : Question) (n : Option ℕ) → world_of directory ks (slice_set xs at (asking c n h)) next ≡ apply (world_of directory ks xs next) id (owns (asks c n (own_of h.own)))
+  asked_so c n =
+      let f = session_arranged (owns (asks c n (own_of h.own))) in
+      same_world directory _ _ _ _ (id_after next) refl
+      (written_first (session_of ks) (has_id id) f xs at h (asking c n h) (place ∙ sym (position_or_len-map (session_of ks) (has_id id) xs)) within (sym (get_or_from_slice_get xs at h h found))
+      (λ i. record (session_of ks h) { own = own_asking c n h i })
+      ∙ ap (change_first (has_id id) f) (sym (map-id (map (session_of ks) xs))))
+
+  ask_known : (c : Question) (n : Option ℕ) → outcome (view (world_of directory ks xs next) (session_of ks h)) (act_of (Run (Ask c) n)) true ≡ owns (asks c n (own_of h.own))
+  unfolding outcome
+  ask_known c n = refl
+
+  pub act_asked : (a : KeyAct) (k : Command) (c : Question) (n : Option ℕ) → a ≡ Run k n → k ≡ Ask c → world_of directory ks (slice_set xs at (asking c n h)) next ≡ act (world_of directory ks xs next) id (act_of a) true
+  act_asked a k c n is asks_it =
+      let same : a ≡ Run (Ask c) n = is ∙ ap (λ (k : Command). Run k n) asks_it in
+      let w = world_of directory ks xs next in
+      asked_so c n
+      ∙ ap (apply w id) (sym (ask_known c n))
+      ∙ sym (ap (applied w id) (outcome_known directory ks xs next id at h (act_of (Run (Ask c) n)) place within found))
+      ∙ ap (λ (k : KeyAct). act w id (act_of k) true) (sym same)
+
+  pub asked_apart : (c : Question) (n : Option ℕ) → Apart Nowhere id (world_of directory ks xs next) (world_of directory ks (slice_set xs at (asking c n h)) next)
+  asked_apart c n =
+      let w = world_of directory ks xs next in
+      subst (Apart Nowhere id w) (sym (asked_so c n)) (apart_apply w id (owns (asks c n (own_of h.own))))
 
 -- an act that arranges windows
 pub rearranging : (a : KeyAct) (c : Command) (k : Arrangement) (n : Option ℕ) → a ≡ Run c n → c ≡ Rearrange k → act_of a ≡ outcomes.Run (Rearrange k) n []

@@ -1,4 +1,5 @@
 pub mod Commands
+pub mod Created
 pub mod Deeds
 pub mod Leaving
 pub mod Marked
@@ -7,3 +8,4 @@ pub mod Plans
 pub mod Saves
 pub mod Settings
 pub mod Spelled
+pub mod Switches

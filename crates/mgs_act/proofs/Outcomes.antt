@@ -202,7 +202,7 @@ text_shown bs (Some x) t e = go x.shows e
 
 -- THE OUTCOME
 
-only_one : (d : Decision) → or_else d Granted ≡ d
+pub only_one : (d : Decision) → or_else d Granted ≡ d
 only_one Granted = refl
 only_one (DeniedBy n right) = refl
 only_one (NotGranted right) = refl

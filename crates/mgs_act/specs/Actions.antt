@@ -18,7 +18,7 @@ use Rattle.mgs_model.specs.declared.right.Right.TheVariants.{ReadData}
 use Rattle.mgs_model.specs.declared.message.Message.{Message}
 use Rattle.mgs_model.specs.declared.message.Message.TheVariants.{KeyNotBound, BufferFull, Silent}
 use Rattle.mgs_model.specs.declared.session.Command.{Command}
-use Rattle.mgs_model.specs.declared.session.Command.TheVariants.{Insert, InsertReading, Move, Alter, Scroll, Set, Rearrange, UndoEdit, NotModified}
+use Rattle.mgs_model.specs.declared.session.Command.TheVariants.{Insert, InsertReading, Move, Alter, Scroll, Set, Rearrange, Ask, UndoEdit, NotModified}
 use Rattle.mgs_model.specs.declared.session.Kind.TheVariants.{Other}
 use Rattle.mgs_model.specs.declared.session.Setting.{Setting}
 use Rattle.mgs_model.specs.declared.session.Setting.TheVariants.{SetFillColumn, KeyboardQuit}
@@ -34,6 +34,7 @@ use Rattle.mgs_edit.specs.declared.plan.Finish.{Finish}
 use Rattle.mgs_edit.specs.declared.plan.Undone.{Undone}
 use Rattle.mgs_undo.specs.History.{has_serial}
 use Rattle.mgs_arrange.specs.Arranging.{is_arranged_here}
+use Rattle.mgs_mini.specs.Typing.{is_asked}
 use Rattle.mgs_world.specs.Marking.{IsReserved, session_marked}
 use Rattle.mgs_act.specs.declared.acts.KeyAct.{KeyAct}
 use Rattle.mgs_act.specs.declared.acts.KeyAct.TheVariants.{Unbound, Run}
@@ -67,6 +68,7 @@ is_setting_done _ = false
 abbrev pub is_command_done : Command → Bool
 is_command_done (Set c) = is_setting_done c
 is_command_done (Rearrange c) = is_arranged_here c
+is_command_done (Ask c) = is_asked c
 is_command_done c = is_on_text c
 
 abbrev pub is_done_here : KeyAct → Bool

@@ -1,3 +1,4 @@
 pub mod Actions
 pub mod Saving
 pub mod Setting
+pub mod Switching

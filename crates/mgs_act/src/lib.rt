@@ -3,11 +3,14 @@
 
 mod action;
 mod acts;
+mod answering;
 mod given;
 mod performing;
 mod planning;
 mod saving;
 mod setting;
+mod switching;
 
 pub use acts::{KeyAct, act};
+pub use answering::answer;
 pub use saving::save;

@@ -224,7 +224,7 @@ fn plan_granted<T: Marked + Drop>(
 }
 
 /// What is told where rights are not granted.
-fn denial(decision: Decision) -> Option<Message>
+pub fn denial(decision: Decision) -> Option<Message>
     ensures denied { IfSome result (λ message. (own : Own) (o : Outcome) → permitted own decision o ≡ fails own message) }
     ensures granted { result ≡ None → decision ≡ Granted }
 {

@@ -2,12 +2,12 @@
 use Rattle.std.proofs.Common.{◌≡◌, ℕ, ◌+◌, ◌-◌, ◌<◌, ◌≢◌, ◌==◌, nat_lt, nat_le, Bool, true, false, cond, List, [], ◌∷◌, map, length, remove, Option, None, Some, Result, Ok, Err, refl, sym, ap, ap₂, subst, ◌∙◌, ◌||◌, map-id, arith, eqb-true, ne_eqb, le-ltb, ltb-false}
 use Rattle.std.specs.Option.{option_map}
 use Rattle.std.proofs.lemmas.List.{length-map}
-use Rattle.mgs_model.specs.World.{Own, Place, Session, Window, World, find_session, has_id}
+use Rattle.mgs_model.specs.World.{Buffer_of, Listing, Own, Place, Session, Shows, Window, World, find_session, has_id}
 use Rattle.mgs_model.specs.View.{reads, view, window_seen}
-use Rattle.mgs_model.specs.Outcome.{Arrange, No_effect, Keep_search, Outcome, Run, Slot, Slots, takes_memory}
-use Rattle.mgs_model.specs.Plans.{acted_own, arrangement, count_of, failed_own, given, heir, height_at, kind_failed, neighbor, old_slot, resized, rows_of, selects, slots_but}
+use Rattle.mgs_model.specs.Outcome.{Arrange, Effect, No_effect, Keep_search, Outcome, Run, Slot, Slots, effect_takes_memory, takes_memory}
+use Rattle.mgs_model.specs.Plans.{acted_own, arrangement, comes, count_of, failed_own, given, heir, height_at, kind_failed, neighbor, old_slot, resized, rows_of, selects, slots_but}
 use Rattle.mgs_model.specs.Acts.{arranges, fails, outcome}
-use Rattle.mgs_model.specs.Apply.{act, applied, apply, change_at, change_first, outcome_in, places_left, searches, session_arranged, window_at}
+use Rattle.mgs_model.specs.Apply.{act, applied, apply, change_at, change_first, comer, outcome_in, places_left, searches, session_arranged, window_at}
 use Rattle.mgs_model.specs.Apart.{Apart, touched_by}
 use Rattle.mgs_model.specs.Events.{may_be_refused}
 use Rattle.mgs_model.specs.declared.limits.TheConstants.{WINDOW_LIMIT}
@@ -20,11 +20,13 @@ use Rattle.mgs_model.specs.declared.session.Kind.{Kind}
 use Rattle.mgs_model.specs.declared.session.Kind.TheVariants.{Other}
 use Rattle.mgs_model.specs.declared.touched.Touched.TheVariants.{Nowhere}
 use Rattle.mgs_model.proofs.Apart.{apart_apply}
+use Rattle.mgs_model.proofs.Basics.{or_true}
 use Rattle.mgs_model.proofs.Firsts.{change_first_found}
 use Rattle.mgs_windows.specs.Panes.{closer}
 use Rattle.mgs_world.specs.Worlds.{idle}
-use Rattle.mgs_arrange.specs.Arranged.{arranged_or_told, run_ended, grown, listing_for, lower_half, next_index, others_gone, previous_index, rearranged, rows_given, rows_given_if, shrunk, upper_half, window_gone, window_lists, window_selected, window_split}
-use Rattle.mgs_arrange.proofs.Slots.{all_stay, from_start, halves, halves_take_memory, height_seen, lists, named_all, named_but, named_halves, named_lists, named_one, one_leaves, others_leave, put, put_removed, put_resized, put_slots_but, reheighted, reheighted_not, reheighted_one, reheighted_same, reheighted_twice, replaced_by_one, replaced_by_two, rows_seen, seen}
+use Rattle.mgs_arrange.specs.Arranged.{arranged_or_told, run_ended, grown, left_by, listing_for, lower_half, next_index, others_gone, previous_index, rearranged, rows_given, rows_given_if, shrunk, upper_half, window_gone, window_selected, window_split}
+use Rattle.mgs_arrange.specs.Showing.{coming, window_shows}
+use Rattle.mgs_arrange.proofs.Slots.{all_stay, from_start, halves, come, come_takes_memory, halves_take_memory, height_seen, named_all, named_but, named_halves, named_come, named_one, one_leaves, others_leave, put, put_removed, put_resized, put_slots_but, reheighted, reheighted_not, reheighted_one, reheighted_same, reheighted_twice, replaced_by_one, replaced_by_two, rows_seen, seen}
 
 -- A SESSION IN NO MODE
 
@@ -160,16 +162,26 @@ shrink_done can n x fresh quiet within =
     (λ many. ap (λ m. session_arranged (arranges x.own No_effect (given (seen can xs) k k (neighbor k m) (count_of n))) x) (length-map xs (window_seen can))
     ∙ given_done can x k (neighbor k (length xs)) (count_of n) fresh quiet (λ p. neighbor_apart k (length xs) many within (sym p)))
 
-list_done : (can : List ℕ → Bool) (n : Option ℕ) (x : Session) → x.own ≡ idle x.own → x.search ≡ None → x.selected < length x.windows → session_arranged (arranges x.own No_effect (arrangement ListBuffers (seen can x.windows) x.selected n)) x ≡ run_ended (arranged_or_told (rearranged ListBuffers n x) x)
-list_done can n x fresh quiet within =
+-- it comes to something else
+come_done : (can : List ℕ → Bool) (shows : Shows) (made : Window → Window) (x : Session) → x.own ≡ idle x.own → x.search ≡ None → x.selected < length x.windows
+    → (let places = left_by (window_at x.selected x.windows) x.places in ((y : Window) → record (comer shows places) { height = y.height } ≡ made y) → session_arranged (arranges x.own No_effect (Ok (comes (seen can x.windows) x.selected shows))) x ≡ run_ended (record x { windows = change_at x.selected made x.windows; places = places }))
+come_done can shows made x fresh quiet within makes =
     let k = x.selected in
     let xs = x.windows in
-    let slots = slots_but k (lists k) 0 (seen can xs) in
-    slots_done x slots k k (window_lists x).windows (window_lists x).places fresh quiet
-    (put_slots_but x.search xs (places_left 0 slots xs x.places) can k (lists k) (λ y. listing_for y ∷ []) 0 k xs (λ y is. refl) (omega arith) (from_start xs)
-    ∙ replaced_by_one listing_for k xs)
-    (one_leaves slots 0 k xs x.places within (λ j l. named_lists k 0 j k (seen can xs) (omega arith) (seen_within can xs j l)))
-    refl
+    let slots = slots_but k (come shows k) 0 (seen can xs) in
+    let places = left_by (window_at k xs) x.places in
+    let left : places_left 0 slots xs x.places ≡ places = one_leaves slots 0 k xs x.places within (λ j l. named_come shows k 0 j k (seen can xs) (omega arith) (seen_within can xs j l)) in
+    slots_done x slots k k (change_at k made xs) places fresh quiet
+    (ap (λ (ps : List Place). map (put x.search xs ps) slots) left
+    ∙ put_slots_but x.search xs places can k (come shows k) (λ y. made y ∷ []) 0 k xs (λ y is. came shows places y (makes y)) (omega arith) (from_start xs)
+    ∙ replaced_by_one made k xs)
+    left refl
+  where
+    came : (shows : Shows) (places : List Place) (y : Window) → record (comer shows places) { height = y.height } ≡ made y → map (put x.search x.windows places) (come shows x.selected (window_seen can y)) ≡ made y ∷ []
+    came shows places y e = ap (λ w. w ∷ []) e
+
+list_done : (can : List ℕ → Bool) (n : Option ℕ) (x : Session) → x.own ≡ idle x.own → x.search ≡ None → x.selected < length x.windows → session_arranged (arranges x.own No_effect (arrangement ListBuffers (seen can x.windows) x.selected n)) x ≡ run_ended (arranged_or_told (rearranged ListBuffers n x) x)
+list_done can n x fresh quiet within = come_done can Listing listing_for x fresh quiet within (λ y. refl)
 
 -- what any arrangement makes of a session
 arrangement_done : (can : List ℕ → Bool) (c : Arrangement) (n : Option ℕ) (x : Session) → x.own ≡ idle x.own → x.search ≡ None → x.selected < length x.windows → session_arranged (arranges x.own No_effect (arrangement c (seen can x.windows) x.selected n)) x ≡ run_ended (arranged_or_told (rearranged c n x) x)
@@ -185,6 +197,17 @@ arrangement_done can PreviousWindow n x fresh quiet within =
 arrangement_done can EnlargeWindow n x fresh quiet within = enlarge_done can n x fresh quiet within
 arrangement_done can ShrinkWindow n x fresh quiet within = shrink_done can n x fresh quiet within
 arrangement_done can ListBuffers n x fresh quiet within = list_done can n x fresh quiet within
+
+-- A BUFFER IS SHOWN, whatever else is done to the buffers
+
+pub show_done : (can : List ℕ → Bool) (name : List ℕ) (e : Effect) (x : Session) → x.own ≡ idle x.own → x.search ≡ None → x.selected < length x.windows → session_arranged (arranges x.own e (Ok (comes (seen can x.windows) x.selected (Buffer_of name)))) x ≡ run_ended (window_shows name x)
+show_done can name e x fresh quiet within =
+    come_done can (Buffer_of name) (coming name (left_by (window_at x.selected x.windows) x.places)) x fresh quiet within (λ y. refl)
+
+pub show_takes_memory : (can : List ℕ → Bool) (name : List ℕ) (e : Effect) (x : Session) → x.selected < length x.windows → takes_memory (arranges x.own e (Ok (comes (seen can x.windows) x.selected (Buffer_of name)))) ≡ true
+show_takes_memory can name e x within =
+    or_true (effect_takes_memory e) _
+    (ap (λ b. (b || false) || false) (come_takes_memory name x.selected 0 x.selected (seen can x.windows) (omega arith) (seen_within can x.windows x.selected within)))
 
 -- THE ACT
 

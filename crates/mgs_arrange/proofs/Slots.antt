@@ -3,7 +3,7 @@ use Rattle.std.proofs.Common.{◌≡◌, ℕ, zero, suc, ◌+◌, ◌-◌, ◌/�
 use Rattle.std.specs.List.{list_any}
 use Rattle.std.proofs.lemmas.List.Folds.{list_any-append}
 use Rattle.std.proofs.Math.Dec.{eqb-suc-zero, eqb-zero-suc, eqb-suc-suc}
-use Rattle.mgs_model.specs.World.{Listing, Place, Search, Window}
+use Rattle.mgs_model.specs.World.{Buffer_of, Place, Search, Shows, Window}
 use Rattle.mgs_model.specs.View.{WindowSeen, window_seen}
 use Rattle.mgs_model.specs.Outcome.{Come, Slot, is_old, slots_take_memory}
 use Rattle.mgs_model.specs.Plans.{height_at, old_slot, resized, rows_of, slots_but}
@@ -187,28 +187,28 @@ named_halves k i (suc j) (x ∷ xs) l =
     (named_later i j (slots_but k (halves k) (i + 1) xs) true (named_halves k (i + 1) j xs (omega (arith, l))))
 
 -- and where the one at k comes to something else
-abbrev pub lists : ℕ → WindowSeen → List Slot
-lists k x = (record (old_slot k x.height) { source = Come Listing }) ∷ []
+abbrev pub come : Shows → ℕ → WindowSeen → List Slot
+come shows k x = (record (old_slot k x.height) { source = Come shows }) ∷ []
 
-pub named_lists : (k i j m : ℕ) (xs : List WindowSeen) → k ≡ i + m → j < length xs → list_any (is_old (i + j)) (slots_but k (lists k) i xs) ≡ not (j == m)
-named_lists k i j m [] is l = absurd (omega (arith, l))
-named_lists k i zero zero (x ∷ xs) is l =
-    ap (λ b. list_any (is_old (i + 0)) (cond b (lists k x) (old_slot i x.height ∷ []) ++ slots_but k (lists k) (i + 1) xs)) (eq-eqb i k (omega (arith, is)))
-    ∙ ap (list_any (is_old (i + 0))) (slots_but_past k (lists k) (i + 1) xs (omega (arith, is)))
+pub named_come : (shows : Shows) (k i j m : ℕ) (xs : List WindowSeen) → k ≡ i + m → j < length xs → list_any (is_old (i + j)) (slots_but k (come shows k) i xs) ≡ not (j == m)
+named_come shows k i j m [] is l = absurd (omega (arith, l))
+named_come shows k i zero zero (x ∷ xs) is l =
+    ap (λ b. list_any (is_old (i + 0)) (cond b (come shows k x) (old_slot i x.height ∷ []) ++ slots_but k (come shows k) (i + 1) xs)) (eq-eqb i k (omega (arith, is)))
+    ∙ ap (list_any (is_old (i + 0))) (slots_but_past k (come shows k) (i + 1) xs (omega (arith, is)))
     ∙ named_not (λ j h. h) (i + 1) (i + 0) xs (omega arith)
-named_lists k i (suc j) zero (x ∷ xs) is l =
-    ap (λ b. list_any (is_old (i + suc j)) (cond b (lists k x) (old_slot i x.height ∷ []) ++ slots_but k (lists k) (i + 1) xs)) (eq-eqb i k (omega (arith, is)))
-    ∙ ap (list_any (is_old (i + suc j))) (slots_but_past k (lists k) (i + 1) xs (omega (arith, is)))
+named_come shows k i (suc j) zero (x ∷ xs) is l =
+    ap (λ b. list_any (is_old (i + suc j)) (cond b (come shows k x) (old_slot i x.height ∷ []) ++ slots_but k (come shows k) (i + 1) xs)) (eq-eqb i k (omega (arith, is)))
+    ∙ ap (list_any (is_old (i + suc j))) (slots_but_past k (come shows k) (i + 1) xs (omega (arith, is)))
     ∙ named_later i j (resized (λ j h. h) (i + 1) xs) true (named_all (λ j h. h) (i + 1) j xs (omega (arith, l)))
     ∙ ap not (sym (eqb-suc-zero j))
-named_lists k i zero (suc m) (x ∷ xs) is l =
-    ap (λ b. list_any (is_old (i + 0)) (cond b (lists k x) (old_slot i x.height ∷ []) ++ slots_but k (lists k) (i + 1) xs)) (ne_eqb i k (λ e. omega (arith, e, is)))
-    ∙ ap (λ b. b || list_any (is_old (i + 0)) (slots_but k (lists k) (i + 1) xs)) (eq-eqb i (i + 0) (omega arith))
+named_come shows k i zero (suc m) (x ∷ xs) is l =
+    ap (λ b. list_any (is_old (i + 0)) (cond b (come shows k x) (old_slot i x.height ∷ []) ++ slots_but k (come shows k) (i + 1) xs)) (ne_eqb i k (λ e. omega (arith, e, is)))
+    ∙ ap (λ b. b || list_any (is_old (i + 0)) (slots_but k (come shows k) (i + 1) xs)) (eq-eqb i (i + 0) (omega arith))
     ∙ ap not (sym (eqb-zero-suc m))
-named_lists k i (suc j) (suc m) (x ∷ xs) is l =
-    ap (λ b. list_any (is_old (i + suc j)) (cond b (lists k x) (old_slot i x.height ∷ []) ++ slots_but k (lists k) (i + 1) xs)) (ne_eqb i k (λ e. omega (arith, e, is)))
-    ∙ ap (λ b. b || list_any (is_old (i + suc j)) (slots_but k (lists k) (i + 1) xs)) (ne_eqb i (i + suc j) (λ e. omega (arith, e)))
-    ∙ named_later i j (slots_but k (lists k) (i + 1) xs) (not (j == m)) (named_lists k (i + 1) j m xs (omega (arith, is)) (omega (arith, l)))
+named_come shows k i (suc j) (suc m) (x ∷ xs) is l =
+    ap (λ b. list_any (is_old (i + suc j)) (cond b (come shows k x) (old_slot i x.height ∷ []) ++ slots_but k (come shows k) (i + 1) xs)) (ne_eqb i k (λ e. omega (arith, e, is)))
+    ∙ ap (λ b. b || list_any (is_old (i + suc j)) (slots_but k (come shows k) (i + 1) xs)) (ne_eqb i (i + suc j) (λ e. omega (arith, e)))
+    ∙ named_later i j (slots_but k (come shows k) (i + 1) xs) (not (j == m)) (named_come shows k (i + 1) j m xs (omega (arith, is)) (omega (arith, l)))
     ∙ ap not (sym (eqb-suc-suc j m))
 
 -- by one slot alone
@@ -230,6 +230,16 @@ halves_take_memory k i (suc m) (x ∷ xs) is l =
     let rest = slots_but k (halves k) (i + 1) xs in
     ap (λ b. slots_take_memory (cond b (halves k x) (old_slot i x.height ∷ []) ++ rest)) (ne_eqb i k (λ e. omega (arith, e, is)))
     ∙ or_true (list_any (is_old i) rest) _ (halves_take_memory k (i + 1) m xs (omega (arith, is)) (omega (arith, l)))
+
+-- and so does one that comes to a buffer
+pub come_takes_memory : (name : List ℕ) (k i m : ℕ) (xs : List WindowSeen) → k ≡ i + m → m < length xs → slots_take_memory (slots_but k (come (Buffer_of name) k) i xs) ≡ true
+come_takes_memory name k i m [] is l = absurd (omega (arith, l))
+come_takes_memory name k i zero (x ∷ xs) is l =
+    ap (λ b. slots_take_memory (cond b (come (Buffer_of name) k x) (old_slot i x.height ∷ []) ++ slots_but k (come (Buffer_of name) k) (i + 1) xs)) (eq-eqb i k (omega (arith, is)))
+come_takes_memory name k i (suc m) (x ∷ xs) is l =
+    let rest = slots_but k (come (Buffer_of name) k) (i + 1) xs in
+    ap (λ b. slots_take_memory (cond b (come (Buffer_of name) k x) (old_slot i x.height ∷ []) ++ rest)) (ne_eqb i k (λ e. omega (arith, e, is)))
+    ∙ or_true (list_any (is_old i) rest) _ (come_takes_memory name k (i + 1) m xs (omega (arith, is)) (omega (arith, l)))
 
 -- WHICH PLACES ARE LEFT
 

@@ -1,5 +1,5 @@
 // A window comes to show a buffer.
-ghost use Rattle.std.specs.Prelude.{◌≡◌, ◌<◌, ℕ, List, Option, None, Some, find, length, IfOk, IfSome, OnOk, OnErr};
+ghost use Rattle.std.specs.Prelude.{◌≡◌, ◌<◌, ℕ, List, Option, None, Some, find, length, slice_get, IfOk, IfSome, OnOk, OnErr};
 ghost use Rattle.std.specs.List.{position_or_len};
 ghost use Rattle.mgs_model.specs.Access.{Directory};
 ghost use Rattle.mgs_model.specs.World.{find_session};
@@ -85,6 +85,7 @@ fn show_in_session<T: Marked + Drop>(
 ) -> Result<(), Short>
     requires sound { IsSessionSound buffers.old session.old }
     requires kept { HasBuffer name.now buffers.old }
+    ensures selected { session.old.windows.selected < length session.old.windows.windows }
     ensures rearranged { OnOk result (Rearranged buffers.old buffers.new session.old session.new) }
     ensures shown { OnOk result (session_of buffers.new session.new ≡ run_ended (window_shows name.now (session_of buffers.old session.old))) }
     ensures err { OnErr result (WindowMarksDropped None buffers.old buffers.new) }
@@ -104,7 +105,7 @@ fn show_in_session<T: Marked + Drop>(
 
 /// The selected window of the session at `at` comes to show the buffer of this name, where the session stood there last: at
 /// the point and the mark of that window or of the one that left the buffer last, or at the start. What the window showed
-/// gets its place. `Short`: memory was refused, and the world is as it was.
+/// gets its place. `Short`: memory was refused, and the world is as it was, with the same marks in use.
 pub fn show<T: Marked + Drop>(
     buffers: &mut Buffers<T>,
     sessions: &mut [Session],
@@ -114,10 +115,12 @@ pub fn show<T: Marked + Drop>(
     requires sound { IsSound buffers.old sessions.old }
     requires within { at < length sessions.old }
     requires kept { HasBuffer name.now buffers.old }
+    ensures selected { IfSome (slice_get sessions.old at) (λ x. x.windows.selected < length x.windows.windows) }
     ensures sound { IsSound buffers.new sessions.new }
     ensures sizes { sizes_in sessions.new ≡ sizes_in sessions.old }
     ensures ok { OnOk result ((directory : Directory) (id : ℕ) (next : Option ℕ) (x : model.Session) → at ≡ position_or_len (session_id id) sessions.old → find_session id (world_of directory buffers.old sessions.old next).sessions ≡ Some x → world_of directory buffers.new sessions.new next ≡ shown_in id name.now x (world_of directory buffers.old sessions.old next)) }
     ensures err { OnErr result ((directory : Directory) (next : Option ℕ) → world_of directory buffers.new sessions.new next ≡ world_of directory buffers.old sessions.old next) }
+    ensures unmarked { OnErr result (WindowMarksDropped None buffers.old buffers.new) }
 {
     show_in_session(buffers, &mut sessions[at], name)
 }

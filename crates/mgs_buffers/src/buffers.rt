@@ -83,6 +83,13 @@ fn is_shown<T: Marked + Drop>(buffer: &Buffer<T>, directory: &Directory, user: &
     buffer.grants(directory, user, Right::ReadAttributes)
 }
 
+// Whether a text is the name.
+fn is_called(name: &Name, text: &[u8]) -> bool
+    ensures { result ≡ same_name text.now name.now }
+{
+    text == name.as_bytes()
+}
+
 impl<T: Marked + Drop> Buffers<T> {
     /// No buffer. It takes no memory; what is added later takes it from `alloc`.
     #[tactic(auto, using(crate::proofs::Unmarked::unmarked_none))]
@@ -109,6 +116,19 @@ impl<T: Marked + Drop> Buffers<T> {
         ensures { result ≡ has_buffer name.now self.now }
     {
         self.all.contains_key(name)
+    }
+
+    /// The name of the buffer that is called so, if there is one. What is asked for need not be a name.
+    pub fn named(&self, text: &[u8]) -> Option<Name>
+        ensures kept { is_some result ≡ has_buffer text.now self.now }
+        ensures value { IfSome result (λ n. n ≡ text.now) }
+    {
+        for (name, _) in self.all.iter() {
+            if is_called(name, text) {
+                return Some(*name);
+            }
+        }
+        None
     }
 
     /// Adds a buffer with this text as the last, without marks and with no edit recorded: its serial is 0. That its owner is

@@ -1,7 +1,6 @@
 //! The server's world: its directory, buffers and sessions. One call of `Core` is one event.
 #![tactic(auto)]
 
-mod answering;
 mod keying;
 mod laws;
 mod secrecy;

@@ -21,8 +21,8 @@ ghost use Rattle.mgs_core.specs.Held.{AreSettled};
 ghost use Rattle.mgs_core.specs.Prompted.{IsPromptStep, asked_again, names_for};
 ghost use Rattle.mgs_core.specs.Steps.{TypedBy};
 
-use crate::answering::answer;
 use crate::keying::type_key;
+use mgs_act::answer;
 use mgs_buffers::Buffers;
 use mgs_marks::Marked;
 use mgs_mini::{Prompt, Step};

@@ -1,5 +1,5 @@
-// STANDS IN for the call of mgs_act, which is not there yet: its contract, and no body.
-ghost use Rattle.std.specs.Prelude.{◌≡◌, ◌<◌, ◌≤◌, ℕ, Option, IfOk, OnOk, OnErr, length, true};
+// The answer to a question: the command that the question is for.
+ghost use Rattle.std.specs.Prelude.{◌≡◌, ◌<◌, ◌≤◌, ℕ, length, Option, IfOk, OnOk, OnErr, true};
 ghost use Rattle.std.specs.List.{position_or_len};
 ghost use Rattle.mgs_model.specs.Apart.{Apart};
 ghost use Rattle.mgs_model.specs.Apply.{act, outcome_in};
@@ -10,6 +10,7 @@ ghost use Rattle.mgs_mini.specs.Typing.{is_asked};
 ghost use Rattle.mgs_world.specs.Sound.{IsSound};
 ghost use Rattle.mgs_world.specs.Worlds.{idle, own_at, session_id, sizes_in, world_of};
 
+use crate::switching::switch_to;
 use mgs_buffers::Buffers;
 use mgs_marks::Marked;
 use mgs_model::{Question, Short, Touched};
@@ -17,7 +18,10 @@ use mgs_policy::Directory;
 use mgs_session::Session;
 use std::alloc::Global;
 
-/// The command that a question is for is done by the session at `at`, which is at rest: `typed` is the answer.
+/// The command that a question is for is done by the session at `at`, which is at rest: `typed` is the answer. So far the
+/// selected window comes to show the buffer of that name, which is made for the session's user where it is not there. A
+/// refused right, a text that is no name, and a buffer too many are told in the echo line. It tells what it touched, and what it
+/// did not touch is as it was. `Short`: memory was refused, the world is as it was, and the act is one that may be refused.
 pub fn answer<T: Marked + Drop>(
     alloc: Global,
     buffers: &mut Buffers<T>,
@@ -40,5 +44,11 @@ pub fn answer<T: Marked + Drop>(
     ensures err { OnErr result ((next : Option ℕ) → world_of directory.now buffers.new sessions.new next ≡ world_of directory.now buffers.old sessions.old next) }
     ensures may { OnErr result ((id : ℕ) (next : Option ℕ) → at ≡ position_or_len (session_id id) sessions.old → may_be_refused (outcome_in (world_of directory.now buffers.old sessions.old next) id (outcomes.Run (answered question) argument typed.now) true) ≡ true) }
 {
-    Err(Short)
+    match question {
+        Question::SwitchTo | Question::FindWhich => {
+            switch_to(buffers, directory, sessions, at, typed)
+        }
+        // No other question is asked yet.
+        _ => Ok(Touched::Nowhere),
+    }
 }

@@ -1,0 +1,168 @@
+-- A buffer that is made, and one that goes again before a window shows it.
+use Rattle.std.proofs.Common.{◌≡◌, ℕ, ◌<◌, Bool, true, false, cond, List, [], ◌∷◌, ◌++◌, length, map, Option, Some, None, get_or, refl, sym, ap, subst, ◌∙◌, arith}
+use Rattle.std.specs.Prelude.{find, is_some}
+use Rattle.std.specs.List.{position_or_len}
+use Rattle.std.proofs.lemmas.List.{map-append}
+use Rattle.mgs_model.specs.Access.{Directory}
+use Rattle.mgs_model.specs.Names.{same_name}
+use Rattle.mgs_model.specs.World.{World, find_session, has_id, is_named}
+use Rattle.mgs_model.specs.World as model
+use Rattle.mgs_model.specs.Apply.{change_first, new_buffer, remove_first}
+use Rattle.mgs_marks.specs.Marks.{mark_in, position_in}
+use Rattle.mgs_buffers.specs.MarkedBuffer.{HasBuffer, MarkedBuffer, has_buffer, marked_at, marked_created, marked_named, marked_or_none, without_marked}
+use Rattle.mgs_session.specs.declared.Session.{Session}
+use Rattle.mgs_arrange.specs.Arranged.{run_ended}
+use Rattle.mgs_arrange.specs.Showing.{shown_in, window_shows}
+use Rattle.mgs_act.specs.Switching.{created_in}
+use Rattle.mgs_world.specs.Sound.{IsSound, in_use, one_if}
+use Rattle.mgs_world.specs.WindowMarks.{MarksStay, WindowMarksDropped}
+use Rattle.mgs_world.specs.Worlds.{buffers_of, id_after, session_id, session_of, world_of}
+use Rattle.mgs_world.proofs.Marks.{false_from, is_same, not_both, same_is}
+use Rattle.mgs_world.proofs.Sessions.{session_some}
+use Rattle.mgs_world.proofs.Soundness.{sound_in_use, sound_same}
+use Rattle.mgs_world.proofs.WindowMarks.{session_local, sessions_stay}
+use Rattle.mgs_world.proofs.Worlds.{same_world}
+
+-- LISTS
+
+found_last : {A : Type 0} (p : A → Bool) (xs : List A) (y : A) → p y ≡ true → is_some (find p (xs ++ y ∷ [])) ≡ true
+found_last p [] y e = ap (λ b. is_some (cond b (Some y) None)) e
+found_last p (x ∷ xs) y e = elim (p x) as (λ b. is_some (cond b (Some x) (find p (xs ++ y ∷ []))) ≡ true) [ true ↦ refl | false ↦ found_last p xs y e ]
+
+-- the last is the first that passes, and goes
+removed_last : {A : Type 0} (p : A → Bool) (xs : List A) (y : A) → is_some (find p xs) ≡ false → p y ≡ true → remove_first p (xs ++ y ∷ []) ≡ xs
+removed_last p [] y none e = ap (λ b. cond b [] (y ∷ [])) e
+removed_last p (x ∷ xs) y none e = by (p x) none (λ none. removed_last p xs y none e)
+  where
+    by : (b : Bool) → is_some (cond b (Some x) (find p xs)) ≡ false → (is_some (find p xs) ≡ false → remove_first p (xs ++ y ∷ []) ≡ xs) → cond b (xs ++ y ∷ []) (x ∷ remove_first p (xs ++ y ∷ [])) ≡ x ∷ xs
+    by true none later = cc
+    by false none later = ap (λ ys. x ∷ ys) (later none)
+
+map_removed : {A B : Type 0} (h : A → B) (p : A → Bool) (q : B → Bool) → ((x : A) → q (h x) ≡ p x) → (xs : List A) → map h (remove_first p xs) ≡ remove_first q (map h xs)
+map_removed h p q same [] = refl
+map_removed h p q same (x ∷ xs) = by (p x) refl (map_removed h p q same xs)
+  where
+    by : (b : Bool) → p x ≡ b → map h (remove_first p xs) ≡ remove_first q (map h xs) → map h (cond b xs (x ∷ remove_first p xs)) ≡ cond (q (h x)) (map h xs) (h x ∷ remove_first q (map h xs))
+    by true e later = sym (ap (λ b. cond b (map h xs) (h x ∷ remove_first q (map h xs))) (same x ∙ e))
+    by false e later = ap (λ ys. h x ∷ ys) later ∙ sym (ap (λ b. cond b (map h xs) (h x ∷ remove_first q (map h xs))) (same x ∙ e))
+
+-- what is found by a test that what goes does not pass
+found_still : {A : Type 0} (p q : A → Bool) → ((x : A) → p x ≡ true → q x ≡ false) → (xs : List A) → find q (remove_first p xs) ≡ find q xs
+found_still p q apart [] = refl
+found_still p q apart (x ∷ xs) = by (p x) refl (found_still p q apart xs)
+  where
+    by : (b : Bool) → p x ≡ b → find q (remove_first p xs) ≡ find q xs → find q (cond b xs (x ∷ remove_first p xs)) ≡ cond (q x) (Some x) (find q xs)
+    by true e later = sym (ap (λ b. cond b (Some x) (find q xs)) (apart x e))
+    by false e later = ap (cond (q x) (Some x)) later
+
+-- A BUFFER WITHOUT MARKS COMES
+
+marks_created : (m : List ℕ) (ks : List MarkedBuffer) (k : MarkedBuffer) → k.marks ≡ [] → (marked_at m (ks ++ k ∷ [])).marks ≡ (marked_at m ks).marks
+marks_created m [] k e = elim (marked_named m k) as (λ b. (marked_or_none (cond b (Some k) None)).marks ≡ []) [ true ↦ e | false ↦ refl ]
+marks_created m (x ∷ xs) k e =
+    elim (marked_named m x) as (λ b. (marked_or_none (cond b (Some x) (find (marked_named m) (xs ++ k ∷ [])))).marks ≡ (marked_or_none (cond b (Some x) (find (marked_named m) xs))).marks) [ true ↦ refl | false ↦ marks_created m xs k e ]
+
+use_created : (m : List ℕ) (i : ℕ) (ks : List MarkedBuffer) (k : MarkedBuffer) → k.marks ≡ [] → in_use m i (ks ++ k ∷ []) ≡ in_use m i ks
+use_created m i ks k e = ap (λ (ms : List (Option ℕ)). one_if (is_some (mark_in ms i))) (marks_created m ks k e)
+
+pub created_sound : (ks : List MarkedBuffer) (xs : List Session) (name owner : List ℕ) → IsSound ks xs → IsSound (ks ++ marked_created name owner ∷ []) xs
+created_sound ks xs name owner sound = sound_same ks _ xs (λ m i. use_created m i ks (marked_created name owner) refl) sound
+
+pub created_kept : (ks : List MarkedBuffer) (name owner : List ℕ) → HasBuffer name (ks ++ marked_created name owner ∷ [])
+created_kept ks name owner = found_last (marked_named name) ks (marked_created name owner) (is_same name name refl)
+
+pub created_buffers : (ks : List MarkedBuffer) (k : MarkedBuffer) → buffers_of (ks ++ k ∷ []) ≡ buffers_of ks ++ k.buffer ∷ []
+created_buffers ks k = map-append (λ (k : MarkedBuffer). k.buffer) ks (k ∷ [])
+
+pub created_session : (ks : List MarkedBuffer) (k : MarkedBuffer) (x : Session) → k.marks ≡ [] → session_of (ks ++ k ∷ []) x ≡ session_of ks x
+created_session ks k x e = session_local (ks ++ k ∷ []) ks x (λ n i used. ap (λ (ms : List (Option ℕ)). position_in ms i) (marks_created n ks k e))
+
+pub created_sessions : (ks : List MarkedBuffer) (k : MarkedBuffer) (xs : List Session) → k.marks ≡ [] → map (session_of (ks ++ k ∷ [])) xs ≡ map (session_of ks) xs
+created_sessions ks k [] e = refl
+created_sessions ks k (x ∷ xs) e =
+    ap (λ y. y ∷ map (session_of (ks ++ k ∷ [])) xs) (created_session ks k x e) ∙ ap (λ ys. session_of ks x ∷ ys) (created_sessions ks k xs e)
+
+-- IT GOES AGAIN: no mark of it is in use
+
+none_in : (o : Option MarkedBuffer) (i : ℕ) → is_some o ≡ false → one_if (is_some (mark_in (marked_or_none o).marks i)) ≡ 0
+none_in None i e = refl
+none_in (Some k) i e = cc
+
+other_name : (name n : List ℕ) → same_name name n ≡ false → (k : MarkedBuffer) → marked_named name k ≡ true → marked_named n k ≡ false
+other_name name n apart k is =
+    false_from (marked_named n k) (λ e. not_both (same_name name n) (is_same name n (same_is name k.buffer.name is ∙ sym (same_is n k.buffer.name e))) apart)
+
+module _ (name : List ℕ) (ks ls : List MarkedBuffer) (k : MarkedBuffer) (free : has_buffer name ks ≡ false) (named : marked_named name k ≡ true) (unmarked : k.marks ≡ []) (dropped : WindowMarksDropped None (ks ++ k ∷ []) ls) (gone : has_buffer name (without_marked name ls) ≡ false) where
+  unused : (i : ℕ) → in_use name i ls ≡ 0
+  unused i = omega (arith, dropped.uses name i, use_created name i ks k unmarked, none_in (find (marked_named name) ks) i free)
+
+  gone_marks : (n : List ℕ) → same_name name n ≡ false → (marked_at n (without_marked name ls)).marks ≡ (marked_at n ls).marks
+  gone_marks n apart = ap (λ o. (marked_or_none o).marks) (found_still (marked_named name) (marked_named n) (other_name name n apart) ls)
+
+  gone_use : (n : List ℕ) (i : ℕ) → in_use n i (without_marked name ls) ≡ in_use n i ls
+  gone_use n i = by (same_name name n) refl
+    where
+      by : (b : Bool) → same_name name n ≡ b → in_use n i (without_marked name ls) ≡ in_use n i ls
+      by true e =
+          ap (λ m. in_use m i (without_marked name ls)) (sym (same_is name n e))
+          ∙ none_in (find (marked_named name) (without_marked name ls)) i gone
+          ∙ sym (unused i)
+          ∙ ap (λ m. in_use m i ls) (same_is name n e)
+      by false e = ap (λ (ms : List (Option ℕ)). one_if (is_some (mark_in ms i))) (gone_marks n e)
+
+  gone_stay : MarksStay ls (without_marked name ls)
+  gone_stay n i before after = by (same_name name n) refl
+    where
+      by : (b : Bool) → same_name name n ≡ b → position_in (marked_at n (without_marked name ls)).marks i ≡ position_in (marked_at n ls).marks i
+      by true e = absurd (omega (arith, before, ap (λ m. in_use m i ls) (same_is name n e), unused i))
+      by false e = ap (λ (ms : List (Option ℕ)). position_in ms i) (gone_marks n e)
+
+  pub gone_sound : (ys : List Session) → IsSound ls ys → IsSound (without_marked name ls) ys
+  gone_sound ys sound = sound_same ls _ ys gone_use sound
+
+  gone_buffers : buffers_of (without_marked name ls) ≡ buffers_of ks
+  gone_buffers =
+      map_removed (λ (k : MarkedBuffer). k.buffer) (marked_named name) (is_named name) (λ k. refl) ls
+      ∙ ap (remove_first (is_named name)) dropped.buffers
+      ∙ sym (map_removed (λ (k : MarkedBuffer). k.buffer) (marked_named name) (is_named name) (λ k. refl) (ks ++ k ∷ []))
+      ∙ ap (λ (ms : List MarkedBuffer). buffers_of ms) (removed_last (marked_named name) ks k free named)
+
+  pub gone_world : (xs ys : List Session) (directory : Directory) (next : Option ℕ) → IsSound ls ys → world_of directory ls ys next ≡ world_of directory (ks ++ k ∷ []) xs next → world_of directory (without_marked name ls) ys next ≡ world_of directory ks xs next
+  gone_world xs ys directory next sound same =
+      same_world directory _ _ _ _ (id_after next) gone_buffers
+      (sessions_stay ls (without_marked name ls) ys (sound_in_use ls ys sound) (sound_in_use (without_marked name ls) ys (gone_sound ys sound)) gone_stay
+      ∙ ap (λ (w : World). w.sessions) same
+      ∙ created_sessions ks k xs unmarked)
+
+-- where the buffer that was made is taken out again, all is as it was
+module _ (name owner : List ℕ) (ks cs ls ms : List MarkedBuffer) (ys : List Session) (free : has_buffer name ks ≡ false) (cs_is : cs ≡ ks ++ marked_created name owner ∷ []) (dropped : WindowMarksDropped None cs ls) (ms_is : ms ≡ without_marked name ls) (gone : has_buffer name ms ≡ false) (sound : IsSound ls ys) where
+  dropped_so : WindowMarksDropped None (ks ++ marked_created name owner ∷ []) ls
+  dropped_so = subst (λ bs. WindowMarksDropped None bs ls) cs_is dropped
+
+  gone_so : has_buffer name (without_marked name ls) ≡ false
+  gone_so = sym (ap (has_buffer name) ms_is) ∙ gone
+
+  pub unmade_sound : IsSound ms ys
+  unmade_sound =
+      subst (λ bs. IsSound bs ys) (sym ms_is) (gone_sound name ks ls (marked_created name owner) free (is_same name name refl) refl dropped_so gone_so ys sound)
+
+  pub unmade_world : (xs : List Session) (directory : Directory) (next : Option ℕ) → world_of directory ls ys next ≡ world_of directory cs xs next → world_of directory ms ys next ≡ world_of directory ks xs next
+  unmade_world xs directory next same =
+      ap (λ bs. world_of directory bs ys next) ms_is
+      ∙ gone_world name ks ls (marked_created name owner) free (is_same name name refl) refl dropped_so gone_so xs ys directory next sound (same ∙ ap (λ bs. world_of directory bs xs next) cs_is)
+
+-- where it is shown
+pub made_world : (directory : Directory) (ks cs ls : List MarkedBuffer) (xs ys : List Session) (next : Option ℕ) (id at : ℕ) (name : List ℕ) (h : Session) (x : model.Session) → cs ≡ ks ++ marked_created name h.user ∷ [] → at ≡ position_or_len (session_id id) xs → at < length xs → h ≡ get_or xs at h → find_session id (world_of directory ks xs next).sessions ≡ Some x
+    → (find_session id (world_of directory cs xs next).sessions ≡ Some x → world_of directory ls ys next ≡ shown_in id name x (world_of directory cs xs next)) → world_of directory ls ys next ≡ created_in id name x (world_of directory ks xs next)
+made_world directory ks cs ls xs ys next id at name h x cs_is place within is found shown =
+    let k = marked_created name h.user in
+    let seen : map (session_of cs) xs ≡ map (session_of ks) xs = ap (λ bs. map (session_of bs) xs) cs_is ∙ created_sessions ks k xs refl in
+    let user : h.user ≡ x.user = ap user_of (sym (session_some directory ks xs next id at h place within is) ∙ found) in
+    shown (ap (find_session id) seen ∙ found)
+    ∙ same_world directory _ _ _ _ (id_after next)
+    (ap (λ bs. buffers_of bs) cs_is ∙ created_buffers ks k ∙ ap (λ owner. buffers_of ks ++ new_buffer name owner ∷ []) user)
+    (ap (change_first (has_id id) (λ old. run_ended (window_shows name x))) seen)
+  where
+    user_of : Option model.Session → List ℕ
+    user_of None = []
+    user_of (Some x) = x.user

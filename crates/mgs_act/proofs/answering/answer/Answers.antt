@@ -1,0 +1,22 @@
+use Rattle.std.proofs.Common.{true, sym, ap, ◌∙◌}
+use Rattle.mgs_model.specs.Apply.{act, outcome_in}
+use Rattle.mgs_model.specs.Events.{may_be_refused}
+use Rattle.mgs_model.specs.Outcome.{Run}
+use Rattle.mgs_buffers.proofs.MarkedLemmas.{OnErr-map, OnOk-map}
+use Rattle.mgs_world.specs.Worlds.{world_of}
+use Rattle.mgs_act.proofs.Switches.{switches}
+use Rattle.mgs_act.proofs.answering.answer.Goals as goal
+
+pub returns-in-SwitchTo-clause-ok : goal.returns-in-SwitchTo-clause-ok
+returns-in-SwitchTo-clause-ok g c =
+    OnOk-map c.switch_to.result
+    (λ done. λ id next place. done id next c.args.argument place
+    ∙ ap (λ k. act (world_of c.args.directory.now c.args.buffers.now c.args.sessions.now next) id (Run k c.args.argument c.args.typed.now) true) (sym (switches c.args.question c.in-SwitchTo.is)))
+    c.switch_to.ensures.ok
+
+pub returns-in-SwitchTo-clause-may : goal.returns-in-SwitchTo-clause-may
+returns-in-SwitchTo-clause-may g c =
+    OnErr-map c.switch_to.result
+    (λ may. λ id next place. ap (λ k. may_be_refused (outcome_in (world_of c.args.directory.now c.args.buffers.now c.args.sessions.now next) id (Run k c.args.argument c.args.typed.now) true)) (switches c.args.question c.in-SwitchTo.is)
+    ∙ may id next c.args.argument place)
+    c.switch_to.ensures.may
