@@ -69,7 +69,6 @@ fn what_names_have_in_common(rt: HostRuntime) {
 
 #[test]
 fn a_prompt_takes_its_completion_in(rt: HostRuntime) {
-    assert!(rt; !Prompt::new(Question::WhichOwner).names_buffer());
     let mut prompt = Prompt::new(Question::KillWhich);
     assert!(rt; prompt.names_buffer());
     prompt.feed(b'n');
