@@ -8,8 +8,8 @@ use Rattle.mgs_model.specs.Keys.{is_graphic, value_of}
 use Rattle.mgs_model.specs.World.{World, has_id}
 use Rattle.mgs_model.specs.World as model
 use Rattle.mgs_model.specs.View.{View}
-use Rattle.mgs_model.specs.Outcome.{Act, Unbound, Run}
-use Rattle.mgs_model.specs.Apply.{act, change_first, searches}
+use Rattle.mgs_model.specs.Outcome.{Unbound, Run}
+use Rattle.mgs_model.specs.Apply.{act, change_first}
 use Rattle.mgs_model.specs.Completion.{completion, granted_names, shown_names}
 use Rattle.mgs_model.specs.Plans.{failed_own}
 use Rattle.mgs_model.specs.Turns.{Turn, Rest, Keep, Do, answer_turn, answered, completed, names_buffers, names_completed, prompt_key, prompt_keys, prompt_turn}

@@ -1,5 +1,5 @@
 -- What the store tells of an act, of one that saves and of one that does not.
-use Rattle.std.proofs.Common.{◌≡◌, ◌||◌, ℕ, Bool, true, false, List, [], Option, refl, sym, ap, ◌∙◌, subst}
+use Rattle.std.proofs.Common.{◌≡◌, ◌||◌, ℕ, Bool, true, false, [], Option, refl, sym, ap, ◌∙◌, subst}
 use Rattle.std.specs.List.{flat_map}
 use Rattle.mgs_model.specs.World.{World}
 use Rattle.mgs_model.specs.Outcome.{Act}

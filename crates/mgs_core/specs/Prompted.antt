@@ -1,5 +1,5 @@
 -- What a byte makes of a session at a prompt.
-use Rattle.std.specs.Prelude.{◌≡◌, ℕ, Bool, true, List, [], Option, None, cond, slice_get}
+use Rattle.std.specs.Prelude.{◌≡◌, ℕ, true, List, [], Option, None, cond, slice_get}
 use Rattle.std.specs.Option.{option_and_then}
 use Rattle.mgs_model.specs.Access.{Directory}
 use Rattle.mgs_model.specs.World as model

@@ -1,4 +1,4 @@
-use Rattle.std.proofs.Common.{◌≡◌, ◌∙◌, List, ℕ, get_or, refl, sym, ap, subst}
+use Rattle.std.proofs.Common.{◌∙◌, List, get_or, refl, ap, subst}
 use Rattle.std.specs.Prelude.{slice_set}
 use Rattle.mgs_model.specs.Apart.{Apart}
 use Rattle.mgs_model.specs.Outcome as outcomes
