@@ -12,6 +12,8 @@ mod flags;
 #[cfg(test)]
 mod motions;
 #[cfg(test)]
+mod prompts;
+#[cfg(test)]
 mod replay;
 #[cfg(test)]
 mod script;

@@ -39,8 +39,11 @@ fn push_text(output: &mut String, text: &str) -> Result<(), Fail> {
     Ok(())
 }
 
-// A mode line, of its flag and its place in one.
+// A mode line: behind a colon as it stands, and else that of the buffer `notes`, of its flag and its place in one.
 fn push_mode(alloc: Global, output: &mut String, mode: &str) -> Result<(), Fail> {
+    if let Some(whole) = mode.strip_prefix(':') {
+        return push_row(output, '!', whole, '-');
+    }
     let (flag, place) = mode.split_at_checked(2).ok_or("no flag")?;
     let mode_line = format!(in alloc; "-{flag}-notes-{place}")?;
     push_row(output, '!', mode_line.as_str(), '-')
