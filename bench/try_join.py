@@ -93,6 +93,7 @@ def try_tool(tool, path, shell=None):
     other = Joined(ann, path, shell)
     expect(f"{tool}: C-s, C-q, C-c, C-\\ and C-z are keys", other.wait_for("^S^Q^C^\\^Z."), other.got)
     other.process.terminate()
+    other.end()
     ended = one.type(b"\x18\x03").end()
     expect(f"{tool}: C-x C-c ends it", ended == (0, True, True), ended)
     tail = "\x1b[?7h\x1b[m\x1b[24;1H\r\n\x1b[Jjoin: the session is over\r\n"
@@ -137,14 +138,17 @@ def try_sizes(path):
             seen = one.wait_for(f"\x1b[{min(rows, 64) - 1};1H"), one.got
             expect(f"{rows} by {cols} is served", seen[0], seen)
             one.process.terminate()
+            one.end()
         else:
             seen = one.end(), one.got
             wanted = f"join: a terminal of {rows} rows and {cols} columns is too small; 6 and 20 are needed\r\n"
             expect(f"{rows} by {cols} is too small", seen == ((1, True, True), wanted), seen)
     link = os.path.join(path, "other-name")
     os.symlink(JOIN, link)
-    expect("a link to it does the same", Joined(ann, path, program=link).wait_for("office."))
+    one = Joined(ann, path, program=link)
+    expect("a link to it does the same", one.wait_for("office."), one.got)
     server.kill()
+    one.end()
 
 
 def main():
