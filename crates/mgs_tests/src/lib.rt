@@ -14,6 +14,8 @@ mod grid;
 #[cfg(test)]
 mod lines;
 #[cfg(test)]
+mod listing;
+#[cfg(test)]
 mod names;
 #[cfg(test)]
 mod paint;
