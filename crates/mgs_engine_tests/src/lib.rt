@@ -13,6 +13,8 @@ mod fixtures;
 #[cfg(test)]
 mod ids;
 #[cfg(test)]
+mod listing;
+#[cfg(test)]
 mod lockstep;
 #[cfg(test)]
 mod marks;

@@ -51,7 +51,7 @@ drop_put first k new old fits =
     ∙ drop-drop k (first + length new) old
 
 -- rows put below rows
-put_below : (first : ℕ) (new more old : List Row) → first + length new ≤ length old → rows_put (first + length new) more (rows_put first new old) ≡ rows_put first (new ++ more) old
+pub put_below : (first : ℕ) (new more old : List Row) → first + length new ≤ length old → rows_put (first + length new) more (rows_put first new old) ≡ rows_put first (new ++ more) old
 put_below first new more old fits =
     let n : first + length new + length more ≡ first + length (new ++ more) = omega (arith, length-append new more) in
     ap (λ (xs : List Row). xs ++ more ++ drop (first + length new + length more) (rows_put first new old)) (take_put first new old fits)

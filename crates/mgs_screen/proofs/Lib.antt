@@ -1,2 +1,4 @@
 pub mod Screens
 pub mod Drawings
+pub mod Sights
+pub mod Listings

@@ -1,0 +1,53 @@
+-- The listing of all buffers and an access list, as a screen shows them of the kept buffers.
+use Rattle.std.specs.Prelude.{ℕ, ◌+◌, ◌-◌, nat_le, nat_lt, ◌&&◌, List, [], ◌∷◌, map, Option, Some, None, if◌then◌else◌}
+use Rattle.std.specs.List.{flat_map}
+use Rattle.mgs_model.specs.Access.{Directory, decider, decision_by}
+use Rattle.mgs_model.specs.World.{Buffer, may}
+use Rattle.mgs_model.specs.Picture.{Picture}
+use Rattle.mgs_model.specs.Rows.{rows_put, plain_row}
+use Rattle.mgs_model.specs.View.{BufferSeen, buffer_seen, find_seen}
+use Rattle.mgs_model.specs.Seen.{Pane, Attributes, EntriesSeen, Listed, Unlisted, attributes_of, if_granted, listing_pane, entries_pane}
+use Rattle.mgs_model.specs.Draw.{rows_from, listing_text}
+use Rattle.mgs_model.specs.declared.right.Right.TheVariants.{ReadAcl, ReadAttributes}
+use Rattle.mgs_buffers.specs.MarkedBuffer.{MarkedBuffer, marked_at}
+use Rattle.mgs_world.specs.Worlds.{buffers_of}
+
+-- the listing, as its user sees it
+abbrev pub listing_to : Directory → List ℕ → List MarkedBuffer → ℕ → Pane
+listing_to directory user ks row = listing_pane row (map (buffer_seen directory user) (buffers_of ks))
+
+-- a buffer's access list, as its user sees it
+abbrev pub entries_to : Directory → List ℕ → List MarkedBuffer → List ℕ → ℕ → Pane
+entries_to directory user ks name row = entries_pane row (find_seen name (map (buffer_seen directory user) (buffers_of ks)))
+
+-- a buffer's entries, where its access list may be read, and else why not
+abbrev pub entries_told : Directory → List ℕ → Buffer → EntriesSeen
+entries_told directory user b =
+    if may directory user ReadAcl b then Listed b.entries else Unlisted (decision_by (decider directory b.owner user b.entries) (ReadAcl ∷ []))
+
+-- its name, where its attributes may be read
+abbrev pub name_to : Directory → List ℕ → List MarkedBuffer → List ℕ → Option (List ℕ)
+name_to directory user ks name = if may directory user ReadAttributes (marked_at name ks).buffer then Some name else None
+
+-- ROWS OF A LIST
+
+-- in which row of the screen the one of a number is drawn, where it is in sight
+abbrev pub place_in : ℕ → ℕ → ℕ → ℕ → Option ℕ
+place_in first height row number = if nat_le row number && nat_lt (number - row) height then Some (first + (number - row)) else None
+
+abbrev pub row_drawn : Option ℕ → List ℕ → Picture → Picture
+row_drawn None text p = p
+row_drawn (Some at) text p = record p { lines = rows_put at (plain_row p.cols text ∷ []) p.lines }
+
+-- a buffer's row, where it is told of
+abbrev pub buffer_drawn : ℕ → ℕ → ℕ → ℕ → Option Attributes → Picture → Picture
+buffer_drawn first height row number None p = p
+buffer_drawn first height row number (Some a) p = row_drawn (place_in first height row number) (listing_text a) p
+
+-- all rows
+abbrev pub drawn : ℕ → ℕ → ℕ → List (List ℕ) → Picture → Picture
+drawn first height row texts p = record p { lines = rows_put first (rows_from p.cols height row texts) p.lines }
+
+-- what is told of buffers
+abbrev pub listed : Directory → List ℕ → List MarkedBuffer → List Attributes
+listed directory user ks = flat_map (λ (b : BufferSeen). if_granted (attributes_of b)) (map (buffer_seen directory user) (buffers_of ks))

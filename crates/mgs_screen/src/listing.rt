@@ -1,0 +1,223 @@
+// The listing of all buffers and an access list, drawn into the rows of a window.
+ghost use Rattle.std.specs.Prelude.{◌≡◌, ℕ, ◌+◌, ◌<◌, ◌≤◌, ◌^◌, [], ◌∷◌, ◌++◌, Bool, List, map, length, decimal, codes};
+ghost use Rattle.std.specs.Option.{option_map};
+ghost use Rattle.mgs_model.specs.Rows.{rows_put, cause_text};
+ghost use Rattle.mgs_model.specs.Seen.{if_granted};
+ghost use Rattle.mgs_model.specs.Draw.{pane_rows, listing_text, entry_text, entries_texts, entries_shown};
+ghost use Rattle.mgs_buffers.specs.MarkedBuffer.{HasBuffer, marked_at};
+ghost use Rattle.mgs_buffers.specs.Told.{attributes_read};
+ghost use Rattle.mgs_screen.specs.Listings.{listing_to, entries_to, entries_told, name_to, place_in, row_drawn, buffer_drawn, drawn, listed};
+
+use mgs_acl::{Entry, print_entry};
+use mgs_buffers::{Attributes, Buffers};
+use mgs_grid::Grid;
+use mgs_marks::Marked;
+use mgs_model::{Decision, Name, Right};
+use mgs_policy::Directory;
+
+/// Where the rows of a list are drawn: `height` rows from row `first` on, of which the first shows the row of number `row`.
+#[derive(Clone, Copy)]
+struct Sight {
+    first: usize,
+    height: usize,
+    row: usize,
+}
+
+/// In which row the one of a number is drawn, where it is in sight.
+fn place_in(sight: Sight, number: usize) -> Option<usize>
+    requires { sight.first + sight.height < 2 ^ 64 }
+    ensures { result ≡ place_in sight.first sight.height sight.row number }
+{
+    if sight.row <= number && number - sight.row < sight.height {
+        Some(sight.first + (number - sight.row))
+    } else {
+        None
+    }
+}
+
+/// Draws a row of the listing, where it is in sight.
+fn draw_listed(attributes: &Attributes, number: usize, sight: Sight, grid: &mut Grid)
+    requires { sight.first + sight.height ≤ grid.old.rows }
+    ensures { grid.new ≡ row_drawn (place_in sight.first sight.height sight.row number) (listing_text (attributes_read attributes.now)) grid.old }
+{
+    let _rows = grid.rows();
+    if let Some(at) = place_in(sight, number) {
+        grid.draw_listed(
+            at,
+            attributes.modified,
+            attributes.size,
+            &attributes.name,
+            &attributes.owner,
+        );
+    }
+}
+
+/// Draws the row of a buffer, where it is told of and in sight. Tells the number of the row after it.
+fn draw_buffer(
+    attributes: Option<Attributes>,
+    number: usize,
+    sight: Sight,
+    grid: &mut Grid,
+) -> usize
+    requires room { sight.first + sight.height ≤ grid.old.rows }
+    requires few { number + 1 < 2 ^ 64 }
+    ensures grid { grid.new ≡ buffer_drawn sight.first sight.height sight.row number (option_map attributes_read attributes) grid.old }
+    ensures next { result ≡ number + length (if_granted (option_map attributes_read attributes)) }
+    ensures few { result ≤ number + 1 }
+{
+    match attributes {
+        Some(attributes) => {
+            draw_listed(&attributes, number, sight, grid);
+            number + 1
+        }
+        None => number,
+    }
+}
+
+/// Draws the rows of the listing.
+fn draw_buffers<T: Marked + Drop>(
+    buffers: &Buffers<T>,
+    directory: &Directory,
+    user: &Name,
+    sight: Sight,
+    grid: &mut Grid,
+)
+    requires { sight.first + sight.height ≤ grid.old.rows }
+    ensures { grid.new ≡ drawn sight.first sight.height sight.row (map listing_text (listed directory.now user.now buffers.now)) grid.old }
+{
+    let _rows = grid.rows();
+    grid.draw_blank(sight.first, sight.height);
+    let mut number = 0;
+    for i in 0..buffers.len() {
+        let attributes = buffers.attributes(directory, user, i);
+        number = draw_buffer(attributes, number, sight, grid);
+    }
+}
+
+/// Draws the listing of all buffers, and its mode line: into `height` rows from row `first` on, and the one below. The first
+/// shows the row of number `row`, counted from 0. Only the buffers on which the user is granted READ_ATTRIBUTES have rows, in
+/// the order of creation. It takes no memory.
+pub fn draw_listing<T: Marked + Drop>(
+    buffers: &Buffers<T>,
+    directory: &Directory,
+    user: &Name,
+    first: usize,
+    height: usize,
+    row: usize,
+    grid: &mut Grid,
+)
+    requires { first + height < grid.old.rows }
+    ensures { (selected : Bool) → grid.new ≡ record grid.old { lines = rows_put first (pane_rows selected grid.old.cols height (listing_to directory.now user.now buffers.now row)) grid.old.lines } }
+{
+    let _rows = grid.rows();
+    let sight = Sight { first, height, row };
+    draw_buffers(buffers, directory, user, sight, grid);
+    grid.draw_buffers_mode(first + height);
+}
+
+/// Draws a row of an access list, where it is in sight: the entry of an index, counted from 0.
+fn draw_entry(entry: &Entry, i: usize, sight: Sight, grid: &mut Grid)
+    requires room { sight.first + sight.height ≤ grid.old.rows }
+    requires few { i + 1 < 2 ^ 64 }
+    ensures { grid.new ≡ row_drawn (place_in sight.first sight.height sight.row i) (decimal (i + 1) ++ 32 ∷ entry_text entry.now) grid.old }
+{
+    let _rows = grid.rows();
+    if let Some(at) = place_in(sight, i) {
+        let text = print_entry(entry);
+        grid.draw_entry(at, i + 1, text.as_str().as_bytes());
+    }
+}
+
+/// Draws the rows of an access list that may be read.
+fn draw_list(entries: &[Entry], sight: Sight, grid: &mut Grid)
+    requires { sight.first + sight.height ≤ grid.old.rows }
+    ensures { grid.new ≡ drawn sight.first sight.height sight.row (entries_texts 1 entries.now) grid.old }
+{
+    let _rows = grid.rows();
+    grid.draw_blank(sight.first, sight.height);
+    for (i, entry) in entries.iter().enumerate() {
+        draw_entry(entry, i, sight, grid);
+    }
+}
+
+/// Draws the row that says why an access list may not be read, where it is in sight.
+fn draw_cause(decision: Decision, sight: Sight, grid: &mut Grid)
+    requires { sight.first + sight.height ≤ grid.old.rows }
+    ensures { grid.new ≡ row_drawn (place_in sight.first sight.height sight.row 0) (codes "[no acl: " ++ cause_text decision ++ codes "]") grid.old }
+{
+    let _rows = grid.rows();
+    if let Some(at) = place_in(sight, 0) {
+        grid.draw_unlisted(at, decision);
+    }
+}
+
+/// Draws the rows of an access list that may not be read: the one that says why.
+fn draw_unlisted(decision: Decision, sight: Sight, grid: &mut Grid)
+    requires { sight.first + sight.height ≤ grid.old.rows }
+    ensures { grid.new ≡ drawn sight.first sight.height sight.row ((codes "[no acl: " ++ cause_text decision ++ codes "]") ∷ []) grid.old }
+{
+    let _rows = grid.rows();
+    grid.draw_blank(sight.first, sight.height);
+    draw_cause(decision, sight, grid);
+}
+
+/// Draws the rows of a buffer's access list.
+fn draw_acl<T: Marked + Drop>(
+    buffers: &Buffers<T>,
+    directory: &Directory,
+    user: &Name,
+    name: &Name,
+    sight: Sight,
+    grid: &mut Grid,
+)
+    requires kept { HasBuffer name.now buffers.now }
+    requires room { sight.first + sight.height ≤ grid.old.rows }
+    ensures { grid.new ≡ drawn sight.first sight.height sight.row (entries_shown (entries_told directory.now user.now (marked_at name.now buffers.now).buffer)) grid.old }
+{
+    if buffers.grants(directory, name, user, Right::ReadAcl) {
+        draw_list(buffers.entries(name), sight, grid);
+    } else {
+        let decision = buffers.decide(directory, name, user, Right::ReadAcl);
+        draw_unlisted(decision, sight, grid);
+    }
+}
+
+/// A buffer's name, where its attributes may be read.
+fn shown_name<T: Marked + Drop>(
+    buffers: &Buffers<T>,
+    directory: &Directory,
+    user: &Name,
+    name: &Name,
+) -> Option<Name>
+    requires { HasBuffer name.now buffers.now }
+    ensures { result ≡ name_to directory.now user.now buffers.now name.now }
+{
+    if buffers.grants(directory, name, user, Right::ReadAttributes) {
+        Some(*name)
+    } else {
+        None
+    }
+}
+
+/// Draws the access list of a buffer, and its mode line: into `height` rows from row `first` on, and the one below. The first
+/// shows the row of number `row`, counted from 0. Where READ_ACL is not granted to the user, the one row says why, and where
+/// READ_ATTRIBUTES is not, the mode line has no name. It takes no memory.
+pub fn draw_entries<T: Marked + Drop>(
+    buffers: &Buffers<T>,
+    directory: &Directory,
+    user: &Name,
+    name: &Name,
+    first: usize,
+    height: usize,
+    row: usize,
+    grid: &mut Grid,
+)
+    requires kept { HasBuffer name.now buffers.now }
+    requires room { first + height < grid.old.rows }
+    ensures { (selected : Bool) → grid.new ≡ record grid.old { lines = rows_put first (pane_rows selected grid.old.cols height (entries_to directory.now user.now buffers.now name.now row)) grid.old.lines } }
+{
+    let _rows = grid.rows();
+    let sight = Sight { first, height, row };
+    draw_acl(buffers, directory, user, name, sight, grid);
+    grid.draw_acl_mode(first + height, shown_name(buffers, directory, user, name));
+}
