@@ -10,9 +10,10 @@ use Rattle.mgs_model.specs.World as model
 use Rattle.mgs_model.specs.View.{View}
 use Rattle.mgs_model.specs.Outcome.{Unbound, Run}
 use Rattle.mgs_model.specs.Apply.{act, change_first}
+use Rattle.mgs_model.specs.Commands.{command_names}
 use Rattle.mgs_model.specs.Completion.{completion, granted_names, shown_names}
 use Rattle.mgs_model.specs.Plans.{failed_own}
-use Rattle.mgs_model.specs.Turns.{Turn, Rest, Keep, Do, answer_turn, answered, completed, names_buffers, names_completed, prompt_key, prompt_keys, prompt_turn}
+use Rattle.mgs_model.specs.Turns.{Turn, Rest, Keep, Do, answer_turn, answered, completed, names_buffers, names_commands, names_completed, prompt_key, prompt_keys, prompt_turn}
 use Rattle.mgs_model.specs.Events.{act_effects, own_set, refused_own, saved_by, with_own}
 use Rattle.mgs_model.specs.declared.errors.Keyed.{Keyed}
 use Rattle.mgs_model.specs.declared.message.Message.TheVariants.{Silent, NoMemory, Quitting}
@@ -151,7 +152,7 @@ quits d ks x taken new p q byte is question turn took held =
 -- what is completed: the names that are seen are those that are granted
 completed_seen : (d : Directory) (ks : List MarkedBuffer) (user : List ℕ) (v : View) (c e : Question) (own : model.Own) (input : List ℕ) → shown_names v ≡ granted_names d user (buffers_of ks) → e ≡ c → completed own (completion (names_completed v c) input) ≡ completed own (completion (names_for d user ks e) input)
 completed_seen d ks user v c e own input sees same =
-    ap (λ (names : List (List ℕ)). completed own (completion (cond (names_buffers c) names []) input)) sees
+    ap (λ (names : List (List ℕ)). completed own (completion (cond (names_buffers c) names (cond (names_commands c) command_names [])) input)) sees
     ∙ sym (ap (λ (k : Question). completed own (completion (names_for d user ks k) input)) same)
 
 pub completes : (d : Directory) (ks : List MarkedBuffer) (x taken new : Session) (p q : PromptInput) (byte : ℕ) → x.own.prompt ≡ Some p → q.question ≡ p.question → IsStep p q byte Completes → taken ≡ unprompted x

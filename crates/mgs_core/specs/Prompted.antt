@@ -6,7 +6,8 @@ use Rattle.mgs_model.specs.World as model
 use Rattle.mgs_model.specs.View.{View}
 use Rattle.mgs_model.specs.Outcome as outcomes
 use Rattle.mgs_model.specs.Completion.{granted_names, shown_names}
-use Rattle.mgs_model.specs.Turns.{Turn, Keep, Do, answered, byte_turn, names_buffers}
+use Rattle.mgs_model.specs.Commands.{command_names}
+use Rattle.mgs_model.specs.Turns.{Turn, Keep, Do, answered, byte_turn, names_buffers, names_commands}
 use Rattle.mgs_model.specs.Events.{refused_own}
 use Rattle.mgs_model.specs.declared.message.Message.TheVariants.{Silent, NoMemory}
 use Rattle.mgs_model.specs.declared.session.Question.{Question}
@@ -26,7 +27,7 @@ prompt_at at xs = option_and_then (λ (x : Session). x.own.prompt) (slice_get xs
 
 -- the names that may complete an answer
 abbrev pub names_for : Directory → List ℕ → List MarkedBuffer → Question → List (List ℕ)
-names_for directory user ks c = cond (names_buffers c) (granted_names directory user (buffers_of ks)) []
+names_for directory user ks c = cond (names_buffers c) (granted_names directory user (buffers_of ks)) (cond (names_commands c) command_names [])
 
 -- what comes next for a session that holds this: each byte empties the echo line first
 abbrev pub own_turn : View → Own → ℕ → Turn

@@ -1,18 +1,17 @@
 // A byte of a session: at a prompt it is typed, and else it is a key.
-ghost use Rattle.std.specs.Prelude.{◌≡◌, ◌<◌, ℕ, Option, IfOk, OnOk, OnErr, length, true};
+ghost use Rattle.std.specs.Prelude.{◌≡◌, ◌<◌, ◌≤◌, ℕ, Option, IfSome, IfOk, OnOk, OnErr, length, true};
 ghost use Rattle.std.specs.List.{position_or_len};
 ghost use Rattle.std.specs.Option.{option_map};
 ghost use Rattle.mgs_model.specs.Apart.{Apart};
 ghost use Rattle.mgs_model.specs.Apply.{act, outcome_in};
 ghost use Rattle.mgs_model.specs.Events.{may_be_refused, with_own};
 ghost use Rattle.mgs_model.specs.Outcome as outcomes;
-ghost use Rattle.mgs_model.specs.Turns.{answered, completed};
+ghost use Rattle.mgs_model.specs.Turns.{answered, completed, names_commands};
 ghost use Rattle.mgs_model.specs.Completion.{completion};
 ghost use Rattle.mgs_model.specs.declared.errors.Keyed.TheVariants.{Quit};
 ghost use Rattle.mgs_model.specs.declared.message.Message.TheVariants.{NoMemory};
 ghost use Rattle.mgs_mini.specs.Typing.{is_asked};
 ghost use Rattle.mgs_mini.specs.Typing as prompts;
-ghost use Rattle.mgs_buffers.specs.Completed.{IsWithinName};
 ghost use Rattle.mgs_session.specs.Sessions.{prompting, told};
 ghost use Rattle.mgs_store.specs.Stores.{store_told};
 ghost use Rattle.mgs_world.specs.Sound.{IsSound};
@@ -24,9 +23,10 @@ ghost use Rattle.mgs_core.specs.Steps.{TypedBy};
 use crate::keying::type_key;
 use mgs_act::answer;
 use mgs_buffers::Buffers;
+use mgs_maps::name_completion;
 use mgs_marks::Marked;
 use mgs_mini::{Prompt, Step};
-use mgs_model::{Keyed, Message, Name, SessionId, Short, Touched};
+use mgs_model::{Keyed, Message, Name, Question, SessionId, Short, Touched};
 use mgs_policy::Directory;
 use mgs_session::{Session, fail, hold_prompt, rest, set_echo, take_prompt};
 use mgs_store::Store;
@@ -44,7 +44,14 @@ pub enum PromptStep {
     Answered(Prompt, Option<usize>),
 }
 
-/// What the input of a prompt is completed to, where its answer names a buffer. `None`: no name begins with it.
+/// Whether the answer to a question names a command.
+fn names_commands(question: Question) -> bool
+    ensures { result ≡ names_commands question }
+{
+    question == Question::RunWhich
+}
+
+/// What the input of a prompt is completed to, where its answer names a buffer or a command. `None`: no name begins with it.
 fn completion_for<'a, T: Marked + Drop>(
     buffers: &'a Buffers<T>,
     directory: &Directory,
@@ -52,10 +59,13 @@ fn completion_for<'a, T: Marked + Drop>(
     prompt: &Prompt,
 ) -> Option<&'a [u8]>
     ensures value { option_map (λ t. t.now) result ≡ completion (names_for directory.now user.now buffers.now prompt.now.question) prompt.now.input }
-    ensures within { IsWithinName (option_map (λ t. t.now) result) }
+    ensures within { IfSome (option_map (λ t. t.now) result) (λ text. length text ≤ 120) }
 {
     if prompt.names_buffer() {
         return buffers.completion(directory, user, prompt.input());
+    }
+    if names_commands(prompt.question()) {
+        return name_completion(prompt.input());
     }
     None
 }
