@@ -2,6 +2,7 @@ use Rattle.std.proofs.Common.{true, sym, ap, ◌∙◌}
 use Rattle.mgs_model.specs.Apply.{act, outcome_in}
 use Rattle.mgs_model.specs.Events.{may_be_refused}
 use Rattle.mgs_model.specs.Outcome.{Run}
+use Rattle.mgs_model.specs.Turns.{answered}
 use Rattle.mgs_buffers.proofs.MarkedLemmas.{OnErr-map, OnOk-map}
 use Rattle.mgs_world.specs.Worlds.{world_of}
 use Rattle.mgs_act.proofs.Switches.{switches}
@@ -20,3 +21,8 @@ returns-in-SwitchTo-clause-may g c =
     (λ may. λ id next place. ap (λ k. may_be_refused (outcome_in (world_of c.args.directory.now c.args.buffers.now c.args.sessions.now next) id (Run k c.args.argument c.args.typed.now) true)) (switches c.args.question c.in-SwitchTo.is)
     ∙ may id next c.args.argument place)
     c.switch_to.ensures.may
+
+pub returns-in-KillWhich-clause-ok : goal.returns-in-KillWhich-clause-ok
+returns-in-KillWhich-clause-ok g c = λ id next place.
+    c.kill.ensures.world id next c.args.argument place
+    ∙ ap (λ q. act (world_of c.args.directory.now c.args.buffers.now c.args.sessions.now next) id (Run (answered q) c.args.argument c.args.typed.now) true) (sym c.in-KillWhich.is)
