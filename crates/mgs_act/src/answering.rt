@@ -1,11 +1,11 @@
 // The answer to a question: the command that the question is for.
-ghost use Rattle.std.specs.Prelude.{◌≡◌, ◌<◌, ◌≤◌, ℕ, length, Option, IfOk, OnOk, OnErr, true};
+ghost use Rattle.std.specs.Prelude.{◌≡◌, ◌<◌, ◌≤◌, ℕ, length, Option, IfOk, OnOk, OnErr, true, false};
 ghost use Rattle.std.specs.List.{position_or_len};
 ghost use Rattle.mgs_model.specs.Apart.{Apart};
 ghost use Rattle.mgs_model.specs.Apply.{act, outcome_in};
 ghost use Rattle.mgs_model.specs.Events.{may_be_refused};
 ghost use Rattle.mgs_model.specs.Outcome as outcomes;
-ghost use Rattle.mgs_model.specs.Turns.{answered};
+ghost use Rattle.mgs_model.specs.Turns.{answered, names_commands};
 ghost use Rattle.mgs_mini.specs.Typing.{is_asked};
 ghost use Rattle.mgs_world.specs.Sound.{IsSound};
 ghost use Rattle.mgs_world.specs.Worlds.{idle, own_at, session_id, sizes_in, world_of};
@@ -19,10 +19,11 @@ use mgs_policy::Directory;
 use mgs_session::Session;
 use std::alloc::Global;
 
-/// The command that a question is for is done by the session at `at`, which is at rest: `typed` is the answer. The
-/// selected window comes to show the buffer of that name, which is made for the session's user where it is not there; or the
-/// buffer of that name is killed. A refused right, a text that is no name, and a buffer too many are told in the echo line. It tells what it touched, and what it
-/// did not touch is as it was. `Short`: memory was refused, the world is as it was, and the act is one that may be refused.
+/// The command that a question is for is done by the session at `at`, which is at rest: `typed` is the answer, of a question
+/// that asks for no command's name. The selected window comes to show the buffer of that name, which is made for the session's
+/// user where it is not there; or the buffer of that name is killed. A refused right, a text that is no name, and a buffer too
+/// many are told in the echo line. It tells what it touched, and what it did not touch is as it was. `Short`: memory was refused,
+/// the world is as it was, and the act is one that may be refused.
 pub fn answer<T: Marked + Drop>(
     alloc: Global,
     buffers: &mut Buffers<T>,
@@ -37,6 +38,7 @@ pub fn answer<T: Marked + Drop>(
     requires within { at < length sessions.old }
     requires fresh { own_at at sessions.old ≡ idle (own_at at sessions.old) }
     requires here { is_asked question ≡ true }
+    requires one { names_commands question ≡ false }
     requires few { length typed.now ≤ 120 }
     ensures sound { IsSound buffers.new sessions.new }
     ensures sizes { sizes_in sessions.new ≡ sizes_in sessions.old }

@@ -1,23 +1,25 @@
 -- A byte of a session at a prompt.
-use Rattle.std.proofs.Common.{◌≡◌, ℕ, zero, suc, ◌<◌, Bool, true, false, cond, List, [], ◌∷◌, ◌++◌, length, take, ◌-◌, nat_lt, ◌==◌, ◌&&◌, get_or, Option, Some, None, refl, sym, ap, subst, ◌∙◌, arith}
+use Rattle.std.proofs.Common.{◌≡◌, ℕ, zero, suc, ◌<◌, Bool, true, false, cond, List, [], ◌∷◌, length, get_or, Option, Some, None, refl, sym, ap, subst, ◌∙◌, arith}
 use Rattle.std.specs.Prelude.{slice_set}
 use Rattle.std.specs.List.{flat_map, position_or_len}
+use Rattle.std.specs.Option.{option_map}
 use Rattle.std.proofs.lemmas.List.{length-map}
 use Rattle.mgs_model.specs.Access.{Directory}
-use Rattle.mgs_model.specs.Keys.{is_graphic, value_of}
+use Rattle.mgs_model.specs.Commands.{command_names, find_command}
+use Rattle.mgs_model.specs.Keys.{value_of}
 use Rattle.mgs_model.specs.World.{World, has_id}
 use Rattle.mgs_model.specs.World as model
 use Rattle.mgs_model.specs.View.{View}
-use Rattle.mgs_model.specs.Outcome.{Unbound, Run}
-use Rattle.mgs_model.specs.Apply.{act, change_first}
-use Rattle.mgs_model.specs.Commands.{command_names}
+use Rattle.mgs_model.specs.Outcome.{Act, Run}
+use Rattle.mgs_model.specs.Apply.{act, change_first, outcome_in}
 use Rattle.mgs_model.specs.Completion.{completion, granted_names, shown_names}
-use Rattle.mgs_model.specs.Plans.{failed_own}
-use Rattle.mgs_model.specs.Turns.{Turn, Rest, Keep, Do, answer_turn, answered, completed, names_buffers, names_commands, names_completed, prompt_key, prompt_keys, prompt_turn}
-use Rattle.mgs_model.specs.Events.{act_effects, own_set, refused_own, saved_by, with_own}
+use Rattle.mgs_model.specs.Turns.{Keep, Do, answer_turn, answered, completed, named_turn, names_buffers, names_commands, names_completed, plain_own, prompt_turn}
+use Rattle.mgs_model.specs.Events.{act_effects, may_be_refused, own_set, refused_own, saved_by, with_own}
 use Rattle.mgs_model.specs.declared.errors.Keyed.{Keyed}
-use Rattle.mgs_model.specs.declared.message.Message.TheVariants.{Silent, NoMemory, Quitting}
-use Rattle.mgs_model.specs.declared.session.Mode.TheVariants.{Plain, Prompt}
+use Rattle.mgs_model.specs.declared.message.Message.TheVariants.{Silent, NoMemory, NoSuchCommand, Quitting}
+use Rattle.mgs_model.specs.declared.session.Command.{Command}
+use Rattle.mgs_model.specs.declared.session.Command.TheVariants.{Exit}
+use Rattle.mgs_model.specs.declared.session.Mode.TheVariants.{Prompt}
 use Rattle.mgs_model.specs.declared.session.Question.{Question}
 use Rattle.mgs_model.specs.declared.session.Question.TheVariants.{SwitchTo, FindWhich, KillWhich, InsertWhich, RunWhich, GoToWhich, EntryToInsert, EntryToReplace, WhichOwner, ReplaceWhat, ReplaceWith}
 use Rattle.mgs_model.proofs.Completing.{shown_names_of}
@@ -28,7 +30,10 @@ use Rattle.mgs_mini.specs.Typing as prompts
 use Rattle.mgs_mini.specs.declared.Step.{Step}
 use Rattle.mgs_mini.specs.declared.Step.TheVariants.{GoesOn, Answered, Quit, Completes}
 use Rattle.mgs_mini.specs.declared.Waiting.{Waiting}
-use Rattle.mgs_mini.specs.declared.Waiting.TheVariants.{NoKey, Escape, Arrow, ArrowEscape}
+use Rattle.mgs_mini.specs.declared.Waiting.TheVariants.{NoKey}
+use Rattle.mgs_maps.specs.Held.{is_bound}
+use Rattle.mgs_maps.specs.declared.maps.Fed.TheVariants as fed
+use Rattle.mgs_act.specs.declared.acts.KeyAct.TheVariants as acts
 use Rattle.mgs_buffers.specs.MarkedBuffer.{MarkedBuffer}
 use Rattle.mgs_session.specs.declared.Own.{Own}
 use Rattle.mgs_session.specs.declared.Session.{Session}
@@ -36,23 +41,32 @@ use Rattle.mgs_session.specs.Sessions.{failed, prompting, resting, told, unpromp
 use Rattle.mgs_store.specs.Stores.{StoreTold}
 use Rattle.mgs_store.proofs.Told.{told_none}
 use Rattle.mgs_world.specs.Worlds.{buffers_of, idle, is_size_of, own_of, session_id, session_of, size_in, sizes_in, world_of}
-use Rattle.mgs_world.proofs.Owns.{no_search, prompt_answered, prompt_fed}
-use Rattle.mgs_core.specs.Prompted.{IsAnswered, IsKept, asked_again, names_for, own_turn}
-use Rattle.mgs_core.specs.Steps.{ActedBy, TypedBy}
+use Rattle.mgs_world.proofs.Owns.{no_search, prompt_fed}
+use Rattle.mgs_core.specs.declared.replying.Reply.{Reply}
+use Rattle.mgs_core.specs.declared.replying.Reply.TheVariants.{Asked, Named}
+use Rattle.mgs_core.specs.declared.typing.PromptStep.{PromptStep}
+use Rattle.mgs_core.specs.declared.typing.PromptStep.TheVariants as steps
+use Rattle.mgs_core.specs.Prompted.{CanReply, IsAnswerStep, IsAnswered, IsBoundReply, IsKept, IsPromptStep, asked_again, is_end, names_for, own_turn, prompt_put, reply_act, reply_to}
+use Rattle.mgs_core.specs.Steps.{ActedBy, TypedBy, is_exit}
 use Rattle.mgs_core.proofs.Sizes.{place_sized}
-use Rattle.mgs_core.proofs.Steps.{seen_at, world_changed}
+use Rattle.mgs_core.proofs.Steps.{bound_single, command_done, not_exit, seen_at, world_changed}
 
 -- WHAT AN ANSWER IS FOR
 
--- the act of a question that is asked
-asked_turn : (c : Question) → is_asked c ≡ true → (own : model.Own) → answer_turn c own ≡ Do (record own { mode = Plain; input = []; argument = None }) (Run (answered c) (value_of own.argument) own.input)
-asked_turn SwitchTo h own = refl
-asked_turn FindWhich h own = refl
-asked_turn KillWhich h own = refl
-asked_turn _ h own = cc
+-- the act of a question that is asked, and whose answer names no command
+asked_turn : (c : Question) → is_asked c ≡ true → names_commands c ≡ false → (own : model.Own) → answer_turn c own ≡ Do (plain_own own) (Run (answered c) (value_of own.argument) own.input)
+asked_turn SwitchTo h none own = refl
+asked_turn FindWhich h none own = refl
+asked_turn KillWhich h none own = refl
+asked_turn _ h none own = cc
+
+-- a command that is named
+names_turn : (c : Question) → names_commands c ≡ true → (own : model.Own) → answer_turn c own ≡ named_turn (plain_own own) (value_of own.argument) (find_command own.input)
+names_turn RunWhich h own = refl
+names_turn _ h own = cc
 
 -- it is one act, and saves nothing
-pub answered_single : (c : Question) (n : Option ℕ) (typed : List ℕ) → is_single (Run (answered c) n typed) ≡ true
+answered_single : (c : Question) (n : Option ℕ) (typed : List ℕ) → is_single (Run (answered c) n typed) ≡ true
 answered_single SwitchTo n typed = refl
 answered_single FindWhich n typed = refl
 answered_single KillWhich n typed = refl
@@ -78,7 +92,7 @@ answered_saves_none WhichOwner n typed = refl
 answered_saves_none ReplaceWhat n typed = refl
 answered_saves_none ReplaceWith n typed = refl
 
-pub answered_quietly : (old new : World) (t : StoreTold) (id : ℕ) (c : Question) (n : Option ℕ) (typed : List ℕ) → new ≡ act old id (Run (answered c) n typed) true → ActedBy old new t t id (Run (answered c) n typed)
+answered_quietly : (old new : World) (t : StoreTold) (id : ℕ) (c : Question) (n : Option ℕ) (typed : List ℕ) → new ≡ act old id (Run (answered c) n typed) true → ActedBy old new t t id (Run (answered c) n typed)
 answered_quietly old new t id c n typed world = record {
   stored = true;
   world = world;
@@ -87,40 +101,6 @@ answered_quietly old new t id c n typed world = record {
 }
 
 -- A TURN
-
--- the keys with which the act of a turn begins, and what is typed for it; of no act, nothing beside this input
-abbrev begins : List ℕ → Turn → List ℕ × List ℕ
-begins input Rest = ([], input)
-begins input (Keep own) = ([], input)
-begins input (Do own Unbound) = ([], input)
-begins input (Do own (Run c n typed)) = (own.keys, typed)
-
-begins_one : (input : List ℕ) (t : Turn) (a b d e : Bool) (erased completes more waits : model.Own) → begins input t ≡ ([], input) → begins input (cond a t (cond b (Keep erased) (cond d (Keep completes) (cond e (Keep more) (Keep waits))))) ≡ ([], input)
-begins_one input t true b d e erased completes more waits h = h
-begins_one input t false true d e erased completes more waits h = refl
-begins_one input t false false true e erased completes more waits h = refl
-begins_one input t false false false true erased completes more waits h = refl
-begins_one input t false false false false erased completes more waits h = refl
-
-begins_alone : (v : View) (c : Question) → is_asked c ≡ true → (own : model.Own) (byte : ℕ) → own.keys ≡ [] → begins own.input (prompt_key v c own byte) ≡ ([], own.input)
-begins_alone v c asked own byte none =
-    begins_one own.input (answer_turn c own) (byte == 13) (byte == 127) (byte == 9) (is_graphic byte && nat_lt (length own.input) 120)
-    (record own { input = take (length own.input - 1) own.input }) (completed own (completion (names_completed v c) own.input)) (record own { input = own.input ++ byte ∷ [] }) (record own { keys = prompt_keys own.keys byte })
-    (ap (begins own.input) (asked_turn c asked own) ∙ ap (λ (keys : List ℕ). (keys, own.input)) none)
-
-quits_or : (input : List ℕ) (own : model.Own) (t : Turn) → begins input t ≡ ([], input) → (b : Bool) → begins input (cond b (Keep own) t) ≡ ([], input)
-quits_or input own t h true = refl
-quits_or input own t h false = h
-
-begins_turn : (v : View) (c : Question) → is_asked c ≡ true → (own : model.Own) (input : List ℕ) (w : Waiting) (byte : ℕ) → begins input (prompt_turn v c (typed_own own input w) byte) ≡ ([], input)
-begins_turn v c asked own input NoKey byte =
-    let o : model.Own = typed_own own input NoKey in quits_or input (failed_own Quitting o) (prompt_key v c o byte) (begins_alone v c asked o byte refl) (byte == 7)
-begins_turn v c asked own input Escape byte =
-    let o : model.Own = typed_own own input Escape in quits_or input (failed_own Quitting o) (Keep (record o { keys = prompt_keys o.keys byte })) refl (byte == 7)
-begins_turn v c asked own input Arrow byte =
-    let o : model.Own = typed_own own input Arrow in quits_or input (failed_own Quitting o) (Keep (record o { keys = prompt_keys o.keys byte })) refl (byte == 7)
-begins_turn v c asked own input ArrowEscape byte =
-    let o : model.Own = typed_own own input ArrowEscape in quits_or input (failed_own Quitting o) (Keep (record o { keys = prompt_keys o.keys byte })) refl (byte == 7)
 
 at_prompt : (v : View) (x : Session) (p : PromptInput) (byte : ℕ) → x.own.prompt ≡ Some p → own_turn v x.own byte ≡ prompt_turn v p.question (record (own_of x.own) { echo = Silent }) byte
 at_prompt v x p byte is = ap (λ (r : Option PromptInput). own_turn v (record x.own { prompt = r }) byte) is ∙ sym (ap (λ (r : Option PromptInput). prompt_turn v p.question (record (own_of (record x.own { prompt = r })) { echo = Silent }) byte) is)
@@ -173,22 +153,125 @@ completed_as x p q text b question input =
     let own : model.Own = own_of (prompting p x).own in
     ap (λ (c : Question). prompts.told b (record (typed_own own q.input q.waiting) { mode = Prompt c })) question ∙ sym (input own)
 
-pub answers : (x taken new : Session) (p q : PromptInput) (n : Option ℕ) (byte : ℕ) → x.own.prompt ≡ Some p → q.question ≡ p.question → IsStep p q byte Answered → taken ≡ unprompted x → n ≡ value_of taken.own.keyboard.argument → new ≡ resting taken → IsAnswered x new byte q n
-answers x taken new p q n byte is question turn took argument rests = record {
-  rests = rests ∙ ap resting took;
-  turn = λ asked v.
-      at_prompt v x p byte is
-      ∙ prompt_answered v x p q byte is question turn (asked_turn p.question (subst (λ (c : Question). is_asked c ≡ true) question asked))
-      ∙ sym (ap (λ (c : Question). Do (idle (own_of x.own)) (Run (answered c) (value_of x.own.keyboard.argument) q.input)) question)
-      ∙ sym (ap (λ (k : Option ℕ). Do (idle (own_of x.own)) (Run (answered q.question) k q.input)) (argument ∙ ap (λ (s : Session). value_of s.own.keyboard.argument) took));
-  again = λ asked v.
-      let asks : is_asked p.question ≡ true = subst (λ (c : Question). is_asked c ≡ true) question asked in
-      let own : model.Own = own_of (prompting p x).own in
-      let left : (keys_of q.waiting, q.input) ≡ ([], p.input) =
-      sym (ap (begins p.input) (turn v own ∙ asked_turn p.question asks (typed_own own q.input q.waiting))) ∙ begins_turn v p.question asks own p.input p.waiting byte in
-      (λ i. record (idle (own_of x.own)) { echo = NoMemory; keys = (left i).0; mode = Prompt (question i); input = (left i).1 })
-      ∙ sym (ap (λ (r : Option PromptInput). refused_own (own_of (record x.own { prompt = r }))) is);
+-- WHAT AN ANSWER ASKS FOR
+
+asks_own : (b : Bool) (o : Option Command) → cond b (option_map Named o) (Some Asked) ≡ Some Asked → b ≡ false
+asks_own true None e = cc
+asks_own true (Some c) e = cc
+asks_own false o e = refl
+
+asks_named : (b : Bool) (o : Option Command) (c : Command) → cond b (option_map Named o) (Some Asked) ≡ Some (Named c) → (b ≡ true) × (o ≡ Some c)
+asks_named true None c e = cc
+asks_named true (Some d) c e = let same : d ≡ c = cc in (refl, ap (λ (k : Command). Some k) same)
+asks_named false o c e = cc
+
+asks_none : (b : Bool) (o : Option Command) → cond b (option_map Named o) (Some Asked) ≡ None → (b ≡ true) × (o ≡ None)
+asks_none true None e = (refl, refl)
+asks_none true (Some c) e = cc
+asks_none false o e = cc
+
+end_any : (c : Command) (n : Option ℕ) → is_exit (fed.Run c n) ≡ is_end (Named c)
+end_any Exit n = refl
+end_any _ n = refl
+
+can_reply : (p : PromptInput) (n : Option ℕ) (r : Reply) → reply_to p ≡ Some r → IsBoundReply r → is_end r ≡ false → CanReply p n r
+can_reply p n Asked to bound goes_on = asks_own (names_commands p.question) (find_command p.input) to
+can_reply p n (Named c) to bound goes_on = (bound, not_exit (fed.Run c n) (acts.Run c n) bound (end_any c n ∙ goes_on) refl)
+
+pub reply_single : (p : PromptInput) (n : Option ℕ) (r : Reply) → CanReply p n r → is_single (reply_act p n r) ≡ true
+reply_single p n Asked here = answered_single p.question n p.input
+reply_single p n (Named c) here = bound_single n c here.0
+
+-- what a question is for, as it was asked and answered
+asked_act : {X : Type 0} (f : Act → X) (p : PromptInput) (n : Option ℕ) (r : Reply) (c : Question) (typed : List ℕ) → r ≡ Asked → c ≡ p.question → typed ≡ p.input → f (Run (answered c) n typed) ≡ f (reply_act p n r)
+asked_act f p n r c typed is question input =
+    ap (λ (q : Question). f (Run (answered q) n typed)) question
+    ∙ ap (λ (t : List ℕ). f (Run (answered p.question) n t)) input
+    ∙ sym (ap (λ (k : Reply). f (reply_act p n k)) is)
+
+pub asked_quietly : (old new : World) (t : StoreTold) (id : ℕ) (p : PromptInput) (n : Option ℕ) (r : Reply) (c : Question) (typed : List ℕ) → r ≡ Asked → c ≡ p.question → typed ≡ p.input → new ≡ act old id (Run (answered c) n typed) true → ActedBy old new t t id (reply_act p n r)
+asked_quietly old new t id p n r c typed is question input world =
+    let acts : new ≡ act old id (reply_act p n r) true = world ∙ asked_act (λ (a : Act). act old id a true) p n r c typed is question input in
+    let of_asked : new ≡ act old id (reply_act p n Asked) true = acts ∙ ap (λ (k : Reply). act old id (reply_act p n k) true) is in
+    subst (λ (k : Reply). ActedBy old new t t id (reply_act p n k)) (sym is) (answered_quietly old new t id p.question n p.input of_asked)
+
+pub asked_may : (w : World) (id : ℕ) (p : PromptInput) (n : Option ℕ) (r : Reply) (c : Question) (typed : List ℕ) → r ≡ Asked → c ≡ p.question → typed ≡ p.input → may_be_refused (outcome_in w id (Run (answered c) n typed) true) ≡ true → may_be_refused (outcome_in w id (reply_act p n r) true) ≡ true
+asked_may w id p n r c typed is question input may = sym (asked_act (λ (a : Act). may_be_refused (outcome_in w id a true)) p n r c typed is question input) ∙ may
+
+-- AN ANSWER, with no key half read
+
+-- its act begins with the session at rest
+plain_rests : (x : Session) (p : PromptInput) → p.waiting ≡ NoKey → plain_own (own_of (prompting p x).own) ≡ idle (own_of x.own)
+plain_rests x p none = ap (λ (w : Waiting). record (idle (own_of x.own)) { keys = keys_of w }) none
+
+asked_at : (v : View) (x : Session) (p : PromptInput) (byte : ℕ) → x.own.prompt ≡ Some p → p.waiting ≡ NoKey → IsStep p p byte Answered → names_commands p.question ≡ false → is_asked p.question ≡ true
+    → own_turn v x.own byte ≡ Do (idle (own_of x.own)) (Run (answered p.question) (value_of x.own.keyboard.argument) p.input)
+asked_at v x p byte is none turn one asked =
+    step_turn v x p p Answered byte is refl turn
+    ∙ asked_turn p.question asked one (own_of (prompting p x).own)
+    ∙ ap (λ (o : model.Own). Do o (Run (answered p.question) (value_of x.own.keyboard.argument) p.input)) (plain_rests x p none)
+
+named_at : (v : View) (x : Session) (p : PromptInput) (c : Command) (byte : ℕ) → x.own.prompt ≡ Some p → p.waiting ≡ NoKey → IsStep p p byte Answered → reply_to p ≡ Some (Named c) → is_bound c ≡ true
+    → own_turn v x.own byte ≡ Do (idle (own_of x.own)) (Run c (value_of x.own.keyboard.argument) [])
+named_at v x p c byte is none turn to bound =
+    let own : model.Own = own_of (prompting p x).own in
+    let n : Option ℕ = value_of x.own.keyboard.argument in
+    let named = asks_named (names_commands p.question) (find_command p.input) c to in
+    step_turn v x p p Answered byte is refl turn
+    ∙ names_turn p.question named.0 own
+    ∙ ap (named_turn (plain_own own) n) named.1
+    ∙ command_done (plain_own own) n c bound
+    ∙ ap (λ (o : model.Own). Do o (Run c n [])) (plain_rests x p none)
+
+unknown_at : (v : View) (x : Session) (p : PromptInput) (byte : ℕ) → x.own.prompt ≡ Some p → IsStep p p byte Answered → reply_to p ≡ None → own_turn v x.own byte ≡ Keep (own_of (failed NoSuchCommand x).own)
+unknown_at v x p byte is turn to =
+    let own : model.Own = own_of (prompting p x).own in
+    let unnamed = asks_none (names_commands p.question) (find_command p.input) to in
+    step_turn v x p p Answered byte is refl turn
+    ∙ names_turn p.question unnamed.0 own
+    ∙ ap (named_turn (plain_own own) (value_of own.argument)) unnamed.1
+
+reply_turn : (v : View) (x : Session) (p : PromptInput) (r : Reply) (n : Option ℕ) (byte : ℕ) → x.own.prompt ≡ Some p → p.waiting ≡ NoKey → IsStep p p byte Answered → reply_to p ≡ Some r → IsBoundReply r → n ≡ value_of x.own.keyboard.argument → is_asked p.question ≡ true
+    → own_turn v x.own byte ≡ Do (idle (own_of x.own)) (reply_act p n r)
+reply_turn v x p Asked n byte is none turn to bound argument asked =
+    asked_at v x p byte is none turn (asks_own (names_commands p.question) (find_command p.input) to) asked
+    ∙ ap (λ (k : Option ℕ). Do (idle (own_of x.own)) (reply_act p k Asked)) (sym argument)
+reply_turn v x p (Named c) n byte is none turn to bound argument asked =
+    named_at v x p c byte is none turn to bound
+    ∙ ap (λ (k : Option ℕ). Do (idle (own_of x.own)) (reply_act p k (Named c))) (sym argument)
+
+-- the session that is at its prompt again has what it had
+again_own : (x : Session) (p : PromptInput) → x.own.prompt ≡ Some p → p.waiting ≡ NoKey → asked_again p (idle (own_of x.own)) ≡ refused_own (own_of x.own)
+again_own x p is none =
+    ap (λ (w : Waiting). record (idle (own_of x.own)) { echo = NoMemory; keys = keys_of w; mode = Prompt p.question; input = p.input }) none
+    ∙ sym (ap (λ (r : Option PromptInput). refused_own (own_of (record x.own { prompt = r }))) is)
+
+prompt_back : (x : Session) (p : PromptInput) → x.own.prompt ≡ Some p → prompt_put p (unprompted x) ≡ x
+prompt_back x p is = sym (ap (λ (r : Option PromptInput). record x { own = record x.own { prompt = r } }) is)
+
+answer_step : (d : Directory) (ks : List MarkedBuffer) (x taken new : Session) (p : PromptInput) (byte : ℕ) (step : PromptStep) → x.own.prompt ≡ Some p → p.waiting ≡ NoKey → IsStep p p byte Answered → taken ≡ unprompted x → IsAnswerStep taken new p step → IsPromptStep d ks x new byte step
+answer_step d ks x taken new p byte steps.NoPrompt is none turn took did = absurd did
+answer_step d ks x taken new p byte steps.Kept is none turn took did =
+    kept_as d ks x new (failed NoSuchCommand x).own byte (did.1 ∙ ap (failed NoSuchCommand) took) (λ v sees. unknown_at v x p byte is turn did.0)
+answer_step d ks x taken new p byte steps.Ends is none turn took did = record {
+  same = did.1 ∙ ap (prompt_put p) took ∙ prompt_back x p is;
+  argument = value_of x.own.keyboard.argument;
+  turn = λ v. named_at v x p Exit byte is none turn did.0 refl;
 }
+answer_step d ks x taken new p byte (steps.Answered q r n) is none turn took did =
+    let argument : n ≡ value_of x.own.keyboard.argument = did.4 ∙ ap (λ (s : Session). value_of s.own.keyboard.argument) took in
+    let of_p : IsAnswered x new byte p r n =
+    record {
+      rests = did.5 ∙ ap resting took;
+      here = can_reply p n r did.1 did.2 did.3;
+      turn = λ asked v. reply_turn v x p r n byte is none turn did.1 did.2 argument asked;
+      again = again_own x p is none;
+    } in
+    subst (λ (k : PromptInput). IsAnswered x new byte k r n) (sym did.0) of_p
+
+pub answers : (d : Directory) (ks : List MarkedBuffer) (x taken new : Session) (p q : PromptInput) (byte : ℕ) (step : PromptStep) → x.own.prompt ≡ Some p → (q ≡ p) × (p.waiting ≡ NoKey) → IsStep p q byte Answered → taken ≡ unprompted x → IsAnswerStep taken new q step → IsPromptStep d ks x new byte step
+answers d ks x taken new p q byte step is same turn took did =
+    answer_step d ks x taken new p byte step is same.1 (subst (λ (k : PromptInput). IsStep p k byte Answered) same.0 turn) took (subst (λ (k : PromptInput). IsAnswerStep taken new k step) same.0 did)
 
 -- IN THE WORLD
 

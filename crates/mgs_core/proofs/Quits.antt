@@ -6,12 +6,13 @@ use Rattle.std.specs.Option.{option_map}
 use Rattle.std.proofs.lemmas.List.{map-id}
 use Rattle.mgs_model.specs.Access.{Directory}
 use Rattle.mgs_model.specs.World.{Own, World, Session, has_id, find_session}
-use Rattle.mgs_model.specs.View.{view}
+use Rattle.mgs_model.specs.View.{View, view}
 use Rattle.mgs_model.specs.Outcome.{Run, Outcome, Quit, Keep_kill, Stay}
 use Rattle.mgs_model.specs.Plans.{acted_own}
 use Rattle.mgs_model.specs.Acts.{outcome}
 use Rattle.mgs_model.specs.Apply.{act, applied, apply, change_first, remove_first, session_arranged, session_after, without_session}
 use Rattle.mgs_model.specs.Keys.{key_read}
+use Rattle.mgs_model.specs.Turns.{Do}
 use Rattle.mgs_model.specs.Events.{own_set, with_own, saved_by, settled}
 use Rattle.mgs_model.specs.Apart.{Apart}
 use Rattle.mgs_model.specs.declared.touched.Touched.TheVariants.{Anywhere}
@@ -29,6 +30,7 @@ use Rattle.mgs_session.specs.declared.Session as code
 use Rattle.mgs_world.specs.Worlds.{IsUnique, idle, own_of, session_id, session_of, sizes_in, world_of}
 use Rattle.mgs_world.proofs.Sessions.{session_some}
 use Rattle.mgs_core.specs.Held.{AreSettled}
+use Rattle.mgs_core.specs.Prompted.{own_turn}
 use Rattle.mgs_world.specs.declared.size.Size.{Size}
 use Rattle.mgs_model.specs.declared.errors.Keyed.{Keyed}
 use Rattle.mgs_core.specs.Steps.{KeyedBy, TypedBy, closed, is_exit, sizes_keyed}
@@ -69,21 +71,28 @@ act_exit w own id n x found =
     ∙ ap (apply v id) (exit_outcome w own x n)
     ∙ ends_world w own id
 
+-- a byte that is this command
+pub keyed_end : (d : Directory) (ks : List MarkedBuffer) (xs : List code.Session) (next : Option ℕ) (t : StoreTold) (id at byte : ℕ) (n : Option ℕ) (h : code.Session) → at ≡ position_or_len (session_id id) xs → at < length xs → h ≡ get_or xs at h
+    → ((v : View) → own_turn v h.own byte ≡ Do (idle (own_of h.own)) (Run Exit n []))
+    → IsUnique (sizes_in xs) → AreSettled d ks xs
+    → KeyedBy (world_of d ks xs next) (closed (world_of d ks xs next) id) t t id byte keyed.Quit
+keyed_end d ks xs next t id at byte n h place within is turn unique rests =
+    let w : World = world_of d ks xs next in
+    let found = session_some d ks xs next id at h place within is in
+    let alone : without_session id w.sessions ≡ remove_first (has_id id) w.sessions = without_first id w.sessions (subst IsUnique (sym (sizes_world d ks xs next)) unique) in
+    keyed_quit w (closed w id) t id byte (ap is_some found) (ap (find_session id) (sym alone) ∙ find_without id w.sessions)
+    (sym
+    (ap settled (byte_acted w id byte true (session_of ks h) found (still h.own) (idle (own_of h.own)) (Run Exit n []) (turn (seen_at w (session_of ks h) byte)) refl refl refl ∙ act_exit w (own_of h.own) id n (session_of ks h) found ∙ ap (λ ys. record w { sessions = ys }) alone)
+    ∙ closed_rests w id (rests next)))
+    (ap (flat_map saved_by) (acted_effects w id byte true (session_of ks h) found (still h.own) (idle (own_of h.own)) (Run Exit n []) (turn (seen_at w (session_of ks h) byte)) refl refl refl)
+    ∙ act_saves_none (with_own id (λ old. idle (own_of h.own)) w) id (Run Exit n []) true refl)
+
 pub keyed_exit : (d : Directory) (ks : List MarkedBuffer) (xs : List code.Session) (next : Option ℕ) (t : StoreTold) (id at byte : ℕ) (f : Fed) (k : Held) (h : code.Session) → at ≡ position_or_len (session_id id) xs → at < length xs → h ≡ get_or xs at h
     → h.own.prompt ≡ None → FedBy f (key_read h.own.keyboard.argument h.own.keyboard.keys byte) k → IsBoundRun f → is_exit f ≡ true
     → IsUnique (sizes_in xs) → AreSettled d ks xs
     → KeyedBy (world_of d ks xs next) (closed (world_of d ks xs next) id) t t id byte keyed.Quit
 keyed_exit d ks xs next t id at byte f k h place within is none read bound exit unique rests =
-    let w : World = world_of d ks xs next in
-    let found = session_some d ks xs next id at h place within is in
-    let turn = exit_turn h.own byte k f none read bound exit in
-    let alone : without_session id w.sessions ≡ remove_first (has_id id) w.sessions = without_first id w.sessions (subst IsUnique (sym (sizes_world d ks xs next)) unique) in
-    keyed_quit w (closed w id) t id byte (ap is_some found) (ap (find_session id) (sym alone) ∙ find_without id w.sessions)
-    (sym
-    (ap settled (byte_acted w id byte true (session_of ks h) found (still h.own) (idle (own_of h.own)) (Run Exit turn.0 []) (turn.1 (seen_at w (session_of ks h) byte)) refl refl refl ∙ act_exit w (own_of h.own) id turn.0 (session_of ks h) found ∙ ap (λ ys. record w { sessions = ys }) alone)
-    ∙ closed_rests w id (rests next)))
-    (ap (flat_map saved_by) (acted_effects w id byte true (session_of ks h) found (still h.own) (idle (own_of h.own)) (Run Exit turn.0 []) (turn.1 (seen_at w (session_of ks h) byte)) refl refl refl)
-    ∙ act_saves_none (with_own id (λ old. idle (own_of h.own)) w) id (Run Exit turn.0 []) true refl)
+    let turn = exit_turn h.own byte k f none read bound exit in keyed_end d ks xs next t id at byte turn.0 h place within is turn.1 unique rests
 
 -- nothing is said to stay
 pub apart_closed : (w : World) (id : ℕ) → Apart Anywhere id w (closed w id)

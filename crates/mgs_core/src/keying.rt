@@ -56,7 +56,7 @@ fn asks_store(done: KeyAct) -> bool
 }
 
 /// Does an act of the session at `at`: a save as `save` says, and any other as `act` says.
-fn do_act<T: Marked + Drop, S: Store>(
+pub fn do_act<T: Marked + Drop, S: Store>(
     alloc: Global,
     buffers: &mut Buffers<T>,
     directory: &Directory,

@@ -3,6 +3,7 @@
 
 mod keying;
 mod laws;
+mod replying;
 mod secrecy;
 mod server;
 mod typing;

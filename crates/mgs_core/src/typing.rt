@@ -3,10 +3,9 @@ ghost use Rattle.std.specs.Prelude.{◌≡◌, ◌<◌, ◌≤◌, ℕ, Option, 
 ghost use Rattle.std.specs.List.{position_or_len};
 ghost use Rattle.std.specs.Option.{option_map};
 ghost use Rattle.mgs_model.specs.Apart.{Apart};
-ghost use Rattle.mgs_model.specs.Apply.{act, outcome_in};
+ghost use Rattle.mgs_model.specs.Apply.{outcome_in};
 ghost use Rattle.mgs_model.specs.Events.{may_be_refused, with_own};
-ghost use Rattle.mgs_model.specs.Outcome as outcomes;
-ghost use Rattle.mgs_model.specs.Turns.{answered, completed, names_commands};
+ghost use Rattle.mgs_model.specs.Turns.{completed};
 ghost use Rattle.mgs_model.specs.Completion.{completion};
 ghost use Rattle.mgs_model.specs.declared.errors.Keyed.TheVariants.{Quit};
 ghost use Rattle.mgs_model.specs.declared.message.Message.TheVariants.{NoMemory};
@@ -17,16 +16,16 @@ ghost use Rattle.mgs_store.specs.Stores.{store_told};
 ghost use Rattle.mgs_world.specs.Sound.{IsSound};
 ghost use Rattle.mgs_world.specs.Worlds.{IsUnique, idle, own_at, own_of, session_id, sizes_in, world_of};
 ghost use Rattle.mgs_core.specs.Held.{AreSettled};
-ghost use Rattle.mgs_core.specs.Prompted.{IsPromptStep, asked_again, names_for};
-ghost use Rattle.mgs_core.specs.Steps.{TypedBy};
+ghost use Rattle.mgs_core.specs.Prompted.{CanReply, IsAnswerStep, IsPromptStep, asked_again, names_for, prompt_put, reply_act};
+ghost use Rattle.mgs_core.specs.Steps.{ActedBy, TypedBy};
 
 use crate::keying::type_key;
-use mgs_act::answer;
+use crate::replying::{Reply, do_reply, is_end, reply_to};
 use mgs_buffers::Buffers;
 use mgs_maps::name_completion;
 use mgs_marks::Marked;
 use mgs_mini::{Prompt, Step};
-use mgs_model::{Keyed, Message, Name, Question, SessionId, Short, Touched};
+use mgs_model::{Keyed, Message, Name, SessionId, Short, Touched};
 use mgs_policy::Directory;
 use mgs_session::{Session, fail, hold_prompt, rest, set_echo, take_prompt};
 use mgs_store::Store;
@@ -40,15 +39,11 @@ pub enum PromptStep {
     NoPrompt,
     /// The session alone changed.
     Kept,
-    /// The prompt is over, the input is its answer, and the command that it is for has this argument. The session is at rest.
-    Answered(Prompt, Option<usize>),
-}
-
-/// Whether the answer to a question names a command.
-fn names_commands(question: Question) -> bool
-    ensures { result ≡ names_commands question }
-{
-    question == Question::RunWhich
+    /// The answer ends the session, which is as it was.
+    Ends,
+    /// The prompt is over, the input is its answer, which asks for this, and the command that it is for has this argument. The
+    /// session is at rest.
+    Answered(Prompt, Reply, Option<usize>),
 }
 
 /// What the input of a prompt is completed to, where its answer names a buffer or a command. `None`: no name begins with it.
@@ -64,7 +59,7 @@ fn completion_for<'a, T: Marked + Drop>(
     if prompt.names_buffer() {
         return buffers.completion(directory, user, prompt.input());
     }
-    if names_commands(prompt.question()) {
+    if prompt.names_command() {
         return name_completion(prompt.input());
     }
     None
@@ -97,6 +92,30 @@ fn complete<T: Marked + Drop>(
     hold_completed(session, prompt, completes);
 }
 
+/// A prompt that was taken out is put back.
+fn put_prompt(session: &mut Session, prompt: Prompt)
+    ensures { session.new ≡ prompt_put prompt session.old }
+{
+    session.own.prompt = Some(prompt);
+}
+
+/// What an answer comes to, whose prompt was taken out of the session.
+fn step_answer(session: &mut Session, prompt: Prompt) -> PromptStep
+    ensures { IsAnswerStep session.old session.new prompt result }
+{
+    let Some(reply) = reply_to(&prompt) else {
+        fail(session, Message::NoSuchCommand);
+        return PromptStep::Kept;
+    };
+    if is_end(reply) {
+        put_prompt(session, prompt);
+        return PromptStep::Ends;
+    }
+    let argument = session.own.keyboard.argument();
+    rest(session);
+    PromptStep::Answered(prompt, reply, argument)
+}
+
 /// What a byte comes to at the session's prompt, where it is at one.
 fn step_prompt<T: Marked + Drop>(
     buffers: &Buffers<T>,
@@ -123,11 +142,7 @@ fn step_prompt<T: Marked + Drop>(
             fail(session, Message::Quitting);
             PromptStep::Kept
         }
-        Step::Answered => {
-            let argument = session.own.keyboard.argument();
-            rest(session);
-            PromptStep::Answered(prompt, argument)
-        }
+        Step::Answered => step_answer(session, prompt),
     }
 }
 
@@ -140,37 +155,34 @@ fn ask_again(session: &mut Session, prompt: Prompt)
     set_echo(session, Message::NoMemory);
 }
 
-/// Does what an answer is for. `Short`: memory was refused, nothing of it was done, and the session at `at` is at its prompt
+/// Does what an answer asks for. `Short`: memory was refused, nothing of it was done, and the session at `at` is at its prompt
 /// again and is told so.
-fn answer_prompt<T: Marked + Drop>(
+fn answer_prompt<T: Marked + Drop, S: Store>(
     alloc: Global,
     buffers: &mut Buffers<T>,
     directory: &Directory,
     sessions: &mut [Session],
     at: usize,
+    store: &mut S,
     prompt: Prompt,
+    reply: Reply,
     argument: Option<usize>,
 ) -> Result<Touched, Short>
     requires sound { IsSound buffers.old sessions.old }
     requires within { at < length sessions.old }
     requires fresh { own_at at sessions.old ≡ idle (own_at at sessions.old) }
+    requires here { CanReply prompt argument reply }
     ensures asked { is_asked prompt.question ≡ true }
     ensures sound { IsSound buffers.new sessions.new }
     ensures sizes { sizes_in sessions.new ≡ sizes_in sessions.old }
-    ensures ok { OnOk result ((id : ℕ) (next : Option ℕ) → at ≡ position_or_len (session_id id) sessions.old → world_of directory.now buffers.new sessions.new next ≡ act (world_of directory.now buffers.old sessions.old next) id (outcomes.Run (answered prompt.question) argument prompt.input) true) }
+    ensures ok { OnOk result ((id : ℕ) (next : Option ℕ) → at ≡ position_or_len (session_id id) sessions.old → ActedBy (world_of directory.now buffers.old sessions.old next) (world_of directory.now buffers.new sessions.new next) (store_told S.failed S.accepted store.old) (store_told S.failed S.accepted store.new) id (reply_act prompt argument reply)) }
     ensures touched { IfOk result (λ touched. (id : ℕ) (next : Option ℕ) → at ≡ position_or_len (session_id id) sessions.old → Apart touched id (world_of directory.now buffers.old sessions.old next) (world_of directory.now buffers.new sessions.new next)) }
     ensures err { OnErr result ((id : ℕ) (next : Option ℕ) → at ≡ position_or_len (session_id id) sessions.old → world_of directory.now buffers.new sessions.new next ≡ with_own id (asked_again prompt) (world_of directory.now buffers.old sessions.old next)) }
-    ensures may { OnErr result ((id : ℕ) (next : Option ℕ) → at ≡ position_or_len (session_id id) sessions.old → may_be_refused (outcome_in (world_of directory.now buffers.old sessions.old next) id (outcomes.Run (answered prompt.question) argument prompt.input) true) ≡ true) }
+    ensures accepted { OnErr result (S.accepted store.new ≡ S.accepted store.old) }
+    ensures may { OnErr result ((id : ℕ) (next : Option ℕ) → at ≡ position_or_len (session_id id) sessions.old → may_be_refused (outcome_in (world_of directory.now buffers.old sessions.old next) id (reply_act prompt argument reply) true) ≡ true) }
 {
-    match answer(
-        alloc,
-        buffers,
-        directory,
-        sessions,
-        at,
-        prompt.question(),
-        argument,
-        prompt.input(),
+    match do_reply(
+        alloc, buffers, directory, sessions, at, store, &prompt, reply, argument,
     ) {
         Ok(touched) => Ok(touched),
         Err(Short) => {
@@ -211,8 +223,11 @@ pub fn type_in<T: Marked + Drop, S: Store>(
             settle_apart(buffers, directory, sessions, id, &Touched::Nowhere);
             (Keyed::Done, Touched::Nowhere)
         }
-        PromptStep::Answered(prompt, argument) => {
-            match answer_prompt(alloc, buffers, directory, sessions, at, prompt, argument) {
+        PromptStep::Ends => (Keyed::Quit, Touched::Anywhere),
+        PromptStep::Answered(prompt, reply, argument) => {
+            match answer_prompt(
+                alloc, buffers, directory, sessions, at, store, prompt, reply, argument,
+            ) {
                 Ok(touched) => {
                     settle_apart(buffers, directory, sessions, id, &touched);
                     (Keyed::Done, touched)

@@ -36,7 +36,7 @@ pub struct Binding {
     pub command: Command,
 }
 
-static BINDINGS: [Binding; 62] = [
+static BINDINGS: [Binding; 63] = [
     Binding {
         keys: b"\r",
         name: "newline",
@@ -276,6 +276,11 @@ static BINDINGS: [Binding; 62] = [
         keys: b"\x18k",
         name: "kill-buffer",
         command: Command::Ask(Question::KillWhich),
+    },
+    Binding {
+        keys: b"\x1Bx",
+        name: "",
+        command: Command::Ask(Question::RunWhich),
     },
     Binding {
         keys: b"\x07",

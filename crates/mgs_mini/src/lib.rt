@@ -7,9 +7,10 @@ ghost use Rattle.mgs_model.specs.Keys.{is_graphic};
 ghost use Rattle.mgs_model.specs.World.{Own};
 ghost use Rattle.mgs_model.specs.View.{View};
 ghost use Rattle.mgs_model.specs.declared.session.Question.{Question};
-ghost use Rattle.mgs_model.specs.Turns.{prompt_turn, prompt_keys, prompt_key, completed, names_buffers};
+ghost use Rattle.mgs_model.specs.Turns.{prompt_turn, prompt_keys, prompt_key, completed, names_buffers, names_commands};
 ghost use Rattle.mgs_mini.specs.Typing.{is_asked, keys_of, typed_own, stepped, last_dropped, told};
 ghost use Rattle.mgs_mini.specs.declared.Waiting.TheVariants.{NoKey};
+ghost use Rattle.mgs_mini.specs.declared.Step.TheVariants.{Answered};
 
 mod completing;
 
@@ -86,6 +87,15 @@ fn names_buffers(question: Question) -> bool
     }
 }
 
+fn names_commands(question: Question) -> bool
+    ensures { result ≡ names_commands question }
+{
+    match question {
+        Question::RunWhich => true,
+        _ => false,
+    }
+}
+
 // What waits after a byte that is typed behind what waited.
 fn waiting_after(waiting: Waiting, byte: u8) -> Waiting
     ensures { keys_of result ≡ prompt_keys (keys_of waiting) byte }
@@ -123,7 +133,8 @@ fn put_input(input: &mut ArrayVec<u8, 120>, text: &[u8])
 
 // A key by itself.
 fn feed_key(input: &mut ArrayVec<u8, 120>, byte: u8) -> (Step, Waiting)
-    ensures { (v : View) → (c : Question) → (own : Own) → prompt_key v c (typed_own own input.old.items NoKey) byte ≡ stepped v c (typed_own own input.new.items result.1) result.0 }
+    ensures answered { result.0 ≡ Answered → (input.new.items ≡ input.old.items) × (result.1 ≡ NoKey) }
+    ensures turn { (v : View) → (c : Question) → (own : Own) → prompt_key v c (typed_own own input.old.items NoKey) byte ≡ stepped v c (typed_own own input.new.items result.1) result.0 }
 {
     if byte == b'\r' {
         (Step::Answered, Waiting::NoKey)
@@ -142,7 +153,8 @@ fn feed_key(input: &mut ArrayVec<u8, 120>, byte: u8) -> (Step, Waiting)
 
 // A byte behind keys that may be half read.
 fn feed_byte(input: &mut ArrayVec<u8, 120>, waiting: Waiting, byte: u8) -> (Step, Waiting)
-    ensures { (v : View) → (c : Question) → (own : Own) → prompt_turn v c (typed_own own input.old.items waiting) byte ≡ stepped v c (typed_own own input.new.items result.1) result.0 }
+    ensures answered { result.0 ≡ Answered → (input.new.items ≡ input.old.items) × (result.1 ≡ waiting) × (waiting ≡ NoKey) }
+    ensures turn { (v : View) → (c : Question) → (own : Own) → prompt_turn v c (typed_own own input.old.items waiting) byte ≡ stepped v c (typed_own own input.new.items result.1) result.0 }
 {
     if byte == QUIT {
         return (Step::Quit, Waiting::NoKey);
@@ -183,10 +195,18 @@ impl Prompt {
         names_buffers(self.question)
     }
 
+    /// Whether the answer names a command: a TAB then completes it.
+    pub fn names_command(&self) -> bool
+        ensures { result ≡ names_commands self.now.question }
+    {
+        names_commands(self.question)
+    }
+
     /// What a byte comes to. The input and the keys that are half read are then as the byte left them; an answer, a prompt
     /// that is given up and an input to complete leave the input as it was.
     pub fn feed(&mut self, byte: u8) -> Step
         ensures question { self.new.question ≡ self.old.question }
+        ensures answered { result ≡ Answered → (self.new ≡ self.old) × (self.old.waiting ≡ NoKey) }
         ensures turn { (v : View) → (own : Own) → prompt_turn v self.old.question (typed_own own self.old.input self.old.waiting) byte ≡ stepped v self.old.question (typed_own own self.new.input self.new.waiting) result }
     {
         let (step, waiting) = feed_byte(&mut self.input, self.waiting, byte);

@@ -11,7 +11,7 @@ use Rattle.mgs_model.specs.declared.session.Alteration.TheVariants.{DeleteChar, 
 use Rattle.mgs_model.specs.declared.session.Scrolling.TheVariants.{ScrollUp, ScrollDown}
 use Rattle.mgs_model.specs.declared.session.Setting.TheVariants.{SetFillColumn, KeyboardQuit}
 use Rattle.mgs_model.specs.declared.session.Arrangement.TheVariants.{DeleteWindow, DeleteOtherWindows, SplitWindow, NextWindow, PreviousWindow, EnlargeWindow}
-use Rattle.mgs_model.specs.declared.session.Question.TheVariants.{SwitchTo, FindWhich, KillWhich}
+use Rattle.mgs_model.specs.declared.session.Question.TheVariants.{SwitchTo, FindWhich, KillWhich, RunWhich}
 use Rattle.mgs_model.specs.declared.session.Command.{Command}
 use Rattle.mgs_model.specs.declared.session.Command.TheVariants.{Insert, InsertReading, Move, Alter, Scroll, Set, Rearrange, Ask, UndoEdit, NotModified, SaveBuffer, Exit}
 
@@ -84,6 +84,7 @@ key_rows =
     ∷ control_x 98 (codes "switch-to-buffer") (Ask SwitchTo)
     ∷ control_x 6 (codes "find-file") (Ask FindWhich)
     ∷ control_x 107 (codes "kill-buffer") (Ask KillWhich)
+    ∷ meta 120 [] (Ask RunWhich)
     ∷ key 7 (codes "keyboard-quit") (Set KeyboardQuit)
     ∷ control_x 48 (codes "delete-window") (Rearrange DeleteWindow)
     ∷ control_x 49 (codes "delete-other-windows") (Rearrange DeleteOtherWindows)

@@ -6,6 +6,8 @@ mod arguments;
 #[cfg(test)]
 mod cases;
 #[cfg(test)]
+mod extended;
+#[cfg(test)]
 mod fills;
 #[cfg(test)]
 mod flags;

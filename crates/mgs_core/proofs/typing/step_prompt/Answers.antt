@@ -19,5 +19,5 @@ returns-in-Quit g c =
 
 pub returns-in-Answered : goal.returns-in-Answered
 returns-in-Answered g c =
-    answers c.args.session.now c.take_prompt.new.session c.rest.new.session c.in-Some.prompt c.feed.new.self c.argument-argument.result c.args.byte
-    (sym c.take_prompt.ensures.prompt ∙ c.in-Some.is) c.feed.ensures.question c.in-Answered.ensures.turn c.take_prompt.ensures.rest c.argument-argument.ensures c.rest.ensures
+    answers c.args.directory.now c.args.buffers.now c.args.session.now c.take_prompt.new.session c.step_answer.new.session c.in-Some.prompt c.feed.new.self c.args.byte c.step_answer.result
+    (sym c.take_prompt.ensures.prompt ∙ c.in-Some.is) (c.feed.ensures.answered c.in-Answered.is) c.in-Answered.ensures.turn c.take_prompt.ensures.rest c.step_answer.ensures

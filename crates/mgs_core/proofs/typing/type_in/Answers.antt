@@ -1,16 +1,16 @@
 use Rattle.std.proofs.Common.{◌∙◌, List, get_or, refl, ap, subst}
 use Rattle.std.specs.Prelude.{slice_set}
 use Rattle.mgs_model.specs.Apart.{Apart}
-use Rattle.mgs_model.specs.Outcome as outcomes
-use Rattle.mgs_model.specs.Turns.{answered}
 use Rattle.mgs_model.specs.Events.{refused_own}
 use Rattle.mgs_maps.specs.Held.{nothing_held}
 use Rattle.mgs_session.specs.declared.Session.{Session}
 use Rattle.mgs_world.specs.Sound.{session_uses}
 use Rattle.mgs_world.specs.Worlds.{idle, own_of, session_of, size_in, world_of}
 use Rattle.mgs_world.proofs.Soundness.{sound_set, sizes_set}
+use Rattle.mgs_core.specs.Prompted.{reply_act}
 use Rattle.mgs_core.proofs.Apart.{kept_apart, acted_apart}
-use Rattle.mgs_core.proofs.Prompted.{again_told, answered_quietly, answered_single, kept_turn, kept_world, set_same, typed_same}
+use Rattle.mgs_core.proofs.Quits.{keyed_end}
+use Rattle.mgs_core.proofs.Prompted.{again_told, kept_turn, kept_world, reply_single, set_same, typed_same}
 use Rattle.mgs_core.proofs.Steps.{acts_world, fresh_at, keyed_at, keyed_kept, keyed_short_at, place_held, plain_mode, seen_at}
 use Rattle.mgs_core.proofs.typing.type_in.Goals as goal
 
@@ -67,6 +67,13 @@ returns-in-Kept-clause-touched g c next =
     (kept_world d ks xs next c.args.id c.args.at h y c.requires.place c.requires.within (ap (get_or xs c.args.at) c.index-sessions-at.is) c.in-Kept.ensures.own)
     (c.settle_apart.ensures.world next)).1
 
+pub returns-in-Ends-clause-keyed : goal.returns-in-Ends-clause-keyed
+returns-in-Ends-clause-keyed g c next =
+    let xs = c.args.sessions.now in
+    let h = get_or xs c.args.at c.index-sessions-at.result in
+    keyed_end c.args.directory.now c.args.buffers.now xs next _ c.args.id c.args.at c.args.byte c.in-Ends.ensures.argument h c.requires.place c.requires.within (ap (get_or xs c.args.at) c.index-sessions-at.is)
+    c.in-Ends.ensures.turn c.requires.unique c.requires.settles
+
 pub answer_prompt-requires-clause-sound : goal.answer_prompt-requires-clause-sound
 answer_prompt-requires-clause-sound g c =
     let xs = c.args.sessions.now in
@@ -102,13 +109,14 @@ returns-in-Ok-clause-keyed g c next =
     let y = c.step_prompt.new.session in
     let zs = slice_set xs c.args.at y in
     let q = c.in-Answered.prompt in
+    let r = c.in-Answered.reply in
     let n = c.in-Answered.argument in
     let asked = c.answer_prompt.ensures.asked in
     let began = acts_world d ks xs next c.args.id c.args.at nothing_held h y c.requires.place c.requires.within is_h c.in-Answered.ensures.rests refl in
     let place = place_held xs c.args.id c.args.at nothing_held h y c.requires.place is_h c.in-Answered.ensures.rests in
-    keyed_at d ks c.answer_prompt.new.buffers c.settle_apart-in-Ok.new.buffers xs zs c.answer_prompt.new.sessions next _ _ c.args.id c.args.at c.args.byte h (idle (own_of h.own)) (outcomes.Run (answered q.question) n q.input)
-    c.requires.place c.requires.within is_h (c.in-Answered.ensures.turn asked (seen_at (world_of d ks xs next) (session_of ks h) c.args.byte)) refl refl (answered_single q.question n q.input) began (returns-in-Ok-clause-sizes g c)
-    (answered_quietly (world_of d ks zs next) (world_of d c.answer_prompt.new.buffers c.answer_prompt.new.sessions next) _ c.args.id q.question n q.input (c.in-Ok.ensures.ok c.args.id next place))
+    keyed_at d ks c.answer_prompt.new.buffers c.settle_apart-in-Ok.new.buffers xs zs c.answer_prompt.new.sessions next _ _ c.args.id c.args.at c.args.byte h (idle (own_of h.own)) (reply_act q n r)
+    c.requires.place c.requires.within is_h (c.in-Answered.ensures.turn asked (seen_at (world_of d ks xs next) (session_of ks h) c.args.byte)) refl refl (reply_single q n r c.in-Answered.ensures.here) began (returns-in-Ok-clause-sizes g c)
+    (c.in-Ok.ensures.ok c.args.id next place)
     (acted_apart d ks c.answer_prompt.new.buffers c.settle_apart-in-Ok.new.buffers xs zs c.answer_prompt.new.sessions next c.args.id (idle (own_of h.own)) c.in-Ok.touched
     c.requires.settles began (c.in-Ok.ensures.touched c.args.id next place) (c.settle_apart-in-Ok.ensures.world next)).0
 
@@ -137,17 +145,18 @@ returns-in-Err-clause-keyed g c next =
     let ys = c.answer_prompt.new.sessions in
     let K = c.answer_prompt.new.buffers in
     let q = c.in-Answered.prompt in
+    let r = c.in-Answered.reply in
     let n = c.in-Answered.argument in
     let asked = c.answer_prompt.ensures.asked in
     let w = world_of d ks xs next in
     let seen = seen_at w (session_of ks h) c.args.byte in
     let began = acts_world d ks xs next c.args.id c.args.at nothing_held h y c.requires.place c.requires.within is_h c.in-Answered.ensures.rests refl in
     let place = place_held xs c.args.id c.args.at nothing_held h y c.requires.place is_h c.in-Answered.ensures.rests in
-    let told = again_told w (world_of d ks zs next) (world_of d K ys next) c.args.id q h.own began (c.in-Err.ensures.err c.args.id next place) (c.in-Answered.ensures.again asked seen) in
-    keyed_short_at d ks K c.settle_apart-in-Err.new.buffers xs zs ys next _ _ c.args.id c.args.at c.args.byte h (idle (own_of h.own)) (outcomes.Run (answered q.question) n q.input)
+    let told = again_told w (world_of d ks zs next) (world_of d K ys next) c.args.id q h.own began (c.in-Err.ensures.err c.args.id next place) c.in-Answered.ensures.again in
+    keyed_short_at d ks K c.settle_apart-in-Err.new.buffers xs zs ys next _ _ c.args.id c.args.at c.args.byte h (idle (own_of h.own)) (reply_act q n r)
     c.requires.place c.requires.within is_h (c.in-Answered.ensures.turn asked seen) refl began (returns-in-Err-clause-sizes g c) (c.in-Err.ensures.may c.args.id next place) told
     (kept_apart d ks K c.settle_apart-in-Err.new.buffers xs ys next c.args.id (refused_own (own_of h.own)) c.requires.settles told (c.settle_apart-in-Err.ensures.world next)).0
-    refl
+    c.in-Err.ensures.accepted
 
 pub returns-in-Err-clause-touched : goal.returns-in-Err-clause-touched
 returns-in-Err-clause-touched g c next =
@@ -163,5 +172,5 @@ returns-in-Err-clause-touched g c next =
     let w = world_of d ks xs next in
     let began = acts_world d ks xs next c.args.id c.args.at nothing_held h y c.requires.place c.requires.within is_h c.in-Answered.ensures.rests refl in
     let place = place_held xs c.args.id c.args.at nothing_held h y c.requires.place is_h c.in-Answered.ensures.rests in
-    let told = again_told w (world_of d ks zs next) (world_of d K ys next) c.args.id c.in-Answered.prompt h.own began (c.in-Err.ensures.err c.args.id next place) (c.in-Answered.ensures.again c.answer_prompt.ensures.asked (seen_at w (session_of ks h) c.args.byte)) in
+    let told = again_told w (world_of d ks zs next) (world_of d K ys next) c.args.id c.in-Answered.prompt h.own began (c.in-Err.ensures.err c.args.id next place) c.in-Answered.ensures.again in
     (kept_apart d ks K c.settle_apart-in-Err.new.buffers xs ys next c.args.id (refused_own (own_of h.own)) c.requires.settles told (c.settle_apart-in-Err.ensures.world next)).1
