@@ -3,3 +3,4 @@ pub mod NameLemmas
 pub mod Masks
 pub mod RoundTrip
 pub mod Printable
+pub mod Texts

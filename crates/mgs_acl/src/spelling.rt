@@ -1,5 +1,5 @@
 // How a written entry is read.
-ghost use Rattle.std.specs.Prelude.{◌≡◌, ◌<◌};
+ghost use Rattle.std.specs.Prelude.{◌≡◌, ◌<◌, length, position, IfSome};
 ghost use Rattle.std.specs.Option.{option_map};
 ghost use Rattle.std.specs.List.{before_first, after_first};
 ghost use Rattle.mgs_model.specs.Names.{is_space};
@@ -7,21 +7,30 @@ ghost use Rattle.mgs_model.specs.Rights.{letter_of};
 ghost use Rattle.mgs_model.specs.Spelling.{words, words_cut, type_named, user_named, after_group, named_who, who_named, right_lettered, mask_lettered, entry_in};
 
 use mgs_model::{Entry, EntryFault, EntryType, Mask, Name, Right, Who};
+use std::str;
+
+/// The place of the first space.
+fn space_in(text: &[u8]) -> Option<usize>
+    ensures at { result ≡ position is_space text.now }
+    ensures within { IfSome result (λ i. i < length text.now) }
+{
+    text.iter().position(|byte| *byte == b' ')
+}
 
 /// The text up to its first space, and the text after it.
-fn cut(text: &str) -> (&str, &str)
+fn cut(text: &[u8]) -> (&[u8], &[u8])
     ensures piece { result.0.now ≡ before_first is_space text.now }
     ensures rest { result.1.now ≡ after_first is_space text.now }
 {
-    match text.split_once(' ') {
-        Some((piece, rest)) => (piece, rest),
-        None => (text, ""),
+    match space_in(text) {
+        None => (text, &[]),
+        Some(at) => (&text[..at], &text[at + 1..]),
     }
 }
 
 /// The first word, and the text after the space that ends it.
 #[tactic(auto, using(crate::proofs::WordLemmas::words_filled))]
-fn next_word(mut text: &str) -> Option<(&str, &str)>
+fn next_word(mut text: &[u8]) -> Option<(&[u8], &[u8])>
     ensures { words_cut (option_map (λ p. (p.0.now, p.1.now)) result) ≡ words text.entry.now }
 {
     while !text.is_empty() {
@@ -34,12 +43,12 @@ fn next_word(mut text: &str) -> Option<(&str, &str)>
     None
 }
 
-fn type_named(word: &str) -> Option<EntryType>
+fn type_named(word: &[u8]) -> Option<EntryType>
     ensures { result ≡ type_named word.now }
 {
-    if word == "ALLOW" {
+    if word == b"ALLOW".as_slice() {
         Some(EntryType::Allow)
-    } else if word == "DENY" {
+    } else if word == b"DENY".as_slice() {
         Some(EntryType::Deny)
     } else {
         None
@@ -57,34 +66,45 @@ pub fn user_named(word: &str) -> Option<Name>
     }
 }
 
-/// The rest of a word that begins with `group:`.
-fn after_group(word: &str) -> Option<&str>
-    ensures { option_map (λ name. name.now) result ≡ after_group word.now }
+/// The same, of bytes: no name has other characters than ASCII.
+#[tactic(auto, using(crate::proofs::NameLemmas::user_named_no_text))]
+fn user_spelled(word: &[u8]) -> Option<Name>
+    ensures { result ≡ user_named word.now }
 {
-    word.strip_prefix("group:")
+    match str::from_utf8(word) {
+        Ok(text) => user_named(text),
+        Err(_) => None,
+    }
 }
 
-fn named_who(word: &str) -> Option<Who>
+/// The rest of a word that begins with `group:`.
+fn after_group(word: &[u8]) -> Option<&[u8]>
+    ensures { option_map (λ name. name.now) result ≡ after_group word.now }
+{
+    word.strip_prefix(b"group:")
+}
+
+fn named_who(word: &[u8]) -> Option<Who>
     ensures { result ≡ named_who word.now (after_group word.now) }
 {
     match after_group(word) {
-        Some(name) => match user_named(name) {
+        Some(name) => match user_spelled(name) {
             Some(name) => Some(Who::Group(name)),
             None => None,
         },
-        None => match user_named(word) {
+        None => match user_spelled(word) {
             Some(name) => Some(Who::User(name)),
             None => None,
         },
     }
 }
 
-fn who_named(word: &str) -> Option<Who>
+fn who_named(word: &[u8]) -> Option<Who>
     ensures { result ≡ who_named word.now }
 {
-    if word == "OWNER@" {
+    if word == b"OWNER@".as_slice() {
         Some(Who::Owner)
-    } else if word == "EVERYONE@" {
+    } else if word == b"EVERYONE@".as_slice() {
         Some(Who::Everyone)
     } else {
         named_who(word)
@@ -117,14 +137,14 @@ fn right_lettered(letter: u8) -> Option<Right>
         .find(|right| letter_of(*right) == letter)
 }
 
-fn mask_lettered(word: &str) -> Option<Mask>
+fn mask_lettered(word: &[u8]) -> Option<Mask>
     ensures { result ≡ mask_lettered word.now }
 {
     if word.is_empty() {
         return None;
     }
     let mut mask = Mask::none();
-    for letter in word.as_bytes() {
+    for letter in word {
         mask = mask.union(Mask::of(right_lettered(*letter)?));
     }
     Some(mask)
@@ -138,6 +158,13 @@ fn mask_lettered(word: &str) -> Option<Mask>
 /// The words are checked from left to right. `Kind`, `Who` or `Letters`: the first, second or third word is missing or is none of these.
 /// `Trailing`: there is a fourth word.
 pub fn read_entry(text: &str) -> Result<Entry, EntryFault>
+    ensures { result ≡ entry_in text.now }
+{
+    entry_typed(text.as_bytes())
+}
+
+/// Reads an entry that is typed, as `read_entry` does. Bytes that are no text are in no entry.
+pub fn entry_typed(text: &[u8]) -> Result<Entry, EntryFault>
     ensures { result ≡ entry_in text.now }
 {
     let Some((word, rest)) = next_word(text) else {

@@ -45,7 +45,7 @@ use Rattle.mgs_world.proofs.Owns.{at_rest, no_search, own_asking}
 use Rattle.mgs_world.proofs.Soundness.{mark_is_kept}
 use Rattle.mgs_world.proofs.Worlds.{same_world}
 use Rattle.mgs_act.proofs.Deeds.{acting_marks, failed_so, fresh_own}
-use Rattle.mgs_act.proofs.Outcomes.{outcome_none, outcome_plan}
+use Rattle.mgs_act.proofs.Outcomes.{outcome_plan}
 
 session_known : (directory : Directory) (ks : List MarkedBuffer) (xs : List Session) (next : Option ℕ) (id at : ℕ) (h : Session) → at ≡ position_or_len (session_id id) xs → at < length xs → slice_get xs at ≡ Some h → find_session id (world_of directory ks xs next).sessions ≡ Some (session_of ks h)
 session_known directory ks xs next id at h place within is =
@@ -89,7 +89,7 @@ may_planned directory ks xs next id at h x c n action here sound place within is
 
 -- FAILED BEFORE ANYTHING IS PLANNED
 
-act_failed : (directory : Directory) (ks : List MarkedBuffer) (xs : List Session) (next : Option ℕ) (id at : ℕ) (h : Session) (c : outcomes.Act) (message : Message) → at ≡ position_or_len (session_id id) xs → at < length xs → slice_get xs at ≡ Some h → own_at at xs ≡ idle (own_at at xs) → outcome (view (world_of directory ks xs next) (session_of ks h)) c true ≡ fails (own_of h.own) message → world_of directory ks (slice_set xs at (failed message h)) next ≡ act (world_of directory ks xs next) id c true
+pub act_failed : (directory : Directory) (ks : List MarkedBuffer) (xs : List Session) (next : Option ℕ) (id at : ℕ) (h : Session) (c : outcomes.Act) (message : Message) → at ≡ position_or_len (session_id id) xs → at < length xs → slice_get xs at ≡ Some h → own_at at xs ≡ idle (own_at at xs) → outcome (view (world_of directory ks xs next) (session_of ks h)) c true ≡ fails (own_of h.own) message → world_of directory ks (slice_set xs at (failed message h)) next ≡ act (world_of directory ks xs next) id c true
 act_failed directory ks xs next id at h c message place within is fresh known =
     let w = world_of directory ks xs next in
     failed_so directory ks xs next id at h message place within is (fresh_own xs at h is fresh)
@@ -100,10 +100,6 @@ pub act_unbound : (directory : Directory) (ks : List MarkedBuffer) (xs : List Se
 unfolding outcome
 act_unbound directory ks xs next id at h place within is fresh =
     act_failed directory ks xs next id at h (act_of Unbound) KeyNotBound place within is fresh refl
-
-pub act_nowhere : (directory : Directory) (ks : List MarkedBuffer) (xs : List Session) (next : Option ℕ) (id at : ℕ) (h : Session) (c : Command) (n : Option ℕ) → is_on_text c ≡ true → at ≡ position_or_len (session_id id) xs → at < length xs → slice_get xs at ≡ Some h → own_at at xs ≡ idle (own_at at xs) → window_marks_of h ≡ None → world_of directory ks (slice_set xs at (failed NoBuffer h)) next ≡ act (world_of directory ks xs next) id (act_of (Run c n)) true
-act_nowhere directory ks xs next id at h c n here place within is fresh none =
-    act_failed directory ks xs next id at h (act_of (Run c n)) NoBuffer place within is fresh (outcome_none directory ks xs next h c n here none)
 
 -- A SETTING
 

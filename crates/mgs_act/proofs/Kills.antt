@@ -1,6 +1,6 @@
 -- What the killing of a buffer comes to, and that what is done is the act.
 use Rattle.std.proofs.Common.{◌≡◌, ℕ, ◌<◌, ◌==◌, Bool, true, cond, List, [], ◌∷◌, length, map, Option, Some, None, refl, sym, ap, ◌∙◌}
-use Rattle.std.specs.Prelude.{find, slice_get, slice_set, IfSome}
+use Rattle.std.specs.Prelude.{find, slice_get, slice_set}
 use Rattle.std.specs.List.{position_or_len}
 use Rattle.std.specs.Option.{option_and_then, option_map}
 use Rattle.std.proofs.lemmas.Option.{get_or_from_slice_get, slice_get-map}
@@ -24,40 +24,35 @@ use Rattle.mgs_model.proofs.Firsts.{find-map, position_or_len-map, written_first
 use Rattle.mgs_buffers.specs.MarkedBuffer.{HasBuffer, MarkedBuffer, marked_named}
 use Rattle.mgs_windows.specs.declared.WindowMarks.{WindowMarks}
 use Rattle.mgs_windows.specs.declared.Window.{Window}
-use Rattle.mgs_session.specs.Sessions.{acted, failed, window_marks_of}
+use Rattle.mgs_windows.specs.declared.RowPane.{RowPane}
+use Rattle.mgs_windows.specs.declared.RowPane.TheVariants.{NoRows, Buffers, Entries}
+use Rattle.mgs_session.specs.Sessions.{acted, failed, subject_in, subject_of}
 use Rattle.mgs_session.specs.declared.Own as held
 use Rattle.mgs_session.specs.declared.Session.{Session}
 use Rattle.mgs_act.specs.Killing.{kill_decision, kill_granted, kill_named, kill_outcome, killing, name_in, name_meant}
 use Rattle.mgs_world.specs.Killing.{world_without}
 use Rattle.mgs_world.specs.Sound.{IsSound}
-use Rattle.mgs_world.specs.Worlds.{buffers_of, id_after, idle, own_at, own_of, session_id, session_of, window_of, world_of}
+use Rattle.mgs_world.specs.Worlds.{buffers_of, id_after, idle, own_at, own_of, session_id, session_of, window_of, window_shown, world_of}
 use Rattle.mgs_world.proofs.Owns.{at_rest, no_search}
 use Rattle.mgs_world.proofs.Worlds.{same_world}
 use Rattle.mgs_act.proofs.Commands.{outcome_known}
 use Rattle.mgs_act.proofs.Deeds.{failed_so, fresh_own}
 use Rattle.mgs_act.proofs.Outcomes.{only_one}
-use Rattle.mgs_act.proofs.Saves.{kept_here}
-
--- the buffer that is shown is kept
-pub kept_shown : (ks : List MarkedBuffer) (xs : List Session) (at : ℕ) (h : Session) → IsSound ks xs → slice_get xs at ≡ Some h → IfSome (window_marks_of h) (λ x. HasBuffer x.name ks)
-kept_shown ks xs at h sound is = go (window_marks_of h) refl
-  where
-    go : (o : Option WindowMarks) → window_marks_of h ≡ o → IfSome o (λ x. HasBuffer x.name ks)
-    go None sel = tt
-    go (Some x) sel = kept_here ks xs at h x sound is sel
 
 -- WHAT IT COMES TO
 
 -- the name of what the selected window shows
-name_seen : (can : List ℕ → Bool) (ks : List MarkedBuffer) (o : Option Window) → elim (option_map (window_seen can) (option_map (window_of ks) o)) [ None ↦ [] | Some x ↦ name_shown x.shows ] ≡ name_in (option_and_then (λ (w : Window). w.shows) o)
+name_seen : (can : List ℕ → Bool) (ks : List MarkedBuffer) (o : Option Window) → elim (option_map (window_seen can) (option_map (window_of ks) o)) [ None ↦ [] | Some x ↦ name_shown x.shows ] ≡ name_in (option_and_then (λ (w : Window). subject_in w.shows w.rows) o)
 name_seen can ks None = refl
-name_seen can ks (Some w) = go w.shows refl
+name_seen can ks (Some w) = by w.height w.shows w.rows
   where
-    go : (o : Option WindowMarks) → w.shows ≡ o → name_shown (window_of ks w).shows ≡ name_in w.shows
-    go None e = rw e refl
-    go (Some x) e = rw e refl
+    by : (height : ℕ) (o : Option WindowMarks) (rows : RowPane) → name_shown (window_shown ks height o rows).shows ≡ name_in (subject_in o rows)
+    by height None NoRows = refl
+    by height None (Buffers row) = refl
+    by height None (Entries name row) = refl
+    by height (Some x) rows = refl
 
-meant_seen : (directory : Directory) (ks : List MarkedBuffer) (xs : List Session) (next : Option ℕ) (h : Session) (typed : List ℕ) → acts.name_meant (view (world_of directory ks xs next) (session_of ks h)) typed ≡ name_meant (window_marks_of h) typed
+meant_seen : (directory : Directory) (ks : List MarkedBuffer) (xs : List Session) (next : Option ℕ) (h : Session) (typed : List ℕ) → acts.name_meant (view (world_of directory ks xs next) (session_of ks h)) typed ≡ name_meant (subject_of h) typed
 meant_seen directory ks xs next h typed =
     let can = reads directory (buffers_of ks) h.user in
     let ws = h.windows.windows in
@@ -99,16 +94,16 @@ named_seen directory ks user name v found = go (find (marked_named name) ks) fou
         ∙ ap (λ d. permitted own d (killed v name (Some b))) (only_one (decision_by b.deciders (rights_in 65536)))
         ∙ ap (permitted own (kill_decision directory user (Some k))) (granted_some v name b k)
 
-kill_known : (directory : Directory) (ks : List MarkedBuffer) (xs : List Session) (next : Option ℕ) (h : Session) (n : Option ℕ) (typed : List ℕ) → outcome (view (world_of directory ks xs next) (session_of ks h)) (Run (Named KillBuffer) n typed) true ≡ kill_outcome directory ks (own_of h.own) h.user (window_marks_of h) typed
+kill_known : (directory : Directory) (ks : List MarkedBuffer) (xs : List Session) (next : Option ℕ) (h : Session) (n : Option ℕ) (typed : List ℕ) → outcome (view (world_of directory ks xs next) (session_of ks h)) (Run (Named KillBuffer) n typed) true ≡ kill_outcome directory ks (own_of h.own) h.user (subject_of h) typed
 unfolding outcome
 kill_known directory ks xs next h n typed =
     let v = view (world_of directory ks xs next) (session_of ks h) in
-    let name = name_meant (window_marks_of h) typed in
+    let name = name_meant (subject_of h) typed in
     ap (λ (m : List ℕ). permitted v.session.own (judged v (there v m 65536)) (killed v m (find_seen m v.buffers))) (meant_seen directory ks xs next h typed)
     ∙ named_seen directory ks h.user name v (found_seen directory h.user name ks)
 
 -- what leaves what it comes to is the act
-kill_acted : (directory : Directory) (ks : List MarkedBuffer) (xs : List Session) (next : Option ℕ) (new : World) (id at : ℕ) (h : Session) (n : Option ℕ) (typed : List ℕ) (o : Outcome) → at ≡ position_or_len (session_id id) xs → at < length xs → slice_get xs at ≡ Some h → o ≡ kill_outcome directory ks (own_of h.own) h.user (window_marks_of h) typed → new ≡ apply (world_of directory ks xs next) id o → new ≡ act (world_of directory ks xs next) id (Run (Named KillBuffer) n typed) true
+kill_acted : (directory : Directory) (ks : List MarkedBuffer) (xs : List Session) (next : Option ℕ) (new : World) (id at : ℕ) (h : Session) (n : Option ℕ) (typed : List ℕ) (o : Outcome) → at ≡ position_or_len (session_id id) xs → at < length xs → slice_get xs at ≡ Some h → o ≡ kill_outcome directory ks (own_of h.own) h.user (subject_of h) typed → new ≡ apply (world_of directory ks xs next) id o → new ≡ act (world_of directory ks xs next) id (Run (Named KillBuffer) n typed) true
 kill_acted directory ks xs next new id at h n typed o place within is known done =
     let w = world_of directory ks xs next in
     done
@@ -117,7 +112,7 @@ kill_acted directory ks xs next new id at h n typed o place within is known done
 
 -- WHERE NOTHING IS KILLED
 
-pub unkilled : (directory : Directory) (ks : List MarkedBuffer) (xs : List Session) (next : Option ℕ) (id at : ℕ) (h : Session) (n : Option ℕ) (typed : List ℕ) (message : Message) → at ≡ position_or_len (session_id id) xs → at < length xs → slice_get xs at ≡ Some h → own_at at xs ≡ idle (own_at at xs) → fails (own_of h.own) message ≡ kill_outcome directory ks (own_of h.own) h.user (window_marks_of h) typed
+pub unkilled : (directory : Directory) (ks : List MarkedBuffer) (xs : List Session) (next : Option ℕ) (id at : ℕ) (h : Session) (n : Option ℕ) (typed : List ℕ) (message : Message) → at ≡ position_or_len (session_id id) xs → at < length xs → slice_get xs at ≡ Some h → own_at at xs ≡ idle (own_at at xs) → fails (own_of h.own) message ≡ kill_outcome directory ks (own_of h.own) h.user (subject_of h) typed
     → world_of directory ks (slice_set xs at (failed message h)) next ≡ act (world_of directory ks xs next) id (Run (Named KillBuffer) n typed) true
 unkilled directory ks xs next id at h n typed message place within is fresh known =
     kill_acted directory ks xs next _ id at h n typed (fails (own_of h.own) message) place within is known
@@ -143,7 +138,7 @@ killed_so directory ks xs next id at h name place within is fresh =
     (λ i. record (left h) { own = fresh_killing h.own fresh i; search = no_search h.own.prompt i })
     ∙ ap (change_first (has_id id) f) (sym (composed (session_bereft name) (session_of ks) xs)))
 
-pub buffer_killed : (directory : Directory) (ks : List MarkedBuffer) (xs : List Session) (next : Option ℕ) (new : World) (id at : ℕ) (h : Session) (n : Option ℕ) (typed name : List ℕ) → at ≡ position_or_len (session_id id) xs → at < length xs → slice_get xs at ≡ Some h → own_at at xs ≡ idle (own_at at xs) → killing (own_of h.own) name ≡ kill_outcome directory ks (own_of h.own) h.user (window_marks_of h) typed
+pub buffer_killed : (directory : Directory) (ks : List MarkedBuffer) (xs : List Session) (next : Option ℕ) (new : World) (id at : ℕ) (h : Session) (n : Option ℕ) (typed name : List ℕ) → at ≡ position_or_len (session_id id) xs → at < length xs → slice_get xs at ≡ Some h → own_at at xs ≡ idle (own_at at xs) → killing (own_of h.own) name ≡ kill_outcome directory ks (own_of h.own) h.user (subject_of h) typed
     → new ≡ world_without name (world_of directory ks (slice_set xs at (acted Other h)) next) → new ≡ act (world_of directory ks xs next) id (Run (Named KillBuffer) n typed) true
 buffer_killed directory ks xs next new id at h n typed name place within is fresh known done =
     kill_acted directory ks xs next new id at h n typed (killing (own_of h.own) name) place within is known

@@ -1,4 +1,5 @@
 pub mod Commands
+mod Copies
 pub mod Created
 pub mod Deeds
 pub mod Leaving
@@ -7,6 +8,11 @@ pub mod Outcomes
 pub mod Plans
 pub mod Saves
 pub mod Settings
-pub mod Spelled
 pub mod Kills
 pub mod Switches
+mod Insertions
+mod Lines
+mod Rulings
+mod Subjects
+mod Listings
+pub mod Scrolls

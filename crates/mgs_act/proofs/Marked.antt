@@ -125,7 +125,7 @@ marked_sessions ks ls xs id at mid p h x c behind text f sound kept r place with
 -- THE WORLD
 
 -- the mark is in use when all else is done
-mark_there : (x : WindowMarks) (mid : ℕ) (c : plans.Change) (f : plans.Finish) (ls : List MarkedBuffer) → IsMark x.name mid ls → AreMarks ls x → IsMark x.name mid (marks_gone x f (edited_by x.name c ls))
+pub mark_there : (x : WindowMarks) (mid : ℕ) (c : plans.Change) (f : plans.Finish) (ls : List MarkedBuffer) → IsMark x.name mid ls → AreMarks ls x → IsMark x.name mid (marks_gone x f (edited_by x.name c ls))
 mark_there x mid c f ls mark marks =
     let ls1 = edited_by x.name c ls in
     let point = mark_edited_by x.name c ls x.point marks.point in
@@ -142,7 +142,7 @@ mark_after_action x mid text items kill (Moves f) ls mark marks = mark_there x m
 mark_after_action x mid text items kill Clears ls mark marks = ap (λ (ms : List (Option ℕ)). is_some (mark_in ms mid)) (marks_unmodified x.name x.name ls) ∙ mark
 
 -- where the mark is to be, there is a text
-text_left : (x : WindowMarks) (f : plans.Finish) (ls : List MarkedBuffer) → (marked_at x.name (marks_gone x f ls)).buffer.text ≡ (marked_at x.name ls).buffer.text
+pub text_left : (x : WindowMarks) (f : plans.Finish) (ls : List MarkedBuffer) → (marked_at x.name (marks_gone x f ls)).buffer.text ≡ (marked_at x.name ls).buffer.text
 text_left x f ls = text_gone x.name x.top f.top (mark_gone x.name x.point f.point ls) ∙ text_gone x.name x.point f.point ls
 
 told_within : (n p : ℕ) (mark : Option ℕ) → mark ≡ Some p → IsWithin n mark → p ≤ n
@@ -164,7 +164,7 @@ within_after x p kill (Moves f) ls kept can told =
 within_after x p kill Clears ls kept can told = cc
 
 -- as the sessions will be
-held_then : (ks ls : List MarkedBuffer) (xs : List Session) (at mid : ℕ) (h : Session) (x : WindowMarks) (c : plans.Change) (f g : plans.Finish) → IsSound ks xs → HasBuffer x.name ks → IsReserved x.name x.mark mid ks ls → slice_get xs at ≡ Some h → window_marks_of h ≡ Some x → AreMarks ls x → IsSound (marks_gone x f (edited_by x.name c ls)) (slice_set xs at (session_marked mid (session_finished g h)))
+pub held_then : (ks ls : List MarkedBuffer) (xs : List Session) (at mid : ℕ) (h : Session) (x : WindowMarks) (c : plans.Change) (f g : plans.Finish) → IsSound ks xs → HasBuffer x.name ks → IsReserved x.name x.mark mid ks ls → slice_get xs at ≡ Some h → window_marks_of h ≡ Some x → AreMarks ls x → IsSound (marks_gone x f (edited_by x.name c ls)) (slice_set xs at (session_marked mid (session_finished g h)))
 held_then ks ls xs at mid h x c f g sound kept r is sel marks =
     let ls1 = edited_by x.name c ls in
     let point = mark_edited_by x.name c ls x.point marks.point in
@@ -174,7 +174,7 @@ held_then ks ls xs at mid h x c f g sound kept r is sel marks =
     subst (IsSound (marks_gone x f ls1)) (set_twice xs at (session_marked mid h) (session_marked mid (session_finished g h)))
     (sound_set (marks_gone x f ls1) ys at (session_marked mid h) (session_marked mid (session_finished g h)) (sym (get_or_from_slice_get ys at (session_marked mid h) (session_marked mid h) (get_set xs at h (session_marked mid h) is))) (λ n i. refl) after)
 
-marked_so : (directory : Directory) (ks ls : List MarkedBuffer) (xs : List Session) (next : Option ℕ) (id at mid p : ℕ) (h : Session) (x : WindowMarks) (c : plans.Change) (behind : ℕ) (text : List ℕ) (f : Finish) → IsSound ks xs → HasBuffer x.name ks → IsReserved x.name x.mark mid ks ls → at ≡ position_or_len (session_id id) xs → at < length xs → slice_get xs at ≡ Some h → window_marks_of h ≡ Some x → AreMarks ks x → own_of h.own ≡ idle (own_of h.own) → f.mark ≡ Some p → is_too_large (kill_read text h.kill f.kill) ≡ false
+pub marked_so : (directory : Directory) (ks ls : List MarkedBuffer) (xs : List Session) (next : Option ℕ) (id at mid p : ℕ) (h : Session) (x : WindowMarks) (c : plans.Change) (behind : ℕ) (text : List ℕ) (f : Finish) → IsSound ks xs → HasBuffer x.name ks → IsReserved x.name x.mark mid ks ls → at ≡ position_or_len (session_id id) xs → at < length xs → slice_get xs at ≡ Some h → window_marks_of h ≡ Some x → AreMarks ks x → own_of h.own ≡ idle (own_of h.own) → f.mark ≡ Some p → is_too_large (kill_read text h.kill f.kill) ≡ false
     → (let left = finish_read text h.kill behind f in world_of directory (change_first (marked_named x.name) (marked_placed mid p) (marks_gone x left (edited_by x.name c ls))) (slice_set xs at (session_marked mid (session_finished left h))) next ≡ apply (world_of directory ks xs next) id (finished (own_of h.own) left (edit_of x.name c)))
 marked_so directory ks ls xs next id at mid p h x c behind text f sound kept r place within is sel marks fresh told small =
     let left = finish_read text h.kill behind f in

@@ -23,9 +23,14 @@ use Rattle.mgs_model.proofs.Outcomes.{granted_each}
 use Rattle.mgs_buffers.specs.MarkedBuffer.{MarkedBuffer, HasBuffer, marked_at, mark_at}
 use Rattle.mgs_windows.specs.declared.WindowMarks.{WindowMarks}
 use Rattle.mgs_windows.specs.declared.Window.{Window}
+use Rattle.mgs_windows.specs.declared.RowPane.{RowPane}
+use Rattle.mgs_windows.specs.declared.RowPane.TheVariants.{NoRows, Buffers, Entries}
+use Rattle.mgs_windows.specs.Panes.{rows_in}
 use Rattle.mgs_session.specs.Sessions.{window_marks_of}
 use Rattle.mgs_session.specs.declared.Session.{Session}
 use Rattle.mgs_act.specs.declared.acts.KeyAct.TheVariants.{Run}
+use Rattle.mgs_model.specs.declared.session.Scrolling.{Scrolling}
+use Rattle.mgs_act.specs.Rows.{outcome_without, scroll_in, scroll_outcome}
 use Rattle.mgs_act.specs.Actions.{act_of, edit_outcome, granted_outcome, height_or_none, is_on_text, mark_if, outcome_at, place_in, plan_in, selected_height}
 use Rattle.mgs_world.specs.Worlds.{buffers_of, own_of, session_of, window_of, window_shown, world_of}
 use Rattle.mgs_world.proofs.Found.{found_buffer, found_seen, name_kept}
@@ -46,7 +51,7 @@ first_granted d rights e = (granted_each d (ReadData ∷ rights) e).0
 pub any_read : (d : Right → Decider) → allows (d ReadData) ≡ true → any_right d ≡ true
 any_read d e = list_any_at (λ right. allows (d right)) all_rights 0 ReadData (omega arith) e
 
-any_append : (d : Right → Decider) → allows (d AppendData) ≡ true → any_right d ≡ true
+pub any_append : (d : Right → Decider) → allows (d AppendData) ≡ true → any_right d ≡ true
 any_append d e = list_any_at (λ right. allows (d right)) all_rights 2 ReadData (omega arith) e
 
 -- WHAT IS TOLD SUFFICES
@@ -60,6 +65,7 @@ surroundings told read b name point mark top height n kill own =
       serial = serial_told (told_if told b);
       place = acts_at (positions_if read point mark top) (size_told (told_if told b));
       mark = mark_in (positions_if read point mark top);
+      origin = 0;
       anchor = 0;
       old = own.old;
       argument = n;
@@ -79,6 +85,7 @@ all_told b read name point mark height n kill own =
       serial = b.serial;
       place = place_in read point (length b.text);
       mark = mark_if read mark;
+      origin = 0;
       anchor = 0;
       old = own.old;
       argument = n;
@@ -153,7 +160,12 @@ seen_shown bs can ks (Some w) = refl
 none_shown : (bs : List BufferSeen) (can : List ℕ → Bool) (ks : List MarkedBuffer) (o : Option Window) → option_and_then (λ (w : Window). w.shows) o ≡ None → option_and_then (λ (w : Window). target_in bs (window_seen can (window_of ks w)) (window_of ks w).shows) o ≡ None
 none_shown bs can ks None e = refl
 none_shown bs can ks (Some w) e =
-    ap (λ (s : Option WindowMarks). target_in bs (window_seen can (window_shown ks w.height s)) (window_shown ks w.height s).shows) e
+    ap (λ (s : Option WindowMarks). target_in bs (window_seen can (window_shown ks w.height s w.rows)) (window_shown ks w.height s w.rows).shows) e ∙ rows_shown_none w.height w.rows
+  where
+    rows_shown_none : (height : ℕ) (rows : RowPane) → target_in bs (window_seen can (window_shown ks height None rows)) (window_shown ks height None rows).shows ≡ None
+    rows_shown_none height NoRows = refl
+    rows_shown_none height (Buffers row) = refl
+    rows_shown_none height (Entries name row) = refl
 
 pub selected_none : (directory : Directory) (ks : List MarkedBuffer) (xs : List Session) (next : Option ℕ) (h : Session) → window_marks_of h ≡ None → target (view (world_of directory ks xs next) (session_of ks h)) ≡ None
 selected_none directory ks xs next h none =
@@ -168,7 +180,7 @@ selected_none directory ks xs next h none =
 -- the target through a window's marks
 abbrev pub target_at : Directory → List MarkedBuffer → List ℕ → ℕ → WindowMarks → Target
 target_at directory ks user height x = record {
-  window = window_seen (reads directory (buffers_of ks) user) (window_shown ks height (Some x));
+  window = window_seen (reads directory (buffers_of ks) user) (window_shown ks height (Some x) NoRows);
   buffer = buffer_seen directory user (marked_at x.name ks).buffer;
 }
 
@@ -184,8 +196,8 @@ selected_some directory ks xs next h x sel kept =
           (slice_get-map (window_seen can) (map (window_of ks) ws) h.windows.selected ∙ ap (option_map (window_seen can)) (slice_get-map (window_of ks) ws h.windows.selected))
           ∙ seen_shown bs can ks (slice_get ws h.windows.selected)
           ∙ ap (option_and_then (λ (w : Window). target_in bs (window_seen can (window_of ks w)) (window_of ks w).shows)) got.1
-          ∙ ap (λ (s : Option WindowMarks). target_in bs (window_seen can (window_shown ks w.height s)) (window_shown ks w.height s).shows) got.2
-          ∙ ap (option_map (λ (b : BufferSeen). let t : Target = record { window = window_seen can (window_shown ks w.height (Some x)); buffer = b } in t)) (found_seen directory h.user x.name ks kept),
+          ∙ ap (λ (s : Option WindowMarks). target_in bs (window_seen can (window_shown ks w.height s w.rows)) (window_shown ks w.height s w.rows).shows) got.2
+          ∙ ap (option_map (λ (b : BufferSeen). let t : Target = record { window = window_seen can (window_shown ks w.height (Some x) NoRows); buffer = b } in t)) (found_seen directory h.user x.name ks kept),
       ap height_or_none got.1,
     )
 
@@ -272,22 +284,6 @@ outcome_plan directory ks xs next h x c n on sel kept =
     ∙ through directory ks xs next h seen.0 x c n kept
     ∙ ap (λ (height : ℕ). plan_in directory ks (own_of h.own) h.user x height c n h.kill) (sym seen.2)
 
--- no window shows rows yet
-no_rows : (ks : List MarkedBuffer) (height : ℕ) (s : Option WindowMarks) → is_rows (window_shown ks height s).shows ≡ false
-no_rows ks height None = refl
-no_rows ks height (Some x) = refl
-
-none_has_rows : (can : List ℕ → Bool) (ks : List MarkedBuffer) (o : Option Window) → has_rows (option_map (window_seen can) (option_map (window_of ks) o)) ≡ false
-none_has_rows can ks None = refl
-none_has_rows can ks (Some w) = no_rows ks w.height w.shows
-
-selected_no_rows : (directory : Directory) (ks : List MarkedBuffer) (xs : List Session) (next : Option ℕ) (h : Session) → has_rows (selected_seen (view (world_of directory ks xs next) (session_of ks h))) ≡ false
-selected_no_rows directory ks xs next h =
-    let can = reads directory (buffers_of ks) h.user in
-    let ws = h.windows.windows in
-    ap has_rows (slice_get-map (window_seen can) (map (window_of ks) ws) h.windows.selected ∙ ap (option_map (window_seen can)) (slice_get-map (window_of ks) ws h.windows.selected))
-    ∙ none_has_rows can ks (slice_get ws h.windows.selected)
-
 -- where the selected window shows nothing
 none_edited : (v : View) (rights : Target → ℕ) (plan : Target → Result Change Message) → target v ≡ None → permitted v.session.own (judged v (here (target v) rights)) (edits v.session.own (target v) plan) ≡ fails v.session.own NoBuffer
 none_edited v rights plan none = ap (λ o. permitted v.session.own (judged v (here o rights)) (edits v.session.own o plan)) none
@@ -298,20 +294,46 @@ none_moved v plan none = ap (λ o. permitted v.session.own (judged v (here o (λ
 none_ruled : (v : View) (plan : BufferSeen → Result Effect Message) → target v ≡ None → permitted v.session.own (judged v (about (shown v) 3)) (rules v.session.own (shown v) plan) ≡ fails v.session.own NoBuffer
 none_ruled v plan none = ap (λ (o : Option Target). permitted v.session.own (judged v (about (option_map (λ (t : Target). t.buffer) o) 3)) (rules v.session.own (option_map (λ (t : Target). t.buffer) o) plan)) none
 
-off_target : (v : View) (c : Command) (n : Option ℕ) → is_on_text c ≡ true → target v ≡ None → has_rows (selected_seen v) ≡ false → outcome v (act_of (Run c n)) true ≡ fails v.session.own NoBuffer
-unfolding outcome
-off_target v (Insert i) n h none rows = none_edited v insertion_right (λ t. insertion i (around v.session n [] t)) none
-off_target v (InsertReading i) n h none rows =
-    none_edited v (λ t. 1 + insertion_right t) (λ t. reading_insertion i (text_in t.buffer.full) (around v.session n [] t)) none
-off_target v (Move m) n h none rows = none_moved v (λ t. motion m (text_in t.buffer.full) (around v.session n [] t)) none
-off_target v (Alter k) n h none rows = none_edited v (λ t. 3) (λ t. alteration k (text_in t.buffer.full) (around v.session n [] t)) none
-off_target v (Scroll s) n h none rows =
-    ap (λ b. permitted v.session.own (judged v (here (target v) (λ t. 1))) (cond b (scrolls_rows v.session.own (row_in s (selected_seen v))) (moves v.session.own (target v) (λ t. scrolling s (text_in t.buffer.full) (around v.session n [] t))))) rows
-    ∙ none_moved v (λ t. scrolling s (text_in t.buffer.full) (around v.session n [] t)) none
-off_target v UndoEdit n h none rows = none_edited v (λ t. 3) (λ t. undo (items_in t.buffer.full) (around v.session n [] t)) none
-off_target v NotModified n h none rows = none_ruled v (λ (b : BufferSeen). Ok (Unmodified b.name)) none
-off_target v _ n h none rows = cc
+-- what it comes to there
+abbrev off_outcome : View → Option Scrolling → Outcome
+off_outcome v None = fails v.session.own NoBuffer
+off_outcome v (Some s) = cond (has_rows (selected_seen v)) (scrolls_rows v.session.own (row_in s (selected_seen v))) (fails v.session.own NoBuffer)
 
-pub outcome_none : (directory : Directory) (ks : List MarkedBuffer) (xs : List Session) (next : Option ℕ) (h : Session) (c : Command) (n : Option ℕ) → is_on_text c ≡ true → window_marks_of h ≡ None → outcome (view (world_of directory ks xs next) (session_of ks h)) (act_of (Run c n)) true ≡ fails (own_of h.own) NoBuffer
+off_target : (v : View) (c : Command) (n : Option ℕ) → is_on_text c ≡ true → target v ≡ None → outcome v (act_of (Run c n)) true ≡ off_outcome v (scroll_in c)
+unfolding outcome
+off_target v (Insert i) n h none = none_edited v insertion_right (λ t. insertion i (around v.session n [] t)) none
+off_target v (InsertReading i) n h none =
+    none_edited v (λ t. 1 + insertion_right t) (λ t. reading_insertion i (text_in t.buffer.full) (around v.session n [] t)) none
+off_target v (Move m) n h none = none_moved v (λ t. motion m (text_in t.buffer.full) (around v.session n [] t)) none
+off_target v (Alter k) n h none = none_edited v (λ t. 3) (λ t. alteration k (text_in t.buffer.full) (around v.session n [] t)) none
+off_target v (Scroll s) n h none =
+    ap (λ (o : Option Target). permitted v.session.own (judged v (here o (λ t. 1))) (cond (has_rows (selected_seen v)) (scrolls_rows v.session.own (row_in s (selected_seen v))) (moves v.session.own o (λ t. scrolling s (text_in t.buffer.full) (around v.session n [] t))))) none
+off_target v UndoEdit n h none = none_edited v (λ t. 3) (λ t. undo (items_in t.buffer.full) (around v.session n [] t)) none
+off_target v NotModified n h none = none_ruled v (λ (b : BufferSeen). Ok (Unmodified b.name)) none
+off_target v _ n h none = cc
+
+-- the rows of the selected window, as the session sees them
+rows_off : (own : Own) (s : Scrolling) (can : List ℕ → Bool) (ks : List MarkedBuffer) (o : Option Window) → option_and_then (λ (w : Window). w.shows) o ≡ None
+    → (let seen = option_map (window_seen can) (option_map (window_of ks) o) in cond (has_rows seen) (scrolls_rows own (row_in s seen)) (fails own NoBuffer) ≡ scroll_outcome own s (height_or_none o) (rows_in o))
+rows_off own s can ks None none = refl
+rows_off own s can ks (Some w) none =
+    ap (λ (o : Option WindowMarks). let seen : Option WindowSeen = Some (window_seen can (window_shown ks w.height o w.rows)) in cond (has_rows seen) (scrolls_rows own (row_in s seen)) (fails own NoBuffer)) none
+    ∙ by w.height w.rows
+  where
+    by : (height : ℕ) (rows : RowPane) → (let seen : Option WindowSeen = Some (window_seen can (window_shown ks height None rows)) in cond (has_rows seen) (scrolls_rows own (row_in s seen)) (fails own NoBuffer)) ≡ scroll_outcome own s height rows
+    by height NoRows = refl
+    by height (Buffers row) = refl
+    by height (Entries name row) = refl
+
+off_seen : (directory : Directory) (ks : List MarkedBuffer) (xs : List Session) (next : Option ℕ) (h : Session) (s : Option Scrolling) → window_marks_of h ≡ None → off_outcome (view (world_of directory ks xs next) (session_of ks h)) s ≡ outcome_without (own_of h.own) s (slice_get h.windows.windows h.windows.selected)
+off_seen directory ks xs next h None none = refl
+off_seen directory ks xs next h (Some s) none =
+    let can = reads directory (buffers_of ks) h.user in
+    let ws = h.windows.windows in
+    ap (λ (seen : Option WindowSeen). cond (has_rows seen) (scrolls_rows (own_of h.own) (row_in s seen)) (fails (own_of h.own) NoBuffer))
+    (slice_get-map (window_seen can) (map (window_of ks) ws) h.windows.selected ∙ ap (option_map (window_seen can)) (slice_get-map (window_of ks) ws h.windows.selected))
+    ∙ rows_off (own_of h.own) s can ks (slice_get ws h.windows.selected) none
+
+pub outcome_none : (directory : Directory) (ks : List MarkedBuffer) (xs : List Session) (next : Option ℕ) (h : Session) (c : Command) (n : Option ℕ) → is_on_text c ≡ true → window_marks_of h ≡ None → outcome (view (world_of directory ks xs next) (session_of ks h)) (act_of (Run c n)) true ≡ outcome_without (own_of h.own) (scroll_in c) (slice_get h.windows.windows h.windows.selected)
 outcome_none directory ks xs next h c n on none =
-    off_target (view (world_of directory ks xs next) (session_of ks h)) c n on (selected_none directory ks xs next h none) (selected_no_rows directory ks xs next h)
+    off_target (view (world_of directory ks xs next) (session_of ks h)) c n on (selected_none directory ks xs next h none) ∙ off_seen directory ks xs next h (scroll_in c) none

@@ -33,7 +33,7 @@ use Rattle.mgs_arrange.specs.Arranged.{run_ended}
 use Rattle.mgs_arrange.specs.Showing.{shown_in, window_shows}
 use Rattle.mgs_arrange.proofs.Arranged.{show_done, show_takes_memory}
 use Rattle.mgs_world.specs.Worlds.{buffers_of, idle, own_at, session_id, session_of, window_of, world_of}
-use Rattle.mgs_world.proofs.Found.{found_seen}
+use Rattle.mgs_world.proofs.Found.{found_seen, unseen}
 use Rattle.mgs_world.proofs.Sessions.{session_some}
 use Rattle.mgs_act.specs.Switching.{coming_decision, created_in, switch_outcome, view_at}
 use Rattle.mgs_act.specs.declared.switching.Switch.{Switch}
@@ -85,12 +85,6 @@ switch_kept_as directory ks xs next n h user name typed s user_is name_is kept d
     (subst (λ u. (v : View) → permitted v.session.own (coming_decision directory u name ks) (shows_named v name No_effect) ≡ switch_outcome v s) (sym user_is) decided))
 
 -- it is not
-unseen : (directory : Directory) (user name : List ℕ) (ks : List MarkedBuffer) → has_buffer name ks ≡ false → find_seen name (map (buffer_seen directory user) (buffers_of ks)) ≡ None
-unseen directory user name ks free =
-    find-map (buffer_seen directory user) (is_named name) (λ (b : BufferSeen). same_name name b.name) (λ b. refl) (buffers_of ks)
-    ∙ ap (option_map (buffer_seen directory user)) (find-map (λ (k : MarkedBuffer). k.buffer) (marked_named name) (is_named name) (λ k. refl) ks)
-    ∙ ap (λ o. option_map (buffer_seen directory user) (option_map (λ (k : MarkedBuffer). k.buffer) o)) (none_of (find (marked_named name) ks) free)
-
 pub switch_free : (directory : Directory) (ks : List MarkedBuffer) (xs : List Session) (next n : Option ℕ) (h : Session) (typed : List ℕ) (s : Switch) → has_buffer typed ks ≡ false
     → ((v : View) → length v.buffers ≡ length ks → created v typed ≡ switch_outcome v s)
     → outcome (view_at directory ks xs next h) (Run (Named SwitchToBuffer) n typed) true ≡ switch_outcome (view_at directory ks xs next h) s

@@ -18,8 +18,10 @@ use Rattle.mgs_model.specs.declared.right.Right.TheVariants.{ReadData}
 use Rattle.mgs_model.specs.declared.message.Message.{Message}
 use Rattle.mgs_model.specs.declared.message.Message.TheVariants.{KeyNotBound, BufferFull, Silent}
 use Rattle.mgs_model.specs.declared.session.Command.{Command}
-use Rattle.mgs_model.specs.declared.session.Command.TheVariants.{Insert, InsertReading, Move, Alter, Scroll, Set, Rearrange, Ask, UndoEdit, NotModified}
+use Rattle.mgs_model.specs.declared.session.Command.TheVariants.{Insert, InsertReading, Move, Alter, Scroll, Set, Rearrange, Ask, Entries, ListEntries, UndoEdit, NotModified}
 use Rattle.mgs_model.specs.declared.session.Kind.TheVariants.{Other}
+use Rattle.mgs_model.specs.declared.session.EntryChange.{EntryChange}
+use Rattle.mgs_model.specs.declared.session.EntryChange.TheVariants.{DeleteEntry}
 use Rattle.mgs_model.specs.declared.session.Setting.{Setting}
 use Rattle.mgs_model.specs.declared.session.Setting.TheVariants.{SetFillColumn, KeyboardQuit}
 use Rattle.mgs_buffers.specs.MarkedBuffer.{IsMark, MarkedBuffer, marked_at, marked_edited, marked_named, marked_placed, marked_unmodified, mark_at}
@@ -33,7 +35,6 @@ use Rattle.mgs_edit.specs.declared.plan.Change.{Change}
 use Rattle.mgs_edit.specs.declared.plan.Finish.{Finish}
 use Rattle.mgs_edit.specs.declared.plan.Undone.{Undone}
 use Rattle.mgs_undo.specs.History.{has_serial}
-use Rattle.mgs_arrange.specs.Arranging.{is_arranged_here}
 use Rattle.mgs_mini.specs.Typing.{is_asked}
 use Rattle.mgs_world.specs.Marking.{IsReserved, session_marked}
 use Rattle.mgs_act.specs.declared.acts.KeyAct.{KeyAct}
@@ -64,11 +65,18 @@ is_setting_done SetFillColumn = true
 is_setting_done KeyboardQuit = true
 is_setting_done _ = false
 
+-- an entry is deleted at once; one that comes is typed first
+abbrev pub is_entry_done : EntryChange → Bool
+is_entry_done DeleteEntry = true
+is_entry_done _ = false
+
 -- the acts that are done here
 abbrev pub is_command_done : Command → Bool
 is_command_done (Set c) = is_setting_done c
-is_command_done (Rearrange c) = is_arranged_here c
+is_command_done (Rearrange c) = true
 is_command_done (Ask c) = is_asked c
+is_command_done (Entries c) = is_entry_done c
+is_command_done ListEntries = true
 is_command_done c = is_on_text c
 
 abbrev pub is_done_here : KeyAct → Bool
@@ -123,6 +131,7 @@ around_in directory ks user x height n kill own =
       serial = b.serial;
       place = place_in reads (mark_at x.name ks x.point) (length b.text);
       mark = mark_if reads (mark_shown ks x);
+      origin = 0;
       anchor = 0;
       old = own.old;
       argument = n;

@@ -10,15 +10,14 @@ use Rattle.mgs_model.specs.declared.entry.Decision.TheVariants.{Granted}
 use Rattle.mgs_model.specs.declared.message.Message.{Message}
 use Rattle.mgs_model.specs.declared.message.Message.TheVariants.{NoBuffer, NoSuchBuffer}
 use Rattle.mgs_buffers.specs.MarkedBuffer.{MarkedBuffer, marked_named}
-use Rattle.mgs_windows.specs.declared.WindowMarks.{WindowMarks}
 
--- the name that was typed, or else that of what a window shows; none where it shows nothing
-abbrev pub name_in : Option WindowMarks → List ℕ
+-- the name that was typed, or else that of the buffer whose text or access list a window shows; none where it shows neither
+abbrev pub name_in : Option (List ℕ) → List ℕ
 name_in None = []
-name_in (Some x) = x.name
+name_in (Some name) = name
 
-abbrev pub name_meant : Option WindowMarks → List ℕ → List ℕ
-name_meant shows typed = if length typed == 0 then name_in shows else typed
+abbrev pub name_meant : Option (List ℕ) → List ℕ → List ℕ
+name_meant subject typed = if length typed == 0 then name_in subject else typed
 
 -- the buffer goes
 abbrev pub killing : Own → List ℕ → Outcome
@@ -44,6 +43,6 @@ abbrev pub kill_named : Directory → List MarkedBuffer → Own → List ℕ →
 kill_named directory ks own user name =
     permitted own (kill_decision directory user (find (marked_named name) ks)) (kill_granted own name (find (marked_named name) ks))
 
--- what it comes to for a user whose selected window shows this
-abbrev pub kill_outcome : Directory → List MarkedBuffer → Own → List ℕ → Option WindowMarks → List ℕ → Outcome
-kill_outcome directory ks own user shows typed = kill_named directory ks own user (name_meant shows typed)
+-- what it comes to for a user whose selected window shows the text or the access list of this buffer
+abbrev pub kill_outcome : Directory → List MarkedBuffer → Own → List ℕ → Option (List ℕ) → List ℕ → Outcome
+kill_outcome directory ks own user subject typed = kill_named directory ks own user (name_meant subject typed)

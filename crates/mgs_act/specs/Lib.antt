@@ -1,5 +1,10 @@
 pub mod Actions
 pub mod Saving
 pub mod Setting
+pub mod Inserting
 pub mod Killing
 pub mod Switching
+pub mod Ruling
+pub mod Rows
+pub mod Subjects
+pub mod Listing

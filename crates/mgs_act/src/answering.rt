@@ -10,20 +10,25 @@ ghost use Rattle.mgs_mini.specs.Typing.{is_asked};
 ghost use Rattle.mgs_world.specs.Sound.{IsSound};
 ghost use Rattle.mgs_world.specs.Worlds.{idle, own_at, session_id, sizes_in, world_of};
 
+use crate::acts::{KeyAct, act};
+use crate::inserting::insert;
 use crate::killing::kill;
+use crate::ruling::{Ruling, rule};
 use crate::switching::switch_to;
 use mgs_buffers::Buffers;
+use mgs_edit::line_wanted;
 use mgs_marks::Marked;
-use mgs_model::{Question, Short, Touched};
+use mgs_model::{Command, EntryChange, Motion, Question, Short, Touched};
 use mgs_policy::Directory;
 use mgs_session::Session;
 use std::alloc::Global;
 
 /// The command that a question is for is done by the session at `at`, which is at rest: `typed` is the answer, of a question
 /// that asks for no command's name. The selected window comes to show the buffer of that name, which is made for the session's
-/// user where it is not there; or the buffer of that name is killed. A refused right, a text that is no name, and a buffer too
-/// many are told in the echo line. It tells what it touched, and what it did not touch is as it was. `Short`: memory was refused,
-/// the world is as it was, and the act is one that may be refused.
+/// user where it is not there; or the buffer of that name is killed; or its text is inserted where the user acts; or the point goes to the line of that number; or the buffer
+/// that is shown gets another owner, or that entry in its access list. A refused right, an answer that is not what was asked for,
+/// and what is full are told in the echo line. It tells what it touched, and what it did not touch is as it was. `Short`: memory
+/// was refused, the world is as it was, and the act is one that may be refused.
 pub fn answer<T: Marked + Drop>(
     alloc: Global,
     buffers: &mut Buffers<T>,
@@ -52,6 +57,33 @@ pub fn answer<T: Marked + Drop>(
             switch_to(buffers, directory, sessions, at, typed)
         }
         Question::KillWhich => Ok(kill(buffers, directory, sessions, at, typed)),
+        Question::InsertWhich => insert(buffers, directory, sessions, at, typed),
+        Question::GoToWhich => {
+            let line = KeyAct::Run(
+                Command::Move(Motion::GoToLine),
+                line_wanted(argument, typed),
+            );
+            act(alloc, buffers, directory, sessions, at, line)
+        }
+        Question::EntryToInsert => {
+            let ruling = Ruling::Entries(EntryChange::InsertEntry);
+            Ok(rule(buffers, directory, sessions, at, ruling, argument, typed))
+        }
+        Question::EntryToReplace => {
+            let ruling = Ruling::Entries(EntryChange::ReplaceEntry);
+            Ok(rule(buffers, directory, sessions, at, ruling, argument, typed))
+        }
+        Question::WhichOwner => {
+            Ok(rule(
+                buffers,
+                directory,
+                sessions,
+                at,
+                Ruling::Owner,
+                argument,
+                typed,
+            ))
+        }
         // No other question is asked yet.
         _ => Ok(Touched::Nowhere),
     }

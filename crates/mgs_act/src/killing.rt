@@ -1,4 +1,4 @@
-// A buffer is killed: that of the name that was typed, or where nothing was typed, the one that is shown.
+// A buffer is killed: that of the name that was typed, or where nothing was typed, the one whose text or access list is shown.
 ghost use Rattle.std.specs.Prelude.{◌≡◌, ◌<◌, ℕ, List, length, Option, None, IfErr, IfOk, IfSome, true};
 ghost use Rattle.std.specs.List.{position_or_len};
 ghost use Rattle.mgs_model.specs.Access.{Directory};
@@ -11,7 +11,7 @@ ghost use Rattle.mgs_model.specs.World.{Own};
 ghost use Rattle.mgs_model.specs.declared.session.ByName.TheVariants.{KillBuffer};
 ghost use Rattle.mgs_model.specs.declared.session.Command.TheVariants.{Named};
 ghost use Rattle.mgs_buffers.specs.MarkedBuffer.{HasBuffer};
-ghost use Rattle.mgs_session.specs.Sessions.{window_marks_of};
+ghost use Rattle.mgs_session.specs.Sessions.{subject_of};
 ghost use Rattle.mgs_act.specs.Killing.{kill_answered, kill_named, kill_outcome, killing, name_meant};
 ghost use Rattle.mgs_world.specs.Sound.{IsSound};
 ghost use Rattle.mgs_world.specs.Worlds.{idle, own_at, session_id, sizes_in, world_of};
@@ -20,8 +20,7 @@ use mgs_buffers::Buffers;
 use mgs_marks::Marked;
 use mgs_model::{Decision, Kind, Message, Name, Right, Touched};
 use mgs_policy::Directory;
-use mgs_session::{Session, fail, selected_window_marks, set_kind};
-use mgs_windows::WindowMarks;
+use mgs_session::{Session, fail, set_kind, subject};
 use mgs_world::kill_buffer;
 
 /// Why a user may not delete a buffer, if there is a reason.
@@ -46,13 +45,12 @@ fn denial<T: Marked + Drop>(
 /// The name of the buffer that is meant, or that there is none.
 fn meant<T: Marked + Drop>(
     buffers: &Buffers<T>,
-    shows: Option<WindowMarks>,
+    subject: Option<Name>,
     typed: &[u8],
 ) -> Result<Name, Message>
-    requires { IfSome shows (λ x. HasBuffer x.name buffers.now) }
-    ensures name { IfOk result (λ n. n ≡ name_meant shows typed.now) }
+    ensures name { IfOk result (λ n. n ≡ name_meant subject typed.now) }
     ensures kept { IfOk result (λ n. HasBuffer n buffers.now) }
-    ensures none { IfErr result (λ message. (directory : Directory) (own : Own) (user : List ℕ) → kill_outcome directory buffers.now own user shows typed.now ≡ fails own message) }
+    ensures none { IfErr result (λ message. (directory : Directory) (own : Own) (user : List ℕ) → kill_outcome directory buffers.now own user subject typed.now ≡ fails own message) }
 {
     if let Some(name) = buffers.name_typed(typed) {
         return Ok(name);
@@ -60,8 +58,9 @@ fn meant<T: Marked + Drop>(
     if !typed.is_empty() {
         return Err(Message::NoSuchBuffer);
     }
-    match shows {
-        Some(window_marks) => Ok(window_marks.name),
+    match subject {
+        Some(name) if buffers.has(&name) => Ok(name),
+        Some(_) => Err(Message::NoSuchBuffer),
         None => Err(Message::NoBuffer),
     }
 }
@@ -73,19 +72,18 @@ fn target<T: Marked + Drop>(
     session: &Session,
     typed: &[u8],
 ) -> Result<Name, Message>
-    requires { IfSome (window_marks_of session.now) (λ x. HasBuffer x.name buffers.now) }
     ensures kept { IfOk result (λ n. HasBuffer n buffers.now) }
-    ensures value { (own : Own) → kill_answered own result ≡ kill_outcome directory.now buffers.now own session.now.user (window_marks_of session.now) typed.now }
+    ensures value { (own : Own) → kill_answered own result ≡ kill_outcome directory.now buffers.now own session.now.user (subject_of session.now) typed.now }
 {
-    let name = meant(buffers, selected_window_marks(session), typed)?;
+    let name = meant(buffers, subject(session), typed)?;
     match denial(buffers, directory, &session.user, &name) {
         Some(message) => Err(message),
         None => Ok(name),
     }
 }
 
-/// Kills a buffer, by what the session at `at` typed for its name, or where it typed nothing, the one that its selected window
-/// shows. The session has nothing half read and an empty echo line. It tells what it touched, and what it did not touch is as
+/// Kills a buffer, by what the session at `at` typed for its name, or where it typed nothing, the one whose text or access
+/// list its selected window shows. The session has nothing half read and an empty echo line. It tells what it touched, and what it did not touch is as
 /// it was. It takes no memory.
 pub fn kill<T: Marked + Drop>(
     buffers: &mut Buffers<T>,

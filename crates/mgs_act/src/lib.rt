@@ -5,11 +5,16 @@ mod action;
 mod acts;
 mod answering;
 mod given;
+mod inserting;
 mod killing;
+mod listing;
 mod performing;
 mod planning;
+mod rows;
+mod ruling;
 mod saving;
 mod setting;
+mod subject;
 mod switching;
 
 pub use acts::{KeyAct, act};

@@ -252,7 +252,7 @@ fn hold_kill(session: &mut Session, kill: Option<Vec<char>>)
 }
 
 /// Leaves what a command is to leave.
-fn leave<T: Marked + Drop>(
+pub fn leave<T: Marked + Drop>(
     buffers: &mut Buffers<T>,
     session: &mut Session,
     window_marks: &WindowMarks,

@@ -79,7 +79,7 @@ fn around<T: Marked + Drop>(
 }
 
 /// The bit of the right that an insertion needs: at the text's end it appends, elsewhere it writes.
-fn insertion_bit(place: usize, size: usize) -> u32
+pub fn insertion_bit(place: usize, size: usize) -> u32
     ensures value { result ≡ insertion_mask place size }
     ensures small { result ≤ 4 }
 {

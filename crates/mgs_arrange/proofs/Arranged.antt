@@ -2,7 +2,7 @@
 use Rattle.std.proofs.Common.{◌≡◌, ℕ, ◌+◌, ◌-◌, ◌<◌, ◌≢◌, ◌==◌, nat_lt, nat_le, Bool, true, false, cond, List, [], ◌∷◌, map, length, remove, Option, None, Some, Result, Ok, Err, refl, sym, ap, ap₂, subst, ◌∙◌, ◌||◌, map-id, arith, eqb-true, ne_eqb, le-ltb, ltb-false}
 use Rattle.std.specs.Option.{option_map}
 use Rattle.std.proofs.lemmas.List.{length-map}
-use Rattle.mgs_model.specs.World.{Buffer_of, Listing, Own, Place, Session, Shows, Window, World, find_session, has_id}
+use Rattle.mgs_model.specs.World.{Buffer_of, List_of, Listing, Own, Place, Session, Shows, Window, World, find_session, has_id}
 use Rattle.mgs_model.specs.View.{reads, view, window_seen}
 use Rattle.mgs_model.specs.Outcome.{Arrange, Effect, No_effect, Keep_search, Outcome, Run, Slot, Slots, effect_takes_memory, takes_memory}
 use Rattle.mgs_model.specs.Plans.{acted_own, arrangement, comes, count_of, failed_own, given, heir, height_at, kind_failed, neighbor, old_slot, resized, rows_of, selects, slots_but}
@@ -24,7 +24,7 @@ use Rattle.mgs_model.proofs.Basics.{or_true}
 use Rattle.mgs_model.proofs.Firsts.{change_first_found}
 use Rattle.mgs_windows.specs.Panes.{closer}
 use Rattle.mgs_world.specs.Worlds.{idle}
-use Rattle.mgs_arrange.specs.Arranged.{arranged_or_told, run_ended, grown, left_by, listing_for, lower_half, next_index, others_gone, previous_index, rearranged, rows_given, rows_given_if, shrunk, upper_half, window_gone, window_selected, window_split}
+use Rattle.mgs_arrange.specs.Arranged.{arranged_or_told, run_ended, grown, left_by, listing_for, lower_half, next_index, others_gone, previous_index, rearranged, rows_given, rows_given_if, shrunk, upper_half, window_gone, window_lists, window_selected, window_split}
 use Rattle.mgs_arrange.specs.Showing.{coming, window_shows}
 use Rattle.mgs_arrange.proofs.Slots.{all_stay, from_start, halves, come, come_takes_memory, halves_take_memory, height_seen, named_all, named_but, named_halves, named_come, named_one, one_leaves, others_leave, put, put_removed, put_resized, put_slots_but, reheighted, reheighted_not, reheighted_one, reheighted_same, reheighted_twice, replaced_by_one, replaced_by_two, rows_seen, seen}
 
@@ -181,7 +181,7 @@ come_done can shows made x fresh quiet within makes =
     came shows places y e = ap (λ w. w ∷ []) e
 
 list_done : (can : List ℕ → Bool) (n : Option ℕ) (x : Session) → x.own ≡ idle x.own → x.search ≡ None → x.selected < length x.windows → session_arranged (arranges x.own No_effect (arrangement ListBuffers (seen can x.windows) x.selected n)) x ≡ run_ended (arranged_or_told (rearranged ListBuffers n x) x)
-list_done can n x fresh quiet within = come_done can Listing listing_for x fresh quiet within (λ y. refl)
+list_done can n x fresh quiet within = come_done can Listing (listing_for Listing) x fresh quiet within (λ y. refl)
 
 -- what any arrangement makes of a session
 arrangement_done : (can : List ℕ → Bool) (c : Arrangement) (n : Option ℕ) (x : Session) → x.own ≡ idle x.own → x.search ≡ None → x.selected < length x.windows → session_arranged (arranges x.own No_effect (arrangement c (seen can x.windows) x.selected n)) x ≡ run_ended (arranged_or_told (rearranged c n x) x)
@@ -208,6 +208,11 @@ pub show_takes_memory : (can : List ℕ → Bool) (name : List ℕ) (e : Effect)
 show_takes_memory can name e x within =
     or_true (effect_takes_memory e) _
     (ap (λ b. (b || false) || false) (come_takes_memory name x.selected 0 x.selected (seen can x.windows) (omega arith) (seen_within can x.windows x.selected within)))
+
+-- AN ACCESS LIST IS SHOWN
+
+pub entries_done : (can : List ℕ → Bool) (name : List ℕ) (x : Session) → x.own ≡ idle x.own → x.search ≡ None → x.selected < length x.windows → session_arranged (arranges x.own No_effect (Ok (comes (seen can x.windows) x.selected (List_of name)))) x ≡ run_ended (window_lists (List_of name) x)
+entries_done can name x fresh quiet within = come_done can (List_of name) (listing_for (List_of name)) x fresh quiet within (λ y. refl)
 
 -- THE ACT
 

@@ -6,3 +6,4 @@ pub mod WindowsGone
 pub mod WindowsResized
 pub mod WindowsSplit
 pub mod WindowShown
+pub mod WindowRows

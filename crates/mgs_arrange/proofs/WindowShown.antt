@@ -12,7 +12,7 @@ use Rattle.mgs_model.proofs.Blind.{is_name, same_names}
 use Rattle.mgs_model.proofs.Firsts.{find-map}
 use Rattle.mgs_buffers.specs.MarkedBuffer.{MarkedBuffer, mark_at}
 use Rattle.mgs_windows.specs.Panes as panes
-use Rattle.mgs_windows.specs.Panes.{WindowList, height_at, is_place_in, places_after, shows_at, with_place}
+use Rattle.mgs_windows.specs.Panes.{WindowList, height_at, is_place_in, places_after, rows_at, shows_at, with_place}
 use Rattle.mgs_windows.specs.declared.WindowMarks.{WindowMarks}
 use Rattle.mgs_windows.specs.declared.Window.{Window}
 use Rattle.mgs_session.specs.declared.Session.{Session}
@@ -166,7 +166,7 @@ module _ (name : List ℕ) (p : ℕ) (q : Option ℕ) (capacity : ℕ) (y : Wind
       -- the places afterwards, and where the session stands among them
       places_left : map (place_of ls) (places_after (shows_at x.windows.selected x.windows.windows) x.windows.places) ≡ left_by (window_at x.windows.selected (map (window_of ls) x.windows.windows)) (map (place_of ls) x.windows.places)
       places_left =
-          places_seen ls (height_at x.windows.selected x.windows.windows) (shows_at x.windows.selected x.windows.windows) x.windows.places
+          places_seen ls (height_at x.windows.selected x.windows.windows) (shows_at x.windows.selected x.windows.windows) (rows_at x.windows.selected x.windows.windows) x.windows.places
           ∙ ap (λ (w : model.Window). left_by w (map (place_of ls) x.windows.places)) (sym (window_seen ls x.windows.selected x.windows.windows within))
 
       stood : place_in name (left_by (window_at x.windows.selected (map (window_of ls) x.windows.windows)) (map (place_of ls) x.windows.places)) ≡ option_map (place_of ks) (standing name x.windows)
@@ -183,7 +183,7 @@ module _ (name : List ℕ) (p : ℕ) (q : Option ℕ) (capacity : ℕ) (y : Wind
           let marks : option_map (mark_at y.name ls) y.mark ≡ place_mark (place_in name (left_by (window_at x.windows.selected (map (window_of ls) x.windows.windows)) (map (place_of ls) x.windows.places))) =
           ap (λ n. option_map (mark_at n ls) y.mark) added.named ∙ added.mark ∙ mark ∙ sym (ap place_mark stood) in
           let tops : mark_at y.name ls y.top ≡ 0 = ap (λ n. mark_at n ls y.top) added.named ∙ added.top in
-          λ t. record { shows = Buffer_of (added.named t); point = points t; mark = marks t; top = tops t; row = 0; height = sym (height_shown ls w.height w.shows) t }
+          λ t. record { shows = Buffer_of (added.named t); point = points t; mark = marks t; top = tops t; row = 0; height = sym (height_shown ls w.height w.shows w.rows) t }
 
       pub shown_seen : session_of ms (shown_session capacity y x) ≡ window_shows name (session_of ks x)
       shown_seen =
@@ -195,13 +195,18 @@ module _ (name : List ℕ) (p : ℕ) (q : Option ℕ) (capacity : ℕ) (y : Wind
 
 -- THE WORLD AFTERWARDS
 
-pub shown_world : (d : Directory) (ks ls : List MarkedBuffer) (xs : List Session) (next : Option ℕ) (id at : ℕ) (name : List ℕ) (x y : Session) (z : model.Session) → IsSound ks xs → at ≡ position_or_len (session_id id) xs → x ≡ get_or xs at x → at < length xs → Rearranged ks ls x y
-    → session_of ls y ≡ run_ended (window_shows name (session_of ks x)) → find_session id (world_of d ks xs next).sessions ≡ Some z → world_of d ls (slice_set xs at y) next ≡ shown_in id name z (world_of d ks xs next)
-shown_world d ks ls xs next id at name x y z sound place is within h shown found =
+-- what is made of one session as it is seen
+pub made_world : (f : model.Session → model.Session) (d : Directory) (ks ls : List MarkedBuffer) (xs : List Session) (next : Option ℕ) (id at : ℕ) (x y : Session) (z : model.Session) → IsSound ks xs → at ≡ position_or_len (session_id id) xs → x ≡ get_or xs at x → at < length xs → Rearranged ks ls x y
+    → session_of ls y ≡ f (session_of ks x) → find_session id (world_of d ks xs next).sessions ≡ Some z → world_of d ls (slice_set xs at y) next ≡ (let w = world_of d ks xs next in let v : World = record w { sessions = change_first (has_id id) (λ old. f z) w.sessions } in v)
+made_world f d ks ls xs next id at x y z sound place is within h shown found =
     let w = world_of d ks xs next in
     let same : session_of ks x ≡ z = some_same (sym (session_some d ks xs next id at x place within is) ∙ found) in
     after_world d ks ls xs next id at x y sound place is within h
-    ∙ ap (λ (s : model.Session). let v : World = record w { sessions = change_first (has_id id) (λ old. s) w.sessions } in v) (shown ∙ ap (λ (s : model.Session). run_ended (window_shows name s)) same)
+    ∙ ap (λ (s : model.Session). let v : World = record w { sessions = change_first (has_id id) (λ old. s) w.sessions } in v) (shown ∙ ap f same)
   where
     some_same : {A : Type 0} {a b : A} → Path (Option A) (Some a) (Some b) → a ≡ b
     some_same e = cc
+
+pub shown_world : (d : Directory) (ks ls : List MarkedBuffer) (xs : List Session) (next : Option ℕ) (id at : ℕ) (name : List ℕ) (x y : Session) (z : model.Session) → IsSound ks xs → at ≡ position_or_len (session_id id) xs → x ≡ get_or xs at x → at < length xs → Rearranged ks ls x y
+    → session_of ls y ≡ run_ended (window_shows name (session_of ks x)) → find_session id (world_of d ks xs next).sessions ≡ Some z → world_of d ls (slice_set xs at y) next ≡ shown_in id name z (world_of d ks xs next)
+shown_world d ks ls xs next id at name x y z = made_world (λ s. run_ended (window_shows name s)) d ks ls xs next id at x y z

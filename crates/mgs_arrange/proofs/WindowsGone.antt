@@ -13,9 +13,11 @@ use Rattle.mgs_model.specs.declared.message.Message.TheVariants.{OnlyOneWindow}
 use Rattle.mgs_model.specs.declared.session.Arrangement.TheVariants.{DeleteWindow}
 use Rattle.mgs_buffers.specs.MarkedBuffer.{MarkedBuffer}
 use Rattle.mgs_windows.specs.Panes as panes
-use Rattle.mgs_windows.specs.Panes.{height_at, is_place_in, places_after, shows_at, window_removed, windows_without, with_place}
+use Rattle.mgs_windows.specs.Panes.{height_at, is_place_in, places_after, rows_at, shows_at, window_removed, windows_without, with_place}
 use Rattle.mgs_windows.specs.declared.WindowMarks.{WindowMarks}
 use Rattle.mgs_windows.specs.declared.Window.{Window}
+use Rattle.mgs_windows.specs.declared.RowPane.{RowPane}
+use Rattle.mgs_windows.specs.declared.RowPane.TheVariants.{NoRows, Buffers, Entries}
 use Rattle.mgs_windows.proofs.Heights.{length_changed, length_removed, shows_same}
 use Rattle.mgs_session.specs.declared.Session.{Session}
 use Rattle.mgs_session.specs.Sessions.{told}
@@ -48,31 +50,31 @@ sum_changed used f (suc i) (x ∷ xs) same = omega (arith, sum_changed used f i 
 
 -- WHAT IS SEEN OF WINDOWS
 
-shown_grown : (ks : List MarkedBuffer) (n h : ℕ) (o : Option WindowMarks) → window_shown ks (h + n) o ≡ grown n (window_shown ks h o)
-shown_grown ks n h None = refl
-shown_grown ks n h (Some x) = refl
+shown_grown : (ks : List MarkedBuffer) (n h : ℕ) (o : Option WindowMarks) (rows : RowPane) → window_shown ks (h + n) o rows ≡ grown n (window_shown ks h o rows)
+shown_grown ks n h None rows = refl
+shown_grown ks n h (Some x) rows = refl
 
 pub seen_grown : (ks : List MarkedBuffer) (n : ℕ) (x : Window) → window_of ks (panes.grown n x) ≡ grown n (window_of ks x)
-seen_grown ks n x = shown_grown ks n x.height x.shows
+seen_grown ks n x = shown_grown ks n x.height x.shows x.rows
 
-shown_shrunk : (ks : List MarkedBuffer) (n h : ℕ) (o : Option WindowMarks) → window_shown ks (h - n) o ≡ shrunk n (window_shown ks h o)
-shown_shrunk ks n h None = refl
-shown_shrunk ks n h (Some x) = refl
+shown_shrunk : (ks : List MarkedBuffer) (n h : ℕ) (o : Option WindowMarks) (rows : RowPane) → window_shown ks (h - n) o rows ≡ shrunk n (window_shown ks h o rows)
+shown_shrunk ks n h None rows = refl
+shown_shrunk ks n h (Some x) rows = refl
 
 pub seen_shrunk : (ks : List MarkedBuffer) (n : ℕ) (x : Window) → window_of ks (panes.shrunk n x) ≡ shrunk n (window_of ks x)
-seen_shrunk ks n x = shown_shrunk ks n x.height x.shows
+seen_shrunk ks n x = shown_shrunk ks n x.height x.shows x.rows
 
-pub height_shown : (ks : List MarkedBuffer) (h : ℕ) (o : Option WindowMarks) → (window_shown ks h o).height ≡ h
-height_shown ks h None = refl
-height_shown ks h (Some x) = refl
+pub height_shown : (ks : List MarkedBuffer) (h : ℕ) (o : Option WindowMarks) (rows : RowPane) → (window_shown ks h o rows).height ≡ h
+height_shown ks h None rows = refl
+height_shown ks h (Some x) rows = refl
 
-pub window_seen : (ks : List MarkedBuffer) (k : ℕ) (xs : List Window) → k < length xs → window_at k (map (window_of ks) xs) ≡ window_shown ks (height_at k xs) (shows_at k xs)
+pub window_seen : (ks : List MarkedBuffer) (k : ℕ) (xs : List Window) → k < length xs → window_at k (map (window_of ks) xs) ≡ window_shown ks (height_at k xs) (shows_at k xs) (rows_at k xs)
 window_seen ks k [] within = absurd (omega (arith, within))
 window_seen ks zero (x ∷ xs) within = refl
 window_seen ks (suc k) (x ∷ xs) within = window_seen ks k xs (omega (arith, within))
 
 pub height_seen : (ks : List MarkedBuffer) (k : ℕ) (xs : List Window) → k < length xs → (window_at k (map (window_of ks) xs)).height ≡ height_at k xs
-height_seen ks k xs within = ap (λ (w : model.Window). w.height) (window_seen ks k xs within) ∙ height_shown ks (height_at k xs) (shows_at k xs)
+height_seen ks k xs within = ap (λ (w : model.Window). w.height) (window_seen ks k xs within) ∙ height_shown ks (height_at k xs) (shows_at k xs) (rows_at k xs)
 
 windows_gone : (ks : List MarkedBuffer) (k to : ℕ) (xs : List Window) → k < length xs → map (window_of ks) (windows_without k to xs) ≡ remove (change_at to (grown ((window_at k (map (window_of ks) xs)).height + 1)) (map (window_of ks) xs)) k
 windows_gone ks k to xs within =
@@ -91,16 +93,18 @@ place_put ks x (q ∷ qs) =
       | false ↦ ap (λ ps. place_of ks q ∷ ps) (place_put ks x qs)
     ]
 
-pub places_seen : (ks : List MarkedBuffer) (h : ℕ) (o : Option WindowMarks) (ps : List WindowMarks) → map (place_of ks) (places_after o ps) ≡ left_by (window_shown ks h o) (map (place_of ks) ps)
-places_seen ks h None ps = refl
-places_seen ks h (Some x) ps = place_put ks x ps
+pub places_seen : (ks : List MarkedBuffer) (h : ℕ) (o : Option WindowMarks) (rows : RowPane) (ps : List WindowMarks) → map (place_of ks) (places_after o ps) ≡ left_by (window_shown ks h o rows) (map (place_of ks) ps)
+places_seen ks h None NoRows ps = refl
+places_seen ks h None (Buffers row) ps = refl
+places_seen ks h None (Entries name row) ps = refl
+places_seen ks h (Some x) rows ps = place_put ks x ps
 
 -- the session, where its marks stay
 session_gone : (ks : List MarkedBuffer) (x : Session) (k to : ℕ) → k < length x.windows.windows → session_of ks (record x { windows = window_removed k to x.windows }) ≡ window_gone k to (session_of ks x)
 session_gone ks x k to within =
     same_positions (record (session_of ks x) { selected = panes.closer k x.windows.selected }) _ _ _ _
     (windows_gone ks k to x.windows.windows within)
-    (places_seen ks (height_at k x.windows.windows) (shows_at k x.windows.windows) x.windows.places
+    (places_seen ks (height_at k x.windows.windows) (shows_at k x.windows.windows) (rows_at k x.windows.windows) x.windows.places
     ∙ ap (λ (w : model.Window). left_by w (map (place_of ks) x.windows.places)) (sym (window_seen ks k x.windows.windows within)))
 
 -- THE MARKS THAT ARE USED

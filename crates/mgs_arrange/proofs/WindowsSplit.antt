@@ -13,9 +13,10 @@ use Rattle.mgs_model.specs.declared.message.Message.TheVariants.{WindowTooSmall,
 use Rattle.mgs_model.specs.declared.session.Arrangement.TheVariants.{SplitWindow}
 use Rattle.mgs_buffers.specs.MarkedBuffer.{MarkedBuffer, mark_at}
 use Rattle.mgs_windows.specs.Panes as panes
-use Rattle.mgs_windows.specs.Panes.{height_at, shows_at, split_at}
+use Rattle.mgs_windows.specs.Panes.{height_at, rows_at, shows_at, split_at}
 use Rattle.mgs_windows.specs.declared.WindowMarks.{WindowMarks}
 use Rattle.mgs_windows.specs.declared.Window.{Window}
+use Rattle.mgs_windows.specs.declared.RowPane.{RowPane}
 use Rattle.mgs_session.specs.declared.Session.{Session}
 use Rattle.mgs_session.specs.Sessions.{told}
 use Rattle.mgs_world.specs.Worlds.{buffers_of, session_of, window_of, window_shown}
@@ -106,29 +107,29 @@ copied_uses (Some x) None ks ls h m i = absurd h
 copied_uses (Some x) (Some y) ks ls h m i = h.uses m i
 
 -- it is seen as what it was copied from was
-copied_shown : (o p : Option WindowMarks) (ks ls : List MarkedBuffer) (height : ℕ) → IsCopied o p ks ls → window_shown ls height p ≡ window_shown ks height o
-copied_shown None None ks ls height h = refl
-copied_shown None (Some y) ks ls height h = absurd h
-copied_shown (Some x) None ks ls height h = absurd h
-copied_shown (Some x) (Some y) ks ls height h =
+copied_shown : (o p : Option WindowMarks) (ks ls : List MarkedBuffer) (height : ℕ) (rows : RowPane) → IsCopied o p ks ls → window_shown ls height p rows ≡ window_shown ks height o rows
+copied_shown None None ks ls height rows h = refl
+copied_shown None (Some y) ks ls height rows h = absurd h
+copied_shown (Some x) None ks ls height rows h = absurd h
+copied_shown (Some x) (Some y) ks ls height rows h =
     ap (λ (n : List ℕ). let w : model.Window = record { shows = Buffer_of n; point = mark_at n ls y.point; mark = option_map (mark_at n ls) y.mark; top = mark_at n ls y.top; row = 0; height = height } in w) h.named
     ∙ same_window (Buffer_of x.name) _ _ _ _ _ _ 0 height h.point h.mark h.top
 
 -- THE WINDOWS AFTERWARDS
 
-upper_seen : (ks : List MarkedBuffer) (h : ℕ) (o : Option WindowMarks) → window_shown ks (h / 2) o ≡ upper_half (window_shown ks h o)
-upper_seen ks h None = refl
-upper_seen ks h (Some x) = refl
+upper_seen : (ks : List MarkedBuffer) (h : ℕ) (o : Option WindowMarks) (rows : RowPane) → window_shown ks (h / 2) o rows ≡ upper_half (window_shown ks h o rows)
+upper_seen ks h None rows = refl
+upper_seen ks h (Some x) rows = refl
 
-lower_seen : (ks : List MarkedBuffer) (h : ℕ) (o : Option WindowMarks) → window_shown ks (h - 1 - h / 2) o ≡ lower_half (window_shown ks h o)
-lower_seen ks h None = refl
-lower_seen ks h (Some x) = refl
+lower_seen : (ks : List MarkedBuffer) (h : ℕ) (o : Option WindowMarks) (rows : RowPane) → window_shown ks (h - 1 - h / 2) o rows ≡ lower_half (window_shown ks h o rows)
+lower_seen ks h None rows = refl
+lower_seen ks h (Some x) rows = refl
 
-split_there : (ls : List MarkedBuffer) (p : Option WindowMarks) (k : ℕ) (xs : List Window) → k < length xs → ((h : ℕ) → window_shown ls h p ≡ window_shown ls h (shows_at k xs)) → map (window_of ls) (split_at k p xs) ≡ insert (change_at k upper_half (map (window_of ls) xs)) (suc k) (lower_half (window_at k (map (window_of ls) xs)))
+split_there : (ls : List MarkedBuffer) (p : Option WindowMarks) (k : ℕ) (xs : List Window) → k < length xs → ((h : ℕ) → window_shown ls h p (rows_at k xs) ≡ window_shown ls h (shows_at k xs) (rows_at k xs)) → map (window_of ls) (split_at k p xs) ≡ insert (change_at k upper_half (map (window_of ls) xs)) (suc k) (lower_half (window_at k (map (window_of ls) xs)))
 split_there ls p k [] within same = absurd (omega (arith, within))
 split_there ls p zero (x ∷ xs) within same =
-    ap (λ (w : model.Window). w ∷ window_shown ls (x.height - 1 - x.height / 2) p ∷ map (window_of ls) xs) (upper_seen ls x.height x.shows)
-    ∙ ap (λ (w : model.Window). upper_half (window_of ls x) ∷ w ∷ map (window_of ls) xs) (same (x.height - 1 - x.height / 2) ∙ lower_seen ls x.height x.shows)
+    ap (λ (w : model.Window). w ∷ window_shown ls (x.height - 1 - x.height / 2) p x.rows ∷ map (window_of ls) xs) (upper_seen ls x.height x.shows x.rows)
+    ∙ ap (λ (w : model.Window). upper_half (window_of ls x) ∷ w ∷ map (window_of ls) xs) (same (x.height - 1 - x.height / 2) ∙ lower_seen ls x.height x.shows x.rows)
 split_there ls p (suc k) (x ∷ xs) within same = ap (λ ws. window_of ls x ∷ ws) (split_there ls p k xs (omega (arith, within)) same)
 
 -- THE SESSION AFTERWARDS
@@ -156,9 +157,9 @@ split_seen ks ls capacity p x w e sound h =
     let within = some_within xs k w e in
     let next : suc k ≡ k + 1 = omega arith in
     let shows : w.shows ≡ shows_at k xs = sym (selected_shows x w e) in
-    let one : (n : ℕ) → window_shown ls n (shows_at k xs) ≡ window_shown ks n (shows_at k xs) =
-    λ n. window_local ls ks (record { height = n; shows = shows_at k xs }) (λ m i used. used_still ks ls w.shows p x sound h m i (omega (arith, used, shown_uses m i k xs))) in
-    let same : (n : ℕ) → window_shown ls n p ≡ window_shown ls n (shows_at k xs) = λ n. copied_shown w.shows p ks ls n h ∙ ap (window_shown ks n) shows ∙ sym (one n) in
+    let one : (n : ℕ) → window_shown ls n (shows_at k xs) (rows_at k xs) ≡ window_shown ks n (shows_at k xs) (rows_at k xs) =
+    λ n. window_local ls ks (record { height = n; shows = shows_at k xs; rows = rows_at k xs }) (λ m i used. used_still ks ls w.shows p x sound h m i (omega (arith, used, shown_uses m i k xs))) in
+    let same : (n : ℕ) → window_shown ls n p (rows_at k xs) ≡ window_shown ls n (shows_at k xs) (rows_at k xs) = λ n. copied_shown w.shows p ks ls n (rows_at k xs) h ∙ ap (λ (o : Option WindowMarks). window_shown ks n o (rows_at k xs)) shows ∙ sym (one n) in
     same_windows (session_of ls x) _ _
     (split_there ls p k xs within same ∙ ap (λ (n : ℕ). insert (change_at k upper_half (map (window_of ls) xs)) n (lower_half (window_at k (map (window_of ls) xs)))) next)
     ∙ ap window_split (session_local ls ks x (used_still ks ls w.shows p x sound h))

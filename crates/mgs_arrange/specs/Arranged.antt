@@ -1,6 +1,6 @@
 -- What each arrangement does to a session of the model that is in no mode.
 use Rattle.std.specs.Prelude.{ℕ, zero, suc, ◌+◌, ◌-◌, ◌/◌, nat_lt, nat_le, ◌==◌, cond, if◌then◌else◌, List, [], ◌∷◌, length, insert, remove, Option, None, Result, Ok, Err}
-use Rattle.mgs_model.specs.World.{Place, Window, Session, Listing}
+use Rattle.mgs_model.specs.World.{Place, Window, Session, Shows, Listing}
 use Rattle.mgs_model.specs.Plans.{count_of, heir, neighbor}
 use Rattle.mgs_model.specs.Apply.{change_at, left_places, window_at}
 use Rattle.mgs_windows.specs.Panes.{closer}
@@ -90,14 +90,16 @@ next_index k count = cond (nat_lt (k + 1) count) (k + 1) 0
 abbrev pub previous_index : ℕ → ℕ → ℕ
 previous_index k count = cond (k == 0) (count - 1) (k - 1)
 
--- THE LIST OF BUFFERS
+-- ROWS IN PLACE OF A TEXT
 
-abbrev pub listing_for : Window → Window
-listing_for x = record { shows = Listing; point = 0; mark = None; top = 0; row = 0; height = x.height }
+-- the list of buffers or an access list, from its first row on
+abbrev pub listing_for : Shows → Window → Window
+listing_for shows x = record { shows = shows; point = 0; mark = None; top = 0; row = 0; height = x.height }
 
-abbrev pub window_lists : Session → Session
-window_lists x =
-    record x { windows = change_at x.selected listing_for x.windows; places = left_by (window_at x.selected x.windows) x.places }
+-- the selected window leaves its place, and comes to it
+abbrev pub window_lists : Shows → Session → Session
+window_lists shows x =
+    record x { windows = change_at x.selected (listing_for shows) x.windows; places = left_by (window_at x.selected x.windows) x.places }
 
 -- ARRANGEMENTS
 
@@ -122,7 +124,7 @@ rearranged EnlargeWindow n x =
 rearranged ShrinkWindow n x =
     if nat_lt (length x.windows) 2 then Err OnlyOneWindow
     else rows_given_if x.selected (neighbor x.selected (length x.windows)) (count_of n) x
-rearranged ListBuffers n x = Ok (window_lists x)
+rearranged ListBuffers n x = Ok (window_lists Listing x)
 
 -- the session afterwards in either case
 abbrev pub arranged_or_told : Result Session Message → Session → Session

@@ -1,9 +1,9 @@
 -- What an arrangement does to the marks of its session.
-use Rattle.std.specs.Prelude.{◌≡◌, ℕ, ◌+◌, ◌≤◌, Bool, true, false, List, Option, Some, None, Ok}
+use Rattle.std.specs.Prelude.{◌≡◌, ℕ, ◌+◌, ◌≤◌, List, Option, Some, None, Ok}
 use Rattle.std.specs.Option.{option_map}
 use Rattle.mgs_model.specs.World as model
 use Rattle.mgs_model.specs.declared.session.Arrangement.{Arrangement}
-use Rattle.mgs_model.specs.declared.session.Arrangement.TheVariants.{ListBuffers, SplitWindow}
+use Rattle.mgs_model.specs.declared.session.Arrangement.TheVariants.{SplitWindow}
 use Rattle.mgs_buffers.specs.MarkedBuffer.{MarkedBuffer, mark_at}
 use Rattle.mgs_windows.specs.declared.WindowMarks.{WindowMarks}
 use Rattle.mgs_session.specs.declared.Session.{Session}
@@ -11,11 +11,6 @@ use Rattle.mgs_world.specs.Worlds.{buffers_of, session_of, size_in}
 use Rattle.mgs_world.specs.Sound.{in_use, session_uses}
 use Rattle.mgs_world.specs.WindowMarks.{MarksStay, WindowMarksAdded}
 use Rattle.mgs_arrange.specs.Arranged.{rearranged, arranged_or_told, run_ended, window_split}
-
--- the list of buffers is not shown in a window yet
-abbrev pub is_arranged_here : Arrangement → Bool
-is_arranged_here ListBuffers = false
-is_arranged_here _ = true
 
 -- the buffers are the same, and the marks in use go with what the session uses
 pub record Rearranged (ks ls : List MarkedBuffer) (x y : Session) : Type 0 where

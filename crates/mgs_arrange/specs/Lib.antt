@@ -1,3 +1,4 @@
 pub mod Arranged
 pub mod Arranging
 pub mod Showing
+pub mod Listing

@@ -12,9 +12,10 @@ ghost use Rattle.mgs_buffers.specs.MarkedBuffer.{MarkedBuffer};
 ghost use Rattle.mgs_world.specs.Sound.{IsSessionSound, IsSound};
 ghost use Rattle.mgs_world.specs.WindowMarks.{WindowMarksDropped};
 ghost use Rattle.mgs_world.specs.Worlds.{idle, own_at, session_id, session_of, sizes_in, world_of};
-ghost use Rattle.mgs_arrange.specs.Arranging.{IsArranged, IsDone, IsResized, MayBeRefused, Rearranged, is_arranged_here};
+ghost use Rattle.mgs_arrange.specs.Arranging.{IsArranged, IsDone, IsResized, MayBeRefused, Rearranged};
 
 use crate::leaving::{delete, delete_others};
+use crate::listing::list_buffers;
 use crate::resizing::{enlarge, select_next, select_previous, shrink};
 use crate::splitting::split;
 use mgs_buffers::Buffers;
@@ -29,8 +30,7 @@ fn rearrange_windows<T: Marked + Drop>(
     arrangement: Arrangement,
     argument: Option<usize>,
 ) -> Result<(), Short>
-    requires sound { IsSessionSound buffers.old session.old }
-    requires here { is_arranged_here arrangement ≡ true }
+    requires { IsSessionSound buffers.old session.old }
     ensures selected { session.old.windows.selected < length session.old.windows.windows }
     ensures rearranged { OnOk result (Rearranged buffers.old buffers.new session.old session.new) }
     ensures arranged { OnOk result (IsArranged arrangement argument buffers.old buffers.new session.old session.new) }
@@ -49,8 +49,7 @@ fn rearrange_windows<T: Marked + Drop>(
         Arrangement::PreviousWindow => select_previous(session),
         Arrangement::EnlargeWindow => enlarge(session, argument),
         Arrangement::ShrinkWindow => shrink(session, argument),
-        // The list of buffers is not shown in a window yet.
-        Arrangement::ListBuffers => {}
+        Arrangement::ListBuffers => list_buffers(buffers, session),
     }
     Ok(())
 }
@@ -62,8 +61,7 @@ fn rearrange_session<T: Marked + Drop>(
     arrangement: Arrangement,
     argument: Option<usize>,
 ) -> Result<(), Short>
-    requires sound { IsSessionSound buffers.old session.old }
-    requires here { is_arranged_here arrangement ≡ true }
+    requires { IsSessionSound buffers.old session.old }
     ensures selected { session.old.windows.selected < length session.old.windows.windows }
     ensures rearranged { OnOk result (Rearranged buffers.old buffers.new session.old session.new) }
     ensures done { OnOk result (IsDone arrangement argument buffers.old buffers.new session.old session.new) }
@@ -90,7 +88,6 @@ pub fn rearrange<T: Marked + Drop>(
     requires sound { IsSound buffers.old sessions.old }
     requires within { at < length sessions.old }
     requires fresh { own_at at sessions.old ≡ idle (own_at at sessions.old) }
-    requires here { is_arranged_here arrangement ≡ true }
     ensures sound { IsSound buffers.new sessions.new }
     ensures sizes { sizes_in sessions.new ≡ sizes_in sessions.old }
     ensures ok { OnOk result ((directory : Directory) (id : ℕ) (next : Option ℕ) → at ≡ position_or_len (session_id id) sessions.old → world_of directory buffers.new sessions.new next ≡ act (world_of directory buffers.old sessions.old next) id (Run (Rearrange arrangement) argument []) true) }

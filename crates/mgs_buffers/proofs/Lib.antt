@@ -4,4 +4,5 @@ pub mod Limits
 pub mod Changes
 pub mod Unmarked
 mod Completed
+pub mod Judged
 pub mod Told

@@ -2,4 +2,5 @@ pub mod Adding
 pub mod MarkedBuffer
 pub mod Contents
 pub mod Completed
+pub mod Judging
 pub mod Told

@@ -64,6 +64,13 @@ marked_edited a b put k = record { buffer = buffer_edited a b put k.buffer; mark
 abbrev pub marked_unmodified : MarkedBuffer → MarkedBuffer
 marked_unmodified k = record { buffer = buffer_unmodified k.buffer; marks = k.marks }
 
+-- another owner, and another access list
+abbrev pub marked_reowned : List ℕ → MarkedBuffer → MarkedBuffer
+marked_reowned owner k = record { buffer = record k.buffer { owner = owner }; marks = k.marks }
+
+abbrev pub marked_relisted : List Entry → MarkedBuffer → MarkedBuffer
+marked_relisted entries k = record { buffer = record k.buffer { entries = entries }; marks = k.marks }
+
 -- a mark put at a position
 abbrev pub marked_placed : ℕ → ℕ → MarkedBuffer → MarkedBuffer
 marked_placed id p k = record { buffer = k.buffer; marks = slice_set k.marks id (Some p) }

@@ -4,10 +4,14 @@ ghost use Rattle.mgs_model.specs.Access.{decider, decision, decision_by};
 ghost use Rattle.mgs_model.specs.Apply.{first_entries};
 ghost use Rattle.mgs_model.specs.World.{may};
 ghost use Rattle.mgs_marks.specs.Marks.{mark_in};
-ghost use Rattle.mgs_buffers.specs.MarkedBuffer.{marked_new, marked_edited, marked_placed, marked_unmodified, with_marks};
+ghost use Rattle.mgs_buffers.specs.MarkedBuffer.{marked_new, marked_edited, marked_placed, marked_relisted, marked_reowned, marked_unmodified, with_marks};
 ghost use Rattle.mgs_buffers.specs.Contents.{marked_of};
+ghost use Rattle.mgs_buffers.specs.Judging.{StaysRight};
+ghost use Rattle.mgs_cache.specs.Kept.{AreRight};
 
+use crate::judging::judged;
 use mgs_acl::{Entry, EntryType, Who};
+use mgs_cache::Judge;
 use mgs_marks::Marked;
 use mgs_model::{Decision, MarkId, Mask, Name, Right, Short};
 use mgs_policy::{Directory, decide, decide_right, is_granted};
@@ -96,6 +100,46 @@ impl<T: Marked + Drop> Buffer<T> {
         is_granted(&self.list, &self.owner, user, directory, right)
     }
 
+    /// What a judge decides on one right of a user, where the buffer stands at a place.
+    pub fn decide_by(
+        &self,
+        judge: &mut Judge,
+        place: usize,
+        directory: &Directory,
+        user: &Name,
+        right: Right,
+    ) -> Decision
+        requires { AreRight place directory.now self.now.owner self.now.list judge.old }
+        ensures value { result ≡ decision_by (decider directory.now self.now.owner user.now self.now.list) (right ∷ []) }
+        ensures stays { StaysRight place directory.now self.now.owner self.now.list judge.old judge.new }
+    {
+        judged(
+            judge,
+            place,
+            &self.list,
+            &self.owner,
+            user,
+            directory,
+            right,
+        )
+    }
+
+    /// Whether a judge grants it.
+    pub fn grants_by(
+        &self,
+        judge: &mut Judge,
+        place: usize,
+        directory: &Directory,
+        user: &Name,
+        right: Right,
+    ) -> bool
+        requires { AreRight place directory.now self.now.owner self.now.list judge.old }
+        ensures value { (name : List ℕ) → result ≡ may directory.now user.now right (marked_of T.text T.marks name self.now).buffer }
+        ensures stays { StaysRight place directory.now self.now.owner self.now.list judge.old judge.new }
+    {
+        self.decide_by(judge, place, directory, user, right) == Decision::Granted
+    }
+
     /// Puts a mark of the text at a position.
     pub fn place(&mut self, id: MarkId, p: usize)
         requires used { IsSome (mark_in (T.marks self.old.text) id) }
@@ -156,5 +200,19 @@ impl<T: Marked + Drop> Buffer<T> {
         ensures { (name : List ℕ) → marked_of T.text T.marks name self.new ≡ marked_unmodified (marked_of T.text T.marks name self.old) }
     {
         self.modified = false;
+    }
+
+    /// Another user owns the buffer.
+    pub fn reown(&mut self, owner: Name)
+        ensures { (name : List ℕ) → marked_of T.text T.marks name self.new ≡ marked_reowned owner (marked_of T.text T.marks name self.old) }
+    {
+        self.owner = owner;
+    }
+
+    /// Another access list takes the place of the buffer's.
+    pub fn relist(&mut self, list: mgs_acl::List)
+        ensures { (name : List ℕ) → marked_of T.text T.marks name self.new ≡ marked_relisted list (marked_of T.text T.marks name self.old) }
+    {
+        self.list = list;
     }
 }

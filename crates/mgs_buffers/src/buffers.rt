@@ -13,8 +13,9 @@ ghost use Rattle.mgs_model.specs.World.{may};
 ghost use Rattle.mgs_buffers.specs.Adding.{add_fault, AddAnswers, NamesToAdd};
 ghost use Rattle.mgs_buffers.specs.Completed.{IsWithinName};
 ghost use Rattle.mgs_buffers.specs.Contents.{marked_of};
+ghost use Rattle.mgs_buffers.specs.Judging.{AreJudged, IsRuled, rules_kept};
 ghost use Rattle.mgs_buffers.specs.Told.{attributes_read, attributes_found};
-ghost use Rattle.mgs_buffers.specs.MarkedBuffer.{AreUnmarked, AreWithinLimit, marked_named, marked_at, has_buffer, HasBuffer, IsMark, mark_at, marked_created, marked_new, marked_edited, marked_placed, marked_unmodified, without_marked, MarkAdded, MarkDropped};
+ghost use Rattle.mgs_buffers.specs.MarkedBuffer.{AreUnmarked, AreWithinLimit, marked_named, marked_at, has_buffer, HasBuffer, IsMark, mark_at, marked_created, marked_new, marked_edited, marked_placed, marked_relisted, marked_reowned, marked_unmodified, without_marked, MarkAdded, MarkDropped};
 
 use crate::buffer::{Buffer, new_buffer, owners_list};
 use crate::completing::completion;
@@ -23,6 +24,7 @@ use crate::naming::name_typed;
 use crate::telling::{Attributes, is_shown, told};
 use indexmap::IndexMap;
 use mgs_acl::{Entry, user_named};
+use mgs_cache::Judge;
 use mgs_marks::Marked;
 use mgs_model::{BUFFER_LIMIT, Decision, MarkId, Mask, Name, Right, Short, TEXT_LIMIT};
 use mgs_policy::Directory;
@@ -252,6 +254,61 @@ impl<T: Marked + Drop> Buffers<T> {
         self.buffer(name).grants(directory, user, right)
     }
 
+    // The place of a buffer, and the buffer.
+    fn placed(&self, name: &Name) -> (usize, &Buffer<T>)
+        requires { HasBuffer name.now self.now }
+        ensures buffer { marked_of T.text T.marks name.now result.1.now ≡ marked_at name.now self.now }
+        ensures place { IsRuled result.0 result.1.now.owner result.1.now.list (rules_kept self.now) }
+    {
+        let (place, _, buffer) = self.all.get_full(name).unwrap();
+        (place, buffer)
+    }
+
+    /// A judge for these buffers, which keeps nothing yet. `Short`: memory was refused.
+    #[tactic(auto, using(crate::proofs::Judged::judged_none))]
+    pub fn judge(&self) -> Result<Judge, Short>
+        ensures { IfOk result (λ judge. (directory : Directory) → AreJudged directory (rules_kept self.now) judge) }
+    {
+        Judge::new(self.alloc)
+    }
+
+    /// What the buffer's access list decides on one right of a user, as `decide` says, by a judge that keeps what was decided on
+    /// these buffers.
+    pub fn decide_by(
+        &self,
+        judge: &mut Judge,
+        directory: &Directory,
+        name: &Name,
+        user: &Name,
+        right: Right,
+    ) -> Decision
+        requires kept { HasBuffer name.now self.now }
+        requires judged { AreJudged directory.now (rules_kept self.now) judge.old }
+        ensures value { let b = (marked_at name.now self.now).buffer in result ≡ decision_by (decider directory.now b.owner user.now b.entries) (right ∷ []) }
+        ensures judged { AreJudged directory.now (rules_kept self.now) judge.new }
+    {
+        let (place, buffer) = self.placed(name);
+        buffer.decide_by(judge, place, directory, user, right)
+    }
+
+    /// Whether a user is granted a right on the buffer, by a judge that keeps what was decided on these buffers.
+    pub fn grants_by(
+        &self,
+        judge: &mut Judge,
+        directory: &Directory,
+        name: &Name,
+        user: &Name,
+        right: Right,
+    ) -> bool
+        requires kept { HasBuffer name.now self.now }
+        requires judged { AreJudged directory.now (rules_kept self.now) judge.old }
+        ensures value { result ≡ may directory.now user.now right (marked_at name.now self.now).buffer }
+        ensures judged { AreJudged directory.now (rules_kept self.now) judge.new }
+    {
+        let (place, buffer) = self.placed(name);
+        buffer.grants_by(judge, place, directory, user, right)
+    }
+
     /// The first buffer on which a user is granted READ_ATTRIBUTES: its name.
     pub fn first_shown(&self, directory: &Directory, user: &Name) -> Option<Name>
         ensures value { result ≡ option_map (λ b. b.name) (find (may directory.now user.now Right.ReadAttributes) (map (λ k. k.buffer) self.now)) }
@@ -266,21 +323,38 @@ impl<T: Marked + Drop> Buffers<T> {
     }
 
     /// What is typed as a buffer's name is completed to: the longest text with which the names begin that begin with `input`, of
-    /// the buffers on which a user is granted READ_ATTRIBUTES. `None`: there is no such name.
-    pub fn completion(&self, directory: &Directory, user: &Name, input: &[u8]) -> Option<&[u8]>
+    /// the buffers on which a user is granted READ_ATTRIBUTES, by a judge that keeps what was decided on these buffers. `None`: there
+    /// is no such name.
+    pub fn completion<'a>(
+        &'a self,
+        judge: &mut Judge,
+        directory: &Directory,
+        user: &Name,
+        input: &[u8],
+    ) -> Option<&'a [u8]>
+        requires { AreJudged directory.now (rules_kept self.now) judge.old }
         ensures within { IsWithinName (option_map (λ t. t.now) result) }
         ensures value { option_map (λ t. t.now) result ≡ completion (granted_names directory.now user.now (map (λ k. k.buffer) self.now)) input.now }
+        ensures judged { AreJudged directory.now (rules_kept self.now) judge.new }
     {
-        completion(&self.all, directory, user, input)
+        completion(&self.all, judge, directory, user, input)
     }
 
-    /// What a user is told of the `i`-th buffer, in the order of creation: `None` where READ_ATTRIBUTES is not granted, and
-    /// where there are no more than `i` buffers.
-    pub fn attributes(&self, directory: &Directory, user: &Name, i: usize) -> Option<Attributes>
-        ensures { option_map attributes_read result ≡ attributes_found directory.now user.now (slice_get self.now i) }
+    /// What a user is told of the `i`-th buffer, in the order of creation: `None` where READ_ATTRIBUTES is not granted, by a judge
+    /// that keeps what was decided on these buffers, and where there are no more than `i` buffers.
+    pub fn attributes(
+        &self,
+        judge: &mut Judge,
+        directory: &Directory,
+        user: &Name,
+        i: usize,
+    ) -> Option<Attributes>
+        requires { AreJudged directory.now (rules_kept self.now) judge.old }
+        ensures value { option_map attributes_read result ≡ attributes_found directory.now user.now (slice_get self.now i) }
+        ensures judged { AreJudged directory.now (rules_kept self.now) judge.new }
     {
         match self.all.get_index(i) {
-            Some((name, buffer)) => told(name, buffer, directory, user),
+            Some((name, buffer)) => told(name, buffer, judge, i, directory, user),
             None => None,
         }
     }
@@ -291,6 +365,14 @@ impl<T: Marked + Drop> Buffers<T> {
         ensures { result.now ≡ (marked_at name.now self.now).buffer.entries }
     {
         self.buffer(name).list.as_slice()
+    }
+
+    /// The buffer's access list once more. It takes no memory.
+    pub fn copy_list(&self, name: &Name) -> mgs_acl::List
+        requires { HasBuffer name.now self.now }
+        ensures { result ≡ (marked_at name.now self.now).buffer.entries }
+    {
+        self.buffer(name).list.copy()
     }
 
     /// The buffer's text, with its marks.
@@ -423,5 +505,25 @@ impl<T: Marked + Drop> Buffers<T> {
         let at = self.place_of(name);
         let (_, buffer) = self.all.pair_mut(at);
         buffer.unmodify();
+    }
+
+    /// Another user owns the buffer. That it is a user of the directory is for the caller to see.
+    pub fn reown(&mut self, name: &Name, owner: Name)
+        requires { HasBuffer name.now self.old }
+        ensures { self.new ≡ change_first (marked_named name.now) (marked_reowned owner) self.old }
+    {
+        let at = self.place_of(name);
+        let (_, buffer) = self.all.pair_mut(at);
+        buffer.reown(owner);
+    }
+
+    /// Another access list takes the place of the buffer's.
+    pub fn relist(&mut self, name: &Name, list: mgs_acl::List)
+        requires { HasBuffer name.now self.old }
+        ensures { self.new ≡ change_first (marked_named name.now) (marked_relisted list) self.old }
+    {
+        let at = self.place_of(name);
+        let (_, buffer) = self.all.pair_mut(at);
+        buffer.relist(list);
     }
 }

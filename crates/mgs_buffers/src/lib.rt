@@ -5,6 +5,7 @@ mod buffer;
 mod buffers;
 mod completing;
 mod fault;
+mod judging;
 mod naming;
 mod telling;
 

@@ -3,9 +3,12 @@ ghost use Rattle.std.specs.Prelude.{◌≡◌};
 ghost use Rattle.std.specs.Option.{option_map};
 ghost use Rattle.mgs_model.specs.World.{may};
 ghost use Rattle.mgs_buffers.specs.Contents.{marked_of};
+ghost use Rattle.mgs_buffers.specs.Judging.{StaysRight};
+ghost use Rattle.mgs_cache.specs.Kept.{AreRight};
 ghost use Rattle.mgs_buffers.specs.Told.{attributes_read, attributes_to};
 
 use crate::buffer::Buffer;
+use mgs_cache::Judge;
 use mgs_marks::Marked;
 use mgs_model::{Name, Right};
 use mgs_policy::{Directory, is_granted};
@@ -40,16 +43,36 @@ pub(crate) fn is_shown<T: Marked + Drop>(
     )
 }
 
-// What a user is told of a buffer.
+// Whether a judge grants READ_ATTRIBUTES to a user on the buffer at a place.
+fn is_shown_by<T: Marked + Drop>(
+    name: &Name,
+    buffer: &Buffer<T>,
+    judge: &mut Judge,
+    place: usize,
+    directory: &Directory,
+    user: &Name,
+) -> bool
+    requires { AreRight place directory.now buffer.now.owner buffer.now.list judge.old }
+    ensures value { result ≡ may directory.now user.now Right.ReadAttributes (marked_of T.text T.marks name.now buffer.now).buffer }
+    ensures stays { StaysRight place directory.now buffer.now.owner buffer.now.list judge.old judge.new }
+{
+    buffer.grants_by(judge, place, directory, user, Right::ReadAttributes)
+}
+
+// What a user is told of the buffer at a place, by a judge.
 pub(crate) fn told<T: Marked + Drop>(
     name: &Name,
     buffer: &Buffer<T>,
+    judge: &mut Judge,
+    place: usize,
     directory: &Directory,
     user: &Name,
 ) -> Option<Attributes>
-    ensures { option_map attributes_read result ≡ attributes_to directory.now user.now (marked_of T.text T.marks name.now buffer.now).buffer }
+    requires { AreRight place directory.now buffer.now.owner buffer.now.list judge.old }
+    ensures value { option_map attributes_read result ≡ attributes_to directory.now user.now (marked_of T.text T.marks name.now buffer.now).buffer }
+    ensures stays { StaysRight place directory.now buffer.now.owner buffer.now.list judge.old judge.new }
 {
-    if is_shown(name, buffer, directory, user) {
+    if is_shown_by(name, buffer, judge, place, directory, user) {
         Some(Attributes {
             name: *name,
             modified: buffer.modified,

@@ -10,6 +10,8 @@ use Rattle.mgs_marks.specs.Marks.{mark_in}
 use Rattle.mgs_buffers.specs.MarkedBuffer.{MarkedBuffer, marked_at, mark_at}
 use Rattle.mgs_windows.specs.declared.WindowMarks.{WindowMarks}
 use Rattle.mgs_windows.specs.declared.Window.{Window}
+use Rattle.mgs_windows.specs.declared.RowPane.{RowPane}
+use Rattle.mgs_windows.specs.declared.RowPane.TheVariants.{NoRows, Buffers, Entries}
 use Rattle.mgs_session.specs.declared.Session.{Session}
 use Rattle.mgs_world.specs.Sound.{IsSound, one_if, option_uses, sum_of, window_marks_uses, window_uses, place_uses, session_uses, uses, in_use}
 use Rattle.mgs_world.specs.Worlds.{window_of, window_shown, place_of, session_of, world_of}
@@ -103,11 +105,13 @@ uses_counted f n true x h =
     ∙ marks_with_is f x.mark
 
 window_counted : (ks : List MarkedBuffer) (name : List ℕ) (n : ℕ) (x : Window) → IsBelow n (λ i. window_uses name i x) → over n (λ i. window_uses name i x) ≡ window_marks name (window_of ks x)
-window_counted ks name n x h = shown_counted x.height x.shows h
+window_counted ks name n x h = shown_counted x.height x.shows x.rows h
   where
-    shown_counted : (height : ℕ) (o : Option WindowMarks) → IsBelow n (λ i. window_marks_uses name i o) → over n (λ i. window_marks_uses name i o) ≡ window_marks name (window_shown ks height o)
-    shown_counted height None h = over_none n (λ i. 0) (λ i. refl)
-    shown_counted height (Some x) h = uses_counted (mark_at x.name ks) n (same_name name x.name) x h
+    shown_counted : (height : ℕ) (o : Option WindowMarks) (rows : RowPane) → IsBelow n (λ i. window_marks_uses name i o) → over n (λ i. window_marks_uses name i o) ≡ window_marks name (window_shown ks height o rows)
+    shown_counted height None NoRows h = over_none n (λ i. 0) (λ i. refl)
+    shown_counted height None (Buffers row) h = over_none n (λ i. 0) (λ i. refl)
+    shown_counted height None (Entries other row) h = over_none n (λ i. 0) (λ i. refl)
+    shown_counted height (Some x) rows h = uses_counted (mark_at x.name ks) n (same_name name x.name) x h
 
 place_counted : (ks : List MarkedBuffer) (name : List ℕ) (n : ℕ) (x : WindowMarks) → IsBelow n (λ i. place_uses name i x) → over n (λ i. place_uses name i x) ≡ place_marks name (place_of ks x)
 place_counted ks name n x h = uses_counted (mark_at x.name ks) n (same_name name x.name) x h

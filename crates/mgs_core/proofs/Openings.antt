@@ -14,6 +14,7 @@ use Rattle.mgs_model.specs.declared.limits.TheConstants.{SESSION_LIMIT}
 use Rattle.mgs_model.specs.declared.errors.OpenFault.TheVariants.{NoUser, Size, Full, Short}
 use Rattle.mgs_buffers.specs.MarkedBuffer.{MarkedBuffer}
 use Rattle.mgs_windows.specs.declared.WindowMarks.{WindowMarks}
+use Rattle.mgs_windows.specs.declared.RowPane.TheVariants.{NoRows}
 use Rattle.mgs_session.specs.Sessions.{session_opened}
 use Rattle.mgs_session.specs.declared.Session.{Session}
 use Rattle.mgs_world.specs.Worlds.{buffers_of, id_after, session_of, window_shown, world_of}
@@ -41,7 +42,7 @@ first_more : (o : Option WindowMarks) (ks ls : List MarkedBuffer) → FirstWindo
 first_more None ks ls h m i = omega (arith, h.uses m i)
 first_more (Some x) ks ls h m i = omega (arith, h.uses m i)
 
-first_window : (o : Option WindowMarks) (b : Option Buffer) (ks ls : List MarkedBuffer) (height : ℕ) → FirstWindowMarks o ks ls → window_marks_name o ≡ option_map (λ (b : Buffer). b.name) b → window_shown ls height o ≡ record { shows = first_shows b; point = 0; mark = None; top = 0; row = 0; height = height }
+first_window : (o : Option WindowMarks) (b : Option Buffer) (ks ls : List MarkedBuffer) (height : ℕ) → FirstWindowMarks o ks ls → window_marks_name o ≡ option_map (λ (b : Buffer). b.name) b → window_shown ls height o NoRows ≡ record { shows = first_shows b; point = 0; mark = None; top = 0; row = 0; height = height }
 first_window None None ks ls height h e = refl
 first_window None (Some b) ks ls height h e = cc
 first_window (Some x) None ks ls height h e = cc

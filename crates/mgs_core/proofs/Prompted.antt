@@ -21,7 +21,7 @@ use Rattle.mgs_model.specs.declared.session.Command.{Command}
 use Rattle.mgs_model.specs.declared.session.Command.TheVariants.{Exit}
 use Rattle.mgs_model.specs.declared.session.Mode.TheVariants.{Prompt}
 use Rattle.mgs_model.specs.declared.session.Question.{Question}
-use Rattle.mgs_model.specs.declared.session.Question.TheVariants.{SwitchTo, FindWhich, KillWhich, InsertWhich, RunWhich, GoToWhich, EntryToInsert, EntryToReplace, WhichOwner, ReplaceWhat, ReplaceWith}
+use Rattle.mgs_model.specs.declared.session.Question.TheVariants.{SwitchTo, FindWhich, KillWhich, InsertWhich, RunWhich, GoToWhich, EntryToInsert, EntryToReplace, WhichOwner, SearchWhat, ReplaceWhat, ReplaceWith}
 use Rattle.mgs_model.proofs.Completing.{shown_names_of}
 use Rattle.mgs_model.proofs.Plain.{is_single, turn_of}
 use Rattle.mgs_model.proofs.Saves.{is_save, act_saves_none}
@@ -33,7 +33,7 @@ use Rattle.mgs_mini.specs.declared.Waiting.{Waiting}
 use Rattle.mgs_mini.specs.declared.Waiting.TheVariants.{NoKey}
 use Rattle.mgs_maps.specs.Held.{is_bound}
 use Rattle.mgs_maps.specs.declared.maps.Fed.TheVariants as fed
-use Rattle.mgs_act.specs.declared.acts.KeyAct.TheVariants as acts
+use Rattle.mgs_act.specs.Actions.{act_of}
 use Rattle.mgs_buffers.specs.MarkedBuffer.{MarkedBuffer}
 use Rattle.mgs_session.specs.declared.Own.{Own}
 use Rattle.mgs_session.specs.declared.Session.{Session}
@@ -47,7 +47,7 @@ use Rattle.mgs_core.specs.declared.replying.Reply.TheVariants.{Asked, Named}
 use Rattle.mgs_core.specs.declared.typing.PromptStep.{PromptStep}
 use Rattle.mgs_core.specs.declared.typing.PromptStep.TheVariants as steps
 use Rattle.mgs_core.specs.Prompted.{CanReply, IsAnswerStep, IsAnswered, IsBoundReply, IsKept, IsPromptStep, asked_again, is_end, names_for, own_turn, prompt_put, reply_act, reply_to}
-use Rattle.mgs_core.specs.Steps.{ActedBy, TypedBy, is_exit}
+use Rattle.mgs_core.specs.Steps.{ActedBy, TypedBy, command_act, is_exit}
 use Rattle.mgs_core.proofs.Sizes.{place_sized}
 use Rattle.mgs_core.proofs.Steps.{bound_single, command_done, not_exit, seen_at, world_changed}
 
@@ -58,6 +58,11 @@ asked_turn : (c : Question) → is_asked c ≡ true → names_commands c ≡ fal
 asked_turn SwitchTo h none own = refl
 asked_turn FindWhich h none own = refl
 asked_turn KillWhich h none own = refl
+asked_turn InsertWhich h none own = refl
+asked_turn GoToWhich h none own = refl
+asked_turn EntryToInsert h none own = refl
+asked_turn EntryToReplace h none own = refl
+asked_turn WhichOwner h none own = refl
 asked_turn _ h none own = cc
 
 -- a command that is named
@@ -76,6 +81,7 @@ answered_single GoToWhich n typed = refl
 answered_single EntryToInsert n typed = refl
 answered_single EntryToReplace n typed = refl
 answered_single WhichOwner n typed = refl
+answered_single (SearchWhat d) n typed = refl
 answered_single ReplaceWhat n typed = refl
 answered_single ReplaceWith n typed = refl
 
@@ -89,6 +95,7 @@ answered_saves_none GoToWhich n typed = refl
 answered_saves_none EntryToInsert n typed = refl
 answered_saves_none EntryToReplace n typed = refl
 answered_saves_none WhichOwner n typed = refl
+answered_saves_none (SearchWhat d) n typed = refl
 answered_saves_none ReplaceWhat n typed = refl
 answered_saves_none ReplaceWith n typed = refl
 
@@ -176,7 +183,7 @@ end_any _ n = refl
 
 can_reply : (p : PromptInput) (n : Option ℕ) (r : Reply) → reply_to p ≡ Some r → IsBoundReply r → is_end r ≡ false → CanReply p n r
 can_reply p n Asked to bound goes_on = asks_own (names_commands p.question) (find_command p.input) to
-can_reply p n (Named c) to bound goes_on = (bound, not_exit (fed.Run c n) (acts.Run c n) bound (end_any c n ∙ goes_on) refl)
+can_reply p n (Named c) to bound goes_on = (bound, not_exit (fed.Run c n) (command_act c n) bound (end_any c n ∙ goes_on) refl)
 
 pub reply_single : (p : PromptInput) (n : Option ℕ) (r : Reply) → CanReply p n r → is_single (reply_act p n r) ≡ true
 reply_single p n Asked here = answered_single p.question n p.input
@@ -212,7 +219,7 @@ asked_at v x p byte is none turn one asked =
     ∙ ap (λ (o : model.Own). Do o (Run (answered p.question) (value_of x.own.keyboard.argument) p.input)) (plain_rests x p none)
 
 named_at : (v : View) (x : Session) (p : PromptInput) (c : Command) (byte : ℕ) → x.own.prompt ≡ Some p → p.waiting ≡ NoKey → IsStep p p byte Answered → reply_to p ≡ Some (Named c) → is_bound c ≡ true
-    → own_turn v x.own byte ≡ Do (idle (own_of x.own)) (Run c (value_of x.own.keyboard.argument) [])
+    → own_turn v x.own byte ≡ Do (idle (own_of x.own)) (act_of (command_act c (value_of x.own.keyboard.argument)))
 named_at v x p c byte is none turn to bound =
     let own : model.Own = own_of (prompting p x).own in
     let n : Option ℕ = value_of x.own.keyboard.argument in
@@ -221,7 +228,7 @@ named_at v x p c byte is none turn to bound =
     ∙ names_turn p.question named.0 own
     ∙ ap (named_turn (plain_own own) n) named.1
     ∙ command_done (plain_own own) n c bound
-    ∙ ap (λ (o : model.Own). Do o (Run c n [])) (plain_rests x p none)
+    ∙ ap (λ (o : model.Own). Do o (act_of (command_act c n))) (plain_rests x p none)
 
 unknown_at : (v : View) (x : Session) (p : PromptInput) (byte : ℕ) → x.own.prompt ≡ Some p → IsStep p p byte Answered → reply_to p ≡ None → own_turn v x.own byte ≡ Keep (own_of (failed NoSuchCommand x).own)
 unknown_at v x p byte is turn to =

@@ -96,7 +96,7 @@ keyed_exit d ks xs next t id at byte f k h place within is none read bound exit 
 
 -- nothing is said to stay
 pub apart_closed : (w : World) (id : ℕ) → Apart Anywhere id w (closed w id)
-apart_closed w id = record { directory = refl; buffers = tt; sessions = λ h. cc }
+apart_closed w id = record { directory = refl; buffers = tt; rules = λ h. cc; sessions = λ h. cc }
 
 -- what was typed, where it ends the session and where it does not
 pub typed_quit : (v w : World) (before after : StoreTold) (id byte : ℕ) (k : Keyed) → k ≡ keyed.Quit → TypedBy v w before after id byte k → KeyedBy v (closed v id) before after id byte keyed.Quit

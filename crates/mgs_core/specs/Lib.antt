@@ -1,5 +1,6 @@
 pub mod Steps
 pub mod Held
 pub mod Counts
+pub mod Judged
 pub mod Kept
 pub mod Prompted

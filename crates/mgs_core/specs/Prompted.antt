@@ -17,7 +17,7 @@ use Rattle.mgs_model.specs.declared.session.Mode.TheVariants.{Prompt}
 use Rattle.mgs_mini.specs.Typing.{PromptInput, is_asked, keys_of}
 use Rattle.mgs_maps.specs.Held.{is_bound}
 use Rattle.mgs_buffers.specs.MarkedBuffer.{MarkedBuffer}
-use Rattle.mgs_act.specs.declared.acts.KeyAct.TheVariants as acts
+use Rattle.mgs_act.specs.Actions.{act_of}
 use Rattle.mgs_session.specs.declared.Own.{Own}
 use Rattle.mgs_session.specs.declared.Session.{Session}
 use Rattle.mgs_session.specs.Sessions.{failed, resting}
@@ -26,7 +26,7 @@ use Rattle.mgs_core.specs.declared.replying.Reply.{Reply}
 use Rattle.mgs_core.specs.declared.replying.Reply.TheVariants.{Asked, Named}
 use Rattle.mgs_core.specs.declared.typing.PromptStep.{PromptStep}
 use Rattle.mgs_core.specs.declared.typing.PromptStep.TheVariants.{NoPrompt, Kept, Ends, Answered}
-use Rattle.mgs_core.specs.Steps.{is_acted}
+use Rattle.mgs_core.specs.Steps.{command_act, is_acted}
 
 -- the prompt of the session at an index
 abbrev pub prompt_at : ℕ → List Session → Option PromptInput
@@ -51,12 +51,12 @@ is_end _ = false
 -- the act that an answer asks for
 abbrev pub reply_act : PromptInput → Option ℕ → Reply → outcomes.Act
 reply_act p n Asked = outcomes.Run (answered p.question) n p.input
-reply_act p n (Named c) = outcomes.Run c n []
+reply_act p n (Named c) = act_of (command_act c n)
 
 -- what the server does: what a question is for that asks for no command's name, and the commands of keys
 abbrev pub CanReply : PromptInput → Option ℕ → Reply → Type 0
 CanReply p n Asked = names_commands p.question ≡ false
-CanReply p n (Named c) = (is_bound c ≡ true) × (is_acted (acts.Run c n) ≡ true)
+CanReply p n (Named c) = (is_bound c ≡ true) × (is_acted (command_act c n) ≡ true)
 
 -- what comes next for a session that holds this: each byte empties the echo line first
 abbrev pub own_turn : View → Own → ℕ → Turn

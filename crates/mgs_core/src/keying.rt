@@ -11,13 +11,13 @@ ghost use Rattle.mgs_world.specs.Sound.{IsSound};
 ghost use Rattle.mgs_world.specs.Worlds.{IsUnique, idle, own_at, session_id, sizes_in, world_of};
 ghost use Rattle.mgs_core.specs.Held.{AreSettled};
 ghost use Rattle.mgs_core.specs.Prompted.{prompt_at};
-ghost use Rattle.mgs_core.specs.Steps.{ActedBy, TypedBy, asks_store, is_acted, is_exit, key_act_of};
+ghost use Rattle.mgs_core.specs.Steps.{ActedBy, TypedBy, asks_store, command_act, is_acted, is_exit, key_act_of, line_act, motion_act};
 
 use mgs_act::{KeyAct, act, save};
 use mgs_buffers::Buffers;
 use mgs_maps::Fed;
 use mgs_marks::Marked;
-use mgs_model::{Command, Keyed, Message, SessionId, Short, Touched};
+use mgs_model::{Command, Keyed, Message, Motion, Question, SessionId, Short, Touched};
 use mgs_policy::Directory;
 use mgs_session::{Session, hold, set_echo};
 use mgs_store::Store;
@@ -34,13 +34,42 @@ fn is_exit(fed: Fed) -> bool
     }
 }
 
+/// Going to a line: one that no argument tells is asked for.
+fn line_act(argument: Option<usize>) -> KeyAct
+    ensures { result ≡ line_act argument }
+{
+    match argument {
+        None => KeyAct::Run(Command::Ask(Question::GoToWhich), None),
+        Some(line) => KeyAct::Run(Command::Move(Motion::GoToLine), Some(line)),
+    }
+}
+
+fn motion_act(motion: Motion, argument: Option<usize>) -> KeyAct
+    ensures { result ≡ motion_act motion argument }
+{
+    match motion {
+        Motion::GoToLine => line_act(argument),
+        _ => KeyAct::Run(Command::Move(motion), argument),
+    }
+}
+
+/// What a command comes to with an argument, by its keys or by its name.
+pub fn command_act(command: Command, argument: Option<usize>) -> KeyAct
+    ensures { result ≡ command_act command argument }
+{
+    match command {
+        Command::Move(motion) => motion_act(motion, argument),
+        _ => KeyAct::Run(command, argument),
+    }
+}
+
 /// What a key comes to, if a word of keys is complete.
 fn key_act(fed: Fed) -> Option<KeyAct>
     ensures { result ≡ key_act_of fed }
 {
     match fed {
         Fed::Pending => None,
-        Fed::Run(command, argument) => Some(KeyAct::Run(command, argument)),
+        Fed::Run(command, argument) => Some(command_act(command, argument)),
         Fed::Unbound => Some(KeyAct::Unbound),
     }
 }

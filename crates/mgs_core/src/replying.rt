@@ -11,8 +11,8 @@ ghost use Rattle.mgs_world.specs.Worlds.{idle, own_at, session_id, sizes_in, wor
 ghost use Rattle.mgs_core.specs.Prompted.{IsBoundReply, CanReply, is_end, reply_act, reply_to};
 ghost use Rattle.mgs_core.specs.Steps.{ActedBy};
 
-use crate::keying::do_act;
-use mgs_act::{KeyAct, answer};
+use crate::keying::{command_act, do_act};
+use mgs_act::answer;
 use mgs_buffers::Buffers;
 use mgs_maps::command_named;
 use mgs_marks::Marked;
@@ -93,7 +93,7 @@ pub fn do_reply<T: Marked + Drop, S: Store>(
             }
         }
         Reply::Named(command) => {
-            let done = KeyAct::Run(command, argument);
+            let done = command_act(command, argument);
             match do_act(alloc, buffers, directory, sessions, at, store, done) {
                 Ok(touched) => Ok(touched),
                 Err(Short) => Err(Short),

@@ -9,6 +9,7 @@ ghost use Rattle.mgs_model.specs.Turns.{completed};
 ghost use Rattle.mgs_model.specs.Completion.{completion};
 ghost use Rattle.mgs_model.specs.declared.errors.Keyed.TheVariants.{Quit};
 ghost use Rattle.mgs_model.specs.declared.message.Message.TheVariants.{NoMemory};
+ghost use Rattle.mgs_buffers.specs.Judging.{AreJudged, rules_kept};
 ghost use Rattle.mgs_mini.specs.Typing.{is_asked};
 ghost use Rattle.mgs_mini.specs.Typing as prompts;
 ghost use Rattle.mgs_session.specs.Sessions.{prompting, told};
@@ -22,6 +23,7 @@ ghost use Rattle.mgs_core.specs.Steps.{ActedBy, TypedBy};
 use crate::keying::type_key;
 use crate::replying::{Reply, do_reply, is_end, reply_to};
 use mgs_buffers::Buffers;
+use mgs_cache::Judge;
 use mgs_maps::name_completion;
 use mgs_marks::Marked;
 use mgs_mini::{Prompt, Step};
@@ -49,15 +51,18 @@ pub enum PromptStep {
 /// What the input of a prompt is completed to, where its answer names a buffer or a command. `None`: no name begins with it.
 fn completion_for<'a, T: Marked + Drop>(
     buffers: &'a Buffers<T>,
+    judge: &mut Judge,
     directory: &Directory,
     user: &Name,
     prompt: &Prompt,
 ) -> Option<&'a [u8]>
+    requires { AreJudged directory.now (rules_kept buffers.now) judge.old }
     ensures value { option_map (λ t. t.now) result ≡ completion (names_for directory.now user.now buffers.now prompt.now.question) prompt.now.input }
     ensures within { IfSome (option_map (λ t. t.now) result) (λ text. length text ≤ 120) }
+    ensures judged { AreJudged directory.now (rules_kept buffers.now) judge.new }
 {
     if prompt.names_buffer() {
-        return buffers.completion(directory, user, prompt.input());
+        return buffers.completion(judge, directory, user, prompt.input());
     }
     if prompt.names_command() {
         return name_completion(prompt.input());
@@ -79,15 +84,18 @@ fn hold_completed(session: &mut Session, prompt: Prompt, completes: bool)
 /// The input of a prompt is completed, and the session holds the prompt.
 fn complete<T: Marked + Drop>(
     buffers: &Buffers<T>,
+    judge: &mut Judge,
     directory: &Directory,
     session: &mut Session,
     prompt: Prompt,
 )
+    requires { AreJudged directory.now (rules_kept buffers.now) judge.old }
+    ensures judged { AreJudged directory.now (rules_kept buffers.now) judge.new }
     ensures own { own_of session.new.own ≡ completed (own_of (prompting prompt session.old).own) (completion (names_for directory.now session.old.user buffers.now prompt.question) prompt.input) }
     ensures rest { session.new ≡ record session.old { own = session.new.own } }
 {
     let mut prompt = prompt;
-    let completion = completion_for(buffers, directory, &session.user, &prompt);
+    let completion = completion_for(buffers, judge, directory, &session.user, &prompt);
     let completes = prompt.complete(completion);
     hold_completed(session, prompt, completes);
 }
@@ -119,11 +127,14 @@ fn step_answer(session: &mut Session, prompt: Prompt) -> PromptStep
 /// What a byte comes to at the session's prompt, where it is at one.
 fn step_prompt<T: Marked + Drop>(
     buffers: &Buffers<T>,
+    judge: &mut Judge,
     directory: &Directory,
     session: &mut Session,
     byte: u8,
 ) -> PromptStep
-    ensures { IsPromptStep directory.now buffers.now session.old session.new byte result }
+    requires { AreJudged directory.now (rules_kept buffers.now) judge.old }
+    ensures step { IsPromptStep directory.now buffers.now session.old session.new byte result }
+    ensures judged { AreJudged directory.now (rules_kept buffers.now) judge.new }
 {
     let Some(prompt) = take_prompt(session) else {
         return PromptStep::NoPrompt;
@@ -135,7 +146,7 @@ fn step_prompt<T: Marked + Drop>(
             PromptStep::Kept
         }
         Step::Completes => {
-            complete(buffers, directory, session, prompt);
+            complete(buffers, judge, directory, session, prompt);
             PromptStep::Kept
         }
         Step::Quit => {
@@ -196,6 +207,7 @@ fn answer_prompt<T: Marked + Drop, S: Store>(
 pub fn type_in<T: Marked + Drop, S: Store>(
     alloc: Global,
     buffers: &mut Buffers<T>,
+    judge: &mut Judge,
     directory: &Directory,
     sessions: &mut [Session],
     at: usize,
@@ -208,6 +220,8 @@ pub fn type_in<T: Marked + Drop, S: Store>(
     requires place { at ≡ position_or_len (session_id id) sessions.old }
     requires within { at < length sessions.old }
     requires unique { IsUnique (sizes_in sessions.old) }
+    requires judged { AreJudged directory.now (rules_kept buffers.old) judge.old }
+    ensures judged { AreJudged directory.now (rules_kept buffers.old) judge.new }
     ensures sound { IsSound buffers.new sessions.new }
     ensures sizes { sizes_in sessions.new ≡ sizes_in sessions.old }
     ensures same { result.0 ≡ Quit → (buffers.new ≡ buffers.old) × (sessions.new ≡ sessions.old) }
@@ -215,7 +229,7 @@ pub fn type_in<T: Marked + Drop, S: Store>(
     ensures keyed { (next : Option ℕ) → TypedBy (world_of directory.now buffers.old sessions.old next) (world_of directory.now buffers.new sessions.new next) (store_told S.failed S.accepted store.old) (store_told S.failed S.accepted store.new) id byte result.0 }
     ensures touched { (next : Option ℕ) → Apart result.1 id (world_of directory.now buffers.old sessions.old next) (world_of directory.now buffers.new sessions.new next) }
 {
-    match step_prompt(buffers, directory, &mut sessions[at], byte) {
+    match step_prompt(buffers, judge, directory, &mut sessions[at], byte) {
         PromptStep::NoPrompt => {
             type_key(alloc, buffers, directory, sessions, at, store, id, byte)
         }

@@ -3,3 +3,4 @@ mod Stretches
 mod Regions
 mod Words
 mod Counts
+mod Digits

@@ -10,9 +10,9 @@ use Rattle.mgs_model.specs.declared.message.Message.TheVariants.{Silent}
 use Rattle.mgs_model.specs.declared.session.Kind.{Kind}
 use Rattle.mgs_model.specs.declared.session.Kind.TheVariants.{Other, Kill}
 use Rattle.mgs_model.specs.declared.session.Motion.{Motion}
-use Rattle.mgs_model.specs.declared.session.Motion.TheVariants.{GoToLine, StartSearch, SearchOn, StartReplace, SkipMatch}
+use Rattle.mgs_model.specs.declared.session.Motion.TheVariants.{StartSearch, SearchOn, SearchFor, StartReplace, SkipMatch}
 use Rattle.mgs_model.specs.declared.session.Alteration.{Alteration}
-use Rattle.mgs_model.specs.declared.session.Alteration.TheVariants.{ReplaceMatch}
+use Rattle.mgs_model.specs.declared.session.Alteration.TheVariants.{ReplaceMatch, ReplaceLast}
 use Rattle.mgs_edit.specs.declared.plan.Around.{Around}
 use Rattle.mgs_edit.specs.declared.plan.Goes.{Goes}
 use Rattle.mgs_edit.specs.declared.plan.Goes.TheVariants.{Stays, To, Behind}
@@ -30,9 +30,9 @@ use Rattle.mgs_edit.specs.declared.plan.Undone.{Undone}
 
 -- GIVEN
 
--- what is given here, in a text of so many characters; all else is as it is
+-- what is given here, in a text of so many characters; what was typed is in the argument, and all else is as it is
 abbrev pub surrounded : Around → ℕ → model.Around → model.Around
-surrounded x size rest = record rest { size = size; place = x.place; mark = x.mark; argument = x.argument; kind = x.kind; height = x.height; fill = x.fill }
+surrounded x size rest = record rest { size = size; place = x.place; mark = x.mark; argument = x.argument; typed = []; kind = x.kind; height = x.height; fill = x.fill }
 
 -- what an undo in a buffer goes by
 abbrev pub undoing : Kind → List ℕ → ℕ → model.Around → model.Around
@@ -88,7 +88,7 @@ finish_read text kill behind f =
       kind = f.kind;
       told = f.told;
       replaced = 0;
-      over = false;
+      mode = model.Goes_on;
     }
 
 abbrev pub change_read : List ℕ → List ℕ → Change → model.Change
@@ -163,9 +163,9 @@ pub record ChangeWithin (text kill : List ℕ) (c : Change) : Type 0 where
 
 -- the motions that are planned here; those of a search are not
 abbrev pub is_planned : Motion → Bool
-is_planned GoToLine = false
-is_planned StartSearch = false
-is_planned SearchOn = false
+is_planned (StartSearch d) = false
+is_planned (SearchOn d step) = false
+is_planned (SearchFor d) = false
 is_planned StartReplace = false
 is_planned SkipMatch = false
 is_planned _ = true
@@ -173,6 +173,7 @@ is_planned _ = true
 -- the alterations that are
 abbrev pub is_alteration_planned : Alteration → Bool
 is_alteration_planned ReplaceMatch = false
+is_alteration_planned ReplaceLast = false
 is_alteration_planned _ = true
 
 -- the point goes behind what is put in; no mark is set, the top stays, and nothing is killed

@@ -190,6 +190,6 @@ pub fn alteration<T: Text>(
         Alteration::JoinLine => join_line(text, around),
         Alteration::FillParagraph => Ok(fill_paragraph(text, around)),
         // Replacements have no planner here.
-        Alteration::ReplaceMatch => Err(Message::KeyNotBound),
+        Alteration::ReplaceMatch | Alteration::ReplaceLast => Err(Message::KeyNotBound),
     }
 }

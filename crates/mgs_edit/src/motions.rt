@@ -2,7 +2,7 @@
 ghost use Rattle.std.specs.Prelude.{◌≡◌, ◌≤◌, ◌<◌, ◌^◌, length, IfOk, true};
 ghost use Rattle.mgs_model.specs.Plans as model;
 ghost use Rattle.mgs_model.specs.Plans.{lined, motion};
-ghost use Rattle.mgs_model.specs.declared.session.Motion.TheVariants.{ForwardChar, BackwardChar, NextLine, PreviousLine, ForwardWord, BackwardWord, ForwardParagraph, BackwardParagraph, Recenter, WhatCursorPosition, ExchangePointAndMark, CopyRegion};
+ghost use Rattle.mgs_model.specs.declared.session.Motion.TheVariants.{ForwardChar, BackwardChar, GoToLine, NextLine, PreviousLine, ForwardWord, BackwardWord, ForwardParagraph, BackwardParagraph, Recenter, WhatCursorPosition, ExchangePointAndMark, CopyRegion};
 ghost use Rattle.mgs_edit.specs.Reading.{surrounded, finish_read, motion_read, FinishWithin, IsWithin, is_planned};
 
 use crate::around::{goal, goes, is_at_end, is_at_start, joins_behind, times};
@@ -197,7 +197,19 @@ fn copy_region<T: Text>(text: &T, around: &Around) -> Result<Finish, Message>
     }
 }
 
+/// To the start of the line that the argument says, counted from 1, or of the last where there are fewer.
+fn go_to_line<T: Text>(text: &T, around: &Around) -> Result<Finish, Message>
+    ensures plan { (rest : model.Around) → motion_read (T.text text.now) rest.kill result ≡ motion GoToLine (T.text text.now) (surrounded around.now (length (T.text text.now)) rest) }
+    ensures within { IfOk result (FinishWithin (length (T.text text.now)) (length (T.text text.now))) }
+{
+    match around.argument {
+        None => Err(Message::NotANumber),
+        Some(line) => Ok(goes(lines_down(text, 0, line.saturating_sub(1)))),
+    }
+}
+
 /// What a motion leaves in a text. `EndOfBuffer`, `BeginningOfBuffer`: it is to go on there. `NoMark`: it needs the mark.
+/// `NotANumber`: it needs the argument.
 pub fn motion<T: Text>(text: &T, around: &Around, command: Motion) -> Result<Finish, Message>
     requires place { around.now.place ≤ length (T.text text.now) }
     requires mark { IsWithin (length (T.text text.now)) around.now.mark }
@@ -215,6 +227,7 @@ pub fn motion<T: Text>(text: &T, around: &Around, command: Motion) -> Result<Fin
         Motion::PreviousLine => previous_line(text, around),
         Motion::BufferStart => Ok(goes(0)),
         Motion::BufferEnd => Ok(goes(text.len())),
+        Motion::GoToLine => go_to_line(text, around),
         Motion::ForwardWord => to_word_end(text, around),
         Motion::BackwardWord => to_word_start(text, around),
         Motion::ForwardParagraph => to_paragraph_end(text, around),
@@ -232,10 +245,10 @@ pub fn motion<T: Text>(text: &T, around: &Around, command: Motion) -> Result<Fin
             ..goes(0)
         }),
         Motion::CopyRegion => copy_region(text, around),
-        // A search has planners of its own; a line is not gone to yet.
-        Motion::GoToLine
-        | Motion::StartSearch
-        | Motion::SearchOn
+        // A search has planners of its own.
+        Motion::StartSearch(_)
+        | Motion::SearchOn(_, _)
+        | Motion::SearchFor(_)
         | Motion::StartReplace
         | Motion::SkipMatch => Err(Message::KeyNotBound),
     }

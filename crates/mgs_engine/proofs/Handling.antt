@@ -21,7 +21,7 @@ use Rattle.mgs_engine.specs.Screens.{late_ids, queues_of, screen_id, shown_size,
 use Rattle.mgs_engine.specs.Served.{IsServed, IsServedInTime, serving_of}
 use Rattle.mgs_engine.specs.Serving.{Serving, all_ended_by, ended_by, ended_keyed, ids_keyed, queue_ids}
 use Rattle.mgs_engine.specs.Slow.{slow_ids}
-use Rattle.mgs_engine.proofs.Late.{late_are_slow, none_late, none_slow, prompt_each}
+use Rattle.mgs_engine.proofs.Late.{all_taken, late_are_slow, none_late, none_slow, prompt_each}
 use Rattle.mgs_engine.proofs.Quits.{ids_stay, screen_less, told_stay}
 use Rattle.mgs_engine.proofs.Repaints.{in_time}
 use Rattle.mgs_engine.proofs.Screens.{ids_removed, ids_same}
@@ -73,7 +73,8 @@ pub handles_typed : (w v u : Kept) (id byte : ℕ) (k : Keyed) (xs ys zs : List 
 handles_typed w v u id byte k xs ys zs es gs h not step size next same kept redrawn ended closes =
     let old : Serving = serving_of w xs es in
     let mid : Serving = serving_of v ys es in
-    let slow : late_ids ys ≡ slow_ids old v.world = late_are_slow w v.world xs ys es (subst IsUnique (sym h.sizes_are) h.unique) (kept ∙ h.sizes_are ∙ sym same) h.drawn redrawn in
+    let unique : IsUnique (map shown_size xs) = subst IsUnique (sym h.sizes_are) h.unique in
+    let slow : late_ids ys ≡ slow_ids old v.world = late_are_slow w v.world xs ys es unique (kept ∙ h.sizes_are ∙ sym same) h.drawn redrawn in
     record {
       typed = mid;
       step = step;
@@ -85,5 +86,5 @@ handles_typed w v u id byte k xs ys zs es gs h not step size next same kept redr
       closes = closes ∙ ap (λ ids. run v.world (map (λ i. Close i) ids)) slow;
       quit = λ q. absurd (never_quit k not q);
       still = λ q. absurd (never_quit k not q);
-      prompt = λ t. sym slow ∙ none_late ys (prompt_each v.world xs ys t redrawn);
+      prompt = λ t. sym slow ∙ none_late ys (prompt_each v.world xs ys (all_taken w xs es unique h.drawn t) redrawn);
     }

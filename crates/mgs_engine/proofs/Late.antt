@@ -1,9 +1,9 @@
 -- Screens that are late, and the sessions that fall behind.
 use Rattle.std.proofs.Common.{◌≡◌, ℕ, Bool, true, false, cond, List, [], ◌∷◌, length, get_or, map, Some, None, refl, sym, ap, ◌∙◌, eq-eqb}
-use Rattle.std.specs.Prelude.{find, nat_eq, All}
+use Rattle.std.specs.Prelude.{find, is_some, nat_eq, All}
 use Rattle.std.specs.List.{filter}
 use Rattle.std.specs.Option.{option_map}
-use Rattle.std.proofs.lemmas.List.Elements.{All-head, All-tail, All-cons, All-nil}
+use Rattle.std.proofs.lemmas.List.Elements.{All-head, All-tail, All-cons, All-nil, All-map}
 use Rattle.std.proofs.lemmas.Option.{slice_get-get_or}
 use Rattle.mgs_model.specs.Apply.{remove_first}
 use Rattle.mgs_model.specs.Draw.{screen}
@@ -17,7 +17,7 @@ use Rattle.mgs_engine.specs.declared.screen.Screen.{Screen}
 use Rattle.mgs_engine.specs.Queues.{IsTaken}
 use Rattle.mgs_engine.specs.Screens.{is_late, late_ids, queue_of, queues_of, screen_id, shown_size, AreRedrawn, IsDrawn, IsOnTime, IsRedrawn}
 use Rattle.mgs_engine.specs.Served.{serving_of}
-use Rattle.mgs_engine.specs.Serving.{Serving, pending_of, size_id}
+use Rattle.mgs_engine.specs.Serving.{NoneWaits, Serving, pending_of, size_id}
 use Rattle.mgs_engine.specs.Slow.{falls_behind, is_slow, slow_ids}
 use Rattle.mgs_engine.proofs.Painted.{pending_found}
 use Rattle.mgs_engine.proofs.Pictures.{not_behind}
@@ -100,7 +100,12 @@ none_late (x ∷ xs) h =
 pub none_slow : (s : Serving) (v : World) (ys : List Screen) → map shown_size ys ≡ sizes v → All (IsDrawn s.world) ys → All (IsDrawn v) ys → All IsOnTime ys → slow_ids s v ≡ []
 none_slow s v ys e d f t = sym (late_slow s v ys e (still_each s v ys d f t)) ∙ none_late ys t
 
--- where nothing waits, none is late
+-- where nothing waits for the open sessions, nothing waits for any screen
+pub all_taken : (w : Kept) (xs : List Screen) (es : List (ℕ × Cause)) → IsUnique (map shown_size xs) → All (IsDrawn w.world) xs → NoneWaits (serving_of w xs es) → All IsTaken (queues_of xs)
+all_taken w xs es u d none =
+    All-map IsTaken queue_of xs (λ i z l. sym (pendings w xs es u i z l) ∙ none (get_or xs i z).id (ap is_some (d i z l).found))
+
+-- then none is late
 pub prompt_each : (w : World) (xs ys : List Screen) → All IsTaken (queues_of xs) → AreRedrawn w xs ys → All IsOnTime ys
 prompt_each w [] [] t h = All-nil IsOnTime
 prompt_each w [] (y ∷ ys) t h = absurd h

@@ -12,7 +12,7 @@ use Rattle.mgs_core.specs.Steps.{KeyedBy, OpenAnswers, OpenedBy}
 use Rattle.mgs_engine.specs.declared.ending.Cause.{Cause}
 use Rattle.mgs_engine.specs.declared.ending.Cause.TheVariants.{Slow}
 use Rattle.mgs_engine.specs.Handled.{Admits, Handles}
-use Rattle.mgs_engine.specs.Serving.{AllTaken, Serving, all_ended_by, opening_fault}
+use Rattle.mgs_engine.specs.Serving.{NoneWaits, Serving, all_ended_by, opening_fault}
 
 -- AN OPEN
 
@@ -41,7 +41,7 @@ admits_opens s t user rows cols (Err fault) h e = record {
 -- A BYTE
 
 -- none falls behind
-pub handles_prompt : (s t : Serving) (id byte : ℕ) (result : Keyed) → Handles s t id byte result → AllTaken s → KeyedBy s.world t.world s.store t.store id byte result
-handles_prompt s t id byte result h taken =
-    let all : t ≡ h.typed = h.slow ∙ ap (λ ids. all_ended_by Slow ids h.typed) (h.prompt taken) in
+pub handles_prompt : (s t : Serving) (id byte : ℕ) (result : Keyed) → Handles s t id byte result → NoneWaits s → KeyedBy s.world t.world s.store t.store id byte result
+handles_prompt s t id byte result h none =
+    let all : t ≡ h.typed = h.slow ∙ ap (λ ids. all_ended_by Slow ids h.typed) (h.prompt none) in
     subst (λ (x : Serving). KeyedBy s.world x.world s.store x.store id byte result) (sym all) h.step

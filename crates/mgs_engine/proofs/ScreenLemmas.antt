@@ -1,7 +1,7 @@
--- Screens and their queues, as they are drawn, closed, and handed over.
-use Rattle.std.proofs.Common.{◌≡◌, ℕ, zero, suc, ◌+◌, ◌*◌, ◌<◌, ◌≤◌, List, [], ◌∷◌, ◌++◌, length, get_or, set, take, drop, map, refl, sym, ap, subst, ◌∙◌, add-zero, arith}
+-- Screens and their queues, as they are drawn and closed.
+use Rattle.std.proofs.Common.{◌≡◌, ℕ, zero, suc, ◌+◌, ◌*◌, ◌<◌, ◌≤◌, List, [], ◌∷◌, length, get_or, set, drop, map, refl, sym, ap, ◌∙◌, add-zero, arith}
 use Rattle.std.specs.List.{position_or_len}
-use Rattle.std.proofs.lemmas.List.{map-append, get_or-drop, drop-set-lt, drop-drop, take_more, take_more_set, take_all}
+use Rattle.std.proofs.lemmas.List.{get_or-drop, drop-set-lt, drop-drop}
 use Rattle.std.specs.Option.{option_map}
 use Rattle.std.proofs.Math.Nat.{mul-le-mul_left}
 use Rattle.mgs_model.proofs.Firsts.{find-map, find_at_place}
@@ -9,7 +9,7 @@ use Rattle.mgs_model.specs.Picture.{IsSize, IsPicture}
 use Rattle.mgs_model.specs.declared.limits.TheConstants.{QUEUE_LIMIT}
 use Rattle.mgs_paint.specs.Painting.{bound_of}
 use Rattle.mgs_engine.specs.declared.screen.Screen.{Screen}
-use Rattle.mgs_engine.specs.Queues.{Handed, Queue, IsTaken, emptied, waiting_in, find_queue, is_queue_of}
+use Rattle.mgs_engine.specs.Queues.{IsTaken, waiting_in, find_queue, is_queue_of}
 use Rattle.mgs_engine.specs.Screens.{queue_of, queues_of, screen_id}
 
 -- a paint of any screen has room in an empty queue
@@ -44,21 +44,6 @@ same_set of (z ∷ zs) (suc i) d y l e = ap (λ ss. of z ∷ ss) (same_set of zs
 
 -- QUEUES
 
--- one more queue is handed over
-pub handed_more : (xs ys : List Screen) (i : ℕ) (d y : Screen) → i < length xs → i < length ys → queues_of (take i xs) ≡ map emptied (queues_of (take i ys)) → drop i xs ≡ drop i ys → queue_of y ≡ emptied (queue_of (get_or xs i d)) → queues_of (take (i + 1) (set xs i y)) ≡ map emptied (queues_of (take (i + 1) ys))
-handed_more xs ys i d y l m e r is =
-    ap queues_of (take_more_set xs i y l)
-    ∙ map-append queue_of (take i xs) (y ∷ [])
-    ∙ ap (λ qs. qs ++ queue_of y ∷ []) e
-    ∙ ap (λ q. map emptied (queues_of (take i ys)) ++ q ∷ []) (is ∙ ap (λ x. emptied (queue_of x)) (rest_at xs ys i d r))
-    ∙ sym (map-append emptied (queues_of (take i ys)) (queue_of (get_or ys i d) ∷ []))
-    ∙ ap (map emptied) (sym (map-append queue_of (take i ys) (get_or ys i d ∷ [])))
-    ∙ ap (λ zs. map emptied (queues_of zs)) (sym (take_more ys i d m))
-
-pub handed_all : (xs ys : List Screen) (i : ℕ) → length xs ≤ i → length ys ≤ i → queues_of (take i xs) ≡ map emptied (queues_of (take i ys)) → queues_of xs ≡ map emptied (queues_of ys)
-handed_all xs ys i l m e =
-    ap queues_of (sym (take_all i xs l)) ∙ e ∙ ap (λ zs. map emptied (queues_of zs)) (take_all i ys m)
-
 pub queue_at : (id : ℕ) (xs : List Screen) (at : ℕ) (x : Screen) → at ≡ position_or_len (screen_id id) xs → at < length xs → x ≡ get_or xs at x → waiting_in (find_queue id (queues_of xs)) ≡ x.queue
 queue_at id xs at x e l is =
     ap waiting_in
@@ -66,16 +51,3 @@ queue_at id xs at x e l is =
     ∙ ap (option_map queue_of) (find_at_place (screen_id id) xs x (omega (arith, e, l))))
     ∙ ap (λ n. (get_or xs n x).queue) (sym e)
     ∙ ap (λ (x : Screen). x.queue) (sym is)
-
--- HANDED OVER
-
-handed_push : {K : Type 0} (takes : K → ℕ → List ℕ → K → Type 0) (s t u : K) (xs : List Queue) (x : Queue) → Handed takes s xs t → takes t x.id x.bytes u → Handed takes s (xs ++ x ∷ []) u
-handed_push takes s t u [] x h r = (u, subst (λ z. takes z x.id x.bytes u) (sym h) r, refl)
-handed_push takes s t u (y ∷ ys) x h r = (h.0, h.1, handed_push takes h.0 t u ys x h.2 r)
-
-pub handed_next : {K : Type 0} (takes : K → ℕ → List ℕ → K → Type 0) (s t u : K) (xs ys : List Screen) (i : ℕ) (d : Screen) → i < length ys → drop i xs ≡ drop i ys → Handed takes s (queues_of (take i ys)) t → takes t (get_or xs i d).id (get_or xs i d).queue u → Handed takes s (queues_of (take (i + 1) ys)) u
-handed_next takes s t u xs ys i d l e h r =
-    let q : takes t (get_or ys i d).id (get_or ys i d).queue u = subst (λ (x : Screen). takes t x.id x.queue u) (rest_at xs ys i d e) r in
-    subst (λ qs. Handed takes s qs u)
-    (sym (ap queues_of (take_more ys i d l) ∙ map-append queue_of (take i ys) (get_or ys i d ∷ [])))
-    (handed_push takes s t u (queues_of (take i ys)) (queue_of (get_or ys i d)) h q)

@@ -16,7 +16,7 @@ use Rattle.mgs_world.specs.declared.size.Size.{Size}
 use Rattle.mgs_world.specs.Worlds.{find_size, is_size_of, session_size, sizes, IsOther, IsUnique}
 use Rattle.mgs_engine.specs.declared.ending.Cause.{Cause}
 use Rattle.mgs_engine.specs.declared.screen.Screen.{Screen}
-use Rattle.mgs_engine.specs.Queues.{Queue, queue_id, IsTaken, emptied, waiting_in, find_queue, is_queue_of}
+use Rattle.mgs_engine.specs.Queues.{queue_id, waiting_in, find_queue, is_queue_of}
 use Rattle.mgs_engine.specs.Screens.{queue_of, queues_of, shown_size, screen_id, IsKnown}
 use Rattle.mgs_engine.specs.Serving.{AreUnique, IsWellFormed, size_id}
 use Rattle.mgs_engine.specs.Served.{IsServed, serving_of}
@@ -59,10 +59,6 @@ ids_removed id xs = ap (map queue_id) (queues_removed id xs) ∙ map-remove_firs
 
 pub ids_opened : (xs : List Screen) (y : Screen) → map queue_id (queues_of (xs ++ y ∷ [])) ≡ map queue_id (queues_of xs) ++ y.id ∷ []
 ids_opened xs y = ap (map queue_id) (map-append queue_of xs (y ∷ [])) ∙ map-append queue_id (queues_of xs) (queue_of y ∷ [])
-
-pub all_emptied : (qs : List Queue) → All IsTaken (map emptied qs)
-all_emptied [] = All-nil IsTaken
-all_emptied (q ∷ qs) = All-cons IsTaken (emptied q) (map emptied qs) refl (all_emptied qs)
 
 pub queue_none : (id : ℕ) (xs : List Screen) (at : ℕ) → at ≡ position_or_len (screen_id id) xs → at ≤ length xs → length xs ≤ at → waiting_in (find_queue id (queues_of xs)) ≡ []
 queue_none id xs at e w l =

@@ -7,7 +7,7 @@ use Rattle.mgs_model.specs.declared.errors.OpenFault.{OpenFault}
 use Rattle.mgs_world.specs.Worlds.{sizes}
 use Rattle.mgs_core.specs.Steps.{KeyedBy, OpenAnswers, sizes_keyed}
 use Rattle.mgs_engine.specs.declared.ending.Cause.TheVariants.{Quit, Slow}
-use Rattle.mgs_engine.specs.Serving.{AllTaken, Serving, all_ended_by, ended_by, ended_keyed, ids_keyed, opening_fault, queue_ids}
+use Rattle.mgs_engine.specs.Serving.{NoneWaits, Serving, all_ended_by, ended_by, ended_keyed, ids_keyed, opening_fault, queue_ids}
 use Rattle.mgs_engine.specs.Slow.{slow_ids}
 
 -- AN OPEN: the id is the next one, and the world after is the step of the world before. Each fault is answered exactly
@@ -33,5 +33,5 @@ pub record Handles (old new : Serving) (id byte : ℕ) (result : Keyed) : Type 0
   -- a byte that ends its session changes no other screen, so none falls behind
   pub quit : result ≡ keyed.Quit → typed ≡ ended_by Quit id old
   pub still : result ≡ keyed.Quit → slow_ids old typed.world ≡ []
-  -- where nothing waits, none falls behind
-  pub prompt : AllTaken old → slow_ids old typed.world ≡ []
+  -- where nothing waits for the open sessions, none falls behind
+  pub prompt : NoneWaits old → slow_ids old typed.world ≡ []

@@ -1,5 +1,5 @@
 -- The bytes that wait for the terminals of open sessions.
-use Rattle.std.specs.Prelude.{◌≡◌, ℕ, Bool, nat_eq, List, [], ◌∷◌, Option, Some, None, find, drop}
+use Rattle.std.specs.Prelude.{◌≡◌, ℕ, Bool, nat_eq, List, [], Option, Some, None, find, drop}
 
 pub record Queue : Type 0 where
   pub id : ℕ
@@ -25,12 +25,3 @@ IsTaken x = x.bytes ≡ []
 -- the first bytes were taken
 abbrev pub after_taking : ℕ → Queue → Queue
 after_taking n x = record { id = x.id; bytes = drop n x.bytes }
-
--- every byte was taken
-abbrev pub emptied : Queue → Queue
-emptied x = record { id = x.id; bytes = [] }
-
--- a taker took the bytes of each queue, one after another
-abbrev pub Handed : {K : Type 0} → (K → ℕ → List ℕ → K → Type 0) → K → List Queue → K → Type 0
-Handed takes s [] t = s ≡ t
-Handed {K = K} takes s (x ∷ xs) t = (u : K) × takes s x.id x.bytes u × Handed takes u xs t

@@ -1,5 +1,5 @@
 -- A world that is served: for each open session, the bytes that wait for its terminal. Beside it what its store tells.
-use Rattle.std.specs.Prelude.{◌≡◌, ℕ, ◌+◌, nat_le, Bool, false, cond, is_some, nat_eq, List, [], ◌∷◌, ◌++◌, map, length, All, Option, Some, None, if◌then◌else◌}
+use Rattle.std.specs.Prelude.{◌≡◌, ℕ, ◌+◌, nat_le, Bool, true, false, cond, is_some, nat_eq, List, [], ◌∷◌, ◌++◌, map, length, All, Option, Some, None, if◌then◌else◌}
 use Rattle.std.specs.Option.{option_or}
 use Rattle.mgs_model.specs.World.{World}
 use Rattle.mgs_model.specs.Apply.{remove_first}
@@ -8,14 +8,14 @@ use Rattle.mgs_model.specs.declared.errors.Keyed.TheVariants as keyed
 use Rattle.mgs_model.specs.declared.errors.OpenFault.{OpenFault}
 use Rattle.mgs_model.specs.declared.errors.OpenFault.TheVariants.{Full}
 use Rattle.mgs_model.specs.declared.limits.TheConstants.{SESSION_LIMIT}
-use Rattle.mgs_model.specs.Events.{open_fault}
+use Rattle.mgs_model.specs.Events.{is_open, open_fault}
 use Rattle.mgs_core.specs.Steps.{closed}
 use Rattle.mgs_store.specs.Stores.{StoreTold}
 use Rattle.mgs_world.specs.declared.size.Size.{Size}
 use Rattle.mgs_world.specs.Worlds.{sizes}
 use Rattle.mgs_engine.specs.declared.ending.Cause.{Cause}
 use Rattle.mgs_engine.specs.declared.ending.Cause.TheVariants.{Quit}
-use Rattle.mgs_engine.specs.Queues.{IsTaken, Queue, is_queue_of, waiting_in, find_queue, queue_id}
+use Rattle.mgs_engine.specs.Queues.{Queue, is_queue_of, waiting_in, find_queue, queue_id}
 
 -- the sessions that ended stand with their causes until they are told, the oldest first
 pub record Serving : Type 0 where
@@ -32,8 +32,9 @@ pending_of id s = waiting_in (find_queue id s.queues)
 abbrev pub queue_ids : Serving → List ℕ
 queue_ids s = map queue_id s.queues
 
-abbrev pub AllTaken : Serving → Type 0
-AllTaken s = All IsTaken s.queues
+-- nothing waits for the sessions that are open
+abbrev pub NoneWaits : Serving → Type 0
+NoneWaits s = (id : ℕ) → is_open id s.world ≡ true → pending_of id s ≡ []
 
 -- SLOTS: each open session has one, and each that ended until it is told
 abbrev pub slots_used : Serving → ℕ

@@ -17,10 +17,11 @@ use std::alloc::Global;
 use std::mem::swap;
 
 // Draws what the terminal is to show next.
-fn draw_next<T: Marked + Drop, S: Store + Drop>(core: &Core<T, S>, screen: &mut Screen)
-    requires known { IsKnown (sizes core.now.world) screen.old }
+fn draw_next<T: Marked + Drop, S: Store + Drop>(core: &mut Core<T, S>, screen: &mut Screen)
+    requires known { IsKnown (sizes core.old.world) screen.old }
     requires screen { IsSessionScreen screen.old }
-    ensures { IsAhead core.now.world screen.old screen.new }
+    ensures core { core.new ≡ core.old }
+    ensures ahead { IsAhead core.old.world screen.old screen.new }
 {
     core.draw(screen.id, &mut screen.next);
 }
@@ -93,15 +94,19 @@ fn paint_in_time(screen: &mut Screen)
 /// terminal showed.
 ///
 /// The world knows the session in the size of the screen, and no bytes wait.
-pub(crate) fn draw_first<T: Marked + Drop, S: Store + Drop>(core: &Core<T, S>, screen: &mut Screen)
-    requires known { IsKnown (sizes core.now.world) screen.old }
+pub(crate) fn draw_first<T: Marked + Drop, S: Store + Drop>(
+    core: &mut Core<T, S>,
+    screen: &mut Screen,
+)
+    requires known { IsKnown (sizes core.old.world) screen.old }
     requires screen { IsSessionScreen screen.old }
     requires taken { IsTaken (queue_of screen.old) }
     ensures screen { IsSessionScreen screen.new }
     ensures size { shown_size screen.new ≡ shown_size screen.old }
-    ensures drawn { IsDrawn core.now.world screen.new }
+    ensures drawn { IsDrawn core.old.world screen.new }
     ensures late { screen.new.late ≡ screen.old.late }
     ensures first { IsFirst screen.new }
+    ensures core { core.new ≡ core.old }
 {
     draw_next(core, screen);
     paint_whole(screen);
@@ -110,16 +115,17 @@ pub(crate) fn draw_first<T: Marked + Drop, S: Store + Drop>(core: &Core<T, S>, s
 // The screen of a session, drawn for the first time.
 fn first_screen<T: Marked + Drop, S: Store + Drop>(
     alloc: Global,
-    core: &Core<T, S>,
+    core: &mut Core<T, S>,
     size: Size,
 ) -> Result<Screen, Short>
-    requires known { find_size size.id (sizes core.now.world) ≡ Some size }
+    requires known { find_size size.id (sizes core.old.world) ≡ Some size }
     requires size { IsOfSize size }
     ensures screen { IfOk result IsSessionScreen }
     ensures size { IfOk result (λ x. shown_size x ≡ size) }
-    ensures drawn { IfOk result (IsDrawn core.now.world) }
+    ensures drawn { IfOk result (IsDrawn core.old.world) }
     ensures on_time { IfOk result IsOnTime }
     ensures first { IfOk result IsFirst }
+    ensures core { core.new ≡ core.old }
 {
     let mut screen = Screen::blank(alloc, size.rows, size.cols)?;
     screen.id = size.id;
@@ -131,14 +137,15 @@ fn first_screen<T: Marked + Drop, S: Store + Drop>(
 /// refused.
 pub(crate) fn first_screens<T: Marked + Drop, S: Store + Drop>(
     alloc: Global,
-    core: &Core<T, S>,
+    core: &mut Core<T, S>,
 ) -> Result<Vec<Screen>, Short>
-    ensures unique { IfOk result (λ xs. IsUnique (sizes core.now.world)) }
-    ensures sizes { IfOk result (λ xs. map shown_size xs.items ≡ sizes core.now.world) }
+    ensures unique { IfOk result (λ xs. IsUnique (sizes core.old.world)) }
+    ensures sizes { IfOk result (λ xs. map shown_size xs.items ≡ sizes core.old.world) }
     ensures each { IfOk result (λ xs. All IsSessionScreen xs.items) }
-    ensures drawn { IfOk result (λ xs. All (IsDrawn core.now.world) xs.items) }
+    ensures drawn { IfOk result (λ xs. All (IsDrawn core.old.world) xs.items) }
     ensures on_time { IfOk result (λ xs. All IsOnTime xs.items) }
     ensures first { IfOk result (λ xs. All IsFirst xs.items) }
+    ensures core { core.new ≡ core.old }
 {
     let mut screens = Vec::new(alloc);
     while let Some(size) = core.size(screens.len()) {
@@ -152,13 +159,14 @@ pub(crate) fn first_screens<T: Marked + Drop, S: Store + Drop>(
 
 // Draws a screen again, and paints it where it is not what the terminal shows: the bytes that do so wait then. Where they may
 // not have room, the screen is late.
-fn redraw<T: Marked + Drop, S: Store + Drop>(core: &Core<T, S>, screen: &mut Screen)
-    requires known { IsKnown (sizes core.now.world) screen.old }
+fn redraw<T: Marked + Drop, S: Store + Drop>(core: &mut Core<T, S>, screen: &mut Screen)
+    requires known { IsKnown (sizes core.old.world) screen.old }
     requires screen { IsSessionScreen screen.old }
     requires on_time { IsOnTime screen.old }
     ensures screen { IsSessionScreen screen.new }
     ensures size { shown_size screen.new ≡ shown_size screen.old }
-    ensures redrawn { IsRedrawn core.now.world screen.old screen.new }
+    ensures redrawn { IsRedrawn core.old.world screen.old screen.new }
+    ensures core { core.new ≡ core.old }
 {
     draw_next(core, screen);
     paint_in_time(screen);
@@ -166,19 +174,20 @@ fn redraw<T: Marked + Drop, S: Store + Drop>(core: &Core<T, S>, screen: &mut Scr
 
 // Draws a screen again where an event that touched this can have changed it, by its place.
 fn redraw_at<T: Marked + Drop, S: Store + Drop>(
-    core: &Core<T, S>,
+    core: &mut Core<T, S>,
     screen: &mut Screen,
     at: usize,
     id: SessionId,
     touched: &Touched,
 )
-    requires known { IsKnown (sizes core.now.world) screen.old }
+    requires known { IsKnown (sizes core.old.world) screen.old }
     requires screen { IsSessionScreen screen.old }
     requires on_time { IsOnTime screen.old }
-    requires drawn { differs_at touched.now id at core.now.world ≡ false → IsDrawn core.now.world screen.old }
+    requires drawn { differs_at touched.now id at core.old.world ≡ false → IsDrawn core.old.world screen.old }
     ensures screen { IsSessionScreen screen.new }
     ensures size { shown_size screen.new ≡ shown_size screen.old }
-    ensures redrawn { IsRedrawn core.now.world screen.old screen.new }
+    ensures redrawn { IsRedrawn core.old.world screen.old screen.new }
+    ensures core { core.new ≡ core.old }
 {
     if core.may_differ(at, id, touched) {
         redraw(core, screen);
@@ -186,18 +195,19 @@ fn redraw_at<T: Marked + Drop, S: Store + Drop>(
 }
 
 fn redraw_each<T: Marked + Drop, S: Store + Drop>(
-    core: &Core<T, S>,
+    core: &mut Core<T, S>,
     screens: &mut [Screen],
     id: SessionId,
     touched: &Touched,
 )
-    requires known { All (IsKnown (sizes core.now.world)) screens.old }
+    requires known { All (IsKnown (sizes core.old.world)) screens.old }
     requires each { All IsSessionScreen screens.old }
     requires on_time { All IsOnTime screens.old }
-    requires drawn { AreDrawnApart core.now.world touched.now id screens.old }
+    requires drawn { AreDrawnApart core.old.world touched.now id screens.old }
     ensures each { All IsSessionScreen screens.new }
     ensures sizes { map shown_size screens.new ≡ map shown_size screens.old }
-    ensures redrawn { AreRedrawn core.now.world screens.old screens.new }
+    ensures redrawn { AreRedrawn core.old.world screens.old screens.new }
+    ensures core { core.new ≡ core.old }
 {
     for (at, screen) in screens.iter_mut().enumerate() {
         redraw_at(core, screen, at, id, touched);
@@ -210,20 +220,21 @@ fn redraw_each<T: Marked + Drop, S: Store + Drop>(
 /// The screens are those of the open sessions, in their order, each in the size that the world knows, and none is late.
 /// Those that the event cannot have changed are what the world has for their sessions.
 pub(crate) fn redraw_apart<T: Marked + Drop, S: Store + Drop>(
-    core: &Core<T, S>,
+    core: &mut Core<T, S>,
     screens: &mut Vec<Screen>,
     id: SessionId,
     touched: &Touched,
 )
-    requires known { All (IsKnown (sizes core.now.world)) screens.old.items }
+    requires known { All (IsKnown (sizes core.old.world)) screens.old.items }
     requires each { All IsSessionScreen screens.old.items }
     requires on_time { All IsOnTime screens.old.items }
-    requires drawn { AreDrawnApart core.now.world touched.now id screens.old.items }
+    requires drawn { AreDrawnApart core.old.world touched.now id screens.old.items }
     ensures each { All IsSessionScreen screens.new.items }
     ensures sizes { map shown_size screens.new.items ≡ map shown_size screens.old.items }
-    ensures redrawn { AreRedrawn core.now.world screens.old.items screens.new.items }
+    ensures redrawn { AreRedrawn core.old.world screens.old.items screens.new.items }
     ensures len { vec_len screens.new ≡ vec_len screens.old }
     ensures capacity { vec_capacity screens.new ≡ vec_capacity screens.old }
+    ensures core { core.new ≡ core.old }
 {
     redraw_each(core, screens, id, touched);
 }

@@ -20,5 +20,4 @@ mod tape;
 pub use driving::drive;
 pub use ending::Cause;
 pub use engine::Engine;
-pub use take::Taker;
 pub use tape::{Answer, Call, Tape};

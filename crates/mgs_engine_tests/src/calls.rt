@@ -1,26 +1,14 @@
 use mgs_acl::{List, read_entry};
 use mgs_buffers::Buffers;
 use mgs_core::Core;
-use mgs_engine::{Engine, Taker};
+use mgs_engine::Engine;
 use mgs_marks::PlainMarked;
-use mgs_model::{Keyed, SessionId};
+use mgs_model::Keyed;
 use mgs_policy::Directory;
 use mgs_store::RefusingStore;
 use std::alloc::Global;
 use std::process::Abort;
 use std::test::Fail;
-
-// Whether anything was taken.
-#[derive(Drop)]
-struct Seen {
-    any: bool,
-}
-
-impl Taker for Seen {
-    fn take(&mut self, _id: SessionId, bytes: &[u8]) {
-        self.any = self.any || !bytes.is_empty();
-    }
-}
 
 // The world of ann, and of a buffer that she may read and write.
 fn world(alloc: Global, rt: &impl Abort) -> Core<PlainMarked, RefusingStore> {
@@ -37,7 +25,10 @@ fn world(alloc: Global, rt: &impl Abort) -> Core<PlainMarked, RefusingStore> {
             .add("notes", "ann", list, &['a', 'b'], false)
             .is_ok()
     );
-    Core::new(alloc, directory, buffers, RefusingStore::new())
+    match Core::new(alloc, directory, buffers, RefusingStore::new()) {
+        Ok(core) => core,
+        Err(_) => panic!(rt; "no memory"),
+    }
 }
 
 #[test]
@@ -47,21 +38,17 @@ fn a_session_is_painted(rt: HostRuntime) -> Result<(), Fail> {
     let Ok(mut engine) = Engine::new(alloc, core) else {
         panic!(rt; "no memory");
     };
-    let mut seen = Seen { any: false };
-    engine.take_all(&mut seen);
-    assert!(rt; !seen.any);
+    assert!(rt; engine.pending(1).is_empty());
     let id = engine.open("ann", 6, 20).map_err(|_| "not opened")?;
     assert!(rt; engine.is_open(id));
     let waiting = engine.pending(id).len();
     assert!(rt; waiting > 0);
     engine.took(id, 1);
     assert_eq!(rt; engine.pending(id).len(), waiting - 1);
-    engine.take_all(&mut seen);
-    assert!(rt; seen.any);
+    engine.took(id, waiting - 1);
     assert!(rt; engine.pending(id).is_empty());
     assert_eq!(rt; engine.byte(id, b'x'), Keyed::Done);
     assert!(rt; !engine.pending(id).is_empty());
-    engine.take_all(&mut seen);
     engine.close(id);
     assert!(rt; !engine.is_open(id));
     Ok(())

@@ -2,11 +2,11 @@
 use mgs_acl::{List, read_entry};
 use mgs_buffers::Buffers;
 use mgs_core::Core;
-use mgs_engine::Taker;
+use mgs_engine::Engine;
 use mgs_marks::PlainMarked;
 use mgs_model::SessionId;
 use mgs_policy::Directory;
-use mgs_store::RefusingStore;
+use mgs_store::{RefusingStore, Store};
 use mgs_term::Term;
 use std::alloc::Global;
 use std::process::Abort;
@@ -24,16 +24,21 @@ pub(crate) struct Clients {
     pub all: Vec<Client>,
 }
 
-fn feed(client: &mut Client, id: SessionId, bytes: &[u8]) {
-    if client.id == id && client.term.feed_all(bytes).is_err() {
+// The terminal of a session takes what waits for it.
+fn take<S: Store + Drop>(engine: &mut Engine<PlainMarked, S>, client: &mut Client) {
+    let pending = engine.pending(client.id);
+    let count = pending.len();
+    if client.term.feed_all(pending).is_err() {
         client.refused = true;
     }
+    engine.took(client.id, count);
 }
 
-impl Taker for Clients {
-    fn take(&mut self, id: SessionId, bytes: &[u8]) {
+impl Clients {
+    // Each terminal takes what waits for it.
+    pub(crate) fn take_all<S: Store + Drop>(&mut self, engine: &mut Engine<PlainMarked, S>) {
         for client in self.all.iter_mut() {
-            feed(client, id, bytes);
+            take(engine, client);
         }
     }
 }
@@ -65,5 +70,8 @@ pub(crate) fn core_of_ann(alloc: Global, rt: &impl Abort) -> Core<PlainMarked, R
     let mut buffers = Buffers::new(alloc);
     let list = list_of(&["ALLOW OWNER@ rwat"], rt);
     assert!(rt; buffers.add("notes", "ann", list, &[], false).is_ok());
-    Core::new(alloc, directory, buffers, RefusingStore::new())
+    match Core::new(alloc, directory, buffers, RefusingStore::new()) {
+        Ok(core) => core,
+        Err(_) => panic!(rt; "no memory"),
+    }
 }

@@ -13,6 +13,8 @@ mod fixtures;
 #[cfg(test)]
 mod ids;
 #[cfg(test)]
+mod judged;
+#[cfg(test)]
 mod listing;
 #[cfg(test)]
 mod lockstep;

@@ -55,7 +55,17 @@ fn list_from(rt: &impl Abort, alloc: Global, user: &str, row: usize) -> Result<G
     let all = two(alloc, rt);
     let user = named(rt, user);
     assert!(rt; grid.rows() > 3);
-    draw_listing(&all, &Directory::new(alloc), &user, 0, 3, row, &mut grid);
+    let mut judge = all.judge()?;
+    draw_listing(
+        &all,
+        &mut judge,
+        &Directory::new(alloc),
+        &user,
+        0,
+        3,
+        row,
+        &mut grid,
+    );
     Ok(grid)
 }
 
@@ -96,8 +106,10 @@ fn acl_of_notes(rt: &impl Abort, alloc: Global, user: &str) -> Result<Grid, Fail
     let notes = named(rt, "notes");
     assert!(rt; all.has(&notes));
     assert!(rt; grid.rows() > 3);
+    let mut judge = all.judge()?;
     draw_entries(
         &all,
+        &mut judge,
         &Directory::new(alloc),
         &user,
         &notes,

@@ -17,10 +17,10 @@ fn serve(alloc: Global, text: &[char], rt: &impl Abort) -> Engine<PlainMarked, R
     let list = list_of(&["ALLOW OWNER@ rwat", "ALLOW bob rwat"], rt);
     let mut buffers = Buffers::new(alloc);
     assert!(rt; buffers.add("notes", "ann", list, text, false).is_ok());
-    match Engine::new(
-        alloc,
-        Core::new(alloc, directory, buffers, RefusingStore::new()),
-    ) {
+    let Ok(core) = Core::new(alloc, directory, buffers, RefusingStore::new()) else {
+        panic!(rt; "no memory");
+    };
+    match Engine::new(alloc, core) {
         Ok(engine) => engine,
         Err(_) => panic!(rt; "no memory"),
     }

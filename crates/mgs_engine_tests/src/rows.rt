@@ -31,10 +31,10 @@ fn serve(
     let mut buffers = Buffers::new(alloc);
     let list = list_of(entries, rt);
     assert!(rt; buffers.add("notes", "ann", list, text, false).is_ok());
-    match Engine::new(
-        alloc,
-        Core::new(alloc, directory, buffers, RefusingStore::new()),
-    ) {
+    let Ok(core) = Core::new(alloc, directory, buffers, RefusingStore::new()) else {
+        panic!(rt; "no memory");
+    };
+    match Engine::new(alloc, core) {
         Ok(engine) => engine,
         Err(_) => panic!(rt; "no memory"),
     }
@@ -48,7 +48,7 @@ pub(crate) fn sit<S: Store + Drop>(
     user: &str,
     rt: &impl Abort,
 ) -> SessionId {
-    engine.take_all(clients);
+    clients.take_all(engine);
     match (engine.open(user, ROWS, COLS), Term::new(alloc, ROWS, COLS)) {
         (Ok(id), Ok(term)) => {
             let client = Client {
@@ -57,7 +57,7 @@ pub(crate) fn sit<S: Store + Drop>(
                 refused: false,
             };
             assert!(rt; clients.all.push(client).is_ok());
-            engine.take_all(clients);
+            clients.take_all(engine);
             id
         }
         _ => panic!(rt; "not opened"),
@@ -73,10 +73,10 @@ pub(crate) fn press<S: Store + Drop>(
     rt: &impl Abort,
 ) {
     for byte in bytes {
-        engine.take_all(clients);
+        clients.take_all(engine);
         assert_eq!(rt; engine.byte(id, *byte), Keyed::Done);
     }
-    engine.take_all(clients);
+    clients.take_all(engine);
 }
 
 // A row of a screen that is told as

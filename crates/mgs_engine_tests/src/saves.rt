@@ -43,7 +43,9 @@ fn saving_shows(rt: &impl Abort, alloc: Global, takes: bool, screen: &str) -> Re
     let mut buffers = Buffers::new(alloc);
     let list = list_of(&["ALLOW ann rwat"], rt);
     assert!(rt; buffers.add("notes", "ann", list, &['a', 'b'], true).is_ok());
-    let core = Core::new(alloc, directory, buffers, Stand { takes, faults: 0 });
+    let Ok(core) = Core::new(alloc, directory, buffers, Stand { takes, faults: 0 }) else {
+        panic!(rt; "no memory");
+    };
     let mut engine = match Engine::new(alloc, core) {
         Ok(engine) => engine,
         Err(_) => panic!(rt; "no memory"),

@@ -210,6 +210,8 @@ pub(crate) fn put_message(row: &mut [char], message: &Message) -> usize
         Message::NoFile => put_bytes(row, 0, b"No file"),
         Message::SaveFailed => put_bytes(row, 0, b"Save failed"),
         Message::NoPattern => put_bytes(row, 0, b"No pattern"),
+        Message::NotFound => put_bytes(row, 0, b"Not found"),
+        Message::MacroTooLong => put_bytes(row, 0, b"Macro too long"),
         Message::Wrote(name) => {
             let at = put_bytes(row, 0, b"Wrote ");
             put_name(row, at, &name)
@@ -234,6 +236,7 @@ fn prompt_text(question: Question) -> &'static [u8]
         Question::EntryToInsert => b"Entry: ",
         Question::EntryToReplace => b"Entry: ",
         Question::WhichOwner => b"Owner: ",
+        Question::SearchWhat(_) => b"Search: ",
         Question::ReplaceWhat => b"Query replace: ",
         Question::ReplaceWith => b"With: ",
     }

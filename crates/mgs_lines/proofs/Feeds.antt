@@ -1,13 +1,14 @@
 -- Line feeds, the lines between them, and their numbers.
-use Rattle.std.proofs.Common.{◌≡◌, ℕ, zero, suc, ◌+◌, ◌-◌, ◌<◌, ◌≤◌, true, false, cond, not, min, leb, List, [], ◌∷◌, length, take, drop, get_or, refl, sym, ap, ◌∙◌, arith, inl, inr, eq-eqb, zero-add, length-drop}
+use Rattle.std.proofs.Common.{◌≡◌, ℕ, zero, suc, ◌+◌, ◌-◌, ◌<◌, ◌≤◌, true, false, cond, not, min, leb, List, [], ◌∷◌, length, take, drop, get_or, refl, sym, ap, ◌∙◌, arith, ◌⊎◌, inl, inr, eq-eqb, zero-add, length-drop}
 use Rattle.std.proofs.lemmas.List.{get_or-drop, take_all, drop_more}
 use Rattle.std.specs.Prelude.{slice_range}
 use Rattle.std.specs.List.{count_by, position_or_len}
-use Rattle.std.proofs.lemmas.List.Sums.{sum_by-cons, count_by_more_yes, count_by_more_no, passes_at_first}
-use Rattle.std.proofs.lemmas.Bool.{ne_eqb, cases_eq, eqb-true, le-leb, lt-leb}
+use Rattle.std.proofs.lemmas.List.Sums.{sum_by-cons, count_by_more_yes, count_by_more_no, fails_before_first, passes_at_first}
+use Rattle.std.proofs.lemmas.Bool.{ne_eqb, cases_eq, cases_lt, eqb-true, le-leb, lt-leb}
 use Rattle.mgs_model.specs.Lines.{is_feed, is_within, line_of, line_start, line_end, start_of}
 use Rattle.mgs_model.specs.Cells.{glyph}
 use Rattle.mgs_model.specs.Walks.{lines_down, lines_up, fitting}
+use Rattle.mgs_model.proofs.Firsts.{place_most}
 use Rattle.mgs_lines.proofs.Walks.{line_start_back, line_start_here, lines_within, line_of-start_of}
 
 -- one character more in front
@@ -142,6 +143,51 @@ line_of_above xs s some within start =
       | inl e ↦ ap (line_of xs) more ∙ count_by_more_yes is_feed xs (s - 1) 0 (omega arith) (eq-eqb (get_or xs (s - 1) 0) 10 e)
       | inr n ↦ absurd (omega (arith, line_start_back xs s some within (ap not (ne_eqb (get_or xs (s - 1) 0) 10 n))))
     ]
+
+-- WHERE THE NEXT LINE STARTS
+
+next_start : (xs : List ℕ) (p : ℕ) → line_end xs p < length xs → start_of (line_of xs p + 1) xs ≡ line_end xs p + 1
+next_start xs p within =
+    let one : line_of xs p + 1 ≡ suc (line_of xs (line_end xs p)) = omega (arith, line_of_end xs p) in
+    ap (λ k. start_of k xs) one ∙ (start_of_after xs (line_end xs p) within (feed_at_end xs p within) ∙ omega arith)
+
+no_next : (xs : List ℕ) (p : ℕ) → line_end xs p ≡ length xs → start_of (line_of xs p + 1) xs ≡ length xs
+no_next xs p last =
+    let all : line_of xs (length xs) ≡ count_by is_feed xs = ap (count_by is_feed) (take_all (length xs) xs (omega arith)) in
+    start_of_past (line_of xs p + 1) xs (omega (arith, all, line_of_end xs p, ap (line_of xs) last))
+
+-- a line ends before the next one or with the text
+ends : (xs : List ℕ) (p : ℕ) → p ≤ length xs → (line_end xs p < length xs) ⊎ (line_end xs p ≡ length xs)
+ends xs p within = elim (cases_lt (line_end xs p) (length xs)) [
+  | inl e ↦ inl e
+  | inr past ↦ inr (omega (arith, past, place_most is_feed (drop p xs), length-drop p xs))
+]
+
+pub next_after : (xs : List ℕ) (p n : ℕ) → p < length xs → n ≡ start_of (line_of xs p + 1) xs → p < n
+next_after xs p n within is = elim (ends xs p (omega arith)) [
+  | inl e ↦ omega (arith, is, next_start xs p e)
+  | inr last ↦ omega (arith, is, no_next xs p last)
+]
+
+pub next_feed : (xs : List ℕ) (p n : ℕ) → p < length xs → n ≡ start_of (line_of xs p + 1) xs → get_or xs (n - 1) 0 ≡ 10 → n - 1 ≡ line_end xs p
+next_feed xs p n within is feed = elim (ends xs p (omega arith)) [
+  | inl e ↦ omega (arith, is, next_start xs p e)
+  | inr last ↦
+      let k : ℕ = n - 1 - p in
+      let whole : n ≡ length xs = is ∙ no_next xs p last in
+      let none : is_feed (get_or (drop p xs) k 0) ≡ false = fails_before_first is_feed (drop p xs) k 0 (omega (arith, whole, last)) in
+      let same : p + k ≡ n - 1 = omega (arith, whole) in
+      let there : is_feed (get_or (drop p xs) k 0) ≡ true = ap is_feed (get_or-drop p xs k 0) ∙ (ap (λ j. is_feed (get_or xs j 0)) same ∙ eq-eqb (get_or xs (n - 1) 0) 10 feed) in
+      let no : true ≡ false = sym there ∙ none in cc
+]
+
+pub next_other : (xs : List ℕ) (p n : ℕ) → p < length xs → n ≡ start_of (line_of xs p + 1) xs → (get_or xs (n - 1) 0 ≡ 10 → ⊥) → n ≡ line_end xs p
+next_other xs p n within is other = elim (ends xs p (omega arith)) [
+  | inl e ↦
+      let same : n - 1 ≡ line_end xs p = omega (arith, is, next_start xs p e) in
+      absurd (other (ap (λ j. get_or xs j 0) same ∙ feed_at_end xs p e))
+  | inr last ↦ is ∙ no_next xs p last ∙ sym last
+]
 
 -- LINES UP AND DOWN
 

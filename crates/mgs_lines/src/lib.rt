@@ -25,37 +25,34 @@ pub use words::{backward_word, forward_word};
 
 /// Where the line of a position starts: after the line feed before it, or at the text's start.
 ///
-/// It walks back over that part of the line alone.
+/// It asks the text, and walks over nothing itself.
+#[tactic(auto, using(crate::proofs::Feeds::start_of_line))]
 pub fn line_start<T: Text>(text: &T, p: usize) -> usize
     requires { p ≤ length (T.text text.now) }
     ensures value { result ≡ line_start (T.text text.now) p }
     ensures within { result ≤ p }
 {
-    let mut start = p;
-    while start > 0 {
-        if text.at(start - 1) == '\n' {
-            break;
-        }
-        start -= 1;
-    }
-    start
+    text.start_of(text.line_of(p))
 }
 
 /// Where the line of a position ends: at the line feed from there on, or at the text's end.
 ///
-/// It walks over that part of the line alone.
+/// It asks the text where the next line starts, and walks over nothing itself.
 pub fn line_end<T: Text>(text: &T, p: usize) -> usize
     requires { p ≤ length (T.text text.now) }
     ensures value { result ≡ line_end (T.text text.now) p }
     ensures from { p ≤ result }
     ensures within { result ≤ length (T.text text.now) }
 {
-    for i in p..text.len() {
-        if text.at(i) == '\n' {
-            return i;
-        }
+    if p == text.len() {
+        return p;
     }
-    text.len()
+    let next = text.start_of(text.line_of(p) + 1);
+    if text.at(next - 1) == '\n' {
+        next - 1
+    } else {
+        next
+    }
 }
 
 fn hex_len(n: u32) -> usize

@@ -6,15 +6,15 @@ use Rattle.mgs_keys.specs.declared.decoder.Key.TheVariants.{Plain, Meta}
 use Rattle.mgs_model.specs.Keys.{KeyRead, Half, Bound, Not_bound, quotes, key_read}
 use Rattle.mgs_model.specs.declared.session.Argument.{Argument}
 use Rattle.mgs_model.specs.declared.session.Motion.{Motion}
-use Rattle.mgs_model.specs.declared.session.Motion.TheVariants.{GoToLine, StartSearch, SearchOn, StartReplace, SkipMatch}
+use Rattle.mgs_model.specs.declared.session.Motion.TheVariants.{StartSearch, SearchOn, SearchFor, StartReplace, SkipMatch}
 use Rattle.mgs_model.specs.declared.session.Alteration.{Alteration}
-use Rattle.mgs_model.specs.declared.session.Alteration.TheVariants.{ReplaceMatch}
+use Rattle.mgs_model.specs.declared.session.Alteration.TheVariants.{ReplaceMatch, ReplaceLast}
 use Rattle.mgs_model.specs.declared.session.Setting.{Setting}
 use Rattle.mgs_model.specs.declared.session.Setting.TheVariants.{SetFillColumn, KeyboardQuit}
-use Rattle.mgs_model.specs.declared.session.Arrangement.{Arrangement}
-use Rattle.mgs_model.specs.declared.session.Arrangement.TheVariants.{ListBuffers}
 use Rattle.mgs_model.specs.declared.session.Command.{Command}
-use Rattle.mgs_model.specs.declared.session.Command.TheVariants.{Insert, InsertReading, Move, Alter, Scroll, Set, Rearrange, Ask, UndoEdit, NotModified, SaveBuffer, Exit}
+use Rattle.mgs_model.specs.declared.session.EntryChange.{EntryChange}
+use Rattle.mgs_model.specs.declared.session.EntryChange.TheVariants.{DeleteEntry}
+use Rattle.mgs_model.specs.declared.session.Command.TheVariants.{Insert, InsertReading, Move, Alter, Scroll, Set, Rearrange, Ask, Entries, ListEntries, UndoEdit, NotModified, SaveBuffer, Exit}
 use Rattle.mgs_mini.specs.Typing.{is_asked}
 use Rattle.mgs_maps.specs.declared.maps.Fed.{Fed}
 use Rattle.mgs_maps.specs.declared.maps.Fed.TheVariants.{Pending, Run, Unbound}
@@ -40,28 +40,29 @@ FedBy Pending read new = read ≡ Half new.argument new.keys
 FedBy (Run c n) read new = (read ≡ Bound c n) × (new ≡ nothing_held)
 FedBy Unbound read new = (read ≡ Not_bound) × (new ≡ nothing_held)
 
--- the arrangements of the table, and those that have a name alone
-abbrev pub is_bound_arrangement : Arrangement → Bool
-is_bound_arrangement ListBuffers = false
-is_bound_arrangement _ = true
-
 -- the motions, alterations and settings of the table
 abbrev pub is_bound_motion : Motion → Bool
-is_bound_motion GoToLine = false
-is_bound_motion StartSearch = false
-is_bound_motion SearchOn = false
+is_bound_motion (StartSearch d) = false
+is_bound_motion (SearchOn d step) = false
+is_bound_motion (SearchFor d) = false
 is_bound_motion StartReplace = false
 is_bound_motion SkipMatch = false
 is_bound_motion _ = true
 
 abbrev pub is_bound_alteration : Alteration → Bool
 is_bound_alteration ReplaceMatch = false
+is_bound_alteration ReplaceLast = false
 is_bound_alteration _ = true
 
 abbrev pub is_bound_setting : Setting → Bool
 is_bound_setting SetFillColumn = true
 is_bound_setting KeyboardQuit = true
 is_bound_setting _ = false
+
+-- an entry is deleted at once; for one that comes a question is asked
+abbrev pub is_bound_change : EntryChange → Bool
+is_bound_change DeleteEntry = true
+is_bound_change _ = false
 
 -- the commands of the table, those that have a name alone, and insertions of a character
 abbrev pub is_bound : Command → Bool
@@ -71,8 +72,10 @@ is_bound (Move c) = is_bound_motion c
 is_bound (Alter c) = is_bound_alteration c
 is_bound (Scroll c) = true
 is_bound (Set c) = is_bound_setting c
-is_bound (Rearrange c) = is_bound_arrangement c
+is_bound (Rearrange c) = true
 is_bound (Ask c) = is_asked c
+is_bound (Entries c) = is_bound_change c
+is_bound ListEntries = true
 is_bound UndoEdit = true
 is_bound NotModified = true
 is_bound SaveBuffer = true

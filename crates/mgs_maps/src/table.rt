@@ -11,8 +11,8 @@ ghost use Rattle.mgs_maps.specs.Table.{rows_of, command_of};
 use crate::maps::Prefix;
 use mgs_keys::Key;
 use mgs_model::{
-    Alteration, Arrangement, Command, Insertion, Motion, Question, ReadingInsertion, Scrolling,
-    Setting,
+    Alteration, Arrangement, Command, EntryChange, Insertion, Motion, Question, ReadingInsertion,
+    Scrolling, Setting,
 };
 
 pub(crate) const ESCAPE: u8 = 0x1B;
@@ -36,7 +36,7 @@ pub struct Binding {
     pub command: Command,
 }
 
-static BINDINGS: [Binding; 63] = [
+static BINDINGS: [Binding; 65] = [
     Binding {
         keys: b"\r",
         name: "newline",
@@ -126,6 +126,11 @@ static BINDINGS: [Binding; 63] = [
         keys: b"\x1B{",
         name: "backward-paragraph",
         command: Command::Move(Motion::BackwardParagraph),
+    },
+    Binding {
+        keys: b"\x18g",
+        name: "goto-line",
+        command: Command::Move(Motion::GoToLine),
     },
     Binding {
         keys: b"\x18=",
@@ -323,6 +328,11 @@ static BINDINGS: [Binding; 63] = [
         command: Command::Rearrange(Arrangement::EnlargeWindow),
     },
     Binding {
+        keys: b"\x18\x02",
+        name: "list-buffers",
+        command: Command::Rearrange(Arrangement::ListBuffers),
+    },
+    Binding {
         keys: b"\x18\x13",
         name: "save-buffer",
         command: Command::SaveBuffer,
@@ -354,11 +364,43 @@ static BINDINGS: [Binding; 63] = [
     },
 ];
 
-static KEYLESS: [Binding; 1] = [Binding {
-    keys: b"",
-    name: "shrink-window",
-    command: Command::Rearrange(Arrangement::ShrinkWindow),
-}];
+static KEYLESS: [Binding; 7] = [
+    Binding {
+        keys: b"",
+        name: "shrink-window",
+        command: Command::Rearrange(Arrangement::ShrinkWindow),
+    },
+    Binding {
+        keys: b"",
+        name: "insert-buffer",
+        command: Command::Ask(Question::InsertWhich),
+    },
+    Binding {
+        keys: b"",
+        name: "acl-list",
+        command: Command::ListEntries,
+    },
+    Binding {
+        keys: b"",
+        name: "acl-insert",
+        command: Command::Ask(Question::EntryToInsert),
+    },
+    Binding {
+        keys: b"",
+        name: "acl-delete",
+        command: Command::Entries(EntryChange::DeleteEntry),
+    },
+    Binding {
+        keys: b"",
+        name: "acl-replace",
+        command: Command::Ask(Question::EntryToReplace),
+    },
+    Binding {
+        keys: b"",
+        name: "set-owner",
+        command: Command::Ask(Question::WhichOwner),
+    },
+];
 
 /// The words of keys that run a command, with their names and commands: the rows by which keys are read. Beside them one
 /// visible ASCII character, the space and TAB insert themselves.

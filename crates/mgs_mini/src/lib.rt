@@ -82,6 +82,7 @@ fn names_buffers(question: Question) -> bool
         | Question::EntryToInsert
         | Question::EntryToReplace
         | Question::WhichOwner
+        | Question::SearchWhat(_)
         | Question::ReplaceWhat
         | Question::ReplaceWith => false,
     }

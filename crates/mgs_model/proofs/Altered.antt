@@ -20,6 +20,7 @@ around text place argument mark =
       serial = 0;
       place = place;
       mark = mark;
+      origin = 0;
       anchor = 0;
       old = [];
       argument = argument;

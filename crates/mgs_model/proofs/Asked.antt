@@ -41,10 +41,15 @@ run_without_keys : heights (doing (notes []) (B 24 ∷ B 50 ∷ C (Ask RunWhich)
 unfolding turns most_turns outcome next key_read find_command
 run_without_keys = refl
 
--- one that asks in its turn, with the argument of M-x
+-- one that asks in its turn
 asked_by_name : texts (doing (notes []) (C (Ask RunWhich) None ∷ answer (codes "switch-to-buffer") ++ answer (codes "new") ++ B 120 ∷ [])) ≡ [] ∷ codes "x" ∷ []
 unfolding turns most_turns outcome next key_read find_command
 asked_by_name = refl
+
+-- the text of a buffer into itself, by name
+inserted_by_name : texts (doing (notes (codes "ab")) (C (Ask RunWhich) None ∷ answer (codes "insert-buffer") ++ answer (codes "notes"))) ≡ codes "abab" ∷ []
+unfolding turns most_turns outcome next key_read find_command
+inserted_by_name = refl
 
 -- what a command of a name leaves is not joined to what was killed before M-x
 killed_by_name : kill (doing (notes (codes "one two")) (C (Alter KillWord) None ∷ C (Ask RunWhich) None ∷ answer (codes "kill-word"))) ≡ Some (codes " two")
@@ -96,6 +101,11 @@ first_line = refl
 last_line : points (doing lines (C (Move GoToLine) (Some 9999) ∷ [])) ≡ Some (6 ∷ [])
 unfolding turns most_turns outcome next key_read
 last_line = refl
+
+-- by its keys too: it is asked for where there is no argument, also by name
+line_by_keys : (points (doing lines (B 24 ∷ B 103 ∷ answer (codes "2"))) ≡ Some (3 ∷ [])) × (points (doing lines (B 21 ∷ B 50 ∷ B 24 ∷ B 103 ∷ [])) ≡ Some (3 ∷ [])) × (points (doing lines (C (Ask RunWhich) (Some 2) ∷ answer (codes "goto-line"))) ≡ Some (3 ∷ []))
+unfolding turns most_turns outcome next key_read find_command
+line_by_keys = (refl, refl, refl)
 
 line_typed : points (doing lines (C (Move GoToLine) None ∷ answer (codes "0000002"))) ≡ Some (3 ∷ [])
 unfolding turns most_turns outcome next key_read
@@ -176,6 +186,15 @@ put_in_place = refl
 no_such_place : (echo (doing (listed 0) (asked_for EntryToReplace (Some 2) (codes "ALLOW ann r"))) ≡ Some NoSuchEntry) × (echo (doing (listed 0) (asked_for EntryToReplace (Some 2) [])) ≡ Some (BadEntry Kind))
 unfolding turns most_turns outcome next key_read
 no_such_place = (refl, refl)
+
+-- all of them by name, with the argument of M-x
+put_by_name : entries (doing (listed 1) (C (Ask RunWhich) (Some 2) ∷ answer (codes "acl-insert") ++ answer (codes "ALLOW ann r"))) ≡ (owned ∷ entry_of (codes "ann") 1 ∷ entry_of (codes "bob") 1 ∷ []) ∷ []
+unfolding turns most_turns outcome next key_read find_command
+put_by_name = refl
+
+taken_by_name : entries (doing (listed 1) (C (Ask RunWhich) (Some 2) ∷ answer (codes "acl-delete"))) ≡ (owned ∷ []) ∷ []
+unfolding turns most_turns outcome next key_read find_command
+taken_by_name = refl
 
 -- THE LIST IN A WINDOW: from its buffer, and again from the list
 

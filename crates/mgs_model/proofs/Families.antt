@@ -10,7 +10,8 @@ use Rattle.mgs_model.specs.Turns.{next}
 use Rattle.mgs_model.specs.Outcome.{Run, takes_memory}
 use Rattle.mgs_model.specs.Apply.{outcome_in}
 use Rattle.mgs_model.specs.Events.{Open, run, turns, most_turns, refused_in, refused_act, may_be_refused}
-use Rattle.mgs_model.specs.declared.message.Message.TheVariants.{NoMemory, Denied, InMacro, NoFurtherUndo, NoFile, Replaced, NoBuffer, Silent, KeyNotBound, Quitting, ImpossibleChange, NothingToYank, CharacterAt, BeginningOfBuffer}
+use Rattle.mgs_model.specs.declared.search.Direction.TheVariants.{Forward}
+use Rattle.mgs_model.specs.declared.message.Message.TheVariants.{NoMemory, Denied, InMacro, NoFurtherUndo, NoFile, Replaced, NoBuffer, NoSuchBuffer, Silent, KeyNotBound, Quitting, ImpossibleChange, NothingToYank, CharacterAt, BeginningOfBuffer}
 use Rattle.mgs_model.specs.declared.session.Command.TheVariants.{Insert, InsertReading, Move, Alter, Scroll, Set, Rearrange, Ask, Entries, UndoEdit, NotModified, SaveBuffer}
 use Rattle.mgs_model.specs.declared.session.Insertion.TheVariants.{Yank}
 use Rattle.mgs_model.specs.declared.session.Scrolling.TheVariants.{ScrollUp, ScrollDown}
@@ -171,6 +172,11 @@ target_second : echo (doing_bob sources (C (Ask InsertWhich) None ∷ B 110 ∷ 
 unfolding turns most_turns outcome next key_read
 target_second = refl
 
+-- a source that is not there is told before the target's right, which is not judged then
+missing_source : echo (doing_bob sources (C (Ask InsertWhich) None ∷ B 110 ∷ B 111 ∷ B 13 ∷ [])) ≡ Some NoSuchBuffer
+unfolding turns most_turns outcome next key_read
+missing_source = refl
+
 -- where nothing is shown there is nothing to judge
 nothing_shown : echo (doing_bob sources (C (Rearrange ListBuffers) None ∷ C (Ask InsertWhich) None ∷ B 104 ∷ B 101 ∷ B 114 ∷ B 115 ∷ B 13 ∷ [])) ≡ Some NoBuffer
 unfolding turns most_turns outcome next key_read
@@ -238,16 +244,16 @@ unfolding turns most_turns outcome next key_read
 anew = refl
 
 -- A SEARCH: two bytes of it, and a key that ends it and then moves on
-searched : points (doing (notes (codes "xabc")) (C (Move StartSearch) None ∷ B 97 ∷ B 98 ∷ B 6 ∷ [])) ≡ Some (4 ∷ [])
+searched : points (doing (notes (codes "xabc")) (C (Move (StartSearch Forward)) None ∷ B 97 ∷ B 98 ∷ B 6 ∷ [])) ≡ Some (4 ∷ [])
 unfolding turns most_turns outcome next key_read
 searched = refl
 
-left_search : points (doing (notes (codes "xabc")) (B 6 ∷ C (Move StartSearch) None ∷ B 98 ∷ B 7 ∷ [])) ≡ Some (1 ∷ [])
+left_search : points (doing (notes (codes "xabc")) (B 6 ∷ C (Move (StartSearch Forward)) None ∷ B 98 ∷ B 7 ∷ [])) ≡ Some (1 ∷ [])
 unfolding turns most_turns outcome next key_read
 left_search = refl
 
 -- the act that ends a search is refused: the search goes on as it was
-search_stays : points (doing (notes (codes "xabc")) (C (Move StartSearch) None ∷ B 97 ∷ S 6 0 ∷ B 98 ∷ [])) ≡ Some (3 ∷ [])
+search_stays : points (doing (notes (codes "xabc")) (C (Move (StartSearch Forward)) None ∷ B 97 ∷ S 6 0 ∷ B 98 ∷ [])) ≡ Some (3 ∷ [])
 unfolding turns most_turns outcome next key_read
 search_stays = refl
 

@@ -1,5 +1,5 @@
 -- What holds of the outcome of every act: a case for each family of commands, and none for a command.
-use Rattle.std.proofs.Common.{◌≡◌, ℕ, List, [], ◌∷◌, ◌++◌, refl, ap, Bool, true, false, cond, not, ◌&&◌, ◌||◌, ◌+◌, Option, Some, None, is_some, nat_le, nat_lt, length}
+use Rattle.std.proofs.Common.{◌≡◌, ℕ, List, [], ◌∷◌, refl, ap, Bool, true, false, cond, not, ◌&&◌, ◌||◌, ◌+◌, Option, Some, None, is_some, nat_le, nat_lt, length}
 use Rattle.std.specs.Prelude.{Result, Ok, Err}
 use Rattle.std.specs.Option.{option_map}
 use Rattle.mgs_model.specs.Names.{is_name}
@@ -10,7 +10,7 @@ use Rattle.mgs_model.specs.World.{Own}
 use Rattle.mgs_model.specs.View.{View, BufferSeen, find_seen, size_told, serial_told, text_in}
 use Rattle.mgs_model.specs.Outcome.{Act, Unbound, Run, Outcome, Keep_kill, Stay, Adjust, Arrange, Effect, No_effect, Edit, Unmodified, Reown, Create, Save, Quit}
 use Rattle.mgs_model.specs.Plans.{acted_own, Finish, Change, insertion, reading_insertion, motion, alteration, scrolling, setting, arrangement, undo, entries_changed, inserted}
-use Rattle.mgs_model.specs.Acts.{Target, target, around, is_at_text_end, moved_by, needs_by_name, Request, insertion_right, here, name_meant, needs, deciders_found, request_judged, or_else, judged, fails, is_too_large, is_full, finished_own, finished, edit_of, edited_by, edits, moves, sets, arranges, shows_named, created, killed, by_name, has_file, entries_told, items_in, relisted, effects, rules, lists, saves, about, shown, subject, selected_seen, has_rows, row_in, scrolls_rows, scrolls, allowed, permitted, outcome}
+use Rattle.mgs_model.specs.Acts.{Target, target, around, is_at_text_end, moved_by, copy_needs, needs_by_name, Request, insertion_right, here, name_meant, needs, deciders_found, request_judged, or_else, judged, fails, is_too_large, is_full, finished_own, finished, edit_of, edited_by, edits, moves, sets, arranges, shows_named, created, killed, by_name, has_file, entries_told, items_in, relisted, effects, rules, lists, saves, about, shown, subject, selected_seen, has_rows, row_in, scrolls_rows, scrolls, allowed, permitted, outcome}
 use Rattle.mgs_model.specs.Lawful.{granted_on, lawful}
 use Rattle.mgs_model.specs.declared.right.Right.{Right}
 use Rattle.mgs_model.specs.declared.right.Right.TheVariants.{WriteData, AppendData}
@@ -197,6 +197,12 @@ killed_lawful v [] o e = refl
 killed_lawful v (c ∷ cs) None e = refl
 killed_lawful v (c ∷ cs) (Some b) e = (request_granted v (record { buffer = c ∷ cs; rights = 65536 }) [] e).0
 
+copied_lawful : (v : View) (n : Option ℕ) (typed : List ℕ) (o : Option BufferSeen) (t : Option Target) → judged v (elim t as (λ _. List Request) [ None ↦ [] | Some t ↦ copy_needs o typed t ]) ≡ Granted → lawful v (edits v.session.own t (λ t. inserted (option_map (λ b. text_in b.full) o) (around v.session n typed t))).effect ≡ true
+copied_lawful v n typed o None e = refl
+copied_lawful v n typed None (Some t) e = refl
+copied_lawful v n typed (Some b) (Some t) e =
+    edits_lawful v v.session.own insertion_right (λ t. inserted (Some (text_in b.full)) (around v.session n typed t)) (insertion_may v) (Some t) (rest_granted v (record { buffer = typed; rights = 1 }) (here (Some t) insertion_right) e)
+
 named_lawful : (v : View) (c : ByName) (n : Option ℕ) (typed : List ℕ) → judged v (needs_by_name v c typed) ≡ Granted → lawful v (by_name v c n typed).effect ≡ true
 named_lawful v SwitchToBuffer n typed e = found (find_seen typed v.buffers) refl
   where
@@ -204,13 +210,7 @@ named_lawful v SwitchToBuffer n typed e = found (find_seen typed v.buffers) refl
     found None q = created_lawful v typed q
     found (Some b) q = refl
 named_lawful v KillBuffer n typed e = killed_lawful v (name_meant v typed) (find_seen (name_meant v typed) v.buffers) e
-named_lawful v InsertBuffer n typed e =
-    edits_lawful v v.session.own insertion_right (λ t. inserted (option_map (λ b. text_in b.full) (find_seen typed v.buffers)) (around v.session n typed t)) (insertion_may v) (target v) (last (target v) (find_seen typed v.buffers) e)
-  where
-    last : (t : Option Target) (o : Option BufferSeen) → judged v (elim t as (λ _. List Request) [ None ↦ [] | Some t ↦ elim o as (λ _. List Request) [ None ↦ [] | Some b ↦ record { buffer = typed; rights = 1 } ∷ [] ] ++ here (Some t) insertion_right ]) ≡ Granted → judged v (here t insertion_right) ≡ Granted
-    last None o r = r
-    last (Some t) None r = r
-    last (Some t) (Some b) r = rest_granted v (record { buffer = typed; rights = 1 }) (here (Some t) insertion_right) r
+named_lawful v InsertBuffer n typed e = copied_lawful v n typed (find_seen typed v.buffers) (target v) e
 
 -- LISTS, OWNERS AND FILES
 

@@ -6,9 +6,8 @@ use Rattle.mgs_model.specs.Names.{same_name}
 use Rattle.mgs_model.specs.Text.{shift, is_edit}
 use Rattle.mgs_model.specs.World.{World, Buffer, Session, Window, Place, Search, first_own, Shows, Nothing, Buffer_of, Listing, List_of, is_named, has_id}
 use Rattle.mgs_model.specs.Outcome.{Outcome, PointPlan, Keep, At, At_origin, MarkPlan, Keep_mark, Mark_at, SearchPlan, Keep_search, No_search, Begin, Anchor_at, Source, Old, Come, Slot, is_old, Arrange, Stay, Adjust, Slots, Effect, No_effect, Edit, Unmodified, Relist, Reown, Create, Kill, Save, Quit}
-use Rattle.mgs_model.specs.Apply.{change_first, buffers_after, buffer_edited_if, buffer_edited, buffer_unmodified, new_buffer, is_in, is_of, window_moved_if, window_moved, place_moved, search_moved, session_moved, window_bereft_if, window_bereft, is_searched, session_bereft, session_after, set_place, left_places, places_left, place_in, place_point, place_mark, comer, window_at, source_window, has_positions, origin_or, point_after, mark_after, row_after, window_adjusted, window_put, windows_arranged, places_arranged, selected_arranged, search_after, search_arranged, searches, kill_after, session_arranged, after_quit, sessions_after, apply}
+use Rattle.mgs_model.specs.Apply.{change_first, buffers_after, buffer_edited_if, buffer_edited, buffer_unmodified, new_buffer, is_in, is_of, window_moved_if, window_moved, place_moved, search_moved, session_moved, window_bereft_if, window_bereft, is_searched, bereft_own, session_bereft, session_after, set_place, left_places, places_left, place_in, place_point, place_mark, comer, window_at, source_window, has_positions, origin_or, point_after, mark_after, row_after, window_adjusted, window_put, windows_arranged, places_arranged, selected_arranged, search_after, search_arranged, searches, kill_after, session_arranged, after_quit, sessions_after, apply}
 use Rattle.mgs_model.specs.declared.entry.Entry.{Entry}
-use Rattle.mgs_model.specs.declared.session.Mode.TheVariants.{Plain}
 use Rattle.mgs_model.proofs.After.{user_after}
 use Rattle.mgs_model.proofs.Blind.{Blind-map, Blind-change, Blind-change_at, Blind-append, Blind-remove, Blind-filter, map_both, map_fixed, same_names}
 
@@ -200,7 +199,7 @@ forget_bereft_session true shut name x =
       windows = Blind-map (forget_window shut) (forget_window shut) (window_bereft name) (λ y. forget_bereft shut (is_of name y.shows) y) x.windows i;
       places = Blind-filter (forget_place shut) (forget_place_same shut) (λ p. not (same_name name p.name)) (λ p. refl) x.places i;
       search = (forget_search_bereft shut (is_searched name x.search) x.search ∙ ap (λ f. forget_search shut (cond f None (forget_search shut x.search))) (searched_forget shut name x.search)) i;
-      own = record x.own { mode = cond (searched_forget shut name x.search i) Plain x.own.mode };
+      own = bereft_own (searched_forget shut name x.search i) x.own;
     }
 
 forget_after : (o : Bool) (shut : List ℕ → Bool) (e : Effect) (x : Session) → forget_if o shut (session_after e x) ≡ forget_if o shut (session_after e (forget_if o shut x))

@@ -1,19 +1,21 @@
 -- One byte of a session that is in no search and neither records nor plays: it is a part of what is typed, or one act.
 use Rattle.std.proofs.Common.{◌≡◌, ℕ, zero, suc, ◌+◌, ◌≤◌, List, [], ◌∷◌, ◌++◌, map, refl, sym, ap, ◌∙◌, Bool, true, false, cond, Option, Some, None, arith, append-nil}
-use Rattle.std.specs.Prelude.{Result, Ok, Err, is_some, not, ◌||◌, ◌==◌, ◌-◌, nat_le, length, take}
+use Rattle.std.specs.Prelude.{Result, Ok, Err, is_some, not, ◌&&◌, ◌||◌, ◌==◌, ◌-◌, nat_le, length, take}
 use Rattle.std.specs.Option.{option_map}
 use Rattle.mgs_model.specs.Access.{is_among}
 use Rattle.mgs_model.specs.Names.{is_name}
-use Rattle.mgs_model.specs.World.{World, Session, Own, has_id, find_session}
+use Rattle.mgs_model.specs.World.{World, Session, Own, Typed, has_id, find_session}
 use Rattle.mgs_model.specs.View.{View, BufferSeen, view, view_of, find_seen, size_told, serial_told, text_in}
 use Rattle.mgs_model.specs.Outcome.{Act, Unbound, Run, Outcome, Effect, No_effect, Unmodified, Reown, Create, Save, Quit, Arrange, Stay, Adjust, Keep_kill}
-use Rattle.mgs_model.specs.Plans.{Finish, Change, alteration, insertion, motion, reading_insertion, scrolling, arrangement, acted_own, setting, undo, entries_changed, inserted}
-use Rattle.mgs_model.specs.Acts.{outcome, permitted, judged, needs, allowed, Target, target, around, edits, edited_by, edit_of, has_file, has_rows, items_in, is_full, moves, row_in, scrolls_rows, selected_seen, moved_by, finished, finished_own, is_too_large, arranges, effects, rules, lists, saves, sets, shown, shows_named, subject, relisted, entries_told, by_name, created, killed, name_meant, fails, without_all, told_over}
+use Rattle.mgs_model.specs.Plans.{ModePlan, Goes_on, Over, Failing, Finish, Change, alteration, insertion, motion, reading_insertion, scrolling, arrangement, acted_own, setting, undo, entries_changed, inserted}
+use Rattle.mgs_model.specs.Acts.{outcome, permitted, judged, needs, allowed, Target, target, around, edits, edited_by, edit_of, has_file, has_rows, items_in, is_full, moves, row_in, scrolls_rows, selected_seen, moved_by, finished, finished_own, is_too_large, arranges, effects, rules, lists, saves, sets, shown, shows_named, subject, relisted, entries_told, by_name, created, killed, name_meant, fails, without_all, mode_left}
 use Rattle.mgs_model.specs.Apply.{searches, change_first, apply, applied, outcome_in, act, after_quit, session_after, session_arranged}
 use Rattle.mgs_model.specs.Turns.{Turn, Keep, Do, byte_turn, todo_turn, next}
 use Rattle.mgs_model.specs.Events.{Byte, own_set, with_own, Doing, turn_in, turn_seen, rests, turn, turn_done, turns, most_turns, begun, begun_own, byte_done, refused_own, refused_of, refused_in, refused_act, act_effects, event_effects, turn_effects, turns_effects}
 use Rattle.mgs_model.specs.declared.message.Message.{Message}
-use Rattle.mgs_model.specs.declared.message.Message.TheVariants.{Silent, KillTooLarge, BadColumn, BadName, BufferFull, InMacro, NoFile, NoSuchUser, NotInMacro, SaveFailed, TooManyBuffers, Wrote}
+use Rattle.mgs_model.specs.declared.message.Message.TheVariants.{Silent, MacroTooLong, KillTooLarge, BadColumn, BadName, BufferFull, InMacro, NoFile, NoSuchUser, NotInMacro, SaveFailed, TooManyBuffers, Wrote}
+use Rattle.mgs_model.specs.declared.limits.TheConstants.{MACRO_LIMIT}
+use Rattle.mgs_model.specs.declared.session.Kind.TheVariants.{Other}
 use Rattle.mgs_model.specs.declared.session.ByName.{ByName}
 use Rattle.mgs_model.specs.declared.session.ByName.TheVariants.{SwitchToBuffer, KillBuffer, InsertBuffer}
 use Rattle.mgs_model.specs.declared.session.Setting.{Setting}
@@ -58,14 +60,22 @@ pub record IsStill (own : Own) : Type 0 where
 abbrev pub turn_of : World → Session → ℕ → Turn
 turn_of w x byte = byte_turn (begun_view (begun_own byte) (view w x)) (quiet x.own) byte x.own.mode
 
-begun_quiet : (own : Own) (byte : ℕ) → own.recording ≡ false → quiet (begun_own byte own) ≡ quiet own
-begun_quiet own byte e = ap (λ (b : Bool). record (quiet own) { macro = cond b (own.macro ++ byte ∷ []) own.macro }) e
+begun_still : (own : Own) (byte : ℕ) → own.recording ≡ false → begun_own byte own ≡ record own { todo = Typed byte ∷ [] }
+begun_still own byte e =
+    let full : Bool = nat_le MACRO_LIMIT (length own.macro) in
+    ap (λ (b : Bool). record own {
+      echo = cond (b && full) MacroTooLong own.echo;
+      macro = cond (b && full) [] (cond b (own.macro ++ byte ∷ []) own.macro);
+      recording = cond (b && full) false own.recording;
+      kind = cond (b && full) Other own.kind;
+      todo = cond (b && full) [] (Typed byte ∷ []);
+    }) e
 
 turn_begun : (w : World) (id byte : ℕ) (x : Session) → find_session id w.sessions ≡ Some x → IsStill x.own → turn_in (with_own id (begun_own byte) w) id ≡ turn_of w x byte
 unfolding next
 turn_begun w id byte x found still =
     ap turn_seen (seen_begun w id (begun_own byte) x found)
-    ∙ ap (λ own. byte_turn (begun_view (begun_own byte) (view w x)) own byte x.own.mode) (begun_quiet x.own byte still.recording)
+    ∙ ap (λ (own : Own). todo_turn (begun_view (begun_own byte) (view w x)) own own.todo) (begun_still x.own byte still.recording)
 
 -- where nothing is left to do
 rests_seen : (v : View) → v.session.own.todo ≡ [] → rests (next v) ≡ true
@@ -113,13 +123,14 @@ permitted_left own (NotGranted right) o h = refl
 finished_left : (own : Own) (f : Finish) (e : Effect) → own.todo ≡ [] → NothingLeft (finished own f e)
 finished_left own f e h = by (is_too_large f.kill)
   where
-    over : (c : Bool) → (told_over c (own.count + f.replaced) own.todo (record (acted_own own) { echo = f.told; kind = f.kind })).todo ≡ []
-    over true = ap without_all h
-    over false = h
+    over : (c : ModePlan) → (mode_left c (own.count + f.replaced) own.todo (record (acted_own own) { echo = f.told; kind = f.kind })).todo ≡ []
+    over Goes_on = h
+    over Over = ap without_all h
+    over (Failing failing) = h
 
     by : (c : Bool) → NothingLeft (cond c (fails own KillTooLarge) (record { own = finished_own f own; kill = f.kill; arrange = Adjust f.point f.mark f.top None f.sought; effect = e }))
     by true = refl
-    by false = over f.over
+    by false = over f.mode
 
 edits_left : (own : Own) (o : Option Target) (plan : Target → Result Change Message) → own.todo ≡ [] → NothingLeft (edits own o plan)
 edits_left own None plan h = refl

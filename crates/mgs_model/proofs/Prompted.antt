@@ -1,5 +1,5 @@
 -- Worked screens of sessions in a mode, computed by the definitions.
-use Rattle.std.proofs.Common.{◌≡◌, ℕ, List, [], ◌∷◌, None, refl}
+use Rattle.std.proofs.Common.{◌≡◌, ℕ, true, false, List, [], ◌∷◌, None, refl}
 use Rattle.std.specs.Prelude.{codes}
 use Rattle.mgs_model.specs.Cells.{glyph}
 use Rattle.mgs_model.specs.Rows.{Row, fitted, line_shown, shown_row}
@@ -7,10 +7,11 @@ use Rattle.mgs_model.specs.World.{first_own}
 use Rattle.mgs_model.specs.Seen.{Readable, Text_pane}
 use Rattle.mgs_model.specs.Picture.{Picture}
 use Rattle.mgs_model.specs.Draw.{draw}
+use Rattle.mgs_model.specs.declared.search.Direction.TheVariants.{Forward, Backward}
 use Rattle.mgs_model.specs.declared.message.Message.{Message}
 use Rattle.mgs_model.specs.declared.message.Message.TheVariants.{Silent, NoMatch}
 use Rattle.mgs_model.specs.declared.session.Mode.{Mode}
-use Rattle.mgs_model.specs.declared.session.Mode.TheVariants.{Plain, Prompt, Replacing}
+use Rattle.mgs_model.specs.declared.session.Mode.TheVariants.{Plain, Prompt, Searching, Replacing}
 use Rattle.mgs_model.specs.declared.session.Question.TheVariants.{SwitchTo}
 
 -- 19 cells of 20 are shown whole, and of 20 a `$` and the last 18
@@ -63,3 +64,8 @@ hidden = refl
 asked : echoed (screen_of Replacing (codes "no") Silent) ≡ (codes "Replace?            ", 0, 2)
 unfolding draw fitted glyph shown_row line_shown
 asked = refl
+
+-- nor is that of an incremental search, of which the end is shown where it is too long
+searching : (echoed (screen_of (Searching Forward false) (codes "ab") Silent) ≡ (codes "I-search: ab        ", 0, 2)) × (echoed (screen_of (Searching Backward false) (codes "x") Silent) ≡ (codes "$search backward: x ", 0, 2)) × (echoed (screen_of (Searching Forward true) (codes "ab") Silent) ≡ (codes "$iling I-search: ab ", 0, 2))
+unfolding draw fitted glyph shown_row line_shown
+searching = (refl, refl, refl)

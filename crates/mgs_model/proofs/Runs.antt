@@ -4,9 +4,11 @@ use Rattle.std.specs.Prelude.{codes}
 use Rattle.std.specs.Option.{option_map}
 use Rattle.mgs_model.specs.World.{World, Buffer, Session, Window, Own, first_own, Shows, find_session}
 use Rattle.mgs_model.specs.Turns.{command_turn}
-use Rattle.mgs_model.specs.Events.{Open, Byte, step, settled, turns, turn_done, with_own, most_turns}
+use Rattle.mgs_model.specs.Events.{Open, Byte, step, begun_own, settled, turns, turn_done, with_own, most_turns}
+use Rattle.mgs_model.specs.Draw.{own_line}
 use Rattle.mgs_model.specs.declared.message.Message.{Message}
 use Rattle.mgs_model.specs.declared.message.Message.TheVariants.{Silent}
+use Rattle.mgs_model.specs.declared.session.Mode.{Mode}
 use Rattle.mgs_model.specs.declared.session.Command.{Command}
 use Rattle.mgs_model.specs.declared.entry.Entry.{Entry}
 use Rattle.mgs_model.specs.declared.entry.EntryType.TheVariants.{Allow}
@@ -28,6 +30,8 @@ pub data Doing : Type 0 where
   S : (byte : ℕ) → (acts : ℕ) → Doing
   C : (command : Command) → (argument : Option ℕ) → Doing
   R : (command : Command) → (argument : Option ℕ) → (acts : ℕ) → Doing
+  -- a command whose keys are C-x and this byte
+  X : (byte : ℕ) → (command : Command) → (argument : Option ℕ) → Doing
   -- a macro that it has
   M : (bytes : List ℕ) → Doing
 
@@ -42,6 +46,7 @@ does w (B byte) = step w (Byte 1 byte true None)
 does w (S byte acts) = step w (Byte 1 byte true (Some acts))
 does w (C c n) = commanded w c n None
 does w (R c n acts) = commanded w c n (Some acts)
+does w (X byte c n) = commanded (with_own 1 (λ own. record (begun_own byte own) { keys = []; todo = [] }) (step w (Byte 1 24 true None))) c n None
 does w (M bytes) = with_own 1 (λ own. record own { macro = bytes }) w
 
 abbrev pub all_done : World → List Doing → World
@@ -55,6 +60,11 @@ doing w xs = all_done (step w (Open 1 (codes "ann") 24 80)) xs
 -- the same of bob
 abbrev pub doing_bob : World → List Doing → World
 doing_bob w xs = all_done (step w (Open 1 (codes "bob") 24 80)) xs
+
+-- another session types these bytes
+abbrev pub other_types : World → List ℕ → World
+other_types w [] = w
+other_types w (b ∷ bs) = other_types (step w (Byte 2 b true None)) bs
 
 abbrev pub texts : World → List (List ℕ)
 texts w = map (λ (b : Buffer). b.text) w.buffers
@@ -76,3 +86,13 @@ heights w = of_one (λ (x : Session). map (λ (y : Window). y.height) x.windows)
 
 abbrev pub shown : World → Option (List Shows)
 shown w = of_one (λ (x : Session). map (λ (y : Window). y.shows) x.windows) w
+
+abbrev pub modes : World → Option Mode
+modes w = of_one (λ (x : Session). x.own.mode) w
+
+-- the line of the session's mode, if it has one
+abbrev pub lines : World → Option (Option (List ℕ))
+lines w = of_one (λ (x : Session). own_line x.own) w
+
+abbrev pub recorded : World → Option (List ℕ)
+recorded w = of_one (λ (x : Session). x.own.macro) w

@@ -1,5 +1,5 @@
 -- What each act needs, and what it does: functions of the view, with one equation for each family of commands.
-use Rattle.std.specs.Prelude.{ℕ, ◌+◌, ◌-◌, nat_lt, nat_le, ◌==◌, Bool, true, false, not, ◌&&◌, ◌||◌, List, [], ◌∷◌, ◌++◌, length, Option, Some, None, Result, Ok, Err, slice_get, cond, if◌then◌else◌}
+use Rattle.std.specs.Prelude.{ℕ, ◌+◌, ◌-◌, nat_lt, nat_le, ◌==◌, Bool, true, false, not, ◌&&◌, ◌||◌, List, [], ◌∷◌, length, Option, Some, None, Result, Ok, Err, slice_get, cond, if◌then◌else◌}
 use Rattle.std.specs.Option.{option_and_then, option_map}
 use Rattle.mgs_model.specs.Names.{is_name}
 use Rattle.mgs_model.specs.Rights.{rights_in}
@@ -7,16 +7,17 @@ use Rattle.mgs_model.specs.Access.{Decider, Nobody, decision_by, is_among}
 use Rattle.mgs_model.specs.Text.{is_edit}
 use Rattle.mgs_model.specs.World.{Own, Shows, Buffer_of, Listing, List_of}
 use Rattle.mgs_model.specs.View.{View, SessionSeen, BufferSeen, WindowSeen, SearchSeen, Told, Full, Positions, find_seen, size_told, serial_told, text_in}
-use Rattle.mgs_model.specs.World.{Item, Todo, Typed, Played, Replace_all}
+use Rattle.mgs_model.specs.World.{Item, Todo, Typed, Played, Replace_all, Play}
 use Rattle.mgs_model.specs.declared.entry.Entry.{Entry}
 use Rattle.mgs_model.specs.Outcome.{Act, Unbound, Run, KillPlan, Keep_kill, Kill_is, Arrange, Stay, Adjust, At_origin, Keep, Keep_mark, Keep_search, No_search, Effect, No_effect, Edit, Unmodified, Relist, Reown, Create, Kill, Save, Quit, Outcome}
-use Rattle.mgs_model.specs.Plans.{failed_own, acted_own, Around, Finish, Change, insertion, reading_insertion, motion, alteration, scrolling, row_scrolled, setting, arrangement, undo, entries_changed, comes, inserted}
+use Rattle.mgs_model.specs.Plans.{failed_own, acted_own, Around, ModePlan, Goes_on, Over, Failing, Finish, Change, insertion, reading_insertion, motion, alteration, scrolling, row_scrolled, setting, arrangement, undo, entries_changed, comes, inserted}
 use Rattle.mgs_model.specs.declared.right.Right.{Right}
 use Rattle.mgs_model.specs.declared.entry.Decision.{Decision}
 use Rattle.mgs_model.specs.declared.entry.Decision.TheVariants.{Granted, DeniedBy, NotGranted}
 use Rattle.mgs_model.specs.declared.message.Message.{Message}
 use Rattle.mgs_model.specs.declared.message.Message.TheVariants.{Denied, KeyNotBound, NoBuffer, BufferFull, KillTooLarge, InMacro, NoSuchBuffer, BadName, TooManyBuffers, NoSuchUser, NoFile, SaveFailed, Wrote, Quitting, Replaced}
-use Rattle.mgs_model.specs.declared.session.Mode.TheVariants.{Plain, Prompt}
+use Rattle.mgs_model.specs.declared.session.Mode.{Mode}
+use Rattle.mgs_model.specs.declared.session.Mode.TheVariants.{Plain, Prompt, Searching}
 use Rattle.mgs_model.specs.declared.session.Question.{Question}
 use Rattle.mgs_model.specs.declared.session.Scrolling.{Scrolling}
 use Rattle.mgs_model.specs.declared.session.ByName.{ByName}
@@ -60,6 +61,10 @@ abbrev pub anchor_in : Option SearchSeen → ℕ
 anchor_in None = 0
 anchor_in (Some x) = elim (mark_in x.positions) [ None ↦ 0 | Some p ↦ p ]
 
+abbrev pub origin_in : Option SearchSeen → ℕ
+origin_in None = 0
+origin_in (Some x) = acts_at x.positions 0
+
 abbrev pub around : SessionSeen → Option ℕ → List ℕ → Target → Around
 around x argument typed t =
     record {
@@ -68,6 +73,7 @@ around x argument typed t =
       serial = serial_told t.buffer.told;
       place = acts_at t.window.positions (size_told t.buffer.told);
       mark = mark_in t.window.positions;
+      origin = origin_in x.search;
       anchor = anchor_in x.search;
       old = x.own.old;
       argument = argument;
@@ -122,10 +128,15 @@ abbrev pub name_meant : View → List ℕ → List ℕ
 name_meant v typed =
     if length typed == 0 then elim (selected_seen v) [ None ↦ [] | Some x ↦ name_shown x.shows ] else typed
 
+-- a buffer's text is read, and then put into another, which may be the same; where there is no source nothing is judged
+abbrev pub copy_needs : Option BufferSeen → List ℕ → Target → List Request
+copy_needs None source t = []
+copy_needs (Some b) source t = record { buffer = source; rights = 1 } ∷ here (Some t) insertion_right
+
 abbrev pub needs_by_name : View → ByName → List ℕ → List Request
 needs_by_name v SwitchToBuffer typed = there v typed 128
 needs_by_name v KillBuffer typed = there v (name_meant v typed) 65536
-needs_by_name v InsertBuffer typed = elim (target v) [ None ↦ [] | Some t ↦ there v typed 1 ++ here (Some t) insertion_right ]
+needs_by_name v InsertBuffer typed = elim (target v) [ None ↦ [] | Some t ↦ copy_needs (find_seen typed v.buffers) typed t ]
 
 abbrev pub needs : View → Act → List Request
 needs v Unbound = []
@@ -188,14 +199,20 @@ without_all [] = []
 without_all (Replace_all ∷ todo) = todo
 without_all (Typed byte ∷ todo) = Typed byte ∷ todo
 without_all (Played byte ∷ todo) = Played byte ∷ todo
+without_all (Play ∷ todo) = Play ∷ todo
+
+abbrev pub failing_in : Bool → Mode → Mode
+failing_in failing (Searching d was) = Searching d failing
+failing_in failing mode = mode
 
 -- where the last match was met, its mode ends and so does the replacing of all
-abbrev pub told_over : Bool → ℕ → List Todo → Own → Own
-told_over true n todo own = record own { echo = Replaced n; mode = Plain; input = []; old = []; count = 0; todo = without_all todo }
-told_over false n todo own = record own { count = n }
+abbrev pub mode_left : ModePlan → ℕ → List Todo → Own → Own
+mode_left Goes_on n todo own = record own { count = n }
+mode_left Over n todo own = record own { echo = Replaced n; mode = Plain; input = []; old = []; count = 0; todo = without_all todo }
+mode_left (Failing failing) n todo own = record own { mode = failing_in failing own.mode }
 
 abbrev pub finished_own : Finish → Own → Own
-finished_own f own = told_over f.over (own.count + f.replaced) own.todo (record (acted_own own) { echo = f.told; kind = f.kind })
+finished_own f own = mode_left f.mode (own.count + f.replaced) own.todo (record (acted_own own) { echo = f.told; kind = f.kind })
 
 abbrev pub finished : Own → Finish → Effect → Outcome
 finished own f effect =

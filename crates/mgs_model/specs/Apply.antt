@@ -4,7 +4,7 @@ use Rattle.std.specs.List.{list_any}
 use Rattle.std.specs.Option.{option_map}
 use Rattle.mgs_model.specs.Names.{same_name}
 use Rattle.mgs_model.specs.Text.{edited, removed, shift, is_edit}
-use Rattle.mgs_model.specs.World.{World, Buffer, Session, Window, Place, Search, Shows, Nothing, Buffer_of, List_of, is_named, has_id}
+use Rattle.mgs_model.specs.World.{World, Buffer, Own, Session, Window, Place, Search, Shows, Nothing, Buffer_of, List_of, is_named, has_id}
 use Rattle.mgs_model.specs.View.{view_of}
 use Rattle.mgs_model.specs.Outcome.{Act, Outcome, PointPlan, Keep, At, At_origin, MarkPlan, Keep_mark, Mark_at, SearchPlan, Keep_search, No_search, Begin, Anchor_at, KillPlan, Keep_kill, Kill_is, Source, Old, Come, Slot, is_old, Arrange, Stay, Adjust, Slots, Effect, No_effect, Edit, Unmodified, Relist, Reown, Create, Kill, Save, Quit}
 use Rattle.mgs_model.specs.Acts.{outcome}
@@ -116,6 +116,11 @@ abbrev pub is_searched : List ℕ → Option Search → Bool
 is_searched name None = false
 is_searched name (Some x) = same_name name x.name
 
+-- the mode of a search ends, and what was typed in it is forgotten
+abbrev pub bereft_own : Bool → Own → Own
+bereft_own f own =
+    record own { mode = cond f Plain own.mode; input = cond f [] own.input; old = cond f [] own.old; count = cond f 0 own.count }
+
 -- the buffer is gone: windows that show it or its list show nothing, places in it go, a search in it ends
 abbrev pub session_bereft : List ℕ → Session → Session
 session_bereft name x =
@@ -123,7 +128,7 @@ session_bereft name x =
       windows = map (window_bereft name) x.windows;
       places = filter (λ p. not (same_name name p.name)) x.places;
       search = cond (is_searched name x.search) None x.search;
-      own = record x.own { mode = cond (is_searched name x.search) Plain x.own.mode };
+      own = bereft_own (is_searched name x.search) x.own;
     }
 
 -- what an effect does to each session, the acting one too
@@ -251,7 +256,7 @@ search_arranged (Slots slots selected sought) x = search_after sought x.search
 abbrev pub searches : Mode → Bool
 searches Plain = false
 searches (Prompt question) = false
-searches Searching = true
+searches (Searching d failing) = true
 searches Replacing = true
 
 abbrev pub kill_after : KillPlan → List ℕ → List ℕ

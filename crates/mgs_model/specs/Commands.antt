@@ -5,14 +5,24 @@ use Rattle.mgs_model.specs.Names.{same_name}
 use Rattle.mgs_model.specs.Keys.{KeyRow, key_rows}
 use Rattle.mgs_model.specs.declared.session.Arrangement.TheVariants.{ShrinkWindow}
 use Rattle.mgs_model.specs.declared.session.Command.{Command}
-use Rattle.mgs_model.specs.declared.session.Command.TheVariants.{Rearrange}
+use Rattle.mgs_model.specs.declared.session.Command.TheVariants.{Rearrange, Ask, Entries, ListEntries}
+use Rattle.mgs_model.specs.declared.session.EntryChange.TheVariants.{DeleteEntry}
+use Rattle.mgs_model.specs.declared.session.Question.TheVariants.{InsertWhich, EntryToInsert, EntryToReplace, WhichOwner}
 
 abbrev keyless : List ℕ → Command → KeyRow
 keyless name c = record { keys = []; name = name; command = c }
 
 -- commands that no word of keys runs
 abbrev pub keyless_rows : List KeyRow
-keyless_rows = keyless (codes "shrink-window") (Rearrange ShrinkWindow) ∷ []
+keyless_rows =
+    keyless (codes "shrink-window") (Rearrange ShrinkWindow)
+    ∷ keyless (codes "insert-buffer") (Ask InsertWhich)
+    ∷ keyless (codes "acl-list") ListEntries
+    ∷ keyless (codes "acl-insert") (Ask EntryToInsert)
+    ∷ keyless (codes "acl-delete") (Entries DeleteEntry)
+    ∷ keyless (codes "acl-replace") (Ask EntryToReplace)
+    ∷ keyless (codes "set-owner") (Ask WhichOwner)
+    ∷ []
 
 -- a row without a name is another word of a command that has its name in another row, or the word of one that M-x does not know
 abbrev pub has_name : KeyRow → Bool

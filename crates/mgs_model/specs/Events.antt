@@ -10,10 +10,11 @@ use Rattle.mgs_model.specs.Apply.{searches, change_first, outcome_in, act, witho
 use Rattle.mgs_model.specs.View.{View, view_of}
 use Rattle.mgs_model.specs.Turns.{Turn, Rest, Keep, Do, next}
 use Rattle.mgs_model.specs.declared.right.Right.TheVariants.{ReadData, ReadAttributes}
-use Rattle.mgs_model.specs.declared.message.Message.TheVariants.{NoMemory}
+use Rattle.mgs_model.specs.declared.message.Message.TheVariants.{NoMemory, MacroTooLong}
+use Rattle.mgs_model.specs.declared.session.Kind.TheVariants.{Other}
 use Rattle.mgs_model.specs.declared.errors.OpenFault.{OpenFault}
 use Rattle.mgs_model.specs.declared.errors.OpenFault.TheVariants.{NoUser, Size, Full}
-use Rattle.mgs_model.specs.declared.limits.TheConstants.{SESSION_LIMIT}
+use Rattle.mgs_model.specs.declared.limits.TheConstants.{MACRO_LIMIT, SESSION_LIMIT}
 
 pub data Event : Type 0 where
   Open : (id : ℕ) → (user : List ℕ) → (rows : ℕ) → (cols : ℕ) → Event
@@ -149,9 +150,24 @@ turns (suc n) id stored d = elim (rests (turn_in d.world id)) [ true ↦ d | fal
 unfoldable pub most_turns : ℕ
 most_turns = 2 ^ 40
 
--- a byte comes: it is what is to be done, and where a macro is recorded it is kept
+-- a macro that is recorded has its most bytes
+abbrev pub is_macro_full : Own → Bool
+is_macro_full own = own.recording && nat_le MACRO_LIMIT (length own.macro)
+
+-- a byte comes: it is what is to be done, and where a macro is recorded it is kept. One too many for the macro is not handled, and
+-- ends the recording
+abbrev pub begun_if : Bool → ℕ → Own → Own
+begun_if too_long byte own =
+    record own {
+      echo = cond too_long MacroTooLong own.echo;
+      macro = cond too_long [] (cond own.recording (own.macro ++ byte ∷ []) own.macro);
+      recording = cond too_long false own.recording;
+      kind = cond too_long Other own.kind;
+      todo = cond too_long [] (Typed byte ∷ []);
+    }
+
 abbrev pub begun_own : ℕ → Own → Own
-begun_own byte own = record own { todo = Typed byte ∷ []; macro = cond own.recording (own.macro ++ byte ∷ []) own.macro }
+begun_own byte own = begun_if (is_macro_full own) byte own
 
 abbrev pub begun : World → ℕ → ℕ → Option ℕ → Doing
 begun w id byte stop = record { world = with_own id (begun_own byte) w; memory = stop }

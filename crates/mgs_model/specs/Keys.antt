@@ -6,11 +6,11 @@ use Rattle.mgs_model.specs.Names.{same_name}
 use Rattle.mgs_model.specs.declared.session.Argument.{Argument}
 use Rattle.mgs_model.specs.declared.session.Insertion.TheVariants.{SelfInsert, Newline, OpenLine, Yank}
 use Rattle.mgs_model.specs.declared.session.ReadingInsertion.TheVariants.{NewlineAndIndent}
-use Rattle.mgs_model.specs.declared.session.Motion.TheVariants.{ForwardChar, BackwardChar, BeginningOfLine, EndOfLine, NextLine, PreviousLine, BufferStart, BufferEnd, ForwardWord, BackwardWord, ForwardParagraph, BackwardParagraph, Recenter, WhatCursorPosition, SetMark, ExchangePointAndMark, MarkWholeBuffer, CopyRegion}
+use Rattle.mgs_model.specs.declared.session.Motion.TheVariants.{ForwardChar, BackwardChar, BeginningOfLine, EndOfLine, NextLine, PreviousLine, BufferStart, BufferEnd, GoToLine, ForwardWord, BackwardWord, ForwardParagraph, BackwardParagraph, Recenter, WhatCursorPosition, SetMark, ExchangePointAndMark, MarkWholeBuffer, CopyRegion}
 use Rattle.mgs_model.specs.declared.session.Alteration.TheVariants.{DeleteChar, DeleteBackwardChar, KillLine, KillWord, BackwardKillWord, KillRegion, TransposeChars, UpcaseWord, DowncaseWord, CapitalizeWord, UpcaseRegion, DowncaseRegion, JustOneSpace, DeleteHorizontalSpace, DeleteBlankLines, JoinLine, FillParagraph}
 use Rattle.mgs_model.specs.declared.session.Scrolling.TheVariants.{ScrollUp, ScrollDown}
 use Rattle.mgs_model.specs.declared.session.Setting.TheVariants.{SetFillColumn, KeyboardQuit}
-use Rattle.mgs_model.specs.declared.session.Arrangement.TheVariants.{DeleteWindow, DeleteOtherWindows, SplitWindow, NextWindow, PreviousWindow, EnlargeWindow}
+use Rattle.mgs_model.specs.declared.session.Arrangement.TheVariants.{DeleteWindow, DeleteOtherWindows, SplitWindow, NextWindow, PreviousWindow, EnlargeWindow, ListBuffers}
 use Rattle.mgs_model.specs.declared.session.Question.TheVariants.{SwitchTo, FindWhich, KillWhich, RunWhich}
 use Rattle.mgs_model.specs.declared.session.Command.{Command}
 use Rattle.mgs_model.specs.declared.session.Command.TheVariants.{Insert, InsertReading, Move, Alter, Scroll, Set, Rearrange, Ask, UndoEdit, NotModified, SaveBuffer, Exit}
@@ -54,6 +54,7 @@ key_rows =
     ∷ meta 98 (codes "backward-word") (Move BackwardWord)
     ∷ meta 125 (codes "forward-paragraph") (Move ForwardParagraph)
     ∷ meta 123 (codes "backward-paragraph") (Move BackwardParagraph)
+    ∷ control_x 103 (codes "goto-line") (Move GoToLine)
     ∷ control_x 61 (codes "what-cursor-position") (Move WhatCursorPosition)
     ∷ key 4 (codes "delete-char") (Alter DeleteChar)
     ∷ key 127 (codes "delete-backward-char") (Alter DeleteBackwardChar)
@@ -93,6 +94,7 @@ key_rows =
     ∷ control_x 110 (codes "next-window") (Rearrange NextWindow)
     ∷ control_x 112 (codes "previous-window") (Rearrange PreviousWindow)
     ∷ control_x 94 (codes "enlarge-window") (Rearrange EnlargeWindow)
+    ∷ control_x 2 (codes "list-buffers") (Rearrange ListBuffers)
     ∷ control_x 19 (codes "save-buffer") SaveBuffer
     ∷ control_x 3 (codes "save-buffers-kill-emacs") Exit
     ∷ arrow 65 (Move PreviousLine)

@@ -7,7 +7,7 @@ use Rattle.mgs_model.specs.declared.entry.EntryFault.{EntryFault}
 use Rattle.mgs_model.specs.declared.entry.EntryFault.TheVariants.{Kind, Who, Letters, Trailing}
 use Rattle.mgs_model.specs.declared.message.CursorPosition.{CursorPosition}
 use Rattle.mgs_model.specs.declared.message.Message.{Message}
-use Rattle.mgs_model.specs.declared.message.Message.TheVariants.{Silent, Denied, KeyNotBound, NoBuffer, BeginningOfBuffer, EndOfBuffer, BufferFull, NoMemory, Quitting, MarkSet, NoMark, KillTooLarge, NothingToYank, CharacterAt, EndAt, NoArgument, BadColumn, InMacro, NotInMacro, NoMacro, TooMany, OnlyOneWindow, WindowTooSmall, TooManyWindows, ImpossibleChange, NoSuchBuffer, BadName, TooManyBuffers, NoMatch, NoSuchCommand, NotANumber, BadEntry, NoSuchEntry, ListFull, NoSuchUser, NoFurtherUndo, NoFile, SaveFailed, Wrote, NoPattern, Replaced}
+use Rattle.mgs_model.specs.declared.message.Message.TheVariants.{Silent, Denied, KeyNotBound, NoBuffer, BeginningOfBuffer, EndOfBuffer, BufferFull, NoMemory, Quitting, MarkSet, NoMark, KillTooLarge, NothingToYank, CharacterAt, EndAt, NoArgument, BadColumn, InMacro, NotInMacro, NoMacro, TooMany, OnlyOneWindow, WindowTooSmall, TooManyWindows, ImpossibleChange, NoSuchBuffer, BadName, TooManyBuffers, NoMatch, NoSuchCommand, NotANumber, BadEntry, NoSuchEntry, ListFull, NoSuchUser, NoFurtherUndo, NoFile, SaveFailed, Wrote, NoPattern, NotFound, MacroTooLong, Replaced}
 
 abbrev pub denial_text : Decision → List ℕ
 denial_text Granted = []
@@ -65,4 +65,6 @@ message_text NoFile = codes "No file"
 message_text SaveFailed = codes "Save failed"
 message_text (Wrote name) = codes "Wrote " ++ name
 message_text NoPattern = codes "No pattern"
+message_text NotFound = codes "Not found"
+message_text MacroTooLong = codes "Macro too long"
 message_text (Replaced n) = codes "Replaced " ++ decimal n

@@ -9,14 +9,17 @@ use Rattle.mgs_model.specs.Lines.{line_of, line_start, line_end, start_of, colum
 use Rattle.mgs_model.specs.Walks.{forward_words, backward_words, is_first_line, is_last_line, lines_down, lines_up, forward_paragraphs, backward_paragraphs, column_place, indent_end, kill_line_end}
 use Rattle.mgs_model.specs.Cases.{uppercased, lowercased, capitalized}
 use Rattle.mgs_model.specs.Whites.{white_start, white_end, is_blank_at, blanks_start, blanks_end, paragraph_start, paragraph_end, refilled}
-use Rattle.mgs_model.specs.Searching.{matches_at, first_match}
+use Rattle.mgs_model.specs.Searching.{matches_at, first_match, match_once, match_point, Sought, is_looking, places_after, sought_after}
 use Rattle.mgs_model.specs.Spelling.{entry_in}
-use Rattle.mgs_model.specs.World.{Own, Item, Played, Shows, Listing}
+use Rattle.mgs_model.specs.World.{Own, Item, Played, Play, Shows, Listing}
 use Rattle.mgs_model.specs.View.{WindowSeen}
 use Rattle.mgs_model.specs.Outcome.{PointPlan, Keep, At, MarkPlan, Keep_mark, Mark_at, KillPlan, Keep_kill, Kill_is, SearchPlan, Keep_search, Begin, Anchor_at, Old, Come, Slot, Arrange, Slots}
+use Rattle.mgs_model.specs.declared.search.Direction.{Direction}
+use Rattle.mgs_model.specs.declared.search.SearchPlaces.{SearchPlaces}
+use Rattle.mgs_model.specs.declared.search.SearchStep.{SearchStep}
 use Rattle.mgs_model.specs.declared.message.CursorPosition.{CursorPosition}
 use Rattle.mgs_model.specs.declared.message.Message.{Message}
-use Rattle.mgs_model.specs.declared.message.Message.TheVariants.{Silent, BeginningOfBuffer, EndOfBuffer, Quitting, MarkSet, NoMark, NothingToYank, CharacterAt, EndAt, NoArgument, BadColumn, InMacro, NotInMacro, NoMacro, TooMany, OnlyOneWindow, WindowTooSmall, TooManyWindows, ImpossibleChange, NoSuchBuffer, NotANumber, BadEntry, NoSuchEntry, ListFull, NoFurtherUndo, NoPattern, BufferFull}
+use Rattle.mgs_model.specs.declared.message.Message.TheVariants.{Silent, BeginningOfBuffer, EndOfBuffer, Quitting, MarkSet, NoMark, NothingToYank, CharacterAt, EndAt, NoArgument, BadColumn, InMacro, NotInMacro, NoMacro, TooMany, OnlyOneWindow, WindowTooSmall, TooManyWindows, ImpossibleChange, NoSuchBuffer, NotANumber, BadEntry, NoSuchEntry, ListFull, NoFurtherUndo, NoPattern, NotFound, BufferFull}
 use Rattle.mgs_model.specs.declared.session.Mode.TheVariants.{Plain}
 use Rattle.mgs_model.specs.declared.session.Kind.{Kind}
 use Rattle.mgs_model.specs.declared.session.Kind.TheVariants.{Other, Kill, Line, Undo}
@@ -25,9 +28,9 @@ use Rattle.mgs_model.specs.declared.session.Insertion.TheVariants.{SelfInsert, N
 use Rattle.mgs_model.specs.declared.session.ReadingInsertion.{ReadingInsertion}
 use Rattle.mgs_model.specs.declared.session.ReadingInsertion.TheVariants.{NewlineAndIndent}
 use Rattle.mgs_model.specs.declared.session.Motion.{Motion}
-use Rattle.mgs_model.specs.declared.session.Motion.TheVariants.{ForwardChar, BackwardChar, BeginningOfLine, EndOfLine, NextLine, PreviousLine, BufferStart, BufferEnd, GoToLine, ForwardWord, BackwardWord, ForwardParagraph, BackwardParagraph, Recenter, WhatCursorPosition, SetMark, ExchangePointAndMark, MarkWholeBuffer, CopyRegion, StartSearch, SearchOn, StartReplace, SkipMatch}
+use Rattle.mgs_model.specs.declared.session.Motion.TheVariants.{ForwardChar, BackwardChar, BeginningOfLine, EndOfLine, NextLine, PreviousLine, BufferStart, BufferEnd, GoToLine, ForwardWord, BackwardWord, ForwardParagraph, BackwardParagraph, Recenter, WhatCursorPosition, SetMark, ExchangePointAndMark, MarkWholeBuffer, CopyRegion, StartSearch, SearchOn, SearchFor, StartReplace, SkipMatch}
 use Rattle.mgs_model.specs.declared.session.Alteration.{Alteration}
-use Rattle.mgs_model.specs.declared.session.Alteration.TheVariants.{DeleteChar, DeleteBackwardChar, KillLine, KillWord, BackwardKillWord, KillRegion, TransposeChars, UpcaseWord, DowncaseWord, CapitalizeWord, UpcaseRegion, DowncaseRegion, JustOneSpace, DeleteHorizontalSpace, DeleteBlankLines, JoinLine, FillParagraph, ReplaceMatch}
+use Rattle.mgs_model.specs.declared.session.Alteration.TheVariants.{DeleteChar, DeleteBackwardChar, KillLine, KillWord, BackwardKillWord, KillRegion, TransposeChars, UpcaseWord, DowncaseWord, CapitalizeWord, UpcaseRegion, DowncaseRegion, JustOneSpace, DeleteHorizontalSpace, DeleteBlankLines, JoinLine, FillParagraph, ReplaceMatch, ReplaceLast}
 use Rattle.mgs_model.specs.declared.session.Scrolling.{Scrolling}
 use Rattle.mgs_model.specs.declared.session.Scrolling.TheVariants.{ScrollUp, ScrollDown}
 use Rattle.mgs_model.specs.declared.session.EntryChange.{EntryChange}
@@ -38,7 +41,7 @@ use Rattle.mgs_model.specs.declared.session.Setting.{Setting}
 use Rattle.mgs_model.specs.declared.session.Setting.TheVariants.{SetFillColumn, KeyboardQuit, StartMacro, EndMacro, CallMacro}
 use Rattle.mgs_model.specs.declared.session.Arrangement.{Arrangement}
 use Rattle.mgs_model.specs.declared.session.Arrangement.TheVariants.{DeleteWindow, DeleteOtherWindows, SplitWindow, NextWindow, PreviousWindow, EnlargeWindow, ShrinkWindow, ListBuffers}
-use Rattle.mgs_model.specs.declared.limits.TheConstants.{ENTRY_LIMIT, WINDOW_LIMIT}
+use Rattle.mgs_model.specs.declared.limits.TheConstants.{ENTRY_LIMIT, REPETITION_LIMIT, WINDOW_LIMIT}
 
 -- THE SESSION'S OWN RECORD AFTERWARDS
 
@@ -54,7 +57,7 @@ kind_failed _ kind = Other
 
 -- a command has failed, or was denied: this is told, its mode ends, and what was half read or still to be done is forgotten
 abbrev pub failed_own : Message → Own → Own
-failed_own message own = record own { echo = message; argument = None; keys = []; kind = kind_failed message own.kind; mode = Plain; input = []; todo = [] }
+failed_own message own = record own { echo = message; argument = None; keys = []; kind = kind_failed message own.kind; mode = Plain; input = []; old = []; count = 0; todo = [] }
 
 -- a command was done
 abbrev pub acted_own : Own → Own
@@ -63,7 +66,7 @@ acted_own own = record own { argument = None; keys = []; kind = Other }
 -- PLANS OVER A TEXT
 
 -- what every plan is given beside the text: the buffer's name, the text's length and last serial, the place of action, the
--- mark, the anchor of a search, the text to be replaced, the argument, what was typed for it, the kill buffer, the last command's kind, the
+-- mark, the origin and the anchor of a search, the text to be replaced, the argument, what was typed for it, the kill buffer, the last command's kind, the
 -- window's rows and the fill column
 pub record Around : Type 0 where
   pub name : List ℕ
@@ -71,6 +74,7 @@ pub record Around : Type 0 where
   pub serial : ℕ
   pub place : ℕ
   pub mark : Option ℕ
+  pub origin : ℕ
   pub anchor : ℕ
   pub old : List ℕ
   pub argument : Option ℕ
@@ -79,6 +83,13 @@ pub record Around : Type 0 where
   pub kind : Kind
   pub height : ℕ
   pub fill : ℕ
+
+-- what becomes of a mode: it goes on; it is over, since the last match was met; or, of an incremental search, whether it found
+-- nothing
+pub data ModePlan : Type 0 where
+  Goes_on : ModePlan
+  Over : ModePlan
+  Failing : (failing : Bool) → ModePlan
 
 -- what a command leaves: point, mark, top, search, kill buffer, its kind and what it tells
 pub record Finish : Type 0 where
@@ -89,9 +100,9 @@ pub record Finish : Type 0 where
   pub kill : KillPlan
   pub kind : Kind
   pub told : Message
-  -- how many more were replaced, and whether that was the last
+  -- how many more were replaced, and whether the mode goes on
   pub replaced : ℕ
-  pub over : Bool
+  pub mode : ModePlan
 
 -- takes out the characters from a up to b, and puts these there
 pub record Change : Type 0 where
@@ -101,7 +112,7 @@ pub record Change : Type 0 where
   pub finish : Finish
 
 abbrev pub stays : Finish
-stays = record { point = Keep; mark = Keep_mark; top = Keep; sought = Keep_search; kill = Keep_kill; kind = Other; told = Silent; replaced = 0; over = false }
+stays = record { point = Keep; mark = Keep_mark; top = Keep; sought = Keep_search; kill = Keep_kill; kind = Other; told = Silent; replaced = 0; mode = Goes_on }
 
 abbrev pub goes : ℕ → Finish
 goes p = record stays { point = At p }
@@ -185,9 +196,26 @@ abbrev pub position_told : List ℕ → Around → Option ℕ → Message
 position_told text x None = EndAt (position_of text x)
 position_told text x (Some c) = CharacterAt c (position_of text x)
 
-abbrev pub found_at : Around → Option ℕ → Result Finish Message
-found_at x None = Ok stays
-found_at x (Some m) = Ok (record (goes (m + length x.typed)) { sought = Anchor_at m })
+-- SEARCHES
+
+-- a step of an incremental search moves point and anchor, and where it looks for the pattern it may be failing then
+abbrev pub searched_on : SearchStep → Sought → List ℕ → SearchPlaces → Finish
+searched_on step s text x =
+    record (goes (places_after step s text x).point) {
+      sought = Anchor_at (places_after step s text x).anchor;
+      mode = cond (is_looking step) (Failing (sought_after step s text x).failing) Goes_on;
+    }
+
+abbrev pub places_of : Around → SearchPlaces
+places_of x = record { origin = x.origin; anchor = x.anchor; point = x.place }
+
+-- a search by a prompt
+abbrev pub goes_to_match : Direction → List ℕ → Option ℕ → Result Finish Message
+goes_to_match d pattern None = Err NotFound
+goes_to_match d pattern (Some m) = Ok (goes (match_point d pattern m))
+
+abbrev pub searches_for : Direction → List ℕ → List ℕ → ℕ → Result Finish Message
+searches_for d pattern text p = if length pattern == 0 then Err NoPattern else goes_to_match d pattern (match_once d pattern text p)
 
 -- A LINE BY ITS NUMBER: 1 to 7 digits of ASCII, where it is typed
 
@@ -214,7 +242,7 @@ is_match text x = matches_at x.old text x.anchor
 -- on to the next match from a place on; where there is none it is over
 abbrev pub next_match : Around → ℕ → Finish → List ℕ → Finish
 next_match x from f text =
-    elim (first_match x.old text from) [ None ↦ record f { over = true } | Some m ↦ record f { point = At (m + length x.old); sought = Anchor_at m } ]
+    elim (first_match x.old text from) [ None ↦ record f { mode = Over } | Some m ↦ record f { point = At (m + length x.old); sought = Anchor_at m } ]
 
 abbrev pub motion : Motion → List ℕ → Around → Result Finish Message
 motion ForwardChar text x = if is_at_end x then Err EndOfBuffer else Ok (goes (min (x.place + times x) x.size))
@@ -238,11 +266,12 @@ motion SetMark text x = Ok (record stays { mark = Mark_at x.place; told = MarkSe
 motion ExchangePointAndMark text x = exchanged x x.mark
 motion MarkWholeBuffer text x = Ok (record (goes 0) { mark = Mark_at x.size })
 motion CopyRegion text x = copied text x x.mark
-motion StartSearch text x = Ok (record stays { sought = Begin x.name x.place x.place })
-motion SearchOn text x = found_at x (first_match x.typed text x.anchor)
+motion (StartSearch d) text x = Ok (record stays { sought = Begin x.name x.place x.place })
+motion (SearchOn d step) text x = Ok (searched_on step (record { direction = d; pattern = x.typed; failing = false }) text (places_of x))
+motion (SearchFor d) text x = searches_for d x.typed text x.place
 motion StartReplace text x =
     if length x.old == 0 then Err NoPattern
-    else Ok (elim (first_match x.old text x.place) [ None ↦ record stays { over = true } | Some m ↦ record (goes (m + length x.old)) { sought = Begin x.name x.place m } ])
+    else Ok (elim (first_match x.old text x.place) [ None ↦ record stays { mode = Over } | Some m ↦ record (goes (m + length x.old)) { sought = Begin x.name x.place m } ])
 motion SkipMatch text x = Ok (next_match x (x.anchor + cond (is_match text x) (length x.old) 0) stays text)
 
 -- SCROLLING: the start of the line that is two lines less than the window's rows away, at least one, or as many lines as
@@ -373,6 +402,14 @@ alteration ReplaceMatch text x =
       finish = next_match x (x.anchor + length x.typed) (record (goes (x.anchor + length x.typed)) { replaced = 1 }) (edited x.anchor (x.anchor + length x.old) x.typed text);
     }
     else record { a = x.anchor; b = x.anchor; put = []; finish = next_match x x.anchor stays text })
+alteration ReplaceLast text x =
+    Ok (if is_match text x then record {
+      a = x.anchor;
+      b = x.anchor + length x.old;
+      put = x.typed;
+      finish = record (goes (x.anchor + length x.typed)) { replaced = 1; mode = Over };
+    }
+    else record { a = x.anchor; b = x.anchor; put = []; finish = record stays { mode = Over } })
 
 -- UNDO: the item before the last one undone where nobody added one since, else the newest
 abbrev pub undo_target : Around → ℕ
@@ -456,8 +493,8 @@ setting EndMacro own n =
 setting CallMacro own n =
     if own.recording || own.playing then Err InMacro
     else if length own.macro == 0 then Err NoMacro
-    else if nat_lt 100 (count_of n) then Err TooMany
-    else Ok (record own { todo = flat_map (λ (bytes : List ℕ). map Played bytes) (replicate (count_of n) own.macro) ++ own.todo })
+    else if nat_lt REPETITION_LIMIT (count_of n) then Err TooMany
+    else Ok (record own { todo = Play ∷ flat_map (λ (bytes : List ℕ). map Played bytes) (replicate (count_of n) own.macro) ++ own.todo })
 
 -- ARRANGEMENTS change the windows alone
 

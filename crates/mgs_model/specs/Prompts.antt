@@ -1,9 +1,11 @@
 -- The lines of the modes in the echo row.
-use Rattle.std.specs.Prelude.{ℕ, List, ◌++◌, Option, Some, None, codes}
+use Rattle.std.specs.Prelude.{ℕ, Bool, true, false, List, ◌++◌, Option, Some, None, codes}
+use Rattle.mgs_model.specs.declared.search.Direction.{Direction}
+use Rattle.mgs_model.specs.declared.search.Direction.TheVariants.{Forward, Backward}
 use Rattle.mgs_model.specs.declared.session.Mode.{Mode}
 use Rattle.mgs_model.specs.declared.session.Mode.TheVariants.{Plain, Prompt, Searching, Replacing}
 use Rattle.mgs_model.specs.declared.session.Question.{Question}
-use Rattle.mgs_model.specs.declared.session.Question.TheVariants.{SwitchTo, FindWhich, KillWhich, InsertWhich, RunWhich, GoToWhich, EntryToInsert, EntryToReplace, WhichOwner, ReplaceWhat, ReplaceWith}
+use Rattle.mgs_model.specs.declared.session.Question.TheVariants.{SwitchTo, FindWhich, KillWhich, InsertWhich, RunWhich, GoToWhich, EntryToInsert, EntryToReplace, WhichOwner, SearchWhat, ReplaceWhat, ReplaceWith}
 
 abbrev pub prompt_text : Question → List ℕ
 prompt_text SwitchTo = codes "Switch to buffer: "
@@ -15,6 +17,7 @@ prompt_text GoToWhich = codes "Goto line: "
 prompt_text EntryToInsert = codes "Entry: "
 prompt_text EntryToReplace = codes "Entry: "
 prompt_text WhichOwner = codes "Owner: "
+prompt_text (SearchWhat d) = codes "Search: "
 prompt_text ReplaceWhat = codes "Query replace: "
 prompt_text ReplaceWith = codes "With: "
 
@@ -22,9 +25,16 @@ prompt_text ReplaceWith = codes "With: "
 abbrev pub prompt_line : Question → List ℕ → List ℕ
 prompt_line c input = prompt_text c ++ input
 
--- the line of a mode, with what was typed in it; a search has none yet, since its direction is not kept
+-- an incremental search says which way it goes, and whether it found nothing
+abbrev pub search_text : Direction → Bool → List ℕ
+search_text Forward false = codes "I-search: "
+search_text Forward true = codes "Failing I-search: "
+search_text Backward false = codes "I-search backward: "
+search_text Backward true = codes "Failing I-search backward: "
+
+-- the line of a mode, with what was typed in it
 abbrev pub line_in_mode : Mode → List ℕ → Option (List ℕ)
 line_in_mode Plain input = None
 line_in_mode (Prompt c) input = Some (prompt_line c input)
-line_in_mode Searching input = None
+line_in_mode (Searching d failing) input = Some (search_text d failing ++ input)
 line_in_mode Replacing input = Some (codes "Replace? ")

@@ -7,6 +7,7 @@
 --   last_match               the last place up to one where it stands
 --   match_from, match_past   the next place in a direction, where the start itself counts, or does not
 --   match_point              where the point is at a match
+--   match_once               the match that a search by a prompt goes to
 --   read_byte                what a byte makes of an incremental search, and what is to be done
 --   looked_for, places_after the match that is looked for then, and the places afterwards
 use Rattle.std.specs.Prelude.{ℕ, zero, suc, ◌+◌, ◌-◌, ◌==◌, nat_lt, Bool, true, false, List, [], ◌∷◌, ◌++◌, length, take, drop, Option, None, Some, cond, if◌then◌else◌}
@@ -59,6 +60,11 @@ match_past Backward pattern text p = last_match_before pattern text p
 abbrev pub match_point : Direction → List ℕ → ℕ → ℕ
 match_point Forward pattern p = p + length pattern
 match_point Backward pattern p = p
+
+-- ONE SEARCH, of a pattern that was typed at a prompt: a place counts forward, and backward it does not
+abbrev pub match_once : Direction → List ℕ → List ℕ → ℕ → Option ℕ
+match_once Forward pattern text p = first_match pattern text p
+match_once Backward pattern text p = last_match_before pattern text p
 
 -- INCREMENTAL SEARCH
 

@@ -59,11 +59,13 @@ pub record Search : Type 0 where
   pub origin : ℕ
   pub anchor : ℕ
 
--- what is still to be done in an event: a byte that was typed, one that a macro plays, or all further replacements
+-- what is still to be done in an event: a byte that was typed, one that a macro plays, or all further replacements. Where a macro
+-- begins to play, what follows is done as after a command of no kind
 pub data Todo : Type 0 where
   Typed : (byte : ℕ) → Todo
   Played : (byte : ℕ) → Todo
   Replace_all : Todo
+  Play : Todo
 
 -- all that a session holds beside its positions and its kill buffer
 pub record Own : Type 0 where

@@ -64,5 +64,9 @@ pub enum Message {
     SaveFailed,
     Wrote(Name),
     NoPattern,
+    /// A search found no match.
+    NotFound,
+    /// A byte is one too many for the macro that is recorded.
+    MacroTooLong,
     Replaced(usize),
 }

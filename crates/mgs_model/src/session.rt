@@ -2,6 +2,7 @@
 ghost use Rattle.std.specs.Prelude.{◌≡◌};
 
 use crate::name::Name;
+use crate::search::{Direction, SearchStep};
 use std::marker::Model;
 
 /// The number of a session. It counts up, and none is used twice.
@@ -52,8 +53,8 @@ pub enum Mode {
     Plain,
     /// It types the answer to this.
     Prompt(Question),
-    /// It types what is searched for.
-    Searching,
+    /// It types what is searched for, in this direction; where that was not found last, it is failing.
+    Searching { direction: Direction, failing: bool },
     /// It is asked at each match of a text whether it is replaced.
     Replacing,
 }
@@ -117,9 +118,12 @@ pub enum Motion {
     ExchangePointAndMark,
     MarkWholeBuffer,
     CopyRegion,
-    StartSearch,
-    /// The next match of what was typed so far.
-    SearchOn,
+    /// An incremental search begins.
+    StartSearch(Direction),
+    /// A step of an incremental search for what was typed so far.
+    SearchOn(Direction, SearchStep),
+    /// To the next match of what was typed at a prompt.
+    SearchFor(Direction),
     StartReplace,
     /// A match stays as it is.
     SkipMatch,
@@ -148,6 +152,8 @@ pub enum Alteration {
     JoinLine,
     FillParagraph,
     ReplaceMatch,
+    /// The match is the last one that is replaced.
+    ReplaceLast,
 }
 
 /// Goes on or back by a screen: in a text by lines, in a listing or an access list by rows.
@@ -212,6 +218,8 @@ pub enum Question {
     /// The text of an entry that takes the place of another.
     EntryToReplace,
     WhichOwner,
+    /// The pattern of a search that is no incremental one.
+    SearchWhat(Direction),
     ReplaceWhat,
     ReplaceWith,
 }

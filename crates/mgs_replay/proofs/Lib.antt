@@ -4,6 +4,8 @@ pub mod Setting
 pub mod Mapped
 pub mod Rows
 pub mod Served
+pub mod Opening
+pub mod Opens
 pub mod Labels
 pub mod There
 pub mod Events

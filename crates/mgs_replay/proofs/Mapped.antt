@@ -1,11 +1,9 @@
 -- A list whose elements are changed one after another.
-use Rattle.std.proofs.Common.{◌≡◌, ℕ, ◌+◌, ◌<◌, List, ◌++◌, [], ◌∷◌, length, map, take, drop, get_or, set, arith, sym, ap, subst, ◌∙◌, add-zero}
-use Rattle.std.specs.List.{AllZip}
-use Rattle.std.proofs.lemmas.List.Elements.{AllZip-push}
+use Rattle.std.proofs.Common.{◌≡◌, ℕ, ◌+◌, ◌<◌, List, ◌++◌, [], ◌∷◌, length, map, take, drop, get_or, set, arith, sym, ap, ◌∙◌, add-zero}
 use Rattle.std.proofs.lemmas.List.{take_more_set, take_more, drop-set-lt, drop-drop, get_or-drop, map-append}
 
 -- what stands at a place from which two lists are the same
-same_at : {A : Type 0} (xs ys : List A) (i : ℕ) (d : A) → drop i xs ≡ drop i ys → get_or xs i d ≡ get_or ys i d
+pub same_at : {A : Type 0} (xs ys : List A) (i : ℕ) (d : A) → drop i xs ≡ drop i ys → get_or xs i d ≡ get_or ys i d
 same_at xs ys i d e =
     ap (λ n. get_or xs n d) (sym (add-zero i)) ∙ sym (get_or-drop i xs 0 d)
     ∙ ap (λ zs. get_or zs 0 d) e
@@ -24,13 +22,3 @@ mapped_more f xs ys i d y l m is done rest =
 
 pub rest_more : {A : Type 0} (xs ys : List A) (i : ℕ) (y : A) → drop i xs ≡ drop i ys → drop (i + 1) (set xs i y) ≡ drop (i + 1) ys
 rest_more xs ys i y e = drop-set-lt (i + 1) xs i y (omega arith) ∙ sym (drop-drop 1 i xs) ∙ ap (drop 1) e ∙ drop-drop 1 i ys
-
--- one element more is related to what it was
-pub zipped_more : {A : Type 0} (R : A → A → Type 0) (xs ys : List A) (i : ℕ) (d y : A)
-    → i < length xs → i < length ys → R (get_or xs i d) y
-    → AllZip R (take i ys) (take i xs) → drop i xs ≡ drop i ys → AllZip R (take (i + 1) ys) (take (i + 1) (set xs i y))
-zipped_more R xs ys i d y l m is done rest =
-    let here = subst (λ x. R x y) (same_at xs ys i d rest) is in
-    subst (λ zs. AllZip R (take (i + 1) ys) zs) (sym (take_more_set xs i y l))
-    (subst (λ zs. AllZip R zs (take i xs ++ y ∷ [])) (sym (take_more ys i d m))
-    (AllZip-push R (take i ys) (take i xs) (get_or ys i d) y done here))

@@ -1,10 +1,11 @@
 -- What the lines from the first open on do, by what stands after the labels.
-use Rattle.std.proofs.Common.{◌≡◌, ℕ, true, false, List, [], ◌∷◌, ◌++◌, Option, Some, None, Result, Ok, Err, refl, sym, ap, subst, ◌∙◌}
+use Rattle.std.proofs.Common.{◌≡◌, ℕ, true, false, List, [], ◌∷◌, ◌++◌, map, Option, Some, None, Result, Ok, Err, refl, sym, ap, subst, ◌∙◌}
 use Rattle.std.specs.Prelude.{find, All, IsSome, is_some, not, OnOk}
 use Rattle.std.specs.Option.{option_map}
 use Rattle.std.proofs.lemmas.List.{append-nil}
 use Rattle.mgs_model.specs.World.{World}
 use Rattle.mgs_model.specs.Draw.{screen}
+use Rattle.mgs_model.specs.Events.{Close, step}
 use Rattle.mgs_model.specs.declared.errors.Keyed.{Keyed}
 use Rattle.mgs_model.specs.declared.errors.Keyed.TheVariants as keyed
 use Rattle.mgs_model.specs.declared.errors.OpenFault.{OpenFault}
@@ -22,8 +23,8 @@ use Rattle.mgs_replay.specs.declared.client.Client.{Client}
 use Rattle.mgs_replay.specs.declared.client.Client.TheVariants as clients
 use Rattle.mgs_script.specs.Lines as said
 use Rattle.mgs_replay.specs.Prints.{refusal_text, screen_text, ended_text}
-use Rattle.mgs_replay.specs.Clients.{is_labelled, client_of, shown_text}
-use Rattle.mgs_replay.specs.Players.{Label, label, Standing, Never, Has, playing, standing_of, had_session, labels_keyed, ShowPrints}
+use Rattle.mgs_replay.specs.Clients.{is_labelled, client_of, ended_by, shown_text}
+use Rattle.mgs_replay.specs.Players.{Label, label, Standing, Never, Has, playing, standing_of, had_session, labels_keyed, Closes, ShowPrints, TypesOne}
 use Rattle.mgs_replay.specs.Served.{Prints, standing_in, labels_in, ClientShows, LabelShows, IsReady, IsWaiting, session_in, clients_keyed, player_of, Runs, NotBad}
 use Rattle.mgs_replay.proofs.Events.{standing_at, labels_gone, labels_push, all_there, waiting_still, waiting_gone, ready_never}
 use Rattle.mgs_replay.proofs.There.{there_now, keyed_beside, keyed_still}
@@ -37,6 +38,11 @@ used_one (Some x) = refl
 pub is_used : (name : List ℕ) (xs : List Labelled) → is_some (standing_of name (labels_in xs)) ≡ is_some (client_of name xs)
 is_used name xs = ap is_some (standing_at name xs) ∙ used_one (client_of name xs)
 
+-- PLAYERS
+
+pub player_is : (w v : World) (ls ms : List Label) → w ≡ v → ls ≡ ms → playing w ls ≡ playing v ms
+player_is w v ls ms e f = cc
+
 -- A BYTE
 
 pub labels_keyed_are : (k : Keyed) (name : List ℕ) (xs : List Labelled) → labels_in (clients_keyed k name xs) ≡ labels_keyed k name (labels_in xs)
@@ -48,15 +54,34 @@ labels_keyed_are keyed.NoSession name xs = refl
 keyed_on : {before after : StoreTold} (k : Keyed) (old new : Serving) (name : List ℕ) (id byte : ℕ) (xs : List Labelled) → IsReady old xs → session_in name xs ≡ Some id → KeyedBy old.world new.world before after id byte k → Painted old new → (k ≡ keyed.Quit → ⊥) → IsWaiting new xs
 keyed_on k old new name id byte xs ready now by painted other =
     let there = there_now old.world name id (labels_in xs) now (all_there old.world xs ready.shows) in
-    waiting_still old new xs id ready (keyed_beside old.world new.world id byte k by) (keyed_still old.world new.world id byte k by there other) painted
+    waiting_still old new xs name id ready now (keyed_beside old.world new.world id byte k by) (keyed_still old.world new.world id byte k by there other) painted
 
 -- the session of a byte stays open, or it ends and its label's with it
 pub waiting_keyed : {before after : StoreTold} (k : Keyed) (old new : Serving) (name : List ℕ) (id byte : ℕ) (xs : List Labelled) → IsReady old xs → session_in name xs ≡ Some id → KeyedBy old.world new.world before after id byte k → Painted old new → IsWaiting new (clients_keyed k name xs)
 waiting_keyed keyed.Quit old new name id byte xs ready now by painted =
-    waiting_gone old new name id causes.Quit xs ready now (keyed_beside old.world new.world id byte keyed.Quit by) painted
+    waiting_gone old new name id causes.Quit xs ready now (keyed_beside old.world new.world id byte keyed.Quit by) (ap is_some (by.quit.0 refl).1) painted
 waiting_keyed keyed.Done old new name id byte xs ready now by painted = keyed_on keyed.Done old new name id byte xs ready now by painted (λ e. absurd cc)
 waiting_keyed keyed.Short old new name id byte xs ready now by painted = keyed_on keyed.Short old new name id byte xs ready now by painted (λ e. absurd cc)
 waiting_keyed keyed.NoSession old new name id byte xs ready now by painted = keyed_on keyed.NoSession old new name id byte xs ready now by painted (λ e. absurd cc)
+
+-- what it comes to, once what waits was handed over
+pub typed_key : {E : Type 0} (r : Result (Unit {0}) E) (old mid new : Serving) (name : List ℕ) (id byte : ℕ) (k : Keyed) (xs ys zs : List Labelled) → KeyedBy old.world mid.world old.store mid.store id byte k → ys ≡ clients_keyed k name xs
+    → OnOk r (new.world ≡ mid.world) → OnOk r (labels_in zs ≡ labels_in ys) → OnOk r (TypesOne (Some id) (player_of old xs) name byte (player_of new zs))
+typed_key (Ok u) old mid new name id byte k xs ys zs by keyed_are world labels = (
+  k,
+  (old.store, mid.store, subst (λ (w : World). KeyedBy old.world w old.store mid.store id byte k) (sym world) by),
+  labels ∙ ap labels_in keyed_are ∙ labels_keyed_are k name xs,
+  refl,
+)
+typed_key (Err e) old mid new name id byte k xs ys zs by keyed_are world labels = tt
+
+-- A CLOSE
+
+pub closed_key : {E : Type 0} (r : Result (Unit {0}) E) (old mid new : Serving) (name : List ℕ) (id : ℕ) (xs ys zs : List Labelled) → mid.world ≡ step old.world (Close id) → ys ≡ map (ended_by name causes.Closed) xs
+    → OnOk r (new.world ≡ mid.world) → OnOk r (labels_in zs ≡ labels_in ys) → OnOk r (Closes (Some id) (player_of old xs) name (player_of new zs))
+closed_key (Ok u) old mid new name id xs ys zs closes ends world labels =
+    player_is _ _ _ _ (world ∙ closes) (labels ∙ ap labels_in ends ∙ labels_gone name causes.Closed xs)
+closed_key (Err e) old mid new name id xs ys zs closes ends world labels = tt
 
 -- A SHOW
 
@@ -129,9 +154,6 @@ refused_runs (Err Short) old new xs ys name user rows cols fault out printed fre
 pub some_map : {A B : Type 0} (f : A → B) (o : Option A) → is_some (option_map f o) ≡ is_some o
 some_map f None = refl
 some_map f (Some x) = refl
-
-pub player_is : (w v : World) (ls ms : List Label) → w ≡ v → ls ≡ ms → playing w ls ≡ playing v ms
-player_is w v ls ms e f = cc
 
 pub refused_ready : (r : Result (Unit {0}) LineFault) (old new : Serving) (xs ys : List Labelled) (name : List ℕ) → OnOk r (ys ≡ xs ++ record { label = name; client = clients.Never } ∷ []) → new ≡ old → IsReady old xs → OnOk r (IsReady new ys)
 refused_ready (Ok d) old new xs ys name is same h =

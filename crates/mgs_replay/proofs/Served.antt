@@ -1,194 +1,205 @@
--- Terminals that are fed what waits for them show their screens.
-use Rattle.std.proofs.Common.{◌≡◌, ℕ, Bool, true, false, cond, List, [], ◌∷◌, map, Option, Some, refl, sym, ap, subst, ◌∙◌}
-use Rattle.std.specs.Prelude.{find, nat_eq, All}
-use Rattle.std.specs.List.{AllZip}
+-- Terminals that take what waits for them show their screens.
+use Rattle.std.proofs.Common.{◌≡◌, ℕ, ◌+◌, ◌<◌, Bool, true, false, cond, List, [], ◌∷◌, ◌++◌, length, take, drop, get_or, set, Option, Some, None, Result, Ok, Err, refl, sym, ap, subst, ◌∙◌, arith, eq-eqb}
+use Rattle.std.specs.Prelude.{find, nat_eq, All, OnOk}
 use Rattle.std.specs.Option.{option_map}
 use Rattle.std.proofs.lemmas.Bool.{eqb-true}
+use Rattle.std.proofs.lemmas.List.{drop_all, take_more, take_more_set}
 use Rattle.std.proofs.lemmas.List.Elements.{All-nil, All-cons, All-head, All-tail}
-use Rattle.mgs_model.proofs.Firsts.{find-map}
-use Rattle.mgs_model.specs.World.{World, Session, find_session}
+use Rattle.mgs_model.proofs.Firsts.{find-change_first, find-change_first_other}
+use Rattle.mgs_model.specs.World.{World}
 use Rattle.mgs_model.specs.Draw.{screen}
-use Rattle.mgs_world.specs.Worlds.{sizes, session_size, is_size_of, find_size}
-use Rattle.mgs_term.specs.Screen.{Screen}
-use Rattle.mgs_term.specs.Terminal.{Terminal, resting}
+use Rattle.mgs_model.specs.Events.{is_open}
 use Rattle.mgs_term.specs.Drawing.{Draws, Anything}
 use Rattle.mgs_paint.specs.Painting.{shown}
-use Rattle.mgs_engine.specs.Serving.{Serving, AllTaken, AreOthers, AreUnique, IsWellFormed, queue_ids, size_id}
-use Rattle.mgs_engine.specs.Queues.{Queue, Handed, queue_id, waiting_in, find_queue, is_queue_of, emptied}
-use Rattle.mgs_core.proofs.Ids.{found_sizes, some_of}
+use Rattle.mgs_engine.specs.Does.{taken_by}
+use Rattle.mgs_engine.specs.Serving.{Serving, pending_of}
+use Rattle.mgs_engine.specs.Queues.{Queue, after_taking, waiting_in, find_queue, is_queue_of}
+use Rattle.mgs_core.proofs.Ids.{All-unmap}
 use Rattle.mgs_replay.specs.declared.client.Labelled.{Labelled}
-use Rattle.mgs_replay.specs.declared.client.Cause.{Cause}
 use Rattle.mgs_replay.specs.declared.client.Client.{Client}
 use Rattle.mgs_replay.specs.declared.client.Client.TheVariants.{Never, Open, Ended}
-use Rattle.mgs_replay.specs.Clients.{Fed, ClientFed, OwnFed, TermFed, TakenBy}
-use Rattle.mgs_replay.specs.Served.{standing_in, label_of, labels_in, ClientShows, LabelShows, ClientDue, IsLineDue, IsReady, IsWaiting, AreApart}
+use Rattle.mgs_replay.specs.Players.{Label, is_called, session_now, standing_of}
+use Rattle.mgs_replay.specs.Served.{all_taken_by, AllTake, AreApart, AreHeld, ClientDue, ClientShows, ClientTakes, Differ, IsApart, IsHeld, IsLineDue, IsReady, IsWaiting, LabelShows, Takes, label_of, labels_in, standing_in}
+use Rattle.mgs_replay.proofs.Labels.{both}
+use Rattle.mgs_replay.proofs.Mapped.{same_at}
 
--- LISTS PLACE BY PLACE
+-- ALL THAT WAITS FOR A SESSION IS TAKEN
 
-zip_own : {A : Type 0} (R : A → A → Type 0) → ((x : A) → R x x) → (xs : List A) → AllZip R xs xs
-zip_own R each [] = tt
-zip_own R each (x ∷ xs) = (each x, zip_own R each xs)
+dropped : (n : ℕ) (o : Option Queue) → waiting_in o ≡ [] → waiting_in (option_map (after_taking n) o) ≡ []
+dropped n None e = refl
+dropped n (Some x) e = ap (drop n) e ∙ drop_all n [] (omega arith)
 
-zip_same : {A : Type 0} (R : A → A → Type 0) → ((x : A) → R x x) → (xs ys : List A) → xs ≡ ys → AllZip R xs ys
-zip_same R each xs ys e = subst (λ zs. AllZip R xs zs) e (zip_own R each xs)
+emptied : (o : Option Queue) → waiting_in (option_map (after_taking (length (waiting_in o))) o) ≡ []
+emptied None = refl
+emptied (Some x) = drop_all (length x.bytes) x.bytes (omega arith)
 
-zip_then : {A : Type 0} (R S T : A → A → Type 0) → ((x y z : A) → R x y → S y z → T x z) → (xs ys zs : List A) → AllZip R xs ys → AllZip S ys zs → AllZip T xs zs
-zip_then R S T both [] [] [] h k = tt
-zip_then R S T both [] [] (z ∷ zs) h k = absurd k
-zip_then R S T both [] (y ∷ ys) zs h k = absurd h
-zip_then R S T both (x ∷ xs) [] zs h k = absurd h
-zip_then R S T both (x ∷ xs) (y ∷ ys) [] h k = absurd k
-zip_then R S T both (x ∷ xs) (y ∷ ys) (z ∷ zs) h k = (both x y z h.0 k.0, zip_then R S T both xs ys zs h.1 k.1)
+own_taken : (id : ℕ) (e : Serving) → pending_of id (all_taken_by id e) ≡ []
+own_taken id e =
+    ap waiting_in (find-change_first (is_queue_of id) (after_taking (length (pending_of id e))) (λ x. refl) e.queues)
+    ∙ emptied (find_queue id e.queues)
 
-zip_each : {A : Type 0} (R : A → A → Type 0) (P Q : A → Type 0) → ((x z : A) → R x z → P x → Q z) → (xs zs : List A) → AllZip R xs zs → All P xs → All Q zs
-zip_each R P Q does [] [] h p = All-nil Q
-zip_each R P Q does [] (z ∷ zs) h p = absurd h
-zip_each R P Q does (x ∷ xs) [] h p = absurd h
-zip_each R P Q does (x ∷ xs) (z ∷ zs) h p =
-    All-cons Q z zs (does x z h.0 (All-head P x xs p)) (zip_each R P Q does xs zs h.1 (All-tail P x xs p))
+is_other : (own id : ℕ) → nat_eq id own ≡ false → (x : Queue) → is_queue_of id x ≡ true → is_queue_of own x ≡ false
+is_other own id e x h = ap (λ n. nat_eq n own) (eqb-true x.id id h) ∙ e
 
-zip_map : {A B : Type 0} (R : A → A → Type 0) (f : A → B) → ((x z : A) → R x z → f z ≡ f x) → (xs zs : List A) → AllZip R xs zs → map f zs ≡ map f xs
-zip_map R f same [] [] h = refl
-zip_map R f same [] (z ∷ zs) h = absurd h
-zip_map R f same (x ∷ xs) [] h = absurd h
-zip_map R f same (x ∷ xs) (z ∷ zs) h =
-    let a : f z ≡ f x = same x z h.0 in
-    let b : map f zs ≡ map f xs = zip_map R f same xs zs h.1 in
-    cc
+others_wait : (own id n : ℕ) (e : Serving) → nat_eq id own ≡ false → pending_of own (taken_by id n e) ≡ pending_of own e
+others_wait own id n e other = ap waiting_in (find-change_first_other (is_queue_of id) (is_queue_of own) (after_taking n) (λ x. refl) (is_other own id other) e.queues)
 
--- WHAT ALL QUEUES MAKE OF A LABEL
+still_none : (own id n : ℕ) (e : Serving) → pending_of own e ≡ [] → pending_of own (taken_by id n e) ≡ []
+still_none own id n e none = go (nat_eq id own) refl
+  where
+    go : (b : Bool) → nat_eq id own ≡ b → pending_of own (taken_by id n e) ≡ []
+    go true same =
+        let is : id ≡ own = eqb-true id own same in
+        subst (λ k. pending_of k (taken_by id n e) ≡ []) is
+        (ap waiting_in (find-change_first (is_queue_of id) (after_taking n) (λ x. refl) e.queues)
+        ∙ dropped n (find_queue id e.queues) (subst (λ k. pending_of k e ≡ []) (sym is) none))
+    go false other = others_wait own id n e other ∙ none
 
-FedBy : List Queue → Labelled → Labelled → Type 0
-FedBy [] x z = z ≡ x
-FedBy (q ∷ qs) x z = (y : Labelled) × Fed q.id q.bytes x y × FedBy qs y z
+-- ONE LABEL
 
-handed_each : (qs : List Queue) (xs zs : List Labelled) → Handed TakenBy xs qs zs → AllZip (FedBy qs) xs zs
-unfolding FedBy
-handed_each [] xs zs h = zip_same (FedBy []) (λ x. refl) xs zs h
-handed_each (q ∷ qs) xs zs h =
-    zip_then (Fed q.id q.bytes) (FedBy qs) (FedBy (q ∷ qs)) (λ x y z f g. (y, f, g)) xs h.0 zs h.1 (handed_each qs h.0 zs h.2)
+same_world : (e f : Serving) (c d : Client) → ClientTakes e c f d → f.world ≡ e.world
+same_world e f Never d h = ap (λ (s : Serving). s.world) h.0
+same_world e f (Open id term) d h = ap (λ (s : Serving). s.world) h.0
+same_world e f (Ended cause) d h = ap (λ (s : Serving). s.world) h.0
 
-client_label : (id : ℕ) (bytes : List ℕ) (x y : Client) → ClientFed id bytes x y → standing_in y ≡ standing_in x
-client_label id bytes Never y h = ap standing_in h
-client_label id bytes (Open own term) y h = ap standing_in h.1
-client_label id bytes (Ended cause) y h = ap standing_in h
+same_standing : (e f : Serving) (c d : Client) → ClientTakes e c f d → standing_in d ≡ standing_in c
+same_standing e f Never d h = ap standing_in h.1
+same_standing e f (Open id term) d h = ap standing_in h.1.1
+same_standing e f (Ended cause) d h = ap standing_in h.1
 
-fed_label : (id : ℕ) (bytes : List ℕ) (x y : Labelled) → Fed id bytes x y → label_of y ≡ label_of x
-fed_label id bytes x y h =
+none_stays : (e f : Serving) (c d : Client) (own : ℕ) → ClientTakes e c f d → pending_of own e ≡ [] → pending_of own f ≡ []
+none_stays e f Never d own h none = ap (pending_of own) h.0 ∙ none
+none_stays e f (Open id term) d own h none = ap (pending_of own) h.0 ∙ still_none own id (length (pending_of id e)) e none
+none_stays e f (Ended cause) d own h none = ap (pending_of own) h.0 ∙ none
+
+-- nothing waits for its own session then
+own_none : (e f : Serving) (c d : Client) (own : ℕ) → ClientTakes e c f d → session_now (Some (standing_in c)) ≡ Some own → pending_of own f ≡ []
+own_none e f Never d own h now = absurd cc
+own_none e f (Open id term) d own h now =
+    let is : id ≡ own = cc in
+    subst (λ k. pending_of k f ≡ []) is (ap (pending_of id) h.0 ∙ own_taken id e)
+own_none e f (Ended cause) d own h now = absurd cc
+
+-- its terminal shows its screen then
+shows_then : (e f : Serving) (c d : Client) → ClientTakes e c f d → ClientDue e c → ClientShows e.world d
+shows_then e f Never d h due = subst (ClientShows e.world) (sym h.1) tt
+shows_then e f (Open id term) d h due = subst (ClientShows e.world) (sym h.1.1) (due.0, due.2, h.1.2 due.1 (shown (screen e.world due.0)) due.3 due.4)
+shows_then e f (Ended cause) d h due = subst (ClientShows e.world) (sym h.1) tt
+
+-- what waits for the other labels stays
+due_then : (e f : Serving) (c d x : Client) → ClientTakes e c f d → Differ (standing_in c) (standing_in x) → ClientDue e x → ClientDue f x
+due_then e f Never d x h apart due = subst (λ s. ClientDue s x) (sym h.0) due
+due_then e f (Ended cause) d x h apart due = subst (λ s. ClientDue s x) (sym h.0) due
+due_then e f (Open id term) d Never h apart due = tt
+due_then e f (Open id term) d (Ended cause) h apart due = tt
+due_then e f (Open id term) d (Open own other) h apart due =
+    let same : pending_of own (all_taken_by id e) ≡ pending_of own e = others_wait own id (length (pending_of id e)) e (swapped own id apart) in
+    subst (λ s. ClientDue s (Open own other)) (sym h.0)
+    (due.0, due.1, due.2, due.3, subst (λ bytes. Draws Anything bytes due.1 (shown (screen e.world due.0))) (sym same) due.4)
+  where
+    swapped : (a b : ℕ) → nat_eq a b ≡ false → nat_eq b a ≡ false
+    swapped a b n = go (nat_eq b a) refl
+      where
+        go : (c : Bool) → nat_eq b a ≡ c → nat_eq b a ≡ false
+        go false s = s
+        go true s = let t : true ≡ false = sym (eq-eqb a b (sym (eqb-true b a s))) ∙ n in absurd cc
+
+-- ALL LABELS
+
+record Taken (e : Serving) (xs : List Labelled) (f : Serving) (ys : List Labelled) : Type 0 where
+  world : f.world ≡ e.world
+  none : (id : ℕ) → pending_of id e ≡ [] → pending_of id f ≡ []
+  own : (id : ℕ) → IsHeld id xs → pending_of id f ≡ []
+  shows : All (LabelShows e.world) ys
+  labels : labels_in ys ≡ labels_in xs
+
+later_due : (e f : Serving) (x y : Labelled) (xs : List Labelled) → Takes e x f y → All (IsApart (label_of x)) (labels_in xs) → All (IsLineDue e) xs → All (IsLineDue f) xs
+later_due e f x y xs h apart due =
+    both (λ z. IsApart (label_of x) (label_of z)) (IsLineDue e) (IsLineDue f) (λ z a d. due_then e f x.client y.client z.client h.client a d) xs
+    (All-unmap (IsApart (label_of x)) label_of xs apart) due
+
+first_or_later : (e f g : Serving) (x y : Labelled) (xs : List Labelled) (id : ℕ) → Takes e x f y → ((own : ℕ) → pending_of own f ≡ [] → pending_of own g ≡ []) → (IsHeld id xs → pending_of id g ≡ []) → IsHeld id (x ∷ xs) → pending_of id g ≡ []
+first_or_later e f g x y xs id h stays later held = go (is_called held.0 (label_of x)) held.1
+  where
+    go : (b : Bool) → session_now (option_map (λ (z : Label). z.standing) (cond b (Some (label_of x)) (find (is_called held.0) (labels_in xs)))) ≡ Some id → pending_of id g ≡ []
+    go true now = stays id (own_none e f x.client y.client id h.client now)
+    go false now = later (held.0, now)
+
+same_label : (e f : Serving) (x y : Labelled) → Takes e x f y → label_of y ≡ label_of x
+same_label e f x y h =
     let a : y.label ≡ x.label = h.label in
-    let b : standing_in y.client ≡ standing_in x.client = client_label id bytes x.client y.client h.client in
+    let b : standing_in y.client ≡ standing_in x.client = same_standing e f x.client y.client h.client in
     cc
 
-same_label : (qs : List Queue) (x z : Labelled) → FedBy qs x z → label_of z ≡ label_of x
-unfolding FedBy
-same_label [] x z h = ap label_of h
-same_label (q ∷ qs) x z h = same_label qs h.0 z h.2 ∙ fed_label q.id q.bytes x h.0 h.1
-
--- a terminal to which no queue belongs stays as it is
-open_other : (id : ℕ) (bytes : List ℕ) (own : ℕ) (term : Terminal) (x y : Client) → x ≡ Open own term → nat_eq id own ≡ false → ClientFed id bytes x y → y ≡ Open own term
-open_other id bytes own term x y is other h =
-    let k : ClientFed id bytes (Open own term) y = subst (λ (z : Client). ClientFed id bytes z y) is h in
-    let t : k.0 ≡ term = subst (λ (b : Bool). OwnFed b bytes term k.0) other k.2 in
-    k.1 ∙ ap (Open own) t
-
-stays_open : (qs : List Queue) (own : ℕ) (term : Terminal) (x z : Labelled) → AreOthers own (map queue_id qs) → x.client ≡ Open own term → FedBy qs x z → z.client ≡ Open own term
-unfolding FedBy
-stays_open [] own term x z others is h = ap (λ (y : Labelled). y.client) h ∙ is
-stays_open (q ∷ qs) own term x z others is h =
-    let first = All-head (λ (k : ℕ). nat_eq k own ≡ false) q.id (map queue_id qs) others in
-    let rest = All-tail (λ (k : ℕ). nat_eq k own ≡ false) q.id (map queue_id qs) others in
-    stays_open qs own term h.0 z rest (open_other q.id q.bytes own term x.client h.0.client is first h.1.client) h.2
-
-open_own : (id : ℕ) (bytes : List ℕ) (own : ℕ) (term : Terminal) (s t : Screen) (x y : Client) → x ≡ Open own term → nat_eq id own ≡ true → term ≡ resting s → Draws Anything bytes s t → ClientFed id bytes x y → y ≡ Open own (resting t)
-open_own id bytes own term s t x y is same rests draws h =
-    let k : ClientFed id bytes (Open own term) y = subst (λ (z : Client). ClientFed id bytes z y) is h in
-    let fed : TermFed bytes term k.0 = subst (λ (b : Bool). OwnFed b bytes term k.0) same k.2 in
-    k.1 ∙ ap (Open own) (fed s t rests draws)
-
--- a terminal takes the bytes of its own queue, and no others
-fed_open : (qs : List Queue) (own : ℕ) (term : Terminal) (s t : Screen) (q : Queue) (x z : Labelled) → AreUnique (map queue_id qs) → find_queue own qs ≡ Some q → x.client ≡ Open own term → term ≡ resting s → Draws Anything q.bytes s t → FedBy qs x z → z.client ≡ Open own (resting t)
-unfolding FedBy
-fed_open [] own term s t q x z unique found is rests draws h = cc
-fed_open (p ∷ qs) own term s t q x z unique found is rests draws h =
-    let goal : Bool → Type 0 = λ b. nat_eq p.id own ≡ b → cond b (Some p) (find_queue own qs) ≡ Some q → z.client ≡ Open own (resting t) in
-    let go : (b : Bool) → goal b =
-    λ b. elim b as goal [
-      | true ↦ λ e f.
-          let same : p ≡ q = cc in
-          let here : p.id ≡ own = eqb-true _ _ e in
-          let others : AreOthers own (map queue_id qs) = subst (λ (n : ℕ). AreOthers n (map queue_id qs)) here unique.0 in
-          let now : Draws Anything p.bytes s t = subst (λ (k : Queue). Draws Anything k.bytes s t) (sym same) draws in
-          stays_open qs own (resting t) h.0 z others (open_own p.id p.bytes own term s t x.client h.0.client is e rests now h.1.client) h.2
-      | false ↦ λ e f.
-          fed_open qs own term s t q h.0 z unique.1 f (open_other p.id p.bytes own term x.client h.0.client is e h.1.client) rests draws h.2
-    ]
-    in go (nat_eq p.id own) refl found
-
--- THE QUEUE OF AN OPEN SESSION
-
-is_id : ℕ → ℕ → Bool
-is_id id x = nat_eq x id
-
-queue_there : (e : Serving) (id : ℕ) (x : Session) → IsWellFormed e → find_session id e.world.sessions ≡ Some x → (q : Queue) × (find_queue id e.queues ≡ Some q)
-unfolding is_id
-queue_there e id x served found =
-    let by_queues : find (is_id id) (queue_ids e) ≡ option_map queue_id (find_queue id e.queues) = find-map queue_id (is_queue_of id) (is_id id) (λ q. refl) e.queues in
-    let by_sizes : find (is_id id) (map size_id (sizes e.world)) ≡ option_map size_id (find_size id (sizes e.world)) = find-map size_id (is_size_of id) (is_id id) (λ z. refl) (sizes e.world) in
-    let found_queue = some_of queue_id (find_queue id e.queues) x.id
-    (sym by_queues ∙ ap (find (is_id id)) served.queues ∙ by_sizes ∙ ap (option_map size_id) (found_sizes id e.world ∙ ap (option_map session_size) found)) in
-    (found_queue.0, found_queue.1)
-
--- HANDED OVER
-
-never_stays : (qs : List Queue) (x z : Labelled) → x.client ≡ Never → FedBy qs x z → z.client ≡ Never
-unfolding FedBy
-never_stays [] x z is h = ap (λ (y : Labelled). y.client) h ∙ is
-never_stays (q ∷ qs) x z is h = never_stays qs h.0 z (subst (λ (s : Client). ClientFed q.id q.bytes s h.0.client) is h.1.client) h.2
-
-ended_stays : (qs : List Queue) (cause : Cause) (x z : Labelled) → x.client ≡ Ended cause → FedBy qs x z → z.client ≡ Ended cause
-unfolding FedBy
-ended_stays [] cause x z is h = ap (λ (y : Labelled). y.client) h ∙ is
-ended_stays (q ∷ qs) cause x z is h = ended_stays qs cause h.0 z (subst (λ (s : Client). ClientFed q.id q.bytes s h.0.client) is h.1.client) h.2
-
-shows_one : (e : Serving) (x z : Labelled) (client : Client) → IsWellFormed e → x.client ≡ client → FedBy e.queues x z → ClientDue e client → LabelShows e.world z
-shows_one e x z Never served is h due = subst (ClientShows e.world) (sym (never_stays e.queues x z is h)) tt
-shows_one e x z (Open id term) served is h due =
-    let there = queue_there e id due.0 served due.2 in
-    let now : Draws Anything there.0.bytes due.1 (shown (screen e.world due.0)) = subst (λ (o : Option Queue). Draws Anything (waiting_in o) due.1 (shown (screen e.world due.0))) there.1 due.4 in
-    let end : z.client ≡ Open id (resting (shown (screen e.world due.0))) = fed_open e.queues id term due.1 (shown (screen e.world due.0)) there.0 x z served.unique there.1 is due.3 now h in
-    subst (ClientShows e.world) (sym end) (due.0, due.2, refl)
-shows_one e x z (Ended cause) served is h due =
-    let stays : z.client ≡ Ended cause = ended_stays e.queues cause x z is h in
-    subst (ClientShows e.world) (sym stays) tt
-
-emptied_ids : (qs : List Queue) → map queue_id (map emptied qs) ≡ map queue_id qs
-emptied_ids [] = refl
-emptied_ids (q ∷ qs) = ap (λ (ns : List ℕ). q.id ∷ ns) (emptied_ids qs)
-
--- the labels stay
-pub labels_handed : (e : Serving) (xs zs : List Labelled) → Handed TakenBy xs e.queues zs → labels_in zs ≡ labels_in xs
-labels_handed e xs zs h = zip_map (FedBy e.queues) label_of (same_label e.queues) xs zs (handed_each e.queues xs zs h)
-
--- the queues before they are handed over are those of the open sessions, since those after are
-formed_before : (old new : Serving) → new ≡ record old { queues = map emptied old.queues } → IsWellFormed new → IsWellFormed old
-formed_before old new is formed =
-    let ids : queue_ids new ≡ queue_ids old = ap (λ (e : Serving). map queue_id e.queues) is ∙ emptied_ids old.queues in
+all_taken : (e : Serving) (xs : List Labelled) (f : Serving) (ys : List Labelled) → All (IsLineDue e) xs → AreApart (labels_in xs) → AllTake e xs f ys → Taken e xs f ys
+all_taken e [] f ys due apart h = record {
+  world = ap (λ (s : Serving). s.world) h.0;
+  none = λ id n. ap (pending_of id) h.0 ∙ n;
+  own = λ id held. absurd (no_label held);
+  shows = subst (All (LabelShows e.world)) (sym h.1) (All-nil (LabelShows e.world));
+  labels = ap labels_in h.1;
+}
+  where
+    no_label : {id : ℕ} → IsHeld id [] → ⊥
+    no_label {id} held = let n : None ≡ Some id = held.1 in absurd cc
+all_taken e (x ∷ xs) f ys due apart h =
+    let one : Takes e x h.0 h.1 = h.3 in
+    let rest : Taken h.0 xs f h.2 =
+    all_taken h.0 xs f h.2 (later_due e h.0 x h.1 xs one apart.0 (All-tail (IsLineDue e) x xs due)) apart.1 h.4 in
+    let world : h.0.world ≡ e.world = same_world e h.0 x.client h.1.client one.client in
+    let first : LabelShows e.world h.1 = shows_then e h.0 x.client h.1.client one.client (All-head (IsLineDue e) x xs due) in
+    let shows : All (LabelShows e.world) h.2 = subst (λ (w : World). All (LabelShows w) h.2) world rest.shows in
     record {
-      queues = sym ids ∙ formed.queues ∙ ap (λ (e : Serving). map size_id (sizes e.world)) is;
-      unique = subst AreUnique ids formed.unique;
+      world = rest.world ∙ world;
+      none = λ id n. rest.none id (none_stays e h.0 x.client h.1.client id one.client n);
+      own = λ id held. first_or_later e h.0 f x h.1 xs id one rest.none (rest.own id) held;
+      shows = subst (All (LabelShows e.world)) (sym h.5) (All-cons (LabelShows e.world) h.1 h.2 first shows);
+      labels = ap labels_in h.5 ∙ ap (λ ls. label_of h.1 ∷ ls) rest.labels ∙ ap (λ l. l ∷ labels_in xs) (same_label e h.0 x h.1 one);
     }
 
--- what was waiting is handed over, and then each that ended is told
-pub ready : (old mid new : Serving) (xs zs : List Labelled) → IsWaiting old xs → mid ≡ record old { queues = map emptied old.queues } → AllTaken mid → IsWellFormed mid → Handed TakenBy xs old.queues zs → new ≡ record mid { ended = [] } → IsReady new zs
-ready old mid new xs zs waiting is taken formed h told =
-    let world : mid.world ≡ old.world = ap (λ (e : Serving). e.world) is in
-    let served : IsWellFormed old = formed_before old mid is formed in
-    let shows : All (LabelShows old.world) zs =
-    zip_each (FedBy old.queues) (IsLineDue old) (LabelShows old.world) (λ x z f due. shows_one old x z x.client served refl f due) xs zs (handed_each old.queues xs zs h) waiting.due in
+-- TAKEN AND TOLD
+
+-- each terminal takes what waits for it, and then each session that ended is told
+ready : (old mid new : Serving) (xs zs : List Labelled) → IsWaiting old xs → AllTake old xs mid zs → new ≡ record mid { ended = [] } → IsReady new zs
+ready old mid new xs zs waiting h told =
+    let all : Taken old xs mid zs = all_taken old xs mid zs waiting.due waiting.apart h in
+    let held : AreHeld old.world zs = λ id there.
+    let by = waiting.held id there in
+    (by.0, ap (λ ls. session_now (standing_of by.0 ls)) all.labels ∙ by.1) in
     subst (λ (e : Serving). IsReady e zs) (sym told)
     (record {
-      taken = taken;
+      taken = λ id there. all.own id (waiting.held id (subst (λ (w : World). is_open id w ≡ true) all.world there));
       told = refl;
-      shows = subst (λ (w : World). All (LabelShows w) zs) (sym world) shows;
-      apart = subst AreApart (sym (labels_handed old xs zs h)) waiting.apart;
+      shows = subst (λ (w : World). All (LabelShows w) zs) (sym all.world) all.shows;
+      apart = subst AreApart (sym all.labels) waiting.apart;
+      held = subst (λ (w : World). AreHeld w zs) (sym all.world) held;
     })
+
+pub ready_told : {E : Type 0} (r : Result (Unit {0}) E) (old mid new : Serving) (xs zs : List Labelled) → IsWaiting old xs → AllTake old xs mid zs → OnOk r (new ≡ record mid { ended = [] }) → OnOk r (IsReady new zs)
+ready_told (Ok u) old mid new xs zs waiting h told = ready old mid new xs zs waiting h told
+ready_told (Err e) old mid new xs zs waiting h told = tt
+
+pub world_told : {E : Type 0} (r : Result (Unit {0}) E) (old mid new : Serving) (xs zs : List Labelled) → IsWaiting old xs → AllTake old xs mid zs → OnOk r (new ≡ record mid { ended = [] }) → OnOk r (new.world ≡ old.world)
+world_told (Ok u) old mid new xs zs waiting h told = ap (λ (e : Serving). e.world) told ∙ (all_taken old xs mid zs waiting.due waiting.apart h).world
+world_told (Err e) old mid new xs zs waiting h told = tt
+
+pub labels_told : {E : Type 0} (r : Result (Unit {0}) E) (old mid : Serving) (xs zs : List Labelled) → IsWaiting old xs → AllTake old xs mid zs → OnOk r (labels_in zs ≡ labels_in xs)
+labels_told (Ok u) old mid xs zs waiting h = (all_taken old xs mid zs waiting.due waiting.apart h).labels
+labels_told (Err e) old mid xs zs waiting h = tt
+
+-- ONE LABEL MORE TAKES
+
+take_push : (e f g : Serving) (xs ys : List Labelled) (x y : Labelled) → AllTake e xs f ys → Takes f x g y → AllTake e (xs ++ x ∷ []) g (ys ++ y ∷ [])
+take_push e f g [] ys x y h one =
+    let here : Takes e x g y = subst (λ s. Takes s x g y) h.0 one in
+    (g, y, [], here, (refl, refl), ap (λ zs. zs ++ y ∷ []) h.1)
+take_push e f g (z ∷ xs) ys x y h one =
+    (h.0, h.1, h.2 ++ y ∷ [], h.3, take_push h.0 f g xs h.2 x y h.4 one, ap (λ zs. zs ++ y ∷ []) h.5)
+
+pub taken_more : (e f g : Serving) (xs ys : List Labelled) (i : ℕ) (d y : Labelled) → i < length xs → i < length ys → Takes f (get_or xs i d) g y → AllTake e (take i ys) f (take i xs) → drop i xs ≡ drop i ys
+    → AllTake e (take (i + 1) ys) g (take (i + 1) (set xs i y))
+taken_more e f g xs ys i d y l m one done rest =
+    let here : Takes f (get_or ys i d) g y = subst (λ x. Takes f x g y) (same_at xs ys i d rest) one in
+    subst (λ zs. AllTake e (take (i + 1) ys) g zs) (sym (take_more_set xs i y l))
+    (subst (λ zs. AllTake e zs g (take i xs ++ y ∷ [])) (sym (take_more ys i d m))
+    (take_push e f g (take i ys) (take i xs) (get_or ys i d) y done here))

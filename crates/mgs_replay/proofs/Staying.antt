@@ -5,7 +5,7 @@ use Rattle.std.specs.Option.{option_map, option_or}
 use Rattle.std.proofs.lemmas.List.Folds.{find-append}
 use Rattle.mgs_model.proofs.Firsts.{find-map}
 use Rattle.mgs_model.proofs.Blind.{change_inside, map_inside, is_some_map}
-use Rattle.mgs_model.proofs.After.{id_after}
+use Rattle.mgs_model.proofs.After.{find_without, id_after}
 use Rattle.mgs_model.specs.World.{World, Session, Own, has_id, find_session}
 use Rattle.mgs_model.specs.View.{view}
 use Rattle.mgs_model.specs.Outcome.{Act, Outcome, Effect, No_effect, Edit, Unmodified, Relist, Reown, Create, Kill, Save, Quit}
@@ -144,6 +144,14 @@ beside_close id w = go (is_open id w)
     go true =
         let ends : World = record w { sessions = without_session id w.sessions } in
         beside_then id w ends (settled ends) (record { others = λ other e. open_past id other w.sessions e; next = refl }) (beside_settled id ends)
+
+-- no session of that id is open then
+pub closed_none : (id : ℕ) (w : World) → is_open id (step w (events.Close id)) ≡ false
+closed_none id w = go (is_open id w) refl
+  where
+    go : (b : Bool) → is_open id w ≡ b → is_open id (cond b (settled (record w { sessions = without_session id w.sessions })) w) ≡ false
+    go false e = e
+    go true e = open_settled id (record w { sessions = without_session id w.sessions }) ∙ ap is_some (find_without id w.sessions)
 
 -- MEMORY REFUSED: the session of a refused act stays open, since nothing is done after it
 

@@ -1,6 +1,5 @@
 -- The clients of labels, and what becomes of them.
-use Rattle.std.specs.Prelude.{◌≡◌, ℕ, List, find, nat_eq, Bool, true, false, Option, Some, None, if◌then◌else◌}
-use Rattle.std.specs.List.{AllZip}
+use Rattle.std.specs.Prelude.{◌≡◌, ℕ, List, find, Bool, Option, Some, None, if◌then◌else◌}
 use Rattle.std.specs.Option.{option_map}
 use Rattle.mgs_model.specs.Names.{same_name}
 use Rattle.mgs_term.specs.Screen.{Screen}
@@ -33,22 +32,3 @@ shown_text label (Some (Ended cause)) = Some (ended_text label cause)
 -- what bytes make of a terminal: where they draw, it shows the screen to which they lead
 abbrev pub TermFed : List ℕ → Terminal → Terminal → Type 0
 TermFed bytes old new = (s t : Screen) → old ≡ resting s → Draws Anything bytes s t → new ≡ resting t
-
--- the bytes of a session are its terminal's, and no other takes them
-abbrev pub OwnFed : Bool → List ℕ → Terminal → Terminal → Type 0
-OwnFed true bytes old new = TermFed bytes old new
-OwnFed false bytes old new = new ≡ old
-
-abbrev pub ClientFed : ℕ → List ℕ → Client → Client → Type 0
-ClientFed id bytes Never new = new ≡ Never
-ClientFed id bytes (Open own term) new = (t : Terminal) × (new ≡ Open own t) × OwnFed (nat_eq id own) bytes term t
-ClientFed id bytes (Ended cause) new = new ≡ Ended cause
-
--- what the bytes of a session make of a label's client
-pub record Fed (id : ℕ) (bytes : List ℕ) (old new : Labelled) : Type 0 where
-  pub label : new.label ≡ old.label
-  pub client : ClientFed id bytes old.client new.client
-
--- the same of all labels
-abbrev pub TakenBy : List Labelled → ℕ → List ℕ → List Labelled → Type 0
-TakenBy old id bytes new = AllZip (Fed id bytes) old new

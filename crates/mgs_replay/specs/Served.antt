@@ -1,13 +1,15 @@
 -- The terminals of the labels beside the engine that serves them.
-use Rattle.std.specs.Prelude.{◌≡◌, ℕ, nat_eq, true, false, List, [], ◌∷◌, ◌++◌, map, Option, Some, None, IsSome, Result, Ok, Err, All}
+use Rattle.std.specs.Prelude.{◌≡◌, ℕ, nat_eq, true, false, List, [], ◌∷◌, ◌++◌, map, length, Option, Some, None, IsSome, Result, Ok, Err, All}
 use Rattle.std.specs.Option.{option_map}
 use Rattle.mgs_model.specs.World.{World, Session, find_session}
 use Rattle.mgs_model.specs.Draw.{screen}
+use Rattle.mgs_model.specs.Events.{is_open}
 use Rattle.mgs_term.specs.Screen.{Screen}
-use Rattle.mgs_term.specs.Terminal.{resting}
+use Rattle.mgs_term.specs.Terminal.{Terminal, resting}
 use Rattle.mgs_term.specs.Drawing.{Draws, Anything}
 use Rattle.mgs_paint.specs.Painting.{shown}
-use Rattle.mgs_engine.specs.Serving.{Serving, AllTaken, pending_of}
+use Rattle.mgs_engine.specs.Does.{taken_by}
+use Rattle.mgs_engine.specs.Serving.{Serving, NoneWaits, pending_of}
 use Rattle.mgs_replay.specs.declared.client.Labelled.{Labelled}
 use Rattle.mgs_replay.specs.declared.client.Client.{Client}
 use Rattle.mgs_replay.specs.declared.client.Client.TheVariants as clients
@@ -17,7 +19,7 @@ use Rattle.mgs_replay.specs.declared.client.Cause.TheVariants as causes
 use Rattle.mgs_script.specs.declared.line.LineFault.{LineFault}
 use Rattle.mgs_script.specs.declared.line.LineFault.TheVariants as lines
 use Rattle.mgs_script.specs.Lines.{Said}
-use Rattle.mgs_replay.specs.Clients.{ended_by}
+use Rattle.mgs_replay.specs.Clients.{ended_by, TermFed}
 use Rattle.mgs_replay.specs.Players.{Label, label, Standing, Never, Has, Gone, Player, playing, standing_of, session_now, is_refused, Does, LineDoes, IsDue}
 
 -- how a label stands, by its client
@@ -66,21 +68,50 @@ abbrev pub AreApart : List Label → Type 0
 AreApart [] = Unit {0}
 AreApart (x ∷ xs) = All (IsApart x) xs × AreApart xs
 
+-- the open session of a label
+abbrev pub session_in : List ℕ → List Labelled → Option ℕ
+session_in name xs = session_now (standing_of name (labels_in xs))
+
+-- some label has the session
+abbrev pub IsHeld : ℕ → List Labelled → Type 0
+IsHeld id xs = (name : List ℕ) × (session_in name xs ≡ Some id)
+
+-- so has each open session of the world one
+abbrev pub AreHeld : World → List Labelled → Type 0
+AreHeld w xs = (id : ℕ) → is_open id w ≡ true → IsHeld id xs
+
 -- between two events
 pub record IsReady (e : Serving) (xs : List Labelled) : Type 0 where
-  pub taken : AllTaken e
+  pub taken : NoneWaits e
   pub told : e.ended ≡ []
   pub shows : All (LabelShows e.world) xs
   pub apart : AreApart (labels_in xs)
+  pub held : AreHeld e.world xs
 
 -- after an event, before its bytes are handed over
 pub record IsWaiting (e : Serving) (xs : List Labelled) : Type 0 where
   pub due : All (IsLineDue e) xs
   pub apart : AreApart (labels_in xs)
+  pub held : AreHeld e.world xs
 
--- the open session of a label
-abbrev pub session_in : List ℕ → List Labelled → Option ℕ
-session_in name xs = session_now (standing_of name (labels_in xs))
+-- all that waits for a session is taken
+abbrev pub all_taken_by : ℕ → Serving → Serving
+all_taken_by id e = taken_by id (length (pending_of id e)) e
+
+-- an open label's terminal takes all that waits for its session
+abbrev pub ClientTakes : Serving → Client → Serving → Client → Type 0
+ClientTakes e clients.Never f y = (f ≡ e) × (y ≡ clients.Never)
+ClientTakes e (clients.Open id term) f y = (f ≡ all_taken_by id e) × ((t : Terminal) × (y ≡ clients.Open id t) × TermFed (pending_of id e) term t)
+ClientTakes e (clients.Ended cause) f y = (f ≡ e) × (y ≡ clients.Ended cause)
+
+pub record Takes (e : Serving) (x : Labelled) (f : Serving) (y : Labelled) : Type 0 where
+  pub label : y.label ≡ x.label
+  pub client : ClientTakes e x.client f y.client
+
+-- so do all, one after another
+abbrev pub AllTake : Serving → List Labelled → Serving → List Labelled → Type 0
+AllTake e [] f ys = (f ≡ e) × (ys ≡ [])
+AllTake e (x ∷ xs) f ys = (mid : Serving) × (y : Labelled) × (rest : List Labelled) × Takes e x mid y × AllTake mid xs f rest × (ys ≡ y ∷ rest)
 
 -- the player from the first open on
 abbrev pub player_of : Serving → List Labelled → Player

@@ -1,11 +1,12 @@
 // The labels of a script, and their clients.
 ghost use Rattle.std.specs.Prelude.{◌≡◌, ◌++◌, ◌∷◌, [], OnOk, OnErr, map, find};
 ghost use Rattle.std.specs.Option.{option_map};
-ghost use Rattle.mgs_replay.specs.Clients.{client_of, ended_by, is_labelled, Fed};
+ghost use Rattle.mgs_replay.specs.Clients.{client_of, ended_by, is_labelled};
+ghost use Rattle.mgs_replay.specs.Served.{AllTake, Takes};
 
+use crate::calls::{Server, take};
 use crate::client::{Cause, Client, Labelled};
-use mgs_engine::Taker;
-use mgs_model::{Name, SessionId, Short};
+use mgs_model::{Name, Short};
 use std::alloc::Global;
 use std::marker::Model;
 
@@ -29,6 +30,22 @@ fn found<'a>(all: &'a [Labelled], label: &Name) -> Option<&'a Labelled>
     ensures { option_map (λ x. x.now) result ≡ find (is_labelled label.now) all.now }
 {
     all.iter().find(|labelled| *label == labelled.label)
+}
+
+// The terminal of an open label takes all that waits for its session.
+fn take_labelled(alloc: Global, server: &mut Server, labelled: &mut Labelled) -> Result<(), Short>
+    ensures { OnOk result (Takes server.old labelled.old server.new labelled.new) }
+{
+    match &mut labelled.client {
+        Client::Open { id, term } => match take(alloc, server, *id) {
+            Ok(tape) => {
+                let _ = term.feed_all(tape.bytes(*id));
+                Ok(())
+            }
+            Err(Short) => Err(Short),
+        },
+        Client::Never | Client::Ended(_) => Ok(()),
+    }
 }
 
 fn end_labelled(labelled: &mut Labelled, label: &Name, cause: Cause)
@@ -75,27 +92,17 @@ impl Clients {
             end_labelled(labelled, label, cause);
         }
     }
-}
 
-// The terminal of a session takes its bytes.
-fn feed(labelled: &mut Labelled, id: SessionId, bytes: &[u8])
-    ensures { Fed id bytes.now labelled.old labelled.new }
-{
-    if let Client::Open { id: own, term } = &mut labelled.client {
-        if id == *own {
-            let _ = term.feed_all(bytes);
-        }
-    }
-}
-
-impl Taker for Clients {
-    ghost use Rattle.mgs_replay.specs.Clients.{TakenBy};
-
-    ghost takes = { TakenBy };
-
-    fn take(&mut self, id: SessionId, bytes: &[u8]) {
+    /// Each terminal takes all that waits for it. `Short`: memory was refused to a tape.
+    pub(crate) fn take_all(&mut self, alloc: Global, server: &mut Server) -> Result<(), Short>
+        ensures { OnOk result (AllTake server.old self.old server.new self.new) }
+    {
         for labelled in self.all.iter_mut() {
-            feed(labelled, id, bytes);
+            match take_labelled(alloc, server, labelled) {
+                Ok(()) => {}
+                Err(Short) => return Err(Short),
+            }
         }
+        Ok(())
     }
 }

@@ -1,6 +1,7 @@
 //! Scripts: read whole, and played line by line over a server that has nothing yet, with a terminal for each label.
 #![tactic(auto)]
 
+mod calls;
 mod client;
 mod clients;
 mod law;

@@ -10,8 +10,9 @@ ghost use Rattle.mgs_replay.specs.Plays.{Written};
 ghost use Rattle.mgs_replay.specs.Served.{player_of, IsReady};
 ghost use Rattle.mgs_replay.specs.Turns.{Turned, PlaysOn, SetsSaid, SetUp};
 
+use crate::calls::Server;
 use crate::clients::Clients;
-use crate::player::{Server, step_line};
+use crate::player::step_line;
 use crate::script::ReplayFault;
 use crate::setup::Setup;
 use mgs_engine::Engine;
@@ -79,6 +80,7 @@ fn run_lines<W: Write>(
     first: usize,
     writer: &mut W,
 ) -> Result<(), ReplayFault>
+    requires sessions { server.old.world.sessions ≡ [] }
     requires queues { server.old.queues ≡ [] }
     requires ended { server.old.ended ≡ [] }
     requires first { 1 ≤ first }
@@ -158,6 +160,7 @@ fn set_up<'a>(
 // The engine over the users and buffers that were set.
 fn server_of(alloc: Global, setup: Setup) -> Result<Server, Short>
     ensures world { IfOk result (λ e. e.world ≡ setup.entry) }
+    ensures sessions { IfOk result (λ e. e.world.sessions ≡ []) }
     ensures queues { IfOk result (λ e. e.queues ≡ []) }
     ensures ended { IfOk result (λ e. e.ended ≡ []) }
 {

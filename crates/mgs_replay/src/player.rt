@@ -11,21 +11,22 @@ ghost use Rattle.mgs_replay.specs.Clients.{client_of, shown_text};
 ghost use Rattle.mgs_replay.specs.Players.{label as called, Has, playing, standing_of, had_session, TypesOne, Types, Closes, IsDue};
 ghost use Rattle.mgs_replay.specs.Served.{labels_in, session_in, player_of, clients_keyed, IsReady, IsWaiting, NotBad, Prints, Runs, RunsSaid, short_or};
 
+use crate::calls::{Server, byte, close, open, tell_all};
 use crate::client::{Cause, Client};
 use crate::clients::Clients;
 use crate::print::{print_ended, print_refusal, print_screen};
-use mgs_engine::Engine;
-use mgs_gap::GapText;
 use mgs_model::{Keyed, Name, OpenFault, SessionId, Short};
 use mgs_script::{Line, LineFault, read_line, typed_label};
-use mgs_store::RefusingStore;
 use mgs_term::Term;
 use std::alloc::{AllocError, Global};
 
-/// An engine of texts that no store takes.
-pub(crate) type Server = Engine<GapText, RefusingStore>;
-
 fn printed(outcome: Result<(), AllocError>) -> Result<(), LineFault>
+    ensures { result ≡ short_or outcome }
+{
+    outcome.map_err(|_| LineFault::Short)
+}
+
+fn played(outcome: Result<(), Short>) -> Result<(), LineFault>
     ensures { result ≡ short_or outcome }
 {
     outcome.map_err(|_| LineFault::Short)
@@ -53,22 +54,17 @@ fn session_of(clients: &Clients, label: &Name) -> Option<SessionId>
     }
 }
 
-// Each session that ended is told.
-fn tell_all(server: &mut Server)
-    ensures { server.new ≡ record server.old { ended = [] } }
-{
-    while let Some(_ended) = server.ended() {}
-}
-
-// The terminals take what waits for them, and each session that ended is told.
-fn hand_over(server: &mut Server, clients: &mut Clients)
+// The terminals take what waits for them, and each session that ended is told. `Short`: memory was refused to a tape.
+fn hand_over(alloc: Global, server: &mut Server, clients: &mut Clients) -> Result<(), Short>
     requires { IsWaiting server.old clients.old }
-    ensures ready { IsReady server.new clients.new }
-    ensures world { server.new.world ≡ server.old.world }
-    ensures labels { labels_in clients.new ≡ labels_in clients.old }
+    ensures ready { OnOk result (IsReady server.new clients.new) }
+    ensures world { OnOk result (server.new.world ≡ server.old.world) }
+    ensures labels { OnOk result (labels_in clients.new ≡ labels_in clients.old) }
 {
-    server.take_all(clients);
-    tell_all(server);
+    match clients.take_all(alloc, server) {
+        Ok(()) => tell_all(alloc, server),
+        Err(Short) => Err(Short),
+    }
 }
 
 // A session that was opened gets its label and its terminal, which takes the first bytes.
@@ -94,8 +90,7 @@ fn client_session(
     if clients.add(label, Client::Open { id, term }).is_err() {
         return Err(LineFault::Short);
     }
-    hand_over(server, clients);
-    Ok(())
+    played(hand_over(alloc, server, clients))
 }
 
 // An open that was refused uses the label up.
@@ -132,7 +127,10 @@ fn open_line(
     if clients.client(&label).is_some() {
         return Err(LineFault::Bad);
     }
-    match server.open(user, rows, cols) {
+    let Ok(answer) = open(alloc, server, user, rows, cols) else {
+        return Err(LineFault::Short);
+    };
+    match answer {
         Ok(id) => client_session(alloc, server, clients, label, id, rows, cols),
         Err(fault) => refuse_open(clients, out, label, fault),
     }
@@ -149,37 +147,64 @@ fn end_if_quit(clients: &mut Clients, label: &Name, keyed: Keyed)
 }
 
 // One byte of the open session of a label. Where it ends the session, it ends the label's.
-fn type_key(server: &mut Server, clients: &mut Clients, label: &Name, id: SessionId, key: u8)
+fn type_key(
+    alloc: Global,
+    server: &mut Server,
+    clients: &mut Clients,
+    label: &Name,
+    id: SessionId,
+    key: u8,
+) -> Result<(), Short>
     requires ready { IsReady server.old clients.old }
     requires session { session_in label.now clients.old ≡ Some id }
-    ensures ready { IsReady server.new clients.new }
-    ensures types { TypesOne (Some id) (player_of server.old clients.old) label.now key (player_of server.new clients.new) }
+    ensures ready { OnOk result (IsReady server.new clients.new) }
+    ensures types { OnOk result (TypesOne (Some id) (player_of server.old clients.old) label.now key (player_of server.new clients.new)) }
 {
-    let keyed = server.byte(id, key);
-    end_if_quit(clients, label, keyed);
-    hand_over(server, clients);
+    match byte(alloc, server, id, key) {
+        Ok(keyed) => {
+            end_if_quit(clients, label, keyed);
+            hand_over(alloc, server, clients)
+        }
+        Err(Short) => Err(Short),
+    }
 }
 
 // One byte of a label; none where its session ended.
-fn type_one(server: &mut Server, clients: &mut Clients, label: &Name, key: u8)
+fn type_one(
+    alloc: Global,
+    server: &mut Server,
+    clients: &mut Clients,
+    label: &Name,
+    key: u8,
+) -> Result<(), Short>
     requires { IsReady server.old clients.old }
-    ensures ready { IsReady server.new clients.new }
-    ensures types { TypesOne (session_in label.now clients.old) (player_of server.old clients.old) label.now key (player_of server.new clients.new) }
+    ensures ready { OnOk result (IsReady server.new clients.new) }
+    ensures types { OnOk result (TypesOne (session_in label.now clients.old) (player_of server.old clients.old) label.now key (player_of server.new clients.new)) }
 {
     match session_of(clients, label) {
-        Some(id) => type_key(server, clients, label, id, key),
-        None => {}
+        Some(id) => type_key(alloc, server, clients, label, id, key),
+        None => Ok(()),
     }
 }
 
-fn type_all(server: &mut Server, clients: &mut Clients, label: &Name, keys: &[u8])
+fn type_all(
+    alloc: Global,
+    server: &mut Server,
+    clients: &mut Clients,
+    label: &Name,
+    keys: &[u8],
+) -> Result<(), Short>
     requires { IsReady server.old clients.old }
-    ensures ready { IsReady server.new clients.new }
-    ensures types { Types (player_of server.old clients.old) label.now keys.now (player_of server.new clients.new) }
+    ensures ready { OnOk result (IsReady server.new clients.new) }
+    ensures types { OnOk result (Types (player_of server.old clients.old) label.now keys.now (player_of server.new clients.new)) }
 {
     for key in keys {
-        type_one(server, clients, label, *key);
+        match type_one(alloc, server, clients, label, *key) {
+            Ok(()) => {}
+            Err(Short) => return Err(Short),
+        }
     }
+    Ok(())
 }
 
 fn show_line(clients: &Clients, out: &mut Vec<u8>, label: &Name) -> Result<(), LineFault>
@@ -192,30 +217,46 @@ fn show_line(clients: &Clients, out: &mut Vec<u8>, label: &Name) -> Result<(), L
     }
 }
 
-fn close_session(server: &mut Server, clients: &mut Clients, label: &Name, id: SessionId)
+fn close_session(
+    alloc: Global,
+    server: &mut Server,
+    clients: &mut Clients,
+    label: &Name,
+    id: SessionId,
+) -> Result<(), Short>
     requires ready { IsReady server.old clients.old }
     requires session { session_in label.now clients.old ≡ Some id }
-    ensures ready { IsReady server.new clients.new }
-    ensures closes { Closes (Some id) (player_of server.old clients.old) label.now (player_of server.new clients.new) }
+    ensures ready { OnOk result (IsReady server.new clients.new) }
+    ensures closes { OnOk result (Closes (Some id) (player_of server.old clients.old) label.now (player_of server.new clients.new)) }
 {
-    server.close(id);
-    clients.end(label, Cause::Closed);
-    hand_over(server, clients);
+    match close(alloc, server, id) {
+        Ok(()) => {
+            clients.end(label, Cause::Closed);
+            hand_over(alloc, server, clients)
+        }
+        Err(Short) => Err(Short),
+    }
 }
 
 // Closes the session of a label, where it is open.
-fn close_label(server: &mut Server, clients: &mut Clients, label: &Name)
+fn close_label(
+    alloc: Global,
+    server: &mut Server,
+    clients: &mut Clients,
+    label: &Name,
+) -> Result<(), Short>
     requires { IsReady server.old clients.old }
-    ensures ready { IsReady server.new clients.new }
-    ensures closes { Closes (session_in label.now clients.old) (player_of server.old clients.old) label.now (player_of server.new clients.new) }
+    ensures ready { OnOk result (IsReady server.new clients.new) }
+    ensures closes { OnOk result (Closes (session_in label.now clients.old) (player_of server.old clients.old) label.now (player_of server.new clients.new)) }
 {
     match session_of(clients, label) {
-        Some(id) => close_session(server, clients, label, id),
-        None => {}
+        Some(id) => close_session(alloc, server, clients, label, id),
+        None => Ok(()),
     }
 }
 
 fn keys_line(
+    alloc: Global,
     server: &mut Server,
     clients: &mut Clients,
     label: &Name,
@@ -228,11 +269,15 @@ fn keys_line(
     if !had_session(clients, label) {
         return Err(LineFault::Bad);
     }
-    type_all(server, clients, label, keys);
-    Ok(())
+    played(type_all(alloc, server, clients, label, keys))
 }
 
-fn close_line(server: &mut Server, clients: &mut Clients, label: &Name) -> Result<(), LineFault>
+fn close_line(
+    alloc: Global,
+    server: &mut Server,
+    clients: &mut Clients,
+    label: &Name,
+) -> Result<(), LineFault>
     requires { IsReady server.old clients.old }
     ensures ready { OnOk result (IsReady server.new clients.new) }
     ensures runs { (out : List ℕ) → Runs result (player_of server.old clients.old) (Close label.now) (player_of server.new clients.new) out out }
@@ -240,8 +285,7 @@ fn close_line(server: &mut Server, clients: &mut Clients, label: &Name) -> Resul
     if !had_session(clients, label) {
         return Err(LineFault::Bad);
     }
-    close_label(server, clients, label);
-    Ok(())
+    played(close_label(alloc, server, clients, label))
 }
 
 // A line from the first `open` on. What it prints is put after `out`.
@@ -264,9 +308,9 @@ fn run_line(
             rows,
             cols,
         } => open_line(alloc, server, clients, out, *label, user, *rows, *cols),
-        Line::Keys { label, keys } => keys_line(server, clients, label, keys),
+        Line::Keys { label, keys } => keys_line(alloc, server, clients, label, keys),
         Line::Show { label } => show_line(clients, out, label),
-        Line::Close { label } => close_line(server, clients, label),
+        Line::Close { label } => close_line(alloc, server, clients, label),
         Line::User { .. }
         | Line::Group { .. }
         | Line::Buffer { .. }

@@ -252,6 +252,6 @@ impl<'a> Setup<'a> {
             drafts,
         } = self;
         let buffers = buffers_of(alloc, &drafts)?;
-        Ok(Core::new(alloc, directory, buffers, RefusingStore::new()))
+        Core::new(alloc, directory, buffers, RefusingStore::new())
     }
 }

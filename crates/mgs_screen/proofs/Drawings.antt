@@ -22,6 +22,7 @@ use Rattle.mgs_marks.specs.Marks.{mark_in, or_zero, position_in}
 use Rattle.mgs_buffers.specs.MarkedBuffer.{MarkedBuffer, marked_at, HasBuffer, mark_at}
 use Rattle.mgs_windows.specs.declared.WindowMarks.{WindowMarks}
 use Rattle.mgs_windows.specs.declared.Window.{Window}
+use Rattle.mgs_windows.specs.declared.RowPane.{RowPane}
 use Rattle.mgs_windows.specs.Panes.{room_of}
 use Rattle.mgs_session.specs.declared.Own.{Own}
 use Rattle.mgs_session.specs.declared.Session.{Session}
@@ -147,15 +148,11 @@ marks_pane d user ks height can x =
     let b : Buffer = (marked_at x.name ks).buffer in
     record { height = height; pane = Text_pane (text_seen (why_not d user b) (full_if can b) (marks_seen can ks x)) (attributes_of (buffer_seen d user b)) }
 
--- a window by what it shows
-abbrev window_showing : Directory → List ℕ → List MarkedBuffer → ℕ → Option WindowMarks → WindowPane
-window_showing d user ks height o = window_pane (map (buffer_seen d user) (buffers_of ks)) (window_seen (reads d (buffers_of ks) user) (window_shown ks height o))
-
 pane_shown : (d : Directory) (user : List ℕ) (ks : List MarkedBuffer) (w : Window) (x : WindowMarks) (can : Bool) → w.shows ≡ Some x → HasBuffer x.name ks → may d user ReadData (marked_at x.name ks).buffer ≡ can
     → window_to d user ks w ≡ marks_pane d user ks w.height can x
 pane_shown d user ks w x can is kept granted =
     let b : Buffer = (marked_at x.name ks).buffer in
-    ap (window_showing d user ks w.height) is
+    ap (λ (o : Option WindowMarks). window_pane (map (buffer_seen d user) (buffers_of ks)) (window_seen (reads d (buffers_of ks) user) (window_shown ks w.height o w.rows))) is
     ∙ ap (λ (o : Option BufferSeen). let p : WindowPane = record { height = w.height; pane = text_pane o (marks_seen (reads d (buffers_of ks) user x.name) ks x) } in p) (found_seen d user x.name ks kept)
     ∙ ap (λ (r : Bool). let p : WindowPane = record { height = w.height; pane = text_pane (Some (buffer_seen d user b)) (marks_seen r ks x) } in p) (reads_kept d user ks x.name kept)
     ∙ ap (λ (r : Bool). marks_pane d user ks w.height r x) granted
@@ -176,9 +173,6 @@ heading_seen d user ks name kept =
     go (allows (deciders ReadAttributes)) refl
 
 -- WHAT A WINDOW SHOWS
-
-window_none : (selected : Bool) (cols : ℕ) (d : Directory) (user : List ℕ) (ks : List MarkedBuffer) (w : Window) → w.shows ≡ None → window_rows selected cols (window_to d user ks w) ≡ blank_rows cols w.height ++ mode_row cols none_mode ∷ []
-window_none selected cols d user ks w is = ap (λ (o : Option WindowMarks). window_rows selected cols (window_showing d user ks w.height o)) is
 
 pub window_read : (selected : Bool) (cols : ℕ) (d : Directory) (user : List ℕ) (ks : List MarkedBuffer) (w : Window) (x : WindowMarks) → w.shows ≡ Some x → HasBuffer x.name ks → may d user ReadData (marked_at x.name ks).buffer ≡ true
     → window_rows selected cols (window_to d user ks w) ≡ window_marks_rows selected cols w.height ks (heading_to d user ks x.name) x
@@ -208,7 +202,7 @@ pub shown_kept : (ks : List MarkedBuffer) (w : Window) (x : WindowMarks) → IsW
 shown_kept ks w x sound is = mark_is_kept x.name x.point ks (window_point ks w x sound is)
 
 -- as many rows as a window has
-length_window_marks : (selected : Bool) (cols height : ℕ) (ks : List MarkedBuffer) (heading : Option (List ℕ × Bool)) (x : WindowMarks) → length (window_marks_rows selected cols height ks heading x) ≡ height + 1
+pub length_window_marks : (selected : Bool) (cols height : ℕ) (ks : List MarkedBuffer) (heading : Option (List ℕ × Bool)) (x : WindowMarks) → length (window_marks_rows selected cols height ks heading x) ≡ height + 1
 length_window_marks selected cols height ks heading x =
     let text : List ℕ = (marked_at x.name ks).buffer.text in
     let top : ℕ = mark_at x.name ks x.top in
@@ -216,26 +210,6 @@ length_window_marks selected cols height ks heading x =
     let mode : Row = mode_row cols (buffer_mode heading (place_of text point)) in
     let pane : List Row = read_rows selected cols height text top point in
     omega (arith, length-append pane (mode ∷ []), length-text_rows cols (shift_at (point_row text top point) (point_shift selected cols text point)) 0 height (drop (line_start text top) text))
-
-pub length_window : (selected : Bool) (cols : ℕ) (d : Directory) (user : List ℕ) (ks : List MarkedBuffer) (w : Window) → IsWindowSound ks w → length (window_rows selected cols (window_to d user ks w)) ≡ w.height + 1
-length_window selected cols d user ks w sound =
-    let goal : Type 0 = length (window_rows selected cols (window_to d user ks w)) ≡ w.height + 1 in
-    let read : (x : WindowMarks) → w.shows ≡ Some x → (r : Bool) → may d user ReadData (marked_at x.name ks).buffer ≡ r → goal =
-    λ x. λ is.
-    let kept : HasBuffer x.name ks = shown_kept ks w x sound is in
-    let decision : Decision = decision_by (decider d (marked_at x.name ks).buffer.owner user (marked_at x.name ks).buffer.entries) (ReadData ∷ []) in
-    let mode : List Row = mode_row cols (buffer_mode (heading_to d user ks x.name) None) ∷ [] in
-    λ r. elim r as (λ r. may d user ReadData (marked_at x.name ks).buffer ≡ r → goal) [
-      | true ↦ λ can. ap (λ (rows : List Row). length rows) (window_read selected cols d user ks w x is kept can) ∙ length_window_marks selected cols w.height ks (heading_to d user ks x.name) x
-      | false ↦ λ can. ap (λ (rows : List Row). length rows) (window_unread selected cols d user ks w x is kept can)
-          ∙ omega (arith, length-append (unread_rows cols w.height decision) mode, length-unread_rows cols w.height decision)
-    ] in
-    let go : (o : Option WindowMarks) → w.shows ≡ o → goal = λ o. elim o as (λ o. w.shows ≡ o → goal) [
-      | None ↦ λ is. ap (λ (rows : List Row). length rows) (window_none selected cols d user ks w is)
-          ∙ omega (arith, length-append (blank_rows cols w.height) (mode_row cols none_mode ∷ []), length-blank_rows cols w.height)
-      | Some x ↦ λ is. read x is (may d user ReadData (marked_at x.name ks).buffer) refl
-    ] in
-    go w.shows refl
 
 -- one more window is drawn below those before it
 pub rows_more : (d : Directory) (user : List ℕ) (ks : List MarkedBuffer) (cols selected i first : ℕ) (ws : List Window) (w : Window) (old new : List Row) (rows : List Row)
@@ -285,9 +259,9 @@ cursor_at cols (suc n) i selected first cursor (x ∷ xs) at within =
     cursor_at cols n (i + 1) selected (first + (x.height + 1)) cursor xs (omega (arith, at)) (omega (arith, within))
     ∙ ap (λ (k : ℕ). let p : ℕ × ℕ = (k, c.1) in p) sum)
 
-height_shown : (ks : List MarkedBuffer) (height : ℕ) (o : Option WindowMarks) → (window_shown ks height o).height ≡ height
-height_shown ks height None = refl
-height_shown ks height (Some x) = refl
+height_shown : (ks : List MarkedBuffer) (height : ℕ) (o : Option WindowMarks) (rows : RowPane) → (window_shown ks height o rows).height ≡ height
+height_shown ks height None rows = refl
+height_shown ks height (Some x) rows = refl
 
 -- one more window
 pub cursor_more : (d : Directory) (user : List ℕ) (ks : List MarkedBuffer) (cols selected i first : ℕ) (ws : List Window) (w : Window) (old new c mine : ℕ × ℕ)
@@ -300,7 +274,7 @@ cursor_more d user ks cols selected i first ws w old new c mine is within its he
     let next : drop i ws ≡ w ∷ drop (i + 1) ws = drop_more ws i w within ∙ ap (λ (v : Window). v ∷ drop (i + 1) ws) (sym is) in
     ap (λ (p : ℕ × ℕ). cursor_from (i + 1) selected cols (first + (w.height + 1)) p rest) here
     ∙ ap (λ (p : ℕ × ℕ). cursor_from (i + 1) selected cols (first + (w.height + 1)) (if nat_eq i selected then (first + p.0, p.1) else old) rest) its
-    ∙ ap (λ (n : ℕ). cursor_from (i + 1) selected cols (first + (n + 1)) (if nat_eq i selected then (first + (window_cursor cols (Some (window_to d user ks w))).0, (window_cursor cols (Some (window_to d user ks w))).1) else old) rest) (sym (height_shown ks w.height w.shows))
+    ∙ ap (λ (n : ℕ). cursor_from (i + 1) selected cols (first + (n + 1)) (if nat_eq i selected then (first + (window_cursor cols (Some (window_to d user ks w))).0, (window_cursor cols (Some (window_to d user ks w))).1) else old) rest) (sym (height_shown ks w.height w.shows w.rows))
     ∙ sym (ap (λ (vs : List Window). cursor_from i selected cols first old (windows_to d user ks vs)) next)
     ∙ so_far
 

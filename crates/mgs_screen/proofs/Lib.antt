@@ -2,3 +2,4 @@ pub mod Screens
 pub mod Drawings
 pub mod Sights
 pub mod Listings
+pub mod RowPanes

@@ -133,14 +133,18 @@ drawn_none first h row p new is =
     is ∙ with_rows first p (blank_rows p.cols h) (rows_from p.cols h row []) none
 
 -- the mode line below
-pub mode_below : (first h row : ℕ) (texts : List (List ℕ)) (text : List ℕ) (old between new : Picture) → first + h ≤ length old.lines
-    → between ≡ drawn first h row texts old
+pub below_rows : (first h : ℕ) (pane : List Row) (text : List ℕ) (old between new : Picture) → first + h ≤ length old.lines → length pane ≡ h
+    → between ≡ record old { lines = rows_put first pane old.lines }
     → new ≡ record between { lines = rows_put (first + h) (mode_row between.cols text ∷ []) between.lines }
-    → new ≡ record old { lines = rows_put first (rows_from old.cols h row texts ++ mode_row old.cols text ∷ []) old.lines }
-mode_below first h row texts text old between new fits rows below =
-    let pane : List Row = rows_from old.cols h row texts in
-    let n : length pane ≡ h = length-rows_from old.cols h row texts in
+    → new ≡ record old { lines = rows_put first (pane ++ mode_row old.cols text ∷ []) old.lines }
+below_rows first h pane text old between new fits n rows below =
     below
     ∙ ap (λ (p : Picture). record p { lines = rows_put (first + h) (mode_row p.cols text ∷ []) p.lines }) rows
     ∙ ap (λ (i : ℕ). record old { lines = rows_put (first + i) (mode_row old.cols text ∷ []) (rows_put first pane old.lines) }) (sym n)
     ∙ ap (λ (ls : List Row). record old { lines = ls }) (put_below first pane (mode_row old.cols text ∷ []) old.lines (omega (arith, n, fits)))
+
+pub mode_below : (first h row : ℕ) (texts : List (List ℕ)) (text : List ℕ) (old between new : Picture) → first + h ≤ length old.lines
+    → between ≡ drawn first h row texts old
+    → new ≡ record between { lines = rows_put (first + h) (mode_row between.cols text ∷ []) between.lines }
+    → new ≡ record old { lines = rows_put first (rows_from old.cols h row texts ++ mode_row old.cols text ∷ []) old.lines }
+mode_below first h row texts text old between new fits = below_rows first h (rows_from old.cols h row texts) text old between new fits (length-rows_from old.cols h row texts)

@@ -6,10 +6,12 @@ use Rattle.mgs_model.specs.World.{Buffer, may}
 use Rattle.mgs_model.specs.Picture.{Picture}
 use Rattle.mgs_model.specs.Rows.{rows_put, plain_row}
 use Rattle.mgs_model.specs.View.{BufferSeen, buffer_seen, find_seen}
-use Rattle.mgs_model.specs.Seen.{Pane, Attributes, EntriesSeen, Listed, Unlisted, attributes_of, if_granted, listing_pane, entries_pane}
+use Rattle.mgs_model.specs.Seen.{Pane, No_pane, Attributes, EntriesSeen, Listed, Unlisted, attributes_of, if_granted, listing_pane, entries_pane}
 use Rattle.mgs_model.specs.Draw.{rows_from, listing_text}
 use Rattle.mgs_model.specs.declared.right.Right.TheVariants.{ReadAcl, ReadAttributes}
 use Rattle.mgs_buffers.specs.MarkedBuffer.{MarkedBuffer, marked_at}
+use Rattle.mgs_windows.specs.declared.RowPane.{RowPane}
+use Rattle.mgs_windows.specs.declared.RowPane.TheVariants.{NoRows, Buffers, Entries}
 use Rattle.mgs_world.specs.Worlds.{buffers_of}
 
 -- the listing, as its user sees it
@@ -19,6 +21,12 @@ listing_to directory user ks row = listing_pane row (map (buffer_seen directory 
 -- a buffer's access list, as its user sees it
 abbrev pub entries_to : Directory → List ℕ → List MarkedBuffer → List ℕ → ℕ → Pane
 entries_to directory user ks name row = entries_pane row (find_seen name (map (buffer_seen directory user) (buffers_of ks)))
+
+-- what a window without a text shows
+abbrev pub rows_to : Directory → List ℕ → List MarkedBuffer → RowPane → Pane
+rows_to directory user ks NoRows = No_pane
+rows_to directory user ks (Buffers row) = listing_to directory user ks row
+rows_to directory user ks (Entries name row) = entries_to directory user ks name row
 
 -- a buffer's entries, where its access list may be read, and else why not
 abbrev pub entries_told : Directory → List ℕ → Buffer → EntriesSeen

@@ -1,19 +1,22 @@
-// The listing of all buffers and an access list, drawn into the rows of a window.
+// What a window shows in place of a text, drawn into its rows: nothing, the listing of all buffers, or an access list.
 ghost use Rattle.std.specs.Prelude.{◌≡◌, ℕ, ◌+◌, ◌<◌, ◌≤◌, ◌^◌, [], ◌∷◌, ◌++◌, Bool, List, map, length, decimal, codes};
 ghost use Rattle.std.specs.Option.{option_map};
-ghost use Rattle.mgs_model.specs.Rows.{rows_put, cause_text};
+ghost use Rattle.mgs_model.specs.Rows.{rows_put, cause_text, blank_rows, mode_row, none_mode};
 ghost use Rattle.mgs_model.specs.Seen.{if_granted};
 ghost use Rattle.mgs_model.specs.Draw.{pane_rows, listing_text, entry_text, entries_texts, entries_shown};
 ghost use Rattle.mgs_buffers.specs.MarkedBuffer.{HasBuffer, marked_at};
+ghost use Rattle.mgs_buffers.specs.Judging.{AreJudged, rules_kept};
 ghost use Rattle.mgs_buffers.specs.Told.{attributes_read};
-ghost use Rattle.mgs_screen.specs.Listings.{listing_to, entries_to, entries_told, name_to, place_in, row_drawn, buffer_drawn, drawn, listed};
+ghost use Rattle.mgs_screen.specs.Listings.{listing_to, entries_to, rows_to, entries_told, name_to, place_in, row_drawn, buffer_drawn, drawn, listed};
 
 use mgs_acl::{Entry, print_entry};
 use mgs_buffers::{Attributes, Buffers};
+use mgs_cache::Judge;
 use mgs_grid::Grid;
 use mgs_marks::Marked;
 use mgs_model::{Decision, Name, Right};
 use mgs_policy::Directory;
+use mgs_windows::RowPane;
 
 /// Where the rows of a list are drawn: `height` rows from row `first` on, of which the first shows the row of number `row`.
 #[derive(Clone, Copy)]
@@ -77,28 +80,32 @@ fn draw_buffer(
 /// Draws the rows of the listing.
 fn draw_buffers<T: Marked + Drop>(
     buffers: &Buffers<T>,
+    judge: &mut Judge,
     directory: &Directory,
     user: &Name,
     sight: Sight,
     grid: &mut Grid,
 )
-    requires { sight.first + sight.height ≤ grid.old.rows }
-    ensures { grid.new ≡ drawn sight.first sight.height sight.row (map listing_text (listed directory.now user.now buffers.now)) grid.old }
+    requires room { sight.first + sight.height ≤ grid.old.rows }
+    requires judged { AreJudged directory.now (rules_kept buffers.now) judge.old }
+    ensures grid { grid.new ≡ drawn sight.first sight.height sight.row (map listing_text (listed directory.now user.now buffers.now)) grid.old }
+    ensures judged { AreJudged directory.now (rules_kept buffers.now) judge.new }
 {
     let _rows = grid.rows();
     grid.draw_blank(sight.first, sight.height);
     let mut number = 0;
     for i in 0..buffers.len() {
-        let attributes = buffers.attributes(directory, user, i);
+        let attributes = buffers.attributes(judge, directory, user, i);
         number = draw_buffer(attributes, number, sight, grid);
     }
 }
 
 /// Draws the listing of all buffers, and its mode line: into `height` rows from row `first` on, and the one below. The first
 /// shows the row of number `row`, counted from 0. Only the buffers on which the user is granted READ_ATTRIBUTES have rows, in
-/// the order of creation. It takes no memory.
+/// the order of creation. Who may see what is decided by a judge that keeps what was decided on these buffers.
 pub fn draw_listing<T: Marked + Drop>(
     buffers: &Buffers<T>,
+    judge: &mut Judge,
     directory: &Directory,
     user: &Name,
     first: usize,
@@ -106,12 +113,14 @@ pub fn draw_listing<T: Marked + Drop>(
     row: usize,
     grid: &mut Grid,
 )
-    requires { first + height < grid.old.rows }
-    ensures { (selected : Bool) → grid.new ≡ record grid.old { lines = rows_put first (pane_rows selected grid.old.cols height (listing_to directory.now user.now buffers.now row)) grid.old.lines } }
+    requires room { first + height < grid.old.rows }
+    requires judged { AreJudged directory.now (rules_kept buffers.now) judge.old }
+    ensures grid { (selected : Bool) → grid.new ≡ record grid.old { lines = rows_put first (pane_rows selected grid.old.cols height (listing_to directory.now user.now buffers.now row)) grid.old.lines } }
+    ensures judged { AreJudged directory.now (rules_kept buffers.now) judge.new }
 {
     let _rows = grid.rows();
     let sight = Sight { first, height, row };
-    draw_buffers(buffers, directory, user, sight, grid);
+    draw_buffers(buffers, judge, directory, user, sight, grid);
     grid.draw_buffers_mode(first + height);
 }
 
@@ -164,6 +173,7 @@ fn draw_unlisted(decision: Decision, sight: Sight, grid: &mut Grid)
 /// Draws the rows of a buffer's access list.
 fn draw_acl<T: Marked + Drop>(
     buffers: &Buffers<T>,
+    judge: &mut Judge,
     directory: &Directory,
     user: &Name,
     name: &Name,
@@ -172,12 +182,14 @@ fn draw_acl<T: Marked + Drop>(
 )
     requires kept { HasBuffer name.now buffers.now }
     requires room { sight.first + sight.height ≤ grid.old.rows }
-    ensures { grid.new ≡ drawn sight.first sight.height sight.row (entries_shown (entries_told directory.now user.now (marked_at name.now buffers.now).buffer)) grid.old }
+    requires judged { AreJudged directory.now (rules_kept buffers.now) judge.old }
+    ensures judged { AreJudged directory.now (rules_kept buffers.now) judge.new }
+    ensures grid { grid.new ≡ drawn sight.first sight.height sight.row (entries_shown (entries_told directory.now user.now (marked_at name.now buffers.now).buffer)) grid.old }
 {
-    if buffers.grants(directory, name, user, Right::ReadAcl) {
+    if buffers.grants_by(judge, directory, name, user, Right::ReadAcl) {
         draw_list(buffers.entries(name), sight, grid);
     } else {
-        let decision = buffers.decide(directory, name, user, Right::ReadAcl);
+        let decision = buffers.decide_by(judge, directory, name, user, Right::ReadAcl);
         draw_unlisted(decision, sight, grid);
     }
 }
@@ -185,14 +197,17 @@ fn draw_acl<T: Marked + Drop>(
 /// A buffer's name, where its attributes may be read.
 fn shown_name<T: Marked + Drop>(
     buffers: &Buffers<T>,
+    judge: &mut Judge,
     directory: &Directory,
     user: &Name,
     name: &Name,
 ) -> Option<Name>
-    requires { HasBuffer name.now buffers.now }
-    ensures { result ≡ name_to directory.now user.now buffers.now name.now }
+    requires kept { HasBuffer name.now buffers.now }
+    requires judged { AreJudged directory.now (rules_kept buffers.now) judge.old }
+    ensures value { result ≡ name_to directory.now user.now buffers.now name.now }
+    ensures judged { AreJudged directory.now (rules_kept buffers.now) judge.new }
 {
-    if buffers.grants(directory, name, user, Right::ReadAttributes) {
+    if buffers.grants_by(judge, directory, name, user, Right::ReadAttributes) {
         Some(*name)
     } else {
         None
@@ -201,9 +216,10 @@ fn shown_name<T: Marked + Drop>(
 
 /// Draws the access list of a buffer, and its mode line: into `height` rows from row `first` on, and the one below. The first
 /// shows the row of number `row`, counted from 0. Where READ_ACL is not granted to the user, the one row says why, and where
-/// READ_ATTRIBUTES is not, the mode line has no name. It takes no memory.
+/// READ_ATTRIBUTES is not, the mode line has no name. It is decided by a judge that keeps what was decided on these buffers.
 pub fn draw_entries<T: Marked + Drop>(
     buffers: &Buffers<T>,
+    judge: &mut Judge,
     directory: &Directory,
     user: &Name,
     name: &Name,
@@ -214,10 +230,56 @@ pub fn draw_entries<T: Marked + Drop>(
 )
     requires kept { HasBuffer name.now buffers.now }
     requires room { first + height < grid.old.rows }
-    ensures { (selected : Bool) → grid.new ≡ record grid.old { lines = rows_put first (pane_rows selected grid.old.cols height (entries_to directory.now user.now buffers.now name.now row)) grid.old.lines } }
+    requires judged { AreJudged directory.now (rules_kept buffers.now) judge.old }
+    ensures judged { AreJudged directory.now (rules_kept buffers.now) judge.new }
+    ensures grid { (selected : Bool) → grid.new ≡ record grid.old { lines = rows_put first (pane_rows selected grid.old.cols height (entries_to directory.now user.now buffers.now name.now row)) grid.old.lines } }
 {
     let _rows = grid.rows();
     let sight = Sight { first, height, row };
-    draw_acl(buffers, directory, user, name, sight, grid);
-    grid.draw_acl_mode(first + height, shown_name(buffers, directory, user, name));
+    draw_acl(buffers, judge, directory, user, name, sight, grid);
+    let shown = shown_name(buffers, judge, directory, user, name);
+    grid.draw_acl_mode(first + height, shown);
+}
+
+/// Draws blank rows, and the mode line of a window that shows nothing.
+fn draw_none(first: usize, height: usize, grid: &mut Grid)
+    requires { first + height < grid.old.rows }
+    ensures { grid.new ≡ record grid.old { lines = rows_put first (blank_rows grid.old.cols height ++ mode_row grid.old.cols none_mode ∷ []) grid.old.lines } }
+{
+    let _rows = grid.rows();
+    grid.draw_blank(first, height);
+    grid.draw_none_mode(first + height);
+}
+
+/// Draws what a window without a text shows, and its mode line: into `height` rows from row `first` on, and the one below.
+pub fn draw_rows<T: Marked + Drop>(
+    buffers: &Buffers<T>,
+    judge: &mut Judge,
+    directory: &Directory,
+    user: &Name,
+    rows: &RowPane,
+    first: usize,
+    height: usize,
+    grid: &mut Grid,
+)
+    requires room { first + height < grid.old.rows }
+    requires judged { AreJudged directory.now (rules_kept buffers.now) judge.old }
+    ensures judged { AreJudged directory.now (rules_kept buffers.now) judge.new }
+    ensures grid { (selected : Bool) → grid.new ≡ record grid.old { lines = rows_put first (pane_rows selected grid.old.cols height (rows_to directory.now user.now buffers.now rows.now)) grid.old.lines } }
+{
+    match rows {
+        RowPane::NoRows => draw_none(first, height, grid),
+        RowPane::Buffers { row } => {
+            draw_listing(buffers, judge, directory, user, first, height, *row, grid);
+        }
+        RowPane::Entries { name, row } => {
+            if buffers.has(name) {
+                draw_entries(
+                    buffers, judge, directory, user, name, first, height, *row, grid,
+                );
+            } else {
+                draw_none(first, height, grid);
+            }
+        }
+    }
 }

@@ -4,11 +4,14 @@ ghost use Rattle.mgs_model.specs.Draw.{screen, window_rows, window_cursor};
 ghost use Rattle.mgs_model.specs.Rows.{rows_put, shift_for, is_silent};
 ghost use Rattle.mgs_session.specs.declared.Session.{Session};
 ghost use Rattle.mgs_world.specs.Worlds.{world_of, session_of, own_of};
+ghost use Rattle.mgs_buffers.specs.Judging.{AreJudged, rules_kept};
 ghost use Rattle.mgs_buffers.specs.MarkedBuffer.{HasBuffer, IsMark};
 ghost use Rattle.mgs_screen.specs.Screens.{screen_shift, window_to, heading_to, window_marks_rows, window_marks_cursor, prompt_drawn, last_row_drawn};
 ghost use Rattle.mgs_world.specs.Sound.{IsSessionSound, IsWindowSound};
 
+use crate::listing::draw_rows;
 use mgs_buffers::Buffers;
+use mgs_cache::Judge;
 use mgs_grid::{Grid, shift_for};
 use mgs_lines::{column, line_start};
 use mgs_marks::Marked;
@@ -29,14 +32,17 @@ struct Place {
 /// The buffer's name and flag, where its attributes may be read.
 fn heading<T: Marked + Drop>(
     buffers: &Buffers<T>,
+    judge: &mut Judge,
     directory: &Directory,
     user: &Name,
     name: &Name,
 ) -> Option<(Name, bool)>
-    requires { HasBuffer name.now buffers.now }
-    ensures { result ≡ heading_to directory.now user.now buffers.now name.now }
+    requires kept { HasBuffer name.now buffers.now }
+    requires judged { AreJudged directory.now (rules_kept buffers.now) judge.old }
+    ensures value { result ≡ heading_to directory.now user.now buffers.now name.now }
+    ensures judged { AreJudged directory.now (rules_kept buffers.now) judge.new }
 {
-    if buffers.grants(directory, name, user, Right::ReadAttributes) {
+    if buffers.grants_by(judge, directory, name, user, Right::ReadAttributes) {
         Some((*name, buffers.is_modified(name)))
     } else {
         None
@@ -98,6 +104,7 @@ fn draw_text<T: Marked + Drop>(
 /// Draws a window. Tells where the cursor is, from the window's first cell, if the window is the selected one.
 fn draw_window<T: Marked + Drop>(
     buffers: &Buffers<T>,
+    judge: &mut Judge,
     directory: &Directory,
     user: &Name,
     window: &Window,
@@ -107,6 +114,8 @@ fn draw_window<T: Marked + Drop>(
     requires sound { IsWindowSound buffers.now window.now }
     requires some { 1 ≤ window.now.height }
     requires room { place.first + window.now.height < grid.old.rows }
+    requires judged { AreJudged directory.now (rules_kept buffers.now) judge.old }
+    ensures judged { AreJudged directory.now (rules_kept buffers.now) judge.new }
     ensures rows { grid.new.rows ≡ grid.old.rows }
     ensures cols { grid.new.cols ≡ grid.old.cols }
     ensures lines { grid.new.lines ≡ rows_put place.first (window_rows place.selected grid.old.cols (window_to directory.now user.now buffers.now window.now)) grid.old.lines }
@@ -117,15 +126,23 @@ fn draw_window<T: Marked + Drop>(
     let _cols = grid.cols();
     let height = window.height;
     let Some(window_marks) = window.shows else {
-        grid.draw_blank(place.first, height);
-        grid.draw_none_mode(place.first + height);
+        draw_rows(
+            buffers,
+            judge,
+            directory,
+            user,
+            &window.rows,
+            place.first,
+            height,
+            grid,
+        );
         return (0, 0);
     };
-    let heading = heading(buffers, directory, user, &window_marks.name);
-    if buffers.grants(directory, &window_marks.name, user, Right::ReadData) {
+    let heading = heading(buffers, judge, directory, user, &window_marks.name);
+    if buffers.grants_by(judge, directory, &window_marks.name, user, Right::ReadData) {
         return draw_text(buffers, heading, &window_marks, height, place, grid);
     }
-    let decision = buffers.decide(directory, &window_marks.name, user, Right::ReadData);
+    let decision = buffers.decide_by(judge, directory, &window_marks.name, user, Right::ReadData);
     grid.draw_unread(place.first, height, decision);
     grid.draw_mode(place.first + height, heading, None);
     (0, 0)
@@ -163,9 +180,11 @@ fn draw_last_row(own: &Own, row: usize, point: (usize, usize), grid: &mut Grid)
     }
 }
 
-/// Draws a session's screen. It takes no memory.
+/// Draws a session's screen. Who may see what is decided by a judge that keeps what was decided on these buffers. Where memory is
+/// refused to it, the screen is drawn as well.
 pub fn draw_session<T: Marked + Drop>(
     buffers: &Buffers<T>,
+    judge: &mut Judge,
     directory: &Directory,
     session: &Session,
     grid: &mut Grid,
@@ -173,7 +192,9 @@ pub fn draw_session<T: Marked + Drop>(
     requires sound { IsSessionSound buffers.now session.now }
     requires rows { session.now.windows.rows ≡ grid.old.rows }
     requires cols { session.now.cols ≡ grid.old.cols }
-    ensures { (sessions : List Session) (next : Option ℕ) → grid.new ≡ screen (world_of directory.now buffers.now sessions next) (session_of buffers.now session.now) }
+    requires judged { AreJudged directory.now (rules_kept buffers.now) judge.old }
+    ensures judged { AreJudged directory.now (rules_kept buffers.now) judge.new }
+    ensures grid { (sessions : List Session) (next : Option ℕ) → grid.new ≡ screen (world_of directory.now buffers.now sessions next) (session_of buffers.now session.now) }
 {
     let _cols = grid.cols();
     let selected = session.windows.selected();
@@ -184,7 +205,15 @@ pub fn draw_session<T: Marked + Drop>(
             first,
             selected: i == selected,
         };
-        let (row, col) = draw_window(buffers, directory, &session.user, window, place, grid);
+        let (row, col) = draw_window(
+            buffers,
+            judge,
+            directory,
+            &session.user,
+            window,
+            place,
+            grid,
+        );
         if i == selected {
             cursor = (first + row, col);
         }

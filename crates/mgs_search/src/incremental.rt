@@ -1,8 +1,12 @@
 // An incremental search, typed byte by byte.
-ghost use Rattle.std.specs.Prelude.{◌≡◌, ◌+◌, ◌≤◌, [], length, Bool, false, IfSome};
+ghost use Rattle.std.specs.Prelude.{◌≡◌, ◌+◌, ◌≤◌, [], length, Bool, false, Ok, IfSome};
 ghost use Rattle.mgs_model.specs.Keys.{is_graphic};
 ghost use Rattle.mgs_model.specs.Searching.{lengthened, shortened, directed, dropped, read_byte, match_point, found_places, is_none, places_after, sought_after};
+ghost use Rattle.mgs_model.specs.Plans as model;
+ghost use Rattle.mgs_model.specs.Plans.{motion};
 ghost use Rattle.mgs_model.specs.declared.search.Direction.{Direction};
+ghost use Rattle.mgs_model.specs.declared.session.Motion.TheVariants.{SearchOn};
+ghost use Rattle.mgs_search.specs.Planned.{stepped};
 
 use crate::{find_from, find_past};
 use arrayvec::ArrayVec;
@@ -81,7 +85,12 @@ fn back_at_origin(places: SearchPlaces) -> SearchPlaces
 }
 
 // The point at a match.
-fn match_point<T: Text>(text: &T, direction: Direction, p: usize, pattern: &[char]) -> usize
+pub(crate) fn match_point<T: Text>(
+    text: &T,
+    direction: Direction,
+    p: usize,
+    pattern: &[char],
+) -> usize
     requires { p + length pattern.now ≤ length (T.text text.now) }
     ensures value { result ≡ match_point direction pattern.now p }
     ensures within { result ≤ length (T.text text.now) }
@@ -200,8 +209,28 @@ impl IncrementalSearch {
     }
 
     /// Does a step in a text, and tells the positions afterwards. Where it looks for the pattern and finds nothing, the point
-    /// stays, and so does the anchor, but for `FromOrigin`.
+    /// stays, and so does the anchor, but for `FromOrigin`. This is the plan of the step: what the act that it is leaves.
+    #[tactic(auto, using(crate::proofs::Edited::step_planned))]
     pub fn look<T: Text>(
+        &mut self,
+        text: &T,
+        step: SearchStep,
+        places: SearchPlaces,
+    ) -> SearchPlaces
+        requires origin { places.origin ≤ length (T.text text.now) }
+        requires anchor { places.anchor ≤ length (T.text text.now) }
+        ensures plan { (rest : model.Around) → Ok (stepped step result self.new.failing) ≡ motion (SearchOn self.old.direction step) (T.text text.now) (record rest { origin = places.origin; anchor = places.anchor; place = places.point; typed = self.old.pattern }) }
+        ensures sought { self.new ≡ sought_after step self.old (T.text text.now) places }
+        ensures places { result ≡ places_after step self.old (T.text text.now) places }
+        ensures origin { result.origin ≡ places.origin }
+        ensures anchor { result.anchor ≤ length (T.text text.now) }
+        ensures point { places.point ≤ length (T.text text.now) → result.point ≤ length (T.text text.now) }
+    {
+        self.take_step(text, step, places)
+    }
+
+    // A step in a text.
+    fn take_step<T: Text>(
         &mut self,
         text: &T,
         step: SearchStep,

@@ -7,10 +7,14 @@ ghost use Rattle.mgs_model.specs.Searching.{matches_at, first_match, last_match,
 ghost use Rattle.mgs_model.specs.declared.search.Direction.{Direction};
 
 mod incremental;
+mod prompted;
+mod replacing;
 
 pub use incremental::IncrementalSearch;
 use mgs_model::Direction;
 use mgs_text::Text;
+pub use prompted::search_for;
+pub use replacing::{Replacement, begin_replacing, replace_last, replace_match, skip_match};
 
 // The case of ASCII letters is ignored.
 fn is_same(a: char, b: char) -> bool

@@ -172,7 +172,9 @@ impl<S: Store + Drop> Server<S> {
         let Ok(peers) = Slab::with_capacity(alloc, SESSION_LIMIT) else {
             return Err(ListenFault::Short);
         };
-        let core = Core::new(alloc, config.directory, config.buffers, store);
+        let Ok(core) = Core::new(alloc, config.directory, config.buffers, store) else {
+            return Err(ListenFault::Short);
+        };
         let Ok(engine) = Engine::new(alloc, core) else {
             return Err(ListenFault::Short);
         };

@@ -2,6 +2,8 @@
 #![tactic(auto)]
 
 #[cfg(test)]
+mod access;
+#[cfg(test)]
 mod arguments;
 #[cfg(test)]
 mod cases;
@@ -11,6 +13,12 @@ mod extended;
 mod fills;
 #[cfg(test)]
 mod flags;
+#[cfg(test)]
+mod gotos;
+#[cfg(test)]
+mod insertions;
+#[cfg(test)]
+mod listing;
 #[cfg(test)]
 mod motions;
 #[cfg(test)]

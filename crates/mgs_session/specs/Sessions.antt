@@ -13,6 +13,8 @@ use Rattle.mgs_mini.specs.Typing.{PromptInput}
 use Rattle.mgs_mini.specs.declared.Waiting.TheVariants.{NoKey}
 use Rattle.mgs_windows.specs.declared.WindowMarks.{WindowMarks}
 use Rattle.mgs_windows.specs.declared.Window.{Window}
+use Rattle.mgs_windows.specs.declared.RowPane.TheVariants.{NoRows, Buffers, Entries}
+use Rattle.mgs_windows.specs.declared.RowPane.{RowPane}
 use Rattle.mgs_session.specs.declared.Session.{Session}
 
 abbrev pub session_opened : ℕ → List ℕ → ℕ → ℕ → Option WindowMarks → ℕ → Session
@@ -20,7 +22,7 @@ session_opened id user rows cols shows capacity = record {
   id = id;
   user = user;
   cols = cols;
-  windows = record { rows = rows; windows = record { height = rows - 2; shows = shows } ∷ []; selected = 0; places = []; capacity = capacity };
+  windows = record { rows = rows; windows = record { height = rows - 2; shows = shows; rows = NoRows } ∷ []; selected = 0; places = []; capacity = capacity };
   kill = [];
   own = record { echo = Silent; keyboard = nothing_held; kind = Other; fill = first_own.fill; prompt = None };
 }
@@ -68,3 +70,14 @@ prompting p x = told Silent (record x { own = record x.own { prompt = Some p } }
 -- the buffer of the selected window
 abbrev pub window_marks_of : Session → Option WindowMarks
 window_marks_of x = option_and_then (λ (w : Window). w.shows) (slice_get x.windows.windows x.windows.selected)
+
+-- the buffer whose text or access list is shown
+abbrev pub subject_in : Option WindowMarks → RowPane → Option (List ℕ)
+subject_in (Some x) rows = Some x.name
+subject_in None NoRows = None
+subject_in None (Buffers row) = None
+subject_in None (Entries name row) = Some name
+
+-- in the selected window
+abbrev pub subject_of : Session → Option (List ℕ)
+subject_of x = option_and_then (λ (w : Window). subject_in w.shows w.rows) (slice_get x.windows.windows x.windows.selected)

@@ -6,13 +6,13 @@ mod kill_buffer;
 ghost use Rattle.std.specs.Prelude.{◌≡◌, ◌≤◌, ◌-◌, [], ◌∷◌, true, vec_capacity};
 ghost use Rattle.mgs_model.specs.Plans.{kind_failed};
 ghost use Rattle.mgs_mini.specs.Typing.{is_asked};
-ghost use Rattle.mgs_session.specs.Sessions.{session_opened, acted, asking, failed, filling, holding, prompting, resting, told, unprompted, window_marks_of};
+ghost use Rattle.mgs_session.specs.Sessions.{session_opened, acted, asking, failed, filling, holding, prompting, resting, told, subject_in, subject_of, unprompted, window_marks_of};
 
 pub use kill_buffer::KillBuffer;
 use mgs_maps::Keyboard;
 use mgs_mini::Prompt;
 use mgs_model::{Kind, Message, Name, Question, SessionId};
-use mgs_windows::{WindowMarks, Windows};
+use mgs_windows::{RowPane, Window, WindowMarks, Windows};
 use std::alloc::Global;
 
 /// The fill column of a session that has set none.
@@ -186,4 +186,24 @@ pub fn selected_window_marks(session: &Session) -> Option<WindowMarks>
     ensures { result ≡ window_marks_of session.now }
 {
     session.windows.selected_window().shows
+}
+
+/// The buffer whose text or access list a window shows.
+fn subject_in(window: &Window) -> Option<Name>
+    ensures { result ≡ subject_in window.now.shows window.now.rows }
+{
+    match window.shows {
+        Some(window_marks) => Some(window_marks.name),
+        None => match window.rows {
+            RowPane::Entries { name, .. } => Some(name),
+            RowPane::NoRows | RowPane::Buffers { .. } => None,
+        },
+    }
+}
+
+/// The buffer that the selected window shows, or whose access list it shows.
+pub fn subject(session: &Session) -> Option<Name>
+    ensures { result ≡ subject_of session.now }
+{
+    subject_in(&session.windows.selected_window())
 }

@@ -1,8 +1,11 @@
 // Matches in a text, and incremental search byte by byte.
 ghost use Rattle.std.specs.Prelude.{◌≡◌, ◌≤◌, length};
 
-use mgs_model::{Direction, SearchPlaces, SearchStep};
-use mgs_search::{IncrementalSearch, find_backward, find_forward, find_past, matches_at};
+use mgs_model::{Direction, Message, SearchPlaces, SearchStep};
+use mgs_search::{
+    IncrementalSearch, Replacement, begin_replacing, find_backward, find_forward, find_past,
+    matches_at, replace_last, replace_match, search_for, skip_match,
+};
 use mgs_text::{PlainText, Text};
 use std::process::Abort;
 use std::test::Fail;
@@ -74,6 +77,79 @@ fn the_case_of_ascii_letters_alone_is_ignored(rt: HostRuntime) -> Result<(), Fai
         assert_eq!(rt; matches_at(&text, 0, &[sought]), found, "{sought} at {c}");
     }
     Ok(())
+}
+
+fn goes_to<T: Text + Drop>(rt: &impl Abort, text: T) -> Result<(), Fail>
+    requires { length (T.text text) ≡ 8 }
+{
+    let pattern = ['A', 'B'];
+    for (p, forward, back) in [
+        (0, Some(2), None),
+        (1, Some(5), Some(0)),
+        (6, Some(8), Some(3)),
+        (8, None, Some(6)),
+    ] {
+        assert_eq!(rt;
+            search_for(&text, p, Direction::Forward, &pattern).ok(),
+            forward,
+            "from {p}"
+        );
+        assert_eq!(rt;
+            search_for(&text, p, Direction::Backward, &pattern).ok(),
+            back,
+            "before {p}"
+        );
+    }
+    assert_eq!(rt;
+        search_for(&text, 8, Direction::Forward, &pattern),
+        Err(Message::NotFound)
+    );
+    assert_eq!(rt;
+        search_for(&text, 0, Direction::Backward, &[]),
+        Err(Message::NoPattern)
+    );
+    Ok(())
+}
+
+// `ab` is replaced by three characters.
+fn replaces<T: Text + Drop>(rt: &impl Abort, text: T) -> Result<(), Fail>
+    requires { length (T.text text) ≡ 8 }
+{
+    let old = ['A', 'B'];
+    let put = ['x', 'y', 'z'];
+    assert_eq!(rt; begin_replacing(&text, 1, &old), Ok(Some(3)));
+    assert_eq!(rt; begin_replacing(&text, 7, &old), Ok(None));
+    assert_eq!(rt; begin_replacing(&text, 1, &[]), Err(Message::NoPattern));
+    for (anchor, is_there, then, skipped) in [
+        (0, true, Some(4), Some(3)),
+        (1, false, Some(3), Some(3)),
+        (3, true, Some(7), Some(6)),
+        (6, true, None, None),
+        (7, false, None, None),
+    ] {
+        let replacement = Replacement {
+            replaces: is_there,
+            next: then,
+        };
+        assert_eq!(rt;
+            replace_match(&text, anchor, &old, &put),
+            replacement,
+            "at {anchor}"
+        );
+        assert_eq!(rt;
+            replace_last(&text, anchor, &old).replaces,
+            is_there,
+            "last at {anchor}"
+        );
+        assert_eq!(rt; skip_match(&text, anchor, &old), skipped, "past {anchor}");
+    }
+    Ok(())
+}
+
+#[test]
+fn searches_by_a_prompt_and_replacements(rt: HostRuntime) -> Result<(), Fail> {
+    goes_to(&rt, PlainText::of(rt.alloc(), &THRICE)?)?;
+    replaces(&rt, PlainText::of(rt.alloc(), &THRICE)?)
 }
 
 // What bytes make of a search from `start` on: what the last one comes to, how many characters the pattern has, and

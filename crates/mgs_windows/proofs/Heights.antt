@@ -8,7 +8,8 @@ use Rattle.std.proofs.lemmas.Nat.{le-div}
 use Rattle.mgs_model.specs.Apply.{change_at}
 use Rattle.mgs_windows.specs.declared.WindowMarks.{WindowMarks}
 use Rattle.mgs_windows.specs.declared.Window.{Window}
-use Rattle.mgs_windows.specs.Panes.{IsWindowList, closer, given, grown, height_at, mark_set, marked, showing, shows_at, shrunk, split_at, upper_half, room_of, shown_in, one_shown, windows_without}
+use Rattle.mgs_windows.specs.declared.RowPane.{RowPane}
+use Rattle.mgs_windows.specs.Panes.{IsWindowList, closer, given, grown, height_at, mark_set, marked, rows_at, rows_set, showing, showing_rows, shows_at, shrunk, split_at, upper_half, room_of, shown_in, one_shown, windows_without}
 
 -- what is read at an index
 pub height_or : (xs : List Window) (i : ℕ) (x : Window) → i < length xs → (slice_index_or xs i x).height ≡ height_at i xs
@@ -21,25 +22,34 @@ shows_or [] i x within = absurd (omega (arith, within))
 shows_or (z ∷ xs) zero x within = refl
 shows_or (z ∷ xs) (suc i) x within = shows_or xs i x (omega (arith, within))
 
-pub set_grown : (xs : List Window) (i : ℕ) (x y : Window) (n : ℕ) → slice_set xs i (record { height = (slice_index_or xs i x).height + n; shows = (slice_index_or xs i y).shows }) ≡ change_at i (grown n) xs
-set_grown [] i x y n = refl
-set_grown (z ∷ xs) zero x y n = refl
-set_grown (z ∷ xs) (suc i) x y n = ap (λ ws. z ∷ ws) (set_grown xs i x y n)
+pub rows_or : (xs : List Window) (i : ℕ) (x : Window) → i < length xs → (slice_index_or xs i x).rows ≡ rows_at i xs
+rows_or [] i x within = absurd (omega (arith, within))
+rows_or (z ∷ xs) zero x within = refl
+rows_or (z ∷ xs) (suc i) x within = rows_or xs i x (omega (arith, within))
 
-pub set_shrunk : (xs : List Window) (i : ℕ) (x y : Window) (n : ℕ) → slice_set xs i (record { height = (slice_index_or xs i x).height - n; shows = (slice_index_or xs i y).shows }) ≡ change_at i (shrunk n) xs
-set_shrunk [] i x y n = refl
-set_shrunk (z ∷ xs) zero x y n = refl
-set_shrunk (z ∷ xs) (suc i) x y n = ap (λ ws. z ∷ ws) (set_shrunk xs i x y n)
+-- one is written by what is read of it field by field
+set_so : (xs : List Window) (i : ℕ) (x y z : Window) (f : Window → Window) → slice_set xs i (f (record { height = (slice_index_or xs i x).height; shows = (slice_index_or xs i y).shows; rows = (slice_index_or xs i z).rows })) ≡ change_at i f xs
+set_so [] i x y z f = refl
+set_so (w ∷ xs) zero x y z f = refl
+set_so (w ∷ xs) (suc i) x y z f = ap (λ ws. w ∷ ws) (set_so xs i x y z f)
 
-pub set_marked : (xs : List Window) (i : ℕ) (x y : Window) (mark : ℕ) → slice_set xs i (record { height = (slice_index_or xs i x).height; shows = option_map (mark_set mark) (slice_index_or xs i y).shows }) ≡ change_at i (marked mark) xs
-set_marked [] i x y mark = refl
-set_marked (z ∷ xs) zero x y mark = refl
-set_marked (z ∷ xs) (suc i) x y mark = ap (λ ws. z ∷ ws) (set_marked xs i x y mark)
+pub set_grown : (xs : List Window) (i : ℕ) (x y z : Window) (n : ℕ) → slice_set xs i (record { height = (slice_index_or xs i x).height + n; shows = (slice_index_or xs i y).shows; rows = (slice_index_or xs i z).rows }) ≡ change_at i (grown n) xs
+set_grown xs i x y z n = set_so xs i x y z (grown n)
 
-pub set_showing : (xs : List Window) (i : ℕ) (x : Window) (y : WindowMarks) → slice_set xs i (record { height = (slice_index_or xs i x).height; shows = Some y }) ≡ change_at i (showing y) xs
-set_showing [] i x y = refl
-set_showing (z ∷ xs) zero x y = refl
-set_showing (z ∷ xs) (suc i) x y = ap (λ ws. z ∷ ws) (set_showing xs i x y)
+pub set_shrunk : (xs : List Window) (i : ℕ) (x y z : Window) (n : ℕ) → slice_set xs i (record { height = (slice_index_or xs i x).height - n; shows = (slice_index_or xs i y).shows; rows = (slice_index_or xs i z).rows }) ≡ change_at i (shrunk n) xs
+set_shrunk xs i x y z n = set_so xs i x y z (shrunk n)
+
+pub set_marked : (xs : List Window) (i : ℕ) (x y z : Window) (mark : ℕ) → slice_set xs i (record { height = (slice_index_or xs i x).height; shows = option_map (mark_set mark) (slice_index_or xs i y).shows; rows = (slice_index_or xs i z).rows }) ≡ change_at i (marked mark) xs
+set_marked xs i x y z mark = set_so xs i x y z (marked mark)
+
+pub set_showing : (xs : List Window) (i : ℕ) (x z : Window) (y : WindowMarks) → slice_set xs i (record { height = (slice_index_or xs i x).height; shows = Some y; rows = (slice_index_or xs i z).rows }) ≡ change_at i (showing y) xs
+set_showing xs i x z y = set_so xs i x x z (showing y)
+
+pub set_showing_rows : (xs : List Window) (i : ℕ) (x : Window) (rows : RowPane) → slice_set xs i (record { height = (slice_index_or xs i x).height; shows = None; rows = rows }) ≡ change_at i (showing_rows rows) xs
+set_showing_rows xs i x rows = set_so xs i x x x (showing_rows rows)
+
+pub set_rows_set : (xs : List Window) (i : ℕ) (x y : Window) (rows : RowPane) → slice_set xs i (record { height = (slice_index_or xs i x).height; shows = (slice_index_or xs i y).shows; rows = rows }) ≡ change_at i (rows_set rows) xs
+set_rows_set xs i x y rows = set_so xs i x y x (rows_set rows)
 
 -- AN ELEMENT IS CHANGED
 
@@ -101,6 +111,16 @@ some_shrunk n i [] stays all = all
 some_shrunk n zero (x ∷ xs) stays all = (omega (arith, stays), all.1)
 some_shrunk n (suc i) (x ∷ xs) stays all = (all.0, some_shrunk n i xs stays all.1)
 
+room_same : (f : Window → Window) (i : ℕ) (xs : List Window) → ((x : Window) → (f x).height ≡ x.height) → room_of (change_at i f xs) ≡ room_of xs
+room_same f i [] same = refl
+room_same f zero (x ∷ xs) same = ap (λ h. h + 1 + room_of xs) (same x)
+room_same f (suc i) (x ∷ xs) same = ap (λ k. x.height + 1 + k) (room_same f i xs same)
+
+some_same : (f : Window → Window) (i : ℕ) (xs : List Window) → ((x : Window) → (f x).height ≡ x.height) → AreHigh xs → AreHigh (change_at i f xs)
+some_same f i [] same all = all
+some_same f zero (x ∷ xs) same all = (omega (arith, same x, all.0), all.1)
+some_same f (suc i) (x ∷ xs) same all = (all.0, some_same f i xs same all.1)
+
 -- ROWS ARE LIMITED
 
 height_most : (i : ℕ) (xs : List Window) → i < length xs → height_at i xs + 1 ≤ room_of xs
@@ -139,50 +159,56 @@ shown_marked mark i [] = refl
 shown_marked mark zero (x ∷ xs) = ap (λ k. k + shown_in xs) (one_marked mark x.shows)
 shown_marked mark (suc i) (x ∷ xs) = ap (λ k. one_shown x.shows + k) (shown_marked mark i xs)
 
-room_marked : (mark i : ℕ) (xs : List Window) → room_of (change_at i (marked mark) xs) ≡ room_of xs
-room_marked mark i [] = refl
-room_marked mark zero (x ∷ xs) = refl
-room_marked mark (suc i) (x ∷ xs) = ap (λ k. x.height + 1 + k) (room_marked mark i xs)
-
-some_marked : (mark i : ℕ) (xs : List Window) → AreHigh xs → AreHigh (change_at i (marked mark) xs)
-some_marked mark i [] all = all
-some_marked mark zero (x ∷ xs) all = all
-some_marked mark (suc i) (x ∷ xs) all = (all.0, some_marked mark i xs all.1)
-
 pub marked_list : (rows selected capacity : ℕ) (xs : List Window) (places : List WindowMarks) (mark : ℕ) → IsWindowList (record { rows = rows; windows = xs; selected = selected; places = places; capacity = capacity })
     → IsWindowList (record { rows = rows; windows = change_at selected (marked mark) xs; selected = selected; places = places; capacity = capacity })
 marked_list rows selected capacity xs places mark form = record {
   selected = omega (arith, form.selected, length_changed (marked mark) selected xs);
-  some = of_high _ (some_marked mark selected xs (high_of xs form.some));
-  fill = omega (arith, form.fill, room_marked mark selected xs);
+  some = of_high _ (some_same (marked mark) selected xs (λ x. refl) (high_of xs form.some));
+  fill = omega (arith, form.fill, room_same (marked mark) selected xs (λ x. refl));
   room = omega (arith, form.room, shown_marked mark selected xs);
 }
 
 -- A WINDOW COMES TO SHOW A BUFFER
-
-room_showing : (y : WindowMarks) (i : ℕ) (xs : List Window) → room_of (change_at i (showing y) xs) ≡ room_of xs
-room_showing y i [] = refl
-room_showing y zero (x ∷ xs) = refl
-room_showing y (suc i) (x ∷ xs) = omega (arith, room_showing y i xs)
 
 shown_showing : (y : WindowMarks) (i : ℕ) (xs : List Window) → i < length xs → shown_in (change_at i (showing y) xs) + one_shown (shows_at i xs) ≡ shown_in xs + 1
 shown_showing y i [] within = absurd (omega (arith, within))
 shown_showing y zero (x ∷ xs) within = omega arith
 shown_showing y (suc i) (x ∷ xs) within = omega (arith, shown_showing y i xs (omega (arith, within)))
 
-some_showing : (y : WindowMarks) (i : ℕ) (xs : List Window) → AreHigh xs → AreHigh (change_at i (showing y) xs)
-some_showing y i [] all = all
-some_showing y zero (x ∷ xs) all = all
-some_showing y (suc i) (x ∷ xs) all = (all.0, some_showing y i xs all.1)
-
 pub showing_list : (rows selected capacity after : ℕ) (xs : List Window) (places left : List WindowMarks) (y : WindowMarks) → IsWindowList (record { rows = rows; windows = xs; selected = selected; places = places; capacity = capacity })
     → length left ≤ length places + one_shown (shows_at selected xs) → length places + shown_in xs + 1 ≤ after
     → IsWindowList (record { rows = rows; windows = change_at selected (showing y) xs; selected = selected; places = left; capacity = after })
 showing_list rows selected capacity after xs places left y form most room = record {
   selected = omega (arith, form.selected, length_changed (showing y) selected xs);
-  some = of_high _ (some_showing y selected xs (high_of xs form.some));
-  fill = omega (arith, form.fill, room_showing y selected xs);
+  some = of_high _ (some_same (showing y) selected xs (λ x. refl) (high_of xs form.some));
+  fill = omega (arith, form.fill, room_same (showing y) selected xs (λ x. refl));
   room = omega (arith, most, room, shown_showing y selected xs form.selected);
+}
+
+-- A WINDOW COMES TO SHOW ROWS
+
+shown_without : (rows : RowPane) (i : ℕ) (xs : List Window) → i < length xs → shown_in (change_at i (showing_rows rows) xs) + one_shown (shows_at i xs) ≡ shown_in xs
+shown_without rows i [] within = absurd (omega (arith, within))
+shown_without rows zero (x ∷ xs) within = omega arith
+shown_without rows (suc i) (x ∷ xs) within = omega (arith, shown_without rows i xs (omega (arith, within)))
+
+pub showing_rows_list : (rows selected capacity after : ℕ) (xs : List Window) (places left : List WindowMarks) (pane : RowPane) → IsWindowList (record { rows = rows; windows = xs; selected = selected; places = places; capacity = capacity })
+    → length left ≤ length places + one_shown (shows_at selected xs) → after ≡ capacity
+    → IsWindowList (record { rows = rows; windows = change_at selected (showing_rows pane) xs; selected = selected; places = left; capacity = after })
+showing_rows_list rows selected capacity after xs places left pane form most same = record {
+  selected = omega (arith, form.selected, length_changed (showing_rows pane) selected xs);
+  some = of_high _ (some_same (showing_rows pane) selected xs (λ x. refl) (high_of xs form.some));
+  fill = omega (arith, form.fill, room_same (showing_rows pane) selected xs (λ x. refl));
+  room = omega (arith, most, same, form.room, shown_without pane selected xs form.selected);
+}
+
+pub rows_set_list : (rows selected capacity : ℕ) (xs : List Window) (places : List WindowMarks) (pane : RowPane) → IsWindowList (record { rows = rows; windows = xs; selected = selected; places = places; capacity = capacity })
+    → IsWindowList (record { rows = rows; windows = change_at selected (rows_set pane) xs; selected = selected; places = places; capacity = capacity })
+rows_set_list rows selected capacity xs places pane form = record {
+  selected = omega (arith, form.selected, length_changed (rows_set pane) selected xs);
+  some = of_high _ (some_same (rows_set pane) selected xs (λ x. refl) (high_of xs form.some));
+  fill = omega (arith, form.fill, room_same (rows_set pane) selected xs (λ x. refl));
+  room = omega (arith, form.room, shown_same (rows_set pane) selected xs (λ x. refl));
 }
 
 -- A WINDOW GOES
@@ -256,19 +282,20 @@ half_most h = omega (arith, div-mul-le_self h 2)
 half_least : (h : ℕ) → 2 ≤ h → 1 ≤ h / 2
 half_least h two = le-div 1 h 2 (omega arith) (omega (arith, two))
 
-split_there : (xs : List Window) (k : ℕ) (shows : Option WindowMarks) (r : ℕ) → r ≡ height_at k xs → k < length xs → insert (change_at k (shrunk (r - r / 2)) xs) (suc k) (record { height = r - 1 - r / 2; shows = shows }) ≡ split_at k shows xs
-split_there [] k shows r is within = absurd (omega (arith, within))
-split_there (x ∷ xs) zero shows r is within =
+split_there : (xs : List Window) (k : ℕ) (shows : Option WindowMarks) (r : ℕ) (pane : RowPane) → r ≡ height_at k xs → pane ≡ rows_at k xs → k < length xs → insert (change_at k (shrunk (r - r / 2)) xs) (suc k) (record { height = r - 1 - r / 2; shows = shows; rows = pane }) ≡ split_at k shows xs
+split_there [] k shows r pane is same within = absurd (omega (arith, within))
+split_there (x ∷ xs) zero shows r pane is same within =
     let upper : x.height - (r - r / 2) ≡ x.height / 2 = omega (arith, is, half_most r, ap (λ h. h / 2) is) in
-    ap (λ (h : ℕ). let w : Window = record { height = h; shows = x.shows } in w ∷ record { height = r - 1 - r / 2; shows = shows } ∷ xs) upper
-    ∙ ap (λ (h : ℕ). let w : Window = record { height = h - 1 - h / 2; shows = shows } in upper_half x ∷ w ∷ xs) is
-split_there (x ∷ xs) (suc k) shows r is within = ap (λ ws. x ∷ ws) (split_there xs k shows r is (omega (arith, within)))
+    ap (λ (h : ℕ). let w : Window = record { height = h; shows = x.shows; rows = x.rows } in w ∷ record { height = r - 1 - r / 2; shows = shows; rows = pane } ∷ xs) upper
+    ∙ ap (λ (h : ℕ). let w : Window = record { height = h - 1 - h / 2; shows = shows; rows = pane } in upper_half x ∷ w ∷ xs) is
+    ∙ ap (λ (p : RowPane). let w : Window = record { height = x.height - 1 - x.height / 2; shows = shows; rows = p } in upper_half x ∷ w ∷ xs) same
+split_there (x ∷ xs) (suc k) shows r pane is same within = ap (λ ws. x ∷ ws) (split_there xs k shows r pane is same (omega (arith, within)))
 
-pub split_so : (xs : List Window) (k : ℕ) (shows : Option WindowMarks) (r : ℕ) → r ≡ height_at k xs → k < length xs → insert (change_at k (shrunk (r - r / 2)) xs) (k + 1) (record { height = r - 1 - r / 2; shows = shows }) ≡ split_at k shows xs
-split_so xs k shows r is within =
+pub split_so : (xs : List Window) (k : ℕ) (shows : Option WindowMarks) (r : ℕ) (pane : RowPane) → r ≡ height_at k xs → pane ≡ rows_at k xs → k < length xs → insert (change_at k (shrunk (r - r / 2)) xs) (k + 1) (record { height = r - 1 - r / 2; shows = shows; rows = pane }) ≡ split_at k shows xs
+split_so xs k shows r pane is same within =
     let next : k + 1 ≡ suc k = omega arith in
-    ap (λ (n : ℕ). let w : Window = record { height = r - 1 - r / 2; shows = shows } in insert (change_at k (shrunk (r - r / 2)) xs) n w) next
-    ∙ split_there xs k shows r is within
+    ap (λ (n : ℕ). let w : Window = record { height = r - 1 - r / 2; shows = shows; rows = pane } in insert (change_at k (shrunk (r - r / 2)) xs) n w) next
+    ∙ split_there xs k shows r pane is same within
 
 room_split : (xs : List Window) (k : ℕ) (shows : Option WindowMarks) → k < length xs → 3 ≤ height_at k xs → room_of (split_at k shows xs) ≡ room_of xs
 room_split [] k shows within high = absurd (omega (arith, within))

@@ -5,6 +5,8 @@ use Rattle.mgs_model.specs.Names.{same_name}
 use Rattle.mgs_model.specs.Apply.{change_at}
 use Rattle.mgs_windows.specs.declared.WindowMarks.{WindowMarks}
 use Rattle.mgs_windows.specs.declared.Window.{Window}
+use Rattle.mgs_windows.specs.declared.RowPane.{RowPane}
+use Rattle.mgs_windows.specs.declared.RowPane.TheVariants.{NoRows, Buffers, Entries}
 
 -- capacity is how many places have room without more memory
 pub record WindowList : Type 0 where
@@ -77,6 +79,14 @@ left_by (Some x) places = find (is_place_in x.name) places
 abbrev pub shows_at : ℕ → List Window → Option WindowMarks
 shows_at k windows = option_and_then (λ (x : Window). x.shows) (slice_get windows k)
 
+-- the rows beside it
+abbrev pub rows_in : Option Window → RowPane
+rows_in None = NoRows
+rows_in (Some x) = x.rows
+
+abbrev pub rows_at : ℕ → List Window → RowPane
+rows_at k windows = rows_in (slice_get windows k)
+
 -- the selected one, once the window at k is gone
 abbrev pub closer : ℕ → ℕ → ℕ
 closer k selected = cond (nat_lt selected k) selected (selected - 1)
@@ -99,7 +109,7 @@ abbrev pub upper_half : Window → Window
 upper_half x = record x { height = x.height / 2 }
 
 abbrev pub lower_half : Option WindowMarks → Window → Window
-lower_half shows x = record { height = x.height - 1 - x.height / 2; shows = shows }
+lower_half shows x = record { height = x.height - 1 - x.height / 2; shows = shows; rows = x.rows }
 
 abbrev pub split_at : ℕ → Option WindowMarks → List Window → List Window
 split_at k shows [] = []
@@ -128,14 +138,38 @@ abbrev pub window_shown : WindowMarks → WindowList → WindowList
 window_shown y w =
     record w { windows = change_at w.selected (showing y) w.windows; places = places_after (shows_at w.selected w.windows) w.places }
 
--- A BUFFER IS GONE: windows that show it show nothing, and places in it go
+-- A WINDOW COMES TO SHOW ROWS
+
+abbrev pub showing_rows : RowPane → Window → Window
+showing_rows rows x = record x { shows = None; rows = rows }
+
+-- the selected one, which leaves its place in what it showed
+abbrev pub window_rows_shown : RowPane → WindowList → WindowList
+window_rows_shown rows w =
+    record w { windows = change_at w.selected (showing_rows rows) w.windows; places = places_after (shows_at w.selected w.windows) w.places }
+
+-- only the rows change
+abbrev pub rows_set : RowPane → Window → Window
+rows_set rows x = record x { rows = rows }
+
+-- A BUFFER IS GONE: windows that show it or its access list show nothing, and places in it go
 
 abbrev pub shows_bereft : List ℕ → Option WindowMarks → Option WindowMarks
 shows_bereft name None = None
 shows_bereft name (Some x) = cond (same_name name x.name) None (Some x)
 
+abbrev pub without_entries : List ℕ → RowPane → RowPane
+without_entries name NoRows = NoRows
+without_entries name (Buffers row) = Buffers row
+without_entries name (Entries other row) = cond (same_name name other) NoRows (Entries other row)
+
+-- rows beside a text did not count, and may not when it is gone
+abbrev pub rows_bereft : List ℕ → Option WindowMarks → RowPane → RowPane
+rows_bereft name None rows = without_entries name rows
+rows_bereft name (Some x) rows = NoRows
+
 abbrev pub window_bereft : List ℕ → Window → Window
-window_bereft name x = record x { shows = shows_bereft name x.shows }
+window_bereft name x = record x { shows = shows_bereft name x.shows; rows = rows_bereft name x.shows x.rows }
 
 abbrev pub places_bereft : List ℕ → List WindowMarks → List WindowMarks
 places_bereft name places = filter (λ p. not (is_place_in name p)) places

@@ -1,8 +1,8 @@
-// A buffer is gone: no window shows it, and there is no place in it.
+// A buffer is gone: no window shows it or its access list, and there is no place in it.
 ghost use Rattle.std.specs.Prelude.{◌≡◌, map, vec_capacity};
-ghost use Rattle.mgs_windows.specs.Panes.{places_bereft, shows_bereft, window_bereft};
+ghost use Rattle.mgs_windows.specs.Panes.{places_bereft, rows_bereft, shows_bereft, window_bereft, without_entries};
 
-use crate::{Window, WindowMarks};
+use crate::{RowPane, Window, WindowMarks};
 use arrayvec::ArrayVec;
 use mgs_model::Name;
 
@@ -22,12 +22,51 @@ fn shows_bereft(shows: Option<WindowMarks>, name: &Name) -> Option<WindowMarks>
     }
 }
 
-/// The windows that showed the buffer show nothing.
+/// Rows without those of the buffer's access list.
+fn without_entries(rows: RowPane, name: &Name) -> RowPane
+    ensures { result ≡ without_entries name.now rows }
+{
+    match rows {
+        RowPane::NoRows => RowPane::NoRows,
+        RowPane::Buffers { row } => RowPane::Buffers { row },
+        RowPane::Entries { name: other, row } => {
+            if *name == other {
+                RowPane::NoRows
+            } else {
+                RowPane::Entries { name: other, row }
+            }
+        }
+    }
+}
+
+/// The rows of a window that showed this.
+fn rows_bereft(shows: Option<WindowMarks>, rows: RowPane, name: &Name) -> RowPane
+    ensures { result ≡ rows_bereft name.now shows rows }
+{
+    match shows {
+        // They did not count, and would where the window shows the text no longer.
+        Some(_) => RowPane::NoRows,
+        None => without_entries(rows, name),
+    }
+}
+
+/// What becomes of a window.
+fn bereft(window: Window, name: &Name) -> Window
+    ensures { result ≡ window_bereft name.now window }
+{
+    Window {
+        height: window.height,
+        shows: shows_bereft(window.shows, name),
+        rows: rows_bereft(window.shows, window.rows, name),
+    }
+}
+
+/// The windows that showed the buffer or its access list show nothing.
 fn leave_slice(windows: &mut [Window], name: &Name)
     ensures { windows.new ≡ map (window_bereft name.now) windows.old }
 {
     for window in windows.iter_mut() {
-        window.shows = shows_bereft(window.shows, name);
+        *window = bereft(*window, name);
     }
 }
 

@@ -8,7 +8,8 @@ mod places;
 ghost use Rattle.std.specs.Prelude.{◌≡◌, ◌≢◌, ◌-◌, ◌/◌, ◌+◌, ◌<◌, ◌≤◌, [], ◌∷◌, length, slice_get, vec_capacity, Some, OnOk, OnErr, ◌^◌};
 ghost use Rattle.mgs_model.specs.Apply.{change_at};
 ghost use Rattle.std.specs.Option.{option_map};
-ghost use Rattle.mgs_windows.specs.Panes.{WindowList, IsWindowList, closer, given, grown, height_at, left_by, list_bereft, mark_set, marked, one_shown, places_after, room_of, showing, shown_in, shows_at, shrunk, split_at, window_removed, window_shown, window_split, windows_without};
+ghost use Rattle.mgs_windows.specs.Panes.{WindowList, IsWindowList, closer, given, grown, height_at, left_by, list_bereft, mark_set, marked, one_shown, places_after, room_of, rows_at, rows_set, showing, showing_rows, shown_in, shows_at, shrunk, split_at, window_removed, window_rows_shown, window_shown, window_split, windows_without};
+ghost use Rattle.mgs_windows.specs.declared.RowPane.TheVariants.{NoRows};
 
 use crate::bereft::{leave_places, leave_windows};
 use crate::places::put_place;
@@ -25,11 +26,23 @@ pub struct WindowMarks {
     pub top: MarkId,
 }
 
-/// A window: how many rows its pane has, and the buffer that it shows.
+/// What a window without a text shows: nothing, the list of all buffers, or the access list of the buffer of this name. A
+/// list begins at a row.
+#[derive(Clone, Copy, Debug, Default)]
+pub enum RowPane {
+    #[default]
+    NoRows,
+    Buffers { row: usize },
+    Entries { name: Name, row: usize },
+}
+
+/// A window: how many rows its pane has, and the buffer whose text it shows. Where it shows no text, it shows the rows; where
+/// it does, these count for nothing.
 #[derive(Clone, Copy, Debug, Default)]
 pub struct Window {
     pub height: usize,
     pub shows: Option<WindowMarks>,
+    pub rows: RowPane,
 }
 
 /// The windows of a session, of which one is selected, and the places where windows were. Panes and mode lines fill all
@@ -55,12 +68,16 @@ impl Model for Windows {
 
 /// A list of one window.
 fn one_window(height: usize, shows: Option<WindowMarks>) -> ArrayVec<Window, 8>
-    ensures { result.items ≡ record { height = height; shows = shows } ∷ [] }
+    ensures { result.items ≡ record { height = height; shows = shows; rows = NoRows } ∷ [] }
 {
     // The prover hands on a window only where each type in it was named.
     let _mark: Option<MarkId> = None;
     let mut list = ArrayVec::new();
-    list.push(Window { height, shows });
+    list.push(Window {
+        height,
+        shows,
+        rows: RowPane::NoRows,
+    });
     list
 }
 
@@ -131,6 +148,44 @@ fn show_window(list: &mut ArrayVec<Window, 8>, index: usize, window_marks: Windo
     show(list.as_mut_slice(), index, window_marks);
 }
 
+/// The window at an index shows these rows, and no text.
+fn show_rows(windows: &mut [Window], index: usize, rows: RowPane)
+    requires { index < length windows.old }
+    ensures { windows.new ≡ change_at index (showing_rows rows) windows.old }
+{
+    windows[index] = Window {
+        height: windows[index].height,
+        shows: None,
+        rows,
+    };
+}
+
+/// The same in a list.
+#[tactic(auto, using(crate::proofs::Heights::length_changed))]
+fn show_rows_in_window(list: &mut ArrayVec<Window, 8>, index: usize, rows: RowPane)
+    requires { index < length list.old.items }
+    ensures { list.new.items ≡ change_at index (showing_rows rows) list.old.items }
+{
+    show_rows(list.as_mut_slice(), index, rows);
+}
+
+/// The window at an index gets these rows.
+fn change_rows(windows: &mut [Window], index: usize, rows: RowPane)
+    requires { index < length windows.old }
+    ensures { windows.new ≡ change_at index (rows_set rows) windows.old }
+{
+    windows[index].rows = rows;
+}
+
+/// The same in a list.
+#[tactic(auto, using(crate::proofs::Heights::length_changed))]
+fn change_rows_of_window(list: &mut ArrayVec<Window, 8>, index: usize, rows: RowPane)
+    requires { index < length list.old.items }
+    ensures { list.new.items ≡ change_at index (rows_set rows) list.old.items }
+{
+    change_rows(list.as_mut_slice(), index, rows);
+}
+
 /// How many rows the window at an index has.
 #[tactic(auto, using(crate::proofs::Heights::height_or))]
 fn height_of(windows: &[Window], index: usize) -> usize
@@ -147,6 +202,15 @@ fn shows_of(windows: &[Window], index: usize) -> Option<WindowMarks>
     ensures { result ≡ shows_at index windows.now }
 {
     windows[index].shows
+}
+
+/// The rows of the window at an index.
+#[tactic(auto, using(crate::proofs::Heights::rows_or))]
+fn rows_of(windows: &[Window], index: usize) -> RowPane
+    requires { index < length windows.now }
+    ensures { result ≡ rows_at index windows.now }
+{
+    windows[index].rows
 }
 
 /// So many rows go from one window to another.
@@ -195,8 +259,16 @@ fn split_window(list: &mut ArrayVec<Window, 8>, index: usize, shows: Option<Wind
     let _mark: Option<MarkId> = None;
     let rows = height_of(list.as_slice(), index);
     let height = rows - 1 - rows / 2;
+    let pane = rows_of(list.as_slice(), index);
     halve(list, index, rows);
-    list.insert(index + 1, Window { height, shows });
+    list.insert(
+        index + 1,
+        Window {
+            height,
+            shows,
+            rows: pane,
+        },
+    );
 }
 
 /// The index of the selected window, once the one at `index` is gone.
@@ -241,7 +313,7 @@ impl Windows {
         requires rows { 3 ≤ rows }
         requires none { places.items ≡ [] }
         requires room { 1 ≤ vec_capacity places }
-        ensures { result ≡ record { rows = rows; windows = record { height = rows - 2; shows = shows } ∷ []; selected = 0; places = []; capacity = vec_capacity places } }
+        ensures { result ≡ record { rows = rows; windows = record { height = rows - 2; shows = shows; rows = NoRows } ∷ []; selected = 0; places = []; capacity = vec_capacity places } }
     {
         let height = rows - 2;
         Windows {
@@ -336,7 +408,7 @@ impl Windows {
     }
 
     /// The selected window becomes two: the upper one has half of its rows and shows what it showed, the lower one has
-    /// the other rows but one, which is the upper one's mode line, and shows this.
+    /// the other rows but one, which is the upper one's mode line, and shows this text, or the same rows.
     pub fn split(&mut self, shows: Option<WindowMarks>)
         requires high { 3 ≤ height_at self.old.selected self.old.windows }
         requires few { length self.old.windows < 8 }
@@ -358,6 +430,24 @@ impl Windows {
         leave(&mut self.places, shows)
     }
 
+    /// The selected window shows these rows from now on, and no text. Its marks are the session's place in the buffer that it
+    /// showed. Gives back the place before, whose marks are to be given up. It takes no memory.
+    pub fn show_rows(&mut self, rows: RowPane) -> Option<WindowMarks>
+        ensures list { self.new ≡ window_rows_shown rows self.old }
+        ensures left { result ≡ left_by (shows_at self.old.selected self.old.windows) self.old.places }
+    {
+        let shows = shows_of(self.list.as_slice(), self.selected);
+        show_rows_in_window(&mut self.list, self.selected, rows);
+        leave(&mut self.places, shows)
+    }
+
+    /// The selected window has these rows from now on. They are not seen where it shows a text.
+    pub fn set_rows(&mut self, rows: RowPane)
+        ensures { self.new ≡ record self.old { windows = change_at self.old.selected (rows_set rows) self.old.windows } }
+    {
+        change_rows_of_window(&mut self.list, self.selected, rows);
+    }
+
     /// The window at an index goes. Its rows and its mode line's go to the heir, and its marks are the session's place in
     /// the buffer that it showed. Gives back the place before, whose marks are to be given up.
     pub fn remove(&mut self, index: usize, heir: usize) -> Option<WindowMarks>
@@ -373,7 +463,7 @@ impl Windows {
         leave(&mut self.places, shows)
     }
 
-    /// The buffer of this name is gone: windows that show it show nothing from now on, and the place in it is taken out. Their
+    /// The buffer of this name is gone: windows that show it or its access list show nothing from now on, and the place in it is taken out. Their
     /// marks go with the buffer. It takes no memory.
     pub fn forget(&mut self, name: &Name)
         ensures { self.new ≡ list_bereft name.now self.old }

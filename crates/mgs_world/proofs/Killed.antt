@@ -11,7 +11,9 @@ use Rattle.mgs_buffers.specs.MarkedBuffer.{MarkedBuffer, has_buffer, mark_at, ma
 use Rattle.mgs_marks.specs.Marks.{mark_in, position_in}
 use Rattle.mgs_windows.specs.declared.WindowMarks.{WindowMarks}
 use Rattle.mgs_windows.specs.declared.Window.{Window}
-use Rattle.mgs_windows.specs.Panes.{is_place_in, places_bereft, shows_bereft, window_bereft}
+use Rattle.mgs_windows.specs.declared.RowPane.{RowPane}
+use Rattle.mgs_windows.specs.declared.RowPane.TheVariants.{NoRows, Buffers, Entries}
+use Rattle.mgs_windows.specs.Panes.{is_place_in, places_bereft, rows_bereft, shows_bereft, window_bereft}
 use Rattle.mgs_session.specs.declared.Session.{Session}
 use Rattle.mgs_world.specs.Killing.{session_forgetting, world_without}
 use Rattle.mgs_world.specs.Sound.{IsSound, in_use, one_if, option_uses, place_uses, session_uses, sum_of, uses, window_marks_uses, window_uses}
@@ -47,11 +49,17 @@ buffers_killed n ks = map_removed (λ (k : MarkedBuffer). k.buffer) (is_named n)
 
 -- WHAT THE SESSIONS SHOW
 
-window_killed : (n : List ℕ) (ks : List MarkedBuffer) (height : ℕ) (o : Option WindowMarks) → window_shown (without_marked n ks) height (shows_bereft n o) ≡ model_apply.window_bereft n (window_shown ks height o)
-window_killed n ks height None = refl
-window_killed n ks height (Some x) = go (same_name n x.name) refl
+window_killed : (n : List ℕ) (ks : List MarkedBuffer) (height : ℕ) (o : Option WindowMarks) (rows : RowPane) → window_shown (without_marked n ks) height (shows_bereft n o) (rows_bereft n o rows) ≡ model_apply.window_bereft n (window_shown ks height o rows)
+window_killed n ks height None NoRows = refl
+window_killed n ks height None (Buffers row) = refl
+window_killed n ks height None (Entries name row) = go (same_name n name)
   where
-    go : (r : Bool) → same_name n x.name ≡ r → window_shown (without_marked n ks) height (cond r None (Some x)) ≡ window_bereft_if r (window_shown ks height (Some x))
+    go : (r : Bool) → window_shown (without_marked n ks) height None (cond r NoRows (Entries name row)) ≡ window_bereft_if r (window_shown ks height None (Entries name row))
+    go true = refl
+    go false = refl
+window_killed n ks height (Some x) rows = go (same_name n x.name) refl
+  where
+    go : (r : Bool) → same_name n x.name ≡ r → window_shown (without_marked n ks) height (cond r None (Some x)) NoRows ≡ window_bereft_if r (window_shown ks height (Some x) NoRows)
     go true e = refl
     go false e =
         let there : (id : ℕ) → mark_at x.name (without_marked n ks) id ≡ mark_at x.name ks id =
@@ -76,7 +84,7 @@ places_killed n ks (x ∷ xs) = go (same_name n x.name) refl (places_killed n ks
 windows_killed : (n : List ℕ) (ks : List MarkedBuffer) (ws : List Window) → map (window_of (without_marked n ks)) (map (window_bereft n) ws) ≡ map (model_apply.window_bereft n) (map (window_of ks) ws)
 windows_killed n ks [] = refl
 windows_killed n ks (w ∷ ws) =
-    ap (λ y. y ∷ map (window_of (without_marked n ks)) (map (window_bereft n) ws)) (window_killed n ks w.height w.shows)
+    ap (λ y. y ∷ map (window_of (without_marked n ks)) (map (window_bereft n) ws)) (window_killed n ks w.height w.shows w.rows)
     ∙ ap (λ ys. model_apply.window_bereft n (window_of ks w) ∷ ys) (windows_killed n ks ws)
 
 session_killed : (n : List ℕ) (ks : List MarkedBuffer) (x : Session) → session_of (without_marked n ks) (session_forgetting n x) ≡ session_bereft n (session_of ks x)

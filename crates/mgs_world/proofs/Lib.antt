@@ -9,6 +9,7 @@ pub mod WindowMarks
 pub mod Settles
 pub mod Dropping
 pub mod SelectedMark
+pub mod Attributes
 pub mod Unmodified
 pub mod Owns
 pub mod Killed

@@ -16,6 +16,8 @@ use Rattle.mgs_buffers.specs.MarkedBuffer.{MarkedBuffer, HasBuffer, IsMark, mark
 use Rattle.mgs_windows.specs.Panes.{mark_set, marked}
 use Rattle.mgs_windows.specs.declared.WindowMarks.{WindowMarks}
 use Rattle.mgs_windows.specs.declared.Window.{Window}
+use Rattle.mgs_windows.specs.declared.RowPane.{RowPane}
+use Rattle.mgs_windows.specs.declared.RowPane.TheVariants.{NoRows}
 use Rattle.mgs_session.specs.Sessions.{window_marks_of}
 use Rattle.mgs_session.specs.declared.Session.{Session}
 use Rattle.mgs_world.specs.Marking.{IsGivenUp, IsReserved, mark_at_place, session_marked}
@@ -170,7 +172,7 @@ mark_once id x =
     let s : same_name x.name x.name ≡ true = is_same x.name x.name refl in
     rw (s, one_use id id refl) refl
 
-shown_marked : (p id : ℕ) (ks : List MarkedBuffer) (height : ℕ) (x : WindowMarks) → IsMark x.name id ks → window_marks_uses x.name id (Some (mark_set id x)) ≤ 1 → window_shown (change_first (marked_named x.name) (marked_placed id p) ks) height (Some (mark_set id x)) ≡ window_adjusted None Keep (Mark_at p) Keep None (window_shown ks height (Some (mark_set id x)))
+shown_marked : (p id : ℕ) (ks : List MarkedBuffer) (height : ℕ) (x : WindowMarks) → IsMark x.name id ks → window_marks_uses x.name id (Some (mark_set id x)) ≤ 1 → window_shown (change_first (marked_named x.name) (marked_placed id p) ks) height (Some (mark_set id x)) NoRows ≡ window_adjusted None Keep (Mark_at p) Keep None (window_shown ks height (Some (mark_set id x)) NoRows)
 shown_marked p id ks height x mark once =
     let u = mark_once id x in
     let a : one_if (nat_eq x.point id) ≡ 0 = omega (arith, u, once) in
@@ -192,7 +194,7 @@ session_mark_placed p id ks y x sel mark once =
     let in_sum = sum_at (window_uses n id) w y.windows.windows y.windows.selected got.1 in
     let u = mark_once id x in
     let does : window_of ls w ≡ f (window_of ks w) =
-    ap (window_shown ls w.height) got.2 ∙ shown_marked p id ks w.height x mark (omega (arith, used_is, in_sum, once)) ∙ sym (ap (λ (o : Option WindowMarks). f (window_shown ks w.height o)) got.2) in
+    ap (λ (o : Option WindowMarks). window_shown ls w.height o w.rows) got.2 ∙ shown_marked p id ks w.height x mark (omega (arith, used_is, in_sum, once)) ∙ sym (ap (λ (o : Option WindowMarks). f (window_shown ks w.height o w.rows)) got.2) in
     same_positions (session_of ks y) _ _ _ _
     (map_used_at (window_uses n id) (window_of ls) (window_of ks) f (window_unused n id p ks) w (omega (arith, used_is, u)) does y.windows.windows y.windows.selected got.1 (omega (arith, once)))
     (map_unused (place_uses n id) (place_of ls) (place_of ks) (place_unused n id p ks) y.windows.places (omega (arith, used_is, u, in_sum, once)))
@@ -200,11 +202,11 @@ session_mark_placed p id ks y x sel mark once =
 -- what the mark was does not matter
 windows_marked : (p id k : ℕ) (ks : List MarkedBuffer) (ws : List Window) → change_at k (window_adjusted None Keep (Mark_at p) Keep None) (map (window_of ks) (change_at k (marked id) ws)) ≡ change_at k (window_adjusted None Keep (Mark_at p) Keep None) (map (window_of ks) ws)
 windows_marked p id k ks [] = refl
-windows_marked p id zero ks (w ∷ ws) = ap (λ v. v ∷ map (window_of ks) ws) (one w.height w.shows)
+windows_marked p id zero ks (w ∷ ws) = ap (λ v. v ∷ map (window_of ks) ws) (one w.height w.shows w.rows)
   where
-    one : (height : ℕ) (o : Option WindowMarks) → window_adjusted None Keep (Mark_at p) Keep None (window_shown ks height (option_map (mark_set id) o)) ≡ window_adjusted None Keep (Mark_at p) Keep None (window_shown ks height o)
-    one height None = refl
-    one height (Some x) = refl
+    one : (height : ℕ) (o : Option WindowMarks) (rows : RowPane) → window_adjusted None Keep (Mark_at p) Keep None (window_shown ks height (option_map (mark_set id) o) rows) ≡ window_adjusted None Keep (Mark_at p) Keep None (window_shown ks height o rows)
+    one height None rows = refl
+    one height (Some x) rows = refl
 windows_marked p id (suc k) ks (w ∷ ws) = ap (λ vs. window_of ks w ∷ vs) (windows_marked p id k ks ws)
 
 session_marked_same : (p id : ℕ) (ks : List MarkedBuffer) (h : Session) → mark_at_place p (session_of ks (session_marked id h)) ≡ mark_at_place p (session_of ks h)

@@ -1,42 +1,21 @@
 -- A modified flag is cleared: no position moves.
-use Rattle.std.proofs.Common.{◌≡◌, ℕ, Bool, true, false, List, [], ◌∷◌, map, Option, Some, None, refl, ap, ap₂, ◌∙◌}
-use Rattle.std.specs.Prelude.{find, is_some}
-use Rattle.std.specs.Option.{option_map}
-use Rattle.mgs_model.specs.Names.{same_name}
+use Rattle.std.proofs.Common.{◌≡◌, ℕ, List, map, refl}
 use Rattle.mgs_model.specs.World.{is_named}
 use Rattle.mgs_model.specs.Apply.{buffer_unmodified, change_first}
-use Rattle.mgs_model.proofs.Firsts.{map-change_first}
-use Rattle.mgs_marks.specs.Marks.{mark_in, position_in}
-use Rattle.mgs_buffers.specs.MarkedBuffer.{MarkedBuffer, marked_at, marked_named, marked_or_none, marked_unmodified}
+use Rattle.mgs_buffers.specs.MarkedBuffer.{MarkedBuffer, marked_at, marked_named, marked_unmodified}
 use Rattle.mgs_session.specs.declared.Session.{Session}
-use Rattle.mgs_world.specs.Sound.{IsSound, one_if}
+use Rattle.mgs_world.specs.Sound.{IsSound}
 use Rattle.mgs_world.specs.Worlds.{buffers_of, session_of}
-use Rattle.mgs_world.proofs.Marks.{found_other, found_same}
-use Rattle.mgs_world.proofs.Soundness.{sound_same}
-use Rattle.mgs_world.proofs.WindowMarks.{session_local}
+use Rattle.mgs_world.proofs.Attributes.{buffers_by, marks_by, sessions_by, sound_by}
 
 pub buffers_unmodified : (n : List ℕ) (ks : List MarkedBuffer) → buffers_of (change_first (marked_named n) marked_unmodified ks) ≡ change_first (is_named n) buffer_unmodified (buffers_of ks)
-buffers_unmodified n ks =
-    map-change_first (λ (k : MarkedBuffer). k.buffer) (marked_named n) (is_named n) marked_unmodified buffer_unmodified (λ k. refl) (λ k e. refl) ks
+buffers_unmodified n ks = buffers_by buffer_unmodified (λ b. refl) n ks
 
 pub marks_unmodified : (n m : List ℕ) (ks : List MarkedBuffer) → (marked_at m (change_first (marked_named n) marked_unmodified ks)).marks ≡ (marked_at m ks).marks
-marks_unmodified n m ks = go (same_name n m) refl
-  where
-    same : (o : Option MarkedBuffer) → (marked_or_none (option_map marked_unmodified o)).marks ≡ (marked_or_none o).marks
-    same None = refl
-    same (Some k) = refl
-
-    go : (r : Bool) → same_name n m ≡ r → (marked_at m (change_first (marked_named n) marked_unmodified ks)).marks ≡ (marked_at m ks).marks
-    go true e = ap (λ o. (marked_or_none o).marks) (found_same n m marked_unmodified ks (λ k. refl) e) ∙ same (find (marked_named m) ks)
-    go false e = ap (λ o. (marked_or_none o).marks) (found_other n m marked_unmodified ks (λ k. refl) e)
+marks_unmodified n m ks = marks_by buffer_unmodified (λ b. refl) n m ks
 
 pub sound_unmodified : (n : List ℕ) (ks : List MarkedBuffer) (xs : List Session) → IsSound ks xs → IsSound (change_first (marked_named n) marked_unmodified ks) xs
-sound_unmodified n ks xs sound =
-    sound_same ks _ xs (λ m i. ap (λ (ms : List (Option ℕ)). one_if (is_some (mark_in ms i))) (marks_unmodified n m ks)) sound
-
-pub session_unmodified : (n : List ℕ) (ks : List MarkedBuffer) (x : Session) → session_of (change_first (marked_named n) marked_unmodified ks) x ≡ session_of ks x
-session_unmodified n ks x = session_local _ ks x (λ m i used. ap (λ (ms : List (Option ℕ)). position_in ms i) (marks_unmodified n m ks))
+sound_unmodified n ks xs sound = sound_by buffer_unmodified (λ b. refl) n ks xs sound
 
 pub sessions_unmodified : (n : List ℕ) (ks : List MarkedBuffer) (xs : List Session) → map (session_of (change_first (marked_named n) marked_unmodified ks)) xs ≡ map (session_of ks) xs
-sessions_unmodified n ks [] = refl
-sessions_unmodified n ks (x ∷ xs) = ap₂ (λ y ys. y ∷ ys) (session_unmodified n ks x) (sessions_unmodified n ks xs)
+sessions_unmodified n ks xs = sessions_by buffer_unmodified (λ b. refl) n ks xs

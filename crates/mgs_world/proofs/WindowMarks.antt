@@ -12,6 +12,8 @@ use Rattle.mgs_model.proofs.Firsts.{find-map}
 use Rattle.mgs_model.specs.World as model
 use Rattle.mgs_windows.specs.declared.WindowMarks.{WindowMarks}
 use Rattle.mgs_windows.specs.declared.Window.{Window}
+use Rattle.mgs_windows.specs.declared.RowPane.{RowPane}
+use Rattle.mgs_windows.specs.declared.RowPane.TheVariants.{NoRows}
 use Rattle.mgs_session.specs.declared.Session.{Session}
 use Rattle.mgs_world.specs.Worlds.{buffers_of, place_of, session_of, window_of, window_shown}
 use Rattle.mgs_world.specs.Sound.{in_use, one_if, option_uses, sum_of, place_uses, session_uses, window_marks_uses, window_uses}
@@ -316,17 +318,17 @@ mark_local : (ks ls : List MarkedBuffer) (x : WindowMarks) (o : Option ℕ) → 
 mark_local ks ls x None is same = refl
 mark_local ks ls x (Some k) is same = ap (λ (p : ℕ). Some p) (same x.name k (mark_used x k is))
 
-shown_local : (ks ls : List MarkedBuffer) (height : ℕ) (o : Option WindowMarks) → ((n : List ℕ) (i : ℕ) → 1 ≤ window_marks_uses n i o → mark_at n ks i ≡ mark_at n ls i) → window_shown ks height o ≡ window_shown ls height o
-shown_local ks ls height None same = refl
-shown_local ks ls height (Some x) same =
+shown_local : (ks ls : List MarkedBuffer) (height : ℕ) (o : Option WindowMarks) (rows : RowPane) → ((n : List ℕ) (i : ℕ) → 1 ≤ window_marks_uses n i o → mark_at n ks i ≡ mark_at n ls i) → window_shown ks height o rows ≡ window_shown ls height o rows
+shown_local ks ls height None rows same = refl
+shown_local ks ls height (Some x) rows same =
     same_window (Buffer_of x.name) _ _ _ _ _ _ 0 height (same x.name x.point (point_used x)) (mark_local ks ls x x.mark refl same) (same x.name x.top (top_used x))
 
 pub window_local : (ks ls : List MarkedBuffer) (w : Window) → ((n : List ℕ) (i : ℕ) → 1 ≤ window_uses n i w → mark_at n ks i ≡ mark_at n ls i) → window_of ks w ≡ window_of ls w
-window_local ks ls w same = shown_local ks ls w.height w.shows same
+window_local ks ls w same = shown_local ks ls w.height w.shows w.rows same
 
 pub place_local : (ks ls : List MarkedBuffer) (x : WindowMarks) → ((n : List ℕ) (i : ℕ) → 1 ≤ place_uses n i x → mark_at n ks i ≡ mark_at n ls i) → place_of ks x ≡ place_of ls x
 place_local ks ls x same =
-    let w = shown_local ks ls 0 (Some x) same in
+    let w = shown_local ks ls 0 (Some x) NoRows same in
     same_place x.name _ _ _ _ (ap (λ (y : model.Window). y.point) w) (ap (λ (y : model.Window). y.mark) w)
 
 pub session_local : (ks ls : List MarkedBuffer) (x : Session) → ((n : List ℕ) (i : ℕ) → 1 ≤ session_uses n i x → mark_at n ks i ≡ mark_at n ls i) → session_of ks x ≡ session_of ls x

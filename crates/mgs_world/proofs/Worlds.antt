@@ -14,6 +14,8 @@ use Rattle.mgs_marks.specs.Marks.{mark_in}
 use Rattle.mgs_buffers.specs.MarkedBuffer.{MarkedBuffer, marked_named, marked_at, mark_at, marked_edited, marked_placed}
 use Rattle.mgs_windows.specs.declared.WindowMarks.{WindowMarks}
 use Rattle.mgs_windows.specs.declared.Window.{Window}
+use Rattle.mgs_windows.specs.declared.RowPane.{RowPane}
+use Rattle.mgs_windows.specs.declared.RowPane.TheVariants.{NoRows, Buffers, Entries}
 use Rattle.mgs_session.specs.declared.Session.{Session}
 use Rattle.mgs_session.specs.Sessions.{window_marks_of}
 use Rattle.mgs_world.specs.Worlds.{window_shown, window_of, place_of, session_of, buffers_of, session_id}
@@ -62,12 +64,14 @@ same_world directory bs bs' ss ss' next eb es =
 -- AN EDIT
 
 -- an edit of what is kept moves the positions of a window
-window_edited : (n : List ℕ) (a b : ℕ) (put : List ℕ) (ks : List MarkedBuffer) (height : ℕ) (o : Option WindowMarks) → window_shown (change_first (marked_named n) (marked_edited a b put) ks) height o ≡ window_moved n (shift a b (length put)) (window_shown ks height o)
-window_edited n a b put ks height None = refl
-window_edited n a b put ks height (Some x) =
+window_edited : (n : List ℕ) (a b : ℕ) (put : List ℕ) (ks : List MarkedBuffer) (height : ℕ) (o : Option WindowMarks) (rows : RowPane) → window_shown (change_first (marked_named n) (marked_edited a b put) ks) height o rows ≡ window_moved n (shift a b (length put)) (window_shown ks height o rows)
+window_edited n a b put ks height None NoRows = refl
+window_edited n a b put ks height None (Buffers row) = refl
+window_edited n a b put ks height None (Entries name row) = refl
+window_edited n a b put ks height (Some x) rows =
     let ks' = change_first (marked_named n) (marked_edited a b put) ks in
     let move = shift a b (length put) in
-    let goal : Bool → Type 0 = λ r. window_shown ks' height (Some x) ≡ record (window_shown ks height (Some x)) {
+    let goal : Bool → Type 0 = λ r. window_shown ks' height (Some x) NoRows ≡ record (window_shown ks height (Some x) NoRows) {
       point = cond r (move (mark_at x.name ks x.point)) (mark_at x.name ks x.point);
       mark = cond r (option_map move (option_map (mark_at x.name ks) x.mark)) (option_map (mark_at x.name ks) x.mark);
       top = cond r (move (mark_at x.name ks x.top)) (mark_at x.name ks x.top);
@@ -99,7 +103,7 @@ session_edited n a b put ks x =
     let ks' = change_first (marked_named n) (marked_edited a b put) ks in
     let move = shift a b (length put) in
     same_positions (session_of ks x) _ _ _ _
-    (mapped_twice (window_of ks') (window_moved n move) (window_of ks) (λ (w : Window). window_edited n a b put ks w.height w.shows) x.windows.windows)
+    (mapped_twice (window_of ks') (window_moved n move) (window_of ks) (λ (w : Window). window_edited n a b put ks w.height w.shows w.rows) x.windows.windows)
     (mapped_twice (place_of ks') (place_moved n move) (place_of ks) (place_edited n a b put ks) x.windows.places)
 
 pub buffers_edited : (n : List ℕ) (a b : ℕ) (put : List ℕ) (ks : List MarkedBuffer) → buffers_of (change_first (marked_named n) (marked_edited a b put) ks) ≡ change_first (is_named n) (buffer_edited a b put) (buffers_of ks)
@@ -116,9 +120,9 @@ pub used_parts : (r : Bool) (a b c : ℕ) → cond r (a + b + c) 0 ≡ 0 → r �
 used_parts true a b c h e = (omega (arith, h), omega (arith, h), omega (arith, h))
 used_parts false a b c h e = cc
 
-window_marks_unused : (n : List ℕ) (id p : ℕ) (ks : List MarkedBuffer) (height : ℕ) (o : Option WindowMarks) → window_marks_uses n id o ≡ 0 → window_shown (change_first (marked_named n) (marked_placed id p) ks) height o ≡ window_shown ks height o
-window_marks_unused n id p ks height None h = refl
-window_marks_unused n id p ks height (Some x) h =
+window_marks_unused : (n : List ℕ) (id p : ℕ) (ks : List MarkedBuffer) (height : ℕ) (o : Option WindowMarks) (rows : RowPane) → window_marks_uses n id o ≡ 0 → window_shown (change_first (marked_named n) (marked_placed id p) ks) height o rows ≡ window_shown ks height o rows
+window_marks_unused n id p ks height None rows h = refl
+window_marks_unused n id p ks height (Some x) rows h =
     let parts = λ (s : same_name n x.name ≡ true). used_parts (same_name n x.name) (one_if (nat_eq x.point id)) (option_uses id x.mark) (one_if (nat_eq x.top id)) h s in
     same_window (Buffer_of x.name) _ _ _ _ _ _ 0 height
     (mark_unused n x.name id p ks x.point (λ s. apart_from x.point id (parts s).0))
@@ -126,11 +130,11 @@ window_marks_unused n id p ks height (Some x) h =
     (mark_unused n x.name id p ks x.top (λ s. apart_from x.top id (parts s).2))
 
 pub window_unused : (n : List ℕ) (id p : ℕ) (ks : List MarkedBuffer) (w : Window) → window_uses n id w ≡ 0 → window_of (change_first (marked_named n) (marked_placed id p) ks) w ≡ window_of ks w
-window_unused n id p ks w h = window_marks_unused n id p ks w.height w.shows h
+window_unused n id p ks w h = window_marks_unused n id p ks w.height w.shows w.rows h
 
 pub place_unused : (n : List ℕ) (id p : ℕ) (ks : List MarkedBuffer) (x : WindowMarks) → place_uses n id x ≡ 0 → place_of (change_first (marked_named n) (marked_placed id p) ks) x ≡ place_of ks x
 place_unused n id p ks x h =
-    let w = window_marks_unused n id p ks 0 (Some x) h in
+    let w = window_marks_unused n id p ks 0 (Some x) NoRows h in
     same_place x.name _ _ _ _ (ap (λ (y : model.Window). y.point) w) (ap (λ (y : model.Window). y.mark) w)
 
 pub session_unused : (n : List ℕ) (id p : ℕ) (ks : List MarkedBuffer) (x : Session) → session_uses n id x ≡ 0 → session_of (change_first (marked_named n) (marked_placed id p) ks) x ≡ session_of ks x
@@ -150,7 +154,7 @@ window_marks_once x =
     let s : same_name x.name x.name ≡ true = is_same x.name x.name refl in
     rw (s, one_use x.point x.point refl) (omega arith)
 
-window_marks_placed : (p : ℕ) (ks : List MarkedBuffer) (height : ℕ) (x : WindowMarks) → IsSome (mark_in (marked_at x.name ks).marks x.point) → window_marks_uses x.name x.point (Some x) ≤ 1 → window_shown (change_first (marked_named x.name) (marked_placed x.point p) ks) height (Some x) ≡ window_adjusted None (At p) Keep_mark Keep None (window_shown ks height (Some x))
+window_marks_placed : (p : ℕ) (ks : List MarkedBuffer) (height : ℕ) (x : WindowMarks) → IsSome (mark_in (marked_at x.name ks).marks x.point) → window_marks_uses x.name x.point (Some x) ≤ 1 → window_shown (change_first (marked_named x.name) (marked_placed x.point p) ks) height (Some x) NoRows ≡ window_adjusted None (At p) Keep_mark Keep None (window_shown ks height (Some x) NoRows)
 window_marks_placed p ks height x mark once =
     let u = window_marks_once x in
     let m : option_uses x.point x.mark ≡ 0 = omega (arith, u, once) in
@@ -166,7 +170,7 @@ selected_window (Some w) x h = (w, refl, h)
 
 -- what a mark of the selected window does there when it is placed, it does to that window of the session alone
 abbrev pub PlacesBy : ℕ → ℕ → (model.Window → model.Window) → List MarkedBuffer → WindowMarks → Type 0
-PlacesBy id p f ks x = window_marks_uses x.name id (Some x) ≤ 1 → (height : ℕ) → window_shown (change_first (marked_named x.name) (marked_placed id p) ks) height (Some x) ≡ f (window_shown ks height (Some x))
+PlacesBy id p f ks x = window_marks_uses x.name id (Some x) ≤ 1 → (height : ℕ) → window_shown (change_first (marked_named x.name) (marked_placed id p) ks) height (Some x) NoRows ≡ f (window_shown ks height (Some x) NoRows)
 
 abbrev pub selected_at : (model.Window → model.Window) → model.Session → model.Session
 selected_at f x = record x { windows = change_at x.selected f x.windows }
@@ -180,7 +184,7 @@ session_placed id p f ks h x sel u places once =
     let used_is : window_uses n id w ≡ window_marks_uses n id (Some x) = ap (window_marks_uses n id) got.2 in
     let in_sum = sum_at (window_uses n id) w h.windows.windows h.windows.selected got.1 in
     let does : window_of ks' w ≡ f (window_of ks w) =
-    ap (window_shown ks' w.height) got.2 ∙ places (omega (arith, used_is, in_sum, once)) w.height ∙ sym (ap (λ (o : Option WindowMarks). f (window_shown ks w.height o)) got.2) in
+    ap (λ (o : Option WindowMarks). window_shown ks' w.height o w.rows) got.2 ∙ places (omega (arith, used_is, in_sum, once)) w.height ∙ sym (ap (λ (o : Option WindowMarks). f (window_shown ks w.height o w.rows)) got.2) in
     same_positions (session_of ks h) _ _ _ _
     (map_used_at (window_uses n id) (window_of ks') (window_of ks) f (window_unused n id p ks) w (omega (arith, used_is, u)) does h.windows.windows h.windows.selected got.1 (omega (arith, once)))
     (map_unused (place_uses n id) (place_of ks') (place_of ks) (place_unused n id p ks) h.windows.places (omega (arith, used_is, u, in_sum, once)))

@@ -6,7 +6,7 @@ use Rattle.mgs_model.specs.Outcome.{Kill}
 use Rattle.mgs_windows.specs.Panes.{list_bereft}
 use Rattle.mgs_session.specs.declared.Session.{Session}
 
--- windows that show the buffer show nothing, and places in it go
+-- windows that show the buffer or its access list show nothing, and places in it go
 abbrev pub session_forgetting : List ℕ → Session → Session
 session_forgetting name x = record x { windows = list_bereft name x.windows }
 

@@ -2,7 +2,7 @@
 use Rattle.std.specs.Prelude.{◌≡◌, ℕ, ◌^◌, Bool, false, nat_eq, slice_get, List, [], ◌∷◌, Option, Some, None, map, find, All}
 use Rattle.std.specs.Option.{option_map}
 use Rattle.mgs_model.specs.Access.{Directory}
-use Rattle.mgs_model.specs.World.{World, Buffer, first_own, Nothing, Buffer_of}
+use Rattle.mgs_model.specs.World.{World, Buffer, Shows, first_own, Nothing, Buffer_of, Listing, List_of}
 use Rattle.mgs_model.specs.World as model
 use Rattle.mgs_model.specs.declared.message.Message.TheVariants.{Silent}
 use Rattle.mgs_model.specs.declared.session.Mode.{Mode}
@@ -11,14 +11,27 @@ use Rattle.mgs_mini.specs.Typing.{PromptInput, keys_of}
 use Rattle.mgs_buffers.specs.MarkedBuffer.{MarkedBuffer, mark_at}
 use Rattle.mgs_windows.specs.declared.WindowMarks.{WindowMarks}
 use Rattle.mgs_windows.specs.declared.Window.{Window}
+use Rattle.mgs_windows.specs.declared.RowPane.{RowPane}
+use Rattle.mgs_windows.specs.declared.RowPane.TheVariants.{NoRows, Buffers, Entries}
 use Rattle.mgs_session.specs.declared.Own.{Own}
 use Rattle.mgs_session.specs.declared.Session.{Session}
 use Rattle.mgs_model.specs.Picture.{IsSize}
 use Rattle.mgs_world.specs.declared.size.Size.{Size}
 
-abbrev pub window_shown : List MarkedBuffer → ℕ → Option WindowMarks → model.Window
-window_shown ks height None = record { shows = Nothing; point = 0; mark = None; top = 0; row = 0; height = height }
-window_shown ks height (Some x) = record {
+-- what is shown where no text is, and from which row on
+abbrev pub rows_shown : RowPane → Shows
+rows_shown NoRows = Nothing
+rows_shown (Buffers row) = Listing
+rows_shown (Entries name row) = List_of name
+
+abbrev pub top_row : RowPane → ℕ
+top_row NoRows = 0
+top_row (Buffers row) = row
+top_row (Entries name row) = row
+
+abbrev pub window_shown : List MarkedBuffer → ℕ → Option WindowMarks → RowPane → model.Window
+window_shown ks height None rows = record { shows = rows_shown rows; point = 0; mark = None; top = 0; row = top_row rows; height = height }
+window_shown ks height (Some x) rows = record {
   shows = Buffer_of x.name;
   point = mark_at x.name ks x.point;
   mark = option_map (mark_at x.name ks) x.mark;
@@ -28,7 +41,7 @@ window_shown ks height (Some x) = record {
 }
 
 abbrev pub window_of : List MarkedBuffer → Window → model.Window
-window_of ks x = window_shown ks x.height x.shows
+window_of ks x = window_shown ks x.height x.shows x.rows
 
 -- where a session was in a buffer
 abbrev pub place_of : List MarkedBuffer → WindowMarks → model.Place

@@ -11,7 +11,7 @@ use mgs_marks::Marked;
 use mgs_model::Name;
 use mgs_session::Session;
 
-/// No window of these sessions shows the buffer of this name any longer, and no place is in it.
+/// No window of these sessions shows the buffer of this name or its access list any longer, and no place is in it.
 fn forget(sessions: &mut [Session], name: &Name)
     ensures { sessions.new ≡ map (session_forgetting name.now) sessions.old }
 {
@@ -20,8 +20,8 @@ fn forget(sessions: &mut [Session], name: &Name)
     }
 }
 
-/// The buffer of this name is taken out: windows of all sessions that show it show nothing, and places in it go. It takes
-/// no memory.
+/// The buffer of this name is taken out: windows of all sessions that show it or its access list show nothing, and places
+/// in it go. It takes no memory.
 #[tactic(auto, using(crate::proofs::Killed::sound_killed, crate::proofs::Killed::sizes_killed))]
 pub fn kill_buffer<T: Marked + Drop>(
     buffers: &mut Buffers<T>,

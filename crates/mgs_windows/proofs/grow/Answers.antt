@@ -8,4 +8,4 @@ overflow_add-windows c = omega (arith, c.requires.most, height_or c.args.windows
 
 -- src/lib.rt:65:1
 pub returns : goal.returns
-returns c = set_grown c.args.windows.now c.args.index c.index-windows-index.result c.index-windows-index-2.result c.args.rows
+returns c = set_grown c.args.windows.now c.args.index c.index-windows-index.result c.index-windows-index-2.result c.index-windows-index-2.result c.args.rows

@@ -8,5 +8,5 @@ pub returns : goal.returns
 returns c =
     let ws = c.args.windows.now in
     let i = c.args.index in
-    ap (λ (o : Option WindowMarks). let w : Window = record { height = (slice_index_or ws i c.index-windows-index-2.result).height; shows = o } in slice_set ws i w) c.with_mark.ensures
-    ∙ set_marked ws i c.index-windows-index-2.result c.index-windows-index.result c.args.mark
+    ap (λ (o : Option WindowMarks). let w : Window = record { height = (slice_index_or ws i c.index-windows-index-2.result).height; shows = o; rows = (slice_index_or ws i c.index-windows-index-2.result).rows } in slice_set ws i w) c.with_mark.ensures
+    ∙ set_marked ws i c.index-windows-index-2.result c.index-windows-index.result c.index-windows-index-2.result c.args.mark

@@ -8,4 +8,4 @@ overflow_sub-windows c = omega (arith, c.requires.stays, height_or c.args.window
 
 -- src/lib.rt:75:1
 pub returns : goal.returns
-returns c = set_shrunk c.args.windows.now c.args.index c.index-windows-index.result c.index-windows-index-2.result c.args.rows
+returns c = set_shrunk c.args.windows.now c.args.index c.index-windows-index.result c.index-windows-index-2.result c.index-windows-index-2.result c.args.rows

@@ -7,6 +7,6 @@ use Rattle.mgs_acl.proofs.spelling.mask_lettered.Given as goal
 -- the letters that are left decide, and their bits come to those so far
 abbrev pub invariant-loop-letter : goal.invariant-loop-letter
 invariant-loop-letter l = record {
-  letters : list_all is_letter (drop l.letter-index l.letter-items) ≡ list_all is_letter l.word;
-  mask : fold with_letter l.mask (drop l.letter-index l.letter-items) ≡ fold with_letter 0 l.word;
+  letters : list_all is_letter (drop l.letter-index l.word) ≡ list_all is_letter l.word;
+  mask : fold with_letter l.mask (drop l.letter-index l.word) ≡ fold with_letter 0 l.word;
 }

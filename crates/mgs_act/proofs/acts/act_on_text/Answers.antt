@@ -5,19 +5,23 @@ use Rattle.std.proofs.lemmas.Option.{slice_get-get_or}
 use Rattle.mgs_session.specs.Sessions.{window_marks_of}
 use Rattle.mgs_world.specs.Worlds.{world_of}
 use Rattle.mgs_world.proofs.Soundness.{sound_set, sizes_set}
-use Rattle.mgs_model.specs.declared.message.Message.TheVariants.{NoBuffer}
 use Rattle.mgs_act.specs.Actions.{CanBeDone, kill_at, kill_or_none}
 use Rattle.mgs_world.specs.Worlds.{own_at}
-use Rattle.mgs_act.proofs.Commands.{act_nowhere, act_planned, may_planned, failed_apart, action_apart}
+use Rattle.mgs_act.proofs.Commands.{act_planned, may_planned, action_apart}
 use Rattle.mgs_act.proofs.Deeds.{acting_marks}
+use Rattle.mgs_act.proofs.Scrolls.{act_without, without_apart, without_size, without_uses}
+use Rattle.mgs_act.specs.Rows.{scroll_in}
 use Rattle.mgs_act.proofs.acts.act_on_text.Goals as goal
 
 pub returns-in_default-clause-sound : goal.returns-in_default-clause-sound
 returns-in_default-clause-sound g c =
-    rw c.fail.ensures (sound_set c.args.buffers.now c.args.sessions.now c.args.at (get_or c.args.sessions.now c.args.at c.index-sessions-at-in_default.result) _ (ap (get_or c.args.sessions.now c.args.at) c.index-sessions-at-in_default.is) (λ n i. refl) c.requires.sound)
+    let h = get_or c.args.sessions.now c.args.at c.index-sessions-at-in_default.result in
+    rw c.act_without_text.ensures (sound_set c.args.buffers.now c.args.sessions.now c.args.at h _ (ap (get_or c.args.sessions.now c.args.at) c.index-sessions-at-in_default.is) (without_uses (scroll_in c.args.command) h) c.requires.sound)
 
 pub returns-in_default-clause-sizes : goal.returns-in_default-clause-sizes
-returns-in_default-clause-sizes g c = rw c.fail.ensures (sizes_set c.args.sessions.now c.args.at (get_or c.args.sessions.now c.args.at c.index-sessions-at-in_default.result) _ (ap (get_or c.args.sessions.now c.args.at) c.index-sessions-at-in_default.is) refl)
+returns-in_default-clause-sizes g c =
+    let h = get_or c.args.sessions.now c.args.at c.index-sessions-at-in_default.result in
+    rw c.act_without_text.ensures (sizes_set c.args.sessions.now c.args.at h _ (ap (get_or c.args.sessions.now c.args.at) c.index-sessions-at-in_default.is) (without_size (scroll_in c.args.command) h))
 
 pub plan_for-action-requires-clause-marks : goal.plan_for-action-requires-clause-marks
 plan_for-action-requires-clause-marks g c =
@@ -33,7 +37,7 @@ returns-in_default-clause-ok g c = λ id next place.
     let xs = c.args.sessions.now in
     let r = c.index-sessions-at-in_default.result in
     let none = ap window_marks_of (get_or_default xs c.args.at r c.index-sessions-at.result c.requires.within) ∙ sym c.selected_window_marks.ensures ∙ c.in_default.is in
-    rw c.fail.ensures (act_nowhere c.args.directory.now c.args.buffers.now xs next id c.args.at (get_or xs c.args.at r) c.args.command c.args.argument c.requires.here place c.requires.within (slice_get-get_or xs c.args.at r c.requires.within) c.requires.fresh none)
+    rw c.act_without_text.ensures (act_without c.args.directory.now c.args.buffers.now xs next id c.args.at (get_or xs c.args.at r) place c.requires.within (slice_get-get_or xs c.args.at r c.requires.within) c.requires.fresh c.args.command c.args.argument c.requires.here none)
 
 pub perform-requires-clause-can : goal.perform-requires-clause-can
 perform-requires-clause-can g c =
@@ -61,7 +65,8 @@ pub returns-in_default-clause-touched : goal.returns-in_default-clause-touched
 returns-in_default-clause-touched g c = λ id next place.
     let xs = c.args.sessions.now in
     let r = c.index-sessions-at-in_default.result in
-    rw c.fail.ensures (failed_apart c.args.directory.now c.args.buffers.now xs next id c.args.at (get_or xs c.args.at r) NoBuffer place c.requires.within (slice_get-get_or xs c.args.at r c.requires.within) c.requires.fresh)
+    let none = ap window_marks_of (get_or_default xs c.args.at r c.index-sessions-at.result c.requires.within) ∙ sym c.selected_window_marks.ensures ∙ c.in_default.is in
+    rw c.act_without_text.ensures (without_apart c.args.directory.now c.args.buffers.now xs next id c.args.at (get_or xs c.args.at r) place c.requires.within (slice_get-get_or xs c.args.at r c.requires.within) c.requires.fresh (scroll_in c.args.command) none)
 
 pub returns-in-Err-clause-err : goal.returns-in-Err-clause-err
 returns-in-Err-clause-err g c = λ next. c.in-Err.ensures.err c.args.directory.now next

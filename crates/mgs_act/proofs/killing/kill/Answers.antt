@@ -8,14 +8,8 @@ use Rattle.mgs_world.specs.Killing.{world_without}
 use Rattle.mgs_world.specs.Worlds.{own_of, world_of}
 use Rattle.mgs_world.proofs.Soundness.{sizes_set, sound_set}
 use Rattle.mgs_act.proofs.Commands.{failed_apart}
-use Rattle.mgs_act.proofs.Kills.{buffer_killed, kept_shown, unkilled}
+use Rattle.mgs_act.proofs.Kills.{buffer_killed, unkilled}
 use Rattle.mgs_act.proofs.killing.kill.Goals as goal
-
-pub target-requires : goal.target-requires
-target-requires g c =
-    let xs = c.args.sessions.now in
-    let r = c.index-sessions-at.result in
-    kept_shown c.args.buffers.now xs c.args.at (get_or xs c.args.at r) c.requires.sound (slice_get-get_or xs c.args.at r c.requires.within)
 
 pub kill_buffer-requires-clause-sound : goal.kill_buffer-requires-clause-sound
 kill_buffer-requires-clause-sound g c =

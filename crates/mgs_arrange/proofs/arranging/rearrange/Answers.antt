@@ -6,8 +6,8 @@ use Rattle.mgs_world.proofs.Soundness.{session_sound}
 use Rattle.mgs_arrange.proofs.Rearranging.{after_act, after_apart, after_sizes, after_sound, either_rearranged, refused_all, refused_may}
 use Rattle.mgs_arrange.proofs.arranging.rearrange.Goals as goal
 
-pub rearrange_session-requires-clause-sound : goal.rearrange_session-requires-clause-sound
-rearrange_session-requires-clause-sound g c =
+pub rearrange_session-requires : goal.rearrange_session-requires
+rearrange_session-requires g c =
     subst (IsSessionSound c.args.buffers.now) c.index-sessions-at.is
     (session_sound c.args.buffers.now c.args.sessions.now c.args.at c.index-sessions-at.result c.requires.sound c.index-sessions-at.is c.requires.within)
 

@@ -34,3 +34,7 @@ returns-in-NextWindow-clause-arranged g c =
 pub returns-in-PreviousWindow-clause-arranged : goal.returns-in-PreviousWindow-clause-arranged
 returns-in-PreviousWindow-clause-arranged g c =
     so c.args.arrangement _ c.args.argument c.args.buffers.now c.args.buffers.now c.args.session.now c.select_previous.new.session c.in-PreviousWindow.is (c.select_previous.ensures.arranged c.args.argument c.args.buffers.now)
+
+pub returns-in-ListBuffers-clause-arranged : goal.returns-in-ListBuffers-clause-arranged
+returns-in-ListBuffers-clause-arranged g c =
+    so c.args.arrangement _ c.args.argument c.args.buffers.now c.list_buffers.new.buffers c.args.session.now c.list_buffers.new.session c.in-ListBuffers.is (c.list_buffers.ensures.arranged c.args.argument)

@@ -1,6 +1,8 @@
-use Rattle.std.proofs.Common.{◌∙◌, true, ap}
+use Rattle.std.proofs.Common.{◌∙◌, true, ap, sym}
 use Rattle.mgs_model.specs.Apply.{outcome_in}
 use Rattle.mgs_model.specs.Events.{may_be_refused}
+use Rattle.mgs_act.specs.Actions.{act_of}
+use Rattle.mgs_act.specs.declared.acts.KeyAct.{KeyAct}
 use Rattle.mgs_store.specs.Stores.{store_told}
 use Rattle.mgs_world.specs.Worlds.{world_of}
 use Rattle.mgs_core.specs.declared.replying.Reply.{Reply}
@@ -22,4 +24,5 @@ pub returns-in-Err-do_act-clause-may : goal.returns-in-Err-do_act-clause-may
 returns-in-Err-do_act-clause-may g c = λ id next place.
     let w = world_of c.args.directory.now c.args.buffers.now c.args.sessions.now next in
     ap (λ (r : Reply). may_be_refused (outcome_in w id (reply_act c.args.prompt.now c.args.argument r) true)) c.in-Named.is
+    ∙ ap (λ (a : KeyAct). may_be_refused (outcome_in w id (act_of a) true)) (sym c.command_act-done.ensures)
     ∙ c.in-Err-do_act.ensures.may id next place

@@ -24,12 +24,12 @@ pub draw_session-requires-clause-cols : goal.draw_session-requires-clause-cols
 draw_session-requires-clause-cols g c =
     ap (λ (z : Size). z.cols) (size_found c.args.id c.place_of-at.result c.args.sessions.now c.index-sessions-at.result _ c.place_of-at.ensures.value c.index-sessions-at.is c.requires.open)
 
-pub returns : goal.returns
-returns g c next x found =
+pub returns-clause-grid : goal.returns-clause-grid
+returns-clause-grid g c next x found =
     let w = world_of c.args.directory.now c.args.buffers.now c.args.sessions.now next in
     let within = size_within c.args.id c.place_of-at.result c.args.sessions.now _ c.place_of-at.ensures.value c.requires.open in
     let some = session_some c.args.directory.now c.args.buffers.now c.args.sessions.now next c.args.id c.place_of-at.result c.index-sessions-at.result c.place_of-at.ensures.value within c.index-sessions-at.is in
-    c.draw_session.ensures c.args.sessions.now next ∙ ap (screen w) (same_session _ _ (sym some ∙ found))
+    c.draw_session.ensures.grid c.args.sessions.now next ∙ ap (screen w) (same_session _ _ (sym some ∙ found))
   where
     same_session : (a b : model.Session) → Some a ≡ Some b → a ≡ b
     same_session a b e = cc

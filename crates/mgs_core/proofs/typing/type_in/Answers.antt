@@ -18,7 +18,7 @@ pub returns-in-NoPrompt-clause-keyed : goal.returns-in-NoPrompt-clause-keyed
 returns-in-NoPrompt-clause-keyed g c next =
     let xs = c.args.sessions.now in
     let h = get_or xs c.args.at c.index-sessions-at.result in
-    let same = set_same xs c.args.at h c.step_prompt.new.session (ap (get_or xs c.args.at) c.index-sessions-at.is) c.in-NoPrompt.ensures.1 in
+    let same = set_same xs c.args.at h c.step_prompt.new.session (ap (get_or xs c.args.at) c.index-sessions-at.is) c.in-NoPrompt.ensures.step.1 in
     typed_same c.args.directory.now c.args.buffers.now xs (slice_set xs c.args.at c.step_prompt.new.session) (world_of c.args.directory.now c.type_key.new.buffers c.type_key.new.sessions next) next _ _ c.args.id c.args.byte c.type_key.result.0 same
     (c.type_key.ensures.keyed next)
 
@@ -26,7 +26,7 @@ pub returns-in-NoPrompt-clause-touched : goal.returns-in-NoPrompt-clause-touched
 returns-in-NoPrompt-clause-touched g c next =
     let xs = c.args.sessions.now in
     let h = get_or xs c.args.at c.index-sessions-at.result in
-    let same = set_same xs c.args.at h c.step_prompt.new.session (ap (get_or xs c.args.at) c.index-sessions-at.is) c.in-NoPrompt.ensures.1 in
+    let same = set_same xs c.args.at h c.step_prompt.new.session (ap (get_or xs c.args.at) c.index-sessions-at.is) c.in-NoPrompt.ensures.step.1 in
     subst (λ (zs : List Session). Apart c.type_key.result.1 c.args.id (world_of c.args.directory.now c.args.buffers.now zs next) (world_of c.args.directory.now c.type_key.new.buffers c.type_key.new.sessions next)) same
     (c.type_key.ensures.touched next)
 
@@ -34,13 +34,13 @@ pub settle_apart-requires : goal.settle_apart-requires
 settle_apart-requires g c =
     let xs = c.args.sessions.now in
     let h = get_or xs c.args.at c.index-sessions-at.result in
-    sound_set c.args.buffers.now xs c.args.at h c.step_prompt.new.session (ap (get_or xs c.args.at) c.index-sessions-at.is) (λ n i. ap (session_uses n i) c.in-Kept.ensures.own) c.requires.sound
+    sound_set c.args.buffers.now xs c.args.at h c.step_prompt.new.session (ap (get_or xs c.args.at) c.index-sessions-at.is) (λ n i. ap (session_uses n i) c.in-Kept.ensures.step.own) c.requires.sound
 
 pub returns-in-Kept-clause-sizes : goal.returns-in-Kept-clause-sizes
 returns-in-Kept-clause-sizes g c =
     let xs = c.args.sessions.now in
     let h = get_or xs c.args.at c.index-sessions-at.result in
-    sizes_set xs c.args.at h c.step_prompt.new.session (ap (get_or xs c.args.at) c.index-sessions-at.is) (ap size_in c.in-Kept.ensures.own)
+    sizes_set xs c.args.at h c.step_prompt.new.session (ap (get_or xs c.args.at) c.index-sessions-at.is) (ap size_in c.in-Kept.ensures.step.own)
 
 pub returns-in-Kept-clause-keyed : goal.returns-in-Kept-clause-keyed
 returns-in-Kept-clause-keyed g c next =
@@ -51,9 +51,9 @@ returns-in-Kept-clause-keyed g c next =
     let is_h = ap (get_or xs c.args.at) c.index-sessions-at.is in
     let y = c.step_prompt.new.session in
     let ys = slice_set xs c.args.at y in
-    let kept = kept_world d ks xs next c.args.id c.args.at h y c.requires.place c.requires.within is_h c.in-Kept.ensures.own in
+    let kept = kept_world d ks xs next c.args.id c.args.at h y c.requires.place c.requires.within is_h c.in-Kept.ensures.step.own in
     keyed_kept d ks c.settle_apart.new.buffers xs ys next _ c.args.id c.args.at c.args.byte h (own_of y.own) c.requires.place c.requires.within is_h
-    (kept_turn d ks xs next h y c.args.byte c.in-Kept.ensures) (plain_mode y.own.prompt) refl kept (returns-in-Kept-clause-sizes g c)
+    (kept_turn d ks xs next h y c.args.byte c.in-Kept.ensures.step) (plain_mode y.own.prompt) refl kept (returns-in-Kept-clause-sizes g c)
     (kept_apart d ks ks c.settle_apart.new.buffers xs ys next c.args.id (own_of y.own) c.requires.settles kept (c.settle_apart.ensures.world next)).0
 
 pub returns-in-Kept-clause-touched : goal.returns-in-Kept-clause-touched
@@ -64,40 +64,40 @@ returns-in-Kept-clause-touched g c next =
     let h = get_or xs c.args.at c.index-sessions-at.result in
     let y = c.step_prompt.new.session in
     (kept_apart d ks ks c.settle_apart.new.buffers xs (slice_set xs c.args.at y) next c.args.id (own_of y.own) c.requires.settles
-    (kept_world d ks xs next c.args.id c.args.at h y c.requires.place c.requires.within (ap (get_or xs c.args.at) c.index-sessions-at.is) c.in-Kept.ensures.own)
+    (kept_world d ks xs next c.args.id c.args.at h y c.requires.place c.requires.within (ap (get_or xs c.args.at) c.index-sessions-at.is) c.in-Kept.ensures.step.own)
     (c.settle_apart.ensures.world next)).1
 
 pub returns-in-Ends-clause-keyed : goal.returns-in-Ends-clause-keyed
 returns-in-Ends-clause-keyed g c next =
     let xs = c.args.sessions.now in
     let h = get_or xs c.args.at c.index-sessions-at.result in
-    keyed_end c.args.directory.now c.args.buffers.now xs next _ c.args.id c.args.at c.args.byte c.in-Ends.ensures.argument h c.requires.place c.requires.within (ap (get_or xs c.args.at) c.index-sessions-at.is)
-    c.in-Ends.ensures.turn c.requires.unique c.requires.settles
+    keyed_end c.args.directory.now c.args.buffers.now xs next _ c.args.id c.args.at c.args.byte c.in-Ends.ensures.step.argument h c.requires.place c.requires.within (ap (get_or xs c.args.at) c.index-sessions-at.is)
+    c.in-Ends.ensures.step.turn c.requires.unique c.requires.settles
 
 pub answer_prompt-requires-clause-sound : goal.answer_prompt-requires-clause-sound
 answer_prompt-requires-clause-sound g c =
     let xs = c.args.sessions.now in
     let h = get_or xs c.args.at c.index-sessions-at.result in
-    sound_set c.args.buffers.now xs c.args.at h c.step_prompt.new.session (ap (get_or xs c.args.at) c.index-sessions-at.is) (λ n i. ap (session_uses n i) c.in-Answered.ensures.rests) c.requires.sound
+    sound_set c.args.buffers.now xs c.args.at h c.step_prompt.new.session (ap (get_or xs c.args.at) c.index-sessions-at.is) (λ n i. ap (session_uses n i) c.in-Answered.ensures.step.rests) c.requires.sound
 
 pub answer_prompt-requires-clause-fresh : goal.answer_prompt-requires-clause-fresh
 answer_prompt-requires-clause-fresh g c =
     let xs = c.args.sessions.now in
-    fresh_at xs c.args.at nothing_held (get_or xs c.args.at c.index-sessions-at.result) c.step_prompt.new.session c.requires.within c.in-Answered.ensures.rests refl
+    fresh_at xs c.args.at nothing_held (get_or xs c.args.at c.index-sessions-at.result) c.step_prompt.new.session c.requires.within c.in-Answered.ensures.step.rests refl
 
 pub returns-in-Ok-clause-sizes : goal.returns-in-Ok-clause-sizes
 returns-in-Ok-clause-sizes g c =
     let xs = c.args.sessions.now in
     let h = get_or xs c.args.at c.index-sessions-at.result in
     c.answer_prompt.ensures.sizes
-    ∙ sizes_set xs c.args.at h c.step_prompt.new.session (ap (get_or xs c.args.at) c.index-sessions-at.is) (ap size_in c.in-Answered.ensures.rests)
+    ∙ sizes_set xs c.args.at h c.step_prompt.new.session (ap (get_or xs c.args.at) c.index-sessions-at.is) (ap size_in c.in-Answered.ensures.step.rests)
 
 pub returns-in-Err-clause-sizes : goal.returns-in-Err-clause-sizes
 returns-in-Err-clause-sizes g c =
     let xs = c.args.sessions.now in
     let h = get_or xs c.args.at c.index-sessions-at.result in
     c.answer_prompt.ensures.sizes
-    ∙ sizes_set xs c.args.at h c.step_prompt.new.session (ap (get_or xs c.args.at) c.index-sessions-at.is) (ap size_in c.in-Answered.ensures.rests)
+    ∙ sizes_set xs c.args.at h c.step_prompt.new.session (ap (get_or xs c.args.at) c.index-sessions-at.is) (ap size_in c.in-Answered.ensures.step.rests)
 
 pub returns-in-Ok-clause-keyed : goal.returns-in-Ok-clause-keyed
 returns-in-Ok-clause-keyed g c next =
@@ -112,10 +112,10 @@ returns-in-Ok-clause-keyed g c next =
     let r = c.in-Answered.reply in
     let n = c.in-Answered.argument in
     let asked = c.answer_prompt.ensures.asked in
-    let began = acts_world d ks xs next c.args.id c.args.at nothing_held h y c.requires.place c.requires.within is_h c.in-Answered.ensures.rests refl in
-    let place = place_held xs c.args.id c.args.at nothing_held h y c.requires.place is_h c.in-Answered.ensures.rests in
+    let began = acts_world d ks xs next c.args.id c.args.at nothing_held h y c.requires.place c.requires.within is_h c.in-Answered.ensures.step.rests refl in
+    let place = place_held xs c.args.id c.args.at nothing_held h y c.requires.place is_h c.in-Answered.ensures.step.rests in
     keyed_at d ks c.answer_prompt.new.buffers c.settle_apart-in-Ok.new.buffers xs zs c.answer_prompt.new.sessions next _ _ c.args.id c.args.at c.args.byte h (idle (own_of h.own)) (reply_act q n r)
-    c.requires.place c.requires.within is_h (c.in-Answered.ensures.turn asked (seen_at (world_of d ks xs next) (session_of ks h) c.args.byte)) refl refl (reply_single q n r c.in-Answered.ensures.here) began (returns-in-Ok-clause-sizes g c)
+    c.requires.place c.requires.within is_h (c.in-Answered.ensures.step.turn asked (seen_at (world_of d ks xs next) (session_of ks h) c.args.byte)) refl refl (reply_single q n r c.in-Answered.ensures.step.here) began (returns-in-Ok-clause-sizes g c)
     (c.in-Ok.ensures.ok c.args.id next place)
     (acted_apart d ks c.answer_prompt.new.buffers c.settle_apart-in-Ok.new.buffers xs zs c.answer_prompt.new.sessions next c.args.id (idle (own_of h.own)) c.in-Ok.touched
     c.requires.settles began (c.in-Ok.ensures.touched c.args.id next place) (c.settle_apart-in-Ok.ensures.world next)).0
@@ -130,8 +130,8 @@ returns-in-Ok-clause-touched g c next =
     let y = c.step_prompt.new.session in
     (acted_apart d ks c.answer_prompt.new.buffers c.settle_apart-in-Ok.new.buffers xs (slice_set xs c.args.at y) c.answer_prompt.new.sessions next c.args.id (idle (own_of h.own)) c.in-Ok.touched
     c.requires.settles
-    (acts_world d ks xs next c.args.id c.args.at nothing_held h y c.requires.place c.requires.within is_h c.in-Answered.ensures.rests refl)
-    (c.in-Ok.ensures.touched c.args.id next (place_held xs c.args.id c.args.at nothing_held h y c.requires.place is_h c.in-Answered.ensures.rests)) (c.settle_apart-in-Ok.ensures.world next)).1
+    (acts_world d ks xs next c.args.id c.args.at nothing_held h y c.requires.place c.requires.within is_h c.in-Answered.ensures.step.rests refl)
+    (c.in-Ok.ensures.touched c.args.id next (place_held xs c.args.id c.args.at nothing_held h y c.requires.place is_h c.in-Answered.ensures.step.rests)) (c.settle_apart-in-Ok.ensures.world next)).1
 
 pub returns-in-Err-clause-keyed : goal.returns-in-Err-clause-keyed
 returns-in-Err-clause-keyed g c next =
@@ -150,11 +150,11 @@ returns-in-Err-clause-keyed g c next =
     let asked = c.answer_prompt.ensures.asked in
     let w = world_of d ks xs next in
     let seen = seen_at w (session_of ks h) c.args.byte in
-    let began = acts_world d ks xs next c.args.id c.args.at nothing_held h y c.requires.place c.requires.within is_h c.in-Answered.ensures.rests refl in
-    let place = place_held xs c.args.id c.args.at nothing_held h y c.requires.place is_h c.in-Answered.ensures.rests in
-    let told = again_told w (world_of d ks zs next) (world_of d K ys next) c.args.id q h.own began (c.in-Err.ensures.err c.args.id next place) c.in-Answered.ensures.again in
+    let began = acts_world d ks xs next c.args.id c.args.at nothing_held h y c.requires.place c.requires.within is_h c.in-Answered.ensures.step.rests refl in
+    let place = place_held xs c.args.id c.args.at nothing_held h y c.requires.place is_h c.in-Answered.ensures.step.rests in
+    let told = again_told w (world_of d ks zs next) (world_of d K ys next) c.args.id q h.own began (c.in-Err.ensures.err c.args.id next place) c.in-Answered.ensures.step.again in
     keyed_short_at d ks K c.settle_apart-in-Err.new.buffers xs zs ys next _ _ c.args.id c.args.at c.args.byte h (idle (own_of h.own)) (reply_act q n r)
-    c.requires.place c.requires.within is_h (c.in-Answered.ensures.turn asked seen) refl began (returns-in-Err-clause-sizes g c) (c.in-Err.ensures.may c.args.id next place) told
+    c.requires.place c.requires.within is_h (c.in-Answered.ensures.step.turn asked seen) refl began (returns-in-Err-clause-sizes g c) (c.in-Err.ensures.may c.args.id next place) told
     (kept_apart d ks K c.settle_apart-in-Err.new.buffers xs ys next c.args.id (refused_own (own_of h.own)) c.requires.settles told (c.settle_apart-in-Err.ensures.world next)).0
     c.in-Err.ensures.accepted
 
@@ -170,7 +170,7 @@ returns-in-Err-clause-touched g c next =
     let ys = c.answer_prompt.new.sessions in
     let K = c.answer_prompt.new.buffers in
     let w = world_of d ks xs next in
-    let began = acts_world d ks xs next c.args.id c.args.at nothing_held h y c.requires.place c.requires.within is_h c.in-Answered.ensures.rests refl in
-    let place = place_held xs c.args.id c.args.at nothing_held h y c.requires.place is_h c.in-Answered.ensures.rests in
-    let told = again_told w (world_of d ks zs next) (world_of d K ys next) c.args.id c.in-Answered.prompt h.own began (c.in-Err.ensures.err c.args.id next place) c.in-Answered.ensures.again in
+    let began = acts_world d ks xs next c.args.id c.args.at nothing_held h y c.requires.place c.requires.within is_h c.in-Answered.ensures.step.rests refl in
+    let place = place_held xs c.args.id c.args.at nothing_held h y c.requires.place is_h c.in-Answered.ensures.step.rests in
+    let told = again_told w (world_of d ks zs next) (world_of d K ys next) c.args.id c.in-Answered.prompt h.own began (c.in-Err.ensures.err c.args.id next place) c.in-Answered.ensures.step.again in
     (kept_apart d ks K c.settle_apart-in-Err.new.buffers xs ys next c.args.id (refused_own (own_of h.own)) c.requires.settles told (c.settle_apart-in-Err.ensures.world next)).1

@@ -7,6 +7,7 @@ abbrev pub invariant-loop-at : goal.invariant-loop-at
 invariant-loop-at g l = record {
   each : All IsSessionScreen l.screens;
   sizes : map shown_size l.screens ≡ map shown_size l.initial.screens;
-  redrawn : AreRedrawn l.core.world (take l.at l.initial.screens) (take l.at l.screens);
+  redrawn : AreRedrawn l.initial.core.world (take l.at l.initial.screens) (take l.at l.screens);
+  core : l.core ≡ l.initial.core;
   rest : drop l.at l.screens ≡ drop l.at l.initial.screens;
 }

@@ -58,3 +58,6 @@ returns-in-CharacterAt-clause-wrote c =
 
 pub returns-in-EndAt-clause-wrote : goal.returns-in-EndAt-clause-wrote
 returns-in-EndAt-clause-wrote c = rw c.in-EndAt.is (wrote_more c.put_bytes-end.ensures.wrote c.put_position-in-EndAt.ensures.wrote)
+
+pub returns-in-MacroTooLong-clause-wrote : goal.returns-in-MacroTooLong-clause-wrote
+returns-in-MacroTooLong-clause-wrote c = rw c.in-MacroTooLong.is c.put_bytes-in-MacroTooLong.ensures.wrote

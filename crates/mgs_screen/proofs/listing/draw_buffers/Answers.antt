@@ -25,14 +25,15 @@ loop-i-preserved g c =
     let o : Option Attributes = option_map attributes_read c.attributes-attributes.result in
     let within : i < length ks = omega (arith, c.loop-i-test.true, c.len-i-end.ensures.value) in
     let more : listed d user (take (i + 1) ks) ≡ xs ++ if_granted o =
-    listed_more d user ks i within ∙ ap (λ (a : Option Attributes). xs ++ if_granted a) (sym c.attributes-attributes.ensures) in
+    listed_more d user ks i within ∙ ap (λ (a : Option Attributes). xs ++ if_granted a) (sym c.attributes-attributes.ensures.value) in
     record {
       grid = c.draw_buffer-number.ensures.grid
           ∙ ap (buffer_drawn first height row n o) c.loop-i.invariant.grid
-          ∙ buffer_more first height row n xs o p c.loop-i.invariant.number (omega (arith, c.requires, c.rows-rows.ensures.picture.count))
+          ∙ buffer_more first height row n xs o p c.loop-i.invariant.number (omega (arith, c.requires.room, c.rows-rows.ensures.picture.count))
           ∙ ap (λ (told : List Attributes). drawn first height row (map listing_text told) p) (sym more);
       number = c.draw_buffer-number.ensures.next
           ∙ ap (λ (k : ℕ). k + length (if_granted o)) c.loop-i.invariant.number
           ∙ sym (ap length more ∙ length-append xs (if_granted o));
+      judged = c.attributes-attributes.ensures.judged;
       few = omega (arith, c.draw_buffer-number.ensures.few, c.loop-i.invariant.few);
     }

@@ -1,5 +1,6 @@
 use Rattle.std.proofs.Common.{◌≡◌, ◌≤◌, length, map, take}
 use Rattle.mgs_model.specs.Draw.{listing_text}
+use Rattle.mgs_buffers.specs.Judging.{AreJudged, rules_kept}
 use Rattle.mgs_screen.specs.Listings.{drawn, listed}
 use Rattle.mgs_screen.proofs.listing.draw_buffers.Given as goal
 
@@ -8,5 +9,6 @@ abbrev pub invariant-loop-i : goal.invariant-loop-i
 invariant-loop-i g l = record {
   grid : l.grid ≡ drawn l.sight.first l.sight.height l.sight.row (map listing_text (listed l.directory l.user (take l.i l.buffers))) l.fn.grid;
   number : l.number ≡ length (listed l.directory l.user (take l.i l.buffers));
+  judged : AreJudged l.directory (rules_kept l.buffers) l.judge;
   few : l.number ≤ l.i;
 }

@@ -9,11 +9,11 @@ use Rattle.mgs_screen.proofs.Sights.{mode_below}
 use Rattle.mgs_screen.proofs.Listings.{entries_pane_is}
 use Rattle.mgs_screen.proofs.listing.draw_entries.Goals as goal
 
-pub returns : goal.returns
-returns g c = λ selected.
+pub returns-clause-grid : goal.returns-clause-grid
+returns-clause-grid g c = λ selected.
     let old : Picture = c.args.grid.now in
     let texts : List (List ℕ) = entries_shown (entries_told c.args.directory.now c.args.user.now (marked_at c.args.name.now c.args.buffers.now).buffer) in
     let rows : Option (List ℕ) → List Row = λ (name : Option (List ℕ)). rows_from old.cols c.args.height c.args.row texts ++ mode_row old.cols (acl_mode name) ∷ [] in
-    mode_below c.args.first c.args.height c.args.row texts (acl_mode c.shown_name.result) old c.draw_acl.new.grid c.draw_acl_mode.new.self (omega (arith, c.requires.room, c.rows-rows.ensures.picture.count)) c.draw_acl.ensures c.draw_acl_mode.ensures
-    ∙ ap (λ (name : Option (List ℕ)). record old { lines = rows_put c.args.first (rows name) old.lines }) c.shown_name.ensures
+    mode_below c.args.first c.args.height c.args.row texts (acl_mode c.shown_name-shown.result) old c.draw_acl.new.grid c.draw_acl_mode.new.self (omega (arith, c.requires.room, c.rows-rows.ensures.picture.count)) c.draw_acl.ensures.grid c.draw_acl_mode.ensures
+    ∙ ap (λ (name : Option (List ℕ)). record old { lines = rows_put c.args.first (rows name) old.lines }) c.shown_name-shown.ensures.value
     ∙ ap (λ (rs : List Row). record old { lines = rows_put c.args.first rs old.lines }) (sym (entries_pane_is selected old.cols c.args.height c.args.row c.args.directory.now c.args.user.now c.args.name.now c.args.buffers.now c.requires.kept))

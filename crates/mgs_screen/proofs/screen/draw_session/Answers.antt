@@ -15,7 +15,8 @@ use Rattle.mgs_world.specs.Worlds.{own_of}
 use Rattle.mgs_screen.specs.Screens.{window_to, windows_to}
 use Rattle.mgs_world.proofs.Soundness.{window_sound}
 use Rattle.mgs_grid.proofs.Pictures.{length-rows_put}
-use Rattle.mgs_screen.proofs.Drawings.{length_window, rows_more, cursor_more, cursor_in, cursor_all, rows_all, session_drawn}
+use Rattle.mgs_screen.proofs.Drawings.{rows_more, cursor_more, cursor_in, cursor_all, rows_all, session_drawn}
+use Rattle.mgs_screen.proofs.RowPanes.{length_window}
 use Rattle.mgs_screen.proofs.screen.draw_session.Goals as goal
 use Rattle.mgs_screen.proofs.screen.draw_session.Goals.{then-i-selected, else-i-selected}
 
@@ -68,6 +69,7 @@ loop-i-preserved g c =
       | else-i-selected b ↦ let e : c.if-i-selected.cursor.1 ≡ c.loop-i.cursor.1 = ap (λ (p : ℕ × ℕ). p.1) b.cursor-is in omega (arith, e, inv.col_within)
     ] in
     record {
+      judged = c.draw_window-row.ensures.judged;
       rows_stay = c.draw_window-row.ensures.rows ∙ inv.rows_stay;
       cols_stay = c.draw_window-row.ensures.cols ∙ inv.cols_stay;
       count = ap length put ∙ length-rows_put first mine old (omega (arith, size, inv.room, inv.count, next)) ∙ inv.count;
@@ -78,8 +80,8 @@ loop-i-preserved g c =
       cursor_is = cursor_more d user ks cols selected i first ws w c.loop-i.cursor c.if-i-selected.cursor _ shown c.window-item.is c.loop-i-test.true refl cursor inv.cursor_is;
     }
 
-pub returns : goal.returns
-returns g c = λ sessions. λ next.
+pub returns-clause-grid : goal.returns-clause-grid
+returns-clause-grid g c = λ sessions. λ next.
     let d : Directory = c.args.directory.now in
     let x : Session = c.args.session.now in
     let ks : List MarkedBuffer = c.args.buffers.now in

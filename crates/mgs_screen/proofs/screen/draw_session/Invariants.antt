@@ -2,6 +2,8 @@ use Rattle.std.proofs.Common.{◌≡◌, ◌+◌, ◌<◌, ◌++◌, ℕ, List, 
 use Rattle.mgs_model.specs.Access.{Directory}
 use Rattle.mgs_model.specs.Picture.{Picture}
 use Rattle.mgs_model.specs.Draw.{windows_rows}
+use Rattle.mgs_cache.specs.Kept.{Kept}
+use Rattle.mgs_buffers.specs.Judging.{AreJudged, rules_kept}
 use Rattle.mgs_buffers.specs.MarkedBuffer.{MarkedBuffer}
 use Rattle.mgs_windows.specs.declared.Window.{Window}
 use Rattle.mgs_windows.specs.Panes.{room_of}
@@ -10,7 +12,8 @@ use Rattle.mgs_screen.proofs.Drawings.{cursor_from}
 use Rattle.mgs_screen.proofs.screen.draw_session.Given as goal
 
 -- the windows before the i-th are drawn, the rest has its room, and the cursor is on the screen
-pub record Drawing (d : Directory) (user : List ℕ) (ks : List MarkedBuffer) (selected i first : ℕ) (ws : List Window) (cursor : ℕ × ℕ) (old new : Picture) : Type 0 where
+pub record Drawing (d : Directory) (user : List ℕ) (ks : List MarkedBuffer) (selected i first : ℕ) (ws : List Window) (cursor : ℕ × ℕ) (keeps : List Kept) (old new : Picture) : Type 0 where
+  pub judged : AreJudged d (rules_kept ks) keeps
   pub rows_stay : new.rows ≡ old.rows
   pub cols_stay : new.cols ≡ old.cols
   pub count : length new.lines ≡ old.rows
@@ -21,4 +24,4 @@ pub record Drawing (d : Directory) (user : List ℕ) (ks : List MarkedBuffer) (s
   pub cursor_is : cursor_from i selected old.cols first cursor (windows_to d user ks (drop i ws)) ≡ cursor_from 0 selected old.cols 0 (0, 0) (windows_to d user ks ws)
 
 abbrev pub invariant-loop-i : goal.invariant-loop-i
-invariant-loop-i g l = Drawing l.directory l.session.user l.buffers l.selected l.i l.first l.window-items l.cursor l.initial.grid l.grid
+invariant-loop-i g l = Drawing l.directory l.session.user l.buffers l.selected l.i l.first l.window-items l.cursor l.judge l.initial.grid l.grid

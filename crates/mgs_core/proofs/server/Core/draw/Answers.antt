@@ -13,8 +13,8 @@ draw_in-requires-clause-open g c =
     ap (λ (xs : List Session). find_size c.args.id (sizes_in xs)) c.deref.ensures.value
     ∙ ap (find_size c.args.id) (sym (sizes_world i.directory i.buffers i.sessions.items i.next_id) ∙ ap sizes (world_is _ _ c.self.view_is)) ∙ c.requires
 
-pub returns : goal.returns
-returns g c x found =
+pub returns-clause-grid : goal.returns-clause-grid
+returns-clause-grid g c x found =
     let i = c.self.inside in
     let e : world_of i.directory i.buffers c.deref.result.now i.next_id ≡ c.args.self.now.world = ap (λ (xs : List Session). world_of i.directory i.buffers xs i.next_id) c.deref.ensures.value ∙ (world_is _ _ c.self.view_is) in
-    c.draw_in.ensures i.next_id x (ap (λ (w : World). find_session c.args.id w.sessions) e ∙ found) ∙ ap (λ (w : World). screen w x) e
+    c.draw_in.ensures.grid i.next_id x (ap (λ (w : World). find_session c.args.id w.sessions) e ∙ found) ∙ ap (λ (w : World). screen w x) e

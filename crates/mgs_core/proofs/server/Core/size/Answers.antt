@@ -19,12 +19,12 @@ returns-clause-value g c =
 pub returns-clause-each : goal.returns-clause-each
 returns-clause-each g c =
     let i = c.self.inside in
-    subst (All IsOfSize) (sym (sizes_world i.directory i.buffers i.sessions.items i.next_id) ∙ ap sizes (world_is _ _ c.self.view_is)) c.self.invariant.each
+    subst (All IsOfSize) (sym (sizes_world i.directory i.buffers i.sessions.items i.next_id) ∙ ap sizes (world_is _ _ c.self.view_is)) c.self.invariant.0.each
 
 pub returns-clause-unique : goal.returns-clause-unique
 returns-clause-unique g c =
     let i = c.self.inside in
-    subst IsUnique (sym (sizes_world i.directory i.buffers i.sessions.items i.next_id) ∙ ap sizes (world_is _ _ c.self.view_is)) c.self.invariant.unique
+    subst IsUnique (sym (sizes_world i.directory i.buffers i.sessions.items i.next_id) ∙ ap sizes (world_is _ _ c.self.view_is)) c.self.invariant.0.unique
 
 pub returns-clause-settled : goal.returns-clause-settled
-returns-clause-settled g c = subst (λ (w : World). settled w ≡ w) (world_is _ _ c.self.view_is) (c.self.invariant.settles c.self.inside.next_id)
+returns-clause-settled g c = subst (λ (w : World). settled w ≡ w) (world_is _ _ c.self.view_is) (c.self.invariant.0.settles c.self.inside.next_id)

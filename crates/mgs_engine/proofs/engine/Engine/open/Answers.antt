@@ -4,6 +4,7 @@ use Rattle.mgs_model.specs.Draw.{screen}
 use Rattle.mgs_paint.specs.Painting.{Paints}
 use Rattle.mgs_world.specs.declared.size.Size.{Size}
 use Rattle.mgs_world.specs.Worlds.{sizes, find_size}
+use Rattle.mgs_core.specs.Kept.{Kept}
 use Rattle.mgs_core.proofs.Ids.{known_last}
 use Rattle.mgs_engine.specs.declared.screen.Screen.{Screen}
 use Rattle.mgs_engine.specs.Queues.{Queue, queue_id}
@@ -31,10 +32,11 @@ invariant_of-self-2 g c =
     let items : c.push_reserved.new.self.items ≡ c.self.inside.screens.items ++ z ∷ [] = c.push_reserved.ensures.items ∙ ap (λ (xs : List Screen). xs ++ z ∷ []) c.reserve.ensures.items in
     let screens : length c.deref.result.now ≡ length c.self.inside.screens.items = ap length c.deref.ensures.value in
     let ended : length c.deref-2.result.now ≡ length c.self.inside.ended.items = ap length c.deref-2.ensures.value in (
-      served_opened c.self.inside.core.world c.open.new.self.world c.in_ok-id.id c.args.user.now c.args.rows c.args.cols c.self.inside.screens.items c.push_reserved.new.self.items z (record { id = c.in_ok-id.id; rows = c.args.rows; cols = c.args.cols })
+      subst (λ (k : Kept). IsServed k.world c.push_reserved.new.self.items) (sym c.draw_first.ensures.core)
+          (served_opened c.self.inside.core.world c.open.new.self.world c.in_ok-id.id c.args.user.now c.args.rows c.args.cols c.self.inside.screens.items c.push_reserved.new.self.items z (record { id = c.in_ok-id.id; rows = c.args.rows; cols = c.args.cols })
           c.self.invariant.0 c.in_ok-id.ensures.rest c.in_ok-id.ensures.opened c.in_ok-id.ensures.fresh
           (c.push_reserved.ensures.items ∙ ap (λ (xs : List Screen). xs ++ z ∷ []) c.reserve.ensures.items)
-          (c.draw_first.ensures.size ∙ same_size c.in_ok-id.id c.args.rows c.args.cols _ _ c.in-Ok.ensures.rows c.in-Ok.ensures.cols) c.draw_first.ensures.screen c.draw_first.ensures.drawn (c.draw_first.ensures.late ∙ c.in-Ok.ensures.on_time),
+          (c.draw_first.ensures.size ∙ same_size c.in_ok-id.id c.args.rows c.args.cols _ _ c.in-Ok.ensures.rows c.in-Ok.ensures.cols) c.draw_first.ensures.screen c.draw_first.ensures.drawn (c.draw_first.ensures.late ∙ c.in-Ok.ensures.on_time)),
       more_slots c.self.inside.screens.items c.push_reserved.new.self.items z c.self.inside.ended.items _ items c.self.invariant.1 (omega (arith, c.in_default.ensures.slot refl, screens, ended)),
     )
 
@@ -68,8 +70,9 @@ returns-clause-painted g c =
     served_opened w.world v.world c.in_ok-id.id c.args.user.now c.args.rows c.args.cols xs c.push_reserved.new.self.items z (record { id = c.in_ok-id.id; rows = c.args.rows; cols = c.args.cols })
     c.self.invariant.0 c.in_ok-id.ensures.rest c.in_ok-id.ensures.opened c.in_ok-id.ensures.fresh items
     (c.draw_first.ensures.size ∙ same_size c.in_ok-id.id c.args.rows c.args.cols _ _ c.in-Ok.ensures.rows c.in-Ok.ensures.cols) c.draw_first.ensures.screen c.draw_first.ensures.drawn (c.draw_first.ensures.late ∙ c.in-Ok.ensures.on_time) in
-    subst (λ (s : Serving). Painted s (serving_of v c.push_reserved.new.self.items c.self.inside.ended.items)) c.self.view_is
-    (painted_opened w v xs c.push_reserved.new.self.items c.self.inside.ended.items c.self.inside.ended.items z items c.self.invariant.0.sizes_are c.self.invariant.0.drawn served.drawn)
+    subst (λ (k : Kept). Painted c.args.self.now (serving_of k c.push_reserved.new.self.items c.self.inside.ended.items)) (sym c.draw_first.ensures.core)
+    (subst (λ (s : Serving). Painted s (serving_of v c.push_reserved.new.self.items c.self.inside.ended.items)) c.self.view_is
+    (painted_opened w v xs c.push_reserved.new.self.items c.self.inside.ended.items c.self.inside.ended.items z items c.self.invariant.0.sizes_are c.self.invariant.0.drawn served.drawn))
 
 pub returns-clause-first : goal.returns-clause-first
 returns-clause-first g c =
@@ -78,5 +81,6 @@ returns-clause-first g c =
     let xs = c.self.inside.screens.items in
     let z = c.draw_first.new.screen in
     let items : c.push_reserved.new.self.items ≡ xs ++ z ∷ [] = c.push_reserved.ensures.items ∙ ap (λ (ys : List Screen). ys ++ z ∷ []) c.reserve.ensures.items in
-    subst (λ (ys : List Screen). (y : Session) × (find_session id v.world.sessions ≡ Some y) × Paints (screen v.world y) (pending_of id (serving_of v ys c.self.inside.ended.items))) (sym items)
-    (first_opened v xs c.self.inside.ended.items z id (ap (λ (s : Size). s.id) c.draw_first.ensures.size) (ap (find_size id) c.self.invariant.0.sizes_are ∙ c.in_ok-id.ensures.fresh) c.draw_first.ensures.drawn c.draw_first.ensures.first)
+    subst (λ (k : Kept). (y : Session) × (find_session id k.world.sessions ≡ Some y) × Paints (screen k.world y) (pending_of id (serving_of k c.push_reserved.new.self.items c.self.inside.ended.items))) (sym c.draw_first.ensures.core)
+    (subst (λ (ys : List Screen). (y : Session) × (find_session id v.world.sessions ≡ Some y) × Paints (screen v.world y) (pending_of id (serving_of v ys c.self.inside.ended.items))) (sym items)
+    (first_opened v xs c.self.inside.ended.items z id (ap (λ (s : Size). s.id) c.draw_first.ensures.size) (ap (find_size id) c.self.invariant.0.sizes_are ∙ c.in_ok-id.ensures.fresh) c.draw_first.ensures.drawn c.draw_first.ensures.first))

@@ -1,10 +1,10 @@
-use Rattle.std.proofs.Common.{◌≡◌, map, sym, ap, ◌∙◌, arith}
+use Rattle.std.proofs.Common.{◌≡◌, map, sym, ap, subst, ◌∙◌, arith}
 use Rattle.mgs_world.specs.Worlds.{sizes}
 use Rattle.std.specs.List.{position_or_len}
 use Rattle.mgs_engine.specs.Screens.{screen_id, shown_size}
 use Rattle.mgs_engine.proofs.ScreenLemmas.{queue_at}
-use Rattle.mgs_engine.specs.Serving.{Serving, pending_of}
-use Rattle.mgs_engine.proofs.Screens.{open_at, queue_none}
+use Rattle.mgs_engine.specs.Serving.{IsWellFormed, Serving, pending_of}
+use Rattle.mgs_engine.proofs.Screens.{open_at, queue_none, well_formed}
 use Rattle.mgs_engine.proofs.engine.Engine.pending.Goals as goal
 
 pub returns-then-at-len-clause-value : goal.returns-then-at-len-clause-value
@@ -30,3 +30,9 @@ returns-then-at-len-clause-none g c =
     λ closed. absurd (open_at c.args.id c.args.self.now.world c.self.inside.screens.items c.place_of-at.result v
     (c.place_of-at.ensures.value ∙ ap (position_or_len (screen_id c.args.id)) c.deref.ensures.value)
     (omega (arith, c.if-at-len.true, c.len.ensures, c.self.inside.screens.ok.0)) closed)
+
+pub returns-then-at-len-clause-formed : goal.returns-then-at-len-clause-formed
+returns-then-at-len-clause-formed g c = subst IsWellFormed c.self.view_is (well_formed c.self.inside.core c.self.inside.screens.items c.self.inside.ended.items c.self.invariant.0)
+
+pub returns-else-at-len-clause-formed : goal.returns-else-at-len-clause-formed
+returns-else-at-len-clause-formed g c = subst IsWellFormed c.self.view_is (well_formed c.self.inside.core c.self.inside.screens.items c.self.inside.ended.items c.self.invariant.0)

@@ -1,0 +1,27 @@
+// What a judge decides on a right, by the owner and the access list of the buffer at a place.
+ghost use Rattle.std.specs.Prelude.{◌≡◌, ◌∷◌, []};
+ghost use Rattle.mgs_model.specs.Access.{decider, decision_by};
+ghost use Rattle.mgs_cache.specs.Kept.{AreRight};
+ghost use Rattle.mgs_buffers.specs.Judging.{StaysRight};
+
+use mgs_acl::List;
+use mgs_cache::Judge;
+use mgs_model::{Decision, Mask, Name, Right};
+use mgs_policy::Directory;
+
+/// What a list decides on one right of a user, from what a judge keeps for a place or by deciding and keeping.
+pub(crate) fn judged(
+    judge: &mut Judge,
+    place: usize,
+    list: &List,
+    owner: &Name,
+    user: &Name,
+    directory: &Directory,
+    right: Right,
+) -> Decision
+    requires { AreRight place directory.now owner.now list.now judge.old }
+    ensures value { result ≡ decision_by (decider directory.now owner.now user.now list.now) (right ∷ []) }
+    ensures stays { StaysRight place directory.now owner.now list.now judge.old judge.new }
+{
+    judge.decide(place, list, owner, user, directory, Mask::of(right))
+}

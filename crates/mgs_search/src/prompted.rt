@@ -1,0 +1,46 @@
+// A search for what was typed at a prompt.
+ghost use Rattle.std.specs.Prelude.{◌≡◌, ◌+◌, ◌≤◌, length, IfSome, IfOk};
+ghost use Rattle.mgs_model.specs.Plans as model;
+ghost use Rattle.mgs_model.specs.Plans.{motion};
+ghost use Rattle.mgs_model.specs.Searching.{match_once};
+ghost use Rattle.mgs_model.specs.declared.search.Direction.{Direction};
+ghost use Rattle.mgs_model.specs.declared.session.Motion.TheVariants.{SearchFor};
+ghost use Rattle.mgs_search.specs.Planned.{went};
+
+use crate::incremental::match_point;
+use crate::{find_forward, find_past};
+use mgs_model::{Direction, Message};
+use mgs_text::Text;
+
+// Forward the position itself counts, and backward it does not.
+fn find_once<T: Text>(text: &T, direction: Direction, p: usize, pattern: &[char]) -> Option<usize>
+    requires { p ≤ length (T.text text.now) }
+    ensures value { result ≡ match_once direction pattern.now (T.text text.now) p }
+    ensures within { IfSome result (λ m. m + length pattern.now ≤ length (T.text text.now)) }
+{
+    match direction {
+        Direction::Forward => find_forward(text, p, pattern),
+        Direction::Backward => find_past(text, Direction::Backward, p, pattern),
+    }
+}
+
+/// Plans a search from `p` on: the point goes behind the next match forward, where `p` counts, or to the start of the one
+/// before `p`. `NoPattern` where there is nothing to look for, `NotFound` where it does not stand there.
+pub fn search_for<T: Text>(
+    text: &T,
+    p: usize,
+    direction: Direction,
+    pattern: &[char],
+) -> Result<usize, Message>
+    requires { p ≤ length (T.text text.now) }
+    ensures plan { (rest : model.Around) → went result ≡ motion (SearchFor direction) (T.text text.now) (record rest { place = p; typed = pattern.now }) }
+    ensures within { IfOk result (λ q. q ≤ length (T.text text.now)) }
+{
+    if pattern.is_empty() {
+        return Err(Message::NoPattern);
+    }
+    match find_once(text, direction, p, pattern) {
+        Some(m) => Ok(match_point(text, direction, m, pattern)),
+        None => Err(Message::NotFound),
+    }
+}

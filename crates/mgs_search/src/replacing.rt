@@ -1,0 +1,95 @@
+// Query-replace: where its matches are.
+ghost use Rattle.std.specs.Prelude.{◌≡◌, ℕ, ◌+◌, ◌-◌, ◌≤◌, ◌<◌, ◌^◌, List, length, Ok, IfSome, IfOk};
+ghost use Rattle.std.specs.Option.{option_map};
+ghost use Rattle.mgs_model.specs.Plans as model;
+ghost use Rattle.mgs_model.specs.Plans.{motion, alteration, stays};
+ghost use Rattle.mgs_model.specs.declared.session.Alteration.TheVariants.{ReplaceMatch, ReplaceLast};
+ghost use Rattle.mgs_model.specs.declared.session.Motion.TheVariants.{StartReplace, SkipMatch};
+ghost use Rattle.mgs_search.specs.Planned.{begun, met, replacement_read};
+
+use crate::{find_forward, matches_at};
+use mgs_model::Message;
+use mgs_text::Text;
+
+/// A replacement at an anchor, as it is planned.
+#[derive(Clone, Copy, Debug, PartialEq, Eq)]
+pub struct Replacement {
+    /// Whether the text still stands at the anchor, and is replaced.
+    pub replaces: bool,
+    /// Where the next match begins when that is done.
+    pub next: Option<usize>,
+}
+
+/// Plans the begin of a query-replace of `old` from `p` on: the first match, where there is one. `NoPattern` where there is
+/// nothing to replace.
+pub fn begin_replacing<T: Text>(text: &T, p: usize, old: &[char]) -> Result<Option<usize>, Message>
+    requires { p ≤ length (T.text text.now) }
+    ensures plan { (rest : model.Around) → begun rest.name p (length old.now) result ≡ motion StartReplace (T.text text.now) (record rest { place = p; old = old.now }) }
+    ensures within { IfOk result (λ o. IfSome o (λ m. m + length old.now ≤ length (T.text text.now))) }
+{
+    if old.is_empty() {
+        return Err(Message::NoPattern);
+    }
+    Ok(find_forward(text, p, old))
+}
+
+/// Plans that the match at an anchor stays as it is: the next match behind it, or from the anchor on where the text no
+/// longer stands there.
+pub fn skip_match<T: Text>(text: &T, anchor: usize, old: &[char]) -> Option<usize>
+    requires { anchor ≤ length (T.text text.now) }
+    ensures plan { (rest : model.Around) → Ok (met (length old.now) stays result) ≡ motion SkipMatch (T.text text.now) (record rest { anchor = anchor; old = old.now }) }
+    ensures within { IfSome result (λ m. m + length old.now ≤ length (T.text text.now)) }
+{
+    let _len = text.len();
+    if matches_at(text, anchor, old) {
+        return find_forward(text, anchor + old.len(), old);
+    }
+    find_forward(text, anchor, old)
+}
+
+// The same match, counted in a text where another stretch ends at `to` in place of `from`.
+fn moved(found: Option<usize>, from: usize, to: usize) -> Option<usize>
+    requires found { IfSome found (λ m. m < 2 ^ 32) }
+    requires to { to < 2 ^ 33 }
+    ensures { result ≡ option_map (λ m. m - from + to) found }
+{
+    match found {
+        Some(m) => Some(m.saturating_sub(from) + to),
+        None => None,
+    }
+}
+
+/// Plans a replacement of the match at an anchor by `put`, and where the next match begins when it is done: behind what is
+/// put in. Where the text no longer stands there, nothing is replaced, and the next match is looked for from the anchor on.
+#[tactic(auto, using(crate::proofs::Edited::kept_so))]
+pub fn replace_match<T: Text>(text: &T, anchor: usize, old: &[char], put: &[char]) -> Replacement
+    requires anchor { anchor ≤ length (T.text text.now) }
+    requires short { length (T.text text.now) < 2 ^ 32 }
+    requires put { length put.now < 2 ^ 32 }
+    ensures { (rest : model.Around) → Ok (replacement_read anchor (length old.now) put.now result) ≡ alteration ReplaceMatch (T.text text.now) (record rest { anchor = anchor; old = old.now; typed = put.now }) }
+{
+    let _len = text.len();
+    if !matches_at(text, anchor, old) {
+        return Replacement {
+            replaces: false,
+            next: find_forward(text, anchor, old),
+        };
+    }
+    let from = anchor + old.len();
+    let next = moved(find_forward(text, from, old), from, anchor + put.len());
+    Replacement {
+        replaces: true,
+        next,
+    }
+}
+
+/// Plans the last replacement, at an anchor: no next match is looked for.
+pub fn replace_last<T: Text>(text: &T, anchor: usize, old: &[char]) -> Replacement
+    requires { anchor ≤ length (T.text text.now) }
+    ensures { (put : List ℕ) (rest : model.Around) → Ok (replacement_read anchor (length old.now) put result) ≡ alteration ReplaceLast (T.text text.now) (record rest { anchor = anchor; old = old.now; typed = put }) }
+{
+    Replacement {
+        replaces: matches_at(text, anchor, old),
+        next: None,
+    }
+}

@@ -1,0 +1,220 @@
+// Access lists and owners are changed while others look, each step with what the terminal then shows.
+use super::replay::gives;
+use super::steps::steps_show;
+use std::alloc::Global;
+use std::test::Fail;
+
+const BOTH: &str = "user ann\n\
+    user bob\n\
+    user cat\n\
+    buffer notes ann\n\
+    entry notes ALLOW OWNER@ rwatdcCo\n\
+    entry notes ALLOW bob rwat\n\
+    text notes 'one SPC 'two\n\
+    buffer secret cat\n\
+    entry secret ALLOW OWNER@ rwatdcCo\n\
+    open a ann 6 60\n\
+    open b bob 6 60\n";
+
+// Who shuts himself out sees it at once.
+#[test]
+fn a_list_is_emptied(rt: HostRuntime) -> Result<(), Fail> {
+    let setting = "user ann\n\
+        buffer notes ann\n\
+        entry notes ALLOW OWNER@ rwatdcCo\n\
+        open a ann 6 60\n";
+    let steps = "
+        a M-x 'acl-delete RET     | [no read: no entry] | :-??-?-(no read) | 1 1
+        a C-f                     | [no read: no entry] | :-??-?-(no read) | 1 1 | Denied: no entry grants READ_DATA
+        a 'x                      | [no read: no entry] | :-??-?-(no read) | 1 1 | Denied: no entry grants APPEND_DATA
+        a C-x 'b 'notes RET       | [no read: no entry] | :-??-?-(no read) | 1 1 | Denied: no entry grants READ_ATTRIBUTES
+        a M-x 'acl-list RET       | [no read: no entry] | :-??-?-(no read) | 1 1 | Denied: no entry grants READ_ACL
+        a M-x 'set-owner RET RET  | [no read: no entry] | :-??-?-(no read) | 1 1 | Denied: no entry grants WRITE_OWNER
+    ";
+    steps_show(&rt, rt.alloc(), setting, steps)
+}
+
+// What is revoked is gone from another's screen in that event, and a kill that was made stays its holder's.
+#[test]
+fn rights_are_revoked_under_another(rt: HostRuntime) -> Result<(), Fail> {
+    let steps = "
+        b M-d                          |  two                | **L1-C0          | 1 1
+        b M-x 'acl-delete RET          |  two                | **L1-C0          | 1 1 | Denied: no entry grants WRITE_ACL
+        a C-u '2 M-x 'acl-delete RET   |  two                | **L1-C0          | 1 1
+        b                              | [no read: no entry] | :-??-?-(no read) | 1 1 | Denied: no entry grants WRITE_ACL
+        b 'x                           | [no read: no entry] | :-??-?-(no read) | 1 1 | Denied: no entry grants APPEND_DATA
+        a                              |  two                | **L1-C0          | 1 1
+        b C-x 'b 'mine RET C-y         | one                 | :-**-mine-L1-C3  | 1 4
+        a M-x 'acl-insert RET 'ALLOW SPC 'bob SPC 'rt RET |  two | **L1-C0        | 1 1
+        b C-x 'b 'notes RET            |  two                | **L1-C0          | 1 1
+    ";
+    steps_show(&rt, rt.alloc(), BOTH, steps)
+}
+
+// A buffer that is given away is its new owner's in that event.
+#[test]
+fn a_buffer_gets_another_owner(rt: HostRuntime) -> Result<(), Fail> {
+    let steps = "
+        a M-x 'set-owner RET           | one two | --L1-C0 | 6 8 | Owner:
+        a 'eve TAB                     | one two | --L1-C0 | 1 1 | No match
+        a RET                          | one two | --L1-C0 | 1 1 | No such user
+        b M-x 'set-owner RET 'eve RET  | one two | --L1-C0 | 1 1 | Denied: no entry grants WRITE_OWNER
+        a M-x 'set-owner RET 'ann RET  | one two | --L1-C0 | 1 1
+        a M-x 'set-owner RET 'cat RET  | [no read: no entry] | :-??-?-(no read) | 1 1
+        open c cat 6 60
+        c C-e 'x                       | one twox | **L1-C8 | 1 9
+        b                              | one twox | **L1-C0 | 1 1 | Denied: no entry grants WRITE_OWNER
+        c C-x C-b                      | *       8 notes cat/        0 secret cat | :-Buffers | 1 1
+        a C-x C-b                      |         | :-Buffers | 1 1
+    ";
+    steps_show(&rt, rt.alloc(), BOTH, steps)
+}
+
+// The list of a buffer is changed from where it is shown, and follows what others do.
+#[test]
+fn access_lists_are_shown(rt: HostRuntime) -> Result<(), Fail> {
+    let steps = "
+        a M-x 'acl-list RET            | 1 ALLOW OWNER@ rwatdcCo/2 ALLOW bob rwat | :-Acl-notes | 1 1
+        b M-x 'acl-list RET            | one two | --L1-C0 | 1 1 | Denied: no entry grants READ_ACL
+        a 'x                           | 1 ALLOW OWNER@ rwatdcCo/2 ALLOW bob rwat | :-Acl-notes | 1 1 | No buffer
+        a C-u '2 M-x 'acl-insert RET   | 1 ALLOW OWNER@ rwatdcCo/2 ALLOW bob rwat | :-Acl-notes | 6 8 | Entry:
+        a SPC 'ALLOW SPC SPC 'bob SPC 'cr RET | 1 ALLOW OWNER@ rwatdcCo/2 ALLOW bob rc/3 ALLOW bob rwat | :-Acl-notes | 1 1
+        b M-x 'acl-list RET            | 1 ALLOW OWNER@ rwatdcCo/2 ALLOW bob rc/3 ALLOW bob rwat | :-Acl-notes | 1 1
+        a C-v                          |         | :-Acl-notes | 1 1
+        a M-v                          | 1 ALLOW OWNER@ rwatdcCo/2 ALLOW bob rc/3 ALLOW bob rwat | :-Acl-notes | 1 1
+        a C-u '2 M-x 'acl-replace RET 'DENY SPC 'bob SPC 'c RET | 1 ALLOW OWNER@ rwatdcCo/2 DENY bob c/3 ALLOW bob rwat | :-Acl-notes | 1 1
+        b                              | [no acl: entry 2] | :-Acl-notes | 1 1
+        b C-v                          |         | :-Acl-notes | 1 1
+        b M-v                          | [no acl: entry 2] | :-Acl-notes | 1 1
+        a C-u '3 M-x 'acl-delete RET   | 1 ALLOW OWNER@ rwatdcCo/2 DENY bob c | :-Acl-notes | 1 1
+        b                              | [no acl: entry 2] | :-Acl-? | 1 1
+        a C-u '2 M-x 'acl-delete RET   | 1 ALLOW OWNER@ rwatdcCo | :-Acl-notes | 1 1
+        b                              | [no acl: no entry] | :-Acl-? | 1 1
+        a M-x 'set-owner RET 'cat RET  | [no acl: no entry] | :-Acl-? | 1 1
+        a C-x 'k RET                   | [no acl: no entry] | :-Acl-? | 1 1 | Denied: no entry grants DELETE
+        open c cat 6 60
+        c M-x 'acl-list RET C-x 'k RET |         | :-None | 1 1
+        b                              |         | :-None | 1 1
+        a                              |         | :-None | 1 1 | Denied: no entry grants DELETE
+        a M-x 'acl-list RET            |         | :-None | 1 1 | No buffer
+        a M-x 'acl-delete RET          |         | :-None | 1 1 | No buffer
+    ";
+    steps_show(&rt, rt.alloc(), BOTH, steps)
+}
+
+// A list of 64 entries.
+fn full_list(alloc: Global) -> Result<String, Fail> {
+    let mut setting = String::from_str(
+        alloc,
+        "user ann\nuser bob\nbuffer notes ann\nentry notes ALLOW OWNER@ rwatdcCo\n",
+    )?;
+    for _ in 0..63 {
+        setting.push_str("entry notes ALLOW bob rt\n")?;
+    }
+    setting.push_str("open a ann 6 60\nopen b bob 6 60\n")?;
+    Ok(setting)
+}
+
+// A refused change tells why: the right comes first, then the text, then the number, then the room.
+#[test]
+fn entries_are_refused(rt: HostRuntime) -> Result<(), Fail> {
+    let setting = full_list(rt.alloc())?;
+    let steps = "
+        a C-u '65 M-x 'acl-insert RET 'ALLOW SPC 'ann SPC 'r RET  |  | --L1-C0 | 1 1 | List full
+        a M-x 'acl-insert RET 'ALLOW SPC 'ann SPC 'r RET          |  | --L1-C0 | 1 1 | List full
+        a C-u '66 M-x 'acl-insert RET 'ALLOW SPC 'ann SPC 'r RET  |  | --L1-C0 | 1 1 | No such entry
+        a C-u '0 M-x 'acl-insert RET 'ALLOW SPC 'ann SPC 'r RET   |  | --L1-C0 | 1 1 | No such entry
+        a C-u '66 M-x 'acl-insert RET 'ALLOW SPC 'ann SPC 'x RET  |  | --L1-C0 | 1 1 | Bad entry: Letters
+        a C-u '66 M-x 'acl-replace RET 'allow SPC 'ann SPC 'r RET |  | --L1-C0 | 1 1 | Bad entry: Kind
+        a C-u '65 M-x 'acl-replace RET 'ALLOW SPC 'ann SPC 'r RET |  | --L1-C0 | 1 1 | No such entry
+        a C-u '65 M-x 'acl-delete RET                             |  | --L1-C0 | 1 1 | No such entry
+        b C-u '65 M-x 'acl-insert RET 'ALLOW SPC 'ann SPC 'x RET  |  | --L1-C0 | 1 1 | Denied: no entry grants WRITE_ACL
+        b C-u '65 M-x 'acl-replace RET RET                        |  | --L1-C0 | 1 1 | Denied: no entry grants WRITE_ACL
+        b C-u '65 M-x 'acl-delete RET                             |  | --L1-C0 | 1 1 | Denied: no entry grants WRITE_ACL
+        a C-u '64 M-x 'acl-delete RET                             |  | --L1-C0 | 1 1
+        a C-u '64 M-x 'acl-insert RET 'DENY SPC 'bob SPC 'w RET   |  | --L1-C0 | 1 1
+        b 'x                                                      |  | --L1-C0 | 1 1 | Denied: no entry grants APPEND_DATA
+        a M-x 'acl-insert RET 'DENY SPC 'bob SPC 'w RET           |  | --L1-C0 | 1 1 | List full
+    ";
+    steps_show(&rt, rt.alloc(), setting.as_str(), steps)
+}
+
+// Three sessions show the buffer that is killed, one of them twice.
+#[test]
+fn a_buffer_is_killed_under_three_sessions(rt: HostRuntime) {
+    let script = b"user ann\n\
+        user bob\n\
+        user cat\n\
+        buffer notes ann\n\
+        entry notes ALLOW OWNER@ rwatdcCo\n\
+        entry notes ALLOW EVERYONE@ rtc\n\
+        text notes 'abc\n\
+        open a ann 6 20\n\
+        open b bob 6 20\n\
+        open c cat 6 20\n\
+        keys b C-x '2 C-x 'o M-x 'acl-list RET\n\
+        show b\n\
+        keys a C-x 'k 'notes RET\n\
+        show a\n\
+        show b\n\
+        show c\n";
+    let output = "screen b\n\
+        |abc                 |\n\
+        |                    |\n\
+        !----notes-L1-C0-----!\n\
+        |1 ALLOW OWNER@ rwat$|\n\
+        !-Acl-notes----------!\n\
+        |                    |\n\
+        cursor 4 1\n\
+        screen a\n\
+        |                    |\n\
+        |                    |\n\
+        |                    |\n\
+        |                    |\n\
+        !-None---------------!\n\
+        |                    |\n\
+        cursor 1 1\n\
+        screen b\n\
+        |                    |\n\
+        |                    |\n\
+        !-None---------------!\n\
+        |                    |\n\
+        !-None---------------!\n\
+        |                    |\n\
+        cursor 4 1\n\
+        screen c\n\
+        |                    |\n\
+        |                    |\n\
+        |                    |\n\
+        |                    |\n\
+        !-None---------------!\n\
+        |                    |\n\
+        cursor 1 1\n";
+    gives(&rt, rt.alloc(), script, output, Ok(()));
+}
+
+// As many buffers as there may be: the last is made in the run.
+fn all_buffers_but_one(alloc: Global) -> Result<String, Fail> {
+    let mut setting = String::from_str(alloc, "user ann\n")?;
+    for i in 0..255usize {
+        let line = format!(in alloc; "buffer b{i} ann\n")?;
+        setting.push_str(line.as_str())?;
+    }
+    setting.push_str("open a ann 6 60\n")?;
+    Ok(setting)
+}
+
+#[test]
+fn there_are_256_buffers(rt: HostRuntime) -> Result<(), Fail> {
+    let setting = all_buffers_but_one(rt.alloc())?;
+    let steps = "
+        a C-f                     |             | :-None         | 1 1 | No buffer
+        a C-x C-f 'new RET        |             | :----new-L1-C0 | 1 1
+        a C-x C-f 'newer RET      |             | :----new-L1-C0 | 1 1 | Too many buffers
+        a C-x 'b 'a SPC 'b RET    |             | :----new-L1-C0 | 1 1 | Bad name
+        a C-x 'b 'b7 RET          |             | :----new-L1-C0 | 1 1 | Denied: no entry grants READ_ATTRIBUTES
+        a M-x 'acl-list RET       | 1 ALLOW OWNER@ rwatdcCo | :-Acl-new | 1 1
+        a C-x C-b                 |         0 new ann | :-Buffers | 1 1
+    ";
+    steps_show(&rt, rt.alloc(), setting.as_str(), steps)
+}

@@ -1,0 +1,47 @@
+-- Attributes of a buffer change, and not its marks: no position moves.
+use Rattle.std.proofs.Common.{◌≡◌, ℕ, Bool, true, false, List, [], ◌∷◌, map, Option, Some, None, refl, ap, ap₂, ◌∙◌}
+use Rattle.std.specs.Prelude.{find, is_some}
+use Rattle.std.specs.Option.{option_map}
+use Rattle.mgs_model.specs.Names.{same_name}
+use Rattle.mgs_model.specs.World.{Buffer, is_named}
+use Rattle.mgs_model.specs.Apply.{change_first}
+use Rattle.mgs_model.proofs.Firsts.{map-change_first}
+use Rattle.mgs_marks.specs.Marks.{mark_in, position_in}
+use Rattle.mgs_buffers.specs.MarkedBuffer.{MarkedBuffer, marked_at, marked_named, marked_or_none}
+use Rattle.mgs_session.specs.declared.Session.{Session}
+use Rattle.mgs_world.specs.Sound.{IsSound, one_if}
+use Rattle.mgs_world.specs.Worlds.{buffers_of, session_of}
+use Rattle.mgs_world.proofs.Marks.{found_other, found_same}
+use Rattle.mgs_world.proofs.Soundness.{sound_same}
+use Rattle.mgs_world.proofs.WindowMarks.{session_local}
+
+-- the buffer changed, and its marks as they are
+abbrev pub marked_by : (Buffer → Buffer) → MarkedBuffer → MarkedBuffer
+marked_by f k = record { buffer = f k.buffer; marks = k.marks }
+
+module _ (f : Buffer → Buffer) (named : (b : Buffer) → (f b).name ≡ b.name) where
+  pub buffers_by : (n : List ℕ) (ks : List MarkedBuffer) → buffers_of (change_first (marked_named n) (marked_by f) ks) ≡ change_first (is_named n) f (buffers_of ks)
+  buffers_by n ks =
+      map-change_first (λ (k : MarkedBuffer). k.buffer) (marked_named n) (is_named n) (marked_by f) f (λ k. refl) (λ k e. refl) ks
+
+  pub marks_by : (n m : List ℕ) (ks : List MarkedBuffer) → (marked_at m (change_first (marked_named n) (marked_by f) ks)).marks ≡ (marked_at m ks).marks
+  marks_by n m ks = go (same_name n m) refl
+    where
+      same : (o : Option MarkedBuffer) → (marked_or_none (option_map (marked_by f) o)).marks ≡ (marked_or_none o).marks
+      same None = refl
+      same (Some k) = refl
+
+      go : (r : Bool) → same_name n m ≡ r → (marked_at m (change_first (marked_named n) (marked_by f) ks)).marks ≡ (marked_at m ks).marks
+      go true e = ap (λ o. (marked_or_none o).marks) (found_same n m (marked_by f) ks (λ k. named k.buffer) e) ∙ same (find (marked_named m) ks)
+      go false e = ap (λ o. (marked_or_none o).marks) (found_other n m (marked_by f) ks (λ k. named k.buffer) e)
+
+  pub sound_by : (n : List ℕ) (ks : List MarkedBuffer) (xs : List Session) → IsSound ks xs → IsSound (change_first (marked_named n) (marked_by f) ks) xs
+  sound_by n ks xs sound =
+      sound_same ks _ xs (λ m i. ap (λ (ms : List (Option ℕ)). one_if (is_some (mark_in ms i))) (marks_by n m ks)) sound
+
+  pub session_by : (n : List ℕ) (ks : List MarkedBuffer) (x : Session) → session_of (change_first (marked_named n) (marked_by f) ks) x ≡ session_of ks x
+  session_by n ks x = session_local _ ks x (λ m i used. ap (λ (ms : List (Option ℕ)). position_in ms i) (marks_by n m ks))
+
+  pub sessions_by : (n : List ℕ) (ks : List MarkedBuffer) (xs : List Session) → map (session_of (change_first (marked_named n) (marked_by f) ks)) xs ≡ map (session_of ks) xs
+  sessions_by n ks [] = refl
+  sessions_by n ks (x ∷ xs) = ap₂ (λ y ys. y ∷ ys) (session_by n ks x) (sessions_by n ks xs)
