@@ -1,6 +1,6 @@
 -- What is done with connections, one thing after another.
-use Rattle.std.proofs.Common.{◌≡◌, ◌≢◌, ℕ, Bool, true, false, List, [], ◌∷◌, ◌++◌, length, drop, Option, Some, None, refl, sym, ap, subst, ◌∙◌}
-use Rattle.std.specs.Prelude.{option_map, Result, Ok, Err, IfOk, OnErr, IsSome, is_some}
+use Rattle.std.proofs.Common.{◌≡◌, ◌≢◌, ℕ, zero, suc, map, Bool, true, false, List, [], ◌∷◌, ◌++◌, length, drop, Option, Some, None, refl, sym, ap, subst, ◌∙◌}
+use Rattle.std.specs.Prelude.{option_map, slice_index_or, Result, Ok, Err, IfOk, OnErr, IsSome, is_some}
 use Rattle.std.proofs.Math.Seq.{drop-length}
 use Rattle.slab.specs.Slab.{Slab, get, Updates, with_value}
 use Rattle.slab.proofs.SlabLemmas.{Updates-with_value}
@@ -13,17 +13,26 @@ use Rattle.mgs_wire.specs.Connections.{Connection, Logging_in, Serving, Refused,
 use Rattle.mgs_wire.specs.Pumps.{PumpsIn, Finishes, Leaves, WritesFirst}
 use Rattle.mgs_server.specs.declared.peer.Peer.{Peer}
 use Rattle.mgs_server.specs.Calls.{Calls}
-use Rattle.mgs_server.specs.Peers.{Desk, desk, peers_of, IsChanged, AreTaken, Taken, Step, Reads, Writes as Writing, Move, Comes, Serves, Goes, IsStep, AreSteps, Stepped, IsMove, AreMoves, Moved, IsOverAt, is_over, is_closing}
+use Rattle.mgs_server.specs.Peers.{Desk, desk, peers_of, under, IsChanged, AreTaken, Taken, Step, Reads, Writes as Writing, Move, Comes, Serves, Goes, IsStep, AreSteps, Stepped, IsMove, AreMoves, Moved, IsOverAt, is_over, is_closing}
 use Rattle.mgs_server.proofs.Calling.{calls_pumped, calls_then, calls_written, none_made}
 
 -- SLABS
 
+-- what stands under a key is the slab's
+pub under_slots : {S : Type 0} (slots : List (Option (Peer S))) (key : ℕ) → under (map (option_map (λ p. p.conn)) slots) key ≡ option_map (λ p. p.conn) (slice_index_or slots key None)
+under_slots [] key = refl
+under_slots (x ∷ slots) zero = refl
+under_slots (x ∷ slots) (suc key) = under_slots slots key
+
 pub updated : {S : Type 0} (old new : Slab (Peer S)) (key : ℕ) (slot : Option (Peer S)) → Updates old new key slot → IsChanged key (option_map (λ p. p.conn) slot) (peers_of old) (peers_of new)
-updated old new key slot u = record { changed = ap (option_map (λ p. p.conn)) u.changed; others = λ other d. ap (option_map (λ p. p.conn)) (u.others other d) }
+updated old new key slot u = record {
+  changed = under_slots new.slots key ∙ ap (option_map (λ p. p.conn)) u.changed;
+  others = λ other d. under_slots new.slots other ∙ ap (option_map (λ p. p.conn)) (u.others other d) ∙ sym (under_slots old.slots other);
+}
 
 -- what stands under a key was read and written
 pub found_at : {S : Type 0} (s : Slab (Peer S)) (key : ℕ) (p : Peer S) → Some p ≡ get s key → peers_of s key ≡ Some p.conn
-found_at s key p e = ap (option_map (λ p. p.conn)) (sym e)
+found_at s key p e = under_slots s.slots key ∙ ap (option_map (λ p. p.conn)) (sym e)
 
 pub changed_at : {S : Type 0} (s : Slab (Peer S)) (key : ℕ) (p q : Peer S) → Some p ≡ get s key → IsChanged key (Some q.conn) (peers_of s) (peers_of (with_value s key q))
 changed_at s key p q e = updated s (with_value s key q) key (Some q) (Updates-with_value s key q (subst IsSome e refl))
@@ -46,7 +55,7 @@ taken_then old mid new p q = record { keys = p.keys ++ q.keys; taken = taken_nex
 pub placed : {S F : Type 0} (result : Result ℕ F) (old new : Slab (Peer S)) (p : Peer S) → p.conn ≡ Logging_in [] → IfOk result (λ key. get old key ≡ None) → IfOk result (λ key. Updates old new key (Some p)) → OnErr result (new ≡ record old { capacity = new.capacity }) → Taken (peers_of old) (peers_of new)
 placed (Ok key) old new p first free u same =
     let c : IsChanged key (Some p.conn) (peers_of old) (peers_of new) = updated old new key (Some p) u in
-    one_taken (peers_of old) (peers_of new) key (ap (option_map (λ p. p.conn)) free) (subst (λ (conn : Connection). IsChanged key (Some conn) (peers_of old) (peers_of new)) first c)
+    one_taken (peers_of old) (peers_of new) key (under_slots old.slots key ∙ ap (option_map (λ p. p.conn)) free) (subst (λ (conn : Connection). IsChanged key (Some conn) (peers_of old) (peers_of new)) first c)
 placed (Err e) old new p first free u same = none_taken (peers_of old) (peers_of new) (ap peers_of same)
 
 -- WHEN ONE IS OVER

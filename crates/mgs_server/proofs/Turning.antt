@@ -1,5 +1,7 @@
 -- What the calls of a turn do to the world.
-use Rattle.std.proofs.Common.{◌≡◌, ℕ, List, [], ◌∷◌, ◌++◌, map, Option, Result, Ok, Err, refl, sym, ap, ◌∙◌}
+use Rattle.std.proofs.Common.{◌≡◌, ℕ, ◌-◌, ◌<◌, List, [], ◌∷◌, ◌++◌, drop, length, map, Option, Some, None, Result, Ok, Err, refl, sym, ap, subst, ◌∙◌, arith}
+use Rattle.std.specs.Prelude.{slice_get}
+use Rattle.slab.specs.Slab.{Slab}
 use Rattle.mgs_model.specs.Events.{Event, Saved, event_saves, run, run_saves}
 use Rattle.mgs_model.specs.Events as model
 use Rattle.mgs_model.specs.World.{World}
@@ -12,10 +14,15 @@ use Rattle.mgs_engine.specs.declared.ending.Cause.TheVariants.{Slow}
 use Rattle.mgs_engine.specs.Does.{Does}
 use Rattle.mgs_engine.specs.Driven.{AreOf, AreAllOf}
 use Rattle.mgs_engine.specs.Handled.{Handles}
-use Rattle.mgs_engine.specs.Serving.{Serving}
+use Rattle.mgs_engine.specs.Serving.{Serving, pending_of}
 use Rattle.mgs_engine.specs.Slow.{slow_ids}
 use Rattle.mgs_engine.proofs.Driven.{run-append, saves_first, store_left}
-use Rattle.mgs_server.specs.Turns.{AreMade, Calls, Turns, answer_of, asked_by}
+use Rattle.mgs_server.specs.declared.peer.Peer.{Peer}
+use Rattle.mgs_server.specs.Calls.{AreMade, Calls}
+use Rattle.mgs_server.specs.Listening.{Listening}
+use Rattle.mgs_server.specs.Peers.{Moved, desk, peers_of, slots_of, under}
+use Rattle.mgs_server.specs.Turns.{Ran, Turns, answer_of, asked_by, live_in}
+use Rattle.mgs_server.proofs.Moving.{moved_calls}
 
 -- the events of one call
 record Came (old : Serving) (c : Call) (new : Serving) : Type 0 where
@@ -68,12 +75,6 @@ came old new (Took id n) d = record {
 }
 
 -- those of all
-record Ran (old : Serving) (cs : List Call) (new : Serving) : Type 0 where
-  events : List Event
-  each : AreAllOf (map asked_by cs) (map answer_of cs) events
-  world : new.world ≡ run old.world events
-  saves : new.store.accepted ≡ told_more (run_saves old.world events) old.store.accepted
-
 ran : (old new : Serving) (cs : List Call) → AreMade Does old cs new → Ran old cs new
 ran old new [] h = record {
   events = [];
@@ -96,17 +97,42 @@ ran old new (c ∷ cs) h =
           ∙ ap (λ (xs : List Saved). told_more xs old.store.accepted) (sym (saves_behind old.world first.events rest.events));
     }
 
--- calls, and then each that ended was told
-pub turned : (old served new : Serving) → Calls Does old served → new ≡ record served { ended = [] } → Turns old new
-turned old served new c told =
-    let r : Ran old c.calls served = ran old served c.calls c.made in
+-- what the sockets did, and then each that ended was told
+pub turned : (old new : Listening) (served : Serving) → Moved Does live_in pending_of old.tickets (desk old.serving (under old.peers)) (desk served (under new.peers)) → new.serving ≡ record served { ended = [] } → new.tickets ≡ old.tickets → new.port ≡ old.port → Turns old new
+turned old new served moved told tickets port =
+    let c : Calls Does old.serving served = moved_calls Does live_in pending_of old.tickets (desk old.serving (under old.peers)) (desk served (under new.peers)) moved in
+    let r : Ran old.serving c.calls served = ran old.serving served c.calls c.made in
     record {
-      calls = c.calls;
       served = served;
-      made = c.made;
+      moved = moved;
       told = told;
-      events = r.events;
-      each = r.each;
-      world = ap (λ (s : Serving). s.world) told ∙ r.world;
-      saves = ap (λ (s : Serving). s.store.accepted) told ∙ r.saves;
+      calls = c.calls;
+      made = c.made;
+      ran = record {
+        events = r.events;
+        each = r.each;
+        world = ap (λ (s : Serving). s.world) told ∙ r.world;
+        saves = ap (λ (s : Serving). s.store.accepted) told ∙ r.saves;
+      };
+      tickets = tickets;
+      port = port;
     }
+
+-- the same of a slab of connections, and of the view of a server
+pub turned_in : {S : Type 0} (serving served told : Serving) (peers before now : Slab (Peer S)) (tickets : List (List ℕ × List ℕ)) (port : ℕ) (old : Listening) → before ≡ peers → Moved Does live_in pending_of tickets (desk serving (peers_of before)) (desk served (peers_of now))
+    → told ≡ record served { ended = [] } → record { serving = serving; peers = slots_of peers; tickets = tickets; port = port } ≡ old → Turns old (record { serving = told; peers = slots_of now; tickets = tickets; port = port })
+turned_in {S} serving served told peers before now tickets port old waited moved heard seen =
+    let first : Listening = record { serving = serving; peers = slots_of peers; tickets = tickets; port = port } in
+    let last : Listening = record { serving = told; peers = slots_of now; tickets = tickets; port = port } in
+    subst (λ (l : Listening). Turns l last) seen
+    (turned first last served (subst (λ (slab : Slab (Peer S)). Moved Does live_in pending_of tickets (desk serving (peers_of slab)) (desk served (peers_of now))) waited moved) heard refl refl)
+
+-- TELLING: there is one less to be told, until none is left
+
+pub less_to_tell : {T : Type 0} (xs : List T) (x : T) → Some x ≡ slice_get xs 0 → length (drop 1 xs) < length xs
+less_to_tell [] x e = absurd cc
+less_to_tell (y ∷ ys) x e = omega arith
+
+pub none_to_tell : {T : Type 0} (xs : List T) → None ≡ slice_get xs 0 → xs ≡ []
+none_to_tell [] e = refl
+none_to_tell (y ∷ ys) e = absurd cc

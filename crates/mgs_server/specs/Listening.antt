@@ -1,15 +1,17 @@
 -- A SERVER THAT LISTENS, as its callers see it.
-use Rattle.std.specs.Prelude.{ℕ, List, []}
+use Rattle.std.specs.Prelude.{ℕ, List, [], Option}
 use Rattle.mgs_model.specs.Access.{Directory}
 use Rattle.mgs_model.specs.World.{World}
 use Rattle.mgs_store.specs.Stores.{StoreTold}
 use Rattle.mgs_buffers.specs.MarkedBuffer.{MarkedBuffer}
 use Rattle.mgs_world.specs.Worlds.{buffers_of}
+use Rattle.mgs_wire.specs.Connections.{Connection}
 use Rattle.mgs_engine.specs.Serving.{Serving}
 
--- what is served, the tickets of the users, and the port
+-- what is served, the connections under their keys, the tickets of the users, and the port
 pub record Listening : Type 0 where
   pub serving : Serving
+  pub peers : List (Option Connection)
   pub tickets : List (List ℕ × List ℕ)
   pub port : ℕ
 

@@ -1,6 +1,6 @@
 -- CONNECTIONS UNDER THEIR KEYS, beside the server that they ask, and what is done to them.
-use Rattle.std.specs.Prelude.{◌≡◌, ◌≢◌, ℕ, Bool, true, false, List, [], ◌∷◌, Option, Some, None, option_map}
-use Rattle.slab.specs.Slab.{Slab, get}
+use Rattle.std.specs.Prelude.{◌≡◌, ◌≢◌, ℕ, Bool, true, false, List, [], ◌∷◌, Option, Some, None, option_map, map, slice_index_or}
+use Rattle.slab.specs.Slab.{Slab}
 use Rattle.mgs_wire.specs.declared.pump.PumpedIn.{PumpedIn}
 use Rattle.mgs_wire.specs.declared.pump.PumpedOut.{PumpedOut}
 use Rattle.mgs_wire.specs.Calls.{Call}
@@ -16,8 +16,15 @@ pub record Desk (E : Type 0) : Type 0 where
 abbrev pub desk : {E : Type 0} → E → (ℕ → Option Connection) → Desk E
 desk s peers = record { served = s; peers = peers }
 
+-- the connection under a key of these
+abbrev pub under : List (Option Connection) → ℕ → Option Connection
+under slots key = slice_index_or slots key None
+
+abbrev pub slots_of : {S : Type 0} → Slab (Peer S) → List (Option Connection)
+slots_of slab = map (option_map (λ p. p.conn)) slab.slots
+
 abbrev pub peers_of : {S : Type 0} → Slab (Peer S) → ℕ → Option Connection
-peers_of slab key = option_map (λ p. p.conn) (get slab key)
+peers_of slab = under (slots_of slab)
 
 -- one key has something else now
 pub record IsChanged (key : ℕ) (slot : Option Connection) (old new : ℕ → Option Connection) : Type 0 where

@@ -30,10 +30,11 @@ pub struct Server<S: Store + Drop> {
 
 impl<S: Store + Drop> Model for Server<S> {
     ghost use Rattle.mgs_server.specs.Listening.{Listening};
+    ghost use Rattle.mgs_server.specs.Peers.{slots_of};
 
     ghost Value = { Listening };
 
-    ghost view = { λ s. record { serving = s.engine; tickets = s.tickets; port = s.port } };
+    ghost view = { λ s. record { serving = s.engine; peers = slots_of s.sockets.peers; tickets = s.tickets; port = s.port } };
 }
 
 // The engine of a configuration's world.
@@ -75,6 +76,7 @@ impl<S: Store + Drop> Server<S> {
         requires { AreUnmarked config.buffers }
         ensures serving { IfOk result (λ s. s.serving ≡ at_first (first_world config.directory config.buffers) (store_told S.failed S.accepted store)) }
         ensures tickets { IfOk result (λ s. s.tickets ≡ config.tickets) }
+        ensures peers { IfOk result (λ s. s.peers ≡ []) }
     {
         let (sockets, port) = Sockets::listen(net, alloc, port)?;
         match engine_of(alloc, config.directory, config.buffers, store) {
@@ -102,8 +104,7 @@ impl<S: Store + Drop> Server<S> {
     ///
     /// `PollFailed`: the wait failed, and nothing was done.
     pub fn turn(&mut self) -> Result<(), PollFailed>
-        ensures ok { OnOk result (Turns self.old.serving self.new.serving) }
-        ensures same { self.new ≡ record self.old { serving = self.new.serving } }
+        ensures ok { OnOk result (Turns self.old self.new) }
         ensures err { OnErr result (self.new ≡ self.old) }
     {
         self.sockets.wait()?;

@@ -1,6 +1,6 @@
 // The sockets of a server.
-ghost use Rattle.std.specs.Prelude.{◌≡◌, true};
-ghost use Rattle.mgs_server.specs.Peers.{IsOverAt, Moved, Stepped, desk, peers_of};
+ghost use Rattle.std.specs.Prelude.{◌≡◌, [], true, IfOk};
+ghost use Rattle.mgs_server.specs.Peers.{IsOverAt, Moved, Stepped, desk, peers_of, slots_of};
 
 use crate::accept::accept_all;
 use crate::fault::{ListenFault, PollFailed};
@@ -166,7 +166,9 @@ impl Sockets {
         net: &N,
         alloc: Global,
         port: u16,
-    ) -> Result<(Sockets, u16), ListenFault> {
+    ) -> Result<(Sockets, u16), ListenFault>
+        ensures { IfOk result (λ s. slots_of s.0.peers ≡ []) }
+    {
         let (mut listener, port) = bind(net, port).map_err(listen_fault)?;
         let poll = watch(net, &mut listener).map_err(listen_fault)?;
         let Ok(events) = Events::with_capacity(alloc, EVENT_LIMIT) else {
