@@ -9,6 +9,7 @@ use std::test::Fail;
 
 // The size of each terminal.
 const ROWS: usize = 6;
+
 const COLS: usize = 40;
 
 /// The row of messages.
@@ -16,10 +17,12 @@ pub(crate) const ECHO_ROW: usize = 5;
 
 // The most turns that a terminal waits for what it is to show, and the most reads after each.
 const TURNS: usize = 200;
+
 const READS: usize = 100;
 
 // Everybody reads the notes, ann and bob write them, and cat does not.
-const OFFICE: &str = "[[user]]\nname = \"ann\"\nticket = \"apple\"\n[[user]]\nname = \"bob\"\nticket = \"birch\"\n[[user]]\nname = \"cat\"\nticket = \"cedar\"\n[[group]]\nname = \"staff\"\nmembers = [\"ann\", \"bob\"]\n[[buffer]]\nname = \"notes\"\nowner = \"ann\"\nlist = [\"ALLOW group:staff rwat\", \"ALLOW EVERYONE@ rt\"]\ntext = \"Notes\"\n";
+const OFFICE: &str =
+    "[[user]]\nname = \"ann\"\nticket = \"apple\"\n[[user]]\nname = \"bob\"\nticket = \"birch\"\n[[user]]\nname = \"cat\"\nticket = \"cedar\"\n[[group]]\nname = \"staff\"\nmembers = [\"ann\", \"bob\"]\n[[buffer]]\nname = \"notes\"\nowner = \"ann\"\nlist = [\"ALLOW group:staff rwat\", \"ALLOW EVERYONE@ rt\"]\ntext = \"Notes\"\n";
 
 // No file can be read.
 #[derive(Drop)]
