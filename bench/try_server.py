@@ -58,6 +58,19 @@ class Terminal:
             self.paint(data)
         return self
 
+    def drain(self, quiet=2.0):
+        """Takes all that comes, and paints nothing of it."""
+        self.socket.settimeout(quiet)
+        while not self.ended:
+            try:
+                data = self.socket.recv(65536)
+            except socket.timeout:
+                break
+            except OSError:
+                data = b""
+            self.ended = not data
+            self.got += data
+
     def read_some(self, most=20.0):
         """Waits until something has come."""
         end = time.time() + most
@@ -230,10 +243,43 @@ def try_file():
         server.wait()
 
 
+def try_slow():
+    """A terminal that takes nothing is ended, and the others go on."""
+    letters = "abcdefghijklmnopqrstuvwxyz" * 7
+    text = "".join(letters[row % 26:][:150] + "\\n" for row in range(60))
+    with tempfile.TemporaryDirectory() as folder:
+        config = os.path.join(folder, "wide.toml")
+        with open(config, "w") as file:
+            for name in ("ann", "bob", "cat"):
+                file.write(f'[[user]]\nname = "{name}"\nticket = "t"\n')
+            file.write(f'[[buffer]]\nname = "b"\nowner = "ann"\nlist = ["ALLOW EVERYONE@ rwat"]\ntext = "{text}"\n')
+        server, port = start(config)
+        slow = Terminal(port, "bob t", 64, 160, room=4096)
+        slow.read_some()
+        ann, cat = Terminal(port, "ann t", 64, 160).read(), Terminal(port, "cat t", 64, 160).read()
+        # Each time the whole text goes and comes back, on all three screens.
+        while len(ann.got) < 10_000_000 and not ann.ended:
+            ann.send(b"\x18h\x17\x19" * 4)
+            ann.read(quiet=0.02), cat.read(quiet=0.02)
+        ann.send(b"\x1b<still here ")
+        ann.read(quiet=0.5), cat.read(quiet=0.5)
+        expect("whoever reads sees what is typed", ann.shows(1).startswith("still here abc"), ann.shows(1))
+        expect("so does the third", cat.shows(1).startswith("still here abc"), cat.shows(1))
+        slow.drain()
+        expect("who took nothing was ended", slow.ended)
+        expect("and was not sent all", len(slow.got) < len(ann.got) - 262144, (len(slow.got), len(ann.got)))
+        again = Terminal(port, "bob t", 64, 160).read()
+        expect("and can come again", again.shows(1).startswith("still here abc"), again.shows(1))
+        expect("the server goes on", server.poll() is None, server.poll())
+        server.kill()
+        server.wait()
+
+
 def main():
     try_words()
     try_configurations()
     try_file()
+    try_slow()
     server, port = start(OFFICE)
     try:
         got = run("serve", OFFICE, str(port))

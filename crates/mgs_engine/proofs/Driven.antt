@@ -44,17 +44,17 @@ use Rattle.mgs_engine.specs.Serving.{Serving, all_ended_by, ended_by, pending_of
 use Rattle.mgs_engine.specs.Slow.{slow_ids}
 use Rattle.mgs_engine.specs.Tapes.{Told, bytes_on}
 
-run-append : (w : World) (es fs : List Event) → run w (es ++ fs) ≡ run (run w es) fs
+pub run-append : (w : World) (es fs : List Event) → run w (es ++ fs) ≡ run (run w es) fs
 run-append w [] fs = refl
 run-append w (e ∷ es) fs = run-append (step w e) es fs
 
 -- ends leave the store
-store_left : (cause : Cause) (ids : List ℕ) (s : Serving) → (all_ended_by cause ids s).store ≡ s.store
+pub store_left : (cause : Cause) (ids : List ℕ) (s : Serving) → (all_ended_by cause ids s).store ≡ s.store
 store_left cause [] s = refl
 store_left cause (id ∷ ids) s = store_left cause ids (ended_by cause id s)
 
 -- and save nothing behind an event
-saves_first : (w : World) (e : Event) (ids : List ℕ) → run_saves w (e ∷ map (λ i. Close i) ids) ≡ event_saves w e
+pub saves_first : (w : World) (e : Event) (ids : List ℕ) → run_saves w (e ∷ map (λ i. Close i) ids) ≡ event_saves w e
 saves_first w e ids = saves_next w e (map (λ i. Close i) ids) ∙ ap (λ (xs : List Saved). event_saves w e ++ xs) (closes_save_none (step w e) ids) ∙ append-nil (event_saves w e)
 
 -- THE EVENTS OF A CALL, AND OF ALL

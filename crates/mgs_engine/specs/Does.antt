@@ -1,6 +1,8 @@
 -- What the calls of connections do to what is served.
 use Rattle.std.specs.Prelude.{◌≡◌, ℕ, Some, IfOk, OnOk}
 use Rattle.mgs_model.specs.Apply.{change_first}
+use Rattle.mgs_model.specs.Events as events
+use Rattle.mgs_model.specs.Events.{step}
 use Rattle.mgs_model.specs.World.{Session, find_session}
 use Rattle.mgs_model.specs.Draw.{screen}
 use Rattle.mgs_paint.specs.Painting.{Paints}
@@ -23,5 +25,5 @@ taken_by id n s = record s { queues = change_first (is_queue_of id) (after_takin
 abbrev pub Does : Serving → Call → Serving → Type 0
 Does old (Open user rows cols answer) new = Admits old new user rows cols answer × OnOk answer (Painted old new) × IfOk answer (IsPaintedWhole new)
 Does old (Byte id byte answer) new = Handles old new id byte answer × Painted old new
-Does old (Close id) new = (new ≡ ended_by Closed id old) × Painted old new
+Does old (Close id) new = (new ≡ ended_by Closed id old) × Painted old new × (new.world ≡ step old.world (events.Close id))
 Does old (Took id n) new = new ≡ taken_by id n old

@@ -2,6 +2,7 @@
 ghost use Rattle.std.specs.Prelude.{◌≡◌, ◌+◌, ◌≤◌, OnOk, OnErr};
 ghost use Rattle.slab.specs.Slab.{slab_len};
 ghost use Rattle.mgs_model.specs.declared.limits.TheConstants.{SESSION_LIMIT};
+ghost use Rattle.mgs_server.specs.Peers.{Taken, peers_of};
 
 use crate::peer::Peer;
 use mgs_model::{SESSION_LIMIT, Short};
@@ -29,6 +30,7 @@ fn refuse(mut stream: TcpStream, refusal: Refusal) {
 fn place(alloc: Global, peers: &mut Slab<Peer<TcpStream>>, stream: TcpStream) -> Result<(), Short>
     ensures ok { OnOk result (slab_len peers.new ≡ slab_len peers.old + 1) }
     ensures err { OnErr result (slab_len peers.new ≡ slab_len peers.old) }
+    ensures taken { Taken (peers_of peers.old) (peers_of peers.new) }
 {
     let peer = Peer::new(alloc, stream)?;
     match peers.insert(peer) {
@@ -44,7 +46,8 @@ fn admit(
     peers: &mut Slab<Peer<TcpStream>>,
     mut stream: TcpStream,
 )
-    ensures { slab_len peers.old ≤ SESSION_LIMIT → slab_len peers.new ≤ SESSION_LIMIT }
+    ensures limit { slab_len peers.old ≤ SESSION_LIMIT → slab_len peers.new ≤ SESSION_LIMIT }
+    ensures taken { Taken (peers_of peers.old) (peers_of peers.new) }
 {
     if peers.len() >= SESSION_LIMIT {
         refuse(stream, Refusal::Full);
@@ -69,7 +72,8 @@ pub(crate) fn accept_all(
     listener: &TcpListener,
     peers: &mut Slab<Peer<TcpStream>>,
 )
-    ensures { slab_len peers.old ≤ SESSION_LIMIT → slab_len peers.new ≤ SESSION_LIMIT }
+    ensures limit { slab_len peers.old ≤ SESSION_LIMIT → slab_len peers.new ≤ SESSION_LIMIT }
+    ensures taken { Taken (peers_of peers.old) (peers_of peers.new) }
 {
     for _ in 0..ACCEPTED_AT_ONCE {
         match listener.accept() {

@@ -4,10 +4,13 @@
 #![tactic(auto)]
 
 mod accept;
+mod fault;
 mod peer;
 mod server;
 mod sips;
+mod sockets;
 mod stand_in;
 
-pub use server::{ListenFault, PollFailed, Server};
+pub use fault::{ListenFault, PollFailed};
+pub use server::Server;
 pub use sips::BYTES_AT_ONCE;

@@ -16,11 +16,6 @@ impl<S: Drop> Sips<S> {
     pub(crate) fn new(stream: S) -> Sips<S> {
         Sips { stream }
     }
-
-    /// The stream itself.
-    pub(crate) fn stream(&mut self) -> &mut S {
-        &mut self.stream
-    }
 }
 
 impl<S: Read + Drop> Read for Sips<S> {

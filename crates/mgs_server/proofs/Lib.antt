@@ -1,0 +1,3 @@
+mod Calling
+mod Moving
+mod Turning

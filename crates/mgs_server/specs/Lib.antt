@@ -1,0 +1,4 @@
+pub mod Calls
+pub mod Listening
+pub mod Peers
+pub mod Turns

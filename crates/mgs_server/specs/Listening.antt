@@ -1,0 +1,24 @@
+-- A SERVER THAT LISTENS, as its callers see it.
+use Rattle.std.specs.Prelude.{ℕ, List, [], Option}
+use Rattle.mgs_model.specs.Access.{Directory}
+use Rattle.mgs_model.specs.World.{World}
+use Rattle.mgs_store.specs.Stores.{StoreTold}
+use Rattle.mgs_buffers.specs.MarkedBuffer.{MarkedBuffer}
+use Rattle.mgs_world.specs.Worlds.{buffers_of}
+use Rattle.mgs_wire.specs.Connections.{Connection}
+use Rattle.mgs_engine.specs.Serving.{Serving}
+
+-- what is served, the connections under their keys, the tickets of the users, and the port
+pub record Listening : Type 0 where
+  pub serving : Serving
+  pub peers : List (Option Connection)
+  pub tickets : List (List ℕ × List ℕ)
+  pub port : ℕ
+
+-- a directory and buffers, before any session
+abbrev pub first_world : Directory → List MarkedBuffer → World
+first_world directory buffers = record { directory = directory; buffers = buffers_of buffers; sessions = []; next_id = 1 }
+
+-- nothing waits, and nobody is to be told
+abbrev pub at_first : World → StoreTold → Serving
+at_first w t = record { world = w; store = t; queues = []; ended = [] }

@@ -1,0 +1,49 @@
+-- TURNS: what a turn does to a server.
+use Rattle.std.specs.Prelude.{◌≡◌, ℕ, Bool, List, [], map}
+use Rattle.mgs_model.specs.Events.{Event, is_open, run, run_saves}
+use Rattle.mgs_wire.specs.Calls.{Call, Open, Byte, Close, Took}
+use Rattle.mgs_store.specs.Stores.{told_more}
+use Rattle.mgs_engine.specs.declared.tape.Answer.{Answer}
+use Rattle.mgs_engine.specs.declared.tape.Answer.TheVariants as answers
+use Rattle.mgs_engine.specs.Drives.{Asked, Opens, Types, Closes, Takes}
+use Rattle.mgs_engine.specs.Driven.{AreAllOf}
+use Rattle.mgs_engine.specs.Does.{Does}
+use Rattle.mgs_engine.specs.Serving.{Serving, pending_of}
+use Rattle.mgs_server.specs.Calls.{AreMade}
+use Rattle.mgs_server.specs.Listening.{Listening}
+use Rattle.mgs_server.specs.Peers.{Moved, desk, under}
+
+-- what was asked by a call, and what its answer was
+abbrev pub asked_by : Call → Asked
+asked_by (Open user rows cols answer) = Opens user rows cols
+asked_by (Byte id byte answer) = Types id byte
+asked_by (Close id) = Closes id
+asked_by (Took id n) = Takes id n
+
+abbrev pub answer_of : Call → Answer
+answer_of (Open user rows cols answer) = answers.Open answer
+answer_of (Byte id byte answer) = answers.Byte answer
+answer_of (Close id) = answers.Close
+answer_of (Took id n) = answers.Took n
+
+abbrev pub live_in : ℕ → Serving → Bool
+live_in id s = is_open id s.world
+
+-- the world is that of the events of calls, and the store accepted what these save
+pub record Ran (old : Serving) (calls : List Call) (new : Serving) : Type 0 where
+  pub events : List Event
+  pub each : AreAllOf (map asked_by calls) (map answer_of calls) events
+  pub world : new.world ≡ run old.world events
+  pub saves : new.store.accepted ≡ told_more (run_saves old.world events) old.store.accepted
+
+-- connections came, were read and written, and went; by that they made calls of the engine, and nothing else was asked of it;
+-- then each session that ended was told
+pub record Turns (old new : Listening) : Type 0 where
+  pub served : Serving
+  pub moved : Moved Does live_in pending_of old.tickets (desk old.serving (under old.peers)) (desk served (under new.peers))
+  pub told : new.serving ≡ record served { ended = [] }
+  pub calls : List Call
+  pub made : AreMade Does old.serving calls served
+  pub ran : Ran old.serving calls new.serving
+  pub tickets : new.tickets ≡ old.tickets
+  pub port : new.port ≡ old.port

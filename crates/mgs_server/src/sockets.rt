@@ -1,0 +1,209 @@
+// The sockets of a server.
+ghost use Rattle.std.specs.Prelude.{◌≡◌, [], true, IfOk};
+ghost use Rattle.mgs_server.specs.Peers.{IsOverAt, Moved, Stepped, desk, peers_of, slots_of};
+
+use crate::accept::accept_all;
+use crate::fault::{ListenFault, PollFailed};
+use crate::peer::Peer;
+use mgs_model::{SESSION_LIMIT, Tickets};
+use mgs_wire::{PumpedIn, Sessions};
+use mio::net::{TcpListener, TcpStream};
+use mio::{Events, Interest, Poll, Registry, Token};
+use slab::Slab;
+use std::alloc::Global;
+use std::io::{self, ErrorKind};
+use std::net::{Ipv4Addr, Net, SocketAddr};
+use std::time::Duration;
+
+// The longest wait of one turn.
+const WAIT_MILLIS: u64 = 50;
+
+// The most events of one turn: each connection's and the listener's.
+const EVENT_LIMIT: usize = 65;
+
+// The listener's token. No connection has it.
+const LISTENER: Token = Token(usize::MAX);
+
+/// A listener, the connections that it took, and what tells which of them are ready.
+#[derive(Drop)]
+pub(crate) struct Sockets {
+    alloc: Global,
+    peers: Slab<Peer<TcpStream>>,
+    listener: TcpListener,
+    poll: Poll,
+    events: Events,
+}
+
+fn listen_fault(error: io::Error) -> ListenFault {
+    match error.kind() {
+        ErrorKind::OutOfMemory => ListenFault::Short,
+        _ => ListenFault::Port,
+    }
+}
+
+// A listener on the loopback address, and its port.
+fn bind(net: &impl Net, port: u16) -> io::Result<(TcpListener, u16)> {
+    let listener = TcpListener::bind(net, SocketAddr::from((Ipv4Addr::LOCALHOST, port)))?;
+    let port = listener.local_addr()?.port();
+    Ok((listener, port))
+}
+
+// What tells which connections are ready, with the listener among them.
+fn watch(net: &impl Net, listener: &mut TcpListener) -> io::Result<Poll> {
+    let poll = Poll::new(net)?;
+    poll.registry()
+        .register(listener, LISTENER, Interest::READABLE)?;
+    Ok(poll)
+}
+
+// Reads a connection once. One of which something was read is reported again, since more may be there.
+fn read_peer<E: Sessions>(
+    registry: &Registry,
+    engine: &mut E,
+    tickets: &Tickets,
+    peer: &mut Peer<TcpStream>,
+    token: Token,
+)
+    ensures { Stepped E.does E.live E.pending tickets.now peer.old.conn engine.old peer.new.conn engine.new }
+{
+    match peer.read(engine, tickets) {
+        PumpedIn::Took(_) => {
+            if !peer.report_again(registry, token) {
+                peer.give_up(engine, tickets);
+            }
+        }
+        PumpedIn::Idle | PumpedIn::Finished | PumpedIn::Failed => {}
+    }
+}
+
+// Whether a connection is there that is done with, once what waits for its stream was written.
+fn is_done<E: Sessions>(
+    engine: &mut E,
+    tickets: &Tickets,
+    peers: &mut Slab<Peer<TcpStream>>,
+    key: usize,
+) -> bool
+    ensures moved { Moved E.does E.live E.pending tickets.now (desk engine.old (peers_of peers.old)) (desk engine.new (peers_of peers.new)) }
+    ensures over { result ≡ true → IsOverAt key (peers_of peers.new) }
+{
+    match peers.get_mut(key) {
+        Some(peer) => peer.write(engine, tickets),
+        None => false,
+    }
+}
+
+// Writes what waits for a connection, and closes it where it is done with.
+fn write_one<E: Sessions>(
+    engine: &mut E,
+    tickets: &Tickets,
+    peers: &mut Slab<Peer<TcpStream>>,
+    key: usize,
+)
+    ensures { Moved E.does E.live E.pending tickets.now (desk engine.old (peers_of peers.old)) (desk engine.new (peers_of peers.new)) }
+{
+    if is_done(engine, tickets, peers, key) {
+        let _ = peers.try_remove(key);
+    }
+}
+
+// Writes what waits for each connection, and closes those that are done with.
+fn write_all<E: Sessions>(engine: &mut E, tickets: &Tickets, peers: &mut Slab<Peer<TcpStream>>)
+    ensures { Moved E.does E.live E.pending tickets.now (desk engine.old (peers_of peers.old)) (desk engine.new (peers_of peers.new)) }
+{
+    for key in 0..peers.capacity() {
+        write_one(engine, tickets, peers, key);
+    }
+}
+
+// Reads the connection of a token once, if there is one.
+fn read_one<E: Sessions>(
+    registry: &Registry,
+    engine: &mut E,
+    tickets: &Tickets,
+    peers: &mut Slab<Peer<TcpStream>>,
+    token: Token,
+)
+    ensures { Moved E.does E.live E.pending tickets.now (desk engine.old (peers_of peers.old)) (desk engine.new (peers_of peers.new)) }
+{
+    if let Some(peer) = peers.get_mut(token.0) {
+        read_peer(registry, engine, tickets, peer, token);
+    }
+}
+
+// Reads the connection of a token once, if there is one, and writes to each what it made wait.
+fn serve_one<E: Sessions>(
+    registry: &Registry,
+    engine: &mut E,
+    tickets: &Tickets,
+    peers: &mut Slab<Peer<TcpStream>>,
+    token: Token,
+)
+    ensures { Moved E.does E.live E.pending tickets.now (desk engine.old (peers_of peers.old)) (desk engine.new (peers_of peers.new)) }
+{
+    read_one(registry, engine, tickets, peers, token);
+    write_all(engine, tickets, peers);
+}
+
+// Serves each connection that is ready.
+fn serve_ready<E: Sessions>(
+    registry: &Registry,
+    engine: &mut E,
+    tickets: &Tickets,
+    peers: &mut Slab<Peer<TcpStream>>,
+    events: &Events,
+)
+    ensures { Moved E.does E.live E.pending tickets.now (desk engine.old (peers_of peers.old)) (desk engine.new (peers_of peers.new)) }
+{
+    for event in events {
+        serve_one(registry, engine, tickets, peers, event.token());
+    }
+}
+
+impl Sockets {
+    /// Listens on a port of the loopback address, on one that the system chooses where it is 0: that port beside the sockets. `Port`:
+    /// it cannot be had. `Short`: memory was refused.
+    pub(crate) fn listen<N: Net>(
+        net: &N,
+        alloc: Global,
+        port: u16,
+    ) -> Result<(Sockets, u16), ListenFault>
+        ensures { IfOk result (λ s. slots_of s.0.peers ≡ []) }
+    {
+        let (mut listener, port) = bind(net, port).map_err(listen_fault)?;
+        let poll = watch(net, &mut listener).map_err(listen_fault)?;
+        let Ok(events) = Events::with_capacity(alloc, EVENT_LIMIT) else {
+            return Err(ListenFault::Short);
+        };
+        let Ok(peers) = Slab::with_capacity(alloc, SESSION_LIMIT) else {
+            return Err(ListenFault::Short);
+        };
+        let sockets = Sockets {
+            alloc,
+            peers,
+            listener,
+            poll,
+            events,
+        };
+        Ok((sockets, port))
+    }
+
+    /// Waits at most 50 ms until something is ready. `PollFailed`: the wait failed.
+    pub(crate) fn wait(&mut self) -> Result<(), PollFailed>
+        ensures { self.new.peers ≡ self.old.peers }
+    {
+        let wait = Duration::from_millis(WAIT_MILLIS);
+        match self.poll.poll(&mut self.events, Some(wait)) {
+            Ok(()) => Ok(()),
+            Err(_) => Err(PollFailed),
+        }
+    }
+
+    /// Takes the connections that wait, reads each that was reported once, and writes what waits for each.
+    pub(crate) fn serve<E: Sessions>(&mut self, engine: &mut E, tickets: &Tickets)
+        ensures { Moved E.does E.live E.pending tickets.now (desk engine.old (peers_of self.old.peers)) (desk engine.new (peers_of self.new.peers)) }
+    {
+        let registry = self.poll.registry();
+        accept_all(self.alloc, registry, &self.listener, &mut self.peers);
+        serve_ready(registry, engine, tickets, &mut self.peers, &self.events);
+    }
+}
