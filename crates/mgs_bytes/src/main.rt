@@ -42,18 +42,41 @@ fn text_of(alloc: Global, lines: usize) -> Option<Vec<char>> {
     Some(text)
 }
 
-/// A server of one buffer of ann, which bob may read. `None`: memory was refused.
-fn server_of(alloc: Global, text: &[char]) -> Option<Server> {
-    let mut directory = Directory::new(alloc);
-    directory.add_user("ann").ok()?;
-    directory.add_user("bob").ok()?;
+/// A list by which everybody reads and writes. `None`: memory was refused.
+fn open_list() -> Option<List> {
     let mut list = List::new();
-    list.insert(0, read_entry("ALLOW EVERYONE@ rwat").ok()?)
-        .ok()?;
+    match read_entry("ALLOW EVERYONE@ rwat") {
+        Ok(entry) => match list.insert(0, entry) {
+            Ok(()) => Some(list),
+            Err(_) => None,
+        },
+        Err(_) => None,
+    }
+}
+
+/// The users ann and bob. `None`: memory was refused.
+fn users(alloc: Global) -> Option<Directory> {
+    let mut directory = Directory::new(alloc);
+    for user in ["ann", "bob"] {
+        if directory.add_user(user).is_err() {
+            return None;
+        }
+    }
+    Some(directory)
+}
+
+/// A server of one buffer of ann, which bob uses too. `None`: memory was refused.
+fn server_of(alloc: Global, text: &[char]) -> Option<Server> {
+    let directory = users(alloc)?;
+    let list = open_list()?;
     let mut buffers = Buffers::new(alloc);
-    buffers.add("notes", "ann", list, text, false).ok()?;
-    let core = Core::new(alloc, directory, buffers, RefusingStore::new()).ok()?;
-    Engine::new(alloc, core).ok()
+    if buffers.add("notes", "ann", list, text, false).is_err() {
+        return None;
+    }
+    match Core::new(alloc, directory, buffers, RefusingStore::new()) {
+        Ok(core) => Engine::new(alloc, core).ok(),
+        Err(_) => None,
+    }
 }
 
 /// The terminal of a session takes all that waits for it: so many bytes.
