@@ -1,3 +1,4 @@
 mod Calling
+mod First
 mod Moving
 mod Turning
