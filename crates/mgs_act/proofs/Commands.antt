@@ -1,6 +1,6 @@
 -- What an act of a session comes to, and that what is done is the act.
-use Rattle.std.proofs.Common.{◌≡◌, ℕ, ◌<◌, ◌==◌, Bool, true, false, cond, List, [], length, map, Option, Some, None, Result, Ok, Err, refl, sym, ap, subst, ◌∙◌, map-id}
-use Rattle.std.specs.Prelude.{slice_get, slice_set}
+use Rattle.std.proofs.Common.{◌≡◌, ℕ, ◌<◌, ◌-◌, ◌==◌, ◌||◌, Bool, true, false, cond, List, [], length, map, Option, Some, None, Result, Ok, Err, refl, sym, ap, subst, ◌∙◌, map-id}
+use Rattle.std.specs.Prelude.{take, slice_get, slice_set}
 use Rattle.std.specs.List.{position_or_len}
 use Rattle.std.specs.Option.{option_and_then, option_map}
 use Rattle.std.proofs.lemmas.Option.{get_or_from_slice_get}
@@ -11,8 +11,8 @@ use Rattle.mgs_model.specs.View.{view}
 use Rattle.mgs_model.specs.Outcome.{takes_memory}
 use Rattle.mgs_model.specs.Outcome as outcomes
 use Rattle.mgs_model.specs.Acts.{asks, fails, outcome, owns, sets}
-use Rattle.mgs_model.specs.Apply.{act, applied, apply, change_first, outcome_in, session_arranged}
-use Rattle.mgs_model.specs.Plans.{acted_own, setting}
+use Rattle.mgs_model.specs.Apply.{act, applied, apply, change_first, outcome_in, searches, session_arranged}
+use Rattle.mgs_model.specs.Plans.{acted_own, failed_own, setting}
 use Rattle.mgs_model.specs.Apart.{Apart, touched_by}
 use Rattle.mgs_model.specs.Events.{may_be_refused}
 use Rattle.mgs_model.specs.declared.touched.Touched.{Touched}
@@ -22,21 +22,21 @@ use Rattle.mgs_model.specs.declared.session.Command.TheVariants.{Ask, Set, Rearr
 use Rattle.mgs_model.specs.declared.session.Arrangement.{Arrangement}
 use Rattle.mgs_model.specs.declared.session.Question.{Question}
 use Rattle.mgs_model.specs.declared.session.Setting.{Setting}
-use Rattle.mgs_model.specs.declared.session.Setting.TheVariants.{SetFillColumn, KeyboardQuit}
+use Rattle.mgs_model.specs.declared.session.Setting.TheVariants.{SetFillColumn, KeyboardQuit, StartMacro, EndMacro, CallMacro}
 use Rattle.mgs_model.specs.declared.message.Message.{Message}
-use Rattle.mgs_model.specs.declared.message.Message.TheVariants.{BadColumn, KeyNotBound, NoArgument, NoBuffer, Quitting}
+use Rattle.mgs_model.specs.declared.message.Message.TheVariants.{BadColumn, InMacro, KeyNotBound, NoArgument, NoBuffer, NotInMacro, Quitting}
 use Rattle.mgs_model.specs.declared.session.Kind.TheVariants.{Other}
 use Rattle.mgs_model.proofs.Apart.{apart_apply}
 use Rattle.mgs_model.proofs.Firsts.{position_or_len-map, written_first}
 use Rattle.mgs_buffers.specs.MarkedBuffer.{MarkedBuffer}
 use Rattle.mgs_windows.specs.declared.WindowMarks.{WindowMarks}
-use Rattle.mgs_session.specs.Sessions.{acted, asking, failed, filling, window_marks_of}
+use Rattle.mgs_session.specs.Sessions.{acted, asking, failed, filling, macro_ended, macro_given_up, macro_started, window_marks_of}
 use Rattle.mgs_session.specs.declared.Own.{Own}
 use Rattle.mgs_session.specs.declared.Session.{Session}
 use Rattle.mgs_act.specs.declared.acts.KeyAct.{KeyAct}
 use Rattle.mgs_act.specs.declared.acts.KeyAct.TheVariants.{Unbound, Run}
 use Rattle.mgs_act.specs.declared.action.Action.{Action}
-use Rattle.mgs_act.specs.Actions.{act_of, is_done_here, is_on_text, is_setting_done, kill_at, kill_or_none, outcome_through, plan_in, selected_height}
+use Rattle.mgs_act.specs.Actions.{act_of, is_done_here, is_setting_done, kill_at, kill_or_none, outcome_through, plan_in, selected_height}
 use Rattle.mgs_world.specs.Sound.{IsSound}
 use Rattle.mgs_act.specs.Setting.{session_set}
 use Rattle.mgs_world.specs.Worlds.{id_after, idle, own_at, own_of, own_or_first, session_id, session_of, world_of}
@@ -45,7 +45,7 @@ use Rattle.mgs_world.proofs.Owns.{at_rest, no_search, own_asking}
 use Rattle.mgs_world.proofs.Soundness.{mark_is_kept}
 use Rattle.mgs_world.proofs.Worlds.{same_world}
 use Rattle.mgs_act.proofs.Deeds.{acting_marks, failed_so, fresh_own}
-use Rattle.mgs_act.proofs.Outcomes.{outcome_plan}
+use Rattle.mgs_act.proofs.Outcomes.{is_of_text, outcome_plan}
 
 session_known : (directory : Directory) (ks : List MarkedBuffer) (xs : List Session) (next : Option ℕ) (id at : ℕ) (h : Session) → at ≡ position_or_len (session_id id) xs → at < length xs → slice_get xs at ≡ Some h → find_session id (world_of directory ks xs next).sessions ≡ Some (session_of ks h)
 session_known directory ks xs next id at h place within is =
@@ -60,30 +60,30 @@ outcome_known directory ks xs next id at h c place within is =
 -- PLANNED
 
 -- that what is planned for a session is the command's plan
-abbrev pub IsPlanned : Directory → List MarkedBuffer → Session → WindowMarks → Command → Option ℕ → Action → Type 0
-IsPlanned directory ks h x c n action =
-    outcome_through (idle (own_of h.own)) x ks h.kill action ≡ plan_in directory ks (idle (own_of h.own)) h.user x (selected_height h) c n h.kill
+abbrev pub IsPlanned : Directory → List MarkedBuffer → Session → WindowMarks → Command → Option ℕ → List ℕ → Action → Type 0
+IsPlanned directory ks h x c n typed action =
+    outcome_through (idle (own_of h.own)) x ks h.kill action ≡ plan_in directory ks (idle (own_of h.own)) h.user x (selected_height h) c n typed h.kill
 
-outcome_planned : (directory : Directory) (ks : List MarkedBuffer) (xs : List Session) (next : Option ℕ) (at : ℕ) (h : Session) (x : WindowMarks) (c : Command) (n : Option ℕ) (action : Action) → is_on_text c ≡ true → IsSound ks xs → slice_get xs at ≡ Some h → own_at at xs ≡ idle (own_at at xs) → window_marks_of h ≡ Some x → IsPlanned directory ks h x c n action → outcome (view (world_of directory ks xs next) (session_of ks h)) (act_of (Run c n)) true ≡ outcome_through (own_of h.own) x ks h.kill action
-outcome_planned directory ks xs next at h x c n action here sound is fresh sel planned =
+outcome_planned : (directory : Directory) (ks : List MarkedBuffer) (xs : List Session) (next : Option ℕ) (at : ℕ) (h : Session) (x : WindowMarks) (c : Command) (n : Option ℕ) (typed : List ℕ) (action : Action) → is_of_text c ≡ true → IsSound ks xs → slice_get xs at ≡ Some h → own_at at xs ≡ idle (own_at at xs) → window_marks_of h ≡ Some x → IsPlanned directory ks h x c n typed action → outcome (view (world_of directory ks xs next) (session_of ks h)) (outcomes.Run c n typed) true ≡ outcome_through (own_of h.own) x ks h.kill action
+outcome_planned directory ks xs next at h x c n typed action here sound is fresh sel planned =
     let marks = acting_marks ks xs at x sound (ap (option_and_then window_marks_of) is ∙ sel) in
-    outcome_plan directory ks xs next h x c n here sel (mark_is_kept x.name x.point ks marks.point)
-    ∙ sym (subst (λ (own : model.Own). outcome_through own x ks h.kill action ≡ plan_in directory ks own h.user x (selected_height h) c n h.kill) (sym (fresh_own xs at h is fresh)) planned)
+    outcome_plan directory ks xs next h x c n typed here sel (mark_is_kept x.name x.point ks marks.point)
+    ∙ sym (subst (λ (own : model.Own). outcome_through own x ks h.kill action ≡ plan_in directory ks own h.user x (selected_height h) c n typed h.kill) (sym (fresh_own xs at h is fresh)) planned)
 
 -- where what is planned is done, the act is
-pub act_planned : (directory : Directory) (ks : List MarkedBuffer) (xs : List Session) (next : Option ℕ) (new : World) (id at : ℕ) (h : Session) (x : WindowMarks) (c : Command) (n : Option ℕ) (action : Action) → is_on_text c ≡ true → IsSound ks xs → at ≡ position_or_len (session_id id) xs → at < length xs → slice_get xs at ≡ Some h → own_at at xs ≡ idle (own_at at xs) → window_marks_of h ≡ Some x → IsPlanned directory ks h x c n action → new ≡ apply (world_of directory ks xs next) id (outcome_through (own_at at xs) x ks (kill_at at xs) action) → new ≡ act (world_of directory ks xs next) id (act_of (Run c n)) true
-act_planned directory ks xs next new id at h x c n action here sound place within is fresh sel planned done =
+pub act_planned : (directory : Directory) (ks : List MarkedBuffer) (xs : List Session) (next : Option ℕ) (new : World) (id at : ℕ) (h : Session) (x : WindowMarks) (c : Command) (n : Option ℕ) (typed : List ℕ) (action : Action) → is_of_text c ≡ true → IsSound ks xs → at ≡ position_or_len (session_id id) xs → at < length xs → slice_get xs at ≡ Some h → own_at at xs ≡ idle (own_at at xs) → window_marks_of h ≡ Some x → IsPlanned directory ks h x c n typed action → new ≡ apply (world_of directory ks xs next) id (outcome_through (own_at at xs) x ks (kill_at at xs) action) → new ≡ act (world_of directory ks xs next) id (outcomes.Run c n typed) true
+act_planned directory ks xs next new id at h x c n typed action here sound place within is fresh sel planned done =
     let w = world_of directory ks xs next in
     done
     ∙ ap (λ (o : Option Session). apply w id (outcome_through (own_or_first o) x ks (kill_or_none o) action)) is
-    ∙ ap (apply w id) (sym (outcome_planned directory ks xs next at h x c n action here sound is fresh sel planned))
-    ∙ sym (ap (applied w id) (outcome_known directory ks xs next id at h (act_of (Run c n)) place within is))
+    ∙ ap (apply w id) (sym (outcome_planned directory ks xs next at h x c n typed action here sound is fresh sel planned))
+    ∙ sym (ap (applied w id) (outcome_known directory ks xs next id at h (outcomes.Run c n typed) place within is))
 
 -- the act may be refused where what is planned takes memory
-pub may_planned : (directory : Directory) (ks : List MarkedBuffer) (xs : List Session) (next : Option ℕ) (id at : ℕ) (h : Session) (x : WindowMarks) (c : Command) (n : Option ℕ) (action : Action) → is_on_text c ≡ true → IsSound ks xs → at ≡ position_or_len (session_id id) xs → at < length xs → slice_get xs at ≡ Some h → own_at at xs ≡ idle (own_at at xs) → window_marks_of h ≡ Some x → IsPlanned directory ks h x c n action → ((own : model.Own) → takes_memory (outcome_through own x ks (kill_at at xs) action) ≡ true) → may_be_refused (outcome_in (world_of directory ks xs next) id (act_of (Run c n)) true) ≡ true
-may_planned directory ks xs next id at h x c n action here sound place within is fresh sel planned takes =
-    ap may_be_refused (outcome_known directory ks xs next id at h (act_of (Run c n)) place within is)
-    ∙ ap takes_memory (outcome_planned directory ks xs next at h x c n action here sound is fresh sel planned)
+pub may_planned : (directory : Directory) (ks : List MarkedBuffer) (xs : List Session) (next : Option ℕ) (id at : ℕ) (h : Session) (x : WindowMarks) (c : Command) (n : Option ℕ) (typed : List ℕ) (action : Action) → is_of_text c ≡ true → IsSound ks xs → at ≡ position_or_len (session_id id) xs → at < length xs → slice_get xs at ≡ Some h → own_at at xs ≡ idle (own_at at xs) → window_marks_of h ≡ Some x → IsPlanned directory ks h x c n typed action → ((own : model.Own) → takes_memory (outcome_through own x ks (kill_at at xs) action) ≡ true) → may_be_refused (outcome_in (world_of directory ks xs next) id (outcomes.Run c n typed) true) ≡ true
+may_planned directory ks xs next id at h x c n typed action here sound place within is fresh sel planned takes =
+    ap may_be_refused (outcome_known directory ks xs next id at h (outcomes.Run c n typed) place within is)
+    ∙ ap takes_memory (outcome_planned directory ks xs next at h x c n typed action here sound is fresh sel planned)
     ∙ sym (ap (λ (o : Option Session). takes_memory (outcome_through (own_of h.own) x ks (kill_or_none o) action)) is)
     ∙ takes (own_of h.own)
 
@@ -103,20 +103,40 @@ act_unbound directory ks xs next id at h place within is fresh =
 
 -- A SETTING
 
-fresh_filled : (o : Own) (column : ℕ) → own_of o ≡ idle (own_of o) → own_of (record o { kind = Other; fill = column }) ≡ record (acted_own (own_of o)) { fill = column }
-fresh_filled o column fresh = at_rest (λ (own : model.Own). record own { kind = Other; fill = column }) (λ own. record (acted_own own) { fill = column }) (λ own. refl) (own_of o) fresh
+-- what is set of a session at rest
+acted_as : (f : model.Own → model.Own) → ((own : model.Own) → f (record (idle own) { kind = Other }) ≡ f (acted_own (idle own))) → (o : Own) → own_of o ≡ idle (own_of o) → f (record (own_of o) { kind = Other }) ≡ f (acted_own (own_of o))
+acted_as f same o fresh = at_rest (λ own. f (record own { kind = Other })) (λ own. f (acted_own own)) same (own_of o) fresh
 
 module _ (directory : Directory) (ks : List MarkedBuffer) (xs : List Session) (next : Option ℕ) (id at : ℕ) (h : Session) (place : at ≡ position_or_len (session_id id) xs) (within : at < length xs) (found : slice_get xs at ≡ Some h) (fresh : own_at at xs ≡ idle (own_at at xs)) where
   failed_set : (message : Message) → world_of directory ks (slice_set xs at (failed message h)) next ≡ apply (world_of directory ks xs next) id (fails (own_of h.own) message)
   failed_set message = failed_so directory ks xs next id at h message place within found (fresh_own xs at h found fresh)
 
-  filled_so : (column : ℕ) → world_of directory ks (slice_set xs at (filling column (acted Other h))) next ≡ apply (world_of directory ks xs next) id (owns (record (acted_own (own_of h.own)) { fill = column }))
-  filled_so column =
-      let f = session_arranged (owns (record (acted_own (own_of h.own)) { fill = column })) in
+  owned_so : (y : Session) (after : model.Own) → session_of ks y ≡ session_arranged (owns after) (session_of ks h) → world_of directory ks (slice_set xs at y) next ≡ apply (world_of directory ks xs next) id (owns after)
+  owned_so y after does =
+      let f = session_arranged (owns after) in
       same_world directory _ _ _ _ (id_after next) refl
-      (written_first (session_of ks) (has_id id) f xs at h (filling column (acted Other h)) (place ∙ sym (position_or_len-map (session_of ks) (has_id id) xs)) within (sym (get_or_from_slice_get xs at h h found))
-      (λ i. record (session_of ks h) { own = fresh_filled h.own column (fresh_own xs at h found fresh) i; search = no_search h.own.prompt i })
+      (written_first (session_of ks) (has_id id) f xs at h y (place ∙ sym (position_or_len-map (session_of ks) (has_id id) xs)) within (sym (get_or_from_slice_get xs at h h found)) does
       ∙ ap (change_first (has_id id) f) (sym (map-id (map (session_of ks) xs))))
+
+  -- a command of no kind was done, which set this
+  acted_so : (y : Session) (f : model.Own → model.Own) → ((own : model.Own) → f (record (idle own) { kind = Other }) ≡ f (acted_own (idle own)))
+      → session_of ks y ≡ record (session_of ks h) { own = f (record (own_of h.own) { kind = Other }) }
+      → Path (Option model.Search) None (cond (searches (f (acted_own (own_of h.own))).mode) None None)
+      → world_of directory ks (slice_set xs at y) next ≡ apply (world_of directory ks xs next) id (owns (f (acted_own (own_of h.own))))
+  acted_so y f same does still =
+      owned_so y (f (acted_own (own_of h.own)))
+      (does ∙ (λ i. record (session_of ks h) { own = acted_as f same h.own (fresh_own xs at h found fresh) i; search = still i }))
+
+  -- a command that is done or fails, by what the session records
+  recorded_so : (y : Session) (f : model.Own → model.Own) (message : Message)
+      → world_of directory ks (slice_set xs at y) next ≡ apply (world_of directory ks xs next) id (owns (f (acted_own (own_of h.own))))
+      → (c : Bool) → world_of directory ks (slice_set xs at (cond c y (failed message h))) next ≡ apply (world_of directory ks xs next) id (sets (own_of h.own) (cond c (Ok (f (acted_own (own_of h.own)))) (Err message)))
+  recorded_so y f message done true = done
+  recorded_so y f message done false = failed_set message
+
+  started_so : (c : Bool) → world_of directory ks (slice_set xs at (cond c (failed InMacro h) (macro_started h))) next ≡ apply (world_of directory ks xs next) id (sets (own_of h.own) (cond (c || false) (Err InMacro) (Ok (record (acted_own (own_of h.own)) { recording = true; macro = [] }))))
+  started_so true = failed_set InMacro
+  started_so false = acted_so (macro_started h) (λ own. record own { recording = true; macro = [] }) (λ own. refl) refl (no_search h.own.prompt)
 
   set_so : (s : Setting) (n : Option ℕ) → is_setting_done s ≡ true → world_of directory ks (slice_set xs at (session_set s n h)) next ≡ apply (world_of directory ks xs next) id (sets (own_of h.own) (setting s (acted_own (own_of h.own)) n))
   set_so SetFillColumn None here = failed_set NoArgument
@@ -124,9 +144,15 @@ module _ (directory : Directory) (ks : List MarkedBuffer) (xs : List Session) (n
     where
       by : (b : Bool) → world_of directory ks (slice_set xs at (cond b (failed BadColumn h) (filling n (acted Other h)))) next ≡ apply (world_of directory ks xs next) id (sets (own_of h.own) (cond b (Err BadColumn) (Ok (record (acted_own (own_of h.own)) { fill = n }))))
       by true = failed_set BadColumn
-      by false = filled_so n
-  set_so KeyboardQuit n here = failed_set Quitting
-  set_so _ n here = cc
+      by false = acted_so (filling n (acted Other h)) (λ own. record own { fill = n }) (λ own. refl) refl (no_search h.own.prompt)
+  set_so KeyboardQuit n here =
+      let after : model.Own = record (failed_own Quitting (own_of h.own)) { recording = false; macro = cond h.own.recorder.recording [] h.own.recorder.macro } in
+      owned_so (macro_given_up (failed Quitting h)) after refl
+  set_so StartMacro n here = started_so h.own.recorder.recording
+  set_so EndMacro n here =
+      let ends : model.Own → model.Own = λ own. record own { recording = false; macro = take (length own.macro - 2) own.macro } in
+      recorded_so (macro_ended h) ends NotInMacro (acted_so (macro_ended h) ends (λ own. refl) refl (no_search h.own.prompt)) h.own.recorder.recording
+  set_so CallMacro n here = cc
 
   set_known : (s : Setting) (n : Option ℕ) → outcome (view (world_of directory ks xs next) (session_of ks h)) (act_of (Run (Set s) n)) true ≡ sets (own_of h.own) (setting s (acted_own (own_of h.own)) n)
   unfolding outcome

@@ -14,6 +14,7 @@ use Rattle.mgs_model.specs.declared.session.Question.{Question}
 use Rattle.mgs_model.specs.declared.session.Question.TheVariants.{GoToWhich}
 use Rattle.mgs_act.specs.declared.acts.KeyAct.TheVariants.{Run}
 use Rattle.mgs_act.specs.Actions.{act_of}
+use Rattle.mgs_act.specs.Searching.{meant}
 
 wanted_twice : (n : Option ℕ) (typed : List ℕ) → line_wanted (line_wanted n typed) [] ≡ line_wanted n typed
 wanted_twice (Some m) typed = refl
@@ -33,11 +34,11 @@ seen_same n typed None = refl
 seen_same n typed (Some v) = ap (λ r. Some r) (line_same v n typed)
 
 -- what the answer comes to
-pub line_outcome : (w : World) (id : ℕ) (q : Question) (n m : Option ℕ) (typed : List ℕ) → q ≡ GoToWhich → m ≡ line_wanted n typed → outcome_in w id (outcomes.Run (answered q) n typed) true ≡ outcome_in w id (act_of (Run (Move GoToLine) m)) true
-line_outcome w id q n m typed is wanted =
-    ap (λ (k : Question). outcome_in w id (outcomes.Run (answered k) n typed) true) is
+pub line_outcome : (w : World) (id : ℕ) (q : Question) (n m : Option ℕ) (pattern typed : List ℕ) → q ≡ GoToWhich → m ≡ line_wanted n typed → outcome_in w id (outcomes.Run (answered q) n (meant q pattern typed)) true ≡ outcome_in w id (act_of (Run (Move GoToLine) m)) true
+line_outcome w id q n m pattern typed is wanted =
+    ap (λ (k : Question). outcome_in w id (outcomes.Run (answered k) n (meant k pattern typed)) true) is
     ∙ seen_same n typed (view_of w id)
     ∙ ap (λ (l : Option ℕ). outcome_in w id (act_of (Run (Move GoToLine) l)) true) (sym wanted)
 
-pub line_act : (w : World) (id : ℕ) (q : Question) (n m : Option ℕ) (typed : List ℕ) → q ≡ GoToWhich → m ≡ line_wanted n typed → act w id (act_of (Run (Move GoToLine) m)) true ≡ act w id (outcomes.Run (answered q) n typed) true
-line_act w id q n m typed is wanted = sym (ap (applied w id) (line_outcome w id q n m typed is wanted))
+pub line_act : (w : World) (id : ℕ) (q : Question) (n m : Option ℕ) (pattern typed : List ℕ) → q ≡ GoToWhich → m ≡ line_wanted n typed → act w id (act_of (Run (Move GoToLine) m)) true ≡ act w id (outcomes.Run (answered q) n (meant q pattern typed)) true
+line_act w id q n m pattern typed is wanted = sym (ap (applied w id) (line_outcome w id q n m pattern typed is wanted))

@@ -9,6 +9,7 @@ use Rattle.mgs_model.specs.Rights.{all_rights, rights_in}
 use Rattle.mgs_model.specs.World.{Item, Buffer, Own, Shows, Nothing, Buffer_of, Listing, List_of}
 use Rattle.mgs_model.specs.View.{View, BufferSeen, WindowSeen, find_seen, view, reads, reads_found, buffer_seen, window_seen, positions_if, told_if, full_if, size_told, serial_told, text_in}
 use Rattle.mgs_model.specs.Outcome.{Effect, Outcome, Unmodified}
+use Rattle.mgs_model.specs.Outcome as outcomes
 use Rattle.mgs_model.specs.Plans.{Around, Change, Finish, alteration, insertion, motion, reading_insertion, scrolling, undo}
 use Rattle.mgs_model.specs.Acts.{Target, about, acts_at, around, deciders_found, edited_by, edits, effects, fails, has_rows, here, insertion_right, is_rows, items_in, judged, mark_in, moved_by, moves, or_else, outcome, permitted, row_in, rules, scrolls_rows, selected_seen, shown, target, target_in}
 use Rattle.mgs_model.specs.declared.right.Right.{Right}
@@ -28,10 +29,9 @@ use Rattle.mgs_windows.specs.declared.RowPane.TheVariants.{NoRows, Buffers, Entr
 use Rattle.mgs_windows.specs.Panes.{rows_in}
 use Rattle.mgs_session.specs.Sessions.{window_marks_of}
 use Rattle.mgs_session.specs.declared.Session.{Session}
-use Rattle.mgs_act.specs.declared.acts.KeyAct.TheVariants.{Run}
 use Rattle.mgs_model.specs.declared.session.Scrolling.{Scrolling}
 use Rattle.mgs_act.specs.Rows.{outcome_without, scroll_in, scroll_outcome}
-use Rattle.mgs_act.specs.Actions.{act_of, edit_outcome, granted_outcome, height_or_none, is_on_text, mark_if, outcome_at, place_in, plan_in, selected_height}
+use Rattle.mgs_act.specs.Actions.{edit_outcome, granted_outcome, height_or_none, is_on_text, mark_if, outcome_at, place_in, plan_in, selected_height}
 use Rattle.mgs_world.specs.Worlds.{buffers_of, own_of, session_of, window_of, window_shown, world_of}
 use Rattle.mgs_world.proofs.Found.{found_buffer, found_seen, name_kept}
 use Rattle.mgs_world.proofs.Marks.{not_both}
@@ -57,8 +57,8 @@ any_append d e = list_any_at (λ right. allows (d right)) all_rights 2 ReadData 
 -- WHAT IS TOLD SUFFICES
 
 -- what a plan is given of a buffer on which some right is granted or none, and whose text may be read or not
-abbrev surroundings : Bool → Bool → Buffer → List ℕ → ℕ → Option ℕ → ℕ → ℕ → Option ℕ → List ℕ → Own → Around
-surroundings told read b name point mark top height n kill own =
+abbrev surroundings : Bool → Bool → Buffer → List ℕ → ℕ → Option ℕ → ℕ → ℕ → Option ℕ → List ℕ → List ℕ → Own → Around
+surroundings told read b name point mark top height n typed kill own =
     record {
       name = name;
       size = size_told (told_if told b);
@@ -69,7 +69,7 @@ surroundings told read b name point mark top height n kill own =
       anchor = 0;
       old = own.old;
       argument = n;
-      typed = [];
+      typed = typed;
       kill = kill;
       kind = own.kind;
       height = height;
@@ -77,8 +77,8 @@ surroundings told read b name point mark top height n kill own =
     }
 
 -- what is so for a reader
-abbrev all_told : Buffer → Bool → List ℕ → ℕ → Option ℕ → ℕ → Option ℕ → List ℕ → Own → Around
-all_told b read name point mark height n kill own =
+abbrev all_told : Buffer → Bool → List ℕ → ℕ → Option ℕ → ℕ → Option ℕ → List ℕ → List ℕ → Own → Around
+all_told b read name point mark height n typed kill own =
     record {
       name = name;
       size = length b.text;
@@ -89,7 +89,7 @@ all_told b read name point mark height n kill own =
       anchor = 0;
       old = own.old;
       argument = n;
-      typed = [];
+      typed = typed;
       kill = kill;
       kind = own.kind;
       height = height;
@@ -126,29 +126,29 @@ nothing_appended d none e = not_both (any_right d) (any_append d (granted_each d
 at_its_end : (own : Own) (d : Right → Decider) (n : ℕ) (mask : ℕ → ℕ) (o : Outcome) → permitted own (decision_by d (rights_in (mask 4))) o ≡ permitted own (decision_by d (rights_in (mask (cond (n == n) 4 2)))) o
 at_its_end own d n mask o = sym (ap (λ (e : Bool). permitted own (decision_by d (rights_in (mask (cond e 4 2)))) o) (eq-eqb n n refl))
 
-none_told : (own : Own) (c : Command) (d : Right → Decider) (b : Buffer) (name : List ℕ) (point : ℕ) (mark : Option ℕ) (top height : ℕ) (n : Option ℕ) (kill : List ℕ) → any_right d ≡ false → outcome_at own c d [] [] (surroundings false false b name point mark top height n kill own) ≡ outcome_at own c d b.text b.items (all_told b false name point mark height n kill own)
-none_told own (Insert i) d b name point mark top height n kill none =
+none_told : (own : Own) (c : Command) (d : Right → Decider) (b : Buffer) (name : List ℕ) (point : ℕ) (mark : Option ℕ) (top height : ℕ) (n : Option ℕ) (typed kill : List ℕ) → any_right d ≡ false → outcome_at own c d [] [] (surroundings false false b name point mark top height n typed kill own) ≡ outcome_at own c d b.text b.items (all_told b false name point mark height n typed kill own)
+none_told own (Insert i) d b name point mark top height n typed kill none =
     permitted_same own (decision_by d (AppendData ∷ [])) _ _ (λ e. absurd (nothing_appended d none e))
-    ∙ at_its_end own d (length b.text) (λ m. m) (granted_outcome own (Insert i) b.text b.items (all_told b false name point mark height n kill own))
-none_told own (InsertReading i) d b name point mark top height n kill none =
+    ∙ at_its_end own d (length b.text) (λ m. m) (granted_outcome own (Insert i) b.text b.items (all_told b false name point mark height n typed kill own))
+none_told own (InsertReading i) d b name point mark top height n typed kill none =
     permitted_same own (decision_by d (ReadData ∷ AppendData ∷ [])) _ _ (λ e. absurd (nothing_granted d (AppendData ∷ []) none e))
-    ∙ at_its_end own d (length b.text) (λ m. 1 + m) (granted_outcome own (InsertReading i) b.text b.items (all_told b false name point mark height n kill own))
-none_told own (Move m) d b name point mark top height n kill none = permitted_same own (decision_by d (ReadData ∷ [])) _ _ (λ e. absurd (nothing_granted d [] none e))
-none_told own (Alter k) d b name point mark top height n kill none = permitted_same own (decision_by d (ReadData ∷ WriteData ∷ [])) _ _ (λ e. absurd (nothing_granted d (WriteData ∷ []) none e))
-none_told own (Scroll s) d b name point mark top height n kill none = permitted_same own (decision_by d (ReadData ∷ [])) _ _ (λ e. absurd (nothing_granted d [] none e))
-none_told own UndoEdit d b name point mark top height n kill none = permitted_same own (decision_by d (ReadData ∷ WriteData ∷ [])) _ _ (λ e. absurd (nothing_granted d (WriteData ∷ []) none e))
-none_told own NotModified d b name point mark top height n kill none = permitted_same own (decision_by d (ReadData ∷ WriteData ∷ [])) _ _ (λ e. absurd (nothing_granted d (WriteData ∷ []) none e))
-none_told own _ d b name point mark top height n kill none = permitted_same own (decision_by d (ReadData ∷ [])) _ _ (λ e. absurd (nothing_granted d [] none e))
+    ∙ at_its_end own d (length b.text) (λ m. 1 + m) (granted_outcome own (InsertReading i) b.text b.items (all_told b false name point mark height n typed kill own))
+none_told own (Move m) d b name point mark top height n typed kill none = permitted_same own (decision_by d (ReadData ∷ [])) _ _ (λ e. absurd (nothing_granted d [] none e))
+none_told own (Alter k) d b name point mark top height n typed kill none = permitted_same own (decision_by d (ReadData ∷ WriteData ∷ [])) _ _ (λ e. absurd (nothing_granted d (WriteData ∷ []) none e))
+none_told own (Scroll s) d b name point mark top height n typed kill none = permitted_same own (decision_by d (ReadData ∷ [])) _ _ (λ e. absurd (nothing_granted d [] none e))
+none_told own UndoEdit d b name point mark top height n typed kill none = permitted_same own (decision_by d (ReadData ∷ WriteData ∷ [])) _ _ (λ e. absurd (nothing_granted d (WriteData ∷ []) none e))
+none_told own NotModified d b name point mark top height n typed kill none = permitted_same own (decision_by d (ReadData ∷ WriteData ∷ [])) _ _ (λ e. absurd (nothing_granted d (WriteData ∷ []) none e))
+none_told own _ d b name point mark top height n typed kill none = permitted_same own (decision_by d (ReadData ∷ [])) _ _ (λ e. absurd (nothing_granted d [] none e))
 
-told_same : (own : Own) (c : Command) (d : Right → Decider) (b : Buffer) (name : List ℕ) (point : ℕ) (mark : Option ℕ) (top height : ℕ) (n : Option ℕ) (kill : List ℕ)
-    → outcome_at own c d (text_in (full_if (allows (d ReadData)) b)) (items_in (full_if (allows (d ReadData)) b)) (surroundings (any_right d) (allows (d ReadData)) b name point mark top height n kill own) ≡ outcome_at own c d b.text b.items (all_told b (allows (d ReadData)) name point mark height n kill own)
-told_same own c d b name point mark top height n kill = go (any_right d) (allows (d ReadData)) refl refl
+told_same : (own : Own) (c : Command) (d : Right → Decider) (b : Buffer) (name : List ℕ) (point : ℕ) (mark : Option ℕ) (top height : ℕ) (n : Option ℕ) (typed kill : List ℕ)
+    → outcome_at own c d (text_in (full_if (allows (d ReadData)) b)) (items_in (full_if (allows (d ReadData)) b)) (surroundings (any_right d) (allows (d ReadData)) b name point mark top height n typed kill own) ≡ outcome_at own c d b.text b.items (all_told b (allows (d ReadData)) name point mark height n typed kill own)
+told_same own c d b name point mark top height n typed kill = go (any_right d) (allows (d ReadData)) refl refl
   where
-    go : (a r : Bool) → any_right d ≡ a → allows (d ReadData) ≡ r → outcome_at own c d (text_in (full_if r b)) (items_in (full_if r b)) (surroundings a r b name point mark top height n kill own) ≡ outcome_at own c d b.text b.items (all_told b r name point mark height n kill own)
+    go : (a r : Bool) → any_right d ≡ a → allows (d ReadData) ≡ r → outcome_at own c d (text_in (full_if r b)) (items_in (full_if r b)) (surroundings a r b name point mark top height n typed kill own) ≡ outcome_at own c d b.text b.items (all_told b r name point mark height n typed kill own)
     go true true p q = refl
-    go true false p q = text_unread own c d b.text b.items (all_told b false name point mark height n kill own) q
+    go true false p q = text_unread own c d b.text b.items (all_told b false name point mark height n typed kill own) q
     go false true p q = not_both (any_right d) (any_read d q) p
-    go false false p q = none_told own c d b name point mark top height n kill p
+    go false false p q = none_told own c d b name point mark top height n typed kill p
 
 -- THE TARGET
 
@@ -212,6 +212,28 @@ text_shown bs (Some x) t e = go x.shows e
     go Listing h = cc
     go (List_of name) h = cc
 
+-- THE COMMANDS on the text of the selected window, whoever plans them
+
+abbrev pub is_of_text : Command → Bool
+is_of_text (Insert c) = true
+is_of_text (InsertReading c) = true
+is_of_text (Move c) = true
+is_of_text (Alter c) = true
+is_of_text (Scroll c) = true
+is_of_text UndoEdit = true
+is_of_text NotModified = true
+is_of_text _ = false
+
+pub of_text : (c : Command) → is_on_text c ≡ true → is_of_text c ≡ true
+of_text (Insert c) h = refl
+of_text (InsertReading c) h = refl
+of_text (Move c) h = refl
+of_text (Alter c) h = refl
+of_text (Scroll c) h = refl
+of_text UndoEdit h = refl
+of_text NotModified h = refl
+of_text _ h = cc
+
 -- THE OUTCOME
 
 pub only_one : (d : Decision) → or_else d Granted ≡ d
@@ -246,43 +268,43 @@ rule_judged v t plan is found =
     ∙ ap (λ d. permitted v.session.own d (effects v.session.own (plan t.buffer))) (judged_here v t (λ t. 3) found)
 
 -- what an act comes to on the target
-on_target : (v : View) (t : Target) (c : Command) (n : Option ℕ) → is_on_text c ≡ true → target v ≡ Some t → find_seen t.buffer.name v.buffers ≡ Some t.buffer → outcome v (act_of (Run c n)) true ≡ outcome_at v.session.own c t.buffer.deciders (text_in t.buffer.full) (items_in t.buffer.full) (around v.session n [] t)
+on_target : (v : View) (t : Target) (c : Command) (n : Option ℕ) (typed : List ℕ) → is_of_text c ≡ true → target v ≡ Some t → find_seen t.buffer.name v.buffers ≡ Some t.buffer → outcome v (outcomes.Run c n typed) true ≡ outcome_at v.session.own c t.buffer.deciders (text_in t.buffer.full) (items_in t.buffer.full) (around v.session n typed t)
 unfolding outcome
-on_target v t (Insert i) n h is found = edit_judged v t insertion_right (λ t. insertion i (around v.session n [] t)) is found
-on_target v t (InsertReading i) n h is found =
-    edit_judged v t (λ t. 1 + insertion_right t) (λ t. reading_insertion i (text_in t.buffer.full) (around v.session n [] t)) is found
-on_target v t (Move m) n h is found = motion_judged v t (λ t. motion m (text_in t.buffer.full) (around v.session n [] t)) is found
-on_target v t (Alter k) n h is found = edit_judged v t (λ t. 3) (λ t. alteration k (text_in t.buffer.full) (around v.session n [] t)) is found
-on_target v t (Scroll s) n h is found =
-    ap (λ b. permitted v.session.own (judged v (here (target v) (λ t. 1))) (cond b (scrolls_rows v.session.own (row_in s (selected_seen v))) (moves v.session.own (target v) (λ t. scrolling s (text_in t.buffer.full) (around v.session n [] t)))))
+on_target v t (Insert i) n typed h is found = edit_judged v t insertion_right (λ t. insertion i (around v.session n typed t)) is found
+on_target v t (InsertReading i) n typed h is found =
+    edit_judged v t (λ t. 1 + insertion_right t) (λ t. reading_insertion i (text_in t.buffer.full) (around v.session n typed t)) is found
+on_target v t (Move m) n typed h is found = motion_judged v t (λ t. motion m (text_in t.buffer.full) (around v.session n typed t)) is found
+on_target v t (Alter k) n typed h is found = edit_judged v t (λ t. 3) (λ t. alteration k (text_in t.buffer.full) (around v.session n typed t)) is found
+on_target v t (Scroll s) n typed h is found =
+    ap (λ b. permitted v.session.own (judged v (here (target v) (λ t. 1))) (cond b (scrolls_rows v.session.own (row_in s (selected_seen v))) (moves v.session.own (target v) (λ t. scrolling s (text_in t.buffer.full) (around v.session n typed t)))))
     (text_shown v.buffers (selected_seen v) t is)
-    ∙ motion_judged v t (λ t. scrolling s (text_in t.buffer.full) (around v.session n [] t)) is found
-on_target v t UndoEdit n h is found = edit_judged v t (λ t. 3) (λ t. undo (items_in t.buffer.full) (around v.session n [] t)) is found
-on_target v t NotModified n h is found = rule_judged v t (λ (b : BufferSeen). Ok (Unmodified b.name)) is found
-on_target v t _ n h is found = cc
+    ∙ motion_judged v t (λ t. scrolling s (text_in t.buffer.full) (around v.session n typed t)) is found
+on_target v t UndoEdit n typed h is found = edit_judged v t (λ t. 3) (λ t. undo (items_in t.buffer.full) (around v.session n typed t)) is found
+on_target v t NotModified n typed h is found = rule_judged v t (λ (b : BufferSeen). Ok (Unmodified b.name)) is found
+on_target v t _ n typed h is found = cc
 
 -- through the window's marks of the selected window, of so many rows
-through : (directory : Directory) (ks : List MarkedBuffer) (xs : List Session) (next : Option ℕ) (h : Session) (height : ℕ) (x : WindowMarks) (c : Command) (n : Option ℕ) → HasBuffer x.name ks
-    → (let t = target_at directory ks h.user height x in outcome_at (own_of h.own) c t.buffer.deciders (text_in t.buffer.full) (items_in t.buffer.full) (around (view (world_of directory ks xs next) (session_of ks h)).session n [] t) ≡ plan_in directory ks (own_of h.own) h.user x height c n h.kill)
-through directory ks xs next h height x c n kept =
+through : (directory : Directory) (ks : List MarkedBuffer) (xs : List Session) (next : Option ℕ) (h : Session) (height : ℕ) (x : WindowMarks) (c : Command) (n : Option ℕ) (typed : List ℕ) → HasBuffer x.name ks
+    → (let t = target_at directory ks h.user height x in outcome_at (own_of h.own) c t.buffer.deciders (text_in t.buffer.full) (items_in t.buffer.full) (around (view (world_of directory ks xs next) (session_of ks h)).session n typed t) ≡ plan_in directory ks (own_of h.own) h.user x height c n typed h.kill)
+through directory ks xs next h height x c n typed kept =
     let b = (marked_at x.name ks).buffer in
     let d = decider directory b.owner h.user b.entries in
     let own = own_of h.own in
     let point = mark_at x.name ks x.point in
     let mark = option_map (mark_at x.name ks) x.mark in
     let top = mark_at x.name ks x.top in
-    ap (λ (r : Bool). outcome_at own c d (text_in (full_if (allows (d ReadData)) b)) (items_in (full_if (allows (d ReadData)) b)) (surroundings (any_right d) r b b.name point mark top height n h.kill own)) (ap (reads_found directory h.user) (found_buffer x.name ks kept))
-    ∙ told_same own c d b b.name point mark top height n h.kill
-    ∙ ap (λ (m : List ℕ). outcome_at own c d b.text b.items (all_told b (allows (d ReadData)) m point mark height n h.kill own)) (name_kept x.name ks kept)
+    ap (λ (r : Bool). outcome_at own c d (text_in (full_if (allows (d ReadData)) b)) (items_in (full_if (allows (d ReadData)) b)) (surroundings (any_right d) r b b.name point mark top height n typed h.kill own)) (ap (reads_found directory h.user) (found_buffer x.name ks kept))
+    ∙ told_same own c d b b.name point mark top height n typed h.kill
+    ∙ ap (λ (m : List ℕ). outcome_at own c d b.text b.items (all_told b (allows (d ReadData)) m point mark height n typed h.kill own)) (name_kept x.name ks kept)
 
-pub outcome_plan : (directory : Directory) (ks : List MarkedBuffer) (xs : List Session) (next : Option ℕ) (h : Session) (x : WindowMarks) (c : Command) (n : Option ℕ) → is_on_text c ≡ true → window_marks_of h ≡ Some x → HasBuffer x.name ks → outcome (view (world_of directory ks xs next) (session_of ks h)) (act_of (Run c n)) true ≡ plan_in directory ks (own_of h.own) h.user x (selected_height h) c n h.kill
-outcome_plan directory ks xs next h x c n on sel kept =
+pub outcome_plan : (directory : Directory) (ks : List MarkedBuffer) (xs : List Session) (next : Option ℕ) (h : Session) (x : WindowMarks) (c : Command) (n : Option ℕ) (typed : List ℕ) → is_of_text c ≡ true → window_marks_of h ≡ Some x → HasBuffer x.name ks → outcome (view (world_of directory ks xs next) (session_of ks h)) (outcomes.Run c n typed) true ≡ plan_in directory ks (own_of h.own) h.user x (selected_height h) c n typed h.kill
+outcome_plan directory ks xs next h x c n typed on sel kept =
     let seen = selected_some directory ks xs next h x sel kept in
     let t = target_at directory ks h.user seen.0 x in
-    on_target (view (world_of directory ks xs next) (session_of ks h)) t c n on seen.1
+    on_target (view (world_of directory ks xs next) (session_of ks h)) t c n typed on seen.1
     (ap (λ m. find_seen m (map (buffer_seen directory h.user) (buffers_of ks))) (name_kept x.name ks kept) ∙ found_seen directory h.user x.name ks kept)
-    ∙ through directory ks xs next h seen.0 x c n kept
-    ∙ ap (λ (height : ℕ). plan_in directory ks (own_of h.own) h.user x height c n h.kill) (sym seen.2)
+    ∙ through directory ks xs next h seen.0 x c n typed kept
+    ∙ ap (λ (height : ℕ). plan_in directory ks (own_of h.own) h.user x height c n typed h.kill) (sym seen.2)
 
 -- where the selected window shows nothing
 none_edited : (v : View) (rights : Target → ℕ) (plan : Target → Result Change Message) → target v ≡ None → permitted v.session.own (judged v (here (target v) rights)) (edits v.session.own (target v) plan) ≡ fails v.session.own NoBuffer
@@ -299,18 +321,18 @@ abbrev off_outcome : View → Option Scrolling → Outcome
 off_outcome v None = fails v.session.own NoBuffer
 off_outcome v (Some s) = cond (has_rows (selected_seen v)) (scrolls_rows v.session.own (row_in s (selected_seen v))) (fails v.session.own NoBuffer)
 
-off_target : (v : View) (c : Command) (n : Option ℕ) → is_on_text c ≡ true → target v ≡ None → outcome v (act_of (Run c n)) true ≡ off_outcome v (scroll_in c)
+off_target : (v : View) (c : Command) (n : Option ℕ) (typed : List ℕ) → is_of_text c ≡ true → target v ≡ None → outcome v (outcomes.Run c n typed) true ≡ off_outcome v (scroll_in c)
 unfolding outcome
-off_target v (Insert i) n h none = none_edited v insertion_right (λ t. insertion i (around v.session n [] t)) none
-off_target v (InsertReading i) n h none =
-    none_edited v (λ t. 1 + insertion_right t) (λ t. reading_insertion i (text_in t.buffer.full) (around v.session n [] t)) none
-off_target v (Move m) n h none = none_moved v (λ t. motion m (text_in t.buffer.full) (around v.session n [] t)) none
-off_target v (Alter k) n h none = none_edited v (λ t. 3) (λ t. alteration k (text_in t.buffer.full) (around v.session n [] t)) none
-off_target v (Scroll s) n h none =
-    ap (λ (o : Option Target). permitted v.session.own (judged v (here o (λ t. 1))) (cond (has_rows (selected_seen v)) (scrolls_rows v.session.own (row_in s (selected_seen v))) (moves v.session.own o (λ t. scrolling s (text_in t.buffer.full) (around v.session n [] t))))) none
-off_target v UndoEdit n h none = none_edited v (λ t. 3) (λ t. undo (items_in t.buffer.full) (around v.session n [] t)) none
-off_target v NotModified n h none = none_ruled v (λ (b : BufferSeen). Ok (Unmodified b.name)) none
-off_target v _ n h none = cc
+off_target v (Insert i) n typed h none = none_edited v insertion_right (λ t. insertion i (around v.session n typed t)) none
+off_target v (InsertReading i) n typed h none =
+    none_edited v (λ t. 1 + insertion_right t) (λ t. reading_insertion i (text_in t.buffer.full) (around v.session n typed t)) none
+off_target v (Move m) n typed h none = none_moved v (λ t. motion m (text_in t.buffer.full) (around v.session n typed t)) none
+off_target v (Alter k) n typed h none = none_edited v (λ t. 3) (λ t. alteration k (text_in t.buffer.full) (around v.session n typed t)) none
+off_target v (Scroll s) n typed h none =
+    ap (λ (o : Option Target). permitted v.session.own (judged v (here o (λ t. 1))) (cond (has_rows (selected_seen v)) (scrolls_rows v.session.own (row_in s (selected_seen v))) (moves v.session.own o (λ t. scrolling s (text_in t.buffer.full) (around v.session n typed t))))) none
+off_target v UndoEdit n typed h none = none_edited v (λ t. 3) (λ t. undo (items_in t.buffer.full) (around v.session n typed t)) none
+off_target v NotModified n typed h none = none_ruled v (λ (b : BufferSeen). Ok (Unmodified b.name)) none
+off_target v _ n typed h none = cc
 
 -- the rows of the selected window, as the session sees them
 rows_off : (own : Own) (s : Scrolling) (can : List ℕ → Bool) (ks : List MarkedBuffer) (o : Option Window) → option_and_then (λ (w : Window). w.shows) o ≡ None
@@ -334,6 +356,6 @@ off_seen directory ks xs next h (Some s) none =
     (slice_get-map (window_seen can) (map (window_of ks) ws) h.windows.selected ∙ ap (option_map (window_seen can)) (slice_get-map (window_of ks) ws h.windows.selected))
     ∙ rows_off (own_of h.own) s can ks (slice_get ws h.windows.selected) none
 
-pub outcome_none : (directory : Directory) (ks : List MarkedBuffer) (xs : List Session) (next : Option ℕ) (h : Session) (c : Command) (n : Option ℕ) → is_on_text c ≡ true → window_marks_of h ≡ None → outcome (view (world_of directory ks xs next) (session_of ks h)) (act_of (Run c n)) true ≡ outcome_without (own_of h.own) (scroll_in c) (slice_get h.windows.windows h.windows.selected)
-outcome_none directory ks xs next h c n on none =
-    off_target (view (world_of directory ks xs next) (session_of ks h)) c n on (selected_none directory ks xs next h none) ∙ off_seen directory ks xs next h (scroll_in c) none
+pub outcome_none : (directory : Directory) (ks : List MarkedBuffer) (xs : List Session) (next : Option ℕ) (h : Session) (c : Command) (n : Option ℕ) (typed : List ℕ) → is_of_text c ≡ true → window_marks_of h ≡ None → outcome (view (world_of directory ks xs next) (session_of ks h)) (outcomes.Run c n typed) true ≡ outcome_without (own_of h.own) (scroll_in c) (slice_get h.windows.windows h.windows.selected)
+outcome_none directory ks xs next h c n typed on none =
+    off_target (view (world_of directory ks xs next) (session_of ks h)) c n typed on (selected_none directory ks xs next h none) ∙ off_seen directory ks xs next h (scroll_in c) none

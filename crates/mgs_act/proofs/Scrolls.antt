@@ -8,6 +8,7 @@ use Rattle.mgs_model.specs.Access.{Directory}
 use Rattle.mgs_model.specs.World.{has_id}
 use Rattle.mgs_model.specs.World as model
 use Rattle.mgs_model.specs.Outcome.{Keep, Keep_mark, Outcome}
+use Rattle.mgs_model.specs.Outcome as outcomes
 use Rattle.mgs_model.specs.Plans.{acted_own, row_scrolled}
 use Rattle.mgs_model.specs.Acts.{scrolls_rows}
 use Rattle.mgs_model.specs.Apart.{Apart, touched_by}
@@ -29,8 +30,7 @@ use Rattle.mgs_session.specs.Sessions.{acted, window_marks_of}
 use Rattle.mgs_session.specs.declared.Own.{Own}
 use Rattle.mgs_session.specs.declared.Session.{Session}
 use Rattle.mgs_arrange.proofs.WindowsGone.{sum_changed}
-use Rattle.mgs_act.specs.declared.acts.KeyAct.TheVariants.{Run}
-use Rattle.mgs_act.specs.Actions.{act_of, height_or_none, is_on_text}
+use Rattle.mgs_act.specs.Actions.{height_or_none}
 use Rattle.mgs_act.specs.Rows.{outcome_without, pane_scrolled, scroll_in, scroll_outcome, scrolled_at, scrolled_to, session_rows, without_text}
 use Rattle.mgs_world.specs.Sound.{session_uses, window_uses}
 use Rattle.mgs_world.specs.Worlds.{id_after, idle, own_at, own_of, session_id, session_of, size_in, window_of, window_shown, world_of}
@@ -38,7 +38,7 @@ use Rattle.mgs_world.proofs.Owns.{at_rest, no_search}
 use Rattle.mgs_world.proofs.Worlds.{same_world}
 use Rattle.mgs_act.proofs.Commands.{outcome_known}
 use Rattle.mgs_act.proofs.Deeds.{failed_so, fresh_own}
-use Rattle.mgs_act.proofs.Outcomes.{outcome_none}
+use Rattle.mgs_act.proofs.Outcomes.{is_of_text, outcome_none}
 
 -- NO MARK MOVES
 
@@ -119,12 +119,12 @@ module _ (directory : Directory) (ks : List MarkedBuffer) (xs : List Session) (n
   without_so None none = told_so
   without_so (Some c) none = by_window c (slice_get h.windows.windows h.windows.selected) refl none
 
-  pub act_without : (c : Command) (n : Option ℕ) → is_on_text c ≡ true → window_marks_of h ≡ None → world_of directory ks (slice_set xs at (without_text (scroll_in c) h)) next ≡ act (world_of directory ks xs next) id (act_of (Run c n)) true
-  act_without c n here none =
+  pub act_without : (c : Command) (n : Option ℕ) (typed : List ℕ) → is_of_text c ≡ true → window_marks_of h ≡ None → world_of directory ks (slice_set xs at (without_text (scroll_in c) h)) next ≡ act (world_of directory ks xs next) id (outcomes.Run c n typed) true
+  act_without c n typed here none =
       let w = world_of directory ks xs next in
       without_so (scroll_in c) none
-      ∙ ap (apply w id) (sym (outcome_none directory ks xs next h c n here none))
-      ∙ sym (ap (applied w id) (outcome_known directory ks xs next id at h (act_of (Run c n)) place within found))
+      ∙ ap (apply w id) (sym (outcome_none directory ks xs next h c n typed here none))
+      ∙ sym (ap (applied w id) (outcome_known directory ks xs next id at h (outcomes.Run c n typed) place within found))
 
   touches_nothing : (s : Option Scrolling) (own : model.Own) (o : Option Window) → touched_by (outcome_without own s o).effect ≡ Nowhere
   touches_nothing None own o = refl

@@ -11,7 +11,7 @@ use Rattle.mgs_model.specs.Names.{same_name}
 use Rattle.mgs_model.specs.World.{World, find_session, has_id, is_named}
 use Rattle.mgs_model.specs.World as model
 use Rattle.mgs_model.specs.View.{BufferSeen, View, buffer_seen, find_seen, reads, view}
-use Rattle.mgs_model.specs.Outcome.{Create, Effect, No_effect, Outcome, Run, takes_memory}
+use Rattle.mgs_model.specs.Outcome.{Act, Create, Effect, No_effect, Outcome, Run, takes_memory}
 use Rattle.mgs_model.specs.Acts.{created, deciders_found, judged, outcome, permitted, shows_named}
 use Rattle.mgs_model.specs.Apart.{Apart, touched_by}
 use Rattle.mgs_model.specs.Apply.{act, applied, apply, change_first, new_buffer, outcome_in, session_arranged}
@@ -35,6 +35,7 @@ use Rattle.mgs_arrange.proofs.Arranged.{show_done, show_takes_memory}
 use Rattle.mgs_world.specs.Worlds.{buffers_of, idle, own_at, session_id, session_of, window_of, world_of}
 use Rattle.mgs_world.proofs.Found.{found_seen, unseen}
 use Rattle.mgs_world.proofs.Sessions.{session_some}
+use Rattle.mgs_act.specs.Searching.{meant}
 use Rattle.mgs_act.specs.Switching.{coming_decision, created_in, switch_outcome, view_at}
 use Rattle.mgs_act.specs.declared.switching.Switch.{Switch}
 use Rattle.mgs_act.specs.declared.switching.Switch.TheVariants.{Fails, Shows, Creates}
@@ -166,6 +167,6 @@ switch_apart w new id v s touched is done = rw (is v, done) (apart_apply w id (s
 
 -- THE QUESTIONS that are answered so
 
-pub switches : (q : Question) → (q ≡ SwitchTo) ⊎ (q ≡ FindWhich) → answered q ≡ Named SwitchToBuffer
-switches q (inl is) = ap answered is
-switches q (inr is) = ap answered is
+pub switch_run : {X : Type 0} (f : Act → X) (q : Question) (n : Option ℕ) (pattern typed : List ℕ) → (q ≡ SwitchTo) ⊎ (q ≡ FindWhich) → f (Run (answered q) n (meant q pattern typed)) ≡ f (Run (Named SwitchToBuffer) n typed)
+switch_run f q n pattern typed (inl is) = ap (λ (k : Question). f (Run (answered k) n (meant k pattern typed))) is
+switch_run f q n pattern typed (inr is) = ap (λ (k : Question). f (Run (answered k) n (meant k pattern typed))) is

@@ -5,7 +5,7 @@ use Rattle.std.specs.Option.{option_map}
 use Rattle.mgs_model.specs.Access.{Directory, Decider, decider, decision_by}
 use Rattle.mgs_model.specs.Rights.{rights_in}
 use Rattle.mgs_model.specs.Text.{is_edit}
-use Rattle.mgs_model.specs.World.{Item, first_own, may}
+use Rattle.mgs_model.specs.World.{Item, may}
 use Rattle.mgs_model.specs.World as model
 use Rattle.mgs_model.specs.Apply.{change_first, kill_after}
 use Rattle.mgs_model.specs.Outcome.{Outcome, No_effect, Unmodified, PointPlan, Keep, At, At_origin}
@@ -23,7 +23,7 @@ use Rattle.mgs_model.specs.declared.session.Kind.TheVariants.{Other}
 use Rattle.mgs_model.specs.declared.session.EntryChange.{EntryChange}
 use Rattle.mgs_model.specs.declared.session.EntryChange.TheVariants.{DeleteEntry}
 use Rattle.mgs_model.specs.declared.session.Setting.{Setting}
-use Rattle.mgs_model.specs.declared.session.Setting.TheVariants.{SetFillColumn, KeyboardQuit}
+use Rattle.mgs_model.specs.declared.session.Setting.TheVariants.{SetFillColumn, KeyboardQuit, StartMacro, EndMacro}
 use Rattle.mgs_buffers.specs.MarkedBuffer.{IsMark, MarkedBuffer, marked_at, marked_edited, marked_named, marked_placed, marked_unmodified, mark_at}
 use Rattle.mgs_windows.specs.declared.WindowMarks.{WindowMarks}
 use Rattle.mgs_windows.specs.declared.Window.{Window}
@@ -63,6 +63,8 @@ is_on_text _ = false
 abbrev pub is_setting_done : Setting → Bool
 is_setting_done SetFillColumn = true
 is_setting_done KeyboardQuit = true
+is_setting_done StartMacro = true
+is_setting_done EndMacro = true
 is_setting_done _ = false
 
 -- an entry is deleted at once; one that comes is typed first
@@ -102,9 +104,9 @@ mark_if reads mark = cond reads mark None
 abbrev pub mark_shown : List MarkedBuffer → WindowMarks → Option ℕ
 mark_shown ks x = option_map (mark_at x.name ks) x.mark
 
--- what a session holds beside, as far as a plan goes by it
-abbrev pub given_own : Given → model.Own
-given_own g = record first_own { kind = g.kind; fill = g.fill }
+-- what a session holds that has this kind and this fill column: a plan goes by no more of it
+abbrev pub given_own : Given → model.Own → model.Own
+given_own g own = record own { kind = g.kind; fill = g.fill }
 
 abbrev pub around_given : Directory → List MarkedBuffer → List ℕ → WindowMarks → Given → ℕ → Around
 around_given directory ks user x g killed =
@@ -121,8 +123,8 @@ around_given directory ks user x g killed =
     }
 
 -- the same, as the model's plans are given it
-abbrev pub around_in : Directory → List MarkedBuffer → List ℕ → WindowMarks → ℕ → Option ℕ → List ℕ → model.Own → plans.Around
-around_in directory ks user x height n kill own =
+abbrev pub around_in : Directory → List MarkedBuffer → List ℕ → WindowMarks → ℕ → Option ℕ → List ℕ → List ℕ → model.Own → plans.Around
+around_in directory ks user x height n typed kill own =
     let b = (marked_at x.name ks).buffer in
     let reads = may directory user ReadData b in
     record {
@@ -135,7 +137,7 @@ around_in directory ks user x height n kill own =
       anchor = 0;
       old = own.old;
       argument = n;
-      typed = [];
+      typed = typed;
       kill = kill;
       kind = own.kind;
       height = height;
@@ -299,8 +301,8 @@ granted_outcome own _ text items a = fails own KeyNotBound
 abbrev pub outcome_at : model.Own → Command → (Right → Decider) → List ℕ → List Item → plans.Around → Outcome
 outcome_at own c deciders text items a = permitted own (decision_by deciders (rights_in (mask_at c a.place a.size))) (granted_outcome own c text items a)
 
--- the outcome of a command through a window's marks
-abbrev pub plan_in : Directory → List MarkedBuffer → model.Own → List ℕ → WindowMarks → ℕ → Command → Option ℕ → List ℕ → Outcome
-plan_in directory ks own user x height c n kill =
+-- the outcome of a command through a window's marks, and of what was typed for it
+abbrev pub plan_in : Directory → List MarkedBuffer → model.Own → List ℕ → WindowMarks → ℕ → Command → Option ℕ → List ℕ → List ℕ → Outcome
+plan_in directory ks own user x height c n typed kill =
     let b = (marked_at x.name ks).buffer in
-    outcome_at own c (decider directory b.owner user b.entries) b.text b.items (around_in directory ks user x height n kill own)
+    outcome_at own c (decider directory b.owner user b.entries) b.text b.items (around_in directory ks user x height n typed kill own)

@@ -8,3 +8,4 @@ pub mod Ruling
 pub mod Rows
 pub mod Subjects
 pub mod Listing
+pub mod Searching

@@ -7,6 +7,7 @@ ghost use Rattle.mgs_model.specs.Events.{may_be_refused};
 ghost use Rattle.mgs_model.specs.Outcome as outcomes;
 ghost use Rattle.mgs_model.specs.Turns.{answered, names_commands};
 ghost use Rattle.mgs_mini.specs.Typing.{is_asked};
+ghost use Rattle.mgs_act.specs.Searching.{meant};
 ghost use Rattle.mgs_world.specs.Sound.{IsSound};
 ghost use Rattle.mgs_world.specs.Worlds.{idle, own_at, session_id, sizes_in, world_of};
 
@@ -14,6 +15,7 @@ use crate::acts::{KeyAct, act};
 use crate::inserting::insert;
 use crate::killing::kill;
 use crate::ruling::{Ruling, rule};
+use crate::searching::search;
 use crate::switching::switch_to;
 use mgs_buffers::Buffers;
 use mgs_edit::line_wanted;
@@ -25,7 +27,7 @@ use std::alloc::Global;
 
 /// The command that a question is for is done by the session at `at`, which is at rest: `typed` is the answer, of a question
 /// that asks for no command's name. The selected window comes to show the buffer of that name, which is made for the session's
-/// user where it is not there; or the buffer of that name is killed; or its text is inserted where the user acts; or the point goes to the line of that number; or the buffer
+/// user where it is not there; or the buffer of that name is killed; or its text is inserted where the user acts; or the point goes to the line of that number, or to where what was typed stands; or the buffer
 /// that is shown gets another owner, or that entry in its access list. A refused right, an answer that is not what was asked for,
 /// and what is full are told in the echo line. It tells what it touched, and what it did not touch is as it was. `Short`: memory
 /// was refused, the world is as it was, and the act is one that may be refused.
@@ -47,10 +49,10 @@ pub fn answer<T: Marked + Drop>(
     requires few { length typed.now ≤ 120 }
     ensures sound { IsSound buffers.new sessions.new }
     ensures sizes { sizes_in sessions.new ≡ sizes_in sessions.old }
-    ensures ok { OnOk result ((id : ℕ) (next : Option ℕ) → at ≡ position_or_len (session_id id) sessions.old → world_of directory.now buffers.new sessions.new next ≡ act (world_of directory.now buffers.old sessions.old next) id (outcomes.Run (answered question) argument typed.now) true) }
+    ensures ok { OnOk result ((id : ℕ) (next : Option ℕ) → at ≡ position_or_len (session_id id) sessions.old → world_of directory.now buffers.new sessions.new next ≡ act (world_of directory.now buffers.old sessions.old next) id (outcomes.Run (answered question) argument (meant question (own_at at sessions.old).pattern typed.now)) true) }
     ensures touched { IfOk result (λ touched. (id : ℕ) (next : Option ℕ) → at ≡ position_or_len (session_id id) sessions.old → Apart touched id (world_of directory.now buffers.old sessions.old next) (world_of directory.now buffers.new sessions.new next)) }
     ensures err { OnErr result ((next : Option ℕ) → world_of directory.now buffers.new sessions.new next ≡ world_of directory.now buffers.old sessions.old next) }
-    ensures may { OnErr result ((id : ℕ) (next : Option ℕ) → at ≡ position_or_len (session_id id) sessions.old → may_be_refused (outcome_in (world_of directory.now buffers.old sessions.old next) id (outcomes.Run (answered question) argument typed.now) true) ≡ true) }
+    ensures may { OnErr result ((id : ℕ) (next : Option ℕ) → at ≡ position_or_len (session_id id) sessions.old → may_be_refused (outcome_in (world_of directory.now buffers.old sessions.old next) id (outcomes.Run (answered question) argument (meant question (own_at at sessions.old).pattern typed.now)) true) ≡ true) }
 {
     match question {
         Question::SwitchTo | Question::FindWhich => {
@@ -83,6 +85,11 @@ pub fn answer<T: Marked + Drop>(
                 argument,
                 typed,
             ))
+        }
+        Question::SearchWhat(direction) => {
+            search(
+                alloc, buffers, directory, sessions, at, direction, argument, typed,
+            )
         }
         // No other question is asked yet.
         _ => Ok(Touched::Nowhere),

@@ -13,6 +13,7 @@ mod planning;
 mod rows;
 mod ruling;
 mod saving;
+mod searching;
 mod setting;
 mod subject;
 mod switching;

@@ -1,5 +1,5 @@
 // What a command on a text comes to: whether it is permitted, and what its family plans.
-ghost use Rattle.std.specs.Prelude.{◌≡◌, ◌≤◌, ◌+◌, ℕ, List, length, find, Option, Some, None, Ok, IfOk, IfSome, true};
+ghost use Rattle.std.specs.Prelude.{◌≡◌, ◌≤◌, ◌+◌, ℕ, List, [], length, find, Option, Some, None, Ok, IfOk, IfSome, true};
 ghost use Rattle.mgs_model.specs.Acts.{fails, moved_by, permitted};
 ghost use Rattle.mgs_model.specs.Outcome.{Outcome};
 ghost use Rattle.mgs_model.specs.declared.entry.Decision.TheVariants.{Granted};
@@ -40,7 +40,7 @@ fn mark<T: Marked + Drop>(buffers: &Buffers<T>, window_marks: &WindowMarks) -> O
 }
 
 /// What a planner is given. A user who may not read the text acts at its end, and has no mark.
-fn around<T: Marked + Drop>(
+pub fn around<T: Marked + Drop>(
     buffers: &Buffers<T>,
     directory: &Directory,
     user: &Name,
@@ -91,7 +91,7 @@ pub fn insertion_bit(place: usize, size: usize) -> u32
 }
 
 /// The rights that a command needs at a place of a text of `size` characters.
-fn needs(command: &Command, place: usize, size: usize) -> Mask
+pub fn needs(command: &Command, place: usize, size: usize) -> Mask
     ensures { result ≡ mask_at command.now place size }
 {
     let read = Right::ReadData.bit();
@@ -136,7 +136,7 @@ fn edits_so<T: Text>(text: &T, serial: u64, kill: &[char], change: Change) -> Ac
 }
 
 /// What a plan of a motion comes to.
-fn moves<T: Text>(text: &T, kill: &[char], planned: Result<Finish, Message>) -> Action
+pub fn moves<T: Text>(text: &T, kill: &[char], planned: Result<Finish, Message>) -> Action
     requires { IfOk planned (FinishWithin (length (T.text text.now)) (length (T.text text.now))) }
     ensures value { (own : Own) (name : List ℕ) (items : List Item) → action_outcome own name (T.text text.now) items kill.now result ≡ moved_by own (motion_read (T.text text.now) kill.now planned) }
     ensures can { (items : List Item) (serial : ℕ) → CanDo (T.text text.now) items kill.now serial result }
@@ -247,7 +247,7 @@ pub fn plan<T: Marked + Drop>(
     requires kept { HasBuffer window_marks.now.name buffers.now }
     requires marks { AreMarks buffers.now window_marks.now }
     requires here { is_on_text command ≡ true }
-    ensures value { outcome_through (given_own given.now) window_marks.now buffers.now kill.now result ≡ plan_in directory.now buffers.now (given_own given.now) user.now window_marks.now given.now.height command given.now.argument kill.now }
+    ensures value { (own : Own) → outcome_through (given_own given.now own) window_marks.now buffers.now kill.now result ≡ plan_in directory.now buffers.now (given_own given.now own) user.now window_marks.now given.now.height command given.now.argument [] kill.now }
     ensures can { CanBeDone buffers.now window_marks.now kill.now result }
 {
     let name = &window_marks.name;

@@ -1,9 +1,9 @@
 // Settings of a session.
 ghost use Rattle.std.specs.Prelude.{◌≡◌};
-ghost use Rattle.mgs_act.specs.Setting.{column_set, session_set};
+ghost use Rattle.mgs_act.specs.Setting.{column_set, recording_ended, recording_started, session_set};
 
 use mgs_model::{Kind, Message, Setting};
-use mgs_session::{Session, fail, set_fill, set_kind};
+use mgs_session::{Session, end_macro, fail, give_up_macro, set_fill, set_kind, start_macro};
 
 /// The fill column is set.
 fn set_column(session: &mut Session, argument: Option<usize>)
@@ -19,13 +19,41 @@ fn set_column(session: &mut Session, argument: Option<usize>)
     }
 }
 
-/// A setting of a session that has nothing half read: its fill column, or keyboard-quit.
+/// A macro is recorded from here on, where none is.
+fn start_recording(session: &mut Session)
+    ensures { session.new ≡ recording_started session.old }
+{
+    if session.own.recorder.is_recording() {
+        fail(session, Message::InMacro);
+    } else {
+        start_macro(session);
+    }
+}
+
+/// The macro that is recorded is complete.
+fn end_recording(session: &mut Session)
+    ensures { session.new ≡ recording_ended session.old }
+{
+    if session.own.recorder.is_recording() {
+        end_macro(session);
+    } else {
+        fail(session, Message::NotInMacro);
+    }
+}
+
+/// A setting of a session that has nothing half read: its fill column, keyboard-quit, or a macro that begins or ends.
 pub fn set(session: &mut Session, setting: Setting, argument: Option<usize>)
     ensures { session.new ≡ session_set setting argument session.old }
 {
     match setting {
         Setting::SetFillColumn => set_column(session, argument),
-        // The one other setting so far is keyboard-quit.
-        _ => fail(session, Message::Quitting),
+        Setting::KeyboardQuit => {
+            fail(session, Message::Quitting);
+            give_up_macro(session);
+        }
+        Setting::StartMacro => start_recording(session),
+        Setting::EndMacro => end_recording(session),
+        // No key plays a macro so far.
+        Setting::CallMacro => {}
     }
 }

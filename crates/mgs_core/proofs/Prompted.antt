@@ -34,6 +34,7 @@ use Rattle.mgs_mini.specs.declared.Waiting.TheVariants.{NoKey}
 use Rattle.mgs_maps.specs.Held.{is_bound}
 use Rattle.mgs_maps.specs.declared.maps.Fed.TheVariants as fed
 use Rattle.mgs_act.specs.Actions.{act_of}
+use Rattle.mgs_act.specs.Searching.{meant}
 use Rattle.mgs_buffers.specs.MarkedBuffer.{MarkedBuffer}
 use Rattle.mgs_session.specs.declared.Own.{Own}
 use Rattle.mgs_session.specs.declared.Session.{Session}
@@ -47,14 +48,14 @@ use Rattle.mgs_core.specs.declared.replying.Reply.TheVariants.{Asked, Named}
 use Rattle.mgs_core.specs.declared.typing.PromptStep.{PromptStep}
 use Rattle.mgs_core.specs.declared.typing.PromptStep.TheVariants as steps
 use Rattle.mgs_core.specs.Prompted.{CanReply, IsAnswerStep, IsAnswered, IsBoundReply, IsKept, IsPromptStep, asked_again, is_end, names_for, own_turn, prompt_put, reply_act, reply_to}
-use Rattle.mgs_core.specs.Steps.{ActedBy, TypedBy, command_act, is_exit}
+use Rattle.mgs_core.specs.Steps.{ActedBy, ReadOutBy, command_act, is_exit}
 use Rattle.mgs_core.proofs.Sizes.{place_sized}
 use Rattle.mgs_core.proofs.Steps.{bound_single, command_done, not_exit, seen_at, world_changed}
 
 -- WHAT AN ANSWER IS FOR
 
 -- the act of a question that is asked, and whose answer names no command
-asked_turn : (c : Question) → is_asked c ≡ true → names_commands c ≡ false → (own : model.Own) → answer_turn c own ≡ Do (plain_own own) (Run (answered c) (value_of own.argument) own.input)
+asked_turn : (c : Question) → is_asked c ≡ true → names_commands c ≡ false → (own : model.Own) → answer_turn c own ≡ Do (plain_own own) (Run (answered c) (value_of own.argument) (meant c own.pattern own.input))
 asked_turn SwitchTo h none own = refl
 asked_turn FindWhich h none own = refl
 asked_turn KillWhich h none own = refl
@@ -63,6 +64,7 @@ asked_turn GoToWhich h none own = refl
 asked_turn EntryToInsert h none own = refl
 asked_turn EntryToReplace h none own = refl
 asked_turn WhichOwner h none own = refl
+asked_turn (SearchWhat d) h none own = refl
 asked_turn _ h none own = cc
 
 -- a command that is named
@@ -185,25 +187,25 @@ can_reply : (p : PromptInput) (n : Option ℕ) (r : Reply) → reply_to p ≡ So
 can_reply p n Asked to bound goes_on = asks_own (names_commands p.question) (find_command p.input) to
 can_reply p n (Named c) to bound goes_on = (bound, not_exit (fed.Run c n) (command_act c n) bound (end_any c n ∙ goes_on) refl)
 
-pub reply_single : (p : PromptInput) (n : Option ℕ) (r : Reply) → CanReply p n r → is_single (reply_act p n r) ≡ true
-reply_single p n Asked here = answered_single p.question n p.input
-reply_single p n (Named c) here = bound_single n c here.0
+pub reply_single : (pattern : List ℕ) (p : PromptInput) (n : Option ℕ) (r : Reply) → CanReply p n r → is_single (reply_act pattern p n r) ≡ true
+reply_single pattern p n Asked here = answered_single p.question n (meant p.question pattern p.input)
+reply_single pattern p n (Named c) here = bound_single n c here.0
 
 -- what a question is for, as it was asked and answered
-asked_act : {X : Type 0} (f : Act → X) (p : PromptInput) (n : Option ℕ) (r : Reply) (c : Question) (typed : List ℕ) → r ≡ Asked → c ≡ p.question → typed ≡ p.input → f (Run (answered c) n typed) ≡ f (reply_act p n r)
-asked_act f p n r c typed is question input =
-    ap (λ (q : Question). f (Run (answered q) n typed)) question
-    ∙ ap (λ (t : List ℕ). f (Run (answered p.question) n t)) input
-    ∙ sym (ap (λ (k : Reply). f (reply_act p n k)) is)
+asked_act : {X : Type 0} (f : Act → X) (pattern : List ℕ) (p : PromptInput) (n : Option ℕ) (r : Reply) (c : Question) (typed : List ℕ) → r ≡ Asked → c ≡ p.question → typed ≡ p.input → f (Run (answered c) n (meant c pattern typed)) ≡ f (reply_act pattern p n r)
+asked_act f pattern p n r c typed is question input =
+    ap (λ (q : Question). f (Run (answered q) n (meant q pattern typed))) question
+    ∙ ap (λ (t : List ℕ). f (Run (answered p.question) n (meant p.question pattern t))) input
+    ∙ sym (ap (λ (k : Reply). f (reply_act pattern p n k)) is)
 
-pub asked_quietly : (old new : World) (t : StoreTold) (id : ℕ) (p : PromptInput) (n : Option ℕ) (r : Reply) (c : Question) (typed : List ℕ) → r ≡ Asked → c ≡ p.question → typed ≡ p.input → new ≡ act old id (Run (answered c) n typed) true → ActedBy old new t t id (reply_act p n r)
-asked_quietly old new t id p n r c typed is question input world =
-    let acts : new ≡ act old id (reply_act p n r) true = world ∙ asked_act (λ (a : Act). act old id a true) p n r c typed is question input in
-    let of_asked : new ≡ act old id (reply_act p n Asked) true = acts ∙ ap (λ (k : Reply). act old id (reply_act p n k) true) is in
-    subst (λ (k : Reply). ActedBy old new t t id (reply_act p n k)) (sym is) (answered_quietly old new t id p.question n p.input of_asked)
+pub asked_quietly : (old new : World) (t : StoreTold) (id : ℕ) (pattern : List ℕ) (p : PromptInput) (n : Option ℕ) (r : Reply) (c : Question) (typed : List ℕ) → r ≡ Asked → c ≡ p.question → typed ≡ p.input → new ≡ act old id (Run (answered c) n (meant c pattern typed)) true → ActedBy old new t t id (reply_act pattern p n r)
+asked_quietly old new t id pattern p n r c typed is question input world =
+    let acts : new ≡ act old id (reply_act pattern p n r) true = world ∙ asked_act (λ (a : Act). act old id a true) pattern p n r c typed is question input in
+    let of_asked : new ≡ act old id (reply_act pattern p n Asked) true = acts ∙ ap (λ (k : Reply). act old id (reply_act pattern p n k) true) is in
+    subst (λ (k : Reply). ActedBy old new t t id (reply_act pattern p n k)) (sym is) (answered_quietly old new t id p.question n (meant p.question pattern p.input) of_asked)
 
-pub asked_may : (w : World) (id : ℕ) (p : PromptInput) (n : Option ℕ) (r : Reply) (c : Question) (typed : List ℕ) → r ≡ Asked → c ≡ p.question → typed ≡ p.input → may_be_refused (outcome_in w id (Run (answered c) n typed) true) ≡ true → may_be_refused (outcome_in w id (reply_act p n r) true) ≡ true
-asked_may w id p n r c typed is question input may = sym (asked_act (λ (a : Act). may_be_refused (outcome_in w id a true)) p n r c typed is question input) ∙ may
+pub asked_may : (w : World) (id : ℕ) (pattern : List ℕ) (p : PromptInput) (n : Option ℕ) (r : Reply) (c : Question) (typed : List ℕ) → r ≡ Asked → c ≡ p.question → typed ≡ p.input → may_be_refused (outcome_in w id (Run (answered c) n (meant c pattern typed)) true) ≡ true → may_be_refused (outcome_in w id (reply_act pattern p n r) true) ≡ true
+asked_may w id pattern p n r c typed is question input may = sym (asked_act (λ (a : Act). may_be_refused (outcome_in w id a true)) pattern p n r c typed is question input) ∙ may
 
 -- AN ANSWER, with no key half read
 
@@ -212,11 +214,11 @@ plain_rests : (x : Session) (p : PromptInput) → p.waiting ≡ NoKey → plain_
 plain_rests x p none = ap (λ (w : Waiting). record (idle (own_of x.own)) { keys = keys_of w }) none
 
 asked_at : (v : View) (x : Session) (p : PromptInput) (byte : ℕ) → x.own.prompt ≡ Some p → p.waiting ≡ NoKey → IsStep p p byte Answered → names_commands p.question ≡ false → is_asked p.question ≡ true
-    → own_turn v x.own byte ≡ Do (idle (own_of x.own)) (Run (answered p.question) (value_of x.own.keyboard.argument) p.input)
+    → own_turn v x.own byte ≡ Do (idle (own_of x.own)) (Run (answered p.question) (value_of x.own.keyboard.argument) (meant p.question x.own.pattern p.input))
 asked_at v x p byte is none turn one asked =
     step_turn v x p p Answered byte is refl turn
     ∙ asked_turn p.question asked one (own_of (prompting p x).own)
-    ∙ ap (λ (o : model.Own). Do o (Run (answered p.question) (value_of x.own.keyboard.argument) p.input)) (plain_rests x p none)
+    ∙ ap (λ (o : model.Own). Do o (Run (answered p.question) (value_of x.own.keyboard.argument) (meant p.question x.own.pattern p.input))) (plain_rests x p none)
 
 named_at : (v : View) (x : Session) (p : PromptInput) (c : Command) (byte : ℕ) → x.own.prompt ≡ Some p → p.waiting ≡ NoKey → IsStep p p byte Answered → reply_to p ≡ Some (Named c) → is_bound c ≡ true
     → own_turn v x.own byte ≡ Do (idle (own_of x.own)) (act_of (command_act c (value_of x.own.keyboard.argument)))
@@ -239,13 +241,13 @@ unknown_at v x p byte is turn to =
     ∙ ap (named_turn (plain_own own) (value_of own.argument)) unnamed.1
 
 reply_turn : (v : View) (x : Session) (p : PromptInput) (r : Reply) (n : Option ℕ) (byte : ℕ) → x.own.prompt ≡ Some p → p.waiting ≡ NoKey → IsStep p p byte Answered → reply_to p ≡ Some r → IsBoundReply r → n ≡ value_of x.own.keyboard.argument → is_asked p.question ≡ true
-    → own_turn v x.own byte ≡ Do (idle (own_of x.own)) (reply_act p n r)
+    → own_turn v x.own byte ≡ Do (idle (own_of x.own)) (reply_act x.own.pattern p n r)
 reply_turn v x p Asked n byte is none turn to bound argument asked =
     asked_at v x p byte is none turn (asks_own (names_commands p.question) (find_command p.input) to) asked
-    ∙ ap (λ (k : Option ℕ). Do (idle (own_of x.own)) (reply_act p k Asked)) (sym argument)
+    ∙ ap (λ (k : Option ℕ). Do (idle (own_of x.own)) (reply_act x.own.pattern p k Asked)) (sym argument)
 reply_turn v x p (Named c) n byte is none turn to bound argument asked =
     named_at v x p c byte is none turn to bound
-    ∙ ap (λ (k : Option ℕ). Do (idle (own_of x.own)) (reply_act p k (Named c))) (sym argument)
+    ∙ ap (λ (k : Option ℕ). Do (idle (own_of x.own)) (reply_act x.own.pattern p k (Named c))) (sym argument)
 
 -- the session that is at its prompt again has what it had
 again_own : (x : Session) (p : PromptInput) → x.own.prompt ≡ Some p → p.waiting ≡ NoKey → asked_again p (idle (own_of x.own)) ≡ refused_own (own_of x.own)
@@ -332,5 +334,5 @@ set_same [] at h y is same = refl
 set_same (x ∷ xs) zero h y is same = ap (λ (s : Session). s ∷ xs) (same ∙ is)
 set_same (x ∷ xs) (suc at) h y is same = ap (λ (ss : List Session). x ∷ ss) (set_same xs at h y is same)
 
-pub typed_same : (d : Directory) (ks : List MarkedBuffer) (xs zs : List Session) (w : World) (next : Option ℕ) (before after : StoreTold) (id byte : ℕ) (k : Keyed) → zs ≡ xs → TypedBy (world_of d ks zs next) w before after id byte k → TypedBy (world_of d ks xs next) w before after id byte k
-typed_same d ks xs zs w next before after id byte k same typed = subst (λ (ss : List Session). TypedBy (world_of d ks ss next) w before after id byte k) same typed
+pub read_same : (d : Directory) (ks : List MarkedBuffer) (xs zs : List Session) (w : World) (next : Option ℕ) (before after : StoreTold) (id byte : ℕ) (k : Keyed) → zs ≡ xs → ReadOutBy (world_of d ks zs next) w before after id byte k → ReadOutBy (world_of d ks xs next) w before after id byte k
+read_same d ks xs zs w next before after id byte k same typed = subst (λ (ss : List Session). ReadOutBy (world_of d ks ss next) w before after id byte k) same typed

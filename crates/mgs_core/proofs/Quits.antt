@@ -33,10 +33,10 @@ use Rattle.mgs_core.specs.Held.{AreSettled}
 use Rattle.mgs_core.specs.Prompted.{own_turn}
 use Rattle.mgs_world.specs.declared.size.Size.{Size}
 use Rattle.mgs_model.specs.declared.errors.Keyed.{Keyed}
-use Rattle.mgs_core.specs.Steps.{KeyedBy, TypedBy, closed, is_exit, sizes_keyed}
+use Rattle.mgs_core.specs.Steps.{KeyedBy, ReadBy, TypedBy, closed, is_exit, sizes_keyed}
 use Rattle.mgs_core.proofs.Sizes.{sizes_world}
 use Rattle.mgs_core.proofs.Stays.{closed_rests, without_first}
-use Rattle.mgs_core.proofs.Steps.{exit_turn, keyed_quit, seen_at, still}
+use Rattle.mgs_core.proofs.Steps.{exit_turn, read_quit, plain_mode, seen_at}
 
 -- a change of those that go leaves the others
 without_changed : (id : ℕ) (f : Session → Session) → ((x : Session) → has_id id (f x) ≡ has_id id x) → (xs : List Session) → without_session id (change_first (has_id id) f xs) ≡ without_session id xs
@@ -72,27 +72,27 @@ act_exit w own id n x found =
     ∙ ends_world w own id
 
 -- a byte that is this command
-pub keyed_end : (d : Directory) (ks : List MarkedBuffer) (xs : List code.Session) (next : Option ℕ) (t : StoreTold) (id at byte : ℕ) (n : Option ℕ) (h : code.Session) → at ≡ position_or_len (session_id id) xs → at < length xs → h ≡ get_or xs at h
+pub read_end : (d : Directory) (ks : List MarkedBuffer) (xs : List code.Session) (next : Option ℕ) (t : StoreTold) (id at byte : ℕ) (n : Option ℕ) (h : code.Session) → at ≡ position_or_len (session_id id) xs → at < length xs → h ≡ get_or xs at h
     → ((v : View) → own_turn v h.own byte ≡ Do (idle (own_of h.own)) (Run Exit n []))
     → IsUnique (sizes_in xs) → AreSettled d ks xs
-    → KeyedBy (world_of d ks xs next) (closed (world_of d ks xs next) id) t t id byte keyed.Quit
-keyed_end d ks xs next t id at byte n h place within is turn unique rests =
+    → ReadBy (world_of d ks xs next) (closed (world_of d ks xs next) id) t t id byte keyed.Quit
+read_end d ks xs next t id at byte n h place within is turn unique rests =
     let w : World = world_of d ks xs next in
     let found = session_some d ks xs next id at h place within is in
     let alone : without_session id w.sessions ≡ remove_first (has_id id) w.sessions = without_first id w.sessions (subst IsUnique (sym (sizes_world d ks xs next)) unique) in
-    keyed_quit w (closed w id) t id byte (ap is_some found) (ap (find_session id) (sym alone) ∙ find_without id w.sessions)
+    read_quit w (closed w id) t id byte (ap (find_session id) (sym alone) ∙ find_without id w.sessions)
     (sym
-    (ap settled (byte_acted w id byte true (session_of ks h) found (still h.own) (idle (own_of h.own)) (Run Exit n []) (turn (seen_at w (session_of ks h) byte)) refl refl refl ∙ act_exit w (own_of h.own) id n (session_of ks h) found ∙ ap (λ ys. record w { sessions = ys }) alone)
+    (ap settled (byte_acted w id byte true (session_of ks h) found (plain_mode h.own.prompt) (idle (own_of h.own)) (Run Exit n []) (turn (seen_at w (session_of ks h) byte)) refl refl refl ∙ act_exit w (own_of h.own) id n (session_of ks h) found ∙ ap (λ ys. record w { sessions = ys }) alone)
     ∙ closed_rests w id (rests next)))
-    (ap (flat_map saved_by) (acted_effects w id byte true (session_of ks h) found (still h.own) (idle (own_of h.own)) (Run Exit n []) (turn (seen_at w (session_of ks h) byte)) refl refl refl)
+    (ap (flat_map saved_by) (acted_effects w id byte true (session_of ks h) found (plain_mode h.own.prompt) (idle (own_of h.own)) (Run Exit n []) (turn (seen_at w (session_of ks h) byte)) refl refl refl)
     ∙ act_saves_none (with_own id (λ old. idle (own_of h.own)) w) id (Run Exit n []) true refl)
 
-pub keyed_exit : (d : Directory) (ks : List MarkedBuffer) (xs : List code.Session) (next : Option ℕ) (t : StoreTold) (id at byte : ℕ) (f : Fed) (k : Held) (h : code.Session) → at ≡ position_or_len (session_id id) xs → at < length xs → h ≡ get_or xs at h
+pub read_exit : (d : Directory) (ks : List MarkedBuffer) (xs : List code.Session) (next : Option ℕ) (t : StoreTold) (id at byte : ℕ) (f : Fed) (k : Held) (h : code.Session) → at ≡ position_or_len (session_id id) xs → at < length xs → h ≡ get_or xs at h
     → h.own.prompt ≡ None → FedBy f (key_read h.own.keyboard.argument h.own.keyboard.keys byte) k → IsBoundRun f → is_exit f ≡ true
     → IsUnique (sizes_in xs) → AreSettled d ks xs
-    → KeyedBy (world_of d ks xs next) (closed (world_of d ks xs next) id) t t id byte keyed.Quit
-keyed_exit d ks xs next t id at byte f k h place within is none read bound exit unique rests =
-    let turn = exit_turn h.own byte k f none read bound exit in keyed_end d ks xs next t id at byte turn.0 h place within is turn.1 unique rests
+    → ReadBy (world_of d ks xs next) (closed (world_of d ks xs next) id) t t id byte keyed.Quit
+read_exit d ks xs next t id at byte f k h place within is none read bound exit unique rests =
+    let turn = exit_turn h.own byte k f none read bound exit in read_end d ks xs next t id at byte turn.0 h place within is turn.1 unique rests
 
 -- nothing is said to stay
 pub apart_closed : (w : World) (id : ℕ) → Apart Anywhere id w (closed w id)

@@ -18,6 +18,7 @@ use Rattle.mgs_mini.specs.Typing.{PromptInput, is_asked, keys_of}
 use Rattle.mgs_maps.specs.Held.{is_bound}
 use Rattle.mgs_buffers.specs.MarkedBuffer.{MarkedBuffer}
 use Rattle.mgs_act.specs.Actions.{act_of}
+use Rattle.mgs_act.specs.Searching.{meant}
 use Rattle.mgs_session.specs.declared.Own.{Own}
 use Rattle.mgs_session.specs.declared.Session.{Session}
 use Rattle.mgs_session.specs.Sessions.{failed, resting}
@@ -48,10 +49,10 @@ abbrev pub is_end : Reply → Bool
 is_end (Named Exit) = true
 is_end _ = false
 
--- the act that an answer asks for
-abbrev pub reply_act : PromptInput → Option ℕ → Reply → outcomes.Act
-reply_act p n Asked = outcomes.Run (answered p.question) n p.input
-reply_act p n (Named c) = act_of (command_act c n)
+-- the act that an answer asks for, by a session with this search string
+abbrev pub reply_act : List ℕ → PromptInput → Option ℕ → Reply → outcomes.Act
+reply_act pattern p n Asked = outcomes.Run (answered p.question) n (meant p.question pattern p.input)
+reply_act pattern p n (Named c) = act_of (command_act c n)
 
 -- what the server does: what a question is for that asks for no command's name, and the commands of keys
 abbrev pub CanReply : PromptInput → Option ℕ → Reply → Type 0
@@ -79,7 +80,7 @@ pub record IsKept (directory : Directory) (ks : List MarkedBuffer) (old new : Se
 pub record IsAnswered (old new : Session) (byte : ℕ) (p : PromptInput) (r : Reply) (n : Option ℕ) : Type 0 where
   pub rests : new ≡ resting old
   pub here : CanReply p n r
-  pub turn : is_asked p.question ≡ true → (v : View) → own_turn v old.own byte ≡ Do (idle (own_of old.own)) (reply_act p n r)
+  pub turn : is_asked p.question ≡ true → (v : View) → own_turn v old.own byte ≡ Do (idle (own_of old.own)) (reply_act old.own.pattern p n r)
   pub again : asked_again p (idle (own_of old.own)) ≡ refused_own (own_of old.own)
 
 -- the session is as it was, and what comes next is its end

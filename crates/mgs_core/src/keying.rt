@@ -11,7 +11,7 @@ ghost use Rattle.mgs_world.specs.Sound.{IsSound};
 ghost use Rattle.mgs_world.specs.Worlds.{IsUnique, idle, own_at, session_id, sizes_in, world_of};
 ghost use Rattle.mgs_core.specs.Held.{AreSettled};
 ghost use Rattle.mgs_core.specs.Prompted.{prompt_at};
-ghost use Rattle.mgs_core.specs.Steps.{ActedBy, TypedBy, asks_store, command_act, is_acted, is_exit, key_act_of, line_act, motion_act};
+ghost use Rattle.mgs_core.specs.Steps.{ActedBy, ReadOutBy, asks_store, command_act, is_acted, is_exit, key_act_of, line_act, motion_act};
 
 use mgs_act::{KeyAct, act, save};
 use mgs_buffers::Buffers;
@@ -118,8 +118,8 @@ pub fn do_act<T: Marked + Drop, S: Store>(
     }
 }
 
-/// A byte of the session at `at`, which is at no prompt, as `Core::key` says, but that `Quit` changes nothing: the session is to
-/// be taken out.
+/// A byte of the session at `at`, which is at no prompt, is read as `Core::key` says, but that `Quit` changes nothing: the session is
+/// to be taken out.
 pub fn type_key<T: Marked + Drop, S: Store>(
     alloc: Global,
     buffers: &mut Buffers<T>,
@@ -140,7 +140,7 @@ pub fn type_key<T: Marked + Drop, S: Store>(
     ensures sizes { sizes_in sessions.new ≡ sizes_in sessions.old }
     ensures same { result.0 ≡ Quit → (buffers.new ≡ buffers.old) × (sessions.new ≡ sessions.old) }
     ensures left { result.0 ≡ Quit → store.new ≡ store.old }
-    ensures keyed { (next : Option ℕ) → TypedBy (world_of directory.now buffers.old sessions.old next) (world_of directory.now buffers.new sessions.new next) (store_told S.failed S.accepted store.old) (store_told S.failed S.accepted store.new) id byte result.0 }
+    ensures read { (next : Option ℕ) → ReadOutBy (world_of directory.now buffers.old sessions.old next) (world_of directory.now buffers.new sessions.new next) (store_told S.failed S.accepted store.old) (store_told S.failed S.accepted store.new) id byte result.0 }
     ensures touched { (next : Option ℕ) → Apart result.1 id (world_of directory.now buffers.old sessions.old next) (world_of directory.now buffers.new sessions.new next) }
 {
     let mut keyboard = sessions[at].own.keyboard;

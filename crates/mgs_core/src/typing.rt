@@ -18,7 +18,7 @@ ghost use Rattle.mgs_world.specs.Sound.{IsSound};
 ghost use Rattle.mgs_world.specs.Worlds.{IsUnique, idle, own_at, own_of, session_id, sizes_in, world_of};
 ghost use Rattle.mgs_core.specs.Held.{AreSettled};
 ghost use Rattle.mgs_core.specs.Prompted.{CanReply, IsAnswerStep, IsPromptStep, asked_again, names_for, prompt_put, reply_act};
-ghost use Rattle.mgs_core.specs.Steps.{ActedBy, TypedBy};
+ghost use Rattle.mgs_core.specs.Steps.{ActedBy, ReadOutBy, TypedBy, closed};
 
 use crate::keying::type_key;
 use crate::replying::{Reply, do_reply, is_end, reply_to};
@@ -29,7 +29,7 @@ use mgs_marks::Marked;
 use mgs_mini::{Prompt, Step};
 use mgs_model::{Keyed, Message, Name, SessionId, Short, Touched};
 use mgs_policy::Directory;
-use mgs_session::{Session, fail, hold_prompt, rest, set_echo, take_prompt};
+use mgs_session::{Session, begin, fail, hold_prompt, rest, set_echo, take_prompt};
 use mgs_store::Store;
 use mgs_world::settle_apart;
 use std::alloc::Global;
@@ -186,11 +186,11 @@ fn answer_prompt<T: Marked + Drop, S: Store>(
     ensures asked { is_asked prompt.question ≡ true }
     ensures sound { IsSound buffers.new sessions.new }
     ensures sizes { sizes_in sessions.new ≡ sizes_in sessions.old }
-    ensures ok { OnOk result ((id : ℕ) (next : Option ℕ) → at ≡ position_or_len (session_id id) sessions.old → ActedBy (world_of directory.now buffers.old sessions.old next) (world_of directory.now buffers.new sessions.new next) (store_told S.failed S.accepted store.old) (store_told S.failed S.accepted store.new) id (reply_act prompt argument reply)) }
+    ensures ok { OnOk result ((id : ℕ) (next : Option ℕ) → at ≡ position_or_len (session_id id) sessions.old → ActedBy (world_of directory.now buffers.old sessions.old next) (world_of directory.now buffers.new sessions.new next) (store_told S.failed S.accepted store.old) (store_told S.failed S.accepted store.new) id (reply_act (own_at at sessions.old).pattern prompt argument reply)) }
     ensures touched { IfOk result (λ touched. (id : ℕ) (next : Option ℕ) → at ≡ position_or_len (session_id id) sessions.old → Apart touched id (world_of directory.now buffers.old sessions.old next) (world_of directory.now buffers.new sessions.new next)) }
     ensures err { OnErr result ((id : ℕ) (next : Option ℕ) → at ≡ position_or_len (session_id id) sessions.old → world_of directory.now buffers.new sessions.new next ≡ with_own id (asked_again prompt) (world_of directory.now buffers.old sessions.old next)) }
     ensures accepted { OnErr result (S.accepted store.new ≡ S.accepted store.old) }
-    ensures may { OnErr result ((id : ℕ) (next : Option ℕ) → at ≡ position_or_len (session_id id) sessions.old → may_be_refused (outcome_in (world_of directory.now buffers.old sessions.old next) id (reply_act prompt argument reply) true) ≡ true) }
+    ensures may { OnErr result ((id : ℕ) (next : Option ℕ) → at ≡ position_or_len (session_id id) sessions.old → may_be_refused (outcome_in (world_of directory.now buffers.old sessions.old next) id (reply_act (own_at at sessions.old).pattern prompt argument reply) true) ≡ true) }
 {
     match do_reply(
         alloc, buffers, directory, sessions, at, store, &prompt, reply, argument,
@@ -203,8 +203,9 @@ fn answer_prompt<T: Marked + Drop, S: Store>(
     }
 }
 
-/// A byte of the session at `at`, as `Core::key` says, but that `Quit` changes nothing: the session is to be taken out.
-pub fn type_in<T: Marked + Drop, S: Store>(
+/// A byte of the session at `at`, which was kept where a macro is recorded, is read as `Core::key` says, but that `Quit` changes
+/// nothing: the session is to be taken out.
+fn read_byte<T: Marked + Drop, S: Store>(
     alloc: Global,
     buffers: &mut Buffers<T>,
     judge: &mut Judge,
@@ -226,7 +227,7 @@ pub fn type_in<T: Marked + Drop, S: Store>(
     ensures sizes { sizes_in sessions.new ≡ sizes_in sessions.old }
     ensures same { result.0 ≡ Quit → (buffers.new ≡ buffers.old) × (sessions.new ≡ sessions.old) }
     ensures left { result.0 ≡ Quit → store.new ≡ store.old }
-    ensures keyed { (next : Option ℕ) → TypedBy (world_of directory.now buffers.old sessions.old next) (world_of directory.now buffers.new sessions.new next) (store_told S.failed S.accepted store.old) (store_told S.failed S.accepted store.new) id byte result.0 }
+    ensures read { (next : Option ℕ) → ReadOutBy (world_of directory.now buffers.old sessions.old next) (world_of directory.now buffers.new sessions.new next) (store_told S.failed S.accepted store.old) (store_told S.failed S.accepted store.new) id byte result.0 }
     ensures touched { (next : Option ℕ) → Apart result.1 id (world_of directory.now buffers.old sessions.old next) (world_of directory.now buffers.new sessions.new next) }
 {
     match step_prompt(buffers, judge, directory, &mut sessions[at], byte) {
@@ -253,4 +254,38 @@ pub fn type_in<T: Marked + Drop, S: Store>(
             }
         }
     }
+}
+
+/// A byte of the session at `at`, as `Core::key` says, but that `Quit` changes what the session holds alone: it is to be taken out.
+pub fn type_in<T: Marked + Drop, S: Store>(
+    alloc: Global,
+    buffers: &mut Buffers<T>,
+    judge: &mut Judge,
+    directory: &Directory,
+    sessions: &mut [Session],
+    at: usize,
+    store: &mut S,
+    id: SessionId,
+    byte: u8,
+) -> (Keyed, Touched)
+    requires sound { IsSound buffers.old sessions.old }
+    requires settles { AreSettled directory.now buffers.old sessions.old }
+    requires place { at ≡ position_or_len (session_id id) sessions.old }
+    requires within { at < length sessions.old }
+    requires unique { IsUnique (sizes_in sessions.old) }
+    requires judged { AreJudged directory.now (rules_kept buffers.old) judge.old }
+    ensures judged { AreJudged directory.now (rules_kept buffers.old) judge.new }
+    ensures sound { IsSound buffers.new sessions.new }
+    ensures sizes { sizes_in sessions.new ≡ sizes_in sessions.old }
+    ensures gone { (next : Option ℕ) → result.0 ≡ Quit → closed (world_of directory.now buffers.new sessions.new next) id ≡ closed (world_of directory.now buffers.old sessions.old next) id }
+    ensures left { result.0 ≡ Quit → store.new ≡ store.old }
+    ensures keyed { (next : Option ℕ) → TypedBy (world_of directory.now buffers.old sessions.old next) (world_of directory.now buffers.new sessions.new next) (store_told S.failed S.accepted store.old) (store_told S.failed S.accepted store.new) id byte result.0 }
+    ensures touched { (next : Option ℕ) → Apart result.1 id (world_of directory.now buffers.old sessions.old next) (world_of directory.now buffers.new sessions.new next) }
+{
+    if !begin(&mut sessions[at], byte) {
+        return (Keyed::Done, Touched::Nowhere);
+    }
+    read_byte(
+        alloc, buffers, judge, directory, sessions, at, store, id, byte,
+    )
 }

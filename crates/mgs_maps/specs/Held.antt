@@ -10,7 +10,7 @@ use Rattle.mgs_model.specs.declared.session.Motion.TheVariants.{StartSearch, Sea
 use Rattle.mgs_model.specs.declared.session.Alteration.{Alteration}
 use Rattle.mgs_model.specs.declared.session.Alteration.TheVariants.{ReplaceMatch, ReplaceLast}
 use Rattle.mgs_model.specs.declared.session.Setting.{Setting}
-use Rattle.mgs_model.specs.declared.session.Setting.TheVariants.{SetFillColumn, KeyboardQuit}
+use Rattle.mgs_model.specs.declared.session.Setting.TheVariants.{SetFillColumn, KeyboardQuit, StartMacro, EndMacro}
 use Rattle.mgs_model.specs.declared.session.Command.{Command}
 use Rattle.mgs_model.specs.declared.session.EntryChange.{EntryChange}
 use Rattle.mgs_model.specs.declared.session.EntryChange.TheVariants.{DeleteEntry}
@@ -57,6 +57,8 @@ is_bound_alteration _ = true
 abbrev pub is_bound_setting : Setting → Bool
 is_bound_setting SetFillColumn = true
 is_bound_setting KeyboardQuit = true
+is_bound_setting StartMacro = true
+is_bound_setting EndMacro = true
 is_bound_setting _ = false
 
 -- an entry is deleted at once; for one that comes a question is asked

@@ -11,8 +11,8 @@ ghost use Rattle.mgs_maps.specs.Table.{rows_of, command_of};
 use crate::maps::Prefix;
 use mgs_keys::Key;
 use mgs_model::{
-    Alteration, Arrangement, Command, EntryChange, Insertion, Motion, Question, ReadingInsertion,
-    Scrolling, Setting,
+    Alteration, Arrangement, Command, Direction, EntryChange, Insertion, Motion, Question,
+    ReadingInsertion, Scrolling, Setting,
 };
 
 pub(crate) const ESCAPE: u8 = 0x1B;
@@ -36,7 +36,7 @@ pub struct Binding {
     pub command: Command,
 }
 
-static BINDINGS: [Binding; 65] = [
+static BINDINGS: [Binding; 69] = [
     Binding {
         keys: b"\r",
         name: "newline",
@@ -288,9 +288,29 @@ static BINDINGS: [Binding; 65] = [
         command: Command::Ask(Question::RunWhich),
     },
     Binding {
+        keys: b"\x1Bs",
+        name: "search-forward",
+        command: Command::Ask(Question::SearchWhat(Direction::Forward)),
+    },
+    Binding {
+        keys: b"\x1Br",
+        name: "search-backward",
+        command: Command::Ask(Question::SearchWhat(Direction::Backward)),
+    },
+    Binding {
         keys: b"\x07",
         name: "keyboard-quit",
         command: Command::Set(Setting::KeyboardQuit),
+    },
+    Binding {
+        keys: b"\x18(",
+        name: "",
+        command: Command::Set(Setting::StartMacro),
+    },
+    Binding {
+        keys: b"\x18)",
+        name: "",
+        command: Command::Set(Setting::EndMacro),
     },
     Binding {
         keys: b"\x180",

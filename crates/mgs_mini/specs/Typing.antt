@@ -7,7 +7,7 @@ use Rattle.mgs_model.specs.Turns.{Turn, Keep, answer_turn, completed, names_comp
 use Rattle.mgs_model.specs.Plans.{failed_own}
 use Rattle.mgs_model.specs.declared.message.Message.TheVariants.{Quitting, NoMatch}
 use Rattle.mgs_model.specs.declared.session.Question.{Question}
-use Rattle.mgs_model.specs.declared.session.Question.TheVariants.{SwitchTo, FindWhich, KillWhich, InsertWhich, RunWhich, GoToWhich, EntryToInsert, EntryToReplace, WhichOwner}
+use Rattle.mgs_model.specs.declared.session.Question.TheVariants.{SwitchTo, FindWhich, KillWhich, InsertWhich, RunWhich, GoToWhich, EntryToInsert, EntryToReplace, WhichOwner, SearchWhat}
 use Rattle.mgs_mini.specs.declared.Waiting.{Waiting}
 use Rattle.mgs_mini.specs.declared.Waiting.TheVariants.{NoKey, Escape, Arrow, ArrowEscape}
 use Rattle.mgs_mini.specs.declared.Step.{Step}
@@ -24,6 +24,7 @@ is_asked GoToWhich = true
 is_asked EntryToInsert = true
 is_asked EntryToReplace = true
 is_asked WhichOwner = true
+is_asked (SearchWhat d) = true
 is_asked _ = false
 
 pub record PromptInput : Type 0 where

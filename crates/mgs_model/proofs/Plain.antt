@@ -1,4 +1,4 @@
--- One byte of a session that is in no search and neither records nor plays: it is a part of what is typed, or one act.
+-- One byte of a session that is in no search and plays no macro: it is kept where one is recorded, and is a part of what is typed, or one act.
 use Rattle.std.proofs.Common.{◌≡◌, ℕ, zero, suc, ◌+◌, ◌≤◌, List, [], ◌∷◌, ◌++◌, map, refl, sym, ap, ◌∙◌, Bool, true, false, cond, Option, Some, None, arith, append-nil}
 use Rattle.std.specs.Prelude.{Result, Ok, Err, is_some, not, ◌&&◌, ◌||◌, ◌==◌, ◌-◌, nat_le, length, take}
 use Rattle.std.specs.Option.{option_map}
@@ -11,10 +11,9 @@ use Rattle.mgs_model.specs.Plans.{ModePlan, Goes_on, Over, Failing, Finish, Chan
 use Rattle.mgs_model.specs.Acts.{outcome, permitted, judged, needs, allowed, Target, target, around, edits, edited_by, edit_of, has_file, has_rows, items_in, is_full, moves, row_in, scrolls_rows, selected_seen, moved_by, finished, finished_own, is_too_large, arranges, effects, rules, lists, saves, sets, shown, shows_named, subject, relisted, entries_told, by_name, created, killed, name_meant, fails, without_all, mode_left}
 use Rattle.mgs_model.specs.Apply.{searches, change_first, apply, applied, outcome_in, act, after_quit, session_after, session_arranged}
 use Rattle.mgs_model.specs.Turns.{Turn, Keep, Do, byte_turn, todo_turn, next}
-use Rattle.mgs_model.specs.Events.{Byte, own_set, with_own, Doing, turn_in, turn_seen, rests, turn, turn_done, turns, most_turns, begun, begun_own, byte_done, refused_own, refused_of, refused_in, refused_act, act_effects, event_effects, turn_effects, turns_effects}
+use Rattle.mgs_model.specs.Events.{Byte, own_set, with_own, Doing, turn_in, turn_seen, rests, turn, turn_done, turns, most_turns, is_macro_full, begun_if, begun_own, begun, byte_done, read_own, reading, byte_read, refused_own, refused_of, refused_in, act_effects, event_effects, turn_effects, turns_effects}
 use Rattle.mgs_model.specs.declared.message.Message.{Message}
 use Rattle.mgs_model.specs.declared.message.Message.TheVariants.{Silent, MacroTooLong, KillTooLarge, BadColumn, BadName, BufferFull, InMacro, NoFile, NoSuchUser, NotInMacro, SaveFailed, TooManyBuffers, Wrote}
-use Rattle.mgs_model.specs.declared.limits.TheConstants.{MACRO_LIMIT}
 use Rattle.mgs_model.specs.declared.session.Kind.TheVariants.{Other}
 use Rattle.mgs_model.specs.declared.session.ByName.{ByName}
 use Rattle.mgs_model.specs.declared.session.ByName.TheVariants.{SwitchToBuffer, KillBuffer, InsertBuffer}
@@ -51,31 +50,13 @@ seen_begun w id f x found = view_with_own w id f ∙ ap (λ o. option_map (begun
 abbrev pub quiet : Own → Own
 quiet own = record own { echo = Silent; playing = false; todo = [] }
 
--- the own record of a session that is in no search, and does not record
-pub record IsStill (own : Own) : Type 0 where
-  pub mode : searches own.mode ≡ false
-  pub recording : own.recording ≡ false
-
--- what a byte comes to
+-- what a byte comes to that is read
 abbrev pub turn_of : World → Session → ℕ → Turn
-turn_of w x byte = byte_turn (begun_view (begun_own byte) (view w x)) (quiet x.own) byte x.own.mode
+turn_of w x byte = byte_turn (begun_view (read_own byte) (view w x)) (quiet x.own) byte x.own.mode
 
-begun_still : (own : Own) (byte : ℕ) → own.recording ≡ false → begun_own byte own ≡ record own { todo = Typed byte ∷ [] }
-begun_still own byte e =
-    let full : Bool = nat_le MACRO_LIMIT (length own.macro) in
-    ap (λ (b : Bool). record own {
-      echo = cond (b && full) MacroTooLong own.echo;
-      macro = cond (b && full) [] (cond b (own.macro ++ byte ∷ []) own.macro);
-      recording = cond (b && full) false own.recording;
-      kind = cond (b && full) Other own.kind;
-      todo = cond (b && full) [] (Typed byte ∷ []);
-    }) e
-
-turn_begun : (w : World) (id byte : ℕ) (x : Session) → find_session id w.sessions ≡ Some x → IsStill x.own → turn_in (with_own id (begun_own byte) w) id ≡ turn_of w x byte
+turn_read : (w : World) (id byte : ℕ) (x : Session) → find_session id w.sessions ≡ Some x → turn_in (with_own id (read_own byte) w) id ≡ turn_of w x byte
 unfolding next
-turn_begun w id byte x found still =
-    ap turn_seen (seen_begun w id (begun_own byte) x found)
-    ∙ ap (λ (own : Own). todo_turn (begun_view (begun_own byte) (view w x)) own own.todo) (begun_still x.own byte still.recording)
+turn_read w id byte x found = ap turn_seen (seen_begun w id (read_own byte) x found)
 
 -- where nothing is left to do
 rests_seen : (v : View) → v.session.own.todo ≡ [] → rests (next v) ≡ true
@@ -313,95 +294,140 @@ one_effects (suc n) id stored d h e f =
     ∙ ap (λ es. first ++ es) (no_effects n id stored (turn id stored d) f)
     ∙ append-nil first
 
--- A BYTE
+-- A BYTE THAT IS READ
 
 pub found_own : (w : World) (id : ℕ) (f : Own → Own) (x : Session) → find_session id w.sessions ≡ Some x → find_session id (with_own id f w).sessions ≡ Some (own_set f x)
 found_own w id f x found = find-change_first (has_id id) (own_set f) (λ y. refl) w.sessions ∙ ap (option_map (own_set f)) found
 
-module _ (w : World) (id byte : ℕ) (stored : Bool) (x : Session) (found : find_session id w.sessions ≡ Some x) (still : IsStill x.own) where
+module _ (w : World) (id byte : ℕ) (stored : Bool) (x : Session) (found : find_session id w.sessions ≡ Some x) (still : searches x.own.mode ≡ false) where
   -- what is begun
-  turned : (memory : Option ℕ) (t : Turn) → turn_of w x byte ≡ t → turn id stored (begun w id byte memory) ≡ turn_done id stored t (with_own id (begun_own byte) w) memory
-  turned memory t e = ap (λ (s : Turn). turn_done id stored s (with_own id (begun_own byte) w) memory) (turn_begun w id byte x found still ∙ e)
+  turned : (memory : Option ℕ) (t : Turn) → turn_of w x byte ≡ t → turn id stored (reading w id byte memory) ≡ turn_done id stored t (with_own id (read_own byte) w) memory
+  turned memory t e = ap (λ (s : Turn). turn_done id stored s (with_own id (read_own byte) w) memory) (turn_read w id byte x found ∙ e)
 
-  goes_on : (t : Turn) → turn_of w x byte ≡ t → rests t ≡ false → rests (turn_in (with_own id (begun_own byte) w) id) ≡ false
-  goes_on t e r = ap rests (turn_begun w id byte x found still ∙ e) ∙ r
+  goes_on : (t : Turn) → turn_of w x byte ≡ t → rests t ≡ false → rests (turn_in (with_own id (read_own byte) w) id) ≡ false
+  goes_on t e r = ap rests (turn_read w id byte x found ∙ e) ∙ r
 
   -- nothing is left then
-  kept_rests : (own : Own) → turn_of w x byte ≡ Keep own → own.todo ≡ [] → rests (turn_in (turn id stored (begun w id byte None)).world id) ≡ true
+  kept_rests : (own : Own) → turn_of w x byte ≡ Keep own → own.todo ≡ [] → rests (turn_in (turn id stored (reading w id byte None)).world id) ≡ true
   kept_rests own e left =
-      let v : World = with_own id (begun_own byte) w in
-      ap (λ (d : Doing). rests (turn_in d.world id)) (turned None (Keep own) e) ∙ rests_with_own v id (λ old. own) (own_set (begun_own byte) x) (found_own w id (begun_own byte) x found) left
+      let v : World = with_own id (read_own byte) w in
+      ap (λ (d : Doing). rests (turn_in d.world id)) (turned None (Keep own) e) ∙ rests_with_own v id (λ old. own) (own_set (read_own byte) x) (found_own w id (read_own byte) x found) left
 
-  acted_rests : (own : Own) (c : Act) → turn_of w x byte ≡ Do own c → own.todo ≡ [] → is_single c ≡ true → rests (turn_in (turn id stored (begun w id byte None)).world id) ≡ true
+  acted_rests : (own : Own) (c : Act) → turn_of w x byte ≡ Do own c → own.todo ≡ [] → is_single c ≡ true → rests (turn_in (turn id stored (reading w id byte None)).world id) ≡ true
   acted_rests own c e left single =
-      let v : World = with_own id (begun_own byte) w in
-      ap (λ (d : Doing). rests (turn_in d.world id)) (turned None (Do own c) e) ∙ rests_acted v id own c stored (own_set (begun_own byte) x) (found_own w id (begun_own byte) x found) single left
+      let v : World = with_own id (read_own byte) w in
+      ap (λ (d : Doing). rests (turn_in d.world id)) (turned None (Do own c) e) ∙ rests_acted v id own c stored (own_set (read_own byte) x) (found_own w id (read_own byte) x found) single left
 
-  refused_rests : (own : Own) (c : Act) → turn_of w x byte ≡ Do own c → rests (turn_in (turn id stored (begun w id byte (Some 0))).world id) ≡ true
+  refused_rests : (own : Own) (c : Act) → turn_of w x byte ≡ Do own c → rests (turn_in (turn id stored (reading w id byte (Some 0))).world id) ≡ true
   refused_rests own c e =
-      let v : World = with_own id (begun_own byte) w in
-      ap (λ (d : Doing). rests (turn_in d.world id)) (turned (Some 0) (Do own c) e) ∙ rests_with_own v id refused_own (own_set (begun_own byte) x) (found_own w id (begun_own byte) x found) refl
+      let v : World = with_own id (read_own byte) w in
+      ap (λ (d : Doing). rests (turn_in d.world id)) (turned (Some 0) (Do own c) e) ∙ rests_with_own v id refused_own (own_set (read_own byte) x) (found_own w id (read_own byte) x found) refl
 
   -- a part of what is typed
-  pub byte_kept : (own : Own) → turn_of w x byte ≡ Keep own → searches own.mode ≡ false → own.todo ≡ [] → byte_done w id byte stored None ≡ with_own id (λ old. own) w
+  pub byte_kept : (own : Own) → turn_of w x byte ≡ Keep own → searches own.mode ≡ false → own.todo ≡ [] → byte_read w id byte stored None ≡ with_own id (λ old. own) w
   byte_kept own e mode left =
-      let v : World = with_own id (begun_own byte) w in
-      let done : turn id stored (begun w id byte None) ≡ record { world = with_own id (λ old. own) v; memory = None } = turned None (Keep own) e in
-      ap (λ (d : Doing). d.world) (one_turn most_turns id stored (begun w id byte None) some_turn (goes_on (Keep own) e refl) (kept_rests own e left) ∙ done)
-      ∙ own_twice id own (begun_own byte) w mode
+      let v : World = with_own id (read_own byte) w in
+      let done : turn id stored (reading w id byte None) ≡ record { world = with_own id (λ old. own) v; memory = None } = turned None (Keep own) e in
+      ap (λ (d : Doing). d.world) (one_turn most_turns id stored (reading w id byte None) some_turn (goes_on (Keep own) e refl) (kept_rests own e left) ∙ done)
+      ∙ own_twice id own (read_own byte) w mode
 
   -- one act
-  pub byte_acted : (own : Own) (c : Act) → turn_of w x byte ≡ Do own c → searches own.mode ≡ false → own.todo ≡ [] → is_single c ≡ true → byte_done w id byte stored None ≡ act (with_own id (λ old. own) w) id c stored
+  pub byte_acted : (own : Own) (c : Act) → turn_of w x byte ≡ Do own c → searches own.mode ≡ false → own.todo ≡ [] → is_single c ≡ true → byte_read w id byte stored None ≡ act (with_own id (λ old. own) w) id c stored
   byte_acted own c e mode left single =
-      let v : World = with_own id (begun_own byte) w in
-      let done : turn id stored (begun w id byte None) ≡ record { world = act (with_own id (λ old. own) v) id c stored; memory = None } = turned None (Do own c) e in
-      ap (λ (d : Doing). d.world) (one_turn most_turns id stored (begun w id byte None) some_turn (goes_on (Do own c) e refl) (acted_rests own c e left single) ∙ done)
-      ∙ ap (λ u. act u id c stored) (own_twice id own (begun_own byte) w mode)
+      let v : World = with_own id (read_own byte) w in
+      let done : turn id stored (reading w id byte None) ≡ record { world = act (with_own id (λ old. own) v) id c stored; memory = None } = turned None (Do own c) e in
+      ap (λ (d : Doing). d.world) (one_turn most_turns id stored (reading w id byte None) some_turn (goes_on (Do own c) e refl) (acted_rests own c e left single) ∙ done)
+      ∙ ap (λ u. act u id c stored) (own_twice id own (read_own byte) w mode)
 
   -- one that is refused
-  own_refused : with_own id refused_own (with_own id (begun_own byte) w) ≡ with_own id (λ old. refused_own (begun_own byte x.own)) w
+  own_refused : with_own id refused_own (with_own id (read_own byte) w) ≡ with_own id (λ old. refused_own (read_own byte x.own)) w
   own_refused =
-      let own : Own = refused_own (begun_own byte x.own) in
+      let own : Own = refused_own (read_own byte x.own) in
       ap (λ xs. record w { sessions = xs })
-      (change_twice (has_id id) (own_set refused_own) (own_set (begun_own byte)) (λ y. own_set refused_own (own_set (begun_own byte) y)) (λ y. refl) (λ y. refl) w.sessions
-      ∙ change_first_found (has_id id) (λ y. own_set refused_own (own_set (begun_own byte) y)) (own_set (λ old. own)) x w.sessions found
-      (ap (λ (c : Bool). record x { search = cond c (cond c x.search None) None; own = own }) still.mode ∙ sym (ap (λ (c : Bool). record x { search = cond c x.search None; own = own }) still.mode)))
+      (change_twice (has_id id) (own_set refused_own) (own_set (read_own byte)) (λ y. own_set refused_own (own_set (read_own byte) y)) (λ y. refl) (λ y. refl) w.sessions
+      ∙ change_first_found (has_id id) (λ y. own_set refused_own (own_set (read_own byte) y)) (own_set (λ old. own)) x w.sessions found
+      (ap (λ (c : Bool). record x { search = cond c (cond c x.search None) None; own = own }) still ∙ sym (ap (λ (c : Bool). record x { search = cond c x.search None; own = own }) still)))
 
-  pub byte_refused : (own : Own) (c : Act) → turn_of w x byte ≡ Do own c → byte_done w id byte stored (Some 0) ≡ with_own id (λ old. refused_own (begun_own byte x.own)) w
+  pub byte_refused : (own : Own) (c : Act) → turn_of w x byte ≡ Do own c → byte_read w id byte stored (Some 0) ≡ with_own id (λ old. refused_own (read_own byte x.own)) w
   byte_refused own c e =
-      let v : World = with_own id (begun_own byte) w in
-      let done : turn id stored (begun w id byte (Some 0)) ≡ record { world = with_own id refused_own v; memory = Some 0 } = turned (Some 0) (Do own c) e in
-      ap (λ (d : Doing). d.world) (one_turn most_turns id stored (begun w id byte (Some 0)) some_turn (goes_on (Do own c) e refl) (refused_rests own c e) ∙ done)
+      let v : World = with_own id (read_own byte) w in
+      let done : turn id stored (reading w id byte (Some 0)) ≡ record { world = with_own id refused_own v; memory = Some 0 } = turned (Some 0) (Do own c) e in
+      ap (λ (d : Doing). d.world) (one_turn most_turns id stored (reading w id byte (Some 0)) some_turn (goes_on (Do own c) e refl) (refused_rests own c e) ∙ done)
       ∙ own_refused
 
   -- and what it would have come to
-  refused_first : (n : ℕ) (own : Own) (c : Act) → 1 ≤ n → turn_of w x byte ≡ Do own c → refused_in n id stored (begun w id byte (Some 0)) ≡ outcome_in (with_own id (λ old. own) (with_own id (begun_own byte) w)) id c stored
+  refused_first : (n : ℕ) (own : Own) (c : Act) → 1 ≤ n → turn_of w x byte ≡ Do own c → refused_in n id stored (reading w id byte (Some 0)) ≡ outcome_in (with_own id (λ old. own) (with_own id (read_own byte) w)) id c stored
   unfolding refused_in
   refused_first zero own c h e = absurd (omega (arith, h))
   refused_first (suc n) own c h e =
-      let v : World = with_own id (begun_own byte) w in
-      let later : Option Outcome = refused_in n id stored (turn id stored (begun w id byte (Some 0))) in
-      ap (λ (t : Turn). elim (rests t) [ true ↦ None | false ↦ refused_of id stored t v (Some 0) later ]) (turn_begun w id byte x found still ∙ e)
+      let v : World = with_own id (read_own byte) w in
+      let later : Option Outcome = refused_in n id stored (turn id stored (reading w id byte (Some 0))) in
+      ap (λ (t : Turn). elim (rests t) [ true ↦ None | false ↦ refused_of id stored t v (Some 0) later ]) (turn_read w id byte x found ∙ e)
 
-  pub byte_refused_act : (own : Own) (c : Act) → turn_of w x byte ≡ Do own c → searches own.mode ≡ false → refused_act w id byte stored (Some 0) ≡ outcome_in (with_own id (λ old. own) w) id c stored
+  pub byte_refused_act : (own : Own) (c : Act) → turn_of w x byte ≡ Do own c → searches own.mode ≡ false → refused_in most_turns id stored (reading w id byte (Some 0)) ≡ outcome_in (with_own id (λ old. own) w) id c stored
   byte_refused_act own c e mode =
-      refused_first most_turns own c some_turn e ∙ ap (λ u. outcome_in u id c stored) (own_twice id own (begun_own byte) w mode)
+      refused_first most_turns own c some_turn e ∙ ap (λ u. outcome_in u id c stored) (own_twice id own (read_own byte) w mode)
 
   -- WHAT IS DONE: a part of what is typed and an act that is refused do nothing
 
-  effects_of : (memory : Option ℕ) (t : Turn) → turn_of w x byte ≡ t → rests t ≡ false → rests (turn_in (turn id stored (begun w id byte memory)).world id) ≡ true
-      → event_effects w (Byte id byte stored memory) ≡ turn_effects id stored t (with_own id (begun_own byte) w) memory
+  effects_of : (memory : Option ℕ) (t : Turn) → turn_of w x byte ≡ t → rests t ≡ false → rests (turn_in (turn id stored (reading w id byte memory)).world id) ≡ true
+      → turns_effects most_turns id stored (reading w id byte memory) ≡ turn_effects id stored t (with_own id (read_own byte) w) memory
   effects_of memory t e goes after =
-      ap (λ (o : Option Session). cond (is_some o) (turns_effects most_turns id stored (begun w id byte memory)) []) found
-      ∙ one_effects most_turns id stored (begun w id byte memory) some_turn (goes_on t e goes) after
-      ∙ ap (λ (s : Turn). turn_effects id stored s (with_own id (begun_own byte) w) memory) (turn_begun w id byte x found still ∙ e)
+      one_effects most_turns id stored (reading w id byte memory) some_turn (goes_on t e goes) after
+      ∙ ap (λ (s : Turn). turn_effects id stored s (with_own id (read_own byte) w) memory) (turn_read w id byte x found ∙ e)
 
-  pub kept_effects : (own : Own) → turn_of w x byte ≡ Keep own → own.todo ≡ [] → event_effects w (Byte id byte stored None) ≡ []
+  pub kept_effects : (own : Own) → turn_of w x byte ≡ Keep own → own.todo ≡ [] → turns_effects most_turns id stored (reading w id byte None) ≡ []
   kept_effects own e left = effects_of None (Keep own) e refl (kept_rests own e left)
 
-  pub acted_effects : (own : Own) (c : Act) → turn_of w x byte ≡ Do own c → searches own.mode ≡ false → own.todo ≡ [] → is_single c ≡ true → event_effects w (Byte id byte stored None) ≡ act_effects (with_own id (λ old. own) w) id c stored
+  pub acted_effects : (own : Own) (c : Act) → turn_of w x byte ≡ Do own c → searches own.mode ≡ false → own.todo ≡ [] → is_single c ≡ true → turns_effects most_turns id stored (reading w id byte None) ≡ act_effects (with_own id (λ old. own) w) id c stored
   acted_effects own c e mode left single =
-      effects_of None (Do own c) e refl (acted_rests own c e left single) ∙ ap (λ u. act_effects u id c stored) (own_twice id own (begun_own byte) w mode)
+      effects_of None (Do own c) e refl (acted_rests own c e left single) ∙ ap (λ u. act_effects u id c stored) (own_twice id own (read_own byte) w mode)
 
-  pub refused_effects : (own : Own) (c : Act) → turn_of w x byte ≡ Do own c → event_effects w (Byte id byte stored (Some 0)) ≡ []
+  pub refused_effects : (own : Own) (c : Act) → turn_of w x byte ≡ Do own c → turns_effects most_turns id stored (reading w id byte (Some 0)) ≡ []
   refused_effects own c e = effects_of (Some 0) (Do own c) e refl (refused_rests own c e)
+
+-- A BYTE THAT IS KEPT, where a macro is recorded and has room for it
+
+abbrev pub kept_own : ℕ → Own → Own
+kept_own byte own = record own { macro = cond own.recording (own.macro ++ byte ∷ []) own.macro }
+
+-- one too many
+abbrev pub too_long_own : Own → Own
+too_long_own own = record own { echo = MacroTooLong; macro = []; recording = false; kind = Other; todo = [] }
+
+set_kept : (byte : ℕ) (x : Session) → is_macro_full x.own ≡ false → own_set (begun_own byte) x ≡ own_set (read_own byte) (own_set (kept_own byte) x)
+set_kept byte x room =
+    ap (λ (b : Bool). own_set (begun_if b byte) x) room
+    ∙ (λ i. record x { search = picked (searches x.own.mode) i; own = read_own byte (kept_own byte x.own) })
+  where
+    picked : (c : Bool) → cond c x.search None ≡ cond c (cond c x.search None) None
+    picked true = refl
+    picked false = refl
+
+module _ (w : World) (id byte : ℕ) (x : Session) (found : find_session id w.sessions ≡ Some x) where
+  -- it is kept, and then read
+  pub begun_kept : (stop : Option ℕ) → is_macro_full x.own ≡ false → begun w id byte stop ≡ reading (with_own id (kept_own byte) w) id byte stop
+  begun_kept stop room =
+      let both : Session → Session = λ y. own_set (read_own byte) (own_set (kept_own byte) y) in
+      ap (λ xs. record { world = record w { sessions = xs }; memory = stop })
+      (change_first_found (has_id id) (own_set (begun_own byte)) both x w.sessions found (set_kept byte x room)
+      ∙ sym (change_twice (has_id id) (own_set (read_own byte)) (own_set (kept_own byte)) both (λ y. refl) (λ y. refl) w.sessions))
+
+  begun_too_long : (stop : Option ℕ) → is_macro_full x.own ≡ true → begun w id byte stop ≡ record { world = with_own id too_long_own w; memory = stop }
+  begun_too_long stop full =
+      ap (λ xs. record { world = record w { sessions = xs }; memory = stop })
+      (change_first_found (has_id id) (own_set (begun_own byte)) (own_set too_long_own) x w.sessions found (ap (λ (b : Bool). own_set (begun_if b byte) x) full))
+
+  -- or it is not handled
+  pub byte_too_long : (stored : Bool) → is_macro_full x.own ≡ true → byte_done w id byte stored None ≡ with_own id too_long_own w
+  byte_too_long stored full =
+      let d : Doing = record { world = with_own id too_long_own w; memory = None } in
+      ap (λ (d : Doing). (turns most_turns id stored d).world) (begun_too_long None full)
+      ∙ ap (λ (d : Doing). d.world) (over most_turns id stored d (rests_with_own w id too_long_own x found refl))
+
+  pub too_long_effects : (stored : Bool) → is_macro_full x.own ≡ true → event_effects w (Byte id byte stored None) ≡ []
+  too_long_effects stored full =
+      let d : Doing = record { world = with_own id too_long_own w; memory = None } in
+      ap (λ (o : Option Session). cond (is_some o) (turns_effects most_turns id stored (begun w id byte None)) []) found
+      ∙ ap (turns_effects most_turns id stored) (begun_too_long None full)
+      ∙ no_effects most_turns id stored d (rests_with_own w id too_long_own x found refl)

@@ -3,15 +3,16 @@ use Rattle.std.specs.Prelude.{ℕ, ◌+◌, ◌-◌, ◌*◌, min, nat_le, ◌==
 use Rattle.std.specs.Option.{option_map}
 use Rattle.std.specs.List.{list_any, starts_with}
 use Rattle.mgs_model.specs.Names.{same_name}
+use Rattle.mgs_model.specs.declared.search.Direction.TheVariants.{Forward, Backward}
 use Rattle.mgs_model.specs.declared.session.Argument.{Argument}
 use Rattle.mgs_model.specs.declared.session.Insertion.TheVariants.{SelfInsert, Newline, OpenLine, Yank}
 use Rattle.mgs_model.specs.declared.session.ReadingInsertion.TheVariants.{NewlineAndIndent}
 use Rattle.mgs_model.specs.declared.session.Motion.TheVariants.{ForwardChar, BackwardChar, BeginningOfLine, EndOfLine, NextLine, PreviousLine, BufferStart, BufferEnd, GoToLine, ForwardWord, BackwardWord, ForwardParagraph, BackwardParagraph, Recenter, WhatCursorPosition, SetMark, ExchangePointAndMark, MarkWholeBuffer, CopyRegion}
 use Rattle.mgs_model.specs.declared.session.Alteration.TheVariants.{DeleteChar, DeleteBackwardChar, KillLine, KillWord, BackwardKillWord, KillRegion, TransposeChars, UpcaseWord, DowncaseWord, CapitalizeWord, UpcaseRegion, DowncaseRegion, JustOneSpace, DeleteHorizontalSpace, DeleteBlankLines, JoinLine, FillParagraph}
 use Rattle.mgs_model.specs.declared.session.Scrolling.TheVariants.{ScrollUp, ScrollDown}
-use Rattle.mgs_model.specs.declared.session.Setting.TheVariants.{SetFillColumn, KeyboardQuit}
+use Rattle.mgs_model.specs.declared.session.Setting.TheVariants.{SetFillColumn, KeyboardQuit, StartMacro, EndMacro}
 use Rattle.mgs_model.specs.declared.session.Arrangement.TheVariants.{DeleteWindow, DeleteOtherWindows, SplitWindow, NextWindow, PreviousWindow, EnlargeWindow, ListBuffers}
-use Rattle.mgs_model.specs.declared.session.Question.TheVariants.{SwitchTo, FindWhich, KillWhich, RunWhich}
+use Rattle.mgs_model.specs.declared.session.Question.TheVariants.{SwitchTo, FindWhich, KillWhich, RunWhich, SearchWhat}
 use Rattle.mgs_model.specs.declared.session.Command.{Command}
 use Rattle.mgs_model.specs.declared.session.Command.TheVariants.{Insert, InsertReading, Move, Alter, Scroll, Set, Rearrange, Ask, UndoEdit, NotModified, SaveBuffer, Exit}
 
@@ -86,7 +87,11 @@ key_rows =
     ∷ control_x 6 (codes "find-file") (Ask FindWhich)
     ∷ control_x 107 (codes "kill-buffer") (Ask KillWhich)
     ∷ meta 120 [] (Ask RunWhich)
+    ∷ meta 115 (codes "search-forward") (Ask (SearchWhat Forward))
+    ∷ meta 114 (codes "search-backward") (Ask (SearchWhat Backward))
     ∷ key 7 (codes "keyboard-quit") (Set KeyboardQuit)
+    ∷ control_x 40 [] (Set StartMacro)
+    ∷ control_x 41 [] (Set EndMacro)
     ∷ control_x 48 (codes "delete-window") (Rearrange DeleteWindow)
     ∷ control_x 49 (codes "delete-other-windows") (Rearrange DeleteOtherWindows)
     ∷ control_x 50 (codes "split-window-vertically") (Rearrange SplitWindow)

@@ -20,6 +20,8 @@ mod insertions;
 #[cfg(test)]
 mod listing;
 #[cfg(test)]
+mod macros;
+#[cfg(test)]
 mod motions;
 #[cfg(test)]
 mod prompts;
@@ -27,6 +29,8 @@ mod prompts;
 mod replay;
 #[cfg(test)]
 mod script;
+#[cfg(test)]
+mod searches;
 #[cfg(test)]
 mod steps;
 #[cfg(test)]

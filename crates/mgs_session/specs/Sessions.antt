@@ -1,8 +1,8 @@
 -- What a session is at first, what it is told, and what it shows.
-use Rattle.std.specs.Prelude.{ℕ, ◌-◌, List, [], ◌∷◌, Option, None, Some, slice_get}
+use Rattle.std.specs.Prelude.{ℕ, ◌-◌, List, [], ◌∷◌, Option, None, Some, slice_get, cond}
 use Rattle.std.specs.Option.{option_and_then}
 use Rattle.mgs_model.specs.declared.message.Message.{Message}
-use Rattle.mgs_model.specs.declared.message.Message.TheVariants.{Silent}
+use Rattle.mgs_model.specs.declared.message.Message.TheVariants.{Silent, MacroTooLong}
 use Rattle.mgs_model.specs.Plans.{kind_failed}
 use Rattle.mgs_model.specs.World.{first_own}
 use Rattle.mgs_model.specs.declared.session.Kind.{Kind}
@@ -16,6 +16,7 @@ use Rattle.mgs_windows.specs.declared.Window.{Window}
 use Rattle.mgs_windows.specs.declared.RowPane.TheVariants.{NoRows, Buffers, Entries}
 use Rattle.mgs_windows.specs.declared.RowPane.{RowPane}
 use Rattle.mgs_session.specs.declared.Session.{Session}
+use Rattle.mgs_session.specs.Recording.{Recorded, appended, ended, given_up, is_full, nothing_recorded, started}
 
 abbrev pub session_opened : ℕ → List ℕ → ℕ → ℕ → Option WindowMarks → ℕ → Session
 session_opened id user rows cols shows capacity = record {
@@ -24,7 +25,7 @@ session_opened id user rows cols shows capacity = record {
   cols = cols;
   windows = record { rows = rows; windows = record { height = rows - 2; shows = shows; rows = NoRows } ∷ []; selected = 0; places = []; capacity = capacity };
   kill = [];
-  own = record { echo = Silent; keyboard = nothing_held; kind = Other; fill = first_own.fill; prompt = None };
+  own = record { echo = Silent; keyboard = nothing_held; kind = Other; fill = first_own.fill; prompt = None; pattern = []; recorder = nothing_recorded };
 }
 
 abbrev pub told : Message → Session → Session
@@ -49,6 +50,24 @@ resting x = holding nothing_held x
 -- a command has failed
 abbrev pub failed : Message → Session → Session
 failed message x = told message (acted (kind_failed message x.own.kind) (resting x))
+
+-- MACROS
+
+abbrev pub recording_as : Recorded → Session → Session
+recording_as r x = record x { own = record x.own { recorder = r } }
+
+-- a byte comes: it is kept, or it is one too many for the macro, which is told and breaks a run of commands
+abbrev pub begun : ℕ → Session → Session
+begun byte x = cond (is_full x.own.recorder) (told MacroTooLong (acted Other (recording_as nothing_recorded x))) (recording_as (appended byte x.own.recorder) x)
+
+abbrev pub macro_started : Session → Session
+macro_started x = acted Other (recording_as started x)
+
+abbrev pub macro_ended : Session → Session
+macro_ended x = acted Other (recording_as (ended x.own.recorder) x)
+
+abbrev pub macro_given_up : Session → Session
+macro_given_up x = recording_as (given_up x.own.recorder) x
 
 -- PROMPTS
 

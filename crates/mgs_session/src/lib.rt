@@ -2,24 +2,30 @@
 #![tactic(auto)]
 
 mod kill_buffer;
+mod recording;
+mod search_string;
 
-ghost use Rattle.std.specs.Prelude.{◌≡◌, ◌≤◌, ◌-◌, [], ◌∷◌, true, vec_capacity};
+ghost use Rattle.std.specs.Prelude.{◌≡◌, ◌≤◌, ◌-◌, [], ◌∷◌, not, true, vec_capacity};
 ghost use Rattle.mgs_model.specs.Plans.{kind_failed};
 ghost use Rattle.mgs_mini.specs.Typing.{is_asked};
-ghost use Rattle.mgs_session.specs.Sessions.{session_opened, acted, asking, failed, filling, holding, prompting, resting, told, subject_in, subject_of, unprompted, window_marks_of};
+ghost use Rattle.mgs_session.specs.Recording.{is_full};
+ghost use Rattle.mgs_session.specs.Sessions.{session_opened, acted, asking, begun, failed, filling, holding, macro_ended, macro_given_up, macro_started, prompting, resting, told, subject_in, subject_of, unprompted, window_marks_of};
 
 pub use kill_buffer::KillBuffer;
 use mgs_maps::Keyboard;
 use mgs_mini::Prompt;
 use mgs_model::{Kind, Message, Name, Question, SessionId};
 use mgs_windows::{RowPane, Window, WindowMarks, Windows};
+pub use recording::Recorder;
+pub use search_string::SearchString;
 use std::alloc::Global;
 
 /// The fill column of a session that has set none.
 pub const FILL_COLUMN: usize = 72;
 
 /// What a session holds beside its windows and its kill buffer: its echo text, the keys and the argument that are half
-/// read, the kind of its last command, the column up to which it fills lines (1 to 9,999), and the prompt that it answers.
+/// read, the kind of its last command, the column up to which it fills lines (1 to 9,999), the prompt that it answers, what it
+/// searched for last, and its macro.
 /// While there is a prompt, the keyboard holds the argument of the command that the prompt is for, and no keys.
 #[derive(Drop)]
 pub struct Own {
@@ -28,6 +34,8 @@ pub struct Own {
     pub kind: Kind,
     pub fill: usize,
     pub prompt: Option<Prompt>,
+    pub pattern: SearchString,
+    pub recorder: Recorder,
 }
 
 /// The state of a session. A position is a mark in the text of a buffer.
@@ -69,6 +77,8 @@ pub fn opened(
             kind: Kind::Other,
             fill: FILL_COLUMN,
             prompt: None,
+            pattern: SearchString::new(),
+            recorder: Recorder::new(),
         },
     }
 }
@@ -126,6 +136,43 @@ pub fn finish(session: &mut Session, kind: Kind, message: Message)
     set_echo(session, message);
 }
 
+/// A byte comes, and is kept where a macro is recorded. `false`: it is one too many for the macro and is not to be handled; the
+/// recording has ended without a macro, which is told.
+pub fn begin(session: &mut Session, byte: u8) -> bool
+    ensures room { result ≡ not (is_full session.old.own.recorder) }
+    ensures begun { session.new ≡ begun byte session.old }
+{
+    if session.own.recorder.keep(byte) {
+        return true;
+    }
+    set_kind(session, Kind::Other);
+    set_echo(session, Message::MacroTooLong);
+    false
+}
+
+/// A macro is recorded from here on.
+pub fn start_macro(session: &mut Session)
+    ensures { session.new ≡ macro_started session.old }
+{
+    session.own.recorder.start();
+    set_kind(session, Kind::Other);
+}
+
+/// The macro is complete, but for the two bytes that end it.
+pub fn end_macro(session: &mut Session)
+    ensures { session.new ≡ macro_ended session.old }
+{
+    session.own.recorder.end();
+    set_kind(session, Kind::Other);
+}
+
+/// A macro that is recorded is lost.
+pub fn give_up_macro(session: &mut Session)
+    ensures { session.new ≡ macro_given_up session.old }
+{
+    session.own.recorder.give_up();
+}
+
 /// The kill buffer holds other characters.
 pub fn set_kill(session: &mut Session, text: Vec<char>)
     ensures { session.new ≡ record session.old { kill = text.items } }
@@ -137,15 +184,9 @@ pub fn set_kill(session: &mut Session, text: Vec<char>)
 pub fn hold(session: &mut Session, keyboard: Keyboard)
     ensures { session.new ≡ holding keyboard session.old }
 {
-    let kind = session.own.kind;
-    let fill = session.own.fill;
-    session.own = Own {
-        echo: Message::Silent,
-        keyboard,
-        kind,
-        fill,
-        prompt: None,
-    };
+    session.own.echo = Message::Silent;
+    session.own.keyboard = keyboard;
+    session.own.prompt = None;
 }
 
 /// Nothing is half read, a prompt is over, and the echo line is empty: an act can begin.

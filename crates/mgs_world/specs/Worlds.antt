@@ -60,13 +60,16 @@ abbrev pub input_in : Option PromptInput → List ℕ
 input_in None = []
 input_in (Some p) = p.input
 
--- what a session holds: no mode but that of a prompt, no macro, and nothing but the echo text, what is half read, the last
--- command's kind and the fill column
+-- what a session holds: no mode but that of a prompt, no macro that is played, and nothing but the echo text, the search string, what
+-- is half read, the last command's kind, the fill column and its macro
 abbrev pub own_of : Own → model.Own
 own_of x =
     record first_own {
       echo = x.echo;
+      pattern = x.pattern;
       fill = x.fill;
+      macro = x.recorder.macro;
+      recording = x.recorder.recording;
       argument = x.keyboard.argument;
       keys = keys_in x.keyboard.keys x.prompt;
       kind = x.kind;

@@ -1,4 +1,4 @@
-use Rattle.std.proofs.Common.{ℕ, List, length, ◌∙◌, get_or, refl, ap, sym, subst}
+use Rattle.std.proofs.Common.{ℕ, List, [], length, ◌∙◌, get_or, refl, ap, sym, subst}
 use Rattle.std.proofs.lemmas.List.{get_or_default}
 use Rattle.std.specs.Option.{option_and_then}
 use Rattle.std.proofs.lemmas.Option.{slice_get-get_or}
@@ -9,6 +9,7 @@ use Rattle.mgs_act.specs.Actions.{CanBeDone, kill_at, kill_or_none}
 use Rattle.mgs_world.specs.Worlds.{own_at}
 use Rattle.mgs_act.proofs.Commands.{act_planned, may_planned, action_apart}
 use Rattle.mgs_act.proofs.Deeds.{acting_marks}
+use Rattle.mgs_act.proofs.Outcomes.{of_text}
 use Rattle.mgs_act.proofs.Scrolls.{act_without, without_apart, without_size, without_uses}
 use Rattle.mgs_act.specs.Rows.{scroll_in}
 use Rattle.mgs_act.proofs.acts.act_on_text.Goals as goal
@@ -37,7 +38,7 @@ returns-in_default-clause-ok g c = λ id next place.
     let xs = c.args.sessions.now in
     let r = c.index-sessions-at-in_default.result in
     let none = ap window_marks_of (get_or_default xs c.args.at r c.index-sessions-at.result c.requires.within) ∙ sym c.selected_window_marks.ensures ∙ c.in_default.is in
-    rw c.act_without_text.ensures (act_without c.args.directory.now c.args.buffers.now xs next id c.args.at (get_or xs c.args.at r) place c.requires.within (slice_get-get_or xs c.args.at r c.requires.within) c.requires.fresh c.args.command c.args.argument c.requires.here none)
+    rw c.act_without_text.ensures (act_without c.args.directory.now c.args.buffers.now xs next id c.args.at (get_or xs c.args.at r) place c.requires.within (slice_get-get_or xs c.args.at r c.requires.within) c.requires.fresh c.args.command c.args.argument [] (of_text c.args.command c.requires.here) none)
 
 pub perform-requires-clause-can : goal.perform-requires-clause-can
 perform-requires-clause-can g c =
@@ -47,7 +48,7 @@ pub returns-in-Ok-clause-ok : goal.returns-in-Ok-clause-ok
 returns-in-Ok-clause-ok g c = λ id next place.
     let xs = c.args.sessions.now in
     let r = c.index-sessions-at.result in
-    act_planned c.args.directory.now c.args.buffers.now xs next (world_of c.args.directory.now c.perform.new.buffers c.perform.new.sessions next) id c.args.at (get_or xs c.args.at r) c.in-Some.window_marks c.args.command c.args.argument c.plan_for-action.result c.requires.here c.requires.sound place c.requires.within (slice_get-get_or xs c.args.at r c.requires.within) c.requires.fresh (sym c.selected_window_marks.ensures ∙ c.in-Some.is) c.plan_for-action.ensures.value (c.in-Ok.ensures.ok c.args.directory.now id next place)
+    act_planned c.args.directory.now c.args.buffers.now xs next (world_of c.args.directory.now c.perform.new.buffers c.perform.new.sessions next) id c.args.at (get_or xs c.args.at r) c.in-Some.window_marks c.args.command c.args.argument [] c.plan_for-action.result (of_text c.args.command c.requires.here) c.requires.sound place c.requires.within (slice_get-get_or xs c.args.at r c.requires.within) c.requires.fresh (sym c.selected_window_marks.ensures ∙ c.in-Some.is) c.plan_for-action.ensures.value (c.in-Ok.ensures.ok c.args.directory.now id next place)
 
 pub returns-in-Ok-clause-touched : goal.returns-in-Ok-clause-touched
 returns-in-Ok-clause-touched g c = λ id next place.
@@ -75,4 +76,4 @@ pub returns-in-Err-clause-may : goal.returns-in-Err-clause-may
 returns-in-Err-clause-may g c = λ id next place.
     let xs = c.args.sessions.now in
     let r = c.index-sessions-at.result in
-    may_planned c.args.directory.now c.args.buffers.now xs next id c.args.at (get_or xs c.args.at r) c.in-Some.window_marks c.args.command c.args.argument c.plan_for-action.result c.requires.here c.requires.sound place c.requires.within (slice_get-get_or xs c.args.at r c.requires.within) c.requires.fresh (sym c.selected_window_marks.ensures ∙ c.in-Some.is) c.plan_for-action.ensures.value c.in-Err.ensures.may
+    may_planned c.args.directory.now c.args.buffers.now xs next id c.args.at (get_or xs c.args.at r) c.in-Some.window_marks c.args.command c.args.argument [] c.plan_for-action.result (of_text c.args.command c.requires.here) c.requires.sound place c.requires.within (slice_get-get_or xs c.args.at r c.requires.within) c.requires.fresh (sym c.selected_window_marks.ensures ∙ c.in-Some.is) c.plan_for-action.ensures.value c.in-Err.ensures.may

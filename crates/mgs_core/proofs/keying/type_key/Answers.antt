@@ -10,13 +10,13 @@ use Rattle.mgs_world.specs.Worlds.{idle, own_of, session_of, world_of}
 use Rattle.mgs_world.proofs.Soundness.{sound_set, sizes_set}
 use Rattle.mgs_act.specs.Actions.{act_of}
 use Rattle.mgs_core.proofs.Apart.{kept_apart, acted_apart}
-use Rattle.mgs_core.proofs.Quits.{keyed_exit}
-use Rattle.mgs_core.proofs.Steps.{acts_nothing, acts_world, fresh_at, held_world, is_pending, keyed_at, keyed_kept, keyed_short_at, not_exit, place_held, refused_world, no_prompt, refused_plain, seen_at, turn_act, turn_kept}
+use Rattle.mgs_core.proofs.Quits.{read_exit}
+use Rattle.mgs_core.proofs.Steps.{acts_nothing, acts_world, fresh_at, held_world, is_pending, read_at, read_kept, read_short_at, not_exit, place_held, refused_world, no_prompt, refused_plain, seen_at, turn_act, turn_kept}
 use Rattle.mgs_core.proofs.keying.type_key.Goals as goal
 
-pub returns-then-is_exit-clause-keyed : goal.returns-then-is_exit-clause-keyed
-returns-then-is_exit-clause-keyed g c next =
-    keyed_exit c.args.directory.now c.args.buffers.now c.args.sessions.now next _ c.args.id c.args.at c.args.byte c.feed-fed.result c.feed-fed.new.self (get_or c.args.sessions.now c.args.at c.index-sessions-at.result)
+pub returns-then-is_exit-clause-read : goal.returns-then-is_exit-clause-read
+returns-then-is_exit-clause-read g c next =
+    read_exit c.args.directory.now c.args.buffers.now c.args.sessions.now next _ c.args.id c.args.at c.args.byte c.feed-fed.result c.feed-fed.new.self (get_or c.args.sessions.now c.args.at c.index-sessions-at.result)
     c.requires.place c.requires.within (ap (get_or c.args.sessions.now c.args.at) c.index-sessions-at.is)
     (no_prompt c.args.sessions.now c.args.at (get_or c.args.sessions.now c.args.at c.index-sessions-at.result) c.requires.within (ap (get_or c.args.sessions.now c.args.at) c.index-sessions-at.is) c.requires.plain) c.feed-fed.ensures.read c.feed-fed.ensures.bound (sym c.is_exit.ensures ∙ c.if-is_exit.true) c.requires.unique c.requires.settles
 
@@ -28,8 +28,8 @@ pub returns-in_default-clause-sizes : goal.returns-in_default-clause-sizes
 returns-in_default-clause-sizes g c =
     rw c.hold.ensures (sizes_set c.args.sessions.now c.args.at (get_or c.args.sessions.now c.args.at c.index-sessions-at-2.result) _ (ap (get_or c.args.sessions.now c.args.at) c.index-sessions-at-2.is) refl)
 
-pub returns-in_default-clause-keyed : goal.returns-in_default-clause-keyed
-returns-in_default-clause-keyed g c next =
+pub returns-in_default-clause-read : goal.returns-in_default-clause-read
+returns-in_default-clause-read g c next =
     let xs = c.args.sessions.now in
     let h = get_or xs c.args.at c.index-sessions-at-2.result in
     let is_h = ap (get_or xs c.args.at) c.index-sessions-at-2.is in
@@ -39,7 +39,7 @@ returns-in_default-clause-keyed g c next =
     let read = subst (λ f. FedBy f (key_read h.own.keyboard.argument h.own.keyboard.keys c.args.byte) c.feed-fed.new.self) pending
     (subst (λ (s : Session). FedBy c.feed-fed.result (key_read s.own.keyboard.argument s.own.keyboard.keys c.args.byte) c.feed-fed.new.self) same_h c.feed-fed.ensures.read) in
     let held = held_world c.args.directory.now c.args.buffers.now xs next c.args.id c.args.at c.feed-fed.new.self h c.hold.new.session c.requires.place c.requires.within is_h c.hold.ensures in
-    keyed_kept c.args.directory.now c.args.buffers.now c.settle_apart.new.buffers xs (slice_set xs c.args.at c.hold.new.session) next _ c.args.id c.args.at c.args.byte h (own_of (record h.own { echo = Silent; keyboard = c.feed-fed.new.self; prompt = None }))
+    read_kept c.args.directory.now c.args.buffers.now c.settle_apart.new.buffers xs (slice_set xs c.args.at c.hold.new.session) next _ c.args.id c.args.at c.args.byte h (own_of (record h.own { echo = Silent; keyboard = c.feed-fed.new.self; prompt = None }))
     c.requires.place c.requires.within is_h (turn_kept (seen_at (world_of c.args.directory.now c.args.buffers.now xs next) (session_of c.args.buffers.now h) c.args.byte) h.own c.args.byte c.feed-fed.new.self none read) refl refl held (returns-in_default-clause-sizes g c)
     (kept_apart c.args.directory.now c.args.buffers.now c.args.buffers.now c.settle_apart.new.buffers xs (slice_set xs c.args.at c.hold.new.session) next c.args.id (own_of (record h.own { echo = Silent; keyboard = c.feed-fed.new.self; prompt = None })) c.requires.settles held (c.settle_apart.ensures.world next)).0
 
@@ -80,8 +80,8 @@ returns-in-Err-clause-sizes g c =
     ∙ c.do_act.ensures.sizes
     ∙ rw c.hold.ensures (sizes_set c.args.sessions.now c.args.at (get_or c.args.sessions.now c.args.at c.index-sessions-at-2.result) _ (ap (get_or c.args.sessions.now c.args.at) c.index-sessions-at-2.is) refl)
 
-pub returns-in-Ok-clause-keyed : goal.returns-in-Ok-clause-keyed
-returns-in-Ok-clause-keyed g c next =
+pub returns-in-Ok-clause-read : goal.returns-in-Ok-clause-read
+returns-in-Ok-clause-read g c next =
     let xs = c.args.sessions.now in
     let h = get_or xs c.args.at c.index-sessions-at-2.result in
     let is_h = ap (get_or xs c.args.at) c.index-sessions-at-2.is in
@@ -92,7 +92,7 @@ returns-in-Ok-clause-keyed g c next =
     c.feed-fed.ensures.bound (sym c.key_act.ensures ∙ c.in-Some.is) in
     let began = acts_world c.args.directory.now c.args.buffers.now xs next c.args.id c.args.at c.feed-fed.new.self h c.hold.new.session c.requires.place c.requires.within is_h c.hold.ensures turn.2 in
     let place = place_held xs c.args.id c.args.at c.feed-fed.new.self h c.hold.new.session c.requires.place is_h c.hold.ensures in
-    keyed_at c.args.directory.now c.args.buffers.now c.do_act.new.buffers c.settle_apart-in-Ok.new.buffers xs (slice_set xs c.args.at c.hold.new.session) c.do_act.new.sessions next _ _ c.args.id c.args.at c.args.byte h (idle (own_of h.own)) (act_of c.in-Some.done)
+    read_at c.args.directory.now c.args.buffers.now c.do_act.new.buffers c.settle_apart-in-Ok.new.buffers xs (slice_set xs c.args.at c.hold.new.session) c.do_act.new.sessions next _ _ c.args.id c.args.at c.args.byte h (idle (own_of h.own)) (act_of c.in-Some.done)
     c.requires.place c.requires.within is_h turn.0 refl refl turn.1 began (returns-in-Ok-clause-sizes g c) (c.in-Ok.ensures.ok c.args.id next place)
     (acted_apart c.args.directory.now c.args.buffers.now c.do_act.new.buffers c.settle_apart-in-Ok.new.buffers xs (slice_set xs c.args.at c.hold.new.session) c.do_act.new.sessions next c.args.id (idle (own_of h.own)) c.in-Ok.touched
     c.requires.settles began (c.in-Ok.ensures.touched c.args.id next place) (c.settle_apart-in-Ok.ensures.world next)).0
@@ -107,8 +107,8 @@ returns-in-Ok-clause-touched g c next =
     (held_world c.args.directory.now c.args.buffers.now xs next c.args.id c.args.at c.feed-fed.new.self h c.hold.new.session c.requires.place c.requires.within is_h c.hold.ensures)
     (c.in-Ok.ensures.touched c.args.id next (place_held xs c.args.id c.args.at c.feed-fed.new.self h c.hold.new.session c.requires.place is_h c.hold.ensures)) (c.settle_apart-in-Ok.ensures.world next)).1
 
-pub returns-in-Err-clause-keyed : goal.returns-in-Err-clause-keyed
-returns-in-Err-clause-keyed g c next =
+pub returns-in-Err-clause-read : goal.returns-in-Err-clause-read
+returns-in-Err-clause-read g c next =
     let xs = c.args.sessions.now in
     let ys = c.do_act.new.sessions in
     let h = get_or xs c.args.at c.index-sessions-at-2.result in
@@ -125,7 +125,7 @@ returns-in-Err-clause-keyed g c next =
     let same = c.do_act.ensures.sizes ∙ rw c.hold.ensures (sizes_set xs c.args.at h _ is_h refl) in
     let told = refused_world c.args.directory.now c.args.buffers.now c.do_act.new.buffers xs ys (slice_set ys c.args.at c.set_echo.new.session) next c.args.id c.args.at h k c.set_echo.new.session
     c.requires.place c.requires.within is_h same (c.in-Err.ensures.err next ∙ began) is_k c.set_echo.ensures refl in
-    keyed_short_at c.args.directory.now c.args.buffers.now c.do_act.new.buffers c.settle_apart-in-Err.new.buffers xs (slice_set xs c.args.at c.hold.new.session) (slice_set ys c.args.at c.set_echo.new.session) next _ _ c.args.id c.args.at c.args.byte h (idle (own_of h.own)) (act_of c.in-Some.done)
+    read_short_at c.args.directory.now c.args.buffers.now c.do_act.new.buffers c.settle_apart-in-Err.new.buffers xs (slice_set xs c.args.at c.hold.new.session) (slice_set ys c.args.at c.set_echo.new.session) next _ _ c.args.id c.args.at c.args.byte h (idle (own_of h.own)) (act_of c.in-Some.done)
     c.requires.place c.requires.within is_h turn.0 refl began (returns-in-Err-clause-sizes g c) (c.in-Err.ensures.may c.args.id next place)
     (told ∙ ap (λ own. with_own c.args.id (λ old. own) (world_of c.args.directory.now c.args.buffers.now xs next)) (refused_plain h.own none))
     (kept_apart c.args.directory.now c.args.buffers.now c.do_act.new.buffers c.settle_apart-in-Err.new.buffers xs (slice_set ys c.args.at c.set_echo.new.session) next c.args.id (own_of (record h.own { echo = NoMemory; keyboard = nothing_held; prompt = None })) c.requires.settles told (c.settle_apart-in-Err.ensures.world next)).0

@@ -1,0 +1,218 @@
+// A search for what was typed: it is planned, and then done.
+ghost use Rattle.std.specs.Prelude.{◌≡◌, ◌<◌, ◌≤◌, ℕ, List, length, Option, IfOk, OnOk, OnErr, true};
+ghost use Rattle.std.specs.List.{position_or_len};
+ghost use Rattle.mgs_model.specs.Acts.{moved_by};
+ghost use Rattle.mgs_model.specs.Apart.{Apart};
+ghost use Rattle.mgs_model.specs.Apply.{act, outcome_in};
+ghost use Rattle.mgs_model.specs.Events.{may_be_refused};
+ghost use Rattle.mgs_model.specs.Outcome.{Run};
+ghost use Rattle.mgs_model.specs.Plans as plans;
+ghost use Rattle.mgs_model.specs.Plans.{motion};
+ghost use Rattle.mgs_model.specs.World.{Own};
+ghost use Rattle.mgs_model.specs.declared.session.Command.TheVariants.{Move};
+ghost use Rattle.mgs_model.specs.declared.session.Motion.TheVariants.{SearchFor};
+ghost use Rattle.mgs_buffers.specs.MarkedBuffer.{HasBuffer, marked_at};
+ghost use Rattle.mgs_edit.specs.Reading.{FinishWithin, motion_read};
+ghost use Rattle.mgs_search.specs.Planned.{went};
+ghost use Rattle.mgs_act.specs.Actions.{AreMarks, CanBeDone, CanDo, action_outcome, given_own, outcome_through, plan_in, selected_height};
+ghost use Rattle.mgs_act.specs.Searching.{sought};
+ghost use Rattle.mgs_world.specs.Sound.{IsSound};
+ghost use Rattle.mgs_world.specs.Worlds.{idle, own_at, own_of, session_id, sizes_in, world_of};
+
+use crate::action::Action;
+use crate::given::Given;
+use crate::performing::{perform, touched_by};
+use crate::planning::{around, denial, moves, needs};
+use crate::rows::act_without_text;
+use mgs_buffers::Buffers;
+use mgs_edit::{Finish, Goes};
+use mgs_marks::Marked;
+use mgs_model::{Command, Direction, Kind, Message, Motion, Name, Short, Touched};
+use mgs_policy::Directory;
+use mgs_search::search_for;
+use mgs_session::{SearchString, Session, selected_window_marks};
+use mgs_windows::WindowMarks;
+use std::alloc::Global;
+
+/// The point goes to where a search ends.
+fn goes(found: Result<usize, Message>) -> Result<Finish, Message>
+    ensures plan { (text kill : List ℕ) → motion_read text kill result ≡ went found }
+    ensures within { (size : ℕ) → IfOk found (λ p. p ≤ size) → IfOk result (FinishWithin size size) }
+{
+    match found {
+        Ok(p) => Ok(Finish {
+            point: Goes::To(p),
+            mark: None,
+            top: None,
+            kill: None,
+            kind: Kind::Other,
+            told: Message::Silent,
+        }),
+        Err(message) => Err(message),
+    }
+}
+
+/// What a search comes to where reading is granted.
+fn plan_granted<T: Marked + Drop>(
+    buffers: &Buffers<T>,
+    name: &Name,
+    kill: &[char],
+    place: usize,
+    direction: Direction,
+    pattern: &[char],
+) -> Action
+    requires kept { HasBuffer name.now buffers.now }
+    requires place { place ≤ length (marked_at name.now buffers.now).buffer.text }
+    ensures value { (own : Own) (rest : plans.Around) → action_outcome own name.now (marked_at name.now buffers.now).buffer.text (marked_at name.now buffers.now).buffer.items kill.now result ≡ moved_by own (motion (SearchFor direction) (marked_at name.now buffers.now).buffer.text (record rest { place = place; typed = pattern.now })) }
+    ensures can { CanDo (marked_at name.now buffers.now).buffer.text (marked_at name.now buffers.now).buffer.items kill.now (marked_at name.now buffers.now).buffer.serial result }
+{
+    let text = buffers.text(name);
+    moves(
+        text,
+        kill,
+        goes(search_for(text, place, direction, pattern)),
+    )
+}
+
+/// What a search for a pattern comes to through a window's marks, by a user whose session has this kill buffer.
+fn plan<T: Marked + Drop>(
+    buffers: &Buffers<T>,
+    directory: &Directory,
+    user: &Name,
+    window_marks: &WindowMarks,
+    given: &Given,
+    kill: &[char],
+    direction: Direction,
+    pattern: &[char],
+) -> Action
+    requires kept { HasBuffer window_marks.now.name buffers.now }
+    requires marks { AreMarks buffers.now window_marks.now }
+    ensures value { (own : Own) → outcome_through (given_own given.now own) window_marks.now buffers.now kill.now result ≡ plan_in directory.now buffers.now (given_own given.now own) user.now window_marks.now given.now.height (Move (SearchFor direction)) given.now.argument pattern.now kill.now }
+    ensures can { CanBeDone buffers.now window_marks.now kill.now result }
+{
+    let name = &window_marks.name;
+    let size = buffers.text_len(name);
+    let place = around(buffers, directory, user, window_marks, given, kill.len()).place;
+    let command = Command::Move(Motion::SearchFor(direction));
+    match denial(buffers.decide_all(directory, name, user, needs(&command, place, size))) {
+        Some(message) => Action::Fails(message),
+        None => plan_granted(buffers, name, kill, place, direction, pattern),
+    }
+}
+
+/// What a search for a pattern comes to in the window that a session has selected.
+fn plan_for<T: Marked + Drop>(
+    buffers: &Buffers<T>,
+    directory: &Directory,
+    session: &Session,
+    window_marks: &WindowMarks,
+    direction: Direction,
+    argument: Option<usize>,
+    pattern: &[char],
+) -> Action
+    requires marks { AreMarks buffers.now window_marks.now }
+    ensures value { outcome_through (idle (own_of session.now.own)) window_marks.now buffers.now session.now.kill result ≡ plan_in directory.now buffers.now (idle (own_of session.now.own)) session.now.user window_marks.now (selected_height session.now) (Move (SearchFor direction)) argument pattern.now session.now.kill }
+    ensures can { CanBeDone buffers.now window_marks.now session.now.kill result }
+{
+    let given = Given {
+        argument,
+        kind: session.own.kind,
+        height: session.windows.selected_window().height,
+        fill: session.own.fill,
+    };
+    plan(
+        buffers,
+        directory,
+        &session.user,
+        window_marks,
+        &given,
+        session.kill.as_slice(),
+        direction,
+        pattern,
+    )
+}
+
+/// What a search for what was typed comes to, or for the session's search string where nothing was.
+fn plan_meant<T: Marked + Drop>(
+    buffers: &Buffers<T>,
+    directory: &Directory,
+    session: &Session,
+    window_marks: &WindowMarks,
+    direction: Direction,
+    argument: Option<usize>,
+    typed: &[u8],
+) -> Action
+    requires marks { AreMarks buffers.now window_marks.now }
+    requires few { length typed.now ≤ 120 }
+    ensures value { outcome_through (idle (own_of session.now.own)) window_marks.now buffers.now session.now.kill result ≡ plan_in directory.now buffers.now (idle (own_of session.now.own)) session.now.user window_marks.now (selected_height session.now) (Move (SearchFor direction)) argument (sought session.now.own.pattern typed.now) session.now.kill }
+    ensures can { CanBeDone buffers.now window_marks.now session.now.kill result }
+{
+    if typed.is_empty() {
+        let last = session.own.pattern.as_slice();
+        return plan_for(
+            buffers,
+            directory,
+            session,
+            window_marks,
+            direction,
+            argument,
+            last,
+        );
+    }
+    let pattern = SearchString::typed(typed);
+    plan_for(
+        buffers,
+        directory,
+        session,
+        window_marks,
+        direction,
+        argument,
+        pattern.as_slice(),
+    )
+}
+
+/// A search by the session at `at`, which is at rest, in the text that its selected window shows: for what was typed, or for the
+/// search string where nothing was. It tells what it touched, and what it did not touch is as it was. `Short`: memory was
+/// refused, the world is as it was, and the act is one that may be refused.
+pub fn search<T: Marked + Drop>(
+    alloc: Global,
+    buffers: &mut Buffers<T>,
+    directory: &Directory,
+    sessions: &mut [Session],
+    at: usize,
+    direction: Direction,
+    argument: Option<usize>,
+    typed: &[u8],
+) -> Result<Touched, Short>
+    requires sound { IsSound buffers.old sessions.old }
+    requires within { at < length sessions.old }
+    requires fresh { own_at at sessions.old ≡ idle (own_at at sessions.old) }
+    requires few { length typed.now ≤ 120 }
+    ensures sound { IsSound buffers.new sessions.new }
+    ensures sizes { sizes_in sessions.new ≡ sizes_in sessions.old }
+    ensures ok { OnOk result ((id : ℕ) (next : Option ℕ) → at ≡ position_or_len (session_id id) sessions.old → world_of directory.now buffers.new sessions.new next ≡ act (world_of directory.now buffers.old sessions.old next) id (Run (Move (SearchFor direction)) argument (sought (own_at at sessions.old).pattern typed.now)) true) }
+    ensures touched { IfOk result (λ touched. (id : ℕ) (next : Option ℕ) → at ≡ position_or_len (session_id id) sessions.old → Apart touched id (world_of directory.now buffers.old sessions.old next) (world_of directory.now buffers.new sessions.new next)) }
+    ensures err { OnErr result ((next : Option ℕ) → world_of directory.now buffers.new sessions.new next ≡ world_of directory.now buffers.old sessions.old next) }
+    ensures may { OnErr result ((id : ℕ) (next : Option ℕ) → at ≡ position_or_len (session_id id) sessions.old → may_be_refused (outcome_in (world_of directory.now buffers.old sessions.old next) id (Run (Move (SearchFor direction)) argument (sought (own_at at sessions.old).pattern typed.now)) true) ≡ true) }
+{
+    let session = &sessions[at];
+    let Some(window_marks) = selected_window_marks(session) else {
+        let command = Command::Move(Motion::SearchFor(direction));
+        act_without_text(&mut sessions[at], command);
+        return Ok(Touched::Nowhere);
+    };
+    let action = plan_meant(
+        buffers,
+        directory,
+        session,
+        &window_marks,
+        direction,
+        argument,
+        typed,
+    );
+    let touched = touched_by(&window_marks, &action, session.kill.as_slice().len());
+    match perform(alloc, buffers, sessions, at, &window_marks, &action) {
+        Ok(()) => Ok(touched),
+        Err(short) => Err(short),
+    }
+}

@@ -1,0 +1,60 @@
+// What a session searches for where nothing is typed.
+ghost use Rattle.std.specs.Prelude.{◌≡◌, ◌≤◌, [], length};
+
+use arrayvec::ArrayVec;
+use std::marker::Model;
+
+/// What a session searched for last: at most 120 characters, in fixed room. It takes no memory.
+#[derive(Drop)]
+pub struct SearchString {
+    chars: ArrayVec<char, 120>,
+}
+
+impl Model for SearchString {
+    ghost use Rattle.std.specs.Prelude.{ℕ, List};
+
+    ghost Value = { List ℕ };
+
+    ghost view = { λ s. s.chars.items };
+}
+
+impl SearchString {
+    /// Nothing.
+    pub fn new() -> SearchString
+        ensures { result ≡ [] }
+    {
+        SearchString {
+            chars: ArrayVec::new(),
+        }
+    }
+
+    /// What was typed, each byte a character.
+    pub fn typed(input: &[u8]) -> SearchString
+        requires { length input.now ≤ 120 }
+        ensures { result ≡ input.now }
+    {
+        SearchString {
+            chars: chars(input),
+        }
+    }
+
+    /// The characters.
+    pub fn as_slice(&self) -> &[char]
+        ensures value { result.now ≡ self.now }
+        ensures within { length result.now ≤ 120 }
+    {
+        self.chars.as_slice()
+    }
+}
+
+// Bytes, each as a character.
+fn chars(bytes: &[u8]) -> ArrayVec<char, 120>
+    requires { length bytes.now ≤ 120 }
+    ensures { result.items ≡ bytes.now }
+{
+    let mut chars = ArrayVec::new();
+    for byte in bytes {
+        chars.push(char::from(*byte));
+    }
+    chars
+}
