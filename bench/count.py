@@ -23,6 +23,8 @@ PROGRAM = str(TOP / "crates/mgd/out/mgd")
 # The first pattern that a function's name has says its group.
 GROUPS = (
     ("player", r"mgs_replay|mgs_script|mgs_keys|mgs_term|mgs_engine::driving|utf8|core::str|read_until"),
+    # Rows of cells that are compared, and not names.
+    ("draw", r"groups_equal::<i32"),
     ("look-ups", r"Buffers::buffer\b|Buffers::place_of|groups_equal|indexmap|lookup"),
     ("settle", r"mgs_world::settl|mgs_lines"),
     ("draw", r"mgs_engine::draw|mgs_screen|mgs_grid|itoa"),
