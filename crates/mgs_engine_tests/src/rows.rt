@@ -212,13 +212,19 @@ fn a_group_reads_and_others_see_no_buffer(rt: HostRuntime) -> Result<(), Fail> {
     Ok(())
 }
 
-#[test]
-fn a_full_text_takes_no_more(rt: HostRuntime) -> Result<(), Fail> {
-    let alloc = rt.alloc();
+// A text that has room for six characters.
+fn nearly_full(alloc: Global, rt: &impl Abort) -> Vec<char> {
     let mut text = Vec::new(alloc);
     for _ in 0..1_048_570 {
         assert!(rt; text.push('a').is_ok());
     }
+    text
+}
+
+#[test]
+fn a_full_text_takes_no_more(rt: HostRuntime) -> Result<(), Fail> {
+    let alloc = rt.alloc();
+    let text = nearly_full(alloc, &rt);
     let mut engine = serve(alloc, &["ALLOW ann rwat"], &text, &rt);
     let mut clients = Clients {
         all: Vec::new(alloc),
@@ -230,5 +236,26 @@ fn a_full_text_takes_no_more(rt: HostRuntime) -> Result<(), Fail> {
     press(&mut engine, &mut clients, ann, b"x", &rt);
     let told = "xxxxxxaaaaaaaaaaaaa$ | -**-notes-L1-C6----- | Buffer full";
     assert!(rt; shows(&clients, ann, told, (1, 7)));
+    Ok(())
+}
+
+#[test]
+fn no_text_is_inserted_past_the_limit(rt: HostRuntime) -> Result<(), Fail> {
+    let alloc = rt.alloc();
+    let text = nearly_full(alloc, &rt);
+    let mut engine = serve(alloc, &["ALLOW ann rwat"], &text, &rt);
+    let mut clients = Clients {
+        all: Vec::new(alloc),
+    };
+    let ann = sit(alloc, &mut engine, &mut clients, "ann", &rt);
+    press(
+        &mut engine,
+        &mut clients,
+        ann,
+        b"x\x1bxinsert-buffer\rnotes\r",
+        &rt,
+    );
+    let told = "xaaaaaaaaaaaaaaaaaa$ | -**-notes-L1-C1----- | Buffer full";
+    assert!(rt; shows(&clients, ann, told, (1, 2)));
     Ok(())
 }
