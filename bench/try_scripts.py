@@ -22,8 +22,9 @@ WINDOWS = [b"\x182", b"\x18o", b"\x180", b"\x181", b"\x18^", b"\x18\x02", b"\x16
 RULES = ["acl-list", "acl-insert", "acl-delete", "acl-replace", "set-owner", "insert-buffer", "shrink-window", "goto-line"]
 WRONG_ENTRIES = ["ALLOW ann x", "deny ann r", "ALLOW", "ALLOW ann r w", "  ALLOW   ann  rw  ", ""]
 LETTERS = ["rw", "rwat", "r", "w", "a", "at", "t", "rwatdcCo", "C", "rt"]
-SEARCHING = [b"\x13", b"\x12", b"\x13a", b"\x13ab\x13", b"\x12b\x12", b"\x13c\x7f", b"\r", b"\x07", b"\x1bsa\r", b"\x1brb\r", b"\x1bs\r",
-             b"\x1b%a\rxy\r", b"\x1b%ab\r\r", b"y", b"n", b"!", b".", b"q", b" ", b"\x18(", b"\x18)", b"\x18e", b"\x153\x18e"]
+MACROS = [b"\x18(", b"\x18(", b"\x18)", b"\x18)", b"\x18e", b"\x18e", b"\x153\x18e", b"\x1bsa\r", b"\x1brb\r", b"\x1bs\r"]
+SEARCHING = [b"\x13", b"\x12", b"\x13a", b"\x13ab\x13", b"\x12b\x12", b"\x13c\x7f", b"\r", b"\x07",
+             b"\x1b%a\rxy\r", b"\x1b%ab\r\r", b"y", b"n", b"!", b".", b"q", b" "]
 
 
 def token(byte):
@@ -120,8 +121,10 @@ class Script:
             return self.named(r.choice(ASKING))
         if x < .86:
             return self.command()
-        if x < .95:
+        if x < .92:
             return r.choice(WINDOWS)
+        if x < .98:
+            return r.choice(MACROS)
         return bytes([r.randint(0, 127)])
 
     def name(self):
@@ -174,7 +177,7 @@ def main():
     options.add_argument("--seed", type=int, default=1)
     options.add_argument("--count", type=int, default=100)
     options.add_argument("--steps", type=int, default=40)
-    options.add_argument("--searches", action="store_true", help="searches and macros too")
+    options.add_argument("--searches", action="store_true", help="incremental searches and replacements too")
     options.add_argument("--write", metavar="FOLDER", help="write the scripts there, and play none")
     options.add_argument("--read", metavar="FILE", help="compare what `rt try --cases` printed of them, and play none")
     chosen = options.parse_args()

@@ -134,9 +134,17 @@ module _ (directory : Directory) (ks : List MarkedBuffer) (xs : List Session) (n
   recorded_so y f message done true = done
   recorded_so y f message done false = failed_set message
 
-  started_so : (c : Bool) → world_of directory ks (slice_set xs at (cond c (failed InMacro h) (macro_started h))) next ≡ apply (world_of directory ks xs next) id (sets (own_of h.own) (cond (c || false) (Err InMacro) (Ok (record (acted_own (own_of h.own)) { recording = true; macro = [] }))))
+  started_so : (c : Bool) → world_of directory ks (slice_set xs at (cond c (failed InMacro h) (macro_started h))) next ≡ apply (world_of directory ks xs next) id (sets (own_of h.own) (cond c (Err InMacro) (Ok (record (acted_own (own_of h.own)) { recording = true; macro = [] }))))
   started_so true = failed_set InMacro
   started_so false = acted_so (macro_started h) (λ own. record own { recording = true; macro = [] }) (λ own. refl) refl (no_search h.own.prompt)
+
+  -- nothing ends while a macro plays
+  ended_so : (c : Bool)
+      → (let ends : Result model.Own Message = cond c (Ok (record (acted_own (own_of h.own)) { recording = false; macro = take (length (own_of h.own).macro - 2) (own_of h.own).macro })) (Err NotInMacro) in world_of directory ks (slice_set xs at (cond c (macro_ended h) (failed NotInMacro h))) next ≡ apply (world_of directory ks xs next) id (sets (own_of h.own) ends))
+      → (p : Bool)
+      → (let ends : Result model.Own Message = cond c (Ok (record (acted_own (own_of h.own)) { recording = false; macro = take (length (own_of h.own).macro - 2) (own_of h.own).macro })) (Err NotInMacro) in world_of directory ks (slice_set xs at (cond p (failed InMacro h) (cond c (macro_ended h) (failed NotInMacro h)))) next ≡ apply (world_of directory ks xs next) id (sets (own_of h.own) (cond p (Err InMacro) ends)))
+  ended_so c done true = failed_set InMacro
+  ended_so c done false = done
 
   set_so : (s : Setting) (n : Option ℕ) → is_setting_done s ≡ true → world_of directory ks (slice_set xs at (session_set s n h)) next ≡ apply (world_of directory ks xs next) id (sets (own_of h.own) (setting s (acted_own (own_of h.own)) n))
   set_so SetFillColumn None here = failed_set NoArgument
@@ -148,10 +156,10 @@ module _ (directory : Directory) (ks : List MarkedBuffer) (xs : List Session) (n
   set_so KeyboardQuit n here =
       let after : model.Own = record (failed_own Quitting (own_of h.own)) { recording = false; macro = cond h.own.recorder.recording [] h.own.recorder.macro } in
       owned_so (macro_given_up (failed Quitting h)) after refl
-  set_so StartMacro n here = started_so h.own.recorder.recording
+  set_so StartMacro n here = started_so (h.own.recorder.recording || h.own.player.playing)
   set_so EndMacro n here =
       let ends : model.Own → model.Own = λ own. record own { recording = false; macro = take (length own.macro - 2) own.macro } in
-      recorded_so (macro_ended h) ends NotInMacro (acted_so (macro_ended h) ends (λ own. refl) refl (no_search h.own.prompt)) h.own.recorder.recording
+      ended_so h.own.recorder.recording (recorded_so (macro_ended h) ends NotInMacro (acted_so (macro_ended h) ends (λ own. refl) refl (no_search h.own.prompt)) h.own.recorder.recording) h.own.player.playing
   set_so CallMacro n here = cc
 
   set_known : (s : Setting) (n : Option ℕ) → outcome (view (world_of directory ks xs next) (session_of ks h)) (act_of (Run (Set s) n)) true ≡ sets (own_of h.own) (setting s (acted_own (own_of h.own)) n)

@@ -1,5 +1,5 @@
 -- What a save comes to, and that what is done is the act with the store's answer.
-use Rattle.std.proofs.Common.{◌≡◌, ℕ, ◌<◌, Bool, true, false, cond, List, [], ◌∷◌, length, map, Option, Some, None, refl, sym, ap, ◌∙◌, append-nil}
+use Rattle.std.proofs.Common.{◌≡◌, ℕ, ◌<◌, Bool, true, false, cond, List, [], ◌∷◌, length, map, Option, Some, None, refl, sym, ap, subst, ◌∙◌, append-nil}
 use Rattle.std.specs.Prelude.{slice_get, slice_set, not}
 use Rattle.std.specs.List.{position_or_len, flat_map}
 use Rattle.std.specs.Option.{option_and_then, option_map}
@@ -21,7 +21,7 @@ use Rattle.mgs_model.specs.declared.right.Right.TheVariants.{ReadData, WriteData
 use Rattle.mgs_model.specs.declared.entry.Decision.TheVariants.{Granted}
 use Rattle.mgs_model.specs.declared.touched.Touched.{Touched}
 use Rattle.mgs_model.specs.declared.message.Message.{Message}
-use Rattle.mgs_model.specs.declared.message.Message.TheVariants.{NoBuffer, NoFile, SaveFailed, Wrote}
+use Rattle.mgs_model.specs.declared.message.Message.TheVariants.{InMacro, NoBuffer, NoFile, SaveFailed, Wrote}
 use Rattle.mgs_model.specs.declared.session.Command.TheVariants.{SaveBuffer}
 use Rattle.mgs_model.specs.declared.session.Kind.TheVariants.{Other}
 use Rattle.mgs_model.proofs.Apart.{apart_apply}
@@ -98,23 +98,24 @@ saved_sizes xs at h y name stored y_is is =
 -- what it comes to by what is told and what is read of the buffer
 abbrev saves_of : model.Own → Bool → Bool → Buffer → List ℕ → Bool → Outcome
 saves_of own told read b name stored =
-    cond (not (has_file (told_if told b))) (fails own NoFile)
+    cond own.playing (fails own InMacro)
+    (cond (not (has_file (told_if told b))) (fails own NoFile)
     (cond (not stored) (fails own SaveFailed)
-    (record { own = record (acted_own own) { echo = Wrote name }; kill = Keep_kill; arrange = Stay; effect = Save name (text_in (full_if read b)) }))
+    (record { own = record (acted_own own) { echo = Wrote name }; kill = Keep_kill; arrange = Stay; effect = Save name (text_in (full_if read b)) })))
 
-saves_told : (own : model.Own) (b : Buffer) (name : List ℕ) (stored : Bool) → saves_of own true true b name stored ≡ cond (not b.file) (fails own NoFile) (save_answered own name b.text stored)
+saves_told : (own : model.Own) (b : Buffer) (name : List ℕ) (stored : Bool) → saves_of own true true b name stored ≡ cond own.playing (fails own InMacro) (cond (not b.file) (fails own NoFile) (save_answered own name b.text stored))
 saves_told own b name true = refl
 saves_told own b name false = refl
 
 -- where reading and writing are granted, all is told
-saves_granted : (own : model.Own) (d : Right → Decider) (b : Buffer) (name : List ℕ) (stored : Bool) → decision_by d (rights_in 3) ≡ Granted → saves_of own (any_right d) (allows (d ReadData)) b name stored ≡ cond (not b.file) (fails own NoFile) (save_answered own name b.text stored)
+saves_granted : (own : model.Own) (d : Right → Decider) (b : Buffer) (name : List ℕ) (stored : Bool) → decision_by d (rights_in 3) ≡ Granted → saves_of own (any_right d) (allows (d ReadData)) b name stored ≡ cond own.playing (fails own InMacro) (cond (not b.file) (fails own NoFile) (save_answered own name b.text stored))
 saves_granted own d b name stored e =
     let read = first_granted d (WriteData ∷ []) e in
     ap (λ (r : Bool). saves_of own (any_right d) r b name stored) read
     ∙ ap (λ (a : Bool). saves_of own a true b name stored) (any_read d read)
     ∙ saves_told own b name stored
 
-save_known : (directory : Directory) (ks : List MarkedBuffer) (xs : List Session) (next : Option ℕ) (h : Session) (x : WindowMarks) (n : Option ℕ) (stored : Bool) → window_marks_of h ≡ Some x → HasBuffer x.name ks → outcome (view (world_of directory ks xs next) (session_of ks h)) (Run SaveBuffer n []) stored ≡ save_outcome directory h.user x.name ks (own_of h.own) stored
+save_known : (directory : Directory) (ks : List MarkedBuffer) (xs : List Session) (next : Option ℕ) (h : Session) (x : WindowMarks) (n : Option ℕ) (stored : Bool) → window_marks_of h ≡ Some x → HasBuffer x.name ks → outcome (view (world_of directory ks xs next) (session_of ks h)) (Run SaveBuffer n []) stored ≡ save_outcome directory h.user x.name ks h.own.player.playing (own_of h.own) stored
 unfolding outcome
 save_known directory ks xs next h x n stored sel kept =
     let v = view (world_of directory ks xs next) (session_of ks h) in
@@ -126,7 +127,7 @@ save_known directory ks xs next h x n stored sel kept =
     ap (λ o. permitted v.session.own (judged v (here o (λ t. 3))) (saves v.session.own o stored)) seen.1
     ∙ ap (λ k. permitted v.session.own k (saves v.session.own (Some t) stored)) (judged_here v t (λ t. 3) found)
     ∙ permitted_same (own_of h.own) (decision_by d (rights_in 3)) _ _ (λ e. saves_granted (own_of h.own) d b b.name stored e)
-    ∙ ap (λ (m : List ℕ). permitted (own_of h.own) (decision_by d (rights_in 3)) (cond (not b.file) (fails (own_of h.own) NoFile) (save_answered (own_of h.own) m b.text stored))) (name_kept x.name ks kept)
+    ∙ ap (λ (m : List ℕ). permitted (own_of h.own) (decision_by d (rights_in 3)) (cond h.own.player.playing (fails (own_of h.own) InMacro) (cond (not b.file) (fails (own_of h.own) NoFile) (save_answered (own_of h.own) m b.text stored)))) (name_kept x.name ks kept)
 
 save_nowhere : (directory : Directory) (ks : List MarkedBuffer) (xs : List Session) (next : Option ℕ) (h : Session) (n : Option ℕ) (stored : Bool) → window_marks_of h ≡ None → outcome (view (world_of directory ks xs next) (session_of ks h)) (Run SaveBuffer n []) stored ≡ fails (own_of h.own) NoBuffer
 unfolding outcome
@@ -167,7 +168,7 @@ pub saved_nowhere : (directory : Directory) (ks : List MarkedBuffer) (xs : List 
 saved_nowhere directory ks xs next before id at h n place within is fresh none =
     failed_save directory ks xs next before id at h n NoBuffer place within is fresh (save_nowhere directory ks xs next h n true none)
 
-pub saved_refused : (directory : Directory) (ks : List MarkedBuffer) (xs : List Session) (next : Option ℕ) (before : StoreTold) (id at : ℕ) (h : Session) (x : WindowMarks) (n : Option ℕ) (message : Message) → at ≡ position_or_len (session_id id) xs → at < length xs → slice_get xs at ≡ Some h → own_at at xs ≡ idle (own_at at xs) → window_marks_of h ≡ Some x → HasBuffer x.name ks → ((own : model.Own) (stored : Bool) → save_outcome directory h.user x.name ks own stored ≡ fails own message) → SavedBy (world_of directory ks xs next) (world_of directory ks (slice_set xs at (failed message h)) next) before before id n
+pub saved_refused : (directory : Directory) (ks : List MarkedBuffer) (xs : List Session) (next : Option ℕ) (before : StoreTold) (id at : ℕ) (h : Session) (x : WindowMarks) (n : Option ℕ) (message : Message) → at ≡ position_or_len (session_id id) xs → at < length xs → slice_get xs at ≡ Some h → own_at at xs ≡ idle (own_at at xs) → window_marks_of h ≡ Some x → HasBuffer x.name ks → ((own : model.Own) (stored : Bool) → save_outcome directory h.user x.name ks h.own.player.playing own stored ≡ fails own message) → SavedBy (world_of directory ks xs next) (world_of directory ks (slice_set xs at (failed message h)) next) before before id n
 saved_refused directory ks xs next before id at h x n message place within is fresh sel kept refused =
     failed_save directory ks xs next before id at h n message place within is fresh (save_known directory ks xs next h x n true sel kept ∙ refused (own_of h.own) true)
 
@@ -178,7 +179,16 @@ saves_answered own name text false = refl
 -- that nothing stands against a save
 abbrev pub IsGranted : Directory → List MarkedBuffer → Session → WindowMarks → Type 0
 IsGranted directory ks h x =
-    (own : model.Own) (stored : Bool) → save_outcome directory h.user x.name ks own stored ≡ save_answered own x.name (marked_at x.name ks).buffer.text stored
+    (own : model.Own) (stored : Bool) → save_outcome directory h.user x.name ks h.own.player.playing own stored ≡ save_answered own x.name (marked_at x.name ks).buffer.text stored
+
+-- by whether a macro plays
+pub granted_as : (directory : Directory) (ks : List MarkedBuffer) (h : Session) (x : WindowMarks) (playing : Bool) → playing ≡ h.own.player.playing → ((own : model.Own) (stored : Bool) → save_outcome directory h.user x.name ks playing own stored ≡ save_answered own x.name (marked_at x.name ks).buffer.text stored) → IsGranted directory ks h x
+granted_as directory ks h x playing is granted =
+    subst (λ (p : Bool). (own : model.Own) (stored : Bool) → save_outcome directory h.user x.name ks p own stored ≡ save_answered own x.name (marked_at x.name ks).buffer.text stored) is granted
+
+pub refused_as : (directory : Directory) (ks : List MarkedBuffer) (h : Session) (x : WindowMarks) (message : Message) (playing : Bool) → playing ≡ h.own.player.playing → ((own : model.Own) (stored : Bool) → save_outcome directory h.user x.name ks playing own stored ≡ fails own message) → (own : model.Own) (stored : Bool) → save_outcome directory h.user x.name ks h.own.player.playing own stored ≡ fails own message
+refused_as directory ks h x message playing is refused =
+    subst (λ (p : Bool). (own : model.Own) (stored : Bool) → save_outcome directory h.user x.name ks p own stored ≡ fails own message) is refused
 
 answered : (directory : Directory) (ks : List MarkedBuffer) (xs : List Session) (next : Option ℕ) (id at : ℕ) (h : Session) (x : WindowMarks) (n : Option ℕ) (stored : Bool) → at ≡ position_or_len (session_id id) xs → at < length xs → slice_get xs at ≡ Some h → window_marks_of h ≡ Some x → HasBuffer x.name ks → IsGranted directory ks h x → outcome_in (world_of directory ks xs next) id (Run SaveBuffer n []) stored ≡ Some (save_answered (own_at at xs) x.name (marked_at x.name ks).buffer.text stored)
 answered directory ks xs next id at h x n stored place within is sel kept granted =

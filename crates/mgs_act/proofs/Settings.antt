@@ -1,6 +1,6 @@
 -- A setting keeps a session's marks and its size.
 use Rattle.std.proofs.Common.{◌≡◌, ℕ, List, Bool, true, false, cond, Option, None, Some, refl}
-use Rattle.std.specs.Prelude.{◌==◌}
+use Rattle.std.specs.Prelude.{◌==◌, ◌||◌}
 use Rattle.mgs_model.specs.declared.message.Message.TheVariants.{BadColumn, InMacro, NotInMacro}
 use Rattle.mgs_model.specs.declared.session.Kind.TheVariants.{Other}
 use Rattle.mgs_model.specs.declared.session.Setting.{Setting}
@@ -20,14 +20,14 @@ pub set_uses : (s : Setting) (n : Option ℕ) (x : Session) (m : List ℕ) (i : 
 set_uses SetFillColumn None x m i = refl
 set_uses SetFillColumn (Some n) x m i = either_same (session_uses m i) x (failed BadColumn x) (filling n (acted Other x)) refl refl (n == 0)
 set_uses KeyboardQuit n x m i = refl
-set_uses StartMacro n x m i = either_same (session_uses m i) x (failed InMacro x) (macro_started x) refl refl x.own.recorder.recording
-set_uses EndMacro n x m i = either_same (session_uses m i) x (macro_ended x) (failed NotInMacro x) refl refl x.own.recorder.recording
+set_uses StartMacro n x m i = either_same (session_uses m i) x (failed InMacro x) (macro_started x) refl refl (x.own.recorder.recording || x.own.player.playing)
+set_uses EndMacro n x m i = either_same (session_uses m i) x (failed InMacro x) (cond x.own.recorder.recording (macro_ended x) (failed NotInMacro x)) refl (either_same (session_uses m i) x (macro_ended x) (failed NotInMacro x) refl refl x.own.recorder.recording) x.own.player.playing
 set_uses CallMacro n x m i = refl
 
 pub set_size : (s : Setting) (n : Option ℕ) (x : Session) → size_in (session_set s n x) ≡ size_in x
 set_size SetFillColumn None x = refl
 set_size SetFillColumn (Some n) x = either_same size_in x (failed BadColumn x) (filling n (acted Other x)) refl refl (n == 0)
 set_size KeyboardQuit n x = refl
-set_size StartMacro n x = either_same size_in x (failed InMacro x) (macro_started x) refl refl x.own.recorder.recording
-set_size EndMacro n x = either_same size_in x (macro_ended x) (failed NotInMacro x) refl refl x.own.recorder.recording
+set_size StartMacro n x = either_same size_in x (failed InMacro x) (macro_started x) refl refl (x.own.recorder.recording || x.own.player.playing)
+set_size EndMacro n x = either_same size_in x (failed InMacro x) (cond x.own.recorder.recording (macro_ended x) (failed NotInMacro x)) refl (either_same size_in x (macro_ended x) (failed NotInMacro x) refl refl x.own.recorder.recording) x.own.player.playing
 set_size CallMacro n x = refl

@@ -9,7 +9,7 @@ use Rattle.mgs_model.specs.Acts.{fails, permitted}
 use Rattle.mgs_model.specs.Apply.{act, change_first}
 use Rattle.mgs_model.specs.Events.{Saved, act_effects, saved_by}
 use Rattle.mgs_model.specs.declared.entry.Decision.{Decision}
-use Rattle.mgs_model.specs.declared.message.Message.TheVariants.{NoFile, SaveFailed, Wrote}
+use Rattle.mgs_model.specs.declared.message.Message.TheVariants.{InMacro, NoFile, SaveFailed, Wrote}
 use Rattle.mgs_model.specs.declared.session.Command.TheVariants.{SaveBuffer}
 use Rattle.mgs_model.specs.declared.session.Kind.TheVariants.{Other}
 use Rattle.mgs_store.specs.Stores.{IsCounted, StoreTold, saved_of, told_more}
@@ -30,20 +30,20 @@ save_answered own name text false = fails own SaveFailed
 save_answered own name text true =
     record { own = record (acted_own own) { echo = Wrote name }; kill = Keep_kill; arrange = Stay; effect = Save name text }
 
--- what it comes to in a buffer, by what is decided on the rights
-abbrev pub save_decided : Own → List ℕ → List ℕ → Bool → Decision → Bool → Outcome
-save_decided own name text file d stored =
-    permitted own d (if not file then fails own NoFile else save_answered own name text stored)
+-- what it comes to in a buffer, by what is decided on the rights: none is done while a macro plays
+abbrev pub save_decided : Bool → Own → List ℕ → List ℕ → Bool → Decision → Bool → Outcome
+save_decided playing own name text file d stored =
+    permitted own d (if playing then fails own InMacro else if not file then fails own NoFile else save_answered own name text stored)
 
 -- what is decided on reading and writing for a user
 abbrev pub save_decision : Directory → List ℕ → List ℕ → List MarkedBuffer → Decision
 save_decision directory user name ks =
     let b = (marked_at name ks).buffer in decision directory b.owner user b.entries 3
 
--- what it comes to for a user
-abbrev pub save_outcome : Directory → List ℕ → List ℕ → List MarkedBuffer → Own → Bool → Outcome
-save_outcome directory user name ks own stored =
-    save_decided own name (marked_at name ks).buffer.text (marked_at name ks).buffer.file (save_decision directory user name ks) stored
+-- what it comes to for a user, where a macro plays and where none does
+abbrev pub save_outcome : Directory → List ℕ → List ℕ → List MarkedBuffer → Bool → Own → Bool → Outcome
+save_outcome directory user name ks playing own stored =
+    save_decided playing own name (marked_at name ks).buffer.text (marked_at name ks).buffer.file (save_decision directory user name ks) stored
 
 -- WHAT THE STORE'S ANSWER LEAVES
 

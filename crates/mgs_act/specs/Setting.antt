@@ -1,5 +1,5 @@
 -- What a setting leaves of a session that has nothing half read.
-use Rattle.std.specs.Prelude.{ℕ, ◌==◌, Option, None, Some, cond, if◌then◌else◌}
+use Rattle.std.specs.Prelude.{ℕ, ◌==◌, ◌||◌, Option, None, Some, cond, if◌then◌else◌}
 use Rattle.mgs_model.specs.declared.message.Message.TheVariants.{Quitting, NoArgument, BadColumn, InMacro, NotInMacro}
 use Rattle.mgs_model.specs.declared.session.Kind.TheVariants.{Other}
 use Rattle.mgs_model.specs.declared.session.Setting.{Setting}
@@ -12,14 +12,14 @@ abbrev pub column_set : Option ℕ → Session → Session
 column_set None x = failed NoArgument x
 column_set (Some n) x = if n == 0 then failed BadColumn x else filling n (acted Other x)
 
--- a macro is recorded at most once at a time
+-- one macro is recorded at a time, and none while one plays
 abbrev pub recording_started : Session → Session
-recording_started x = cond x.own.recorder.recording (failed InMacro x) (macro_started x)
+recording_started x = cond (x.own.recorder.recording || x.own.player.playing) (failed InMacro x) (macro_started x)
 
 abbrev pub recording_ended : Session → Session
-recording_ended x = cond x.own.recorder.recording (macro_ended x) (failed NotInMacro x)
+recording_ended x = cond x.own.player.playing (failed InMacro x) (cond x.own.recorder.recording (macro_ended x) (failed NotInMacro x))
 
--- no macro is played so far
+-- the playing of a macro is no act
 abbrev pub session_set : Setting → Option ℕ → Session → Session
 session_set SetFillColumn n x = column_set n x
 session_set KeyboardQuit n x = macro_given_up (failed Quitting x)

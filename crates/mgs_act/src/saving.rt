@@ -26,23 +26,27 @@ use mgs_store::Store;
 use mgs_text::Text;
 use mgs_windows::WindowMarks;
 
-/// Why a user may not have a buffer saved, if there is a reason: the rights are asked before the file.
+/// Why a user may not have a buffer saved, if there is a reason: the rights are asked first, then whether a macro plays, and then the
+/// file.
 fn refusal<T: Marked + Drop>(
     buffers: &Buffers<T>,
     directory: &Directory,
     user: &Name,
     name: &Name,
+    is_playing: bool,
 ) -> Option<Message>
     requires { HasBuffer name.now buffers.now }
-    ensures refused { IfSome result (λ message. (own : Own) (stored : Bool) → save_outcome directory.now user.now name.now buffers.now own stored ≡ fails own message) }
-    ensures none { result ≡ None → (own : Own) (stored : Bool) → save_outcome directory.now user.now name.now buffers.now own stored ≡ save_answered own name.now (marked_at name.now buffers.now).buffer.text stored }
+    ensures refused { IfSome result (λ message. (own : Own) (stored : Bool) → save_outcome directory.now user.now name.now buffers.now is_playing own stored ≡ fails own message) }
+    ensures none { result ≡ None → (own : Own) (stored : Bool) → save_outcome directory.now user.now name.now buffers.now is_playing own stored ≡ save_answered own name.now (marked_at name.now buffers.now).buffer.text stored }
 {
     let mask = Mask::from_bits(Right::ReadData.bit() + Right::WriteData.bit());
     let decision = buffers.decide_all(directory, name, user, mask);
     match decision {
         Decision::DeniedBy { .. } | Decision::NotGranted { .. } => Some(Message::Denied(decision)),
         Decision::Granted => {
-            if buffers.has_file(name) {
+            if is_playing {
+                Some(Message::InMacro)
+            } else if buffers.has_file(name) {
                 None
             } else {
                 Some(Message::NoFile)
@@ -178,7 +182,8 @@ pub fn save<T: Marked + Drop, S: Store>(
         return Ok(Touched::Nowhere);
     };
     let name = window_marks.name;
-    match refusal(buffers, directory, &session.user, &name) {
+    let is_playing = session.own.player.is_playing();
+    match refusal(buffers, directory, &session.user, &name, is_playing) {
         Some(message) => {
             fail(&mut sessions[at], message);
             Ok(Touched::Nowhere)

@@ -19,11 +19,11 @@ fn set_column(session: &mut Session, argument: Option<usize>)
     }
 }
 
-/// A macro is recorded from here on, where none is.
+/// A macro is recorded from here on, where none is and none plays.
 fn start_recording(session: &mut Session)
     ensures { session.new ≡ recording_started session.old }
 {
-    if session.own.recorder.is_recording() {
+    if session.own.recorder.is_recording() || session.own.player.is_playing() {
         fail(session, Message::InMacro);
     } else {
         start_macro(session);
@@ -34,7 +34,9 @@ fn start_recording(session: &mut Session)
 fn end_recording(session: &mut Session)
     ensures { session.new ≡ recording_ended session.old }
 {
-    if session.own.recorder.is_recording() {
+    if session.own.player.is_playing() {
+        fail(session, Message::InMacro);
+    } else if session.own.recorder.is_recording() {
         end_macro(session);
     } else {
         fail(session, Message::NotInMacro);
@@ -53,7 +55,7 @@ pub fn set(session: &mut Session, setting: Setting, argument: Option<usize>)
         }
         Setting::StartMacro => start_recording(session),
         Setting::EndMacro => end_recording(session),
-        // No key plays a macro so far.
+        // A macro that is played is no act.
         Setting::CallMacro => {}
     }
 }

@@ -37,9 +37,9 @@ slots_done x slots selected at windows places fresh quiet are left is =
     let search : cond (searches x.own.mode) x.search None ≡ x.search = ap (λ (o : Own). cond (searches o.mode) x.search None) fresh ∙ sym quiet in
     λ t. record x { windows = are t; selected = is t; places = left t; search = search t; own = own t }
 
-failed_told : (message : Message) (own : Own) → own ≡ idle own → kind_failed message own.kind ≡ Other → failed_own message own ≡ record own { echo = message; kind = Other }
+failed_told : (message : Message) (own : Own) → own ≡ idle own → kind_failed message own.kind ≡ Other → failed_own message own ≡ record own { echo = message; kind = Other; todo = [] }
 failed_told message own fresh broken =
-    ap (failed_own message) fresh ∙ ap (λ k. record (idle own) { echo = message; kind = k }) broken ∙ sym (ap (λ (o : Own). record o { echo = message; kind = Other }) fresh)
+    ap (failed_own message) fresh ∙ ap (λ k. record (idle own) { echo = message; kind = k; todo = [] }) broken ∙ sym (ap (λ (o : Own). record o { echo = message; kind = Other; todo = [] }) fresh)
 
 -- what a failure makes of it
 failure_done : (x : Session) (message : Message) → x.own ≡ idle x.own → x.search ≡ None → ((kind : Kind) → kind_failed message kind ≡ Other) → session_arranged (fails x.own message) x ≡ run_ended (arranged_or_told (Err message) x)

@@ -20,7 +20,7 @@ use Rattle.mgs_windows.specs.declared.RowPane.{RowPane}
 use Rattle.mgs_windows.specs.declared.RowPane.TheVariants.{NoRows, Buffers, Entries}
 use Rattle.mgs_windows.proofs.Heights.{length_changed, length_removed, shows_same}
 use Rattle.mgs_session.specs.declared.Session.{Session}
-use Rattle.mgs_session.specs.Sessions.{told}
+use Rattle.mgs_session.specs.Sessions.{broken_off}
 use Rattle.mgs_world.specs.Worlds.{place_of, session_of, window_of, window_shown}
 use Rattle.mgs_world.specs.Sound.{IsSessionSound, IsShownSound, in_use, place_uses, session_uses, sum_of, window_marks_uses, window_uses}
 use Rattle.mgs_world.specs.WindowMarks.{WindowMarksDropped}
@@ -180,7 +180,7 @@ lessened_twice a b c x y z h g = record {
 
 -- THE SELECTED ONE GOES
 
-pub deleted_not : (n : Option ℕ) (ks : List MarkedBuffer) (x : Session) → length x.windows.windows < 2 → session_of ks (told OnlyOneWindow x) ≡ arranged_or_told (rearranged DeleteWindow n (session_of ks x)) (session_of ks x)
+pub deleted_not : (n : Option ℕ) (ks : List MarkedBuffer) (x : Session) → length x.windows.windows < 2 → session_of ks (broken_off OnlyOneWindow x) ≡ arranged_or_told (rearranged DeleteWindow n (session_of ks x)) (session_of ks x)
 deleted_not n ks x few =
     let s = session_of ks x in
     let one : nat_lt (length s.windows) 2 ≡ true = ap (λ (k : ℕ). nat_lt k 2) (length-map x.windows.windows (window_of ks)) ∙ lt-ltb (length x.windows.windows) 2 few in

@@ -9,7 +9,7 @@ use Rattle.mgs_windows.specs.Panes as panes
 use Rattle.mgs_windows.specs.Panes.{given, height_at}
 use Rattle.mgs_windows.specs.declared.Window.{Window}
 use Rattle.mgs_session.specs.declared.Session.{Session}
-use Rattle.mgs_session.specs.Sessions.{told}
+use Rattle.mgs_session.specs.Sessions.{broken_off}
 use Rattle.mgs_world.specs.Worlds.{session_of, window_of}
 use Rattle.mgs_world.specs.Sound.{window_uses}
 use Rattle.mgs_world.proofs.Worlds.{same_windows}
@@ -35,7 +35,7 @@ given_so from to n ks x within stays =
     same_windows s _ _ (windows_given ks from to n x.windows.windows)
     ∙ sym (ap (λ (b : Bool). arranged_or_told (cond b (Err ImpossibleChange) (Ok (rows_given from to n s))) s) (ap (λ (h : ℕ). nat_le h n) (height_seen ks from x.windows.windows within) ∙ more))
 
-pub given_not : (from to n : ℕ) (ks : List MarkedBuffer) (x : Session) → from < length x.windows.windows → height_at from x.windows.windows ≤ n → session_of ks (told ImpossibleChange x) ≡ arranged_or_told (rows_given_if from to n (session_of ks x)) (session_of ks x)
+pub given_not : (from to n : ℕ) (ks : List MarkedBuffer) (x : Session) → from < length x.windows.windows → height_at from x.windows.windows ≤ n → session_of ks (broken_off ImpossibleChange x) ≡ arranged_or_told (rows_given_if from to n (session_of ks x)) (session_of ks x)
 given_not from to n ks x within few =
     let s = session_of ks x in
     let less : nat_le (height_at from x.windows.windows) n ≡ true = grind (arith, nat_tests, few) in

@@ -18,7 +18,7 @@ use Rattle.mgs_windows.specs.declared.WindowMarks.{WindowMarks}
 use Rattle.mgs_windows.specs.declared.Window.{Window}
 use Rattle.mgs_windows.specs.declared.RowPane.{RowPane}
 use Rattle.mgs_session.specs.declared.Session.{Session}
-use Rattle.mgs_session.specs.Sessions.{told}
+use Rattle.mgs_session.specs.Sessions.{broken_off}
 use Rattle.mgs_world.specs.Worlds.{buffers_of, session_of, window_of, window_shown}
 use Rattle.mgs_world.specs.Sound.{IsSessionSound, IsShownSound, in_use, session_uses, sum_of, window_marks_uses, window_uses}
 use Rattle.mgs_world.specs.WindowMarks.{MarksStay}
@@ -48,13 +48,13 @@ selected_seen ks x w e = height_seen ks x.windows.selected x.windows.windows (so
 abbrev answer_of : Bool → Bool → model.Session → model.Session
 answer_of small many s = arranged_or_told (cond small (Err WindowTooSmall) (cond many (Err TooManyWindows) (Ok (window_split s)))) s
 
-pub split_small : (n : Option ℕ) (ks : List MarkedBuffer) (x : Session) (w : Window) → slice_get x.windows.windows x.windows.selected ≡ Some w → w.height < 3 → session_of ks (told WindowTooSmall x) ≡ arranged_or_told (rearranged SplitWindow n (session_of ks x)) (session_of ks x)
+pub split_small : (n : Option ℕ) (ks : List MarkedBuffer) (x : Session) (w : Window) → slice_get x.windows.windows x.windows.selected ≡ Some w → w.height < 3 → session_of ks (broken_off WindowTooSmall x) ≡ arranged_or_told (rearranged SplitWindow n (session_of ks x)) (session_of ks x)
 split_small n ks x w e small =
     let s = session_of ks x in
     let test : nat_lt w.height 3 ≡ true = grind (arith, nat_tests, small) in
     sym (ap (λ (b : Bool). answer_of b (nat_le WINDOW_LIMIT (length s.windows)) s) (ap (λ (h : ℕ). nat_lt h 3) (selected_seen ks x w e) ∙ test))
 
-pub split_many : (n : Option ℕ) (ks : List MarkedBuffer) (x : Session) (w : Window) → slice_get x.windows.windows x.windows.selected ≡ Some w → 3 ≤ w.height → WINDOW_LIMIT ≤ length x.windows.windows → session_of ks (told TooManyWindows x) ≡ arranged_or_told (rearranged SplitWindow n (session_of ks x)) (session_of ks x)
+pub split_many : (n : Option ℕ) (ks : List MarkedBuffer) (x : Session) (w : Window) → slice_get x.windows.windows x.windows.selected ≡ Some w → 3 ≤ w.height → WINDOW_LIMIT ≤ length x.windows.windows → session_of ks (broken_off TooManyWindows x) ≡ arranged_or_told (rearranged SplitWindow n (session_of ks x)) (session_of ks x)
 split_many n ks x w e high many =
     let s = session_of ks x in
     let test : nat_lt w.height 3 ≡ false = grind (arith, nat_tests, high) in

@@ -126,10 +126,10 @@ rearranged ShrinkWindow n x =
     else rows_given_if x.selected (neighbor x.selected (length x.windows)) (count_of n) x
 rearranged ListBuffers n x = Ok (window_lists Listing x)
 
--- the session afterwards in either case
+-- the session afterwards in either case: a failure is told, and ends what is played
 abbrev pub arranged_or_told : Result Session Message → Session → Session
 arranged_or_told (Ok y) x = y
-arranged_or_told (Err message) x = record x { own = record x.own { echo = message } }
+arranged_or_told (Err message) x = record x { own = record x.own { echo = message; todo = [] } }
 
 -- and the run of kills, of lines or of undos that the last command may have been in is over
 abbrev pub run_ended : Session → Session

@@ -11,7 +11,7 @@ ghost use Rattle.mgs_arrange.specs.Arranging.{Lessened, IsArranged};
 use mgs_buffers::Buffers;
 use mgs_marks::Marked;
 use mgs_model::Message;
-use mgs_session::{Session, set_echo};
+use mgs_session::{Session, break_off};
 use mgs_world::drop_window_marks;
 
 // The window at an index goes: its rows go to the heir, and its marks are the session's place in its buffer.
@@ -48,7 +48,7 @@ pub fn delete<T: Marked + Drop>(buffers: &mut Buffers<T>, session: &mut Session)
     ensures arranged { (n : Option ℕ) → IsArranged DeleteWindow n buffers.old buffers.new session.old session.new }
 {
     if session.windows.as_slice().len() < 2 {
-        set_echo(session, Message::OnlyOneWindow);
+        break_off(session, Message::OnlyOneWindow);
         return;
     }
     let selected = session.windows.selected();

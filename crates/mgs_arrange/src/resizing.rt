@@ -8,7 +8,7 @@ ghost use Rattle.mgs_arrange.specs.Arranged.{arranged_or_told, next_index, previ
 ghost use Rattle.mgs_arrange.specs.Arranging.{IsArranged, IsResized};
 
 use mgs_model::Message;
-use mgs_session::{Session, set_echo};
+use mgs_session::{Session, break_off};
 
 // The index after this one, cyclic.
 fn next_index(index: usize, count: usize) -> usize
@@ -77,7 +77,7 @@ fn give(session: &mut Session, from: usize, to: usize, rows: usize)
     ensures given { (ks : List MarkedBuffer) → session_of ks session.new ≡ arranged_or_told (rows_given_if from to rows (session_of ks session.old)) (session_of ks session.old) }
 {
     if session.windows.height(from) <= rows {
-        set_echo(session, Message::ImpossibleChange);
+        break_off(session, Message::ImpossibleChange);
         return;
     }
     session.windows.give(from, to, rows);
@@ -90,7 +90,7 @@ pub fn enlarge(session: &mut Session, argument: Option<usize>)
 {
     let windows = session.windows.as_slice().len();
     if windows < 2 {
-        set_echo(session, Message::OnlyOneWindow);
+        break_off(session, Message::OnlyOneWindow);
         return;
     }
     let selected = session.windows.selected();
@@ -109,7 +109,7 @@ pub fn shrink(session: &mut Session, argument: Option<usize>)
 {
     let windows = session.windows.as_slice().len();
     if windows < 2 {
-        set_echo(session, Message::OnlyOneWindow);
+        break_off(session, Message::OnlyOneWindow);
         return;
     }
     let selected = session.windows.selected();

@@ -11,7 +11,7 @@ ghost use Rattle.mgs_arrange.specs.Arranging.{IsArranged, IsCopied, IsResized, M
 use mgs_buffers::Buffers;
 use mgs_marks::Marked;
 use mgs_model::{Message, Short, WINDOW_LIMIT};
-use mgs_session::{Session, set_echo};
+use mgs_session::{Session, break_off};
 use mgs_windows::WindowMarks;
 use mgs_world::add_window_marks;
 
@@ -48,11 +48,11 @@ pub fn split<T: Marked + Drop>(buffers: &mut Buffers<T>, session: &mut Session) 
 {
     let window = session.windows.selected_window();
     if window.height < 3 {
-        set_echo(session, Message::WindowTooSmall);
+        break_off(session, Message::WindowTooSmall);
         return Ok(());
     }
     if session.windows.as_slice().len() >= WINDOW_LIMIT {
-        set_echo(session, Message::TooManyWindows);
+        break_off(session, Message::TooManyWindows);
         return Ok(());
     }
     session.windows.reserve()?;

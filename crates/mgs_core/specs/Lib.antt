@@ -4,3 +4,5 @@ pub mod Counts
 pub mod Judged
 pub mod Kept
 pub mod Prompted
+pub mod Turned
+pub mod Stepped

@@ -1,11 +1,12 @@
 //! The server's world: its directory, buffers and sessions. One call of `Core` is one event.
 #![tactic(auto)]
 
+mod deeds;
 mod keying;
 mod laws;
-mod replying;
 mod secrecy;
 mod server;
+mod turning;
 mod typing;
 
 pub use laws::{kill_stays, outcomes_are_lawful, settled_stays};

@@ -9,8 +9,6 @@ use Rattle.mgs_model.specs.declared.session.Motion.{Motion}
 use Rattle.mgs_model.specs.declared.session.Motion.TheVariants.{StartSearch, SearchOn, SearchFor, StartReplace, SkipMatch}
 use Rattle.mgs_model.specs.declared.session.Alteration.{Alteration}
 use Rattle.mgs_model.specs.declared.session.Alteration.TheVariants.{ReplaceMatch, ReplaceLast}
-use Rattle.mgs_model.specs.declared.session.Setting.{Setting}
-use Rattle.mgs_model.specs.declared.session.Setting.TheVariants.{SetFillColumn, KeyboardQuit, StartMacro, EndMacro}
 use Rattle.mgs_model.specs.declared.session.Command.{Command}
 use Rattle.mgs_model.specs.declared.session.EntryChange.{EntryChange}
 use Rattle.mgs_model.specs.declared.session.EntryChange.TheVariants.{DeleteEntry}
@@ -40,7 +38,7 @@ FedBy Pending read new = read ≡ Half new.argument new.keys
 FedBy (Run c n) read new = (read ≡ Bound c n) × (new ≡ nothing_held)
 FedBy Unbound read new = (read ≡ Not_bound) × (new ≡ nothing_held)
 
--- the motions, alterations and settings of the table
+-- the motions and alterations of the table
 abbrev pub is_bound_motion : Motion → Bool
 is_bound_motion (StartSearch d) = false
 is_bound_motion (SearchOn d step) = false
@@ -54,13 +52,6 @@ is_bound_alteration ReplaceMatch = false
 is_bound_alteration ReplaceLast = false
 is_bound_alteration _ = true
 
-abbrev pub is_bound_setting : Setting → Bool
-is_bound_setting SetFillColumn = true
-is_bound_setting KeyboardQuit = true
-is_bound_setting StartMacro = true
-is_bound_setting EndMacro = true
-is_bound_setting _ = false
-
 -- an entry is deleted at once; for one that comes a question is asked
 abbrev pub is_bound_change : EntryChange → Bool
 is_bound_change DeleteEntry = true
@@ -73,7 +64,7 @@ is_bound (InsertReading c) = true
 is_bound (Move c) = is_bound_motion c
 is_bound (Alter c) = is_bound_alteration c
 is_bound (Scroll c) = true
-is_bound (Set c) = is_bound_setting c
+is_bound (Set c) = true
 is_bound (Rearrange c) = true
 is_bound (Ask c) = is_asked c
 is_bound (Entries c) = is_bound_change c

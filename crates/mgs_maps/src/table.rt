@@ -36,7 +36,7 @@ pub struct Binding {
     pub command: Command,
 }
 
-static BINDINGS: [Binding; 69] = [
+static BINDINGS: [Binding; 70] = [
     Binding {
         keys: b"\r",
         name: "newline",
@@ -311,6 +311,11 @@ static BINDINGS: [Binding; 69] = [
         keys: b"\x18)",
         name: "",
         command: Command::Set(Setting::EndMacro),
+    },
+    Binding {
+        keys: b"\x18e",
+        name: "",
+        command: Command::Set(Setting::CallMacro),
     },
     Binding {
         keys: b"\x180",

@@ -175,16 +175,6 @@ begun w id byte stop = record { world = with_own id (begun_own byte) w; memory =
 abbrev pub byte_done : World → ℕ → ℕ → Bool → Option ℕ → World
 byte_done w id byte stored stop = (turns most_turns id stored (begun w id byte stop)).world
 
--- the same of a byte that is no longer to be kept
-abbrev pub read_own : ℕ → Own → Own
-read_own byte own = record own { todo = Typed byte ∷ [] }
-
-abbrev pub reading : World → ℕ → ℕ → Option ℕ → Doing
-reading w id byte stop = record { world = with_own id (read_own byte) w; memory = stop }
-
-abbrev pub byte_read : World → ℕ → ℕ → Bool → Option ℕ → World
-byte_read w id byte stored stop = (turns most_turns id stored (reading w id byte stop)).world
-
 -- settling what is settled changes nothing
 abbrev pub SettledStays : Type 0
 SettledStays = (w : World) → settled (settled w) ≡ settled w

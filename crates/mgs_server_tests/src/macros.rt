@@ -1,4 +1,4 @@
-// Keyboard macros: what is recorded, and what stops it.
+// Keyboard macros: what is recorded and played, and what stops it.
 use super::steps::steps_show;
 use std::test::Fail;
 
@@ -38,4 +38,53 @@ fn a_macro_has_512_bytes(rt: HostRuntime) -> Result<(), Fail> {
     ";
     steps.push_str(rest)?;
     steps_show(&rt, rt.alloc(), NOTES, steps.as_str())
+}
+
+#[test]
+fn a_macro_is_played(rt: HostRuntime) -> Result<(), Fail> {
+    let steps = "
+        a C-x 'e              |            | --L1-C0  | 1 1 | No macro
+        a C-x '( 'ab C-x ')   | ab         | **L1-C2  | 1 3
+        a C-x 'e              | abab       | **L1-C4  | 1 5
+        a C-u '3 C-x 'e       | ababababab | **L1-C10 | 1 11
+        a C-u '0 C-x 'e       | ababababab | **L1-C10 | 1 11
+        a C-u '101 C-x 'e     | ababababab | **L1-C10 | 1 11 | Too many
+        a C-x '( C-x 'e       | ababababab | **L1-C10 | 1 11 | In macro
+        a C-x ') C-x 'e       | ababababab | **L1-C10 | 1 11 | In macro
+        a C-x '( 'y C-u '3 C-x ') | abababababy | **L1-C11 | 1 12
+        a C-x 'e 'z           | abababababyyzzz | **L1-C15 | 1 16
+    ";
+    steps_show(&rt, rt.alloc(), NOTES, steps)
+}
+
+// The first failure ends the play, and what was done stays.
+#[test]
+fn a_failure_ends_a_play(rt: HostRuntime) -> Result<(), Fail> {
+    let steps = "
+        a C-x '( C-f 'x C-x ')   | x    | **L1-C1 | 1 2
+        a C-x 'e                 | x    | **L1-C1 | 1 2 | End of buffer
+        a C-a C-x 'e             | xx   | **L1-C2 | 1 3
+        a C-a C-u '3 C-x 'e      | xxxx | **L1-C4 | 1 5 | End of buffer
+        a C-a C-u '9 C-x 'e      | xxxxxxxx | **L1-C8 | 1 9 | End of buffer
+        a C-x '( 'y C-x C-s C-x ') | xxxxxxxxy | **L1-C9 | 1 10
+        a C-x 'e                 | xxxxxxxxyy | **L1-C10 | 1 11 | In macro
+    ";
+    steps_show(&rt, rt.alloc(), NOTES, steps)
+}
+
+const TWICE: &str = "user ann\n\
+    buffer notes ann\n\
+    entry notes ALLOW OWNER@ rwatdcCo\n\
+    entry notes ALLOW OWNER@ rwatdcCo\n\
+    open a ann 6 60\n";
+
+// Each act is judged in the world that the acts before it left: a macro may take its own right away.
+#[test]
+fn a_macro_revokes_its_own_right(rt: HostRuntime) -> Result<(), Fail> {
+    let steps = "
+        a C-x '( 'x M-x 'acl-delete RET 'y C-x ') | xy | **L1-C2 | 1 3
+        a C-u '9 C-x 'e | [no read: no entry] | :-??-?-(no read) | 1 1 | Denied: no entry grants APPEND_DATA
+        a C-x 'e        | [no read: no entry] | :-??-?-(no read) | 1 1 | Denied: no entry grants APPEND_DATA
+    ";
+    steps_show(&rt, rt.alloc(), TWICE, steps)
 }

@@ -16,6 +16,7 @@ use Rattle.mgs_windows.specs.declared.Window.{Window}
 use Rattle.mgs_windows.specs.declared.RowPane.TheVariants.{NoRows, Buffers, Entries}
 use Rattle.mgs_windows.specs.declared.RowPane.{RowPane}
 use Rattle.mgs_session.specs.declared.Session.{Session}
+use Rattle.mgs_session.specs.Playing.{Playing, byte_typed, called, nothing_played, stopped}
 use Rattle.mgs_session.specs.Recording.{Recorded, appended, ended, given_up, is_full, nothing_recorded, started}
 
 abbrev pub session_opened : ℕ → List ℕ → ℕ → ℕ → Option WindowMarks → ℕ → Session
@@ -25,7 +26,7 @@ session_opened id user rows cols shows capacity = record {
   cols = cols;
   windows = record { rows = rows; windows = record { height = rows - 2; shows = shows; rows = NoRows } ∷ []; selected = 0; places = []; capacity = capacity };
   kill = [];
-  own = record { echo = Silent; keyboard = nothing_held; kind = Other; fill = first_own.fill; prompt = None; pattern = []; recorder = nothing_recorded };
+  own = record { echo = Silent; keyboard = nothing_held; kind = Other; fill = first_own.fill; prompt = None; pattern = []; recorder = nothing_recorded; player = nothing_played };
 }
 
 abbrev pub told : Message → Session → Session
@@ -47,24 +48,38 @@ holding k x = record x { own = record x.own { echo = Silent; keyboard = k; promp
 abbrev pub resting : Session → Session
 resting x = holding nothing_held x
 
--- a command has failed
+-- what is still to be done
+abbrev pub playing_as : Playing → Session → Session
+playing_as p x = record x { own = record x.own { player = p } }
+
+-- it is told what stands against what was to be done, and nothing more is to be done
+abbrev pub broken_off : Message → Session → Session
+broken_off message x = playing_as (stopped x.own.player) (told message x)
+
+-- a command has failed: nothing more is to be done
 abbrev pub failed : Message → Session → Session
-failed message x = told message (acted (kind_failed message x.own.kind) (resting x))
+failed message x = playing_as (stopped x.own.player) (told message (acted (kind_failed message x.own.kind) (resting x)))
 
 -- MACROS
 
 abbrev pub recording_as : Recorded → Session → Session
 recording_as r x = record x { own = record x.own { recorder = r } }
 
--- a byte comes: it is kept, or it is one too many for the macro, which is told and breaks a run of commands
+-- a byte comes: it is kept and is to be handled, or it is one too many for the macro, which is told and breaks a run of commands
 abbrev pub begun : ℕ → Session → Session
-begun byte x = cond (is_full x.own.recorder) (told MacroTooLong (acted Other (recording_as nothing_recorded x))) (recording_as (appended byte x.own.recorder) x)
+begun byte x =
+    cond (is_full x.own.recorder) (playing_as (stopped x.own.player) (told MacroTooLong (acted Other (recording_as nothing_recorded x))))
+    (playing_as (byte_typed byte x.own.player) (recording_as (appended byte x.own.recorder) x))
 
 abbrev pub macro_started : Session → Session
 macro_started x = acted Other (recording_as started x)
 
 abbrev pub macro_ended : Session → Session
 macro_ended x = acted Other (recording_as (ended x.own.recorder) x)
+
+-- the macro is to be played so many times
+abbrev pub macro_called : ℕ → Session → Session
+macro_called n x = playing_as (called n x.own.recorder.macro x.own.player) x
 
 abbrev pub macro_given_up : Session → Session
 macro_given_up x = recording_as (given_up x.own.recorder) x

@@ -2,20 +2,22 @@
 #![tactic(auto)]
 
 mod kill_buffer;
+mod playing;
 mod recording;
 mod search_string;
 
-ghost use Rattle.std.specs.Prelude.{◌≡◌, ◌≤◌, ◌-◌, [], ◌∷◌, not, true, vec_capacity};
+ghost use Rattle.std.specs.Prelude.{◌≡◌, ◌≤◌, ◌-◌, [], ◌∷◌, true, vec_capacity};
 ghost use Rattle.mgs_model.specs.Plans.{kind_failed};
 ghost use Rattle.mgs_mini.specs.Typing.{is_asked};
-ghost use Rattle.mgs_session.specs.Recording.{is_full};
-ghost use Rattle.mgs_session.specs.Sessions.{session_opened, acted, asking, begun, failed, filling, holding, macro_ended, macro_given_up, macro_started, prompting, resting, told, subject_in, subject_of, unprompted, window_marks_of};
+ghost use Rattle.mgs_session.specs.Playing.{IsNext};
+ghost use Rattle.mgs_session.specs.Sessions.{session_opened, acted, asking, begun, broken_off, failed, filling, holding, macro_called, macro_ended, macro_given_up, macro_started, playing_as, prompting, resting, told, subject_in, subject_of, unprompted, window_marks_of};
 
 pub use kill_buffer::KillBuffer;
 use mgs_maps::Keyboard;
 use mgs_mini::Prompt;
 use mgs_model::{Kind, Message, Name, Question, SessionId};
 use mgs_windows::{RowPane, Window, WindowMarks, Windows};
+pub use playing::{Player, Task};
 pub use recording::Recorder;
 pub use search_string::SearchString;
 use std::alloc::Global;
@@ -25,7 +27,7 @@ pub const FILL_COLUMN: usize = 72;
 
 /// What a session holds beside its windows and its kill buffer: its echo text, the keys and the argument that are half
 /// read, the kind of its last command, the column up to which it fills lines (1 to 9,999), the prompt that it answers, what it
-/// searched for last, and its macro.
+/// searched for last, its macro, and what is still to be done in an event.
 /// While there is a prompt, the keyboard holds the argument of the command that the prompt is for, and no keys.
 #[derive(Drop)]
 pub struct Own {
@@ -36,6 +38,7 @@ pub struct Own {
     pub prompt: Option<Prompt>,
     pub pattern: SearchString,
     pub recorder: Recorder,
+    pub player: Player,
 }
 
 /// The state of a session. A position is a mark in the text of a buffer.
@@ -79,6 +82,7 @@ pub fn opened(
             prompt: None,
             pattern: SearchString::new(),
             recorder: Recorder::new(),
+            player: Player::new(),
         },
     }
 }
@@ -104,14 +108,22 @@ fn kind_failed(message: &Message, kind: Kind) -> Kind
     }
 }
 
-/// A command has failed, or was denied: this is told, nothing is half read, and a prompt is given up.
+/// A command has failed, or was denied: this is told, nothing is half read, a prompt is given up, and nothing more of a macro is played.
 pub fn fail(session: &mut Session, message: Message)
     ensures { session.new ≡ failed message session.old }
 {
     let kind = kind_failed(&message, session.own.kind);
     rest(session);
     set_kind(session, kind);
+    break_off(session, message);
+}
+
+/// What was to be done cannot be: this is told, and nothing more of a macro is played.
+pub fn break_off(session: &mut Session, message: Message)
+    ensures { session.new ≡ broken_off message session.old }
+{
     set_echo(session, message);
+    session.own.player.stop();
 }
 
 /// A command of this kind was done.
@@ -136,18 +148,35 @@ pub fn finish(session: &mut Session, kind: Kind, message: Message)
     set_echo(session, message);
 }
 
-/// A byte comes, and is kept where a macro is recorded. `false`: it is one too many for the macro and is not to be handled; the
+/// A byte comes: it is kept where a macro is recorded, and is to be handled. One that is one too many for the macro is not: the
 /// recording has ended without a macro, which is told.
-pub fn begin(session: &mut Session, byte: u8) -> bool
-    ensures room { result ≡ not (is_full session.old.own.recorder) }
-    ensures begun { session.new ≡ begun byte session.old }
+pub fn begin(session: &mut Session, byte: u8)
+    ensures { session.new ≡ begun byte session.old }
 {
     if session.own.recorder.keep(byte) {
-        return true;
+        session.own.player.type_byte(byte);
+        return;
     }
     set_kind(session, Kind::Other);
-    set_echo(session, Message::MacroTooLong);
-    false
+    break_off(session, Message::MacroTooLong);
+}
+
+/// Takes what is to be done next, which is handled now.
+pub fn next_task(session: &mut Session) -> Task
+    ensures next { IsNext result session.old.own.player session.new.own.player }
+    ensures rest { session.new ≡ playing_as session.new.own.player session.old }
+{
+    session.own.player.next()
+}
+
+/// These bytes of a macro are to be played so many times.
+pub fn call_macro(session: &mut Session, times: usize)
+    ensures { session.new ≡ macro_called times session.old }
+{
+    session
+        .own
+        .player
+        .call(session.own.recorder.as_slice(), times);
 }
 
 /// A macro is recorded from here on.

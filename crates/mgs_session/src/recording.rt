@@ -1,5 +1,5 @@
 // The bytes of a session's macro.
-ghost use Rattle.std.specs.Prelude.{◌≡◌, not};
+ghost use Rattle.std.specs.Prelude.{◌≡◌, ◌≤◌, length, not};
 ghost use Rattle.mgs_session.specs.Recording.{ended, given_up, is_full, kept, nothing_recorded, started};
 
 use arrayvec::ArrayVec;
@@ -37,6 +37,14 @@ impl Recorder {
         ensures { result ≡ self.now.recording }
     {
         self.is_recording
+    }
+
+    /// The bytes of the macro, at most 512.
+    pub fn as_slice(&self) -> &[u8]
+        ensures value { result.now ≡ self.now.macro }
+        ensures within { length result.now ≤ 512 }
+    {
+        self.bytes.as_slice()
     }
 
     /// Keeps a byte, where a macro is recorded. `false`: it is one too many, and the recording has ended without a macro.

@@ -60,8 +60,8 @@ abbrev pub input_in : Option PromptInput → List ℕ
 input_in None = []
 input_in (Some p) = p.input
 
--- what a session holds: no mode but that of a prompt, no macro that is played, and nothing but the echo text, the search string, what
--- is half read, the last command's kind, the fill column and its macro
+-- what a session holds: no mode but that of a prompt, and nothing but the echo text, the search string, what is half read, the last
+-- command's kind, the fill column, its macro and what is still to be done
 abbrev pub own_of : Own → model.Own
 own_of x =
     record first_own {
@@ -70,16 +70,18 @@ own_of x =
       fill = x.fill;
       macro = x.recorder.macro;
       recording = x.recorder.recording;
+      playing = x.player.playing;
       argument = x.keyboard.argument;
       keys = keys_in x.keyboard.keys x.prompt;
       kind = x.kind;
       mode = mode_in x.prompt;
       input = input_in x.prompt;
+      todo = x.player.todo;
     }
 
--- nothing is half read, nothing is told, and nothing is still to be done
+-- nothing is half read, and nothing is told
 abbrev pub idle : model.Own → model.Own
-idle own = record own { echo = Silent; playing = false; argument = None; keys = []; mode = Plain; input = []; old = []; count = 0; todo = [] }
+idle own = record own { echo = Silent; argument = None; keys = []; mode = Plain; input = []; old = []; count = 0 }
 
 -- what the session at an index holds
 abbrev pub own_or_first : Option Session → model.Own

@@ -8,7 +8,7 @@ use Rattle.mgs_store.specs.Stores.{store_told}
 use Rattle.mgs_world.specs.Worlds.{own_at, world_of}
 use Rattle.mgs_world.proofs.Soundness.{sizes_set, sound_set}
 use Rattle.mgs_act.proofs.Commands.{failed_apart}
-use Rattle.mgs_act.proofs.Saves.{kept_here, may_save, save_apart, saved_asked, saved_nowhere, saved_refused}
+use Rattle.mgs_act.proofs.Saves.{granted_as, kept_here, may_save, refused_as, save_apart, saved_asked, saved_nowhere, saved_refused}
 use Rattle.mgs_act.proofs.saving.save.Goals as goal
 
 pub returns-in_default-clause-sound : goal.returns-in_default-clause-sound
@@ -63,7 +63,7 @@ returns-in-Some-refusal-clause-ok g c = λ id next n place.
     let same = ap (failed c.in-Some-refusal.message) (get_or_default xs c.args.at c.index-sessions-at-in-Some-refusal.result r c.requires.within) in
     rw (c.fail-in-Some-refusal.ensures ∙ same)
     (saved_refused c.args.directory.now ks xs next (store_told g.S.Store.failed g.S.Store.accepted c.args.store.now) id c.args.at h x n c.in-Some-refusal.message place c.requires.within is c.requires.fresh sel
-    (kept_here ks xs c.args.at h x c.requires.sound is sel) c.in-Some-refusal.ensures.refused)
+    (kept_here ks xs c.args.at h x c.requires.sound is sel) (refused_as c.args.directory.now ks h x c.in-Some-refusal.message c.is_playing-is_playing.result c.is_playing-is_playing.ensures c.in-Some-refusal.ensures.refused))
 
 pub returns-in-Some-refusal-clause-touched : goal.returns-in-Some-refusal-clause-touched
 returns-in-Some-refusal-clause-touched g c = λ id next place.
@@ -82,7 +82,7 @@ returns-in-Ok-clause-ok g c = λ id next n place.
     let sel = sym c.selected_window_marks.ensures ∙ c.in-Some.is in
     saved_asked c.args.directory.now ks xs next (world_of c.args.directory.now c.save_text.new.buffers c.save_text.new.sessions next)
     (store_told g.S.Store.failed g.S.Store.accepted c.args.store.now) (store_told g.S.Store.failed g.S.Store.accepted c.save_text.new.store) id c.args.at h x n c.in-Ok.stored
-    place c.requires.within is sel (kept_here ks xs c.args.at h x c.requires.sound is sel) (c.in-None.ensures.none refl)
+    place c.requires.within is sel (kept_here ks xs c.args.at h x c.requires.sound is sel) (granted_as c.args.directory.now ks h x c.is_playing-is_playing.result c.is_playing-is_playing.ensures (c.in-None.ensures.none refl))
     (c.in-Ok.ensures.ok c.args.directory.now id next place) c.in-Ok.ensures.fault c.in-Ok.ensures.saved
 
 pub returns-in-Ok-clause-touched : goal.returns-in-Ok-clause-touched
@@ -107,4 +107,4 @@ returns-in-Err-clause-may g c = λ id next n place.
     let x = c.in-Some.window_marks in
     let is = slice_get-get_or xs c.args.at r c.requires.within in
     let sel = sym c.selected_window_marks.ensures ∙ c.in-Some.is in
-    may_save c.args.directory.now ks xs next id c.args.at h x n place c.requires.within is sel (kept_here ks xs c.args.at h x c.requires.sound is sel) (c.in-None.ensures.none refl)
+    may_save c.args.directory.now ks xs next id c.args.at h x n place c.requires.within is sel (kept_here ks xs c.args.at h x c.requires.sound is sel) (granted_as c.args.directory.now ks h x c.is_playing-is_playing.result c.is_playing-is_playing.ensures (c.in-None.ensures.none refl))

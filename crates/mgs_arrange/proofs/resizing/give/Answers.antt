@@ -8,7 +8,7 @@ use Rattle.mgs_arrange.proofs.resizing.give.Goals as goal
 
 pub returns-then-height-rows-clause-given : goal.returns-then-height-rows-clause-given
 returns-then-height-rows-clause-given c ks =
-    ap (session_of ks) c.set_echo.ensures
+    ap (session_of ks) c.break_off.ensures
     ∙ given_not c.args.from c.args.to c.args.rows ks c.args.session.now c.requires.from (omega (arith, c.if-height-rows.true, c.height.ensures))
 
 pub returns-clause-same : goal.returns-clause-same

@@ -10,12 +10,12 @@ use Rattle.mgs_arrange.proofs.splitting.split.Goals as goal
 
 pub returns-then-window-lt3-clause-arranged : goal.returns-then-window-lt3-clause-arranged
 returns-then-window-lt3-clause-arranged g c n =
-    ap (session_of c.args.buffers.now) c.set_echo.ensures
+    ap (session_of c.args.buffers.now) c.break_off.ensures
     ∙ split_small n c.args.buffers.now c.args.session.now c.selected_window-window.result c.selected_window-window.ensures c.if-window-lt3.true
 
 pub returns-then-as_slice-ge-WINDOW_LIMIT-clause-arranged : goal.returns-then-as_slice-ge-WINDOW_LIMIT-clause-arranged
 returns-then-as_slice-ge-WINDOW_LIMIT-clause-arranged g c n =
-    ap (session_of c.args.buffers.now) c.set_echo-then-as_slice-ge-WINDOW_LIMIT.ensures
+    ap (session_of c.args.buffers.now) c.break_off-then-as_slice-ge-WINDOW_LIMIT.ensures
     ∙ split_many n c.args.buffers.now c.args.session.now c.selected_window-window.result c.selected_window-window.ensures (omega (arith, c.if-window-lt3.false)) (omega (arith, c.if-as_slice-ge-WINDOW_LIMIT.true, ap length c.as_slice.ensures.value))
 
 pub returns-in_err-reserve-clause-may : goal.returns-in_err-reserve-clause-may

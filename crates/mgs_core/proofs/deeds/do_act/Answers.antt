@@ -1,7 +1,7 @@
 use Rattle.std.proofs.Common.{◌∙◌, sym}
 use Rattle.mgs_world.specs.Worlds.{world_of}
 use Rattle.mgs_core.proofs.Told.{acted_quietly, acted_saving, done_else, may_saving}
-use Rattle.mgs_core.proofs.keying.do_act.Goals as goal
+use Rattle.mgs_core.proofs.deeds.do_act.Goals as goal
 
 pub returns-in-Ok-clause-ok : goal.returns-in-Ok-clause-ok
 returns-in-Ok-clause-ok g c id next place = acted_saving _ _ _ _ id c.args.done (sym c.asks_store.ensures ∙ c.if-asks_store.true) (λ n. c.in-Ok.ensures.ok id next n place)

@@ -1,0 +1,129 @@
+-- What a key comes to, and a command of a session at rest.
+use Rattle.std.proofs.Common.{◌≡◌, ℕ, true, false, [], Option, Some, None, refl, ap, ◌∙◌}
+use Rattle.mgs_model.specs.World.{World, has_id, find_session}
+use Rattle.mgs_model.specs.World as model
+use Rattle.mgs_model.specs.Outcome as outcomes
+use Rattle.mgs_model.specs.Outcome.{Effect}
+use Rattle.mgs_model.specs.Keys.{key_read}
+use Rattle.mgs_model.specs.View.{View}
+use Rattle.mgs_model.specs.Turns.{Keep, Do, command_turn, key_turn, line_turn, read_turn}
+use Rattle.mgs_model.specs.declared.message.Message.TheVariants.{Silent}
+use Rattle.mgs_model.specs.declared.session.Command.{Command}
+use Rattle.mgs_model.specs.declared.session.Command.TheVariants.{Insert, InsertReading, Move, Alter, Scroll, Set, Rearrange, Ask, Entries, ListEntries, UndoEdit, NotModified, SaveBuffer, Exit}
+use Rattle.mgs_model.specs.declared.session.EntryChange.{EntryChange}
+use Rattle.mgs_model.specs.declared.session.EntryChange.TheVariants.{DeleteEntry}
+use Rattle.mgs_model.specs.declared.session.Motion.{Motion}
+use Rattle.mgs_model.specs.declared.session.Motion.TheVariants.{GoToLine, StartSearch, SearchOn, SearchFor, StartReplace, SkipMatch}
+use Rattle.mgs_model.specs.declared.session.Alteration.{Alteration}
+use Rattle.mgs_model.specs.declared.session.Alteration.TheVariants.{ReplaceMatch, ReplaceLast}
+use Rattle.mgs_model.specs.declared.session.Setting.{Setting}
+use Rattle.mgs_model.specs.declared.session.Setting.TheVariants.{CallMacro}
+use Rattle.mgs_model.proofs.LeftToDo.{is_single}
+use Rattle.mgs_maps.specs.Held.{Held, FedBy, is_bound, is_bound_alteration, is_bound_change, is_bound_motion}
+use Rattle.mgs_maps.specs.declared.maps.Fed.TheVariants as fed
+use Rattle.mgs_mini.specs.Typing.{PromptInput}
+use Rattle.mgs_session.specs.declared.Own.{Own}
+use Rattle.mgs_world.specs.Worlds.{own_of}
+use Rattle.mgs_act.specs.declared.acts.KeyAct.{KeyAct}
+use Rattle.mgs_act.specs.declared.acts.KeyAct.TheVariants as acts
+use Rattle.mgs_edit.specs.Reading.{is_alteration_planned}
+use Rattle.mgs_act.specs.Actions.{act_of, is_entry_done, is_setting_done}
+use Rattle.mgs_world.specs.Worlds.{idle}
+use Rattle.mgs_core.specs.Prompted.{own_turn}
+use Rattle.mgs_core.specs.Stepped.{is_call, is_exit}
+use Rattle.mgs_core.specs.Steps.{command_act, is_acted, line_act, motion_act}
+
+-- AS A KEY
+
+-- what a session holds that is at no prompt, its echo line emptied
+abbrev silent : Own → model.Own
+silent o = record (own_of (record o { prompt = None })) { echo = Silent }
+
+-- without a prompt a byte is a key
+plain_turn : (v : View) (o : Own) (byte : ℕ) → o.prompt ≡ None → own_turn v o byte ≡ key_turn (silent o) byte
+plain_turn v o byte none = ap (λ (p : Option PromptInput). own_turn v (record o { prompt = p }) byte) none
+
+-- a bound command is done at once, or asks for its line
+line_done : (own : model.Own) (n : Option ℕ) → line_turn own n ≡ Do own (act_of (line_act n))
+line_done own None = refl
+line_done own (Some n) = refl
+
+motion_done : (own : model.Own) (n : Option ℕ) (c : Motion) → is_bound_motion c ≡ true → command_turn own n (Move c) ≡ Do own (act_of (motion_act c n))
+motion_done own n GoToLine h = line_done own n
+motion_done own n (StartSearch d) h = cc
+motion_done own n _ h = refl
+
+setting_done : (own : model.Own) (n : Option ℕ) (c : Setting) → is_call (Set c) ≡ false → command_turn own n (Set c) ≡ Do own (outcomes.Run (Set c) n [])
+setting_done own n CallMacro h = cc
+setting_done own n _ h = refl
+
+pub command_done : (own : model.Own) (n : Option ℕ) (c : Command) → is_bound c ≡ true → is_call c ≡ false → command_turn own n c ≡ Do own (act_of (command_act c n))
+command_done own n (Move c) h e = motion_done own n c h
+command_done own n (Set c) h e = setting_done own n c e
+command_done own n _ h e = refl
+
+-- a word goes on
+pub turn_kept : (v : View) (o : Own) (byte : ℕ) (k : Held) → o.prompt ≡ None → FedBy fed.Pending (key_read o.keyboard.argument o.keyboard.keys byte) k → own_turn v o byte ≡ Keep (own_of (record o { echo = Silent; keyboard = k; prompt = None }))
+turn_kept v o byte k none e = plain_turn v o byte none ∙ ap (read_turn (silent o)) e
+
+-- or runs a command, or none, by a session that holds nothing
+pub turn_command : (v : View) (o : Own) (byte : ℕ) (k : Held) (c : Command) (n : Option ℕ) → o.prompt ≡ None → FedBy (fed.Run c n) (key_read o.keyboard.argument o.keyboard.keys byte) k → own_turn v o byte ≡ command_turn (idle (own_of o)) n c
+turn_command v o byte k c n none e = plain_turn v o byte none ∙ ap (read_turn (silent o)) e.0
+
+pub turn_unbound : (v : View) (o : Own) (byte : ℕ) (k : Held) → o.prompt ≡ None → FedBy fed.Unbound (key_read o.keyboard.argument o.keyboard.keys byte) k → own_turn v o byte ≡ Do (idle (own_of o)) outcomes.Unbound
+turn_unbound v o byte k none e = plain_turn v o byte none ∙ ap (read_turn (silent o)) e.0
+
+-- the motions and alterations of the table are done by the act, and the settings but one
+line_here : (n : Option ℕ) → is_acted (line_act n) ≡ true
+line_here None = refl
+line_here (Some n) = refl
+
+motion_here : (n : Option ℕ) (c : Motion) → is_bound_motion c ≡ true → is_acted (motion_act c n) ≡ true
+motion_here n GoToLine h = line_here n
+motion_here n (StartSearch d) h = cc
+motion_here n (SearchOn d step) h = cc
+motion_here n (SearchFor d) h = cc
+motion_here n StartReplace h = cc
+motion_here n SkipMatch h = cc
+motion_here n _ h = refl
+
+alteration_here : (c : Alteration) → is_bound_alteration c ≡ true → is_alteration_planned c ≡ true
+alteration_here ReplaceMatch h = cc
+alteration_here ReplaceLast h = cc
+alteration_here _ h = refl
+
+setting_here : (c : Setting) → is_call (Set c) ≡ false → is_setting_done c ≡ true
+setting_here CallMacro h = cc
+setting_here _ h = refl
+
+change_here : (c : EntryChange) → is_bound_change c ≡ true → is_entry_done c ≡ true
+change_here DeleteEntry h = refl
+change_here _ h = cc
+
+-- what is no end, and plays no macro, is done by the server
+pub command_here : (n : Option ℕ) (c : Command) → is_bound c ≡ true → is_exit c ≡ false → is_call c ≡ false → is_acted (command_act c n) ≡ true
+command_here n (Insert c) b p q = refl
+command_here n (InsertReading c) b p q = refl
+command_here n (Move c) b p q = motion_here n c b
+command_here n (Alter c) b p q = alteration_here c b
+command_here n (Scroll c) b p q = refl
+command_here n (Set c) b p q = setting_here c q
+command_here n (Rearrange c) b p q = refl
+command_here n (Ask c) b p q = b
+command_here n (Entries c) b p q = change_here c b
+command_here n ListEntries b p q = refl
+command_here n UndoEdit b p q = refl
+command_here n NotModified b p q = refl
+command_here n SaveBuffer b p q = refl
+command_here n Exit b p q = cc
+command_here n _ b p q = cc
+
+-- which leaves no more to do
+acted_setting : (n : Option ℕ) (c : Setting) → is_setting_done c ≡ true → is_single (outcomes.Run (Set c) n []) ≡ true
+acted_setting n CallMacro h = cc
+acted_setting n _ h = refl
+
+pub acted_single : (a : KeyAct) → is_acted a ≡ true → is_single (act_of a) ≡ true
+acted_single acts.Unbound h = refl
+acted_single (acts.Run (Set c) n) h = acted_setting n c h
+acted_single (acts.Run _ n) h = refl

@@ -1,0 +1,289 @@
+-- What a byte makes of a session by itself, and what a turn makes of it.
+use Rattle.std.proofs.Common.{◌≡◌, ℕ, zero, suc, ◌+◌, ◌*◌, ◌≤◌, Bool, true, false, cond, List, [], ◌∷◌, ◌++◌, map, length, Option, Some, None, refl, sym, ap, subst, ◌∙◌, arith, append-nil}
+use Rattle.std.specs.Prelude.{Result, Ok, Err, ◌||◌, ◌==◌, nat_lt, replicate}
+use Rattle.std.specs.List.{flat_map}
+use Rattle.std.proofs.lemmas.List.{map-append}
+use Rattle.std.proofs.lemmas.Bool.{ltb-false}
+use Rattle.mgs_model.specs.Access.{Directory}
+use Rattle.mgs_model.specs.World.{Todo, Typed, Played, Replace_all, Play}
+use Rattle.mgs_model.specs.World as model
+use Rattle.mgs_model.specs.View.{View}
+use Rattle.mgs_model.specs.Outcome.{Run}
+use Rattle.mgs_model.specs.Keys.{key_read}
+use Rattle.mgs_model.specs.Plans.{acted_own, count_of, kind_failed, setting}
+use Rattle.mgs_model.specs.Turns.{Turn, Keep, Do, command_turn, plays}
+use Rattle.mgs_model.specs.Events.{refused_own}
+use Rattle.mgs_model.specs.declared.message.Message.{Message}
+use Rattle.mgs_model.specs.declared.message.Message.TheVariants.{InMacro, NoMacro, TooMany}
+use Rattle.mgs_model.specs.declared.session.Command.{Command}
+use Rattle.mgs_model.specs.declared.session.Command.TheVariants.{Set, Exit}
+use Rattle.mgs_model.specs.declared.session.Setting.TheVariants.{CallMacro}
+use Rattle.mgs_model.specs.declared.session.Kind.{Kind}
+use Rattle.mgs_model.specs.declared.session.Kind.TheVariants.{Other}
+use Rattle.mgs_model.specs.declared.limits.TheConstants.{REPETITION_LIMIT}
+use Rattle.mgs_model.proofs.Ends.{call_fails, exit_fails}
+use Rattle.mgs_model.proofs.Saves.{act_saves_none}
+use Rattle.mgs_buffers.specs.MarkedBuffer.{MarkedBuffer}
+use Rattle.mgs_act.specs.Actions.{act_of}
+use Rattle.mgs_act.specs.declared.acts.KeyAct.TheVariants.{Unbound as unbound}
+use Rattle.mgs_maps.specs.Held.{Held, FedBy, is_bound}
+use Rattle.mgs_maps.specs.declared.maps.Fed.TheVariants as fed
+use Rattle.mgs_mini.specs.Typing.{PromptInput}
+use Rattle.mgs_session.specs.declared.Own.{Own}
+use Rattle.mgs_session.specs.declared.Session.{Session}
+use Rattle.mgs_session.specs.Playing.{Playing, are_played, rounds}
+use Rattle.mgs_session.specs.Sessions.{failed, holding, resting}
+use Rattle.mgs_world.specs.Worlds.{idle, own_of}
+use Rattle.mgs_core.specs.declared.deeds.Deed.{Deed}
+use Rattle.mgs_core.specs.declared.deeds.Deed.TheVariants as deeds
+use Rattle.mgs_core.specs.declared.keying.ByteStep.{ByteStep}
+use Rattle.mgs_core.specs.declared.keying.ByteStep.TheVariants.{Kept, Failed, Ends, Acts}
+use Rattle.mgs_core.specs.Prompted.{own_turn}
+use Rattle.mgs_core.specs.Steps.{command_act}
+use Rattle.mgs_core.specs.Stepped.{IsAlone, IsByteStep, IsCommandStep, IsLeft, IsStep, MacroPlayed, SeesNames, StepActs, StepEnds, StepFailed, StepKept, call_fault, fault_of, is_call, is_exit, refused_again}
+use Rattle.mgs_core.specs.Turned.{IsWithin, is_played, weight}
+use Rattle.mgs_core.proofs.Keyed.{command_done, command_here, turn_command, turn_kept, turn_unbound}
+
+-- WHAT IS LEFT
+
+pub left_same : (old : Playing) (todo : List Todo) → IsAlone old → todo ≡ old.todo → IsLeft old todo
+left_same old todo alone same = record {
+  played = λ e n h. subst (IsWithin n) (sym same) h;
+  typed = λ e. subst (IsWithin 51201) (sym (same ∙ alone e)) (omega arith, refl);
+  all = λ h e. ap are_played same ∙ h;
+}
+
+pub left_none : (old : Playing) (todo : List Todo) → todo ≡ [] → IsLeft old todo
+left_none old todo none = record {
+  played = λ e n h. subst (IsWithin n) (sym none) (omega arith, refl);
+  typed = λ e. subst (IsWithin 51201) (sym none) (omega arith, refl);
+  all = λ h e. ap are_played none;
+}
+
+played_weight : (bytes : List ℕ) → weight (map Played bytes) ≡ length bytes
+played_weight [] = refl
+played_weight (byte ∷ bytes) = let later = played_weight bytes in omega (arith, later)
+
+played_all : (bytes : List ℕ) → is_played (map Played bytes) ≡ true
+played_all [] = refl
+played_all (byte ∷ bytes) = played_all bytes
+
+length_both : (xs ys : List ℕ) → length (xs ++ ys) ≡ length xs + length ys
+length_both [] ys = omega arith
+length_both (x ∷ xs) ys = let later = length_both xs ys in omega (arith, later)
+
+rounds_within : (n : ℕ) (bytes : List ℕ) → length bytes ≤ 512 → length (rounds n bytes) ≤ n * 512
+rounds_within zero bytes h = omega arith
+rounds_within (suc n) bytes h =
+    let later = rounds_within n bytes h in
+    let both : length (rounds (suc n) bytes) ≡ length bytes + length (rounds n bytes) = length_both bytes (rounds n bytes) in
+    omega (arith, h, later, both)
+
+called_within : (n : ℕ) (bytes : List ℕ) → n ≤ 100 → length bytes ≤ 512 → IsWithin 51201 (Play ∷ map Played (rounds n bytes))
+called_within n bytes few short =
+    let all : length (rounds n bytes) ≤ n * 512 = rounds_within n bytes short in
+    let is : weight (map Played (rounds n bytes)) ≡ length (rounds n bytes) = played_weight (rounds n bytes) in
+    (omega (arith, all, is, few), played_all (rounds n bytes))
+
+-- the bytes of a macro so many times, as the model has them
+rounds_are : (n : ℕ) (bytes : List ℕ) → flat_map (λ (bs : List ℕ). map Played bs) (replicate n bytes) ≡ map Played (rounds n bytes)
+rounds_are zero bytes = refl
+rounds_are (suc n) bytes = ap (λ (todo : List Todo). map Played bytes ++ todo) (rounds_are n bytes) ∙ sym (map-append Played bytes (rounds n bytes))
+
+-- WHERE A MACRO IS CALLED
+
+-- it cannot be played
+refused_of : (ok : model.Own) (message : Message) (a b c : Bool) → cond a (Some InMacro) (cond b (Some NoMacro) (cond c (Some TooMany) None)) ≡ Some message
+    → (let r : Result model.Own Message = cond a (Err InMacro) (cond b (Err NoMacro) (cond c (Err TooMany) (Ok ok))) in r ≡ Err message)
+refused_of ok message true b c e = let same : InMacro ≡ message = cc in ap (λ (m : Message). let r : Result model.Own Message = Err m in r) same
+refused_of ok message false true c e = let same : NoMacro ≡ message = cc in ap (λ (m : Message). let r : Result model.Own Message = Err m in r) same
+refused_of ok message false false true e = let same : TooMany ≡ message = cc in ap (λ (m : Message). let r : Result model.Own Message = Err m in r) same
+refused_of ok message false false false e = cc
+
+-- or it can
+allowed_of : (ok : model.Own) (a b c : Bool) → (let f : Option Message = cond a (Some InMacro) (cond b (Some NoMacro) (cond c (Some TooMany) None)) in f ≡ None)
+    → (c ≡ false) × (let r : Result model.Own Message = cond a (Err InMacro) (cond b (Err NoMacro) (cond c (Err TooMany) (Ok ok))) in r ≡ Ok ok)
+allowed_of ok true b c e = cc
+allowed_of ok false true c e = cc
+allowed_of ok false false true e = cc
+allowed_of ok false false false e = (refl, refl)
+
+breaks_of : (message : Message) (a b c : Bool) → cond a (Some InMacro) (cond b (Some NoMacro) (cond c (Some TooMany) None)) ≡ Some message → (k : Kind) → kind_failed message k ≡ Other
+breaks_of message true b c e k = let same : InMacro ≡ message = cc in ap (λ (m : Message). kind_failed m k) (sym same)
+breaks_of message false true c e k = let same : NoMacro ≡ message = cc in ap (λ (m : Message). kind_failed m k) (sym same)
+breaks_of message false false true e k = let same : TooMany ≡ message = cc in ap (λ (m : Message). kind_failed m k) (sym same)
+breaks_of message false false false e k = cc
+
+call_refused : (o : Own) (n : Option ℕ) (message : Message) → call_fault o n ≡ Some message → setting CallMacro (acted_own (own_of o)) n ≡ Err message
+call_refused o n message e =
+    let own : model.Own = acted_own (own_of o) in
+    let more : List Todo = flat_map (λ (bytes : List ℕ). map Played bytes) (replicate (count_of n) own.macro) in
+    refused_of (record own { todo = Play ∷ more ++ own.todo }) message (o.recorder.recording || o.player.playing) (length o.recorder.macro == 0) (nat_lt REPETITION_LIMIT (count_of n)) e
+
+-- WHAT A COMMAND COMES TO in a session at rest
+
+-- it fails
+module _ (Sees : View → Type 0) (comes : View → Turn) (x new : Session) (c : Command) (n : Option ℕ) (turn : (v : View) → Sees v → comes v ≡ command_turn (own_of (resting x).own) n c) where
+  own_changed : (message : Message) → new ≡ failed message (resting x) → new ≡ record x { own = new.own }
+  own_changed message told = told ∙ sym (ap (λ (s : Session). record x { own = s.own }) told)
+
+  exit_failed : c ≡ Exit → x.own.player.playing ≡ true → new ≡ failed InMacro (resting x) → StepFailed Sees comes x.own.player.playing x new
+  exit_failed is plays told =
+      let own : model.Own = own_of (resting x).own in
+      record {
+        own = own_changed InMacro told;
+        before = own;
+        act = Run Exit n [];
+        message = InMacro;
+        turn = λ v sees. turn v sees ∙ ap (command_turn own n) is;
+        playing = refl;
+        fails = λ v k seen. exit_fails v n true (ap (λ (o : model.Own). o.playing) seen ∙ plays);
+        breaks = λ k. refl;
+        quiet = λ w id. act_saves_none w id (Run Exit n []) true refl;
+        told = ap (λ (s : Session). own_of s.own) told;
+      }
+
+  call_failed : (message : Message) → c ≡ Set CallMacro → call_fault (resting x).own n ≡ Some message → new ≡ failed message (resting x) → StepFailed Sees comes x.own.player.playing x new
+  call_failed message is fault told =
+      let own : model.Own = own_of (resting x).own in
+      let r = call_refused (resting x).own n message fault in
+      record {
+        own = own_changed message told;
+        before = own;
+        act = Run (Set CallMacro) n [];
+        message = message;
+        turn = λ v sees. turn v sees ∙ ap (command_turn own n) is ∙ ap (plays own n) r;
+        playing = refl;
+        fails = λ v k seen. call_fails v n message true (ap (λ (o : model.Own). setting CallMacro (acted_own o) n) seen ∙ r);
+        breaks = breaks_of message (x.own.recorder.recording || x.own.player.playing) (length x.own.recorder.macro == 0) (nat_lt REPETITION_LIMIT (count_of n)) fault;
+        quiet = λ w id. act_saves_none w id (Run (Set CallMacro) n []) true refl;
+        told = ap (λ (s : Session). own_of s.own) told;
+      }
+
+  -- a macro is played
+  call_kept : c ≡ Set CallMacro → IsAlone x.own.player → MacroPlayed (resting x) new n → StepKept Sees comes (IsLeft x.own.player) x new
+  call_kept is alone p =
+      let o : Own = (resting x).own in
+      let own : model.Own = own_of o in
+      let more : List Todo = flat_map (λ (bytes : List ℕ). map Played bytes) (replicate (count_of n) o.recorder.macro) in
+      let ok : model.Own = record (acted_own own) { todo = Play ∷ more ++ own.todo } in
+      let allowed = allowed_of ok (o.recorder.recording || o.player.playing) (length o.recorder.macro == 0) (nat_lt REPETITION_LIMIT (count_of n)) p.fault in
+      let typed : o.player.playing ≡ false = never_played o.recorder.recording o.player.playing (length o.recorder.macro == 0) (nat_lt REPETITION_LIMIT (count_of n)) p.fault in
+      let few : count_of n ≤ 100 = ltb-false REPETITION_LIMIT (count_of n) allowed.0 in
+      let left : new.own.player.todo ≡ Play ∷ map Played (rounds (count_of n) o.recorder.macro) = ap (λ (s : Session). s.own.player.todo) p.called in
+      record {
+        own = p.called ∙ sym (ap (λ (s : Session). record x { own = s.own }) p.called);
+        turn = λ v sees.
+            turn v sees
+            ∙ ap (command_turn own n) is
+            ∙ ap (plays own n) allowed.1
+            ∙ ap (λ (todo : List Todo). Keep (record own { todo = Play ∷ todo })) (ap (λ (todo : List Todo). more ++ todo) (alone typed) ∙ append-nil more ∙ rounds_are (count_of n) o.recorder.macro)
+            ∙ sym (ap (λ (s : Session). Keep (own_of s.own)) p.called);
+        left = record {
+          played = λ e k h. not_both x.own.player.playing e typed;
+          typed = λ e. subst (IsWithin 51201) (sym left) (called_within (count_of n) o.recorder.macro few p.within);
+          all = λ h e. not_both x.own.player.playing e typed;
+        };
+      }
+    where
+      not_both : {X : Type 0} (b : Bool) → b ≡ true → b ≡ false → X
+      not_both true e f = cc
+      not_both false e f = cc
+
+      never_played : (r b e f : Bool) → (let m : Option Message = cond (r || b) (Some InMacro) (cond e (Some NoMacro) (cond f (Some TooMany) None)) in m ≡ None) → b ≡ false
+      never_played true b e f h = cc
+      never_played false true e f h = cc
+      never_played false false e f h = refl
+
+  ended_step : c ≡ Exit → x.own.player.playing ≡ false → new ≡ resting x → StepEnds Sees comes x.own.player.playing x new
+  ended_step is typed same =
+      let own : model.Own = own_of (resting x).own in
+      record {
+        own = same ∙ sym (ap (λ (s : Session). record x { own = s.own }) same);
+        before = own;
+        argument = n;
+        turn = λ v sees. turn v sees ∙ ap (command_turn own n) is;
+        quiet = typed;
+        typed = typed;
+      }
+
+  -- or it is an act
+  acts_step : (p : Option PromptInput) → is_bound c ≡ true → is_exit c ≡ false → is_call c ≡ false → IsAlone x.own.player → new ≡ resting x
+      → refused_again p x.own.kind x.own.player.playing (own_of (resting x).own) ≡ refused_own (own_of x.own)
+      → StepActs Sees comes x.own.player.playing (IsLeft x.own.player) x new (deeds.Act (command_act c n) p)
+  acts_step p bound goes_on calls alone same again = record {
+    own = same ∙ sym (ap (λ (s : Session). record x { own = s.own }) same);
+    fresh = ap (λ (s : Session). own_of s.own) same ∙ sym (ap (λ (s : Session). idle (own_of s.own)) same);
+    here = command_here n c bound goes_on calls;
+    turn = λ asked v sees.
+        turn v sees
+        ∙ command_done (own_of (resting x).own) n c bound calls
+        ∙ sym (ap (λ (s : Session). Do (own_of s.own) (act_of (command_act c n))) same);
+    playing = ap (λ (s : Session). s.own.player.playing) same;
+    typed = λ e. ap (λ (s : Session). s.own.player.todo) same ∙ alone e;
+    left = left_same x.own.player new.own.player.todo alone (ap (λ (s : Session). s.own.player.todo) same);
+    again = ap (λ (s : Session). refused_again p x.own.kind x.own.player.playing (own_of s.own)) same ∙ again;
+  }
+
+is_exit_of : (c : Command) → is_exit c ≡ true → c ≡ Exit
+is_exit_of Exit h = refl
+is_exit_of _ h = cc
+
+is_call_of : (c : Command) → is_call c ≡ true → c ≡ Set CallMacro
+is_call_of (Set CallMacro) h = refl
+is_call_of (Set _) h = cc
+is_call_of _ h = cc
+
+pub command_step : (Sees : View → Type 0) (comes : View → Turn) (x new : Session) (c : Command) (n : Option ℕ) (p : Option PromptInput) (step : ByteStep) → ((v : View) → Sees v → comes v ≡ command_turn (own_of (resting x).own) n c) → is_bound c ≡ true → IsAlone x.own.player
+    → refused_again p x.own.kind x.own.player.playing (own_of (resting x).own) ≡ refused_own (own_of x.own)
+    → IsCommandStep (resting x) new c n p step
+    → IsStep Sees comes x.own.player.playing (IsLeft x.own.player) x new step
+command_step Sees comes x new c n p Kept turn bound alone again s = call_kept Sees comes x new c n turn (is_call_of c s.0) alone s.1
+command_step Sees comes x new c n p Failed turn bound alone again s = by c refl s.fault
+  where
+    exit_told : (b : Bool) (message : Message) → cond b (Some InMacro) None ≡ Some message → (b ≡ true) × (message ≡ InMacro)
+    exit_told true message e = let same : InMacro ≡ message = cc in (refl, sym same)
+    exit_told false message e = cc
+
+    call_told : (m : Option ℕ) → c ≡ Set CallMacro → call_fault (resting x).own n ≡ Some s.message → StepFailed Sees comes x.own.player.playing x new
+    call_told m is fault = call_failed Sees comes x new c n turn s.message is fault s.told
+
+    by : (k : Command) → c ≡ k → fault_of (resting x).own k n ≡ Some s.message → StepFailed Sees comes x.own.player.playing x new
+    by Exit is fault = (let known = exit_told x.own.player.playing s.message fault in exit_failed Sees comes x new c n turn is known.0 (s.told ∙ ap (λ (m : Message). failed m (resting x)) known.1))
+    by (Set CallMacro) is fault = call_told n is fault
+    by (Set _) is fault = cc
+    by _ is fault = cc
+command_step Sees comes x new c n p Ends turn bound alone again s = ended_step Sees comes x new c n turn (is_exit_of c s.0) s.1 s.2
+command_step Sees comes x new c n p (Acts (deeds.Act a q)) turn bound alone again s =
+    let same : deeds.Act a q ≡ deeds.Act (command_act c n) p = ap (λ (k : _). deeds.Act k q) s.2 ∙ ap (deeds.Act (command_act c n)) s.3 in
+    subst (λ (d : Deed). StepActs Sees comes x.own.player.playing (IsLeft x.own.player) x new d) (sym same) (acts_step Sees comes x new c n turn p bound s.0 s.1 alone s.4 again)
+command_step Sees comes x new c n p (Acts (deeds.Answer q m)) turn bound alone again s = absurd s
+
+-- A KEY
+
+again_plain : (x : Session) → x.own.prompt ≡ None → refused_again None x.own.kind x.own.player.playing (own_of (resting x).own) ≡ refused_own (own_of x.own)
+again_plain x none = sym (ap (λ (p : Option PromptInput). refused_own (own_of (record x.own { prompt = p }))) none)
+
+pub key_kept : (d : Directory) (ks : List MarkedBuffer) (x new : Session) (byte : ℕ) (k : Held) → x.own.prompt ≡ None → IsAlone x.own.player → FedBy fed.Pending (key_read x.own.keyboard.argument x.own.keyboard.keys byte) k → new ≡ holding k x → IsByteStep d ks x new byte Kept
+key_kept d ks x new byte k none alone read held = record {
+  own = held ∙ sym (ap (λ (s : Session). record x { own = s.own }) held);
+  turn = λ v sees. turn_kept v x.own byte k none read ∙ sym (ap (λ (s : Session). Keep (own_of s.own)) held);
+  left = left_same x.own.player new.own.player.todo alone (ap (λ (s : Session). s.own.player.todo) held);
+}
+
+pub key_unbound : (d : Directory) (ks : List MarkedBuffer) (x new : Session) (byte : ℕ) (k : Held) → x.own.prompt ≡ None → IsAlone x.own.player → FedBy fed.Unbound (key_read x.own.keyboard.argument x.own.keyboard.keys byte) k → new ≡ resting x → IsByteStep d ks x new byte (Acts (deeds.Act unbound None))
+key_unbound d ks x new byte k none alone read same = record {
+  own = same ∙ sym (ap (λ (s : Session). record x { own = s.own }) same);
+  fresh = ap (λ (s : Session). own_of s.own) same ∙ sym (ap (λ (s : Session). idle (own_of s.own)) same);
+  here = refl;
+  turn = λ asked v sees. turn_unbound v x.own byte k none read ∙ sym (ap (λ (s : Session). Do (own_of s.own) (act_of unbound)) same);
+  playing = ap (λ (s : Session). s.own.player.playing) same;
+  typed = λ e. ap (λ (s : Session). s.own.player.todo) same ∙ alone e;
+  left = left_same x.own.player new.own.player.todo alone (ap (λ (s : Session). s.own.player.todo) same);
+  again = ap (λ (s : Session). refused_again None x.own.kind x.own.player.playing (own_of s.own)) same ∙ again_plain x none;
+}
+
+pub key_command : (d : Directory) (ks : List MarkedBuffer) (x y new : Session) (byte : ℕ) (k : Held) (c : Command) (n : Option ℕ) (step : ByteStep) → x.own.prompt ≡ None → IsAlone x.own.player → FedBy (fed.Run c n) (key_read x.own.keyboard.argument x.own.keyboard.keys byte) k → is_bound c ≡ true → y ≡ resting x → IsCommandStep y new c n None step → IsByteStep d ks x new byte step
+key_command d ks x y new byte k c n step none alone read bound rests s =
+    command_step (SeesNames d ks x.user) (λ v. own_turn v x.own byte) x new c n None step (λ v sees. turn_command v x.own byte k c n none read) bound alone (again_plain x none)
+    (subst (λ (z : Session). IsCommandStep z new c n None step) rests s)

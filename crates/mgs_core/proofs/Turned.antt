@@ -1,0 +1,305 @@
+-- Turn after turn of an event, and the event that they make.
+use Rattle.std.proofs.Common.{◌≡◌, ℕ, ◌+◌, ◌≤◌, ◌<◌, Bool, true, false, List, [], ◌∷◌, ◌++◌, Option, Some, None, refl, sym, ap, subst, ◌∙◌, arith}
+use Rattle.std.specs.Prelude.{IsSome, not}
+use Rattle.std.specs.List.{flat_map}
+use Rattle.mgs_model.specs.World.{World, Session, Own, Todo, Typed, Played, Replace_all, Play, find_session}
+use Rattle.mgs_model.specs.Outcome.{Act}
+use Rattle.mgs_model.specs.Acts.{without_all}
+use Rattle.mgs_model.specs.Turns.{Keep, Do, todo_turn}
+use Rattle.mgs_model.specs.View.{view}
+use Rattle.mgs_model.specs.Events.{Saved, act_effects, begun_own, may_be_refused, most_turns, rests, saved_by, settled, turn_in, with_own}
+use Rattle.mgs_model.specs.declared.errors.Keyed.{Keyed}
+use Rattle.mgs_model.specs.declared.errors.Keyed.TheVariants.{Done, Short}
+use Rattle.mgs_model.specs.declared.errors.Keyed.TheVariants as keyed
+use Rattle.mgs_model.proofs.Led.{Leads, leads_acted, leads_kept, leads_nowhere, leads_on, memory_behind}
+use Rattle.mgs_model.proofs.Plays.{act_saves_nothing}
+use Rattle.mgs_model.proofs.Turned.{act_short, leads_played, saves_done, saves_short, step_done, step_short, turn_todo}
+use Rattle.mgs_store.specs.Stores.{StoreTold, IsCounted, told_more}
+use Rattle.mgs_store.proofs.Told.{told_none, told_twice}
+use Rattle.mgs_core.specs.Steps.{ActedBy, KeyedBy}
+use Rattle.mgs_session.specs.Playing.{is_nothing}
+use Rattle.mgs_core.specs.Turned.{EventBy, IsLess, IsTurnDone, IsWithin, TurnDone, TurnEnds, TurnRefused, TurnedBy, goes_on, is_played, left_to_do, turn_to, weight}
+
+-- WHAT IS LEFT
+
+pub none_within : (n : ℕ) → IsWithin n []
+none_within n = (omega arith, refl)
+
+pub without_within : (n : ℕ) (todo : List Todo) → IsWithin n todo → IsWithin n (without_all todo)
+without_within n [] h = h
+without_within n (Replace_all ∷ todo) h = (omega (arith, h.0), h.1)
+without_within n (Typed byte ∷ todo) h = h
+without_within n (Played byte ∷ todo) h = h
+without_within n (Play ∷ todo) h = h
+
+-- AN EVENT SO FAR: so many turns, which lead from its start to the world as it is, with this answer of the store
+pub record SoFar (id used : ℕ) (stored : Bool) (start now : World) (before after : StoreTold) : Type 0 where
+  pub saved : List Saved
+  pub leads : Leads id stored used saved start now
+  pub fault : stored ≡ false → IsCounted before.failed after.failed
+  pub saves : after.accepted ≡ told_more saved before.accepted
+
+pub at_start : (id : ℕ) (w : World) (t : StoreTold) → SoFar id 0 true w w t t
+at_start id w t = record {
+  saved = [];
+  leads = leads_nowhere id true w;
+  fault = λ e. cc;
+  saves = told_none t.accepted [] refl;
+}
+
+-- the first turn, whatever the store answered
+first_kept : (id : ℕ) (old new : World) (t : StoreTold) (own : Own) → turn_in old id ≡ Keep own → new ≡ with_own id (λ was. own) old → SoFar id 1 true old new t t
+first_kept id old new t own turn does = record {
+  saved = [];
+  leads = leads_kept id true old new own turn does;
+  fault = λ e. cc;
+  saves = told_none t.accepted [] refl;
+}
+
+first_acted : (id : ℕ) (old new : World) (before after : StoreTold) (own : Own) (c : Act) → turn_in old id ≡ Do own c → (did : ActedBy (with_own id (λ was. own) old) new before after id c) → SoFar id 1 did.stored old new before after
+first_acted id old new before after own c turn did = record {
+  saved = flat_map saved_by (act_effects (with_own id (λ was. own) old) id c did.stored);
+  leads = leads_acted id did.stored old new own c turn did.world;
+  fault = did.fault;
+  saves = did.saves;
+}
+
+-- where the store has refused nothing, and one more turn leads on, which saves nothing
+more : (id used : ℕ) (start now new : World) (before mid after : StoreTold) → SoFar id used true start now before mid → Leads id true 1 [] now new → after.accepted ≡ mid.accepted → SoFar id (used + 1) true start new before after
+more id used start now new before mid after s on same = record {
+  saved = s.saved ++ [];
+  leads = leads_on id true used 1 s.saved [] start now new s.leads on;
+  fault = λ e. cc;
+  saves =
+      same
+      ∙ s.saves
+      ∙ told_none (told_more s.saved before.accepted) [] refl
+      ∙ told_twice before.accepted s.saved [];
+}
+
+more_by : (id used : ℕ) (left : List Todo) (start now new : World) (before mid after : StoreTold) (x : Session) → SoFar id used true start now before mid → find_session id now.sessions ≡ Some x → (own : Own) (o : Option Act) → turn_in now id ≡ turn_to own o → IsTurnDone true left own o now new mid after id → SoFar id (used + 1) true start new before after
+more_by id used left start now new before mid after x s found own None turn done =
+    more id used start now new before mid after s (leads_kept id true now new own turn done.0) (ap (λ (t : StoreTold). t.accepted) done.1)
+more_by id used left start now new before mid after x s found own (Some c) turn done =
+    let did = done.2 in
+    more id used start now new before mid after s (leads_played id did.stored true now new own c x found done.0 turn did.world)
+    (did.saves ∙ sym (told_none mid.accepted (flat_map saved_by (act_effects (with_own id (λ was. own) now) id c did.stored)) (act_saves_nothing now id own x found done.0 c did.stored)))
+
+-- a turn of what a macro plays
+pub next_turn : (id used : ℕ) (left : List Todo) (start now new : World) (before mid after : StoreTold) (x : Session) → SoFar id used true start now before mid → find_session id now.sessions ≡ Some x → TurnDone true left now new mid after id → SoFar id (used + 1) true start new before after
+next_turn id used left start now new before mid after x s found t = more_by id used left start now new before mid after x s found t.own t.act t.turn t.done
+
+-- THE EVENT
+
+not_there : {A X : Type 0} (o : Option A) → IsSome o → o ≡ None → X
+not_there None h e = cc
+not_there (Some a) h e = cc
+
+some_memory : (n : ℕ) → IsSome (memory_behind n (Some 0))
+some_memory n = refl
+
+-- nothing more is to be done
+pub event_done : (w u new : World) (before after : StoreTold) (id used byte : ℕ) → IsSome (find_session id w.sessions) → IsSome (find_session id new.sessions) → (stored : Bool) → (s : SoFar id used stored (with_own id (begun_own byte) w) u before after) → used ≤ most_turns → rests (turn_in u id) ≡ true → new ≡ settled u → KeyedBy w new before after id byte Done
+event_done w u new before after id used byte here there stored s within stops settles = record {
+  stored = stored;
+  stop = None;
+  step = settles ∙ sym (step_done w u id byte stored used s.saved here s.leads within stops);
+  short = (λ e. cc, λ e. cc);
+  no_session = (λ e. cc, λ e. not_there (find_session id w.sessions) here e);
+  quit = (λ e. cc, λ e. not_there (find_session id new.sessions) there e.1);
+  may = λ e. cc;
+  fault = s.fault;
+  saves = s.saves ∙ sym (ap (λ (xs : List Saved). told_more xs before.accepted) (saves_done w u id byte stored used s.saved here s.leads within stops));
+}
+
+-- memory is refused to the next act
+pub event_short : (w u v new : World) (before mid after : StoreTold) (id used byte : ℕ) (x : Session) → IsSome (find_session id w.sessions) → IsSome (find_session id new.sessions) → (s : SoFar id used true (with_own id (begun_own byte) w) u before mid) → used < most_turns → find_session id u.sessions ≡ Some x → TurnRefused u v mid after id → new ≡ settled v → KeyedBy w new before after id byte Short
+event_short w u v new before mid after id used byte x here there s within found t settles = record {
+  stored = true;
+  stop = memory_behind s.leads.acts (Some 0);
+  step = settles ∙ ap settled t.told ∙ sym (step_short w u id byte true used s.saved here s.leads within t.own t.act x found t.turn);
+  short = (λ e. some_memory s.leads.acts, λ e. refl);
+  no_session = (λ e. cc, λ e. not_there (find_session id w.sessions) here e);
+  quit = (λ e. cc, λ e. not_there (find_session id new.sessions) there e.1);
+  may = λ e.
+      ap may_be_refused (act_short w u id byte true used s.saved here s.leads within t.own t.act x found t.turn)
+      ∙ t.may;
+  fault = λ e. cc;
+  saves =
+      t.accepted
+      ∙ s.saves
+      ∙ sym (ap (λ (xs : List Saved). told_more xs before.accepted) (saves_short w u id byte true used s.saved here s.leads within t.own t.act x found t.turn));
+}
+
+-- UNTIL NOTHING IS LEFT, or memory was refused, or the session ends
+
+-- it goes on: this is left
+pub record GoesOn (id : ℕ) (start now : World) (before after : StoreTold) (todo : List Todo) : Type 0 where
+  pub used : ℕ
+  pub stored : Bool
+  pub so_far : SoFar id used stored start now before after
+  pub within : used + weight todo ≤ 51202
+  pub rest : (todo ≡ [] → ⊥) → stored ≡ true
+  pub first : is_played todo ≡ false → (used ≡ 0) × (now ≡ start) × (after ≡ before)
+
+-- memory was refused to the next act
+pub record BrokeOff (id : ℕ) (start now : World) (before after : StoreTold) : Type 0 where
+  pub used : ℕ
+  pub last : World
+  pub mid : StoreTold
+  pub session : Session
+  pub so_far : SoFar id used true start last before mid
+  pub within : used < 51202
+  pub found : find_session id last.sessions ≡ Some session
+  pub refused : TurnRefused last now mid after id
+
+abbrev pub EventSoFar : ℕ → World → World → StoreTold → StoreTold → List Todo → Keyed → Type 0
+EventSoFar id start now before after todo keyed.Done = GoesOn id start now before after todo
+EventSoFar id start now before after todo keyed.Short = BrokeOff id start now before after
+EventSoFar id start now before after todo keyed.Quit = TurnEnds false start now before after id
+EventSoFar id start now before after todo keyed.NoSession = ⊥
+
+pub starts : (id : ℕ) (w : World) (t : StoreTold) (todo : List Todo) → weight todo ≤ 51202 → GoesOn id w w t t todo
+starts id w t todo within = record {
+  used = 0;
+  stored = true;
+  so_far = at_start id w t;
+  within = omega (arith, within);
+  rest = λ h. refl;
+  first = λ h. (refl, refl, refl);
+}
+
+pub some_left : (todo : List Todo) → (todo ≡ [] → ⊥) → 0 < weight todo
+some_left [] h = absurd (h refl)
+some_left (Typed byte ∷ todo) h = omega arith
+some_left (Played byte ∷ todo) h = omega arith
+some_left (Replace_all ∷ todo) h = omega arith
+some_left (Play ∷ todo) h = omega arith
+
+not_played : (b : Bool) {X : Type 0} → b ≡ true → b ≡ false → X
+not_played true e f = cc
+not_played false e f = cc
+
+-- the first turn of all
+began_by : (id : ℕ) (start new : World) (before after : StoreTold) (todo left : List Todo) → 1 + weight left ≤ 51202 → is_played left ≡ true → (own : Own) (o : Option Act) → turn_in start id ≡ turn_to own o → IsTurnDone false left own o start new before after id → GoesOn id start new before after left
+began_by id start new before after todo left within played own None turn done = record {
+  used = 1;
+  stored = true;
+  so_far = subst (λ (t : StoreTold). SoFar id 1 true start new before t) (sym done.1) (first_kept id start new before own turn done.0);
+  within = within;
+  rest = λ h. refl;
+  first = λ e. not_played (is_played left) played e;
+}
+began_by id start new before after todo left within played own (Some c) turn done = record {
+  used = 1;
+  stored = done.2.stored;
+  so_far = first_acted id start new before after own c turn done.2;
+  within = within;
+  rest = λ h. absurd (h (done.1 refl));
+  first = λ e. not_played (is_played left) played e;
+}
+
+-- one turn more
+module _ (id : ℕ) (start now new : World) (before mid after : StoreTold) (todo left : List Todo) (x : Session) (g : GoesOn id start now before mid todo) (some : todo ≡ [] → ⊥) (found : find_session id now.sessions ≡ Some x) where
+  refused_nothing : SoFar id g.used true start now before mid
+  refused_nothing = subst (λ (b : Bool). SoFar id g.used b start now before mid) (g.rest some) g.so_far
+
+  went_on : (b : Bool) → is_played todo ≡ b → IsLess todo left → TurnDone b left now new mid after id → GoesOn id start new before after left
+  went_on true e less t = record {
+    used = g.used + 1;
+    stored = true;
+    so_far = next_turn id g.used left start now new before mid after x refused_nothing found t;
+    within = omega (arith, g.within, less.0);
+    rest = λ h. refl;
+    first = λ f. not_played (is_played left) less.1 f;
+  }
+  went_on false e less t =
+      let first = g.first e in
+      let of_start : TurnDone false left start new before after id = subst (λ (w : World). TurnDone false left w new before after id) first.1 (subst (λ (s : StoreTold). TurnDone false left now new s after id) first.2 t) in
+      began_by id start new before after todo left (omega (arith, g.within, less.0)) less.1 of_start.own of_start.act of_start.turn of_start.done
+
+  broke_off : TurnRefused now new mid after id → BrokeOff id start new before after
+  broke_off t = record {
+    used = g.used;
+    last = now;
+    mid = mid;
+    session = x;
+    so_far = refused_nothing;
+    within = omega (arith, g.within, some_left todo some);
+    found = found;
+    refused = t;
+  }
+
+  ended : TurnEnds (is_played todo) now new mid after id → TurnEnds false start new before after id
+  ended t =
+      let first = g.first t.typed in
+      let typed : TurnEnds false now new mid after id = subst (λ (b : Bool). TurnEnds b now new mid after id) t.typed t in
+      subst (λ (w : World). TurnEnds false w new before after id) first.1 (subst (λ (s : StoreTold). TurnEnds false now new s after id) first.2 typed)
+
+  pub one_more : (k : Keyed) → TurnedBy (is_played todo) left now new mid after id k → (k ≡ Done → IsLess todo left) → EventSoFar id start new before after left k
+  one_more keyed.Done t less = went_on (is_played todo) refl (less refl) t
+  one_more keyed.Short t less = broke_off t
+  one_more keyed.Quit t less = ended t
+  one_more keyed.NoSession t less = t
+
+-- and then
+pub within_most : (n : ℕ) → n ≤ 51202 → n ≤ most_turns
+unfolding most_turns
+within_most n h = omega (arith, h)
+
+below_most : (n : ℕ) → n < 51202 → n < most_turns
+unfolding most_turns
+below_most n h = omega (arith, h)
+
+none_rests : (w : World) (id : ℕ) (x : Session) → find_session id w.sessions ≡ Some x → x.own.todo ≡ [] → rests (turn_in w id) ≡ true
+none_rests w id x found none = ap rests (turn_todo w id x found) ∙ ap (λ (todo : List Todo). rests (todo_turn (view w x) x.own todo)) none
+
+pub event_over : (id : ℕ) (start now : World) (before after : StoreTold) (todo : List Todo) (x : Session) → find_session id now.sessions ≡ Some x → x.own.todo ≡ todo → (k : Keyed) → (k ≡ Done → todo ≡ []) → EventSoFar id start now before after todo k → EventBy id start now before after k
+event_over id start now before after todo x found is keyed.Done none g = λ w byte here there begins.
+    event_done w now (settled now) before after id g.used byte here there g.stored (subst (λ (v : World). SoFar id g.used g.stored v now before after) begins g.so_far)
+    (within_most g.used (omega (arith, g.within))) (none_rests now id x found (is ∙ none refl)) refl
+event_over id start now before after todo x found is keyed.Short none b = λ w byte here there begins.
+    event_short w b.last now (settled now) before b.mid after id b.used byte b.session here there (subst (λ (v : World). SoFar id b.used true v b.last before b.mid) begins b.so_far)
+    (below_most b.used b.within) b.found b.refused refl
+event_over id start now before after todo x found is keyed.Quit none t = t
+event_over id start now before after todo x found is keyed.NoSession none t = t
+
+-- whether nothing is left
+pub nothing_left : (todo : List Todo) → is_nothing todo ≡ true → todo ≡ []
+nothing_left [] h = refl
+nothing_left (x ∷ todo) h = cc
+
+pub something_left : (todo : List Todo) → is_nothing todo ≡ false → todo ≡ [] → ⊥
+something_left [] h e = cc
+something_left (x ∷ todo) h e = cc
+
+not_false : (b : Bool) → not b ≡ true → b ≡ false
+not_false true e = cc
+not_false false e = refl
+
+not_true : (b : Bool) → not b ≡ false → b ≡ true
+not_true true e = refl
+not_true false e = cc
+
+-- it goes on by one turn, after which less is left to do
+pub event_next : (id : ℕ) (start now new : World) (before mid after : StoreTold) (todo left : List Todo) (x : Session) → find_session id now.sessions ≡ Some x → (k l : Keyed) → goes_on k todo ≡ true → EventSoFar id start now before mid todo k → TurnedBy (is_played todo) left now new mid after id l → (l ≡ Done → IsLess todo left) → EventSoFar id start new before after left l
+event_next id start now new before mid after todo left x found keyed.Done l on so t less =
+    one_more id start now new before mid after todo left x so (something_left todo (not_false (is_nothing todo) on)) found l t less
+event_next id start now new before mid after todo left x found keyed.Short l on so t less = cc
+event_next id start now new before mid after todo left x found keyed.Quit l on so t less = cc
+event_next id start now new before mid after todo left x found keyed.NoSession l on so t less = cc
+
+pub less_to_do : (k l : Keyed) (todo left : List Todo) → goes_on k todo ≡ true → (l ≡ Done → IsLess todo left) → left_to_do l left < left_to_do k todo
+less_to_do keyed.Done keyed.Done todo left on less = let h = less refl in omega (arith, h.0)
+less_to_do keyed.Done keyed.Short todo left on less = omega arith
+less_to_do keyed.Done keyed.Quit todo left on less = omega arith
+less_to_do keyed.Done keyed.NoSession todo left on less = omega arith
+less_to_do keyed.Short l todo left on less = cc
+less_to_do keyed.Quit l todo left on less = cc
+less_to_do keyed.NoSession l todo left on less = cc
+
+pub none_on : (k : Keyed) (todo : List Todo) → goes_on k todo ≡ false → k ≡ Done → todo ≡ []
+none_on keyed.Done todo off e = nothing_left todo (not_true (is_nothing todo) off)
+none_on keyed.Short todo off e = cc
+none_on keyed.Quit todo off e = cc
+none_on keyed.NoSession todo off e = cc

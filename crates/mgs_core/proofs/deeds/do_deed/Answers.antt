@@ -1,0 +1,23 @@
+use Rattle.std.proofs.Common.{◌∙◌, true, ap}
+use Rattle.mgs_model.specs.Apply.{outcome_in}
+use Rattle.mgs_model.specs.Events.{may_be_refused}
+use Rattle.mgs_world.specs.Worlds.{own_at, world_of}
+use Rattle.mgs_core.specs.declared.deeds.Deed.{Deed}
+use Rattle.mgs_core.specs.Stepped.{deed_act}
+use Rattle.mgs_core.proofs.Prompted.{answer_may, answer_quietly}
+use Rattle.mgs_core.proofs.deeds.do_deed.Goals as goal
+
+pub returns-in-Err-clause-may : goal.returns-in-Err-clause-may
+returns-in-Err-clause-may g c id next place =
+    ap (λ (d : Deed). may_be_refused (outcome_in (world_of c.args.directory.now c.args.buffers.now c.args.sessions.now next) id (deed_act (own_at c.args.at c.args.sessions.now).pattern d) true)) c.in-Act.is
+    ∙ c.in-Err.ensures.may id next place
+
+pub returns-in-Ok-answer-clause-ok : goal.returns-in-Ok-answer-clause-ok
+returns-in-Ok-answer-clause-ok g c id next place =
+    answer_quietly _ _ _ id (own_at c.args.at c.args.sessions.now).pattern c.args.deed c.in-Answer.prompt c.in-Answer.argument c.question-question.result c.input-input.result.now
+    c.in-Answer.is c.question-question.ensures.value c.input-input.ensures.value (c.in-Ok-answer.ensures.ok id next place)
+
+pub returns-in-Err-answer-clause-may : goal.returns-in-Err-answer-clause-may
+returns-in-Err-answer-clause-may g c id next place =
+    answer_may (world_of c.args.directory.now c.args.buffers.now c.args.sessions.now next) id (own_at c.args.at c.args.sessions.now).pattern c.args.deed c.in-Answer.prompt c.in-Answer.argument c.question-question.result c.input-input.result.now
+    c.in-Answer.is c.question-question.ensures.value c.input-input.ensures.value (c.in-Err-answer.ensures.may id next place)

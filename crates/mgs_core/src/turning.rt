@@ -1,0 +1,281 @@
+// Of what a session has still to do in an event, one after another is done until nothing is left.
+ghost use Rattle.std.specs.Prelude.{◌≡◌, ◌<◌, ◌≤◌, ℕ, [], Option, length, true};
+ghost use Rattle.std.specs.List.{position_or_len};
+ghost use Rattle.mgs_model.specs.Apart.{Apart};
+ghost use Rattle.mgs_model.specs.World as model;
+ghost use Rattle.mgs_model.specs.declared.errors.Keyed.TheVariants.{Done, Quit};
+ghost use Rattle.mgs_buffers.specs.Judging.{AreJudged, rules_kept};
+ghost use Rattle.mgs_session.specs.Playing.{are_played};
+ghost use Rattle.mgs_store.specs.Stores.{store_told};
+ghost use Rattle.mgs_world.specs.Sound.{IsSound};
+ghost use Rattle.mgs_world.specs.Worlds.{IsUnique, idle, own_at, session_id, sizes_in, world_of};
+ghost use Rattle.mgs_core.specs.Held.{AreSettled};
+ghost use Rattle.mgs_core.specs.Judged.{judged_touched};
+ghost use Rattle.mgs_core.specs.Stepped.{CanDo, IsFirstStep, IsTurnStep, deed_act, is_deed_asked, prompt_of, refused, refused_again};
+ghost use Rattle.mgs_core.specs.Steps.{TypedBy, closed};
+ghost use Rattle.mgs_core.specs.Turned.{DeedBy, EventBy, IsLess, TurnedBy, goes_on, is_played, touched_both, weight};
+
+use crate::deeds::{Deed, do_deed};
+use crate::keying::ByteStep;
+use crate::typing::step_byte;
+use mgs_buffers::Buffers;
+use mgs_cache::Judge;
+use mgs_marks::Marked;
+use mgs_mini::Prompt;
+use mgs_model::{Keyed, Kind, Message, SessionId, Touched};
+use mgs_policy::Directory;
+use mgs_session::{Session, Task, begin, break_off, next_task, rest, set_kind};
+use mgs_store::Store;
+use mgs_world::settle_apart;
+use std::alloc::Global;
+
+/// What is touched by one turn and by the next.
+fn touched_both(first: Touched, next: Touched) -> Touched
+    ensures { result ≡ touched_both first next }
+{
+    match first {
+        Touched::Nowhere => next,
+        Touched::Anywhere => Touched::Anywhere,
+        Touched::In(name) => match next {
+            Touched::Nowhere => Touched::In(name),
+            Touched::Anywhere => Touched::Anywhere,
+            Touched::In(other) => {
+                if name == other {
+                    Touched::In(name)
+                } else {
+                    Touched::Anywhere
+                }
+            }
+        },
+    }
+}
+
+/// A byte of a macro of whose play nothing was done so far: it begins again where no act is asked for, and an act of it breaks a run of
+/// commands.
+fn step_first<T: Marked + Drop>(
+    buffers: &Buffers<T>,
+    judge: &mut Judge,
+    directory: &Directory,
+    session: &mut Session,
+    byte: u8,
+) -> ByteStep
+    requires judged { AreJudged directory.now (rules_kept buffers.now) judge.old }
+    requires plays { session.old.own.player.playing ≡ true }
+    requires all { are_played session.old.own.player.todo ≡ true }
+    ensures step { (own : model.Own) → IsFirstStep directory.now buffers.now own session.old session.new byte result }
+    ensures judged { AreJudged directory.now (rules_kept buffers.now) judge.new }
+{
+    let step = step_byte(buffers, judge, directory, session, byte);
+    match step {
+        ByteStep::Kept => {
+            session.own.player.begin_again();
+            ByteStep::Kept
+        }
+        ByteStep::Acts(deed) => {
+            set_kind(session, Kind::Other);
+            ByteStep::Acts(deed)
+        }
+        _ => step,
+    }
+}
+
+/// Takes what the session has to do next.
+fn next_step<T: Marked + Drop>(
+    buffers: &Buffers<T>,
+    judge: &mut Judge,
+    directory: &Directory,
+    session: &mut Session,
+) -> ByteStep
+    requires judged { AreJudged directory.now (rules_kept buffers.now) judge.old }
+    requires some { session.old.own.player.todo ≡ [] → ⊥ }
+    ensures step { IsTurnStep directory.now buffers.now session.old session.new result }
+    ensures judged { AreJudged directory.now (rules_kept buffers.now) judge.new }
+{
+    match next_task(session) {
+        Task::Typed(byte) => step_byte(buffers, judge, directory, session, byte),
+        Task::Played(byte) => step_byte(buffers, judge, directory, session, byte),
+        Task::First(byte) => step_first(buffers, judge, directory, session, byte),
+        Task::End => {
+            set_kind(session, Kind::Other);
+            ByteStep::Kept
+        }
+        Task::Nothing => ByteStep::Kept,
+    }
+}
+
+/// Memory was refused to an act: its session is at this prompt again, where there was one, with the last command's kind and a macro's play
+/// as they were, is told so, and has nothing more to do.
+fn refuse(session: &mut Session, prompt: Option<Prompt>, kind: Kind, is_playing: bool)
+    ensures { session.new ≡ refused prompt kind is_playing session.old }
+{
+    rest(session);
+    session.own.prompt = prompt;
+    set_kind(session, kind);
+    session.own.player.set_playing(is_playing);
+    break_off(session, Message::NoMemory);
+}
+
+/// Forgets what was decided, where an act may have changed an owner, an access list or which buffers there are.
+fn forget_touched(judge: &mut Judge, touched: &Touched)
+    ensures { judge.new ≡ judged_touched touched.now judge.old }
+{
+    match touched {
+        Touched::Anywhere => judge.forget(),
+        Touched::Nowhere | Touched::In(_) => {}
+    }
+}
+
+/// Does what a turn asks for by the session at `at`, whose last command was of this kind, and in which a macro was played or not.
+fn act_turn<T: Marked + Drop, S: Store>(
+    alloc: Global,
+    buffers: &mut Buffers<T>,
+    judge: &mut Judge,
+    directory: &Directory,
+    sessions: &mut [Session],
+    at: usize,
+    store: &mut S,
+    id: SessionId,
+    deed: Deed,
+    kind: Kind,
+    is_playing: bool,
+) -> (Keyed, Touched)
+    requires sound { IsSound buffers.old sessions.old }
+    requires place { at ≡ position_or_len (session_id id) sessions.old }
+    requires within { at < length sessions.old }
+    requires fresh { own_at at sessions.old ≡ idle (own_at at sessions.old) }
+    requires here { CanDo deed }
+    requires judged { AreJudged directory.now (rules_kept buffers.old) judge.old }
+    ensures asked { is_deed_asked deed ≡ true }
+    ensures judged { AreJudged directory.now (rules_kept buffers.new) judge.new }
+    ensures sound { IsSound buffers.new sessions.new }
+    ensures sizes { sizes_in sessions.new ≡ sizes_in sessions.old }
+    ensures acted { (next : Option ℕ) → DeedBy (world_of directory.now buffers.old sessions.old next) (world_of directory.now buffers.new sessions.new next) (store_told S.failed S.accepted store.old) (store_told S.failed S.accepted store.new) id (deed_act (own_at at sessions.old).pattern deed) (refused_again (prompt_of deed) kind is_playing) result.0 }
+    ensures touched { (next : Option ℕ) → Apart result.1 id (world_of directory.now buffers.old sessions.old next) (world_of directory.now buffers.new sessions.new next) }
+{
+    match do_deed(alloc, buffers, directory, sessions, at, store, deed) {
+        Ok(touched) => {
+            forget_touched(judge, &touched);
+            (Keyed::Done, touched)
+        }
+        Err(prompt) => {
+            refuse(&mut sessions[at], prompt, kind, is_playing);
+            (Keyed::Short, Touched::Nowhere)
+        }
+    }
+}
+
+/// The next of what the session at `at` has still to do is done, or refused for want of memory, or ends its session, which is then to be
+/// taken out. It tells what it touched. No window settles.
+fn take_turn<T: Marked + Drop, S: Store>(
+    alloc: Global,
+    buffers: &mut Buffers<T>,
+    judge: &mut Judge,
+    directory: &Directory,
+    sessions: &mut [Session],
+    at: usize,
+    store: &mut S,
+    id: SessionId,
+) -> (Keyed, Touched)
+    requires sound { IsSound buffers.old sessions.old }
+    requires place { at ≡ position_or_len (session_id id) sessions.old }
+    requires within { at < length sessions.old }
+    requires judged { AreJudged directory.now (rules_kept buffers.old) judge.old }
+    requires some { (own_at at sessions.old).todo ≡ [] → ⊥ }
+    ensures judged { AreJudged directory.now (rules_kept buffers.new) judge.new }
+    ensures sound { IsSound buffers.new sessions.new }
+    ensures sizes { sizes_in sessions.new ≡ sizes_in sessions.old }
+    ensures less { result.0 ≡ Done → IsLess (own_at at sessions.old).todo (own_at at sessions.new).todo }
+    ensures turned { (next : Option ℕ) → TurnedBy (is_played (own_at at sessions.old).todo) (own_at at sessions.new).todo (world_of directory.now buffers.old sessions.old next) (world_of directory.now buffers.new sessions.new next) (store_told S.failed S.accepted store.old) (store_told S.failed S.accepted store.new) id result.0 }
+    ensures touched { (next : Option ℕ) → Apart result.1 id (world_of directory.now buffers.old sessions.old next) (world_of directory.now buffers.new sessions.new next) }
+{
+    let kind = sessions[at].own.kind;
+    let is_playing = sessions[at].own.player.is_playing();
+    match next_step(buffers, judge, directory, &mut sessions[at]) {
+        ByteStep::Kept => (Keyed::Done, Touched::Nowhere),
+        ByteStep::Failed => (Keyed::Done, Touched::Nowhere),
+        ByteStep::Ends => (Keyed::Quit, Touched::Anywhere),
+        ByteStep::Acts(deed) => act_turn(
+            alloc, buffers, judge, directory, sessions, at, store, id, deed, kind, is_playing,
+        ),
+    }
+}
+
+/// Whether more is to be done of an event.
+fn goes_on(keyed: Keyed, sessions: &[Session], at: usize) -> bool
+    requires { at < length sessions.now }
+    ensures { result ≡ goes_on keyed (own_at at sessions.now).todo }
+{
+    match keyed {
+        Keyed::Done => !sessions[at].own.player.is_done(),
+        _ => false,
+    }
+}
+
+/// Turn after turn is taken until nothing is left to do, or memory is refused, or the session is to be taken out. No window settles.
+pub fn take_turns<T: Marked + Drop, S: Store>(
+    alloc: Global,
+    buffers: &mut Buffers<T>,
+    judge: &mut Judge,
+    directory: &Directory,
+    sessions: &mut [Session],
+    at: usize,
+    store: &mut S,
+    id: SessionId,
+) -> (Keyed, Touched)
+    requires sound { IsSound buffers.old sessions.old }
+    requires place { at ≡ position_or_len (session_id id) sessions.old }
+    requires within { at < length sessions.old }
+    requires judged { AreJudged directory.now (rules_kept buffers.old) judge.old }
+    requires weight { weight (own_at at sessions.old).todo ≤ 51202 }
+    ensures judged { AreJudged directory.now (rules_kept buffers.new) judge.new }
+    ensures sound { IsSound buffers.new sessions.new }
+    ensures sizes { sizes_in sessions.new ≡ sizes_in sessions.old }
+    ensures event { (next : Option ℕ) → EventBy id (world_of directory.now buffers.old sessions.old next) (world_of directory.now buffers.new sessions.new next) (store_told S.failed S.accepted store.old) (store_told S.failed S.accepted store.new) result.0 }
+    ensures touched { (next : Option ℕ) → Apart result.1 id (world_of directory.now buffers.old sessions.old next) (world_of directory.now buffers.new sessions.new next) }
+{
+    let mut keyed = Keyed::Done;
+    let mut touched = Touched::Nowhere;
+    while goes_on(keyed, sessions, at) {
+        let (next, more) = take_turn(alloc, buffers, judge, directory, sessions, at, store, id);
+        keyed = next;
+        touched = touched_both(touched, more);
+    }
+    (keyed, touched)
+}
+
+/// A byte of the session at `at`, as `Core::key` says, but that `Quit` changes what the session holds alone: it is to be taken out.
+pub fn type_in<T: Marked + Drop, S: Store>(
+    alloc: Global,
+    buffers: &mut Buffers<T>,
+    judge: &mut Judge,
+    directory: &Directory,
+    sessions: &mut [Session],
+    at: usize,
+    store: &mut S,
+    id: SessionId,
+    byte: u8,
+) -> (Keyed, Touched)
+    requires sound { IsSound buffers.old sessions.old }
+    requires settles { AreSettled directory.now buffers.old sessions.old }
+    requires place { at ≡ position_or_len (session_id id) sessions.old }
+    requires within { at < length sessions.old }
+    requires unique { IsUnique (sizes_in sessions.old) }
+    requires judged { AreJudged directory.now (rules_kept buffers.old) judge.old }
+    ensures judged { AreJudged directory.now (rules_kept buffers.new) judge.new }
+    ensures sound { IsSound buffers.new sessions.new }
+    ensures sizes { sizes_in sessions.new ≡ sizes_in sessions.old }
+    ensures gone { (next : Option ℕ) → result.0 ≡ Quit → closed (world_of directory.now buffers.new sessions.new next) id ≡ closed (world_of directory.now buffers.old sessions.old next) id }
+    ensures left { result.0 ≡ Quit → store_told S.failed S.accepted store.new ≡ store_told S.failed S.accepted store.old }
+    ensures keyed { (next : Option ℕ) → TypedBy (world_of directory.now buffers.old sessions.old next) (world_of directory.now buffers.new sessions.new next) (store_told S.failed S.accepted store.old) (store_told S.failed S.accepted store.new) id byte result.0 }
+    ensures touched { (next : Option ℕ) → Apart result.1 id (world_of directory.now buffers.old sessions.old next) (world_of directory.now buffers.new sessions.new next) }
+{
+    begin(&mut sessions[at], byte);
+    let (keyed, touched) = take_turns(alloc, buffers, judge, directory, sessions, at, store, id);
+    match keyed {
+        Keyed::Quit => (keyed, touched),
+        _ => {
+            settle_apart(buffers, directory, sessions, id, &touched);
+            (keyed, touched)
+        }
+    }
+}

@@ -1,0 +1,78 @@
+-- What a session has still to do in an event: a byte that was typed, or what is left of a macro that is played.
+use Rattle.std.specs.Prelude.{◌≡◌, ℕ, zero, suc, Bool, true, false, List, [], ◌∷◌, ◌++◌, drop, map, Option, None, Some, cond}
+use Rattle.mgs_model.specs.World.{Todo, Typed, Played, Play}
+use Rattle.mgs_session.specs.declared.playing.Task.{Task}
+use Rattle.mgs_session.specs.declared.playing.Task.TheVariants as tasks
+
+pub record Playing : Type 0 where
+  -- the byte that is handled is a macro's
+  pub playing : Bool
+  pub todo : List Todo
+
+abbrev pub nothing_played : Playing
+nothing_played = record { playing = false; todo = [] }
+
+-- the bytes so many times
+abbrev pub rounds : ℕ → List ℕ → List ℕ
+rounds zero bytes = []
+rounds (suc n) bytes = bytes ++ rounds n bytes
+
+-- the rest of a round, and rounds behind it
+abbrev pub left_of : List ℕ → ℕ → ℕ → List ℕ
+left_of bytes at n = drop at bytes ++ rounds n bytes
+
+-- what is still to be done: a byte that was typed, or these of a macro, of whose play nothing was done so far where it begins
+abbrev pub todo_in : Option ℕ → Bool → List ℕ → List Todo
+todo_in None begins left = cond begins (Play ∷ map Played left) (map Played left)
+todo_in (Some byte) begins left = Typed byte ∷ []
+
+-- a byte was typed
+abbrev pub byte_typed : ℕ → Playing → Playing
+byte_typed byte p = record p { todo = Typed byte ∷ [] }
+
+-- these bytes are to be played so many times
+abbrev pub called : ℕ → List ℕ → Playing → Playing
+called n bytes p = record p { todo = Play ∷ map Played (rounds n bytes) }
+
+abbrev pub stopped : Playing → Playing
+stopped p = record p { todo = [] }
+
+-- what was to be done before this was taken, and these are left
+abbrev pub todo_before : Task → List Todo → List Todo
+todo_before (tasks.Typed byte) todo = Typed byte ∷ todo
+todo_before (tasks.Played byte) todo = Played byte ∷ todo
+todo_before (tasks.First byte) todo = Play ∷ Played byte ∷ todo
+todo_before tasks.End todo = Play ∷ todo
+todo_before tasks.Nothing todo = todo
+
+-- whether a macro's byte is handled then
+abbrev pub playing_at : Task → Bool → Bool
+playing_at (tasks.Typed byte) playing = false
+playing_at (tasks.Played byte) playing = true
+playing_at (tasks.First byte) playing = true
+playing_at tasks.End playing = playing
+playing_at tasks.Nothing playing = playing
+
+abbrev pub is_nothing : List Todo → Bool
+is_nothing [] = true
+is_nothing (todo ∷ more) = false
+
+-- what is to be done is all of a macro
+abbrev pub are_played : List Todo → Bool
+are_played [] = true
+are_played (Played byte ∷ todo) = are_played todo
+are_played (todo ∷ more) = false
+
+-- nothing is left behind a byte that was typed and behind a play's end, and bytes of the macro behind one of them
+abbrev pub IsTaken : Task → List Todo → Type 0
+IsTaken (tasks.Typed byte) todo = todo ≡ []
+IsTaken (tasks.Played byte) todo = are_played todo ≡ true
+IsTaken (tasks.First byte) todo = are_played todo ≡ true
+IsTaken tasks.End todo = todo ≡ []
+IsTaken tasks.Nothing todo = todo ≡ []
+
+-- this was to be done next, and is handled now
+pub record IsNext (task : Task) (old new : Playing) : Type 0 where
+  pub todo : old.todo ≡ todo_before task new.todo
+  pub playing : new.playing ≡ playing_at task old.playing
+  pub taken : IsTaken task new.todo
