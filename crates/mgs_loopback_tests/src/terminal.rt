@@ -1,0 +1,71 @@
+// The other ends of connections.
+use crate::office::{Office, turn};
+use std::io::{ErrorKind, Read, Write};
+use std::net::{Ipv4Addr, SocketAddr, TcpStream};
+use std::test::Fail;
+
+// The most turns that a terminal waits for its connection's end.
+const TURNS: usize = 200;
+
+/// The end of a connection that never waits.
+#[derive(Drop)]
+pub(crate) struct Terminal {
+    stream: TcpStream,
+    /// All bytes that came.
+    pub got: Vec<u8>,
+    /// Whether the server closed the connection.
+    pub is_ended: bool,
+}
+
+// A connection to a port of the loopback address.
+fn connect(rt: &HostRuntime, port: u16) -> Result<TcpStream, Fail> {
+    let stream = TcpStream::connect(rt, SocketAddr::from((Ipv4Addr::LOCALHOST, port)))?;
+    stream.set_nonblocking(true)?;
+    Ok(stream)
+}
+
+// How many bytes a stream has now, and none where it has ended.
+fn read_now(stream: &mut TcpStream, buf: &mut [u8]) -> Result<Option<usize>, Fail> {
+    match stream.read(buf) {
+        Ok(0) => Ok(None),
+        Ok(n) => Ok(Some(n)),
+        Err(error) if error.kind() == ErrorKind::WouldBlock => Ok(Some(0)),
+        Err(error) => Err(error.into()),
+    }
+}
+
+/// A terminal that is connected and has sent these bytes in one write.
+pub(crate) fn enter(rt: &HostRuntime, port: u16, bytes: &[u8]) -> Result<Terminal, Fail> {
+    let mut stream = connect(rt, port)?;
+    stream.write_all(bytes)?;
+    Ok(Terminal {
+        stream,
+        got: Vec::new(rt.alloc()),
+        is_ended: false,
+    })
+}
+
+/// Takes what has come, up to 512 bytes.
+pub(crate) fn take(terminal: &mut Terminal) -> Result<(), Fail> {
+    let mut buf = [0u8; 512];
+    match read_now(&mut terminal.stream, &mut buf)? {
+        Some(n) => {
+            let bytes = buf.get(..n).ok_or("more bytes than were asked for")?;
+            terminal.got.extend_from_slice(bytes)?;
+        }
+        None => terminal.is_ended = true,
+    }
+    Ok(())
+}
+
+/// Whether the server closes the connection, while it turns.
+pub(crate) fn is_closed(office: &mut Office, terminal: &mut Terminal) -> Result<bool, Fail> {
+    for _ in 0..TURNS {
+        turn(office)?;
+        take(terminal)?;
+        if terminal.is_ended {
+            return Ok(true);
+        }
+    }
+    Ok(false)
+}
