@@ -135,6 +135,7 @@ around_in directory ks user x height n typed kill own =
       mark = mark_if reads (mark_shown ks x);
       origin = 0;
       anchor = 0;
+      sought_here = false;
       old = own.old;
       argument = n;
       typed = typed;

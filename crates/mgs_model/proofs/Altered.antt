@@ -1,5 +1,5 @@
 -- Worked plans of the commands on case, white space and filling, computed by the definitions.
-use Rattle.std.proofs.Common.{◌≡◌, ℕ, List, [], ◌∷◌, ◌++◌, Option, Some, None, refl}
+use Rattle.std.proofs.Common.{◌≡◌, ℕ, false, List, [], ◌∷◌, ◌++◌, Option, Some, None, refl}
 use Rattle.std.specs.Prelude.{Result, Ok, Err, codes, length}
 use Rattle.mgs_model.specs.Text.{edited}
 use Rattle.mgs_model.specs.Cells.{glyph}
@@ -22,6 +22,7 @@ around text place argument mark =
       mark = mark;
       origin = 0;
       anchor = 0;
+      sought_here = false;
       old = [];
       argument = argument;
       typed = [];

@@ -1,7 +1,7 @@
 -- What each act needs, and what it does: functions of the view, with one equation for each family of commands.
 use Rattle.std.specs.Prelude.{ℕ, ◌+◌, ◌-◌, nat_lt, nat_le, ◌==◌, Bool, true, false, not, ◌&&◌, ◌||◌, List, [], ◌∷◌, length, Option, Some, None, Result, Ok, Err, slice_get, cond, if◌then◌else◌}
 use Rattle.std.specs.Option.{option_and_then, option_map}
-use Rattle.mgs_model.specs.Names.{is_name}
+use Rattle.mgs_model.specs.Names.{is_name, same_name}
 use Rattle.mgs_model.specs.Rights.{rights_in}
 use Rattle.mgs_model.specs.Access.{Decider, Nobody, decision_by, is_among}
 use Rattle.mgs_model.specs.Text.{is_edit}
@@ -65,6 +65,11 @@ abbrev pub origin_in : Option SearchSeen → ℕ
 origin_in None = 0
 origin_in (Some x) = acts_at x.positions 0
 
+-- the session's search is in the buffer of that name
+abbrev pub is_sought_in : List ℕ → Option SearchSeen → Bool
+is_sought_in name None = false
+is_sought_in name (Some x) = same_name name x.name
+
 abbrev pub around : SessionSeen → Option ℕ → List ℕ → Target → Around
 around x argument typed t =
     record {
@@ -75,6 +80,7 @@ around x argument typed t =
       mark = mark_in t.window.positions;
       origin = origin_in x.search;
       anchor = anchor_in x.search;
+      sought_here = is_sought_in t.buffer.name x.search;
       old = x.own.old;
       argument = argument;
       typed = typed;

@@ -19,7 +19,7 @@ use Rattle.mgs_model.specs.declared.search.SearchPlaces.{SearchPlaces}
 use Rattle.mgs_model.specs.declared.search.SearchStep.{SearchStep}
 use Rattle.mgs_model.specs.declared.message.CursorPosition.{CursorPosition}
 use Rattle.mgs_model.specs.declared.message.Message.{Message}
-use Rattle.mgs_model.specs.declared.message.Message.TheVariants.{Silent, BeginningOfBuffer, EndOfBuffer, Quitting, MarkSet, NoMark, NothingToYank, CharacterAt, EndAt, NoArgument, BadColumn, InMacro, NotInMacro, NoMacro, TooMany, OnlyOneWindow, WindowTooSmall, TooManyWindows, ImpossibleChange, NoSuchBuffer, NotANumber, BadEntry, NoSuchEntry, ListFull, NoFurtherUndo, NoPattern, NotFound, BufferFull}
+use Rattle.mgs_model.specs.declared.message.Message.TheVariants.{Silent, BeginningOfBuffer, EndOfBuffer, Quitting, MarkSet, NoMark, NothingToYank, CharacterAt, EndAt, NoArgument, BadColumn, InMacro, NotInMacro, NoMacro, TooMany, OnlyOneWindow, WindowTooSmall, TooManyWindows, ImpossibleChange, NoSuchBuffer, NotANumber, BadEntry, NoSuchEntry, ListFull, NoFurtherUndo, NoPattern, NotFound, NoBuffer, BufferFull}
 use Rattle.mgs_model.specs.declared.session.Mode.TheVariants.{Plain}
 use Rattle.mgs_model.specs.declared.session.Kind.{Kind}
 use Rattle.mgs_model.specs.declared.session.Kind.TheVariants.{Other, Kill, Line, Undo}
@@ -66,8 +66,8 @@ acted_own own = record own { argument = None; keys = []; kind = Other }
 -- PLANS OVER A TEXT
 
 -- what every plan is given beside the text: the buffer's name, the text's length and last serial, the place of action, the
--- mark, the origin and the anchor of a search, the text to be replaced, the argument, what was typed for it, the kill buffer, the last command's kind, the
--- window's rows and the fill column
+-- mark, the origin and the anchor of a search and whether it is in this buffer, the text to be replaced, the argument, what was typed for it, the kill
+-- buffer, the last command's kind, the window's rows and the fill column
 pub record Around : Type 0 where
   pub name : List ℕ
   pub size : ℕ
@@ -76,6 +76,7 @@ pub record Around : Type 0 where
   pub mark : Option ℕ
   pub origin : ℕ
   pub anchor : ℕ
+  pub sought_here : Bool
   pub old : List ℕ
   pub argument : Option ℕ
   pub typed : List ℕ
@@ -267,12 +268,15 @@ motion ExchangePointAndMark text x = exchanged x x.mark
 motion MarkWholeBuffer text x = Ok (record (goes 0) { mark = Mark_at x.size })
 motion CopyRegion text x = copied text x x.mark
 motion (StartSearch d) text x = Ok (record stays { sought = Begin x.name x.place x.place })
-motion (SearchOn d step) text x = Ok (searched_on step (record { direction = d; pattern = x.typed; failing = false }) text (places_of x))
+-- a search goes on in its own buffer; no key leads to a window that shows another
+motion (SearchOn d step) text x =
+    if x.sought_here then Ok (searched_on step (record { direction = d; pattern = x.typed; failing = false }) text (places_of x)) else Err NoBuffer
 motion (SearchFor d) text x = searches_for d x.typed text x.place
 motion StartReplace text x =
     if length x.old == 0 then Err NoPattern
     else Ok (elim (first_match x.old text x.place) [ None ↦ record stays { mode = Over } | Some m ↦ record (goes (m + length x.old)) { sought = Begin x.name x.place m } ])
-motion SkipMatch text x = Ok (next_match x (x.anchor + cond (is_match text x) (length x.old) 0) stays text)
+motion SkipMatch text x =
+    if x.sought_here then Ok (next_match x (x.anchor + cond (is_match text x) (length x.old) 0) stays text) else Err NoBuffer
 
 -- SCROLLING: the start of the line that is two lines less than the window's rows away, at least one, or as many lines as
 -- the argument says
@@ -395,7 +399,8 @@ alteration JoinLine text x = joins_line text (line_start text x.place)
 alteration FillParagraph text x = fills text x
 -- a match that is no longer there is not replaced
 alteration ReplaceMatch text x =
-    Ok (if is_match text x then record {
+    if not x.sought_here then Err NoBuffer
+    else Ok (if is_match text x then record {
       a = x.anchor;
       b = x.anchor + length x.old;
       put = x.typed;
@@ -403,7 +408,8 @@ alteration ReplaceMatch text x =
     }
     else record { a = x.anchor; b = x.anchor; put = []; finish = next_match x x.anchor stays text })
 alteration ReplaceLast text x =
-    Ok (if is_match text x then record {
+    if not x.sought_here then Err NoBuffer
+    else Ok (if is_match text x then record {
       a = x.anchor;
       b = x.anchor + length x.old;
       put = x.typed;

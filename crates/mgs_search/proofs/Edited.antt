@@ -57,7 +57,7 @@ met_there x f from text = by (first_match x.old text from)
     by (Some m) = refl
 
 abbrev given : ℕ → List ℕ → List ℕ → model.Around → model.Around
-given anchor old put rest = record rest { anchor = anchor; old = old; typed = put }
+given anchor old put rest = record rest { anchor = anchor; sought_here = true; old = old; typed = put }
 
 pub replaced_so : (anchor : ℕ) (old put text : List ℕ) (next : Option ℕ) (rest : model.Around) → length (take anchor text) ≡ anchor → matches_at old text anchor ≡ true
     → next ≡ option_map (λ m. m - (anchor + length old) + (anchor + length put)) (first_match old text (anchor + length old))
@@ -89,7 +89,7 @@ abbrev ended_at : SearchStep → Option ℕ → SearchPlaces → Result model.Fi
 ended_at step o y = Ok (stepped step y (is_none o))
 
 pub step_planned : (step : SearchStep) (s : Sought) (text : List ℕ) (x : SearchPlaces) (rest : model.Around)
-    → Ok (stepped step (places_after step s text x) (sought_after step s text x).failing) ≡ motion (SearchOn s.direction step) text (record rest { origin = x.origin; anchor = x.anchor; place = x.point; typed = s.pattern })
+    → Ok (stepped step (places_after step s text x) (sought_after step s text x).failing) ≡ motion (SearchOn s.direction step) text (record rest { origin = x.origin; anchor = x.anchor; sought_here = true; place = x.point; typed = s.pattern })
 step_planned Stays s text x rest = refl
 step_planned FromAnchor s text x rest =
     let o : Option ℕ = match_from s.direction s.pattern text x.anchor in

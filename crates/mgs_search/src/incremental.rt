@@ -1,5 +1,5 @@
 // An incremental search, typed byte by byte.
-ghost use Rattle.std.specs.Prelude.{◌≡◌, ◌+◌, ◌≤◌, [], length, Bool, false, Ok, IfSome};
+ghost use Rattle.std.specs.Prelude.{◌≡◌, ◌+◌, ◌≤◌, [], length, Bool, true, false, Ok, IfSome};
 ghost use Rattle.mgs_model.specs.Keys.{is_graphic};
 ghost use Rattle.mgs_model.specs.Searching.{lengthened, shortened, directed, dropped, read_byte, match_point, found_places, is_none, places_after, sought_after};
 ghost use Rattle.mgs_model.specs.Plans as model;
@@ -121,9 +121,10 @@ impl IncrementalSearch {
         self.direction
     }
 
-    /// What it looks for.
+    /// What it looks for, at most 120 characters.
     pub fn pattern(&self) -> &[char]
-        ensures { result.now ≡ self.now.pattern }
+        ensures value { result.now ≡ self.now.pattern }
+        ensures within { length result.now ≤ 120 }
     {
         self.pattern.as_slice()
     }
@@ -219,7 +220,7 @@ impl IncrementalSearch {
     ) -> SearchPlaces
         requires origin { places.origin ≤ length (T.text text.now) }
         requires anchor { places.anchor ≤ length (T.text text.now) }
-        ensures plan { (rest : model.Around) → Ok (stepped step result self.new.failing) ≡ motion (SearchOn self.old.direction step) (T.text text.now) (record rest { origin = places.origin; anchor = places.anchor; place = places.point; typed = self.old.pattern }) }
+        ensures plan { (rest : model.Around) → Ok (stepped step result self.new.failing) ≡ motion (SearchOn self.old.direction step) (T.text text.now) (record rest { origin = places.origin; anchor = places.anchor; sought_here = true; place = places.point; typed = self.old.pattern }) }
         ensures sought { self.new ≡ sought_after step self.old (T.text text.now) places }
         ensures places { result ≡ places_after step self.old (T.text text.now) places }
         ensures origin { result.origin ≡ places.origin }

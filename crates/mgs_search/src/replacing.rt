@@ -1,5 +1,5 @@
 // Query-replace: where its matches are.
-ghost use Rattle.std.specs.Prelude.{◌≡◌, ℕ, ◌+◌, ◌-◌, ◌≤◌, ◌<◌, ◌^◌, List, length, Ok, IfSome, IfOk};
+ghost use Rattle.std.specs.Prelude.{◌≡◌, ℕ, ◌+◌, ◌-◌, ◌≤◌, ◌<◌, ◌^◌, List, length, true, Ok, IfSome, IfOk};
 ghost use Rattle.std.specs.Option.{option_map};
 ghost use Rattle.mgs_model.specs.Plans as model;
 ghost use Rattle.mgs_model.specs.Plans.{motion, alteration, stays};
@@ -37,7 +37,7 @@ pub fn begin_replacing<T: Text>(text: &T, p: usize, old: &[char]) -> Result<Opti
 /// longer stands there.
 pub fn skip_match<T: Text>(text: &T, anchor: usize, old: &[char]) -> Option<usize>
     requires { anchor ≤ length (T.text text.now) }
-    ensures plan { (rest : model.Around) → Ok (met (length old.now) stays result) ≡ motion SkipMatch (T.text text.now) (record rest { anchor = anchor; old = old.now }) }
+    ensures plan { (rest : model.Around) → Ok (met (length old.now) stays result) ≡ motion SkipMatch (T.text text.now) (record rest { anchor = anchor; sought_here = true; old = old.now }) }
     ensures within { IfSome result (λ m. m + length old.now ≤ length (T.text text.now)) }
 {
     let _len = text.len();
@@ -66,7 +66,7 @@ pub fn replace_match<T: Text>(text: &T, anchor: usize, old: &[char], put: &[char
     requires anchor { anchor ≤ length (T.text text.now) }
     requires short { length (T.text text.now) < 2 ^ 32 }
     requires put { length put.now < 2 ^ 32 }
-    ensures { (rest : model.Around) → Ok (replacement_read anchor (length old.now) put.now result) ≡ alteration ReplaceMatch (T.text text.now) (record rest { anchor = anchor; old = old.now; typed = put.now }) }
+    ensures { (rest : model.Around) → Ok (replacement_read anchor (length old.now) put.now result) ≡ alteration ReplaceMatch (T.text text.now) (record rest { anchor = anchor; sought_here = true; old = old.now; typed = put.now }) }
 {
     let _len = text.len();
     if !matches_at(text, anchor, old) {
@@ -86,7 +86,7 @@ pub fn replace_match<T: Text>(text: &T, anchor: usize, old: &[char], put: &[char
 /// Plans the last replacement, at an anchor: no next match is looked for.
 pub fn replace_last<T: Text>(text: &T, anchor: usize, old: &[char]) -> Replacement
     requires { anchor ≤ length (T.text text.now) }
-    ensures { (put : List ℕ) (rest : model.Around) → Ok (replacement_read anchor (length old.now) put result) ≡ alteration ReplaceLast (T.text text.now) (record rest { anchor = anchor; old = old.now; typed = put }) }
+    ensures { (put : List ℕ) (rest : model.Around) → Ok (replacement_read anchor (length old.now) put result) ≡ alteration ReplaceLast (T.text text.now) (record rest { anchor = anchor; sought_here = true; old = old.now; typed = put }) }
 {
     Replacement {
         replaces: matches_at(text, anchor, old),

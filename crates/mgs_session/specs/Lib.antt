@@ -1,3 +1,4 @@
 pub mod Playing
 pub mod Recording
 pub mod Sessions
+pub mod Seeking

@@ -26,7 +26,7 @@ session_opened id user rows cols shows capacity = record {
   cols = cols;
   windows = record { rows = rows; windows = record { height = rows - 2; shows = shows; rows = NoRows } ∷ []; selected = 0; places = []; capacity = capacity };
   kill = [];
-  own = record { echo = Silent; keyboard = nothing_held; kind = Other; fill = first_own.fill; prompt = None; pattern = []; recorder = nothing_recorded; player = nothing_played };
+  own = record { echo = Silent; keyboard = nothing_held; kind = Other; fill = first_own.fill; prompt = None; pattern = []; recorder = nothing_recorded; player = nothing_played; search = None };
 }
 
 abbrev pub told : Message → Session → Session
@@ -40,9 +40,9 @@ acted kind x = record x { own = record x.own { kind = kind } }
 abbrev pub filling : ℕ → Session → Session
 filling column x = record x { own = record x.own { fill = column } }
 
--- it holds what was read, and no prompt, and its echo line is empty; what it keeps from command to command is the same
+-- it holds what was read, and no prompt and no search, and its echo line is empty; what it keeps from command to command is the same
 abbrev pub holding : Held → Session → Session
-holding k x = record x { own = record x.own { echo = Silent; keyboard = k; prompt = None } }
+holding k x = record x { own = record x.own { echo = Silent; keyboard = k; prompt = None; search = None } }
 
 -- nothing is half read, and nothing is told
 abbrev pub resting : Session → Session

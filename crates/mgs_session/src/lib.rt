@@ -4,12 +4,14 @@
 mod kill_buffer;
 mod playing;
 mod recording;
+mod search;
 mod search_string;
 
-ghost use Rattle.std.specs.Prelude.{◌≡◌, ◌≤◌, ◌-◌, [], ◌∷◌, true, vec_capacity};
+ghost use Rattle.std.specs.Prelude.{◌≡◌, ◌≤◌, ◌<◌, ◌+◌, ◌-◌, ◌^◌, [], ◌∷◌, true, vec_capacity};
 ghost use Rattle.mgs_model.specs.Plans.{kind_failed};
 ghost use Rattle.mgs_mini.specs.Typing.{is_asked};
 ghost use Rattle.mgs_session.specs.Playing.{IsNext};
+ghost use Rattle.mgs_session.specs.Seeking.{is_search_in, own_bereft, search_left, searching, session_edited, unsearched};
 ghost use Rattle.mgs_session.specs.Sessions.{session_opened, acted, asking, begun, broken_off, failed, filling, holding, macro_called, macro_ended, macro_given_up, macro_started, playing_as, prompting, resting, told, subject_in, subject_of, unprompted, window_marks_of};
 
 pub use kill_buffer::KillBuffer;
@@ -19,6 +21,7 @@ use mgs_model::{Kind, Message, Name, Question, SessionId};
 use mgs_windows::{RowPane, Window, WindowMarks, Windows};
 pub use playing::{Player, Task};
 pub use recording::Recorder;
+pub use search::{Edited, Search};
 pub use search_string::SearchString;
 use std::alloc::Global;
 
@@ -27,7 +30,7 @@ pub const FILL_COLUMN: usize = 72;
 
 /// What a session holds beside its windows and its kill buffer: its echo text, the keys and the argument that are half
 /// read, the kind of its last command, the column up to which it fills lines (1 to 9,999), the prompt that it answers, what it
-/// searched for last, its macro, and what is still to be done in an event.
+/// searched for last, its macro, what is still to be done in an event, and the search that goes on, which comes before a prompt.
 /// While there is a prompt, the keyboard holds the argument of the command that the prompt is for, and no keys.
 #[derive(Drop)]
 pub struct Own {
@@ -39,6 +42,7 @@ pub struct Own {
     pub pattern: SearchString,
     pub recorder: Recorder,
     pub player: Player,
+    pub search: Option<Search>,
 }
 
 /// The state of a session. A position is a mark in the text of a buffer.
@@ -83,6 +87,7 @@ pub fn opened(
             pattern: SearchString::new(),
             recorder: Recorder::new(),
             player: Player::new(),
+            search: None,
         },
     }
 }
@@ -209,16 +214,17 @@ pub fn set_kill(session: &mut Session, text: Vec<char>)
     session.kill.set(text);
 }
 
-/// Holds what was read of a byte that is no prompt's, and empties the echo line, as each byte does.
+/// Holds what was read of a byte that is neither a prompt's nor a search's, and empties the echo line, as each byte does.
 pub fn hold(session: &mut Session, keyboard: Keyboard)
     ensures { session.new ≡ holding keyboard session.old }
 {
     session.own.echo = Message::Silent;
     session.own.keyboard = keyboard;
     session.own.prompt = None;
+    session.own.search = None;
 }
 
-/// Nothing is half read, a prompt is over, and the echo line is empty: an act can begin.
+/// Nothing is half read, a prompt or a search is over, and the echo line is empty: an act can begin.
 pub fn rest(session: &mut Session)
     ensures { session.new ≡ resting session.old }
 {
@@ -249,6 +255,66 @@ pub fn hold_prompt(session: &mut Session, prompt: Prompt)
 {
     session.own.prompt = Some(prompt);
     set_echo(session, Message::Silent);
+}
+
+/// The search that goes on, which is taken out. All else stays, and `hold_search` puts it back.
+pub fn take_search(session: &mut Session) -> Option<Search>
+    ensures search { result ≡ session.old.own.search }
+    ensures rest { session.new ≡ unsearched session.old }
+{
+    session.own.search.take()
+}
+
+/// Holds a search that goes on.
+pub fn hold_search(session: &mut Session, search: Search)
+    ensures { session.new ≡ searching search session.old }
+{
+    session.own.search = Some(search);
+}
+
+/// A search that was taken out is over: what it looked for is the search string, unless it looked for nothing. No prompt is behind it, and
+/// the echo line is empty.
+pub fn leave_search(session: &mut Session, search: &Search)
+    ensures { session.new ≡ search_left search.now.sought.pattern session.old }
+{
+    let pattern = search.sought.pattern();
+    if !pattern.is_empty() {
+        session.own.pattern = SearchString::of(pattern);
+    }
+    session.own.prompt = None;
+    session.own.search = None;
+    set_echo(session, Message::Silent);
+}
+
+/// The positions of a search that goes on go by an edit of the buffer of this name.
+pub fn follow_edit(session: &mut Session, name: &Name, edit: &Edited)
+    requires order { edit.now.from ≤ edit.now.to }
+    requires fits { edit.now.size + edit.now.added < 2 ^ 64 }
+    ensures { session.new ≡ session_edited name.now edit.now session.old }
+{
+    if let Some(search) = &mut session.own.search {
+        search.follow(name, edit);
+    }
+}
+
+/// The buffer of this name is killed: a search in it is over.
+pub fn forget_search(session: &mut Session, name: &Name)
+    ensures { session.new ≡ record session.old { own = own_bereft name.now session.old.own } }
+{
+    if searches_in(&session.own, name) {
+        session.own.search = None;
+        session.own.prompt = None;
+    }
+}
+
+/// Whether a search goes on in the buffer of this name.
+fn searches_in(own: &Own, name: &Name) -> bool
+    ensures { result ≡ is_search_in name.now own.now.search }
+{
+    match &own.search {
+        Some(search) => *name == search.name,
+        None => false,
+    }
 }
 
 /// The buffer that the selected window shows.

@@ -38,6 +38,16 @@ impl SearchString {
         }
     }
 
+    /// These characters.
+    pub fn of(pattern: &[char]) -> SearchString
+        requires { length pattern.now ≤ 120 }
+        ensures { result ≡ pattern.now }
+    {
+        let mut chars = ArrayVec::new();
+        let _fits = chars.try_extend_from_slice(pattern);
+        SearchString { chars }
+    }
+
     /// The characters.
     pub fn as_slice(&self) -> &[char]
         ensures value { result.now ≡ self.now }

@@ -1,0 +1,48 @@
+-- An incremental search of a session: how it begins, and how it goes by edits and kills of its buffer.
+use Rattle.std.specs.Prelude.{ℕ, ◌==◌, Bool, false, min, List, [], Option, None, Some, length, cond}
+use Rattle.std.specs.Option.{option_map}
+use Rattle.mgs_model.specs.Names.{same_name}
+use Rattle.mgs_model.specs.Text.{shift}
+use Rattle.mgs_model.specs.declared.message.Message.TheVariants.{Silent}
+use Rattle.mgs_model.specs.declared.search.Direction.{Direction}
+use Rattle.mgs_session.specs.declared.Own.{Own}
+use Rattle.mgs_session.specs.declared.Session.{Session}
+use Rattle.mgs_session.specs.declared.search.Edited.{Edited}
+use Rattle.mgs_session.specs.declared.search.Search.{Search}
+
+-- it looks for nothing yet
+abbrev pub search_begun : List ℕ → ℕ → Direction → Search
+search_begun name place d = record { name = name; origin = place; anchor = place; sought = record { direction = d; pattern = []; failing = false } }
+
+-- EDITS: where a position goes; one past the end is the end
+abbrev pub moved : Edited → ℕ → ℕ
+moved e p = shift e.from e.to e.added (min p e.size)
+
+abbrev pub search_edited : List ℕ → Edited → Search → Search
+search_edited name e s = record s { origin = cond (same_name name s.name) (moved e s.origin) s.origin; anchor = cond (same_name name s.name) (moved e s.anchor) s.anchor }
+
+abbrev pub session_edited : List ℕ → Edited → Session → Session
+session_edited name e x = record x { own = record x.own { search = option_map (search_edited name e) x.own.search } }
+
+-- IN A SESSION
+
+abbrev pub searching : Search → Session → Session
+searching s x = record x { own = record x.own { search = Some s } }
+
+abbrev pub unsearched : Session → Session
+unsearched x = record x { own = record x.own { search = None } }
+
+-- one that looked for this is over: it is the search string then, unless it is nothing. No prompt is behind it
+abbrev pub search_left : List ℕ → Session → Session
+search_left sought x =
+    record x { own = record x.own { echo = Silent; pattern = cond (length sought == 0) x.own.pattern sought; prompt = None; search = None } }
+
+-- one that goes on is in the buffer of this name
+abbrev pub is_search_in : List ℕ → Option Search → Bool
+is_search_in name None = false
+is_search_in name (Some s) = same_name name s.name
+
+-- a search in a buffer that is gone is over
+abbrev pub own_bereft : List ℕ → Own → Own
+own_bereft name own =
+    record own { search = cond (is_search_in name own.search) None own.search; prompt = cond (is_search_in name own.search) None own.prompt }
