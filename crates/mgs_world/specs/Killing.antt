@@ -4,11 +4,12 @@ use Rattle.mgs_model.specs.World.{World}
 use Rattle.mgs_model.specs.Apply.{buffers_after, session_after}
 use Rattle.mgs_model.specs.Outcome.{Kill}
 use Rattle.mgs_windows.specs.Panes.{list_bereft}
+use Rattle.mgs_session.specs.Seeking.{own_bereft}
 use Rattle.mgs_session.specs.declared.Session.{Session}
 
--- windows that show the buffer or its access list show nothing, and places in it go
+-- windows that show the buffer or its access list show nothing, places in it go, and a search in it is over
 abbrev pub session_forgetting : List ℕ → Session → Session
-session_forgetting name x = record x { windows = list_bereft name x.windows }
+session_forgetting name x = record x { windows = list_bereft name x.windows; own = own_bereft name x.own }
 
 -- the same of the model's world, where the buffer is gone
 abbrev pub world_without : List ℕ → World → World

@@ -1,12 +1,12 @@
 -- The world that the kept buffers and the sessions stand for.
-use Rattle.std.specs.Prelude.{◌≡◌, ℕ, ◌^◌, Bool, false, nat_eq, slice_get, List, [], ◌∷◌, Option, Some, None, map, find, All}
+use Rattle.std.specs.Prelude.{◌≡◌, ℕ, ◌^◌, min, Bool, false, nat_eq, slice_get, List, [], ◌∷◌, length, Option, Some, None, map, find, All}
 use Rattle.std.specs.Option.{option_map}
 use Rattle.mgs_model.specs.Access.{Directory}
-use Rattle.mgs_model.specs.World.{World, Buffer, Shows, first_own, Nothing, Buffer_of, Listing, List_of}
+use Rattle.mgs_model.specs.World.{World, Buffer, Shows, find_buffer, first_own, Nothing, Buffer_of, Listing, List_of}
 use Rattle.mgs_model.specs.World as model
 use Rattle.mgs_model.specs.declared.message.Message.TheVariants.{Silent}
 use Rattle.mgs_model.specs.declared.session.Mode.{Mode}
-use Rattle.mgs_model.specs.declared.session.Mode.TheVariants.{Plain, Prompt}
+use Rattle.mgs_model.specs.declared.session.Mode.TheVariants.{Plain, Prompt, Searching}
 use Rattle.mgs_mini.specs.Typing.{PromptInput, keys_of}
 use Rattle.mgs_buffers.specs.MarkedBuffer.{MarkedBuffer, mark_at}
 use Rattle.mgs_windows.specs.declared.WindowMarks.{WindowMarks}
@@ -14,6 +14,7 @@ use Rattle.mgs_windows.specs.declared.Window.{Window}
 use Rattle.mgs_windows.specs.declared.RowPane.{RowPane}
 use Rattle.mgs_windows.specs.declared.RowPane.TheVariants.{NoRows, Buffers, Entries}
 use Rattle.mgs_session.specs.declared.Own.{Own}
+use Rattle.mgs_session.specs.declared.search.Search.{Search}
 use Rattle.mgs_session.specs.declared.Session.{Session}
 use Rattle.mgs_model.specs.Picture.{IsSize}
 use Rattle.mgs_world.specs.declared.size.Size.{Size}
@@ -47,21 +48,41 @@ window_of ks x = window_shown ks x.height x.shows x.rows
 abbrev pub place_of : List MarkedBuffer → WindowMarks → model.Place
 place_of ks x = record { name = x.name; point = mark_at x.name ks x.point; mark = option_map (mark_at x.name ks) x.mark }
 
--- the mode, the keys that are half read and the input, by the prompt where there is one
-abbrev pub mode_in : Option PromptInput → Mode
-mode_in None = Plain
-mode_in (Some p) = Prompt p.question
+-- THE POSITIONS OF A SEARCH: one past the text's end stands for the end
 
-abbrev pub keys_in : List ℕ → Option PromptInput → List ℕ
-keys_in keys None = keys
-keys_in keys (Some p) = keys_of p.waiting
+abbrev pub size_found : Option Buffer → ℕ
+size_found None = 0
+size_found (Some b) = length b.text
 
-abbrev pub input_in : Option PromptInput → List ℕ
-input_in None = []
-input_in (Some p) = p.input
+-- the length of the text of that name; 0 where there is none
+abbrev pub size_named : List ℕ → List Buffer → ℕ
+size_named name bs = size_found (find_buffer name bs)
 
--- what a session holds: no mode but that of a prompt, and nothing but the echo text, the search string, what is half read, the last
--- command's kind, the fill column, its macro and what is still to be done
+abbrev pub search_at : List Buffer → Search → model.Search
+search_at bs s = record { name = s.name; origin = min s.origin (size_named s.name bs); anchor = min s.anchor (size_named s.name bs) }
+
+abbrev pub search_of : List Buffer → Option Search → Option model.Search
+search_of bs None = None
+search_of bs (Some s) = Some (search_at bs s)
+
+-- the mode, the keys that are half read and the input: by the search that goes on, or by the prompt where there is one
+abbrev pub mode_in : Option Search → Option PromptInput → Mode
+mode_in (Some s) p = Searching s.sought.direction s.sought.failing
+mode_in None (Some p) = Prompt p.question
+mode_in None None = Plain
+
+abbrev pub keys_in : Option Search → List ℕ → Option PromptInput → List ℕ
+keys_in (Some s) keys p = keys
+keys_in None keys (Some p) = keys_of p.waiting
+keys_in None keys None = keys
+
+abbrev pub input_in : Option Search → Option PromptInput → List ℕ
+input_in (Some s) p = s.sought.pattern
+input_in None (Some p) = p.input
+input_in None None = []
+
+-- what a session holds: no mode but those of a prompt and of an incremental search, and nothing but the echo text, the search string, what
+-- is half read, the last command's kind, the fill column, its macro and what is still to be done
 abbrev pub own_of : Own → model.Own
 own_of x =
     record first_own {
@@ -72,10 +93,10 @@ own_of x =
       recording = x.recorder.recording;
       playing = x.player.playing;
       argument = x.keyboard.argument;
-      keys = keys_in x.keyboard.keys x.prompt;
+      keys = keys_in x.search x.keyboard.keys x.prompt;
       kind = x.kind;
-      mode = mode_in x.prompt;
-      input = input_in x.prompt;
+      mode = mode_in x.search x.prompt;
+      input = input_in x.search x.prompt;
       todo = x.player.todo;
     }
 
@@ -91,8 +112,12 @@ own_or_first (Some x) = own_of x.own
 abbrev pub own_at : ℕ → List Session → model.Own
 own_at at xs = own_or_first (slice_get xs at)
 
-abbrev pub session_of : List MarkedBuffer → Session → model.Session
-session_of ks x = record {
+abbrev pub buffers_of : List MarkedBuffer → List Buffer
+buffers_of ks = map (λ (k : MarkedBuffer). k.buffer) ks
+
+-- a session, where the texts of searches are those of these buffers
+abbrev pub session_in : List Buffer → List MarkedBuffer → Session → model.Session
+session_in bs ks x = record {
   id = x.id;
   user = x.user;
   rows = x.windows.rows;
@@ -100,18 +125,18 @@ session_of ks x = record {
   windows = map (window_of ks) x.windows.windows;
   selected = x.windows.selected;
   places = map (place_of ks) x.windows.places;
-  search = None;
+  search = search_of bs x.own.search;
   kill = x.kill;
   own = own_of x.own;
 }
+
+abbrev pub session_of : List MarkedBuffer → Session → model.Session
+session_of ks x = session_in (buffers_of ks) ks x
 
 -- the next id; past the last u64 where every id was used
 abbrev pub id_after : Option ℕ → ℕ
 id_after None = 2 ^ 64
 id_after (Some id) = id
-
-abbrev pub buffers_of : List MarkedBuffer → List Buffer
-buffers_of ks = map (λ (k : MarkedBuffer). k.buffer) ks
 
 abbrev pub world_of : Directory → List MarkedBuffer → List Session → Option ℕ → World
 world_of directory ks sessions next = record {

@@ -9,19 +9,20 @@ ghost use Rattle.mgs_world.specs.Worlds.{sizes_in, world_of};
 use mgs_buffers::Buffers;
 use mgs_marks::Marked;
 use mgs_model::Name;
-use mgs_session::Session;
+use mgs_session::{Session, forget_search};
 
-/// No window of these sessions shows the buffer of this name or its access list any longer, and no place is in it.
+/// No window of these sessions shows the buffer of this name or its access list any longer, and no place and no search is in it.
 fn forget(sessions: &mut [Session], name: &Name)
     ensures { sessions.new ≡ map (session_forgetting name.now) sessions.old }
 {
     for session in sessions.iter_mut() {
         session.windows.forget(name);
+        forget_search(session, name);
     }
 }
 
-/// The buffer of this name is taken out: windows of all sessions that show it or its access list show nothing, and places
-/// in it go. It takes no memory.
+/// The buffer of this name is taken out: windows of all sessions that show it or its access list show nothing, places
+/// in it go, and searches in it are over. It takes no memory.
 #[tactic(auto, using(crate::proofs::Killed::sound_killed, crate::proofs::Killed::sizes_killed))]
 pub fn kill_buffer<T: Marked + Drop>(
     buffers: &mut Buffers<T>,
