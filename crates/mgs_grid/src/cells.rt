@@ -156,6 +156,22 @@ pub(crate) fn put_chars(row: &mut [char], shift: usize, column: usize, chars: &[
     at
 }
 
+/// Writes the cells of a pattern's characters, of which the first begins in a column of its line, into a row that shows the line from
+/// column `shift` on, and tells the column after them. Cells that are not in sight are passed over.
+pub(crate) fn put_pattern(row: &mut [char], shift: usize, column: usize, chars: &[char]) -> usize
+    requires column { column < 2 ^ 32 }
+    requires short { length chars.now < 2 ^ 32 }
+    ensures row { row.new ≡ over row.old shift column (cells_from column chars.now) }
+    ensures next { result ≡ column + length (cells_from column chars.now) }
+    ensures few { result ≤ column + 12 * length chars.now }
+{
+    let mut at = column;
+    for c in chars {
+        at = put_glyph(row, shift, at, *c);
+    }
+    at
+}
+
 /// Writes the cells of the line that stands in `start..end` of a text into a row that shows it from column `shift` on,
 /// and tells the column after them. Cells that are not in sight are passed over.
 pub(crate) fn put_line<T: Text>(

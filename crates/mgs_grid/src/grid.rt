@@ -2,13 +2,13 @@
 ghost use Rattle.std.specs.Prelude.{◌≡◌, ℕ, ◌+◌, ◌<◌, ◌≤◌, ◌^◌, List, [], ◌∷◌, ◌++◌, length, drop, decimal, codes, All, None, IfOk};
 ghost use Rattle.mgs_model.specs.Rows.{text_rows, shift_at, blank_rows, unread_rows, cause_text, plain_row, mode_row, buffer_mode, none_mode, echo_row, line_row, line_end_column, rows_put};
 ghost use Rattle.mgs_model.specs.Draw.{listing_text};
-ghost use Rattle.mgs_model.specs.Prompts.{prompt_line};
+ghost use Rattle.mgs_model.specs.Prompts.{prompt_line, search_text};
 ghost use Rattle.mgs_model.specs.Picture.{Picture, IsPicture, IsPrintable, IsSize, blank_picture};
 ghost use Rattle.mgs_grid.specs.Lists.{acl_mode};
 
 use crate::line::Line;
 use crate::window::{clear_rows, draw_rows};
-use mgs_model::{Decision, Message, Name, Question, Short};
+use mgs_model::{Decision, Direction, Message, Name, Question, Short};
 use mgs_text::Text;
 use std::alloc::Global;
 use std::marker::Model;
@@ -181,6 +181,24 @@ impl Grid {
         ensures within { result < self.old.cols }
     {
         self.lines[row].draw_prompt(question, input)
+    }
+
+    /// Draws the line of a search in the echo row: which way it goes, whether it found nothing and, behind that, what it looks for. A
+    /// line that leaves no cell behind it is shown as a `$` and its end. Tells the column behind it, where the cursor belongs.
+    pub fn draw_search(
+        &mut self,
+        row: usize,
+        direction: Direction,
+        failing: bool,
+        pattern: &[char],
+    ) -> usize
+        requires row { row < self.old.rows }
+        requires short { length pattern.now < 2 ^ 32 }
+        ensures grid { self.new ≡ record self.old { lines = rows_put row (line_row self.old.cols (search_text direction failing ++ pattern.now) ∷ []) self.old.lines } }
+        ensures column { result ≡ line_end_column self.old.cols (search_text direction failing ++ pattern.now) }
+        ensures within { result < self.old.cols }
+    {
+        self.lines[row].draw_search(direction, failing, pattern)
     }
 
     /// Draws a row of the listing of all buffers: whether the buffer is modified, its size, its name and its owner.

@@ -4,16 +4,19 @@ ghost use Rattle.mgs_model.specs.Cells.{cells};
 ghost use Rattle.mgs_model.specs.Lines.{line_end};
 ghost use Rattle.mgs_model.specs.Rows.{shown_row, plain_row, mode_row, line_row, line_end_column, unread_text, buffer_mode, none_mode, cause_text, Row};
 ghost use Rattle.mgs_model.specs.Draw.{listing_text};
-ghost use Rattle.mgs_model.specs.Prompts.{prompt_line};
+ghost use Rattle.mgs_model.specs.Prompts.{prompt_line, search_text};
 ghost use Rattle.mgs_model.specs.Messages.{message_text};
 ghost use Rattle.mgs_model.specs.Picture.{IsPrintable};
 ghost use Rattle.mgs_grid.specs.Lists.{acl_mode};
 
 use crate::cells::{fill, finish, put_bytes, put_line};
 use crate::lists::{put_acl_mode, put_entry, put_listed, put_unlisted};
-use crate::words::{prompt_width, put_heading, put_message, put_place, put_prompt, put_unread};
+use crate::words::{
+    prompt_width, put_heading, put_message, put_place, put_prompt, put_search, put_unread,
+    search_width,
+};
 use mgs_lines::line_end;
-use mgs_model::{Decision, Message, Name, Question, Short};
+use mgs_model::{Decision, Direction, Message, Name, Question, Short};
 use mgs_text::Text;
 use std::alloc::Global;
 use std::marker::Model;
@@ -185,6 +188,29 @@ impl Line {
         fill(row, ' ');
         let shift = shift_to_end(row.len(), prompt_width(question, input));
         let end = put_prompt(row, shift, question, input);
+        finish(row, shift, end);
+        end - shift
+    }
+
+    /// Draws the line of a search, plain: which way it goes, whether it found nothing and, behind that, what it looks for. A line
+    /// that leaves no cell behind it is shown as a `$` and its end. Tells the column behind it.
+    pub(crate) fn draw_search(
+        &mut self,
+        direction: Direction,
+        failing: bool,
+        pattern: &[char],
+    ) -> usize
+        requires some { 2 ≤ length self.old.text }
+        requires width { length self.old.text < 2 ^ 62 }
+        requires short { length pattern.now < 2 ^ 32 }
+        ensures row { self.new ≡ line_row (length self.old.text) (search_text direction failing ++ pattern.now) }
+        ensures column { result ≡ line_end_column (length self.old.text) (search_text direction failing ++ pattern.now) }
+    {
+        self.reversed = false;
+        let row = self.text.as_mut_slice();
+        fill(row, ' ');
+        let shift = shift_to_end(row.len(), search_width(direction, failing, pattern));
+        let end = put_search(row, shift, direction, failing, pattern);
         finish(row, shift, end);
         end - shift
     }

@@ -4,11 +4,11 @@ ghost use Rattle.mgs_model.specs.Rows.{heading_text, place_text, cause_text, unr
 ghost use Rattle.mgs_model.specs.Rights.{right_name};
 ghost use Rattle.mgs_model.specs.Messages.{denial_text, fault_name, message_text, position_text};
 ghost use Rattle.mgs_model.specs.Cells.{cells};
-ghost use Rattle.mgs_model.specs.Prompts.{prompt_text, prompt_line};
+ghost use Rattle.mgs_model.specs.Prompts.{prompt_text, prompt_line, search_text};
 ghost use Rattle.mgs_grid.specs.Cells.{over, Wrote};
 
-use crate::cells::{put_bytes, put_chars, put_decimal};
-use mgs_model::{CursorPosition, Decision, EntryFault, Message, Name, Question, Right};
+use crate::cells::{put_bytes, put_chars, put_decimal, put_pattern};
+use mgs_model::{CursorPosition, Decision, Direction, EntryFault, Message, Name, Question, Right};
 
 #[tactic(auto, using(crate::proofs::Plain::name_plain, crate::proofs::Plain::name_short))]
 pub(crate) fn put_name(row: &mut [char], column: usize, name: &Name) -> usize
@@ -261,4 +261,52 @@ pub(crate) fn prompt_width(question: Question, input: &[u8]) -> usize
     ensures few { result < 2 ^ 40 }
 {
     put_prompt(&mut [], 0, question, input)
+}
+
+fn search_text(direction: Direction, failing: bool) -> &'static [u8]
+    ensures { result.now ≡ search_text direction failing }
+{
+    match direction {
+        Direction::Forward => {
+            if failing {
+                b"Failing I-search: "
+            } else {
+                b"I-search: "
+            }
+        }
+        Direction::Backward => {
+            if failing {
+                b"Failing I-search backward: "
+            } else {
+                b"I-search backward: "
+            }
+        }
+    }
+}
+
+/// Writes the cells of a search's line into a row that shows the line from column `shift` on, and tells the column after
+/// them: which way it goes, whether it found nothing, and what it looks for. Cells that are not in sight are passed over.
+pub(crate) fn put_search(
+    row: &mut [char],
+    shift: usize,
+    direction: Direction,
+    failing: bool,
+    pattern: &[char],
+) -> usize
+    requires short { length pattern.now < 2 ^ 32 }
+    ensures row { row.new ≡ over row.old shift 0 (cells (search_text direction failing ++ pattern.now)) }
+    ensures next { result ≡ length (cells (search_text direction failing ++ pattern.now)) }
+    ensures few { result < 2 ^ 40 }
+{
+    let start = put_chars(row, shift, 0, search_text(direction, failing));
+    put_pattern(row, shift, start, pattern)
+}
+
+/// How many cells a search's line has.
+pub(crate) fn search_width(direction: Direction, failing: bool, pattern: &[char]) -> usize
+    requires short { length pattern.now < 2 ^ 32 }
+    ensures width { result ≡ length (cells (search_text direction failing ++ pattern.now)) }
+    ensures few { result < 2 ^ 40 }
+{
+    put_search(&mut [], 0, direction, failing, pattern)
 }
