@@ -6,7 +6,7 @@ use Rattle.mgs_keys.specs.declared.decoder.Key.TheVariants.{Plain, Meta}
 use Rattle.mgs_model.specs.Keys.{KeyRead, Half, Bound, Not_bound, quotes, key_read}
 use Rattle.mgs_model.specs.declared.session.Argument.{Argument}
 use Rattle.mgs_model.specs.declared.session.Motion.{Motion}
-use Rattle.mgs_model.specs.declared.session.Motion.TheVariants.{StartSearch, SearchOn, SearchFor, StartReplace, SkipMatch}
+use Rattle.mgs_model.specs.declared.session.Motion.TheVariants.{SearchOn, SearchFor, StartReplace, SkipMatch}
 use Rattle.mgs_model.specs.declared.session.Alteration.{Alteration}
 use Rattle.mgs_model.specs.declared.session.Alteration.TheVariants.{ReplaceMatch, ReplaceLast}
 use Rattle.mgs_model.specs.declared.session.Command.{Command}
@@ -40,7 +40,6 @@ FedBy Unbound read new = (read ≡ Not_bound) × (new ≡ nothing_held)
 
 -- the motions and alterations of the table
 abbrev pub is_bound_motion : Motion → Bool
-is_bound_motion (StartSearch d) = false
 is_bound_motion (SearchOn d step) = false
 is_bound_motion (SearchFor d) = false
 is_bound_motion StartReplace = false

@@ -36,7 +36,7 @@ pub struct Binding {
     pub command: Command,
 }
 
-static BINDINGS: [Binding; 70] = [
+static BINDINGS: [Binding; 72] = [
     Binding {
         keys: b"\r",
         name: "newline",
@@ -286,6 +286,16 @@ static BINDINGS: [Binding; 70] = [
         keys: b"\x1Bx",
         name: "",
         command: Command::Ask(Question::RunWhich),
+    },
+    Binding {
+        keys: b"\x13",
+        name: "isearch-forward",
+        command: Command::Move(Motion::StartSearch(Direction::Forward)),
+    },
+    Binding {
+        keys: b"\x12",
+        name: "isearch-backward",
+        command: Command::Move(Motion::StartSearch(Direction::Backward)),
     },
     Binding {
         keys: b"\x1Bs",
