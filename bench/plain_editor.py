@@ -114,22 +114,21 @@ TABLE = {
     b"\x180": "delete-window", b"\x181": "delete-other-windows", b"\x182": "split-window-vertically", b"\x18o": "other-window",
     b"\x18n": "next-window", b"\x18p": "previous-window", b"\x18^": "enlarge-window", b"\x1bx": "execute-extended-command",
     b"\x18\x03": "save-buffers-kill-emacs", b"\x07": "keyboard-quit", b"\x18g": "goto-line",
-    b"\x1bs": "search-forward", b"\x1br": "search-backward", b"\x18(": "start-kbd-macro", b"\x18)": "end-kbd-macro",
+    b"\x13": "isearch-forward", b"\x12": "isearch-backward", b"\x1bs": "search-forward", b"\x1br": "search-backward", b"\x18(": "start-kbd-macro", b"\x18)": "end-kbd-macro",
     b"\x18e": "call-last-kbd-macro",
     b"\x1b[A": "previous-line", b"\x1b[B": "next-line", b"\x1b[C": "forward-char", b"\x1b[D": "backward-char",
 }
-SEARCHES = {b"\x13": "isearch-forward", b"\x12": "isearch-backward", b"\x1b%": "query-replace"}
+REPLACING = {b"\x1b%": "query-replace"}
 KEYLESS = ["insert-buffer", "shrink-window", "acl-list", "acl-insert", "acl-delete", "acl-replace", "set-owner"]
 UNNAMED = ["execute-extended-command", "start-kbd-macro", "end-kbd-macro", "call-last-kbd-macro", "quoted-insert"]
 
 
 class World:
-    def __init__(self, with_search=False):
+    def __init__(self, replacing=False):
         self.users, self.groups, self.buffers, self.sessions = [], {}, [], {}
         self.table = dict(TABLE)
-        if with_search:
-            self.table.update(SEARCHES)
-        self.with_search = with_search
+        if replacing:
+            self.table.update(REPLACING)
         self.names = sorted(set(x for x in self.table.values() if x not in UNNAMED) | set(KEYLESS))
 
     # RIGHTS

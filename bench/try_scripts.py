@@ -1,6 +1,6 @@
 """Plays random scripts with mgd, and compares every screen after every byte with those of plain_editor.py.
 
-    python3 bench/try_scripts.py [--program PATH] [--seed N] [--count N] [--steps N] [--searches]
+    python3 bench/try_scripts.py [--program PATH] [--seed N] [--count N] [--steps N] [--replacing]
 
 A script has up to four buffers with random access lists, owners and texts, and up to three sessions. The first difference of a
 script is printed with the keys before it, and the script is left in a file. Status 1 where there was one."""
@@ -12,7 +12,7 @@ import subprocess
 import sys
 import tempfile
 
-from plain_editor import ORDER, TABLE, SEARCHES, Buffer, World, read_entry
+from plain_editor import ORDER, TABLE, REPLACING, Buffer, World, read_entry
 
 TOP = os.path.dirname(os.path.dirname(os.path.abspath(__file__)))
 NAMED_KEYS = {0x00: "C-SPC", 0x09: "TAB", 0x0D: "RET", 0x1B: "ESC", 0x1F: "C-_", 0x20: "SPC", 0x7F: "DEL"}
@@ -23,8 +23,10 @@ RULES = ["acl-list", "acl-insert", "acl-delete", "acl-replace", "set-owner", "in
 WRONG_ENTRIES = ["ALLOW ann x", "deny ann r", "ALLOW", "ALLOW ann r w", "  ALLOW   ann  rw  ", ""]
 LETTERS = ["rw", "rwat", "r", "w", "a", "at", "t", "rwatdcCo", "C", "rt"]
 MACROS = [b"\x18(", b"\x18(", b"\x18)", b"\x18)", b"\x18e", b"\x18e", b"\x153\x18e", b"\x1bsa\r", b"\x1brb\r", b"\x1bs\r"]
-SEARCHING = [b"\x13", b"\x12", b"\x13a", b"\x13ab\x13", b"\x12b\x12", b"\x13c\x7f", b"\r", b"\x07",
-             b"\x1b%a\rxy\r", b"\x1b%ab\r\r", b"y", b"n", b"!", b".", b"q", b" "]
+SEARCHING = [b"\x13", b"\x12", b"\x13a", b"\x12b", b"\x13ab\x13", b"\x12b\x12", b"\x13c\x7f", b"\x13\x13", b"\x12\x12", b"\x13\x12", b"\x12\x13\x13",
+             b"\x13bE\x7f\x7f\x7f", b"\x12zz\x7f", b"\x13a\r", b"\x12d\r", b"\x13 \x13\x13\x07", b"\x13b\x12\x12\x13", b"\x13d\x0b", b"\x12a\t",
+             b"\x13b\x1bf", b"\x13a\x152\x06", b"\x13" + b"a" * 121 + b"\x7f", b"\x7f", b"\r", b"\x07"]
+REPLACEMENTS = [b"\x1b%a\rxy\r", b"\x1b%ab\r\r", b"y", b"n", b"!", b".", b"q", b" "]
 
 
 def token(byte):
@@ -44,10 +46,10 @@ def text_tokens(text):
 class Script:
     """A random script, and the screens that it is to print."""
 
-    def __init__(self, seed, steps, searches):
+    def __init__(self, seed, steps, replacing):
         self.random = random.Random(seed)
-        self.world, self.lines, self.screens = World(searches), [], []
-        self.searches = searches
+        self.world, self.lines, self.screens = World(replacing), [], []
+        self.replacing = replacing
         self.set_up()
         for _ in range(steps):
             self.step()
@@ -110,13 +112,15 @@ class Script:
     def keys(self):
         """A few bytes that make sense together."""
         r = self.random
-        if self.searches and r.random() < .4:
+        if r.random() < .15:
             return r.choice(SEARCHING)
+        if self.replacing and r.random() < .3:
+            return r.choice(REPLACEMENTS)
         x = r.random()
         if x < .30:
             return bytes(r.choice(b"abcE .x1\t") for _ in range(r.randint(1, 4)))
         if x < .62:
-            return r.choice(ARGUMENTS) + r.choice(list(TABLE) + (list(SEARCHES) if self.searches else []))
+            return r.choice(ARGUMENTS) + r.choice(list(TABLE) + (list(REPLACING) if self.replacing else []))
         if x < .70:
             return self.named(r.choice(ASKING))
         if x < .86:
@@ -177,7 +181,7 @@ def main():
     options.add_argument("--seed", type=int, default=1)
     options.add_argument("--count", type=int, default=100)
     options.add_argument("--steps", type=int, default=40)
-    options.add_argument("--searches", action="store_true", help="incremental searches and replacements too")
+    options.add_argument("--replacing", action="store_true", help="replacements too")
     options.add_argument("--write", metavar="FOLDER", help="write the scripts there, and play none")
     options.add_argument("--read", metavar="FILE", help="compare what `rt try --cases` printed of them, and play none")
     chosen = options.parse_args()
@@ -188,7 +192,7 @@ def main():
     printed_cases = cases_of(chosen.read) if chosen.read else None
     played = differ = 0
     for seed in seeds:
-        script = Script(seed, chosen.steps, chosen.searches)
+        script = Script(seed, chosen.steps, chosen.replacing)
         if printed_cases is None:
             run = subprocess.run([chosen.program, "replay"], input=script.source().encode(), capture_output=True)
             printed = run.stdout.decode("latin1")
@@ -209,7 +213,7 @@ def write_scripts(folder, seeds, chosen):
     os.makedirs(folder, exist_ok=True)
     for seed in seeds:
         with open(os.path.join(folder, "%06d" % seed), "w") as file:
-            file.write(Script(seed, chosen.steps, chosen.searches).source())
+            file.write(Script(seed, chosen.steps, chosen.replacing).source())
 
 
 def cases_of(path):

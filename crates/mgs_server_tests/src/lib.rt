@@ -32,6 +32,8 @@ mod script;
 #[cfg(test)]
 mod searches;
 #[cfg(test)]
+mod seeking;
+#[cfg(test)]
 mod steps;
 #[cfg(test)]
 mod undos;

@@ -113,7 +113,7 @@ fn other_keys_are_not_bound(rt: HostRuntime) -> Result<(), Fail> {
         |Key not bound       |\n\
         cursor 1 1\n";
     for token in [
-        "C-c", "C-h", "C-r", "C-s", "C-z", "C-x C-d", "C-x C-q", "C-x C-z", "M-a", "M-z",
+        "C-c", "C-h", "C-z", "C-x C-d", "C-x C-q", "C-x C-z", "M-a", "M-z",
     ] {
         let mut lines = String::from_str(rt.alloc(), "open a ann 6 20\nkeys a ")?;
         lines.push_str(token)?;
