@@ -41,7 +41,7 @@ mark_in-set (m ∷ ms) (suc id) p h = mark_in-set ms id p h
 pub shift_bound : (a b n len m : ℕ) → a ≤ b → b ≤ len → m ≤ len → shift a b n m ≤ len - (b - a) + n
 shift_bound a b n len m order within below = grind (arith, nat_tests)
 
-length-edited : (a b : ℕ) (put text : List ℕ) → a ≤ b → b ≤ length text → length (edited a b put text) ≡ length text - (b - a) + length put
+pub length-edited : (a b : ℕ) (put text : List ℕ) → a ≤ b → b ≤ length text → length (edited a b put text) ≡ length text - (b - a) + length put
 length-edited a b put text order within =
     omega (arith, length-append (take a text ++ put) (drop b text), length-append (take a text) put, length-take a text, length-drop b text)
 

@@ -1,5 +1,5 @@
 -- A buffer is killed: what its sessions used of it goes with it, and all else stays.
-use Rattle.std.proofs.Common.{◌≡◌, ℕ, ◌+◌, Bool, true, false, not, cond, List, [], ◌∷◌, map, Option, Some, None, refl, sym, ap, subst, ◌∙◌, arith}
+use Rattle.std.proofs.Common.{◌≡◌, ℕ, ◌+◌, Bool, true, false, not, cond, List, [], ◌∷◌, map, Option, Some, None, refl, sym, ap, subst, ◌∙◌, arith, min}
 use Rattle.std.specs.Prelude.{filter, find, is_some, nat_eq}
 use Rattle.mgs_model.specs.Access.{Directory}
 use Rattle.mgs_model.specs.Names.{same_name}
@@ -16,10 +16,10 @@ use Rattle.mgs_windows.specs.declared.RowPane.TheVariants.{NoRows, Buffers, Entr
 use Rattle.mgs_windows.specs.Panes.{is_place_in, places_bereft, rows_bereft, shows_bereft, window_bereft}
 use Rattle.mgs_session.specs.declared.search.Search.{Search}
 use Rattle.mgs_session.specs.declared.Session.{Session}
-use Rattle.mgs_session.specs.Sessions.{is_search_in, unsearched}
+use Rattle.mgs_session.specs.Seeking.{unsearched}
 use Rattle.mgs_world.specs.Killing.{session_forgetting, world_without}
 use Rattle.mgs_world.specs.Sound.{IsSound, in_use, one_if, option_uses, place_uses, session_uses, sum_of, uses, window_marks_uses, window_uses}
-use Rattle.mgs_world.specs.Worlds.{buffers_of, marks_in, own_of, search_in, search_of, place_of, session_of, size_in, sizes_in, window_of, window_shown, world_of}
+use Rattle.mgs_world.specs.Worlds.{buffers_of, own_of, place_of, search_at, search_of, session_of, size_found, size_in, size_named, sizes_in, window_of, window_shown, world_of}
 use Rattle.mgs_world.proofs.Marks.{other_name, same_is}
 use Rattle.mgs_world.proofs.Worlds.{option_mapped, same_place, same_positions, same_window, same_world}
 
@@ -89,17 +89,17 @@ windows_killed n ks (w ∷ ws) =
     ap (λ y. y ∷ map (window_of (without_marked n ks)) (map (window_bereft n) ws)) (window_killed n ks w.height w.shows w.rows)
     ∙ ap (λ ys. model_apply.window_bereft n (window_of ks w) ∷ ys) (windows_killed n ks ws)
 
-search_elsewhere : (n : List ℕ) (ks : List MarkedBuffer) (x : WindowMarks) → same_name n x.name ≡ false → search_of (without_marked n ks) x ≡ search_of ks x
-search_elsewhere n ks x e =
-    let there : (id : ℕ) → mark_at x.name (without_marked n ks) id ≡ mark_at x.name ks id =
-    λ id. ap (λ (k : MarkedBuffer). position_in k.marks id) (kept_other n x.name ks e) in
-    λ i. record { name = x.name; origin = there x.point i; anchor = there x.top i }
+search_elsewhere : (n : List ℕ) (bs : List Buffer) (s : Search) → same_name n s.name ≡ false → search_at (without_buffer n bs) s ≡ search_at bs s
+search_elsewhere n bs s e =
+    let same : size_named s.name (without_buffer n bs) ≡ size_named s.name bs =
+    ap size_found (find_removed (is_named n) (is_named s.name) (λ b is. other_name n s.name b.name e is) bs) in
+    λ i. record { name = s.name; origin = min s.origin (same i); anchor = min s.anchor (same i) }
 
 -- a session that has this search, or none
 session_searching_killed : (n : List ℕ) (ks : List MarkedBuffer) (x : Session) (o : Option Search) → (let y : Session = record x { own = record x.own { search = o } } in session_of (without_marked n ks) (session_forgetting n y) ≡ session_bereft n (session_of ks y))
 session_searching_killed n ks x None =
     same_positions (session_of ks (unsearched x)) _ _ _ _ _ _ (windows_killed n ks x.windows.windows) (places_killed n ks x.windows.places) refl
-session_searching_killed n ks x (Some s) = go (same_name n s.marks.name) refl
+session_searching_killed n ks x (Some s) = go (same_name n s.name) refl
   where
     left : Bool → model.Own
     left r = own_of (record x.own { search = cond r None (Some s); prompt = cond r None x.own.prompt })
@@ -113,12 +113,13 @@ session_searching_killed n ks x (Some s) = go (same_name n s.marks.name) refl
     ps : List model.Place
     ps = filter (λ (p : model.Place). not (same_name n p.name)) (map (place_of ks) x.windows.places)
 
-    go : (r : Bool) → same_name n s.marks.name ≡ r
-        → Path model.Session (record (session_of ks x) { windows = map (window_of (without_marked n ks)) (map (window_bereft n) x.windows.windows); places = map (place_of (without_marked n ks)) (places_bereft n x.windows.places); search = search_in (without_marked n ks) (marks_in (cond r None (Some s))); own = left r })
-        (record (session_of ks x) { windows = ws; places = ps; search = cond r None (Some (search_of ks s.marks)); own = bereft_own r before })
+    go : (r : Bool) → same_name n s.name ≡ r
+        → Path model.Session (record (session_of ks x) { windows = map (window_of (without_marked n ks)) (map (window_bereft n) x.windows.windows); places = map (place_of (without_marked n ks)) (places_bereft n x.windows.places); search = search_of (buffers_of (without_marked n ks)) (cond r None (Some s)); own = left r })
+        (record (session_of ks x) { windows = ws; places = ps; search = cond r None (Some (search_at (buffers_of ks) s)); own = bereft_own r before })
     go true e = same_positions (record (session_of ks x) { own = left true }) _ _ _ _ _ _ (windows_killed n ks x.windows.windows) (places_killed n ks x.windows.places) refl
     go false e =
-        same_positions (record (session_of ks x) { own = left false }) _ _ _ _ _ _ (windows_killed n ks x.windows.windows) (places_killed n ks x.windows.places) (ap (λ (q : model.Search). Some q) (search_elsewhere n ks s.marks e))
+        same_positions (record (session_of ks x) { own = left false }) _ _ _ _ _ _ (windows_killed n ks x.windows.windows) (places_killed n ks x.windows.places)
+        (ap (λ (bs : List Buffer). search_of bs (Some s)) (buffers_killed n ks) ∙ ap (λ (q : model.Search). Some q) (search_elsewhere n (buffers_of ks) s e))
 
 session_killed : (n : List ℕ) (ks : List MarkedBuffer) (x : Session) → session_of (without_marked n ks) (session_forgetting n x) ≡ session_bereft n (session_of ks x)
 session_killed n ks x = session_searching_killed n ks x x.own.search
@@ -184,22 +185,6 @@ shown_same n m i (Some x) apart = go (same_name n x.name) refl
     go true e = sym (elsewhere m i x (other_name n m x.name apart e))
     go false e = refl
 
-search_none : (n : List ℕ) (i : ℕ) (o : Option Search) → window_marks_uses n i (marks_in (cond (is_search_in n o) None o)) ≡ 0
-search_none n i None = refl
-search_none n i (Some s) = go (same_name n s.marks.name) refl
-  where
-    go : (r : Bool) → same_name n s.marks.name ≡ r → window_marks_uses n i (marks_in (cond r None (Some s))) ≡ 0
-    go true e = refl
-    go false e = elsewhere n i s.marks e
-
-search_same : (n m : List ℕ) (i : ℕ) (o : Option Search) → same_name n m ≡ false → window_marks_uses m i (marks_in (cond (is_search_in n o) None o)) ≡ window_marks_uses m i (marks_in o)
-search_same n m i None apart = refl
-search_same n m i (Some s) apart = go (same_name n s.marks.name) refl
-  where
-    go : (r : Bool) → same_name n s.marks.name ≡ r → window_marks_uses m i (marks_in (cond r None (Some s))) ≡ window_marks_uses m i (Some s.marks)
-    go true e = sym (elsewhere m i s.marks (other_name n m s.marks.name apart e))
-    go false e = refl
-
 not_true : (b : Bool) → not b ≡ true → b ≡ false
 not_true true e = cc
 not_true false e = refl
@@ -214,7 +199,6 @@ session_none n i x =
       arith,
       sum_none (window_uses n i) (window_bereft n) (λ w. shown_none n i w.shows) x.windows.windows,
       sum_filtered_none (place_uses n i) (λ p. not (is_place_in n p)) (λ p e. elsewhere n i p (not_true _ e)) x.windows.places,
-      search_none n i x.own.search,
     )
 
 session_same : (n m : List ℕ) (i : ℕ) (x : Session) → same_name n m ≡ false → session_uses m i (session_forgetting n x) ≡ session_uses m i x
@@ -223,7 +207,6 @@ session_same n m i x apart =
       arith,
       sum_same (window_uses m i) (window_bereft n) (λ w. shown_same n m i w.shows apart) x.windows.windows,
       sum_filtered_same (place_uses m i) (λ p. not (is_place_in n p)) (λ p e. elsewhere m i p (other_name n m p.name apart (not_false _ e))) x.windows.places,
-      search_same n m i x.own.search apart,
     )
 
 none_left : (n : List ℕ) (i : ℕ) (o : Option MarkedBuffer) → is_some o ≡ false → one_if (is_some (mark_in (marked_or_none o).marks i)) ≡ 0

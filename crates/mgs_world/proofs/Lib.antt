@@ -5,6 +5,7 @@ pub mod Worlds
 pub mod Sessions
 pub mod Soundness
 pub mod Found
+pub mod Edits
 pub mod WindowMarks
 pub mod Settles
 pub mod Dropping

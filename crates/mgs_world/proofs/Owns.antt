@@ -17,7 +17,7 @@ use Rattle.mgs_session.specs.declared.search.Search as held_search
 use Rattle.mgs_session.specs.declared.Session.{Session}
 use Rattle.mgs_session.specs.Sessions.{asking, failed, prompting, resting}
 use Rattle.mgs_buffers.specs.MarkedBuffer.{MarkedBuffer}
-use Rattle.mgs_world.specs.Worlds.{idle, marks_in, mode_in, own_of, search_in, session_of}
+use Rattle.mgs_world.specs.Worlds.{buffers_of, idle, mode_in, own_of, search_of, session_of}
 
 -- what two functions of a record at rest make of it is the same where it computes to the same
 pub at_rest : {A : Type 0} (f g : Own → A) → ((own : Own) → f (idle own) ≡ g (idle own)) → (own : Own) → own ≡ idle own → f own ≡ g own
@@ -35,7 +35,7 @@ search_at_rest o fresh = by o.search (ap (λ (own : Own). own.mode) fresh)
     by (Some s) e = cc
 
 pub no_search_at_rest : (ks : List MarkedBuffer) (x : Session) → own_of x.own ≡ idle (own_of x.own) → (session_of ks x).search ≡ None
-no_search_at_rest ks x fresh = ap (λ (s : Option held_search.Search). search_in ks (marks_in s)) (search_at_rest x.own fresh)
+no_search_at_rest ks x fresh = ap (λ (s : Option held_search.Search). search_of (buffers_of ks) s) (search_at_rest x.own fresh)
 
 -- which an act that keeps the mode leaves so
 pub search_kept : (ks : List MarkedBuffer) (x : Session) → own_of x.own ≡ idle (own_of x.own) → (session_of ks x).search ≡ cond (searches (own_of x.own).mode) (session_of ks x).search None
@@ -43,19 +43,15 @@ search_kept ks x fresh = no_search_at_rest ks x fresh ∙ sym (none_at_rest (ses
 
 -- CALLS
 
+pub own_failed : (message : Message) (x : Session) → own_of (failed message x).own ≡ failed_own message (own_of x.own)
+own_failed message x = refl
+
+pub own_resting : (x : Session) → own_of (resting x).own ≡ idle (own_of x.own)
+own_resting x = refl
+
 -- a session that has this search, or none
 abbrev with_search : Session → Option held_search.Search → Session
 with_search x s = record x { own = record x.own { search = s } }
-
-pub own_failed : (message : Message) (x : Session) → x.own.search ≡ None → own_of (failed message x).own ≡ failed_own message (own_of x.own)
-own_failed message x none =
-    ap (λ (s : Option held_search.Search). own_of (failed message (with_search x s)).own) none
-    ∙ sym (ap (λ (s : Option held_search.Search). failed_own message (own_of (with_search x s).own)) none)
-
-pub own_resting : (x : Session) → x.own.search ≡ None → own_of (resting x).own ≡ idle (own_of x.own)
-own_resting x none =
-    ap (λ (s : Option held_search.Search). own_of (resting (with_search x s)).own) none
-    ∙ sym (ap (λ (s : Option held_search.Search). idle (own_of (with_search x s).own)) none)
 
 pub own_asking : (c : Question) (n : Option ℕ) (x : Session) → x.own.search ≡ None → own_of (asking c n x).own ≡ asks c n (own_of x.own)
 own_asking c n x none =

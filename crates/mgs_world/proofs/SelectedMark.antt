@@ -5,7 +5,7 @@ use Rattle.std.specs.List.{position_or_len}
 use Rattle.std.specs.Option.{option_and_then, option_map}
 use Rattle.std.proofs.lemmas.Option.{slice_get-get_or}
 use Rattle.mgs_model.specs.World as model
-use Rattle.mgs_model.specs.World.{Buffer_of}
+use Rattle.mgs_model.specs.World.{Buffer, Buffer_of}
 use Rattle.mgs_model.specs.Names.{same_name}
 use Rattle.mgs_model.specs.Text.{shift}
 use Rattle.mgs_model.specs.Outcome.{At, Keep, Keep_mark, Mark_at}
@@ -23,12 +23,12 @@ use Rattle.mgs_session.specs.declared.Session.{Session}
 use Rattle.mgs_world.specs.Marking.{IsGivenUp, IsReserved, mark_at_place, session_marked}
 use Rattle.mgs_world.specs.Sound.{IsSound, in_use, one_if, sum_of, place_uses, session_uses, uses, window_marks_uses, window_uses}
 use Rattle.mgs_world.specs.WindowMarks.{MarksStay, WindowMarksDropped}
-use Rattle.mgs_world.specs.Worlds.{buffers_of, place_of, session_of, window_of, window_shown}
+use Rattle.mgs_world.specs.Worlds.{buffers_of, place_of, search_of, session_of, window_of, window_shown}
 use Rattle.mgs_world.proofs.Marks.{apart_from, is_same, mark_placed, mark_unused}
 use Rattle.mgs_world.proofs.Soundness.{in_use_mark, in_use_more, mark_edited_used, mark_used, sound_edited, sound_in_use, sound_placed}
 use Rattle.mgs_world.proofs.Uses.{map_unused, map_used_at, sum_at}
-use Rattle.mgs_world.proofs.WindowMarks.{added_mark, buffers_marked, in_use_added, sessions_stay, stays_added, undone, with_mark_uses}
-use Rattle.mgs_world.proofs.Worlds.{one_use, place_unused, point_to, same_positions, same_window, selected_at, selected_window, session_unused, sessions_edited, window_unused}
+use Rattle.mgs_world.proofs.WindowMarks.{added_mark, buffers_marked, in_use_added, same_sizes, sessions_stay, stays_added, undone, with_mark_uses}
+use Rattle.mgs_world.proofs.Worlds.{buffers_placed, one_use, place_unused, point_to, same_positions, same_window, selected_at, selected_window, session_unused, window_unused}
 
 -- LISTS
 
@@ -116,7 +116,7 @@ marks_there xs at h x there shown = ap (option_and_then window_marks_of) (sym th
 pub reserved_sessions : (x : WindowMarks) (id : ℕ) (ks ls : List MarkedBuffer) (xs : List Session) → IsSound ks xs → HasBuffer x.name ks → IsReserved x.name x.mark id ks ls → map (session_of ls) xs ≡ map (session_of ks) xs
 reserved_sessions x id ks ls xs sound kept h =
     let before = sound_in_use ks xs sound in
-    sessions_stay ks ls xs before (in_use_more ks ls xs (reserved_more x.mark x id ks ls refl kept h) before) (reserved_stay x.name x.mark id ks ls kept h)
+    sessions_stay ks ls xs before (in_use_more ks ls xs (reserved_more x.mark x id ks ls refl kept h) before) (same_sizes ks ls (reserved_buffers x.name x.mark id ks ls h)) (reserved_stay x.name x.mark id ks ls kept h)
 
 -- GIVEN UP AGAIN
 
@@ -135,7 +135,7 @@ given_up_sound ks ms xs h sound = record { once = λ m i. omega (arith, sound.on
 
 pub given_up_sessions : (ks ms : List MarkedBuffer) (xs : List Session) → WindowMarksDropped None ks ms → IsSound ks xs → map (session_of ms) xs ≡ map (session_of ks) xs
 given_up_sessions ks ms xs h sound =
-    sessions_stay ks ms xs (sound_in_use ks xs sound) (sound_in_use ms xs (given_up_sound ks ms xs h sound)) h.stay
+    sessions_stay ks ms xs (sound_in_use ks xs sound) (sound_in_use ms xs (given_up_sound ks ms xs h sound)) (same_sizes ks ms h.buffers) h.stay
 
 -- A WINDOW HAS IT
 
@@ -195,9 +195,10 @@ session_mark_placed p id ks y x sel mark once =
     let u = mark_once id x in
     let does : window_of ls w ≡ f (window_of ks w) =
     ap (λ (o : Option WindowMarks). window_shown ls w.height o w.rows) got.2 ∙ shown_marked p id ks w.height x mark (omega (arith, used_is, in_sum, once)) ∙ sym (ap (λ (o : Option WindowMarks). f (window_shown ks w.height o w.rows)) got.2) in
-    same_positions (session_of ks y) _ _ _ _
+    same_positions (session_of ks y) _ _ _ _ _ _
     (map_used_at (window_uses n id) (window_of ls) (window_of ks) f (window_unused n id p ks) w (omega (arith, used_is, u)) does y.windows.windows y.windows.selected got.1 (omega (arith, once)))
     (map_unused (place_uses n id) (place_of ls) (place_of ks) (place_unused n id p ks) y.windows.places (omega (arith, used_is, u, in_sum, once)))
+    (ap (λ (bs : List Buffer). search_of bs y.own.search) (buffers_placed n id p ks))
 
 -- what the mark was does not matter
 windows_marked : (p id k : ℕ) (ks : List MarkedBuffer) (ws : List Window) → change_at k (window_adjusted None Keep (Mark_at p) Keep None) (map (window_of ks) (change_at k (marked id) ws)) ≡ change_at k (window_adjusted None Keep (Mark_at p) Keep None) (map (window_of ks) ws)
@@ -230,24 +231,6 @@ sessions_marked p id ls xs at h x there sel mark sound =
     let all : uses n id ys ≡ in_use n id ls = sound.once n id in
     map_used_at (session_uses n id) (session_of (change_first (marked_named n) (marked_placed id p) ls)) (session_of ls) (mark_at_place p) (session_unused n id p ls) y (omega (arith, used_is, in_windows, u)) (session_mark_placed p id ls y x sel_y mark (omega (arith, in_all, all, one))) ys at there_y (omega (arith, all, one))
     ∙ change_put (session_of ls) (mark_at_place p) xs at h y there (session_marked_same p id ls h)
-
--- AN EDIT BETWEEN: the positions moved with it, and then the mark went to p
-pub edited_marked_sound : (p id a b : ℕ) (put : List ℕ) (ks ls : List MarkedBuffer) (xs : List Session) (at : ℕ) (h : Session) (x : WindowMarks) → IsSound ks xs → HasBuffer x.name ks → slice_get xs at ≡ Some h → window_marks_of h ≡ Some x → IsReserved x.name x.mark id ks ls → IsSound (change_first (marked_named x.name) (marked_placed id p) (change_first (marked_named x.name) (marked_edited a b put) ls)) (slice_set xs at (session_marked id h))
-edited_marked_sound p id a b put ks ls xs at h x sound kept there sel r =
-    let ys = slice_set xs at (session_marked id h) in
-    let ms = change_first (marked_named x.name) (marked_edited a b put) ls in
-    let mark = reserved_mark x.mark id ks ls xs at h x refl sound kept there sel r in
-    sound_placed x.name id p ms ys (mark_edited_used x.name x.name a b put ls id mark)
-    (sound_edited x.name a b put ls ys (reserved_sound x id ks ls xs at h sound kept there sel r))
-
-pub edited_marked_sessions : (p id a b : ℕ) (put : List ℕ) (ks ls : List MarkedBuffer) (xs : List Session) (at : ℕ) (h : Session) (x : WindowMarks) → IsSound ks xs → HasBuffer x.name ks → slice_get xs at ≡ Some h → window_marks_of h ≡ Some x → IsReserved x.name x.mark id ks ls → map (session_of (change_first (marked_named x.name) (marked_placed id p) (change_first (marked_named x.name) (marked_edited a b put) ls))) (slice_set xs at (session_marked id h)) ≡ change_at at (mark_at_place p) (map (session_moved x.name (shift a b (length put))) (map (session_of ks) xs))
-edited_marked_sessions p id a b put ks ls xs at h x sound kept there sel r =
-    let ys = slice_set xs at (session_marked id h) in
-    let ms = change_first (marked_named x.name) (marked_edited a b put) ls in
-    let mark = reserved_mark x.mark id ks ls xs at h x refl sound kept there sel r in
-    sessions_marked p id ms xs at h x there sel (mark_edited_used x.name x.name a b put ls id mark)
-    (sound_edited x.name a b put ls ys (reserved_sound x id ks ls xs at h sound kept there sel r))
-    ∙ ap (change_at at (mark_at_place p)) (sessions_edited x.name a b put ls xs ∙ ap (map (session_moved x.name (shift a b (length put)))) (reserved_sessions x id ks ls xs sound kept r))
 
 -- THE POINT TOO: the mark and then the point are one change of the window
 pub point_and_mark : (q p : ℕ) (s : model.Session) → selected_at (point_to q) (mark_at_place p s) ≡ record s { windows = change_at s.selected (window_adjusted None (At q) (Mark_at p) Keep None) s.windows }

@@ -18,4 +18,4 @@ pub sound_unmodified : (n : List ℕ) (ks : List MarkedBuffer) (xs : List Sessio
 sound_unmodified n ks xs sound = sound_by buffer_unmodified (λ b. refl) n ks xs sound
 
 pub sessions_unmodified : (n : List ℕ) (ks : List MarkedBuffer) (xs : List Session) → map (session_of (change_first (marked_named n) marked_unmodified ks)) xs ≡ map (session_of ks) xs
-sessions_unmodified n ks xs = sessions_by buffer_unmodified (λ b. refl) n ks xs
+sessions_unmodified n ks xs = sessions_by buffer_unmodified (λ b. refl) (λ b. refl) n ks xs

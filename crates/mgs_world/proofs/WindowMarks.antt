@@ -15,13 +15,13 @@ use Rattle.mgs_windows.specs.declared.Window.{Window}
 use Rattle.mgs_windows.specs.declared.RowPane.{RowPane}
 use Rattle.mgs_windows.specs.declared.RowPane.TheVariants.{NoRows}
 use Rattle.mgs_session.specs.declared.Session.{Session}
-use Rattle.mgs_world.specs.Worlds.{buffers_of, place_of, session_of, window_of, window_shown}
+use Rattle.mgs_world.specs.Worlds.{buffers_of, place_of, session_in, session_of, size_named, window_of, window_shown}
 use Rattle.mgs_world.specs.Sound.{in_use, one_if, option_uses, sum_of, place_uses, session_uses, window_marks_uses, window_uses}
-use Rattle.mgs_world.specs.WindowMarks.{MarksStay, WindowMarksAdded, WindowMarksDropped}
+use Rattle.mgs_world.specs.WindowMarks.{SizesStay, MarksStay, WindowMarksAdded, WindowMarksDropped}
 use Rattle.mgs_world.proofs.Found.{found_buffer}
 use Rattle.mgs_world.proofs.Frames.{map_local}
 use Rattle.mgs_world.proofs.Marks.{is_same, same_is, false_from, found_same, found_other}
-use Rattle.mgs_world.proofs.Worlds.{map-change_first_same, same_place, same_positions, same_window}
+use Rattle.mgs_world.proofs.Worlds.{map-change_first_same, same_place, same_positions, same_window, search_same}
 use Rattle.mgs_world.proofs.Soundness.{AreInUse, some_from, one_if_is, point_used, top_used, mark_used}
 
 -- a mark of this buffer and this number
@@ -331,13 +331,29 @@ place_local ks ls x same =
     let w = shown_local ks ls 0 (Some x) NoRows same in
     same_place x.name _ _ _ _ (ap (λ (y : model.Window). y.point) w) (ap (λ (y : model.Window). y.mark) w)
 
-pub session_local : (ks ls : List MarkedBuffer) (x : Session) → ((n : List ℕ) (i : ℕ) → 1 ≤ session_uses n i x → mark_at n ks i ≡ mark_at n ls i) → session_of ks x ≡ session_of ls x
-session_local ks ls x same =
-    same_positions (session_of ks x) _ _ _ _
+-- its search is in texts of the same lengths
+pub session_in_local : (bs : List Buffer) (ks ls : List MarkedBuffer) (x : Session) → ((n : List ℕ) (i : ℕ) → 1 ≤ session_uses n i x → mark_at n ks i ≡ mark_at n ls i) → session_in bs ks x ≡ session_in bs ls x
+session_in_local bs ks ls x same =
+    same_positions (session_in bs ks x) _ _ _ _ _ _
     (map_local (λ s n i. mark_at n s i) window_uses window_of window_local ks ls x.windows.windows (λ n i u. same n i (omega (arith, u))))
     (map_local (λ s n i. mark_at n s i) place_uses place_of place_local ks ls x.windows.places (λ n i u. same n i (omega (arith, u))))
+    refl
+
+pub session_sized : (bs cs : List Buffer) (ks : List MarkedBuffer) (x : Session) → SizesStay bs cs → session_in cs ks x ≡ session_in bs ks x
+session_sized bs cs ks x sizes = λ i. record (session_in bs ks x) { search = search_same cs bs x.own.search sizes i }
+
+pub same_sizes : (ks ls : List MarkedBuffer) → buffers_of ls ≡ buffers_of ks → SizesStay (buffers_of ks) (buffers_of ls)
+same_sizes ks ls same = λ n. ap (size_named n) same
+
+pub session_local : (ks ls : List MarkedBuffer) (x : Session) → SizesStay (buffers_of ls) (buffers_of ks) → ((n : List ℕ) (i : ℕ) → 1 ≤ session_uses n i x → mark_at n ks i ≡ mark_at n ls i) → session_of ks x ≡ session_of ls x
+session_local ks ls x sizes same = session_sized (buffers_of ls) (buffers_of ks) ks x sizes ∙ session_in_local (buffers_of ls) ks ls x same
 
 -- sessions whose marks are in use before and after
-pub sessions_stay : (ks ls : List MarkedBuffer) (xs : List Session) → AreInUse ks xs → AreInUse ls xs → MarksStay ks ls → map (session_of ls) xs ≡ map (session_of ks) xs
-sessions_stay ks ls xs before after stay =
-    map_local (λ s n i. mark_at n s i) session_uses session_of session_local ls ks xs (λ n i used. stay n i (omega (arith, used, before.once n i)) (omega (arith, used, after.once n i)))
+pub sessions_stay : (ks ls : List MarkedBuffer) (xs : List Session) → AreInUse ks xs → AreInUse ls xs → SizesStay (buffers_of ks) (buffers_of ls) → MarksStay ks ls → map (session_of ls) xs ≡ map (session_of ks) xs
+sessions_stay ks ls xs before after sizes stay =
+    all_sized xs
+    ∙ map_local (λ s n i. mark_at n s i) session_uses (session_in (buffers_of ks)) (session_in_local (buffers_of ks)) ls ks xs (λ n i used. stay n i (omega (arith, used, before.once n i)) (omega (arith, used, after.once n i)))
+  where
+    all_sized : (ys : List Session) → map (session_of ls) ys ≡ map (session_in (buffers_of ks) ls) ys
+    all_sized [] = refl
+    all_sized (y ∷ ys) = λ i. session_sized (buffers_of ks) (buffers_of ls) ls y sizes i ∷ all_sized ys i

@@ -1,5 +1,5 @@
 -- How the world changes when what is kept does.
-use Rattle.std.proofs.Common.{◌≡◌, ℕ, ◌+◌, ◌≤◌, Bool, true, false, cond, List, [], ◌∷◌, length, map, Option, Some, None, refl, sym, ap, ◌∙◌, arith, eq-eqb}
+use Rattle.std.proofs.Common.{◌≡◌, ℕ, ◌+◌, ◌-◌, ◌≤◌, min, Bool, true, false, cond, List, [], ◌∷◌, length, map, Option, Some, None, refl, sym, ap, ◌∙◌, arith, eq-eqb}
 use Rattle.std.specs.Prelude.{find, slice_get, IsSome, nat_eq}
 use Rattle.std.specs.Option.{option_map, option_and_then}
 use Rattle.mgs_model.specs.Access.{Directory}
@@ -16,9 +16,13 @@ use Rattle.mgs_windows.specs.declared.WindowMarks.{WindowMarks}
 use Rattle.mgs_windows.specs.declared.Window.{Window}
 use Rattle.mgs_windows.specs.declared.RowPane.{RowPane}
 use Rattle.mgs_windows.specs.declared.RowPane.TheVariants.{NoRows, Buffers, Entries}
+use Rattle.mgs_session.specs.declared.search.Search.{Search}
+use Rattle.mgs_session.specs.declared.search.Edited.{Edited}
 use Rattle.mgs_session.specs.declared.Session.{Session}
+use Rattle.mgs_session.specs.Seeking as seeking
+use Rattle.mgs_session.specs.Seeking.{moved, search_edited}
 use Rattle.mgs_session.specs.Sessions.{window_marks_of}
-use Rattle.mgs_world.specs.Worlds.{window_shown, window_of, place_of, session_of, buffers_of, session_id}
+use Rattle.mgs_world.specs.Worlds.{window_shown, window_of, place_of, search_of, size_named, session_of, buffers_of, session_id}
 use Rattle.mgs_world.specs.Sound.{one_if, option_uses, window_marks_uses, window_uses, place_uses, session_uses, uses}
 use Rattle.mgs_world.proofs.Uses.{map_unused, map_used_at, map_used_first, sum_at, sum_found}
 use Rattle.mgs_world.proofs.Marks.{is_same, mark_edited, mark_kept, mark_unused, marks_unused, mark_placed, apart_from}
@@ -33,7 +37,7 @@ option_mapped_twice : {A B C : Type 0} (f : A → C) (g : B → C) (h : A → B)
 option_mapped_twice f g h same None = refl
 option_mapped_twice f g h same (Some a) = ap (λ b. Some b) (same a)
 
-mapped_twice : {A B C : Type 0} (f : A → C) (g : B → C) (h : A → B) → ((a : A) → f a ≡ g (h a)) → (xs : List A) → map f xs ≡ map g (map h xs)
+pub mapped_twice : {A B C : Type 0} (f : A → C) (g : B → C) (h : A → B) → ((a : A) → f a ≡ g (h a)) → (xs : List A) → map f xs ≡ map g (map h xs)
 mapped_twice f g h same [] = refl
 mapped_twice f g h same (x ∷ xs) = ap (λ y. y ∷ map f xs) (same x) ∙ ap (λ ys. g (h x) ∷ ys) (mapped_twice f g h same xs)
 
@@ -46,10 +50,17 @@ same_window s p p' m m' t t' r h ep em et =
 pub same_windows : (x : model.Session) (ws ws' : List model.Window) → ws ≡ ws' → Path model.Session (record x { windows = ws }) (record x { windows = ws' })
 same_windows x ws ws' e = ap (λ (q : List model.Window). let s : model.Session = record x { windows = q } in s) e
 
-pub same_positions : (x : model.Session) (ws ws' : List model.Window) (ps ps' : List model.Place) → ws ≡ ws' → ps ≡ ps' → Path model.Session (record x { windows = ws; places = ps }) (record x { windows = ws'; places = ps' })
-same_positions x ws ws' ps ps' e f =
-    ap (λ (q : List model.Window). let s : model.Session = record x { windows = q; places = ps } in s) e
-    ∙ ap (λ (q : List model.Place). let s : model.Session = record x { windows = ws'; places = q } in s) f
+pub same_positions : (x : model.Session) (ws ws' : List model.Window) (ps ps' : List model.Place) (ss ss' : Option model.Search) → ws ≡ ws' → ps ≡ ps' → ss ≡ ss' → Path model.Session (record x { windows = ws; places = ps; search = ss }) (record x { windows = ws'; places = ps'; search = ss' })
+same_positions x ws ws' ps ps' ss ss' e f g =
+    ap (λ (q : List model.Window). let s : model.Session = record x { windows = q; places = ps; search = ss } in s) e
+    ∙ ap (λ (q : List model.Place). let s : model.Session = record x { windows = ws'; places = q; search = ss } in s) f
+    ∙ ap (λ (q : Option model.Search). let s : model.Session = record x { windows = ws'; places = ps'; search = q } in s) g
+
+-- positions of a search in texts of the same lengths
+pub search_same : (bs cs : List Buffer) (o : Option Search) → ((n : List ℕ) → size_named n bs ≡ size_named n cs) → search_of bs o ≡ search_of cs o
+search_same bs cs None same = refl
+search_same bs cs (Some s) same =
+    ap (λ (size : ℕ). let r : model.Search = record { name = s.name; origin = min s.origin size; anchor = min s.anchor size } in Some r) (same s.name)
 
 pub same_place : (n : List ℕ) (p p' : ℕ) (m m' : Option ℕ) → p ≡ p' → m ≡ m' → Path model.Place (record { name = n; point = p; mark = m }) (record { name = n; point = p'; mark = m' })
 same_place n p p' m m' ep em =
@@ -61,10 +72,23 @@ same_world directory bs bs' ss ss' next eb es =
     ap (λ (q : List Buffer). let w : World = record { directory = directory; buffers = q; sessions = ss; next_id = next } in w) eb
     ∙ ap (λ (q : List model.Session). let w : World = record { directory = directory; buffers = bs'; sessions = q; next_id = next } in w) es
 
+-- WHAT IS KEPT OF BUFFERS when their marks alone change
+
+pub map-change_first_same : {A B : Type 0} (g : A → B) (p : A → Bool) (f : A → A) → ((x : A) → g (f x) ≡ g x) → (xs : List A) → map g (change_first p f xs) ≡ map g xs
+map-change_first_same g p f same [] = refl
+map-change_first_same {A = A} {B = B} g p f same (x ∷ xs) =
+    elim (p x) as (λ b. map g (cond b (f x ∷ xs) (x ∷ change_first p f xs)) ≡ g x ∷ map g xs) [
+      | true ↦ ap (λ y. y ∷ map g xs) (same x)
+      | false ↦ ap (λ ys. g x ∷ ys) (map-change_first_same g p f same xs)
+    ]
+
+pub buffers_placed : (n : List ℕ) (id p : ℕ) (ks : List MarkedBuffer) → buffers_of (change_first (marked_named n) (marked_placed id p) ks) ≡ buffers_of ks
+buffers_placed n id p ks = map-change_first_same (λ (k : MarkedBuffer). k.buffer) (marked_named n) (marked_placed id p) (λ k. refl) ks
+
 -- AN EDIT
 
 -- an edit of what is kept moves the positions of a window
-window_edited : (n : List ℕ) (a b : ℕ) (put : List ℕ) (ks : List MarkedBuffer) (height : ℕ) (o : Option WindowMarks) (rows : RowPane) → window_shown (change_first (marked_named n) (marked_edited a b put) ks) height o rows ≡ window_moved n (shift a b (length put)) (window_shown ks height o rows)
+pub window_edited : (n : List ℕ) (a b : ℕ) (put : List ℕ) (ks : List MarkedBuffer) (height : ℕ) (o : Option WindowMarks) (rows : RowPane) → window_shown (change_first (marked_named n) (marked_edited a b put) ks) height o rows ≡ window_moved n (shift a b (length put)) (window_shown ks height o rows)
 window_edited n a b put ks height None NoRows = refl
 window_edited n a b put ks height None (Buffers row) = refl
 window_edited n a b put ks height None (Entries name row) = refl
@@ -83,7 +107,7 @@ window_edited n a b put ks height (Some x) rows =
     ]
     in go (same_name n x.name) refl
 
-place_edited : (n : List ℕ) (a b : ℕ) (put : List ℕ) (ks : List MarkedBuffer) (x : WindowMarks) → place_of (change_first (marked_named n) (marked_edited a b put) ks) x ≡ place_moved n (shift a b (length put)) (place_of ks x)
+pub place_edited : (n : List ℕ) (a b : ℕ) (put : List ℕ) (ks : List MarkedBuffer) (x : WindowMarks) → place_of (change_first (marked_named n) (marked_edited a b put) ks) x ≡ place_moved n (shift a b (length put)) (place_of ks x)
 place_edited n a b put ks x =
     let ks' = change_first (marked_named n) (marked_edited a b put) ks in
     let move = shift a b (length put) in
@@ -98,21 +122,9 @@ place_edited n a b put ks x =
     ]
     in go (same_name n x.name) refl
 
-session_edited : (n : List ℕ) (a b : ℕ) (put : List ℕ) (ks : List MarkedBuffer) (x : Session) → session_of (change_first (marked_named n) (marked_edited a b put) ks) x ≡ session_moved n (shift a b (length put)) (session_of ks x)
-session_edited n a b put ks x =
-    let ks' = change_first (marked_named n) (marked_edited a b put) ks in
-    let move = shift a b (length put) in
-    same_positions (session_of ks x) _ _ _ _
-    (mapped_twice (window_of ks') (window_moved n move) (window_of ks) (λ (w : Window). window_edited n a b put ks w.height w.shows w.rows) x.windows.windows)
-    (mapped_twice (place_of ks') (place_moved n move) (place_of ks) (place_edited n a b put ks) x.windows.places)
-
 pub buffers_edited : (n : List ℕ) (a b : ℕ) (put : List ℕ) (ks : List MarkedBuffer) → buffers_of (change_first (marked_named n) (marked_edited a b put) ks) ≡ change_first (is_named n) (buffer_edited a b put) (buffers_of ks)
 buffers_edited n a b put ks =
     map-change_first (λ (k : MarkedBuffer). k.buffer) (marked_named n) (is_named n) (marked_edited a b put) (buffer_edited a b put) (λ k. refl) (λ k e. refl) ks
-
-pub sessions_edited : (n : List ℕ) (a b : ℕ) (put : List ℕ) (ks : List MarkedBuffer) (xs : List Session) → map (session_of (change_first (marked_named n) (marked_edited a b put) ks)) xs ≡ map (session_moved n (shift a b (length put))) (map (session_of ks) xs)
-sessions_edited n a b put ks xs =
-    mapped_twice (session_of (change_first (marked_named n) (marked_edited a b put) ks)) (session_moved n (shift a b (length put))) (session_of ks) (session_edited n a b put ks) xs
 
 -- A MARK IS PLACED: windows that do not use it stay
 
@@ -140,9 +152,10 @@ place_unused n id p ks x h =
 pub session_unused : (n : List ℕ) (id p : ℕ) (ks : List MarkedBuffer) (x : Session) → session_uses n id x ≡ 0 → session_of (change_first (marked_named n) (marked_placed id p) ks) x ≡ session_of ks x
 session_unused n id p ks x none =
     let ks' = change_first (marked_named n) (marked_placed id p) ks in
-    same_positions (session_of ks x) _ _ _ _
+    same_positions (session_of ks x) _ _ _ _ _ _
     (map_unused (window_uses n id) (window_of ks') (window_of ks) (window_unused n id p ks) x.windows.windows (omega (arith, none)))
     (map_unused (place_uses n id) (place_of ks') (place_of ks) (place_unused n id p ks) x.windows.places (omega (arith, none)))
+    (ap (λ (bs : List Buffer). search_of bs x.own.search) (buffers_placed n id p ks))
 
 -- A POINT IS PLACED: the selected window has it there
 
@@ -185,20 +198,10 @@ session_placed id p f ks h x sel u places once =
     let in_sum = sum_at (window_uses n id) w h.windows.windows h.windows.selected got.1 in
     let does : window_of ks' w ≡ f (window_of ks w) =
     ap (λ (o : Option WindowMarks). window_shown ks' w.height o w.rows) got.2 ∙ places (omega (arith, used_is, in_sum, once)) w.height ∙ sym (ap (λ (o : Option WindowMarks). f (window_shown ks w.height o w.rows)) got.2) in
-    same_positions (session_of ks h) _ _ _ _
+    same_positions (session_of ks h) _ _ _ _ _ _
     (map_used_at (window_uses n id) (window_of ks') (window_of ks) f (window_unused n id p ks) w (omega (arith, used_is, u)) does h.windows.windows h.windows.selected got.1 (omega (arith, once)))
     (map_unused (place_uses n id) (place_of ks') (place_of ks) (place_unused n id p ks) h.windows.places (omega (arith, used_is, u, in_sum, once)))
-
-pub map-change_first_same : {A B : Type 0} (g : A → B) (p : A → Bool) (f : A → A) → ((x : A) → g (f x) ≡ g x) → (xs : List A) → map g (change_first p f xs) ≡ map g xs
-map-change_first_same g p f same [] = refl
-map-change_first_same {A = A} {B = B} g p f same (x ∷ xs) =
-    elim (p x) as (λ b. map g (cond b (f x ∷ xs) (x ∷ change_first p f xs)) ≡ g x ∷ map g xs) [
-      | true ↦ ap (λ y. y ∷ map g xs) (same x)
-      | false ↦ ap (λ ys. g x ∷ ys) (map-change_first_same g p f same xs)
-    ]
-
-pub buffers_placed : (n : List ℕ) (id p : ℕ) (ks : List MarkedBuffer) → buffers_of (change_first (marked_named n) (marked_placed id p) ks) ≡ buffers_of ks
-buffers_placed n id p ks = map-change_first_same (λ (k : MarkedBuffer). k.buffer) (marked_named n) (marked_placed id p) (λ k. refl) ks
+    (ap (λ (bs : List Buffer). search_of bs h.own.search) (buffers_placed n id p ks))
 
 -- a mark of a session's selected window is placed, and nothing else of the world moves
 pub sessions_placed : (id p : ℕ) (f : model.Window → model.Window) (ks : List MarkedBuffer) (xs : List Session) (sid : ℕ) (h : Session) (x : WindowMarks) → find (session_id sid) xs ≡ Some h → window_marks_of h ≡ Some x → 1 ≤ window_marks_uses x.name id (Some x) → PlacesBy id p f ks x → uses x.name id xs ≤ 1 → map (session_of (change_first (marked_named x.name) (marked_placed id p) ks)) xs ≡ change_first (has_id sid) (selected_at f) (map (session_of ks) xs)

@@ -6,12 +6,16 @@ use Rattle.mgs_model.specs.World.{Buffer, may}
 use Rattle.mgs_model.specs.declared.right.Right.TheVariants.{ReadAttributes}
 use Rattle.mgs_buffers.specs.MarkedBuffer.{MarkedBuffer, mark_at}
 use Rattle.mgs_windows.specs.declared.WindowMarks.{WindowMarks}
-use Rattle.mgs_world.specs.Worlds.{buffers_of}
+use Rattle.mgs_world.specs.Worlds.{buffers_of, size_named}
 use Rattle.mgs_world.specs.Sound.{in_use, window_marks_uses}
 
 -- other marks stay where they are
 abbrev pub MarksStay : List MarkedBuffer → List MarkedBuffer → Type 0
 MarksStay old new = (m : List ℕ) (i : ℕ) → 1 ≤ in_use m i old → 1 ≤ in_use m i new → mark_at m new i ≡ mark_at m old i
+
+-- all texts are as long as they were
+abbrev pub SizesStay : List Buffer → List Buffer → Type 0
+SizesStay old new = (n : List ℕ) → size_named n new ≡ size_named n old
 
 -- a window's marks are added: point and top at these positions, and the mark, where there is one
 pub record WindowMarksAdded (name : List ℕ) (p : ℕ) (m : Option ℕ) (t : ℕ) (x : WindowMarks) (old new : List MarkedBuffer) : Type 0 where
