@@ -259,3 +259,24 @@ fn no_text_is_inserted_past_the_limit(rt: HostRuntime) -> Result<(), Fail> {
     assert!(rt; shows(&clients, ann, told, (1, 2)));
     Ok(())
 }
+
+// A byte past ASCII is none of a search's own. It ends the search, and no command has it.
+#[test]
+fn a_byte_past_ascii_ends_a_search(rt: HostRuntime) -> Result<(), Fail> {
+    let alloc = rt.alloc();
+    let mut engine = serve(alloc, &["ALLOW ann rt"], &['a', 'b', 'c', 'b'], &rt);
+    let mut clients = Clients {
+        all: Vec::new(alloc),
+    };
+    let ann = sit(alloc, &mut engine, &mut clients, "ann", &rt);
+    press(&mut engine, &mut clients, ann, b"\x13b", &rt);
+    let searching = "abcb | ----notes-L1-C2----- | I-search: b";
+    assert!(rt; shows(&clients, ann, searching, (1, 3)));
+    press(&mut engine, &mut clients, ann, b"\x80", &rt);
+    let ended = "abcb | ----notes-L1-C2----- | Key not bound";
+    assert!(rt; shows(&clients, ann, ended, (1, 3)));
+    press(&mut engine, &mut clients, ann, b"\x1Bs\r", &rt);
+    let again = "abcb | ----notes-L1-C4-----";
+    assert!(rt; shows(&clients, ann, again, (1, 5)));
+    Ok(())
+}

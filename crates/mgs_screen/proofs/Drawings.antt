@@ -10,7 +10,7 @@ use Rattle.std.proofs.lemmas.List.Folds.{list_any_at}
 use Rattle.mgs_model.specs.Rights.{all_rights}
 use Rattle.mgs_model.specs.Access.{Directory, Decider, decider, decision_by, allows, any_right}
 use Rattle.mgs_model.specs.Lines.{line_of, line_start, column}
-use Rattle.mgs_model.specs.Rows.{Row, rows_put, mode_row, buffer_mode, none_mode, blank_rows, unread_rows, text_rows, shift_at, shift_for, echo_row}
+use Rattle.mgs_model.specs.Rows.{Row, rows_put, mode_row, buffer_mode, unread_rows, text_rows, shift_at, shift_for, echo_row}
 use Rattle.mgs_model.specs.Picture.{Picture}
 use Rattle.mgs_model.specs.World.{Buffer, may}
 use Rattle.mgs_model.specs.View.{BufferSeen, Positions, buffer_seen, reads, reads_found, window_seen, positions_if, told_if, full_if}
@@ -32,7 +32,7 @@ use Rattle.mgs_screen.specs.Screens.{window_to, windows_to, heading_to, window_m
 use Rattle.mgs_model.specs.declared.entry.Decision.{Decision}
 use Rattle.mgs_world.specs.Sound.{IsWindowSound}
 use Rattle.mgs_world.proofs.Soundness.{mark_is_kept, window_point}
-use Rattle.mgs_grid.proofs.Pictures.{length-text_rows, length-blank_rows, length-unread_rows}
+use Rattle.mgs_grid.proofs.Pictures.{length-text_rows}
 use Rattle.mgs_world.proofs.Found.{found_buffer, found_seen, name_kept}
 
 -- ROWS BELOW ROWS

@@ -1,12 +1,12 @@
 -- What a window shows in place of a text, and how many rows a window has.
-use Rattle.std.proofs.Common.{◌≡◌, ℕ, ◌+◌, Bool, true, false, List, [], ◌∷◌, ◌++◌, length, map, Option, Some, None, refl, sym, ap, ◌∙◌, arith, length-append}
+use Rattle.std.proofs.Common.{◌≡◌, ℕ, ◌+◌, Bool, true, false, List, [], ◌∷◌, ◌++◌, length, map, Option, Some, None, refl, ap, ◌∙◌, arith, length-append}
 use Rattle.std.specs.Prelude.{codes}
 use Rattle.mgs_model.specs.Access.{Directory, decider, decision_by}
 use Rattle.mgs_model.specs.Rows.{Row, mode_row, buffer_mode, none_mode, blank_rows, unread_rows}
 use Rattle.mgs_model.specs.World.{may}
 use Rattle.mgs_model.specs.View.{BufferSeen, buffer_seen, find_seen, reads, window_seen}
-use Rattle.mgs_model.specs.Seen.{Pane, WindowPane, entries_pane, entries_seen, attributes_of, window_pane}
-use Rattle.mgs_model.specs.Draw.{pane_rows, pane_cursor, rows_from, listing_text, entries_shown, name_or_mask, window_rows, window_cursor}
+use Rattle.mgs_model.specs.Seen.{WindowPane, entries_pane, attributes_of, window_pane}
+use Rattle.mgs_model.specs.Draw.{pane_rows, pane_cursor, rows_from, name_or_mask, window_rows}
 use Rattle.mgs_model.specs.declared.right.Right.TheVariants.{ReadData}
 use Rattle.mgs_model.specs.declared.entry.Decision.{Decision}
 use Rattle.mgs_buffers.specs.MarkedBuffer.{MarkedBuffer, HasBuffer, has_buffer, marked_at}

@@ -4,11 +4,14 @@ use Rattle.mgs_model.specs.Access.{Directory}
 use Rattle.mgs_model.specs.World.{Own, may}
 use Rattle.mgs_model.specs.Lines.{column}
 use Rattle.mgs_model.specs.Picture.{Picture}
-use Rattle.mgs_model.specs.Prompts.{prompt_line}
-use Rattle.mgs_model.specs.Rows.{Row, rows_put, mode_row, echo_row, line_row, line_end_column, shift_for, buffer_mode}
+use Rattle.mgs_model.specs.Prompts.{line_in_mode, prompt_line, search_text}
+use Rattle.mgs_model.specs.Searching.{Sought}
+use Rattle.mgs_model.specs.declared.message.Message.{Message}
+use Rattle.mgs_model.specs.declared.session.Mode.{Mode}
+use Rattle.mgs_model.specs.Rows.{Row, rows_put, mode_row, echo_row, line_row, line_end_column, shift_for, buffer_mode, unless_told}
 use Rattle.mgs_model.specs.View.{buffer_seen, window_seen, reads}
 use Rattle.mgs_model.specs.Seen.{WindowPane, window_pane}
-use Rattle.mgs_model.specs.Draw.{read_rows, place_of, point_row, own_line, cursor_in_mode}
+use Rattle.mgs_model.specs.Draw.{read_rows, place_of, point_row, cursor_in_mode}
 use Rattle.mgs_model.specs.declared.right.Right.TheVariants.{ReadAttributes}
 use Rattle.mgs_mini.specs.Typing.{PromptInput}
 use Rattle.mgs_buffers.specs.MarkedBuffer.{MarkedBuffer, marked_at, mark_at}
@@ -56,10 +59,24 @@ prompt_drawn x row p = record p {
   col = line_end_column p.cols (prompt_line x.question x.input);
 }
 
--- the last row and the cursor of one who holds this, where the point is shown here
+-- the last row and the cursor of one in this mode, who has typed this and is told this, where the point is shown here
+abbrev pub row_in_mode : Mode → List ℕ → Message → ℕ → ℕ × ℕ → Picture → Picture
+row_in_mode mode input echo row point p =
+    let line = unless_told (line_in_mode mode input) echo in
+    record p {
+      lines = rows_put row (echo_row p.cols line echo ∷ []) p.lines;
+      row = (cursor_in_mode mode p.rows p.cols line point).0;
+      col = (cursor_in_mode mode p.rows p.cols line point).1;
+    }
+
+-- of one who holds this
 abbrev pub last_row_drawn : Own → ℕ → ℕ × ℕ → Picture → Picture
-last_row_drawn own row point p = record p {
-  lines = rows_put row (echo_row p.cols (own_line own) own.echo ∷ []) p.lines;
-  row = (cursor_in_mode own.mode p.rows p.cols (own_line own) point).0;
-  col = (cursor_in_mode own.mode p.rows p.cols (own_line own) point).1;
+last_row_drawn own row point p = row_in_mode own.mode own.input own.echo row point p
+
+-- the line of a search in a row, and the cursor at the point
+abbrev pub search_drawn : Sought → ℕ → ℕ × ℕ → Picture → Picture
+search_drawn s row point p = record p {
+  lines = rows_put row (line_row p.cols (search_text s.direction s.failing ++ s.pattern) ∷ []) p.lines;
+  row = point.0;
+  col = point.1;
 }

@@ -1,12 +1,13 @@
 // The screen of a session, drawn into a grid that is there.
-ghost use Rattle.std.specs.Prelude.{◌≡◌, ◌+◌, ◌-◌, ◌<◌, ◌≤◌, ℕ, true, List, Option, Some};
+ghost use Rattle.std.specs.Prelude.{◌≡◌, ◌+◌, ◌-◌, ◌<◌, ◌≤◌, ℕ, true, List, [], Option, None, Some};
 ghost use Rattle.mgs_model.specs.Draw.{screen, window_rows, window_cursor};
 ghost use Rattle.mgs_model.specs.Rows.{rows_put, shift_for, is_silent};
+ghost use Rattle.mgs_model.specs.declared.session.Mode.TheVariants.{Plain};
 ghost use Rattle.mgs_session.specs.declared.Session.{Session};
-ghost use Rattle.mgs_world.specs.Worlds.{world_of, session_of, own_of};
+ghost use Rattle.mgs_world.specs.Worlds.{input_in, mode_in, world_of, session_of, own_of};
 ghost use Rattle.mgs_buffers.specs.Judging.{AreJudged, rules_kept};
 ghost use Rattle.mgs_buffers.specs.MarkedBuffer.{HasBuffer, IsMark};
-ghost use Rattle.mgs_screen.specs.Screens.{screen_shift, window_to, heading_to, window_marks_rows, window_marks_cursor, prompt_drawn, last_row_drawn};
+ghost use Rattle.mgs_screen.specs.Screens.{screen_shift, window_to, heading_to, window_marks_rows, window_marks_cursor, prompt_drawn, last_row_drawn, row_in_mode, search_drawn};
 ghost use Rattle.mgs_world.specs.Sound.{IsSessionSound, IsWindowSound};
 
 use crate::listing::draw_rows;
@@ -18,6 +19,7 @@ use mgs_marks::Marked;
 use mgs_mini::Prompt;
 use mgs_model::{Message, Name, Right};
 use mgs_policy::Directory;
+use mgs_search::IncrementalSearch;
 use mgs_session::{Own, Session};
 use mgs_text::Text;
 use mgs_windows::{Window, WindowMarks};
@@ -163,20 +165,70 @@ fn draw_prompt(prompt: &Prompt, row: usize, grid: &mut Grid)
     grid.set_cursor(row, column);
 }
 
-/// Draws the last row: the line of the prompt where there is one and nothing is told, and else the echo text. Puts the
-/// cursor behind that line, and else at the point.
+/// Draws what is told, and puts the cursor at the point.
+fn draw_told(echo: &Message, row: usize, point: (usize, usize), grid: &mut Grid)
+    requires last { row < grid.old.rows }
+    requires row { point.0 < grid.old.rows }
+    requires col { point.1 < grid.old.cols }
+    ensures { grid.new ≡ row_in_mode Plain [] echo.now row point grid.old }
+{
+    grid.draw_echo(row, echo);
+    grid.set_cursor(point.0, point.1);
+}
+
+/// Draws the line of a search, and puts the cursor at the point.
+fn draw_search(sought: &IncrementalSearch, row: usize, point: (usize, usize), grid: &mut Grid)
+    requires last { row < grid.old.rows }
+    requires row { point.0 < grid.old.rows }
+    requires col { point.1 < grid.old.cols }
+    ensures { grid.new ≡ search_drawn sought.now row point grid.old }
+{
+    let _column = grid.draw_search(
+        row,
+        sought.direction(),
+        sought.is_failing(),
+        sought.pattern(),
+    );
+    grid.set_cursor(point.0, point.1);
+}
+
+/// Draws the last row where no search goes on: the line of the prompt where there is one and nothing is told, and else the
+/// echo text. Puts the cursor behind that line, and else at the point.
+fn draw_prompted(
+    prompt: &Option<Prompt>,
+    echo: &Message,
+    row: usize,
+    point: (usize, usize),
+    grid: &mut Grid,
+)
+    requires last { row + 1 ≡ grid.old.rows }
+    requires row { point.0 < grid.old.rows }
+    requires col { point.1 < grid.old.cols }
+    ensures { grid.new ≡ row_in_mode (mode_in None prompt.now) (input_in None prompt.now) echo.now row point grid.old }
+{
+    match prompt {
+        Some(prompt) if is_silent(echo) => draw_prompt(prompt, row, grid),
+        _ => draw_told(echo, row, point, grid),
+    }
+}
+
+/// Draws the last row: where nothing is told, the line of the search that goes on, or of the prompt where there is one, and
+/// else the echo text. Puts the cursor behind the line of a prompt, and else at the point.
 fn draw_last_row(own: &Own, row: usize, point: (usize, usize), grid: &mut Grid)
     requires last { row + 1 ≡ grid.old.rows }
     requires row { point.0 < grid.old.rows }
     requires col { point.1 < grid.old.cols }
     ensures { grid.new ≡ last_row_drawn (own_of own.now) row point grid.old }
 {
-    match &own.prompt {
-        Some(prompt) if is_silent(&own.echo) => draw_prompt(prompt, row, grid),
-        _ => {
-            grid.draw_echo(row, &own.echo);
-            grid.set_cursor(point.0, point.1);
+    match &own.search {
+        Some(search) => {
+            if is_silent(&own.echo) {
+                draw_search(&search.sought, row, point, grid);
+            } else {
+                draw_told(&own.echo, row, point, grid);
+            }
         }
+        None => draw_prompted(&own.prompt, &own.echo, row, point, grid),
     }
 }
 

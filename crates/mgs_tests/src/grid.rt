@@ -2,7 +2,7 @@
 ghost use Rattle.std.specs.Prelude.{◌≡◌, ◌≤◌, ◌<◌, ◌^◌, length};
 
 use mgs_grid::{Grid, Line, shift_for};
-use mgs_model::{Decision, Message, Name, Right};
+use mgs_model::{Decision, Direction, Message, Name, Right};
 use mgs_text::{PlainText, Text};
 use std::process::Abort;
 use std::test::Fail;
@@ -129,6 +129,25 @@ fn shows_echo(rt: HostRuntime) -> Result<(), Fail> {
         }),
     );
     shows(&rt, &grid, 5, "Denied: no entry gr$", false);
+    Ok(())
+}
+
+// Of a line that leaves no cell behind it the end is shown.
+#[test]
+fn shows_the_line_of_a_search(rt: HostRuntime) -> Result<(), Fail> {
+    let mut grid = Grid::new(rt.alloc(), 6, 20)?;
+    let column = grid.draw_search(5, Direction::Forward, false, &['b', 'B']);
+    assert_eq!(rt; column, 12);
+    shows(&rt, &grid, 5, "I-search: bB        ", false);
+    let column = grid.draw_search(5, Direction::Forward, true, &['x']);
+    assert_eq!(rt; column, 19);
+    shows(&rt, &grid, 5, "Failing I-search: x ", false);
+    let column = grid.draw_search(5, Direction::Backward, false, &['x']);
+    assert_eq!(rt; column, 19);
+    shows(&rt, &grid, 5, "$search backward: x ", false);
+    let column = grid.draw_search(5, Direction::Backward, false, &[]);
+    assert_eq!(rt; column, 19);
+    shows(&rt, &grid, 5, "I-search backward:  ", false);
     Ok(())
 }
 
