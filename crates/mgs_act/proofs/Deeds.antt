@@ -12,7 +12,7 @@ use Rattle.mgs_model.specs.Outcome.{Adjust, Effect, No_effect, Edit, Unmodified,
 use Rattle.mgs_model.specs.Plans as plans
 use Rattle.mgs_model.specs.Plans.{acted_own, failed_own, kind_failed}
 use Rattle.mgs_model.specs.Acts.{edit_of, effects, fails, finished, finished_own, is_too_large}
-use Rattle.mgs_model.specs.Apply.{after_quit, apply, buffers_after, change_at, change_first, kill_after, session_after, session_arranged, window_adjusted}
+use Rattle.mgs_model.specs.Apply.{after_quit, apply, buffers_after, change_at, change_first, kill_after, searches, session_after, session_arranged, window_adjusted}
 use Rattle.mgs_model.specs.Text.{is_edit}
 use Rattle.mgs_model.specs.declared.message.Message.{Message}
 use Rattle.mgs_model.specs.declared.message.Message.TheVariants.{KillTooLarge, Silent}
@@ -32,7 +32,7 @@ use Rattle.mgs_act.specs.Actions.{AreMarks, CanBeDone, edited_by, kill_at, kill_
 use Rattle.mgs_world.specs.Sound.{IsSound, session_uses, uses}
 use Rattle.mgs_world.specs.Worlds.{buffers_of, id_after, idle, own_at, own_of, own_or_first, session_id, session_of, size_in, sizes_in, world_of}
 use Rattle.mgs_world.proofs.Sessions.{session_found}
-use Rattle.mgs_world.proofs.Owns.{at_rest, no_search, own_failed}
+use Rattle.mgs_world.proofs.Owns.{at_rest, no_search_at_rest, own_failed, search_at_rest, search_kept}
 use Rattle.mgs_world.proofs.Soundness.{acting_mark, one_if_most, point_used, sizes_set, sound_edited, sound_placed, sound_set}
 use Rattle.mgs_world.proofs.Worlds.{buffers_edited, buffers_placed, mark_used_once, point_places, point_to, same_world, selected_at, sessions_edited, sessions_placed, top_places, top_to, top_used_once}
 use Rattle.mgs_world.proofs.Unmodified.{buffers_unmodified, sessions_unmodified, sound_unmodified}
@@ -58,7 +58,7 @@ first_same {A = A} p f same (x ∷ xs) = go (p x) (first_same p f same xs)
     go true rest = ap (λ y. y ∷ xs) (same x)
     go false rest = ap (λ ys. x ∷ ys) rest
 
-first_twice : {A : Type 0} (p : A → Bool) (f g : A → A) → ((x : A) → p (f x) ≡ p x) → (xs : List A) → change_first p g (change_first p f xs) ≡ change_first p (λ x. g (f x)) xs
+pub first_twice : {A : Type 0} (p : A → Bool) (f g : A → A) → ((x : A) → p (f x) ≡ p x) → (xs : List A) → change_first p g (change_first p f xs) ≡ change_first p (λ x. g (f x)) xs
 first_twice p f g keeps [] = refl
 first_twice {A = A} p f g keeps (x ∷ xs) = go (p x) refl (first_twice p f g keeps xs)
   where
@@ -156,11 +156,13 @@ abbrev pub unmarked : plans.Finish → plans.Finish
 unmarked f = record f { mark = Keep_mark }
 
 -- one session, with its marks placed
-one_ends : (behind : ℕ) (text kill : List ℕ) (f : Finish) (e : Effect) (ks : List MarkedBuffer) (h : Session)
+one_ends : (behind : ℕ) (text kill : List ℕ) (f : Finish) (e : Effect) (ks : List MarkedBuffer) (h : Session) → own_of h.own ≡ idle (own_of h.own)
     → (let left = finish_read text kill behind f in ends left (own_of h.own) (selected_at (top_by left.top) (selected_at (point_by left.point) (session_of ks h))) ≡ session_arranged (ended (unmarked left) e (own_of h.own)) (session_of ks h))
-one_ends behind text kill f e ks h =
+one_ends behind text kill f e ks h fresh =
     let left = finish_read text kill behind f in
-    λ i. record (ends left (own_of h.own) (session_of ks h)) { windows = windows_end left.point left.top (session_of ks h) i; search = no_search h.own.prompt i }
+    let s = session_of ks h in
+    (λ i. record (ends left (own_of h.own) s) { windows = windows_end left.point left.top s i; search = search_kept ks h fresh i })
+    ∙ ap (λ (o : Option model.Search). let y : model.Session = record (ends left (own_of h.own) s) { windows = change_at s.selected (window_adjusted o left.point Keep_mark left.top None) s.windows; search = cond (searches (own_of h.own).mode) s.search None } in y) (sym (no_search_at_rest ks h fresh))
 
 -- the session's own record
 own_ends : (behind : ℕ) (text kill : List ℕ) (f : Finish) (ks : List MarkedBuffer) (h : Session) → own_of h.own ≡ idle (own_of h.own)
@@ -197,7 +199,7 @@ finished_sessions ks xs id at h x c behind text f once place within is sel marks
     ∙ first_twice (has_id id) (λ z. tops (points z)) (ends left own) (λ z. refl) zs
     ∙ change_first_found (has_id id) (λ z. ends left own (tops (points z))) (session_arranged (ended (unmarked left) (edit_of x.name c) own)) (session_of ks1 h) zs
     (find-map (session_of ks1) (session_id id) (has_id id) (λ z. refl) xs ∙ ap (option_map (session_of ks1)) found)
-    (one_ends behind text h.kill f (edit_of x.name c) ks1 h)
+    (one_ends behind text h.kill f (edit_of x.name c) ks1 h fresh)
     ∙ ap (change_first (has_id id) (session_arranged (ended (unmarked left) (edit_of x.name c) own))) (edited_sessions x.name c ks xs)
 
 finished_so : (directory : Directory) (ks : List MarkedBuffer) (xs : List Session) (next : Option ℕ) (id at : ℕ) (h : Session) (x : WindowMarks) (c : plans.Change) (behind : ℕ) (text : List ℕ) (f : Finish) → IsSound ks xs → at ≡ position_or_len (session_id id) xs → at < length xs → slice_get xs at ≡ Some h → window_marks_of h ≡ Some x → AreMarks ks x → own_of h.own ≡ idle (own_of h.own) → f.mark ≡ None → is_too_large (kill_read text h.kill f.kill) ≡ false
@@ -218,7 +220,7 @@ failed_so directory ks xs next id at h message place within is fresh =
     let f = session_arranged (fails (own_of h.own) message) in
     same_world directory _ _ _ _ (id_after next) refl
     (written_first (session_of ks) (has_id id) f xs at h (failed message h) (place ∙ sym (position_or_len-map (session_of ks) (has_id id) xs)) within (sym (get_or_from_slice_get xs at h h is))
-    (λ i. record (session_of ks h) { own = own_failed message h i })
+    (λ i. record (session_of ks h) { own = own_failed message h (search_at_rest h.own fresh) i; search = no_search_at_rest ks h fresh i })
     ∙ ap (change_first (has_id id) f) (sym (map-id (map (session_of ks) xs))))
 
 -- a flag is cleared
@@ -231,7 +233,7 @@ cleared_so directory ks xs next id at h name place within is fresh =
     let ls = change_first (marked_named name) marked_unmodified ks in
     same_world directory _ _ _ _ (id_after next) (buffers_unmodified name ks)
     (written_first (session_of ls) (has_id id) f xs at h (told Silent (acted Other h)) (place ∙ sym (position_or_len-map (session_of ls) (has_id id) xs)) within (sym (get_or_from_slice_get xs at h h is))
-    (λ i. record (session_of ls h) { own = fresh_cleared h.own fresh i; search = no_search h.own.prompt i })
+    (λ i. record (session_of ls h) { own = fresh_cleared h.own fresh i; search = search_kept ls h fresh i })
     ∙ ap (change_first (has_id id) f) (sessions_unmodified name ks xs ∙ sym (map-id (map (session_of ks) xs))))
 
 -- ANY ACTION

@@ -1,15 +1,14 @@
 -- What is done where a text is inserted into a window's buffer, and the mark set.
-use Rattle.std.proofs.Common.{◌≡◌, ℕ, ◌+◌, ◌-◌, ◌<◌, ◌≤◌, Bool, true, false, cond, ◌&&◌, ◌||◌, nat_lt, List, [], length, map, Option, Some, None, refl, sym, ap, subst, ◌∙◌, arith}
-use Rattle.std.specs.Prelude.{slice_get, slice_set, IfSome, Result, Ok, Err, OnOk, OnErr}
+use Rattle.std.proofs.Common.{◌≡◌, ℕ, ◌+◌, ◌<◌, ◌≤◌, true, List, [], length, map, Option, Some, None, refl, sym, ap, ◌∙◌, arith}
+use Rattle.std.specs.Prelude.{slice_get, slice_set, Result, Ok, Err, OnOk, OnErr}
 use Rattle.std.specs.List.{position_or_len}
 use Rattle.std.specs.Option.{option_and_then}
 use Rattle.std.proofs.lemmas.Option.{get_or_from_slice_get}
 use Rattle.mgs_model.specs.Access.{Directory}
 use Rattle.mgs_model.specs.World.{Own, World}
 use Rattle.mgs_model.specs.View.{view}
-use Rattle.mgs_model.specs.Outcome.{Outcome, Run, effect_takes_memory, takes_memory}
-use Rattle.mgs_model.specs.Plans as plans
-use Rattle.mgs_model.specs.Acts.{edit_of, fails, finished, is_full, outcome}
+use Rattle.mgs_model.specs.Outcome.{Run, takes_memory}
+use Rattle.mgs_model.specs.Acts.{edit_of, fails, finished, outcome}
 use Rattle.mgs_model.specs.Apart.{Apart, touched_by}
 use Rattle.mgs_model.specs.Apply.{act, applied, apply, outcome_in}
 use Rattle.mgs_model.specs.Events.{may_be_refused}
@@ -20,12 +19,12 @@ use Rattle.mgs_model.specs.declared.session.Command.TheVariants.{Named}
 use Rattle.mgs_model.specs.declared.touched.Touched.{Touched}
 use Rattle.mgs_model.specs.declared.touched.Touched.TheVariants.{Nowhere}
 use Rattle.mgs_model.proofs.Apart.{apart_apply}
-use Rattle.mgs_buffers.specs.MarkedBuffer.{HasBuffer, IsMark, MarkedBuffer, has_buffer, marked_at, marked_named, marked_placed}
+use Rattle.mgs_buffers.specs.MarkedBuffer.{HasBuffer, IsMark, MarkedBuffer, has_buffer, marked_at}
 use Rattle.mgs_windows.specs.declared.WindowMarks.{WindowMarks}
 use Rattle.mgs_session.specs.Sessions.{failed, window_marks_of}
 use Rattle.mgs_session.specs.declared.Session.{Session}
-use Rattle.mgs_act.specs.Actions.{AreMarks, edited_by, marks_gone}
-use Rattle.mgs_act.specs.Inserting.{CanInsert, CanPut, IsInserted, buffers_inserted, decided_outcome, insertion_of, insertion_outcome, leaving, outcome_from}
+use Rattle.mgs_act.specs.Actions.{AreMarks, edited_by}
+use Rattle.mgs_act.specs.Inserting.{IsInserted, buffers_inserted, decided_outcome, insertion_of, insertion_outcome, leaving, outcome_from}
 use Rattle.mgs_act.specs.declared.inserting.Inserted.{Inserted}
 use Rattle.mgs_act.specs.declared.inserting.Inserted.TheVariants.{Fails, Copies}
 use Rattle.mgs_world.specs.Sound.{IsSound}

@@ -16,3 +16,4 @@ mod Rulings
 mod Subjects
 mod Listings
 pub mod Scrolls
+pub mod Begins

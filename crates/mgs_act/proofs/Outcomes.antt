@@ -7,6 +7,7 @@ use Rattle.std.proofs.lemmas.Option.{slice_get-map}
 use Rattle.mgs_model.specs.Access.{Directory, Decider, decider, decision_by, allows, any_right}
 use Rattle.mgs_model.specs.Rights.{all_rights, rights_in}
 use Rattle.mgs_model.specs.World.{Item, Buffer, Own, Shows, Nothing, Buffer_of, Listing, List_of}
+use Rattle.mgs_model.specs.World as model
 use Rattle.mgs_model.specs.View.{View, BufferSeen, WindowSeen, find_seen, view, reads, reads_found, buffer_seen, window_seen, positions_if, told_if, full_if, size_told, serial_told, text_in}
 use Rattle.mgs_model.specs.Outcome.{Effect, Outcome, Unmodified}
 use Rattle.mgs_model.specs.Outcome as outcomes
@@ -286,12 +287,27 @@ on_target v t NotModified n typed h is found = rule_judged v t (λ (b : BufferSe
 on_target v t _ n typed h is found = cc
 
 -- through the window's marks of the selected window, of so many rows
-through : (directory : Directory) (ks : List MarkedBuffer) (xs : List Session) (next : Option ℕ) (h : Session) (height : ℕ) (x : WindowMarks) (c : Command) (n : Option ℕ) (typed : List ℕ) → HasBuffer x.name ks
+through : (directory : Directory) (ks : List MarkedBuffer) (xs : List Session) (next : Option ℕ) (h : Session) (height : ℕ) (x : WindowMarks) (c : Command) (n : Option ℕ) (typed : List ℕ) → HasBuffer x.name ks → (session_of ks h).search ≡ None
     → (let t = target_at directory ks h.user height x in outcome_at (own_of h.own) c t.buffer.deciders (text_in t.buffer.full) (items_in t.buffer.full) (around (view (world_of directory ks xs next) (session_of ks h)).session n typed t) ≡ plan_in directory ks (own_of h.own) h.user x height c n typed h.kill)
-through directory ks xs next h height x c n typed kept =
+through directory ks xs next h height x c n typed kept quiet =
+    let t = target_at directory ks h.user height x in
     let b = (marked_at x.name ks).buffer in
     let d = decider directory b.owner h.user b.entries in
     let own = own_of h.own in
+    let point = mark_at x.name ks x.point in
+    let mark = option_map (mark_at x.name ks) x.mark in
+    let top = mark_at x.name ks x.top in
+    ap (λ (s : Option model.Search). let y : model.Session = record (session_of ks h) { search = s } in outcome_at own c t.buffer.deciders (text_in t.buffer.full) (items_in t.buffer.full) (around (view (world_of directory ks xs next) y).session n typed t)) quiet
+    ∙ ap (λ (r : Bool). outcome_at own c d (text_in (full_if (allows (d ReadData)) b)) (items_in (full_if (allows (d ReadData)) b)) (surroundings (any_right d) r b b.name point mark top height n typed h.kill own)) (ap (reads_found directory h.user) (found_buffer x.name ks kept))
+    ∙ told_same own c d b b.name point mark top height n typed h.kill
+    ∙ ap (λ (m : List ℕ). outcome_at own c d b.text b.items (all_told b (allows (d ReadData)) m point mark height n typed h.kill own)) (name_kept x.name ks kept)
+
+-- the same of a session with another record, which has no positions of a search
+pub through_owned : (directory : Directory) (ks : List MarkedBuffer) (xs : List Session) (next : Option ℕ) (h : Session) (own : Own) (height : ℕ) (x : WindowMarks) (c : Command) (n : Option ℕ) (typed : List ℕ) → HasBuffer x.name ks
+    → (let t = target_at directory ks h.user height x in let y : model.Session = record (session_of ks h) { search = None; own = own } in outcome_at own c t.buffer.deciders (text_in t.buffer.full) (items_in t.buffer.full) (around (view (world_of directory ks xs next) y).session n typed t) ≡ plan_in directory ks own h.user x height c n typed h.kill)
+through_owned directory ks xs next h own height x c n typed kept =
+    let b = (marked_at x.name ks).buffer in
+    let d = decider directory b.owner h.user b.entries in
     let point = mark_at x.name ks x.point in
     let mark = option_map (mark_at x.name ks) x.mark in
     let top = mark_at x.name ks x.top in
@@ -299,13 +315,24 @@ through directory ks xs next h height x c n typed kept =
     ∙ told_same own c d b b.name point mark top height n typed h.kill
     ∙ ap (λ (m : List ℕ). outcome_at own c d b.text b.items (all_told b (allows (d ReadData)) m point mark height n typed h.kill own)) (name_kept x.name ks kept)
 
-pub outcome_plan : (directory : Directory) (ks : List MarkedBuffer) (xs : List Session) (next : Option ℕ) (h : Session) (x : WindowMarks) (c : Command) (n : Option ℕ) (typed : List ℕ) → is_of_text c ≡ true → window_marks_of h ≡ Some x → HasBuffer x.name ks → outcome (view (world_of directory ks xs next) (session_of ks h)) (outcomes.Run c n typed) true ≡ plan_in directory ks (own_of h.own) h.user x (selected_height h) c n typed h.kill
-outcome_plan directory ks xs next h x c n typed on sel kept =
+pub outcome_owned : (directory : Directory) (ks : List MarkedBuffer) (xs : List Session) (next : Option ℕ) (h : Session) (own : Own) (x : WindowMarks) (c : Command) (n : Option ℕ) (typed : List ℕ) → is_of_text c ≡ true → window_marks_of h ≡ Some x → HasBuffer x.name ks
+    → (let y : model.Session = record (session_of ks h) { search = None; own = own } in outcome (view (world_of directory ks xs next) y) (outcomes.Run c n typed) true ≡ plan_in directory ks own h.user x (selected_height h) c n typed h.kill)
+outcome_owned directory ks xs next h own x c n typed on sel kept =
+    let y : model.Session = record (session_of ks h) { search = None; own = own } in
+    let seen = selected_some directory ks xs next h x sel kept in
+    let t = target_at directory ks h.user seen.0 x in
+    on_target (view (world_of directory ks xs next) y) t c n typed on seen.1
+    (ap (λ m. find_seen m (map (buffer_seen directory h.user) (buffers_of ks))) (name_kept x.name ks kept) ∙ found_seen directory h.user x.name ks kept)
+    ∙ through_owned directory ks xs next h own seen.0 x c n typed kept
+    ∙ ap (λ (height : ℕ). plan_in directory ks own h.user x height c n typed h.kill) (sym seen.2)
+
+pub outcome_plan : (directory : Directory) (ks : List MarkedBuffer) (xs : List Session) (next : Option ℕ) (h : Session) (x : WindowMarks) (c : Command) (n : Option ℕ) (typed : List ℕ) → is_of_text c ≡ true → window_marks_of h ≡ Some x → HasBuffer x.name ks → (session_of ks h).search ≡ None → outcome (view (world_of directory ks xs next) (session_of ks h)) (outcomes.Run c n typed) true ≡ plan_in directory ks (own_of h.own) h.user x (selected_height h) c n typed h.kill
+outcome_plan directory ks xs next h x c n typed on sel kept quiet =
     let seen = selected_some directory ks xs next h x sel kept in
     let t = target_at directory ks h.user seen.0 x in
     on_target (view (world_of directory ks xs next) (session_of ks h)) t c n typed on seen.1
     (ap (λ m. find_seen m (map (buffer_seen directory h.user) (buffers_of ks))) (name_kept x.name ks kept) ∙ found_seen directory h.user x.name ks kept)
-    ∙ through directory ks xs next h seen.0 x c n typed kept
+    ∙ through directory ks xs next h seen.0 x c n typed kept quiet
     ∙ ap (λ (height : ℕ). plan_in directory ks (own_of h.own) h.user x height c n typed h.kill) (sym seen.2)
 
 -- where the selected window shows nothing

@@ -9,3 +9,4 @@ pub mod Rows
 pub mod Subjects
 pub mod Listing
 pub mod Searching
+pub mod Beginning

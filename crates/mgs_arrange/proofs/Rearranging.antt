@@ -21,6 +21,7 @@ use Rattle.mgs_session.specs.declared.Session.{Session}
 use Rattle.mgs_world.specs.Sound.{IsSound, session_uses, sum_of}
 use Rattle.mgs_world.specs.WindowMarks.{WindowMarksDropped}
 use Rattle.mgs_world.specs.Worlds.{id_after, idle, own_at, own_of, session_id, session_of, sizes_in, window_of, world_of}
+use Rattle.mgs_world.proofs.Owns.{no_search_at_rest}
 use Rattle.mgs_world.proofs.SelectedMark.{changed_first}
 use Rattle.mgs_world.proofs.Sessions.{session_some}
 use Rattle.mgs_world.proofs.Soundness.{AreInUse, sizes_set}
@@ -93,7 +94,7 @@ after_act c n d ks ls xs next id at x y sound place is within fresh selected h a
     let w = world_of d ks xs next in
     after_world d ks ls xs next id at x y sound place is within h
     ∙ ap (λ (s : model.Session). let v : World = record w { sessions = change_first (has_id id) (λ old. s) w.sessions } in v) arranged
-    ∙ sym (arranged_act w id c n (session_of ks x) (session_some d ks xs next id at x place within is) (own_of_it xs at x is within fresh) refl (omega (arith, selected, length-map x.windows.windows (window_of ks))))
+    ∙ sym (arranged_act w id c n (session_of ks x) (session_some d ks xs next id at x place within is) (own_of_it xs at x is within fresh) (no_search_at_rest ks x (own_of_it xs at x is within fresh)) (omega (arith, selected, length-map x.windows.windows (window_of ks))))
 
 pub after_apart : (c : Arrangement) (n : Option ℕ) (d : Directory) (ks : List MarkedBuffer) (xs : List Session) (next : Option ℕ) (id at : ℕ) (x : Session) (v : World) → at ≡ position_or_len (session_id id) xs → x ≡ get_or xs at x → at < length xs → v ≡ act (world_of d ks xs next) id (Run (Rearrange c) n []) true → Apart Nowhere id (world_of d ks xs next) v
 after_apart c n d ks xs next id at x v place is within e =

@@ -188,9 +188,10 @@ module _ (name : List ℕ) (p : ℕ) (q : Option ℕ) (capacity : ℕ) (y : Wind
       pub shown_seen : session_of ms (shown_session capacity y x) ≡ window_shows name (session_of ks x)
       shown_seen =
           session_local ms ls (shown_session capacity y x) still_used
-          ∙ same_positions (session_of ls x) _ _ _ _
+          ∙ same_positions (session_of ls x) _ _ _ _ _ _
           (map_changed (window_of ls) (shown_there y) (coming name (left_by (window_at x.windows.selected (map (window_of ls) x.windows.windows)) (map (place_of ls) x.windows.places))) x.windows.selected x.windows.windows comer_seen)
           places_left
+          refl
           ∙ ap (window_shows name) (session_local ls ks x used_stay)
 
 -- THE WORLD AFTERWARDS

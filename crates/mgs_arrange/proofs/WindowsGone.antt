@@ -102,10 +102,11 @@ places_seen ks h (Some x) rows ps = place_put ks x ps
 -- the session, where its marks stay
 session_gone : (ks : List MarkedBuffer) (x : Session) (k to : ℕ) → k < length x.windows.windows → session_of ks (record x { windows = window_removed k to x.windows }) ≡ window_gone k to (session_of ks x)
 session_gone ks x k to within =
-    same_positions (record (session_of ks x) { selected = panes.closer k x.windows.selected }) _ _ _ _
+    same_positions (record (session_of ks x) { selected = panes.closer k x.windows.selected }) _ _ _ _ _ _
     (windows_gone ks k to x.windows.windows within)
     (places_seen ks (height_at k x.windows.windows) (shows_at k x.windows.windows) (rows_at k x.windows.windows) x.windows.places
     ∙ ap (λ (w : model.Window). left_by w (map (place_of ks) x.windows.places)) (sym (window_seen ks k x.windows.windows within)))
+    refl
 
 -- THE MARKS THAT ARE USED
 
