@@ -10,3 +10,4 @@ pub mod Subjects
 pub mod Listing
 pub mod Searching
 pub mod Beginning
+pub mod Following

@@ -14,7 +14,7 @@ use Rattle.mgs_session.specs.declared.Session.{Session}
 use Rattle.mgs_world.specs.Sound.{IsSessionSound, IsShownSound, IsSound, session_uses, sum_of, window_marks_uses, window_uses}
 use Rattle.mgs_world.specs.WindowMarks.{WindowMarksDropped}
 use Rattle.mgs_world.specs.Worlds.{place_of, rows_shown, session_id, session_of, window_of, world_of}
-use Rattle.mgs_world.proofs.WindowMarks.{session_local}
+use Rattle.mgs_world.proofs.WindowMarks.{same_sizes, session_local}
 use Rattle.mgs_world.proofs.Worlds.{same_positions}
 use Rattle.mgs_arrange.specs.Arranged.{left_by, listing_for, run_ended, window_lists}
 use Rattle.mgs_arrange.specs.Arranging.{Lessened, Rearranged}
@@ -67,7 +67,7 @@ module _ (ks ls : List MarkedBuffer) (rows : RowPane) (x : Session) (within : x.
 
     pub rows_seen : IsFromStart rows → session_of ls (rows_session rows x) ≡ window_lists (rows_shown rows) (session_of ks x)
     rows_seen start =
-        session_local ls ks (rows_session rows x)
+        session_local ls ks (rows_session rows x) (same_sizes ks ls dropped.buffers)
         (λ n i used. dropped.stay n i (omega (arith, used, came_uses n i rows x within, sound.once n i)) (omega (arith, used, came_uses n i rows x within, sound.once n i, dropped.uses n i)))
         ∙ lists_seen ks rows x start within
 
