@@ -41,13 +41,13 @@ use Rattle.mgs_world.specs.Sound.{IsSound}
 use Rattle.mgs_act.specs.Setting.{session_set}
 use Rattle.mgs_world.specs.Worlds.{id_after, idle, own_at, own_of, own_or_first, session_id, session_of, world_of}
 use Rattle.mgs_world.proofs.Sessions.{session_some}
-use Rattle.mgs_world.proofs.Owns.{at_rest, no_search_at_rest, own_asking, own_failed, search_at_rest, search_kept}
+use Rattle.mgs_world.proofs.Owns.{at_rest, no_search_at_rest, own_asking, search_at_rest, search_kept}
 use Rattle.mgs_world.proofs.Soundness.{mark_is_kept}
 use Rattle.mgs_world.proofs.Worlds.{same_world}
 use Rattle.mgs_act.proofs.Deeds.{acting_marks, failed_so, fresh_own}
 use Rattle.mgs_act.proofs.Outcomes.{is_of_text, outcome_plan}
 
-session_known : (directory : Directory) (ks : List MarkedBuffer) (xs : List Session) (next : Option ℕ) (id at : ℕ) (h : Session) → at ≡ position_or_len (session_id id) xs → at < length xs → slice_get xs at ≡ Some h → find_session id (world_of directory ks xs next).sessions ≡ Some (session_of ks h)
+pub session_known : (directory : Directory) (ks : List MarkedBuffer) (xs : List Session) (next : Option ℕ) (id at : ℕ) (h : Session) → at ≡ position_or_len (session_id id) xs → at < length xs → slice_get xs at ≡ Some h → find_session id (world_of directory ks xs next).sessions ≡ Some (session_of ks h)
 session_known directory ks xs next id at h place within is =
     session_some directory ks xs next id at h place within (sym (get_or_from_slice_get xs at h h is))
 
@@ -161,8 +161,7 @@ module _ (directory : Directory) (ks : List MarkedBuffer) (xs : List Session) (n
       by false = acted_so (filling n (acted Other h)) (λ own. record own { fill = n }) (λ own. refl) refl kept
   set_so KeyboardQuit n here =
       let after : model.Own = record (failed_own Quitting (own_of h.own)) { recording = false; macro = cond h.own.recorder.recording [] h.own.recorder.macro } in
-      owned_so (macro_given_up (failed Quitting h)) after
-      (λ i. record (session_of ks h) { own = record (own_failed Quitting h (search_at_rest h.own rests) i) { recording = false; macro = cond h.own.recorder.recording [] h.own.recorder.macro }; search = no_search_at_rest ks h rests i })
+      owned_so (macro_given_up (failed Quitting h)) after refl
   set_so StartMacro n here = started_so (h.own.recorder.recording || h.own.player.playing)
   set_so EndMacro n here =
       let ends : model.Own → model.Own = λ own. record own { recording = false; macro = take (length own.macro - 2) own.macro } in

@@ -73,8 +73,11 @@ pub fn edit_of<T: Marked + Drop>(
 ) -> Option<Edited>
     requires kept { HasBuffer name.now buffers.now }
     requires can { CanDo (marked_at name.now buffers.now).buffer.text (marked_at name.now buffers.now).buffer.items kill.now (marked_at name.now buffers.now).buffer.serial action.now }
-    ensures { result ≡ action_edit (marked_at name.now buffers.now).buffer.text (marked_at name.now buffers.now).buffer.items kill.now action.now }
+    ensures value { result ≡ action_edit (marked_at name.now buffers.now).buffer.text (marked_at name.now buffers.now).buffer.items kill.now action.now }
+    ensures can { CanFollow result }
 {
+    // For the limit of a text.
+    let _size = buffers.text_len(name);
     match action {
         Action::Edits(change) => edit_of_change(buffers, name, kill, change),
         Action::Undoes(undone) => edit_of_undo(buffers, name, kill, undone),
@@ -91,14 +94,17 @@ pub fn edit_of_insertion<T: Marked + Drop>(
     place: usize,
     put: &[char],
 ) -> Option<Edited>
-    requires { HasBuffer name.now buffers.now }
-    ensures { result ≡ edit_told (length (marked_at name.now buffers.now).buffer.text) (insertion_of place put.now) }
+    requires kept { HasBuffer name.now buffers.now }
+    requires can { CanPut (marked_at name.now buffers.now).buffer put.now place }
+    ensures value { result ≡ edit_told (length (marked_at name.now buffers.now).buffer.text) (insertion_of place put.now) }
+    ensures can { CanFollow result }
 {
+    let size = buffers.text_len(name);
     if put.is_empty() {
         return None;
     }
     Some(Edited {
-        size: buffers.text_len(name),
+        size,
         from: place,
         to: place,
         added: put.len(),

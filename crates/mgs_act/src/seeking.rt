@@ -1,21 +1,27 @@
 // Incremental searches: one begins, goes on, or is quit.
-ghost use Rattle.std.specs.Prelude.{◌≡◌, ◌<◌, ℕ, [], length, Option, Some, None, IfSome, true};
+ghost use Rattle.std.specs.Prelude.{◌≡◌, ◌<◌, ◌≤◌, ℕ, [], length, Option, Some, None, Ok, true};
 ghost use Rattle.std.specs.List.{position_or_len};
 ghost use Rattle.mgs_model.specs.Access.{Directory};
 ghost use Rattle.mgs_model.specs.Apart.{Apart};
 ghost use Rattle.mgs_model.specs.Apply.{act, change_first};
 ghost use Rattle.mgs_model.specs.Events.{with_own};
 ghost use Rattle.mgs_model.specs.Outcome.{Run};
+ghost use Rattle.mgs_model.specs.Plans as plans;
+ghost use Rattle.mgs_model.specs.Plans.{motion};
 ghost use Rattle.mgs_model.specs.Searching.{places_after};
+ghost use Rattle.mgs_model.specs.declared.session.Kind.TheVariants.{Other};
 ghost use Rattle.mgs_model.specs.declared.session.Command.TheVariants.{LeaveSearch, Move};
 ghost use Rattle.mgs_model.specs.declared.session.Motion.TheVariants.{SearchOn, StartSearch};
 ghost use Rattle.mgs_model.specs.declared.touched.Touched.TheVariants.{Nowhere};
 ghost use Rattle.mgs_buffers.specs.MarkedBuffer.{mark_at, marked_at, marked_named, marked_placed};
-ghost use Rattle.mgs_session.specs.Seeking.{search_begun, searching};
-ghost use Rattle.mgs_session.specs.Sessions.{acted};
+ghost use Rattle.mgs_edit.specs.Reading.{IsWithin, top_read};
+ghost use Rattle.mgs_search.specs.Planned.{stepped};
+ghost use Rattle.mgs_session.specs.Seeking.{search_begun, searching, unsearched};
+ghost use Rattle.mgs_session.specs.Sessions.{acted, window_marks_of};
 ghost use Rattle.mgs_session.specs.declared.search.Search.{Search};
+ghost use Rattle.mgs_windows.specs.declared.WindowMarks.{WindowMarks};
 ghost use Rattle.mgs_act.specs.Actions.{AreMarks, mark_gone};
-ghost use Rattle.mgs_act.specs.Beginning.{origin_plan, places_at, search_held, search_stepped, searching_own, session_sought};
+ghost use Rattle.mgs_act.specs.Beginning.{gone_back, origin_plan, places_at, seeking, search_held, search_shown, search_stepped, searching_own, session_sought};
 ghost use Rattle.mgs_world.specs.Sound.{IsSound};
 ghost use Rattle.mgs_world.specs.Worlds.{idle, own_at, session_id, sizes_in, world_of};
 
@@ -31,7 +37,7 @@ use mgs_windows::WindowMarks;
 
 /// A session that is at rest holds a search from now on.
 fn begin(session: &mut Session, name: Name, place: usize, direction: Direction)
-    ensures { session.new ≡ acted Kind.Other (searching (search_begun name place direction) session.old) }
+    ensures { session.new ≡ acted Other (searching (search_begun name place direction) session.old) }
 {
     hold_search(session, Search::new(name, place, direction));
     set_kind(session, Kind::Other);
@@ -87,6 +93,7 @@ fn step_in<T: Marked + Drop>(
     requires marks { AreMarks buffers.now window_marks.now }
     ensures search { search.new ≡ search_stepped step (marked_at window_marks.now.name buffers.now).buffer.text (places_at (length (marked_at window_marks.now.name buffers.now).buffer.text) (mark_at window_marks.now.name buffers.now window_marks.now.point) search.old) search.old }
     ensures value { result ≡ (places_after step search.old.sought (marked_at window_marks.now.name buffers.now).buffer.text (places_at (length (marked_at window_marks.now.name buffers.now).buffer.text) (mark_at window_marks.now.name buffers.now window_marks.now.point) search.old)).point }
+    ensures plan { (rest : plans.Around) → Ok (stepped step (places_after step search.old.sought (marked_at window_marks.now.name buffers.now).buffer.text (places_at (length (marked_at window_marks.now.name buffers.now).buffer.text) (mark_at window_marks.now.name buffers.now window_marks.now.point) search.old)) search.new.sought.failing) ≡ motion (SearchOn search.old.sought.direction step) (marked_at window_marks.now.name buffers.now).buffer.text (seeking rest (places_at (length (marked_at window_marks.now.name buffers.now).buffer.text) (mark_at window_marks.now.name buffers.now window_marks.now.point) search.old) search.old.sought.pattern) }
     ensures point { result ≤ length (marked_at window_marks.now.name buffers.now).buffer.text }
     ensures anchor { search.new.anchor ≤ length (marked_at window_marks.now.name buffers.now).buffer.text }
 {
@@ -112,12 +119,30 @@ fn seek<T: Marked + Drop>(
 )
     requires marks { AreMarks buffers.old window_marks.now }
     ensures buffers { buffers.new ≡ change_first (marked_named window_marks.now.name) (marked_placed window_marks.now.point (places_after step search.sought (marked_at window_marks.now.name buffers.old).buffer.text (places_at (length (marked_at window_marks.now.name buffers.old).buffer.text) (mark_at window_marks.now.name buffers.old window_marks.now.point) search)).point) buffers.old }
+    ensures plan { (rest : plans.Around) → Ok (stepped step (places_after step search.sought (marked_at window_marks.now.name buffers.old).buffer.text (places_at (length (marked_at window_marks.now.name buffers.old).buffer.text) (mark_at window_marks.now.name buffers.old window_marks.now.point) search)) (search_stepped step (marked_at window_marks.now.name buffers.old).buffer.text (places_at (length (marked_at window_marks.now.name buffers.old).buffer.text) (mark_at window_marks.now.name buffers.old window_marks.now.point) search) search).sought.failing) ≡ motion (SearchOn search.sought.direction step) (marked_at window_marks.now.name buffers.old).buffer.text (seeking rest (places_at (length (marked_at window_marks.now.name buffers.old).buffer.text) (mark_at window_marks.now.name buffers.old window_marks.now.point) search) search.sought.pattern) }
+    ensures within { (places_after step search.sought (marked_at window_marks.now.name buffers.old).buffer.text (places_at (length (marked_at window_marks.now.name buffers.old).buffer.text) (mark_at window_marks.now.name buffers.old window_marks.now.point) search)).anchor ≤ length (marked_at window_marks.now.name buffers.old).buffer.text }
     ensures session { session.new ≡ session_sought (search_stepped step (marked_at window_marks.now.name buffers.old).buffer.text (places_at (length (marked_at window_marks.now.name buffers.old).buffer.text) (mark_at window_marks.now.name buffers.old window_marks.now.point) search) search) session.old }
 {
     let mut search = search;
     let point = step_in(buffers, window_marks, &mut search, step);
     buffers.place(&window_marks.name, window_marks.point, point);
     go_on(session, search);
+}
+
+/// The search of a session, which is taken out, where it is in the buffer of this name.
+fn take_search_in(session: &mut Session, name: &Name) -> Option<Search>
+    ensures search { result ≡ search_shown name.now session.old.own.search }
+    ensures rest { session.new ≡ unsearched session.old }
+{
+    match take_search(session) {
+        Some(search) => {
+            if search.name == *name {
+                return Some(search);
+            }
+            None
+        }
+        None => None,
+    }
 }
 
 /// A step of the search that the session at `at` holds, in the text that its selected window shows: the point goes to where it ends. What it
@@ -144,11 +169,9 @@ pub fn search_on<T: Marked + Drop>(
     };
     match source_refusal(buffers, directory, &session.user, &window_marks.name) {
         Some(message) => fail(session, message),
-        None => match take_search(session) {
-            Some(search) if search.name == window_marks.name => {
-                seek(buffers, session, &window_marks, search, step);
-            }
-            _ => fail(session, Message::NoBuffer),
+        None => match take_search_in(session, &window_marks.name) {
+            Some(search) => seek(buffers, session, &window_marks, search, step),
+            None => fail(session, Message::NoBuffer),
         },
     }
 }
@@ -159,13 +182,18 @@ fn origin(session: &Session, name: &Name, size: usize) -> Option<usize>
     ensures within { IsWithin size result }
 {
     match &session.own.search {
-        Some(search) if search.name == *name => Some(search.origin.min(size)),
-        _ => None,
+        Some(search) => {
+            if search.name == *name {
+                return Some(search.origin.min(size));
+            }
+            None
+        }
+        None => None,
     }
 }
 
 /// The window's point goes back to the origin of the session's search, where that is in the window's buffer.
-fn go_back<T: Marked + Drop>(
+fn go_back_in<T: Marked + Drop>(
     buffers: &mut Buffers<T>,
     session: &Session,
     window_marks: &WindowMarks,
@@ -177,6 +205,17 @@ fn go_back<T: Marked + Drop>(
     match origin(session, name, buffers.text_len(name)) {
         None => {}
         Some(place) => buffers.place(name, window_marks.point, place),
+    }
+}
+
+/// The same of the selected window.
+fn go_back<T: Marked + Drop>(buffers: &mut Buffers<T>, session: &Session)
+    requires { (x : WindowMarks) → window_marks_of session.now ≡ Some x → AreMarks buffers.old x }
+    ensures { buffers.new ≡ gone_back (window_marks_of session.now) session.now.own.search buffers.old }
+{
+    match selected_window_marks(session) {
+        None => {}
+        Some(window_marks) => go_back_in(buffers, session, &window_marks),
     }
 }
 
@@ -194,8 +233,7 @@ pub fn quit_search<T: Marked + Drop>(
     ensures world { (directory : Directory) (id : ℕ) (next : Option ℕ) → at ≡ position_or_len (session_id id) sessions.old → world_of directory buffers.new sessions.new next ≡ act (world_of directory buffers.old sessions.old next) id (Run LeaveSearch None []) true }
     ensures apart { (directory : Directory) (id : ℕ) (next : Option ℕ) → at ≡ position_or_len (session_id id) sessions.old → Apart Nowhere id (world_of directory buffers.old sessions.old next) (world_of directory buffers.new sessions.new next) }
 {
-    if let Some(window_marks) = selected_window_marks(&sessions[at]) {
-        go_back(buffers, &sessions[at], &window_marks);
-    }
-    fail(&mut sessions[at], Message::Quitting);
+    let session = &mut sessions[at];
+    go_back(buffers, session);
+    fail(session, Message::Quitting);
 }
