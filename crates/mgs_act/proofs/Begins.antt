@@ -38,9 +38,11 @@ use Rattle.mgs_session.specs.declared.search.Search.{Search}
 use Rattle.mgs_act.specs.Actions.{place_in}
 use Rattle.mgs_act.specs.Beginning.{searching_own}
 use Rattle.mgs_act.specs.Inserting.{rights_decision}
-use Rattle.mgs_world.specs.Worlds.{buffers_of, id_after, idle, mode_in, own_at, own_of, session_id, session_of, size_named, world_of}
+use Rattle.mgs_world.specs.Sound.{IsSound}
+use Rattle.mgs_world.specs.Worlds.{buffers_of, id_after, idle, mode_in, own_at, own_of, session_id, session_of, size_named, sizes_in, world_of}
 use Rattle.mgs_world.proofs.Edits.{size_kept}
 use Rattle.mgs_world.proofs.Owns.{at_rest, no_search_at_rest, search_at_rest}
+use Rattle.mgs_world.proofs.Soundness.{sizes_set, sound_set}
 use Rattle.mgs_world.proofs.Worlds.{same_world}
 use Rattle.mgs_act.proofs.Commands.{session_known}
 use Rattle.mgs_act.proofs.Deeds.{at_same, failed_so, first_twice, fresh_own}
@@ -170,3 +172,10 @@ module _ (directory : Directory) (ks : List MarkedBuffer) (xs : List Session) (n
 
         pub act_begin : (n : Option ℕ) → world_of directory ks (slice_set xs at begun) next ≡ act v id (Run (Move (StartSearch d)) n []) true
         act_begin n = act_begun n (finished own begins No_effect) _ begin_so (granted_known n)
+
+-- soundness and sizes
+pub begun_sound : (ks : List MarkedBuffer) (xs : List Session) (at : ℕ) (h : Session) (s : Search) → slice_get xs at ≡ Some h → IsSound ks xs → IsSound ks (slice_set xs at (acted Other (searching s h)))
+begun_sound ks xs at h s is sound = sound_set ks xs at h (acted Other (searching s h)) (sym (get_or_from_slice_get xs at h h is)) (λ n i. refl) sound
+
+pub begun_sizes : (xs : List Session) (at : ℕ) (h : Session) (s : Search) → slice_get xs at ≡ Some h → sizes_in (slice_set xs at (acted Other (searching s h))) ≡ sizes_in xs
+begun_sizes xs at h s is = sizes_set xs at h (acted Other (searching s h)) (sym (get_or_from_slice_get xs at h h is)) refl

@@ -450,8 +450,8 @@ module _ (directory : Directory) (ks : List MarkedBuffer) (xs : List Session) (n
               sought_here = here;
             }
 
-        pub moved_here : come_to (Some (record { name = x.name; origin = places.origin; anchor = places.anchor })) ≡ moved_by own (motion m b.text (seeking (seen_so true true x.name true) places typed))
-        moved_here =
+        pub moved_here : (f : Finish) → ((rest : Around) → Path (Result Finish Message) (Ok f) (motion m b.text (seeking rest places typed))) → come_to (Some (record { name = x.name; origin = places.origin; anchor = places.anchor })) ≡ moved_by own (Ok f)
+        moved_here f planned =
             let reads = first_granted d [] granted in
             moved_on (Some (record { name = x.name; origin = places.origin; anchor = places.anchor }))
             ∙ ap (λ (r : Bool). outcome_at own (Move m) d (text_in (full_if (allows (d ReadData)) b)) (items_in (full_if (allows (d ReadData)) b)) (seen_so (any_right d) r b.name (same_name b.name x.name))) (ap (reads_found directory h.user) (found_buffer x.name ks kept))
@@ -461,3 +461,4 @@ module _ (directory : Directory) (ks : List MarkedBuffer) (xs : List Session) (n
             ∙ ap (λ (q : Bool). outcome_at own (Move m) d b.text b.items (seen_so true true x.name q)) (is_same x.name x.name refl)
             ∙ ap (λ (g : Decision). permitted own g (moved_by own (motion m b.text (seen_so true true x.name true)))) granted
             ∙ ap (λ (p : ℕ). moved_by own (motion m b.text (record (seen_so true true x.name true) { place = p }))) (sym point_is)
+            ∙ ap (moved_by own) (sym (planned (seen_so true true x.name true)))

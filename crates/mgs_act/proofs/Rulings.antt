@@ -146,7 +146,7 @@ module _ (directory : Directory) (ks : List MarkedBuffer) (xs : List Session) (n
       same_world directory _ _ _ _ (id_after next) (buffers_by g (λ b. refl) name ks)
       (written_first (session_of ls) (has_id id) f xs at h (acted Other h) (place ∙ sym (position_or_len-map (session_of ls) (has_id id) xs)) within (sym (get_or_from_slice_get xs at h h found))
       (λ i. record (session_of ls h) { own = fresh_ruled h.own fresh i; search = search_kept ls h fresh i })
-      ∙ ap (change_first (has_id id) f) (sessions_by g (λ b. refl) name ks xs ∙ sym (map-id (map (session_of ks) xs))))
+      ∙ ap (change_first (has_id id) f) (sessions_by g (λ b. refl) (λ b. refl) name ks xs ∙ sym (map-id (map (session_of ks) xs))))
 
   relisted_so : (name : List ℕ) (entries : List Entry) → world_of directory (change_first (marked_named name) (marked_relisted entries) ks) (slice_set xs at (acted Other h)) next ≡ apply (world_of directory ks xs next) id (effects (own_of h.own) (Ok (Relist name entries)))
   relisted_so name entries =
@@ -156,7 +156,7 @@ module _ (directory : Directory) (ks : List MarkedBuffer) (xs : List Session) (n
       same_world directory _ _ _ _ (id_after next) (buffers_by g (λ b. refl) name ks)
       (written_first (session_of ls) (has_id id) f xs at h (acted Other h) (place ∙ sym (position_or_len-map (session_of ls) (has_id id) xs)) within (sym (get_or_from_slice_get xs at h h found))
       (λ i. record (session_of ls h) { own = fresh_ruled h.own fresh i; search = search_kept ls h fresh i })
-      ∙ ap (change_first (has_id id) f) (sessions_by g (λ b. refl) name ks xs ∙ sym (map-id (map (session_of ks) xs))))
+      ∙ ap (change_first (has_id id) f) (sessions_by g (λ b. refl) (λ b. refl) name ks xs ∙ sym (map-id (map (session_of ks) xs))))
 
   ruled_so : (r : Ruled) → world_of directory (buffers_ruled r ks) (slice_set xs at (session_ruled r h)) next ≡ apply (world_of directory ks xs next) id (ruled_outcome (own_of h.own) r)
   ruled_so (Fails message) = failed_so directory ks xs next id at h message place within found fresh

@@ -14,7 +14,7 @@ use Rattle.mgs_model.specs.Outcome.{Act, Adjust, At, At_origin, Keep, Keep_kill,
 use Rattle.mgs_model.specs.Plans as plans
 use Rattle.mgs_model.specs.Plans.{Failing, Finish, Goes_on, acted_own, failed_own, motion}
 use Rattle.mgs_model.specs.Searching.{Sought, is_looking, is_none, looked_for, places_after, sought_after}
-use Rattle.mgs_model.specs.Acts.{fails, finished, finished_own, is_sought_in, mode_left, moved_by, outcome, permitted}
+use Rattle.mgs_model.specs.Acts.{fails, finished, finished_own, is_sought_in, mode_left, outcome, permitted}
 use Rattle.mgs_model.specs.Apart.{Apart}
 use Rattle.mgs_model.specs.Apply.{act, applied, apply, change_at, change_first, searches, session_arranged, window_adjusted}
 use Rattle.mgs_model.specs.declared.entry.Decision.TheVariants.{Granted}
@@ -100,7 +100,7 @@ module _ (directory : Directory) (ks : List MarkedBuffer) (xs : List Session) (n
   size : size_named s.name (buffers_of ks) ≡ length b.text
   size = ap (λ (n : List ℕ). size_named n (buffers_of ks)) name ∙ size_kept x.name ks (mark_is_kept x.name x.point ks mark)
 
-  ends : model.Session → model.Session
+  abbrev ends : model.Session → model.Session
   ends z = record z { own = own_of (session_sought new h).own; search = search_of (buffers_of placed) (Some new) }
 
   left_own : finished_own left own ≡ own_of (session_sought new h).own
@@ -150,8 +150,7 @@ module _ (directory : Directory) (ks : List MarkedBuffer) (xs : List Session) (n
           let w = world_of directory ks xs next in
           ap (λ (r : Option model.Search). let y : model.Session = record (session_of ks held) { search = r } in outcome (view w y) (Run (Move m) None s.sought.pattern) true)
           (λ i. Some (record { name = name i; origin = min s.origin (size i); anchor = min s.anchor (size i) }))
-          ∙ moved_here directory ks xs next held own None s.sought.pattern m x sel (mark_is_kept x.name x.point ks mark) granted before refl
-          ∙ ap (moved_by own) (sym (planned _))
+          ∙ moved_here directory ks xs next held own None s.sought.pattern m x sel (mark_is_kept x.name x.point ks mark) granted before refl left planned
 
       pub act_stepped : world_of directory placed (slice_set xs at (session_sought new h)) next ≡ act (world_of directory ks xs next) id (Run (Move (SearchOn s.sought.direction step)) None s.sought.pattern) true
       act_stepped =
@@ -219,6 +218,45 @@ sought_sound ks xs at p h x s is mark sound =
 
 pub sought_sizes : (xs : List Session) (at : ℕ) (h : Session) (s : Search) → slice_get xs at ≡ Some h → sizes_in (slice_set xs at (session_sought s h)) ≡ sizes_in xs
 sought_sizes xs at h s is = sizes_set xs at h (session_sought s h) (sym (get_or_from_slice_get xs at h h is)) refl
+
+-- A STEP IN THE SHOWN BUFFER, by what the calls answer
+abbrev step_places : List MarkedBuffer → WindowMarks → Search → SearchPlaces
+step_places ks x s = places_at (length (marked_at x.name ks).buffer.text) (mark_at x.name ks x.point) s
+
+abbrev step_ends : List MarkedBuffer → WindowMarks → Search → SearchStep → SearchPlaces
+step_ends ks x s step = places_after step s.sought (marked_at x.name ks).buffer.text (step_places ks x s)
+
+abbrev step_search : List MarkedBuffer → WindowMarks → Search → SearchStep → Search
+step_search ks x s step = search_stepped step (marked_at x.name ks).buffer.text (step_places ks x s) s
+
+abbrev step_buffers : List MarkedBuffer → WindowMarks → Search → SearchStep → List MarkedBuffer
+step_buffers ks x s step = change_first (marked_named x.name) (marked_placed x.point (step_ends ks x s step).point) ks
+
+pub here_sound : (ks : List MarkedBuffer) (xs : List Session) (at : ℕ) (h : Session) (x : WindowMarks) (s : Search) (step : SearchStep) → slice_get xs at ≡ Some h → IsSound ks xs → IsMark x.name x.point ks → IsSound (step_buffers ks x s step) (slice_set xs at (session_sought (step_search ks x s step) h))
+here_sound ks xs at h x s step found sound mark = sought_sound ks xs at (step_ends ks x s step).point h x (step_search ks x s step) found mark sound
+
+pub here_sizes : (ks : List MarkedBuffer) (xs : List Session) (at : ℕ) (h : Session) (x : WindowMarks) (s : Search) (step : SearchStep) → slice_get xs at ≡ Some h → sizes_in (slice_set xs at (session_sought (step_search ks x s step) h)) ≡ sizes_in xs
+here_sizes ks xs at h x s step found = sought_sizes xs at h (step_search ks x s step) found
+
+module _ (directory : Directory) (ks : List MarkedBuffer) (xs : List Session) (next : Option ℕ) (id at : ℕ) (h : Session) (x : WindowMarks) (s : Search) where
+  pub here_apart : (step : SearchStep) → at ≡ position_or_len (session_id id) xs → at < length xs → slice_get xs at ≡ Some h → IsSound ks xs → window_marks_of h ≡ Some x → IsMark x.name x.point ks → search_shown x.name h.own.search ≡ Some s → (step_ends ks x s step).anchor ≤ length (marked_at x.name ks).buffer.text
+      → Apart Nowhere id (world_of directory ks xs next) (world_of directory (step_buffers ks x s step) (slice_set xs at (session_sought (step_search ks x s step) h)) next)
+  here_apart step place within found sound sel mark shown small =
+      let so = shown_so x.name h.own.search s shown in
+      stepped_apart directory ks xs next id at h x s step place within (found ∙ ap (λ (y : Session). Some y) (held_so h s so.0)) sel mark (once_used ks xs x.name x.point sound) so.1 small
+
+  pub here_world : (t : Search) (step : SearchStep) → at ≡ position_or_len (session_id id) xs → at < length xs → slice_get xs at ≡ Some h → IsSound ks xs → window_marks_of h ≡ Some x → IsMark x.name x.point ks → search_shown x.name h.own.search ≡ Some s → search_held at xs ≡ Some t → (step_ends ks x s step).anchor ≤ length (marked_at x.name ks).buffer.text → rights_decision directory ks h.user x.name 1 ≡ Granted
+      → ((rest : plans.Around) → Path (Result Finish Message) (Ok (stepped step (step_ends ks x s step) (step_search ks x s step).sought.failing)) (motion (SearchOn s.sought.direction step) (marked_at x.name ks).buffer.text (seeking rest (step_places ks x s) s.sought.pattern)))
+      → world_of directory (step_buffers ks x s step) (slice_set xs at (session_sought (step_search ks x s step) h)) next ≡ act (world_of directory ks xs next) id (Run (Move (SearchOn t.sought.direction step)) None t.sought.pattern) true
+  here_world t step place within found sound sel mark shown held small granted planned =
+      let so = shown_so x.name h.own.search s shown in
+      let same : Path (Option Search) (Some s) (Some t) = sym so.0 ∙ ap search_or_none (sym found) ∙ held in
+      act_stepped directory ks xs next id at h x s step place within (found ∙ ap (λ (y : Session). Some y) (held_so h s so.0)) sel mark (once_used ks xs x.name x.point sound) so.1 small granted planned
+      ∙ ap (λ (o : Option Search). act (world_of directory ks xs next) id (Run (Move (SearchOn (or_this s o).sought.direction step)) None (or_this s o).sought.pattern) true) same
+    where
+      or_this : Search → Option Search → Search
+      or_this u None = u
+      or_this u (Some v) = v
 
 -- QUITTING
 

@@ -61,16 +61,16 @@ pub fn start_search<T: Marked + Drop>(
     ensures world { (id : ℕ) (next n : Option ℕ) → at ≡ position_or_len (session_id id) sessions.old → world_of directory.now buffers.now sessions.new next ≡ act (with_own id (searching_own direction) (world_of directory.now buffers.now sessions.old next)) id (Run (Move (StartSearch direction)) n []) true }
     ensures apart { (id : ℕ) (next : Option ℕ) → at ≡ position_or_len (session_id id) sessions.old → Apart Nowhere id (world_of directory.now buffers.now sessions.old next) (world_of directory.now buffers.now sessions.new next) }
 {
-    let session = &sessions[at];
+    let session = &mut sessions[at];
     let Some(window_marks) = selected_window_marks(session) else {
-        fail(&mut sessions[at], Message::NoBuffer);
+        fail(session, Message::NoBuffer);
         return;
     };
     let name = &window_marks.name;
     let place = buffers.pos(name, window_marks.point);
     match source_refusal(buffers, directory, &session.user, name) {
-        Some(message) => fail(&mut sessions[at], message),
-        None => begin(&mut sessions[at], *name, place, direction),
+        Some(message) => fail(session, message),
+        None => begin(session, *name, place, direction),
     }
 }
 
@@ -90,7 +90,7 @@ fn step_in<T: Marked + Drop>(
     search: &mut Search,
     step: SearchStep,
 ) -> usize
-    requires marks { AreMarks buffers.now window_marks.now }
+    requires { AreMarks buffers.now window_marks.now }
     ensures search { search.new ≡ search_stepped step (marked_at window_marks.now.name buffers.now).buffer.text (places_at (length (marked_at window_marks.now.name buffers.now).buffer.text) (mark_at window_marks.now.name buffers.now window_marks.now.point) search.old) search.old }
     ensures value { result ≡ (places_after step search.old.sought (marked_at window_marks.now.name buffers.now).buffer.text (places_at (length (marked_at window_marks.now.name buffers.now).buffer.text) (mark_at window_marks.now.name buffers.now window_marks.now.point) search.old)).point }
     ensures plan { (rest : plans.Around) → Ok (stepped step (places_after step search.old.sought (marked_at window_marks.now.name buffers.now).buffer.text (places_at (length (marked_at window_marks.now.name buffers.now).buffer.text) (mark_at window_marks.now.name buffers.now window_marks.now.point) search.old)) search.new.sought.failing) ≡ motion (SearchOn search.old.sought.direction step) (marked_at window_marks.now.name buffers.now).buffer.text (seeking rest (places_at (length (marked_at window_marks.now.name buffers.now).buffer.text) (mark_at window_marks.now.name buffers.now window_marks.now.point) search.old) search.old.sought.pattern) }
@@ -117,7 +117,7 @@ fn seek<T: Marked + Drop>(
     search: Search,
     step: SearchStep,
 )
-    requires marks { AreMarks buffers.old window_marks.now }
+    requires { AreMarks buffers.old window_marks.now }
     ensures buffers { buffers.new ≡ change_first (marked_named window_marks.now.name) (marked_placed window_marks.now.point (places_after step search.sought (marked_at window_marks.now.name buffers.old).buffer.text (places_at (length (marked_at window_marks.now.name buffers.old).buffer.text) (mark_at window_marks.now.name buffers.old window_marks.now.point) search)).point) buffers.old }
     ensures plan { (rest : plans.Around) → Ok (stepped step (places_after step search.sought (marked_at window_marks.now.name buffers.old).buffer.text (places_at (length (marked_at window_marks.now.name buffers.old).buffer.text) (mark_at window_marks.now.name buffers.old window_marks.now.point) search)) (search_stepped step (marked_at window_marks.now.name buffers.old).buffer.text (places_at (length (marked_at window_marks.now.name buffers.old).buffer.text) (mark_at window_marks.now.name buffers.old window_marks.now.point) search) search).sought.failing) ≡ motion (SearchOn search.sought.direction step) (marked_at window_marks.now.name buffers.old).buffer.text (seeking rest (places_at (length (marked_at window_marks.now.name buffers.old).buffer.text) (mark_at window_marks.now.name buffers.old window_marks.now.point) search) search.sought.pattern) }
     ensures within { (places_after step search.sought (marked_at window_marks.now.name buffers.old).buffer.text (places_at (length (marked_at window_marks.now.name buffers.old).buffer.text) (mark_at window_marks.now.name buffers.old window_marks.now.point) search)).anchor ≤ length (marked_at window_marks.now.name buffers.old).buffer.text }
@@ -198,7 +198,7 @@ fn go_back_in<T: Marked + Drop>(
     session: &Session,
     window_marks: &WindowMarks,
 )
-    requires marks { AreMarks buffers.old window_marks.now }
+    requires { AreMarks buffers.old window_marks.now }
     ensures { buffers.new ≡ mark_gone window_marks.now.name window_marks.now.point (origin_plan window_marks.now.name (length (marked_at window_marks.now.name buffers.old).buffer.text) session.now.own.search) buffers.old }
 {
     let name = &window_marks.name;
@@ -221,11 +221,7 @@ fn go_back<T: Marked + Drop>(buffers: &mut Buffers<T>, session: &Session)
 
 /// The search of the session at `at` is quit: the point of the selected window goes back to its origin, where the window shows its buffer.
 /// It takes no memory, and touches no text and no other session.
-pub fn quit_search<T: Marked + Drop>(
-    buffers: &mut Buffers<T>,
-    sessions: &mut [Session],
-    at: usize,
-)
+pub fn quit_search<T: Marked + Drop>(buffers: &mut Buffers<T>, sessions: &mut [Session], at: usize)
     requires sound { IsSound buffers.old sessions.old }
     requires within { at < length sessions.old }
     ensures sound { IsSound buffers.new sessions.new }
