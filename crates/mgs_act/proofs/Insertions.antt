@@ -8,7 +8,7 @@ use Rattle.mgs_model.specs.Access.{Directory}
 use Rattle.mgs_model.specs.World.{Own, World}
 use Rattle.mgs_model.specs.View.{view}
 use Rattle.mgs_model.specs.Outcome.{Run, takes_memory}
-use Rattle.mgs_model.specs.Acts.{edit_of, fails, finished, outcome}
+use Rattle.mgs_model.specs.Acts.{fails, outcome}
 use Rattle.mgs_model.specs.Apart.{Apart, touched_by}
 use Rattle.mgs_model.specs.Apply.{act, applied, apply, outcome_in}
 use Rattle.mgs_model.specs.Events.{may_be_refused}
@@ -27,7 +27,7 @@ use Rattle.mgs_act.specs.Actions.{AreMarks, edited_by}
 use Rattle.mgs_act.specs.Following.{edit_told, followed}
 use Rattle.mgs_act.specs.Inserting.{IsInserted, buffers_inserted, decided_outcome, insertion_of, insertion_outcome, leaving, outcome_from, put_outcome}
 use Rattle.mgs_act.specs.declared.inserting.Inserted.{Inserted}
-use Rattle.mgs_act.specs.declared.inserting.Inserted.TheVariants.{Fails, Copies}
+use Rattle.mgs_act.specs.declared.inserting.Inserted.TheVariants.{Fails}
 use Rattle.mgs_world.specs.Sound.{IsSound}
 use Rattle.mgs_world.specs.WindowMarks.{WindowMarksDropped}
 use Rattle.mgs_world.specs.Worlds.{id_after, idle, own_at, own_of, own_or_first, session_id, session_of, size_in, sizes_in, world_of}

@@ -3,13 +3,11 @@ use Rattle.std.proofs.Common.{◌≡◌, ℕ, zero, suc, ◌+◌, ◌<◌, ◌�
 use Rattle.std.specs.Prelude.{find, is_some, slice_get, slice_set, Result, Ok, Err, OnOk, OnErr}
 use Rattle.std.specs.List.{position_or_len}
 use Rattle.std.specs.Option.{option_and_then, option_map}
-use Rattle.std.proofs.lemmas.List.{map-id}
 use Rattle.std.proofs.lemmas.Option.{get_or_from_slice_get}
-use Rattle.mgs_model.specs.Text.{is_edit}
 use Rattle.mgs_model.specs.Access.{Directory}
 use Rattle.mgs_model.specs.World.{Buffer, Item, World, has_id}
 use Rattle.mgs_model.specs.World as model
-use Rattle.mgs_model.specs.Outcome.{Edit, Effect, No_effect, Keep, Keep_mark, Mark_at, effect_takes_memory, takes_memory}
+use Rattle.mgs_model.specs.Outcome.{Effect, No_effect, Keep, Keep_mark, Mark_at, effect_takes_memory, takes_memory}
 use Rattle.mgs_model.specs.Plans as plans
 use Rattle.mgs_model.specs.Acts.{edit_of, fails, finished, is_too_large}
 use Rattle.mgs_model.specs.Apply.{apply, buffers_after, change_at, change_first, session_after, session_arranged, window_adjusted}

@@ -1,7 +1,7 @@
 -- An incremental search goes on or is quit: that what is done is the act.
-use Rattle.std.proofs.Common.{◌≡◌, ℕ, zero, suc, ◌+◌, ◌<◌, ◌≤◌, min, Bool, true, false, cond, List, [], ◌∷◌, length, map, Option, Some, None, get_or, refl, sym, ap, subst, ◌∙◌, map-id, arith}
+use Rattle.std.proofs.Common.{◌≡◌, ℕ, zero, suc, ◌+◌, ◌<◌, ◌≤◌, min, Bool, true, false, cond, List, [], ◌∷◌, length, map, Option, Some, None, get_or, refl, sym, ap, ◌∙◌, map-id}
 use Rattle.std.proofs.Math.Nat.{min-eq_left}
-use Rattle.std.specs.Prelude.{find, slice_get, slice_set, Result, Ok, Err}
+use Rattle.std.specs.Prelude.{find, slice_get, slice_set, Result, Ok}
 use Rattle.std.specs.List.{position_or_len}
 use Rattle.std.specs.Option.{option_and_then, option_map}
 use Rattle.std.proofs.lemmas.Option.{get_or_from_slice_get}
@@ -13,7 +13,7 @@ use Rattle.mgs_model.specs.View.{reads, search_seen, view}
 use Rattle.mgs_model.specs.Outcome.{Act, Adjust, At, At_origin, Keep, Keep_kill, Keep_mark, No_effect, No_search, Outcome, Run}
 use Rattle.mgs_model.specs.Plans as plans
 use Rattle.mgs_model.specs.Plans.{Failing, Finish, Goes_on, acted_own, failed_own, motion}
-use Rattle.mgs_model.specs.Searching.{Sought, is_looking, is_none, looked_for, places_after, sought_after}
+use Rattle.mgs_model.specs.Searching.{is_looking, is_none, looked_for, places_after}
 use Rattle.mgs_model.specs.Acts.{fails, finished, finished_own, is_sought_in, mode_left, outcome, permitted}
 use Rattle.mgs_model.specs.Apart.{Apart}
 use Rattle.mgs_model.specs.Apply.{act, applied, apply, change_at, change_first, searches, session_arranged, window_adjusted}
@@ -24,7 +24,6 @@ use Rattle.mgs_model.specs.declared.search.SearchPlaces.{SearchPlaces}
 use Rattle.mgs_model.specs.declared.search.SearchStep.{SearchStep}
 use Rattle.mgs_model.specs.declared.session.Command.TheVariants.{LeaveSearch, Move}
 use Rattle.mgs_model.specs.declared.session.Kind.TheVariants.{Other}
-use Rattle.mgs_model.specs.declared.session.Mode.TheVariants.{Searching}
 use Rattle.mgs_model.specs.declared.session.Motion.TheVariants.{SearchOn}
 use Rattle.mgs_model.specs.declared.touched.Touched.TheVariants.{Nowhere}
 use Rattle.mgs_model.proofs.Apart.{apart_apply}

@@ -1,5 +1,5 @@
 -- Positions of searches go by what an action does to a text.
-use Rattle.std.specs.Prelude.{◌≡◌, ℕ, ◌+◌, ◌<◌, ◌≤◌, ◌^◌, List, [], length, map, Option, Some, None, cond}
+use Rattle.std.specs.Prelude.{ℕ, ◌+◌, ◌<◌, ◌≤◌, ◌^◌, List, length, map, Option, Some, None, cond}
 use Rattle.mgs_model.specs.Text.{is_edit}
 use Rattle.mgs_model.specs.World.{Item}
 use Rattle.mgs_model.specs.Plans as plans

@@ -1,8 +1,7 @@
-use Rattle.std.proofs.Common.{◌≤◌, ℕ, length, get_or, refl, sym, ap, subst, ◌∙◌}
+use Rattle.std.proofs.Common.{get_or, sym, ap, ◌∙◌}
 use Rattle.std.specs.Option.{option_and_then}
 use Rattle.std.proofs.lemmas.Option.{slice_get-get_or}
 use Rattle.mgs_model.specs.declared.message.Message.TheVariants.{NoBuffer}
-use Rattle.mgs_buffers.specs.MarkedBuffer.{mark_at, marked_at}
 use Rattle.mgs_session.specs.Sessions.{window_marks_of}
 use Rattle.mgs_world.proofs.Soundness.{mark_is_kept}
 use Rattle.mgs_act.proofs.Deeds.{acting_marks}
