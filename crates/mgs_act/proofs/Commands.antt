@@ -24,7 +24,7 @@ use Rattle.mgs_model.specs.declared.session.Question.{Question}
 use Rattle.mgs_model.specs.declared.session.Setting.{Setting}
 use Rattle.mgs_model.specs.declared.session.Setting.TheVariants.{SetFillColumn, KeyboardQuit, StartMacro, EndMacro, CallMacro}
 use Rattle.mgs_model.specs.declared.message.Message.{Message}
-use Rattle.mgs_model.specs.declared.message.Message.TheVariants.{BadColumn, InMacro, KeyNotBound, NoArgument, NoBuffer, NotInMacro, Quitting}
+use Rattle.mgs_model.specs.declared.message.Message.TheVariants.{BadColumn, InMacro, KeyNotBound, NoArgument, NotInMacro, Quitting}
 use Rattle.mgs_model.specs.declared.session.Kind.TheVariants.{Other}
 use Rattle.mgs_model.proofs.Apart.{apart_apply}
 use Rattle.mgs_model.proofs.Firsts.{position_or_len-map, written_first}
@@ -41,13 +41,13 @@ use Rattle.mgs_world.specs.Sound.{IsSound}
 use Rattle.mgs_act.specs.Setting.{session_set}
 use Rattle.mgs_world.specs.Worlds.{id_after, idle, own_at, own_of, own_or_first, session_id, session_of, world_of}
 use Rattle.mgs_world.proofs.Sessions.{session_some}
-use Rattle.mgs_world.proofs.Owns.{at_rest, no_search, own_asking}
+use Rattle.mgs_world.proofs.Owns.{at_rest, no_search_at_rest, own_asking, search_at_rest, search_kept}
 use Rattle.mgs_world.proofs.Soundness.{mark_is_kept}
 use Rattle.mgs_world.proofs.Worlds.{same_world}
 use Rattle.mgs_act.proofs.Deeds.{acting_marks, failed_so, fresh_own}
 use Rattle.mgs_act.proofs.Outcomes.{is_of_text, outcome_plan}
 
-session_known : (directory : Directory) (ks : List MarkedBuffer) (xs : List Session) (next : Option ℕ) (id at : ℕ) (h : Session) → at ≡ position_or_len (session_id id) xs → at < length xs → slice_get xs at ≡ Some h → find_session id (world_of directory ks xs next).sessions ≡ Some (session_of ks h)
+pub session_known : (directory : Directory) (ks : List MarkedBuffer) (xs : List Session) (next : Option ℕ) (id at : ℕ) (h : Session) → at ≡ position_or_len (session_id id) xs → at < length xs → slice_get xs at ≡ Some h → find_session id (world_of directory ks xs next).sessions ≡ Some (session_of ks h)
 session_known directory ks xs next id at h place within is =
     session_some directory ks xs next id at h place within (sym (get_or_from_slice_get xs at h h is))
 
@@ -67,7 +67,7 @@ IsPlanned directory ks h x c n typed action =
 outcome_planned : (directory : Directory) (ks : List MarkedBuffer) (xs : List Session) (next : Option ℕ) (at : ℕ) (h : Session) (x : WindowMarks) (c : Command) (n : Option ℕ) (typed : List ℕ) (action : Action) → is_of_text c ≡ true → IsSound ks xs → slice_get xs at ≡ Some h → own_at at xs ≡ idle (own_at at xs) → window_marks_of h ≡ Some x → IsPlanned directory ks h x c n typed action → outcome (view (world_of directory ks xs next) (session_of ks h)) (outcomes.Run c n typed) true ≡ outcome_through (own_of h.own) x ks h.kill action
 outcome_planned directory ks xs next at h x c n typed action here sound is fresh sel planned =
     let marks = acting_marks ks xs at x sound (ap (option_and_then window_marks_of) is ∙ sel) in
-    outcome_plan directory ks xs next h x c n typed here sel (mark_is_kept x.name x.point ks marks.point)
+    outcome_plan directory ks xs next h x c n typed here sel (mark_is_kept x.name x.point ks marks.point) (no_search_at_rest ks h (fresh_own xs at h is fresh))
     ∙ sym (subst (λ (own : model.Own). outcome_through own x ks h.kill action ≡ plan_in directory ks own h.user x (selected_height h) c n typed h.kill) (sym (fresh_own xs at h is fresh)) planned)
 
 -- where what is planned is done, the act is
@@ -108,8 +108,14 @@ acted_as : (f : model.Own → model.Own) → ((own : model.Own) → f (record (i
 acted_as f same o fresh = at_rest (λ own. f (record own { kind = Other })) (λ own. f (acted_own own)) same (own_of o) fresh
 
 module _ (directory : Directory) (ks : List MarkedBuffer) (xs : List Session) (next : Option ℕ) (id at : ℕ) (h : Session) (place : at ≡ position_or_len (session_id id) xs) (within : at < length xs) (found : slice_get xs at ≡ Some h) (fresh : own_at at xs ≡ idle (own_at at xs)) where
+  rests : own_of h.own ≡ idle (own_of h.own)
+  rests = fresh_own xs at h found fresh
+
+  kept : (session_of ks h).search ≡ cond (searches (own_of h.own).mode) (session_of ks h).search None
+  kept = search_kept ks h rests
+
   failed_set : (message : Message) → world_of directory ks (slice_set xs at (failed message h)) next ≡ apply (world_of directory ks xs next) id (fails (own_of h.own) message)
-  failed_set message = failed_so directory ks xs next id at h message place within found (fresh_own xs at h found fresh)
+  failed_set message = failed_so directory ks xs next id at h message place within found rests
 
   owned_so : (y : Session) (after : model.Own) → session_of ks y ≡ session_arranged (owns after) (session_of ks h) → world_of directory ks (slice_set xs at y) next ≡ apply (world_of directory ks xs next) id (owns after)
   owned_so y after does =
@@ -121,11 +127,11 @@ module _ (directory : Directory) (ks : List MarkedBuffer) (xs : List Session) (n
   -- a command of no kind was done, which set this
   acted_so : (y : Session) (f : model.Own → model.Own) → ((own : model.Own) → f (record (idle own) { kind = Other }) ≡ f (acted_own (idle own)))
       → session_of ks y ≡ record (session_of ks h) { own = f (record (own_of h.own) { kind = Other }) }
-      → Path (Option model.Search) None (cond (searches (f (acted_own (own_of h.own))).mode) None None)
+      → Path (Option model.Search) (session_of ks h).search (cond (searches (f (acted_own (own_of h.own))).mode) (session_of ks h).search None)
       → world_of directory ks (slice_set xs at y) next ≡ apply (world_of directory ks xs next) id (owns (f (acted_own (own_of h.own))))
   acted_so y f same does still =
       owned_so y (f (acted_own (own_of h.own)))
-      (does ∙ (λ i. record (session_of ks h) { own = acted_as f same h.own (fresh_own xs at h found fresh) i; search = still i }))
+      (does ∙ (λ i. record (session_of ks h) { own = acted_as f same h.own rests i; search = still i }))
 
   -- a command that is done or fails, by what the session records
   recorded_so : (y : Session) (f : model.Own → model.Own) (message : Message)
@@ -136,7 +142,7 @@ module _ (directory : Directory) (ks : List MarkedBuffer) (xs : List Session) (n
 
   started_so : (c : Bool) → world_of directory ks (slice_set xs at (cond c (failed InMacro h) (macro_started h))) next ≡ apply (world_of directory ks xs next) id (sets (own_of h.own) (cond c (Err InMacro) (Ok (record (acted_own (own_of h.own)) { recording = true; macro = [] }))))
   started_so true = failed_set InMacro
-  started_so false = acted_so (macro_started h) (λ own. record own { recording = true; macro = [] }) (λ own. refl) refl (no_search h.own.prompt)
+  started_so false = acted_so (macro_started h) (λ own. record own { recording = true; macro = [] }) (λ own. refl) refl kept
 
   -- nothing ends while a macro plays
   ended_so : (c : Bool)
@@ -152,14 +158,14 @@ module _ (directory : Directory) (ks : List MarkedBuffer) (xs : List Session) (n
     where
       by : (b : Bool) → world_of directory ks (slice_set xs at (cond b (failed BadColumn h) (filling n (acted Other h)))) next ≡ apply (world_of directory ks xs next) id (sets (own_of h.own) (cond b (Err BadColumn) (Ok (record (acted_own (own_of h.own)) { fill = n }))))
       by true = failed_set BadColumn
-      by false = acted_so (filling n (acted Other h)) (λ own. record own { fill = n }) (λ own. refl) refl (no_search h.own.prompt)
+      by false = acted_so (filling n (acted Other h)) (λ own. record own { fill = n }) (λ own. refl) refl kept
   set_so KeyboardQuit n here =
       let after : model.Own = record (failed_own Quitting (own_of h.own)) { recording = false; macro = cond h.own.recorder.recording [] h.own.recorder.macro } in
       owned_so (macro_given_up (failed Quitting h)) after refl
   set_so StartMacro n here = started_so (h.own.recorder.recording || h.own.player.playing)
   set_so EndMacro n here =
       let ends : model.Own → model.Own = λ own. record own { recording = false; macro = take (length own.macro - 2) own.macro } in
-      ended_so h.own.recorder.recording (recorded_so (macro_ended h) ends NotInMacro (acted_so (macro_ended h) ends (λ own. refl) refl (no_search h.own.prompt)) h.own.recorder.recording) h.own.player.playing
+      ended_so h.own.recorder.recording (recorded_so (macro_ended h) ends NotInMacro (acted_so (macro_ended h) ends (λ own. refl) refl kept) h.own.recorder.recording) h.own.player.playing
   set_so CallMacro n here = cc
 
   set_known : (s : Setting) (n : Option ℕ) → outcome (view (world_of directory ks xs next) (session_of ks h)) (act_of (Run (Set s) n)) true ≡ sets (own_of h.own) (setting s (acted_own (own_of h.own)) n)
@@ -188,13 +194,13 @@ module _ (directory : Directory) (ks : List MarkedBuffer) (xs : List Session) (n
 
 -- A QUESTION
 
-module _ (directory : Directory) (ks : List MarkedBuffer) (xs : List Session) (next : Option ℕ) (id at : ℕ) (h : Session) (place : at ≡ position_or_len (session_id id) xs) (within : at < length xs) (found : slice_get xs at ≡ Some h) where
+module _ (directory : Directory) (ks : List MarkedBuffer) (xs : List Session) (next : Option ℕ) (id at : ℕ) (h : Session) (place : at ≡ position_or_len (session_id id) xs) (within : at < length xs) (found : slice_get xs at ≡ Some h) (fresh : own_at at xs ≡ idle (own_at at xs)) where
   asked_so : (c : Question) (n : Option ℕ) → world_of directory ks (slice_set xs at (asking c n h)) next ≡ apply (world_of directory ks xs next) id (owns (asks c n (own_of h.own)))
   asked_so c n =
       let f = session_arranged (owns (asks c n (own_of h.own))) in
       same_world directory _ _ _ _ (id_after next) refl
       (written_first (session_of ks) (has_id id) f xs at h (asking c n h) (place ∙ sym (position_or_len-map (session_of ks) (has_id id) xs)) within (sym (get_or_from_slice_get xs at h h found))
-      (λ i. record (session_of ks h) { own = own_asking c n h i })
+      (λ i. record (session_of ks h) { own = own_asking c n h (search_at_rest h.own (fresh_own xs at h found fresh)) i; search = no_search_at_rest ks h (fresh_own xs at h found fresh) i })
       ∙ ap (change_first (has_id id) f) (sym (map-id (map (session_of ks) xs))))
 
   ask_known : (c : Question) (n : Option ℕ) → outcome (view (world_of directory ks xs next) (session_of ks h)) (act_of (Run (Ask c) n)) true ≡ owns (asks c n (own_of h.own))

@@ -1,38 +1,28 @@
 -- The insertion of a buffer's text: what the act comes to, and that what is done is the act.
-use Rattle.std.proofs.Common.{◌≡◌, ℕ, ◌+◌, ◌-◌, ◌<◌, ◌≤◌, ◌==◌, Bool, true, false, cond, ◌&&◌, ◌||◌, nat_lt, List, [], ◌∷◌, length, map, Option, Some, None, refl, sym, ap, subst, ◌∙◌, arith, eq-eqb}
-use Rattle.std.specs.Prelude.{find, slice_get, slice_set, IfSome, Result, Ok, Err, OnOk, OnErr}
-use Rattle.std.specs.List.{position_or_len}
-use Rattle.std.specs.Option.{option_and_then, option_map}
-use Rattle.std.proofs.lemmas.Option.{get_or_from_slice_get}
+use Rattle.std.proofs.Common.{◌≡◌, ℕ, Bool, true, false, cond, List, [], ◌∷◌, length, map, Option, Some, None, refl, sym, ap, ◌∙◌, eq-eqb}
+use Rattle.std.specs.Prelude.{IfSome, Ok}
+use Rattle.std.specs.Option.{option_map}
 use Rattle.mgs_model.specs.Access.{Decider, Directory, allows, any_right, decider, decision_by}
 use Rattle.mgs_model.specs.Rights.{rights_in}
-use Rattle.mgs_model.specs.World.{Buffer, Own, World, may}
-use Rattle.mgs_model.specs.World as model
-use Rattle.mgs_model.specs.View.{BufferSeen, View, buffer_seen, find_seen, full_if, positions_if, reads, reads_found, serial_told, size_told, text_in, told_if, view}
-use Rattle.mgs_model.specs.Outcome.{Edit, Effect, No_effect, Outcome, Run, effect_takes_memory, takes_memory}
-use Rattle.mgs_model.specs.Acts.{Target, acts_at, around, copy_needs, deciders_found, edit_of, edits, fails, finished, here, insertion_right, is_full, judged, or_else, outcome, permitted, request_judged, target}
-use Rattle.mgs_model.specs.Apart.{Apart, touched_by}
-use Rattle.mgs_model.specs.Apply.{act, applied, apply, outcome_in}
-use Rattle.mgs_model.specs.Events.{may_be_refused}
+use Rattle.mgs_model.specs.World.{Buffer, Own}
+use Rattle.mgs_model.specs.View.{BufferSeen, View, buffer_seen, find_seen, full_if, positions_if, reads_found, serial_told, size_told, text_in, told_if, view}
+use Rattle.mgs_model.specs.Outcome.{Outcome, Run}
+use Rattle.mgs_model.specs.Acts.{Target, acts_at, around, copy_needs, deciders_found, edits, fails, here, insertion_right, judged, or_else, outcome, permitted, target}
 use Rattle.mgs_model.specs.Plans.{inserted}
-use Rattle.mgs_model.specs.Text.{is_edit}
 use Rattle.mgs_model.specs.declared.entry.Decision.{Decision}
 use Rattle.mgs_model.specs.declared.entry.Decision.TheVariants.{Granted, DeniedBy, NotGranted}
 use Rattle.mgs_model.specs.declared.message.Message.{Message}
-use Rattle.mgs_model.specs.declared.message.Message.TheVariants.{NoBuffer, NoSuchBuffer}
 use Rattle.mgs_model.specs.declared.right.Right.{Right}
 use Rattle.mgs_model.specs.declared.right.Right.TheVariants.{AppendData, ReadData}
 use Rattle.mgs_model.specs.declared.session.ByName.TheVariants.{InsertBuffer}
 use Rattle.mgs_model.specs.declared.session.Command.TheVariants.{Named}
-use Rattle.mgs_model.specs.declared.touched.Touched.{Touched}
-use Rattle.mgs_model.proofs.Apart.{apart_apply}
 use Rattle.mgs_model.proofs.Outcomes.{granted_each}
-use Rattle.mgs_buffers.specs.MarkedBuffer.{HasBuffer, MarkedBuffer, has_buffer, mark_at, marked_at, marked_named}
+use Rattle.mgs_buffers.specs.MarkedBuffer.{HasBuffer, MarkedBuffer, has_buffer, mark_at, marked_at}
 use Rattle.mgs_windows.specs.declared.WindowMarks.{WindowMarks}
 use Rattle.mgs_session.specs.Sessions.{window_marks_of}
 use Rattle.mgs_session.specs.declared.Session.{Session}
-use Rattle.mgs_act.specs.Actions.{AreMarks, edit_outcome, insertion_mask, place_in}
-use Rattle.mgs_act.specs.Inserting.{acting_place, copied_at, copy_decision, copy_outcome, insertion_of, insertion_outcome, outcome_from, rights_decision, target_decision}
+use Rattle.mgs_act.specs.Actions.{edit_outcome, insertion_mask, place_in}
+use Rattle.mgs_act.specs.Inserting.{copy_outcome, insertion_of, insertion_outcome, outcome_from}
 use Rattle.mgs_world.specs.Worlds.{buffers_of, own_of, session_of, world_of}
 use Rattle.mgs_world.proofs.Found.{found_buffer, found_seen, name_kept, unseen}
 use Rattle.mgs_world.proofs.Marks.{not_both}

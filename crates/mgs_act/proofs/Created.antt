@@ -5,7 +5,7 @@ use Rattle.std.specs.List.{position_or_len}
 use Rattle.std.proofs.lemmas.List.{map-append}
 use Rattle.mgs_model.specs.Access.{Directory}
 use Rattle.mgs_model.specs.Names.{same_name}
-use Rattle.mgs_model.specs.World.{World, find_session, has_id, is_named}
+use Rattle.mgs_model.specs.World.{Buffer, World, find_buffer, find_session, has_id, is_named}
 use Rattle.mgs_model.specs.World as model
 use Rattle.mgs_model.specs.Apply.{change_first, new_buffer, remove_first}
 use Rattle.mgs_marks.specs.Marks.{mark_in, position_in}
@@ -15,8 +15,8 @@ use Rattle.mgs_arrange.specs.Arranged.{run_ended}
 use Rattle.mgs_arrange.specs.Showing.{shown_in, window_shows}
 use Rattle.mgs_act.specs.Switching.{created_in}
 use Rattle.mgs_world.specs.Sound.{IsSound, in_use, one_if}
-use Rattle.mgs_world.specs.WindowMarks.{MarksStay, WindowMarksDropped}
-use Rattle.mgs_world.specs.Worlds.{buffers_of, id_after, session_id, session_of, world_of}
+use Rattle.mgs_world.specs.WindowMarks.{MarksStay, SizesStay, WindowMarksDropped}
+use Rattle.mgs_world.specs.Worlds.{buffers_of, id_after, session_id, session_of, size_found, size_named, world_of}
 use Rattle.mgs_world.proofs.Marks.{false_from, is_same, not_both, same_is}
 use Rattle.mgs_world.proofs.Sessions.{session_some}
 use Rattle.mgs_world.proofs.Soundness.{sound_in_use, sound_same}
@@ -74,13 +74,23 @@ created_kept ks name owner = found_last (marked_named name) ks (marked_created n
 pub created_buffers : (ks : List MarkedBuffer) (k : MarkedBuffer) → buffers_of (ks ++ k ∷ []) ≡ buffers_of ks ++ k.buffer ∷ []
 created_buffers ks k = map-append (λ (k : MarkedBuffer). k.buffer) ks (k ∷ [])
 
-pub created_session : (ks : List MarkedBuffer) (k : MarkedBuffer) (x : Session) → k.marks ≡ [] → session_of (ks ++ k ∷ []) x ≡ session_of ks x
-created_session ks k x e = session_local (ks ++ k ∷ []) ks x (λ n i used. ap (λ (ms : List (Option ℕ)). position_in ms i) (marks_created n ks k e))
+-- an empty text has the length of one that is not there
+size_created : (m : List ℕ) (bs : List Buffer) (b : Buffer) → b.text ≡ [] → size_named m (bs ++ b ∷ []) ≡ size_named m bs
+size_created m [] b e = elim (is_named m b) as (λ c. size_found (cond c (Some b) None) ≡ 0) [ true ↦ ap (λ (t : List ℕ). length t) e | false ↦ refl ]
+size_created m (x ∷ xs) b e =
+    elim (is_named m x) as (λ c. size_found (cond c (Some x) (find_buffer m (xs ++ b ∷ []))) ≡ size_found (cond c (Some x) (find_buffer m xs))) [ true ↦ refl | false ↦ size_created m xs b e ]
 
-pub created_sessions : (ks : List MarkedBuffer) (k : MarkedBuffer) (xs : List Session) → k.marks ≡ [] → map (session_of (ks ++ k ∷ [])) xs ≡ map (session_of ks) xs
-created_sessions ks k [] e = refl
-created_sessions ks k (x ∷ xs) e =
-    ap (λ y. y ∷ map (session_of (ks ++ k ∷ [])) xs) (created_session ks k x e) ∙ ap (λ ys. session_of ks x ∷ ys) (created_sessions ks k xs e)
+sizes_created : (ks : List MarkedBuffer) (k : MarkedBuffer) → k.buffer.text ≡ [] → SizesStay (buffers_of ks) (buffers_of (ks ++ k ∷ []))
+sizes_created ks k empty = λ n. ap (size_named n) (created_buffers ks k) ∙ size_created n (buffers_of ks) k.buffer empty
+
+pub created_session : (ks : List MarkedBuffer) (k : MarkedBuffer) (x : Session) → k.marks ≡ [] → k.buffer.text ≡ [] → session_of (ks ++ k ∷ []) x ≡ session_of ks x
+created_session ks k x e empty =
+    session_local (ks ++ k ∷ []) ks x (sizes_created ks k empty) (λ n i used. ap (λ (ms : List (Option ℕ)). position_in ms i) (marks_created n ks k e))
+
+pub created_sessions : (ks : List MarkedBuffer) (k : MarkedBuffer) (xs : List Session) → k.marks ≡ [] → k.buffer.text ≡ [] → map (session_of (ks ++ k ∷ [])) xs ≡ map (session_of ks) xs
+created_sessions ks k [] e empty = refl
+created_sessions ks k (x ∷ xs) e empty =
+    ap (λ y. y ∷ map (session_of (ks ++ k ∷ [])) xs) (created_session ks k x e empty) ∙ ap (λ ys. session_of ks x ∷ ys) (created_sessions ks k xs e empty)
 
 -- IT GOES AGAIN: no mark of it is in use
 
@@ -92,7 +102,7 @@ other_name : (name n : List ℕ) → same_name name n ≡ false → (k : MarkedB
 other_name name n apart k is =
     false_from (marked_named n k) (λ e. not_both (same_name name n) (is_same name n (same_is name k.buffer.name is ∙ sym (same_is n k.buffer.name e))) apart)
 
-module _ (name : List ℕ) (ks ls : List MarkedBuffer) (k : MarkedBuffer) (free : has_buffer name ks ≡ false) (named : marked_named name k ≡ true) (unmarked : k.marks ≡ []) (dropped : WindowMarksDropped None (ks ++ k ∷ []) ls) (gone : has_buffer name (without_marked name ls) ≡ false) where
+module _ (name : List ℕ) (ks ls : List MarkedBuffer) (k : MarkedBuffer) (free : has_buffer name ks ≡ false) (named : marked_named name k ≡ true) (unmarked : k.marks ≡ []) (empty : k.buffer.text ≡ []) (dropped : WindowMarksDropped None (ks ++ k ∷ []) ls) (gone : has_buffer name (without_marked name ls) ≡ false) where
   unused : (i : ℕ) → in_use name i ls ≡ 0
   unused i = omega (arith, dropped.uses name i, use_created name i ks k unmarked, none_in (find (marked_named name) ks) i free)
 
@@ -127,12 +137,15 @@ module _ (name : List ℕ) (ks ls : List MarkedBuffer) (k : MarkedBuffer) (free 
       ∙ sym (map_removed (λ (k : MarkedBuffer). k.buffer) (marked_named name) (is_named name) (λ k. refl) (ks ++ k ∷ []))
       ∙ ap (λ (ms : List MarkedBuffer). buffers_of ms) (removed_last (marked_named name) ks k free named)
 
+  gone_sizes : SizesStay (buffers_of ls) (buffers_of (without_marked name ls))
+  gone_sizes = λ n. ap (size_named n) gone_buffers ∙ sym (sizes_created ks k empty n) ∙ sym (ap (size_named n) dropped.buffers)
+
   pub gone_world : (xs ys : List Session) (directory : Directory) (next : Option ℕ) → IsSound ls ys → world_of directory ls ys next ≡ world_of directory (ks ++ k ∷ []) xs next → world_of directory (without_marked name ls) ys next ≡ world_of directory ks xs next
   gone_world xs ys directory next sound same =
       same_world directory _ _ _ _ (id_after next) gone_buffers
-      (sessions_stay ls (without_marked name ls) ys (sound_in_use ls ys sound) (sound_in_use (without_marked name ls) ys (gone_sound ys sound)) gone_stay
+      (sessions_stay ls (without_marked name ls) ys (sound_in_use ls ys sound) (sound_in_use (without_marked name ls) ys (gone_sound ys sound)) gone_sizes gone_stay
       ∙ ap (λ (w : World). w.sessions) same
-      ∙ created_sessions ks k xs unmarked)
+      ∙ created_sessions ks k xs unmarked empty)
 
 -- where the buffer that was made is taken out again, all is as it was
 module _ (name owner : List ℕ) (ks cs ls ms : List MarkedBuffer) (ys : List Session) (free : has_buffer name ks ≡ false) (cs_is : cs ≡ ks ++ marked_created name owner ∷ []) (dropped : WindowMarksDropped None cs ls) (ms_is : ms ≡ without_marked name ls) (gone : has_buffer name ms ≡ false) (sound : IsSound ls ys) where
@@ -144,19 +157,19 @@ module _ (name owner : List ℕ) (ks cs ls ms : List MarkedBuffer) (ys : List Se
 
   pub unmade_sound : IsSound ms ys
   unmade_sound =
-      subst (λ bs. IsSound bs ys) (sym ms_is) (gone_sound name ks ls (marked_created name owner) free (is_same name name refl) refl dropped_so gone_so ys sound)
+      subst (λ bs. IsSound bs ys) (sym ms_is) (gone_sound name ks ls (marked_created name owner) free (is_same name name refl) refl refl dropped_so gone_so ys sound)
 
   pub unmade_world : (xs : List Session) (directory : Directory) (next : Option ℕ) → world_of directory ls ys next ≡ world_of directory cs xs next → world_of directory ms ys next ≡ world_of directory ks xs next
   unmade_world xs directory next same =
       ap (λ bs. world_of directory bs ys next) ms_is
-      ∙ gone_world name ks ls (marked_created name owner) free (is_same name name refl) refl dropped_so gone_so xs ys directory next sound (same ∙ ap (λ bs. world_of directory bs xs next) cs_is)
+      ∙ gone_world name ks ls (marked_created name owner) free (is_same name name refl) refl refl dropped_so gone_so xs ys directory next sound (same ∙ ap (λ bs. world_of directory bs xs next) cs_is)
 
 -- where it is shown
 pub made_world : (directory : Directory) (ks cs ls : List MarkedBuffer) (xs ys : List Session) (next : Option ℕ) (id at : ℕ) (name : List ℕ) (h : Session) (x : model.Session) → cs ≡ ks ++ marked_created name h.user ∷ [] → at ≡ position_or_len (session_id id) xs → at < length xs → h ≡ get_or xs at h → find_session id (world_of directory ks xs next).sessions ≡ Some x
     → (find_session id (world_of directory cs xs next).sessions ≡ Some x → world_of directory ls ys next ≡ shown_in id name x (world_of directory cs xs next)) → world_of directory ls ys next ≡ created_in id name x (world_of directory ks xs next)
 made_world directory ks cs ls xs ys next id at name h x cs_is place within is found shown =
     let k = marked_created name h.user in
-    let seen : map (session_of cs) xs ≡ map (session_of ks) xs = ap (λ bs. map (session_of bs) xs) cs_is ∙ created_sessions ks k xs refl in
+    let seen : map (session_of cs) xs ≡ map (session_of ks) xs = ap (λ bs. map (session_of bs) xs) cs_is ∙ created_sessions ks k xs refl refl in
     let user : h.user ≡ x.user = ap user_of (sym (session_some directory ks xs next id at h place within is) ∙ found) in
     shown (ap (find_session id) seen ∙ found)
     ∙ same_world directory _ _ _ _ (id_after next)

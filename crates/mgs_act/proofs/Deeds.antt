@@ -12,7 +12,7 @@ use Rattle.mgs_model.specs.Outcome.{Adjust, Effect, No_effect, Edit, Unmodified,
 use Rattle.mgs_model.specs.Plans as plans
 use Rattle.mgs_model.specs.Plans.{acted_own, failed_own, kind_failed}
 use Rattle.mgs_model.specs.Acts.{edit_of, effects, fails, finished, finished_own, is_too_large}
-use Rattle.mgs_model.specs.Apply.{after_quit, apply, buffers_after, change_at, change_first, kill_after, session_after, session_arranged, window_adjusted}
+use Rattle.mgs_model.specs.Apply.{after_quit, apply, buffers_after, change_at, change_first, kill_after, searches, session_after, session_arranged, window_adjusted}
 use Rattle.mgs_model.specs.Text.{is_edit}
 use Rattle.mgs_model.specs.declared.message.Message.{Message}
 use Rattle.mgs_model.specs.declared.message.Message.TheVariants.{KillTooLarge, Silent}
@@ -28,19 +28,21 @@ use Rattle.mgs_edit.specs.Reading.{change_read, finish_read, kill_read, mark_rea
 use Rattle.mgs_edit.specs.declared.plan.Finish.{Finish}
 use Rattle.mgs_act.specs.declared.action.Action.{Action}
 use Rattle.mgs_act.specs.declared.action.Action.TheVariants.{Fails, Edits, Undoes, Moves, Clears}
+use Rattle.mgs_act.specs.Following.{edit_through, edit_told, followed}
 use Rattle.mgs_act.specs.Actions.{AreMarks, CanBeDone, edited_by, kill_at, kill_or_none, mark_gone, mark_told, marked_after, marks_gone, outcome_through, removed_by, session_acted, session_finished}
 use Rattle.mgs_world.specs.Sound.{IsSound, session_uses, uses}
 use Rattle.mgs_world.specs.Worlds.{buffers_of, id_after, idle, own_at, own_of, own_or_first, session_id, session_of, size_in, sizes_in, world_of}
 use Rattle.mgs_world.proofs.Sessions.{session_found}
-use Rattle.mgs_world.proofs.Owns.{at_rest, no_search, own_failed}
-use Rattle.mgs_world.proofs.Soundness.{acting_mark, one_if_most, point_used, sizes_set, sound_edited, sound_placed, sound_set}
-use Rattle.mgs_world.proofs.Worlds.{buffers_edited, buffers_placed, mark_used_once, point_places, point_to, same_world, selected_at, sessions_edited, sessions_placed, top_places, top_to, top_used_once}
+use Rattle.mgs_world.proofs.Owns.{at_rest, no_search_at_rest, search_at_rest, search_kept}
+use Rattle.mgs_world.proofs.Soundness.{acting_mark, mark_is_kept, one_if_most, point_used, sizes_set, sound_edited, sound_placed, sound_set}
+use Rattle.mgs_world.proofs.Worlds.{buffers_edited, buffers_placed, mark_used_once, point_places, point_to, same_world, selected_at, sessions_placed, top_places, top_to, top_used_once}
 use Rattle.mgs_world.proofs.Unmodified.{buffers_unmodified, sessions_unmodified, sound_unmodified}
+use Rattle.mgs_act.proofs.Followed.{get_followed, once_followed, place_followed, sessions_went, set_followed, within_followed}
 use Rattle.mgs_act.proofs.Leaving.{mark_edited_by, mark_still}
 
 -- LISTS
 
-at_same : {A : Type 0} (f : A → A) → ((x : A) → f x ≡ x) → (n : ℕ) (xs : List A) → change_at n f xs ≡ xs
+pub at_same : {A : Type 0} (f : A → A) → ((x : A) → f x ≡ x) → (n : ℕ) (xs : List A) → change_at n f xs ≡ xs
 at_same f same n [] = refl
 at_same f same zero (x ∷ xs) = ap (λ y. y ∷ xs) (same x)
 at_same f same (suc n) (x ∷ xs) = ap (λ ys. x ∷ ys) (at_same f same n xs)
@@ -58,7 +60,7 @@ first_same {A = A} p f same (x ∷ xs) = go (p x) (first_same p f same xs)
     go true rest = ap (λ y. y ∷ xs) (same x)
     go false rest = ap (λ ys. x ∷ ys) rest
 
-first_twice : {A : Type 0} (p : A → Bool) (f g : A → A) → ((x : A) → p (f x) ≡ p x) → (xs : List A) → change_first p g (change_first p f xs) ≡ change_first p (λ x. g (f x)) xs
+pub first_twice : {A : Type 0} (p : A → Bool) (f g : A → A) → ((x : A) → p (f x) ≡ p x) → (xs : List A) → change_first p g (change_first p f xs) ≡ change_first p (λ x. g (f x)) xs
 first_twice p f g keeps [] = refl
 first_twice {A = A} p f g keeps (x ∷ xs) = go (p x) refl (first_twice p f g keeps xs)
   where
@@ -77,7 +79,7 @@ fresh_own xs at h is fresh = sym (ap own_or_first is) ∙ fresh ∙ ap (λ o. id
 
 -- WINDOWS
 
-abbrev point_by : PointPlan → model.Window → model.Window
+abbrev pub point_by : PointPlan → model.Window → model.Window
 point_by to x = window_adjusted None to Keep_mark Keep None x
 
 abbrev top_by : PointPlan → model.Window → model.Window
@@ -89,7 +91,7 @@ selected_same f same x = ap (λ ws. record x { windows = ws }) (at_same f same x
 pub once_used : (ks : List MarkedBuffer) (xs : List Session) (n : List ℕ) (i : ℕ) → IsSound ks xs → uses n i xs ≤ 1
 once_used ks xs n i sound = omega (arith, sound.once n i, one_if_most (is_some (mark_in (marked_at n ks).marks i)))
 
-points_gone : (to : PointPlan) (ks : List MarkedBuffer) (xs : List Session) (id : ℕ) (h : Session) (x : WindowMarks) → find (session_id id) xs ≡ Some h → window_marks_of h ≡ Some x → IsMark x.name x.point ks → uses x.name x.point xs ≤ 1 → map (session_of (mark_gone x.name x.point to ks)) xs ≡ change_first (has_id id) (selected_at (point_by to)) (map (session_of ks) xs)
+pub points_gone : (to : PointPlan) (ks : List MarkedBuffer) (xs : List Session) (id : ℕ) (h : Session) (x : WindowMarks) → find (session_id id) xs ≡ Some h → window_marks_of h ≡ Some x → IsMark x.name x.point ks → uses x.name x.point xs ≤ 1 → map (session_of (mark_gone x.name x.point to ks)) xs ≡ change_first (has_id id) (selected_at (point_by to)) (map (session_of ks) xs)
 points_gone Keep ks xs id h x found sel mark once = sym (first_same (has_id id) (selected_at (point_by Keep)) (selected_same (point_by Keep) (λ w. refl)) (map (session_of ks) xs))
 points_gone (At p) ks xs id h x found sel mark once = sessions_placed x.point p (point_to p) ks xs id h x found sel (point_used x) (point_places p ks x mark) once
 points_gone At_origin ks xs id h x found sel mark once = sym (first_same (has_id id) (selected_at (point_by At_origin)) (selected_same (point_by At_origin) origin) (map (session_of ks) xs))
@@ -133,13 +135,6 @@ edited_buffers name c ks = go (is_edit c.a c.b c.put)
     go true = buffers_edited name c.a c.b c.put ks
     go false = refl
 
-edited_sessions : (name : List ℕ) (c : plans.Change) (ks : List MarkedBuffer) (xs : List Session) → map (session_of (edited_by name c ks)) xs ≡ map (session_after (edit_of name c)) (map (session_of ks) xs)
-edited_sessions name c ks xs = go (is_edit c.a c.b c.put)
-  where
-    go : (f : Bool) → map (session_of (cond f (change_first (marked_named name) (marked_edited c.a c.b c.put) ks) ks)) xs ≡ map (session_after (cond f (Edit name c.a c.b c.put) No_effect)) (map (session_of ks) xs)
-    go true = sessions_edited name c.a c.b c.put ks xs
-    go false = sym (map-id (map (session_of ks) xs))
-
 -- what the acting session holds in the end
 abbrev ends : plans.Finish → model.Own → model.Session → model.Session
 ends f own x = record x { kill = kill_after f.kill x.kill; own = finished_own f own }
@@ -156,11 +151,13 @@ abbrev pub unmarked : plans.Finish → plans.Finish
 unmarked f = record f { mark = Keep_mark }
 
 -- one session, with its marks placed
-one_ends : (behind : ℕ) (text kill : List ℕ) (f : Finish) (e : Effect) (ks : List MarkedBuffer) (h : Session)
+one_ends : (behind : ℕ) (text kill : List ℕ) (f : Finish) (e : Effect) (ks : List MarkedBuffer) (h : Session) → own_of h.own ≡ idle (own_of h.own)
     → (let left = finish_read text kill behind f in ends left (own_of h.own) (selected_at (top_by left.top) (selected_at (point_by left.point) (session_of ks h))) ≡ session_arranged (ended (unmarked left) e (own_of h.own)) (session_of ks h))
-one_ends behind text kill f e ks h =
+one_ends behind text kill f e ks h fresh =
     let left = finish_read text kill behind f in
-    λ i. record (ends left (own_of h.own) (session_of ks h)) { windows = windows_end left.point left.top (session_of ks h) i; search = no_search h.own.prompt i }
+    let s = session_of ks h in
+    (λ i. record (ends left (own_of h.own) s) { windows = windows_end left.point left.top s i; search = search_kept ks h fresh i })
+    ∙ ap (λ (o : Option model.Search). let y : model.Session = record (ends left (own_of h.own) s) { windows = change_at s.selected (window_adjusted o left.point Keep_mark left.top None) s.windows; search = cond (searches (own_of h.own).mode) s.search None } in y) (sym (no_search_at_rest ks h fresh))
 
 -- the session's own record
 own_ends : (behind : ℕ) (text kill : List ℕ) (f : Finish) (ks : List MarkedBuffer) (h : Session) → own_of h.own ≡ idle (own_of h.own)
@@ -176,9 +173,10 @@ no_quit name c id xs = go (is_edit c.a c.b c.put)
     go true = refl
     go false = refl
 
-pub finished_sessions : (ks : List MarkedBuffer) (xs : List Session) (id at : ℕ) (h : Session) (x : WindowMarks) (c : plans.Change) (behind : ℕ) (text : List ℕ) (f : Finish) → ((n : List ℕ) (i : ℕ) → uses n i xs ≤ 1) → at ≡ position_or_len (session_id id) xs → at < length xs → slice_get xs at ≡ Some h → window_marks_of h ≡ Some x → AreMarks ks x → own_of h.own ≡ idle (own_of h.own)
-    → (let left = finish_read text h.kill behind f in map (session_of (marks_gone x left (edited_by x.name c ks))) (slice_set xs at (session_finished left h)) ≡ change_first (has_id id) (session_arranged (ended (unmarked left) (edit_of x.name c) (own_of h.own))) (map (session_after (edit_of x.name c)) (map (session_of ks) xs)))
-finished_sessions ks xs id at h x c behind text f once place within is sel marks fresh =
+-- what is left, behind the edit
+pub finished_there : (ks : List MarkedBuffer) (xs : List Session) (id at : ℕ) (h : Session) (x : WindowMarks) (c : plans.Change) (behind : ℕ) (text : List ℕ) (f : Finish) → ((n : List ℕ) (i : ℕ) → uses n i xs ≤ 1) → at ≡ position_or_len (session_id id) xs → at < length xs → slice_get xs at ≡ Some h → window_marks_of h ≡ Some x → AreMarks ks x → own_of h.own ≡ idle (own_of h.own)
+    → (let left = finish_read text h.kill behind f in map (session_of (marks_gone x left (edited_by x.name c ks))) (slice_set xs at (session_finished left h)) ≡ change_first (has_id id) (session_arranged (ended (unmarked left) (edit_of x.name c) (own_of h.own))) (map (session_of (edited_by x.name c ks)) xs))
+finished_there ks xs id at h x c behind text f once place within is sel marks fresh =
     let left = finish_read text h.kill behind f in
     let own = own_of h.own in
     let ks1 = edited_by x.name c ks in
@@ -197,29 +195,43 @@ finished_sessions ks xs id at h x c behind text f once place within is sel marks
     ∙ first_twice (has_id id) (λ z. tops (points z)) (ends left own) (λ z. refl) zs
     ∙ change_first_found (has_id id) (λ z. ends left own (tops (points z))) (session_arranged (ended (unmarked left) (edit_of x.name c) own)) (session_of ks1 h) zs
     (find-map (session_of ks1) (session_id id) (has_id id) (λ z. refl) xs ∙ ap (option_map (session_of ks1)) found)
-    (one_ends behind text h.kill f (edit_of x.name c) ks1 h)
-    ∙ ap (change_first (has_id id) (session_arranged (ended (unmarked left) (edit_of x.name c) own))) (edited_sessions x.name c ks xs)
+    (one_ends behind text h.kill f (edit_of x.name c) ks1 h fresh)
 
-finished_so : (directory : Directory) (ks : List MarkedBuffer) (xs : List Session) (next : Option ℕ) (id at : ℕ) (h : Session) (x : WindowMarks) (c : plans.Change) (behind : ℕ) (text : List ℕ) (f : Finish) → IsSound ks xs → at ≡ position_or_len (session_id id) xs → at < length xs → slice_get xs at ≡ Some h → window_marks_of h ≡ Some x → AreMarks ks x → own_of h.own ≡ idle (own_of h.own) → f.mark ≡ None → is_too_large (kill_read text h.kill f.kill) ≡ false
-    → (let left = finish_read text h.kill behind f in world_of directory (marks_gone x left (edited_by x.name c ks)) (slice_set xs at (session_finished left h)) next ≡ apply (world_of directory ks xs next) id (finished (own_of h.own) left (edit_of x.name c)))
-finished_so directory ks xs next id at h x c behind text f sound place within is sel marks fresh none small =
+-- and the searches of all sessions went by it
+finished_sessions : (ks : List MarkedBuffer) (xs : List Session) (id at : ℕ) (h : Session) (x : WindowMarks) (c : plans.Change) (behind : ℕ) (text : List ℕ) (f : Finish) → c.a ≤ c.b → c.b ≤ length (marked_at x.name ks).buffer.text → ((n : List ℕ) (i : ℕ) → uses n i xs ≤ 1) → at ≡ position_or_len (session_id id) xs → at < length xs → slice_get xs at ≡ Some h → window_marks_of h ≡ Some x → AreMarks ks x → own_of h.own ≡ idle (own_of h.own)
+    → (let left = finish_read text h.kill behind f in map (session_of (marks_gone x left (edited_by x.name c ks))) (followed x.name (edit_told (length (marked_at x.name ks).buffer.text) c) (slice_set xs at (session_finished left h))) ≡ change_first (has_id id) (session_arranged (ended (unmarked left) (edit_of x.name c) (own_of h.own))) (map (session_after (edit_of x.name c)) (map (session_of ks) xs)))
+finished_sessions ks xs id at h x c behind text f order room once place within is sel marks fresh =
+    let left = finish_read text h.kill behind f in
+    let o = edit_told (length (marked_at x.name ks).buffer.text) c in
+    let none = search_at_rest h.own fresh in
+    ap (map (session_of (marks_gone x left (edited_by x.name c ks)))) (set_followed x.name o xs at (session_finished left h) none)
+    ∙ finished_there ks (followed x.name o xs) id at h x c behind text f (once_followed x.name o xs once) (place_followed x.name o xs id at place) (within_followed x.name o xs at within) (get_followed x.name o xs at h none is) sel marks fresh
+    ∙ ap (change_first (has_id id) (session_arranged (ended (unmarked left) (edit_of x.name c) (own_of h.own)))) (sessions_went x.name c ks xs order room (mark_is_kept x.name x.point ks marks.point))
+
+finished_so : (directory : Directory) (ks : List MarkedBuffer) (xs : List Session) (next : Option ℕ) (id at : ℕ) (h : Session) (x : WindowMarks) (c : plans.Change) (behind : ℕ) (text : List ℕ) (f : Finish) → c.a ≤ c.b → c.b ≤ length (marked_at x.name ks).buffer.text → IsSound ks xs → at ≡ position_or_len (session_id id) xs → at < length xs → slice_get xs at ≡ Some h → window_marks_of h ≡ Some x → AreMarks ks x → own_of h.own ≡ idle (own_of h.own) → f.mark ≡ None → is_too_large (kill_read text h.kill f.kill) ≡ false
+    → (let left = finish_read text h.kill behind f in world_of directory (marks_gone x left (edited_by x.name c ks)) (followed x.name (edit_told (length (marked_at x.name ks).buffer.text) c) (slice_set xs at (session_finished left h))) next ≡ apply (world_of directory ks xs next) id (finished (own_of h.own) left (edit_of x.name c)))
+finished_so directory ks xs next id at h x c behind text f order room sound place within is sel marks fresh none small =
     let left = finish_read text h.kill behind f in
     let own = own_of h.own in
     let ks1 = edited_by x.name c ks in
     let ks2 = mark_gone x.name x.point left.point ks1 in
     same_world directory _ _ _ _ (id_after next)
     (gone_buffers x.name x.top left.top ks2 ∙ gone_buffers x.name x.point left.point ks1 ∙ edited_buffers x.name c ks)
-    (finished_sessions ks xs id at h x c behind text f (λ n i. once_used ks xs n i sound) place within is sel marks fresh ∙ sym (no_quit x.name c id _))
+    (finished_sessions ks xs id at h x c behind text f order room (λ n i. once_used ks xs n i sound) place within is sel marks fresh ∙ sym (no_quit x.name c id _))
     ∙ ap (λ m. apply (world_of directory ks xs next) id (ended (record left { mark = mark_read m }) (edit_of x.name c) own)) (sym none)
     ∙ ap (λ b. apply (world_of directory ks xs next) id (cond b (fails own KillTooLarge) (ended left (edit_of x.name c) own))) (sym small)
 
-pub failed_so : (directory : Directory) (ks : List MarkedBuffer) (xs : List Session) (next : Option ℕ) (id at : ℕ) (h : Session) (message : Message) → at ≡ position_or_len (session_id id) xs → at < length xs → slice_get xs at ≡ Some h → own_of h.own ≡ idle (own_of h.own) → world_of directory ks (slice_set xs at (failed message h)) next ≡ apply (world_of directory ks xs next) id (fails (own_of h.own) message)
-failed_so directory ks xs next id at h message place within is fresh =
+-- a failure ends any mode
+pub failed_always : (directory : Directory) (ks : List MarkedBuffer) (xs : List Session) (next : Option ℕ) (id at : ℕ) (h : Session) (message : Message) → at ≡ position_or_len (session_id id) xs → at < length xs → slice_get xs at ≡ Some h → world_of directory ks (slice_set xs at (failed message h)) next ≡ apply (world_of directory ks xs next) id (fails (own_of h.own) message)
+failed_always directory ks xs next id at h message place within is =
     let f = session_arranged (fails (own_of h.own) message) in
     same_world directory _ _ _ _ (id_after next) refl
     (written_first (session_of ks) (has_id id) f xs at h (failed message h) (place ∙ sym (position_or_len-map (session_of ks) (has_id id) xs)) within (sym (get_or_from_slice_get xs at h h is))
-    (λ i. record (session_of ks h) { own = own_failed message h i })
+    refl
     ∙ ap (change_first (has_id id) f) (sym (map-id (map (session_of ks) xs))))
+
+pub failed_so : (directory : Directory) (ks : List MarkedBuffer) (xs : List Session) (next : Option ℕ) (id at : ℕ) (h : Session) (message : Message) → at ≡ position_or_len (session_id id) xs → at < length xs → slice_get xs at ≡ Some h → own_of h.own ≡ idle (own_of h.own) → world_of directory ks (slice_set xs at (failed message h)) next ≡ apply (world_of directory ks xs next) id (fails (own_of h.own) message)
+failed_so directory ks xs next id at h message place within is fresh = failed_always directory ks xs next id at h message place within is
 
 -- a flag is cleared
 fresh_cleared : (o : Own) → own_of o ≡ idle (own_of o) → own_of (record o { echo = Silent; kind = Other }) ≡ acted_own (own_of o)
@@ -231,25 +243,25 @@ cleared_so directory ks xs next id at h name place within is fresh =
     let ls = change_first (marked_named name) marked_unmodified ks in
     same_world directory _ _ _ _ (id_after next) (buffers_unmodified name ks)
     (written_first (session_of ls) (has_id id) f xs at h (told Silent (acted Other h)) (place ∙ sym (position_or_len-map (session_of ls) (has_id id) xs)) within (sym (get_or_from_slice_get xs at h h is))
-    (λ i. record (session_of ls h) { own = fresh_cleared h.own fresh i; search = no_search h.own.prompt i })
+    (λ i. record (session_of ls h) { own = fresh_cleared h.own fresh i; search = search_kept ls h fresh i })
     ∙ ap (change_first (has_id id) f) (sessions_unmodified name ks xs ∙ sym (map-id (map (session_of ks) xs))))
 
 -- ANY ACTION
 
 done_so : (directory : Directory) (ks : List MarkedBuffer) (xs : List Session) (next : Option ℕ) (id at : ℕ) (x : WindowMarks) (h : Session) (action : Action) → IsSound ks xs → at ≡ position_or_len (session_id id) xs → at < length xs → slice_get xs at ≡ Some h → window_marks_of h ≡ Some x → AreMarks ks x → own_of h.own ≡ idle (own_of h.own) → CanBeDone ks x h.kill action → mark_told action ≡ None
-    → (let text = (marked_at x.name ks).buffer.text in let items = (marked_at x.name ks).buffer.items in world_of directory (marked_after x text items h.kill action ks) (slice_set xs at (session_acted text action h)) next ≡ apply (world_of directory ks xs next) id (outcome_through (own_of h.own) x ks h.kill action))
+    → (let text = (marked_at x.name ks).buffer.text in let items = (marked_at x.name ks).buffer.items in world_of directory (marked_after x text items h.kill action ks) (followed x.name (edit_through x ks h.kill action) (slice_set xs at (session_acted text action h))) next ≡ apply (world_of directory ks xs next) id (outcome_through (own_of h.own) x ks h.kill action))
 done_so directory ks xs next id at x h (Fails message) sound place within is sel marks fresh can none =
     failed_so directory ks xs next id at h message place within is fresh
 done_so directory ks xs next id at x h (Edits c) sound place within is sel marks fresh can none =
     let text = (marked_at x.name ks).buffer.text in
-    finished_so directory ks xs next id at h x (change_read text h.kill c) (c.from + length (put_read text h.kill c.put)) text c.finish sound place within is sel marks fresh none can.small
+    finished_so directory ks xs next id at h x (change_read text h.kill c) (c.from + length (put_read text h.kill c.put)) text c.finish can.within.order can.within.within sound place within is sel marks fresh none can.small
 done_so directory ks xs next id at x h (Undoes u) sound place within is sel marks fresh can none =
     let text = (marked_at x.name ks).buffer.text in
     let back = removed_by u.serial (marked_at x.name ks).buffer.items in
-    finished_so directory ks xs next id at h x (undone_read text h.kill back u) (u.from + length back) text u.finish sound place within is sel marks fresh can.finish.mark (ap (λ k. is_too_large (kill_read text h.kill k)) can.finish.kill)
+    finished_so directory ks xs next id at h x (undone_read text h.kill back u) (u.from + length back) text u.finish (omega arith) can.within sound place within is sel marks fresh can.finish.mark (ap (λ k. is_too_large (kill_read text h.kill k)) can.finish.kill)
 done_so directory ks xs next id at x h (Moves f) sound place within is sel marks fresh can none =
     let text = (marked_at x.name ks).buffer.text in
-    finished_so directory ks xs next id at h x (record { a = 0; b = 0; put = []; finish = finish_read text h.kill 0 f }) 0 text f sound place within is sel marks fresh none can.small
+    finished_so directory ks xs next id at h x (record { a = 0; b = 0; put = []; finish = finish_read text h.kill 0 f }) 0 text f (omega arith) (omega arith) sound place within is sel marks fresh none can.small
 done_so directory ks xs next id at x h Clears sound place within is sel marks fresh can none =
     cleared_so directory ks xs next id at h x.name place within is fresh
 
@@ -307,10 +319,11 @@ pub after_sizes : {T E : Type 0} (r : Result T E) (xs : List Session) (at : ℕ)
 after_sizes (Ok o) xs at text h y action is acts same = rw acts (sizes_set xs at h (session_acted text action h) (sym (get_or_from_slice_get xs at h h is)) (size_after text action h))
 after_sizes (Err e) xs at text h y action is acts same = rw same (sizes_set xs at h h (sym (get_or_from_slice_get xs at h h is)) refl)
 
-pub after_ok : {T E : Type 0} (r : Result T E) (ks ls : List MarkedBuffer) (xs : List Session) (at : ℕ) (x : WindowMarks) (h y : Session) (action : Action) → slice_get xs at ≡ Some h → (let text = (marked_at x.name ks).buffer.text in OnOk r (ls ≡ marked_after x text (marked_at x.name ks).buffer.items h.kill action ks) → OnOk r (y ≡ session_acted text action h) → IsSound ks xs → at < length xs → option_and_then window_marks_of (slice_get xs at) ≡ Some x → own_at at xs ≡ idle (own_at at xs) → CanBeDone ks x (kill_at at xs) action → mark_told action ≡ None → OnOk r ((directory : Directory) (id : ℕ) (next : Option ℕ) → at ≡ position_or_len (session_id id) xs → world_of directory ls (slice_set xs at y) next ≡ apply (world_of directory ks xs next) id (outcome_through (own_at at xs) x ks (kill_at at xs) action)))
+pub after_ok : {T E : Type 0} (r : Result T E) (ks ls : List MarkedBuffer) (xs : List Session) (at : ℕ) (x : WindowMarks) (h y : Session) (action : Action) → slice_get xs at ≡ Some h → (let text = (marked_at x.name ks).buffer.text in OnOk r (ls ≡ marked_after x text (marked_at x.name ks).buffer.items h.kill action ks) → OnOk r (y ≡ session_acted text action h) → IsSound ks xs → at < length xs → option_and_then window_marks_of (slice_get xs at) ≡ Some x → own_at at xs ≡ idle (own_at at xs) → CanBeDone ks x (kill_at at xs) action → mark_told action ≡ None → OnOk r ((directory : Directory) (id : ℕ) (next : Option ℕ) → at ≡ position_or_len (session_id id) xs → world_of directory ls (followed x.name (edit_through x ks (kill_at at xs) action) (slice_set xs at y)) next ≡ apply (world_of directory ks xs next) id (outcome_through (own_at at xs) x ks (kill_at at xs) action)))
 after_ok (Ok o) ks ls xs at x h y action is ok acts sound within sel fresh can none = λ directory id next place.
     let sel_h : window_marks_of h ≡ Some x = sym (ap (option_and_then window_marks_of) is) ∙ sel in
-    rw (ok, acts) (done_so directory ks xs next id at x h action sound place within is sel_h (acting_marks ks xs at x sound sel) (fresh_own xs at h is fresh) (subst (λ o. CanBeDone ks x (kill_or_none o) action) is can) none
+    ap (λ (o : Option Session). world_of directory ls (followed x.name (edit_through x ks (kill_or_none o) action) (slice_set xs at y)) next) is
+    ∙ rw (ok, acts) (done_so directory ks xs next id at x h action sound place within is sel_h (acting_marks ks xs at x sound sel) (fresh_own xs at h is fresh) (subst (λ o. CanBeDone ks x (kill_or_none o) action) is can) none
     ∙ ap (λ o. apply (world_of directory ks xs next) id (outcome_through (own_or_first o) x ks (kill_or_none o) action)) (sym is))
 after_ok (Err e) ks ls xs at x h y action is ok acts sound within sel fresh can none = tt
 

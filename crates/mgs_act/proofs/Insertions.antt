@@ -1,15 +1,14 @@
 -- What is done where a text is inserted into a window's buffer, and the mark set.
-use Rattle.std.proofs.Common.{◌≡◌, ℕ, ◌+◌, ◌-◌, ◌<◌, ◌≤◌, Bool, true, false, cond, ◌&&◌, ◌||◌, nat_lt, List, [], length, map, Option, Some, None, refl, sym, ap, subst, ◌∙◌, arith}
-use Rattle.std.specs.Prelude.{slice_get, slice_set, IfSome, Result, Ok, Err, OnOk, OnErr}
+use Rattle.std.proofs.Common.{◌≡◌, ℕ, ◌+◌, ◌<◌, ◌≤◌, true, List, [], length, map, Option, Some, None, refl, sym, ap, ◌∙◌, arith}
+use Rattle.std.specs.Prelude.{slice_get, slice_set, Result, Ok, Err, OnOk, OnErr}
 use Rattle.std.specs.List.{position_or_len}
 use Rattle.std.specs.Option.{option_and_then}
 use Rattle.std.proofs.lemmas.Option.{get_or_from_slice_get}
 use Rattle.mgs_model.specs.Access.{Directory}
 use Rattle.mgs_model.specs.World.{Own, World}
 use Rattle.mgs_model.specs.View.{view}
-use Rattle.mgs_model.specs.Outcome.{Outcome, Run, effect_takes_memory, takes_memory}
-use Rattle.mgs_model.specs.Plans as plans
-use Rattle.mgs_model.specs.Acts.{edit_of, fails, finished, is_full, outcome}
+use Rattle.mgs_model.specs.Outcome.{Run, takes_memory}
+use Rattle.mgs_model.specs.Acts.{fails, outcome}
 use Rattle.mgs_model.specs.Apart.{Apart, touched_by}
 use Rattle.mgs_model.specs.Apply.{act, applied, apply, outcome_in}
 use Rattle.mgs_model.specs.Events.{may_be_refused}
@@ -20,14 +19,15 @@ use Rattle.mgs_model.specs.declared.session.Command.TheVariants.{Named}
 use Rattle.mgs_model.specs.declared.touched.Touched.{Touched}
 use Rattle.mgs_model.specs.declared.touched.Touched.TheVariants.{Nowhere}
 use Rattle.mgs_model.proofs.Apart.{apart_apply}
-use Rattle.mgs_buffers.specs.MarkedBuffer.{HasBuffer, IsMark, MarkedBuffer, has_buffer, marked_at, marked_named, marked_placed}
+use Rattle.mgs_buffers.specs.MarkedBuffer.{HasBuffer, IsMark, MarkedBuffer, has_buffer, marked_at}
 use Rattle.mgs_windows.specs.declared.WindowMarks.{WindowMarks}
 use Rattle.mgs_session.specs.Sessions.{failed, window_marks_of}
 use Rattle.mgs_session.specs.declared.Session.{Session}
-use Rattle.mgs_act.specs.Actions.{AreMarks, edited_by, marks_gone}
-use Rattle.mgs_act.specs.Inserting.{CanInsert, CanPut, IsInserted, buffers_inserted, decided_outcome, insertion_of, insertion_outcome, leaving, outcome_from}
+use Rattle.mgs_act.specs.Actions.{AreMarks, edited_by}
+use Rattle.mgs_act.specs.Following.{edit_told, followed}
+use Rattle.mgs_act.specs.Inserting.{IsInserted, buffers_inserted, decided_outcome, insertion_of, insertion_outcome, leaving, outcome_from, put_outcome}
 use Rattle.mgs_act.specs.declared.inserting.Inserted.{Inserted}
-use Rattle.mgs_act.specs.declared.inserting.Inserted.TheVariants.{Fails, Copies}
+use Rattle.mgs_act.specs.declared.inserting.Inserted.TheVariants.{Fails}
 use Rattle.mgs_world.specs.Sound.{IsSound}
 use Rattle.mgs_world.specs.WindowMarks.{WindowMarksDropped}
 use Rattle.mgs_world.specs.Worlds.{id_after, idle, own_at, own_of, own_or_first, session_id, session_of, size_in, sizes_in, world_of}
@@ -65,10 +65,11 @@ module _ (ks ls : List MarkedBuffer) (xs : List Session) (at place : ℕ) (put :
       rw (m.buffers, m.session) (sound_placed x.name m.id place _ _ mark (held_then ks m.between xs at m.id h x change change.finish change.finish sound kept m.reserved found sel marks_l))
 
   inserted_so : (directory : Directory) (next : Option ℕ) (id : ℕ) → at ≡ position_or_len (session_id id) xs → at < length xs → IsSound ks xs → window_marks_of h ≡ Some x → AreMarks ks x → own_of h.own ≡ idle (own_of h.own) → IsInserted x place put ks ls h y
-      → (let c = insertion_of place put in world_of directory ls (slice_set xs at y) next ≡ apply (world_of directory ks xs next) id (finished (own_of h.own) c.finish (edit_of x.name c)))
-  inserted_so directory next id there within sound sel marks fresh m =
+      → place ≤ length (marked_at x.name ks).buffer.text
+      → world_of directory ls (followed x.name (edit_told (length (marked_at x.name ks).buffer.text) (insertion_of place put)) (slice_set xs at y)) next ≡ apply (world_of directory ks xs next) id (put_outcome (own_of h.own) x.name place put)
+  inserted_so directory next id there within sound sel marks fresh m room =
       rw (m.buffers, m.session)
-      (marked_so directory ks m.between xs next id at m.id place h x (insertion_of place put) (place + length put) [] (leaving place) sound (mark_is_kept x.name x.point ks marks.point) m.reserved there within found sel marks fresh refl refl)
+      (marked_so directory ks m.between xs next id at m.id place h x (insertion_of place put) (place + length put) [] (leaving place) (omega arith) room sound (mark_is_kept x.name x.point ks marks.point) m.reserved there within found sel marks fresh refl refl)
 
   module _ {T E : Type 0} where
     pub inserted_sound : (r : Result T E) → option_and_then window_marks_of (slice_get xs at) ≡ Some x → OnOk r (IsInserted x place put ks ls h y) → OnErr r (WindowMarksDropped None ks ls) → OnErr r (y ≡ h) → IsSound ks xs → IsSound ls (slice_set xs at y)
@@ -79,13 +80,12 @@ module _ (ks ls : List MarkedBuffer) (xs : List Session) (at place : ℕ) (put :
     inserted_sizes (Ok o) ok same = sizes_set xs at h y (sym (get_or_from_slice_get xs at h h found)) (ap size_in ok.session)
     inserted_sizes (Err e) ok same = rw same (sizes_set xs at h h (sym (get_or_from_slice_get xs at h h found)) refl)
 
-    pub inserted_ok : (r : Result T E) (source : List ℕ) → put ≡ (marked_at source ks).buffer.text → OnOk r (IsInserted x place put ks ls h y) → IsSound ks xs → at < length xs → option_and_then window_marks_of (slice_get xs at) ≡ Some x → own_at at xs ≡ idle (own_at at xs)
-        → OnOk r ((directory : Directory) (id : ℕ) (next : Option ℕ) → at ≡ position_or_len (session_id id) xs → world_of directory ls (slice_set xs at y) next ≡ apply (world_of directory ks xs next) id (decided_outcome ks (own_at at xs) x.name (Copies source place)))
-    inserted_ok (Ok o) source same ok sound within sel fresh = λ directory id next there.
-        inserted_so directory next id there within sound (sym (ap (option_and_then window_marks_of) found) ∙ sel) (acting_marks ks xs at x sound sel) (fresh_own xs at h found fresh) ok
-        ∙ ap (λ (t : List ℕ). let c = insertion_of place t in apply (world_of directory ks xs next) id (finished (own_of h.own) c.finish (edit_of x.name c))) same
-        ∙ ap (λ s. apply (world_of directory ks xs next) id (decided_outcome ks (own_or_first s) x.name (Copies source place))) (sym found)
-    inserted_ok (Err e) source same ok sound within sel fresh = ok
+    pub inserted_ok : (r : Result T E) → place ≤ length (marked_at x.name ks).buffer.text → OnOk r (IsInserted x place put ks ls h y) → IsSound ks xs → at < length xs → option_and_then window_marks_of (slice_get xs at) ≡ Some x → own_at at xs ≡ idle (own_at at xs)
+        → OnOk r ((directory : Directory) (id : ℕ) (next : Option ℕ) → at ≡ position_or_len (session_id id) xs → world_of directory ls (followed x.name (edit_told (length (marked_at x.name ks).buffer.text) (insertion_of place put)) (slice_set xs at y)) next ≡ apply (world_of directory ks xs next) id (put_outcome (own_at at xs) x.name place put))
+    inserted_ok (Ok o) room ok sound within sel fresh = λ directory id next there.
+        inserted_so directory next id there within sound (sym (ap (option_and_then window_marks_of) found) ∙ sel) (acting_marks ks xs at x sound sel) (fresh_own xs at h found fresh) ok room
+        ∙ ap (λ s. apply (world_of directory ks xs next) id (put_outcome (own_or_first s) x.name place put)) (sym found)
+    inserted_ok (Err e) room ok sound within sel fresh = ok
 
     pub inserted_err : (r : Result T E) → OnErr r (WindowMarksDropped None ks ls) → OnErr r (y ≡ h) → IsSound ks xs → OnErr r ((directory : Directory) (next : Option ℕ) → world_of directory ls (slice_set xs at y) next ≡ world_of directory ks xs next)
     inserted_err (Ok o) err same sound = err

@@ -14,14 +14,14 @@ use Rattle.mgs_model.specs.Outcome.{Outcome, Run}
 use Rattle.mgs_model.specs.Plans.{acted_own}
 use Rattle.mgs_model.specs.Acts.{Request, deciders_found, fails, judged, killed, name_shown, or_else, outcome, permitted, there}
 use Rattle.mgs_model.specs.Acts as acts
-use Rattle.mgs_model.specs.Apply.{act, applied, apply, change_first, session_arranged, session_bereft}
+use Rattle.mgs_model.specs.Apply.{act, applied, apply, bereft_own, change_first, is_searched, session_arranged, session_bereft}
 use Rattle.mgs_model.specs.declared.entry.Decision.TheVariants.{Granted}
 use Rattle.mgs_model.specs.declared.message.Message.{Message}
 use Rattle.mgs_model.specs.declared.session.ByName.TheVariants.{KillBuffer}
 use Rattle.mgs_model.specs.declared.session.Command.TheVariants.{Named}
 use Rattle.mgs_model.specs.declared.session.Kind.TheVariants.{Other}
 use Rattle.mgs_model.proofs.Firsts.{find-map, position_or_len-map, written_first}
-use Rattle.mgs_buffers.specs.MarkedBuffer.{HasBuffer, MarkedBuffer, marked_named}
+use Rattle.mgs_buffers.specs.MarkedBuffer.{MarkedBuffer, marked_named}
 use Rattle.mgs_windows.specs.declared.WindowMarks.{WindowMarks}
 use Rattle.mgs_windows.specs.declared.Window.{Window}
 use Rattle.mgs_windows.specs.declared.RowPane.{RowPane}
@@ -31,9 +31,8 @@ use Rattle.mgs_session.specs.declared.Own as held
 use Rattle.mgs_session.specs.declared.Session.{Session}
 use Rattle.mgs_act.specs.Killing.{kill_decision, kill_granted, kill_named, kill_outcome, killing, name_in, name_meant}
 use Rattle.mgs_world.specs.Killing.{world_without}
-use Rattle.mgs_world.specs.Sound.{IsSound}
 use Rattle.mgs_world.specs.Worlds.{buffers_of, id_after, idle, own_at, own_of, session_id, session_of, window_of, window_shown, world_of}
-use Rattle.mgs_world.proofs.Owns.{at_rest, no_search}
+use Rattle.mgs_world.proofs.Owns.{at_rest, no_search_at_rest, none_at_rest}
 use Rattle.mgs_world.proofs.Worlds.{same_world}
 use Rattle.mgs_act.proofs.Commands.{outcome_known}
 use Rattle.mgs_act.proofs.Deeds.{failed_so, fresh_own}
@@ -135,7 +134,8 @@ killed_so directory ks xs next id at h name place within is fresh =
     same_world directory _ _ _ _ (id_after next) refl
     (composed (session_bereft name) (session_of ks) (slice_set xs at (acted Other h))
     ∙ written_first left (has_id id) f xs at h (acted Other h) (place ∙ sym (position_or_len-map left (has_id id) xs)) within (sym (get_or_from_slice_get xs at h h is))
-    (λ i. record (left h) { own = fresh_killing h.own fresh i; search = no_search h.own.prompt i })
+    (ap (λ (s : Option model.Search). let y : model.Session = record (left h) { search = cond (is_searched name s) None s; own = bereft_own (is_searched name s) (own_of (record h.own { kind = Other })) } in y) (no_search_at_rest ks h fresh)
+    ∙ (λ i. record (left h) { own = fresh_killing h.own fresh i; search = sym (none_at_rest (left h).search (own_of h.own) fresh) i }))
     ∙ ap (change_first (has_id id) f) (sym (composed (session_bereft name) (session_of ks) xs)))
 
 pub buffer_killed : (directory : Directory) (ks : List MarkedBuffer) (xs : List Session) (next : Option ℕ) (new : World) (id at : ℕ) (h : Session) (n : Option ℕ) (typed name : List ℕ) → at ≡ position_or_len (session_id id) xs → at < length xs → slice_get xs at ≡ Some h → own_at at xs ≡ idle (own_at at xs) → killing (own_of h.own) name ≡ kill_outcome directory ks (own_of h.own) h.user (subject_of h) typed

@@ -2,6 +2,7 @@ pub mod Commands
 mod Copies
 pub mod Created
 pub mod Deeds
+mod Followed
 pub mod Leaving
 pub mod Marked
 pub mod Outcomes
@@ -16,3 +17,5 @@ mod Rulings
 mod Subjects
 mod Listings
 pub mod Scrolls
+pub mod Begins
+mod Seeks

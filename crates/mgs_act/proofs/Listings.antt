@@ -28,9 +28,10 @@ use Rattle.mgs_arrange.proofs.Arranged.{entries_done}
 use Rattle.mgs_act.specs.declared.acts.KeyAct.{KeyAct}
 use Rattle.mgs_act.specs.declared.acts.KeyAct.TheVariants as acts
 use Rattle.mgs_act.specs.Actions.{act_of}
-use Rattle.mgs_act.specs.Listing.{list_answered, list_decision, list_outcome, lists_named}
+use Rattle.mgs_act.specs.Listing.{list_answered, list_outcome, lists_named}
 use Rattle.mgs_act.specs.Subjects.{subject_kept}
 use Rattle.mgs_world.specs.Worlds.{buffers_of, idle, own_at, session_id, session_of, window_of, world_of}
+use Rattle.mgs_world.proofs.Owns.{no_search_at_rest}
 use Rattle.mgs_world.proofs.Found.{found_seen, name_kept}
 use Rattle.mgs_world.proofs.Sessions.{session_some}
 use Rattle.mgs_act.proofs.Commands.{outcome_known}
@@ -91,7 +92,7 @@ module _ (directory : Directory) (ks : List MarkedBuffer) (xs : List Session) (n
   -- it is shown
   pub listed_so : (new : World) (name : List ℕ) → IsSelected (slice_get xs at) → ((x : model.Session) → at ≡ position_or_len (session_id id) xs → find_session id w.sessions ≡ Some x → new ≡ listed_in id (List_of name) x w) → new ≡ apply w id (list_answered v (Ok name))
   listed_so new name selected shown =
-      shown (session_of ks h) place known ∙ listed_applied w id name (session_of ks h) known (fresh_own xs at h found fresh) refl (selected_so selected)
+      shown (session_of ks h) place known ∙ listed_applied w id name (session_of ks h) known (fresh_own xs at h found fresh) (no_search_at_rest ks h (fresh_own xs at h found fresh)) (selected_so selected)
 
   -- or something stands against it
   pub unlisted_so : (message : Message) → world_of directory ks (slice_set xs at (failed message h)) next ≡ apply w id (list_answered v (Err message))

@@ -3,13 +3,11 @@ use Rattle.std.proofs.Common.{◌≡◌, ℕ, zero, suc, ◌+◌, ◌<◌, ◌�
 use Rattle.std.specs.Prelude.{find, is_some, slice_get, slice_set, Result, Ok, Err, OnOk, OnErr}
 use Rattle.std.specs.List.{position_or_len}
 use Rattle.std.specs.Option.{option_and_then, option_map}
-use Rattle.std.proofs.lemmas.List.{map-id}
 use Rattle.std.proofs.lemmas.Option.{get_or_from_slice_get}
-use Rattle.mgs_model.specs.Text.{is_edit}
 use Rattle.mgs_model.specs.Access.{Directory}
-use Rattle.mgs_model.specs.World.{Item, World, has_id}
+use Rattle.mgs_model.specs.World.{Buffer, Item, World, has_id}
 use Rattle.mgs_model.specs.World as model
-use Rattle.mgs_model.specs.Outcome.{Edit, Effect, No_effect, Keep, Keep_mark, Mark_at, effect_takes_memory, takes_memory}
+use Rattle.mgs_model.specs.Outcome.{Effect, No_effect, Keep, Keep_mark, Mark_at, effect_takes_memory, takes_memory}
 use Rattle.mgs_model.specs.Plans as plans
 use Rattle.mgs_model.specs.Acts.{edit_of, fails, finished, is_too_large}
 use Rattle.mgs_model.specs.Apply.{apply, buffers_after, change_at, change_first, session_after, session_arranged, window_adjusted}
@@ -24,6 +22,7 @@ use Rattle.mgs_edit.specs.Reading.{IsWithin, change_read, finish_read, kill_read
 use Rattle.mgs_edit.specs.declared.plan.Finish.{Finish}
 use Rattle.mgs_act.specs.declared.action.Action.{Action}
 use Rattle.mgs_act.specs.declared.action.Action.TheVariants.{Fails, Edits, Undoes, Moves, Clears}
+use Rattle.mgs_act.specs.Following.{edit_through, edit_told, followed}
 use Rattle.mgs_act.specs.Actions.{AreMarks, CanBeDone, IsMarked, edited_by, kill_at, kill_or_none, mark_gone, mark_told, marked_after, marks_gone, outcome_through, removed_by, session_finished}
 use Rattle.mgs_world.specs.Marking.{IsReserved, mark_at_place, session_marked}
 use Rattle.mgs_world.specs.Sound.{IsSound}
@@ -32,10 +31,12 @@ use Rattle.mgs_world.specs.Worlds.{id_after, idle, own_at, own_of, own_or_first,
 use Rattle.mgs_world.proofs.SelectedMark.{changed_first, get_set, given_up_sessions, given_up_sound, reserved_buffers, reserved_mark, reserved_more, reserved_sessions, reserved_sound, sessions_marked}
 use Rattle.mgs_world.proofs.Soundness.{in_use_mark, mark_is_kept, sizes_set, sound_placed, sound_set}
 use Rattle.mgs_world.proofs.Marks.{found_same, is_same}
+use Rattle.mgs_world.proofs.Owns.{search_at_rest}
 use Rattle.mgs_world.proofs.WindowMarks.{added_mark}
 use Rattle.mgs_world.proofs.Worlds.{buffers_placed, same_world}
 use Rattle.mgs_world.proofs.Unmodified.{marks_unmodified}
-use Rattle.mgs_act.proofs.Deeds.{acting_marks, at_twice, edited_buffers, edited_sound, ended, finished_sessions, fresh_own, gone_buffers, gone_sound, no_quit, once_used, set_back, size_after, unmarked}
+use Rattle.mgs_act.proofs.Deeds.{acting_marks, at_twice, edited_buffers, edited_sound, ended, finished_there, fresh_own, gone_buffers, gone_sound, no_quit, once_used, set_back, size_after, unmarked}
+use Rattle.mgs_act.proofs.Followed.{get_followed, place_followed, sessions_went, set_followed, sound_kept, within_followed}
 use Rattle.mgs_act.proofs.Leaving.{length_edited_by, mark_edited_by, mark_still, text_gone, used_once}
 
 -- A MARK THAT IS RESERVED
@@ -80,14 +81,6 @@ first_pointwise {A = A} p f g same (x ∷ xs) = go (p x) (first_pointwise p f g 
     go true rest = ap (λ y. y ∷ xs) (same x)
     go false rest = ap (λ ys. x ∷ ys) rest
 
--- an edit moves no session
-kept_place : (name : List ℕ) (c : plans.Change) (id : ℕ) (xs : List model.Session) → position_or_len (has_id id) (map (session_after (edit_of name c)) xs) ≡ position_or_len (has_id id) xs
-kept_place name c id xs = go (is_edit c.a c.b c.put)
-  where
-    go : (f : Bool) → position_or_len (has_id id) (map (session_after (cond f (Edit name c.a c.b c.put) No_effect)) xs) ≡ position_or_len (has_id id) xs
-    go true = position_or_len-map (session_after (Edit name c.a c.b c.put)) (has_id id) xs
-    go false = ap (position_or_len (has_id id)) (map-id xs)
-
 -- ONE SESSION
 
 -- the mark goes where the finish says, beside all else
@@ -99,24 +92,23 @@ mark_ends p f e own x =
 
 -- THE SESSIONS
 
-marked_sessions : (ks ls : List MarkedBuffer) (xs : List Session) (id at mid p : ℕ) (h : Session) (x : WindowMarks) (c : plans.Change) (behind : ℕ) (text : List ℕ) (f : Finish) → IsSound ks xs → HasBuffer x.name ks → IsReserved x.name x.mark mid ks ls → at ≡ position_or_len (session_id id) xs → at < length xs → slice_get xs at ≡ Some h → window_marks_of h ≡ Some x → AreMarks ks x → own_of h.own ≡ idle (own_of h.own) → IsMark x.name mid (marks_gone x (finish_read text h.kill behind f) (edited_by x.name c ls)) → IsSound (marks_gone x (finish_read text h.kill behind f) (edited_by x.name c ls)) (slice_set xs at (session_marked mid (session_finished (finish_read text h.kill behind f) h)))
+marked_there : (ks ls : List MarkedBuffer) (xs : List Session) (id at mid p : ℕ) (h : Session) (x : WindowMarks) (c : plans.Change) (behind : ℕ) (text : List ℕ) (f : Finish) → IsSound ks xs → HasBuffer x.name ks → IsReserved x.name x.mark mid ks ls → at ≡ position_or_len (session_id id) xs → at < length xs → slice_get xs at ≡ Some h → window_marks_of h ≡ Some x → AreMarks ks x → own_of h.own ≡ idle (own_of h.own) → IsMark x.name mid (marks_gone x (finish_read text h.kill behind f) (edited_by x.name c ls)) → IsSound (marks_gone x (finish_read text h.kill behind f) (edited_by x.name c ls)) (slice_set xs at (session_marked mid (session_finished (finish_read text h.kill behind f) h)))
     → (let left = finish_read text h.kill behind f in
     map (session_of (change_first (marked_named x.name) (marked_placed mid p) (marks_gone x left (edited_by x.name c ls)))) (slice_set xs at (session_marked mid (session_finished left h)))
-    ≡ change_first (has_id id) (session_arranged (ended (record left { mark = Mark_at p }) (edit_of x.name c) (own_of h.own))) (map (session_after (edit_of x.name c)) (map (session_of ks) xs)))
-marked_sessions ks ls xs id at mid p h x c behind text f sound kept r place within is sel marks fresh mark held =
+    ≡ change_first (has_id id) (session_arranged (ended (record left { mark = Mark_at p }) (edit_of x.name c) (own_of h.own))) (map (session_of (edited_by x.name c ls)) xs))
+marked_there ks ls xs id at mid p h x c behind text f sound kept r place within is sel marks fresh mark held =
     let left = finish_read text h.kill behind f in
     let own = own_of h.own in
     let ls2 = marks_gone x left (edited_by x.name c ls) in
     let y = session_finished left h in
     let e = edit_of x.name c in
-    let zs = map (session_after e) (map (session_of ks) xs) in
-    let there : at ≡ position_or_len (has_id id) zs = place ∙ sym (position_or_len-map (session_of ks) (has_id id) xs) ∙ sym (kept_place x.name c id (map (session_of ks) xs)) in
+    let zs = map (session_of (edited_by x.name c ls)) xs in
+    let there : at ≡ position_or_len (has_id id) zs = place ∙ sym (position_or_len-map (session_of (edited_by x.name c ls)) (has_id id) xs) in
     let arranged : model.Session → model.Session = session_arranged (ended (unmarked left) e own) in
     ap (map (session_of (change_first (marked_named x.name) (marked_placed mid p) ls2))) (sym (set_twice xs at y (session_marked mid y)))
     ∙ sessions_marked p mid ls2 (slice_set xs at y) at y x (get_set xs at h y is) sel mark (subst (IsSound ls2) (sym (set_twice xs at y (session_marked mid y))) held)
     ∙ ap (change_at at (mark_at_place p))
-    (finished_sessions ls xs id at h x c behind text f (λ n i. once_used ks xs n i sound) place within is sel (reserved_marks x mid ks ls kept r marks) fresh
-    ∙ ap (λ (ss : List model.Session). change_first (has_id id) arranged (map (session_after e) ss)) (reserved_sessions x mid ks ls xs sound kept r)
+    (finished_there ls xs id at h x c behind text f (λ n i. once_used ks xs n i sound) place within is sel (reserved_marks x mid ks ls kept r marks) fresh
     ∙ sym (changed_first (has_id id) arranged zs at there))
     ∙ at_twice arranged (mark_at_place p) at zs
     ∙ changed_first (has_id id) (λ z. mark_at_place p (arranged z)) zs at there
@@ -174,9 +166,30 @@ held_then ks ls xs at mid h x c f g sound kept r is sel marks =
     subst (IsSound (marks_gone x f ls1)) (set_twice xs at (session_marked mid h) (session_marked mid (session_finished g h)))
     (sound_set (marks_gone x f ls1) ys at (session_marked mid h) (session_marked mid (session_finished g h)) (sym (get_or_from_slice_get ys at (session_marked mid h) (session_marked mid h) (get_set xs at h (session_marked mid h) is))) (λ n i. refl) after)
 
-pub marked_so : (directory : Directory) (ks ls : List MarkedBuffer) (xs : List Session) (next : Option ℕ) (id at mid p : ℕ) (h : Session) (x : WindowMarks) (c : plans.Change) (behind : ℕ) (text : List ℕ) (f : Finish) → IsSound ks xs → HasBuffer x.name ks → IsReserved x.name x.mark mid ks ls → at ≡ position_or_len (session_id id) xs → at < length xs → slice_get xs at ≡ Some h → window_marks_of h ≡ Some x → AreMarks ks x → own_of h.own ≡ idle (own_of h.own) → f.mark ≡ Some p → is_too_large (kill_read text h.kill f.kill) ≡ false
-    → (let left = finish_read text h.kill behind f in world_of directory (change_first (marked_named x.name) (marked_placed mid p) (marks_gone x left (edited_by x.name c ls))) (slice_set xs at (session_marked mid (session_finished left h))) next ≡ apply (world_of directory ks xs next) id (finished (own_of h.own) left (edit_of x.name c)))
-marked_so directory ks ls xs next id at mid p h x c behind text f sound kept r place within is sel marks fresh told small =
+-- the sessions, where the searches of all went by the edit
+marked_sessions : (ks ls : List MarkedBuffer) (xs : List Session) (id at mid p : ℕ) (h : Session) (x : WindowMarks) (c : plans.Change) (behind : ℕ) (text : List ℕ) (f : Finish) → c.a ≤ c.b → c.b ≤ length (marked_at x.name ks).buffer.text → IsSound ks xs → HasBuffer x.name ks → IsReserved x.name x.mark mid ks ls → at ≡ position_or_len (session_id id) xs → at < length xs → slice_get xs at ≡ Some h → window_marks_of h ≡ Some x → AreMarks ks x → own_of h.own ≡ idle (own_of h.own) → IsMark x.name mid (marks_gone x (finish_read text h.kill behind f) (edited_by x.name c ls))
+    → (let left = finish_read text h.kill behind f in
+    map (session_of (change_first (marked_named x.name) (marked_placed mid p) (marks_gone x left (edited_by x.name c ls)))) (followed x.name (edit_told (length (marked_at x.name ks).buffer.text) c) (slice_set xs at (session_marked mid (session_finished left h))))
+    ≡ change_first (has_id id) (session_arranged (ended (record left { mark = Mark_at p }) (edit_of x.name c) (own_of h.own))) (map (session_after (edit_of x.name c)) (map (session_of ks) xs)))
+marked_sessions ks ls xs id at mid p h x c behind text f order room sound kept r place within is sel marks fresh mark =
+    let left = finish_read text h.kill behind f in
+    let arranged : model.Session → model.Session = session_arranged (ended (record left { mark = Mark_at p }) (edit_of x.name c) (own_of h.own)) in
+    let o = edit_told (length (marked_at x.name ks).buffer.text) c in
+    let ys = followed x.name o xs in
+    let none = search_at_rest h.own fresh in
+    let found = get_followed x.name o xs at h none is in
+    let sound_f = sound_kept x.name o ks xs sound in
+    let marks_l = reserved_marks x mid ks ls kept r marks in
+    let same : length (marked_at x.name ls).buffer.text ≡ length (marked_at x.name ks).buffer.text = ap (λ (b : Buffer). length b.text) (reserved_buffer x.name x.mark mid ks ls r) in
+    ap (map (session_of (change_first (marked_named x.name) (marked_placed mid p) (marks_gone x left (edited_by x.name c ls))))) (set_followed x.name o xs at (session_marked mid (session_finished left h)) none)
+    ∙ marked_there ks ls ys id at mid p h x c behind text f sound_f kept r (place_followed x.name o xs id at place) (within_followed x.name o xs at within) found sel marks fresh mark (held_then ks ls ys at mid h x c left left sound_f kept r found sel marks_l)
+    ∙ ap (λ (n : ℕ). change_first (has_id id) arranged (map (session_of (edited_by x.name c ls)) (followed x.name (edit_told n c) xs))) (sym same)
+    ∙ ap (change_first (has_id id) arranged) (sessions_went x.name c ls xs order (omega (arith, same, room)) (mark_is_kept x.name x.point ls marks_l.point))
+    ∙ ap (λ (ss : List model.Session). change_first (has_id id) arranged (map (session_after (edit_of x.name c)) ss)) (reserved_sessions x mid ks ls xs sound kept r)
+
+pub marked_so : (directory : Directory) (ks ls : List MarkedBuffer) (xs : List Session) (next : Option ℕ) (id at mid p : ℕ) (h : Session) (x : WindowMarks) (c : plans.Change) (behind : ℕ) (text : List ℕ) (f : Finish) → c.a ≤ c.b → c.b ≤ length (marked_at x.name ks).buffer.text → IsSound ks xs → HasBuffer x.name ks → IsReserved x.name x.mark mid ks ls → at ≡ position_or_len (session_id id) xs → at < length xs → slice_get xs at ≡ Some h → window_marks_of h ≡ Some x → AreMarks ks x → own_of h.own ≡ idle (own_of h.own) → f.mark ≡ Some p → is_too_large (kill_read text h.kill f.kill) ≡ false
+    → (let left = finish_read text h.kill behind f in world_of directory (change_first (marked_named x.name) (marked_placed mid p) (marks_gone x left (edited_by x.name c ls))) (followed x.name (edit_told (length (marked_at x.name ks).buffer.text) c) (slice_set xs at (session_marked mid (session_finished left h)))) next ≡ apply (world_of directory ks xs next) id (finished (own_of h.own) left (edit_of x.name c)))
+marked_so directory ks ls xs next id at mid p h x c behind text f order room sound kept r place within is sel marks fresh told small =
     let left = finish_read text h.kill behind f in
     let own = own_of h.own in
     let ls1 = edited_by x.name c ls in
@@ -185,23 +198,23 @@ marked_so directory ks ls xs next id at mid p h x c behind text f sound kept r p
     let mark = mark_there x mid c left ls (reserved_mark x.mark mid ks ls xs at h x refl sound kept is sel r) marks_l in
     same_world directory _ _ _ _ (id_after next)
     (buffers_placed x.name mid p (marks_gone x left ls1) ∙ gone_buffers x.name x.top left.top ls2 ∙ gone_buffers x.name x.point left.point ls1 ∙ edited_buffers x.name c ls ∙ ap (buffers_after (edit_of x.name c)) (reserved_buffers x.name x.mark mid ks ls r))
-    (marked_sessions ks ls xs id at mid p h x c behind text f sound kept r place within is sel marks fresh mark (held_then ks ls xs at mid h x c left left sound kept r is sel marks_l) ∙ sym (no_quit x.name c id _))
+    (marked_sessions ks ls xs id at mid p h x c behind text f order room sound kept r place within is sel marks fresh mark ∙ sym (no_quit x.name c id _))
     ∙ ap (λ m. apply (world_of directory ks xs next) id (ended (record left { mark = mark_read m }) (edit_of x.name c) own)) (sym told)
     ∙ ap (λ b. apply (world_of directory ks xs next) id (cond b (fails own KillTooLarge) (ended left (edit_of x.name c) own))) (sym small)
 
 -- ANY ACTION
 
-acted_so : (directory : Directory) (ks ls : List MarkedBuffer) (xs : List Session) (next : Option ℕ) (id at p : ℕ) (x : WindowMarks) (h y : Session) (action : Action) → IsSound ks xs → at ≡ position_or_len (session_id id) xs → at < length xs → slice_get xs at ≡ Some h → window_marks_of h ≡ Some x → AreMarks ks x → own_of h.own ≡ idle (own_of h.own) → CanBeDone ks x h.kill action → mark_told action ≡ Some p → IsMarked x p action ks ls h y → world_of directory ls (slice_set xs at y) next ≡ apply (world_of directory ks xs next) id (outcome_through (own_of h.own) x ks h.kill action)
+acted_so : (directory : Directory) (ks ls : List MarkedBuffer) (xs : List Session) (next : Option ℕ) (id at p : ℕ) (x : WindowMarks) (h y : Session) (action : Action) → IsSound ks xs → at ≡ position_or_len (session_id id) xs → at < length xs → slice_get xs at ≡ Some h → window_marks_of h ≡ Some x → AreMarks ks x → own_of h.own ≡ idle (own_of h.own) → CanBeDone ks x h.kill action → mark_told action ≡ Some p → IsMarked x p action ks ls h y → world_of directory ls (followed x.name (edit_through x ks h.kill action) (slice_set xs at y)) next ≡ apply (world_of directory ks xs next) id (outcome_through (own_of h.own) x ks h.kill action)
 acted_so directory ks ls xs next id at p x h y (Fails message) sound place within is sel marks fresh can told m = cc
 acted_so directory ks ls xs next id at p x h y (Edits c) sound place within is sel marks fresh can told m =
     let text = (marked_at x.name ks).buffer.text in
     rw (m.buffers, m.session)
-    (marked_so directory ks m.between xs next id at m.id p h x (change_read text h.kill c) (c.from + length (put_read text h.kill c.put)) text c.finish sound (mark_is_kept x.name x.point ks marks.point) m.reserved place within is sel marks fresh told can.small)
+    (marked_so directory ks m.between xs next id at m.id p h x (change_read text h.kill c) (c.from + length (put_read text h.kill c.put)) text c.finish can.within.order can.within.within sound (mark_is_kept x.name x.point ks marks.point) m.reserved place within is sel marks fresh told can.small)
 acted_so directory ks ls xs next id at p x h y (Undoes u) sound place within is sel marks fresh can told m = cc
 acted_so directory ks ls xs next id at p x h y (Moves f) sound place within is sel marks fresh can told m =
     let text = (marked_at x.name ks).buffer.text in
     rw (m.buffers, m.session)
-    (marked_so directory ks m.between xs next id at m.id p h x (record { a = 0; b = 0; put = []; finish = finish_read text h.kill 0 f }) 0 text f sound (mark_is_kept x.name x.point ks marks.point) m.reserved place within is sel marks fresh told can.small)
+    (marked_so directory ks m.between xs next id at m.id p h x (record { a = 0; b = 0; put = []; finish = finish_read text h.kill 0 f }) 0 text f (omega arith) (omega arith) sound (mark_is_kept x.name x.point ks marks.point) m.reserved place within is sel marks fresh told can.small)
 acted_so directory ks ls xs next id at p x h y Clears sound place within is sel marks fresh can told m = cc
 
 sound_then : (ks ls : List MarkedBuffer) (xs : List Session) (at p : ℕ) (x : WindowMarks) (h y : Session) (action : Action) → IsSound ks xs → slice_get xs at ≡ Some h → window_marks_of h ≡ Some x → AreMarks ks x → mark_told action ≡ Some p → IsMarked x p action ks ls h y → IsSound ls (slice_set xs at y)
@@ -236,10 +249,11 @@ pub marked_sizes : {T E : Type 0} (r : Result T E) (ks ls : List MarkedBuffer) (
 marked_sizes (Ok o) ks ls xs at p x h y action is ok same = sizes_set xs at h y (sym (get_or_from_slice_get xs at h h is)) (size_then ks ls p x h y action ok)
 marked_sizes (Err e) ks ls xs at p x h y action is ok same = rw same (sizes_set xs at h h (sym (get_or_from_slice_get xs at h h is)) refl)
 
-pub marked_ok : {T E : Type 0} (r : Result T E) (ks ls : List MarkedBuffer) (xs : List Session) (at p : ℕ) (x : WindowMarks) (h y : Session) (action : Action) → slice_get xs at ≡ Some h → OnOk r (IsMarked x p action ks ls h y) → IsSound ks xs → at < length xs → option_and_then window_marks_of (slice_get xs at) ≡ Some x → own_at at xs ≡ idle (own_at at xs) → CanBeDone ks x (kill_at at xs) action → mark_told action ≡ Some p → OnOk r ((directory : Directory) (id : ℕ) (next : Option ℕ) → at ≡ position_or_len (session_id id) xs → world_of directory ls (slice_set xs at y) next ≡ apply (world_of directory ks xs next) id (outcome_through (own_at at xs) x ks (kill_at at xs) action))
+pub marked_ok : {T E : Type 0} (r : Result T E) (ks ls : List MarkedBuffer) (xs : List Session) (at p : ℕ) (x : WindowMarks) (h y : Session) (action : Action) → slice_get xs at ≡ Some h → OnOk r (IsMarked x p action ks ls h y) → IsSound ks xs → at < length xs → option_and_then window_marks_of (slice_get xs at) ≡ Some x → own_at at xs ≡ idle (own_at at xs) → CanBeDone ks x (kill_at at xs) action → mark_told action ≡ Some p → OnOk r ((directory : Directory) (id : ℕ) (next : Option ℕ) → at ≡ position_or_len (session_id id) xs → world_of directory ls (followed x.name (edit_through x ks (kill_at at xs) action) (slice_set xs at y)) next ≡ apply (world_of directory ks xs next) id (outcome_through (own_at at xs) x ks (kill_at at xs) action))
 marked_ok (Ok o) ks ls xs at p x h y action is ok sound within sel fresh can told = λ directory id next place.
     let sel_h : window_marks_of h ≡ Some x = sym (ap (option_and_then window_marks_of) is) ∙ sel in
-    acted_so directory ks ls xs next id at p x h y action sound place within is sel_h (acting_marks ks xs at x sound sel) (fresh_own xs at h is fresh) (subst (λ o. CanBeDone ks x (kill_or_none o) action) is can) told ok
+    ap (λ (o : Option Session). world_of directory ls (followed x.name (edit_through x ks (kill_or_none o) action) (slice_set xs at y)) next) is
+    ∙ acted_so directory ks ls xs next id at p x h y action sound place within is sel_h (acting_marks ks xs at x sound sel) (fresh_own xs at h is fresh) (subst (λ o. CanBeDone ks x (kill_or_none o) action) is can) told ok
     ∙ ap (λ o. apply (world_of directory ks xs next) id (outcome_through (own_or_first o) x ks (kill_or_none o) action)) (sym is)
 marked_ok (Err e) ks ls xs at p x h y action is ok sound within sel fresh can told = ok
 

@@ -2,18 +2,17 @@
 use Rattle.std.proofs.Common.{◌≡◌, ℕ, ◌<◌, Bool, true, false, cond, ◌||◌, List, [], ◌∷◌, length, map, Option, Some, None, refl, sym, ap, subst, ◌∙◌, arith}
 use Rattle.std.specs.Prelude.{find, is_some, slice_get, slice_set, IfSome, Result, Ok, Err}
 use Rattle.std.specs.List.{position_or_len}
-use Rattle.std.specs.Option.{option_and_then, option_map}
 use Rattle.std.proofs.lemmas.List.{map-id}
 use Rattle.std.proofs.lemmas.List.Folds.{list_any_at}
-use Rattle.std.proofs.lemmas.Option.{get_or_from_slice_get, slice_get-map}
+use Rattle.std.proofs.lemmas.Option.{get_or_from_slice_get}
 use Rattle.mgs_model.specs.Access.{Decider, Directory, allows, any_right, decision_by, is_among}
 use Rattle.mgs_model.specs.Names.{IsName, same_name}
 use Rattle.mgs_model.specs.Rights.{all_rights, rights_in}
 use Rattle.mgs_model.specs.World.{Buffer, Own, has_id}
-use Rattle.mgs_model.specs.View.{BufferSeen, View, WindowSeen, buffer_seen, find_seen, reads, told_if, view, window_seen}
+use Rattle.mgs_model.specs.View.{BufferSeen, View, buffer_seen, find_seen, told_if, view}
 use Rattle.mgs_model.specs.Outcome.{Effect, Relist, Reown, Run}
 use Rattle.mgs_model.specs.Plans.{acted_own, entries_changed}
-use Rattle.mgs_model.specs.Acts.{about, deciders_found, effects, entries_told, fails, judged, name_shown, outcome, permitted, relisted, rules, subject}
+use Rattle.mgs_model.specs.Acts.{about, deciders_found, effects, entries_told, fails, judged, outcome, permitted, relisted, rules, subject}
 use Rattle.mgs_model.specs.Apart.{Apart, touched_by}
 use Rattle.mgs_model.specs.Apply.{act, applied, apply, change_first, session_arranged}
 use Rattle.mgs_model.specs.declared.entry.Decision.TheVariants.{Granted}
@@ -44,11 +43,11 @@ use Rattle.mgs_act.specs.declared.ruling.Ruling.TheVariants.{Owner, Entries}
 use Rattle.mgs_act.specs.declared.ruling.Ruled.{Ruled}
 use Rattle.mgs_act.specs.declared.ruling.Ruled.TheVariants.{Fails, Reowns, Relists}
 use Rattle.mgs_world.specs.Sound.{IsSound, session_uses}
-use Rattle.mgs_world.specs.Worlds.{buffers_of, id_after, idle, own_of, session_id, session_of, size_in, sizes_in, window_of, window_shown, world_of}
+use Rattle.mgs_world.specs.Worlds.{buffers_of, id_after, idle, own_of, session_id, session_of, size_in, sizes_in, world_of}
 use Rattle.mgs_world.proofs.Attributes.{buffers_by, sessions_by, sound_by}
 use Rattle.mgs_world.proofs.Found.{found_seen, name_kept}
 use Rattle.mgs_world.proofs.Marks.{same_is}
-use Rattle.mgs_world.proofs.Owns.{at_rest, no_search}
+use Rattle.mgs_world.proofs.Owns.{at_rest, search_kept}
 use Rattle.mgs_world.proofs.Soundness.{sizes_set, sound_set}
 use Rattle.mgs_world.proofs.Worlds.{same_world}
 use Rattle.mgs_act.proofs.Commands.{outcome_known}
@@ -146,8 +145,8 @@ module _ (directory : Directory) (ks : List MarkedBuffer) (xs : List Session) (n
       let ls = change_first (marked_named name) (marked_reowned owner) ks in
       same_world directory _ _ _ _ (id_after next) (buffers_by g (λ b. refl) name ks)
       (written_first (session_of ls) (has_id id) f xs at h (acted Other h) (place ∙ sym (position_or_len-map (session_of ls) (has_id id) xs)) within (sym (get_or_from_slice_get xs at h h found))
-      (λ i. record (session_of ls h) { own = fresh_ruled h.own fresh i; search = no_search h.own.prompt i })
-      ∙ ap (change_first (has_id id) f) (sessions_by g (λ b. refl) name ks xs ∙ sym (map-id (map (session_of ks) xs))))
+      (λ i. record (session_of ls h) { own = fresh_ruled h.own fresh i; search = search_kept ls h fresh i })
+      ∙ ap (change_first (has_id id) f) (sessions_by g (λ b. refl) (λ b. refl) name ks xs ∙ sym (map-id (map (session_of ks) xs))))
 
   relisted_so : (name : List ℕ) (entries : List Entry) → world_of directory (change_first (marked_named name) (marked_relisted entries) ks) (slice_set xs at (acted Other h)) next ≡ apply (world_of directory ks xs next) id (effects (own_of h.own) (Ok (Relist name entries)))
   relisted_so name entries =
@@ -156,8 +155,8 @@ module _ (directory : Directory) (ks : List MarkedBuffer) (xs : List Session) (n
       let ls = change_first (marked_named name) (marked_relisted entries) ks in
       same_world directory _ _ _ _ (id_after next) (buffers_by g (λ b. refl) name ks)
       (written_first (session_of ls) (has_id id) f xs at h (acted Other h) (place ∙ sym (position_or_len-map (session_of ls) (has_id id) xs)) within (sym (get_or_from_slice_get xs at h h found))
-      (λ i. record (session_of ls h) { own = fresh_ruled h.own fresh i; search = no_search h.own.prompt i })
-      ∙ ap (change_first (has_id id) f) (sessions_by g (λ b. refl) name ks xs ∙ sym (map-id (map (session_of ks) xs))))
+      (λ i. record (session_of ls h) { own = fresh_ruled h.own fresh i; search = search_kept ls h fresh i })
+      ∙ ap (change_first (has_id id) f) (sessions_by g (λ b. refl) (λ b. refl) name ks xs ∙ sym (map-id (map (session_of ks) xs))))
 
   ruled_so : (r : Ruled) → world_of directory (buffers_ruled r ks) (slice_set xs at (session_ruled r h)) next ≡ apply (world_of directory ks xs next) id (ruled_outcome (own_of h.own) r)
   ruled_so (Fails message) = failed_so directory ks xs next id at h message place within found fresh

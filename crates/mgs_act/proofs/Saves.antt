@@ -38,7 +38,7 @@ use Rattle.mgs_world.specs.Sound.{IsSound, session_uses}
 use Rattle.mgs_world.specs.Worlds.{buffers_of, id_after, idle, own_at, own_of, own_or_first, session_id, session_of, size_in, sizes_in, world_of}
 use Rattle.mgs_world.proofs.Found.{found_seen, name_kept}
 use Rattle.mgs_world.proofs.Sessions.{session_some}
-use Rattle.mgs_world.proofs.Owns.{at_rest, no_search}
+use Rattle.mgs_world.proofs.Owns.{at_rest, search_kept}
 use Rattle.mgs_world.proofs.Soundness.{mark_is_kept, sizes_set, sound_set}
 use Rattle.mgs_world.proofs.Worlds.{same_world}
 use Rattle.mgs_world.proofs.Unmodified.{buffers_unmodified, sessions_unmodified, sound_unmodified}
@@ -60,7 +60,7 @@ wrote_so directory ks xs next id at h name text place within is fresh =
     let ls = change_first (marked_named name) marked_unmodified ks in
     same_world directory _ _ _ _ (id_after next) (buffers_unmodified name ks)
     (written_first (session_of ls) (has_id id) f xs at h (told (Wrote name) (acted Other h)) (place ∙ sym (position_or_len-map (session_of ls) (has_id id) xs)) within (sym (get_or_from_slice_get xs at h h is))
-    (λ i. record (session_of ls h) { own = fresh_wrote h.own name fresh i; search = no_search h.own.prompt i })
+    (λ i. record (session_of ls h) { own = fresh_wrote h.own name fresh i; search = search_kept ls h fresh i })
     ∙ ap (change_first (has_id id) f) (sessions_unmodified name ks xs ∙ sym (map-id (map (session_of ks) xs))))
 
 saved_so : (directory : Directory) (ks : List MarkedBuffer) (xs : List Session) (next : Option ℕ) (id at : ℕ) (h : Session) (name text : List ℕ) (stored : Bool) → at ≡ position_or_len (session_id id) xs → at < length xs → slice_get xs at ≡ Some h → own_of h.own ≡ idle (own_of h.own) → world_of directory (buffers_saved stored name ks) (slice_set xs at (session_saved stored name h)) next ≡ apply (world_of directory ks xs next) id (save_answered (own_of h.own) name text stored)

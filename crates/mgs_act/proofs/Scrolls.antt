@@ -1,5 +1,5 @@
 -- A command on a text in a window that shows none.
-use Rattle.std.proofs.Common.{◌≡◌, ℕ, zero, suc, ◌<◌, Bool, true, List, [], ◌∷◌, length, map, Option, Some, None, refl, sym, ap, subst, ◌∙◌, map-id, arith}
+use Rattle.std.proofs.Common.{◌≡◌, ℕ, zero, suc, ◌<◌, true, List, [], ◌∷◌, length, map, Option, Some, None, refl, sym, ap, subst, ◌∙◌, map-id, arith}
 use Rattle.std.specs.Prelude.{slice_get, slice_set}
 use Rattle.std.specs.List.{position_or_len}
 use Rattle.std.specs.Option.{option_and_then}
@@ -34,7 +34,7 @@ use Rattle.mgs_act.specs.Actions.{height_or_none}
 use Rattle.mgs_act.specs.Rows.{outcome_without, pane_scrolled, scroll_in, scroll_outcome, scrolled_at, scrolled_to, session_rows, without_text}
 use Rattle.mgs_world.specs.Sound.{session_uses, window_uses}
 use Rattle.mgs_world.specs.Worlds.{id_after, idle, own_at, own_of, session_id, session_of, size_in, window_of, window_shown, world_of}
-use Rattle.mgs_world.proofs.Owns.{at_rest, no_search}
+use Rattle.mgs_world.proofs.Owns.{at_rest, search_kept}
 use Rattle.mgs_world.proofs.Worlds.{same_world}
 use Rattle.mgs_act.proofs.Commands.{outcome_known}
 use Rattle.mgs_act.proofs.Deeds.{failed_so, fresh_own}
@@ -93,7 +93,7 @@ module _ (directory : Directory) (ks : List MarkedBuffer) (xs : List Session) (n
       (λ i. record (session_of ks h) {
         own = fresh_scrolling h.own (fresh_own xs at h found fresh) i;
         windows = changed_there (window_of ks) (rows_set rows) (row_by row) h.windows.selected h.windows.windows w is (row_seen ks rows row w none does) i;
-        search = no_search h.own.prompt i;
+        search = search_kept ks h (fresh_own xs at h found fresh) i;
       })
       ∙ ap (change_first (has_id id) f) (sym (map-id (map (session_of ks) xs))))
 

@@ -1,13 +1,11 @@
 -- A switch to a buffer: what the act comes to, and that what is done is the act.
 use Rattle.std.proofs.Common.{◌≡◌, ℕ, ◌<◌, true, false, List, [], ◌∷◌, ◌++◌, length, map, Option, Some, None, refl, sym, ap, subst, ◌∙◌, arith, ◌⊎◌, inl, inr}
-use Rattle.std.specs.Prelude.{find, slice_get, slice_set, IfSome, OnOk, Result, Ok, Err}
+use Rattle.std.specs.Prelude.{slice_get, slice_set, IfSome, OnOk, Result, Ok, Err}
 use Rattle.std.specs.List.{position_or_len}
-use Rattle.std.specs.Option.{option_map}
 use Rattle.std.proofs.lemmas.List.{length-map, map-id}
 use Rattle.std.proofs.lemmas.Option.{get_or_from_slice_get}
 use Rattle.mgs_model.specs.Access.{Directory, decision_by}
 use Rattle.mgs_model.specs.Rights.{rights_in}
-use Rattle.mgs_model.specs.Names.{same_name}
 use Rattle.mgs_model.specs.World.{World, find_session, has_id, is_named}
 use Rattle.mgs_model.specs.World as model
 use Rattle.mgs_model.specs.View.{BufferSeen, View, buffer_seen, find_seen, reads, view}
@@ -24,9 +22,8 @@ use Rattle.mgs_model.specs.declared.session.Question.{Question}
 use Rattle.mgs_model.specs.declared.session.Question.TheVariants.{SwitchTo, FindWhich}
 use Rattle.mgs_model.specs.declared.touched.Touched.{Touched}
 use Rattle.mgs_model.proofs.Apart.{apart_apply}
-use Rattle.mgs_model.proofs.Firsts.{change_first_found, find-map}
-use Rattle.mgs_buffers.specs.MarkedBuffer.{HasBuffer, MarkedBuffer, has_buffer, marked_at, marked_named}
-use Rattle.mgs_buffers.proofs.MarkedLemmas.{none_of}
+use Rattle.mgs_model.proofs.Firsts.{change_first_found}
+use Rattle.mgs_buffers.specs.MarkedBuffer.{HasBuffer, MarkedBuffer, has_buffer, marked_at}
 use Rattle.mgs_session.specs.Sessions.{failed}
 use Rattle.mgs_session.specs.declared.Session.{Session}
 use Rattle.mgs_arrange.specs.Arranged.{run_ended}
@@ -34,6 +31,7 @@ use Rattle.mgs_arrange.specs.Showing.{shown_in, window_shows}
 use Rattle.mgs_arrange.proofs.Arranged.{show_done, show_takes_memory}
 use Rattle.mgs_world.specs.Worlds.{buffers_of, idle, own_at, session_id, session_of, window_of, world_of}
 use Rattle.mgs_world.proofs.Found.{found_seen, unseen}
+use Rattle.mgs_world.proofs.Owns.{no_search_at_rest}
 use Rattle.mgs_world.proofs.Sessions.{session_some}
 use Rattle.mgs_act.specs.Searching.{meant}
 use Rattle.mgs_act.specs.Switching.{coming_decision, created_in, switch_outcome, view_at}
@@ -139,13 +137,13 @@ module _ (directory : Directory) (ks : List MarkedBuffer) (xs : List Session) (n
       pub shown_done : (new : World) (name : List ℕ) (s : Switch) → s ≡ Shows name → IsSelected (slice_get xs at) → ((x : model.Session) → at ≡ position_or_len (session_id id) xs → find_session id (world_of directory ks xs next).sessions ≡ Some x → new ≡ shown_in id name x (world_of directory ks xs next)) → new ≡ apply (world_of directory ks xs next) id (switch_outcome (view_at directory ks xs next h) s)
       shown_done new name s s_is selected shown =
           shown (session_of ks h) place known
-          ∙ shown_applied (world_of directory ks xs next) id name (session_of ks h) known (fresh_own xs at h found fresh) refl (selected_so selected)
+          ∙ shown_applied (world_of directory ks xs next) id name (session_of ks h) known (fresh_own xs at h found fresh) (no_search_at_rest ks h (fresh_own xs at h found fresh)) (selected_so selected)
           ∙ ap (λ t. apply (world_of directory ks xs next) id (switch_outcome (view_at directory ks xs next h) t)) (sym s_is)
 
       pub created_done : (new : World) (name : List ℕ) (s : Switch) → s ≡ Creates name → IsSelected (slice_get xs at) → ((x : model.Session) → at ≡ position_or_len (session_id id) xs → find_session id (world_of directory ks xs next).sessions ≡ Some x → new ≡ created_in id name x (world_of directory ks xs next)) → new ≡ apply (world_of directory ks xs next) id (switch_outcome (view_at directory ks xs next h) s)
       created_done new name s s_is selected made =
           made (session_of ks h) place known
-          ∙ created_applied (world_of directory ks xs next) id name (session_of ks h) known (fresh_own xs at h found fresh) refl (selected_so selected)
+          ∙ created_applied (world_of directory ks xs next) id name (session_of ks h) known (fresh_own xs at h found fresh) (no_search_at_rest ks h (fresh_own xs at h found fresh)) (selected_so selected)
           ∙ ap (λ t. apply (world_of directory ks xs next) id (switch_outcome (view_at directory ks xs next h) t)) (sym s_is)
 
     -- THE ACT

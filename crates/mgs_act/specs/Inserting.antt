@@ -70,10 +70,12 @@ insertion_outcome directory ks own user typed (Some x) = outcome_from directory 
 
 -- ONCE IT IS DECIDED
 
+abbrev pub put_outcome : Own → List ℕ → ℕ → List ℕ → Outcome
+put_outcome own name place put = let c = insertion_of place put in finished own c.finish (edit_of name c)
+
 abbrev pub decided_outcome : List MarkedBuffer → Own → List ℕ → Inserted → Outcome
 decided_outcome ks own name (Fails message) = fails own message
-decided_outcome ks own name (Copies source place) =
-    let c = insertion_of place (marked_at source ks).buffer.text in finished own c.finish (edit_of name c)
+decided_outcome ks own name (Copies source place) = put_outcome own name place (marked_at source ks).buffer.text
 
 -- what it asks of a buffer
 pub record CanPut (b : Buffer) (put : List ℕ) (place : ℕ) : Type 0 where

@@ -9,3 +9,5 @@ pub mod Rows
 pub mod Subjects
 pub mod Listing
 pub mod Searching
+pub mod Beginning
+pub mod Following

@@ -16,11 +16,13 @@ ghost use Rattle.mgs_buffers.specs.MarkedBuffer.{HasBuffer, has_buffer, marked_a
 ghost use Rattle.mgs_session.specs.Sessions.{window_marks_of};
 ghost use Rattle.mgs_act.specs.declared.inserting.Inserted.TheVariants.{Copies};
 ghost use Rattle.mgs_act.specs.Actions.{AreMarks, edited_by};
-ghost use Rattle.mgs_act.specs.Inserting.{CanInsert, CanPut, IsInserted, acting_place, buffers_inserted, copied_at, copy_decision, copy_outcome, decided_outcome, insertion_of, leaving, outcome_from, rights_decision, session_inserted, target_decision};
+ghost use Rattle.mgs_act.specs.Following.{edit_told, followed};
+ghost use Rattle.mgs_act.specs.Inserting.{CanInsert, CanPut, IsInserted, acting_place, buffers_inserted, copied_at, copy_decision, copy_outcome, decided_outcome, insertion_of, leaving, outcome_from, put_outcome, rights_decision, session_inserted, target_decision};
 ghost use Rattle.mgs_world.specs.Sound.{IsSound};
 ghost use Rattle.mgs_world.specs.WindowMarks.{WindowMarksDropped};
 ghost use Rattle.mgs_world.specs.Worlds.{idle, own_at, session_id, sizes_in, world_of};
 
+use crate::following::{edit_of_insertion, follow};
 use crate::performing::leave;
 use crate::planning::{denial, insertion_bit};
 use mgs_buffers::Buffers;
@@ -43,7 +45,7 @@ pub enum Inserted {
 }
 
 /// Why a user may not read the buffer whose text is to come in, if there is a reason.
-fn source_refusal<T: Marked + Drop>(
+pub fn source_refusal<T: Marked + Drop>(
     buffers: &Buffers<T>,
     directory: &Directory,
     user: &Name,
@@ -282,6 +284,28 @@ fn copied_text<T: Marked + Drop>(buffers: &Buffers<T>, name: &Name) -> Result<Ve
     buffers.text(name).copy(0, buffers.text_len(name))
 }
 
+/// Puts characters into the window's buffer, as `insert_copy` says; the positions of searches stay.
+fn insert_unfollowed<T: Marked + Drop>(
+    buffers: &mut Buffers<T>,
+    sessions: &mut [Session],
+    at: usize,
+    window_marks: &WindowMarks,
+    place: usize,
+    put: &[char],
+) -> Result<(), Short>
+    requires sound { IsSound buffers.old sessions.old }
+    requires within { at < length sessions.old }
+    requires window_marks { option_and_then window_marks_of (slice_get sessions.old at) ≡ Some window_marks.now }
+    requires fresh { own_at at sessions.old ≡ idle (own_at at sessions.old) }
+    requires can { CanPut (marked_at window_marks.now.name buffers.old).buffer put.now place }
+    ensures sound { IsSound buffers.new sessions.new }
+    ensures sizes { sizes_in sessions.new ≡ sizes_in sessions.old }
+    ensures ok { OnOk result ((directory : Directory) (id : ℕ) (next : Option ℕ) → at ≡ position_or_len (session_id id) sessions.old → world_of directory buffers.new (followed window_marks.now.name (edit_told (length (marked_at window_marks.now.name buffers.old).buffer.text) (insertion_of place put.now)) sessions.new) next ≡ apply (world_of directory buffers.old sessions.old next) id (put_outcome (own_at at sessions.old) window_marks.now.name place put.now)) }
+    ensures err { OnErr result ((directory : Directory) (next : Option ℕ) → world_of directory buffers.new sessions.new next ≡ world_of directory buffers.old sessions.old next) }
+{
+    insert_marked(buffers, &mut sessions[at], window_marks, place, put)
+}
+
 /// Puts a copy of a buffer's text into the window's, for the session at `at`. `Short`: memory was refused, and the world is as
 /// it was.
 fn insert_copy<T: Marked + Drop>(
@@ -302,8 +326,12 @@ fn insert_copy<T: Marked + Drop>(
     ensures ok { OnOk result ((directory : Directory) (id : ℕ) (next : Option ℕ) → at ≡ position_or_len (session_id id) sessions.old → world_of directory buffers.new sessions.new next ≡ apply (world_of directory buffers.old sessions.old next) id (decided_outcome buffers.old (own_at at sessions.old) window_marks.now.name (Copies source.now place))) }
     ensures err { OnErr result ((directory : Directory) (next : Option ℕ) → world_of directory buffers.new sessions.new next ≡ world_of directory buffers.old sessions.old next) }
 {
+    let name = &window_marks.name;
     let put = copied_text(buffers, source)?;
-    insert_marked(buffers, &mut sessions[at], window_marks, place, &put)
+    let edit = edit_of_insertion(buffers, name, place, &put);
+    insert_unfollowed(buffers, sessions, at, window_marks, place, &put)?;
+    follow(sessions, name, &edit);
+    Ok(())
 }
 
 /// Does what was decided, for the session at `at`. `Short`: memory was refused, and the world is as it was.

@@ -14,11 +14,13 @@ ghost use Rattle.mgs_edit.specs.Reading.{ChangeWithin, GoesWithin, IsWithin, Pie
 ghost use Rattle.mgs_session.specs.Sessions.{acted, told, window_marks_of};
 ghost use Rattle.mgs_act.specs.declared.action.Action.TheVariants.{Edits, Moves, Undoes};
 ghost use Rattle.mgs_act.specs.Actions.{AreMarks, CanBeDone, CanUndo, IsMarked, kill_at, edited_by, kill_set, mark_gone, mark_told, marked_after, outcome_through, removed_by, session_acted};
+ghost use Rattle.mgs_act.specs.Following.{edit_through, followed};
 ghost use Rattle.mgs_world.specs.Sound.{IsSound};
 ghost use Rattle.mgs_world.specs.WindowMarks.{WindowMarksDropped};
 ghost use Rattle.mgs_world.specs.Worlds.{idle, own_at, session_id, sizes_in, world_of};
 
 use crate::action::Action;
+use crate::following::{edit_of, follow};
 use mgs_buffers::Buffers;
 use mgs_edit::{
     Change, Finish, Goes, Joins, Piece, Put, Undone, is_edit, is_undo_an_edit, put_chars,
@@ -421,7 +423,7 @@ fn carry_out_marked<T: Marked + Drop>(
     }
 }
 
-/// Does what was planned and sets no mark, as `perform` says.
+/// Does what was planned and sets no mark, as `perform` says; the positions of searches stay.
 fn perform_plain<T: Marked + Drop>(
     alloc: Global,
     buffers: &mut Buffers<T>,
@@ -438,14 +440,14 @@ fn perform_plain<T: Marked + Drop>(
     requires unmarked { mark_told action.now ≡ None }
     ensures sound { IsSound buffers.new sessions.new }
     ensures sizes { sizes_in sessions.new ≡ sizes_in sessions.old }
-    ensures ok { OnOk result ((directory : Directory) (id : ℕ) (next : Option ℕ) → at ≡ position_or_len (session_id id) sessions.old → world_of directory buffers.new sessions.new next ≡ apply (world_of directory buffers.old sessions.old next) id (outcome_through (own_at at sessions.old) window_marks.now buffers.old (kill_at at sessions.old) action.now)) }
+    ensures ok { OnOk result ((directory : Directory) (id : ℕ) (next : Option ℕ) → at ≡ position_or_len (session_id id) sessions.old → world_of directory buffers.new (followed window_marks.now.name (edit_through window_marks.now buffers.old (kill_at at sessions.old) action.now) sessions.new) next ≡ apply (world_of directory buffers.old sessions.old next) id (outcome_through (own_at at sessions.old) window_marks.now buffers.old (kill_at at sessions.old) action.now)) }
     ensures err { OnErr result ((directory : Directory) (next : Option ℕ) → world_of directory buffers.new sessions.new next ≡ world_of directory buffers.old sessions.old next) }
     ensures may { OnErr result ((own : Own) → takes_memory (outcome_through own window_marks.now buffers.old (kill_at at sessions.old) action.now) ≡ true) }
 {
     carry_out(alloc, buffers, &mut sessions[at], window_marks, action)
 }
 
-/// Does what was planned and sets the mark, as `perform` says.
+/// Does what was planned and sets the mark, as `perform` says; the positions of searches stay.
 fn perform_marked<T: Marked + Drop>(
     alloc: Global,
     buffers: &mut Buffers<T>,
@@ -463,7 +465,7 @@ fn perform_marked<T: Marked + Drop>(
     requires told { mark_told action.now ≡ Some position }
     ensures sound { IsSound buffers.new sessions.new }
     ensures sizes { sizes_in sessions.new ≡ sizes_in sessions.old }
-    ensures ok { OnOk result ((directory : Directory) (id : ℕ) (next : Option ℕ) → at ≡ position_or_len (session_id id) sessions.old → world_of directory buffers.new sessions.new next ≡ apply (world_of directory buffers.old sessions.old next) id (outcome_through (own_at at sessions.old) window_marks.now buffers.old (kill_at at sessions.old) action.now)) }
+    ensures ok { OnOk result ((directory : Directory) (id : ℕ) (next : Option ℕ) → at ≡ position_or_len (session_id id) sessions.old → world_of directory buffers.new (followed window_marks.now.name (edit_through window_marks.now buffers.old (kill_at at sessions.old) action.now) sessions.new) next ≡ apply (world_of directory buffers.old sessions.old next) id (outcome_through (own_at at sessions.old) window_marks.now buffers.old (kill_at at sessions.old) action.now)) }
     ensures err { OnErr result ((directory : Directory) (next : Option ℕ) → world_of directory buffers.new sessions.new next ≡ world_of directory buffers.old sessions.old next) }
     ensures may { OnErr result ((own : Own) → takes_memory (outcome_through own window_marks.now buffers.old (kill_at at sessions.old) action.now) ≡ true) }
 {
@@ -477,7 +479,41 @@ fn perform_marked<T: Marked + Drop>(
     )
 }
 
-/// Does what was planned, for the session at `at`. `Short`: memory was refused, and nothing was done.
+/// The same, with a mark or without one.
+fn perform_unfollowed<T: Marked + Drop>(
+    alloc: Global,
+    buffers: &mut Buffers<T>,
+    sessions: &mut [Session],
+    at: usize,
+    window_marks: &WindowMarks,
+    action: &Action,
+) -> Result<(), Short>
+    requires sound { IsSound buffers.old sessions.old }
+    requires within { at < length sessions.old }
+    requires window_marks { option_and_then window_marks_of (slice_get sessions.old at) ≡ Some window_marks.now }
+    requires fresh { own_at at sessions.old ≡ idle (own_at at sessions.old) }
+    requires can { CanBeDone buffers.old window_marks.now (kill_at at sessions.old) action.now }
+    ensures sound { IsSound buffers.new sessions.new }
+    ensures sizes { sizes_in sessions.new ≡ sizes_in sessions.old }
+    ensures ok { OnOk result ((directory : Directory) (id : ℕ) (next : Option ℕ) → at ≡ position_or_len (session_id id) sessions.old → world_of directory buffers.new (followed window_marks.now.name (edit_through window_marks.now buffers.old (kill_at at sessions.old) action.now) sessions.new) next ≡ apply (world_of directory buffers.old sessions.old next) id (outcome_through (own_at at sessions.old) window_marks.now buffers.old (kill_at at sessions.old) action.now)) }
+    ensures err { OnErr result ((directory : Directory) (next : Option ℕ) → world_of directory buffers.new sessions.new next ≡ world_of directory buffers.old sessions.old next) }
+    ensures may { OnErr result ((own : Own) → takes_memory (outcome_through own window_marks.now buffers.old (kill_at at sessions.old) action.now) ≡ true) }
+{
+    match mark_of(action) {
+        None => perform_plain(alloc, buffers, sessions, at, window_marks, action),
+        Some(position) => perform_marked(
+            alloc,
+            buffers,
+            sessions,
+            at,
+            window_marks,
+            action,
+            position,
+        ),
+    }
+}
+
+/// Does what was planned, for the session at `at`. The positions of all searches go by it. `Short`: memory was refused, and nothing was done.
 pub fn perform<T: Marked + Drop>(
     alloc: Global,
     buffers: &mut Buffers<T>,
@@ -497,18 +533,11 @@ pub fn perform<T: Marked + Drop>(
     ensures err { OnErr result ((directory : Directory) (next : Option ℕ) → world_of directory buffers.new sessions.new next ≡ world_of directory buffers.old sessions.old next) }
     ensures may { OnErr result ((own : Own) → takes_memory (outcome_through own window_marks.now buffers.old (kill_at at sessions.old) action.now) ≡ true) }
 {
-    match mark_of(action) {
-        None => perform_plain(alloc, buffers, sessions, at, window_marks, action),
-        Some(position) => perform_marked(
-            alloc,
-            buffers,
-            sessions,
-            at,
-            window_marks,
-            action,
-            position,
-        ),
-    }
+    let name = &window_marks.name;
+    let edit = edit_of(buffers, name, sessions[at].kill.as_slice(), action);
+    perform_unfollowed(alloc, buffers, sessions, at, window_marks, action)?;
+    follow(sessions, name, &edit);
+    Ok(())
 }
 
 /// What an action through a window's marks touches, by a session whose kill buffer has `killed` characters.

@@ -21,10 +21,11 @@ use Rattle.mgs_session.specs.declared.Session.{Session}
 use Rattle.mgs_world.specs.Sound.{IsSound, session_uses, sum_of}
 use Rattle.mgs_world.specs.WindowMarks.{WindowMarksDropped}
 use Rattle.mgs_world.specs.Worlds.{id_after, idle, own_at, own_of, session_id, session_of, sizes_in, window_of, world_of}
+use Rattle.mgs_world.proofs.Owns.{no_search_at_rest}
 use Rattle.mgs_world.proofs.SelectedMark.{changed_first}
 use Rattle.mgs_world.proofs.Sessions.{session_some}
 use Rattle.mgs_world.proofs.Soundness.{AreInUse, sizes_set}
-use Rattle.mgs_world.proofs.WindowMarks.{session_local, sessions_stay}
+use Rattle.mgs_world.proofs.WindowMarks.{same_sizes, session_local, sessions_stay}
 use Rattle.mgs_world.proofs.Worlds.{same_world}
 use Rattle.mgs_arrange.specs.Arranging.{IsDone, IsResized, MayBeRefused, Rearranged}
 use Rattle.mgs_arrange.proofs.Arranged.{arranged_act, arranged_apart, split_may_be_refused}
@@ -79,7 +80,7 @@ after_sizes ks ls xs at x y is h = sizes_set xs at x y is h.size
 pub after_world : (d : Directory) (ks ls : List MarkedBuffer) (xs : List Session) (next : Option ℕ) (id at : ℕ) (x y : Session) → IsSound ks xs → at ≡ position_or_len (session_id id) xs → x ≡ get_or xs at x → at < length xs → Rearranged ks ls x y → world_of d ls (slice_set xs at y) next ≡ record (world_of d ks xs next) { sessions = change_first (has_id id) (λ old. session_of ls y) (map (session_of ks) xs) }
 after_world d ks ls xs next id at x y sound place is within h =
     same_world d _ _ _ _ (id_after next) h.buffers
-    (set_seen (session_of ls) (session_of ks) xs at y (sessions_stay ks ls (remove xs at) (others_before ks xs at x sound is within) (others_after ks ls xs at x y sound is within h) h.stay)
+    (set_seen (session_of ls) (session_of ks) xs at y (sessions_stay ks ls (remove xs at) (others_before ks xs at x sound is within) (others_after ks ls xs at x y sound is within h) (same_sizes ks ls h.buffers) h.stay)
     ∙ set_first (has_id id) (map (session_of ks) xs) at (session_of ls y) (place ∙ sym (position_or_len-map (session_of ks) (has_id id) xs)))
 
 own_of_it : (xs : List Session) (at : ℕ) (x : Session) → x ≡ get_or xs at x → at < length xs → own_at at xs ≡ idle (own_at at xs) → own_of x.own ≡ idle (own_of x.own)
@@ -93,7 +94,7 @@ after_act c n d ks ls xs next id at x y sound place is within fresh selected h a
     let w = world_of d ks xs next in
     after_world d ks ls xs next id at x y sound place is within h
     ∙ ap (λ (s : model.Session). let v : World = record w { sessions = change_first (has_id id) (λ old. s) w.sessions } in v) arranged
-    ∙ sym (arranged_act w id c n (session_of ks x) (session_some d ks xs next id at x place within is) (own_of_it xs at x is within fresh) refl (omega (arith, selected, length-map x.windows.windows (window_of ks))))
+    ∙ sym (arranged_act w id c n (session_of ks x) (session_some d ks xs next id at x place within is) (own_of_it xs at x is within fresh) (no_search_at_rest ks x (own_of_it xs at x is within fresh)) (omega (arith, selected, length-map x.windows.windows (window_of ks))))
 
 pub after_apart : (c : Arrangement) (n : Option ℕ) (d : Directory) (ks : List MarkedBuffer) (xs : List Session) (next : Option ℕ) (id at : ℕ) (x : Session) (v : World) → at ≡ position_or_len (session_id id) xs → x ≡ get_or xs at x → at < length xs → v ≡ act (world_of d ks xs next) id (Run (Rearrange c) n []) true → Apart Nowhere id (world_of d ks xs next) v
 after_apart c n d ks xs next id at x v place is within e =
@@ -113,9 +114,9 @@ set_back G (y ∷ xs) (suc at) x is = ap (λ zs. G y ∷ zs) (set_back G xs at x
 refused_world : (d : Directory) (ks ls : List MarkedBuffer) (xs : List Session) (next : Option ℕ) (at : ℕ) (x y : Session) → IsSound ks xs → x ≡ get_or xs at x → at < length xs → Rearranged ks ls x y → WindowMarksDropped None ks ls → ((k : List MarkedBuffer) → session_of k y ≡ session_of k x) → world_of d ls (slice_set xs at y) next ≡ world_of d ks xs next
 refused_world d ks ls xs next at x y sound is within h err seen =
     let own : session_of ls x ≡ session_of ks x =
-    session_local ls ks x (λ n i used. err.stay n i (omega (arith, used, sound.once n i, sum_removed (session_uses n i) xs at x is within)) (omega (arith, used, sound.once n i, sum_removed (session_uses n i) xs at x is within, err.uses n i))) in
+    session_local ls ks x (same_sizes ks ls err.buffers) (λ n i used. err.stay n i (omega (arith, used, sound.once n i, sum_removed (session_uses n i) xs at x is within)) (omega (arith, used, sound.once n i, sum_removed (session_uses n i) xs at x is within, err.uses n i))) in
     same_world d _ _ _ _ (id_after next) h.buffers
-    (set_seen (session_of ls) (session_of ks) xs at y (sessions_stay ks ls (remove xs at) (others_before ks xs at x sound is within) (others_after ks ls xs at x y sound is within h) h.stay)
+    (set_seen (session_of ls) (session_of ks) xs at y (sessions_stay ks ls (remove xs at) (others_before ks xs at x sound is within) (others_after ks ls xs at x y sound is within h) (same_sizes ks ls h.buffers) h.stay)
     ∙ ap (slice_set (map (session_of ks) xs) at) (seen ls ∙ own)
     ∙ set_back (session_of ks) xs at x is)
 

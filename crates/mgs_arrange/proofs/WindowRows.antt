@@ -1,22 +1,20 @@
 -- A window comes to show rows: what it used is given up, and it is seen so.
-use Rattle.std.proofs.Common.{◌≡◌, ℕ, zero, suc, ◌+◌, ◌<◌, ◌≤◌, List, [], ◌∷◌, length, map, get_or, Option, None, Some, refl, sym, ap, ◌∙◌, arith}
+use Rattle.std.proofs.Common.{◌≡◌, ℕ, zero, suc, ◌+◌, ◌<◌, List, [], ◌∷◌, length, map, get_or, Option, None, Some, refl, sym, ap, ◌∙◌, arith}
 use Rattle.std.specs.Prelude.{slice_set}
 use Rattle.std.specs.List.{position_or_len}
 use Rattle.mgs_model.specs.Access.{Directory}
-use Rattle.mgs_model.specs.Apply.{change_at, window_at}
+use Rattle.mgs_model.specs.Apply.{change_at}
 use Rattle.mgs_model.specs.World.{Shows, find_session}
 use Rattle.mgs_model.specs.World as model
-use Rattle.mgs_buffers.specs.MarkedBuffer.{MarkedBuffer, mark_at}
-use Rattle.mgs_windows.specs.declared.WindowMarks.{WindowMarks}
+use Rattle.mgs_buffers.specs.MarkedBuffer.{MarkedBuffer}
 use Rattle.mgs_windows.specs.declared.Window.{Window}
 use Rattle.mgs_windows.specs.declared.RowPane.{RowPane}
-use Rattle.mgs_windows.specs.Panes as panes
-use Rattle.mgs_windows.specs.Panes.{height_at, places_after, rows_at, shows_at, showing_rows, window_rows_shown}
+use Rattle.mgs_windows.specs.Panes.{height_at, rows_at, shows_at, showing_rows, window_rows_shown}
 use Rattle.mgs_session.specs.declared.Session.{Session}
-use Rattle.mgs_world.specs.Sound.{IsSessionSound, IsShownSound, IsSound, in_use, session_uses, sum_of, window_marks_uses, window_uses}
+use Rattle.mgs_world.specs.Sound.{IsSessionSound, IsShownSound, IsSound, session_uses, sum_of, window_marks_uses, window_uses}
 use Rattle.mgs_world.specs.WindowMarks.{WindowMarksDropped}
-use Rattle.mgs_world.specs.Worlds.{place_of, rows_shown, session_id, session_of, top_row, window_of, world_of}
-use Rattle.mgs_world.proofs.WindowMarks.{session_local}
+use Rattle.mgs_world.specs.Worlds.{place_of, rows_shown, session_id, session_of, window_of, world_of}
+use Rattle.mgs_world.proofs.WindowMarks.{same_sizes, session_local}
 use Rattle.mgs_world.proofs.Worlds.{same_positions}
 use Rattle.mgs_arrange.specs.Arranged.{left_by, listing_for, run_ended, window_lists}
 use Rattle.mgs_arrange.specs.Arranging.{Lessened, Rearranged}
@@ -49,10 +47,11 @@ lists_seen : (ks : List MarkedBuffer) (rows : RowPane) (x : Session) → IsFromS
 lists_seen ks rows x start within =
     let k = x.windows.selected in
     let xs = x.windows.windows in
-    same_positions (session_of ks x) _ _ _ _
+    same_positions (session_of ks x) _ _ _ _ _ _
     (map_changed (window_of ks) (showing_rows rows) (listing_for (rows_shown rows)) k xs (comer_seen ks rows start))
     (places_seen ks (height_at k xs) (shows_at k xs) (rows_at k xs) x.windows.places
     ∙ ap (λ (w : model.Window). left_by w (map (place_of ks) x.windows.places)) (sym (window_seen ks k xs within)))
+    refl
 
 module _ (ks ls : List MarkedBuffer) (rows : RowPane) (x : Session) (within : x.windows.selected < length x.windows.windows) (sound : IsSessionSound ks x) where
   -- the place that is given up was used
@@ -68,7 +67,7 @@ module _ (ks ls : List MarkedBuffer) (rows : RowPane) (x : Session) (within : x.
 
     pub rows_seen : IsFromStart rows → session_of ls (rows_session rows x) ≡ window_lists (rows_shown rows) (session_of ks x)
     rows_seen start =
-        session_local ls ks (rows_session rows x)
+        session_local ls ks (rows_session rows x) (same_sizes ks ls dropped.buffers)
         (λ n i used. dropped.stay n i (omega (arith, used, came_uses n i rows x within, sound.once n i)) (omega (arith, used, came_uses n i rows x within, sound.once n i, dropped.uses n i)))
         ∙ lists_seen ks rows x start within
 

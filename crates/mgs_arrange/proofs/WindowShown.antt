@@ -19,7 +19,7 @@ use Rattle.mgs_session.specs.declared.Session.{Session}
 use Rattle.mgs_world.specs.Worlds.{place_of, session_id, session_of, window_of, world_of}
 use Rattle.mgs_world.specs.Sound.{IsSessionSound, IsShownSound, IsSound, in_use, place_uses, session_uses, sum_of, window_marks_uses, window_uses}
 use Rattle.mgs_world.specs.WindowMarks.{WindowMarksAdded, WindowMarksDropped}
-use Rattle.mgs_world.proofs.WindowMarks.{place_local, session_local}
+use Rattle.mgs_world.proofs.WindowMarks.{place_local, same_sizes, session_local}
 use Rattle.mgs_world.proofs.Sessions.{session_some}
 use Rattle.mgs_world.proofs.Worlds.{same_positions}
 use Rattle.mgs_arrange.specs.Arranged.{left_by, run_ended}
@@ -187,11 +187,12 @@ module _ (name : List ℕ) (p : ℕ) (q : Option ℕ) (capacity : ℕ) (y : Wind
 
       pub shown_seen : session_of ms (shown_session capacity y x) ≡ window_shows name (session_of ks x)
       shown_seen =
-          session_local ms ls (shown_session capacity y x) still_used
-          ∙ same_positions (session_of ls x) _ _ _ _
+          session_local ms ls (shown_session capacity y x) (same_sizes ls ms dropped.buffers) still_used
+          ∙ same_positions (session_of ls x) _ _ _ _ _ _
           (map_changed (window_of ls) (shown_there y) (coming name (left_by (window_at x.windows.selected (map (window_of ls) x.windows.windows)) (map (place_of ls) x.windows.places))) x.windows.selected x.windows.windows comer_seen)
           places_left
-          ∙ ap (window_shows name) (session_local ls ks x used_stay)
+          refl
+          ∙ ap (window_shows name) (session_local ls ks x (same_sizes ks ls added.buffers) used_stay)
 
 -- THE WORLD AFTERWARDS
 

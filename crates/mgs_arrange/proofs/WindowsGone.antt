@@ -24,7 +24,7 @@ use Rattle.mgs_session.specs.Sessions.{broken_off}
 use Rattle.mgs_world.specs.Worlds.{place_of, session_of, window_of, window_shown}
 use Rattle.mgs_world.specs.Sound.{IsSessionSound, IsShownSound, in_use, place_uses, session_uses, sum_of, window_marks_uses, window_uses}
 use Rattle.mgs_world.specs.WindowMarks.{WindowMarksDropped}
-use Rattle.mgs_world.proofs.WindowMarks.{session_local}
+use Rattle.mgs_world.proofs.WindowMarks.{same_sizes, session_local}
 use Rattle.mgs_world.proofs.Worlds.{same_positions}
 use Rattle.mgs_arrange.specs.Arranged.{arranged_or_told, grown, left_by, others_gone, rearranged, shrunk, window_gone}
 use Rattle.mgs_arrange.specs.Arranging.{Lessened}
@@ -102,10 +102,11 @@ places_seen ks h (Some x) rows ps = place_put ks x ps
 -- the session, where its marks stay
 session_gone : (ks : List MarkedBuffer) (x : Session) (k to : ℕ) → k < length x.windows.windows → session_of ks (record x { windows = window_removed k to x.windows }) ≡ window_gone k to (session_of ks x)
 session_gone ks x k to within =
-    same_positions (record (session_of ks x) { selected = panes.closer k x.windows.selected }) _ _ _ _
+    same_positions (record (session_of ks x) { selected = panes.closer k x.windows.selected }) _ _ _ _ _ _
     (windows_gone ks k to x.windows.windows within)
     (places_seen ks (height_at k x.windows.windows) (shows_at k x.windows.windows) (rows_at k x.windows.windows) x.windows.places
     ∙ ap (λ (w : model.Window). left_by w (map (place_of ks) x.windows.places)) (sym (window_seen ks k x.windows.windows within)))
+    refl
 
 -- THE MARKS THAT ARE USED
 
@@ -156,7 +157,7 @@ rest_less ks ls x k to within h = record {
 pub rest_gone : (ks ls : List MarkedBuffer) (x : Session) (k to : ℕ) → k < length x.windows.windows → IsSessionSound ks x → WindowMarksDropped (panes.left_by (shows_at k x.windows.windows) x.windows.places) ks ls → session_of ls (record x { windows = window_removed k to x.windows }) ≡ window_gone k to (session_of ks x)
 rest_gone ks ls x k to within sound h =
     let y : Session = record x { windows = window_removed k to x.windows } in
-    session_local ls ks y (λ n i used. h.stay n i (omega (arith, used, gone_uses n i k to x within, sound.once n i)) (omega (arith, used, gone_uses n i k to x within, sound.once n i, h.uses n i)))
+    session_local ls ks y (same_sizes ks ls h.buffers) (λ n i used. h.stay n i (omega (arith, used, gone_uses n i k to x within, sound.once n i)) (omega (arith, used, gone_uses n i k to x within, sound.once n i, h.uses n i)))
     ∙ session_gone ks x k to within
 
 -- ONE AFTER ANOTHER

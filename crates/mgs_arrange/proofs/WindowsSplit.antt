@@ -22,7 +22,7 @@ use Rattle.mgs_session.specs.Sessions.{broken_off}
 use Rattle.mgs_world.specs.Worlds.{buffers_of, session_of, window_of, window_shown}
 use Rattle.mgs_world.specs.Sound.{IsSessionSound, IsShownSound, in_use, session_uses, sum_of, window_marks_uses, window_uses}
 use Rattle.mgs_world.specs.WindowMarks.{MarksStay}
-use Rattle.mgs_world.proofs.WindowMarks.{session_local, window_local}
+use Rattle.mgs_world.proofs.WindowMarks.{same_sizes, session_local, window_local}
 use Rattle.mgs_world.proofs.Worlds.{same_window, same_windows}
 use Rattle.mgs_arrange.specs.Arranged.{arranged_or_told, lower_half, rearranged, upper_half, window_split}
 use Rattle.mgs_arrange.specs.Arranging.{IsCopied, MayBeSplit, Rearranged}
@@ -162,4 +162,4 @@ split_seen ks ls capacity p x w e sound h =
     let same : (n : ℕ) → window_shown ls n p (rows_at k xs) ≡ window_shown ls n (shows_at k xs) (rows_at k xs) = λ n. copied_shown w.shows p ks ls n (rows_at k xs) h ∙ ap (λ (o : Option WindowMarks). window_shown ks n o (rows_at k xs)) shows ∙ sym (one n) in
     same_windows (session_of ls x) _ _
     (split_there ls p k xs within same ∙ ap (λ (n : ℕ). insert (change_at k upper_half (map (window_of ls) xs)) n (lower_half (window_at k (map (window_of ls) xs)))) next)
-    ∙ ap window_split (session_local ls ks x (used_still ks ls w.shows p x sound h))
+    ∙ ap window_split (session_local ls ks x (same_sizes ks ls (copied_buffers w.shows p ks ls h)) (used_still ks ls w.shows p x sound h))

@@ -1,10 +1,10 @@
 -- A byte that comes is kept where a macro is recorded, and is to be handled; or it is one too many for the macro.
-use Rattle.std.proofs.Common.{◌≡◌, ℕ, ◌≤◌, ◌<◌, Bool, true, false, cond, List, [], ◌∷◌, get_or, length, Option, refl, sym, ap, subst, ◌∙◌, arith}
+use Rattle.std.proofs.Common.{◌≡◌, ℕ, ◌≤◌, ◌<◌, Bool, true, false, cond, List, [], ◌∷◌, get_or, length, Option, None, Some, refl, sym, ap, subst, ◌∙◌, arith}
 use Rattle.std.specs.Prelude.{slice_set}
 use Rattle.std.specs.List.{position_or_len}
 use Rattle.mgs_model.specs.Access.{Directory}
-use Rattle.mgs_model.specs.World.{Own, World, Session, Todo, has_id}
-use Rattle.mgs_model.specs.Apply.{change_first, remove_first}
+use Rattle.mgs_model.specs.World.{Own, World, Buffer, Session, Todo, has_id}
+use Rattle.mgs_model.specs.Apply.{change_first, remove_first, searches}
 use Rattle.mgs_model.specs.Events.{begun_if, begun_own, own_set, with_own}
 use Rattle.mgs_model.specs.declared.message.Message.TheVariants.{MacroTooLong}
 use Rattle.mgs_model.specs.declared.session.Kind.TheVariants.{Other}
@@ -13,8 +13,9 @@ use Rattle.mgs_session.specs.Playing.{byte_typed, stopped}
 use Rattle.mgs_session.specs.Recording.{appended, is_full, nothing_recorded}
 use Rattle.mgs_session.specs.Sessions as held
 use Rattle.mgs_session.specs.declared.Session as code
-use Rattle.mgs_world.specs.Worlds.{own_at, own_of, own_or_first, session_id, session_of, world_of}
-use Rattle.mgs_world.proofs.Owns.{no_search}
+use Rattle.mgs_session.specs.declared.search.Search.{Search}
+use Rattle.mgs_mini.specs.Typing.{PromptInput}
+use Rattle.mgs_world.specs.Worlds.{buffers_of, mode_in, search_of, own_at, own_of, own_or_first, session_id, session_of, world_of}
 use Rattle.mgs_core.specs.Steps.{closed}
 use Rattle.mgs_core.specs.Turned.{weight}
 use Rattle.mgs_core.proofs.Steps.{set_there, world_changed}
@@ -49,13 +50,19 @@ begun_same f byte x y one other is = ap f is ∙ by (is_full x.own.recorder)
     by true = one
     by false = other
 
+-- the positions of a search go with its mode
+pub search_still : (bs : List Buffer) (s : Option Search) (p : Option PromptInput) → search_of bs s ≡ cond (searches (mode_in s p)) (search_of bs s) None
+search_still bs None None = refl
+search_still bs None (Some p) = refl
+search_still bs (Some s) p = refl
+
 pub begun_world : (d : Directory) (ks : List MarkedBuffer) (xs : List code.Session) (next : Option ℕ) (id at byte : ℕ) (h y : code.Session) → at ≡ position_or_len (session_id id) xs → at < length xs → h ≡ get_or xs at h → y ≡ held.begun byte h → world_of d ks (slice_set xs at y) next ≡ with_own id (begun_own byte) (world_of d ks xs next)
 begun_world d ks xs next id at byte h y place within is_h begins =
     world_changed (begun_own byte) d ks xs next id at h y place within is_h (ap (session_of ks) begins ∙ by (is_full h.own.recorder))
   where
     by : (c : Bool) → session_of ks (cond c (one_too_many h) (keeps byte h)) ≡ own_set (begun_if c byte) (session_of ks h)
-    by true = λ i. record (session_of ks h) { search = no_search h.own.prompt i; own = begun_if true byte (own_of h.own) }
-    by false = λ i. record (session_of ks h) { search = no_search h.own.prompt i; own = begun_if false byte (own_of h.own) }
+    by true = λ i. record (session_of ks h) { search = search_still (buffers_of ks) h.own.search h.own.prompt i; own = begun_if true byte (own_of h.own) }
+    by false = λ i. record (session_of ks h) { search = search_still (buffers_of ks) h.own.search h.own.prompt i; own = begun_if false byte (own_of h.own) }
 
 -- what there is to do is the byte, or nothing
 pub begun_weight : (xs : List code.Session) (at byte : ℕ) (h y : code.Session) → at < length xs → y ≡ held.begun byte h → weight (own_at at (slice_set xs at y)).todo ≤ 51202

@@ -29,19 +29,22 @@ use Rattle.mgs_act.specs.Searching.{meant}
 use Rattle.mgs_buffers.specs.MarkedBuffer.{MarkedBuffer}
 use Rattle.mgs_session.specs.declared.Own.{Own}
 use Rattle.mgs_session.specs.declared.Session.{Session}
+use Rattle.mgs_session.specs.declared.search.Search.{Search}
 use Rattle.mgs_session.specs.Sessions.{failed, prompting, resting, unprompted}
+use Rattle.mgs_session.specs.Seeking.{unsearched}
 use Rattle.mgs_store.specs.Stores.{StoreTold, told_more}
-use Rattle.mgs_core.specs.Steps.{ActedBy}
+use Rattle.mgs_core.specs.Steps.{ActedBy, started_world}
 use Rattle.mgs_store.proofs.Told.{told_none}
-use Rattle.mgs_world.specs.Worlds.{buffers_of, idle, own_of}
+use Rattle.mgs_world.specs.Worlds.{buffers_of, idle, mode_in, own_of}
 use Rattle.mgs_world.proofs.Owns.{prompt_fed}
 use Rattle.mgs_core.specs.declared.deeds.Deed.{Deed}
 use Rattle.mgs_core.specs.declared.deeds.Deed.TheVariants as deeds
+use Rattle.mgs_core.specs.declared.deeds.Before.TheVariants as befores
 use Rattle.mgs_core.specs.declared.keying.ByteStep.{ByteStep}
 use Rattle.mgs_core.specs.declared.keying.ByteStep.TheVariants.{Kept, Acts}
 use Rattle.mgs_core.specs.Prompted.{names_for, own_turn}
-use Rattle.mgs_core.specs.Stepped.{IsAlone, IsAnswerStep, IsByteStep, IsCommandStep, IsLeft, IsNamedStep, IsReplyStep, SeesNames, deed_act, refused_again}
-use Rattle.mgs_core.proofs.Stepped.{command_step, left_none, left_same}
+use Rattle.mgs_core.specs.Stepped.{IsAlone, IsAnswerStep, IsByteStep, IsCommandStep, IsLeft, IsNamedStep, IsReplyStep, SeesNames, deed_act, deed_started, refused_again}
+use Rattle.mgs_core.proofs.Stepped.{command_step, left_none, left_same, none_stays}
 
 -- WHAT AN ANSWER IS FOR
 
@@ -94,8 +97,8 @@ answered_saves_none ReplaceWith n typed = refl
 
 -- A TURN
 
-at_prompt : (v : View) (x : Session) (p : PromptInput) (byte : ℕ) → x.own.prompt ≡ Some p → own_turn v x.own byte ≡ prompt_turn v p.question (record (own_of x.own) { echo = Silent }) byte
-at_prompt v x p byte is = ap (λ (r : Option PromptInput). own_turn v (record x.own { prompt = r }) byte) is ∙ sym (ap (λ (r : Option PromptInput). prompt_turn v p.question (record (own_of (record x.own { prompt = r })) { echo = Silent }) byte) is)
+at_prompt : (v : View) (y : Session) (p : PromptInput) (byte : ℕ) → (unsearched y).own.prompt ≡ Some p → own_turn v (unsearched y).own byte ≡ prompt_turn v p.question (record (own_of (unsearched y).own) { echo = Silent }) byte
+at_prompt v y p byte is = ap (λ (r : Option PromptInput). own_turn v (record (unsearched y).own { prompt = r }) byte) is ∙ sym (ap (λ (r : Option PromptInput). prompt_turn v p.question (record (own_of (record (unsearched y).own { prompt = r })) { echo = Silent }) byte) is)
 
 -- A STEP OF A PROMPT
 
@@ -103,27 +106,28 @@ at_prompt v x p byte is = ap (λ (r : Option PromptInput). own_turn v (record x.
 abbrev pub IsFed : PromptInput → PromptInput → ℕ → Step → Type 0
 IsFed p q byte step = (v : View) (own : model.Own) → prompt_turn v p.question (typed_own own p.input p.waiting) byte ≡ stepped v p.question (typed_own own q.input q.waiting) step
 
-step_turn : (v : View) (x : Session) (p q : PromptInput) (step : Step) (byte : ℕ) → x.own.prompt ≡ Some p → q.question ≡ p.question → IsFed p q byte step → own_turn v x.own byte ≡ stepped v p.question (own_of (prompting q x).own) step
-step_turn v x p q step byte is question turn = at_prompt v x p byte is ∙ prompt_fed v x p q step byte is question turn
+step_turn : (v : View) (y : Session) (p q : PromptInput) (step : Step) (byte : ℕ) → (unsearched y).own.prompt ≡ Some p → q.question ≡ p.question → IsFed p q byte step → own_turn v (unsearched y).own byte ≡ stepped v p.question (own_of (prompting q (unsearched y)).own) step
+step_turn v y p q step byte is question turn = at_prompt v y p byte is ∙ prompt_fed v (unsearched y) p q step byte refl is question turn
 
 -- what the session holds changed alone
-kept_as : (d : Directory) (ks : List MarkedBuffer) (x new : Session) (own : Own) (byte : ℕ) → new ≡ record x { own = own }
-    → ((v : View) → shown_names v ≡ granted_names d x.user (buffers_of ks) → own_turn v x.own byte ≡ Keep (own_of own)) → IsLeft x.own.player own.player.todo → IsByteStep d ks x new byte Kept
-kept_as d ks x new own byte is turn left =
+kept_as : (d : Directory) (ks : List MarkedBuffer) (y new : Session) (own : Own) (byte : ℕ) → new ≡ record (unsearched y) { own = own }
+    → ((v : View) → shown_names v ≡ granted_names d (unsearched y).user (buffers_of ks) → own_turn v (unsearched y).own byte ≡ Keep (own_of own)) → own.search ≡ None → IsLeft (unsearched y).own.player own.player.todo → IsByteStep d ks (unsearched y) new byte Kept
+kept_as d ks y new own byte is turn none left =
     let same : new.own ≡ own = ap (λ (s : Session). s.own) is in
     record {
-      own = is ∙ sym (ap (λ (o : Own). record x { own = o }) same);
+      own = is ∙ sym (ap (λ (o : Own). record (unsearched y) { own = o }) same);
+      stays = none_stays (unsearched y).own new.own (ap (λ (o : Own). o.search) same ∙ none);
       turn = λ v sees. turn v sees ∙ sym (ap (λ (o : Own). Keep (own_of o)) same);
-      left = subst (λ (o : Own). IsLeft x.own.player o.player.todo) (sym same) left;
+      left = subst (λ (o : Own). IsLeft (unsearched y).own.player o.player.todo) (sym same) left;
     }
 
-pub goes_on : (d : Directory) (ks : List MarkedBuffer) (x taken new : Session) (p q : PromptInput) (byte : ℕ) → IsAlone x.own.player → x.own.prompt ≡ Some p → q.question ≡ p.question → IsFed p q byte GoesOn → taken ≡ unprompted x → new ≡ prompting q taken → IsByteStep d ks x new byte Kept
-goes_on d ks x taken new p q byte alone is question turn took held =
-    kept_as d ks x new (prompting q x).own byte (held ∙ ap (prompting q) took) (λ v sees. step_turn v x p q GoesOn byte is question turn) (left_same x.own.player x.own.player.todo alone refl)
+pub goes_on : (d : Directory) (ks : List MarkedBuffer) (y taken new : Session) (p q : PromptInput) (byte : ℕ) → IsAlone (unsearched y).own.player → (unsearched y).own.prompt ≡ Some p → q.question ≡ p.question → IsFed p q byte GoesOn → taken ≡ unprompted (unsearched y) → new ≡ prompting q taken → IsByteStep d ks (unsearched y) new byte Kept
+goes_on d ks y taken new p q byte alone is question turn took held =
+    kept_as d ks y new (prompting q (unsearched y)).own byte (held ∙ ap (prompting q) took) (λ v sees. step_turn v y p q GoesOn byte is question turn) refl (left_same (unsearched y).own.player (unsearched y).own.player.todo alone refl)
 
-pub quits : (d : Directory) (ks : List MarkedBuffer) (x taken new : Session) (p q : PromptInput) (byte : ℕ) → x.own.prompt ≡ Some p → q.question ≡ p.question → IsFed p q byte Quit → taken ≡ unprompted x → new ≡ failed Quitting taken → IsByteStep d ks x new byte Kept
-quits d ks x taken new p q byte is question turn took held =
-    kept_as d ks x new (failed Quitting x).own byte (held ∙ ap (failed Quitting) took) (λ v sees. step_turn v x p q Quit byte is question turn) (left_none x.own.player [] refl)
+pub quits : (d : Directory) (ks : List MarkedBuffer) (y taken new : Session) (p q : PromptInput) (byte : ℕ) → (unsearched y).own.prompt ≡ Some p → q.question ≡ p.question → IsFed p q byte Quit → taken ≡ unprompted (unsearched y) → new ≡ failed Quitting taken → IsByteStep d ks (unsearched y) new byte Kept
+quits d ks y taken new p q byte is question turn took held =
+    kept_as d ks y new (failed Quitting (unsearched y)).own byte (held ∙ ap (failed Quitting) took) (λ v sees. step_turn v y p q Quit byte is question turn) refl (left_none (unsearched y).own.player [] refl)
 
 -- what is completed: the names that are seen are those that are granted
 completed_seen : (d : Directory) (ks : List MarkedBuffer) (user : List ℕ) (v : View) (c e : Question) (own : model.Own) (input : List ℕ) → shown_names v ≡ granted_names d user (buffers_of ks) → e ≡ c → completed own (completion (names_completed v c) input) ≡ completed own (completion (names_for d user ks e) input)
@@ -135,117 +139,141 @@ completed_todo : (own : model.Own) (o : Option (List ℕ)) → (completed own o)
 completed_todo own None = refl
 completed_todo own (Some text) = refl
 
-pub completes : (d : Directory) (ks : List MarkedBuffer) (x taken new : Session) (p q : PromptInput) (byte : ℕ) → IsAlone x.own.player → x.own.prompt ≡ Some p → q.question ≡ p.question → IsFed p q byte Completes → taken ≡ unprompted x
-    → own_of new.own ≡ completed (own_of (prompting q taken).own) (completion (names_for d taken.user ks q.question) q.input) → new ≡ record taken { own = new.own } → IsByteStep d ks x new byte Kept
-completes d ks x taken new p q byte alone is question turn took owns rest = record {
+completed_mode : (own : model.Own) (o : Option (List ℕ)) → (completed own o).mode ≡ own.mode
+completed_mode own None = refl
+completed_mode own (Some text) = refl
+
+-- a session in the mode of a prompt does not search
+prompted_none : (s : Option Search) (p : Option PromptInput) (c : Question) → mode_in s p ≡ Prompt c → s ≡ None
+prompted_none None p c e = refl
+prompted_none (Some s) p c e = cc
+
+pub completes : (d : Directory) (ks : List MarkedBuffer) (y taken new : Session) (p q : PromptInput) (byte : ℕ) → IsAlone (unsearched y).own.player → (unsearched y).own.prompt ≡ Some p → q.question ≡ p.question → IsFed p q byte Completes → taken ≡ unprompted (unsearched y)
+    → own_of new.own ≡ completed (own_of (prompting q taken).own) (completion (names_for d taken.user ks q.question) q.input) → new ≡ record taken { own = new.own } → IsByteStep d ks (unsearched y) new byte Kept
+completes d ks y taken new p q byte alone is question turn took owns rest = record {
   own = rest ∙ ap (λ (s : Session). record s { own = new.own }) took;
+  stays = none_stays (unsearched y).own new.own
+      (prompted_none new.own.search new.own.prompt q.question
+      (ap (λ (o : model.Own). o.mode) owns
+      ∙ completed_mode (own_of (prompting q taken).own) (completion (names_for d taken.user ks q.question) q.input)
+      ∙ ap (λ (s : Session). (own_of (prompting q s).own).mode) took));
   turn = λ v sees.
-      step_turn v x p q Completes byte is question turn
+      step_turn v y p q Completes byte is question turn
       ∙ ap Keep
-      (completed_seen d ks x.user v p.question q.question (own_of (prompting q x).own) q.input sees question
+      (completed_seen d ks (unsearched y).user v p.question q.question (own_of (prompting q (unsearched y)).own) q.input sees question
       ∙ sym (ap (λ (s : Session). completed (own_of (prompting q s).own) (completion (names_for d s.user ks q.question) q.input)) took)
       ∙ sym owns);
-  left = left_same x.own.player new.own.player.todo alone
+  left = left_same (unsearched y).own.player new.own.player.todo alone
       (ap (λ (o : model.Own). o.todo) owns
       ∙ completed_todo (own_of (prompting q taken).own) (completion (names_for d taken.user ks q.question) q.input)
       ∙ ap (λ (s : Session). s.own.player.todo) took);
 }
 
 -- a completion, by the record that it leaves
-pub completed_as : (x : Session) (p q : PromptInput) (text : Option (List ℕ)) (b : Bool) → q.question ≡ p.question → ((own : model.Own) → completed (typed_own own p.input p.waiting) text ≡ prompts.told b (typed_own own q.input q.waiting)) → prompts.told b (own_of (prompting q x).own) ≡ completed (own_of (prompting p x).own) text
-completed_as x p q text b question input =
-    let own : model.Own = own_of (prompting p x).own in
+completed_still : (y : Session) (p q : PromptInput) (text : Option (List ℕ)) (b : Bool) → q.question ≡ p.question → ((own : model.Own) → completed (typed_own own p.input p.waiting) text ≡ prompts.told b (typed_own own q.input q.waiting)) → prompts.told b (own_of (prompting q (unsearched y)).own) ≡ completed (own_of (prompting p (unsearched y)).own) text
+completed_still y p q text b question input =
+    let own : model.Own = own_of (prompting p (unsearched y)).own in
     ap (λ (c : Question). prompts.told b (record (typed_own own q.input q.waiting) { mode = Prompt c })) question ∙ sym (input own)
+
+pub completed_as : (x : Session) (p q : PromptInput) (text : Option (List ℕ)) (b : Bool) → x ≡ unsearched x → q.question ≡ p.question → ((own : model.Own) → completed (typed_own own p.input p.waiting) text ≡ prompts.told b (typed_own own q.input q.waiting)) → prompts.told b (own_of (prompting q x).own) ≡ completed (own_of (prompting p x).own) text
+completed_as x p q text b still question input = subst (λ (z : Session). prompts.told b (own_of (prompting q z).own) ≡ completed (own_of (prompting p z).own) text) (sym still) (completed_still x p q text b question input)
 
 -- AN ANSWER, with no key half read
 
 -- its act begins with the session at rest
-plain_rests : (x : Session) (p : PromptInput) → p.waiting ≡ NoKey → plain_own (own_of (prompting p x).own) ≡ idle (own_of x.own)
-plain_rests x p none = ap (λ (w : Waiting). record (idle (own_of x.own)) { keys = keys_of w }) none
+plain_rests : (y : Session) (p : PromptInput) → p.waiting ≡ NoKey → plain_own (own_of (prompting p (unsearched y)).own) ≡ idle (own_of (unsearched y).own)
+plain_rests y p none = ap (λ (w : Waiting). record (idle (own_of (unsearched y).own)) { keys = keys_of w }) none
 
-asked_at : (v : View) (x : Session) (p : PromptInput) (byte : ℕ) → x.own.prompt ≡ Some p → p.waiting ≡ NoKey → IsFed p p byte Answered → names_commands p.question ≡ false → is_asked p.question ≡ true
-    → own_turn v x.own byte ≡ Do (idle (own_of x.own)) (Run (answered p.question) (value_of x.own.keyboard.argument) (meant p.question x.own.pattern p.input))
-asked_at v x p byte is none turn one asked =
-    step_turn v x p p Answered byte is refl turn
-    ∙ asked_turn p.question asked one (own_of (prompting p x).own)
-    ∙ ap (λ (o : model.Own). Do o (Run (answered p.question) (value_of x.own.keyboard.argument) (meant p.question x.own.pattern p.input))) (plain_rests x p none)
+asked_at : (v : View) (y : Session) (p : PromptInput) (byte : ℕ) → (unsearched y).own.prompt ≡ Some p → p.waiting ≡ NoKey → IsFed p p byte Answered → names_commands p.question ≡ false → is_asked p.question ≡ true
+    → own_turn v (unsearched y).own byte ≡ Do (idle (own_of (unsearched y).own)) (Run (answered p.question) (value_of (unsearched y).own.keyboard.argument) (meant p.question (unsearched y).own.pattern p.input))
+asked_at v y p byte is none turn one asked =
+    step_turn v y p p Answered byte is refl turn
+    ∙ asked_turn p.question asked one (own_of (prompting p (unsearched y)).own)
+    ∙ ap (λ (o : model.Own). Do o (Run (answered p.question) (value_of (unsearched y).own.keyboard.argument) (meant p.question (unsearched y).own.pattern p.input))) (plain_rests y p none)
 
-named_at : (v : View) (x : Session) (p : PromptInput) (o : Option Command) (byte : ℕ) → x.own.prompt ≡ Some p → IsFed p p byte Answered → names_commands p.question ≡ true → find_command p.input ≡ o → own_turn v x.own byte ≡ named_turn (plain_own (own_of (prompting p x).own)) (value_of x.own.keyboard.argument) o
-named_at v x p o byte is turn names found =
-    let own : model.Own = own_of (prompting p x).own in
-    step_turn v x p p Answered byte is refl turn
+named_at : (v : View) (y : Session) (p : PromptInput) (o : Option Command) (byte : ℕ) → (unsearched y).own.prompt ≡ Some p → IsFed p p byte Answered → names_commands p.question ≡ true → find_command p.input ≡ o → own_turn v (unsearched y).own byte ≡ named_turn (plain_own (own_of (prompting p (unsearched y)).own)) (value_of (unsearched y).own.keyboard.argument) o
+named_at v y p o byte is turn names found =
+    let own : model.Own = own_of (prompting p (unsearched y)).own in
+    step_turn v y p p Answered byte is refl turn
     ∙ names_turn p.question names own
-    ∙ ap (named_turn (plain_own own) (value_of x.own.keyboard.argument)) found
+    ∙ ap (named_turn (plain_own own) (value_of (unsearched y).own.keyboard.argument)) found
 
 -- the session that is at its prompt again has what it had
-again_prompted : (x : Session) (p : PromptInput) → x.own.prompt ≡ Some p → p.waiting ≡ NoKey → refused_again (Some p) x.own.kind x.own.player.playing (own_of (resting x).own) ≡ refused_own (own_of x.own)
-again_prompted x p is none =
-    let own : model.Own = own_of (resting x).own in
+again_prompted : (y : Session) (p : PromptInput) → (unsearched y).own.prompt ≡ Some p → p.waiting ≡ NoKey → refused_again (befores.Prompt p) (unsearched y).own.kind (unsearched y).own.player.playing (own_of (resting (unsearched y)).own) ≡ refused_own (own_of (unsearched y).own)
+again_prompted y p is none =
+    let own : model.Own = own_of (resting (unsearched y)).own in
     ap (λ (w : Waiting). record own { echo = NoMemory; keys = keys_of w; mode = Prompt p.question; input = p.input; todo = [] }) none
-    ∙ sym (ap (λ (r : Option PromptInput). refused_own (own_of (record x.own { prompt = r }))) is)
+    ∙ sym (ap (λ (r : Option PromptInput). refused_own (own_of (record (unsearched y).own { prompt = r }))) is)
 
 -- where it names a command
-named_step : (d : Directory) (ks : List MarkedBuffer) (x taken new : Session) (p : PromptInput) (byte : ℕ) (step : ByteStep) (o : Option Command) → IsAlone x.own.player → x.own.prompt ≡ Some p → p.waiting ≡ NoKey → IsFed p p byte Answered → names_commands p.question ≡ true → find_command p.input ≡ o → taken ≡ unprompted x → IsNamedStep taken new p o step → IsByteStep d ks x new byte step
-named_step d ks x taken new p byte step None alone is none turn names found took did =
-    let kept : IsByteStep d ks x new byte Kept =
-    kept_as d ks x new (failed NoSuchCommand x).own byte (did.1 ∙ ap (failed NoSuchCommand) took) (λ v sees. named_at v x p None byte is turn names found) (left_none x.own.player [] refl) in
-    subst (IsByteStep d ks x new byte) (sym did.0) kept
-named_step d ks x taken new p byte step (Some c) alone is none turn names found took did =
-    command_step (SeesNames d ks x.user) (λ v. own_turn v x.own byte) x new c (value_of x.own.keyboard.argument) (Some p) step
-    (λ v sees. named_at v x p (Some c) byte is turn names found ∙ ap (λ (own : model.Own). command_turn own (value_of x.own.keyboard.argument) c) (plain_rests x p none))
-    did.0 alone (again_prompted x p is none)
-    (subst (λ (s : Session). IsCommandStep (resting s) new c (value_of s.own.keyboard.argument) (Some p) step) took did.1)
+named_step : (d : Directory) (ks : List MarkedBuffer) (y taken new : Session) (p : PromptInput) (byte : ℕ) (step : ByteStep) (o : Option Command) → IsAlone (unsearched y).own.player → (unsearched y).own.prompt ≡ Some p → p.waiting ≡ NoKey → IsFed p p byte Answered → names_commands p.question ≡ true → find_command p.input ≡ o → taken ≡ unprompted (unsearched y) → IsNamedStep taken new p o step → IsByteStep d ks (unsearched y) new byte step
+named_step d ks y taken new p byte step None alone is none turn names found took did =
+    let kept : IsByteStep d ks (unsearched y) new byte Kept =
+    kept_as d ks y new (failed NoSuchCommand (unsearched y)).own byte (did.1 ∙ ap (failed NoSuchCommand) took) (λ v sees. named_at v y p None byte is turn names found) refl (left_none (unsearched y).own.player [] refl) in
+    subst (IsByteStep d ks (unsearched y) new byte) (sym did.0) kept
+named_step d ks y taken new p byte step (Some c) alone is none turn names found took did =
+    command_step (SeesNames d ks (unsearched y).user) (λ v. own_turn v (unsearched y).own byte) (unsearched y) new c (value_of (unsearched y).own.keyboard.argument) (befores.Prompt p) step
+    (λ v sees. named_at v y p (Some c) byte is turn names found ∙ ap (λ (own : model.Own). command_turn own (value_of (unsearched y).own.keyboard.argument) c) (plain_rests y p none))
+    did.0 alone (again_prompted y p is none) refl
+    (subst (λ (s : Session). IsCommandStep (resting s) new c (value_of s.own.keyboard.argument) (befores.Prompt p) step) took did.1)
 
 -- and where it is what the question is for
-asked_step : (d : Directory) (ks : List MarkedBuffer) (x new : Session) (p : PromptInput) (byte : ℕ) → IsAlone x.own.player → x.own.prompt ≡ Some p → p.waiting ≡ NoKey → IsFed p p byte Answered → names_commands p.question ≡ false → new ≡ resting x → IsByteStep d ks x new byte (Acts (deeds.Answer p (value_of x.own.keyboard.argument)))
-asked_step d ks x new p byte alone is none turn one same =
-    let deed : Deed = deeds.Answer p (value_of x.own.keyboard.argument) in
+asked_step : (d : Directory) (ks : List MarkedBuffer) (y new : Session) (p : PromptInput) (byte : ℕ) → IsAlone (unsearched y).own.player → (unsearched y).own.prompt ≡ Some p → p.waiting ≡ NoKey → IsFed p p byte Answered → names_commands p.question ≡ false → new ≡ resting (unsearched y) → IsByteStep d ks (unsearched y) new byte (Acts (deeds.Answer p (value_of (unsearched y).own.keyboard.argument)))
+asked_step d ks y new p byte alone is none turn one same =
+    let deed : Deed = deeds.Answer p (value_of (unsearched y).own.keyboard.argument) in
     record {
-      own = same ∙ sym (ap (λ (s : Session). record x { own = s.own }) same);
-      fresh = ap (λ (s : Session). own_of s.own) same ∙ sym (ap (λ (s : Session). idle (own_of s.own)) same);
+      own = same ∙ sym (ap (λ (s : Session). record (unsearched y) { own = s.own }) same);
+      stays = none_stays (unsearched y).own new.own (ap (λ (s : Session). s.own.search) same);
+      ready = ap (λ (s : Session). own_of s.own) same ∙ sym (ap (λ (s : Session). idle (own_of s.own)) same);
       here = one;
-      turn = λ asked v sees. asked_at v x p byte is none turn one asked ∙ sym (ap (λ (s : Session). Do (own_of s.own) (deed_act s.own.pattern deed)) same);
+      turn = λ asked v sees. asked_at v y p byte is none turn one asked ∙ sym (ap (λ (s : Session). Do (own_of s.own) (deed_act (own_of s.own) deed)) same);
       playing = ap (λ (s : Session). s.own.player.playing) same;
       typed = λ e. ap (λ (s : Session). s.own.player.todo) same ∙ alone e;
-      left = left_same x.own.player new.own.player.todo alone (ap (λ (s : Session). s.own.player.todo) same);
-      again = ap (λ (s : Session). refused_again (Some p) x.own.kind x.own.player.playing (own_of s.own)) same ∙ again_prompted x p is none;
+      left = left_same (unsearched y).own.player new.own.player.todo alone (ap (λ (s : Session). s.own.player.todo) same);
+      again = λ wants. ap (λ (s : Session). refused_again (befores.Prompt p) (unsearched y).own.kind (unsearched y).own.player.playing (own_of s.own)) same ∙ again_prompted y p is none;
+      search = λ wants. refl;
     }
 
-reply_step : (d : Directory) (ks : List MarkedBuffer) (x taken new : Session) (p : PromptInput) (byte : ℕ) (step : ByteStep) (names : Bool) → IsAlone x.own.player → x.own.prompt ≡ Some p → p.waiting ≡ NoKey → IsFed p p byte Answered → names_commands p.question ≡ names → taken ≡ unprompted x → IsReplyStep names taken new p step → IsByteStep d ks x new byte step
-reply_step d ks x taken new p byte step true alone is none turn names took did = named_step d ks x taken new p byte step (find_command p.input) alone is none turn names refl took did
-reply_step d ks x taken new p byte step false alone is none turn names took did =
-    let deed : step ≡ Acts (deeds.Answer p (value_of x.own.keyboard.argument)) = did.0 ∙ ap (λ (s : Session). Acts (deeds.Answer p (value_of s.own.keyboard.argument))) took in
-    subst (IsByteStep d ks x new byte) (sym deed) (asked_step d ks x new p byte alone is none turn names (did.1 ∙ ap resting took))
+reply_step : (d : Directory) (ks : List MarkedBuffer) (y taken new : Session) (p : PromptInput) (byte : ℕ) (step : ByteStep) (names : Bool) → IsAlone (unsearched y).own.player → (unsearched y).own.prompt ≡ Some p → p.waiting ≡ NoKey → IsFed p p byte Answered → names_commands p.question ≡ names → taken ≡ unprompted (unsearched y) → IsReplyStep names taken new p step → IsByteStep d ks (unsearched y) new byte step
+reply_step d ks y taken new p byte step true alone is none turn names took did = named_step d ks y taken new p byte step (find_command p.input) alone is none turn names refl took did
+reply_step d ks y taken new p byte step false alone is none turn names took did =
+    let deed : step ≡ Acts (deeds.Answer p (value_of (unsearched y).own.keyboard.argument)) = did.0 ∙ ap (λ (s : Session). Acts (deeds.Answer p (value_of s.own.keyboard.argument))) took in
+    subst (IsByteStep d ks (unsearched y) new byte) (sym deed) (asked_step d ks y new p byte alone is none turn names (did.1 ∙ ap resting took))
 
-pub answers : (d : Directory) (ks : List MarkedBuffer) (x taken new : Session) (p q : PromptInput) (byte : ℕ) (step : ByteStep) → IsAlone x.own.player → x.own.prompt ≡ Some p → (q ≡ p) × (p.waiting ≡ NoKey) → IsFed p q byte Answered → taken ≡ unprompted x → IsAnswerStep taken new q step → IsByteStep d ks x new byte step
-answers d ks x taken new p q byte step alone is same turn took did =
-    reply_step d ks x taken new p byte step (names_commands p.question) alone is same.1 (subst (λ (k : PromptInput). IsFed p k byte Answered) same.0 turn) refl took (subst (λ (k : PromptInput). IsAnswerStep taken new k step) same.0 did)
+pub answers : (d : Directory) (ks : List MarkedBuffer) (y taken new : Session) (p q : PromptInput) (byte : ℕ) (step : ByteStep) → IsAlone (unsearched y).own.player → (unsearched y).own.prompt ≡ Some p → (q ≡ p) × (p.waiting ≡ NoKey) → IsFed p q byte Answered → taken ≡ unprompted (unsearched y) → IsAnswerStep taken new q step → IsByteStep d ks (unsearched y) new byte step
+answers d ks y taken new p q byte step alone is same turn took did =
+    reply_step d ks y taken new p byte step (names_commands p.question) alone is same.1 (subst (λ (k : PromptInput). IsFed p k byte Answered) same.0 turn) refl took (subst (λ (k : PromptInput). IsAnswerStep taken new k step) same.0 did)
 
--- WITHOUT A PROMPT
+-- WITHOUT A SEARCH, and without a prompt
 
-pub unasked : (d : Directory) (ks : List MarkedBuffer) (x taken new : Session) (byte : ℕ) (step : ByteStep) → x.own.prompt ≡ None → taken ≡ unprompted x → IsByteStep d ks taken new byte step → IsByteStep d ks x new byte step
-unasked d ks x taken new byte step none took s =
-    subst (λ (z : Session). IsByteStep d ks z new byte step) (took ∙ sym (ap (λ (r : Option PromptInput). record x { own = record x.own { prompt = r } }) none)) s
+pub still_step : (d : Directory) (ks : List MarkedBuffer) (y new : Session) (byte : ℕ) (step : ByteStep) → y ≡ unsearched y → IsByteStep d ks (unsearched y) new byte step → IsByteStep d ks y new byte step
+still_step d ks y new byte step still s = subst (λ (z : Session). IsByteStep d ks z new byte step) (sym still) s
+
+pub unasked : (d : Directory) (ks : List MarkedBuffer) (y taken new : Session) (byte : ℕ) (step : ByteStep) → (unsearched y).own.prompt ≡ None → taken ≡ unprompted (unsearched y) → IsByteStep d ks taken new byte step → IsByteStep d ks (unsearched y) new byte step
+unasked d ks y taken new byte step none took s =
+    subst (λ (z : Session). IsByteStep d ks z new byte step) (took ∙ sym (ap (λ (r : Option PromptInput). record (unsearched y) { own = record (unsearched y).own { prompt = r } }) none)) s
 
 -- WHAT AN ANSWER DOES
 
-answer_act : {X : Type 0} (f : Act → X) (pattern : List ℕ) (deed : Deed) (p : PromptInput) (n : Option ℕ) (c : Question) (typed : List ℕ) → deed ≡ deeds.Answer p n → c ≡ p.question → typed ≡ p.input → f (Run (answered c) n (meant c pattern typed)) ≡ f (deed_act pattern deed)
-answer_act f pattern deed p n c typed is question input =
-    ap (λ (q : Question). f (Run (answered q) n (meant q pattern typed))) question
-    ∙ ap (λ (t : List ℕ). f (Run (answered p.question) n (meant p.question pattern t))) input
-    ∙ sym (ap (λ (d : Deed). f (deed_act pattern d)) is)
+answer_act : {X : Type 0} (f : Act → X) (own : model.Own) (deed : Deed) (p : PromptInput) (n : Option ℕ) (c : Question) (typed : List ℕ) → deed ≡ deeds.Answer p n → c ≡ p.question → typed ≡ p.input → f (Run (answered c) n (meant c own.pattern typed)) ≡ f (deed_act own deed)
+answer_act f own deed p n c typed is question input =
+    ap (λ (q : Question). f (Run (answered q) n (meant q own.pattern typed))) question
+    ∙ ap (λ (t : List ℕ). f (Run (answered p.question) n (meant p.question own.pattern t))) input
+    ∙ sym (ap (λ (d : Deed). f (deed_act own d)) is)
 
-pub answer_quietly : (old new : World) (t : StoreTold) (id : ℕ) (pattern : List ℕ) (deed : Deed) (p : PromptInput) (n : Option ℕ) (c : Question) (typed : List ℕ) → deed ≡ deeds.Answer p n → c ≡ p.question → typed ≡ p.input → new ≡ act old id (Run (answered c) n (meant c pattern typed)) true → ActedBy old new t t id (deed_act pattern deed)
-answer_quietly old new t id pattern deed p n c typed is question input world =
-    let same = answer_act (λ (a : Act). act old id a true) pattern deed p n c typed is question input in
+pub answer_quietly : (old new : World) (t : StoreTold) (id : ℕ) (own : model.Own) (deed : Deed) (p : PromptInput) (n : Option ℕ) (c : Question) (typed : List ℕ) → deed ≡ deeds.Answer p n → c ≡ p.question → typed ≡ p.input → new ≡ act old id (Run (answered c) n (meant c own.pattern typed)) true → ActedBy (started_world (deed_started deed) id old) new t t id (deed_act own deed)
+answer_quietly old new t id own deed p n c typed is question input world =
+    let this : Deed = deeds.Answer p n in
+    let did : ActedBy old new t t id (deed_act own this) =
     record {
       stored = true;
-      world = world ∙ same;
+      world = world ∙ answer_act (λ (a : Act). act old id a true) own this p n c typed refl question input;
       fault = λ e. cc;
       saves =
-          told_none t.accepted (flat_map saved_by (act_effects old id (Run (answered c) n (meant c pattern typed)) true)) (act_saves_none old id (Run (answered c) n (meant c pattern typed)) true (answered_saves_none c n (meant c pattern typed)))
-          ∙ answer_act (λ (a : Act). told_more (flat_map saved_by (act_effects old id a true)) t.accepted) pattern deed p n c typed is question input;
+          told_none t.accepted (flat_map saved_by (act_effects old id (Run (answered c) n (meant c own.pattern typed)) true)) (act_saves_none old id (Run (answered c) n (meant c own.pattern typed)) true (answered_saves_none c n (meant c own.pattern typed)))
+          ∙ answer_act (λ (a : Act). told_more (flat_map saved_by (act_effects old id a true)) t.accepted) own this p n c typed refl question input;
     }
+    in subst (λ (e : Deed). ActedBy (started_world (deed_started e) id old) new t t id (deed_act own e)) (sym is) did
 
-pub answer_may : (w : World) (id : ℕ) (pattern : List ℕ) (deed : Deed) (p : PromptInput) (n : Option ℕ) (c : Question) (typed : List ℕ) → deed ≡ deeds.Answer p n → c ≡ p.question → typed ≡ p.input → may_be_refused (outcome_in w id (Run (answered c) n (meant c pattern typed)) true) ≡ true → may_be_refused (outcome_in w id (deed_act pattern deed) true) ≡ true
-answer_may w id pattern deed p n c typed is question input may = sym (answer_act (λ (a : Act). may_be_refused (outcome_in w id a true)) pattern deed p n c typed is question input) ∙ may
+pub answer_may : (w : World) (id : ℕ) (own : model.Own) (deed : Deed) (p : PromptInput) (n : Option ℕ) (c : Question) (typed : List ℕ) → deed ≡ deeds.Answer p n → c ≡ p.question → typed ≡ p.input → may_be_refused (outcome_in w id (Run (answered c) n (meant c own.pattern typed)) true) ≡ true → may_be_refused (outcome_in w id (deed_act own deed) true) ≡ true
+answer_may w id own deed p n c typed is question input may = sym (answer_act (λ (a : Act). may_be_refused (outcome_in w id a true)) own deed p n c typed is question input) ∙ may

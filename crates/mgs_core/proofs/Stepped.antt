@@ -9,6 +9,7 @@ use Rattle.mgs_model.specs.World.{Todo, Typed, Played, Replace_all, Play}
 use Rattle.mgs_model.specs.World as model
 use Rattle.mgs_model.specs.View.{View}
 use Rattle.mgs_model.specs.Outcome.{Run}
+use Rattle.mgs_model.specs.Apply.{searches}
 use Rattle.mgs_model.specs.Keys.{key_read}
 use Rattle.mgs_model.specs.Plans.{acted_own, count_of, kind_failed, setting}
 use Rattle.mgs_model.specs.Turns.{Turn, Keep, Do, command_turn, plays}
@@ -31,16 +32,19 @@ use Rattle.mgs_maps.specs.declared.maps.Fed.TheVariants as fed
 use Rattle.mgs_mini.specs.Typing.{PromptInput}
 use Rattle.mgs_session.specs.declared.Own.{Own}
 use Rattle.mgs_session.specs.declared.Session.{Session}
+use Rattle.mgs_session.specs.declared.search.Search.{Search}
 use Rattle.mgs_session.specs.Playing.{Playing, are_played, rounds}
 use Rattle.mgs_session.specs.Sessions.{failed, holding, resting}
-use Rattle.mgs_world.specs.Worlds.{idle, own_of}
+use Rattle.mgs_world.specs.Worlds.{idle, mode_in, own_of, search_of}
 use Rattle.mgs_core.specs.declared.deeds.Deed.{Deed}
 use Rattle.mgs_core.specs.declared.deeds.Deed.TheVariants as deeds
+use Rattle.mgs_core.specs.declared.deeds.Before.{Before}
+use Rattle.mgs_core.specs.declared.deeds.Before.TheVariants as befores
 use Rattle.mgs_core.specs.declared.keying.ByteStep.{ByteStep}
 use Rattle.mgs_core.specs.declared.keying.ByteStep.TheVariants.{Kept, Failed, Ends, Acts}
 use Rattle.mgs_core.specs.Prompted.{own_turn}
-use Rattle.mgs_core.specs.Steps.{command_act}
-use Rattle.mgs_core.specs.Stepped.{IsAlone, IsByteStep, IsCommandStep, IsLeft, IsStep, MacroPlayed, SeesNames, StepActs, StepEnds, StepFailed, StepKept, call_fault, fault_of, is_call, is_exit, refused_again}
+use Rattle.mgs_core.specs.Steps.{command_act, started_by, started_own}
+use Rattle.mgs_core.specs.Stepped.{IsAlone, IsByteStep, IsCommandStep, IsLeft, IsStep, MacroPlayed, SearchStays, SeesNames, StepActs, StepEnds, StepFailed, StepKept, call_fault, fault_of, is_call, is_exit, refused_again, search_before}
 use Rattle.mgs_core.specs.Turned.{IsWithin, is_played, weight}
 use Rattle.mgs_core.proofs.Keyed.{command_done, command_here, turn_command, turn_kept, turn_unbound}
 
@@ -90,6 +94,17 @@ rounds_are : (n : ℕ) (bytes : List ℕ) → flat_map (λ (bs : List ℕ). map 
 rounds_are zero bytes = refl
 rounds_are (suc n) bytes = ap (λ (todo : List Todo). map Played bytes ++ todo) (rounds_are n bytes) ∙ sym (map-append Played bytes (rounds n bytes))
 
+-- THE POSITIONS OF A SEARCH
+
+pub none_stays : (old new : Own) → new.search ≡ None → SearchStays old new
+none_stays old new none bs =
+    ap (search_of bs) none
+    ∙ sym (ap (λ (s : Option Search). cond (searches (mode_in s new.prompt)) (search_of bs old.search) None) none ∙ by new.prompt)
+  where
+    by : (p : Option PromptInput) → cond (searches (mode_in None p)) (search_of bs old.search) None ≡ None
+    by None = refl
+    by (Some p) = refl
+
 -- WHERE A MACRO IS CALLED
 
 -- it cannot be played
@@ -132,6 +147,7 @@ module _ (Sees : View → Type 0) (comes : View → Turn) (x new : Session) (c :
       let own : model.Own = own_of (resting x).own in
       record {
         own = own_changed InMacro told;
+        stays = none_stays x.own new.own (ap (λ (s : Session). s.own.search) told);
         before = own;
         act = Run Exit n [];
         message = InMacro;
@@ -149,6 +165,7 @@ module _ (Sees : View → Type 0) (comes : View → Turn) (x new : Session) (c :
       let r = call_refused (resting x).own n message fault in
       record {
         own = own_changed message told;
+        stays = none_stays x.own new.own (ap (λ (s : Session). s.own.search) told);
         before = own;
         act = Run (Set CallMacro) n [];
         message = message;
@@ -173,6 +190,7 @@ module _ (Sees : View → Type 0) (comes : View → Turn) (x new : Session) (c :
       let left : new.own.player.todo ≡ Play ∷ map Played (rounds (count_of n) o.recorder.macro) = ap (λ (s : Session). s.own.player.todo) p.called in
       record {
         own = p.called ∙ sym (ap (λ (s : Session). record x { own = s.own }) p.called);
+        stays = none_stays x.own new.own (ap (λ (s : Session). s.own.search) p.called);
         turn = λ v sees.
             turn v sees
             ∙ ap (command_turn own n) is
@@ -200,6 +218,7 @@ module _ (Sees : View → Type 0) (comes : View → Turn) (x new : Session) (c :
       let own : model.Own = own_of (resting x).own in
       record {
         own = same ∙ sym (ap (λ (s : Session). record x { own = s.own }) same);
+        stays = none_stays x.own new.own (ap (λ (s : Session). s.own.search) same);
         before = own;
         argument = n;
         turn = λ v sees. turn v sees ∙ ap (command_turn own n) is;
@@ -208,21 +227,24 @@ module _ (Sees : View → Type 0) (comes : View → Turn) (x new : Session) (c :
       }
 
   -- or it is an act
-  acts_step : (p : Option PromptInput) → is_bound c ≡ true → is_exit c ≡ false → is_call c ≡ false → IsAlone x.own.player → new ≡ resting x
-      → refused_again p x.own.kind x.own.player.playing (own_of (resting x).own) ≡ refused_own (own_of x.own)
-      → StepActs Sees comes x.own.player.playing (IsLeft x.own.player) x new (deeds.Act (command_act c n) p)
-  acts_step p bound goes_on calls alone same again = record {
+  acts_step : (b : Before) → is_bound c ≡ true → is_exit c ≡ false → is_call c ≡ false → IsAlone x.own.player → new ≡ resting x
+      → refused_again b x.own.kind x.own.player.playing (own_of (resting x).own) ≡ refused_own (own_of x.own)
+      → search_before b ≡ x.own.search
+      → StepActs Sees comes x.own.player.playing (IsLeft x.own.player) x new (deeds.Act (command_act c n) b)
+  acts_step b bound goes_on calls alone same again search = record {
     own = same ∙ sym (ap (λ (s : Session). record x { own = s.own }) same);
-    fresh = ap (λ (s : Session). own_of s.own) same ∙ sym (ap (λ (s : Session). idle (own_of s.own)) same);
+    stays = none_stays x.own new.own (ap (λ (s : Session). s.own.search) same);
+    ready = ap (λ (s : Session). own_of s.own) same ∙ sym (ap (λ (s : Session). idle (own_of s.own)) same);
     here = command_here n c bound goes_on calls;
     turn = λ asked v sees.
         turn v sees
         ∙ command_done (own_of (resting x).own) n c bound calls
-        ∙ sym (ap (λ (s : Session). Do (own_of s.own) (act_of (command_act c n))) same);
+        ∙ sym (ap (λ (s : Session). Do (started_own (started_by (command_act c n)) (own_of s.own)) (act_of (command_act c n))) same);
     playing = ap (λ (s : Session). s.own.player.playing) same;
     typed = λ e. ap (λ (s : Session). s.own.player.todo) same ∙ alone e;
     left = left_same x.own.player new.own.player.todo alone (ap (λ (s : Session). s.own.player.todo) same);
-    again = ap (λ (s : Session). refused_again p x.own.kind x.own.player.playing (own_of s.own)) same ∙ again;
+    again = λ wants. ap (λ (s : Session). refused_again b x.own.kind x.own.player.playing (own_of s.own)) same ∙ again;
+    search = λ wants. search;
   }
 
 is_exit_of : (c : Command) → is_exit c ≡ true → c ≡ Exit
@@ -234,12 +256,13 @@ is_call_of (Set CallMacro) h = refl
 is_call_of (Set _) h = cc
 is_call_of _ h = cc
 
-pub command_step : (Sees : View → Type 0) (comes : View → Turn) (x new : Session) (c : Command) (n : Option ℕ) (p : Option PromptInput) (step : ByteStep) → ((v : View) → Sees v → comes v ≡ command_turn (own_of (resting x).own) n c) → is_bound c ≡ true → IsAlone x.own.player
-    → refused_again p x.own.kind x.own.player.playing (own_of (resting x).own) ≡ refused_own (own_of x.own)
-    → IsCommandStep (resting x) new c n p step
+pub command_step : (Sees : View → Type 0) (comes : View → Turn) (x new : Session) (c : Command) (n : Option ℕ) (b : Before) (step : ByteStep) → ((v : View) → Sees v → comes v ≡ command_turn (own_of (resting x).own) n c) → is_bound c ≡ true → IsAlone x.own.player
+    → refused_again b x.own.kind x.own.player.playing (own_of (resting x).own) ≡ refused_own (own_of x.own)
+    → search_before b ≡ x.own.search
+    → IsCommandStep (resting x) new c n b step
     → IsStep Sees comes x.own.player.playing (IsLeft x.own.player) x new step
-command_step Sees comes x new c n p Kept turn bound alone again s = call_kept Sees comes x new c n turn (is_call_of c s.0) alone s.1
-command_step Sees comes x new c n p Failed turn bound alone again s = by c refl s.fault
+command_step Sees comes x new c n b Kept turn bound alone again search s = call_kept Sees comes x new c n turn (is_call_of c s.0) alone s.1
+command_step Sees comes x new c n b Failed turn bound alone again search s = by c refl s.fault
   where
     exit_told : (b : Bool) (message : Message) → cond b (Some InMacro) None ≡ Some message → (b ≡ true) × (message ≡ InMacro)
     exit_told true message e = let same : InMacro ≡ message = cc in (refl, sym same)
@@ -253,37 +276,49 @@ command_step Sees comes x new c n p Failed turn bound alone again s = by c refl 
     by (Set CallMacro) is fault = call_told n is fault
     by (Set _) is fault = cc
     by _ is fault = cc
-command_step Sees comes x new c n p Ends turn bound alone again s = ended_step Sees comes x new c n turn (is_exit_of c s.0) s.1 s.2
-command_step Sees comes x new c n p (Acts (deeds.Act a q)) turn bound alone again s =
-    let same : deeds.Act a q ≡ deeds.Act (command_act c n) p = ap (λ (k : _). deeds.Act k q) s.2 ∙ ap (deeds.Act (command_act c n)) s.3 in
-    subst (λ (d : Deed). StepActs Sees comes x.own.player.playing (IsLeft x.own.player) x new d) (sym same) (acts_step Sees comes x new c n turn p bound s.0 s.1 alone s.4 again)
-command_step Sees comes x new c n p (Acts (deeds.Answer q m)) turn bound alone again s = absurd s
+command_step Sees comes x new c n b Ends turn bound alone again search s = ended_step Sees comes x new c n turn (is_exit_of c s.0) s.1 s.2
+command_step Sees comes x new c n b (Acts (deeds.Act a q)) turn bound alone again search s =
+    let same : deeds.Act a q ≡ deeds.Act (command_act c n) b = ap (λ (k : _). deeds.Act k q) s.2 ∙ ap (deeds.Act (command_act c n)) s.3 in
+    subst (λ (d : Deed). StepActs Sees comes x.own.player.playing (IsLeft x.own.player) x new d) (sym same) (acts_step Sees comes x new c n turn b bound s.0 s.1 alone s.4 again search)
+command_step Sees comes x new c n b (Acts (deeds.Answer q m)) turn bound alone again search s = absurd s
+command_step Sees comes x new c n b (Acts (deeds.Seek k)) turn bound alone again search s = absurd s
+command_step Sees comes x new c n b (Acts deeds.QuitSearch) turn bound alone again search s = absurd s
 
 -- A KEY
 
-again_plain : (x : Session) → x.own.prompt ≡ None → refused_again None x.own.kind x.own.player.playing (own_of (resting x).own) ≡ refused_own (own_of x.own)
-again_plain x none = sym (ap (λ (p : Option PromptInput). refused_own (own_of (record x.own { prompt = p }))) none)
+-- of a session that neither searches nor is at a prompt
+abbrev plain : Session → Session
+plain x = record x { own = record x.own { search = None; prompt = None } }
 
-pub key_kept : (d : Directory) (ks : List MarkedBuffer) (x new : Session) (byte : ℕ) (k : Held) → x.own.prompt ≡ None → IsAlone x.own.player → FedBy fed.Pending (key_read x.own.keyboard.argument x.own.keyboard.keys byte) k → new ≡ holding k x → IsByteStep d ks x new byte Kept
-key_kept d ks x new byte k none alone read held = record {
+plain_same : (x : Session) → x.own.search ≡ None → x.own.prompt ≡ None → x ≡ plain x
+plain_same x still none = λ i. record x { own = record x.own { search = still i; prompt = none i } }
+
+again_plain : (x : Session) → x.own.search ≡ None → x.own.prompt ≡ None → refused_again befores.Plain x.own.kind x.own.player.playing (own_of (resting x).own) ≡ refused_own (own_of x.own)
+again_plain x still none = sym (ap (λ (y : Session). refused_own (own_of y.own)) (plain_same x still none))
+
+pub key_kept : (d : Directory) (ks : List MarkedBuffer) (x new : Session) (byte : ℕ) (k : Held) → x.own.search ≡ None → x.own.prompt ≡ None → IsAlone x.own.player → FedBy fed.Pending (key_read x.own.keyboard.argument x.own.keyboard.keys byte) k → new ≡ holding k x → IsByteStep d ks x new byte Kept
+key_kept d ks x new byte k still none alone read held = record {
   own = held ∙ sym (ap (λ (s : Session). record x { own = s.own }) held);
-  turn = λ v sees. turn_kept v x.own byte k none read ∙ sym (ap (λ (s : Session). Keep (own_of s.own)) held);
+  stays = none_stays x.own new.own (ap (λ (s : Session). s.own.search) held);
+  turn = λ v sees. turn_kept v x.own byte k still none read ∙ sym (ap (λ (s : Session). Keep (own_of s.own)) held);
   left = left_same x.own.player new.own.player.todo alone (ap (λ (s : Session). s.own.player.todo) held);
 }
 
-pub key_unbound : (d : Directory) (ks : List MarkedBuffer) (x new : Session) (byte : ℕ) (k : Held) → x.own.prompt ≡ None → IsAlone x.own.player → FedBy fed.Unbound (key_read x.own.keyboard.argument x.own.keyboard.keys byte) k → new ≡ resting x → IsByteStep d ks x new byte (Acts (deeds.Act unbound None))
-key_unbound d ks x new byte k none alone read same = record {
+pub key_unbound : (d : Directory) (ks : List MarkedBuffer) (x new : Session) (byte : ℕ) (k : Held) → x.own.search ≡ None → x.own.prompt ≡ None → IsAlone x.own.player → FedBy fed.Unbound (key_read x.own.keyboard.argument x.own.keyboard.keys byte) k → new ≡ resting x → IsByteStep d ks x new byte (Acts (deeds.Act unbound befores.Plain))
+key_unbound d ks x new byte k still none alone read same = record {
   own = same ∙ sym (ap (λ (s : Session). record x { own = s.own }) same);
-  fresh = ap (λ (s : Session). own_of s.own) same ∙ sym (ap (λ (s : Session). idle (own_of s.own)) same);
+  stays = none_stays x.own new.own (ap (λ (s : Session). s.own.search) same);
+  ready = ap (λ (s : Session). own_of s.own) same ∙ sym (ap (λ (s : Session). idle (own_of s.own)) same);
   here = refl;
-  turn = λ asked v sees. turn_unbound v x.own byte k none read ∙ sym (ap (λ (s : Session). Do (own_of s.own) (act_of unbound)) same);
+  turn = λ asked v sees. turn_unbound v x.own byte k still none read ∙ sym (ap (λ (s : Session). Do (own_of s.own) (act_of unbound)) same);
   playing = ap (λ (s : Session). s.own.player.playing) same;
   typed = λ e. ap (λ (s : Session). s.own.player.todo) same ∙ alone e;
   left = left_same x.own.player new.own.player.todo alone (ap (λ (s : Session). s.own.player.todo) same);
-  again = ap (λ (s : Session). refused_again None x.own.kind x.own.player.playing (own_of s.own)) same ∙ again_plain x none;
+  again = λ wants. ap (λ (s : Session). refused_again befores.Plain x.own.kind x.own.player.playing (own_of s.own)) same ∙ again_plain x still none;
+  search = λ wants. sym still;
 }
 
-pub key_command : (d : Directory) (ks : List MarkedBuffer) (x y new : Session) (byte : ℕ) (k : Held) (c : Command) (n : Option ℕ) (step : ByteStep) → x.own.prompt ≡ None → IsAlone x.own.player → FedBy (fed.Run c n) (key_read x.own.keyboard.argument x.own.keyboard.keys byte) k → is_bound c ≡ true → y ≡ resting x → IsCommandStep y new c n None step → IsByteStep d ks x new byte step
-key_command d ks x y new byte k c n step none alone read bound rests s =
-    command_step (SeesNames d ks x.user) (λ v. own_turn v x.own byte) x new c n None step (λ v sees. turn_command v x.own byte k c n none read) bound alone (again_plain x none)
-    (subst (λ (z : Session). IsCommandStep z new c n None step) rests s)
+pub key_command : (d : Directory) (ks : List MarkedBuffer) (x y new : Session) (byte : ℕ) (k : Held) (c : Command) (n : Option ℕ) (step : ByteStep) → x.own.search ≡ None → x.own.prompt ≡ None → IsAlone x.own.player → FedBy (fed.Run c n) (key_read x.own.keyboard.argument x.own.keyboard.keys byte) k → is_bound c ≡ true → y ≡ resting x → IsCommandStep y new c n befores.Plain step → IsByteStep d ks x new byte step
+key_command d ks x y new byte k c n step still none alone read bound rests s =
+    command_step (SeesNames d ks x.user) (λ v. own_turn v x.own byte) x new c n befores.Plain step (λ v sees. turn_command v x.own byte k c n still none read) bound alone (again_plain x still none) (sym still)
+    (subst (λ (z : Session). IsCommandStep z new c n befores.Plain step) rests s)

@@ -1,49 +1,60 @@
 -- A turn of the session at a place, in the world.
-use Rattle.std.proofs.Common.{◌≡◌, ℕ, zero, suc, ◌<◌, Bool, true, false, List, [], ◌∷◌, get_or, length, Option, Some, None, refl, sym, ap, subst, ◌∙◌, arith}
-use Rattle.std.specs.Prelude.{slice_get, slice_set}
-use Rattle.std.specs.List.{flat_map, position_or_len}
+use Rattle.std.proofs.Common.{◌≡◌, ℕ, zero, suc, ◌<◌, Bool, true, false, List, [], ◌∷◌, get_or, length, map, cond, Option, Some, None, refl, sym, ap, subst, ◌∙◌, arith}
+use Rattle.std.specs.Prelude.{slice_get, slice_set, is_some, not, ◌||◌}
+use Rattle.std.specs.List.{flat_map, list_any, position_or_len}
 use Rattle.std.proofs.lemmas.List.{length-map}
 use Rattle.mgs_model.specs.Access.{Directory}
-use Rattle.mgs_model.specs.World.{World, Todo, find_session, has_id}
+use Rattle.mgs_model.specs.World.{World, Buffer, Todo, find_session, has_id}
 use Rattle.mgs_model.specs.World as model
 use Rattle.mgs_model.specs.Outcome.{Act, Run}
-use Rattle.mgs_model.specs.Apart.{Apart}
-use Rattle.mgs_model.specs.Apply.{act, outcome_in, searches}
+use Rattle.mgs_model.specs.Apart.{Apart, bare, may_show, spared}
+use Rattle.mgs_model.specs.Apply.{act, change_first, outcome_in, searches}
 use Rattle.mgs_model.specs.Acts.{without_all}
 use Rattle.mgs_model.specs.View.{View, view}
 use Rattle.mgs_model.specs.Turns.{Turn, Keep, Do, todo_turn}
 use Rattle.mgs_model.specs.Events.{act_effects, may_be_refused, own_set, refused_own, saved_by, turn_in, with_own}
 use Rattle.mgs_model.specs.declared.errors.Keyed.{Keyed}
 use Rattle.mgs_model.specs.declared.errors.Keyed.TheVariants as keyed
-use Rattle.mgs_model.specs.declared.session.Command.TheVariants.{Exit}
+use Rattle.mgs_model.specs.declared.search.Direction.{Direction}
+use Rattle.mgs_model.specs.declared.search.SearchStep.{SearchStep}
+use Rattle.mgs_model.specs.declared.session.Command.TheVariants.{Exit, LeaveSearch, Move}
+use Rattle.mgs_model.specs.declared.session.Mode.{Mode}
+use Rattle.mgs_model.specs.declared.session.Mode.TheVariants.{Searching}
+use Rattle.mgs_model.specs.declared.session.Motion.TheVariants.{SearchOn}
 use Rattle.mgs_model.specs.declared.session.Kind.{Kind}
 use Rattle.mgs_model.specs.declared.touched.Touched.{Touched}
+use Rattle.mgs_model.specs.declared.touched.Touched.TheVariants.{Nowhere}
 use Rattle.mgs_model.proofs.Apart.{apart_own}
+use Rattle.mgs_model.proofs.Blind.{change_inside}
 use Rattle.mgs_model.proofs.Completing.{shown_names_of}
 use Rattle.mgs_model.proofs.Ends.{act_fails}
 use Rattle.mgs_model.proofs.Firsts.{change_first_found}
-use Rattle.mgs_model.proofs.LeftToDo.{found_own, is_single, own_twice, single_brief, todo_acted}
+use Rattle.mgs_model.proofs.LeftToDo.{is_single, single_brief, todo_acted}
+use Rattle.mgs_model.proofs.Saves.{act_saves_none}
 use Rattle.mgs_model.proofs.Turned.{turn_todo}
+use Rattle.mgs_act.specs.Beginning.{search_held, search_or_none}
 use Rattle.mgs_act.specs.Searching.{meant}
 use Rattle.mgs_buffers.specs.MarkedBuffer.{MarkedBuffer}
-use Rattle.mgs_mini.specs.Typing.{PromptInput}
 use Rattle.mgs_session.specs.declared.Session.{Session}
+use Rattle.mgs_session.specs.declared.search.Search.{Search}
 use Rattle.mgs_store.specs.Stores.{StoreTold}
 use Rattle.mgs_store.proofs.Told.{told_none}
-use Rattle.mgs_world.specs.Worlds.{idle, mode_in, own_at, own_of, own_or_first, session_id, session_of, size_in, sizes_in, world_of}
-use Rattle.mgs_world.proofs.Owns.{no_search}
+use Rattle.mgs_world.specs.Worlds.{buffers_of, input_in, mode_in, own_at, own_of, own_or_first, search_of, session_id, session_of, size_in, sizes_in, world_of}
 use Rattle.mgs_world.proofs.Sessions.{session_some}
 use Rattle.mgs_core.specs.declared.deeds.Deed.{Deed}
 use Rattle.mgs_core.specs.declared.deeds.Deed.TheVariants as deeds
+use Rattle.mgs_core.specs.declared.deeds.Before.{Before}
+use Rattle.mgs_core.specs.declared.deeds.Before.TheVariants as befores
 use Rattle.mgs_core.specs.declared.keying.ByteStep.TheVariants.{Kept, Failed, Ends, Acts}
-use Rattle.mgs_core.specs.Steps.{ActedBy, closed}
-use Rattle.mgs_core.specs.Stepped.{CanDo, IsTurnStep, SeesNames, deed_act, is_deed_asked, prompt_of, refused, refused_again}
+use Rattle.mgs_core.specs.Steps.{ActedBy, closed, started_by, started_own, started_world}
+use Rattle.mgs_core.specs.Stepped.{CanDo, IsReady, IsTurnStep, SearchStays, SeesNames, before_of, deed_act, deed_started, is_deed_asked, may_want_memory, put_back, refused, search_before, seek_act}
 use Rattle.mgs_core.specs.Turned.{DeedBy, DeedRefused, IsLess, IsWithin, TurnDone, TurnEnds, TurnRefused, TurnedBy, is_played, weight}
-use Rattle.mgs_core.proofs.Begun.{closed_own}
+use Rattle.mgs_core.proofs.Begun.{closed_own, search_still}
 use Rattle.mgs_core.proofs.Keyed.{acted_single}
 use Rattle.mgs_core.proofs.Prompted.{answered_single}
 use Rattle.mgs_core.proofs.Sizes.{place_same}
-use Rattle.mgs_core.proofs.Steps.{session_there, set_there, world_changed}
+use Rattle.mgs_core.proofs.Started.{begun_act, change_twice}
+use Rattle.mgs_core.proofs.Steps.{session_changed, session_there, set_there, world_changed}
 use Rattle.mgs_core.proofs.Turned.{some_left, without_within}
 
 there : (xs : List Session) (at : ℕ) → at < length xs → (h : Session) × (h ≡ get_or xs at h) × (slice_get xs at ≡ Some h)
@@ -63,8 +74,13 @@ own_there xs at h within is = ap own_or_first (session_there xs at h within is)
 own_put : (xs : List Session) (at : ℕ) (y : Session) → at < length xs → own_at at (slice_set xs at y) ≡ own_of y.own
 own_put xs at y within = ap own_or_first (set_there xs at y within)
 
-pub fresh_put : (xs : List Session) (at : ℕ) (y : Session) → at < length xs → own_of y.own ≡ idle (own_of y.own) → own_at at (slice_set xs at y) ≡ idle (own_at at (slice_set xs at y))
-fresh_put xs at y within fresh = own_put xs at y within ∙ fresh ∙ sym (ap idle (own_put xs at y within))
+search_put : (xs : List Session) (at : ℕ) (y : Session) → at < length xs → search_held at (slice_set xs at y) ≡ y.own.search
+search_put xs at y within = ap search_or_none (set_there xs at y within)
+
+pub ready_put : (xs : List Session) (at : ℕ) (y : Session) (deed : Deed) → at < length xs → IsReady deed y.own.search (own_of y.own) → IsReady deed (search_held at (slice_set xs at y)) (own_at at (slice_set xs at y))
+ready_put xs at y deed within ready =
+    subst (λ (s : Option Search). IsReady deed s (own_at at (slice_set xs at y))) (sym (search_put xs at y within))
+    (subst (IsReady deed y.own.search) (sym (own_put xs at y within)) ready)
 
 pub some_there : (xs : List Session) (at : ℕ) (h : Session) → at < length xs → h ≡ get_or xs at h → ((own_at at xs).todo ≡ [] → ⊥) → h.own.player.todo ≡ [] → ⊥
 some_there xs at h within is some none = some (ap (λ (o : model.Own). o.todo) (own_there xs at h within is) ∙ none)
@@ -72,40 +88,122 @@ some_there xs at h within is some none = some (ap (λ (o : model.Own). o.todo) (
 pub within_still : (at : ℕ) (xs ys : List Session) → at < length xs → sizes_in ys ≡ sizes_in xs → at < length ys
 within_still at xs ys within same = omega (arith, within, sym (length-map xs size_in) ∙ sym (ap length same) ∙ length-map ys size_in)
 
+-- A STEP OF A SEARCH
+
+seek_found : (o : Option Session) (step : SearchStep) → is_some (search_or_none o) ≡ true → (s : Search) × (search_or_none o ≡ Some s) × (seek_act (own_or_first o).mode step (own_or_first o).input ≡ Run (Move (SearchOn s.sought.direction step)) None s.sought.pattern)
+seek_found None step h = cc
+seek_found (Some x) step h = by x.own.search refl h
+  where
+    by : (o : Option Search) → x.own.search ≡ o → is_some o ≡ true → (s : Search) × (x.own.search ≡ Some s) × (seek_act (own_of x.own).mode step (own_of x.own).input ≡ Run (Move (SearchOn s.sought.direction step)) None s.sought.pattern)
+    by None is h = cc
+    by (Some s) is h = (s, is, ap (λ (o : Option Search). seek_act (mode_in o x.own.prompt) step (input_in o x.own.prompt)) is)
+
+-- it is what the session at a place looks for
+pub seek_there : (xs : List Session) (at : ℕ) (step : SearchStep) → is_some (search_held at xs) ≡ true → (s : Search) × (search_held at xs ≡ Some s) × (seek_act (own_at at xs).mode step (own_at at xs).input ≡ Run (Move (SearchOn s.sought.direction step)) None s.sought.pattern)
+seek_there xs at step h = seek_found (slice_get xs at) step h
+
+-- what is done leaves the store
+pub sought_quietly : (old new : World) (t : StoreTold) (id : ℕ) (xs : List Session) (at : ℕ) (deed : Deed) (step : SearchStep) → deed ≡ deeds.Seek step → IsReady deed (search_held at xs) (own_at at xs)
+    → ((s : Search) → search_held at xs ≡ Some s → new ≡ act old id (Run (Move (SearchOn s.sought.direction step)) None s.sought.pattern) true) → ActedBy (started_world (deed_started deed) id old) new t t id (deed_act (own_at at xs) deed)
+sought_quietly old new t id xs at deed step is ready world =
+    let there = seek_there xs at step (subst (λ (e : Deed). IsReady e (search_held at xs) (own_at at xs)) is ready) in
+    let c : Act = Run (Move (SearchOn there.0.sought.direction step)) None there.0.sought.pattern in
+    let did : ActedBy old new t t id c = record {
+      stored = true;
+      world = world there.0 there.1;
+      fault = λ e. cc;
+      saves = told_none t.accepted (flat_map saved_by (act_effects old id c true)) (act_saves_none old id c true refl);
+    }
+    in subst (λ (e : Deed). ActedBy (started_world (deed_started e) id old) new t t id (deed_act (own_at at xs) e)) (sym is) (subst (ActedBy old new t t id) (sym there.2) did)
+
+pub quit_quietly : (old new : World) (t : StoreTold) (id : ℕ) (own : model.Own) (deed : Deed) → deed ≡ deeds.QuitSearch → new ≡ act old id (Run LeaveSearch None []) true → ActedBy (started_world (deed_started deed) id old) new t t id (deed_act own deed)
+quit_quietly old new t id own deed is world =
+    let did : ActedBy old new t t id (Run LeaveSearch None []) = record {
+      stored = true;
+      world = world;
+      fault = λ e. cc;
+      saves = told_none t.accepted (flat_map saved_by (act_effects old id (Run LeaveSearch None []) true)) (act_saves_none old id (Run LeaveSearch None []) true refl);
+    }
+    in subst (λ (e : Deed). ActedBy (started_world (deed_started e) id old) new t t id (deed_act own e)) (sym is) did
+
 -- A DEED THAT IS REFUSED
 
-modes_still : (p : Option PromptInput) → searches (mode_in p) ≡ false
-modes_still None = refl
-modes_still (Some p) = refl
+-- what was there before is there again, in the model's words
+again_of : (ks : List MarkedBuffer) (x : Session) (b : Before) (kind : Kind) (playing : Bool) → session_of ks (refused b kind playing x) ≡ put_back (buffers_of ks) b kind playing (session_of ks x)
+again_of ks x befores.Plain kind playing = refl
+again_of ks x (befores.Prompt p) kind playing = refl
+again_of ks x (befores.Search s last) kind playing = refl
+
+abbrev world_back : List Buffer → Before → Kind → Bool → ℕ → World → World
+world_back bs b kind playing id w = record w { sessions = change_first (has_id id) (put_back bs b kind playing) w.sessions }
 
 -- the session is told so, where an act left the world as it was
-pub refused_in_world : (d : Directory) (ks K : List MarkedBuffer) (xs ys : List Session) (next : Option ℕ) (id at : ℕ) (k z : Session) (p q : Option PromptInput) (kind : Kind) (playing : Bool) → at ≡ position_or_len (session_id id) xs → at < length xs → sizes_in ys ≡ sizes_in xs → k ≡ get_or ys at k → q ≡ p → z ≡ refused q kind playing k
+pub refused_in_world : (d : Directory) (ks K : List MarkedBuffer) (xs ys : List Session) (next : Option ℕ) (id at : ℕ) (k z : Session) (b e : Before) (kind : Kind) (playing : Bool) → at ≡ position_or_len (session_id id) xs → at < length xs → sizes_in ys ≡ sizes_in xs → k ≡ get_or ys at k → e ≡ b → z ≡ refused e kind playing k
     → world_of d K ys next ≡ world_of d ks xs next
-    → world_of d K (slice_set ys at z) next ≡ with_own id (refused_again p kind playing) (world_of d ks xs next)
-refused_in_world d ks K xs ys next id at k z p q kind playing place within same is_k of_p does stays =
-    world_changed (refused_again p kind playing) d K ys next id at k z (place_same id at xs ys place same) (within_still at xs ys within same) is_k
-    (ap (session_of K) (does ∙ ap (λ (r : Option PromptInput). refused r kind playing k) of_p) ∙ (λ i. record (session_of K k) { search = no_search p i; own = refused_again p kind playing (own_of k.own) }))
-    ∙ ap (with_own id (refused_again p kind playing)) stays
+    → (let w : World = world_of d ks xs next in world_of d K (slice_set ys at z) next ≡ record w { sessions = change_first (has_id id) (put_back (buffers_of ks) b kind playing) w.sessions })
+refused_in_world d ks K xs ys next id at k z b e kind playing place within same is_k of_b does stays =
+    session_changed (put_back (buffers_of K) b kind playing) d K ys next id at k z (place_same id at xs ys place same) (within_still at xs ys within same) is_k
+    (ap (session_of K) (does ∙ ap (λ (c : Before). refused c kind playing k) of_b) ∙ again_of K k b kind playing)
+    ∙ ap (λ (w : World). world_back w.buffers b kind playing id w) stays
 
--- what a session holds is changed after it was set
-own_both : (id : ℕ) (f : model.Own → model.Own) (own : model.Own) (w : World) (x : model.Session) → find_session id w.sessions ≡ Some x → searches (f own).mode ≡ false → with_own id f (with_own id (λ was. own) w) ≡ with_own id (λ was. f own) w
-own_both id f own w x found still =
-    let v : World = with_own id (λ was. own) w in
-    ap (λ (xs : List model.Session). record w { sessions = xs })
-    (change_first_found (has_id id) (own_set f) (own_set (λ was. f own)) (own_set (λ was. own) x) v.sessions (found_own w id (λ was. own) x found) refl)
-    ∙ own_twice id (f own) (λ was. own) w still
+changed_spared : (id : ℕ) (f : model.Session → model.Session) → ((x : model.Session) → (f x).id ≡ x.id) → (xs : List model.Session) → map (spared Nowhere id) (change_first (has_id id) f xs) ≡ map (spared Nowhere id) xs
+changed_spared id f same xs =
+    change_inside (spared Nowhere id) (has_id id) f xs
+    (λ x e. own_none (f x) (ap (λ (n : ℕ). has_id id (record x { id = n })) (same x) ∙ e) ∙ sym (own_none x e))
+  where
+    own_none : (x : model.Session) → has_id id x ≡ true → spared Nowhere id x ≡ None
+    own_none x e = ap (λ (c : Bool). cond (c || list_any (λ (w : model.Window). may_show Nowhere w.shows) x.windows) None (Some (bare x))) e
 
-pub deed_done : (old new : World) (before after : StoreTold) (id : ℕ) (c : Act) (f : model.Own → model.Own) (k : Keyed) → k ≡ keyed.Done → DeedBy old new before after id c f k → ActedBy old new before after id c
-deed_done old new before after id c f keyed.Done is h = h
-deed_done old new before after id c f keyed.Short is h = cc
-deed_done old new before after id c f keyed.Quit is h = cc
-deed_done old new before after id c f keyed.NoSession is h = cc
+-- which touches nothing
+pub refused_apart : (bs : List Buffer) (b : Before) (kind : Kind) (playing : Bool) (id : ℕ) (w v : World) → v ≡ record w { sessions = change_first (has_id id) (put_back bs b kind playing) w.sessions } → Apart Nowhere id w v
+refused_apart bs b kind playing id w v is =
+    let stays : Apart Nowhere id w (world_back bs b kind playing id w) = record { directory = refl; buffers = refl; rules = λ h. refl; sessions = λ h. changed_spared id (put_back bs b kind playing) (λ x. refl) w.sessions } in
+    subst (Apart Nowhere id w) (sym is) stays
+
+deed_done : (old new : World) (before after : StoreTold) (id : ℕ) (d : Option Direction) (takes : Bool) (c : Act) (f : model.Session → model.Session) (k : Keyed) → k ≡ keyed.Done → DeedBy old new before after id d takes c f k → ActedBy (started_world d id old) new before after id c
+deed_done old new before after id d takes c f keyed.Done is h = h
+deed_done old new before after id d takes c f keyed.Short is h = cc
+deed_done old new before after id d takes c f keyed.Quit is h = cc
+deed_done old new before after id d takes c f keyed.NoSession is h = cc
 
 -- A TURN
 
-deed_single : (pattern : List ℕ) (deed : Deed) → CanDo deed → is_single (deed_act pattern deed) ≡ true
-deed_single pattern (deeds.Act a p) here = acted_single a here
-deed_single pattern (deeds.Answer p n) here = answered_single p.question n (meant p.question pattern p.input)
+seek_single : (mode : Mode) (step : SearchStep) (input : List ℕ) → is_single (seek_act mode step input) ≡ true
+seek_single (Searching d failing) step input = refl
+seek_single _ step input = refl
+
+deed_single : (own : model.Own) (deed : Deed) → CanDo deed → is_single (deed_act own deed) ≡ true
+deed_single own (deeds.Act a b) here = acted_single a here
+deed_single own (deeds.Answer p n) here = answered_single p.question n (meant p.question own.pattern p.input)
+deed_single own (deeds.Seek step) here = seek_single own.mode step own.input
+deed_single own deeds.QuitSearch here = refl
+
+-- the record with which a deed is decided plays as much, and has as much to do
+started_playing : (d : Option Direction) (own : model.Own) → (started_own d own).playing ≡ own.playing
+started_playing None own = refl
+started_playing (Some d) own = refl
+
+started_todo : (d : Option Direction) (own : model.Own) → (started_own d own).todo ≡ own.todo
+started_todo None own = refl
+started_todo (Some d) own = refl
+
+-- one that takes memory starts no search
+unstarted : (deed : Deed) (own : model.Own) → may_want_memory deed ≡ true → started_own (deed_started deed) own ≡ own
+unstarted (deeds.Act a b) own wants = by (started_by a) wants
+  where
+    by : (d : Option Direction) → not (is_some d) ≡ true → started_own d own ≡ own
+    by None h = refl
+    by (Some d) h = cc
+unstarted (deeds.Answer p n) own wants = refl
+unstarted (deeds.Seek step) own wants = cc
+unstarted deeds.QuitSearch own wants = cc
+
+begun_deed : (w : World) (id : ℕ) (o : model.Own) (deed : Deed) (own : model.Own) (x : model.Session) (new : World) (before after : StoreTold) → find_session id w.sessions ≡ Some x
+    → ActedBy (started_world (deed_started deed) id (with_own id (λ was. o) w)) new before after id (deed_act own deed) → ActedBy (with_own id (λ was. started_own (deed_started deed) o) w) new before after id (deed_act own deed)
+begun_deed w id o (deeds.Act a b) own x new before after found did = begun_act w id o a x new before after found did
+begun_deed w id o (deeds.Answer p n) own x new before after found did = did
+begun_deed w id o (deeds.Seek step) own x new before after found did = did
+begun_deed w id o deeds.QuitSearch own x new before after found did = did
 
 -- of the session h at the place, which the turn makes y, before a deed
 module _ (d : Directory) (ks : List MarkedBuffer) (xs : List Session) (next : Option ℕ) (id at : ℕ) (h y : Session) (place : at ≡ position_or_len (session_id id) xs) (within : at < length xs) (is_h : h ≡ get_or xs at h) where
@@ -121,13 +219,13 @@ module _ (d : Directory) (ks : List MarkedBuffer) (xs : List Session) (next : Op
   todo_put : (own_at at (slice_set xs at y)).todo ≡ y.own.player.todo
   todo_put = ap (λ (o : model.Own). o.todo) (own_put xs at y within)
 
-  changed : y ≡ record h { own = y.own } → begun ≡ with_own id (λ was. own_of y.own) old
-  changed e =
+  changed : y ≡ record h { own = y.own } → SearchStays h.own y.own → begun ≡ with_own id (λ was. own_of y.own) old
+  changed e stays =
       world_changed (λ was. own_of y.own) d ks xs next id at h y place within is_h
-      (ap (session_of ks) e ∙ ap (λ (s : Option model.Search). record (session_of ks h) { search = s; own = own_of y.own }) (no_search y.own.prompt))
+      (ap (session_of ks) e ∙ ap (λ (s : Option model.Search). record (session_of ks h) { search = s; own = own_of y.own }) (stays (buffers_of ks)))
 
-  pub step_apart : (t : Touched) → y ≡ record h { own = y.own } → Apart t id (world_of d ks xs next) (world_of d ks (slice_set xs at y) next)
-  step_apart t e = subst (Apart t id (world_of d ks xs next)) (sym (changed e)) (apart_own t id (λ was. own_of y.own) (world_of d ks xs next))
+  pub step_apart : (t : Touched) → y ≡ record h { own = y.own } → SearchStays h.own y.own → Apart t id (world_of d ks xs next) (world_of d ks (slice_set xs at y) next)
+  step_apart t e stays = subst (Apart t id (world_of d ks xs next)) (sym (changed e stays)) (apart_own t id (λ was. own_of y.own) (world_of d ks xs next))
 
   next_turn : (t : Turn) → ((v : View) → SeesNames d ks h.user v → todo_turn v (own_of h.own) h.own.player.todo ≡ t) → turn_in old id ≡ t
   next_turn t turn =
@@ -139,7 +237,7 @@ module _ (d : Directory) (ks : List MarkedBuffer) (xs : List Session) (next : Op
   kept_less s = subst (λ (todo : List Todo). IsLess todo (own_at at (slice_set xs at y)).todo) (sym todo_there) (subst (IsLess h.own.player.todo) (sym todo_put) s.left)
 
   pub kept_turn : (t : StoreTold) → IsTurnStep d ks h y Kept → TurnDone (is_played (own_at at xs).todo) (own_at at (slice_set xs at y)).todo (world_of d ks xs next) (world_of d ks (slice_set xs at y) next) t t id
-  kept_turn t s = record { own = own_of y.own; act = None; turn = next_turn (Keep (own_of y.own)) s.turn; done = (changed s.own, refl) }
+  kept_turn t s = record { own = own_of y.own; act = None; turn = next_turn (Keep (own_of y.own)) s.turn; done = (changed s.own s.stays, refl) }
 
   failed_none : IsTurnStep d ks h y Failed → (own_at at (slice_set xs at y)).todo ≡ []
   failed_none s = todo_put ∙ ap (λ (o : model.Own). o.todo) s.told
@@ -161,7 +259,7 @@ module _ (d : Directory) (ks : List MarkedBuffer) (xs : List Session) (next : Op
           record {
             stored = true;
             world =
-                changed s.own
+                changed s.own s.stays
                 ∙ ap (λ (o : model.Own). with_own id (λ was. o) w) s.told
                 ∙ sym (act_fails w id s.before s.act s.message true (session_of ks h) (session_some d ks xs next id at h place within is_h) (λ z seen. s.fails z s.before.kind seen));
             fault = λ e. cc;
@@ -177,81 +275,103 @@ module _ (d : Directory) (ks : List MarkedBuffer) (xs : List Session) (next : Op
     turn = next_turn (Do s.before (Run Exit s.argument [])) s.turn;
     typed = ap is_played todo_there ∙ s.typed;
     quiet = s.quiet;
-    gone = ap (λ (w : World). closed w id) (changed s.own) ∙ closed_own (world_of d ks xs next) id (λ was. own_of y.own);
+    gone = ap (λ (w : World). closed w id) (changed s.own s.stays) ∙ closed_own (world_of d ks xs next) id (λ was. own_of y.own);
     left = refl;
   }
 
   -- and where there is a deed
   module _ (deed : Deed) (s : IsTurnStep d ks h y (Acts deed)) (asked : is_deed_asked deed ≡ true) where
-    deed_turn : turn_in old id ≡ Do (own_of y.own) (deed_act y.own.pattern deed)
-    deed_turn = next_turn (Do (own_of y.own) (deed_act y.own.pattern deed)) (s.turn asked)
+    -- with this record it is decided
+    abbrev own : model.Own
+    own = started_own (deed_started deed) (own_of y.own)
 
-    pattern_put : (own_at at (slice_set xs at y)).pattern ≡ y.own.pattern
-    pattern_put = ap (λ (o : model.Own). o.pattern) (own_put xs at y within)
+    abbrev act_done : Act
+    act_done = deed_act (own_of y.own) deed
+
+    deed_turn : turn_in old id ≡ Do own act_done
+    deed_turn = next_turn (Do own act_done) (s.turn asked)
+
+    put : own_at at (slice_set xs at y) ≡ own_of y.own
+    put = own_put xs at y within
+
+    -- it is done in the world that the turn leaves
+    done_from : (new : World) (before after : StoreTold) → ActedBy (started_world (deed_started deed) id begun) new before after id (deed_act (own_at at (slice_set xs at y)) deed) → ActedBy (with_own id (λ was. own) old) new before after id act_done
+    done_from new before after did =
+        begun_deed old id (own_of y.own) deed (own_of y.own) (session_of ks h) new before after (session_some d ks xs next id at h place within is_h)
+        (subst (λ (v : World). ActedBy (started_world (deed_started deed) id v) new before after id act_done) (changed s.own s.stays)
+        (subst (λ (o : model.Own). ActedBy (started_world (deed_started deed) id begun) new before after id (deed_act o deed)) put did))
 
     -- what holds of what is to be done, and of nothing, holds of what the deed leaves
     deed_leaves : (P : List Todo → Type 0) → P [] → ((todo : List Todo) → P todo → P (without_all todo)) → P y.own.player.todo → (K : List MarkedBuffer) (ys : List Session) (before after : StoreTold) → sizes_in ys ≡ sizes_in xs
-        → ActedBy begun (world_of d K ys next) before after id (deed_act y.own.pattern deed) → P (own_at at ys).todo
+        → ActedBy (with_own id (λ was. own) old) (world_of d K ys next) before after id act_done → P (own_at at ys).todo
     deed_leaves P none rest holds K ys before after same did =
         let w : World = world_of d ks xs next in
-        let c : Act = deed_act y.own.pattern deed in
         let z = open_at d K ys next id at (place_same id at xs ys place same) (within_still at xs ys within same) in
-        let acts : world_of d K ys next ≡ act (with_own id (λ was. own_of y.own) w) id c did.stored = did.world ∙ ap (λ (v : World). act v id c did.stored) (changed s.own) in
         subst P z.2
-        (todo_acted P none rest w id (own_of y.own) c did.stored (session_of ks h) z.0 (session_some d ks xs next id at h place within is_h) (single_brief (own_of y.own) c (deed_single y.own.pattern deed s.here)) holds
-        (ap (λ (v : World). find_session id v.sessions) (sym acts) ∙ z.1))
+        (todo_acted P none rest w id own act_done did.stored (session_of ks h) z.0 (session_some d ks xs next id at h place within is_h) (single_brief own act_done (deed_single (own_of y.own) deed s.here)) (subst P (sym (started_todo (deed_started deed) (own_of y.own))) holds)
+        (ap (λ (v : World). find_session id v.sessions) (sym did.world) ∙ z.1))
 
-    pub acted_less : (K : List MarkedBuffer) (ys : List Session) (before after : StoreTold) → sizes_in ys ≡ sizes_in xs → ActedBy begun (world_of d K ys next) before after id (deed_act (own_at at (slice_set xs at y)).pattern deed) → IsLess (own_at at xs).todo (own_at at ys).todo
-    acted_less K ys before after same did =
-        let left = deed_leaves (IsWithin (weight y.own.player.todo)) (omega arith, refl) (without_within (weight y.own.player.todo)) (omega arith, s.left.1) K ys before after same
-        (subst (λ (p : List ℕ). ActedBy (world_of d ks (slice_set xs at y) next) (world_of d K ys next) before after id (deed_act p deed)) pattern_put did) in
+    pub acted_less : (K : List MarkedBuffer) (ys : List Session) (before after : StoreTold) (kind : Kind) (playing : Bool) (k : Keyed) → k ≡ keyed.Done → sizes_in ys ≡ sizes_in xs
+        → DeedBy (world_of d ks (slice_set xs at y) next) (world_of d K ys next) before after id (deed_started deed) (may_want_memory deed) (deed_act (own_at at (slice_set xs at y)) deed) (put_back (buffers_of ks) (before_of deed) kind playing) k
+        → IsLess (own_at at xs).todo (own_at at ys).todo
+    acted_less K ys before after kind playing k is same h =
+        let new : World = world_of d K ys next in
+        let did = deed_done begun new before after id (deed_started deed) (may_want_memory deed) (deed_act (own_at at (slice_set xs at y)) deed) (put_back (buffers_of ks) (before_of deed) kind playing) k is h in
+        let left = deed_leaves (IsWithin (weight y.own.player.todo)) (omega arith, refl) (without_within (weight y.own.player.todo)) (omega arith, s.left.1) K ys before after same (done_from new before after did) in
         subst (λ (todo : List Todo). IsLess todo (own_at at ys).todo) (sym todo_there) (omega (arith, left.0, s.left.0), left.1)
 
-    acted_turn : (K : List MarkedBuffer) (ys : List Session) (before after : StoreTold) → sizes_in ys ≡ sizes_in xs → ActedBy begun (world_of d K ys next) before after id (deed_act y.own.pattern deed) → TurnDone (is_played (own_at at xs).todo) (own_at at ys).todo old (world_of d K ys next) before after id
-    acted_turn K ys before after same did =
-        let w : World = world_of d K ys next in
-        record {
-          own = own_of y.own;
-          act = Some (deed_act y.own.pattern deed);
-          turn = deed_turn;
-          done = (
-            s.playing ∙ sym (ap is_played todo_there),
-            λ typed. deed_leaves (λ (todo : List Todo). todo ≡ []) refl (λ todo e. ap without_all e) (s.typed (sym (ap is_played todo_there) ∙ typed)) K ys before after same did,
-            subst (λ (v : World). ActedBy v w before after id (deed_act y.own.pattern deed)) (changed s.own) did,
-          );
-        }
+    acted_turn : (K : List MarkedBuffer) (ys : List Session) (before after : StoreTold) → sizes_in ys ≡ sizes_in xs → ActedBy (with_own id (λ was. own) old) (world_of d K ys next) before after id act_done → TurnDone (is_played (own_at at xs).todo) (own_at at ys).todo old (world_of d K ys next) before after id
+    acted_turn K ys before after same did = record {
+      own = own;
+      act = Some act_done;
+      turn = deed_turn;
+      done = (
+        started_playing (deed_started deed) (own_of y.own) ∙ s.playing ∙ sym (ap is_played todo_there),
+        λ typed. deed_leaves (λ (todo : List Todo). todo ≡ []) refl (λ todo e. ap without_all e) (s.typed (sym (ap is_played todo_there) ∙ typed)) K ys before after same did,
+        did,
+      );
+    }
 
-    refused_turn : (new : World) (before after : StoreTold) → DeedRefused begun new before after id (deed_act y.own.pattern deed) (refused_again (prompt_of deed) h.own.kind h.own.player.playing) → TurnRefused old new before after id
+    -- what was there before is there again in the session as it was before the turn
+    back : may_want_memory deed ≡ true → (let f : model.Session → model.Session = put_back (buffers_of ks) (before_of deed) h.own.kind h.own.player.playing in f (own_set (λ was. own_of y.own) (session_of ks h)) ≡ own_set refused_own (session_of ks h))
+    back wants =
+        let found : search_of (buffers_of ks) (search_before (before_of deed)) ≡ cond (searches (own_of h.own).mode) (search_of (buffers_of ks) h.own.search) None =
+        ap (search_of (buffers_of ks)) (s.search wants) ∙ search_still (buffers_of ks) h.own.search h.own.prompt in
+        λ i. record (session_of ks h) { search = found i; own = s.again wants i }
+
+    refused_turn : (new : World) (before after : StoreTold) → DeedRefused begun new before after id (may_want_memory deed) act_done (put_back (buffers_of ks) (before_of deed) h.own.kind h.own.player.playing) → TurnRefused old new before after id
     refused_turn new before after r =
         let w : World = world_of d ks xs next in
-        let f : model.Own → model.Own = refused_again (prompt_of deed) h.own.kind h.own.player.playing in
-        let left : model.Own = refused_own (own_of h.own) in
+        let f : model.Session → model.Session = put_back (buffers_of ks) (before_of deed) h.own.kind h.own.player.playing in
+        let g : model.Session → model.Session = own_set (λ was. own_of y.own) in
         record {
-          own = own_of y.own;
-          act = deed_act y.own.pattern deed;
+          own = own;
+          act = act_done;
           turn = deed_turn;
           told =
               r.told
-              ∙ ap (with_own id f) (changed s.own)
-              ∙ own_both id f (own_of y.own) w (session_of ks h) (session_some d ks xs next id at h place within is_h) (modes_still (prompt_of deed))
-              ∙ ap (λ (o : model.Own). with_own id (λ was. o) w) s.again
+              ∙ ap (world_back (buffers_of ks) (before_of deed) h.own.kind h.own.player.playing id) (changed s.own s.stays)
               ∙ ap (λ (zs : List model.Session). record w { sessions = zs })
-              (change_first_found (has_id id) (own_set (λ was. left)) (own_set refused_own) (session_of ks h) w.sessions (session_some d ks xs next id at h place within is_h) refl);
-          may = sym (ap (λ (v : World). may_be_refused (outcome_in v id (deed_act y.own.pattern deed) true)) (changed s.own)) ∙ r.may;
+              (change_twice (has_id id) f g (λ (x : model.Session). f (g x)) (λ x. refl) (λ x. refl) w.sessions
+              ∙ change_first_found (has_id id) (λ (x : model.Session). f (g x)) (own_set refused_own) (session_of ks h) w.sessions (session_some d ks xs next id at h place within is_h) (back r.wants));
+          may =
+              ap (λ (o : model.Own). may_be_refused (outcome_in (with_own id (λ was. o) w) id act_done true)) (unstarted deed (own_of y.own) r.wants)
+              ∙ sym (ap (λ (v : World). may_be_refused (outcome_in v id act_done true)) (changed s.own s.stays))
+              ∙ r.may;
           accepted = r.accepted;
         }
 
     pub deed_turned : (K : List MarkedBuffer) (ys : List Session) (before after : StoreTold) (kind : Kind) (playing : Bool) (k : Keyed) → kind ≡ h.own.kind → playing ≡ h.own.player.playing → sizes_in ys ≡ sizes_in xs
-        → DeedBy (world_of d ks (slice_set xs at y) next) (world_of d K ys next) before after id (deed_act (own_at at (slice_set xs at y)).pattern deed) (refused_again (prompt_of deed) kind playing) k
+        → DeedBy (world_of d ks (slice_set xs at y) next) (world_of d K ys next) before after id (deed_started deed) (may_want_memory deed) (deed_act (own_at at (slice_set xs at y)) deed) (put_back (buffers_of ks) (before_of deed) kind playing) k
         → TurnedBy (is_played (own_at at xs).todo) (own_at at ys).todo (world_of d ks xs next) (world_of d K ys next) before after id k
     deed_turned K ys before after kind playing keyed.Done of_kind of_play same did =
-        acted_turn K ys before after same (subst (λ (p : List ℕ). ActedBy (world_of d ks (slice_set xs at y) next) (world_of d K ys next) before after id (deed_act p deed)) pattern_put did)
+        acted_turn K ys before after same (done_from (world_of d K ys next) before after did)
     deed_turned K ys before after kind playing keyed.Short of_kind of_play same r =
         let begin : World = world_of d ks (slice_set xs at y) next in
         let new : World = world_of d K ys next in
         refused_turn new before after
-        (subst (λ (b : Bool). DeedRefused begin new before after id (deed_act y.own.pattern deed) (refused_again (prompt_of deed) h.own.kind b)) of_play
-        (subst (λ (c : Kind). DeedRefused begin new before after id (deed_act y.own.pattern deed) (refused_again (prompt_of deed) c playing)) of_kind
-        (subst (λ (p : List ℕ). DeedRefused begin new before after id (deed_act p deed) (refused_again (prompt_of deed) kind playing)) pattern_put r)))
+        (subst (λ (b : Bool). DeedRefused begin new before after id (may_want_memory deed) act_done (put_back (buffers_of ks) (before_of deed) h.own.kind b)) of_play
+        (subst (λ (c : Kind). DeedRefused begin new before after id (may_want_memory deed) act_done (put_back (buffers_of ks) (before_of deed) c playing)) of_kind
+        (subst (λ (o : model.Own). DeedRefused begin new before after id (may_want_memory deed) (deed_act o deed) (put_back (buffers_of ks) (before_of deed) kind playing)) put r)))
     deed_turned K ys before after kind playing keyed.Quit of_kind of_play same e = absurd e
     deed_turned K ys before after kind playing keyed.NoSession of_kind of_play same e = absurd e

@@ -1,22 +1,26 @@
 -- What the store tells of an act, of one that saves and of one that does not.
-use Rattle.std.proofs.Common.{◌≡◌, ◌||◌, ℕ, Bool, true, false, [], Option, refl, sym, ap, ◌∙◌, subst}
+use Rattle.std.proofs.Common.{◌≡◌, ◌||◌, ℕ, Bool, true, false, [], Option, Some, refl, sym, ap, ◌∙◌, subst}
 use Rattle.std.specs.List.{flat_map}
 use Rattle.mgs_model.specs.World.{World}
 use Rattle.mgs_model.specs.Outcome.{Act}
 use Rattle.mgs_model.specs.Outcome as outcomes
 use Rattle.mgs_model.specs.Apply.{act, outcome_in}
-use Rattle.mgs_model.specs.Events.{act_effects, may_be_refused, saved_by}
+use Rattle.mgs_model.specs.Events.{act_effects, may_be_refused, saved_by, with_own}
 use Rattle.mgs_model.specs.declared.errors.Keyed.{Keyed}
-use Rattle.mgs_model.specs.declared.session.Command.TheVariants.{SaveBuffer}
+use Rattle.mgs_model.specs.declared.search.Direction.{Direction}
+use Rattle.mgs_model.specs.declared.session.Command.TheVariants.{Move, SaveBuffer}
+use Rattle.mgs_model.specs.declared.session.Motion.{Motion}
+use Rattle.mgs_model.specs.declared.session.Motion.TheVariants.{StartSearch}
 use Rattle.mgs_model.proofs.Saves.{is_save, act_saves_none}
 use Rattle.mgs_store.specs.Stores.{StoreTold}
 use Rattle.mgs_store.proofs.Told.{told_none}
 use Rattle.mgs_act.specs.declared.acts.KeyAct.{KeyAct}
 use Rattle.mgs_act.specs.declared.acts.KeyAct.TheVariants.{Unbound, Run}
 use Rattle.mgs_act.specs.Actions.{act_of, is_done_here}
+use Rattle.mgs_act.specs.Beginning.{searching_own}
 use Rattle.mgs_act.specs.Saving.{SavedBy}
 use Rattle.mgs_core.specs.Kept.{Kept}
-use Rattle.mgs_core.specs.Steps.{ActedBy, KeyedBy, asks_store, is_acted}
+use Rattle.mgs_core.specs.Steps.{ActedBy, KeyedBy, asks_store, is_plain_act, started_by, started_in_motion, started_world}
 
 -- what is done by the act is no save
 done_saves_none : (a : KeyAct) → is_done_here a ≡ true → is_save (act_of a) ≡ false
@@ -34,8 +38,26 @@ acted_quietly old new t id a here world = record {
 }
 
 -- what does not ask it is done as any other act
-pub done_else : (a : KeyAct) → is_acted a ≡ true → asks_store a ≡ false → is_done_here a ≡ true
+pub done_else : (a : KeyAct) → is_plain_act a ≡ true → asks_store a ≡ false → is_done_here a ≡ true
 done_else a acts none = sym (ap (λ (b : Bool). b || is_done_here a) none) ∙ acts
+
+-- a search that starts, whatever the argument of its act
+started_motion : (old new : World) (t : StoreTold) (id : ℕ) (c : Motion) (n : Option ℕ) (d : Direction) → started_in_motion c ≡ Some d → ((m : Option ℕ) → new ≡ act (with_own id (searching_own d) old) id (outcomes.Run (Move (StartSearch d)) m []) true) → ActedBy (started_world (started_in_motion c) id old) new t t id (outcomes.Run (Move c) n [])
+started_motion old new t id (StartSearch e) n d is world =
+    let same : e ≡ d = cc in
+    record {
+      stored = true;
+      world = world n ∙ sym (ap (λ (k : Direction). act (with_own id (searching_own k) old) id (outcomes.Run (Move (StartSearch k)) n []) true) same);
+      fault = λ e. cc;
+      saves =
+          told_none t.accepted (flat_map saved_by (act_effects (with_own id (searching_own e) old) id (outcomes.Run (Move (StartSearch e)) n []) true)) (act_saves_none (with_own id (searching_own e) old) id (outcomes.Run (Move (StartSearch e)) n []) true refl);
+    }
+started_motion old new t id _ n d is world = cc
+
+pub started_quietly : (old new : World) (t : StoreTold) (id : ℕ) (a : KeyAct) (d : Direction) → started_by a ≡ Some d → ((m : Option ℕ) → new ≡ act (with_own id (searching_own d) old) id (outcomes.Run (Move (StartSearch d)) m []) true) → ActedBy (started_world (started_by a) id old) new t t id (act_of a)
+started_quietly old new t id Unbound d is world = cc
+started_quietly old new t id (Run (Move c) n) d is world = started_motion old new t id c n d is world
+started_quietly old new t id (Run _ n) d is world = cc
 
 -- a save, whatever its argument
 pub acted_saving : (old new : World) (before after : StoreTold) (id : ℕ) (a : KeyAct) → asks_store a ≡ true → ((n : Option ℕ) → SavedBy old new before after id n) → ActedBy old new before after id (act_of a)

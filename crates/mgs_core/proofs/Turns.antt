@@ -1,9 +1,12 @@
 -- What a turn makes of a session by itself: the next of what it has to do.
-use Rattle.std.proofs.Common.{◌≡◌, ℕ, ◌+◌, Bool, true, false, List, [], ◌∷◌, refl, sym, ap, subst, ◌∙◌, arith}
+use Rattle.std.proofs.Common.{◌≡◌, ℕ, ◌+◌, Bool, true, false, cond, List, [], ◌∷◌, Option, Some, None, refl, sym, ap, subst, ◌∙◌, arith}
 use Rattle.mgs_model.specs.Access.{Directory}
 use Rattle.mgs_model.specs.World.{Todo, Typed, Played, Replace_all, Play}
 use Rattle.mgs_model.specs.World as model
 use Rattle.mgs_model.specs.View.{View}
+use Rattle.mgs_model.specs.Outcome.{Act}
+use Rattle.mgs_model.specs.Apply.{searches}
+use Rattle.mgs_model.specs.declared.search.Direction.{Direction}
 use Rattle.mgs_model.specs.Plans.{failed_own}
 use Rattle.mgs_model.specs.Turns.{Turn, Keep, Do, byte_turn, first_played, todo_turn}
 use Rattle.mgs_model.specs.declared.message.Message.TheVariants.{Silent}
@@ -11,15 +14,19 @@ use Rattle.mgs_model.specs.declared.session.Kind.{Kind}
 use Rattle.mgs_model.specs.declared.session.Kind.TheVariants.{Other}
 use Rattle.mgs_buffers.specs.MarkedBuffer.{MarkedBuffer}
 use Rattle.mgs_session.specs.declared.Session.{Session}
+use Rattle.mgs_session.specs.declared.search.Search.{Search}
 use Rattle.mgs_session.specs.declared.playing.Task.TheVariants as tasks
 use Rattle.mgs_session.specs.Playing.{IsNext, Playing, are_played}
 use Rattle.mgs_session.specs.Sessions.{acted, playing_as}
-use Rattle.mgs_world.specs.Worlds.{idle, mode_in, own_of}
+use Rattle.mgs_world.specs.Worlds.{mode_in, own_of, search_of}
 use Rattle.mgs_core.specs.declared.deeds.Deed.{Deed}
+use Rattle.mgs_core.specs.declared.deeds.Deed.TheVariants as deeds
 use Rattle.mgs_core.specs.declared.keying.ByteStep.{ByteStep}
 use Rattle.mgs_core.specs.declared.keying.ByteStep.TheVariants.{Kept, Failed, Ends, Acts}
 use Rattle.mgs_core.specs.Prompted.{own_turn}
-use Rattle.mgs_core.specs.Stepped.{IsByteStep, IsFirstStep, IsLeft, IsStep, IsTurnStep, SeesNames, deed_act, prompt_of, refused_again}
+use Rattle.mgs_core.specs.Stepped.{IsByteStep, IsFirstStep, IsLeft, IsReady, IsStep, IsTurnStep, SearchStays, SeesNames, before_of, deed_act, deed_started, refused_again}
+use Rattle.mgs_core.specs.Steps.{started_own}
+use Rattle.mgs_core.proofs.Begun.{search_still}
 use Rattle.mgs_core.specs.Turned.{IsLess, IsWithin, is_played, weight}
 
 pub played_of : (todo : List Todo) → are_played todo ≡ true → is_played todo ≡ true
@@ -32,6 +39,23 @@ played_of (Play ∷ todo) h = cc
 never : {X : Type 0} (b : Bool) → b ≡ true → b ≡ false → X
 never true e f = cc
 never false e f = cc
+
+-- THE KIND OF THE LAST COMMAND is no part of what a deed is
+ready_other : (deed : Deed) (s : Option Search) (o : model.Own) → IsReady deed s o → IsReady deed s (record o { kind = Other })
+ready_other (deeds.Act a b) s o h = ap (λ (p : model.Own). record p { kind = Other }) h
+ready_other (deeds.Answer p n) s o h = ap (λ (p : model.Own). record p { kind = Other }) h
+ready_other (deeds.Seek step) s o h = h
+ready_other deeds.QuitSearch s o h = tt
+
+act_other : (deed : Deed) (o : model.Own) → deed_act o deed ≡ deed_act (record o { kind = Other }) deed
+act_other (deeds.Act a b) o = refl
+act_other (deeds.Answer p n) o = refl
+act_other (deeds.Seek step) o = refl
+act_other deeds.QuitSearch o = refl
+
+started_other : (d : Option Direction) (o : model.Own) → record (started_own d o) { kind = Other } ≡ started_own d (record o { kind = Other })
+started_other None o = refl
+started_other (Some d) o = refl
 
 -- THE FIRST BYTE of a play
 
@@ -47,6 +71,7 @@ module _ (d : Directory) (ks : List MarkedBuffer) (own : model.Own) (x y new : S
             is
             ∙ ap (playing_as p) s.own
             ∙ sym (ap (λ (z : Session). record x { own = z.own }) is);
+        stays = subst (λ (z : Session). SearchStays x.own z.own) (sym is) s.stays;
         turn = λ v sees.
             ap (first_played own) (s.turn v sees)
             ∙ sym (ap (λ (q : Playing). Keep (own_of (record y.own { player = q }))) begins)
@@ -62,23 +87,25 @@ module _ (d : Directory) (ks : List MarkedBuffer) (own : model.Own) (x y new : S
             is
             ∙ ap (acted Other) s.own
             ∙ sym (ap (λ (z : Session). record x { own = z.own }) is);
-        fresh =
-            ap (λ (z : Session). own_of z.own) is
-            ∙ ap (λ (o : model.Own). record o { kind = Other }) s.fresh
-            ∙ sym (ap (λ (z : Session). idle (own_of z.own)) is);
+        stays = subst (λ (z : Session). SearchStays x.own z.own) (sym is) s.stays;
+        ready = subst (λ (z : Session). IsReady deed z.own.search (own_of z.own)) (sym is) (ready_other deed y.own.search (own_of y.own) s.ready);
         here = s.here;
         turn = λ asked v sees.
             ap (first_played own) (s.turn asked v sees)
-            ∙ sym (ap (λ (z : Session). Do (own_of z.own) (deed_act z.own.pattern deed)) is);
+            ∙ ap (λ (o : model.Own). Do o (deed_act (own_of y.own) deed)) (started_other (deed_started deed) (own_of y.own))
+            ∙ ap (λ (a : Act). Do (started_own (deed_started deed) (record (own_of y.own) { kind = Other })) a) (act_other deed (own_of y.own))
+            ∙ sym (ap (λ (z : Session). Do (started_own (deed_started deed) (own_of z.own)) (deed_act (own_of z.own) deed)) is);
         playing = ap (λ (z : Session). z.own.player.playing) is ∙ s.playing ∙ plays;
         typed = λ e. cc;
         left = subst (IsWithin (1 + weight x.own.player.todo)) (sym (ap (λ (z : Session). z.own.player.todo) is)) (omega (arith, within.0), within.1);
-        again = ap (λ (z : Session). refused_again (prompt_of deed) x.own.kind x.own.player.playing (own_of z.own)) is ∙ s.again;
+        again = λ wants. ap (λ (z : Session). refused_again (before_of deed) x.own.kind x.own.player.playing (own_of z.own)) is ∙ s.again wants;
+        search = s.search;
       }
 
   first_failed : IsByteStep d ks x new byte Failed → IsFirstStep d ks own x new byte Failed
   first_failed s = record {
     own = s.own;
+    stays = s.stays;
     before = record s.before { kind = Other };
     act = s.act;
     message = s.message;
@@ -100,9 +127,10 @@ module _ (d : Directory) (ks : List MarkedBuffer) (own : model.Own) (x y new : S
 -- A TURN
 
 step_from : (Sees : View → Type 0) (comes mine : View → Turn) (a b : Bool) (Left Mine : List Todo → Type 0) (q : Playing) (x new : Session) → ((v : View) → mine v ≡ comes v) → b ≡ a → ((todo : List Todo) → Left todo → Mine todo) → (step : ByteStep) → IsStep Sees comes a Left (playing_as q x) new step → IsStep Sees mine b Mine x new step
-step_from Sees comes mine a b Left Mine q x new same is less Kept s = record { own = s.own; turn = λ v sees. same v ∙ s.turn v sees; left = less new.own.player.todo s.left }
+step_from Sees comes mine a b Left Mine q x new same is less Kept s = record { own = s.own; stays = s.stays; turn = λ v sees. same v ∙ s.turn v sees; left = less new.own.player.todo s.left }
 step_from Sees comes mine a b Left Mine q x new same is less Failed s = record {
   own = s.own;
+  stays = s.stays;
   before = s.before;
   act = s.act;
   message = s.message;
@@ -115,6 +143,7 @@ step_from Sees comes mine a b Left Mine q x new same is less Failed s = record {
 }
 step_from Sees comes mine a b Left Mine q x new same is less Ends s = record {
   own = s.own;
+  stays = s.stays;
   before = s.before;
   argument = s.argument;
   turn = λ v sees. same v ∙ s.turn v sees;
@@ -123,13 +152,15 @@ step_from Sees comes mine a b Left Mine q x new same is less Ends s = record {
 }
 step_from Sees comes mine a b Left Mine q x new same is less (Acts deed) s = record {
   own = s.own;
-  fresh = s.fresh;
+  stays = s.stays;
+  ready = s.ready;
   here = s.here;
   turn = λ asked v sees. same v ∙ s.turn asked v sees;
   playing = s.playing ∙ sym is;
   typed = λ e. s.typed (sym is ∙ e);
   left = less new.own.player.todo s.left;
-  again = ap (λ (o : model.Own). record o { playing = x.own.player.playing }) s.again;
+  again = λ wants. ap (λ (o : model.Own). record o { playing = x.own.player.playing }) (s.again wants);
+  search = s.search;
 }
 
 module _ (d : Directory) (ks : List MarkedBuffer) (x y new : Session) (taken : y ≡ playing_as y.own.player x) where
@@ -140,8 +171,8 @@ module _ (d : Directory) (ks : List MarkedBuffer) (x y new : Session) (taken : y
   comes_of byte v = own_turn v (playing_as y.own.player x).own byte
 
   -- what comes of a byte, whether it was typed or a macro's
-  byte_comes : (byte : ℕ) (playing : Bool) (v : View) → y.own.player.playing ≡ playing → byte_turn v (record (own_of x.own) { echo = Silent; playing = playing; todo = y.own.player.todo }) byte (mode_in x.own.prompt) ≡ comes_of byte v
-  byte_comes byte playing v is = sym (ap (λ (b : Bool). byte_turn v (record (own_of x.own) { echo = Silent; playing = b; todo = y.own.player.todo }) byte (mode_in x.own.prompt)) is)
+  byte_comes : (byte : ℕ) (playing : Bool) (v : View) → y.own.player.playing ≡ playing → byte_turn v (record (own_of x.own) { echo = Silent; playing = playing; todo = y.own.player.todo }) byte (mode_in x.own.search x.own.prompt) ≡ comes_of byte v
+  byte_comes byte playing v is = sym (ap (λ (b : Bool). byte_turn v (record (own_of x.own) { echo = Silent; playing = b; todo = y.own.player.todo }) byte (mode_in x.own.search x.own.prompt)) is)
 
   pub typed_turn : (byte : ℕ) (step : ByteStep) → IsNext (tasks.Typed byte) x.own.player y.own.player → IsByteStep d ks y new byte step → IsTurnStep d ks x new step
   typed_turn byte step next s =
@@ -179,6 +210,7 @@ module _ (d : Directory) (ks : List MarkedBuffer) (x y new : Session) (taken : y
       let none : new.own.player.todo ≡ [] = ap (λ (z : Session). z.own.player.todo) done ∙ next.taken in
       record {
         own = done ∙ sym (ap (λ (z : Session). record x { own = z.own }) done);
+        stays = λ bs. ap (λ (z : Session). search_of bs z.own.search) done ∙ search_still bs x.own.search x.own.prompt ∙ sym (ap (λ (z : Session). cond (searches (own_of z.own).mode) (search_of bs x.own.search) None) done);
         turn = λ v sees.
             ap (todo_turn v (own_of x.own)) all
             ∙ (λ i. Keep (record (own_of x.own) { kind = Other; playing = sym next.playing i; todo = sym next.taken i }))

@@ -17,4 +17,4 @@ names_for directory user ks c = cond (names_buffers c) (granted_names directory 
 
 -- what a byte comes to: each empties the echo line first
 abbrev pub own_turn : View → Own → ℕ → Turn
-own_turn v own byte = byte_turn v (record (own_of own) { echo = Silent }) byte (mode_in own.prompt)
+own_turn v own byte = byte_turn v (record (own_of own) { echo = Silent }) byte (mode_in own.search own.prompt)

@@ -1,8 +1,8 @@
 -- One turn of an event: of what a session has still to do, the next is done.
 use Rattle.std.specs.Prelude.{◌≡◌, ◌≤◌, ◌<◌, IsSome, ℕ, ◌+◌, Bool, true, false, not, List, [], ◌∷◌, Option, Some, None, cond}
-use Rattle.mgs_model.specs.World.{World, Own, Todo, Typed, Played, Replace_all, Play, find_session}
+use Rattle.mgs_model.specs.World.{World, Session, Own, Todo, Typed, Played, Replace_all, Play, find_session, has_id}
 use Rattle.mgs_model.specs.Outcome.{Act, Run}
-use Rattle.mgs_model.specs.Apply.{outcome_in}
+use Rattle.mgs_model.specs.Apply.{change_first, outcome_in}
 use Rattle.mgs_model.specs.Turns.{Turn, Keep, Do}
 use Rattle.mgs_model.specs.Events.{begun_own, may_be_refused, refused_own, settled, turn_in, with_own}
 use Rattle.mgs_model.specs.Names.{same_name}
@@ -10,10 +10,11 @@ use Rattle.mgs_model.specs.declared.touched.Touched.{Touched}
 use Rattle.mgs_model.specs.declared.touched.Touched.TheVariants.{Nowhere, In, Anywhere}
 use Rattle.mgs_model.specs.declared.errors.Keyed.{Keyed}
 use Rattle.mgs_model.specs.declared.errors.Keyed.TheVariants as keyed
+use Rattle.mgs_model.specs.declared.search.Direction.{Direction}
 use Rattle.mgs_model.specs.declared.session.Command.TheVariants.{Exit}
 use Rattle.mgs_store.specs.Stores.{StoreTold}
 use Rattle.mgs_session.specs.Playing.{is_nothing}
-use Rattle.mgs_core.specs.Steps.{ActedBy, KeyedBy, closed}
+use Rattle.mgs_core.specs.Steps.{ActedBy, KeyedBy, closed, started_world}
 
 -- A MEASURE of what is to be done: a byte that was typed may call for all that can be played, 100 times 512 bytes and their begin
 abbrev pub weight : List Todo → ℕ
@@ -77,17 +78,19 @@ TurnedBy playing left old new before after id keyed.Short = TurnRefused old new 
 TurnedBy playing left old new before after id keyed.Quit = TurnEnds playing old new before after id
 TurnedBy playing left old new before after id keyed.NoSession = ⊥
 
--- A DEED, which is this act: it is done, or memory was refused to it and this is what the session holds
-pub record DeedRefused (old new : World) (before after : StoreTold) (id : ℕ) (c : Act) (f : Own → Own) : Type 0 where
-  pub told : new ≡ with_own id f old
+-- A DEED, which is this act: it is done, which may start a search in this direction; or memory was refused to it, if it takes any, and this is
+-- what is left of the session
+pub record DeedRefused (old new : World) (before after : StoreTold) (id : ℕ) (takes : Bool) (c : Act) (f : Session → Session) : Type 0 where
+  pub wants : takes ≡ true
+  pub told : new ≡ record old { sessions = change_first (has_id id) f old.sessions }
   pub may : may_be_refused (outcome_in old id c true) ≡ true
   pub accepted : after.accepted ≡ before.accepted
 
-abbrev pub DeedBy : World → World → StoreTold → StoreTold → ℕ → Act → (Own → Own) → Keyed → Type 0
-DeedBy old new before after id c f keyed.Done = ActedBy old new before after id c
-DeedBy old new before after id c f keyed.Short = DeedRefused old new before after id c f
-DeedBy old new before after id c f keyed.Quit = ⊥
-DeedBy old new before after id c f keyed.NoSession = ⊥
+abbrev pub DeedBy : World → World → StoreTold → StoreTold → ℕ → Option Direction → Bool → Act → (Session → Session) → Keyed → Type 0
+DeedBy old new before after id d takes c f keyed.Done = ActedBy (started_world d id old) new before after id c
+DeedBy old new before after id d takes c f keyed.Short = DeedRefused old new before after id takes c f
+DeedBy old new before after id d takes c f keyed.Quit = ⊥
+DeedBy old new before after id d takes c f keyed.NoSession = ⊥
 
 -- less is left than was, and nothing that was typed
 abbrev pub IsLess : List Todo → List Todo → Type 0

@@ -1,33 +1,49 @@
 // What a byte asks for: the act of a key, or of the answer to a prompt.
-ghost use Rattle.std.specs.Prelude.{◌≡◌, ◌<◌, ℕ, Option, IfOk, IfErr, OnOk, OnErr, length, true};
+ghost use Rattle.std.specs.Prelude.{◌≡◌, ◌<◌, ℕ, Option, None, IfOk, IfErr, OnOk, OnErr, length, true};
 ghost use Rattle.std.specs.List.{position_or_len};
 ghost use Rattle.mgs_model.specs.Apart.{Apart};
 ghost use Rattle.mgs_model.specs.Apply.{outcome_in};
 ghost use Rattle.mgs_model.specs.Events.{may_be_refused};
 ghost use Rattle.mgs_act.specs.Actions.{act_of};
+ghost use Rattle.mgs_act.specs.Beginning.{search_held};
 ghost use Rattle.mgs_store.specs.Stores.{store_told};
 ghost use Rattle.mgs_world.specs.Sound.{IsSound};
 ghost use Rattle.mgs_world.specs.Worlds.{idle, own_at, session_id, sizes_in, world_of};
-ghost use Rattle.mgs_core.specs.Steps.{ActedBy, asks_store, is_acted};
-ghost use Rattle.mgs_core.specs.Stepped.{CanDo, deed_act, is_deed_asked, prompt_of};
+ghost use Rattle.mgs_core.specs.Steps.{ActedBy, asks_store, is_acted, is_plain_act, started_by, started_in_motion, started_world};
+ghost use Rattle.mgs_core.specs.Stepped.{CanDo, IsReady, before_of, deed_act, deed_started, is_deed_asked, may_want_memory};
 
-use mgs_act::{KeyAct, act, answer, save};
+use mgs_act::{KeyAct, act, answer, quit_search, save, search_on, start_search};
 use mgs_buffers::Buffers;
 use mgs_marks::Marked;
 use mgs_mini::Prompt;
-use mgs_model::{Command, Short, Touched};
+use mgs_model::{Command, Direction, Motion, SearchStep, Short, Touched};
 use mgs_policy::Directory;
-use mgs_session::Session;
+use mgs_session::{Search, SearchString, Session};
 use mgs_store::Store;
 use std::alloc::Global;
 
-/// What is to be done for a byte by its session, which is at rest.
+/// What was there before an act. Where memory is refused to the act, it is there again.
+#[derive(Drop)]
+pub enum Before {
+    /// No mode.
+    Plain,
+    /// The prompt at which a command was named.
+    Prompt(Prompt),
+    /// The search that a byte ended, and what had been searched for last.
+    Search(Search, SearchString),
+}
+
+/// What is to be done for a byte by its session.
 #[derive(Drop)]
 pub enum Deed {
-    /// The act of a key, or of a command that was named at this prompt.
-    Act(KeyAct, Option<Prompt>),
-    /// What the question of this prompt is for, with this argument. The input is the answer, and names no command.
+    /// The act of a key, or of a command that was named. The session is at rest.
+    Act(KeyAct, Before),
+    /// What the question of this prompt is for, with this argument. The input is the answer, and names no command. The session is at rest.
     Answer(Prompt, Option<usize>),
+    /// A step of the session's search, which has read the byte.
+    Seek(SearchStep),
+    /// The session's search is quit.
+    QuitSearch,
 }
 
 /// Whether an act asks the store.
@@ -40,8 +56,31 @@ fn asks_store(done: KeyAct) -> bool
     }
 }
 
-/// Does an act of the session at `at`: a save as `save` says, and any other as `act` says.
-fn do_act<T: Marked + Drop, S: Store>(
+/// The direction of a search that a motion starts.
+fn started_in_motion(motion: Motion) -> Option<Direction>
+    ensures { result ≡ started_in_motion motion }
+{
+    match motion {
+        Motion::StartSearch(direction) => Some(direction),
+        _ => None,
+    }
+}
+
+/// The direction of a search that an act starts.
+fn started_by(done: KeyAct) -> Option<Direction>
+    ensures { result ≡ started_by done }
+{
+    match done {
+        KeyAct::Run(command, _) => match command {
+            Command::Move(motion) => started_in_motion(motion),
+            _ => None,
+        },
+        KeyAct::Unbound => None,
+    }
+}
+
+/// Does an act of the session at `at` that starts no search: a save as `save` says, and any other as `act` says.
+fn do_plain_act<T: Marked + Drop, S: Store>(
     alloc: Global,
     buffers: &mut Buffers<T>,
     directory: &Directory,
@@ -53,7 +92,7 @@ fn do_act<T: Marked + Drop, S: Store>(
     requires sound { IsSound buffers.old sessions.old }
     requires within { at < length sessions.old }
     requires fresh { own_at at sessions.old ≡ idle (own_at at sessions.old) }
-    requires here { is_acted done ≡ true }
+    requires here { is_plain_act done ≡ true }
     ensures sound { IsSound buffers.new sessions.new }
     ensures sizes { sizes_in sessions.new ≡ sizes_in sessions.old }
     ensures ok { OnOk result ((id : ℕ) (next : Option ℕ) → at ≡ position_or_len (session_id id) sessions.old → ActedBy (world_of directory.now buffers.old sessions.old next) (world_of directory.now buffers.new sessions.new next) (store_told S.failed S.accepted store.old) (store_told S.failed S.accepted store.new) id (act_of done)) }
@@ -74,8 +113,39 @@ fn do_act<T: Marked + Drop, S: Store>(
     }
 }
 
-/// Does what is to be done, by the session at `at`. The error is the prompt that was there before it: memory was refused, and nothing of
-/// it was done.
+/// Does an act of the session at `at`: a search that starts takes no memory.
+fn do_act<T: Marked + Drop, S: Store>(
+    alloc: Global,
+    buffers: &mut Buffers<T>,
+    directory: &Directory,
+    sessions: &mut [Session],
+    at: usize,
+    store: &mut S,
+    done: KeyAct,
+) -> Result<Touched, Short>
+    requires sound { IsSound buffers.old sessions.old }
+    requires within { at < length sessions.old }
+    requires fresh { own_at at sessions.old ≡ idle (own_at at sessions.old) }
+    requires here { is_acted done ≡ true }
+    ensures sound { IsSound buffers.new sessions.new }
+    ensures sizes { sizes_in sessions.new ≡ sizes_in sessions.old }
+    ensures ok { OnOk result ((id : ℕ) (next : Option ℕ) → at ≡ position_or_len (session_id id) sessions.old → ActedBy (started_world (started_by done) id (world_of directory.now buffers.old sessions.old next)) (world_of directory.now buffers.new sessions.new next) (store_told S.failed S.accepted store.old) (store_told S.failed S.accepted store.new) id (act_of done)) }
+    ensures touched { IfOk result (λ touched. (id : ℕ) (next : Option ℕ) → at ≡ position_or_len (session_id id) sessions.old → Apart touched id (world_of directory.now buffers.old sessions.old next) (world_of directory.now buffers.new sessions.new next)) }
+    ensures wants { OnErr result (started_by done ≡ None) }
+    ensures err { OnErr result ((next : Option ℕ) → world_of directory.now buffers.new sessions.new next ≡ world_of directory.now buffers.old sessions.old next) }
+    ensures accepted { OnErr result (S.accepted store.new ≡ S.accepted store.old) }
+    ensures may { OnErr result ((id : ℕ) (next : Option ℕ) → at ≡ position_or_len (session_id id) sessions.old → may_be_refused (outcome_in (world_of directory.now buffers.old sessions.old next) id (act_of done) true) ≡ true) }
+{
+    match started_by(done) {
+        Some(direction) => {
+            start_search(buffers, directory, sessions, at, direction);
+            Ok(Touched::Nowhere)
+        }
+        None => do_plain_act(alloc, buffers, directory, sessions, at, store, done),
+    }
+}
+
+/// Does what is to be done, by the session at `at`. The error is what was there before it: memory was refused, and nothing of it was done.
 pub fn do_deed<T: Marked + Drop, S: Store>(
     alloc: Global,
     buffers: &mut Buffers<T>,
@@ -84,26 +154,27 @@ pub fn do_deed<T: Marked + Drop, S: Store>(
     at: usize,
     store: &mut S,
     deed: Deed,
-) -> Result<Touched, Option<Prompt>>
+) -> Result<Touched, Before>
     requires sound { IsSound buffers.old sessions.old }
     requires within { at < length sessions.old }
-    requires fresh { own_at at sessions.old ≡ idle (own_at at sessions.old) }
+    requires ready { IsReady deed (search_held at sessions.old) (own_at at sessions.old) }
     requires here { CanDo deed }
     ensures asked { is_deed_asked deed ≡ true }
     ensures sound { IsSound buffers.new sessions.new }
     ensures sizes { sizes_in sessions.new ≡ sizes_in sessions.old }
-    ensures ok { OnOk result ((id : ℕ) (next : Option ℕ) → at ≡ position_or_len (session_id id) sessions.old → ActedBy (world_of directory.now buffers.old sessions.old next) (world_of directory.now buffers.new sessions.new next) (store_told S.failed S.accepted store.old) (store_told S.failed S.accepted store.new) id (deed_act (own_at at sessions.old).pattern deed)) }
+    ensures ok { OnOk result ((id : ℕ) (next : Option ℕ) → at ≡ position_or_len (session_id id) sessions.old → ActedBy (started_world (deed_started deed) id (world_of directory.now buffers.old sessions.old next)) (world_of directory.now buffers.new sessions.new next) (store_told S.failed S.accepted store.old) (store_told S.failed S.accepted store.new) id (deed_act (own_at at sessions.old) deed)) }
     ensures touched { IfOk result (λ touched. (id : ℕ) (next : Option ℕ) → at ≡ position_or_len (session_id id) sessions.old → Apart touched id (world_of directory.now buffers.old sessions.old next) (world_of directory.now buffers.new sessions.new next)) }
-    ensures prompt { IfErr result (λ prompt. prompt ≡ prompt_of deed) }
+    ensures before { IfErr result (λ before. before ≡ before_of deed) }
+    ensures wants { OnErr result (may_want_memory deed ≡ true) }
     ensures err { OnErr result ((next : Option ℕ) → world_of directory.now buffers.new sessions.new next ≡ world_of directory.now buffers.old sessions.old next) }
     ensures accepted { OnErr result (S.accepted store.new ≡ S.accepted store.old) }
-    ensures may { OnErr result ((id : ℕ) (next : Option ℕ) → at ≡ position_or_len (session_id id) sessions.old → may_be_refused (outcome_in (world_of directory.now buffers.old sessions.old next) id (deed_act (own_at at sessions.old).pattern deed) true) ≡ true) }
+    ensures may { OnErr result ((id : ℕ) (next : Option ℕ) → at ≡ position_or_len (session_id id) sessions.old → may_be_refused (outcome_in (world_of directory.now buffers.old sessions.old next) id (deed_act (own_at at sessions.old) deed) true) ≡ true) }
 {
     match deed {
-        Deed::Act(done, prompt) => {
+        Deed::Act(done, before) => {
             match do_act(alloc, buffers, directory, sessions, at, store, done) {
                 Ok(touched) => Ok(touched),
-                Err(Short) => Err(prompt),
+                Err(Short) => Err(before),
             }
         }
         Deed::Answer(prompt, argument) => {
@@ -113,8 +184,16 @@ pub fn do_deed<T: Marked + Drop, S: Store>(
                 alloc, buffers, directory, sessions, at, question, argument, input,
             ) {
                 Ok(touched) => Ok(touched),
-                Err(Short) => Err(Some(prompt)),
+                Err(Short) => Err(Before::Prompt(prompt)),
             }
+        }
+        Deed::Seek(step) => {
+            search_on(buffers, directory, sessions, at, step);
+            Ok(Touched::Nowhere)
+        }
+        Deed::QuitSearch => {
+            quit_search(buffers, sessions, at);
+            Ok(Touched::Nowhere)
         }
     }
 }

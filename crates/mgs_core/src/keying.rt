@@ -4,12 +4,11 @@ ghost use Rattle.mgs_model.specs.Access.{Directory};
 ghost use Rattle.mgs_buffers.specs.MarkedBuffer.{MarkedBuffer};
 ghost use Rattle.mgs_model.specs.Plans.{count_of};
 ghost use Rattle.mgs_core.specs.Steps.{command_act, line_act, motion_act};
-ghost use Rattle.mgs_core.specs.Stepped.{IsAlone, IsByteStep, IsCommandStep, call_fault, is_call, is_exit};
+ghost use Rattle.mgs_core.specs.Stepped.{IsAlone, IsByteStep, IsCommandStep, call_fault, is_call, is_exit, is_keyed};
 
-use crate::deeds::Deed;
+use crate::deeds::{Before, Deed};
 use mgs_act::KeyAct;
 use mgs_maps::Fed;
-use mgs_mini::Prompt;
 use mgs_model::{Command, Message, Motion, Question, REPETITION_LIMIT, Setting};
 use mgs_session::{Session, call_macro, fail, hold, rest};
 
@@ -22,7 +21,7 @@ pub enum ByteStep {
     Failed,
     /// The end of the session.
     Ends,
-    /// This is to be done by the session, which is at rest.
+    /// This is to be done by the session.
     Acts(Deed),
 }
 
@@ -106,10 +105,11 @@ fn step_call(
     session: &mut Session,
     command: Command,
     argument: Option<usize>,
-    prompt: Option<Prompt>,
+    before: Before,
 ) -> ByteStep
     requires { is_call command ≡ true }
-    ensures { IsCommandStep session.old session.new command argument prompt result }
+    ensures step { IsCommandStep session.old session.new command argument before result }
+    ensures keyed { is_keyed result ≡ true }
 {
     if let Some(message) = call_fault(session, argument) {
         fail(session, message);
@@ -119,21 +119,21 @@ fn step_call(
     ByteStep::Kept
 }
 
-/// What a command comes to in a session at rest, which named it at this prompt where it was named. None ends its session while a macro
-/// plays.
+/// What a command comes to in a session at rest, in which this was there before. None ends its session while a macro plays.
 pub fn step_command(
     session: &mut Session,
     command: Command,
     argument: Option<usize>,
-    prompt: Option<Prompt>,
+    before: Before,
 ) -> ByteStep
-    ensures { IsCommandStep session.old session.new command argument prompt result }
+    ensures step { IsCommandStep session.old session.new command argument before result }
+    ensures keyed { is_keyed result ≡ true }
 {
     if is_call(command) {
-        return step_call(session, command, argument, prompt);
+        return step_call(session, command, argument, before);
     }
     if !is_exit(command) {
-        return ByteStep::Acts(Deed::Act(command_act(command, argument), prompt));
+        return ByteStep::Acts(Deed::Act(command_act(command, argument), before));
     }
     if session.own.player.is_playing() {
         fail(session, Message::InMacro);
@@ -142,11 +142,13 @@ pub fn step_command(
     ByteStep::Ends
 }
 
-/// What a key comes to in a session that is at no prompt.
+/// What a key comes to in a session that neither searches nor is at a prompt. It asks for no answer's deed, and for none of a search.
 pub fn step_key(session: &mut Session, byte: u8) -> ByteStep
+    requires still { session.old.own.search ≡ None }
     requires plain { session.old.own.prompt ≡ None }
     requires alone { IsAlone session.old.own.player }
-    ensures { (directory : Directory) (ks : List MarkedBuffer) → IsByteStep directory ks session.old session.new byte result }
+    ensures step { (directory : Directory) (ks : List MarkedBuffer) → IsByteStep directory ks session.old session.new byte result }
+    ensures keyed { is_keyed result ≡ true }
 {
     let mut keyboard = session.own.keyboard;
     match keyboard.feed(byte) {
@@ -156,11 +158,11 @@ pub fn step_key(session: &mut Session, byte: u8) -> ByteStep
         }
         Fed::Unbound => {
             rest(session);
-            ByteStep::Acts(Deed::Act(KeyAct::Unbound, None))
+            ByteStep::Acts(Deed::Act(KeyAct::Unbound, Before::Plain))
         }
         Fed::Run(command, argument) => {
             rest(session);
-            step_command(session, command, argument, None)
+            step_command(session, command, argument, Before::Plain)
         }
     }
 }

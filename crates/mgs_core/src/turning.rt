@@ -7,21 +7,21 @@ ghost use Rattle.mgs_model.specs.declared.errors.Keyed.TheVariants.{Done, Quit};
 ghost use Rattle.mgs_buffers.specs.Judging.{AreJudged, rules_kept};
 ghost use Rattle.mgs_session.specs.Playing.{are_played};
 ghost use Rattle.mgs_store.specs.Stores.{store_told};
+ghost use Rattle.mgs_act.specs.Beginning.{search_held};
 ghost use Rattle.mgs_world.specs.Sound.{IsSound};
-ghost use Rattle.mgs_world.specs.Worlds.{IsUnique, idle, own_at, session_id, sizes_in, world_of};
+ghost use Rattle.mgs_world.specs.Worlds.{IsUnique, buffers_of, own_at, session_id, sizes_in, world_of};
 ghost use Rattle.mgs_core.specs.Held.{AreSettled};
 ghost use Rattle.mgs_core.specs.Judged.{judged_touched};
-ghost use Rattle.mgs_core.specs.Stepped.{CanDo, IsFirstStep, IsTurnStep, deed_act, is_deed_asked, prompt_of, refused, refused_again};
+ghost use Rattle.mgs_core.specs.Stepped.{CanDo, IsFirstStep, IsReady, IsTurnStep, before_of, deed_act, deed_started, is_deed_asked, may_want_memory, own_before, put_back, refused};
 ghost use Rattle.mgs_core.specs.Steps.{TypedBy, closed};
 ghost use Rattle.mgs_core.specs.Turned.{DeedBy, EventBy, IsLess, TurnedBy, goes_on, is_played, touched_both, weight};
 
-use crate::deeds::{Deed, do_deed};
+use crate::deeds::{Before, Deed, do_deed};
 use crate::keying::ByteStep;
 use crate::typing::step_byte;
 use mgs_buffers::Buffers;
 use mgs_cache::Judge;
 use mgs_marks::Marked;
-use mgs_mini::Prompt;
 use mgs_model::{Keyed, Kind, Message, SessionId, Touched};
 use mgs_policy::Directory;
 use mgs_session::{Session, Task, begin, break_off, next_task, rest, set_kind};
@@ -103,13 +103,27 @@ fn next_step<T: Marked + Drop>(
     }
 }
 
-/// Memory was refused to an act: its session is at this prompt again, where there was one, with the last command's kind and a macro's play
-/// as they were, is told so, and has nothing more to do.
-fn refuse(session: &mut Session, prompt: Option<Prompt>, kind: Kind, is_playing: bool)
-    ensures { session.new ≡ refused prompt kind is_playing session.old }
+/// What was there before an act is there again.
+fn return_to(session: &mut Session, before: Before)
+    ensures { session.new ≡ record session.old { own = own_before before session.old.own } }
+{
+    match before {
+        Before::Plain => {}
+        Before::Prompt(prompt) => session.own.prompt = Some(prompt),
+        Before::Search(search, last) => {
+            session.own.search = Some(search);
+            session.own.pattern = last;
+        }
+    }
+}
+
+/// Memory was refused to an act: what was there before it is there again, with the last command's kind and a macro's play as they were, and
+/// its session is told so, and has nothing more to do.
+fn refuse(session: &mut Session, before: Before, kind: Kind, is_playing: bool)
+    ensures { session.new ≡ refused before kind is_playing session.old }
 {
     rest(session);
-    session.own.prompt = prompt;
+    return_to(session, before);
     set_kind(session, kind);
     session.own.player.set_playing(is_playing);
     break_off(session, Message::NoMemory);
@@ -142,14 +156,14 @@ fn act_turn<T: Marked + Drop, S: Store>(
     requires sound { IsSound buffers.old sessions.old }
     requires place { at ≡ position_or_len (session_id id) sessions.old }
     requires within { at < length sessions.old }
-    requires fresh { own_at at sessions.old ≡ idle (own_at at sessions.old) }
+    requires ready { IsReady deed (search_held at sessions.old) (own_at at sessions.old) }
     requires here { CanDo deed }
     requires judged { AreJudged directory.now (rules_kept buffers.old) judge.old }
     ensures asked { is_deed_asked deed ≡ true }
     ensures judged { AreJudged directory.now (rules_kept buffers.new) judge.new }
     ensures sound { IsSound buffers.new sessions.new }
     ensures sizes { sizes_in sessions.new ≡ sizes_in sessions.old }
-    ensures acted { (next : Option ℕ) → DeedBy (world_of directory.now buffers.old sessions.old next) (world_of directory.now buffers.new sessions.new next) (store_told S.failed S.accepted store.old) (store_told S.failed S.accepted store.new) id (deed_act (own_at at sessions.old).pattern deed) (refused_again (prompt_of deed) kind is_playing) result.0 }
+    ensures acted { (next : Option ℕ) → DeedBy (world_of directory.now buffers.old sessions.old next) (world_of directory.now buffers.new sessions.new next) (store_told S.failed S.accepted store.old) (store_told S.failed S.accepted store.new) id (deed_started deed) (may_want_memory deed) (deed_act (own_at at sessions.old) deed) (put_back (buffers_of buffers.old) (before_of deed) kind is_playing) result.0 }
     ensures touched { (next : Option ℕ) → Apart result.1 id (world_of directory.now buffers.old sessions.old next) (world_of directory.now buffers.new sessions.new next) }
 {
     match do_deed(alloc, buffers, directory, sessions, at, store, deed) {
@@ -157,8 +171,8 @@ fn act_turn<T: Marked + Drop, S: Store>(
             forget_touched(judge, &touched);
             (Keyed::Done, touched)
         }
-        Err(prompt) => {
-            refuse(&mut sessions[at], prompt, kind, is_playing);
+        Err(before) => {
+            refuse(&mut sessions[at], before, kind, is_playing);
             (Keyed::Short, Touched::Nowhere)
         }
     }

@@ -23,6 +23,8 @@ pub use motions::motion;
 pub use numbers::line_wanted;
 pub use plan::{Around, Case, Change, Finish, Goes, Joins, Piece, Put, Undone};
 pub use scrolling::{scroll, scrolled_row};
-pub use sizes::{is_edit, is_kill_too_large, is_too_long, is_undo_an_edit, is_undo_too_long};
+pub use sizes::{
+    is_edit, is_kill_too_large, is_too_long, is_undo_an_edit, is_undo_too_long, put_len,
+};
 pub use undoing::{undo, undo_target};
 pub use written::put_chars;

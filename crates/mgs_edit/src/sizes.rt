@@ -9,7 +9,7 @@ use mgs_model::TEXT_LIMIT;
 
 #[tactic(auto, using(crate::proofs::Lengths::length_killed))]
 /// How many characters come in, where the kill buffer has `killed`. `None`: more than a number can say.
-fn put_len(put: &Put, killed: usize) -> Option<usize>
+pub fn put_len(put: &Put, killed: usize) -> Option<usize>
     ensures some { IfSome result (λ n. (text kill : List ℕ) → PutWithin text put.now → length kill ≡ killed → length (put_read text kill put.now) ≡ n) }
     ensures none { result ≡ None → (text kill : List ℕ) → PutWithin text put.now → length kill ≡ killed → 2 ^ 64 ≤ length (put_read text kill put.now) }
 {

@@ -1,4 +1,4 @@
-use Rattle.std.proofs.Common.{ℕ, List, [], length, ◌∙◌, get_or, refl, ap, sym, subst}
+use Rattle.std.proofs.Common.{ℕ, List, [], length, ◌∙◌, get_or, ap, sym, subst}
 use Rattle.std.proofs.lemmas.List.{get_or_default}
 use Rattle.std.specs.Option.{option_and_then}
 use Rattle.std.proofs.lemmas.Option.{slice_get-get_or}

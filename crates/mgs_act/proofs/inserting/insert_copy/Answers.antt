@@ -1,32 +1,39 @@
-use Rattle.std.proofs.Common.{get_or, ◌∙◌}
-use Rattle.std.proofs.lemmas.Option.{slice_get-get_or}
+use Rattle.std.proofs.Common.{ℕ, List, Option, length, ◌∙◌, sym, ap}
+use Rattle.mgs_model.specs.Apply.{apply}
+use Rattle.mgs_buffers.specs.MarkedBuffer.{marked_at}
+use Rattle.mgs_session.specs.declared.Session.{Session}
+use Rattle.mgs_session.specs.declared.search.Edited.{Edited}
+use Rattle.mgs_world.specs.Worlds.{own_at, world_of}
+use Rattle.mgs_world.proofs.Soundness.{mark_is_kept}
+use Rattle.mgs_act.specs.Following.{edit_told, followed}
+use Rattle.mgs_act.specs.Inserting.{insertion_of, put_outcome}
 use Rattle.mgs_act.proofs.Deeds.{acting_marks}
-use Rattle.mgs_act.proofs.Insertions.{inserted_err, inserted_ok, inserted_sizes, inserted_sound}
+use Rattle.mgs_act.proofs.Followed.{sizes_kept, sound_kept}
 use Rattle.mgs_act.proofs.inserting.insert_copy.Goals as goal
 
-pub insert_marked-requires-clause-marks : goal.insert_marked-requires-clause-marks
-insert_marked-requires-clause-marks g c = acting_marks c.args.buffers.now c.args.sessions.now c.args.at c.args.window_marks.now c.requires.sound c.requires.window_marks
+pub edit_of_insertion-edit-requires-clause-kept : goal.edit_of_insertion-edit-requires-clause-kept
+edit_of_insertion-edit-requires-clause-kept g c =
+    let x = c.args.window_marks.now in
+    mark_is_kept x.name x.point c.args.buffers.now (acting_marks c.args.buffers.now c.args.sessions.now c.args.at x c.requires.sound c.requires.window_marks).point
 
 pub returns-clause-sound : goal.returns-clause-sound
 returns-clause-sound g c =
-    let xs = c.args.sessions.now in
-    let r = c.index-sessions-at.result in
-    inserted_sound c.args.buffers.now c.insert_marked.new.buffers xs c.args.at c.args.place c.deref.result.now c.args.window_marks.now (get_or xs c.args.at r) c.insert_marked.new.session (slice_get-get_or xs c.args.at r c.requires.within) c.insert_marked.result c.requires.window_marks c.insert_marked.ensures.ok c.insert_marked.ensures.err c.insert_marked.ensures.same c.requires.sound
+    rw c.follow.ensures (sound_kept c.args.window_marks.now.name c.edit_of_insertion-edit.result c.insert_unfollowed.new.buffers c.insert_unfollowed.new.sessions c.insert_unfollowed.ensures.sound)
 
 pub returns-clause-sizes : goal.returns-clause-sizes
 returns-clause-sizes g c =
-    let xs = c.args.sessions.now in
-    let r = c.index-sessions-at.result in
-    inserted_sizes c.args.buffers.now c.insert_marked.new.buffers xs c.args.at c.args.place c.deref.result.now c.args.window_marks.now (get_or xs c.args.at r) c.insert_marked.new.session (slice_get-get_or xs c.args.at r c.requires.within) c.insert_marked.result c.insert_marked.ensures.ok c.insert_marked.ensures.same
+    rw c.follow.ensures (sizes_kept c.args.window_marks.now.name c.edit_of_insertion-edit.result c.insert_unfollowed.new.sessions ∙ c.insert_unfollowed.ensures.sizes)
 
 pub returns-clause-ok : goal.returns-clause-ok
-returns-clause-ok g c =
+returns-clause-ok g c = λ directory id next place.
+    let x = c.args.window_marks.now in
+    let ks = c.args.buffers.now in
     let xs = c.args.sessions.now in
-    let r = c.index-sessions-at.result in
-    inserted_ok c.args.buffers.now c.insert_marked.new.buffers xs c.args.at c.args.place c.deref.result.now c.args.window_marks.now (get_or xs c.args.at r) c.insert_marked.new.session (slice_get-get_or xs c.args.at r c.requires.within) c.insert_marked.result c.args.source.now (c.deref.ensures.value ∙ c.in_ok-put.ensures) c.insert_marked.ensures.ok c.requires.sound c.requires.within c.requires.window_marks c.requires.fresh
-
-pub returns-clause-err : goal.returns-clause-err
-returns-clause-err g c =
-    let xs = c.args.sessions.now in
-    let r = c.index-sessions-at.result in
-    inserted_err c.args.buffers.now c.insert_marked.new.buffers xs c.args.at c.args.place c.deref.result.now c.args.window_marks.now (get_or xs c.args.at r) c.insert_marked.new.session (slice_get-get_or xs c.args.at r c.requires.within) c.insert_marked.result c.insert_marked.ensures.err c.insert_marked.ensures.same c.requires.sound
+    let size = length (marked_at x.name ks).buffer.text in
+    let same = c.deref-2.ensures.value ∙ sym c.deref.ensures.value in
+    ap (λ (ys : List Session). world_of directory c.insert_unfollowed.new.buffers ys next)
+    (c.follow.ensures
+    ∙ ap (λ (o : Option Edited). followed x.name o c.insert_unfollowed.new.sessions)
+    (c.edit_of_insertion-edit.ensures.value ∙ ap (λ (put : List ℕ). edit_told size (insertion_of c.args.place put)) (sym same)))
+    ∙ c.in_ok-insert_unfollowed.ensures.ok directory id next place
+    ∙ ap (λ (put : List ℕ). apply (world_of directory ks xs next) id (put_outcome (own_at c.args.at xs) x.name c.args.place put)) (c.deref-2.ensures.value ∙ c.in_ok-put.ensures)

@@ -1,15 +1,12 @@
-use Rattle.std.proofs.Common.{◌≡◌, ℕ, List, length, ◌∙◌, refl, sym, ap, subst}
+use Rattle.std.proofs.Common.{◌≡◌, length, ◌∙◌, refl, sym, ap, subst}
 use Rattle.mgs_model.specs.Access.{decision}
 use Rattle.mgs_model.specs.Acts.{fails, permitted}
 use Rattle.mgs_model.specs.Outcome.{Outcome}
-use Rattle.mgs_model.specs.Plans as plans
 use Rattle.mgs_model.specs.World.{Own}
 use Rattle.mgs_model.specs.declared.entry.Decision.{Decision}
 use Rattle.mgs_model.specs.declared.session.Command.TheVariants.{Move}
 use Rattle.mgs_model.specs.declared.session.Motion.TheVariants.{SearchFor}
 use Rattle.mgs_buffers.specs.MarkedBuffer.{marked_at}
-use Rattle.mgs_edit.specs.declared.plan.Around.{Around}
-use Rattle.mgs_act.specs.Actions.{around_given, mask_at}
 use Rattle.mgs_act.proofs.Plans.{denied, granted, needed}
 use Rattle.mgs_act.proofs.searching.plan.Goals as goal
 

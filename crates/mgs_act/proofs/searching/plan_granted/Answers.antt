@@ -1,4 +1,4 @@
-use Rattle.std.proofs.Common.{◌≡◌, ℕ, List, length, sym, ap, ◌∙◌, subst}
+use Rattle.std.proofs.Common.{◌≡◌, ℕ, List, ap, ◌∙◌, subst}
 use Rattle.mgs_model.specs.Acts.{moved_by}
 use Rattle.mgs_model.specs.Plans.{motion}
 use Rattle.mgs_model.specs.declared.session.Motion.TheVariants.{SearchFor}

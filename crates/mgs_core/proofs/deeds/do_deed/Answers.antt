@@ -5,19 +5,28 @@ use Rattle.mgs_world.specs.Worlds.{own_at, world_of}
 use Rattle.mgs_core.specs.declared.deeds.Deed.{Deed}
 use Rattle.mgs_core.specs.Stepped.{deed_act}
 use Rattle.mgs_core.proofs.Prompted.{answer_may, answer_quietly}
+use Rattle.mgs_core.proofs.Taken.{quit_quietly, sought_quietly}
 use Rattle.mgs_core.proofs.deeds.do_deed.Goals as goal
 
 pub returns-in-Err-clause-may : goal.returns-in-Err-clause-may
 returns-in-Err-clause-may g c id next place =
-    ap (λ (d : Deed). may_be_refused (outcome_in (world_of c.args.directory.now c.args.buffers.now c.args.sessions.now next) id (deed_act (own_at c.args.at c.args.sessions.now).pattern d) true)) c.in-Act.is
+    ap (λ (d : Deed). may_be_refused (outcome_in (world_of c.args.directory.now c.args.buffers.now c.args.sessions.now next) id (deed_act (own_at c.args.at c.args.sessions.now) d) true)) c.in-Act.is
     ∙ c.in-Err.ensures.may id next place
 
 pub returns-in-Ok-answer-clause-ok : goal.returns-in-Ok-answer-clause-ok
 returns-in-Ok-answer-clause-ok g c id next place =
-    answer_quietly _ _ _ id (own_at c.args.at c.args.sessions.now).pattern c.args.deed c.in-Answer.prompt c.in-Answer.argument c.question-question.result c.input-input.result.now
+    answer_quietly _ _ _ id (own_at c.args.at c.args.sessions.now) c.args.deed c.in-Answer.prompt c.in-Answer.argument c.question-question.result c.input-input.result.now
     c.in-Answer.is c.question-question.ensures.value c.input-input.ensures.value (c.in-Ok-answer.ensures.ok id next place)
 
 pub returns-in-Err-answer-clause-may : goal.returns-in-Err-answer-clause-may
 returns-in-Err-answer-clause-may g c id next place =
-    answer_may (world_of c.args.directory.now c.args.buffers.now c.args.sessions.now next) id (own_at c.args.at c.args.sessions.now).pattern c.args.deed c.in-Answer.prompt c.in-Answer.argument c.question-question.result c.input-input.result.now
+    answer_may (world_of c.args.directory.now c.args.buffers.now c.args.sessions.now next) id (own_at c.args.at c.args.sessions.now) c.args.deed c.in-Answer.prompt c.in-Answer.argument c.question-question.result c.input-input.result.now
     c.in-Answer.is c.question-question.ensures.value c.input-input.ensures.value (c.in-Err-answer.ensures.may id next place)
+
+pub returns-in-Seek-clause-ok : goal.returns-in-Seek-clause-ok
+returns-in-Seek-clause-ok g c id next place =
+    sought_quietly _ _ _ id c.args.sessions.now c.args.at c.args.deed c.in-Seek.step c.in-Seek.is c.requires.ready (λ s held. c.search_on.ensures.world id next s place held)
+
+pub returns-in-QuitSearch-clause-ok : goal.returns-in-QuitSearch-clause-ok
+returns-in-QuitSearch-clause-ok g c id next place =
+    quit_quietly _ _ _ id (own_at c.args.at c.args.sessions.now) c.args.deed c.in-QuitSearch.is (c.quit_search.ensures.world c.args.directory.now id next place)

@@ -1,7 +1,7 @@
 use Rattle.mgs_core.proofs.Stepped.{key_command}
 use Rattle.mgs_core.proofs.keying.step_key.Goals as goal
 
-pub returns-in-Run : goal.returns-in-Run
-returns-in-Run c directory ks =
+pub returns-in-Run-clause-step : goal.returns-in-Run-clause-step
+returns-in-Run-clause-step c directory ks =
     key_command directory ks c.args.session.now c.rest-in-Run.new.session c.step_command.new.session c.args.byte c.feed.new.self c.in-Run.command c.in-Run.argument c.step_command.result
-    c.requires.plain c.requires.alone c.in-Run.ensures.read c.in-Run.ensures.bound c.rest-in-Run.ensures c.step_command.ensures
+    c.requires.still c.requires.plain c.requires.alone c.in-Run.ensures.read c.in-Run.ensures.bound c.rest-in-Run.ensures c.step_command.ensures.step

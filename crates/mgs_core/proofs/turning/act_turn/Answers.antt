@@ -3,12 +3,12 @@ use Rattle.mgs_cache.specs.Kept.{Kept}
 use Rattle.mgs_buffers.specs.Judging.{AreJudged, rules_kept}
 use Rattle.mgs_model.specs.Apart.{Apart}
 use Rattle.mgs_model.specs.declared.touched.Touched.TheVariants.{Nowhere}
-use Rattle.mgs_model.proofs.Apart.{apart_own, apart_same}
-use Rattle.mgs_world.specs.Worlds.{world_of}
+use Rattle.mgs_model.proofs.Apart.{apart_same}
+use Rattle.mgs_world.specs.Worlds.{buffers_of, world_of}
 use Rattle.mgs_world.proofs.Soundness.{sound_set, sizes_set}
-use Rattle.mgs_core.specs.Stepped.{prompt_of, refused_again}
+use Rattle.mgs_core.specs.Stepped.{before_of}
 use Rattle.mgs_core.proofs.Judged.{touched_judged}
-use Rattle.mgs_core.proofs.Taken.{refused_in_world}
+use Rattle.mgs_core.proofs.Taken.{refused_apart, refused_in_world}
 use Rattle.mgs_core.proofs.turning.act_turn.Goals as goal
 
 pub returns-in-Ok-clause-judged : goal.returns-in-Ok-clause-judged
@@ -44,8 +44,9 @@ pub returns-in-Err-clause-acted : goal.returns-in-Err-clause-acted
 returns-in-Err-clause-acted g c next =
     let ys = c.do_deed.new.sessions in
     record {
-      told = refused_in_world c.args.directory.now c.args.buffers.now c.do_deed.new.buffers c.args.sessions.now ys next c.args.id c.args.at (get_or ys c.args.at c.index-sessions-at.result) c.refuse.new.session (prompt_of c.args.deed) c.in-Err.prompt c.args.kind c.args.is_playing
-          c.requires.place c.requires.within c.do_deed.ensures.sizes (ap (get_or ys c.args.at) c.index-sessions-at.is) c.in-Err.ensures.prompt c.refuse.ensures (c.in-Err.ensures.err next);
+      wants = c.in-Err.ensures.wants;
+      told = refused_in_world c.args.directory.now c.args.buffers.now c.do_deed.new.buffers c.args.sessions.now ys next c.args.id c.args.at (get_or ys c.args.at c.index-sessions-at.result) c.refuse.new.session (before_of c.args.deed) c.in-Err.before c.args.kind c.args.is_playing
+          c.requires.place c.requires.within c.do_deed.ensures.sizes (ap (get_or ys c.args.at) c.index-sessions-at.is) c.in-Err.ensures.before c.refuse.ensures (c.in-Err.ensures.err next);
       may = c.in-Err.ensures.may c.args.id next c.requires.place;
       accepted = c.in-Err.ensures.accepted;
     }
@@ -53,4 +54,4 @@ returns-in-Err-clause-acted g c next =
 pub returns-in-Err-clause-touched : goal.returns-in-Err-clause-touched
 returns-in-Err-clause-touched g c next =
     let w = world_of c.args.directory.now c.args.buffers.now c.args.sessions.now next in
-    subst (Apart Nowhere c.args.id w) (sym (returns-in-Err-clause-acted g c next).told) (apart_own Nowhere c.args.id (refused_again (prompt_of c.args.deed) c.args.kind c.args.is_playing) w)
+    refused_apart (buffers_of c.args.buffers.now) (before_of c.args.deed) c.args.kind c.args.is_playing c.args.id w _ (returns-in-Err-clause-acted g c next).told

@@ -8,7 +8,7 @@ use Rattle.mgs_world.specs.Sound.{session_uses}
 use Rattle.mgs_world.specs.Worlds.{size_in, world_of}
 use Rattle.mgs_world.proofs.Soundness.{sound_set, sizes_set}
 use Rattle.mgs_core.proofs.Sizes.{place_same}
-use Rattle.mgs_core.proofs.Taken.{acted_less, deed_done, deed_turned, ends_turn, failed_less, failed_turn, fresh_put, kept_less, kept_turn, some_there, step_apart}
+use Rattle.mgs_core.proofs.Taken.{acted_less, deed_turned, ends_turn, failed_less, failed_turn, kept_less, kept_turn, ready_put, some_there, step_apart}
 use Rattle.mgs_core.proofs.turning.take_turn.Goals as goal
 
 pub next_step-requires-clause-some : goal.next_step-requires-clause-some
@@ -46,7 +46,7 @@ returns-in-Kept-clause-touched g c next =
     let h = get_or xs c.args.at c.index-sessions-at-3.result in
     let is_h = ap (get_or xs c.args.at) c.index-sessions-at-3.is in
     let y = c.next_step.new.session in
-    step_apart d ks xs next c.args.id c.args.at h y c.requires.place c.requires.within is_h Nowhere c.in-Kept.ensures.step.own
+    step_apart d ks xs next c.args.id c.args.at h y c.requires.place c.requires.within is_h Nowhere c.in-Kept.ensures.step.own c.in-Kept.ensures.step.stays
 
 pub returns-in-Failed-clause-sound : goal.returns-in-Failed-clause-sound
 returns-in-Failed-clause-sound g c =
@@ -76,7 +76,7 @@ returns-in-Failed-clause-touched g c next =
     let h = get_or xs c.args.at c.index-sessions-at-3.result in
     let is_h = ap (get_or xs c.args.at) c.index-sessions-at-3.is in
     let y = c.next_step.new.session in
-    step_apart d ks xs next c.args.id c.args.at h y c.requires.place c.requires.within is_h Nowhere c.in-Failed.ensures.step.own
+    step_apart d ks xs next c.args.id c.args.at h y c.requires.place c.requires.within is_h Nowhere c.in-Failed.ensures.step.own c.in-Failed.ensures.step.stays
 
 pub returns-in-Ends-clause-sound : goal.returns-in-Ends-clause-sound
 returns-in-Ends-clause-sound g c =
@@ -106,7 +106,7 @@ returns-in-Ends-clause-touched g c next =
     let h = get_or xs c.args.at c.index-sessions-at-3.result in
     let is_h = ap (get_or xs c.args.at) c.index-sessions-at-3.is in
     let y = c.next_step.new.session in
-    step_apart d ks xs next c.args.id c.args.at h y c.requires.place c.requires.within is_h Anywhere c.in-Ends.ensures.step.own
+    step_apart d ks xs next c.args.id c.args.at h y c.requires.place c.requires.within is_h Anywhere c.in-Ends.ensures.step.own c.in-Ends.ensures.step.stays
 
 pub returns-in-Kept-clause-less : goal.returns-in-Kept-clause-less
 returns-in-Kept-clause-less g c e =
@@ -178,15 +178,15 @@ act_turn-requires-clause-place g c =
     let y = c.next_step.new.session in
     place_same c.args.id c.args.at xs (slice_set xs c.args.at y) c.requires.place (sizes_set xs c.args.at h y is_h (ap size_in c.in-Acts.ensures.step.own))
 
-pub act_turn-requires-clause-fresh : goal.act_turn-requires-clause-fresh
-act_turn-requires-clause-fresh g c =
+pub act_turn-requires-clause-ready : goal.act_turn-requires-clause-ready
+act_turn-requires-clause-ready g c =
     let d = c.args.directory.now in
     let ks = c.args.buffers.now in
     let xs = c.args.sessions.now in
     let h = get_or xs c.args.at c.index-sessions-at-3.result in
     let is_h = ap (get_or xs c.args.at) c.index-sessions-at-3.is in
     let y = c.next_step.new.session in
-    fresh_put xs c.args.at y c.requires.within c.in-Acts.ensures.step.fresh
+    ready_put xs c.args.at y c.in-Acts.deed c.requires.within c.in-Acts.ensures.step.ready
 
 pub act_turn-requires-clause-here : goal.act_turn-requires-clause-here
 act_turn-requires-clause-here g c =
@@ -231,7 +231,7 @@ returns-in-Acts-clause-less g c e =
     let is_h = ap (get_or xs c.args.at) c.index-sessions-at-3.is in
     let y = c.next_step.new.session in
     acted_less d ks xs None c.args.id c.args.at h y c.requires.place c.requires.within is_h c.in-Acts.deed c.in-Acts.ensures.step c.act_turn.ensures.asked
-    c.act_turn.new.buffers c.act_turn.new.sessions _ _ (returns-in-Acts-clause-sizes g c) (deed_done _ _ _ _ c.args.id _ _ c.act_turn.result.0 e (c.act_turn.ensures.acted None))
+    c.act_turn.new.buffers c.act_turn.new.sessions _ _ _ _ c.act_turn.result.0 e (returns-in-Acts-clause-sizes g c) (c.act_turn.ensures.acted None)
 
 pub returns-in-Acts-clause-touched : goal.returns-in-Acts-clause-touched
 returns-in-Acts-clause-touched g c next =
@@ -242,4 +242,4 @@ returns-in-Acts-clause-touched g c next =
     let is_h = ap (get_or xs c.args.at) c.index-sessions-at-3.is in
     let y = c.next_step.new.session in
     apart_then c.act_turn.result.1 c.args.id (world_of d ks xs next) (world_of d ks (slice_set xs c.args.at y) next) (world_of d c.act_turn.new.buffers c.act_turn.new.sessions next)
-    (step_apart d ks xs next c.args.id c.args.at h y c.requires.place c.requires.within is_h c.act_turn.result.1 c.in-Acts.ensures.step.own) (c.act_turn.ensures.touched next)
+    (step_apart d ks xs next c.args.id c.args.at h y c.requires.place c.requires.within is_h c.act_turn.result.1 c.in-Acts.ensures.step.own c.in-Acts.ensures.step.stays) (c.act_turn.ensures.touched next)

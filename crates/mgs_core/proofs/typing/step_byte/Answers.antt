@@ -1,28 +1,13 @@
 use Rattle.std.proofs.Common.{◌∙◌, sym}
-use Rattle.mgs_core.proofs.Prompted.{answers, completes, goes_on, quits, unasked}
+use Rattle.mgs_core.proofs.Sought.{searched_step, unsearched_step}
 use Rattle.mgs_core.proofs.typing.step_byte.Goals as goal
 
-pub returns-in-GoesOn-clause-step : goal.returns-in-GoesOn-clause-step
-returns-in-GoesOn-clause-step g c =
-    goes_on c.args.directory.now c.args.buffers.now c.args.session.now c.take_prompt.new.session c.hold_prompt.new.session c.in-Some.prompt c.feed.new.self c.args.byte c.requires.alone
-    (sym c.take_prompt.ensures.prompt ∙ c.in-Some.is) c.feed.ensures.question c.in-GoesOn.ensures.turn c.take_prompt.ensures.rest c.hold_prompt.ensures
+pub returns-in-Some-clause-step : goal.returns-in-Some-clause-step
+returns-in-Some-clause-step g c =
+    searched_step c.args.directory.now c.args.buffers.now c.args.session.now c.take_search.new.session c.step_search.new.session c.in-Some.search c.args.byte c.step_search.result
+    (sym c.take_search.ensures.search ∙ c.in-Some.is) c.take_search.ensures.rest (c.step_search.ensures c.args.directory.now c.args.buffers.now)
 
-pub returns-in-Completes-clause-step : goal.returns-in-Completes-clause-step
-returns-in-Completes-clause-step g c =
-    completes c.args.directory.now c.args.buffers.now c.args.session.now c.take_prompt.new.session c.complete.new.session c.in-Some.prompt c.feed.new.self c.args.byte c.requires.alone
-    (sym c.take_prompt.ensures.prompt ∙ c.in-Some.is) c.feed.ensures.question c.in-Completes.ensures.turn c.take_prompt.ensures.rest c.complete.ensures.own c.complete.ensures.rest
-
-pub returns-in-Quit-clause-step : goal.returns-in-Quit-clause-step
-returns-in-Quit-clause-step g c =
-    quits c.args.directory.now c.args.buffers.now c.args.session.now c.take_prompt.new.session c.fail.new.session c.in-Some.prompt c.feed.new.self c.args.byte
-    (sym c.take_prompt.ensures.prompt ∙ c.in-Some.is) c.feed.ensures.question c.in-Quit.ensures.turn c.take_prompt.ensures.rest c.fail.ensures
-
-pub returns-in-Answered-clause-step : goal.returns-in-Answered-clause-step
-returns-in-Answered-clause-step g c =
-    answers c.args.directory.now c.args.buffers.now c.args.session.now c.take_prompt.new.session c.step_answer.new.session c.in-Some.prompt c.feed.new.self c.args.byte c.step_answer.result c.requires.alone
-    (sym c.take_prompt.ensures.prompt ∙ c.in-Some.is) (c.feed.ensures.answered c.in-Answered.is) c.in-Answered.ensures.turn c.take_prompt.ensures.rest c.step_answer.ensures
-
-pub returns-in_default-clause-step : goal.returns-in_default-clause-step
-returns-in_default-clause-step g c =
-    unasked c.args.directory.now c.args.buffers.now c.args.session.now c.take_prompt.new.session c.step_key.new.session c.args.byte c.step_key.result
-    (sym c.take_prompt.ensures.prompt ∙ c.in_default.is) c.take_prompt.ensures.rest (c.step_key.ensures c.args.directory.now c.args.buffers.now)
+pub returns-in-None-clause-step : goal.returns-in-None-clause-step
+returns-in-None-clause-step g c =
+    unsearched_step c.args.directory.now c.args.buffers.now c.args.session.now c.take_search.new.session c.step_still.new.session c.args.byte c.step_still.result
+    (sym c.take_search.ensures.search ∙ c.in-None.is) c.take_search.ensures.rest c.step_still.ensures.step

@@ -1,0 +1,251 @@
+-- A byte of a session that searches.
+use Rattle.std.proofs.Common.{◌≡◌, ℕ, Bool, true, false, cond, List, [], ◌∷◌, Option, Some, None, refl, sym, ap, subst, ◌∙◌}
+use Rattle.std.specs.Prelude.{◌==◌, ⊤, is_some, length, nat_lt}
+use Rattle.mgs_model.specs.Access.{Directory}
+use Rattle.mgs_model.specs.Apply.{searches}
+use Rattle.mgs_model.specs.Keys.{is_graphic}
+use Rattle.mgs_model.specs.World as model
+use Rattle.mgs_model.specs.View.{View}
+use Rattle.mgs_model.specs.Outcome.{Act, Run}
+use Rattle.mgs_model.specs.Searching.{Sought, directed, dropped, lengthened, read_byte, shortened}
+use Rattle.mgs_model.specs.Turns.{Turn, Keep, Do, sought_turn}
+use Rattle.mgs_model.specs.Events.{refused_own}
+use Rattle.mgs_model.specs.declared.message.Message.TheVariants.{Silent}
+use Rattle.mgs_model.specs.declared.search.Direction.{Direction}
+use Rattle.mgs_model.specs.declared.search.Direction.TheVariants.{Forward, Backward}
+use Rattle.mgs_model.specs.declared.search.SearchStep.{SearchStep}
+use Rattle.mgs_model.specs.declared.search.SearchStep.TheVariants as step
+use Rattle.mgs_model.specs.declared.session.Command.TheVariants.{Move}
+use Rattle.mgs_model.specs.declared.session.Mode.TheVariants.{Searching}
+use Rattle.mgs_model.specs.declared.session.Motion.TheVariants.{SearchOn}
+use Rattle.mgs_buffers.specs.MarkedBuffer.{MarkedBuffer}
+use Rattle.mgs_mini.specs.Typing.{PromptInput}
+use Rattle.mgs_session.specs.declared.Own.{Own}
+use Rattle.mgs_session.specs.declared.search.Search.{Search}
+use Rattle.mgs_session.specs.declared.Session.{Session}
+use Rattle.mgs_session.specs.Seeking.{search_left, searching, unsearched}
+use Rattle.mgs_session.specs.Sessions.{told}
+use Rattle.mgs_world.specs.Worlds.{mode_in, own_of, search_of}
+use Rattle.mgs_core.specs.declared.deeds.Deed.TheVariants as deeds
+use Rattle.mgs_core.specs.declared.keying.ByteStep.{ByteStep}
+use Rattle.mgs_core.specs.declared.keying.ByteStep.TheVariants.{Kept, Failed, Ends, Acts}
+use Rattle.mgs_core.specs.Prompted.{own_turn}
+use Rattle.mgs_core.specs.Stepped.{IsAlone, IsByteStep, SearchStays, deed_act, is_keyed, step_from_search}
+use Rattle.mgs_core.proofs.Stepped.{left_same, none_stays}
+
+-- WHAT A BYTE LEAVES OF WHAT IS LOOKED FOR, where it goes on with nothing
+
+-- it is as it was
+same_sought : {A B : Type 0} (a c : A) (b d : B) → ◌≡◌ {A = A × B} (a, b) (c, d) → a ≡ c
+same_sought {A = A} {B = B} a c b d e = ap (λ (p : A × B). p.0) e
+
+-- no other byte ends a search, gives it up or is none of its own
+abbrev pub IsOver : SearchStep → Type 0
+IsOver step.Ends = ⊤
+IsOver step.Quits = ⊤
+IsOver step.Leaves = ⊤
+IsOver _ = ⊥
+
+directed_on : (last : List ℕ) (d : Direction) (s q : Sought) (k : SearchStep) → directed last d s ≡ (q, k) → IsOver k → q ≡ s
+directed_on last d s q k e over = by (nat_lt 0 (length s.pattern)) (nat_lt 0 (length last)) e
+  where
+    by : (a b : Bool) → ◌≡◌ {A = Sought × SearchStep} (cond a (record s { direction = d }, step.PastAnchor) (cond b (record s { direction = d; pattern = last }, step.FromAnchor) (record s { direction = d }, step.Stays))) (q, k) → q ≡ s
+    by true b e = (let same : step.PastAnchor ≡ k = ap (λ (p : Sought × SearchStep). p.1) e in absurd (subst IsOver (sym same) over))
+    by false true e = (let same : step.FromAnchor ≡ k = ap (λ (p : Sought × SearchStep). p.1) e in absurd (subst IsOver (sym same) over))
+    by false false e = (let same : step.Stays ≡ k = ap (λ (p : Sought × SearchStep). p.1) e in absurd (subst IsOver (sym same) over))
+
+dropped_on : (s q : Sought) (k : SearchStep) → dropped s ≡ (q, k) → IsOver k → q ≡ s
+dropped_on s q k e over = by (nat_lt 1 (length s.pattern)) e
+  where
+    by : (a : Bool) → ◌≡◌ {A = Sought × SearchStep} (cond a (record s { pattern = shortened s.pattern }, step.FromOrigin) (record s { pattern = []; failing = false }, step.ToOrigin)) (q, k) → q ≡ s
+    by true e = (let same : step.FromOrigin ≡ k = ap (λ (p : Sought × SearchStep). p.1) e in absurd (subst IsOver (sym same) over))
+    by false e = (let same : step.ToOrigin ≡ k = ap (λ (p : Sought × SearchStep). p.1) e in absurd (subst IsOver (sym same) over))
+
+pub sought_over : (last : List ℕ) (s q : Sought) (byte : ℕ) (k : SearchStep) → read_byte last s byte ≡ (q, k) → IsOver k → q ≡ s
+sought_over last s q byte k e over = by (is_graphic byte) (byte == 19) (byte == 18) (byte == 127) (byte == 13) (byte == 7) e
+  where
+    by : (a b c f g h : Bool) → ◌≡◌ {A = Sought × SearchStep} (cond a (record s { pattern = lengthened s.pattern byte }, step.FromAnchor) (cond b (directed last Forward s) (cond c (directed last Backward s) (cond f (dropped s) (cond g (s, step.Ends) (cond h (s, step.Quits) (s, step.Leaves))))))) (q, k) → q ≡ s
+    by true b c f g h e = (let same : step.FromAnchor ≡ k = ap (λ (p : Sought × SearchStep). p.1) e in absurd (subst IsOver (sym same) over))
+    by false true c f g h e = directed_on last Forward s q k e over
+    by false false true f g h e = directed_on last Backward s q k e over
+    by false false false true g h e = dropped_on s q k e over
+    by false false false false true h e = sym (same_sought s q step.Ends k e)
+    by false false false false false true e = sym (same_sought s q step.Quits k e)
+    by false false false false false false e = sym (same_sought s q step.Leaves k e)
+
+-- a search that was taken out is put back
+pub searched_step : (d : Directory) (ks : List MarkedBuffer) (y taken new : Session) (s : Search) (byte : ℕ) (k : ByteStep) → y.own.search ≡ Some s → taken ≡ unsearched y → IsByteStep d ks (searching s taken) new byte k → IsByteStep d ks y new byte k
+searched_step d ks y taken new s byte k is took t =
+    subst (λ (z : Session). IsByteStep d ks z new byte k)
+    (ap (searching s) took ∙ sym (ap (λ (o : Option Search). record y { own = record y.own { search = o } }) is)) t
+
+pub unsearched_step : (d : Directory) (ks : List MarkedBuffer) (y taken new : Session) (byte : ℕ) (k : ByteStep) → y.own.search ≡ None → taken ≡ unsearched y → IsByteStep d ks taken new byte k → IsByteStep d ks y new byte k
+unsearched_step d ks y taken new byte k none took t =
+    subst (λ (z : Session). IsByteStep d ks z new byte k)
+    (took ∙ sym (ap (λ (o : Option Search). record y { own = record y.own { search = o } }) none)) t
+
+-- a byte that reads nothing leaves the search as it is
+pub search_same : (r s : Search) → r.sought ≡ s.sought → r.name ≡ s.name → r.origin ≡ s.origin → r.anchor ≡ s.anchor → r ≡ s
+search_same r s sought name origin anchor = λ i. record { name = name i; origin = origin i; anchor = anchor i; sought = sought i }
+
+-- WHAT COMES NEXT
+
+-- the session that was searching
+module _ (d : Directory) (ks : List MarkedBuffer) (y new : Session) (s r : Search) (byte : ℕ) (alone : IsAlone y.own.player) where
+  abbrev z : Session
+  z = unsearched y
+
+  abbrev x : Session
+  x = searching s z
+
+  abbrev own : model.Own
+  own = record (own_of x.own) { echo = Silent }
+
+  comes : (v : View) (k : SearchStep) → read_byte z.own.pattern s.sought byte ≡ (r.sought, k) → own_turn v x.own byte ≡ sought_turn own byte r.sought k
+  comes v k read = ap (λ (p : Sought × SearchStep). sought_turn (record (own_of x.own) { echo = Silent }) byte p.0 p.1) read
+
+  -- it is over
+  pub search_ends : read_byte y.own.pattern s.sought byte ≡ (r.sought, step.Ends) → new ≡ search_left r.sought.pattern (unsearched y) → IsByteStep d ks (searching s (unsearched y)) new byte Kept
+  search_ends read is =
+      let same : r.sought ≡ s.sought = sought_over z.own.pattern s.sought r.sought byte step.Ends read tt in
+      let left : new ≡ search_left s.sought.pattern z = is ∙ ap (λ (p : Sought). search_left p.pattern z) same in
+      record {
+        own = left ∙ sym (ap (λ (w : Session). record x { own = w.own }) left);
+        stays = none_stays x.own new.own (ap (λ (w : Session). w.own.search) left);
+        turn = λ v sees. comes v step.Ends read ∙ ap (λ (q : Sought). sought_turn own byte q step.Ends) same ∙ sym (ap (λ (w : Session). Keep (own_of w.own)) left);
+        left = left_same x.own.player new.own.player.todo alone (ap (λ (w : Session). w.own.player.todo) left);
+      }
+
+  -- the search goes on, with its positions
+  on_stays : r.name ≡ s.name → r.origin ≡ s.origin → r.anchor ≡ s.anchor → new ≡ searching r (told Silent z) → SearchStays x.own new.own
+  on_stays name origin anchor is bs =
+      ap (λ (w : Session). search_of bs w.own.search) is
+      ∙ (λ i. search_of bs (Some (record r { name = name i; origin = origin i; anchor = anchor i })))
+      ∙ sym (ap (λ (w : Session). cond (searches (own_of w.own).mode) (search_of bs (Some s)) None) is)
+
+  -- or is given up
+  pub search_quits : read_byte y.own.pattern s.sought byte ≡ (r.sought, step.Quits) → r.name ≡ s.name → r.origin ≡ s.origin → r.anchor ≡ s.anchor → new ≡ searching r (told Silent (unsearched y)) → IsByteStep d ks (searching s (unsearched y)) new byte (Acts deeds.QuitSearch)
+  search_quits read name origin anchor is =
+      let same : r.sought ≡ s.sought = sought_over z.own.pattern s.sought r.sought byte step.Quits read tt in
+      let kept : new ≡ searching s (told Silent z) = is ∙ ap (λ (g : Search). searching g (told Silent z)) (search_same r s same name origin anchor) in
+      record {
+        own = kept ∙ sym (ap (λ (w : Session). record x { own = w.own }) kept);
+        stays = on_stays name origin anchor is;
+        ready = tt;
+        here = tt;
+        turn = λ asked v sees. comes v step.Quits read ∙ sym (ap (λ (w : Session). Do (own_of w.own) (deed_act (own_of w.own) deeds.QuitSearch)) kept);
+        playing = ap (λ (w : Session). w.own.player.playing) kept;
+        typed = λ e. ap (λ (w : Session). w.own.player.todo) kept ∙ alone e;
+        left = left_same x.own.player new.own.player.todo alone (ap (λ (w : Session). w.own.player.todo) kept);
+        again = λ wants. cc;
+        search = λ wants. cc;
+      }
+
+  sought_on : (k : SearchStep) → (k ≡ step.Ends → ⊥) → (k ≡ step.Quits → ⊥) → (k ≡ step.Leaves → ⊥) → sought_turn own byte r.sought k ≡ Do (record own { mode = Searching r.sought.direction r.sought.failing; input = r.sought.pattern }) (Run (Move (SearchOn r.sought.direction k)) None r.sought.pattern)
+  sought_on step.Ends a b c = absurd (a refl)
+  sought_on step.Quits a b c = absurd (b refl)
+  sought_on step.Leaves a b c = absurd (c refl)
+  sought_on _ a b c = refl
+
+  -- or does a step
+  pub search_on : (k : SearchStep) → (k ≡ step.Ends → ⊥) → (k ≡ step.Quits → ⊥) → (k ≡ step.Leaves → ⊥) → read_byte y.own.pattern s.sought byte ≡ (r.sought, k) → r.name ≡ s.name → r.origin ≡ s.origin → r.anchor ≡ s.anchor → new ≡ searching r (told Silent (unsearched y)) → IsByteStep d ks (searching s (unsearched y)) new byte (Acts (deeds.Seek k))
+  search_on k a b c read name origin anchor is = record {
+    own = is ∙ sym (ap (λ (w : Session). record x { own = w.own }) is);
+    stays = on_stays name origin anchor is;
+    ready = ap (λ (w : Session). is_some w.own.search) is;
+    here = tt;
+    turn = λ asked v sees. comes v k read ∙ sought_on k a b c ∙ sym (ap (λ (w : Session). Do (own_of w.own) (deed_act (own_of w.own) (deeds.Seek k))) is);
+    playing = ap (λ (w : Session). w.own.player.playing) is;
+    typed = λ e. ap (λ (w : Session). w.own.player.todo) is ∙ alone e;
+    left = left_same x.own.player new.own.player.todo alone (ap (λ (w : Session). w.own.player.todo) is);
+    again = λ wants. cc;
+    search = λ wants. cc;
+  }
+
+-- A BYTE THAT IS NONE OF ITS OWN: the search is left, and the byte is a key
+
+-- a step of a session that does not search leaves none
+stays_none : (old new : Own) → old.search ≡ None → SearchStays old new → new.search ≡ None
+stays_none old new none stays =
+    by new.search new.prompt (stays [] ∙ ap (λ (o : Option Search). cond (searches (own_of new).mode) (search_of [] o) None) none)
+  where
+    by : (o : Option Search) (p : Option PromptInput) → search_of [] o ≡ cond (searches (mode_in o p)) None None → o ≡ None
+    by None p e = refl
+    by (Some g) p e = cc
+
+module _ (d : Directory) (ks : List MarkedBuffer) (y new : Session) (s : Search) (last : List ℕ) (byte : ℕ) (same : last ≡ y.own.pattern) (read : read_byte y.own.pattern s.sought byte ≡ (s.sought, step.Leaves)) where
+  abbrev w : Session
+  w = searching s (unsearched y)
+
+  abbrev left_one : Session
+  left_one = search_left s.sought.pattern (unsearched y)
+
+  key_comes : (v : View) → own_turn v w.own byte ≡ own_turn v left_one.own byte
+  key_comes v = ap (λ (p : Sought × SearchStep). sought_turn (record (own_of w.own) { echo = Silent }) byte p.0 p.1) read
+
+  left_stays : SearchStays left_one.own new.own → SearchStays w.own new.own
+  left_stays stays = none_stays w.own new.own (stays_none left_one.own new.own refl stays)
+
+  key_left : (k : ByteStep) → is_keyed k ≡ true → IsByteStep d ks left_one new byte k → IsByteStep d ks w new byte (step_from_search s last k)
+  key_left Kept keyed t = record { own = t.own; stays = left_stays t.stays; turn = λ v sees. key_comes v ∙ t.turn v sees; left = t.left }
+  key_left Failed keyed t = record {
+    own = t.own;
+    stays = left_stays t.stays;
+    before = t.before;
+    act = t.act;
+    message = t.message;
+    turn = λ v sees. key_comes v ∙ t.turn v sees;
+    playing = t.playing;
+    fails = t.fails;
+    breaks = t.breaks;
+    quiet = t.quiet;
+    told = t.told;
+  }
+  key_left Ends keyed t = record {
+    own = t.own;
+    stays = left_stays t.stays;
+    before = t.before;
+    argument = t.argument;
+    turn = λ v sees. key_comes v ∙ t.turn v sees;
+    quiet = t.quiet;
+    typed = t.typed;
+  }
+  key_left (Acts (deeds.Act a b)) keyed t = record {
+    own = t.own;
+    stays = left_stays t.stays;
+    ready = t.ready;
+    here = t.here;
+    turn = λ asked v sees. key_comes v ∙ t.turn asked v sees;
+    playing = t.playing;
+    typed = t.typed;
+    left = t.left;
+    again = λ wants.
+        ap (λ (o : model.Own). record o { mode = Searching s.sought.direction s.sought.failing; input = s.sought.pattern; pattern = last; keys = [] }) (t.again wants)
+        ∙ ap (λ (p : List ℕ). record (refused_own (own_of w.own)) { pattern = p }) same;
+    search = λ wants. refl;
+  }
+  key_left (Acts (deeds.Answer p n)) keyed t = cc
+  key_left (Acts (deeds.Seek k)) keyed t = cc
+  key_left (Acts deeds.QuitSearch) keyed t = cc
+
+pub search_leaves : (d : Directory) (ks : List MarkedBuffer) (y left new : Session) (s : Search) (last : List ℕ) (byte : ℕ) (k : ByteStep) → last ≡ y.own.pattern → read_byte y.own.pattern s.sought byte ≡ (s.sought, step.Leaves) → left ≡ search_left s.sought.pattern (unsearched y) → is_keyed k ≡ true → IsByteStep d ks left new byte k → IsByteStep d ks (searching s (unsearched y)) new byte (step_from_search s last k)
+search_leaves d ks y left new s last byte k same read is keyed t = key_left d ks y new s last byte same read k keyed (subst (λ (g : Session). IsByteStep d ks g new byte k) is t)
+
+-- what was read with the search string, as the session has it
+pub read_at : (pattern last : List ℕ) (s r : Sought) (byte : ℕ) (k e : SearchStep) → last ≡ pattern → read_byte last s byte ≡ (r, k) → k ≡ e → read_byte pattern s byte ≡ (r, e)
+read_at pattern last s r byte k e same read is = sym (ap (λ (l : List ℕ). read_byte l s byte) same) ∙ read ∙ ap (λ (f : SearchStep). (r, f)) is
+
+-- a byte that is none of a search's own is none of it afterwards
+pub read_again : (pattern : List ℕ) (s r : Sought) (byte : ℕ) → read_byte pattern s byte ≡ (r, step.Leaves) → read_byte pattern r byte ≡ (r, step.Leaves)
+read_again pattern s r byte read =
+    let same : r ≡ s = sought_over pattern s r byte step.Leaves read tt in
+    ap (λ (q : Sought). read_byte pattern q byte) same ∙ read
+
+-- such a byte leaves the search as it was
+pub foreign_step : (d : Directory) (ks : List MarkedBuffer) (y new : Session) (s r : Search) (byte : ℕ) (k : ByteStep) → read_byte y.own.pattern s.sought byte ≡ (r.sought, step.Leaves) → r.name ≡ s.name → r.origin ≡ s.origin → r.anchor ≡ s.anchor → IsByteStep d ks (searching r y) new byte k → IsByteStep d ks (searching s y) new byte k
+foreign_step d ks y new s r byte k read name origin anchor t =
+    subst (λ (g : Search). IsByteStep d ks (searching g y) new byte k) (search_same r s (sought_over y.own.pattern s.sought r.sought byte step.Leaves read tt) name origin anchor) t
+
+-- a session that does not search
+pub still_search : (d : Directory) (ks : List MarkedBuffer) (y new : Session) (s : Search) (byte : ℕ) (k : ByteStep) → y ≡ unsearched y → IsByteStep d ks (searching s (unsearched y)) new byte k → IsByteStep d ks (searching s y) new byte k
+still_search d ks y new s byte k still t = subst (λ (z : Session). IsByteStep d ks (searching s z) new byte k) (sym still) t
