@@ -13,7 +13,6 @@ use Rattle.mgs_model.specs.declared.session.Command.{Command}
 use Rattle.mgs_model.specs.declared.session.EntryChange.{EntryChange}
 use Rattle.mgs_model.specs.declared.session.EntryChange.TheVariants.{DeleteEntry}
 use Rattle.mgs_model.specs.declared.session.Command.TheVariants.{Insert, InsertReading, Move, Alter, Scroll, Set, Rearrange, Ask, Entries, ListEntries, UndoEdit, NotModified, SaveBuffer, Exit}
-use Rattle.mgs_mini.specs.Typing.{is_asked}
 use Rattle.mgs_maps.specs.declared.maps.Fed.{Fed}
 use Rattle.mgs_maps.specs.declared.maps.Fed.TheVariants.{Pending, Run, Unbound}
 use Rattle.mgs_maps.specs.declared.maps.Prefix.{Prefix}
@@ -65,7 +64,7 @@ is_bound (Alter c) = is_bound_alteration c
 is_bound (Scroll c) = true
 is_bound (Set c) = true
 is_bound (Rearrange c) = true
-is_bound (Ask c) = is_asked c
+is_bound (Ask c) = true
 is_bound (Entries c) = is_bound_change c
 is_bound ListEntries = true
 is_bound UndoEdit = true

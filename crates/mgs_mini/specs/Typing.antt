@@ -7,28 +7,15 @@ use Rattle.mgs_model.specs.Turns.{Turn, Keep, answer_turn, completed, names_comp
 use Rattle.mgs_model.specs.Plans.{failed_own}
 use Rattle.mgs_model.specs.declared.message.Message.TheVariants.{Quitting, NoMatch}
 use Rattle.mgs_model.specs.declared.session.Question.{Question}
-use Rattle.mgs_model.specs.declared.session.Question.TheVariants.{SwitchTo, FindWhich, KillWhich, InsertWhich, RunWhich, GoToWhich, EntryToInsert, EntryToReplace, WhichOwner, SearchWhat}
 use Rattle.mgs_mini.specs.declared.Waiting.{Waiting}
 use Rattle.mgs_mini.specs.declared.Waiting.TheVariants.{NoKey, Escape, Arrow, ArrowEscape}
 use Rattle.mgs_mini.specs.declared.Step.{Step}
 use Rattle.mgs_mini.specs.declared.Step.TheVariants.{GoesOn, Answered, Quit, Completes}
 
--- the questions that are asked so far: their answers are acted on
-abbrev pub is_asked : Question → Bool
-is_asked SwitchTo = true
-is_asked FindWhich = true
-is_asked KillWhich = true
-is_asked InsertWhich = true
-is_asked RunWhich = true
-is_asked GoToWhich = true
-is_asked EntryToInsert = true
-is_asked EntryToReplace = true
-is_asked WhichOwner = true
-is_asked (SearchWhat d) = true
-is_asked _ = false
-
+-- the second of two questions has the answer to the first one beside it
 pub record PromptInput : Type 0 where
   pub question : Question
+  pub first : List ℕ
   pub input : List ℕ
   pub waiting : Waiting
 

@@ -1,14 +1,14 @@
 //! The input of a prompt, typed byte by byte. It has fixed room and takes no memory.
 #![tactic(auto)]
 
-ghost use Rattle.std.specs.Prelude.{◌≡◌, ◌≤◌, [], length, true, IfSome};
+ghost use Rattle.std.specs.Prelude.{◌≡◌, ◌≤◌, [], length, IfSome};
 ghost use Rattle.std.specs.Option.{option_map};
 ghost use Rattle.mgs_model.specs.Keys.{is_graphic};
 ghost use Rattle.mgs_model.specs.World.{Own};
 ghost use Rattle.mgs_model.specs.View.{View};
 ghost use Rattle.mgs_model.specs.declared.session.Question.{Question};
 ghost use Rattle.mgs_model.specs.Turns.{prompt_turn, prompt_keys, prompt_key, completed, names_buffers, names_commands};
-ghost use Rattle.mgs_mini.specs.Typing.{is_asked, keys_of, typed_own, stepped, last_dropped, told};
+ghost use Rattle.mgs_mini.specs.Typing.{keys_of, typed_own, stepped, last_dropped, told};
 ghost use Rattle.mgs_mini.specs.declared.Waiting.TheVariants.{NoKey};
 ghost use Rattle.mgs_mini.specs.declared.Step.TheVariants.{Answered};
 
@@ -50,10 +50,12 @@ pub enum Step {
     Completes,
 }
 
-/// A question and what was typed as its answer so far, at most 120 characters.
+/// A question and what was typed as its answer so far, at most 120 characters. The second of two questions has the answer to the
+/// first one beside it.
 #[derive(Drop)]
 pub struct Prompt {
     question: Question,
+    first: ArrayVec<u8, 120>,
     input: ArrayVec<u8, 120>,
     waiting: Waiting,
 }
@@ -63,12 +65,7 @@ impl Model for Prompt {
 
     ghost Value = { PromptInput };
 
-    ghost view = { λ p. record { question = p.question; input = p.input.items; waiting = p.waiting } };
-
-    ghost use Rattle.std.specs.Prelude.{◌≡◌, true};
-    ghost use Rattle.mgs_mini.specs.Typing.{is_asked};
-
-    ghost invariant = { λ p. is_asked p.question ≡ true };
+    ghost view = { λ p. record { question = p.question; first = p.first.items; input = p.input.items; waiting = p.waiting } };
 }
 
 fn names_buffers(question: Question) -> bool
@@ -171,20 +168,29 @@ fn feed_byte(input: &mut ArrayVec<u8, 120>, waiting: Waiting, byte: u8) -> (Step
 impl Prompt {
     /// A question with nothing typed.
     pub fn new(question: Question) -> Prompt
-        requires { is_asked question ≡ true }
-        ensures { result ≡ record { question = question; input = []; waiting = NoKey } }
+        ensures { result ≡ record { question = question; first = []; input = []; waiting = NoKey } }
     {
         Prompt {
             question,
+            first: ArrayVec::new(),
             input: ArrayVec::new(),
             waiting: Waiting::NoKey,
         }
     }
 
-    /// The question: one of those that are asked.
+    /// The second of two questions, where the first one was answered so: nothing is typed.
+    pub fn second(question: Question, first: &[u8]) -> Prompt
+        requires { length first.now ≤ 120 }
+        ensures { result ≡ record { question = question; first = first.now; input = []; waiting = NoKey } }
+    {
+        let mut prompt = Prompt::new(question);
+        put_input(&mut prompt.first, first);
+        prompt
+    }
+
+    /// The question.
     pub fn question(&self) -> Question
-        ensures value { result ≡ self.now.question }
-        ensures asked { is_asked self.now.question ≡ true }
+        ensures { result ≡ self.now.question }
     {
         self.question
     }
@@ -207,6 +213,7 @@ impl Prompt {
     /// that is given up and an input to complete leave the input as it was.
     pub fn feed(&mut self, byte: u8) -> Step
         ensures question { self.new.question ≡ self.old.question }
+        ensures first { self.new.first ≡ self.old.first }
         ensures answered { result ≡ Answered → (self.new ≡ self.old) × (self.old.waiting ≡ NoKey) }
         ensures turn { (v : View) → (own : Own) → prompt_turn v self.old.question (typed_own own self.old.input self.old.waiting) byte ≡ stepped v self.old.question (typed_own own self.new.input self.new.waiting) result }
     {
@@ -220,6 +227,7 @@ impl Prompt {
     pub fn complete(&mut self, completion: Option<&[u8]>) -> bool
         requires { IfSome completion (λ text. length text.now ≤ 120) }
         ensures question { self.new.question ≡ self.old.question }
+        ensures first { self.new.first ≡ self.old.first }
         ensures input { (own : Own) → completed (typed_own own self.old.input self.old.waiting) (option_map (λ text. text.now) completion.entry) ≡ told result (typed_own own self.new.input self.new.waiting) }
     {
         let Some(text) = completion else {
@@ -227,6 +235,14 @@ impl Prompt {
         };
         put_input(&mut self.input, text);
         true
+    }
+
+    /// The answer to the first of two questions, at most 120 characters. Beside any other question it is empty.
+    pub fn first(&self) -> &[u8]
+        ensures value { result.now ≡ self.now.first }
+        ensures within { length result.now ≤ 120 }
+    {
+        self.first.as_slice()
     }
 
     /// What was typed, at most 120 characters.

@@ -8,7 +8,7 @@ use Rattle.mgs_model.specs.World.{World, Session, Own, Todo, has_id, find_sessio
 use Rattle.mgs_model.specs.View.{View, BufferSeen, view, view_of, find_seen, size_told, serial_told, text_in}
 use Rattle.mgs_model.specs.Outcome.{Act, Unbound, Run, Outcome, Effect, No_effect, Unmodified, Reown, Create, Save, Quit, Arrange, Stay, Adjust, Keep_kill}
 use Rattle.mgs_model.specs.Plans.{ModePlan, Goes_on, Over, Failing, Finish, Change, alteration, insertion, motion, reading_insertion, scrolling, arrangement, acted_own, setting, undo, entries_changed, inserted}
-use Rattle.mgs_model.specs.Acts.{outcome, permitted, judged, needs, allowed, Target, target, around, edits, edited_by, edit_of, has_file, has_rows, items_in, is_full, moves, row_in, scrolls_rows, selected_seen, moved_by, finished, finished_own, is_too_large, arranges, effects, rules, lists, saves, sets, shown, shows_named, subject, relisted, entries_told, by_name, created, killed, name_meant, fails, without_all, mode_left}
+use Rattle.mgs_model.specs.Acts.{outcome, permitted, judged, needs, allowed, Target, target, around, edits, edited_by, edit_of, has_file, has_rows, items_in, is_full, moves, row_in, scrolls_rows, selected_seen, moved_by, finished, finished_own, is_too_large, arranges, effects, rules, lists, saves, sets, shown, shows_named, subject, relisted, entries_told, by_name, created, killed, name_meant, fails, without_all, counted, mode_left}
 use Rattle.mgs_model.specs.Apply.{searches, change_first, apply, applied, act, after_quit, session_after, session_arranged}
 use Rattle.mgs_model.specs.Turns.{todo_turn, next}
 use Rattle.mgs_model.specs.Events.{own_set, with_own, Doing, turn_in, turn_seen, rests, turn, turns, most_turns, turn_effects, turns_effects}
@@ -124,7 +124,7 @@ module _ (P : List Todo → Type 0) (none : P []) (rest : (todo : List Todo) →
   finished_left : (own : Own) (f : Finish) (e : Effect) → P own.todo → Leaves (finished own f e)
   finished_left own f e h = by (is_too_large f.kill)
     where
-      over : (c : ModePlan) → P (mode_left c (own.count + f.replaced) own.todo (record (acted_own own) { echo = f.told; kind = f.kind })).todo
+      over : (c : ModePlan) → P (mode_left c (counted own.count f.replaced) own.todo (record (acted_own own) { echo = f.told; kind = f.kind })).todo
       over Goes_on = h
       over Over = rest own.todo h
       over (Failing failing) = h

@@ -1,5 +1,5 @@
 -- What each act needs, and what it does: functions of the view, with one equation for each family of commands.
-use Rattle.std.specs.Prelude.{ℕ, ◌+◌, ◌-◌, nat_lt, nat_le, ◌==◌, Bool, true, false, not, ◌&&◌, ◌||◌, List, [], ◌∷◌, length, Option, Some, None, Result, Ok, Err, slice_get, cond, if◌then◌else◌}
+use Rattle.std.specs.Prelude.{ℕ, ◌+◌, ◌-◌, min, nat_lt, nat_le, ◌==◌, Bool, true, false, not, ◌&&◌, ◌||◌, List, [], ◌∷◌, length, Option, Some, None, Result, Ok, Err, slice_get, cond, if◌then◌else◌}
 use Rattle.std.specs.Option.{option_and_then, option_map}
 use Rattle.mgs_model.specs.Names.{is_name, same_name}
 use Rattle.mgs_model.specs.Rights.{rights_in}
@@ -205,11 +205,15 @@ without_all [] = []
 without_all (Replace_all ∷ todo) = todo
 without_all (Typed byte ∷ todo) = Typed byte ∷ todo
 without_all (Played byte ∷ todo) = Played byte ∷ todo
-without_all (Play ∷ todo) = Play ∷ todo
+without_all (Play ∷ todo) = Play ∷ without_all todo
 
 abbrev pub failing_in : Bool → Mode → Mode
 failing_in failing (Searching d was) = Searching d failing
 failing_in failing mode = mode
+
+-- how many were replaced; the largest number stands for all that are larger
+abbrev pub counted : ℕ → ℕ → ℕ
+counted n more = min (n + more) 18446744073709551615
 
 -- where the last match was met, its mode ends and so does the replacing of all
 abbrev pub mode_left : ModePlan → ℕ → List Todo → Own → Own
@@ -218,7 +222,7 @@ mode_left Over n todo own = record own { echo = Replaced n; mode = Plain; input 
 mode_left (Failing failing) n todo own = record own { mode = failing_in failing own.mode }
 
 abbrev pub finished_own : Finish → Own → Own
-finished_own f own = mode_left f.mode (own.count + f.replaced) own.todo (record (acted_own own) { echo = f.told; kind = f.kind })
+finished_own f own = mode_left f.mode (counted own.count f.replaced) own.todo (record (acted_own own) { echo = f.told; kind = f.kind })
 
 abbrev pub finished : Own → Finish → Effect → Outcome
 finished own f effect =

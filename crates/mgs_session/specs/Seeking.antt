@@ -1,4 +1,4 @@
--- An incremental search of a session: how it begins, and how it goes by edits and kills of its buffer.
+-- A search of a session: how it begins, and how it goes by edits and kills of its buffer.
 use Rattle.std.specs.Prelude.{ℕ, ◌==◌, Bool, false, min, List, [], Option, None, Some, length, cond}
 use Rattle.std.specs.Option.{option_map}
 use Rattle.mgs_model.specs.Names.{same_name}
@@ -8,11 +8,17 @@ use Rattle.mgs_model.specs.declared.search.Direction.{Direction}
 use Rattle.mgs_session.specs.declared.Own.{Own}
 use Rattle.mgs_session.specs.declared.Session.{Session}
 use Rattle.mgs_session.specs.declared.search.Edited.{Edited}
+use Rattle.mgs_session.specs.declared.search.Aim.TheVariants.{Find, Replace}
+use Rattle.mgs_session.specs.declared.search.Replacing.{Replacing}
 use Rattle.mgs_session.specs.declared.search.Search.{Search}
 
--- it looks for nothing yet
+-- an incremental search looks for nothing yet
 abbrev pub search_begun : List ℕ → ℕ → Direction → Search
-search_begun name place d = record { name = name; origin = place; anchor = place; sought = record { direction = d; pattern = []; failing = false } }
+search_begun name place d = record { name = name; origin = place; anchor = place; aim = Find (record { direction = d; pattern = []; failing = false }) }
+
+-- a query-replace at its first match
+abbrev pub replacing_begun : List ℕ → ℕ → ℕ → Replacing → Search
+replacing_begun name place anchor r = record { name = name; origin = place; anchor = anchor; aim = Replace r }
 
 -- EDITS: where a position goes; one past the end is the end
 abbrev pub moved : Edited → ℕ → ℕ

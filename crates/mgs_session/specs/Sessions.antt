@@ -88,7 +88,7 @@ macro_given_up x = recording_as (given_up x.own.recorder) x
 
 -- nothing is typed
 abbrev pub first_input : Question → PromptInput
-first_input c = record { question = c; input = []; waiting = NoKey }
+first_input c = record { question = c; first = []; input = []; waiting = NoKey }
 
 -- a question is asked, and the argument waits for the command that its answer is for
 abbrev pub asking : Question → Option ℕ → Session → Session

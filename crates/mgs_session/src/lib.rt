@@ -7,9 +7,8 @@ mod recording;
 mod search;
 mod search_string;
 
-ghost use Rattle.std.specs.Prelude.{◌≡◌, ◌≤◌, ◌<◌, ◌+◌, ◌-◌, ◌^◌, [], ◌∷◌, true, vec_capacity};
+ghost use Rattle.std.specs.Prelude.{◌≡◌, ◌≤◌, ◌<◌, ◌+◌, ◌-◌, ◌^◌, [], ◌∷◌, vec_capacity};
 ghost use Rattle.mgs_model.specs.Plans.{kind_failed};
-ghost use Rattle.mgs_mini.specs.Typing.{is_asked};
 ghost use Rattle.mgs_session.specs.Playing.{IsNext};
 ghost use Rattle.mgs_session.specs.Seeking.{is_search_in, own_bereft, search_left, searching, session_edited, unsearched};
 ghost use Rattle.mgs_session.specs.Sessions.{session_opened, acted, asking, begun, broken_off, failed, filling, holding, macro_called, macro_ended, macro_given_up, macro_started, playing_as, prompting, resting, told, subject_in, subject_of, unprompted, window_marks_of};
@@ -18,10 +17,11 @@ pub use kill_buffer::KillBuffer;
 use mgs_maps::Keyboard;
 use mgs_mini::Prompt;
 use mgs_model::{Kind, Message, Name, Question, SessionId};
+use mgs_search::IncrementalSearch;
 use mgs_windows::{RowPane, Window, WindowMarks, Windows};
 pub use playing::{Player, Task};
 pub use recording::Recorder;
-pub use search::{Edited, Search};
+pub use search::{Aim, Edited, Replacing, Search};
 pub use search_string::SearchString;
 use std::alloc::Global;
 
@@ -233,7 +233,6 @@ pub fn rest(session: &mut Session)
 
 /// Asks a question. The argument waits for the command that the answer is for.
 pub fn ask(session: &mut Session, question: Question, argument: Option<usize>)
-    requires { is_asked question ≡ true }
     ensures { session.new ≡ asking question argument session.old }
 {
     session.own.keyboard = Keyboard::holding(argument);
@@ -272,12 +271,12 @@ pub fn hold_search(session: &mut Session, search: Search)
     session.own.search = Some(search);
 }
 
-/// A search that was taken out is over: what it looked for is the search string, unless it looked for nothing. No prompt is behind it, and
-/// the echo line is empty.
-pub fn leave_search(session: &mut Session, search: &Search)
-    ensures { session.new ≡ search_left search.now.sought.pattern session.old }
+/// An incremental search that was taken out is over: what it looked for is the search string, unless it looked for nothing. No prompt is
+/// behind it, and the echo line is empty.
+pub fn leave_search(session: &mut Session, sought: &IncrementalSearch)
+    ensures { session.new ≡ search_left sought.now.pattern session.old }
 {
-    let pattern = search.sought.pattern();
+    let pattern = sought.pattern();
     if !pattern.is_empty() {
         session.own.pattern = SearchString::of(pattern);
     }

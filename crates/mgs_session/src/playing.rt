@@ -1,7 +1,8 @@
-// What is still to be done in an event: a byte that was typed, or what is left of a macro that is played.
+// What is still to be done in an event: a byte that was typed, all further replacements, or what is left of a macro that is played.
 ghost use Rattle.std.specs.Prelude.{◌≡◌, ◌≤◌, [], ◌∷◌, true, length, IfSome, IsNone};
+ghost use Rattle.mgs_model.specs.Acts.{without_all};
 ghost use Rattle.mgs_model.specs.World.{Play};
-ghost use Rattle.mgs_session.specs.Playing.{IsNext, are_played, byte_typed, called, is_nothing, left_of, nothing_played, rounds, stopped};
+ghost use Rattle.mgs_session.specs.Playing.{IsNext, are_behind, are_played, byte_typed, called, replacing_all, is_nothing, left_of, nothing_played, rounds, stopped};
 
 use arrayvec::ArrayVec;
 use mgs_model::MACRO_LIMIT;
@@ -18,6 +19,10 @@ pub enum Task {
     First(u8),
     /// A play ends of which no act was done.
     End,
+    /// One of all further replacements, which go on.
+    Replacement,
+    /// The same, in a play of which no act was done so far.
+    FirstReplacement,
     Nothing,
 }
 
@@ -67,6 +72,7 @@ fn next_of(bytes: &[u8], left: Left) -> Option<(u8, Left)>
 pub struct Player {
     typed: Option<u8>,
     begins: bool,
+    replaces_all: bool,
     bytes: ArrayVec<u8, MACRO_LIMIT>,
     left: Left,
     is_playing: bool,
@@ -77,7 +83,7 @@ impl Model for Player {
 
     ghost Value = { Playing };
 
-    ghost view = { λ p. record { playing = p.is_playing; todo = todo_in p.typed p.begins (left_of p.bytes.items p.left.at p.left.rounds) } };
+    ghost view = { λ p. record { playing = p.is_playing; todo = todo_in p.typed p.begins p.replaces_all (left_of p.bytes.items p.left.at p.left.rounds) } };
 }
 
 /// Puts these bytes in the place of all.
@@ -97,6 +103,7 @@ impl Player {
         Player {
             typed: None,
             begins: false,
+            replaces_all: false,
             bytes: ArrayVec::new(),
             left: Left { at: 0, rounds: 0 },
             is_playing: false,
@@ -114,7 +121,7 @@ impl Player {
     pub fn is_done(&self) -> bool
         ensures { result ≡ is_nothing self.now.todo }
     {
-        if self.typed.is_some() || self.begins {
+        if self.typed.is_some() || self.begins || self.replaces_all {
             return false;
         }
         match next_of(self.bytes.as_slice(), self.left) {
@@ -142,6 +149,7 @@ impl Player {
         };
         self.typed = None;
         self.begins = true;
+        self.replaces_all = false;
     }
 
     /// Nothing more is to be done.
@@ -150,8 +158,26 @@ impl Player {
     {
         self.typed = None;
         self.begins = false;
+        self.replaces_all = false;
         self.bytes.clear();
         self.left = Left { at: 0, rounds: 0 };
+    }
+
+    /// All further matches are to be replaced, before what is left of a macro.
+    #[tactic(auto, using(crate::proofs::Rounds::replaced_all))]
+    pub fn replace_all(&mut self)
+        requires { are_played self.old.todo ≡ true }
+        ensures { self.new ≡ replacing_all self.old }
+    {
+        self.replaces_all = true;
+    }
+
+    /// No further match is to be replaced.
+    #[tactic(auto, using(crate::proofs::Rounds::none_replaced))]
+    pub fn end_replacing(&mut self)
+        ensures { self.new ≡ record self.old { todo = without_all self.old.todo } }
+    {
+        self.replaces_all = false;
     }
 
     /// A byte that was typed is handled, or a macro's.
@@ -164,7 +190,7 @@ impl Player {
     /// What is left of a play begins it again: none of its acts was done.
     #[tactic(auto, using(crate::proofs::Rounds::begins_again))]
     pub fn begin_again(&mut self)
-        requires { are_played self.old.todo ≡ true }
+        requires { are_behind self.old.todo ≡ true }
         ensures { self.new ≡ record self.old { todo = Play ∷ self.old.todo } }
     {
         self.begins = true;
@@ -179,6 +205,12 @@ impl Player {
             self.stop();
             self.is_playing = false;
             return Task::Typed(byte);
+        }
+        if self.replaces_all {
+            if self.begins {
+                return Task::FirstReplacement;
+            }
+            return Task::Replacement;
         }
         let begins = self.begins;
         self.begins = false;

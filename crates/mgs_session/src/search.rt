@@ -1,9 +1,10 @@
-// An incremental search that goes on.
-ghost use Rattle.std.specs.Prelude.{◌≡◌, ◌+◌, ◌<◌, ◌≤◌, ◌^◌, length};
-ghost use Rattle.mgs_model.specs.Searching.{read_byte};
-ghost use Rattle.mgs_session.specs.Seeking.{moved, search_begun, search_edited};
+// What a session looks for: an incremental search, or a query-replace.
+ghost use Rattle.std.specs.Prelude.{◌≡◌, ◌+◌, ◌<◌, ◌≤◌, ◌^◌};
+ghost use Rattle.mgs_model.specs.Acts.{counted};
+ghost use Rattle.mgs_session.specs.Seeking.{moved, replacing_begun, search_begun, search_edited};
 
-use mgs_model::{Direction, Name, SearchStep};
+use crate::search_string::SearchString;
+use mgs_model::{Direction, Name};
 use mgs_search::IncrementalSearch;
 
 /// An edit of a text of `size` characters: `added` characters come in the place of those from `from` up to `to`.
@@ -15,18 +16,56 @@ pub struct Edited {
     pub added: usize,
 }
 
-/// An incremental search that goes on: the buffer that it is in, its origin and its anchor there, and what it looks for. A position past
-/// the text's end stands for the end.
+/// A query-replace: the text that is replaced, the text that comes in its place, and how often it did. The largest count stands for
+/// all that are larger.
+#[derive(Drop)]
+pub struct Replacing {
+    pub pattern: SearchString,
+    pub put: SearchString,
+    pub count: usize,
+}
+
+impl Replacing {
+    /// One in which nothing was replaced yet.
+    pub fn new(pattern: SearchString, put: SearchString) -> Replacing
+        ensures { result ≡ record { pattern = pattern; put = put; count = 0 } }
+    {
+        Replacing {
+            pattern,
+            put,
+            count: 0,
+        }
+    }
+
+    /// One more was replaced.
+    pub fn count_one(&mut self)
+        ensures { self.new ≡ record self.old { count = counted self.old.count 1 } }
+    {
+        self.count = self.count.saturating_add(1);
+    }
+}
+
+/// What a search is for.
+#[derive(Drop)]
+pub enum Aim {
+    /// What is typed is found while it is typed.
+    Find(IncrementalSearch),
+    /// Matches are replaced, one by one or all.
+    Replace(Replacing),
+}
+
+/// A search that goes on: the buffer that it is in, its origin and its anchor there, and what it is for. A position past the text's end
+/// stands for the end.
 #[derive(Drop)]
 pub struct Search {
     pub name: Name,
     pub origin: usize,
     pub anchor: usize,
-    pub sought: IncrementalSearch,
+    pub aim: Aim,
 }
 
 impl Search {
-    /// A search for nothing yet.
+    /// An incremental search for nothing yet.
     pub fn new(name: Name, place: usize, direction: Direction) -> Search
         ensures { result ≡ search_begun name place direction }
     {
@@ -34,19 +73,20 @@ impl Search {
             name,
             origin: place,
             anchor: place,
-            sought: IncrementalSearch::new(direction),
+            aim: Aim::Find(IncrementalSearch::new(direction)),
         }
     }
 
-    /// Reads a byte, with what was searched for last, and tells what is to be done. The positions stay.
-    pub fn feed(&mut self, last: &[char], byte: u8) -> SearchStep
-        requires { length last.now ≤ 120 }
-        ensures read { read_byte last.now self.old.sought byte ≡ (self.new.sought, result) }
-        ensures name { self.new.name ≡ self.old.name }
-        ensures origin { self.new.origin ≡ self.old.origin }
-        ensures anchor { self.new.anchor ≡ self.old.anchor }
+    /// A query-replace that begins at a place, with the first match at `anchor`.
+    pub fn replacing(name: Name, place: usize, anchor: usize, replacing: Replacing) -> Search
+        ensures { result ≡ replacing_begun name place anchor replacing }
     {
-        self.sought.feed(last, byte)
+        Search {
+            name,
+            origin: place,
+            anchor,
+            aim: Aim::Replace(replacing),
+        }
     }
 
     /// Its positions go by an edit of the buffer of this name.

@@ -6,7 +6,7 @@ use Rattle.mgs_model.specs.World.{World, Buffer, Shows, find_buffer, first_own, 
 use Rattle.mgs_model.specs.World as model
 use Rattle.mgs_model.specs.declared.message.Message.TheVariants.{Silent}
 use Rattle.mgs_model.specs.declared.session.Mode.{Mode}
-use Rattle.mgs_model.specs.declared.session.Mode.TheVariants.{Plain, Prompt, Searching}
+use Rattle.mgs_model.specs.declared.session.Mode.TheVariants.{Plain, Prompt, Searching, Replacing}
 use Rattle.mgs_mini.specs.Typing.{PromptInput, keys_of}
 use Rattle.mgs_buffers.specs.MarkedBuffer.{MarkedBuffer, mark_at}
 use Rattle.mgs_windows.specs.declared.WindowMarks.{WindowMarks}
@@ -14,6 +14,8 @@ use Rattle.mgs_windows.specs.declared.Window.{Window}
 use Rattle.mgs_windows.specs.declared.RowPane.{RowPane}
 use Rattle.mgs_windows.specs.declared.RowPane.TheVariants.{NoRows, Buffers, Entries}
 use Rattle.mgs_session.specs.declared.Own.{Own}
+use Rattle.mgs_session.specs.declared.search.Aim.{Aim}
+use Rattle.mgs_session.specs.declared.search.Aim.TheVariants.{Find, Replace}
 use Rattle.mgs_session.specs.declared.search.Search.{Search}
 use Rattle.mgs_session.specs.declared.Session.{Session}
 use Rattle.mgs_model.specs.Picture.{IsSize}
@@ -65,9 +67,27 @@ abbrev pub search_of : List Buffer → Option Search → Option model.Search
 search_of bs None = None
 search_of bs (Some s) = Some (search_at bs s)
 
+-- WHAT A SEARCH IS FOR: its mode, what is looked for or comes in the place of a match, what is replaced, and how often it was
+
+abbrev pub aim_mode : Aim → Mode
+aim_mode (Find s) = Searching s.direction s.failing
+aim_mode (Replace r) = Replacing
+
+abbrev pub aim_input : Aim → List ℕ
+aim_input (Find s) = s.pattern
+aim_input (Replace r) = r.put
+
+abbrev pub aim_old : Aim → List ℕ
+aim_old (Find s) = []
+aim_old (Replace r) = r.pattern
+
+abbrev pub aim_count : Aim → ℕ
+aim_count (Find s) = 0
+aim_count (Replace r) = r.count
+
 -- the mode, the keys that are half read and the input: by the search that goes on, or by the prompt where there is one
 abbrev pub mode_in : Option Search → Option PromptInput → Mode
-mode_in (Some s) p = Searching s.sought.direction s.sought.failing
+mode_in (Some s) p = aim_mode s.aim
 mode_in None (Some p) = Prompt p.question
 mode_in None None = Plain
 
@@ -77,15 +97,24 @@ keys_in None keys (Some p) = keys_of p.waiting
 keys_in None keys None = keys
 
 abbrev pub input_in : Option Search → Option PromptInput → List ℕ
-input_in (Some s) p = s.sought.pattern
+input_in (Some s) p = aim_input s.aim
 input_in None (Some p) = p.input
 input_in None None = []
 
--- what a session holds: no mode but those of a prompt and of an incremental search, and nothing but the echo text, the search string, what
--- is half read, the last command's kind, the fill column, its macro and what is still to be done
+-- what is replaced, and how often it was
+abbrev pub old_in : Option Search → Option PromptInput → List ℕ
+old_in (Some s) p = aim_old s.aim
+old_in None (Some p) = p.first
+old_in None None = []
+
+abbrev pub count_in : Option Search → ℕ
+count_in (Some s) = aim_count s.aim
+count_in None = 0
+
+-- what a session holds
 abbrev pub own_of : Own → model.Own
 own_of x =
-    record first_own {
+    record {
       echo = x.echo;
       pattern = x.pattern;
       fill = x.fill;
@@ -97,6 +126,8 @@ own_of x =
       kind = x.kind;
       mode = mode_in x.search x.prompt;
       input = input_in x.search x.prompt;
+      old = old_in x.search x.prompt;
+      count = count_in x.search;
       todo = x.player.todo;
     }
 
