@@ -19,3 +19,6 @@ mod Listings
 pub mod Scrolls
 pub mod Begins
 mod Seeks
+mod Meets
+mod Alterations
+mod Skips

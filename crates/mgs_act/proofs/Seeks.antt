@@ -40,7 +40,7 @@ use Rattle.mgs_session.specs.declared.Session.{Session}
 use Rattle.mgs_session.specs.declared.search.Aim.{Aim}
 use Rattle.mgs_session.specs.declared.search.Aim.TheVariants.{Find, Replace}
 use Rattle.mgs_session.specs.declared.search.Search.{Search}
-use Rattle.mgs_act.specs.declared.seeking.Seek.{Seek}
+use Rattle.mgs_act.specs.declared.seeking.Seeker.{Seeker}
 use Rattle.mgs_act.specs.Actions.{mark_gone}
 use Rattle.mgs_act.specs.Beginning.{gone_back, origin_plan, places_at, search_held, search_or_none, search_shown, search_stepped, seek_in, seeking, session_sought, sought_by}
 use Rattle.mgs_act.specs.Inserting.{rights_decision}
@@ -70,14 +70,14 @@ failed_apart directory ks xs next id at h message place within is =
 -- A STEP
 
 -- what the step tells of the search's mode is what the session holds then
-own_left : (b l : Bool) (s : Seek) (a : ℕ) (h : Session)
+own_left : (b l : Bool) (s : Seeker) (a : ℕ) (h : Session)
     → (let failing : Bool = cond b l s.sought.failing in
     let own : Own = own_of (searching (sought_by s) h).own in
     mode_left (cond b (Failing failing) Goes_on) (own.count + 0) own.todo (record (acted_own own) { echo = Silent; kind = Other }) ≡ own_of (session_sought (record s { anchor = a; sought = record s.sought { failing = failing } }) h).own)
 own_left true l s a h = refl
 own_left false l s a h = refl
 
-module _ (directory : Directory) (ks : List MarkedBuffer) (xs : List Session) (next : Option ℕ) (id at : ℕ) (h : Session) (x : WindowMarks) (s : Seek) (step : SearchStep) (place : at ≡ position_or_len (session_id id) xs) (within : at < length xs) (found : slice_get xs at ≡ Some (searching (sought_by s) h)) (sel : window_marks_of h ≡ Some x) (mark : IsMark x.name x.point ks) (once : uses x.name x.point xs ≤ 1) (name : s.name ≡ x.name) where
+module _ (directory : Directory) (ks : List MarkedBuffer) (xs : List Session) (next : Option ℕ) (id at : ℕ) (h : Session) (x : WindowMarks) (s : Seeker) (step : SearchStep) (place : at ≡ position_or_len (session_id id) xs) (within : at < length xs) (found : slice_get xs at ≡ Some (searching (sought_by s) h)) (sel : window_marks_of h ≡ Some x) (mark : IsMark x.name x.point ks) (once : uses x.name x.point xs ≤ 1) (name : s.name ≡ x.name) where
   abbrev b : Buffer
   b = (marked_at x.name ks).buffer
 
@@ -87,7 +87,7 @@ module _ (directory : Directory) (ks : List MarkedBuffer) (xs : List Session) (n
   abbrev after : SearchPlaces
   after = places_after step s.sought b.text before
 
-  abbrev new : Seek
+  abbrev new : Seeker
   new = search_stepped step b.text before s
 
   abbrev left : Finish
@@ -152,7 +152,7 @@ module _ (directory : Directory) (ks : List MarkedBuffer) (xs : List Session) (n
           let w = world_of directory ks xs next in
           ap (λ (r : Option model.Search). let y : model.Session = record (session_of ks held) { search = r } in outcome (view w y) (Run (Move m) None s.sought.pattern) true)
           (λ i. Some (record { name = name i; origin = min s.origin (size i); anchor = min s.anchor (size i) }))
-          ∙ moved_here directory ks xs next held own None s.sought.pattern m x sel (mark_is_kept x.name x.point ks mark) granted before refl left planned
+          ∙ moved_here directory ks xs next held own None s.sought.pattern m x sel (mark_is_kept x.name x.point ks mark) granted before refl left (λ rest old. planned rest)
 
       pub act_stepped : world_of directory placed (slice_set xs at (session_sought new h)) next ≡ act (world_of directory ks xs next) id (Run (Move (SearchOn s.sought.direction step)) None s.sought.pattern) true
       act_stepped =
@@ -165,35 +165,35 @@ held_so : (h : Session) (s : Search) → h.own.search ≡ Some s → h ≡ searc
 held_so h s is = ap (λ (o : Option Search). let x : Session = record h { own = record h.own { search = o } } in x) is
 
 -- what it finds
-abbrev pub seek_of : Search → Sought → Seek
+abbrev pub seek_of : Search → Sought → Seeker
 seek_of s f = record { name = s.name; origin = s.origin; anchor = s.anchor; sought = f }
 
 pub held_seek : (at : ℕ) (xs : List Session) (s : Search) (f : Sought) → search_held at xs ≡ Some s → s.aim ≡ Find f → search_held at xs ≡ Some (sought_by (seek_of s f))
 held_seek at xs s f held aim = held ∙ ap (λ (a : Aim). let t : Search = record s { aim = a } in Some t) aim
 
 -- a search that is not shown is in another buffer
-away : (name : List ℕ) (o : Option Search) (s : Seek) → search_shown name o ≡ None → o ≡ Some (sought_by s) → same_name s.name name ≡ false
+away : (name : List ℕ) (o : Option Search) (s : Seeker) → search_shown name o ≡ None → o ≡ Some (sought_by s) → same_name s.name name ≡ false
 away name o s none is = by (same_name s.name name) (ap (search_shown name) (sym is) ∙ none)
   where
-    by : (q : Bool) → Path (Option Seek) (cond q (Some s) None) None → q ≡ false
+    by : (q : Bool) → Path (Option Seeker) (cond q (Some s) None) None → q ≡ false
     by true e = cc
     by false e = refl
 
-pub shown_so : (name : List ℕ) (o : Option Search) (s : Seek) → search_shown name o ≡ Some s → (o ≡ Some (sought_by s)) × (s.name ≡ name)
+pub shown_so : (name : List ℕ) (o : Option Search) (s : Seeker) → search_shown name o ≡ Some s → (o ≡ Some (sought_by s)) × (s.name ≡ name)
 shown_so name None s is = cc
 shown_so name (Some t) s is = by (same_name t.name name) t.aim refl refl is
   where
-    by : (q : Bool) (a : Aim) → same_name t.name name ≡ q → t.aim ≡ a → Path (Option Seek) (cond q (seek_in t a) None) (Some s) → (Path (Option Search) (Some t) (Some (sought_by s))) × (s.name ≡ name)
+    by : (q : Bool) (a : Aim) → same_name t.name name ≡ q → t.aim ≡ a → Path (Option Seeker) (cond q (seek_in t a) None) (Some s) → (Path (Option Search) (Some t) (Some (sought_by s))) × (s.name ≡ name)
     by true (Find f) e aim is =
-        let u : Seek = record { name = t.name; origin = t.origin; anchor = t.anchor; sought = f } in
+        let u : Seeker = record { name = t.name; origin = t.origin; anchor = t.anchor; sought = f } in
         let same : u ≡ s = cc in (
-          ap (λ (x : Aim). let r : Search = record t { aim = x } in Some r) aim ∙ ap (λ (v : Seek). Some (sought_by v)) same,
-          ap (λ (v : Seek). v.name) (sym same) ∙ same_is t.name name e,
+          ap (λ (x : Aim). let r : Search = record t { aim = x } in Some r) aim ∙ ap (λ (v : Seeker). Some (sought_by v)) same,
+          ap (λ (v : Seeker). v.name) (sym same) ∙ same_is t.name name e,
         )
     by true (Replace r) e aim is = cc
     by false a e aim is = cc
 
-module _ (directory : Directory) (ks : List MarkedBuffer) (xs : List Session) (next : Option ℕ) (id at : ℕ) (h : Session) (s : Seek) (step : SearchStep) (place : at ≡ position_or_len (session_id id) xs) (within : at < length xs) (found : slice_get xs at ≡ Some h) (held : search_held at xs ≡ Some (sought_by s)) where
+module _ (directory : Directory) (ks : List MarkedBuffer) (xs : List Session) (next : Option ℕ) (id at : ℕ) (h : Session) (s : Seeker) (step : SearchStep) (place : at ≡ position_or_len (session_id id) xs) (within : at < length xs) (found : slice_get xs at ≡ Some h) (held : search_held at xs ≡ Some (sought_by s)) where
   abbrev sought_on : Act
   sought_on = Run (Move (SearchOn s.sought.direction step)) None s.sought.pattern
 
@@ -227,40 +227,40 @@ failed_sound ks xs at h message is sound = sound_set ks xs at h (failed message 
 pub failed_sizes : (xs : List Session) (at : ℕ) (h : Session) (message : Message) → slice_get xs at ≡ Some h → sizes_in (slice_set xs at (failed message h)) ≡ sizes_in xs
 failed_sizes xs at h message is = sizes_set xs at h (failed message h) (sym (get_or_from_slice_get xs at h h is)) refl
 
-pub sought_sound : (ks : List MarkedBuffer) (xs : List Session) (at p : ℕ) (h : Session) (x : WindowMarks) (s : Seek) → slice_get xs at ≡ Some h → IsMark x.name x.point ks → IsSound ks xs → IsSound (change_first (marked_named x.name) (marked_placed x.point p) ks) (slice_set xs at (session_sought s h))
+pub sought_sound : (ks : List MarkedBuffer) (xs : List Session) (at p : ℕ) (h : Session) (x : WindowMarks) (s : Seeker) → slice_get xs at ≡ Some h → IsMark x.name x.point ks → IsSound ks xs → IsSound (change_first (marked_named x.name) (marked_placed x.point p) ks) (slice_set xs at (session_sought s h))
 sought_sound ks xs at p h x s is mark sound =
     sound_set _ xs at h (session_sought s h) (sym (get_or_from_slice_get xs at h h is)) (λ n i. refl) (sound_placed x.name x.point p ks xs mark sound)
 
-pub sought_sizes : (xs : List Session) (at : ℕ) (h : Session) (s : Seek) → slice_get xs at ≡ Some h → sizes_in (slice_set xs at (session_sought s h)) ≡ sizes_in xs
+pub sought_sizes : (xs : List Session) (at : ℕ) (h : Session) (s : Seeker) → slice_get xs at ≡ Some h → sizes_in (slice_set xs at (session_sought s h)) ≡ sizes_in xs
 sought_sizes xs at h s is = sizes_set xs at h (session_sought s h) (sym (get_or_from_slice_get xs at h h is)) refl
 
 -- A STEP IN THE SHOWN BUFFER, by what the calls answer
-abbrev step_places : List MarkedBuffer → WindowMarks → Seek → SearchPlaces
+abbrev step_places : List MarkedBuffer → WindowMarks → Seeker → SearchPlaces
 step_places ks x s = places_at (length (marked_at x.name ks).buffer.text) (mark_at x.name ks x.point) s
 
-abbrev step_ends : List MarkedBuffer → WindowMarks → Seek → SearchStep → SearchPlaces
+abbrev step_ends : List MarkedBuffer → WindowMarks → Seeker → SearchStep → SearchPlaces
 step_ends ks x s step = places_after step s.sought (marked_at x.name ks).buffer.text (step_places ks x s)
 
-abbrev step_search : List MarkedBuffer → WindowMarks → Seek → SearchStep → Seek
+abbrev step_search : List MarkedBuffer → WindowMarks → Seeker → SearchStep → Seeker
 step_search ks x s step = search_stepped step (marked_at x.name ks).buffer.text (step_places ks x s) s
 
-abbrev step_buffers : List MarkedBuffer → WindowMarks → Seek → SearchStep → List MarkedBuffer
+abbrev step_buffers : List MarkedBuffer → WindowMarks → Seeker → SearchStep → List MarkedBuffer
 step_buffers ks x s step = change_first (marked_named x.name) (marked_placed x.point (step_ends ks x s step).point) ks
 
-pub here_sound : (ks : List MarkedBuffer) (xs : List Session) (at : ℕ) (h : Session) (x : WindowMarks) (s : Seek) (step : SearchStep) → slice_get xs at ≡ Some h → IsSound ks xs → IsMark x.name x.point ks → IsSound (step_buffers ks x s step) (slice_set xs at (session_sought (step_search ks x s step) h))
+pub here_sound : (ks : List MarkedBuffer) (xs : List Session) (at : ℕ) (h : Session) (x : WindowMarks) (s : Seeker) (step : SearchStep) → slice_get xs at ≡ Some h → IsSound ks xs → IsMark x.name x.point ks → IsSound (step_buffers ks x s step) (slice_set xs at (session_sought (step_search ks x s step) h))
 here_sound ks xs at h x s step found sound mark = sought_sound ks xs at (step_ends ks x s step).point h x (step_search ks x s step) found mark sound
 
-pub here_sizes : (ks : List MarkedBuffer) (xs : List Session) (at : ℕ) (h : Session) (x : WindowMarks) (s : Seek) (step : SearchStep) → slice_get xs at ≡ Some h → sizes_in (slice_set xs at (session_sought (step_search ks x s step) h)) ≡ sizes_in xs
+pub here_sizes : (ks : List MarkedBuffer) (xs : List Session) (at : ℕ) (h : Session) (x : WindowMarks) (s : Seeker) (step : SearchStep) → slice_get xs at ≡ Some h → sizes_in (slice_set xs at (session_sought (step_search ks x s step) h)) ≡ sizes_in xs
 here_sizes ks xs at h x s step found = sought_sizes xs at h (step_search ks x s step) found
 
-module _ (directory : Directory) (ks : List MarkedBuffer) (xs : List Session) (next : Option ℕ) (id at : ℕ) (h : Session) (x : WindowMarks) (s : Seek) where
+module _ (directory : Directory) (ks : List MarkedBuffer) (xs : List Session) (next : Option ℕ) (id at : ℕ) (h : Session) (x : WindowMarks) (s : Seeker) where
   pub here_apart : (step : SearchStep) → at ≡ position_or_len (session_id id) xs → at < length xs → slice_get xs at ≡ Some h → IsSound ks xs → window_marks_of h ≡ Some x → IsMark x.name x.point ks → search_shown x.name h.own.search ≡ Some s → (step_ends ks x s step).anchor ≤ length (marked_at x.name ks).buffer.text
       → Apart Nowhere id (world_of directory ks xs next) (world_of directory (step_buffers ks x s step) (slice_set xs at (session_sought (step_search ks x s step) h)) next)
   here_apart step place within found sound sel mark shown small =
       let so = shown_so x.name h.own.search s shown in
       stepped_apart directory ks xs next id at h x s step place within (found ∙ ap (λ (y : Session). Some y) (held_so h (sought_by s) so.0)) sel mark (once_used ks xs x.name x.point sound) so.1 small
 
-  pub here_world : (t : Seek) (step : SearchStep) → at ≡ position_or_len (session_id id) xs → at < length xs → slice_get xs at ≡ Some h → IsSound ks xs → window_marks_of h ≡ Some x → IsMark x.name x.point ks → search_shown x.name h.own.search ≡ Some s → search_held at xs ≡ Some (sought_by t) → (step_ends ks x s step).anchor ≤ length (marked_at x.name ks).buffer.text → rights_decision directory ks h.user x.name 1 ≡ Granted
+  pub here_world : (t : Seeker) (step : SearchStep) → at ≡ position_or_len (session_id id) xs → at < length xs → slice_get xs at ≡ Some h → IsSound ks xs → window_marks_of h ≡ Some x → IsMark x.name x.point ks → search_shown x.name h.own.search ≡ Some s → search_held at xs ≡ Some (sought_by t) → (step_ends ks x s step).anchor ≤ length (marked_at x.name ks).buffer.text → rights_decision directory ks h.user x.name 1 ≡ Granted
       → ((rest : plans.Around) → Path (Result Finish Message) (Ok (stepped step (step_ends ks x s step) (step_search ks x s step).sought.failing)) (motion (SearchOn s.sought.direction step) (marked_at x.name ks).buffer.text (seeking rest (step_places ks x s) s.sought.pattern)))
       → world_of directory (step_buffers ks x s step) (slice_set xs at (session_sought (step_search ks x s step) h)) next ≡ act (world_of directory ks xs next) id (Run (Move (SearchOn t.sought.direction step)) None t.sought.pattern) true
   here_world t step place within found sound sel mark shown held small granted planned =
@@ -269,11 +269,11 @@ module _ (directory : Directory) (ks : List MarkedBuffer) (xs : List Session) (n
       act_stepped directory ks xs next id at h x s step place within (found ∙ ap (λ (y : Session). Some y) (held_so h (sought_by s) so.0)) sel mark (once_used ks xs x.name x.point sound) so.1 small granted planned
       ∙ ap (λ (o : Option Search). act (world_of directory ks xs next) id (Run (Move (SearchOn (or_this s o).direction step)) None (or_this s o).pattern) true) same
     where
-      in_aim : Seek → Aim → Sought
+      in_aim : Seeker → Aim → Sought
       in_aim u (Find f) = f
       in_aim u (Replace r) = u.sought
 
-      or_this : Seek → Option Search → Sought
+      or_this : Seeker → Option Search → Sought
       or_this u None = u.sought
       or_this u (Some v) = in_aim u v.aim
 

@@ -88,8 +88,8 @@ is_met s text = matches_at (aim_old s.aim) text (anchor_of s text)
 abbrev pub replaced_change : Search → List ℕ → plans.Change
 replaced_change s text = change_met (is_met s text) (anchor_of s text) (aim_old s.aim) (aim_input s.aim)
 
-abbrev pub planned : Search → List ℕ → Planned
-planned s text =
+abbrev pub plan_at : Search → List ℕ → Planned
+plan_at s text =
     let c = replaced_change s text in
     record { matches = is_met s text; edit = record { size = length text; from = c.a; to = c.b; added = length c.put } }
 
@@ -138,7 +138,7 @@ next_after last x s ks =
 
 abbrev pub buffers_replaced : Bool → WindowMarks → Search → List MarkedBuffer → List MarkedBuffer
 buffers_replaced last x s ks =
-    mark_gone x.name x.point (point_met (length (aim_old s.aim)) (next_after last x s ks) (left_at (planned s (text_at x ks)))) (edited_by x.name (replaced_change s (text_at x ks)) ks)
+    mark_gone x.name x.point (point_met (length (aim_old s.aim)) (next_after last x s ks) (left_at (plan_at s (text_at x ks)))) (edited_by x.name (replaced_change s (text_at x ks)) ks)
 
 abbrev pub edit_replaced : WindowMarks → Search → List MarkedBuffer → Option Edited
 edit_replaced x s ks = edit_told (length (text_at x ks)) (replaced_change s (text_at x ks))
@@ -150,12 +150,12 @@ session_replaced last x s ks h = session_met (next_after last x s ks) (search_fo
 pub record IsFull (at : ℕ) (h : Session) (ks ls : List MarkedBuffer) (xs ys : List Session) (touched : Touched) : Type 0 where
   pub buffers : ls ≡ ks
   pub sessions : ys ≡ slice_set xs at (failed BufferFull h)
-  pub touched : touched ≡ Nowhere
+  pub tells : touched ≡ Nowhere
 
 pub record IsPut (last : Bool) (at : ℕ) (x : WindowMarks) (s : Search) (h : Session) (ks ls : List MarkedBuffer) (xs ys : List Session) (touched : Touched) : Type 0 where
   pub buffers : ls ≡ buffers_replaced last x s ks
   pub sessions : ys ≡ slice_set (followed x.name (edit_replaced x s ks) xs) at (session_replaced last x s ks h)
-  pub touched : touched ≡ touched_by (edit_of x.name (replaced_change s (text_at x ks)))
+  pub tells : touched ≡ touched_by (edit_of x.name (replaced_change s (text_at x ks)))
 
 abbrev pub IsReplaced : Bool → Bool → ℕ → WindowMarks → Search → Session → List MarkedBuffer → List MarkedBuffer → List Session → List Session → Touched → Type 0
 IsReplaced true last at x s h ks ls xs ys touched = IsFull at h ks ls xs ys touched

@@ -22,7 +22,7 @@ ghost use Rattle.mgs_act.specs.Actions.{edited_by, mark_gone};
 ghost use Rattle.mgs_act.specs.Beginning.{search_held};
 ghost use Rattle.mgs_act.specs.Following.{CanFollow, edit_told, followed};
 ghost use Rattle.mgs_act.specs.Inserting.{rights_decision};
-ghost use Rattle.mgs_act.specs.Replacing.{IsReplaced, if_replaces, is_change, left_at, next_met, planned, point_met, remaining_at, replaced_change, replacement, replacing_own, replacing_shown, search_counted, search_followed, session_met, taken};
+ghost use Rattle.mgs_act.specs.Replacing.{IsReplaced, if_replaces, is_change, left_at, next_met, plan_at, point_met, remaining_at, replaced_change, replacement, replacing_own, replacing_shown, search_counted, search_followed, session_met, taken};
 ghost use Rattle.mgs_world.specs.Sound.{IsSound};
 ghost use Rattle.mgs_world.specs.Worlds.{aim_count, aim_input, aim_old, idle, own_at, session_id, sizes_in, world_of};
 
@@ -65,7 +65,8 @@ fn put_text(search: &Search) -> &[char]
 
 /// How often it was replaced.
 fn replaced_count(search: &Search) -> usize
-    ensures { result ≡ aim_count search.now.aim }
+    ensures value { result ≡ aim_count search.now.aim }
+    ensures small { aim_count search.now.aim < 2 ^ 64 }
 {
     match &search.aim {
         Aim::Find(_) => 0,
@@ -178,7 +179,7 @@ pub struct Planned {
 
 /// What a replacement is in a text of `size` characters.
 fn plan<T: Text>(text: &T, search: &Search) -> Planned
-    ensures value { result ≡ planned search.now (T.text text.now) }
+    ensures value { result ≡ plan_at search.now (T.text text.now) }
     ensures order { result.edit.from ≤ result.edit.to }
     ensures within { result.edit.to ≤ length (T.text text.now) }
     ensures added { result.edit.added ≤ 120 }
@@ -249,7 +250,7 @@ fn put_in<T: Marked + Drop>(
     planned: &Planned,
 ) -> Result<(), Short>
     requires kept { HasBuffer name.now buffers.old }
-    requires planned { planned.now ≡ planned search.now (marked_at name.now buffers.old).buffer.text }
+    requires planned { planned.now ≡ plan_at search.now (marked_at name.now buffers.old).buffer.text }
     requires order { planned.now.edit.from ≤ planned.now.edit.to }
     requires within { planned.now.edit.to ≤ length (marked_at name.now buffers.old).buffer.text }
     requires room { is_full (length (marked_at name.now buffers.old).buffer.text) (marked_at name.now buffers.old).buffer.serial (replaced_change search.now (marked_at name.now buffers.old).buffer.text) ≡ false }
@@ -442,6 +443,8 @@ pub fn skip<T: Marked + Drop>(
         Some(message) => fail(session, message),
         None => match take_replacing_in(session, name) {
             Some(search) => {
+                // For the range of a count.
+                let _count = replaced_count(&search);
                 let anchor = search.anchor.min(buffers.text_len(name));
                 let next = skip_match(buffers.text(name), anchor, replaced_text(&search));
                 meet(buffers, session, &window_marks, search, None, next);

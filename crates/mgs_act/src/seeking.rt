@@ -40,7 +40,7 @@ use mgs_windows::WindowMarks;
 
 /// An incremental search by itself.
 #[derive(Drop)]
-pub struct Seek {
+pub struct Seeker {
     pub name: Name,
     pub origin: usize,
     pub anchor: usize,
@@ -87,7 +87,7 @@ pub fn start_search<T: Marked + Drop>(
 }
 
 /// A session goes on with a search, and has nothing half read.
-fn go_on(session: &mut Session, search: Seek)
+fn go_on(session: &mut Session, search: Seeker)
     ensures { session.new ≡ session_sought search session.old }
 {
     rest(session);
@@ -105,7 +105,7 @@ fn go_on(session: &mut Session, search: Seek)
 fn step_in<T: Marked + Drop>(
     buffers: &Buffers<T>,
     window_marks: &WindowMarks,
-    search: &mut Seek,
+    search: &mut Seeker,
     step: SearchStep,
 ) -> usize
     requires { AreMarks buffers.now window_marks.now }
@@ -132,7 +132,7 @@ fn seek<T: Marked + Drop>(
     buffers: &mut Buffers<T>,
     session: &mut Session,
     window_marks: &WindowMarks,
-    search: Seek,
+    search: Seeker,
     step: SearchStep,
 )
     requires { AreMarks buffers.old window_marks.now }
@@ -148,14 +148,20 @@ fn seek<T: Marked + Drop>(
 }
 
 /// A search by itself, if it is an incremental one.
-fn seek_in(search: Search) -> Option<Seek>
+fn seek_in(search: Search) -> Option<Seeker>
     ensures { result ≡ seek_in search search.aim }
 {
-    match search.aim {
-        Aim::Find(sought) => Some(Seek {
-            name: search.name,
-            origin: search.origin,
-            anchor: search.anchor,
+    let Search {
+        name,
+        origin,
+        anchor,
+        aim,
+    } = search;
+    match aim {
+        Aim::Find(sought) => Some(Seeker {
+            name,
+            origin,
+            anchor,
             sought,
         }),
         Aim::Replace(_) => None,
@@ -163,7 +169,7 @@ fn seek_in(search: Search) -> Option<Seek>
 }
 
 /// The search of a session, which is taken out, where it is an incremental one in the buffer of this name.
-fn take_search_in(session: &mut Session, name: &Name) -> Option<Seek>
+fn take_search_in(session: &mut Session, name: &Name) -> Option<Seeker>
     ensures search { result ≡ search_shown name.now session.old.own.search }
     ensures rest { session.new ≡ unsearched session.old }
 {
