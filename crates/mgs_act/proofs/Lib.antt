@@ -22,3 +22,4 @@ mod Seeks
 mod Meets
 mod Alterations
 mod Skips
+mod Starts

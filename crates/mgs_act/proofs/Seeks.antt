@@ -161,7 +161,7 @@ module _ (directory : Directory) (ks : List MarkedBuffer) (xs : List Session) (n
 -- A STEP THAT FAILS
 
 -- the session is one that searches
-held_so : (h : Session) (s : Search) → h.own.search ≡ Some s → h ≡ searching s h
+pub held_so : (h : Session) (s : Search) → h.own.search ≡ Some s → h ≡ searching s h
 held_so h s is = ap (λ (o : Option Search). let x : Session = record h { own = record h.own { search = o } } in x) is
 
 -- what it finds

@@ -14,7 +14,7 @@ use Rattle.mgs_model.specs.Plans as plans
 use Rattle.mgs_model.specs.Plans.{Finish, motion, stays}
 use Rattle.mgs_model.specs.Acts.{counted, fails, finished, is_sought_in, outcome, permitted}
 use Rattle.mgs_model.specs.Apart.{Apart}
-use Rattle.mgs_model.specs.Apply.{act}
+use Rattle.mgs_model.specs.Apply.{act, apply}
 use Rattle.mgs_model.specs.declared.entry.Decision.TheVariants.{Granted}
 use Rattle.mgs_model.specs.declared.message.Message.{Message}
 use Rattle.mgs_model.specs.declared.message.Message.TheVariants.{NoBuffer}
@@ -152,10 +152,10 @@ module _ (directory : Directory) (ks : List MarkedBuffer) (xs : List Session) (n
   held_is = (shown_replaces x.name h.own.search s shown).1
 
   whole : s ≡ replaces s r
-  whole = (shown_replaces x.name h.own.search s shown).2.0
+  whole = (shown_replaces x.name h.own.search s shown).2
 
   name : s.name ≡ x.name
-  name = (shown_replaces x.name h.own.search s shown).2.1
+  name = (shown_replaces x.name h.own.search s shown).3
 
   here : h ≡ searching (replaces s r) h
   here = held_so h (replaces s r) held_is

@@ -66,7 +66,7 @@ fn put_text(search: &Search) -> &[char]
 /// How often it was replaced.
 fn replaced_count(search: &Search) -> usize
     ensures value { result ≡ aim_count search.now.aim }
-    ensures small { aim_count search.now.aim < 2 ^ 64 }
+    ensures small { result < 2 ^ 64 }
 {
     match &search.aim {
         Aim::Find(_) => 0,
