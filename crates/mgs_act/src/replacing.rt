@@ -63,6 +63,14 @@ fn put_text(search: &Search) -> &[char]
     }
 }
 
+/// A number as it is: that it fits its type.
+fn in_range(number: usize) -> usize
+    ensures value { result ≡ number }
+    ensures small { result < 2 ^ 64 }
+{
+    number
+}
+
 /// How often it was replaced.
 fn replaced_count(search: &Search) -> usize
     ensures value { result ≡ aim_count search.now.aim }
@@ -70,7 +78,7 @@ fn replaced_count(search: &Search) -> usize
 {
     match &search.aim {
         Aim::Find(_) => 0,
-        Aim::Replace(replacing) => replacing.count,
+        Aim::Replace(replacing) => in_range(replacing.count),
     }
 }
 
@@ -264,7 +272,10 @@ fn put_in<T: Marked + Drop>(
 
 /// An edit, if it is one.
 fn if_edit(edit: Edited) -> Option<Edited>
-    ensures { (put : List ℕ) → length put ≡ edit.added → result ≡ edit_told edit.size (taken edit.from edit.to put) }
+    requires order { edit.from ≤ edit.to }
+    requires fits { edit.size + edit.added < 2 ^ 64 }
+    ensures can { CanFollow result }
+    ensures value { (put : List ℕ) → length put ≡ edit.added → result ≡ edit_told edit.size (taken edit.from edit.to put) }
 {
     if edit.from < edit.to || edit.added > 0 {
         Some(edit)

@@ -97,7 +97,7 @@ returns-in-Some-take_replacing_in-clause-world g c = λ id next s r place held a
     let x = c.in-Some.window_marks in
     let marks = acting_marks c.args.buffers.now c.args.sessions.now c.args.at c.in-Some.window_marks c.requires.sound (ap (option_and_then window_marks_of) (slice_get-get_or c.args.sessions.now c.args.at c.index-sessions-at.result c.requires.within) ∙ sym c.selected_window_marks.ensures ∙ c.in-Some.is) in
     rw (c.meet.ensures.buffers, c.meet.ensures.session, c.take_replacing_in.ensures.rest)
-    (act_skip c.args.directory.now c.args.buffers.now xs next id c.args.at (get_or xs c.args.at q) x c.in-Some-take_replacing_in.search place c.requires.within (slice_get-get_or xs c.args.at q c.requires.within) c.requires.sound (sym c.selected_window_marks.ensures ∙ c.in-Some.is) marks.point (sym c.take_replacing_in.ensures.search ∙ c.in-Some-take_replacing_in.is) (subst (λ (n : ℕ). n < 2 ^ 64) c.replaced_count.ensures.value c.replaced_count.ensures.small) c.skip_match-next.result c.skip_match-next.ensures.within (c.source_refusal.ensures.none c.in-None.is) c.skip_match-next.ensures.plan s r held aim)
+    (act_skip c.args.directory.now c.args.buffers.now xs next id c.args.at (get_or xs c.args.at q) x c.in-Some-take_replacing_in.search place c.requires.within (slice_get-get_or xs c.args.at q c.requires.within) c.requires.sound (sym c.selected_window_marks.ensures ∙ c.in-Some.is) marks.point (sym c.take_replacing_in.ensures.search ∙ c.in-Some-take_replacing_in.is) (subst (λ (n : ℕ). n < 2 ^ 64) c.replaced_count-count.ensures.value c.replaced_count-count.ensures.small) c.skip_match-next.result c.skip_match-next.ensures.within (c.source_refusal.ensures.none c.in-None.is) c.skip_match-next.ensures.plan s r held aim)
 
 pub returns-in-Some-take_replacing_in-clause-apart : goal.returns-in-Some-take_replacing_in-clause-apart
 returns-in-Some-take_replacing_in-clause-apart g c = λ id next place.
@@ -106,7 +106,7 @@ returns-in-Some-take_replacing_in-clause-apart g c = λ id next place.
     let x = c.in-Some.window_marks in
     let marks = acting_marks c.args.buffers.now c.args.sessions.now c.args.at c.in-Some.window_marks c.requires.sound (ap (option_and_then window_marks_of) (slice_get-get_or c.args.sessions.now c.args.at c.index-sessions-at.result c.requires.within) ∙ sym c.selected_window_marks.ensures ∙ c.in-Some.is) in
     rw (c.meet.ensures.buffers, c.meet.ensures.session, c.take_replacing_in.ensures.rest)
-    (skip_apart c.args.directory.now c.args.buffers.now xs next id c.args.at (get_or xs c.args.at q) x c.in-Some-take_replacing_in.search place c.requires.within (slice_get-get_or xs c.args.at q c.requires.within) c.requires.sound (sym c.selected_window_marks.ensures ∙ c.in-Some.is) marks.point (sym c.take_replacing_in.ensures.search ∙ c.in-Some-take_replacing_in.is) (subst (λ (n : ℕ). n < 2 ^ 64) c.replaced_count.ensures.value c.replaced_count.ensures.small) c.skip_match-next.result c.skip_match-next.ensures.within)
+    (skip_apart c.args.directory.now c.args.buffers.now xs next id c.args.at (get_or xs c.args.at q) x c.in-Some-take_replacing_in.search place c.requires.within (slice_get-get_or xs c.args.at q c.requires.within) c.requires.sound (sym c.selected_window_marks.ensures ∙ c.in-Some.is) marks.point (sym c.take_replacing_in.ensures.search ∙ c.in-Some-take_replacing_in.is) (subst (λ (n : ℕ). n < 2 ^ 64) c.replaced_count-count.ensures.value c.replaced_count-count.ensures.small) c.skip_match-next.result c.skip_match-next.ensures.within)
 
 pub returns-in-None-take_replacing_in-clause-sound : goal.returns-in-None-take_replacing_in-clause-sound
 returns-in-None-take_replacing_in-clause-sound g c =
