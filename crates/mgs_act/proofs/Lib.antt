@@ -23,3 +23,5 @@ mod Meets
 mod Alterations
 mod Skips
 mod Starts
+mod Changes
+mod Replaces

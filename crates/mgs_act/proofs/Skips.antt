@@ -97,6 +97,21 @@ same_replacing s r t u same aim =
 pub none_counted : (n : ℕ) → n < 2 ^ 64 → n ≡ counted n 0
 none_counted n small = (let within : n + 0 ≤ 18446744073709551615 = omega (arith, small) in let same : n ≡ n + 0 = omega arith in same ∙ sym (min-eq_left within))
 
+-- WHAT THE PLANNER ANSWERS, of the text and the pattern as they were read
+
+pub within_read : (o : Option ℕ) (q old t text : List ℕ) → q ≡ old → t ≡ text → IfSome o (λ m. m + length q ≤ length t) → IfSome o (λ m. m + length old ≤ length text)
+within_read None q old t text eq et room = tt
+within_read (Some m) q old t text eq et room = omega (arith, room, ap (λ (k : List ℕ). length k) eq, ap (λ (k : List ℕ). length k) et)
+
+pub skip_read : (to : Option ℕ) (q old t text : List ℕ) (a b : ℕ) → q ≡ old → t ≡ text → a ≡ b → ((rest : plans.Around) → Path (Result Finish Message) (Ok (met (length q) stays to)) (motion SkipMatch t (record rest { anchor = a; sought_here = true; old = q })))
+    → (rest : plans.Around) → Path (Result Finish Message) (Ok (met (length old) stays to)) (motion SkipMatch text (record rest { anchor = b; sought_here = true; old = old }))
+skip_read to q old t text a b eq et ea plan rest =
+    sym (ap (λ (k : List ℕ). Ok (met (length k) stays to)) eq)
+    ∙ plan rest
+    ∙ ap (λ (k : List ℕ). motion SkipMatch t (record rest { anchor = a; sought_here = true; old = k })) eq
+    ∙ ap (λ (k : List ℕ). motion SkipMatch k (record rest { anchor = a; sought_here = true; old = old })) et
+    ∙ ap (λ (k : ℕ). motion SkipMatch text (record rest { anchor = k; sought_here = true; old = old })) ea
+
 -- WHAT FAILS
 
 module _ (directory : Directory) (ks : List MarkedBuffer) (xs : List Session) (next : Option ℕ) (id at : ℕ) (h : Session) (place : at ≡ position_or_len (session_id id) xs) (within : at < length xs) (found : slice_get xs at ≡ Some h) where

@@ -59,6 +59,16 @@ begun_finish : (name : List ℕ) (p len : ℕ) (to : Option ℕ) → begun name 
 begun_finish name p len None = refl
 begun_finish name p len (Some m) = refl
 
+-- what the planner answers, of the text and the pattern as they were read
+pub start_read : (r r1 : Result (Option ℕ) Message) (q old t text : List ℕ) (a b : ℕ) → q ≡ old → t ≡ text → a ≡ b → r1 ≡ r → ((rest : plans.Around) → begun rest.name a (length q) r1 ≡ motion StartReplace t (record rest { place = a; old = q }))
+    → (rest : plans.Around) → begun rest.name b (length old) r ≡ motion StartReplace text (record rest { place = b; old = old })
+start_read r r1 q old t text a b eq et ea er plan rest =
+    sym (ap (λ (k : List ℕ). begun rest.name a (length k) r1) eq ∙ ap (λ (k : ℕ). begun rest.name k (length old) r1) ea ∙ ap (begun rest.name b (length old)) er)
+    ∙ plan rest
+    ∙ ap (λ (k : List ℕ). motion StartReplace t (record rest { place = a; old = k })) eq
+    ∙ ap (λ (k : List ℕ). motion StartReplace k (record rest { place = a; old = old })) et
+    ∙ ap (λ (k : ℕ). motion StartReplace text (record rest { place = k; old = old })) ea
+
 module _ (directory : Directory) (ks : List MarkedBuffer) (xs : List Session) (next : Option ℕ) (id at : ℕ) (h : Session) (old put : List ℕ) (place : at ≡ position_or_len (session_id id) xs) (within : at < length xs) (found : slice_get xs at ≡ Some h) (fresh : own_at at xs ≡ idle (own_at at xs)) where
   abbrev w : World
   w = world_of directory ks xs next

@@ -1,13 +1,14 @@
-use Rattle.std.proofs.Common.{ℕ, ◌<◌, ◌^◌, None, get_or, sym, ap, subst, ◌∙◌}
+use Rattle.std.proofs.Common.{ℕ, ◌<◌, ◌^◌, min, length, None, get_or, sym, ap, subst, ◌∙◌}
 use Rattle.std.specs.Option.{option_and_then}
 use Rattle.std.proofs.lemmas.Option.{slice_get-get_or}
 use Rattle.mgs_model.specs.declared.message.Message.TheVariants.{NoBuffer}
+use Rattle.mgs_buffers.specs.MarkedBuffer.{marked_at}
 use Rattle.mgs_session.specs.Sessions.{window_marks_of}
 use Rattle.mgs_world.specs.Worlds.{aim_old}
 use Rattle.mgs_world.proofs.Soundness.{mark_is_kept}
 use Rattle.mgs_act.proofs.Deeds.{acting_marks}
 use Rattle.mgs_act.proofs.Seeks.{failed_apart, failed_sizes, failed_sound}
-use Rattle.mgs_act.proofs.Skips.{act_skip, skip_apart, skip_denied, skip_elsewhere, skip_off, skip_sizes, skip_sound}
+use Rattle.mgs_act.proofs.Skips.{act_skip, skip_apart, skip_denied, skip_elsewhere, skip_off, skip_read, skip_sizes, skip_sound, within_read}
 use Rattle.mgs_act.proofs.replacing.skip.Goals as goal
 
 pub returns-in_default-clause-sound : goal.returns-in_default-clause-sound
@@ -97,7 +98,7 @@ returns-in-Some-take_replacing_in-clause-world g c = λ id next s r place held a
     let x = c.in-Some.window_marks in
     let marks = acting_marks c.args.buffers.now c.args.sessions.now c.args.at c.in-Some.window_marks c.requires.sound (ap (option_and_then window_marks_of) (slice_get-get_or c.args.sessions.now c.args.at c.index-sessions-at.result c.requires.within) ∙ sym c.selected_window_marks.ensures ∙ c.in-Some.is) in
     rw (c.meet.ensures.buffers, c.meet.ensures.session, c.take_replacing_in.ensures.rest)
-    (act_skip c.args.directory.now c.args.buffers.now xs next id c.args.at (get_or xs c.args.at q) x c.in-Some-take_replacing_in.search place c.requires.within (slice_get-get_or xs c.args.at q c.requires.within) c.requires.sound (sym c.selected_window_marks.ensures ∙ c.in-Some.is) marks.point (sym c.take_replacing_in.ensures.search ∙ c.in-Some-take_replacing_in.is) (subst (λ (n : ℕ). n < 2 ^ 64) c.replaced_count-count.ensures.value c.replaced_count-count.ensures.small) c.skip_match-next.result c.skip_match-next.ensures.within (c.source_refusal.ensures.none c.in-None.is) c.skip_match-next.ensures.plan s r held aim)
+    (act_skip c.args.directory.now c.args.buffers.now xs next id c.args.at (get_or xs c.args.at q) x c.in-Some-take_replacing_in.search place c.requires.within (slice_get-get_or xs c.args.at q c.requires.within) c.requires.sound (sym c.selected_window_marks.ensures ∙ c.in-Some.is) marks.point (sym c.take_replacing_in.ensures.search ∙ c.in-Some-take_replacing_in.is) (subst (λ (n : ℕ). n < 2 ^ 64) c.replaced_count-count.ensures.value c.replaced_count-count.ensures.small) c.skip_match-next.result (within_read c.skip_match-next.result _ (aim_old c.in-Some-take_replacing_in.search.aim) _ (marked_at x.name c.args.buffers.now).buffer.text c.replaced_text.ensures.value c.text.ensures.text c.skip_match-next.ensures.within) (c.source_refusal.ensures.none c.in-None.is) (skip_read c.skip_match-next.result _ (aim_old c.in-Some-take_replacing_in.search.aim) _ (marked_at x.name c.args.buffers.now).buffer.text _ (min c.in-Some-take_replacing_in.search.anchor (length (marked_at x.name c.args.buffers.now).buffer.text)) c.replaced_text.ensures.value c.text.ensures.text (c.min-anchor.ensures ∙ ap (min c.in-Some-take_replacing_in.search.anchor) c.text_len.ensures.value) c.skip_match-next.ensures.plan) s r held aim)
 
 pub returns-in-Some-take_replacing_in-clause-apart : goal.returns-in-Some-take_replacing_in-clause-apart
 returns-in-Some-take_replacing_in-clause-apart g c = λ id next place.
@@ -106,7 +107,7 @@ returns-in-Some-take_replacing_in-clause-apart g c = λ id next place.
     let x = c.in-Some.window_marks in
     let marks = acting_marks c.args.buffers.now c.args.sessions.now c.args.at c.in-Some.window_marks c.requires.sound (ap (option_and_then window_marks_of) (slice_get-get_or c.args.sessions.now c.args.at c.index-sessions-at.result c.requires.within) ∙ sym c.selected_window_marks.ensures ∙ c.in-Some.is) in
     rw (c.meet.ensures.buffers, c.meet.ensures.session, c.take_replacing_in.ensures.rest)
-    (skip_apart c.args.directory.now c.args.buffers.now xs next id c.args.at (get_or xs c.args.at q) x c.in-Some-take_replacing_in.search place c.requires.within (slice_get-get_or xs c.args.at q c.requires.within) c.requires.sound (sym c.selected_window_marks.ensures ∙ c.in-Some.is) marks.point (sym c.take_replacing_in.ensures.search ∙ c.in-Some-take_replacing_in.is) (subst (λ (n : ℕ). n < 2 ^ 64) c.replaced_count-count.ensures.value c.replaced_count-count.ensures.small) c.skip_match-next.result c.skip_match-next.ensures.within)
+    (skip_apart c.args.directory.now c.args.buffers.now xs next id c.args.at (get_or xs c.args.at q) x c.in-Some-take_replacing_in.search place c.requires.within (slice_get-get_or xs c.args.at q c.requires.within) c.requires.sound (sym c.selected_window_marks.ensures ∙ c.in-Some.is) marks.point (sym c.take_replacing_in.ensures.search ∙ c.in-Some-take_replacing_in.is) (subst (λ (n : ℕ). n < 2 ^ 64) c.replaced_count-count.ensures.value c.replaced_count-count.ensures.small) c.skip_match-next.result (within_read c.skip_match-next.result _ (aim_old c.in-Some-take_replacing_in.search.aim) _ (marked_at x.name c.args.buffers.now).buffer.text c.replaced_text.ensures.value c.text.ensures.text c.skip_match-next.ensures.within))
 
 pub returns-in-None-take_replacing_in-clause-sound : goal.returns-in-None-take_replacing_in-clause-sound
 returns-in-None-take_replacing_in-clause-sound g c =

@@ -1,5 +1,5 @@
 use Rattle.std.proofs.Common.{◌≡◌, ◌≤◌, ℕ, List, Option, None, length, get_or, sym, ap, subst, ◌∙◌}
-use Rattle.std.specs.Prelude.{Result}
+use Rattle.std.specs.Prelude.{Ok, Err}
 use Rattle.std.specs.Option.{option_and_then}
 use Rattle.std.proofs.lemmas.Option.{slice_get-get_or}
 use Rattle.mgs_model.specs.declared.message.Message.TheVariants.{NoBuffer}
@@ -12,7 +12,8 @@ use Rattle.mgs_session.specs.Sessions.{window_marks_of}
 use Rattle.mgs_world.proofs.Soundness.{mark_is_kept}
 use Rattle.mgs_act.proofs.Deeds.{acting_marks}
 use Rattle.mgs_act.proofs.Seeks.{failed_apart, failed_sizes, failed_sound}
-use Rattle.mgs_act.proofs.Starts.{act_start, start_apart, start_denied, start_off, start_refused, started_sizes, started_sound}
+use Rattle.mgs_act.proofs.Starts.{act_start, start_apart, start_denied, start_off, start_read, start_refused, started_sizes, started_sound}
+use Rattle.mgs_act.proofs.Skips.{within_read}
 use Rattle.mgs_act.proofs.replacing.start_replacing.Goals as goal
 
 pub returns-in_default-clause-sound : goal.returns-in_default-clause-sound
@@ -116,7 +117,7 @@ returns-in-Err-clause-world g c = λ id next place.
     let r = c.index-sessions-at.result in
     let x = c.in-Some.window_marks in
     let marks = acting_marks c.args.buffers.now c.args.sessions.now c.args.at c.in-Some.window_marks c.requires.sound (ap (option_and_then window_marks_of) (slice_get-get_or c.args.sessions.now c.args.at c.index-sessions-at.result c.requires.within) ∙ sym c.selected_window_marks.ensures ∙ c.in-Some.is) in
-    rw c.fail-in-Err.ensures (start_refused c.args.directory.now c.args.buffers.now xs next id c.args.at (get_or xs c.args.at r) c.args.pattern c.args.put place c.requires.within (slice_get-get_or xs c.args.at r c.requires.within) c.requires.fresh x (sym c.selected_window_marks.ensures ∙ c.in-Some.is) marks.point c.in-Err.message (c.source_refusal.ensures.none c.in-None.is) (λ rest. sym (ap (λ (q : Result (Option ℕ) Message). begun rest.name (mark_at x.name c.args.buffers.now x.point) (length c.args.pattern) q) c.in-Err.is) ∙ subst (λ (n : ℕ). begun rest.name n (length c.args.pattern) c.begin_replacing.result ≡ motion StartReplace (marked_at x.name c.args.buffers.now).buffer.text (record rest { place = n; old = c.args.pattern })) c.pos-place.ensures.value (c.begin_replacing.ensures.plan rest)))
+    rw c.fail-in-Err.ensures (start_refused c.args.directory.now c.args.buffers.now xs next id c.args.at (get_or xs c.args.at r) c.args.pattern c.args.put place c.requires.within (slice_get-get_or xs c.args.at r c.requires.within) c.requires.fresh x (sym c.selected_window_marks.ensures ∙ c.in-Some.is) marks.point c.in-Err.message (c.source_refusal.ensures.none c.in-None.is) (start_read (Err c.in-Err.message) _ _ c.args.pattern _ (marked_at x.name c.args.buffers.now).buffer.text _ (mark_at x.name c.args.buffers.now x.point) c.as_slice.ensures.value c.text.ensures.text c.pos-place.ensures.value c.in-Err.is c.begin_replacing.ensures.plan))
 
 pub returns-in-Ok-clause-sound : goal.returns-in-Ok-clause-sound
 returns-in-Ok-clause-sound g c =
@@ -141,7 +142,7 @@ returns-in-Ok-clause-world g c = λ id next place.
     let x = c.in-Some.window_marks in
     let marks = acting_marks c.args.buffers.now c.args.sessions.now c.args.at c.in-Some.window_marks c.requires.sound (ap (option_and_then window_marks_of) (slice_get-get_or c.args.sessions.now c.args.at c.index-sessions-at.result c.requires.within) ∙ sym c.selected_window_marks.ensures ∙ c.in-Some.is) in
     rw (c.meet.ensures.buffers, c.meet.ensures.session, c.replacing-search.ensures, c.new.ensures, c.pos-place.ensures.value)
-    (act_start c.args.directory.now c.args.buffers.now xs next id c.args.at (get_or xs c.args.at r) c.args.pattern c.args.put place c.requires.within (slice_get-get_or xs c.args.at r c.requires.within) c.requires.fresh x (sym c.selected_window_marks.ensures ∙ c.in-Some.is) marks.point c.requires.sound (subst (λ (n : ℕ). n ≤ length (marked_at x.name c.args.buffers.now).buffer.text) c.pos-place.ensures.value c.pos-place.ensures.within) c.in-Ok.next c.in-Ok.ensures.within (c.source_refusal.ensures.none c.in-None.is) (λ rest. sym (ap (λ (q : Result (Option ℕ) Message). begun rest.name (mark_at x.name c.args.buffers.now x.point) (length c.args.pattern) q) c.in-Ok.is) ∙ subst (λ (n : ℕ). begun rest.name n (length c.args.pattern) c.begin_replacing.result ≡ motion StartReplace (marked_at x.name c.args.buffers.now).buffer.text (record rest { place = n; old = c.args.pattern })) c.pos-place.ensures.value (c.begin_replacing.ensures.plan rest)))
+    (act_start c.args.directory.now c.args.buffers.now xs next id c.args.at (get_or xs c.args.at r) c.args.pattern c.args.put place c.requires.within (slice_get-get_or xs c.args.at r c.requires.within) c.requires.fresh x (sym c.selected_window_marks.ensures ∙ c.in-Some.is) marks.point c.requires.sound (subst (λ (n : ℕ). n ≤ length (marked_at x.name c.args.buffers.now).buffer.text) c.pos-place.ensures.value c.pos-place.ensures.within) c.in-Ok.next (within_read c.in-Ok.next _ c.args.pattern _ (marked_at x.name c.args.buffers.now).buffer.text c.as_slice.ensures.value c.text.ensures.text c.in-Ok.ensures.within) (c.source_refusal.ensures.none c.in-None.is) (start_read (Ok c.in-Ok.next) _ _ c.args.pattern _ (marked_at x.name c.args.buffers.now).buffer.text _ (mark_at x.name c.args.buffers.now x.point) c.as_slice.ensures.value c.text.ensures.text c.pos-place.ensures.value c.in-Ok.is c.begin_replacing.ensures.plan))
 
 pub returns-in-Ok-clause-apart : goal.returns-in-Ok-clause-apart
 returns-in-Ok-clause-apart g c = λ id next place.
@@ -150,4 +151,4 @@ returns-in-Ok-clause-apart g c = λ id next place.
     let x = c.in-Some.window_marks in
     let marks = acting_marks c.args.buffers.now c.args.sessions.now c.args.at c.in-Some.window_marks c.requires.sound (ap (option_and_then window_marks_of) (slice_get-get_or c.args.sessions.now c.args.at c.index-sessions-at.result c.requires.within) ∙ sym c.selected_window_marks.ensures ∙ c.in-Some.is) in
     rw (c.meet.ensures.buffers, c.meet.ensures.session, c.replacing-search.ensures, c.new.ensures, c.pos-place.ensures.value)
-    (start_apart c.args.directory.now c.args.buffers.now xs next id c.args.at (get_or xs c.args.at r) c.args.pattern c.args.put place c.requires.within (slice_get-get_or xs c.args.at r c.requires.within) c.requires.fresh x (sym c.selected_window_marks.ensures ∙ c.in-Some.is) marks.point c.requires.sound (subst (λ (n : ℕ). n ≤ length (marked_at x.name c.args.buffers.now).buffer.text) c.pos-place.ensures.value c.pos-place.ensures.within) c.in-Ok.next c.in-Ok.ensures.within)
+    (start_apart c.args.directory.now c.args.buffers.now xs next id c.args.at (get_or xs c.args.at r) c.args.pattern c.args.put place c.requires.within (slice_get-get_or xs c.args.at r c.requires.within) c.requires.fresh x (sym c.selected_window_marks.ensures ∙ c.in-Some.is) marks.point c.requires.sound (subst (λ (n : ℕ). n ≤ length (marked_at x.name c.args.buffers.now).buffer.text) c.pos-place.ensures.value c.pos-place.ensures.within) c.in-Ok.next (within_read c.in-Ok.next _ c.args.pattern _ (marked_at x.name c.args.buffers.now).buffer.text c.as_slice.ensures.value c.text.ensures.text c.in-Ok.ensures.within))
