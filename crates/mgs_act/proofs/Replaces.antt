@@ -1,5 +1,5 @@
 -- A match is replaced: that what is done is what the act comes to.
-use Rattle.std.proofs.Common.{◌≡◌, ℕ, ◌<◌, ◌≤◌, List, length, map, Option, Some, None, refl, sym, ap, ◌∙◌, map-id}
+use Rattle.std.proofs.Common.{◌≡◌, ℕ, ◌+◌, ◌<◌, ◌≤◌, List, length, map, Option, Some, None, refl, sym, ap, ◌∙◌, arith, map-id}
 use Rattle.std.specs.Prelude.{IfSome, slice_get, slice_set}
 use Rattle.std.specs.List.{position_or_len}
 use Rattle.mgs_model.specs.Access.{Directory}
@@ -8,7 +8,7 @@ use Rattle.mgs_model.specs.Outcome.{No_effect, Outcome}
 use Rattle.mgs_model.specs.Plans as plans
 use Rattle.mgs_model.specs.Acts.{counted, edit_of, finished}
 use Rattle.mgs_model.specs.Apply.{apply, change_first, session_arranged}
-use Rattle.mgs_buffers.specs.MarkedBuffer.{IsMark, MarkedBuffer, marked_at}
+use Rattle.mgs_buffers.specs.MarkedBuffer.{HasBuffer, IsMark, MarkedBuffer, marked_at}
 use Rattle.mgs_windows.specs.declared.WindowMarks.{WindowMarks}
 use Rattle.mgs_session.specs.Seeking.{searching}
 use Rattle.mgs_session.specs.Sessions.{window_marks_of}
@@ -18,7 +18,8 @@ use Rattle.mgs_session.specs.declared.search.Replacing.{Replacing}
 use Rattle.mgs_session.specs.declared.search.Search.{Search}
 use Rattle.mgs_act.specs.Actions.{edited_by, mark_gone}
 use Rattle.mgs_act.specs.Following.{edit_told, followed}
-use Rattle.mgs_act.specs.Replacing.{edited_if, point_met, session_met}
+use Rattle.mgs_act.specs.Replacing.{edited_if, plan_at, point_met, replaced_change, session_met}
+use Rattle.mgs_act.specs.declared.replacing.Planned.{Planned}
 use Rattle.mgs_world.specs.Sound.{IsSound}
 use Rattle.mgs_world.specs.Worlds.{id_after, own_of, session_id, session_of, world_of}
 use Rattle.mgs_world.proofs.Edits.{followed_get}
@@ -26,7 +27,7 @@ use Rattle.mgs_world.proofs.Soundness.{mark_is_kept}
 use Rattle.mgs_world.proofs.Worlds.{same_world}
 use Rattle.mgs_act.proofs.Deeds.{edited_buffers, no_quit, once_used}
 use Rattle.mgs_act.proofs.Followed.{once_followed, place_followed, sessions_went, within_followed}
-use Rattle.mgs_act.proofs.Leaving.{mark_edited_by}
+use Rattle.mgs_act.proofs.Leaving.{length_edited_by, mark_edited_by}
 use Rattle.mgs_act.proofs.Meets.{counts, finish_met, met_so, replaces}
 
 -- the session that acts, where the positions of searches went by the edit
@@ -37,6 +38,21 @@ held_followed n (Some e) xs at s r h is = followed_get n e xs at (searching (rep
 pub name_followed : (n : List ℕ) (o : Option Edited) (s : Search) → (edited_if n o s).name ≡ s.name
 name_followed n None s = refl
 name_followed n (Some e) s = refl
+
+-- what is put in ends in the text
+pub behind_in : (name : List ℕ) (s : Search) (ks : List MarkedBuffer) → HasBuffer name ks → (p : Planned) (t : List ℕ) → p ≡ plan_at s t → t ≡ (marked_at name ks).buffer.text → p.edit.from ≤ p.edit.to → p.edit.to ≤ length t
+    → p.edit.from + p.edit.added ≤ length (marked_at name (edited_by name (replaced_change s (marked_at name ks).buffer.text) ks)).buffer.text
+behind_in name s ks kept p t is read order within =
+    let text = (marked_at name ks).buffer.text in
+    let c : plans.Change = replaced_change s text in
+    let whole : p ≡ plan_at s text = is ∙ ap (plan_at s) read in
+    let from : p.edit.from ≡ c.a = ap (λ (q : Planned). q.edit.from) whole in
+    let to : p.edit.to ≡ c.b = ap (λ (q : Planned). q.edit.to) whole in
+    let added : p.edit.added ≡ length c.put = ap (λ (q : Planned). q.edit.added) whole in
+    let size : length t ≡ length text = ap (λ (q : List ℕ). length q) read in
+    let a_b : c.a ≤ c.b = omega (arith, order, from, to) in
+    let b_size : c.b ≤ length text = omega (arith, within, to, size) in
+    omega (arith, a_b, b_size, from, added, length_edited_by name c ks kept a_b b_size)
 
 -- what is left behind the edit, and the edit with it
 module _ (directory : Directory) (ks : List MarkedBuffer) (xs : List Session) (next : Option ℕ) (id at : ℕ) (h : Session) (x : WindowMarks) (s : Search) (r : Replacing) (c : plans.Change) (place : at ≡ position_or_len (session_id id) xs) (within : at < length xs) (found : slice_get xs at ≡ Some (searching (replaces s r) h)) (sound : IsSound ks xs) (sel : window_marks_of h ≡ Some x) (mark : IsMark x.name x.point ks) (name : s.name ≡ x.name) (order : c.a ≤ c.b) (inside : c.b ≤ length (marked_at x.name ks).buffer.text) where
