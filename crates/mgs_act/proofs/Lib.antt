@@ -25,3 +25,4 @@ mod Skips
 mod Starts
 mod Changes
 mod Replaces
+mod Replacements
