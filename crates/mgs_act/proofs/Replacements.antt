@@ -25,6 +25,7 @@ use Rattle.mgs_act.specs.Inserting.{rights_decision}
 use Rattle.mgs_act.specs.Replacing.{replacement, replacing_shown}
 use Rattle.mgs_world.specs.Worlds.{buffers_of, own_of, search_of, session_id, session_of, world_of}
 use Rattle.mgs_act.proofs.Alterations.{altered_denied, altered_elsewhere, altered_off}
+use Rattle.mgs_world.proofs.SelectedMark.{get_set}
 use Rattle.mgs_act.proofs.Skips.{act_fails, sought_elsewhere}
 
 -- nothing is replaced where the search is elsewhere
@@ -53,3 +54,10 @@ module _ (directory : Directory) (ks : List MarkedBuffer) (xs : List Session) (n
     replace_unsought granted none =
         act_fails directory ks xs next id at h place within found replaces_it NoBuffer (altered_elsewhere directory ks xs next h (own_of h.own) None typed (replacement last) x sel kept granted (session_of ks h).search
         (ap (λ (o : Option Search). is_sought_in (marked_at x.name ks).buffer.name (search_seen (reads directory (buffers_of ks) h.user) (search_of (buffers_of ks) o))) (sym (ap search_or_none found) ∙ none)) (none_replaced last))
+
+-- one that is over searches nothing
+pub set_unsought : (xs : List Session) (at : ℕ) (h y : Session) (t : Search) → slice_get xs at ≡ Some h → y.own.search ≡ None → search_held at (slice_set xs at y) ≡ Some t → ⊥
+set_unsought xs at h y t found over held = none (sym over ∙ sym (ap search_or_none (get_set xs at h y found)) ∙ held)
+  where
+    none : Path (Option Search) None (Some t) → ⊥
+    none e = cc

@@ -266,7 +266,11 @@ fn put_in<T: Marked + Drop>(
     ensures err { OnErr result (buffers.new ≡ buffers.old) }
     ensures may { OnErr result (is_change (replaced_change search.now (marked_at name.now buffers.old).buffer.text) ≡ true) }
 {
-    let put = if planned.matches { put_text(search) } else { &[] };
+    let put = if planned.matches {
+        put_text(search)
+    } else {
+        &[]
+    };
     edit(buffers, name, planned.edit.from, planned.edit.to, put)
 }
 
@@ -362,15 +366,7 @@ fn replace_in<T: Marked + Drop>(
             return Err(short);
         }
     }
-    match leave(
-        buffers,
-        sessions,
-        at,
-        window_marks,
-        search,
-        &planned,
-        last,
-    ) {
+    match leave(buffers, sessions, at, window_marks, search, &planned, last) {
         Some(_) => Ok(Touched::In(*name)),
         None => Ok(Touched::Nowhere),
     }
@@ -495,11 +491,16 @@ pub fn replace<T: Marked + Drop>(
     };
     let name = &window_marks.name;
     match writing_refusal(buffers, directory, &session.user, name) {
-        Some(message) => fail(session, message),
+        Some(message) => {
+            fail(session, message);
+            Ok(Touched::Nowhere)
+        }
         None => match take_replacing_in(session, name) {
-            Some(search) => return replace_in(buffers, sessions, at, &window_marks, search, last),
-            None => fail(session, Message::NoBuffer),
+            Some(search) => replace_in(buffers, sessions, at, &window_marks, search, last),
+            None => {
+                fail(session, Message::NoBuffer);
+                Ok(Touched::Nowhere)
+            }
         },
     }
-    Ok(Touched::Nowhere)
 }
