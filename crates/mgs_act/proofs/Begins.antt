@@ -39,7 +39,7 @@ use Rattle.mgs_act.specs.Actions.{place_in}
 use Rattle.mgs_act.specs.Beginning.{searching_own}
 use Rattle.mgs_act.specs.Inserting.{rights_decision}
 use Rattle.mgs_world.specs.Sound.{IsSound}
-use Rattle.mgs_world.specs.Worlds.{buffers_of, id_after, idle, mode_in, own_at, own_of, session_id, session_of, size_named, sizes_in, world_of}
+use Rattle.mgs_world.specs.Worlds.{aim_count, aim_input, aim_mode, aim_old, buffers_of, id_after, idle, mode_in, own_at, own_of, session_id, session_of, size_named, sizes_in, world_of}
 use Rattle.mgs_world.proofs.Edits.{size_kept}
 use Rattle.mgs_world.proofs.Owns.{at_rest, no_search_at_rest, search_at_rest}
 use Rattle.mgs_world.proofs.Soundness.{sizes_set, sound_set}
@@ -69,9 +69,9 @@ prompt_at_rest o fresh = by o.prompt (sym (ap (λ (s : Option Search). mode_in s
     by (Some p) e = cc
 
 -- what it holds once it searches
-begun_own : (s : Search) (o : held.Own) → own_of o ≡ idle (own_of o) → own_of (record o { search = Some s; kind = Other }) ≡ (let own : Own = record (own_of o) { mode = Searching s.sought.direction s.sought.failing; input = s.sought.pattern; kind = Other } in own)
+pub begun_own : (s : Search) (o : held.Own) → own_of o ≡ idle (own_of o) → own_of (record o { search = Some s; kind = Other }) ≡ (let own : Own = record (own_of o) { mode = aim_mode s.aim; input = aim_input s.aim; old = aim_old s.aim; count = aim_count s.aim; kind = Other } in own)
 begun_own s o fresh =
-    let before : held.Own → Own = λ x. record (own_of x) { mode = Searching s.sought.direction s.sought.failing; input = s.sought.pattern; kind = Other } in
+    let before : held.Own → Own = λ x. record (own_of x) { mode = aim_mode s.aim; input = aim_input s.aim; old = aim_old s.aim; count = aim_count s.aim; kind = Other } in
     let with : Option Search → Option PromptInput → held.Own = λ t p. record o { search = t; prompt = p } in
     sym (ap (λ (t : Option Search). before (with t o.prompt)) (search_at_rest o fresh) ∙ ap (λ (p : Option PromptInput). before (with None p)) (prompt_at_rest o fresh))
 
@@ -127,7 +127,7 @@ module _ (directory : Directory) (ks : List MarkedBuffer) (xs : List Session) (n
     left_own : own_of begun.own ≡ finished_own begins own
     left_own =
         begun_own (search_begun x.name point d) h.own rests
-        ∙ at_rest (λ (o : Own). record o { mode = Searching d false; input = []; kind = Other }) (λ (o : Own). finished_own begins (searching_own d o)) (λ o. refl) (own_of h.own) rests
+        ∙ at_rest (λ (o : Own). record o { mode = Searching d false; input = []; old = []; count = 0; kind = Other }) (λ (o : Own). finished_own begins (searching_own d o)) (λ o. refl) (own_of h.own) rests
 
     module _ (small : point ≤ length (marked_at x.name ks).buffer.text) where
       origin_is : min point (size_named x.name (buffers_of ks)) ≡ point

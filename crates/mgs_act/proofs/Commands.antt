@@ -200,7 +200,7 @@ module _ (directory : Directory) (ks : List MarkedBuffer) (xs : List Session) (n
       let f = session_arranged (owns (asks c n (own_of h.own))) in
       same_world directory _ _ _ _ (id_after next) refl
       (written_first (session_of ks) (has_id id) f xs at h (asking c n h) (place ∙ sym (position_or_len-map (session_of ks) (has_id id) xs)) within (sym (get_or_from_slice_get xs at h h found))
-      (λ i. record (session_of ks h) { own = own_asking c n h (search_at_rest h.own (fresh_own xs at h found fresh)) i; search = no_search_at_rest ks h (fresh_own xs at h found fresh) i })
+      (λ i. record (session_of ks h) { own = own_asking c n h (search_at_rest h.own (fresh_own xs at h found fresh)) (fresh_own xs at h found fresh) i; search = no_search_at_rest ks h (fresh_own xs at h found fresh) i })
       ∙ ap (change_first (has_id id) f) (sym (map-id (map (session_of ks) xs))))
 
   ask_known : (c : Question) (n : Option ℕ) → outcome (view (world_of directory ks xs next) (session_of ks h)) (act_of (Run (Ask c) n)) true ≡ owns (asks c n (own_of h.own))

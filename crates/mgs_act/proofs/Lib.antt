@@ -19,3 +19,10 @@ mod Listings
 pub mod Scrolls
 pub mod Begins
 mod Seeks
+mod Meets
+mod Alterations
+mod Skips
+mod Starts
+mod Changes
+mod Replaces
+mod Replacements

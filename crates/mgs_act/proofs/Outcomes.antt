@@ -62,7 +62,7 @@ any_append d e = list_any_at (λ right. allows (d right)) all_rights 2 ReadData 
 -- WHAT IS TOLD SUFFICES
 
 -- what a plan is given of a buffer on which some right is granted or none, and whose text may be read or not
-abbrev surroundings : Bool → Bool → Buffer → List ℕ → ℕ → Option ℕ → ℕ → ℕ → Option ℕ → List ℕ → List ℕ → Own → Around
+abbrev pub surroundings : Bool → Bool → Buffer → List ℕ → ℕ → Option ℕ → ℕ → ℕ → Option ℕ → List ℕ → List ℕ → Own → Around
 surroundings told read b name point mark top height n typed kill own =
     record {
       name = name;
@@ -275,7 +275,7 @@ rule_judged v t plan is found =
     ∙ ap (λ d. permitted v.session.own d (effects v.session.own (plan t.buffer))) (judged_here v t (λ t. 3) found)
 
 -- what an act comes to on the target
-on_target : (v : View) (t : Target) (c : Command) (n : Option ℕ) (typed : List ℕ) → is_of_text c ≡ true → target v ≡ Some t → find_seen t.buffer.name v.buffers ≡ Some t.buffer → outcome v (outcomes.Run c n typed) true ≡ outcome_at v.session.own c t.buffer.deciders (text_in t.buffer.full) (items_in t.buffer.full) (around v.session n typed t)
+pub on_target : (v : View) (t : Target) (c : Command) (n : Option ℕ) (typed : List ℕ) → is_of_text c ≡ true → target v ≡ Some t → find_seen t.buffer.name v.buffers ≡ Some t.buffer → outcome v (outcomes.Run c n typed) true ≡ outcome_at v.session.own c t.buffer.deciders (text_in t.buffer.full) (items_in t.buffer.full) (around v.session n typed t)
 unfolding outcome
 on_target v t (Insert i) n typed h is found = edit_judged v t insertion_right (λ t. insertion i (around v.session n typed t)) is found
 on_target v t (InsertReading i) n typed h is found =
@@ -354,7 +354,7 @@ abbrev off_outcome : View → Option Scrolling → Outcome
 off_outcome v None = fails v.session.own NoBuffer
 off_outcome v (Some s) = cond (has_rows (selected_seen v)) (scrolls_rows v.session.own (row_in s (selected_seen v))) (fails v.session.own NoBuffer)
 
-off_target : (v : View) (c : Command) (n : Option ℕ) (typed : List ℕ) → is_of_text c ≡ true → target v ≡ None → outcome v (outcomes.Run c n typed) true ≡ off_outcome v (scroll_in c)
+pub off_target : (v : View) (c : Command) (n : Option ℕ) (typed : List ℕ) → is_of_text c ≡ true → target v ≡ None → outcome v (outcomes.Run c n typed) true ≡ off_outcome v (scroll_in c)
 unfolding outcome
 off_target v (Insert i) n typed h none = none_edited v insertion_right (λ t. insertion i (around v.session n typed t)) none
 off_target v (InsertReading i) n typed h none =
@@ -450,7 +450,7 @@ module _ (directory : Directory) (ks : List MarkedBuffer) (xs : List Session) (n
               sought_here = here;
             }
 
-        pub moved_here : (f : Finish) → ((rest : Around) → Path (Result Finish Message) (Ok f) (motion m b.text (seeking rest places typed))) → come_to (Some (record { name = x.name; origin = places.origin; anchor = places.anchor })) ≡ moved_by own (Ok f)
+        pub moved_here : (f : Finish) → ((rest : Around) → rest.old ≡ own.old → Path (Result Finish Message) (Ok f) (motion m b.text (seeking rest places typed))) → come_to (Some (record { name = x.name; origin = places.origin; anchor = places.anchor })) ≡ moved_by own (Ok f)
         moved_here f planned =
             let reads = first_granted d [] granted in
             moved_on (Some (record { name = x.name; origin = places.origin; anchor = places.anchor }))
@@ -461,4 +461,4 @@ module _ (directory : Directory) (ks : List MarkedBuffer) (xs : List Session) (n
             ∙ ap (λ (q : Bool). outcome_at own (Move m) d b.text b.items (seen_so true true x.name q)) (is_same x.name x.name refl)
             ∙ ap (λ (g : Decision). permitted own g (moved_by own (motion m b.text (seen_so true true x.name true)))) granted
             ∙ ap (λ (p : ℕ). moved_by own (motion m b.text (record (seen_so true true x.name true) { place = p }))) (sym point_is)
-            ∙ ap (moved_by own) (sym (planned (seen_so true true x.name true)))
+            ∙ ap (moved_by own) (sym (planned (seen_so true true x.name true) refl))

@@ -13,7 +13,7 @@ use Rattle.mgs_model.specs.View.{reads, search_seen, view}
 use Rattle.mgs_model.specs.Outcome.{Act, Adjust, At, At_origin, Keep, Keep_kill, Keep_mark, No_effect, No_search, Outcome, Run}
 use Rattle.mgs_model.specs.Plans as plans
 use Rattle.mgs_model.specs.Plans.{Failing, Finish, Goes_on, acted_own, failed_own, motion}
-use Rattle.mgs_model.specs.Searching.{is_looking, is_none, looked_for, places_after}
+use Rattle.mgs_model.specs.Searching.{Sought, is_looking, is_none, looked_for, places_after}
 use Rattle.mgs_model.specs.Acts.{fails, finished, finished_own, is_sought_in, mode_left, outcome, permitted}
 use Rattle.mgs_model.specs.Apart.{Apart}
 use Rattle.mgs_model.specs.Apply.{act, applied, apply, change_at, change_first, searches, session_arranged, window_adjusted}
@@ -37,9 +37,12 @@ use Rattle.mgs_search.specs.Planned.{stepped}
 use Rattle.mgs_session.specs.Seeking.{searching}
 use Rattle.mgs_session.specs.Sessions.{failed, window_marks_of}
 use Rattle.mgs_session.specs.declared.Session.{Session}
+use Rattle.mgs_session.specs.declared.search.Aim.{Aim}
+use Rattle.mgs_session.specs.declared.search.Aim.TheVariants.{Find, Replace}
 use Rattle.mgs_session.specs.declared.search.Search.{Search}
+use Rattle.mgs_act.specs.declared.seeking.Seeker.{Seeker}
 use Rattle.mgs_act.specs.Actions.{mark_gone}
-use Rattle.mgs_act.specs.Beginning.{gone_back, origin_plan, places_at, search_held, search_or_none, search_shown, search_stepped, seeking, session_sought}
+use Rattle.mgs_act.specs.Beginning.{gone_back, origin_plan, places_at, search_held, search_or_none, search_shown, search_stepped, seek_in, seeking, session_sought, sought_by}
 use Rattle.mgs_act.specs.Inserting.{rights_decision}
 use Rattle.mgs_world.specs.Sound.{IsSound, uses}
 use Rattle.mgs_world.specs.Worlds.{buffers_of, id_after, own_of, search_of, session_id, session_of, size_named, sizes_in, window_of, window_shown, world_of}
@@ -67,14 +70,14 @@ failed_apart directory ks xs next id at h message place within is =
 -- A STEP
 
 -- what the step tells of the search's mode is what the session holds then
-own_left : (b l : Bool) (s : Search) (a : ℕ) (h : Session)
+own_left : (b l : Bool) (s : Seeker) (a : ℕ) (h : Session)
     → (let failing : Bool = cond b l s.sought.failing in
-    let own : Own = own_of (searching s h).own in
+    let own : Own = own_of (searching (sought_by s) h).own in
     mode_left (cond b (Failing failing) Goes_on) (own.count + 0) own.todo (record (acted_own own) { echo = Silent; kind = Other }) ≡ own_of (session_sought (record s { anchor = a; sought = record s.sought { failing = failing } }) h).own)
 own_left true l s a h = refl
 own_left false l s a h = refl
 
-module _ (directory : Directory) (ks : List MarkedBuffer) (xs : List Session) (next : Option ℕ) (id at : ℕ) (h : Session) (x : WindowMarks) (s : Search) (step : SearchStep) (place : at ≡ position_or_len (session_id id) xs) (within : at < length xs) (found : slice_get xs at ≡ Some (searching s h)) (sel : window_marks_of h ≡ Some x) (mark : IsMark x.name x.point ks) (once : uses x.name x.point xs ≤ 1) (name : s.name ≡ x.name) where
+module _ (directory : Directory) (ks : List MarkedBuffer) (xs : List Session) (next : Option ℕ) (id at : ℕ) (h : Session) (x : WindowMarks) (s : Seeker) (step : SearchStep) (place : at ≡ position_or_len (session_id id) xs) (within : at < length xs) (found : slice_get xs at ≡ Some (searching (sought_by s) h)) (sel : window_marks_of h ≡ Some x) (mark : IsMark x.name x.point ks) (once : uses x.name x.point xs ≤ 1) (name : s.name ≡ x.name) where
   abbrev b : Buffer
   b = (marked_at x.name ks).buffer
 
@@ -84,7 +87,7 @@ module _ (directory : Directory) (ks : List MarkedBuffer) (xs : List Session) (n
   abbrev after : SearchPlaces
   after = places_after step s.sought b.text before
 
-  abbrev new : Search
+  abbrev new : Seeker
   new = search_stepped step b.text before s
 
   abbrev left : Finish
@@ -94,28 +97,28 @@ module _ (directory : Directory) (ks : List MarkedBuffer) (xs : List Session) (n
   placed = change_first (marked_named x.name) (marked_placed x.point after.point) ks
 
   abbrev own : Own
-  own = own_of (searching s h).own
+  own = own_of (searching (sought_by s) h).own
 
   size : size_named s.name (buffers_of ks) ≡ length b.text
   size = ap (λ (n : List ℕ). size_named n (buffers_of ks)) name ∙ size_kept x.name ks (mark_is_kept x.name x.point ks mark)
 
   abbrev ends : model.Session → model.Session
-  ends z = record z { own = own_of (session_sought new h).own; search = search_of (buffers_of placed) (Some new) }
+  ends z = record z { own = own_of (session_sought new h).own; search = search_of (buffers_of placed) (Some (sought_by new)) }
 
   left_own : finished_own left own ≡ own_of (session_sought new h).own
   left_own = own_left (is_looking step) (is_none (looked_for step s.sought b.text before)) s after.anchor h
 
   module _ (small : after.anchor ≤ length b.text) where
     -- the search afterwards
-    search_left : search_of (buffers_of placed) (Some new) ≡ Some (record { name = s.name; origin = min s.origin (size_named s.name (buffers_of ks)); anchor = after.anchor })
+    search_left : search_of (buffers_of placed) (Some (sought_by new)) ≡ Some (record { name = s.name; origin = min s.origin (size_named s.name (buffers_of ks)); anchor = after.anchor })
     search_left =
-        ap (λ bs. search_of bs (Some new)) (buffers_placed x.name x.point after.point ks)
+        ap (λ bs. search_of bs (Some (sought_by new))) (buffers_placed x.name x.point after.point ks)
         ∙ ap (λ (a : ℕ). let r : model.Search = record { name = s.name; origin = min s.origin (size_named s.name (buffers_of ks)); anchor = a } in Some r)
         (ap (min after.anchor) size ∙ min-eq_left small)
 
-    one_ends : ends (selected_at (point_to after.point) (session_of ks (searching s h))) ≡ session_arranged (finished own left No_effect) (session_of ks (searching s h))
+    one_ends : ends (selected_at (point_to after.point) (session_of ks (searching (sought_by s) h))) ≡ session_arranged (finished own left No_effect) (session_of ks (searching (sought_by s) h))
     one_ends =
-        let seen = session_of ks (searching s h) in
+        let seen = session_of ks (searching (sought_by s) h) in
         let moved : model.Session = selected_at (point_to after.point) seen in
         (λ i. record moved { own = own_of (session_sought new h).own; search = search_left i })
         ∙ (λ i. record moved {
@@ -125,7 +128,7 @@ module _ (directory : Directory) (ks : List MarkedBuffer) (xs : List Session) (n
 
     pub stepped_so : world_of directory placed (slice_set xs at (session_sought new h)) next ≡ apply (world_of directory ks xs next) id (finished own left No_effect)
     stepped_so =
-        let held = searching s h in
+        let held = searching (sought_by s) h in
         let there = sym (get_or_from_slice_get xs at held held found) in
         let found_id = session_found xs id at held place within there in
         let points : model.Session → model.Session = selected_at (point_to after.point) in
@@ -142,42 +145,55 @@ module _ (directory : Directory) (ks : List MarkedBuffer) (xs : List Session) (n
     stepped_apart = rw stepped_so (apart_apply (world_of directory ks xs next) id (finished own left No_effect))
 
     module _ (granted : rights_decision directory ks h.user x.name 1 ≡ Granted) (planned : (rest : plans.Around) → Path (Result Finish Message) (Ok left) (motion (SearchOn s.sought.direction step) b.text (seeking rest before s.sought.pattern))) where
-      stepped_known : outcome (view (world_of directory ks xs next) (session_of ks (searching s h))) (Run (Move (SearchOn s.sought.direction step)) None s.sought.pattern) true ≡ finished own left No_effect
+      stepped_known : outcome (view (world_of directory ks xs next) (session_of ks (searching (sought_by s) h))) (Run (Move (SearchOn s.sought.direction step)) None s.sought.pattern) true ≡ finished own left No_effect
       stepped_known =
           let m = SearchOn s.sought.direction step in
-          let held = searching s h in
+          let held = searching (sought_by s) h in
           let w = world_of directory ks xs next in
           ap (λ (r : Option model.Search). let y : model.Session = record (session_of ks held) { search = r } in outcome (view w y) (Run (Move m) None s.sought.pattern) true)
           (λ i. Some (record { name = name i; origin = min s.origin (size i); anchor = min s.anchor (size i) }))
-          ∙ moved_here directory ks xs next held own None s.sought.pattern m x sel (mark_is_kept x.name x.point ks mark) granted before refl left planned
+          ∙ moved_here directory ks xs next held own None s.sought.pattern m x sel (mark_is_kept x.name x.point ks mark) granted before refl left (λ rest old. planned rest)
 
       pub act_stepped : world_of directory placed (slice_set xs at (session_sought new h)) next ≡ act (world_of directory ks xs next) id (Run (Move (SearchOn s.sought.direction step)) None s.sought.pattern) true
       act_stepped =
-          act_so directory ks xs next id at (searching s h) (Run (Move (SearchOn s.sought.direction step)) None s.sought.pattern) (finished own left No_effect) _ place within found stepped_so stepped_known
+          act_so directory ks xs next id at (searching (sought_by s) h) (Run (Move (SearchOn s.sought.direction step)) None s.sought.pattern) (finished own left No_effect) _ place within found stepped_so stepped_known
 
 -- A STEP THAT FAILS
 
 -- the session is one that searches
-held_so : (h : Session) (s : Search) → h.own.search ≡ Some s → h ≡ searching s h
+pub held_so : (h : Session) (s : Search) → h.own.search ≡ Some s → h ≡ searching s h
 held_so h s is = ap (λ (o : Option Search). let x : Session = record h { own = record h.own { search = o } } in x) is
 
+-- what it finds
+abbrev pub seek_of : Search → Sought → Seeker
+seek_of s f = record { name = s.name; origin = s.origin; anchor = s.anchor; sought = f }
+
+pub held_seek : (at : ℕ) (xs : List Session) (s : Search) (f : Sought) → search_held at xs ≡ Some s → s.aim ≡ Find f → search_held at xs ≡ Some (sought_by (seek_of s f))
+held_seek at xs s f held aim = held ∙ ap (λ (a : Aim). let t : Search = record s { aim = a } in Some t) aim
+
 -- a search that is not shown is in another buffer
-away : (name : List ℕ) (o : Option Search) (s : Search) → search_shown name o ≡ None → o ≡ Some s → same_name s.name name ≡ false
+away : (name : List ℕ) (o : Option Search) (s : Seeker) → search_shown name o ≡ None → o ≡ Some (sought_by s) → same_name s.name name ≡ false
 away name o s none is = by (same_name s.name name) (ap (search_shown name) (sym is) ∙ none)
   where
-    by : (q : Bool) → Path (Option Search) (cond q (Some s) None) None → q ≡ false
+    by : (q : Bool) → Path (Option Seeker) (cond q (Some s) None) None → q ≡ false
     by true e = cc
     by false e = refl
 
-pub shown_so : (name : List ℕ) (o : Option Search) (s : Search) → search_shown name o ≡ Some s → (o ≡ Some s) × (s.name ≡ name)
+pub shown_so : (name : List ℕ) (o : Option Search) (s : Seeker) → search_shown name o ≡ Some s → (o ≡ Some (sought_by s)) × (s.name ≡ name)
 shown_so name None s is = cc
-shown_so name (Some t) s is = by (same_name t.name name) refl is
+shown_so name (Some t) s is = by (same_name t.name name) t.aim refl refl is
   where
-    by : (q : Bool) → same_name t.name name ≡ q → Path (Option Search) (cond q (Some t) None) (Some s) → (Path (Option Search) (Some t) (Some s)) × (s.name ≡ name)
-    by true e is = let same : t ≡ s = cc in (is, ap (λ (r : Search). r.name) (sym same) ∙ same_is t.name name e)
-    by false e is = cc
+    by : (q : Bool) (a : Aim) → same_name t.name name ≡ q → t.aim ≡ a → Path (Option Seeker) (cond q (seek_in t a) None) (Some s) → (Path (Option Search) (Some t) (Some (sought_by s))) × (s.name ≡ name)
+    by true (Find f) e aim is =
+        let u : Seeker = record { name = t.name; origin = t.origin; anchor = t.anchor; sought = f } in
+        let same : u ≡ s = cc in (
+          ap (λ (x : Aim). let r : Search = record t { aim = x } in Some r) aim ∙ ap (λ (v : Seeker). Some (sought_by v)) same,
+          ap (λ (v : Seeker). v.name) (sym same) ∙ same_is t.name name e,
+        )
+    by true (Replace r) e aim is = cc
+    by false a e aim is = cc
 
-module _ (directory : Directory) (ks : List MarkedBuffer) (xs : List Session) (next : Option ℕ) (id at : ℕ) (h : Session) (s : Search) (step : SearchStep) (place : at ≡ position_or_len (session_id id) xs) (within : at < length xs) (found : slice_get xs at ≡ Some h) (held : search_held at xs ≡ Some s) where
+module _ (directory : Directory) (ks : List MarkedBuffer) (xs : List Session) (next : Option ℕ) (id at : ℕ) (h : Session) (s : Seeker) (step : SearchStep) (place : at ≡ position_or_len (session_id id) xs) (within : at < length xs) (found : slice_get xs at ≡ Some h) (held : search_held at xs ≡ Some (sought_by s)) where
   abbrev sought_on : Act
   sought_on = Run (Move (SearchOn s.sought.direction step)) None s.sought.pattern
 
@@ -195,7 +211,7 @@ module _ (directory : Directory) (ks : List MarkedBuffer) (xs : List Session) (n
 
     pub step_elsewhere : rights_decision directory ks h.user x.name 1 ≡ Granted → search_shown x.name h.own.search ≡ None → world_of directory ks (slice_set xs at (failed NoBuffer h)) next ≡ act (world_of directory ks xs next) id sought_on true
     step_elsewhere granted none =
-        let is : h.own.search ≡ Some s = ap search_or_none (sym found) ∙ held in
+        let is : h.own.search ≡ Some (sought_by s) = ap search_or_none (sym found) ∙ held in
         let apart : same_name x.name s.name ≡ false = false_from (same_name x.name s.name) (λ e. not_both (same_name s.name x.name) (is_same s.name x.name (sym (same_is x.name s.name e))) (away x.name h.own.search s none is)) in
         failed_step NoBuffer
         (moved_elsewhere directory ks xs next h (own_of h.own) None s.sought.pattern (SearchOn s.sought.direction step) x sel kept granted (session_of ks h).search
@@ -211,51 +227,55 @@ failed_sound ks xs at h message is sound = sound_set ks xs at h (failed message 
 pub failed_sizes : (xs : List Session) (at : ℕ) (h : Session) (message : Message) → slice_get xs at ≡ Some h → sizes_in (slice_set xs at (failed message h)) ≡ sizes_in xs
 failed_sizes xs at h message is = sizes_set xs at h (failed message h) (sym (get_or_from_slice_get xs at h h is)) refl
 
-pub sought_sound : (ks : List MarkedBuffer) (xs : List Session) (at p : ℕ) (h : Session) (x : WindowMarks) (s : Search) → slice_get xs at ≡ Some h → IsMark x.name x.point ks → IsSound ks xs → IsSound (change_first (marked_named x.name) (marked_placed x.point p) ks) (slice_set xs at (session_sought s h))
+pub sought_sound : (ks : List MarkedBuffer) (xs : List Session) (at p : ℕ) (h : Session) (x : WindowMarks) (s : Seeker) → slice_get xs at ≡ Some h → IsMark x.name x.point ks → IsSound ks xs → IsSound (change_first (marked_named x.name) (marked_placed x.point p) ks) (slice_set xs at (session_sought s h))
 sought_sound ks xs at p h x s is mark sound =
     sound_set _ xs at h (session_sought s h) (sym (get_or_from_slice_get xs at h h is)) (λ n i. refl) (sound_placed x.name x.point p ks xs mark sound)
 
-pub sought_sizes : (xs : List Session) (at : ℕ) (h : Session) (s : Search) → slice_get xs at ≡ Some h → sizes_in (slice_set xs at (session_sought s h)) ≡ sizes_in xs
+pub sought_sizes : (xs : List Session) (at : ℕ) (h : Session) (s : Seeker) → slice_get xs at ≡ Some h → sizes_in (slice_set xs at (session_sought s h)) ≡ sizes_in xs
 sought_sizes xs at h s is = sizes_set xs at h (session_sought s h) (sym (get_or_from_slice_get xs at h h is)) refl
 
 -- A STEP IN THE SHOWN BUFFER, by what the calls answer
-abbrev step_places : List MarkedBuffer → WindowMarks → Search → SearchPlaces
+abbrev step_places : List MarkedBuffer → WindowMarks → Seeker → SearchPlaces
 step_places ks x s = places_at (length (marked_at x.name ks).buffer.text) (mark_at x.name ks x.point) s
 
-abbrev step_ends : List MarkedBuffer → WindowMarks → Search → SearchStep → SearchPlaces
+abbrev step_ends : List MarkedBuffer → WindowMarks → Seeker → SearchStep → SearchPlaces
 step_ends ks x s step = places_after step s.sought (marked_at x.name ks).buffer.text (step_places ks x s)
 
-abbrev step_search : List MarkedBuffer → WindowMarks → Search → SearchStep → Search
+abbrev step_search : List MarkedBuffer → WindowMarks → Seeker → SearchStep → Seeker
 step_search ks x s step = search_stepped step (marked_at x.name ks).buffer.text (step_places ks x s) s
 
-abbrev step_buffers : List MarkedBuffer → WindowMarks → Search → SearchStep → List MarkedBuffer
+abbrev step_buffers : List MarkedBuffer → WindowMarks → Seeker → SearchStep → List MarkedBuffer
 step_buffers ks x s step = change_first (marked_named x.name) (marked_placed x.point (step_ends ks x s step).point) ks
 
-pub here_sound : (ks : List MarkedBuffer) (xs : List Session) (at : ℕ) (h : Session) (x : WindowMarks) (s : Search) (step : SearchStep) → slice_get xs at ≡ Some h → IsSound ks xs → IsMark x.name x.point ks → IsSound (step_buffers ks x s step) (slice_set xs at (session_sought (step_search ks x s step) h))
+pub here_sound : (ks : List MarkedBuffer) (xs : List Session) (at : ℕ) (h : Session) (x : WindowMarks) (s : Seeker) (step : SearchStep) → slice_get xs at ≡ Some h → IsSound ks xs → IsMark x.name x.point ks → IsSound (step_buffers ks x s step) (slice_set xs at (session_sought (step_search ks x s step) h))
 here_sound ks xs at h x s step found sound mark = sought_sound ks xs at (step_ends ks x s step).point h x (step_search ks x s step) found mark sound
 
-pub here_sizes : (ks : List MarkedBuffer) (xs : List Session) (at : ℕ) (h : Session) (x : WindowMarks) (s : Search) (step : SearchStep) → slice_get xs at ≡ Some h → sizes_in (slice_set xs at (session_sought (step_search ks x s step) h)) ≡ sizes_in xs
+pub here_sizes : (ks : List MarkedBuffer) (xs : List Session) (at : ℕ) (h : Session) (x : WindowMarks) (s : Seeker) (step : SearchStep) → slice_get xs at ≡ Some h → sizes_in (slice_set xs at (session_sought (step_search ks x s step) h)) ≡ sizes_in xs
 here_sizes ks xs at h x s step found = sought_sizes xs at h (step_search ks x s step) found
 
-module _ (directory : Directory) (ks : List MarkedBuffer) (xs : List Session) (next : Option ℕ) (id at : ℕ) (h : Session) (x : WindowMarks) (s : Search) where
+module _ (directory : Directory) (ks : List MarkedBuffer) (xs : List Session) (next : Option ℕ) (id at : ℕ) (h : Session) (x : WindowMarks) (s : Seeker) where
   pub here_apart : (step : SearchStep) → at ≡ position_or_len (session_id id) xs → at < length xs → slice_get xs at ≡ Some h → IsSound ks xs → window_marks_of h ≡ Some x → IsMark x.name x.point ks → search_shown x.name h.own.search ≡ Some s → (step_ends ks x s step).anchor ≤ length (marked_at x.name ks).buffer.text
       → Apart Nowhere id (world_of directory ks xs next) (world_of directory (step_buffers ks x s step) (slice_set xs at (session_sought (step_search ks x s step) h)) next)
   here_apart step place within found sound sel mark shown small =
       let so = shown_so x.name h.own.search s shown in
-      stepped_apart directory ks xs next id at h x s step place within (found ∙ ap (λ (y : Session). Some y) (held_so h s so.0)) sel mark (once_used ks xs x.name x.point sound) so.1 small
+      stepped_apart directory ks xs next id at h x s step place within (found ∙ ap (λ (y : Session). Some y) (held_so h (sought_by s) so.0)) sel mark (once_used ks xs x.name x.point sound) so.1 small
 
-  pub here_world : (t : Search) (step : SearchStep) → at ≡ position_or_len (session_id id) xs → at < length xs → slice_get xs at ≡ Some h → IsSound ks xs → window_marks_of h ≡ Some x → IsMark x.name x.point ks → search_shown x.name h.own.search ≡ Some s → search_held at xs ≡ Some t → (step_ends ks x s step).anchor ≤ length (marked_at x.name ks).buffer.text → rights_decision directory ks h.user x.name 1 ≡ Granted
+  pub here_world : (t : Seeker) (step : SearchStep) → at ≡ position_or_len (session_id id) xs → at < length xs → slice_get xs at ≡ Some h → IsSound ks xs → window_marks_of h ≡ Some x → IsMark x.name x.point ks → search_shown x.name h.own.search ≡ Some s → search_held at xs ≡ Some (sought_by t) → (step_ends ks x s step).anchor ≤ length (marked_at x.name ks).buffer.text → rights_decision directory ks h.user x.name 1 ≡ Granted
       → ((rest : plans.Around) → Path (Result Finish Message) (Ok (stepped step (step_ends ks x s step) (step_search ks x s step).sought.failing)) (motion (SearchOn s.sought.direction step) (marked_at x.name ks).buffer.text (seeking rest (step_places ks x s) s.sought.pattern)))
       → world_of directory (step_buffers ks x s step) (slice_set xs at (session_sought (step_search ks x s step) h)) next ≡ act (world_of directory ks xs next) id (Run (Move (SearchOn t.sought.direction step)) None t.sought.pattern) true
   here_world t step place within found sound sel mark shown held small granted planned =
       let so = shown_so x.name h.own.search s shown in
-      let same : Path (Option Search) (Some s) (Some t) = sym so.0 ∙ ap search_or_none (sym found) ∙ held in
-      act_stepped directory ks xs next id at h x s step place within (found ∙ ap (λ (y : Session). Some y) (held_so h s so.0)) sel mark (once_used ks xs x.name x.point sound) so.1 small granted planned
-      ∙ ap (λ (o : Option Search). act (world_of directory ks xs next) id (Run (Move (SearchOn (or_this s o).sought.direction step)) None (or_this s o).sought.pattern) true) same
+      let same : Path (Option Search) (Some (sought_by s)) (Some (sought_by t)) = sym so.0 ∙ ap search_or_none (sym found) ∙ held in
+      act_stepped directory ks xs next id at h x s step place within (found ∙ ap (λ (y : Session). Some y) (held_so h (sought_by s) so.0)) sel mark (once_used ks xs x.name x.point sound) so.1 small granted planned
+      ∙ ap (λ (o : Option Search). act (world_of directory ks xs next) id (Run (Move (SearchOn (or_this s o).direction step)) None (or_this s o).pattern) true) same
     where
-      or_this : Search → Option Search → Search
-      or_this u None = u
-      or_this u (Some v) = v
+      in_aim : Seeker → Aim → Sought
+      in_aim u (Find f) = f
+      in_aim u (Replace r) = u.sought
+
+      or_this : Seeker → Option Search → Sought
+      or_this u None = u.sought
+      or_this u (Some v) = in_aim u v.aim
 
 -- QUITTING
 

@@ -35,7 +35,8 @@ use Rattle.mgs_edit.specs.declared.plan.Change.{Change}
 use Rattle.mgs_edit.specs.declared.plan.Finish.{Finish}
 use Rattle.mgs_edit.specs.declared.plan.Undone.{Undone}
 use Rattle.mgs_undo.specs.History.{has_serial}
-use Rattle.mgs_mini.specs.Typing.{is_asked}
+use Rattle.mgs_model.specs.declared.session.Question.{Question}
+use Rattle.mgs_model.specs.declared.session.Question.TheVariants.{RunWhich, ReplaceWhat, ReplaceWith}
 use Rattle.mgs_world.specs.Marking.{IsReserved, session_marked}
 use Rattle.mgs_act.specs.declared.acts.KeyAct.{KeyAct}
 use Rattle.mgs_act.specs.declared.acts.KeyAct.TheVariants.{Unbound, Run}
@@ -76,10 +77,17 @@ is_entry_done _ = false
 abbrev pub is_command_done : Command → Bool
 is_command_done (Set c) = is_setting_done c
 is_command_done (Rearrange c) = true
-is_command_done (Ask c) = is_asked c
+is_command_done (Ask c) = true
 is_command_done (Entries c) = is_entry_done c
 is_command_done ListEntries = true
 is_command_done c = is_on_text c
+
+-- the questions whose answers are done here: a command's name is looked up elsewhere, and so is what is to be replaced
+abbrev pub is_answered : Question → Bool
+is_answered RunWhich = false
+is_answered ReplaceWhat = false
+is_answered ReplaceWith = false
+is_answered _ = true
 
 abbrev pub is_done_here : KeyAct → Bool
 is_done_here Unbound = true

@@ -11,3 +11,4 @@ pub mod Listing
 pub mod Searching
 pub mod Beginning
 pub mod Following
+pub mod Replacing

@@ -5,8 +5,8 @@ ghost use Rattle.mgs_model.specs.Apart.{Apart};
 ghost use Rattle.mgs_model.specs.Apply.{act, outcome_in};
 ghost use Rattle.mgs_model.specs.Events.{may_be_refused};
 ghost use Rattle.mgs_model.specs.Outcome as outcomes;
-ghost use Rattle.mgs_model.specs.Turns.{answered, names_commands};
-ghost use Rattle.mgs_mini.specs.Typing.{is_asked};
+ghost use Rattle.mgs_model.specs.Turns.{answered};
+ghost use Rattle.mgs_act.specs.Actions.{is_answered};
 ghost use Rattle.mgs_act.specs.Searching.{meant};
 ghost use Rattle.mgs_world.specs.Sound.{IsSound};
 ghost use Rattle.mgs_world.specs.Worlds.{idle, own_at, session_id, sizes_in, world_of};
@@ -26,7 +26,7 @@ use mgs_session::Session;
 use std::alloc::Global;
 
 /// The command that a question is for is done by the session at `at`, which is at rest: `typed` is the answer, of a question
-/// that asks for no command's name. The selected window comes to show the buffer of that name, which is made for the session's
+/// that asks for neither a command's name nor what a query-replace is to replace. The selected window comes to show the buffer of that name, which is made for the session's
 /// user where it is not there; or the buffer of that name is killed; or its text is inserted where the user acts; or the point goes to the line of that number, or to where what was typed stands; or the buffer
 /// that is shown gets another owner, or that entry in its access list. A refused right, an answer that is not what was asked for,
 /// and what is full are told in the echo line. It tells what it touched, and what it did not touch is as it was. `Short`: memory
@@ -44,8 +44,7 @@ pub fn answer<T: Marked + Drop>(
     requires sound { IsSound buffers.old sessions.old }
     requires within { at < length sessions.old }
     requires fresh { own_at at sessions.old ≡ idle (own_at at sessions.old) }
-    requires here { is_asked question ≡ true }
-    requires one { names_commands question ≡ false }
+    requires here { is_answered question ≡ true }
     requires few { length typed.now ≤ 120 }
     ensures sound { IsSound buffers.new sessions.new }
     ensures sizes { sizes_in sessions.new ≡ sizes_in sessions.old }
@@ -91,7 +90,7 @@ pub fn answer<T: Marked + Drop>(
                 alloc, buffers, directory, sessions, at, direction, argument, typed,
             )
         }
-        // No other question is asked yet.
-        _ => Ok(Touched::Nowhere),
+        // Their answers are none of a command that is done here.
+        Question::RunWhich | Question::ReplaceWhat | Question::ReplaceWith => Ok(Touched::Nowhere),
     }
 }

@@ -11,6 +11,7 @@ mod killing;
 mod listing;
 mod performing;
 mod planning;
+mod replacing;
 mod rows;
 mod ruling;
 mod saving;
@@ -22,5 +23,6 @@ mod switching;
 
 pub use acts::{KeyAct, act};
 pub use answering::answer;
+pub use replacing::{replace, skip, start_replacing};
 pub use saving::save;
 pub use seeking::{quit_search, search_on, start_search};

@@ -18,10 +18,12 @@ ghost use Rattle.mgs_edit.specs.Reading.{IsWithin, top_read};
 ghost use Rattle.mgs_search.specs.Planned.{stepped};
 ghost use Rattle.mgs_session.specs.Seeking.{search_begun, searching, unsearched};
 ghost use Rattle.mgs_session.specs.Sessions.{acted, window_marks_of};
+ghost use Rattle.mgs_model.specs.Searching.{Sought};
+ghost use Rattle.mgs_session.specs.declared.search.Aim.TheVariants.{Find};
 ghost use Rattle.mgs_session.specs.declared.search.Search.{Search};
 ghost use Rattle.mgs_windows.specs.declared.WindowMarks.{WindowMarks};
 ghost use Rattle.mgs_act.specs.Actions.{AreMarks, mark_gone};
-ghost use Rattle.mgs_act.specs.Beginning.{gone_back, origin_plan, places_at, seeking, search_held, search_shown, search_stepped, searching_own, session_sought};
+ghost use Rattle.mgs_act.specs.Beginning.{gone_back, origin_plan, places_at, seeking, search_held, search_shown, search_stepped, searching_own, seek_in, session_sought};
 ghost use Rattle.mgs_world.specs.Sound.{IsSound};
 ghost use Rattle.mgs_world.specs.Worlds.{idle, own_at, session_id, sizes_in, world_of};
 
@@ -30,10 +32,20 @@ use mgs_buffers::Buffers;
 use mgs_marks::Marked;
 use mgs_model::{Direction, Kind, Message, Name, SearchPlaces, SearchStep};
 use mgs_policy::Directory;
+use mgs_search::IncrementalSearch;
 use mgs_session::{
-    Search, Session, fail, hold_search, rest, selected_window_marks, set_kind, take_search,
+    Aim, Search, Session, fail, hold_search, rest, selected_window_marks, set_kind, take_search,
 };
 use mgs_windows::WindowMarks;
+
+/// An incremental search by itself.
+#[derive(Drop)]
+pub struct Seeker {
+    pub name: Name,
+    pub origin: usize,
+    pub anchor: usize,
+    pub sought: IncrementalSearch,
+}
 
 /// A session that is at rest holds a search from now on.
 fn begin(session: &mut Session, name: Name, place: usize, direction: Direction)
@@ -75,10 +87,16 @@ pub fn start_search<T: Marked + Drop>(
 }
 
 /// A session goes on with a search, and has nothing half read.
-fn go_on(session: &mut Session, search: Search)
+fn go_on(session: &mut Session, search: Seeker)
     ensures { session.new ≡ session_sought search session.old }
 {
     rest(session);
+    let search = Search {
+        name: search.name,
+        origin: search.origin,
+        anchor: search.anchor,
+        aim: Aim::Find(search.sought),
+    };
     hold_search(session, search);
     set_kind(session, Kind::Other);
 }
@@ -87,7 +105,7 @@ fn go_on(session: &mut Session, search: Search)
 fn step_in<T: Marked + Drop>(
     buffers: &Buffers<T>,
     window_marks: &WindowMarks,
-    search: &mut Search,
+    search: &mut Seeker,
     step: SearchStep,
 ) -> usize
     requires { AreMarks buffers.now window_marks.now }
@@ -114,7 +132,7 @@ fn seek<T: Marked + Drop>(
     buffers: &mut Buffers<T>,
     session: &mut Session,
     window_marks: &WindowMarks,
-    search: Search,
+    search: Seeker,
     step: SearchStep,
 )
     requires { AreMarks buffers.old window_marks.now }
@@ -129,15 +147,36 @@ fn seek<T: Marked + Drop>(
     go_on(session, search);
 }
 
-/// The search of a session, which is taken out, where it is in the buffer of this name.
-fn take_search_in(session: &mut Session, name: &Name) -> Option<Search>
+/// A search by itself, if it is an incremental one.
+fn seek_in(search: Search) -> Option<Seeker>
+    ensures { result ≡ seek_in search search.aim }
+{
+    let Search {
+        name,
+        origin,
+        anchor,
+        aim,
+    } = search;
+    match aim {
+        Aim::Find(sought) => Some(Seeker {
+            name,
+            origin,
+            anchor,
+            sought,
+        }),
+        Aim::Replace(_) => None,
+    }
+}
+
+/// The search of a session, which is taken out, where it is an incremental one in the buffer of this name.
+fn take_search_in(session: &mut Session, name: &Name) -> Option<Seeker>
     ensures search { result ≡ search_shown name.now session.old.own.search }
     ensures rest { session.new ≡ unsearched session.old }
 {
     match take_search(session) {
         Some(search) => {
             if search.name == *name {
-                return Some(search);
+                return seek_in(search);
             }
             None
         }
@@ -145,7 +184,7 @@ fn take_search_in(session: &mut Session, name: &Name) -> Option<Search>
     }
 }
 
-/// A step of the search that the session at `at` holds, in the text that its selected window shows: the point goes to where it ends. What it
+/// A step of the incremental search that the session at `at` holds, in the text that its selected window shows: the point goes to where it ends. What it
 /// looks for was read before. A window that shows another buffer, or none, is a failure, and so is a denial. It takes no memory, and
 /// touches no text and no other session.
 pub fn search_on<T: Marked + Drop>(
@@ -159,7 +198,7 @@ pub fn search_on<T: Marked + Drop>(
     requires within { at < length sessions.old }
     ensures sound { IsSound buffers.new sessions.new }
     ensures sizes { sizes_in sessions.new ≡ sizes_in sessions.old }
-    ensures world { (id : ℕ) (next : Option ℕ) (s : Search) → at ≡ position_or_len (session_id id) sessions.old → search_held at sessions.old ≡ Some s → world_of directory.now buffers.new sessions.new next ≡ act (world_of directory.now buffers.old sessions.old next) id (Run (Move (SearchOn s.sought.direction step)) None s.sought.pattern) true }
+    ensures world { (id : ℕ) (next : Option ℕ) (s : Search) (f : Sought) → at ≡ position_or_len (session_id id) sessions.old → search_held at sessions.old ≡ Some s → s.aim ≡ Find f → world_of directory.now buffers.new sessions.new next ≡ act (world_of directory.now buffers.old sessions.old next) id (Run (Move (SearchOn f.direction step)) None f.pattern) true }
     ensures apart { (id : ℕ) (next : Option ℕ) → at ≡ position_or_len (session_id id) sessions.old → Apart Nowhere id (world_of directory.now buffers.old sessions.old next) (world_of directory.now buffers.new sessions.new next) }
 {
     let session = &mut sessions[at];
