@@ -26,7 +26,7 @@ use Rattle.mgs_core.proofs.Stays.{opened_rests}
 use Rattle.mgs_world.proofs.Marks.{same_is}
 use Rattle.mgs_world.proofs.Worlds.{same_window, same_windows, same_world}
 use Rattle.mgs_world.proofs.Soundness.{AreInUse, in_use_more, sound_in_use, sound_same}
-use Rattle.mgs_world.proofs.WindowMarks.{sessions_stay}
+use Rattle.mgs_world.proofs.WindowMarks.{same_sizes, sessions_stay}
 
 -- WHAT THE FIRST WINDOW SHOWS
 
@@ -60,7 +60,7 @@ session_new d ks ls id user rows cols o capacity h named =
 
 -- where marks of nobody came and went
 world_stays : (d : Directory) (ks ls : List MarkedBuffer) (xs : List Session) (next : Option ℕ) → AreInUse ks xs → AreInUse ls xs → buffers_of ls ≡ buffers_of ks → MarksStay ks ls → world_of d ls xs next ≡ world_of d ks xs next
-world_stays d ks ls xs next before after buffers stay = same_world d _ _ _ _ (id_after next) buffers (sessions_stay ks ls xs before after stay)
+world_stays d ks ls xs next before after buffers stay = same_world d _ _ _ _ (id_after next) buffers (sessions_stay ks ls xs before after (same_sizes ks ls buffers) stay)
 
 pub world_undone : (d : Directory) (ks ls : List MarkedBuffer) (xs : List Session) (next : Option ℕ) → IsSound ks xs → WindowMarksDropped None ks ls → world_of d ls xs next ≡ world_of d ks xs next
 world_undone d ks ls xs next sound h =
@@ -82,7 +82,7 @@ opened_at d ks ls xs ys id user rows cols o capacity sound h named more =
     let used = sound_in_use ks xs sound in
     let seen : map (session_of ls) (xs ++ y ∷ []) ≡ map (session_of ks) xs ++ new_session d (buffers_of ks) id user rows cols ∷ [] =
     map-append (session_of ls) xs (y ∷ [])
-    ∙ ap (λ (ss : List model.Session). ss ++ session_of ls y ∷ []) (sessions_stay ks ls xs used (in_use_more ks ls xs (first_more o ks ls h) used) (first_stay o ks ls h))
+    ∙ ap (λ (ss : List model.Session). ss ++ session_of ls y ∷ []) (sessions_stay ks ls xs used (in_use_more ks ls xs (first_more o ks ls h) used) (same_sizes ks ls (first_buffers o ks ls h)) (first_stay o ks ls h))
     ∙ ap (λ (s : model.Session). map (session_of ks) xs ++ s ∷ []) (session_new d ks ls id user rows cols o capacity h named) in
     ap (λ (zs : List Session). world_of d ls zs (Some (id + 1))) more ∙ same_world d _ _ _ _ (id + 1) (first_buffers o ks ls h) seen
     ∙ ap (λ (n : ℕ). record (opened (world_of d ks xs (Some id)) id user rows cols) { next_id = n }) (next_above id)

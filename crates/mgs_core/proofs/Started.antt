@@ -1,5 +1,5 @@
 -- An act that starts a search: it goes by no search that was there before.
-use Rattle.std.proofs.Common.{◌≡◌, ℕ, Bool, true, false, cond, List, [], ◌∷◌, map, map-id, Option, Some, None, refl, sym, ap, subst, ◌∙◌}
+use Rattle.std.proofs.Common.{◌≡◌, ℕ, Bool, true, false, cond, List, [], ◌∷◌, map, map-id, Option, Some, None, refl, sym, ap, ◌∙◌}
 use Rattle.std.specs.List.{flat_map}
 use Rattle.std.specs.Option.{option_map}
 use Rattle.mgs_model.specs.World.{World, Own, Search, Session, find_session, has_id}
@@ -22,7 +22,7 @@ use Rattle.mgs_act.specs.declared.acts.KeyAct.{KeyAct}
 use Rattle.mgs_act.specs.declared.acts.KeyAct.TheVariants as acts
 use Rattle.mgs_act.specs.Actions.{act_of}
 use Rattle.mgs_act.specs.Beginning.{searching_own}
-use Rattle.mgs_core.specs.Steps.{ActedBy, started_by, started_in_motion, started_own, started_world}
+use Rattle.mgs_core.specs.Steps.{ActedBy, started_by, started_own, started_world}
 
 pub change_twice : {A : Type 0} (p : A → Bool) (f g h : A → A) → ((x : A) → p (g x) ≡ p x) → ((x : A) → f (g x) ≡ h x) → (xs : List A) → change_first p f (change_first p g xs) ≡ change_first p h xs
 change_twice p f g h stays same [] = refl

@@ -1,6 +1,3 @@
-use Rattle.std.proofs.Common.{◌∙◌, ap}
-use Rattle.mgs_session.specs.Seeking.{search_left, searching}
-use Rattle.mgs_session.specs.Sessions.{told}
 use Rattle.mgs_core.proofs.Sought.{foreign_step, read_again, read_at, search_ends, search_on, search_quits, still_search}
 use Rattle.mgs_core.proofs.typing.step_search.Goals as goal
 
