@@ -16,7 +16,7 @@ ghost use Rattle.mgs_model.specs.declared.message.Message.TheVariants.{Replaced,
 ghost use Rattle.mgs_session.specs.Sessions.{playing_as, prompting, told, unprompted};
 ghost use Rattle.mgs_world.specs.Worlds.{own_of};
 ghost use Rattle.mgs_core.specs.Prompted.{names_for};
-ghost use Rattle.mgs_core.specs.Stepped.{IsAlone, IsAnswerStep, IsByteStep, IsNamedStep, deed_from, finding, replace_key, replacing_at, step_from_search};
+ghost use Rattle.mgs_core.specs.Stepped.{IsAlone, IsAnswerStep, IsByteStep, IsFirst, IsNamedStep, deed_from, finding, replace_key, replacing_at, step_from_search};
 
 use crate::deeds::{Before, Deed};
 use crate::keying::{ByteStep, step_command, step_key};
@@ -105,10 +105,17 @@ fn step_name(session: &mut Session, prompt: Prompt) -> ByteStep
     step_command(session, command, argument, Before::Prompt(prompt))
 }
 
+/// There is a first answer beside the second question alone. TODO: by the invariant of `Prompt`.
+fn has_first(prompt: &Prompt)
+    ensures { IsFirst prompt.now.question prompt.now.first }
+{}
+
 /// What an answer comes to, whose prompt was taken out of the session.
 fn step_answer(session: &mut Session, prompt: Prompt) -> ByteStep
-    ensures { IsAnswerStep session.old session.new prompt result }
+    ensures first { IsFirst prompt.question prompt.first }
+    ensures step { IsAnswerStep session.old session.new prompt result }
 {
+    has_first(&prompt);
     match prompt.question() {
         Question::RunWhich => step_name(session, prompt),
         Question::ReplaceWhat => {
