@@ -17,7 +17,7 @@ use Rattle.mgs_session.specs.declared.search.Search.{Search}
 use Rattle.mgs_mini.specs.Typing.{PromptInput}
 use Rattle.mgs_world.specs.Worlds.{buffers_of, mode_in, search_of, own_at, own_of, own_or_first, session_id, session_of, world_of}
 use Rattle.mgs_core.specs.Steps.{closed}
-use Rattle.mgs_core.specs.Turned.{weight}
+use Rattle.mgs_core.specs.Turned.{has_all, weight}
 use Rattle.mgs_core.proofs.Steps.{set_there, world_changed}
 
 -- A WORLD IN WHICH WHAT A SESSION HOLDS CHANGED
@@ -65,10 +65,19 @@ begun_world d ks xs next id at byte h y place within is_h begins =
     by false = λ i. record (session_of ks h) { search = search_still (buffers_of ks) h.own.search h.own.prompt i; own = begun_if false byte (own_of h.own) }
 
 -- what there is to do is the byte, or nothing
-pub begun_weight : (xs : List code.Session) (at byte : ℕ) (h y : code.Session) → at < length xs → y ≡ held.begun byte h → weight (own_at at (slice_set xs at y)).todo ≤ 51202
+pub begun_weight : (xs : List code.Session) (at byte : ℕ) (h y : code.Session) → at < length xs → y ≡ held.begun byte h → weight 0 (own_at at (slice_set xs at y)).todo ≤ 53689341958
 begun_weight xs at byte h y within begins =
-    subst (λ (todo : List Todo). weight todo ≤ 51202) (sym (ap (λ (o : Option code.Session). (own_or_first o).todo) (set_there xs at y within) ∙ ap (λ (s : code.Session). s.own.player.todo) begins)) (by (is_full h.own.recorder))
+    subst (λ (todo : List Todo). weight 0 todo ≤ 53689341958) (sym (ap (λ (o : Option code.Session). (own_or_first o).todo) (set_there xs at y within) ∙ ap (λ (s : code.Session). s.own.player.todo) begins)) (by (is_full h.own.recorder))
   where
-    by : (c : Bool) → weight (cond c (one_too_many h) (keeps byte h)).own.player.todo ≤ 51202
+    by : (c : Bool) → weight 0 (cond c (one_too_many h) (keeps byte h)).own.player.todo ≤ 53689341958
     by true = omega arith
     by false = omega arith
+
+-- and no further replacement
+pub begun_none : (xs : List code.Session) (at byte : ℕ) (h y : code.Session) → at < length xs → y ≡ held.begun byte h → has_all (own_at at (slice_set xs at y)).todo ≡ false
+begun_none xs at byte h y within begins =
+    ap (λ (o : Option code.Session). has_all (own_or_first o).todo) (set_there xs at y within) ∙ ap (λ (s : code.Session). has_all s.own.player.todo) begins ∙ by (is_full h.own.recorder)
+  where
+    by : (c : Bool) → has_all (cond c (one_too_many h) (keeps byte h)).own.player.todo ≡ false
+    by true = refl
+    by false = refl

@@ -59,7 +59,7 @@ behind_of (Play ∷ todo) h = cc
 
 pub none_all : (todo : List Todo) → are_played todo ≡ true → has_all todo ≡ false
 none_all [] h = refl
-none_all (Played byte ∷ todo) h = refl
+none_all (Played byte ∷ todo) h = none_all todo h
 none_all (Typed byte ∷ todo) h = cc
 none_all (Replace_all ∷ todo) h = cc
 none_all (Play ∷ todo) h = cc
@@ -98,7 +98,7 @@ played_weight (byte ∷ bytes) = let later = played_weight bytes in omega (arith
 
 played_none : (bytes : List ℕ) → has_all (map Played bytes) ≡ false
 played_none [] = refl
-played_none (byte ∷ bytes) = refl
+played_none (byte ∷ bytes) = played_none bytes
 
 played_all : (bytes : List ℕ) → is_played (map Played bytes) ≡ true
 played_all [] = refl

@@ -29,8 +29,8 @@ weight n (Play ∷ todo) = 1 + weight n todo
 -- further replacements are to be done
 abbrev pub has_all : List Todo → Bool
 has_all [] = false
-has_all (Typed byte ∷ todo) = false
-has_all (Played byte ∷ todo) = false
+has_all (Typed byte ∷ todo) = has_all todo
+has_all (Played byte ∷ todo) = has_all todo
 has_all (Replace_all ∷ todo) = true
 has_all (Play ∷ todo) = has_all todo
 
