@@ -31,13 +31,15 @@ use Rattle.mgs_model.specs.Plans.{failed_own}
 use Rattle.mgs_buffers.specs.MarkedBuffer.{MarkedBuffer}
 use Rattle.mgs_session.specs.declared.Own.{Own}
 use Rattle.mgs_session.specs.declared.Session.{Session}
+use Rattle.mgs_session.specs.declared.search.Aim.{Aim}
+use Rattle.mgs_session.specs.declared.search.Aim.TheVariants.{Find, Replace}
 use Rattle.mgs_session.specs.declared.search.Search.{Search}
 use Rattle.mgs_session.specs.Sessions.{failed, prompting, resting, unprompted}
 use Rattle.mgs_session.specs.Seeking.{unsearched}
 use Rattle.mgs_store.specs.Stores.{StoreTold, told_more}
 use Rattle.mgs_core.specs.Steps.{ActedBy}
 use Rattle.mgs_store.proofs.Told.{told_none}
-use Rattle.mgs_world.specs.Worlds.{buffers_of, idle, mode_in, own_of}
+use Rattle.mgs_world.specs.Worlds.{aim_mode, buffers_of, idle, mode_in, own_of}
 use Rattle.mgs_world.proofs.Owns.{prompt_fed}
 use Rattle.mgs_core.specs.declared.deeds.Deed.{Deed}
 use Rattle.mgs_core.specs.declared.deeds.Deed.TheVariants as deeds
@@ -139,7 +141,11 @@ completed_mode own (Some text) = refl
 -- a session in the mode of a prompt does not search
 prompted_none : (s : Option Search) (p : Option PromptInput) (c : Question) → mode_in s p ≡ Prompt c → s ≡ None
 prompted_none None p c e = refl
-prompted_none (Some s) p c e = cc
+prompted_none (Some s) p c e = by s.aim e
+  where
+    by : (a : Aim) → aim_mode a ≡ Prompt c → Path (Option Search) (Some s) None
+    by (Find f) h = cc
+    by (Replace r) h = cc
 
 pub completes : (d : Directory) (ks : List MarkedBuffer) (y taken new : Session) (p q : PromptInput) (byte : ℕ) → IsAlone (unsearched y).own.player → (unsearched y).own.prompt ≡ Some p → q.question ≡ p.question → q.first ≡ p.first → IsFed p q byte Completes → taken ≡ unprompted (unsearched y)
     → own_of new.own ≡ completed (own_of (prompting q taken).own) (completion (names_for d taken.user ks q.question) q.input) → new ≡ record taken { own = new.own } → IsByteStep d ks (unsearched y) new byte Kept

@@ -25,7 +25,7 @@ use Rattle.mgs_session.specs.declared.search.Search.{Search}
 use Rattle.mgs_session.specs.declared.Session.{Session}
 use Rattle.mgs_session.specs.Seeking.{search_left, searching, unsearched}
 use Rattle.mgs_session.specs.Sessions.{told}
-use Rattle.mgs_world.specs.Worlds.{mode_in, own_of, search_of}
+use Rattle.mgs_world.specs.Worlds.{aim_mode, mode_in, own_of, search_of}
 use Rattle.mgs_core.specs.declared.deeds.Deed.TheVariants as deeds
 use Rattle.mgs_core.specs.declared.keying.ByteStep.{ByteStep}
 use Rattle.mgs_core.specs.declared.keying.ByteStep.TheVariants.{Kept, Failed, Ends, Acts}
@@ -33,6 +33,7 @@ use Rattle.mgs_core.specs.Prompted.{own_turn}
 use Rattle.mgs_core.specs.Stepped.{IsAlone, IsByteStep, SearchStays, deed_act, finding, is_finding, is_keyed, step_from_search}
 use Rattle.mgs_core.specs.Turned.{is_quiet}
 use Rattle.mgs_session.specs.declared.search.Aim.{Aim}
+use Rattle.mgs_session.specs.declared.search.Aim.TheVariants.{Find, Replace}
 use Rattle.mgs_core.proofs.Stepped.{fit_same, left_same, none_stays}
 
 -- WHAT A BYTE LEAVES OF WHAT IS LOOKED FOR, where it goes on with nothing
@@ -177,16 +178,20 @@ stays_none : (old new : Own) → old.search ≡ None → SearchStays old new →
 stays_none old new none stays =
     by new.search new.prompt (stays [] ∙ ap (λ (o : Option Search). cond (searches (own_of new).mode) (search_of [] o) None) none)
   where
+    aims : (g : Search) (a : Aim) → search_of [] (Some g) ≡ cond (searches (aim_mode a)) None None → Path (Option Search) (Some g) None
+    aims g (Find f) e = cc
+    aims g (Replace r) e = cc
+
     by : (o : Option Search) (p : Option PromptInput) → search_of [] o ≡ cond (searches (mode_in o p)) None None → o ≡ None
     by None p e = refl
-    by (Some g) p e = cc
+    by (Some g) p e = aims g g.aim e
 
 module _ (d : Directory) (ks : List MarkedBuffer) (y new : Session) (name : List ℕ) (origin anchor : ℕ) (f : Sought) (last : List ℕ) (byte : ℕ) (same : last ≡ y.own.pattern) (read : read_byte y.own.pattern f byte ≡ (f, step.Leaves)) where
-  abbrev pub s : Search
-  s = finding name origin anchor f
+  abbrev pub was : Search
+  was = finding name origin anchor f
 
   abbrev w : Session
-  w = searching s (unsearched y)
+  w = searching was (unsearched y)
 
   abbrev left_one : Session
   left_one = search_left f.pattern (unsearched y)
@@ -197,7 +202,7 @@ module _ (d : Directory) (ks : List MarkedBuffer) (y new : Session) (name : List
   left_stays : SearchStays left_one.own new.own → SearchStays w.own new.own
   left_stays stays = none_stays w.own new.own (stays_none left_one.own new.own refl stays)
 
-  key_left : (k : ByteStep) → is_keyed k ≡ true → IsByteStep d ks left_one new byte k → IsByteStep d ks w new byte (step_from_search s last k)
+  key_left : (k : ByteStep) → is_keyed k ≡ true → IsByteStep d ks left_one new byte k → IsByteStep d ks w new byte (step_from_search was last k)
   key_left Kept keyed t = record { own = t.own; stays = left_stays t.stays; turn = λ v sees. key_comes v ∙ t.turn v sees; left = t.left; fit = t.fit }
   key_left Failed keyed t = record {
     own = t.own;

@@ -4,7 +4,7 @@ use Rattle.std.specs.Prelude.{slice_get, slice_set, is_some, not, ◌≤◌, ◌
 use Rattle.std.specs.List.{flat_map, list_any, position_or_len}
 use Rattle.std.proofs.lemmas.List.{length-map}
 use Rattle.mgs_model.specs.Access.{Directory}
-use Rattle.mgs_model.specs.World.{World, Buffer, Todo, find_session, has_id}
+use Rattle.mgs_model.specs.World.{World, Buffer, Todo, find_buffer, find_session, has_id, is_named}
 use Rattle.mgs_model.specs.World as model
 use Rattle.mgs_model.specs.Outcome.{Act, Run}
 use Rattle.mgs_model.specs.Apart.{Apart, bare, may_show, spared}
@@ -26,7 +26,7 @@ use Rattle.mgs_mini.specs.Typing.{PromptInput}
 use Rattle.mgs_session.specs.declared.search.Aim.{Aim}
 use Rattle.mgs_session.specs.declared.search.Aim.TheVariants.{Find, Replace}
 use Rattle.mgs_session.specs.declared.search.Replacing.{Replacing}
-use Rattle.mgs_act.specs.Replacing.{replacement, replacing_own}
+use Rattle.mgs_act.specs.Replacing.{remaining_at, remaining_in, replacement, replacing_own}
 use Rattle.mgs_model.specs.declared.session.Kind.{Kind}
 use Rattle.mgs_model.specs.declared.touched.Touched.{Touched}
 use Rattle.mgs_model.specs.declared.touched.Touched.TheVariants.{Nowhere}
@@ -40,12 +40,12 @@ use Rattle.mgs_model.proofs.Saves.{act_saves_none, is_save}
 use Rattle.mgs_model.proofs.Turned.{turn_todo}
 use Rattle.mgs_act.specs.Beginning.{search_held, search_or_none}
 use Rattle.mgs_act.specs.Searching.{meant}
-use Rattle.mgs_buffers.specs.MarkedBuffer.{MarkedBuffer}
+use Rattle.mgs_buffers.specs.MarkedBuffer.{AreWithinLimit, MarkedBuffer}
 use Rattle.mgs_session.specs.declared.Session.{Session}
 use Rattle.mgs_session.specs.declared.search.Search.{Search}
 use Rattle.mgs_store.specs.Stores.{StoreTold}
 use Rattle.mgs_store.proofs.Told.{told_none}
-use Rattle.mgs_world.specs.Worlds.{aim_input, aim_mode, buffers_of, input_in, keys_in, mode_in, own_at, own_of, own_or_first, search_of, session_id, session_of, size_in, sizes_in, world_of}
+use Rattle.mgs_world.specs.Worlds.{aim_input, aim_mode, buffers_of, input_in, keys_in, mode_in, own_at, own_of, own_or_first, search_of, session_id, session_of, size_found, size_in, size_named, sizes_in, world_of}
 use Rattle.mgs_world.proofs.Sessions.{session_some}
 use Rattle.mgs_core.specs.declared.deeds.Deed.{Deed}
 use Rattle.mgs_core.specs.declared.deeds.Deed.TheVariants as deeds
@@ -94,6 +94,25 @@ some_there xs at h within is some none = some (ap (λ (o : model.Own). o.todo) (
 
 pub within_still : (at : ℕ) (xs ys : List Session) → at < length xs → sizes_in ys ≡ sizes_in xs → at < length ys
 within_still at xs ys within same = omega (arith, within, sym (length-map xs size_in) ∙ sym (ap length same) ∙ length-map ys size_in)
+
+-- no more is left of a text than it may have
+size_within : (name : List ℕ) (ks : List MarkedBuffer) → AreWithinLimit ks → size_named name (buffers_of ks) ≤ 1048576
+size_within name [] h = omega arith
+size_within name (k ∷ ks) h = by (is_named name k.buffer)
+  where
+    later : size_named name (buffers_of ks) ≤ 1048576
+    later = size_within name ks h.1
+
+    by : (b : Bool) → size_found (cond b (Some k.buffer) (find_buffer name (buffers_of ks))) ≤ 1048576
+    by true = h.0
+    by false = later
+
+pub left_within : (at : ℕ) (ks : List MarkedBuffer) (xs : List Session) → AreWithinLimit ks → remaining_at at ks xs ≤ 1048576
+left_within at ks xs h = by (search_held at xs)
+  where
+    by : (o : Option Search) → remaining_in ks o ≤ 1048576
+    by None = omega arith
+    by (Some s) = let small = size_within s.name ks h in omega (arith, small)
 
 -- A STEP OF A SEARCH
 

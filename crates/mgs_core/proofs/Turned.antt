@@ -389,3 +389,9 @@ none_on keyed.Done todo off e = nothing_left todo (not_true (is_nothing todo) of
 none_on keyed.Short todo off e = cc
 none_on keyed.Quit todo off e = cc
 none_on keyed.NoSession todo off e = cc
+
+pub goes_done : (k : Keyed) (todo : List Todo) → goes_on k todo ≡ true → k ≡ Done
+goes_done keyed.Done todo on = refl
+goes_done keyed.Short todo on = cc
+goes_done keyed.Quit todo on = cc
+goes_done keyed.NoSession todo on = cc

@@ -5,7 +5,7 @@ use Rattle.mgs_world.specs.Worlds.{own_at, world_of}
 use Rattle.mgs_core.specs.declared.deeds.Deed.{Deed}
 use Rattle.mgs_core.specs.Stepped.{deed_act}
 use Rattle.mgs_core.proofs.Prompted.{answer_may, answer_quietly}
-use Rattle.mgs_core.proofs.Taken.{quit_quietly, sought_quietly}
+use Rattle.mgs_core.proofs.Taken.{quit_quietly, replaced_may, replaced_quietly, skipped_quietly, sought_quietly, started_replacing}
 use Rattle.mgs_core.proofs.deeds.do_deed.Goals as goal
 
 pub returns-in-Err-clause-may : goal.returns-in-Err-clause-may
@@ -25,8 +25,24 @@ returns-in-Err-answer-clause-may g c id next place =
 
 pub returns-in-Seek-clause-ok : goal.returns-in-Seek-clause-ok
 returns-in-Seek-clause-ok g c id next place =
-    sought_quietly _ _ _ id c.args.sessions.now c.args.at c.args.deed c.in-Seek.step c.in-Seek.is c.requires.ready (λ s held. c.search_on.ensures.world id next s place held)
+    sought_quietly _ _ _ id c.args.sessions.now c.args.at c.args.deed c.in-Seek.step c.in-Seek.is c.requires.ready (λ s f held aim. c.search_on.ensures.world id next s f place held aim)
 
 pub returns-in-QuitSearch-clause-ok : goal.returns-in-QuitSearch-clause-ok
 returns-in-QuitSearch-clause-ok g c id next place =
     quit_quietly _ _ _ id (own_at c.args.at c.args.sessions.now) c.args.deed c.in-QuitSearch.is (c.quit_search.ensures.world c.args.directory.now id next place)
+
+pub returns-in-StartReplacing-clause-ok : goal.returns-in-StartReplacing-clause-ok
+returns-in-StartReplacing-clause-ok g c id next place =
+    started_replacing _ _ _ id (own_at c.args.at c.args.sessions.now) c.args.deed c.in-StartReplacing.pattern c.in-StartReplacing.put c.in-StartReplacing.is (c.start_replacing.ensures.world id next place)
+
+pub returns-in-Ok-replace-clause-ok : goal.returns-in-Ok-replace-clause-ok
+returns-in-Ok-replace-clause-ok g c id next place =
+    replaced_quietly _ _ _ id c.args.sessions.now c.args.at c.args.deed c.in-Replace.last c.in-Replace.is c.requires.ready (λ s r held aim. c.in-Ok-replace.ensures.ok id next s r place held aim)
+
+pub returns-in-Err-replace-clause-may : goal.returns-in-Err-replace-clause-may
+returns-in-Err-replace-clause-may g c id next place =
+    replaced_may (world_of c.args.directory.now c.args.buffers.now c.args.sessions.now next) id c.args.sessions.now c.args.at c.args.deed c.in-Replace.last c.in-Replace.is c.requires.ready (λ s r held aim. c.in-Err-replace.ensures.may id next s r place held aim)
+
+pub returns-in-Skip-clause-ok : goal.returns-in-Skip-clause-ok
+returns-in-Skip-clause-ok g c id next place =
+    skipped_quietly _ _ _ id c.args.sessions.now c.args.at c.args.deed c.in-Skip.is c.requires.ready (λ s r held aim. c.skip.ensures.world id next s r place held aim)
