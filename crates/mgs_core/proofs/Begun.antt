@@ -13,9 +13,11 @@ use Rattle.mgs_session.specs.Playing.{byte_typed, stopped}
 use Rattle.mgs_session.specs.Recording.{appended, is_full, nothing_recorded}
 use Rattle.mgs_session.specs.Sessions as held
 use Rattle.mgs_session.specs.declared.Session as code
+use Rattle.mgs_session.specs.declared.search.Aim.{Aim}
+use Rattle.mgs_session.specs.declared.search.Aim.TheVariants.{Find, Replace}
 use Rattle.mgs_session.specs.declared.search.Search.{Search}
 use Rattle.mgs_mini.specs.Typing.{PromptInput}
-use Rattle.mgs_world.specs.Worlds.{buffers_of, mode_in, search_of, own_at, own_of, own_or_first, session_id, session_of, world_of}
+use Rattle.mgs_world.specs.Worlds.{aim_mode, buffers_of, mode_in, search_of, own_at, own_of, own_or_first, session_id, session_of, world_of}
 use Rattle.mgs_core.specs.Steps.{closed}
 use Rattle.mgs_core.specs.Turned.{has_all, weight}
 use Rattle.mgs_core.proofs.Steps.{set_there, world_changed}
@@ -54,7 +56,11 @@ begun_same f byte x y one other is = ap f is ∙ by (is_full x.own.recorder)
 pub search_still : (bs : List Buffer) (s : Option Search) (p : Option PromptInput) → search_of bs s ≡ cond (searches (mode_in s p)) (search_of bs s) None
 search_still bs None None = refl
 search_still bs None (Some p) = refl
-search_still bs (Some s) p = refl
+search_still bs (Some s) p = by s.aim
+  where
+    by : (a : Aim) → search_of bs (Some s) ≡ cond (searches (aim_mode a)) (search_of bs (Some s)) None
+    by (Find f) = refl
+    by (Replace r) = refl
 
 pub begun_world : (d : Directory) (ks : List MarkedBuffer) (xs : List code.Session) (next : Option ℕ) (id at byte : ℕ) (h y : code.Session) → at ≡ position_or_len (session_id id) xs → at < length xs → h ≡ get_or xs at h → y ≡ held.begun byte h → world_of d ks (slice_set xs at y) next ≡ with_own id (begun_own byte) (world_of d ks xs next)
 begun_world d ks xs next id at byte h y place within is_h begins =

@@ -143,7 +143,7 @@ module _ (d : Directory) (ks : List MarkedBuffer) (y new : Session) (name : List
   }
 
   -- a match is replaced
-  replaced_turn : (last : Bool) → Turn
+  abbrev replaced_turn : (last : Bool) → Turn
   replaced_turn last = Do own (deed_act own (deeds.Replace last))
 
   replaces_step : (last : Bool) → ((v : View) → own_turn v x.own byte ≡ replaced_turn last) → new ≡ searching s (told Silent z) → IsByteStep d ks x new byte (Acts (deeds.Replace last))

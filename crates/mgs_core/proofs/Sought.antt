@@ -236,7 +236,7 @@ module _ (d : Directory) (ks : List MarkedBuffer) (y new : Session) (name : List
     typed = t.typed;
     left = t.left;
     again = λ wants.
-        ap (λ (o : model.Own). record o { mode = Searching f.direction f.failing; input = f.pattern; pattern = last; keys = [] }) (t.again wants)
+        ap (λ (o : model.Own). record o { mode = Searching f.direction f.failing; input = f.pattern; old = []; count = 0; pattern = last; keys = [] }) (t.again wants)
         ∙ ap (λ (p : List ℕ). record (refused_own (own_of w.own)) { pattern = p }) same;
     search = λ wants. refl;
     fit = t.fit;

@@ -61,7 +61,7 @@ use Rattle.mgs_core.proofs.Prompted.{answered_single}
 use Rattle.mgs_core.proofs.Sizes.{place_same}
 use Rattle.mgs_core.proofs.Started.{begun_act, change_twice}
 use Rattle.mgs_core.proofs.Steps.{session_changed, session_there, set_there, world_changed}
-use Rattle.mgs_core.proofs.Turned.{more_weight, none_weight, some_left, without_within}
+use Rattle.mgs_core.proofs.Turned.{AllLeft, all_less, all_none, all_same, all_without, more_weight, none_weight, some_left, without_within}
 use Rattle.mgs_core.proofs.Stepped.{fit_empty}
 
 there : (xs : List Session) (at : ℕ) → at < length xs → (h : Session) × (h ≡ get_or xs at h) × (slice_get xs at ≡ Some h)
@@ -98,14 +98,11 @@ within_still at xs ys within same = omega (arith, within, sym (length-map xs siz
 -- no more is left of a text than it may have
 size_within : (name : List ℕ) (ks : List MarkedBuffer) → AreWithinLimit ks → size_named name (buffers_of ks) ≤ 1048576
 size_within name [] h = omega arith
-size_within name (k ∷ ks) h = by (is_named name k.buffer)
+size_within name (k ∷ ks) h = by (is_named name k.buffer) (size_within name ks h.1)
   where
-    later : size_named name (buffers_of ks) ≤ 1048576
-    later = size_within name ks h.1
-
-    by : (b : Bool) → size_found (cond b (Some k.buffer) (find_buffer name (buffers_of ks))) ≤ 1048576
-    by true = h.0
-    by false = later
+    by : (b : Bool) → size_named name (buffers_of ks) ≤ 1048576 → size_found (cond b (Some k.buffer) (find_buffer name (buffers_of ks))) ≤ 1048576
+    by true later = h.0
+    by false later = later
 
 pub left_within : (at : ℕ) (ks : List MarkedBuffer) (xs : List Session) → AreWithinLimit ks → remaining_at at ks xs ≤ 1048576
 left_within at ks xs h = by (search_held at xs)
@@ -162,7 +159,7 @@ pub skipped_quietly : (old new : World) (t : StoreTold) (id : ℕ) (xs : List Se
 skipped_quietly old new t id xs at deed is ready world =
     let there = replace_there xs at (subst (λ (e : Deed). IsReady e (search_held at xs) (own_at at xs)) is ready) in
     let did : ActedBy old new t t id (Run (Move SkipMatch) None (own_at at xs).input) = quietly old new t id (Run (Move SkipMatch) None (own_at at xs).input) refl
-        (world there.0 there.1 there.2.0 there.2.1 ∙ sym (ap (λ (put : List ℕ). act old id (Run (Move SkipMatch) None put) true) there.2.2)) in
+        (world there.0 there.1 there.2 there.3 ∙ sym (ap (λ (put : List ℕ). act old id (Run (Move SkipMatch) None put) true) there.4)) in
     subst (λ (e : Deed). ActedBy (deed_world e id old) new t t id (deed_act (own_at at xs) e)) (sym is) did
 
 pub replaced_quietly : (old new : World) (t : StoreTold) (id : ℕ) (xs : List Session) (at : ℕ) (deed : Deed) (last : Bool) → deed ≡ deeds.Replace last → IsReady deed (search_held at xs) (own_at at xs)
@@ -170,7 +167,7 @@ pub replaced_quietly : (old new : World) (t : StoreTold) (id : ℕ) (xs : List S
 replaced_quietly old new t id xs at deed last is ready world =
     let there = replace_there xs at (subst (λ (e : Deed). IsReady e (search_held at xs) (own_at at xs)) is ready) in
     let did : ActedBy old new t t id (Run (Alter (replacement last)) None (own_at at xs).input) = quietly old new t id (Run (Alter (replacement last)) None (own_at at xs).input) refl
-        (world there.0 there.1 there.2.0 there.2.1 ∙ sym (ap (λ (put : List ℕ). act old id (Run (Alter (replacement last)) None put) true) there.2.2)) in
+        (world there.0 there.1 there.2 there.3 ∙ sym (ap (λ (put : List ℕ). act old id (Run (Alter (replacement last)) None put) true) there.4)) in
     subst (λ (e : Deed). ActedBy (deed_world e id old) new t t id (deed_act (own_at at xs) e)) (sym is) did
 
 pub replaced_may : (w : World) (id : ℕ) (xs : List Session) (at : ℕ) (deed : Deed) (last : Bool) → deed ≡ deeds.Replace last → IsReady deed (search_held at xs) (own_at at xs)
@@ -178,8 +175,8 @@ pub replaced_may : (w : World) (id : ℕ) (xs : List Session) (at : ℕ) (deed :
 replaced_may w id xs at deed last is ready may =
     let there = replace_there xs at (subst (λ (e : Deed). IsReady e (search_held at xs) (own_at at xs)) is ready) in
     ap (λ (e : Deed). may_be_refused (outcome_in w id (deed_act (own_at at xs) e) true)) is
-    ∙ ap (λ (put : List ℕ). may_be_refused (outcome_in w id (Run (Alter (replacement last)) None put) true)) there.2.2
-    ∙ may there.0 there.1 there.2.0 there.2.1
+    ∙ ap (λ (put : List ℕ). may_be_refused (outcome_in w id (Run (Alter (replacement last)) None put) true)) there.4
+    ∙ may there.0 there.1 there.2 there.3
 
 pub started_replacing : (old new : World) (t : StoreTold) (id : ℕ) (own : model.Own) (deed : Deed) (pattern put : List ℕ) → deed ≡ deeds.StartReplacing pattern put → new ≡ act (with_own id (replacing_own pattern put) old) id (Run (Move StartReplace) None put) true → ActedBy (deed_world deed id old) new t t id (deed_act own deed)
 started_replacing old new t id own deed pattern put is world =
@@ -193,11 +190,11 @@ sought_quietly old new t id xs at deed step is ready world =
     let c : Act = Run (Move (SearchOn there.1.direction step)) None there.1.pattern in
     let did : ActedBy old new t t id c = record {
       stored = true;
-      world = world there.0 there.1 there.2.0 there.2.1;
+      world = world there.0 there.1 there.2 there.3;
       fault = λ e. cc;
       saves = told_none t.accepted (flat_map saved_by (act_effects old id c true)) (act_saves_none old id c true refl);
     }
-    in subst (λ (e : Deed). ActedBy (deed_world e id old) new t t id (deed_act (own_at at xs) e)) (sym is) (subst (ActedBy old new t t id) (sym there.2.2) did)
+    in subst (λ (e : Deed). ActedBy (deed_world e id old) new t t id (deed_act (own_at at xs) e)) (sym is) (subst (ActedBy old new t t id) (sym there.4) did)
 
 pub quit_quietly : (old new : World) (t : StoreTold) (id : ℕ) (own : model.Own) (deed : Deed) → deed ≡ deeds.QuitSearch → new ≡ act old id (Run LeaveSearch None []) true → ActedBy (deed_world deed id old) new t t id (deed_act own deed)
 quit_quietly old new t id own deed is world =
@@ -463,6 +460,19 @@ module _ (d : Directory) (ks : List MarkedBuffer) (xs : List Session) (next : Op
         let first = s.left.less none in
         let alike = none_weight m 1048576 h.own.player.todo none in
         subst (λ (todo : List Todo). IsLess m n todo (own_at at ys).todo) (sym todo_there) (omega (arith, left.0, first, most, alike), left.1)
+
+    -- or by one of all further replacements
+    pub replaced_less : (m n : ℕ) (K : List MarkedBuffer) (ys : List Session) (before after : StoreTold) (kind : Kind) (playing : Bool) (k : Keyed) → k ≡ keyed.Done → sizes_in ys ≡ sizes_in xs
+        → DeedBy (world_of d ks (slice_set xs at y) next) (deed_world deed id (world_of d ks (slice_set xs at y) next)) (world_of d K ys next) before after id (may_want_memory deed) (deed_act (own_at at (slice_set xs at y)) deed) (put_back (buffers_of ks) (before_of deed) kind playing) k
+        → has_all h.own.player.todo ≡ true → (has_all (own_at at ys).todo ≡ true → n < m)
+        → IsLess m n (own_at at xs).todo (own_at at ys).todo
+    replaced_less m n K ys before after kind playing k is same by all further =
+        let new : World = world_of d K ys next in
+        let todo : List Todo = h.own.player.todo in
+        let did = deed_done begun (deed_world deed id begun) new before after id (may_want_memory deed) (deed_act (own_at at (slice_set xs at y)) deed) (put_back (buffers_of ks) (before_of deed) kind playing) k is by in
+        let stays = s.left.same all in
+        let left = deed_leaves (AllLeft m todo) (all_none m todo all) (all_without m todo all stays.2) (subst (AllLeft m todo) (sym stays.1) (all_same m todo all (ap is_played (sym stays.1) ∙ s.left.played))) K ys before after same (done_from new before after did) in
+        subst (λ (ts : List Todo). IsLess m n ts (own_at at ys).todo) (sym todo_there) (all_less m n todo (own_at at ys).todo all left further)
 
     acted_turn : (K : List MarkedBuffer) (ys : List Session) (before after : StoreTold) → sizes_in ys ≡ sizes_in xs → ActedBy (with_own id (λ was. own) old) (world_of d K ys next) before after id act_done → TurnDone (is_played (own_at at xs).todo) (own_at at ys).todo old (world_of d K ys next) before after id
     acted_turn K ys before after same did = record {

@@ -395,3 +395,55 @@ goes_done keyed.Done todo on = refl
 goes_done keyed.Short todo on = cc
 goes_done keyed.Quit todo on = cc
 goes_done keyed.NoSession todo on = cc
+
+-- WHERE FURTHER REPLACEMENTS GO ON: all that was to be done is left, or none of them and less
+
+all_some : (m : ℕ) (todo : List Todo) → has_all todo ≡ true → 0 < weight m todo
+all_some m [] h = cc
+all_some m (Replace_all ∷ todo) h = omega arith
+all_some m (Typed byte ∷ todo) h = omega arith
+all_some m (Played byte ∷ todo) h = omega arith
+all_some m (Play ∷ todo) h = omega arith
+
+without_same : (todo : List Todo) → has_all todo ≡ false → without_all todo ≡ todo
+without_same [] h = refl
+without_same (Replace_all ∷ todo) h = cc
+without_same (Typed byte ∷ todo) h = refl
+without_same (Played byte ∷ todo) h = refl
+without_same (Play ∷ todo) h = ap (λ (more : List Todo). Play ∷ more) (without_same todo h)
+
+-- none is left without them
+rest_less : (m : ℕ) (todo : List Todo) → has_all todo ≡ true → has_all (without_all todo) ≡ false → weight m (without_all todo) < weight m todo
+rest_less m [] h e = cc
+rest_less m (Replace_all ∷ todo) h e = omega arith
+rest_less m (Typed byte ∷ todo) h e = not_played (has_all todo) h e
+rest_less m (Played byte ∷ todo) h e = not_played (has_all todo) h e
+rest_less m (Play ∷ todo) h e = let later = rest_less m todo h e in omega (arith, later)
+
+pub record AllLeft (m : ℕ) (old todo : List Todo) : Type 0 where
+  pub kept : has_all todo ≡ true → todo ≡ old
+  pub less : has_all todo ≡ false → weight m todo < weight m old
+  pub played : is_played todo ≡ true
+
+pub all_none : (m : ℕ) (old : List Todo) → has_all old ≡ true → AllLeft m old []
+all_none m old h = record { kept = λ e. cc; less = λ e. all_some m old h; played = refl }
+
+pub all_same : (m : ℕ) (old : List Todo) → has_all old ≡ true → is_played old ≡ true → AllLeft m old old
+all_same m old h played = record { kept = λ e. refl; less = λ e. not_played (has_all old) h e; played = played }
+
+pub all_without : (m : ℕ) (old : List Todo) → has_all old ≡ true → has_all (without_all old) ≡ false → (todo : List Todo) → AllLeft m old todo → AllLeft m old (without_all todo)
+all_without m old h rest todo l = by (has_all todo) refl
+  where
+    over : is_played old ≡ true → AllLeft m old (without_all old)
+    over played = record { kept = λ e. not_played (has_all (without_all old)) e rest; less = λ e. rest_less m old h rest; played = without_played old ∙ played }
+
+    by : (b : Bool) → has_all todo ≡ b → AllLeft m old (without_all todo)
+    by true e = (let same = l.kept e in subst (λ (ts : List Todo). AllLeft m old (without_all ts)) (sym same) (over (ap is_played (sym same) ∙ l.played)))
+    by false e = subst (AllLeft m old) (sym (without_same todo e)) l
+
+pub all_less : (m n : ℕ) (old todo : List Todo) → has_all old ≡ true → AllLeft m old todo → (has_all todo ≡ true → n < m) → IsLess m n old todo
+all_less m n old todo h l further = by (has_all todo) refl
+  where
+    by : (b : Bool) → has_all todo ≡ b → IsLess m n old todo
+    by true e = (subst (λ (ts : List Todo). weight n ts < weight m old) (sym (l.kept e)) (all_weight m n old h (further e)), l.played)
+    by false e = (let less = l.less e in let alike = none_weight m n todo e in omega (arith, less, alike), l.played)

@@ -6,6 +6,7 @@ use Rattle.mgs_model.specs.World.{Todo, Typed, Played, Replace_all, Play}
 use Rattle.mgs_model.specs.World as model
 use Rattle.mgs_model.specs.View.{View}
 use Rattle.mgs_model.specs.Outcome.{Act, Run}
+use Rattle.mgs_model.specs.Acts.{without_all}
 use Rattle.mgs_model.specs.Events.{refused_own}
 use Rattle.mgs_model.specs.declared.session.Alteration.TheVariants.{ReplaceMatch}
 use Rattle.mgs_model.specs.declared.session.Command.TheVariants.{Alter}
@@ -30,6 +31,7 @@ use Rattle.mgs_session.specs.Sessions.{acted, playing_as}
 use Rattle.mgs_world.specs.Worlds.{aim_mode, mode_in, own_of, search_of}
 use Rattle.mgs_core.specs.declared.deeds.Deed.{Deed}
 use Rattle.mgs_core.specs.declared.deeds.Deed.TheVariants as deeds
+use Rattle.mgs_core.specs.declared.deeds.Before.{Before}
 use Rattle.mgs_core.specs.declared.deeds.Before.TheVariants as befores
 use Rattle.mgs_core.specs.declared.keying.ByteStep.{ByteStep}
 use Rattle.mgs_core.specs.declared.keying.ByteStep.TheVariants.{Kept, Failed, Ends, Acts}
@@ -79,6 +81,12 @@ deed_other : (deed : Deed) (o : model.Own) → record (deed_own deed o) { kind =
 deed_other (deeds.Act a b) o = started_other (started_by a) o
 deed_other _ o = refl
 
+again_other : (b : Before) (k : Kind) (p : Bool) (o : model.Own) → refused_again b k p (record o { kind = Other }) ≡ refused_again b k p o
+again_other befores.Plain k p o = refl
+again_other (befores.Prompt q) k p o = refl
+again_other (befores.Search s last) k p o = refl
+again_other befores.Held k p o = refl
+
 -- THE FIRST BYTE of a play
 
 module _ (d : Directory) (ks : List MarkedBuffer) (own : model.Own) (x y new : Session) (byte : ℕ) (plays : x.own.player.playing ≡ true) (all : are_played x.own.player.todo ≡ true) where
@@ -125,7 +133,7 @@ module _ (d : Directory) (ks : List MarkedBuffer) (own : model.Own) (x y new : S
             ∙ s.playing plays;
         typed = λ e. cc;
         left = subst (IsWithin (1048578 + weight 1048576 x.own.player.todo)) (sym (ap (λ (z : Session). z.own.player.todo) is)) (omega (arith, within.0), within.1);
-        again = λ wants. ap (λ (z : Session). refused_again (before_of deed) x.own.kind x.own.player.playing (own_of z.own)) is ∙ s.again wants;
+        again = λ wants. ap (λ (z : Session). refused_again (before_of deed) x.own.kind x.own.player.playing (own_of z.own)) is ∙ again_other (before_of deed) x.own.kind x.own.player.playing (own_of y.own) ∙ s.again wants;
         search = λ wants. ap (λ (z : Session). search_before (before_of deed) z.own.search) is ∙ s.search wants;
         fit = subst (λ (z : Session). IsFit (own_of z.own)) (sym is) s.fit;
         begins = s.begins;
@@ -255,9 +263,9 @@ module _ (d : Directory) (ks : List MarkedBuffer) (x y new : Session) (taken : y
       }
 
   -- a further replacement, whose session is as it was but for the last command's kind
-  replacement_turn : (k : Kind) (task : List Todo) (more : List Todo) → x.own.player.todo ≡ task → has_all task ≡ true → is_played task ≡ true → y.own.player ≡ x.own.player → new ≡ acted k x
+  replacement_turn : (k : Kind) (task : List Todo) (more : List Todo) → x.own.player.todo ≡ task → has_all task ≡ true → is_played task ≡ true → has_all (without_all task) ≡ false → new ≡ acted k x
       → ((v : View) → mine v ≡ Do (record (own_of x.own) { kind = k }) (deed_act (own_of x.own) (deeds.Replace false))) → IsFit (own_of x.own) → is_replacing x.own.search ≡ true → IsTurnStep d ks x new (Acts (deeds.Replace false))
-  replacement_turn k task more todo all played same is turn fit replaces =
+  replacement_turn k task more todo all played rest is turn fit replaces =
       let left : new.own.player.todo ≡ x.own.player.todo = ap (λ (z : Session). z.own.player.todo) is in
       let typed : is_played x.own.player.todo ≡ true = ap is_played todo ∙ played in
       record {
@@ -268,7 +276,7 @@ module _ (d : Directory) (ks : List MarkedBuffer) (x y new : Session) (taken : y
         turn = λ v sees. turn v ∙ sym (ap (λ (z : Session). Do (own_of z.own) (deed_act (own_of z.own) (deeds.Replace false))) is);
         playing = λ e. or_true new.own.player.playing;
         typed = λ e. never (is_played x.own.player.todo) typed e;
-        left = record { played = ap is_played left ∙ typed; less = λ e. never (has_all x.own.player.todo) (ap has_all todo ∙ all) e; same = λ e. (refl, left) };
+        left = record { played = ap is_played left ∙ typed; less = λ e. never (has_all x.own.player.todo) (ap has_all todo ∙ all) e; same = λ e. (refl, left, ap (λ (ts : List Todo). has_all (without_all ts)) todo ∙ rest) };
         again = λ wants. ap (λ (z : Session). refused_again befores.Held x.own.kind x.own.player.playing (own_of z.own)) is ∙ held_again x.own replaces;
         search = λ wants. ap (λ (z : Session). z.own.search) is;
         fit = subst (λ (z : Session). IsFit (own_of z.own)) (sym is) fit;
@@ -297,18 +305,18 @@ module _ (d : Directory) (ks : List MarkedBuffer) (x y new : Session) (taken : y
   pub replace_turn : IsFit (own_of x.own) → IsNext tasks.Replacement x.own.player y.own.player → new ≡ y → IsTurnStep d ks x new (Acts (deeds.Replace false))
   replace_turn fit next is =
       let more = next.taken.0 in
-      let todo : x.own.player.todo ≡ Replace_all ∷ more = next.todo ∙ next.taken.1.0 in
-      let played : is_played more ≡ true = played_of more next.taken.1.1 in
+      let todo : x.own.player.todo ≡ Replace_all ∷ more = next.todo ∙ next.taken.1 in
+      let played : is_played more ≡ true = played_of more next.taken.2 in
       let same : y.own.player ≡ x.own.player = (λ i. record { playing = next.playing i; todo = sym next.todo i }) in
-      replacement_turn x.own.kind (Replace_all ∷ more) more todo refl played same (is ∙ taken ∙ ap (λ (q : Playing). playing_as q x) same) (λ v. ap (todo_turn v (own_of x.own)) todo) fit (fit_replacing fit (ap has_all todo))
+      replacement_turn x.own.kind (Replace_all ∷ more) more todo refl played (none_all more next.taken.2) (is ∙ taken ∙ ap (λ (q : Playing). playing_as q x) same) (λ v. ap (todo_turn v (own_of x.own)) todo) fit (fit_replacing fit (ap has_all todo))
 
   pub first_replace_turn : IsFit (own_of x.own) → IsNext tasks.FirstReplacement x.own.player y.own.player → new ≡ acted Other y → IsTurnStep d ks x new (Acts (deeds.Replace false))
   first_replace_turn fit next is =
       let more = next.taken.0 in
-      let todo : x.own.player.todo ≡ Play ∷ Replace_all ∷ more = next.todo ∙ next.taken.1.0 in
-      let played : is_played more ≡ true = played_of more next.taken.1.1 in
+      let todo : x.own.player.todo ≡ Play ∷ Replace_all ∷ more = next.todo ∙ next.taken.1 in
+      let played : is_played more ≡ true = played_of more next.taken.2 in
       let same : y.own.player ≡ x.own.player = (λ i. record { playing = next.playing i; todo = sym next.todo i }) in
-      replacement_turn Other (Play ∷ Replace_all ∷ more) more todo refl played same (is ∙ ap (acted Other) (taken ∙ ap (λ (q : Playing). playing_as q x) same)) (λ v. ap (todo_turn v (own_of x.own)) todo) fit (fit_replacing fit (ap has_all todo))
+      replacement_turn Other (Play ∷ Replace_all ∷ more) more todo refl played (none_all more next.taken.2) (is ∙ ap (acted Other) (taken ∙ ap (λ (q : Playing). playing_as q x) same)) (λ v. ap (todo_turn v (own_of x.own)) todo) fit (fit_replacing fit (ap has_all todo))
 
   pub nothing_turn : (step : ByteStep) → (x.own.player.todo ≡ [] → ⊥) → IsNext tasks.Nothing x.own.player y.own.player → IsTurnStep d ks x new step
   nothing_turn step some next = absurd (some (next.todo ∙ next.taken))

@@ -7,7 +7,7 @@ use Rattle.mgs_model.specs.World.{World, Buffer, Todo}
 use Rattle.mgs_model.specs.View.{View}
 use Rattle.mgs_model.specs.Outcome.{Act, Run, Unbound}
 use Rattle.mgs_model.specs.Apply.{searches}
-use Rattle.mgs_model.specs.Acts.{fails, outcome}
+use Rattle.mgs_model.specs.Acts.{fails, outcome, without_all}
 use Rattle.mgs_model.specs.Plans.{count_of, failed_own, kind_failed}
 use Rattle.mgs_model.specs.Turns.{Turn, Keep, Do, answered, first_played, todo_turn}
 use Rattle.mgs_model.specs.Events.{act_effects, refused_own, saved_by, with_own}
@@ -191,16 +191,46 @@ abbrev pub keys_left : Mode → List ℕ → List ℕ
 keys_left (Prompt c) keys = keys
 keys_left _ keys = []
 
-abbrev pub again_with : Option Search → Option PromptInput → List ℕ → model.Own → model.Own
-again_with s p pattern own =
-    record own { pattern = pattern; keys = keys_in s [] p; mode = mode_in s p; input = input_in s p; old = old_in s p; count = count_in s }
+abbrev pub keys_again : Before → Mode → List ℕ → List ℕ
+keys_again befores.Plain m keys = keys_in None [] None
+keys_again (befores.Prompt p) m keys = keys_in None [] (Some p)
+keys_again (befores.Search s last) m keys = keys_in (Some s) [] None
+keys_again befores.Held m keys = keys_left m keys
+
+abbrev pub mode_again : Before → Mode → Mode
+mode_again befores.Plain m = mode_in None None
+mode_again (befores.Prompt p) m = mode_in None (Some p)
+mode_again (befores.Search s last) m = mode_in (Some s) None
+mode_again befores.Held m = m
+
+abbrev pub input_again : Before → List ℕ → List ℕ
+input_again befores.Plain input = input_in None None
+input_again (befores.Prompt p) input = input_in None (Some p)
+input_again (befores.Search s last) input = input_in (Some s) None
+input_again befores.Held input = input
+
+abbrev pub old_again : Before → List ℕ → List ℕ
+old_again befores.Plain old = old_in None None
+old_again (befores.Prompt p) old = old_in None (Some p)
+old_again (befores.Search s last) old = old_in (Some s) None
+old_again befores.Held old = old
+
+abbrev pub count_again : Before → ℕ → ℕ
+count_again (befores.Search s last) count = count_in (Some s)
+count_again befores.Held count = count
+count_again _ count = 0
 
 -- the same of what the model's session holds, and of its search over these texts
 abbrev pub own_again : Before → model.Own → model.Own
-own_again befores.Plain own = again_with None None own.pattern own
-own_again (befores.Prompt p) own = again_with None (Some p) own.pattern own
-own_again (befores.Search s last) own = again_with (Some s) None last own
-own_again befores.Held own = record own { keys = keys_left own.mode own.keys }
+own_again b own =
+    record own {
+      pattern = pattern_before b own.pattern;
+      keys = keys_again b own.mode own.keys;
+      mode = mode_again b own.mode;
+      input = input_again b own.input;
+      old = old_again b own.old;
+      count = count_again b own.count;
+    }
 
 abbrev pub refused_again : Before → Kind → Bool → model.Own → model.Own
 refused_again b k playing own = record (own_again b own) { echo = NoMemory; argument = None; kind = k; playing = playing; todo = [] }
@@ -303,7 +333,7 @@ replaces _ = false
 pub record TurnLeft (replaces : Bool) (old new : List Todo) : Type 0 where
   pub played : is_played new ≡ true
   pub less : has_all old ≡ false → weight 1048576 new < weight 1048576 old
-  pub same : has_all old ≡ true → (replaces ≡ true) × (new ≡ old)
+  pub same : has_all old ≡ true → (replaces ≡ true) × (new ≡ old) × (has_all (without_all old) ≡ false)
 
 abbrev pub IsTurnStep : Directory → List MarkedBuffer → Session → Session → ByteStep → Type 0
 IsTurnStep directory ks old new step =

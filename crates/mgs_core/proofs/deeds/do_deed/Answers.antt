@@ -16,12 +16,12 @@ returns-in-Err-clause-may g c id next place =
 pub returns-in-Ok-answer-clause-ok : goal.returns-in-Ok-answer-clause-ok
 returns-in-Ok-answer-clause-ok g c id next place =
     answer_quietly _ _ _ id (own_at c.args.at c.args.sessions.now) c.args.deed c.in-Answer.prompt c.in-Answer.argument c.question-question.result c.input-input.result.now
-    c.in-Answer.is c.question-question.ensures.value c.input-input.ensures.value (c.in-Ok-answer.ensures.ok id next place)
+    c.in-Answer.is c.question-question.ensures c.input-input.ensures.value (c.in-Ok-answer.ensures.ok id next place)
 
 pub returns-in-Err-answer-clause-may : goal.returns-in-Err-answer-clause-may
 returns-in-Err-answer-clause-may g c id next place =
     answer_may (world_of c.args.directory.now c.args.buffers.now c.args.sessions.now next) id (own_at c.args.at c.args.sessions.now) c.args.deed c.in-Answer.prompt c.in-Answer.argument c.question-question.result c.input-input.result.now
-    c.in-Answer.is c.question-question.ensures.value c.input-input.ensures.value (c.in-Err-answer.ensures.may id next place)
+    c.in-Answer.is c.question-question.ensures c.input-input.ensures.value (c.in-Err-answer.ensures.may id next place)
 
 pub returns-in-Seek-clause-ok : goal.returns-in-Seek-clause-ok
 returns-in-Seek-clause-ok g c id next place =

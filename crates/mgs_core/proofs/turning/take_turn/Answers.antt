@@ -116,7 +116,7 @@ returns-in-Kept-clause-less g c e =
     let h = get_or xs c.args.at c.index-sessions-at-3.result in
     let is_h = ap (get_or xs c.args.at) c.index-sessions-at-3.is in
     let y = c.next_step.new.session in
-    kept_less d ks xs None c.args.id c.args.at h y c.requires.place c.requires.within is_h _ _ (left_within c.args.at ks (slice_set xs c.args.at y) c.len-_count.ensures.limits) c.in-Kept.ensures.step
+    kept_less d ks xs None c.args.id c.args.at h y c.requires.place c.requires.within is_h _ _ (left_within c.args.at ks (slice_set xs c.args.at y) c.len-count.ensures.limits) c.in-Kept.ensures.step
 
 pub returns-in-Kept-clause-turned : goal.returns-in-Kept-clause-turned
 returns-in-Kept-clause-turned g c next =
