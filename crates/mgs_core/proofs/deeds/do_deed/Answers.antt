@@ -46,3 +46,6 @@ returns-in-Err-replace-clause-may g c id next place =
 pub returns-in-Skip-clause-ok : goal.returns-in-Skip-clause-ok
 returns-in-Skip-clause-ok g c id next place =
     skipped_quietly _ _ _ id c.args.sessions.now c.args.at c.args.deed c.in-Skip.is c.requires.ready (λ s r held aim. c.skip.ensures.world id next s r place held aim)
+
+pub returns-in-Ok-replace-clause-further : goal.returns-in-Ok-replace-clause-further
+returns-in-Ok-replace-clause-further g c s t is old new some = c.in-Ok-replace.ensures.further s t old new some
