@@ -159,7 +159,7 @@ pub skipped_quietly : (old new : World) (t : StoreTold) (id : ℕ) (xs : List Se
 skipped_quietly old new t id xs at deed is ready world =
     let there = replace_there xs at (subst (λ (e : Deed). IsReady e (search_held at xs) (own_at at xs)) is ready) in
     let did : ActedBy old new t t id (Run (Move SkipMatch) None (own_at at xs).input) = quietly old new t id (Run (Move SkipMatch) None (own_at at xs).input) refl
-        (world there.0 there.1 there.2 there.3 ∙ sym (ap (λ (put : List ℕ). act old id (Run (Move SkipMatch) None put) true) there.4)) in
+    (world there.0 there.1 there.2 there.3 ∙ sym (ap (λ (put : List ℕ). act old id (Run (Move SkipMatch) None put) true) there.4)) in
     subst (λ (e : Deed). ActedBy (deed_world e id old) new t t id (deed_act (own_at at xs) e)) (sym is) did
 
 pub replaced_quietly : (old new : World) (t : StoreTold) (id : ℕ) (xs : List Session) (at : ℕ) (deed : Deed) (last : Bool) → deed ≡ deeds.Replace last → IsReady deed (search_held at xs) (own_at at xs)
@@ -167,7 +167,7 @@ pub replaced_quietly : (old new : World) (t : StoreTold) (id : ℕ) (xs : List S
 replaced_quietly old new t id xs at deed last is ready world =
     let there = replace_there xs at (subst (λ (e : Deed). IsReady e (search_held at xs) (own_at at xs)) is ready) in
     let did : ActedBy old new t t id (Run (Alter (replacement last)) None (own_at at xs).input) = quietly old new t id (Run (Alter (replacement last)) None (own_at at xs).input) refl
-        (world there.0 there.1 there.2 there.3 ∙ sym (ap (λ (put : List ℕ). act old id (Run (Alter (replacement last)) None put) true) there.4)) in
+    (world there.0 there.1 there.2 there.3 ∙ sym (ap (λ (put : List ℕ). act old id (Run (Alter (replacement last)) None put) true) there.4)) in
     subst (λ (e : Deed). ActedBy (deed_world e id old) new t t id (deed_act (own_at at xs) e)) (sym is) did
 
 pub replaced_may : (w : World) (id : ℕ) (xs : List Session) (at : ℕ) (deed : Deed) (last : Bool) → deed ≡ deeds.Replace last → IsReady deed (search_held at xs) (own_at at xs)

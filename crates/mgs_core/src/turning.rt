@@ -23,13 +23,11 @@ use crate::keying::ByteStep;
 use crate::typing::step_byte;
 use mgs_buffers::Buffers;
 use mgs_cache::Judge;
+use mgs_maps::Keyboard;
 use mgs_marks::Marked;
 use mgs_model::{Keyed, Kind, Message, SessionId, Touched};
 use mgs_policy::Directory;
-use mgs_maps::Keyboard;
-use mgs_session::{
-    Session, Task, begin, break_off, next_task, rest, set_echo, set_kind,
-};
+use mgs_session::{Session, Task, begin, break_off, next_task, rest, set_echo, set_kind};
 use mgs_store::Store;
 use mgs_world::settle_apart;
 use std::alloc::Global;

@@ -29,8 +29,8 @@ use mgs_model::{Message, Name, Question, SearchStep};
 use mgs_policy::Directory;
 use mgs_search::IncrementalSearch;
 use mgs_session::{
-    Aim, Replacing, Search, SearchString, Session, fail, hold_prompt, hold_search, leave_search, rest,
-    set_echo, take_prompt, take_search,
+    Aim, Replacing, Search, SearchString, Session, fail, hold_prompt, hold_search, leave_search,
+    rest, set_echo, take_prompt, take_search,
 };
 
 const QUIT: u8 = 0x07;
@@ -119,7 +119,10 @@ fn step_answer(session: &mut Session, prompt: Prompt) -> ByteStep
     match prompt.question() {
         Question::RunWhich => step_name(session, prompt),
         Question::ReplaceWhat => {
-            hold_prompt(session, Prompt::second(Question::ReplaceWith, prompt.input()));
+            hold_prompt(
+                session,
+                Prompt::second(Question::ReplaceWith, prompt.input()),
+            );
             ByteStep::Kept
         }
         Question::ReplaceWith => {
