@@ -13,11 +13,13 @@ use Rattle.mgs_session.specs.Playing.{byte_typed, stopped}
 use Rattle.mgs_session.specs.Recording.{appended, is_full, nothing_recorded}
 use Rattle.mgs_session.specs.Sessions as held
 use Rattle.mgs_session.specs.declared.Session as code
+use Rattle.mgs_session.specs.declared.search.Aim.{Aim}
+use Rattle.mgs_session.specs.declared.search.Aim.TheVariants.{Find, Replace}
 use Rattle.mgs_session.specs.declared.search.Search.{Search}
 use Rattle.mgs_mini.specs.Typing.{PromptInput}
-use Rattle.mgs_world.specs.Worlds.{buffers_of, mode_in, search_of, own_at, own_of, own_or_first, session_id, session_of, world_of}
+use Rattle.mgs_world.specs.Worlds.{aim_mode, buffers_of, mode_in, search_of, own_at, own_of, own_or_first, session_id, session_of, world_of}
 use Rattle.mgs_core.specs.Steps.{closed}
-use Rattle.mgs_core.specs.Turned.{weight}
+use Rattle.mgs_core.specs.Turned.{has_all, weight}
 use Rattle.mgs_core.proofs.Steps.{set_there, world_changed}
 
 -- A WORLD IN WHICH WHAT A SESSION HOLDS CHANGED
@@ -54,7 +56,11 @@ begun_same f byte x y one other is = ap f is ∙ by (is_full x.own.recorder)
 pub search_still : (bs : List Buffer) (s : Option Search) (p : Option PromptInput) → search_of bs s ≡ cond (searches (mode_in s p)) (search_of bs s) None
 search_still bs None None = refl
 search_still bs None (Some p) = refl
-search_still bs (Some s) p = refl
+search_still bs (Some s) p = by s.aim
+  where
+    by : (a : Aim) → search_of bs (Some s) ≡ cond (searches (aim_mode a)) (search_of bs (Some s)) None
+    by (Find f) = refl
+    by (Replace r) = refl
 
 pub begun_world : (d : Directory) (ks : List MarkedBuffer) (xs : List code.Session) (next : Option ℕ) (id at byte : ℕ) (h y : code.Session) → at ≡ position_or_len (session_id id) xs → at < length xs → h ≡ get_or xs at h → y ≡ held.begun byte h → world_of d ks (slice_set xs at y) next ≡ with_own id (begun_own byte) (world_of d ks xs next)
 begun_world d ks xs next id at byte h y place within is_h begins =
@@ -65,10 +71,19 @@ begun_world d ks xs next id at byte h y place within is_h begins =
     by false = λ i. record (session_of ks h) { search = search_still (buffers_of ks) h.own.search h.own.prompt i; own = begun_if false byte (own_of h.own) }
 
 -- what there is to do is the byte, or nothing
-pub begun_weight : (xs : List code.Session) (at byte : ℕ) (h y : code.Session) → at < length xs → y ≡ held.begun byte h → weight (own_at at (slice_set xs at y)).todo ≤ 51202
+pub begun_weight : (xs : List code.Session) (at byte : ℕ) (h y : code.Session) → at < length xs → y ≡ held.begun byte h → weight 0 (own_at at (slice_set xs at y)).todo ≤ 53689341958
 begun_weight xs at byte h y within begins =
-    subst (λ (todo : List Todo). weight todo ≤ 51202) (sym (ap (λ (o : Option code.Session). (own_or_first o).todo) (set_there xs at y within) ∙ ap (λ (s : code.Session). s.own.player.todo) begins)) (by (is_full h.own.recorder))
+    subst (λ (todo : List Todo). weight 0 todo ≤ 53689341958) (sym (ap (λ (o : Option code.Session). (own_or_first o).todo) (set_there xs at y within) ∙ ap (λ (s : code.Session). s.own.player.todo) begins)) (by (is_full h.own.recorder))
   where
-    by : (c : Bool) → weight (cond c (one_too_many h) (keeps byte h)).own.player.todo ≤ 51202
+    by : (c : Bool) → weight 0 (cond c (one_too_many h) (keeps byte h)).own.player.todo ≤ 53689341958
     by true = omega arith
     by false = omega arith
+
+-- and no further replacement
+pub begun_none : (xs : List code.Session) (at byte : ℕ) (h y : code.Session) → at < length xs → y ≡ held.begun byte h → has_all (own_at at (slice_set xs at y)).todo ≡ false
+begun_none xs at byte h y within begins =
+    ap (λ (o : Option code.Session). has_all (own_or_first o).todo) (set_there xs at y within) ∙ ap (λ (s : code.Session). has_all s.own.player.todo) begins ∙ by (is_full h.own.recorder)
+  where
+    by : (c : Bool) → has_all (cond c (one_too_many h) (keeps byte h)).own.player.todo ≡ false
+    by true = refl
+    by false = refl

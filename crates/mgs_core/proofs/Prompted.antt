@@ -19,23 +19,27 @@ use Rattle.mgs_model.specs.declared.session.Question.{Question}
 use Rattle.mgs_model.specs.declared.session.Question.TheVariants.{SwitchTo, FindWhich, KillWhich, InsertWhich, RunWhich, GoToWhich, EntryToInsert, EntryToReplace, WhichOwner, SearchWhat, ReplaceWhat, ReplaceWith}
 use Rattle.mgs_model.proofs.LeftToDo.{is_single}
 use Rattle.mgs_model.proofs.Saves.{is_save, act_saves_none}
-use Rattle.mgs_mini.specs.Typing.{PromptInput, is_asked, keys_of, stepped, typed_own}
+use Rattle.mgs_mini.specs.Typing.{PromptInput, keys_of, stepped, typed_own}
 use Rattle.mgs_mini.specs.Typing as prompts
 use Rattle.mgs_mini.specs.declared.Step.{Step}
 use Rattle.mgs_mini.specs.declared.Step.TheVariants.{GoesOn, Answered, Quit, Completes}
 use Rattle.mgs_mini.specs.declared.Waiting.{Waiting}
 use Rattle.mgs_mini.specs.declared.Waiting.TheVariants.{NoKey}
+use Rattle.mgs_act.specs.Actions.{is_answered}
 use Rattle.mgs_act.specs.Searching.{meant}
+use Rattle.mgs_model.specs.Plans.{failed_own}
 use Rattle.mgs_buffers.specs.MarkedBuffer.{MarkedBuffer}
 use Rattle.mgs_session.specs.declared.Own.{Own}
 use Rattle.mgs_session.specs.declared.Session.{Session}
+use Rattle.mgs_session.specs.declared.search.Aim.{Aim}
+use Rattle.mgs_session.specs.declared.search.Aim.TheVariants.{Find, Replace}
 use Rattle.mgs_session.specs.declared.search.Search.{Search}
 use Rattle.mgs_session.specs.Sessions.{failed, prompting, resting, unprompted}
 use Rattle.mgs_session.specs.Seeking.{unsearched}
 use Rattle.mgs_store.specs.Stores.{StoreTold, told_more}
-use Rattle.mgs_core.specs.Steps.{ActedBy, started_world}
+use Rattle.mgs_core.specs.Steps.{ActedBy}
 use Rattle.mgs_store.proofs.Told.{told_none}
-use Rattle.mgs_world.specs.Worlds.{buffers_of, idle, mode_in, own_of}
+use Rattle.mgs_world.specs.Worlds.{aim_mode, buffers_of, idle, mode_in, own_of}
 use Rattle.mgs_world.proofs.Owns.{prompt_fed}
 use Rattle.mgs_core.specs.declared.deeds.Deed.{Deed}
 use Rattle.mgs_core.specs.declared.deeds.Deed.TheVariants as deeds
@@ -43,28 +47,18 @@ use Rattle.mgs_core.specs.declared.deeds.Before.TheVariants as befores
 use Rattle.mgs_core.specs.declared.keying.ByteStep.{ByteStep}
 use Rattle.mgs_core.specs.declared.keying.ByteStep.TheVariants.{Kept, Acts}
 use Rattle.mgs_core.specs.Prompted.{names_for, own_turn}
-use Rattle.mgs_core.specs.Stepped.{IsAlone, IsAnswerStep, IsByteStep, IsCommandStep, IsLeft, IsNamedStep, IsReplyStep, SeesNames, deed_act, deed_started, refused_again}
-use Rattle.mgs_core.proofs.Stepped.{command_step, left_none, left_same, none_stays}
+use Rattle.mgs_core.specs.Stepped.{IsAlone, IsAnswerStep, IsAskedStep, IsByteStep, IsCommandStep, IsFirst, IsLeft, IsNamedStep, IsReplyStep, SeesNames, deed_act, deed_own, deed_world, refused_again, second_input}
+use Rattle.mgs_core.specs.Turned.{IsFit, is_quiet}
+use Rattle.mgs_core.proofs.Stepped.{command_step, fit_empty, fit_same, left_none, left_same, none_stays}
 
 -- WHAT AN ANSWER IS FOR
 
--- the act of a question that is asked, and whose answer names no command
-asked_turn : (c : Question) → is_asked c ≡ true → names_commands c ≡ false → (own : model.Own) → answer_turn c own ≡ Do (plain_own own) (Run (answered c) (value_of own.argument) (meant c own.pattern own.input))
-asked_turn SwitchTo h none own = refl
-asked_turn FindWhich h none own = refl
-asked_turn KillWhich h none own = refl
-asked_turn InsertWhich h none own = refl
-asked_turn GoToWhich h none own = refl
-asked_turn EntryToInsert h none own = refl
-asked_turn EntryToReplace h none own = refl
-asked_turn WhichOwner h none own = refl
-asked_turn (SearchWhat d) h none own = refl
-asked_turn _ h none own = cc
-
--- a command that is named
-names_turn : (c : Question) → names_commands c ≡ true → (own : model.Own) → answer_turn c own ≡ named_turn (plain_own own) (value_of own.argument) (find_command own.input)
-names_turn RunWhich h own = refl
-names_turn _ h own = cc
+-- the act of a question whose answer is for a command of its own
+asked_turn : (c : Question) → is_answered c ≡ true → (own : model.Own) → answer_turn c own ≡ Do (plain_own own) (Run (answered c) (value_of own.argument) (meant c own.pattern own.input))
+asked_turn RunWhich h own = cc
+asked_turn ReplaceWhat h own = cc
+asked_turn ReplaceWith h own = cc
+asked_turn _ h own = refl
 
 -- it leaves no more to do, and saves nothing
 pub answered_single : (c : Question) (n : Option ℕ) (typed : List ℕ) → is_single (Run (answered c) n typed) ≡ true
@@ -106,28 +100,29 @@ at_prompt v y p byte is = ap (λ (r : Option PromptInput). own_turn v (record (u
 abbrev pub IsFed : PromptInput → PromptInput → ℕ → Step → Type 0
 IsFed p q byte step = (v : View) (own : model.Own) → prompt_turn v p.question (typed_own own p.input p.waiting) byte ≡ stepped v p.question (typed_own own q.input q.waiting) step
 
-step_turn : (v : View) (y : Session) (p q : PromptInput) (step : Step) (byte : ℕ) → (unsearched y).own.prompt ≡ Some p → q.question ≡ p.question → IsFed p q byte step → own_turn v (unsearched y).own byte ≡ stepped v p.question (own_of (prompting q (unsearched y)).own) step
-step_turn v y p q step byte is question turn = at_prompt v y p byte is ∙ prompt_fed v (unsearched y) p q step byte refl is question turn
+step_turn : (v : View) (y : Session) (p q : PromptInput) (step : Step) (byte : ℕ) → (unsearched y).own.prompt ≡ Some p → q.question ≡ p.question → q.first ≡ p.first → IsFed p q byte step → own_turn v (unsearched y).own byte ≡ stepped v p.question (own_of (prompting q (unsearched y)).own) step
+step_turn v y p q step byte is question first turn = at_prompt v y p byte is ∙ prompt_fed v (unsearched y) p q step byte refl is question first turn
 
 -- what the session holds changed alone
 kept_as : (d : Directory) (ks : List MarkedBuffer) (y new : Session) (own : Own) (byte : ℕ) → new ≡ record (unsearched y) { own = own }
-    → ((v : View) → shown_names v ≡ granted_names d (unsearched y).user (buffers_of ks) → own_turn v (unsearched y).own byte ≡ Keep (own_of own)) → own.search ≡ None → IsLeft (unsearched y).own.player own.player.todo → IsByteStep d ks (unsearched y) new byte Kept
-kept_as d ks y new own byte is turn none left =
+    → ((v : View) → shown_names v ≡ granted_names d (unsearched y).user (buffers_of ks) → own_turn v (unsearched y).own byte ≡ Keep (own_of own)) → own.search ≡ None → IsLeft (unsearched y).own.player own.player.todo → IsFit (own_of own) → IsByteStep d ks (unsearched y) new byte Kept
+kept_as d ks y new own byte is turn none left fit =
     let same : new.own ≡ own = ap (λ (s : Session). s.own) is in
     record {
       own = is ∙ sym (ap (λ (o : Own). record (unsearched y) { own = o }) same);
       stays = none_stays (unsearched y).own new.own (ap (λ (o : Own). o.search) same ∙ none);
       turn = λ v sees. turn v sees ∙ sym (ap (λ (o : Own). Keep (own_of o)) same);
       left = subst (λ (o : Own). IsLeft (unsearched y).own.player o.player.todo) (sym same) left;
+      fit = subst (λ (o : Own). IsFit (own_of o)) (sym same) fit;
     }
 
-pub goes_on : (d : Directory) (ks : List MarkedBuffer) (y taken new : Session) (p q : PromptInput) (byte : ℕ) → IsAlone (unsearched y).own.player → (unsearched y).own.prompt ≡ Some p → q.question ≡ p.question → IsFed p q byte GoesOn → taken ≡ unprompted (unsearched y) → new ≡ prompting q taken → IsByteStep d ks (unsearched y) new byte Kept
-goes_on d ks y taken new p q byte alone is question turn took held =
-    kept_as d ks y new (prompting q (unsearched y)).own byte (held ∙ ap (prompting q) took) (λ v sees. step_turn v y p q GoesOn byte is question turn) refl (left_same (unsearched y).own.player (unsearched y).own.player.todo alone refl)
+pub goes_on : (d : Directory) (ks : List MarkedBuffer) (y taken new : Session) (p q : PromptInput) (byte : ℕ) → IsAlone (unsearched y).own.player → (unsearched y).own.prompt ≡ Some p → q.question ≡ p.question → q.first ≡ p.first → IsFed p q byte GoesOn → taken ≡ unprompted (unsearched y) → new ≡ prompting q taken → IsByteStep d ks (unsearched y) new byte Kept
+goes_on d ks y taken new p q byte alone is question first turn took held =
+    kept_as d ks y new (prompting q (unsearched y)).own byte (held ∙ ap (prompting q) took) (λ v sees. step_turn v y p q GoesOn byte is question first turn) refl (left_same (unsearched y).own.player (unsearched y).own.player.todo alone refl) (fit_same (unsearched y).own.player (own_of (prompting q (unsearched y)).own) alone refl)
 
-pub quits : (d : Directory) (ks : List MarkedBuffer) (y taken new : Session) (p q : PromptInput) (byte : ℕ) → (unsearched y).own.prompt ≡ Some p → q.question ≡ p.question → IsFed p q byte Quit → taken ≡ unprompted (unsearched y) → new ≡ failed Quitting taken → IsByteStep d ks (unsearched y) new byte Kept
-quits d ks y taken new p q byte is question turn took held =
-    kept_as d ks y new (failed Quitting (unsearched y)).own byte (held ∙ ap (failed Quitting) took) (λ v sees. step_turn v y p q Quit byte is question turn) refl (left_none (unsearched y).own.player [] refl)
+pub quits : (d : Directory) (ks : List MarkedBuffer) (y taken new : Session) (p q : PromptInput) (byte : ℕ) → (unsearched y).own.prompt ≡ Some p → q.question ≡ p.question → q.first ≡ p.first → IsFed p q byte Quit → taken ≡ unprompted (unsearched y) → new ≡ failed Quitting taken → IsByteStep d ks (unsearched y) new byte Kept
+quits d ks y taken new p q byte is question first turn took held =
+    kept_as d ks y new (failed Quitting (unsearched y)).own byte (held ∙ ap (failed Quitting) took) (λ v sees. step_turn v y p q Quit byte is question first turn) refl (left_none (unsearched y).own.player [] refl) (fit_empty (own_of (failed Quitting (unsearched y)).own) refl)
 
 -- what is completed: the names that are seen are those that are granted
 completed_seen : (d : Directory) (ks : List MarkedBuffer) (user : List ℕ) (v : View) (c e : Question) (own : model.Own) (input : List ℕ) → shown_names v ≡ granted_names d user (buffers_of ks) → e ≡ c → completed own (completion (names_completed v c) input) ≡ completed own (completion (names_for d user ks e) input)
@@ -146,11 +141,15 @@ completed_mode own (Some text) = refl
 -- a session in the mode of a prompt does not search
 prompted_none : (s : Option Search) (p : Option PromptInput) (c : Question) → mode_in s p ≡ Prompt c → s ≡ None
 prompted_none None p c e = refl
-prompted_none (Some s) p c e = cc
+prompted_none (Some s) p c e = by s.aim e
+  where
+    by : (a : Aim) → aim_mode a ≡ Prompt c → Path (Option Search) (Some s) None
+    by (Find f) h = cc
+    by (Replace r) h = cc
 
-pub completes : (d : Directory) (ks : List MarkedBuffer) (y taken new : Session) (p q : PromptInput) (byte : ℕ) → IsAlone (unsearched y).own.player → (unsearched y).own.prompt ≡ Some p → q.question ≡ p.question → IsFed p q byte Completes → taken ≡ unprompted (unsearched y)
+pub completes : (d : Directory) (ks : List MarkedBuffer) (y taken new : Session) (p q : PromptInput) (byte : ℕ) → IsAlone (unsearched y).own.player → (unsearched y).own.prompt ≡ Some p → q.question ≡ p.question → q.first ≡ p.first → IsFed p q byte Completes → taken ≡ unprompted (unsearched y)
     → own_of new.own ≡ completed (own_of (prompting q taken).own) (completion (names_for d taken.user ks q.question) q.input) → new ≡ record taken { own = new.own } → IsByteStep d ks (unsearched y) new byte Kept
-completes d ks y taken new p q byte alone is question turn took owns rest = record {
+completes d ks y taken new p q byte alone is question first turn took owns rest = record {
   own = rest ∙ ap (λ (s : Session). record s { own = new.own }) took;
   stays = none_stays (unsearched y).own new.own
       (prompted_none new.own.search new.own.prompt q.question
@@ -158,7 +157,7 @@ completes d ks y taken new p q byte alone is question turn took owns rest = reco
       ∙ completed_mode (own_of (prompting q taken).own) (completion (names_for d taken.user ks q.question) q.input)
       ∙ ap (λ (s : Session). (own_of (prompting q s).own).mode) took));
   turn = λ v sees.
-      step_turn v y p q Completes byte is question turn
+      step_turn v y p q Completes byte is question first turn
       ∙ ap Keep
       (completed_seen d ks (unsearched y).user v p.question q.question (own_of (prompting q (unsearched y)).own) q.input sees question
       ∙ sym (ap (λ (s : Session). completed (own_of (prompting q s).own) (completion (names_for d s.user ks q.question) q.input)) took)
@@ -167,82 +166,129 @@ completes d ks y taken new p q byte alone is question turn took owns rest = reco
       (ap (λ (o : model.Own). o.todo) owns
       ∙ completed_todo (own_of (prompting q taken).own) (completion (names_for d taken.user ks q.question) q.input)
       ∙ ap (λ (s : Session). s.own.player.todo) took);
+  fit = fit_same (unsearched y).own.player (own_of new.own) alone
+      (ap (λ (o : model.Own). o.todo) owns
+      ∙ completed_todo (own_of (prompting q taken).own) (completion (names_for d taken.user ks q.question) q.input)
+      ∙ ap (λ (s : Session). s.own.player.todo) took);
 }
 
 -- a completion, by the record that it leaves
-completed_still : (y : Session) (p q : PromptInput) (text : Option (List ℕ)) (b : Bool) → q.question ≡ p.question → ((own : model.Own) → completed (typed_own own p.input p.waiting) text ≡ prompts.told b (typed_own own q.input q.waiting)) → prompts.told b (own_of (prompting q (unsearched y)).own) ≡ completed (own_of (prompting p (unsearched y)).own) text
-completed_still y p q text b question input =
+completed_still : (y : Session) (p q : PromptInput) (text : Option (List ℕ)) (b : Bool) → q.question ≡ p.question → q.first ≡ p.first → ((own : model.Own) → completed (typed_own own p.input p.waiting) text ≡ prompts.told b (typed_own own q.input q.waiting)) → prompts.told b (own_of (prompting q (unsearched y)).own) ≡ completed (own_of (prompting p (unsearched y)).own) text
+completed_still y p q text b question first input =
     let own : model.Own = own_of (prompting p (unsearched y)).own in
-    ap (λ (c : Question). prompts.told b (record (typed_own own q.input q.waiting) { mode = Prompt c })) question ∙ sym (input own)
+    (λ i. prompts.told b (record (typed_own own q.input q.waiting) { mode = Prompt (question i); old = first i })) ∙ sym (input own)
 
-pub completed_as : (x : Session) (p q : PromptInput) (text : Option (List ℕ)) (b : Bool) → x ≡ unsearched x → q.question ≡ p.question → ((own : model.Own) → completed (typed_own own p.input p.waiting) text ≡ prompts.told b (typed_own own q.input q.waiting)) → prompts.told b (own_of (prompting q x).own) ≡ completed (own_of (prompting p x).own) text
-completed_as x p q text b still question input = subst (λ (z : Session). prompts.told b (own_of (prompting q z).own) ≡ completed (own_of (prompting p z).own) text) (sym still) (completed_still x p q text b question input)
+pub completed_as : (x : Session) (p q : PromptInput) (text : Option (List ℕ)) (b : Bool) → x ≡ unsearched x → q.question ≡ p.question → q.first ≡ p.first → ((own : model.Own) → completed (typed_own own p.input p.waiting) text ≡ prompts.told b (typed_own own q.input q.waiting)) → prompts.told b (own_of (prompting q x).own) ≡ completed (own_of (prompting p x).own) text
+completed_as x p q text b still question first input = subst (λ (z : Session). prompts.told b (own_of (prompting q z).own) ≡ completed (own_of (prompting p z).own) text) (sym still) (completed_still x p q text b question first input)
 
 -- AN ANSWER, with no key half read
 
 -- its act begins with the session at rest
-plain_rests : (y : Session) (p : PromptInput) → p.waiting ≡ NoKey → plain_own (own_of (prompting p (unsearched y)).own) ≡ idle (own_of (unsearched y).own)
-plain_rests y p none = ap (λ (w : Waiting). record (idle (own_of (unsearched y).own)) { keys = keys_of w }) none
+plain_rests : (y : Session) (p : PromptInput) → p.waiting ≡ NoKey → p.first ≡ [] → plain_own (own_of (prompting p (unsearched y)).own) ≡ idle (own_of (unsearched y).own)
+plain_rests y p none first = λ i. record (idle (own_of (unsearched y).own)) { keys = keys_of (none i); old = first i }
 
-asked_at : (v : View) (y : Session) (p : PromptInput) (byte : ℕ) → (unsearched y).own.prompt ≡ Some p → p.waiting ≡ NoKey → IsFed p p byte Answered → names_commands p.question ≡ false → is_asked p.question ≡ true
+asked_at : (v : View) (y : Session) (p : PromptInput) (byte : ℕ) → (unsearched y).own.prompt ≡ Some p → p.waiting ≡ NoKey → p.first ≡ [] → IsFed p p byte Answered → is_answered p.question ≡ true
     → own_turn v (unsearched y).own byte ≡ Do (idle (own_of (unsearched y).own)) (Run (answered p.question) (value_of (unsearched y).own.keyboard.argument) (meant p.question (unsearched y).own.pattern p.input))
-asked_at v y p byte is none turn one asked =
-    step_turn v y p p Answered byte is refl turn
-    ∙ asked_turn p.question asked one (own_of (prompting p (unsearched y)).own)
-    ∙ ap (λ (o : model.Own). Do o (Run (answered p.question) (value_of (unsearched y).own.keyboard.argument) (meant p.question (unsearched y).own.pattern p.input))) (plain_rests y p none)
+asked_at v y p byte is none first turn asked =
+    step_turn v y p p Answered byte is refl refl turn
+    ∙ asked_turn p.question asked (own_of (prompting p (unsearched y)).own)
+    ∙ ap (λ (o : model.Own). Do o (Run (answered p.question) (value_of (unsearched y).own.keyboard.argument) (meant p.question (unsearched y).own.pattern p.input))) (plain_rests y p none first)
 
-named_at : (v : View) (y : Session) (p : PromptInput) (o : Option Command) (byte : ℕ) → (unsearched y).own.prompt ≡ Some p → IsFed p p byte Answered → names_commands p.question ≡ true → find_command p.input ≡ o → own_turn v (unsearched y).own byte ≡ named_turn (plain_own (own_of (prompting p (unsearched y)).own)) (value_of (unsearched y).own.keyboard.argument) o
+-- an answer to this question
+answered_at : (v : View) (y : Session) (p : PromptInput) (byte : ℕ) (c : Question) → (unsearched y).own.prompt ≡ Some p → IsFed p p byte Answered → p.question ≡ c → own_turn v (unsearched y).own byte ≡ answer_turn c (own_of (prompting p (unsearched y)).own)
+answered_at v y p byte c is turn of_c = step_turn v y p p Answered byte is refl refl turn ∙ ap (λ (k : Question). answer_turn k (own_of (prompting p (unsearched y)).own)) of_c
+
+named_at : (v : View) (y : Session) (p : PromptInput) (o : Option Command) (byte : ℕ) → (unsearched y).own.prompt ≡ Some p → IsFed p p byte Answered → p.question ≡ RunWhich → find_command p.input ≡ o → own_turn v (unsearched y).own byte ≡ named_turn (plain_own (own_of (prompting p (unsearched y)).own)) (value_of (unsearched y).own.keyboard.argument) o
 named_at v y p o byte is turn names found =
     let own : model.Own = own_of (prompting p (unsearched y)).own in
-    step_turn v y p p Answered byte is refl turn
-    ∙ names_turn p.question names own
+    answered_at v y p byte RunWhich is turn names
     ∙ ap (named_turn (plain_own own) (value_of (unsearched y).own.keyboard.argument)) found
 
 -- the session that is at its prompt again has what it had
 again_prompted : (y : Session) (p : PromptInput) → (unsearched y).own.prompt ≡ Some p → p.waiting ≡ NoKey → refused_again (befores.Prompt p) (unsearched y).own.kind (unsearched y).own.player.playing (own_of (resting (unsearched y)).own) ≡ refused_own (own_of (unsearched y).own)
 again_prompted y p is none =
     let own : model.Own = own_of (resting (unsearched y)).own in
-    ap (λ (w : Waiting). record own { echo = NoMemory; keys = keys_of w; mode = Prompt p.question; input = p.input; todo = [] }) none
+    ap (λ (w : Waiting). record own { echo = NoMemory; keys = keys_of w; mode = Prompt p.question; input = p.input; old = p.first; todo = [] }) none
     ∙ sym (ap (λ (r : Option PromptInput). refused_own (own_of (record (unsearched y).own { prompt = r }))) is)
 
--- where it names a command
-named_step : (d : Directory) (ks : List MarkedBuffer) (y taken new : Session) (p : PromptInput) (byte : ℕ) (step : ByteStep) (o : Option Command) → IsAlone (unsearched y).own.player → (unsearched y).own.prompt ≡ Some p → p.waiting ≡ NoKey → IsFed p p byte Answered → names_commands p.question ≡ true → find_command p.input ≡ o → taken ≡ unprompted (unsearched y) → IsNamedStep taken new p o step → IsByteStep d ks (unsearched y) new byte step
-named_step d ks y taken new p byte step None alone is none turn names found took did =
-    let kept : IsByteStep d ks (unsearched y) new byte Kept =
-    kept_as d ks y new (failed NoSuchCommand (unsearched y)).own byte (did.1 ∙ ap (failed NoSuchCommand) took) (λ v sees. named_at v y p None byte is turn names found) refl (left_none (unsearched y).own.player [] refl) in
-    subst (IsByteStep d ks (unsearched y) new byte) (sym did.0) kept
-named_step d ks y taken new p byte step (Some c) alone is none turn names found took did =
-    command_step (SeesNames d ks (unsearched y).user) (λ v. own_turn v (unsearched y).own byte) (unsearched y) new c (value_of (unsearched y).own.keyboard.argument) (befores.Prompt p) step
-    (λ v sees. named_at v y p (Some c) byte is turn names found ∙ ap (λ (own : model.Own). command_turn own (value_of (unsearched y).own.keyboard.argument) c) (plain_rests y p none))
-    did.0 alone (again_prompted y p is none) refl
-    (subst (λ (s : Session). IsCommandStep (resting s) new c (value_of s.own.keyboard.argument) (befores.Prompt p) step) took did.1)
+module _ (d : Directory) (ks : List MarkedBuffer) (y taken new : Session) (p : PromptInput) (byte : ℕ) (alone : IsAlone (unsearched y).own.player) (is : (unsearched y).own.prompt ≡ Some p) (none : p.waiting ≡ NoKey) (turn : IsFed p p byte Answered) (took : taken ≡ unprompted (unsearched y)) where
+  -- where it names a command
+  named_step : (step : ByteStep) (o : Option Command) → p.question ≡ RunWhich → p.first ≡ [] → find_command p.input ≡ o → IsNamedStep taken new p o step → IsByteStep d ks (unsearched y) new byte step
+  named_step step None names first found did =
+      let kept : IsByteStep d ks (unsearched y) new byte Kept =
+      kept_as d ks y new (failed NoSuchCommand (unsearched y)).own byte (did.1 ∙ ap (failed NoSuchCommand) took)
+      (λ v sees. named_at v y p None byte is turn names found ∙ ap (λ (o : model.Own). Keep (failed_own NoSuchCommand o)) (plain_rests y p none first))
+      refl (left_none (unsearched y).own.player [] refl) (fit_empty (own_of (failed NoSuchCommand (unsearched y)).own) refl) in
+      subst (IsByteStep d ks (unsearched y) new byte) (sym did.0) kept
+  named_step step (Some c) names first found did =
+      command_step (SeesNames d ks (unsearched y).user) (λ v. own_turn v (unsearched y).own byte) (unsearched y) new c (value_of (unsearched y).own.keyboard.argument) (befores.Prompt p) step
+      (λ v sees. named_at v y p (Some c) byte is turn names found ∙ ap (λ (own : model.Own). command_turn own (value_of (unsearched y).own.keyboard.argument) c) (plain_rests y p none first))
+      did.0 alone (again_prompted y p is none) (λ r. refl)
+      (subst (λ (s : Session). IsCommandStep (resting s) new c (value_of s.own.keyboard.argument) (befores.Prompt p) step) took did.1)
 
--- and where it is what the question is for
-asked_step : (d : Directory) (ks : List MarkedBuffer) (y new : Session) (p : PromptInput) (byte : ℕ) → IsAlone (unsearched y).own.player → (unsearched y).own.prompt ≡ Some p → p.waiting ≡ NoKey → IsFed p p byte Answered → names_commands p.question ≡ false → new ≡ resting (unsearched y) → IsByteStep d ks (unsearched y) new byte (Acts (deeds.Answer p (value_of (unsearched y).own.keyboard.argument)))
-asked_step d ks y new p byte alone is none turn one same =
-    let deed : Deed = deeds.Answer p (value_of (unsearched y).own.keyboard.argument) in
-    record {
-      own = same ∙ sym (ap (λ (s : Session). record (unsearched y) { own = s.own }) same);
-      stays = none_stays (unsearched y).own new.own (ap (λ (s : Session). s.own.search) same);
-      ready = ap (λ (s : Session). own_of s.own) same ∙ sym (ap (λ (s : Session). idle (own_of s.own)) same);
-      here = one;
-      turn = λ asked v sees. asked_at v y p byte is none turn one asked ∙ sym (ap (λ (s : Session). Do (own_of s.own) (deed_act (own_of s.own) deed)) same);
-      playing = ap (λ (s : Session). s.own.player.playing) same;
-      typed = λ e. ap (λ (s : Session). s.own.player.todo) same ∙ alone e;
-      left = left_same (unsearched y).own.player new.own.player.todo alone (ap (λ (s : Session). s.own.player.todo) same);
-      again = λ wants. ap (λ (s : Session). refused_again (befores.Prompt p) (unsearched y).own.kind (unsearched y).own.player.playing (own_of s.own)) same ∙ again_prompted y p is none;
-      search = λ wants. refl;
-    }
+  -- where it is what the question is for
+  asked_step : is_answered p.question ≡ true → p.first ≡ [] → new ≡ resting (unsearched y) → IsByteStep d ks (unsearched y) new byte (Acts (deeds.Answer p (value_of (unsearched y).own.keyboard.argument)))
+  asked_step answers first same =
+      let deed : Deed = deeds.Answer p (value_of (unsearched y).own.keyboard.argument) in
+      record {
+        own = same ∙ sym (ap (λ (s : Session). record (unsearched y) { own = s.own }) same);
+        stays = none_stays (unsearched y).own new.own (ap (λ (s : Session). s.own.search) same);
+        ready = ap (λ (s : Session). own_of s.own) same ∙ sym (ap (λ (s : Session). idle (own_of s.own)) same);
+        here = answers;
+        turn = λ v sees. asked_at v y p byte is none first turn answers ∙ sym (ap (λ (s : Session). Do (own_of s.own) (deed_act (own_of s.own) deed)) same);
+        playing = λ e. ap (λ (b : Bool). is_quiet b (deed_act (own_of new.own) deed)) (ap (λ (s : Session). s.own.player.playing) same ∙ e);
+        typed = λ e. ap (λ (s : Session). s.own.player.todo) same ∙ alone.typed e;
+        left = left_same (unsearched y).own.player new.own.player.todo alone (ap (λ (s : Session). s.own.player.todo) same);
+        again = λ wants. ap (λ (s : Session). refused_again (befores.Prompt p) (unsearched y).own.kind (unsearched y).own.player.playing (own_of s.own)) same ∙ again_prompted y p is none;
+        search = λ wants. refl;
+        fit = fit_same (unsearched y).own.player (own_of new.own) alone (ap (λ (s : Session). s.own.player.todo) same);
+        begins = λ h. cc;
+      }
 
-reply_step : (d : Directory) (ks : List MarkedBuffer) (y taken new : Session) (p : PromptInput) (byte : ℕ) (step : ByteStep) (names : Bool) → IsAlone (unsearched y).own.player → (unsearched y).own.prompt ≡ Some p → p.waiting ≡ NoKey → IsFed p p byte Answered → names_commands p.question ≡ names → taken ≡ unprompted (unsearched y) → IsReplyStep names taken new p step → IsByteStep d ks (unsearched y) new byte step
-reply_step d ks y taken new p byte step true alone is none turn names took did = named_step d ks y taken new p byte step (find_command p.input) alone is none turn names refl took did
-reply_step d ks y taken new p byte step false alone is none turn names took did =
-    let deed : step ≡ Acts (deeds.Answer p (value_of (unsearched y).own.keyboard.argument)) = did.0 ∙ ap (λ (s : Session). Acts (deeds.Answer p (value_of s.own.keyboard.argument))) took in
-    subst (IsByteStep d ks (unsearched y) new byte) (sym deed) (asked_step d ks y new p byte alone is none turn names (did.1 ∙ ap resting took))
+  other_step : (step : ByteStep) → is_answered p.question ≡ true → p.first ≡ [] → IsAskedStep taken new p step → IsByteStep d ks (unsearched y) new byte step
+  other_step step answers first did =
+      let deed : step ≡ Acts (deeds.Answer p (value_of (unsearched y).own.keyboard.argument)) = did.0 ∙ ap (λ (s : Session). Acts (deeds.Answer p (value_of s.own.keyboard.argument))) took in
+      subst (IsByteStep d ks (unsearched y) new byte) (sym deed) (asked_step answers first (did.1 ∙ ap resting took))
 
-pub answers : (d : Directory) (ks : List MarkedBuffer) (y taken new : Session) (p q : PromptInput) (byte : ℕ) (step : ByteStep) → IsAlone (unsearched y).own.player → (unsearched y).own.prompt ≡ Some p → (q ≡ p) × (p.waiting ≡ NoKey) → IsFed p q byte Answered → taken ≡ unprompted (unsearched y) → IsAnswerStep taken new q step → IsByteStep d ks (unsearched y) new byte step
-answers d ks y taken new p q byte step alone is same turn took did =
-    reply_step d ks y taken new p byte step (names_commands p.question) alone is same.1 (subst (λ (k : PromptInput). IsFed p k byte Answered) same.0 turn) refl took (subst (λ (k : PromptInput). IsAnswerStep taken new k step) same.0 did)
+  -- where it is the first of two
+  second_step : p.question ≡ ReplaceWhat → new ≡ prompting (second_input p.input) taken → IsByteStep d ks (unsearched y) new byte Kept
+  second_step of_c held =
+      let q : PromptInput = second_input p.input in
+      kept_as d ks y new (prompting q (unsearched y)).own byte (held ∙ ap (prompting q) took)
+      (λ v sees. answered_at v y p byte ReplaceWhat is turn of_c ∙ ap (λ (w : Waiting). Keep (record (own_of (prompting q (unsearched y)).own) { keys = keys_of w })) none)
+      refl (left_same (unsearched y).own.player (unsearched y).own.player.todo alone refl) (fit_same (unsearched y).own.player (own_of (prompting q (unsearched y)).own) alone refl)
+
+  -- and where it is the second
+  replacing_step : p.question ≡ ReplaceWith → new ≡ resting (unsearched y) → IsByteStep d ks (unsearched y) new byte (Acts (deeds.StartReplacing p.first p.input))
+  replacing_step of_c same =
+      let deed : Deed = deeds.StartReplacing p.first p.input in
+      record {
+        own = same ∙ sym (ap (λ (s : Session). record (unsearched y) { own = s.own }) same);
+        stays = none_stays (unsearched y).own new.own (ap (λ (s : Session). s.own.search) same);
+        ready = ap (λ (s : Session). own_of s.own) same ∙ sym (ap (λ (s : Session). idle (own_of s.own)) same);
+        here = tt;
+        turn = λ v sees.
+            answered_at v y p byte ReplaceWith is turn of_c
+            ∙ ap (λ (w : Waiting). Do (record (deed_own deed (own_of (resting (unsearched y)).own)) { keys = keys_of w }) (deed_act (own_of (unsearched y).own) deed)) none
+            ∙ sym (ap (λ (s : Session). Do (deed_own deed (own_of s.own)) (deed_act (own_of s.own) deed)) same);
+        playing = λ e. ap (λ (b : Bool). is_quiet b (deed_act (own_of new.own) deed)) (ap (λ (s : Session). s.own.player.playing) same ∙ e);
+        typed = λ e. ap (λ (s : Session). s.own.player.todo) same ∙ alone.typed e;
+        left = left_same (unsearched y).own.player new.own.player.todo alone (ap (λ (s : Session). s.own.player.todo) same);
+        again = λ wants. cc;
+        search = λ wants. cc;
+        fit = fit_same (unsearched y).own.player (own_of new.own) alone (ap (λ (s : Session). s.own.player.todo) same);
+        begins = λ h. refl;
+      }
+
+  reply_step : (step : ByteStep) (c : Question) → p.question ≡ c → IsFirst c p.first → IsReplyStep c taken new p step → IsByteStep d ks (unsearched y) new byte step
+  reply_step step RunWhich of_c first did = named_step step (find_command p.input) of_c first refl did
+  reply_step step ReplaceWhat of_c first did = subst (IsByteStep d ks (unsearched y) new byte) (sym did.0) (second_step of_c did.1)
+  reply_step step ReplaceWith of_c first did = subst (IsByteStep d ks (unsearched y) new byte) (sym did.0) (replacing_step of_c (did.1 ∙ ap resting took))
+  reply_step step _ of_c first did = other_step step (ap is_answered of_c) first did
+
+pub answers : (d : Directory) (ks : List MarkedBuffer) (y taken new : Session) (p q : PromptInput) (byte : ℕ) (step : ByteStep) → IsAlone (unsearched y).own.player → (unsearched y).own.prompt ≡ Some p → (q ≡ p) × (p.waiting ≡ NoKey) → IsFed p q byte Answered → taken ≡ unprompted (unsearched y) → IsFirst q.question q.first → IsAnswerStep taken new q step → IsByteStep d ks (unsearched y) new byte step
+answers d ks y taken new p q byte step alone is same turn took first did =
+    reply_step d ks y taken new p byte alone is same.1 (subst (λ (k : PromptInput). IsFed p k byte Answered) same.0 turn) took step p.question refl (subst (λ (k : PromptInput). IsFirst k.question k.first) same.0 first) (subst (λ (k : PromptInput). IsAnswerStep taken new k step) same.0 did)
 
 -- WITHOUT A SEARCH, and without a prompt
 
@@ -261,7 +307,7 @@ answer_act f own deed p n c typed is question input =
     ∙ ap (λ (t : List ℕ). f (Run (answered p.question) n (meant p.question own.pattern t))) input
     ∙ sym (ap (λ (d : Deed). f (deed_act own d)) is)
 
-pub answer_quietly : (old new : World) (t : StoreTold) (id : ℕ) (own : model.Own) (deed : Deed) (p : PromptInput) (n : Option ℕ) (c : Question) (typed : List ℕ) → deed ≡ deeds.Answer p n → c ≡ p.question → typed ≡ p.input → new ≡ act old id (Run (answered c) n (meant c own.pattern typed)) true → ActedBy (started_world (deed_started deed) id old) new t t id (deed_act own deed)
+pub answer_quietly : (old new : World) (t : StoreTold) (id : ℕ) (own : model.Own) (deed : Deed) (p : PromptInput) (n : Option ℕ) (c : Question) (typed : List ℕ) → deed ≡ deeds.Answer p n → c ≡ p.question → typed ≡ p.input → new ≡ act old id (Run (answered c) n (meant c own.pattern typed)) true → ActedBy (deed_world deed id old) new t t id (deed_act own deed)
 answer_quietly old new t id own deed p n c typed is question input world =
     let this : Deed = deeds.Answer p n in
     let did : ActedBy old new t t id (deed_act own this) =
@@ -273,7 +319,7 @@ answer_quietly old new t id own deed p n c typed is question input world =
           told_none t.accepted (flat_map saved_by (act_effects old id (Run (answered c) n (meant c own.pattern typed)) true)) (act_saves_none old id (Run (answered c) n (meant c own.pattern typed)) true (answered_saves_none c n (meant c own.pattern typed)))
           ∙ answer_act (λ (a : Act). told_more (flat_map saved_by (act_effects old id a true)) t.accepted) own this p n c typed refl question input;
     }
-    in subst (λ (e : Deed). ActedBy (started_world (deed_started e) id old) new t t id (deed_act own e)) (sym is) did
+    in subst (λ (e : Deed). ActedBy (deed_world e id old) new t t id (deed_act own e)) (sym is) did
 
 pub answer_may : (w : World) (id : ℕ) (own : model.Own) (deed : Deed) (p : PromptInput) (n : Option ℕ) (c : Question) (typed : List ℕ) → deed ≡ deeds.Answer p n → c ≡ p.question → typed ≡ p.input → may_be_refused (outcome_in w id (Run (answered c) n (meant c own.pattern typed)) true) ≡ true → may_be_refused (outcome_in w id (deed_act own deed) true) ≡ true
 answer_may w id own deed p n c typed is question input may = sym (answer_act (λ (a : Act). may_be_refused (outcome_in w id a true)) own deed p n c typed is question input) ∙ may

@@ -1,6 +1,6 @@
 -- A byte of a session that searches.
 use Rattle.std.proofs.Common.{◌≡◌, ℕ, Bool, true, false, cond, List, [], Option, Some, None, refl, sym, ap, subst, ◌∙◌}
-use Rattle.std.specs.Prelude.{◌==◌, ⊤, is_some, length, nat_lt}
+use Rattle.std.specs.Prelude.{◌==◌, ⊤, length, nat_lt}
 use Rattle.mgs_model.specs.Access.{Directory}
 use Rattle.mgs_model.specs.Apply.{searches}
 use Rattle.mgs_model.specs.Keys.{is_graphic}
@@ -25,13 +25,16 @@ use Rattle.mgs_session.specs.declared.search.Search.{Search}
 use Rattle.mgs_session.specs.declared.Session.{Session}
 use Rattle.mgs_session.specs.Seeking.{search_left, searching, unsearched}
 use Rattle.mgs_session.specs.Sessions.{told}
-use Rattle.mgs_world.specs.Worlds.{mode_in, own_of, search_of}
+use Rattle.mgs_world.specs.Worlds.{aim_mode, mode_in, own_of, search_of}
 use Rattle.mgs_core.specs.declared.deeds.Deed.TheVariants as deeds
 use Rattle.mgs_core.specs.declared.keying.ByteStep.{ByteStep}
 use Rattle.mgs_core.specs.declared.keying.ByteStep.TheVariants.{Kept, Failed, Ends, Acts}
 use Rattle.mgs_core.specs.Prompted.{own_turn}
-use Rattle.mgs_core.specs.Stepped.{IsAlone, IsByteStep, SearchStays, deed_act, is_keyed, step_from_search}
-use Rattle.mgs_core.proofs.Stepped.{left_same, none_stays}
+use Rattle.mgs_core.specs.Stepped.{IsAlone, IsByteStep, SearchStays, deed_act, finding, is_finding, is_keyed, step_from_search}
+use Rattle.mgs_core.specs.Turned.{is_quiet}
+use Rattle.mgs_session.specs.declared.search.Aim.{Aim}
+use Rattle.mgs_session.specs.declared.search.Aim.TheVariants.{Find, Replace}
+use Rattle.mgs_core.proofs.Stepped.{fit_same, left_same, none_stays}
 
 -- WHAT A BYTE LEAVES OF WHAT IS LOOKED FOR, where it goes on with nothing
 
@@ -84,14 +87,16 @@ unsearched_step d ks y taken new byte k none took t =
     subst (λ (z : Session). IsByteStep d ks z new byte k)
     (took ∙ sym (ap (λ (o : Option Search). record y { own = record y.own { search = o } }) none)) t
 
--- a byte that reads nothing leaves the search as it is
-pub search_same : (r s : Search) → r.sought ≡ s.sought → r.name ≡ s.name → r.origin ≡ s.origin → r.anchor ≡ s.anchor → r ≡ s
-search_same r s sought name origin anchor = λ i. record { name = name i; origin = origin i; anchor = anchor i; sought = sought i }
-
 -- WHAT COMES NEXT
 
 -- the session that was searching
-module _ (d : Directory) (ks : List MarkedBuffer) (y new : Session) (s r : Search) (byte : ℕ) (alone : IsAlone y.own.player) where
+module _ (d : Directory) (ks : List MarkedBuffer) (y new : Session) (name : List ℕ) (origin anchor : ℕ) (f g : Sought) (byte : ℕ) (alone : IsAlone y.own.player) where
+  abbrev pub s : Search
+  s = finding name origin anchor f
+
+  abbrev pub r : Search
+  r = finding name origin anchor g
+
   abbrev z : Session
   z = unsearched y
 
@@ -101,63 +106,67 @@ module _ (d : Directory) (ks : List MarkedBuffer) (y new : Session) (s r : Searc
   abbrev own : model.Own
   own = record (own_of x.own) { echo = Silent }
 
-  comes : (v : View) (k : SearchStep) → read_byte z.own.pattern s.sought byte ≡ (r.sought, k) → own_turn v x.own byte ≡ sought_turn own byte r.sought k
+  comes : (v : View) (k : SearchStep) → read_byte z.own.pattern f byte ≡ (g, k) → own_turn v x.own byte ≡ sought_turn own byte g k
   comes v k read = ap (λ (p : Sought × SearchStep). sought_turn (record (own_of x.own) { echo = Silent }) byte p.0 p.1) read
 
   -- it is over
-  pub search_ends : read_byte y.own.pattern s.sought byte ≡ (r.sought, step.Ends) → new ≡ search_left r.sought.pattern (unsearched y) → IsByteStep d ks (searching s (unsearched y)) new byte Kept
+  pub search_ends : read_byte y.own.pattern f byte ≡ (g, step.Ends) → new ≡ search_left g.pattern (unsearched y) → IsByteStep d ks (searching s (unsearched y)) new byte Kept
   search_ends read is =
-      let same : r.sought ≡ s.sought = sought_over z.own.pattern s.sought r.sought byte step.Ends read tt in
-      let left : new ≡ search_left s.sought.pattern z = is ∙ ap (λ (p : Sought). search_left p.pattern z) same in
+      let same : g ≡ f = sought_over z.own.pattern f g byte step.Ends read tt in
+      let left : new ≡ search_left f.pattern z = is ∙ ap (λ (p : Sought). search_left p.pattern z) same in
       record {
         own = left ∙ sym (ap (λ (w : Session). record x { own = w.own }) left);
         stays = none_stays x.own new.own (ap (λ (w : Session). w.own.search) left);
         turn = λ v sees. comes v step.Ends read ∙ ap (λ (q : Sought). sought_turn own byte q step.Ends) same ∙ sym (ap (λ (w : Session). Keep (own_of w.own)) left);
         left = left_same x.own.player new.own.player.todo alone (ap (λ (w : Session). w.own.player.todo) left);
+        fit = fit_same x.own.player (own_of new.own) alone (ap (λ (w : Session). w.own.player.todo) left);
       }
 
   -- the search goes on, with its positions
-  on_stays : r.name ≡ s.name → r.origin ≡ s.origin → r.anchor ≡ s.anchor → new ≡ searching r (told Silent z) → SearchStays x.own new.own
-  on_stays name origin anchor is bs =
+  on_stays : new ≡ searching r (told Silent z) → SearchStays x.own new.own
+  on_stays is bs =
       ap (λ (w : Session). search_of bs w.own.search) is
-      ∙ (λ i. search_of bs (Some (record r { name = name i; origin = origin i; anchor = anchor i })))
       ∙ sym (ap (λ (w : Session). cond (searches (own_of w.own).mode) (search_of bs (Some s)) None) is)
 
   -- or is given up
-  pub search_quits : read_byte y.own.pattern s.sought byte ≡ (r.sought, step.Quits) → r.name ≡ s.name → r.origin ≡ s.origin → r.anchor ≡ s.anchor → new ≡ searching r (told Silent (unsearched y)) → IsByteStep d ks (searching s (unsearched y)) new byte (Acts deeds.QuitSearch)
-  search_quits read name origin anchor is =
-      let same : r.sought ≡ s.sought = sought_over z.own.pattern s.sought r.sought byte step.Quits read tt in
-      let kept : new ≡ searching s (told Silent z) = is ∙ ap (λ (g : Search). searching g (told Silent z)) (search_same r s same name origin anchor) in
+  pub search_quits : read_byte y.own.pattern f byte ≡ (g, step.Quits) → new ≡ searching r (told Silent (unsearched y)) → IsByteStep d ks (searching s (unsearched y)) new byte (Acts deeds.QuitSearch)
+  search_quits read is =
+      let same : g ≡ f = sought_over z.own.pattern f g byte step.Quits read tt in
+      let kept : new ≡ searching s (told Silent z) = is ∙ ap (λ (h : Sought). searching (finding name origin anchor h) (told Silent z)) same in
       record {
         own = kept ∙ sym (ap (λ (w : Session). record x { own = w.own }) kept);
-        stays = on_stays name origin anchor is;
+        stays = on_stays is;
         ready = tt;
         here = tt;
-        turn = λ asked v sees. comes v step.Quits read ∙ sym (ap (λ (w : Session). Do (own_of w.own) (deed_act (own_of w.own) deeds.QuitSearch)) kept);
-        playing = ap (λ (w : Session). w.own.player.playing) kept;
-        typed = λ e. ap (λ (w : Session). w.own.player.todo) kept ∙ alone e;
+        turn = λ v sees. comes v step.Quits read ∙ sym (ap (λ (w : Session). Do (own_of w.own) (deed_act (own_of w.own) deeds.QuitSearch)) kept);
+        playing = λ e. ap (λ (b : Bool). is_quiet b (deed_act (own_of new.own) deeds.QuitSearch)) (ap (λ (w : Session). w.own.player.playing) kept ∙ e);
+        typed = λ e. ap (λ (w : Session). w.own.player.todo) kept ∙ alone.typed e;
         left = left_same x.own.player new.own.player.todo alone (ap (λ (w : Session). w.own.player.todo) kept);
+        fit = fit_same x.own.player (own_of new.own) alone (ap (λ (w : Session). w.own.player.todo) kept);
+        begins = λ h. cc;
         again = λ wants. cc;
         search = λ wants. cc;
       }
 
-  sought_on : (k : SearchStep) → (k ≡ step.Ends → ⊥) → (k ≡ step.Quits → ⊥) → (k ≡ step.Leaves → ⊥) → sought_turn own byte r.sought k ≡ Do (record own { mode = Searching r.sought.direction r.sought.failing; input = r.sought.pattern }) (Run (Move (SearchOn r.sought.direction k)) None r.sought.pattern)
+  sought_on : (k : SearchStep) → (k ≡ step.Ends → ⊥) → (k ≡ step.Quits → ⊥) → (k ≡ step.Leaves → ⊥) → sought_turn own byte g k ≡ Do (record own { mode = Searching g.direction g.failing; input = g.pattern }) (Run (Move (SearchOn g.direction k)) None g.pattern)
   sought_on step.Ends a b c = absurd (a refl)
   sought_on step.Quits a b c = absurd (b refl)
   sought_on step.Leaves a b c = absurd (c refl)
   sought_on _ a b c = refl
 
   -- or does a step
-  pub search_on : (k : SearchStep) → (k ≡ step.Ends → ⊥) → (k ≡ step.Quits → ⊥) → (k ≡ step.Leaves → ⊥) → read_byte y.own.pattern s.sought byte ≡ (r.sought, k) → r.name ≡ s.name → r.origin ≡ s.origin → r.anchor ≡ s.anchor → new ≡ searching r (told Silent (unsearched y)) → IsByteStep d ks (searching s (unsearched y)) new byte (Acts (deeds.Seek k))
-  search_on k a b c read name origin anchor is = record {
+  pub search_on : (k : SearchStep) → (k ≡ step.Ends → ⊥) → (k ≡ step.Quits → ⊥) → (k ≡ step.Leaves → ⊥) → read_byte y.own.pattern f byte ≡ (g, k) → new ≡ searching r (told Silent (unsearched y)) → IsByteStep d ks (searching s (unsearched y)) new byte (Acts (deeds.Seek k))
+  search_on k a b c read is = record {
     own = is ∙ sym (ap (λ (w : Session). record x { own = w.own }) is);
-    stays = on_stays name origin anchor is;
-    ready = ap (λ (w : Session). is_some w.own.search) is;
+    stays = on_stays is;
+    ready = ap (λ (w : Session). is_finding w.own.search) is;
     here = tt;
-    turn = λ asked v sees. comes v k read ∙ sought_on k a b c ∙ sym (ap (λ (w : Session). Do (own_of w.own) (deed_act (own_of w.own) (deeds.Seek k))) is);
-    playing = ap (λ (w : Session). w.own.player.playing) is;
-    typed = λ e. ap (λ (w : Session). w.own.player.todo) is ∙ alone e;
+    turn = λ v sees. comes v k read ∙ sought_on k a b c ∙ sym (ap (λ (w : Session). Do (own_of w.own) (deed_act (own_of w.own) (deeds.Seek k))) is);
+    playing = λ e. ap (λ (b : Bool). is_quiet b (deed_act (own_of new.own) (deeds.Seek k))) (ap (λ (w : Session). w.own.player.playing) is ∙ e);
+    typed = λ e. ap (λ (w : Session). w.own.player.todo) is ∙ alone.typed e;
     left = left_same x.own.player new.own.player.todo alone (ap (λ (w : Session). w.own.player.todo) is);
+    fit = fit_same x.own.player (own_of new.own) alone (ap (λ (w : Session). w.own.player.todo) is);
+    begins = λ h. cc;
     again = λ wants. cc;
     search = λ wants. cc;
   }
@@ -169,16 +178,23 @@ stays_none : (old new : Own) → old.search ≡ None → SearchStays old new →
 stays_none old new none stays =
     by new.search new.prompt (stays [] ∙ ap (λ (o : Option Search). cond (searches (own_of new).mode) (search_of [] o) None) none)
   where
+    aims : (g : Search) (a : Aim) → search_of [] (Some g) ≡ cond (searches (aim_mode a)) None None → Path (Option Search) (Some g) None
+    aims g (Find f) e = cc
+    aims g (Replace r) e = cc
+
     by : (o : Option Search) (p : Option PromptInput) → search_of [] o ≡ cond (searches (mode_in o p)) None None → o ≡ None
     by None p e = refl
-    by (Some g) p e = cc
+    by (Some g) p e = aims g g.aim e
 
-module _ (d : Directory) (ks : List MarkedBuffer) (y new : Session) (s : Search) (last : List ℕ) (byte : ℕ) (same : last ≡ y.own.pattern) (read : read_byte y.own.pattern s.sought byte ≡ (s.sought, step.Leaves)) where
+module _ (d : Directory) (ks : List MarkedBuffer) (y new : Session) (name : List ℕ) (origin anchor : ℕ) (f : Sought) (last : List ℕ) (byte : ℕ) (same : last ≡ y.own.pattern) (read : read_byte y.own.pattern f byte ≡ (f, step.Leaves)) where
+  abbrev pub was : Search
+  was = finding name origin anchor f
+
   abbrev w : Session
-  w = searching s (unsearched y)
+  w = searching was (unsearched y)
 
   abbrev left_one : Session
-  left_one = search_left s.sought.pattern (unsearched y)
+  left_one = search_left f.pattern (unsearched y)
 
   key_comes : (v : View) → own_turn v w.own byte ≡ own_turn v left_one.own byte
   key_comes v = ap (λ (p : Sought × SearchStep). sought_turn (record (own_of w.own) { echo = Silent }) byte p.0 p.1) read
@@ -186,8 +202,8 @@ module _ (d : Directory) (ks : List MarkedBuffer) (y new : Session) (s : Search)
   left_stays : SearchStays left_one.own new.own → SearchStays w.own new.own
   left_stays stays = none_stays w.own new.own (stays_none left_one.own new.own refl stays)
 
-  key_left : (k : ByteStep) → is_keyed k ≡ true → IsByteStep d ks left_one new byte k → IsByteStep d ks w new byte (step_from_search s last k)
-  key_left Kept keyed t = record { own = t.own; stays = left_stays t.stays; turn = λ v sees. key_comes v ∙ t.turn v sees; left = t.left }
+  key_left : (k : ByteStep) → is_keyed k ≡ true → IsByteStep d ks left_one new byte k → IsByteStep d ks w new byte (step_from_search was last k)
+  key_left Kept keyed t = record { own = t.own; stays = left_stays t.stays; turn = λ v sees. key_comes v ∙ t.turn v sees; left = t.left; fit = t.fit }
   key_left Failed keyed t = record {
     own = t.own;
     stays = left_stays t.stays;
@@ -215,21 +231,21 @@ module _ (d : Directory) (ks : List MarkedBuffer) (y new : Session) (s : Search)
     stays = left_stays t.stays;
     ready = t.ready;
     here = t.here;
-    turn = λ asked v sees. key_comes v ∙ t.turn asked v sees;
+    turn = λ v sees. key_comes v ∙ t.turn v sees;
     playing = t.playing;
     typed = t.typed;
     left = t.left;
     again = λ wants.
-        ap (λ (o : model.Own). record o { mode = Searching s.sought.direction s.sought.failing; input = s.sought.pattern; pattern = last; keys = [] }) (t.again wants)
+        ap (λ (o : model.Own). record o { mode = Searching f.direction f.failing; input = f.pattern; old = []; count = 0; pattern = last; keys = [] }) (t.again wants)
         ∙ ap (λ (p : List ℕ). record (refused_own (own_of w.own)) { pattern = p }) same;
     search = λ wants. refl;
+    fit = t.fit;
+    begins = λ h. cc;
   }
-  key_left (Acts (deeds.Answer p n)) keyed t = cc
-  key_left (Acts (deeds.Seek k)) keyed t = cc
-  key_left (Acts deeds.QuitSearch) keyed t = cc
+  key_left (Acts _) keyed t = cc
 
-pub search_leaves : (d : Directory) (ks : List MarkedBuffer) (y left new : Session) (s : Search) (last : List ℕ) (byte : ℕ) (k : ByteStep) → last ≡ y.own.pattern → read_byte y.own.pattern s.sought byte ≡ (s.sought, step.Leaves) → left ≡ search_left s.sought.pattern (unsearched y) → is_keyed k ≡ true → IsByteStep d ks left new byte k → IsByteStep d ks (searching s (unsearched y)) new byte (step_from_search s last k)
-search_leaves d ks y left new s last byte k same read is keyed t = key_left d ks y new s last byte same read k keyed (subst (λ (g : Session). IsByteStep d ks g new byte k) is t)
+pub search_leaves : (d : Directory) (ks : List MarkedBuffer) (y left new : Session) (name : List ℕ) (origin anchor : ℕ) (f : Sought) (last : List ℕ) (byte : ℕ) (k : ByteStep) → last ≡ y.own.pattern → read_byte y.own.pattern f byte ≡ (f, step.Leaves) → left ≡ search_left f.pattern (unsearched y) → is_keyed k ≡ true → IsByteStep d ks left new byte k → IsByteStep d ks (searching (finding name origin anchor f) (unsearched y)) new byte (step_from_search (finding name origin anchor f) last k)
+search_leaves d ks y left new name origin anchor f last byte k same read is keyed t = key_left d ks y new name origin anchor f last byte same read k keyed (subst (λ (g : Session). IsByteStep d ks g new byte k) is t)
 
 -- what was read with the search string, as the session has it
 pub read_at : (pattern last : List ℕ) (s r : Sought) (byte : ℕ) (k e : SearchStep) → last ≡ pattern → read_byte last s byte ≡ (r, k) → k ≡ e → read_byte pattern s byte ≡ (r, e)
@@ -242,10 +258,14 @@ read_again pattern s r byte read =
     ap (λ (q : Sought). read_byte pattern q byte) same ∙ read
 
 -- such a byte leaves the search as it was
-pub foreign_step : (d : Directory) (ks : List MarkedBuffer) (y new : Session) (s r : Search) (byte : ℕ) (k : ByteStep) → read_byte y.own.pattern s.sought byte ≡ (r.sought, step.Leaves) → r.name ≡ s.name → r.origin ≡ s.origin → r.anchor ≡ s.anchor → IsByteStep d ks (searching r y) new byte k → IsByteStep d ks (searching s y) new byte k
-foreign_step d ks y new s r byte k read name origin anchor t =
-    subst (λ (g : Search). IsByteStep d ks (searching g y) new byte k) (search_same r s (sought_over y.own.pattern s.sought r.sought byte step.Leaves read tt) name origin anchor) t
+pub foreign_step : (d : Directory) (ks : List MarkedBuffer) (y new : Session) (name : List ℕ) (origin anchor : ℕ) (f g : Sought) (byte : ℕ) (k : ByteStep) → read_byte y.own.pattern f byte ≡ (g, step.Leaves) → IsByteStep d ks (searching (finding name origin anchor g) y) new byte k → IsByteStep d ks (searching (finding name origin anchor f) y) new byte k
+foreign_step d ks y new name origin anchor f g byte k read t =
+    subst (λ (h : Sought). IsByteStep d ks (searching (finding name origin anchor h) y) new byte k) (sought_over y.own.pattern f g byte step.Leaves read tt) t
 
 -- a session that does not search
 pub still_search : (d : Directory) (ks : List MarkedBuffer) (y new : Session) (s : Search) (byte : ℕ) (k : ByteStep) → y ≡ unsearched y → IsByteStep d ks (searching s (unsearched y)) new byte k → IsByteStep d ks (searching s y) new byte k
 still_search d ks y new s byte k still t = subst (λ (z : Session). IsByteStep d ks (searching s z) new byte k) (sym still) t
+
+-- a search by its parts
+pub aimed : (d : Directory) (ks : List MarkedBuffer) (y new : Session) (s : Search) (a : Aim) (byte : ℕ) (k : ByteStep) → s.aim ≡ a → IsByteStep d ks (searching (record s { aim = a }) y) new byte k → IsByteStep d ks (searching s y) new byte k
+aimed d ks y new s a byte k is t = subst (λ (b : Aim). IsByteStep d ks (searching (record s { aim = b }) y) new byte k) (sym is) t

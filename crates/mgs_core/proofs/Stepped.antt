@@ -33,7 +33,7 @@ use Rattle.mgs_mini.specs.Typing.{PromptInput}
 use Rattle.mgs_session.specs.declared.Own.{Own}
 use Rattle.mgs_session.specs.declared.Session.{Session}
 use Rattle.mgs_session.specs.declared.search.Search.{Search}
-use Rattle.mgs_session.specs.Playing.{Playing, are_played, rounds}
+use Rattle.mgs_session.specs.Playing.{Playing, are_behind, are_played, rounds}
 use Rattle.mgs_session.specs.Sessions.{failed, holding, resting}
 use Rattle.mgs_world.specs.Worlds.{idle, mode_in, own_of, search_of}
 use Rattle.mgs_core.specs.declared.deeds.Deed.{Deed}
@@ -45,28 +45,60 @@ use Rattle.mgs_core.specs.declared.keying.ByteStep.TheVariants.{Kept, Failed, En
 use Rattle.mgs_core.specs.Prompted.{own_turn}
 use Rattle.mgs_core.specs.Steps.{command_act, started_by, started_own}
 use Rattle.mgs_core.specs.Stepped.{IsAlone, IsByteStep, IsCommandStep, IsLeft, IsStep, MacroPlayed, SearchStays, SeesNames, StepActs, StepEnds, StepFailed, StepKept, call_fault, fault_of, is_call, is_exit, refused_again, search_before}
-use Rattle.mgs_core.specs.Turned.{IsWithin, is_played, weight}
+use Rattle.mgs_core.specs.Turned.{IsFit, IsWithin, has_all, is_played, is_quiet, weight}
 use Rattle.mgs_core.proofs.Keyed.{command_done, command_here, turn_command, turn_kept, turn_unbound}
 
 -- WHAT IS LEFT
 
+pub behind_of : (todo : List Todo) → are_played todo ≡ true → are_behind todo ≡ true
+behind_of [] h = refl
+behind_of (Played byte ∷ todo) h = h
+behind_of (Typed byte ∷ todo) h = cc
+behind_of (Replace_all ∷ todo) h = cc
+behind_of (Play ∷ todo) h = cc
+
+pub none_all : (todo : List Todo) → are_played todo ≡ true → has_all todo ≡ false
+none_all [] h = refl
+none_all (Played byte ∷ todo) h = none_all todo h
+none_all (Typed byte ∷ todo) h = cc
+none_all (Replace_all ∷ todo) h = cc
+none_all (Play ∷ todo) h = cc
+
 pub left_same : (old : Playing) (todo : List Todo) → IsAlone old → todo ≡ old.todo → IsLeft old todo
 left_same old todo alone same = record {
-  played = λ e n h. subst (IsWithin n) (sym same) h;
-  typed = λ e. subst (IsWithin 51201) (sym (same ∙ alone e)) (omega arith, refl);
-  all = λ h e. ap are_played same ∙ h;
+  played = λ e n h. (let within = subst (IsWithin n) (sym same) h in (omega (arith, within.0), within.1));
+  typed = λ e. subst (IsWithin 53689341957) (sym (same ∙ alone.typed e)) (omega arith, refl);
+  behind = λ e. behind_of todo (ap are_played same ∙ alone.played);
 }
 
 pub left_none : (old : Playing) (todo : List Todo) → todo ≡ [] → IsLeft old todo
 left_none old todo none = record {
-  played = λ e n h. subst (IsWithin n) (sym none) (omega arith, refl);
-  typed = λ e. subst (IsWithin 51201) (sym none) (omega arith, refl);
-  all = λ h e. ap are_played none;
+  played = λ e n h. subst (IsWithin (1048577 + n)) (sym none) (omega arith, refl);
+  typed = λ e. subst (IsWithin 53689341957) (sym none) (omega arith, refl);
+  behind = λ e. ap are_behind none;
 }
 
-played_weight : (bytes : List ℕ) → weight (map Played bytes) ≡ length bytes
+-- no further replacements are left
+either : {X : Type 0} (b : Bool) → b ≡ true → b ≡ false → X
+either true e f = cc
+either false e f = cc
+
+pub fit_none : (o : model.Own) → has_all o.todo ≡ false → IsFit o
+fit_none o none all = either (has_all o.todo) all none
+
+pub fit_same : (old : Playing) (o : model.Own) → IsAlone old → o.todo ≡ old.todo → IsFit o
+fit_same old o alone same = fit_none o (ap has_all same ∙ none_all old.todo alone.played)
+
+pub fit_empty : (o : model.Own) → o.todo ≡ [] → IsFit o
+fit_empty o none = fit_none o (ap has_all none)
+
+played_weight : (bytes : List ℕ) → weight 1048576 (map Played bytes) ≡ length bytes * 1048579
 played_weight [] = refl
 played_weight (byte ∷ bytes) = let later = played_weight bytes in omega (arith, later)
+
+played_none : (bytes : List ℕ) → has_all (map Played bytes) ≡ false
+played_none [] = refl
+played_none (byte ∷ bytes) = played_none bytes
 
 played_all : (bytes : List ℕ) → is_played (map Played bytes) ≡ true
 played_all [] = refl
@@ -83,10 +115,10 @@ rounds_within (suc n) bytes h =
     let both : length (rounds (suc n) bytes) ≡ length bytes + length (rounds n bytes) = length_both bytes (rounds n bytes) in
     omega (arith, h, later, both)
 
-called_within : (n : ℕ) (bytes : List ℕ) → n ≤ 100 → length bytes ≤ 512 → IsWithin 51201 (Play ∷ map Played (rounds n bytes))
+called_within : (n : ℕ) (bytes : List ℕ) → n ≤ 100 → length bytes ≤ 512 → IsWithin 53689341957 (Play ∷ map Played (rounds n bytes))
 called_within n bytes few short =
     let all : length (rounds n bytes) ≤ n * 512 = rounds_within n bytes short in
-    let is : weight (map Played (rounds n bytes)) ≡ length (rounds n bytes) = played_weight (rounds n bytes) in
+    let is : weight 1048576 (map Played (rounds n bytes)) ≡ length (rounds n bytes) * 1048579 = played_weight (rounds n bytes) in
     (omega (arith, all, is, few), played_all (rounds n bytes))
 
 -- the bytes of a macro so many times, as the model has them
@@ -195,13 +227,14 @@ module _ (Sees : View → Type 0) (comes : View → Turn) (x new : Session) (c :
             turn v sees
             ∙ ap (command_turn own n) is
             ∙ ap (plays own n) allowed.1
-            ∙ ap (λ (todo : List Todo). Keep (record own { todo = Play ∷ todo })) (ap (λ (todo : List Todo). more ++ todo) (alone typed) ∙ append-nil more ∙ rounds_are (count_of n) o.recorder.macro)
+            ∙ ap (λ (todo : List Todo). Keep (record own { todo = Play ∷ todo })) (ap (λ (todo : List Todo). more ++ todo) (alone.typed typed) ∙ append-nil more ∙ rounds_are (count_of n) o.recorder.macro)
             ∙ sym (ap (λ (s : Session). Keep (own_of s.own)) p.called);
         left = record {
           played = λ e k h. not_both x.own.player.playing e typed;
-          typed = λ e. subst (IsWithin 51201) (sym left) (called_within (count_of n) o.recorder.macro few p.within);
-          all = λ h e. not_both x.own.player.playing e typed;
+          typed = λ e. subst (IsWithin 53689341957) (sym left) (called_within (count_of n) o.recorder.macro few p.within);
+          behind = λ e. not_both x.own.player.playing e typed;
         };
+        fit = fit_none (own_of new.own) (ap has_all left ∙ played_none (rounds (count_of n) o.recorder.macro));
       }
     where
       not_both : {X : Type 0} (b : Bool) → b ≡ true → b ≡ false → X
@@ -229,22 +262,24 @@ module _ (Sees : View → Type 0) (comes : View → Turn) (x new : Session) (c :
   -- or it is an act
   acts_step : (b : Before) → is_bound c ≡ true → is_exit c ≡ false → is_call c ≡ false → IsAlone x.own.player → new ≡ resting x
       → refused_again b x.own.kind x.own.player.playing (own_of (resting x).own) ≡ refused_own (own_of x.own)
-      → search_before b ≡ x.own.search
+      → ((s : Option Search) → search_before b s ≡ x.own.search)
       → StepActs Sees comes x.own.player.playing (IsLeft x.own.player) x new (deeds.Act (command_act c n) b)
   acts_step b bound goes_on calls alone same again search = record {
     own = same ∙ sym (ap (λ (s : Session). record x { own = s.own }) same);
     stays = none_stays x.own new.own (ap (λ (s : Session). s.own.search) same);
     ready = ap (λ (s : Session). own_of s.own) same ∙ sym (ap (λ (s : Session). idle (own_of s.own)) same);
     here = command_here n c bound goes_on calls;
-    turn = λ asked v sees.
+    turn = λ v sees.
         turn v sees
         ∙ command_done (own_of (resting x).own) n c bound calls
         ∙ sym (ap (λ (s : Session). Do (started_own (started_by (command_act c n)) (own_of s.own)) (act_of (command_act c n))) same);
-    playing = ap (λ (s : Session). s.own.player.playing) same;
-    typed = λ e. ap (λ (s : Session). s.own.player.todo) same ∙ alone e;
+    playing = λ e. ap (λ (p : Bool). is_quiet p (act_of (command_act c n))) (ap (λ (s : Session). s.own.player.playing) same ∙ e);
+    typed = λ e. ap (λ (s : Session). s.own.player.todo) same ∙ alone.typed e;
     left = left_same x.own.player new.own.player.todo alone (ap (λ (s : Session). s.own.player.todo) same);
     again = λ wants. ap (λ (s : Session). refused_again b x.own.kind x.own.player.playing (own_of s.own)) same ∙ again;
-    search = λ wants. search;
+    search = λ wants. search new.own.search;
+    fit = fit_same x.own.player (own_of new.own) alone (ap (λ (s : Session). s.own.player.todo) same);
+    begins = λ h. cc;
   }
 
 is_exit_of : (c : Command) → is_exit c ≡ true → c ≡ Exit
@@ -258,7 +293,7 @@ is_call_of _ h = cc
 
 pub command_step : (Sees : View → Type 0) (comes : View → Turn) (x new : Session) (c : Command) (n : Option ℕ) (b : Before) (step : ByteStep) → ((v : View) → Sees v → comes v ≡ command_turn (own_of (resting x).own) n c) → is_bound c ≡ true → IsAlone x.own.player
     → refused_again b x.own.kind x.own.player.playing (own_of (resting x).own) ≡ refused_own (own_of x.own)
-    → search_before b ≡ x.own.search
+    → ((s : Option Search) → search_before b s ≡ x.own.search)
     → IsCommandStep (resting x) new c n b step
     → IsStep Sees comes x.own.player.playing (IsLeft x.own.player) x new step
 command_step Sees comes x new c n b Kept turn bound alone again search s = call_kept Sees comes x new c n turn (is_call_of c s.0) alone s.1
@@ -280,9 +315,7 @@ command_step Sees comes x new c n b Ends turn bound alone again search s = ended
 command_step Sees comes x new c n b (Acts (deeds.Act a q)) turn bound alone again search s =
     let same : deeds.Act a q ≡ deeds.Act (command_act c n) b = ap (λ (k : _). deeds.Act k q) s.2 ∙ ap (deeds.Act (command_act c n)) s.3 in
     subst (λ (d : Deed). StepActs Sees comes x.own.player.playing (IsLeft x.own.player) x new d) (sym same) (acts_step Sees comes x new c n turn b bound s.0 s.1 alone s.4 again search)
-command_step Sees comes x new c n b (Acts (deeds.Answer q m)) turn bound alone again search s = absurd s
-command_step Sees comes x new c n b (Acts (deeds.Seek k)) turn bound alone again search s = absurd s
-command_step Sees comes x new c n b (Acts deeds.QuitSearch) turn bound alone again search s = absurd s
+command_step Sees comes x new c n b (Acts _) turn bound alone again search s = absurd s
 
 -- A KEY
 
@@ -302,6 +335,7 @@ key_kept d ks x new byte k still none alone read held = record {
   stays = none_stays x.own new.own (ap (λ (s : Session). s.own.search) held);
   turn = λ v sees. turn_kept v x.own byte k still none read ∙ sym (ap (λ (s : Session). Keep (own_of s.own)) held);
   left = left_same x.own.player new.own.player.todo alone (ap (λ (s : Session). s.own.player.todo) held);
+  fit = fit_same x.own.player (own_of new.own) alone (ap (λ (s : Session). s.own.player.todo) held);
 }
 
 pub key_unbound : (d : Directory) (ks : List MarkedBuffer) (x new : Session) (byte : ℕ) (k : Held) → x.own.search ≡ None → x.own.prompt ≡ None → IsAlone x.own.player → FedBy fed.Unbound (key_read x.own.keyboard.argument x.own.keyboard.keys byte) k → new ≡ resting x → IsByteStep d ks x new byte (Acts (deeds.Act unbound befores.Plain))
@@ -310,15 +344,17 @@ key_unbound d ks x new byte k still none alone read same = record {
   stays = none_stays x.own new.own (ap (λ (s : Session). s.own.search) same);
   ready = ap (λ (s : Session). own_of s.own) same ∙ sym (ap (λ (s : Session). idle (own_of s.own)) same);
   here = refl;
-  turn = λ asked v sees. turn_unbound v x.own byte k still none read ∙ sym (ap (λ (s : Session). Do (own_of s.own) (act_of unbound)) same);
-  playing = ap (λ (s : Session). s.own.player.playing) same;
-  typed = λ e. ap (λ (s : Session). s.own.player.todo) same ∙ alone e;
+  turn = λ v sees. turn_unbound v x.own byte k still none read ∙ sym (ap (λ (s : Session). Do (own_of s.own) (act_of unbound)) same);
+  playing = λ e. ap (λ (p : Bool). is_quiet p (act_of unbound)) (ap (λ (s : Session). s.own.player.playing) same ∙ e);
+  typed = λ e. ap (λ (s : Session). s.own.player.todo) same ∙ alone.typed e;
   left = left_same x.own.player new.own.player.todo alone (ap (λ (s : Session). s.own.player.todo) same);
   again = λ wants. ap (λ (s : Session). refused_again befores.Plain x.own.kind x.own.player.playing (own_of s.own)) same ∙ again_plain x still none;
   search = λ wants. sym still;
+  fit = fit_same x.own.player (own_of new.own) alone (ap (λ (s : Session). s.own.player.todo) same);
+  begins = λ h. cc;
 }
 
 pub key_command : (d : Directory) (ks : List MarkedBuffer) (x y new : Session) (byte : ℕ) (k : Held) (c : Command) (n : Option ℕ) (step : ByteStep) → x.own.search ≡ None → x.own.prompt ≡ None → IsAlone x.own.player → FedBy (fed.Run c n) (key_read x.own.keyboard.argument x.own.keyboard.keys byte) k → is_bound c ≡ true → y ≡ resting x → IsCommandStep y new c n befores.Plain step → IsByteStep d ks x new byte step
 key_command d ks x y new byte k c n step still none alone read bound rests s =
-    command_step (SeesNames d ks x.user) (λ v. own_turn v x.own byte) x new c n befores.Plain step (λ v sees. turn_command v x.own byte k c n still none read) bound alone (again_plain x still none) (sym still)
+    command_step (SeesNames d ks x.user) (λ v. own_turn v x.own byte) x new c n befores.Plain step (λ v sees. turn_command v x.own byte k c n still none read) bound alone (again_plain x still none) (λ r. sym still)
     (subst (λ (z : Session). IsCommandStep z new c n befores.Plain step) rests s)

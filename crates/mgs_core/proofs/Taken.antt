@@ -1,10 +1,10 @@
 -- A turn of the session at a place, in the world.
 use Rattle.std.proofs.Common.{◌≡◌, ℕ, zero, suc, ◌<◌, Bool, true, false, List, [], ◌∷◌, get_or, length, map, cond, Option, Some, None, refl, sym, ap, subst, ◌∙◌, arith}
-use Rattle.std.specs.Prelude.{slice_get, slice_set, is_some, not, ◌||◌}
+use Rattle.std.specs.Prelude.{slice_get, slice_set, is_some, not, ◌≤◌, ◌||◌}
 use Rattle.std.specs.List.{flat_map, list_any, position_or_len}
 use Rattle.std.proofs.lemmas.List.{length-map}
 use Rattle.mgs_model.specs.Access.{Directory}
-use Rattle.mgs_model.specs.World.{World, Buffer, Todo, find_session, has_id}
+use Rattle.mgs_model.specs.World.{World, Buffer, Todo, find_buffer, find_session, has_id, is_named}
 use Rattle.mgs_model.specs.World as model
 use Rattle.mgs_model.specs.Outcome.{Act, Run}
 use Rattle.mgs_model.specs.Apart.{Apart, bare, may_show, spared}
@@ -17,10 +17,16 @@ use Rattle.mgs_model.specs.declared.errors.Keyed.{Keyed}
 use Rattle.mgs_model.specs.declared.errors.Keyed.TheVariants as keyed
 use Rattle.mgs_model.specs.declared.search.Direction.{Direction}
 use Rattle.mgs_model.specs.declared.search.SearchStep.{SearchStep}
-use Rattle.mgs_model.specs.declared.session.Command.TheVariants.{Exit, LeaveSearch, Move}
+use Rattle.mgs_model.specs.declared.session.Command.TheVariants.{Alter, Exit, LeaveSearch, Move}
 use Rattle.mgs_model.specs.declared.session.Mode.{Mode}
 use Rattle.mgs_model.specs.declared.session.Mode.TheVariants.{Searching}
-use Rattle.mgs_model.specs.declared.session.Motion.TheVariants.{SearchOn}
+use Rattle.mgs_model.specs.declared.session.Motion.TheVariants.{SearchOn, SkipMatch, StartReplace}
+use Rattle.mgs_model.specs.Searching.{Sought}
+use Rattle.mgs_mini.specs.Typing.{PromptInput}
+use Rattle.mgs_session.specs.declared.search.Aim.{Aim}
+use Rattle.mgs_session.specs.declared.search.Aim.TheVariants.{Find, Replace}
+use Rattle.mgs_session.specs.declared.search.Replacing.{Replacing}
+use Rattle.mgs_act.specs.Replacing.{remaining_at, remaining_in, replacement, replacing_own}
 use Rattle.mgs_model.specs.declared.session.Kind.{Kind}
 use Rattle.mgs_model.specs.declared.touched.Touched.{Touched}
 use Rattle.mgs_model.specs.declared.touched.Touched.TheVariants.{Nowhere}
@@ -30,32 +36,33 @@ use Rattle.mgs_model.proofs.Completing.{shown_names_of}
 use Rattle.mgs_model.proofs.Ends.{act_fails}
 use Rattle.mgs_model.proofs.Firsts.{change_first_found}
 use Rattle.mgs_model.proofs.LeftToDo.{is_single, single_brief, todo_acted}
-use Rattle.mgs_model.proofs.Saves.{act_saves_none}
+use Rattle.mgs_model.proofs.Saves.{act_saves_none, is_save}
 use Rattle.mgs_model.proofs.Turned.{turn_todo}
 use Rattle.mgs_act.specs.Beginning.{search_held, search_or_none}
 use Rattle.mgs_act.specs.Searching.{meant}
-use Rattle.mgs_buffers.specs.MarkedBuffer.{MarkedBuffer}
+use Rattle.mgs_buffers.specs.MarkedBuffer.{AreWithinLimit, MarkedBuffer}
 use Rattle.mgs_session.specs.declared.Session.{Session}
 use Rattle.mgs_session.specs.declared.search.Search.{Search}
 use Rattle.mgs_store.specs.Stores.{StoreTold}
 use Rattle.mgs_store.proofs.Told.{told_none}
-use Rattle.mgs_world.specs.Worlds.{buffers_of, input_in, mode_in, own_at, own_of, own_or_first, search_of, session_id, session_of, size_in, sizes_in, world_of}
+use Rattle.mgs_world.specs.Worlds.{aim_input, aim_mode, buffers_of, input_in, keys_in, mode_in, own_at, own_of, own_or_first, search_of, session_id, session_of, size_found, size_in, size_named, sizes_in, world_of}
 use Rattle.mgs_world.proofs.Sessions.{session_some}
 use Rattle.mgs_core.specs.declared.deeds.Deed.{Deed}
 use Rattle.mgs_core.specs.declared.deeds.Deed.TheVariants as deeds
 use Rattle.mgs_core.specs.declared.deeds.Before.{Before}
 use Rattle.mgs_core.specs.declared.deeds.Before.TheVariants as befores
 use Rattle.mgs_core.specs.declared.keying.ByteStep.TheVariants.{Kept, Failed, Ends, Acts}
-use Rattle.mgs_core.specs.Steps.{ActedBy, closed, started_by, started_own, started_world}
-use Rattle.mgs_core.specs.Stepped.{CanDo, IsReady, IsTurnStep, SearchStays, SeesNames, before_of, deed_act, deed_started, is_deed_asked, may_want_memory, put_back, refused, search_before, seek_act}
-use Rattle.mgs_core.specs.Turned.{DeedBy, DeedRefused, IsLess, IsWithin, TurnDone, TurnEnds, TurnRefused, TurnedBy, is_played, weight}
+use Rattle.mgs_core.specs.Steps.{ActedBy, closed, started_by, started_own}
+use Rattle.mgs_core.specs.Stepped.{CanDo, IsReady, IsTurnStep, SearchStays, SeesNames, TurnLeft, before_of, deed_act, deed_own, deed_world, finds, is_finding, is_replacing, keys_left, may_want_memory, put_back, refused, search_again, search_before, seek_act, starts_replacing}
+use Rattle.mgs_core.specs.Turned.{DeedBy, DeedRefused, IsLess, IsWithin, TurnDone, TurnEnds, TurnRefused, TurnedBy, IsFit, has_all, is_played, is_quiet, weight}
 use Rattle.mgs_core.proofs.Begun.{closed_own, search_still}
 use Rattle.mgs_core.proofs.Keyed.{acted_single}
 use Rattle.mgs_core.proofs.Prompted.{answered_single}
 use Rattle.mgs_core.proofs.Sizes.{place_same}
 use Rattle.mgs_core.proofs.Started.{begun_act, change_twice}
 use Rattle.mgs_core.proofs.Steps.{session_changed, session_there, set_there, world_changed}
-use Rattle.mgs_core.proofs.Turned.{some_left, without_within}
+use Rattle.mgs_core.proofs.Turned.{AllLeft, all_less, all_none, all_same, all_without, more_weight, none_weight, some_left, without_within}
+use Rattle.mgs_core.proofs.Stepped.{fit_empty}
 
 there : (xs : List Session) (at : ℕ) → at < length xs → (h : Session) × (h ≡ get_or xs at h) × (slice_get xs at ≡ Some h)
 there [] at within = absurd (omega (arith, within))
@@ -88,35 +95,108 @@ some_there xs at h within is some none = some (ap (λ (o : model.Own). o.todo) (
 pub within_still : (at : ℕ) (xs ys : List Session) → at < length xs → sizes_in ys ≡ sizes_in xs → at < length ys
 within_still at xs ys within same = omega (arith, within, sym (length-map xs size_in) ∙ sym (ap length same) ∙ length-map ys size_in)
 
+-- no more is left of a text than it may have
+size_within : (name : List ℕ) (ks : List MarkedBuffer) → AreWithinLimit ks → size_named name (buffers_of ks) ≤ 1048576
+size_within name [] h = omega arith
+size_within name (k ∷ ks) h = by (is_named name k.buffer) (size_within name ks h.1)
+  where
+    by : (b : Bool) → size_named name (buffers_of ks) ≤ 1048576 → size_found (cond b (Some k.buffer) (find_buffer name (buffers_of ks))) ≤ 1048576
+    by true later = h.0
+    by false later = later
+
+pub left_within : (at : ℕ) (ks : List MarkedBuffer) (xs : List Session) → AreWithinLimit ks → remaining_at at ks xs ≤ 1048576
+left_within at ks xs h = by (search_held at xs)
+  where
+    by : (o : Option Search) → remaining_in ks o ≤ 1048576
+    by None = omega arith
+    by (Some s) = let small = size_within s.name ks h in omega (arith, small)
+
 -- A STEP OF A SEARCH
 
-seek_found : (o : Option Session) (step : SearchStep) → is_some (search_or_none o) ≡ true → (s : Search) × (search_or_none o ≡ Some s) × (seek_act (own_or_first o).mode step (own_or_first o).input ≡ Run (Move (SearchOn s.sought.direction step)) None s.sought.pattern)
+seek_found : (o : Option Session) (step : SearchStep) → is_finding (search_or_none o) ≡ true → (s : Search) × (f : Sought) × (search_or_none o ≡ Some s) × (s.aim ≡ Find f) × (seek_act (own_or_first o).mode step (own_or_first o).input ≡ Run (Move (SearchOn f.direction step)) None f.pattern)
 seek_found None step h = cc
 seek_found (Some x) step h = by x.own.search refl h
   where
-    by : (o : Option Search) → x.own.search ≡ o → is_some o ≡ true → (s : Search) × (x.own.search ≡ Some s) × (seek_act (own_of x.own).mode step (own_of x.own).input ≡ Run (Move (SearchOn s.sought.direction step)) None s.sought.pattern)
+    aims : (s : Search) (a : Aim) → x.own.search ≡ Some s → s.aim ≡ a → finds a ≡ true → (s : Search) × (f : Sought) × (x.own.search ≡ Some s) × (s.aim ≡ Find f) × (seek_act (own_of x.own).mode step (own_of x.own).input ≡ Run (Move (SearchOn f.direction step)) None f.pattern)
+    aims s (Find f) is of_s h = (s, f, is, of_s, ap (λ (o : Option Search). seek_act (mode_in o x.own.prompt) step (input_in o x.own.prompt)) is ∙ ap (λ (a : Aim). seek_act (aim_mode a) step (aim_input a)) of_s)
+    aims s (Replace r) is of_s h = cc
+
+    by : (o : Option Search) → x.own.search ≡ o → is_finding o ≡ true → (s : Search) × (f : Sought) × (x.own.search ≡ Some s) × (s.aim ≡ Find f) × (seek_act (own_of x.own).mode step (own_of x.own).input ≡ Run (Move (SearchOn f.direction step)) None f.pattern)
     by None is h = cc
-    by (Some s) is h = (s, is, ap (λ (o : Option Search). seek_act (mode_in o x.own.prompt) step (input_in o x.own.prompt)) is)
+    by (Some s) is h = aims s s.aim is refl h
 
 -- it is what the session at a place looks for
-pub seek_there : (xs : List Session) (at : ℕ) (step : SearchStep) → is_some (search_held at xs) ≡ true → (s : Search) × (search_held at xs ≡ Some s) × (seek_act (own_at at xs).mode step (own_at at xs).input ≡ Run (Move (SearchOn s.sought.direction step)) None s.sought.pattern)
+pub seek_there : (xs : List Session) (at : ℕ) (step : SearchStep) → is_finding (search_held at xs) ≡ true → (s : Search) × (f : Sought) × (search_held at xs ≡ Some s) × (s.aim ≡ Find f) × (seek_act (own_at at xs).mode step (own_at at xs).input ≡ Run (Move (SearchOn f.direction step)) None f.pattern)
 seek_there xs at step h = seek_found (slice_get xs at) step h
+
+-- or what it replaces
+replace_found : (o : Option Session) → is_replacing (search_or_none o) ≡ true → (s : Search) × (r : Replacing) × (search_or_none o ≡ Some s) × (s.aim ≡ Replace r) × ((own_or_first o).input ≡ r.put)
+replace_found None h = cc
+replace_found (Some x) h = by x.own.search refl h
+  where
+    aims : (s : Search) (a : Aim) → x.own.search ≡ Some s → s.aim ≡ a → not (finds a) ≡ true → (s : Search) × (r : Replacing) × (x.own.search ≡ Some s) × (s.aim ≡ Replace r) × ((own_of x.own).input ≡ r.put)
+    aims s (Find f) is of_s h = cc
+    aims s (Replace r) is of_s h = (s, r, is, of_s, ap (λ (o : Option Search). input_in o x.own.prompt) is ∙ ap aim_input of_s)
+
+    by : (o : Option Search) → x.own.search ≡ o → is_replacing o ≡ true → (s : Search) × (r : Replacing) × (x.own.search ≡ Some s) × (s.aim ≡ Replace r) × ((own_of x.own).input ≡ r.put)
+    by None is h = cc
+    by (Some s) is h = aims s s.aim is refl h
+
+pub replace_there : (xs : List Session) (at : ℕ) → is_replacing (search_held at xs) ≡ true → (s : Search) × (r : Replacing) × (search_held at xs ≡ Some s) × (s.aim ≡ Replace r) × ((own_at at xs).input ≡ r.put)
+replace_there xs at h = replace_found (slice_get xs at) h
+
+-- an act that is no save leaves the store
+quietly : (old new : World) (t : StoreTold) (id : ℕ) (c : Act) → is_save c ≡ false → new ≡ act old id c true → ActedBy old new t t id c
+quietly old new t id c h world = record {
+  stored = true;
+  world = world;
+  fault = λ e. cc;
+  saves = told_none t.accepted (flat_map saved_by (act_effects old id c true)) (act_saves_none old id c true h);
+}
+
+pub skipped_quietly : (old new : World) (t : StoreTold) (id : ℕ) (xs : List Session) (at : ℕ) (deed : Deed) → deed ≡ deeds.Skip → IsReady deed (search_held at xs) (own_at at xs)
+    → ((s : Search) (r : Replacing) → search_held at xs ≡ Some s → s.aim ≡ Replace r → new ≡ act old id (Run (Move SkipMatch) None r.put) true) → ActedBy (deed_world deed id old) new t t id (deed_act (own_at at xs) deed)
+skipped_quietly old new t id xs at deed is ready world =
+    let there = replace_there xs at (subst (λ (e : Deed). IsReady e (search_held at xs) (own_at at xs)) is ready) in
+    let did : ActedBy old new t t id (Run (Move SkipMatch) None (own_at at xs).input) = quietly old new t id (Run (Move SkipMatch) None (own_at at xs).input) refl
+    (world there.0 there.1 there.2 there.3 ∙ sym (ap (λ (put : List ℕ). act old id (Run (Move SkipMatch) None put) true) there.4)) in
+    subst (λ (e : Deed). ActedBy (deed_world e id old) new t t id (deed_act (own_at at xs) e)) (sym is) did
+
+pub replaced_quietly : (old new : World) (t : StoreTold) (id : ℕ) (xs : List Session) (at : ℕ) (deed : Deed) (last : Bool) → deed ≡ deeds.Replace last → IsReady deed (search_held at xs) (own_at at xs)
+    → ((s : Search) (r : Replacing) → search_held at xs ≡ Some s → s.aim ≡ Replace r → new ≡ act old id (Run (Alter (replacement last)) None r.put) true) → ActedBy (deed_world deed id old) new t t id (deed_act (own_at at xs) deed)
+replaced_quietly old new t id xs at deed last is ready world =
+    let there = replace_there xs at (subst (λ (e : Deed). IsReady e (search_held at xs) (own_at at xs)) is ready) in
+    let did : ActedBy old new t t id (Run (Alter (replacement last)) None (own_at at xs).input) = quietly old new t id (Run (Alter (replacement last)) None (own_at at xs).input) refl
+    (world there.0 there.1 there.2 there.3 ∙ sym (ap (λ (put : List ℕ). act old id (Run (Alter (replacement last)) None put) true) there.4)) in
+    subst (λ (e : Deed). ActedBy (deed_world e id old) new t t id (deed_act (own_at at xs) e)) (sym is) did
+
+pub replaced_may : (w : World) (id : ℕ) (xs : List Session) (at : ℕ) (deed : Deed) (last : Bool) → deed ≡ deeds.Replace last → IsReady deed (search_held at xs) (own_at at xs)
+    → ((s : Search) (r : Replacing) → search_held at xs ≡ Some s → s.aim ≡ Replace r → may_be_refused (outcome_in w id (Run (Alter (replacement last)) None r.put) true) ≡ true) → may_be_refused (outcome_in w id (deed_act (own_at at xs) deed) true) ≡ true
+replaced_may w id xs at deed last is ready may =
+    let there = replace_there xs at (subst (λ (e : Deed). IsReady e (search_held at xs) (own_at at xs)) is ready) in
+    ap (λ (e : Deed). may_be_refused (outcome_in w id (deed_act (own_at at xs) e) true)) is
+    ∙ ap (λ (put : List ℕ). may_be_refused (outcome_in w id (Run (Alter (replacement last)) None put) true)) there.4
+    ∙ may there.0 there.1 there.2 there.3
+
+pub started_replacing : (old new : World) (t : StoreTold) (id : ℕ) (own : model.Own) (deed : Deed) (pattern put : List ℕ) → deed ≡ deeds.StartReplacing pattern put → new ≡ act (with_own id (replacing_own pattern put) old) id (Run (Move StartReplace) None put) true → ActedBy (deed_world deed id old) new t t id (deed_act own deed)
+started_replacing old new t id own deed pattern put is world =
+    subst (λ (e : Deed). ActedBy (deed_world e id old) new t t id (deed_act own e)) (sym is) (quietly (with_own id (replacing_own pattern put) old) new t id (Run (Move StartReplace) None put) refl world)
 
 -- what is done leaves the store
 pub sought_quietly : (old new : World) (t : StoreTold) (id : ℕ) (xs : List Session) (at : ℕ) (deed : Deed) (step : SearchStep) → deed ≡ deeds.Seek step → IsReady deed (search_held at xs) (own_at at xs)
-    → ((s : Search) → search_held at xs ≡ Some s → new ≡ act old id (Run (Move (SearchOn s.sought.direction step)) None s.sought.pattern) true) → ActedBy (started_world (deed_started deed) id old) new t t id (deed_act (own_at at xs) deed)
+    → ((s : Search) (f : Sought) → search_held at xs ≡ Some s → s.aim ≡ Find f → new ≡ act old id (Run (Move (SearchOn f.direction step)) None f.pattern) true) → ActedBy (deed_world deed id old) new t t id (deed_act (own_at at xs) deed)
 sought_quietly old new t id xs at deed step is ready world =
     let there = seek_there xs at step (subst (λ (e : Deed). IsReady e (search_held at xs) (own_at at xs)) is ready) in
-    let c : Act = Run (Move (SearchOn there.0.sought.direction step)) None there.0.sought.pattern in
+    let c : Act = Run (Move (SearchOn there.1.direction step)) None there.1.pattern in
     let did : ActedBy old new t t id c = record {
       stored = true;
-      world = world there.0 there.1;
+      world = world there.0 there.1 there.2 there.3;
       fault = λ e. cc;
       saves = told_none t.accepted (flat_map saved_by (act_effects old id c true)) (act_saves_none old id c true refl);
     }
-    in subst (λ (e : Deed). ActedBy (started_world (deed_started e) id old) new t t id (deed_act (own_at at xs) e)) (sym is) (subst (ActedBy old new t t id) (sym there.2) did)
+    in subst (λ (e : Deed). ActedBy (deed_world e id old) new t t id (deed_act (own_at at xs) e)) (sym is) (subst (ActedBy old new t t id) (sym there.4) did)
 
-pub quit_quietly : (old new : World) (t : StoreTold) (id : ℕ) (own : model.Own) (deed : Deed) → deed ≡ deeds.QuitSearch → new ≡ act old id (Run LeaveSearch None []) true → ActedBy (started_world (deed_started deed) id old) new t t id (deed_act own deed)
+pub quit_quietly : (old new : World) (t : StoreTold) (id : ℕ) (own : model.Own) (deed : Deed) → deed ≡ deeds.QuitSearch → new ≡ act old id (Run LeaveSearch None []) true → ActedBy (deed_world deed id old) new t t id (deed_act own deed)
 quit_quietly old new t id own deed is world =
     let did : ActedBy old new t t id (Run LeaveSearch None []) = record {
       stored = true;
@@ -124,7 +204,7 @@ quit_quietly old new t id own deed is world =
       fault = λ e. cc;
       saves = told_none t.accepted (flat_map saved_by (act_effects old id (Run LeaveSearch None []) true)) (act_saves_none old id (Run LeaveSearch None []) true refl);
     }
-    in subst (λ (e : Deed). ActedBy (started_world (deed_started e) id old) new t t id (deed_act own e)) (sym is) did
+    in subst (λ (e : Deed). ActedBy (deed_world e id old) new t t id (deed_act own e)) (sym is) did
 
 -- A DEED THAT IS REFUSED
 
@@ -133,6 +213,22 @@ again_of : (ks : List MarkedBuffer) (x : Session) (b : Before) (kind : Kind) (pl
 again_of ks x befores.Plain kind playing = refl
 again_of ks x (befores.Prompt p) kind playing = refl
 again_of ks x (befores.Search s last) kind playing = refl
+again_of ks x befores.Held kind playing = ap (λ (keys : List ℕ). record (session_of ks (refused befores.Held kind playing x)) { own = record (own_of (refused befores.Held kind playing x).own) { keys = keys } }) (by x.own.search x.own.prompt)
+  where
+    aims : (s : Search) (a : Aim) (p : Option PromptInput) → [] ≡ keys_left (aim_mode a) x.own.keyboard.keys
+    aims s (Find f) p = refl
+    aims s (Replace r) p = refl
+
+    by : (s : Option Search) (p : Option PromptInput) → keys_in s [] p ≡ keys_left (mode_in s p) (keys_in s x.own.keyboard.keys p)
+    by None None = refl
+    by None (Some p) = refl
+    by (Some s) p = aims s s.aim p
+
+search_back : (bs : List Buffer) (b : Before) (s : Option Search) → search_again bs b (search_of bs s) ≡ search_of bs (search_before b s)
+search_back bs befores.Plain s = refl
+search_back bs (befores.Prompt p) s = refl
+search_back bs (befores.Search t last) s = refl
+search_back bs befores.Held s = refl
 
 abbrev world_back : List Buffer → Before → Kind → Bool → ℕ → World → World
 world_back bs b kind playing id w = record w { sessions = change_first (has_id id) (put_back bs b kind playing) w.sessions }
@@ -160,11 +256,11 @@ refused_apart bs b kind playing id w v is =
     let stays : Apart Nowhere id w (world_back bs b kind playing id w) = record { directory = refl; buffers = refl; rules = λ h. refl; sessions = λ h. changed_spared id (put_back bs b kind playing) (λ x. refl) w.sessions } in
     subst (Apart Nowhere id w) (sym is) stays
 
-deed_done : (old new : World) (before after : StoreTold) (id : ℕ) (d : Option Direction) (takes : Bool) (c : Act) (f : model.Session → model.Session) (k : Keyed) → k ≡ keyed.Done → DeedBy old new before after id d takes c f k → ActedBy (started_world d id old) new before after id c
-deed_done old new before after id d takes c f keyed.Done is h = h
-deed_done old new before after id d takes c f keyed.Short is h = cc
-deed_done old new before after id d takes c f keyed.Quit is h = cc
-deed_done old new before after id d takes c f keyed.NoSession is h = cc
+deed_done : (old begun new : World) (before after : StoreTold) (id : ℕ) (takes : Bool) (c : Act) (f : model.Session → model.Session) (k : Keyed) → k ≡ keyed.Done → DeedBy old begun new before after id takes c f k → ActedBy begun new before after id c
+deed_done old begun new before after id takes c f keyed.Done is h = h
+deed_done old begun new before after id takes c f keyed.Short is h = cc
+deed_done old begun new before after id takes c f keyed.Quit is h = cc
+deed_done old begun new before after id takes c f keyed.NoSession is h = cc
 
 -- A TURN
 
@@ -176,34 +272,57 @@ deed_single : (own : model.Own) (deed : Deed) → CanDo deed → is_single (deed
 deed_single own (deeds.Act a b) here = acted_single a here
 deed_single own (deeds.Answer p n) here = answered_single p.question n (meant p.question own.pattern p.input)
 deed_single own (deeds.Seek step) here = seek_single own.mode step own.input
-deed_single own deeds.QuitSearch here = refl
+deed_single own _ here = refl
 
 -- the record with which a deed is decided plays as much, and has as much to do
 started_playing : (d : Option Direction) (own : model.Own) → (started_own d own).playing ≡ own.playing
 started_playing None own = refl
 started_playing (Some d) own = refl
 
-started_todo : (d : Option Direction) (own : model.Own) → (started_own d own).todo ≡ own.todo
-started_todo None own = refl
-started_todo (Some d) own = refl
+deed_todo : (deed : Deed) (own : model.Own) → (deed_own deed own).todo ≡ own.todo
+deed_todo (deeds.Act a b) own = by (started_by a)
+  where
+    by : (d : Option Direction) → (started_own d own).todo ≡ own.todo
+    by None = refl
+    by (Some d) = refl
+deed_todo _ own = refl
 
--- one that takes memory starts no search
-unstarted : (deed : Deed) (own : model.Own) → may_want_memory deed ≡ true → started_own (deed_started deed) own ≡ own
+deed_playing : (deed : Deed) (own : model.Own) → (deed_own deed own).playing ≡ own.playing
+deed_playing (deeds.Act a b) own = started_playing (started_by a) own
+deed_playing _ own = refl
+
+-- one that takes memory starts nothing
+unstarted : (deed : Deed) (own : model.Own) → may_want_memory deed ≡ true → deed_own deed own ≡ own
 unstarted (deeds.Act a b) own wants = by (started_by a) wants
   where
     by : (d : Option Direction) → not (is_some d) ≡ true → started_own d own ≡ own
     by None h = refl
     by (Some d) h = cc
 unstarted (deeds.Answer p n) own wants = refl
-unstarted (deeds.Seek step) own wants = cc
-unstarted deeds.QuitSearch own wants = cc
+unstarted (deeds.Replace last) own wants = refl
+unstarted _ own wants = cc
 
-begun_deed : (w : World) (id : ℕ) (o : model.Own) (deed : Deed) (own : model.Own) (x : model.Session) (new : World) (before after : StoreTold) → find_session id w.sessions ≡ Some x
-    → ActedBy (started_world (deed_started deed) id (with_own id (λ was. o) w)) new before after id (deed_act own deed) → ActedBy (with_own id (λ was. started_own (deed_started deed) o) w) new before after id (deed_act own deed)
-begun_deed w id o (deeds.Act a b) own x new before after found did = begun_act w id o a x new before after found did
-begun_deed w id o (deeds.Answer p n) own x new before after found did = did
-begun_deed w id o (deeds.Seek step) own x new before after found did = did
-begun_deed w id o deeds.QuitSearch own x new before after found did = did
+-- a query-replace begins in a session that does not search
+begun_replacing : (w : World) (id : ℕ) (o : model.Own) (pattern put : List ℕ) (x : model.Session) → find_session id w.sessions ≡ Some x → x.search ≡ None → with_own id (replacing_own pattern put) (with_own id (λ was. o) w) ≡ with_own id (λ was. replacing_own pattern put o) w
+begun_replacing w id o pattern put x found none =
+    ap (λ (ys : List model.Session). record w { sessions = ys })
+    (change_twice (has_id id) (own_set (replacing_own pattern put)) (own_set (λ was. o)) (λ (y : model.Session). own_set (replacing_own pattern put) (own_set (λ was. o) y)) (λ y. refl) (λ y. refl) w.sessions
+    ∙ change_first_found (has_id id) (λ (y : model.Session). own_set (replacing_own pattern put) (own_set (λ was. o) y)) (own_set (λ was. replacing_own pattern put o)) x w.sessions found
+    (λ i. record x { search = both o.mode x.search none i; own = replacing_own pattern put o }))
+  where
+    both : (m : Mode) (s : Option model.Search) → s ≡ None → cond (searches m) s None ≡ s
+    both m s e = ap (λ (t : Option model.Search). cond (searches m) t None) e ∙ by (searches m) ∙ sym e
+      where
+        by : (b : Bool) → Path (Option model.Search) (cond b None None) None
+        by true = refl
+        by false = refl
+
+begun_deed : (w : World) (id : ℕ) (o : model.Own) (deed : Deed) (own : model.Own) (x : model.Session) (new : World) (before after : StoreTold) → find_session id w.sessions ≡ Some x → (starts_replacing deed ≡ true → x.search ≡ None)
+    → ActedBy (deed_world deed id (with_own id (λ was. o) w)) new before after id (deed_act own deed) → ActedBy (with_own id (λ was. deed_own deed o) w) new before after id (deed_act own deed)
+begun_deed w id o (deeds.Act a b) own x new before after found none did = begun_act w id o a x new before after found did
+begun_deed w id o (deeds.StartReplacing pattern put) own x new before after found none did =
+    subst (λ (v : World). ActedBy v new before after id (Run (Move StartReplace) None put)) (begun_replacing w id o pattern put x found (none refl)) did
+begun_deed w id o _ own x new before after found none did = did
 
 -- of the session h at the place, which the turn makes y, before a deed
 module _ (d : Directory) (ks : List MarkedBuffer) (xs : List Session) (next : Option ℕ) (id at : ℕ) (h y : Session) (place : at ≡ position_or_len (session_id id) xs) (within : at < length xs) (is_h : h ≡ get_or xs at h) where
@@ -233,8 +352,22 @@ module _ (d : Directory) (ks : List MarkedBuffer) (xs : List Session) (next : Op
       let x : model.Session = session_of ks h in
       turn_todo w id x (session_some d ks xs next id at h place within is_h) ∙ turn (view w x) (shown_names_of w x)
 
-  pub kept_less : IsTurnStep d ks h y Kept → IsLess (own_at at xs).todo (own_at at (slice_set xs at y)).todo
-  kept_less s = subst (λ (todo : List Todo). IsLess todo (own_at at (slice_set xs at y)).todo) (sym todo_there) (subst (IsLess h.own.player.todo) (sym todo_put) s.left)
+  -- where no further replacements are to be done
+  turn_less : (m n : ℕ) (replaces : Bool) (left : List Todo) → n ≤ 1048576 → TurnLeft replaces h.own.player.todo left → has_all h.own.player.todo ≡ false → weight n left < weight m h.own.player.todo
+  turn_less m n replaces left within s none =
+      omega (arith, s.less none, more_weight n 1048576 left within, none_weight m 1048576 h.own.player.todo none)
+
+  pub kept_less : (m n : ℕ) → n ≤ 1048576 → IsTurnStep d ks h y Kept → IsLess m n (own_at at xs).todo (own_at at (slice_set xs at y)).todo
+  kept_less m n within s =
+      subst (λ (todo : List Todo). IsLess m n todo (own_at at (slice_set xs at y)).todo) (sym todo_there)
+      (subst (IsLess m n h.own.player.todo) (sym todo_put) (turn_less m n false y.own.player.todo within s.left (by (has_all h.own.player.todo) refl), s.left.played))
+    where
+      by : (b : Bool) → has_all h.own.player.todo ≡ b → has_all h.own.player.todo ≡ false
+      by true e = (let replaces = (s.left.same e).0 in cc)
+      by false e = e
+
+  pub kept_fit : IsTurnStep d ks h y Kept → IsFit (own_at at (slice_set xs at y))
+  kept_fit s = subst IsFit (sym (own_put xs at y within)) s.fit
 
   pub kept_turn : (t : StoreTold) → IsTurnStep d ks h y Kept → TurnDone (is_played (own_at at xs).todo) (own_at at (slice_set xs at y)).todo (world_of d ks xs next) (world_of d ks (slice_set xs at y) next) t t id
   kept_turn t s = record { own = own_of y.own; act = None; turn = next_turn (Keep (own_of y.own)) s.turn; done = (changed s.own s.stays, refl) }
@@ -242,8 +375,11 @@ module _ (d : Directory) (ks : List MarkedBuffer) (xs : List Session) (next : Op
   failed_none : IsTurnStep d ks h y Failed → (own_at at (slice_set xs at y)).todo ≡ []
   failed_none s = todo_put ∙ ap (λ (o : model.Own). o.todo) s.told
 
-  pub failed_less : IsTurnStep d ks h y Failed → ((own_at at xs).todo ≡ [] → ⊥) → IsLess (own_at at xs).todo (own_at at (slice_set xs at y)).todo
-  failed_less s some = subst (IsLess (own_at at xs).todo) (sym (failed_none s)) (some_left (own_at at xs).todo some, refl)
+  pub failed_less : (m n : ℕ) → IsTurnStep d ks h y Failed → ((own_at at xs).todo ≡ [] → ⊥) → IsLess m n (own_at at xs).todo (own_at at (slice_set xs at y)).todo
+  failed_less m n s some = subst (IsLess m n (own_at at xs).todo) (sym (failed_none s)) (some_left m (own_at at xs).todo some, refl)
+
+  pub failed_fit : IsTurnStep d ks h y Failed → IsFit (own_at at (slice_set xs at y))
+  failed_fit s = fit_empty (own_at at (slice_set xs at y)) (failed_none s)
 
   pub failed_turn : (t : StoreTold) → IsTurnStep d ks h y Failed → TurnDone (is_played (own_at at xs).todo) (own_at at (slice_set xs at y)).todo (world_of d ks xs next) (world_of d ks (slice_set xs at y) next) t t id
   failed_turn t s =
@@ -254,7 +390,7 @@ module _ (d : Directory) (ks : List MarkedBuffer) (xs : List Session) (next : Op
         act = Some s.act;
         turn = next_turn (Do s.before s.act) s.turn;
         done = (
-          s.playing ∙ sym (ap is_played todo_there),
+          λ plays. ap (λ (b : Bool). is_quiet b s.act) (s.playing ∙ sym (ap is_played todo_there) ∙ plays),
           λ typed. failed_none s,
           record {
             stored = true;
@@ -280,26 +416,26 @@ module _ (d : Directory) (ks : List MarkedBuffer) (xs : List Session) (next : Op
   }
 
   -- and where there is a deed
-  module _ (deed : Deed) (s : IsTurnStep d ks h y (Acts deed)) (asked : is_deed_asked deed ≡ true) where
+  module _ (deed : Deed) (s : IsTurnStep d ks h y (Acts deed)) where
     -- with this record it is decided
     abbrev own : model.Own
-    own = started_own (deed_started deed) (own_of y.own)
+    own = deed_own deed (own_of y.own)
 
     abbrev act_done : Act
     act_done = deed_act (own_of y.own) deed
 
     deed_turn : turn_in old id ≡ Do own act_done
-    deed_turn = next_turn (Do own act_done) (s.turn asked)
+    deed_turn = next_turn (Do own act_done) s.turn
 
     put : own_at at (slice_set xs at y) ≡ own_of y.own
     put = own_put xs at y within
 
     -- it is done in the world that the turn leaves
-    done_from : (new : World) (before after : StoreTold) → ActedBy (started_world (deed_started deed) id begun) new before after id (deed_act (own_at at (slice_set xs at y)) deed) → ActedBy (with_own id (λ was. own) old) new before after id act_done
+    done_from : (new : World) (before after : StoreTold) → ActedBy (deed_world deed id begun) new before after id (deed_act (own_at at (slice_set xs at y)) deed) → ActedBy (with_own id (λ was. own) old) new before after id act_done
     done_from new before after did =
-        begun_deed old id (own_of y.own) deed (own_of y.own) (session_of ks h) new before after (session_some d ks xs next id at h place within is_h)
-        (subst (λ (v : World). ActedBy (started_world (deed_started deed) id v) new before after id act_done) (changed s.own s.stays)
-        (subst (λ (o : model.Own). ActedBy (started_world (deed_started deed) id begun) new before after id (deed_act o deed)) put did))
+        begun_deed old id (own_of y.own) deed (own_of y.own) (session_of ks h) new before after (session_some d ks xs next id at h place within is_h) (λ starts. ap (search_of (buffers_of ks)) (s.begins starts))
+        (subst (λ (v : World). ActedBy (deed_world deed id v) new before after id act_done) (changed s.own s.stays)
+        (subst (λ (o : model.Own). ActedBy (deed_world deed id begun) new before after id (deed_act o deed)) put did))
 
     -- what holds of what is to be done, and of nothing, holds of what the deed leaves
     deed_leaves : (P : List Todo → Type 0) → P [] → ((todo : List Todo) → P todo → P (without_all todo)) → P y.own.player.todo → (K : List MarkedBuffer) (ys : List Session) (before after : StoreTold) → sizes_in ys ≡ sizes_in xs
@@ -308,17 +444,35 @@ module _ (d : Directory) (ks : List MarkedBuffer) (xs : List Session) (next : Op
         let w : World = world_of d ks xs next in
         let z = open_at d K ys next id at (place_same id at xs ys place same) (within_still at xs ys within same) in
         subst P z.2
-        (todo_acted P none rest w id own act_done did.stored (session_of ks h) z.0 (session_some d ks xs next id at h place within is_h) (single_brief own act_done (deed_single (own_of y.own) deed s.here)) (subst P (sym (started_todo (deed_started deed) (own_of y.own))) holds)
+        (todo_acted P none rest w id own act_done did.stored (session_of ks h) z.0 (session_some d ks xs next id at h place within is_h) (single_brief own act_done (deed_single (own_of y.own) deed s.here)) (subst P (sym (deed_todo deed (own_of y.own))) holds)
         (ap (λ (v : World). find_session id v.sessions) (sym did.world) ∙ z.1))
 
-    pub acted_less : (K : List MarkedBuffer) (ys : List Session) (before after : StoreTold) (kind : Kind) (playing : Bool) (k : Keyed) → k ≡ keyed.Done → sizes_in ys ≡ sizes_in xs
-        → DeedBy (world_of d ks (slice_set xs at y) next) (world_of d K ys next) before after id (deed_started deed) (may_want_memory deed) (deed_act (own_at at (slice_set xs at y)) deed) (put_back (buffers_of ks) (before_of deed) kind playing) k
-        → IsLess (own_at at xs).todo (own_at at ys).todo
-    acted_less K ys before after kind playing k is same h =
+    -- what further replacements leave: all that was to be done, or none of them
+    pub acted_less : (m n : ℕ) (K : List MarkedBuffer) (ys : List Session) (before after : StoreTold) (kind : Kind) (playing : Bool) (k : Keyed) → n ≤ 1048576 → k ≡ keyed.Done → sizes_in ys ≡ sizes_in xs
+        → DeedBy (world_of d ks (slice_set xs at y) next) (deed_world deed id (world_of d ks (slice_set xs at y) next)) (world_of d K ys next) before after id (may_want_memory deed) (deed_act (own_at at (slice_set xs at y)) deed) (put_back (buffers_of ks) (before_of deed) kind playing) k
+        → has_all h.own.player.todo ≡ false
+        → IsLess m n (own_at at xs).todo (own_at at ys).todo
+    acted_less m n K ys before after kind playing k small is same by none =
         let new : World = world_of d K ys next in
-        let did = deed_done begun new before after id (deed_started deed) (may_want_memory deed) (deed_act (own_at at (slice_set xs at y)) deed) (put_back (buffers_of ks) (before_of deed) kind playing) k is h in
-        let left = deed_leaves (IsWithin (weight y.own.player.todo)) (omega arith, refl) (without_within (weight y.own.player.todo)) (omega arith, s.left.1) K ys before after same (done_from new before after did) in
-        subst (λ (todo : List Todo). IsLess todo (own_at at ys).todo) (sym todo_there) (omega (arith, left.0, s.left.0), left.1)
+        let did = deed_done begun (deed_world deed id begun) new before after id (may_want_memory deed) (deed_act (own_at at (slice_set xs at y)) deed) (put_back (buffers_of ks) (before_of deed) kind playing) k is by in
+        let left = deed_leaves (IsWithin (weight 1048576 y.own.player.todo)) (omega arith, refl) (without_within (weight 1048576 y.own.player.todo)) (omega arith, s.left.played) K ys before after same (done_from new before after did) in
+        let most = more_weight n 1048576 (own_at at ys).todo small in
+        let first = s.left.less none in
+        let alike = none_weight m 1048576 h.own.player.todo none in
+        subst (λ (todo : List Todo). IsLess m n todo (own_at at ys).todo) (sym todo_there) (omega (arith, left.0, first, most, alike), left.1)
+
+    -- or by one of all further replacements
+    pub replaced_less : (m n : ℕ) (K : List MarkedBuffer) (ys : List Session) (before after : StoreTold) (kind : Kind) (playing : Bool) (k : Keyed) → k ≡ keyed.Done → sizes_in ys ≡ sizes_in xs
+        → DeedBy (world_of d ks (slice_set xs at y) next) (deed_world deed id (world_of d ks (slice_set xs at y) next)) (world_of d K ys next) before after id (may_want_memory deed) (deed_act (own_at at (slice_set xs at y)) deed) (put_back (buffers_of ks) (before_of deed) kind playing) k
+        → has_all h.own.player.todo ≡ true → (has_all (own_at at ys).todo ≡ true → n < m)
+        → IsLess m n (own_at at xs).todo (own_at at ys).todo
+    replaced_less m n K ys before after kind playing k is same by all further =
+        let new : World = world_of d K ys next in
+        let todo : List Todo = h.own.player.todo in
+        let did = deed_done begun (deed_world deed id begun) new before after id (may_want_memory deed) (deed_act (own_at at (slice_set xs at y)) deed) (put_back (buffers_of ks) (before_of deed) kind playing) k is by in
+        let stays = s.left.same all in
+        let left = deed_leaves (AllLeft m todo) (all_none m todo all) (all_without m todo all stays.2) (subst (AllLeft m todo) (sym stays.1) (all_same m todo all (ap is_played (sym stays.1) ∙ s.left.played))) K ys before after same (done_from new before after did) in
+        subst (λ (ts : List Todo). IsLess m n ts (own_at at ys).todo) (sym todo_there) (all_less m n todo (own_at at ys).todo all left further)
 
     acted_turn : (K : List MarkedBuffer) (ys : List Session) (before after : StoreTold) → sizes_in ys ≡ sizes_in xs → ActedBy (with_own id (λ was. own) old) (world_of d K ys next) before after id act_done → TurnDone (is_played (own_at at xs).todo) (own_at at ys).todo old (world_of d K ys next) before after id
     acted_turn K ys before after same did = record {
@@ -326,7 +480,7 @@ module _ (d : Directory) (ks : List MarkedBuffer) (xs : List Session) (next : Op
       act = Some act_done;
       turn = deed_turn;
       done = (
-        started_playing (deed_started deed) (own_of y.own) ∙ s.playing ∙ sym (ap is_played todo_there),
+        λ plays. ap (λ (b : Bool). is_quiet b act_done) (deed_playing deed (own_of y.own)) ∙ s.playing (sym (ap is_played todo_there) ∙ plays),
         λ typed. deed_leaves (λ (todo : List Todo). todo ≡ []) refl (λ todo e. ap without_all e) (s.typed (sym (ap is_played todo_there) ∙ typed)) K ys before after same did,
         did,
       );
@@ -335,8 +489,8 @@ module _ (d : Directory) (ks : List MarkedBuffer) (xs : List Session) (next : Op
     -- what was there before is there again in the session as it was before the turn
     back : may_want_memory deed ≡ true → (let f : model.Session → model.Session = put_back (buffers_of ks) (before_of deed) h.own.kind h.own.player.playing in f (own_set (λ was. own_of y.own) (session_of ks h)) ≡ own_set refused_own (session_of ks h))
     back wants =
-        let found : search_of (buffers_of ks) (search_before (before_of deed)) ≡ cond (searches (own_of h.own).mode) (search_of (buffers_of ks) h.own.search) None =
-        ap (search_of (buffers_of ks)) (s.search wants) ∙ search_still (buffers_of ks) h.own.search h.own.prompt in
+        let found : search_again (buffers_of ks) (before_of deed) (cond (searches (own_of y.own).mode) (search_of (buffers_of ks) h.own.search) None) ≡ cond (searches (own_of h.own).mode) (search_of (buffers_of ks) h.own.search) None =
+        ap (search_again (buffers_of ks) (before_of deed)) (sym (s.stays (buffers_of ks))) ∙ search_back (buffers_of ks) (before_of deed) y.own.search ∙ ap (search_of (buffers_of ks)) (s.search wants) ∙ search_still (buffers_of ks) h.own.search h.own.prompt in
         λ i. record (session_of ks h) { search = found i; own = s.again wants i }
 
     refused_turn : (new : World) (before after : StoreTold) → DeedRefused begun new before after id (may_want_memory deed) act_done (put_back (buffers_of ks) (before_of deed) h.own.kind h.own.player.playing) → TurnRefused old new before after id
@@ -362,7 +516,7 @@ module _ (d : Directory) (ks : List MarkedBuffer) (xs : List Session) (next : Op
         }
 
     pub deed_turned : (K : List MarkedBuffer) (ys : List Session) (before after : StoreTold) (kind : Kind) (playing : Bool) (k : Keyed) → kind ≡ h.own.kind → playing ≡ h.own.player.playing → sizes_in ys ≡ sizes_in xs
-        → DeedBy (world_of d ks (slice_set xs at y) next) (world_of d K ys next) before after id (deed_started deed) (may_want_memory deed) (deed_act (own_at at (slice_set xs at y)) deed) (put_back (buffers_of ks) (before_of deed) kind playing) k
+        → DeedBy (world_of d ks (slice_set xs at y) next) (deed_world deed id (world_of d ks (slice_set xs at y) next)) (world_of d K ys next) before after id (may_want_memory deed) (deed_act (own_at at (slice_set xs at y)) deed) (put_back (buffers_of ks) (before_of deed) kind playing) k
         → TurnedBy (is_played (own_at at xs).todo) (own_at at ys).todo (world_of d ks xs next) (world_of d K ys next) before after id k
     deed_turned K ys before after kind playing keyed.Done of_kind of_play same did =
         acted_turn K ys before after same (done_from (world_of d K ys next) before after did)

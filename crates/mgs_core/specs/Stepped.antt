@@ -1,5 +1,5 @@
 -- What a byte makes of a session by itself, and what it asks for beside.
-use Rattle.std.specs.Prelude.{◌≡◌, ◌≤◌, ◌+◌, ◌==◌, nat_lt, ℕ, Bool, true, false, List, [], Option, None, Some, length, ◌||◌, if◌then◌else◌, cond, is_some, not}
+use Rattle.std.specs.Prelude.{◌≡◌, ◌≤◌, ◌<◌, ◌+◌, ◌==◌, nat_lt, ℕ, Bool, true, false, List, [], Option, None, Some, length, ◌||◌, if◌then◌else◌, cond, is_some, not}
 use Rattle.std.specs.List.{flat_map}
 use Rattle.mgs_model.specs.Access.{Directory}
 use Rattle.mgs_model.specs.World as model
@@ -7,18 +7,19 @@ use Rattle.mgs_model.specs.World.{World, Buffer, Todo}
 use Rattle.mgs_model.specs.View.{View}
 use Rattle.mgs_model.specs.Outcome.{Act, Run, Unbound}
 use Rattle.mgs_model.specs.Apply.{searches}
-use Rattle.mgs_model.specs.Acts.{fails, outcome}
+use Rattle.mgs_model.specs.Acts.{fails, outcome, without_all}
 use Rattle.mgs_model.specs.Plans.{count_of, failed_own, kind_failed}
-use Rattle.mgs_model.specs.Turns.{Turn, Keep, Do, answered, first_played, names_commands, todo_turn}
-use Rattle.mgs_model.specs.Events.{act_effects, refused_own, saved_by}
+use Rattle.mgs_model.specs.Turns.{Turn, Keep, Do, answered, first_played, todo_turn}
+use Rattle.mgs_model.specs.Events.{act_effects, refused_own, saved_by, with_own}
 use Rattle.mgs_model.specs.declared.message.Message.{Message}
-use Rattle.mgs_model.specs.declared.message.Message.TheVariants.{InMacro, NoMacro, NoMemory, NoSuchCommand, TooMany}
+use Rattle.mgs_model.specs.declared.message.Message.TheVariants.{InMacro, NoMacro, NoMemory, NoSuchCommand, Silent, TooMany}
 use Rattle.mgs_model.specs.declared.session.Command.{Command}
-use Rattle.mgs_model.specs.declared.session.Command.TheVariants.{LeaveSearch, Move, Set, Exit}
+use Rattle.mgs_model.specs.declared.session.Command.TheVariants.{Alter, LeaveSearch, Move, Set, Exit}
 use Rattle.mgs_model.specs.declared.session.Mode.{Mode}
-use Rattle.mgs_model.specs.declared.session.Mode.TheVariants.{Searching}
-use Rattle.mgs_model.specs.declared.session.Motion.TheVariants.{SearchOn}
-use Rattle.mgs_model.specs.declared.search.Direction.{Direction}
+use Rattle.mgs_model.specs.declared.session.Mode.TheVariants.{Prompt, Searching}
+use Rattle.mgs_model.specs.declared.session.Motion.TheVariants.{SearchOn, SkipMatch, StartReplace}
+use Rattle.mgs_model.specs.declared.session.Question.{Question}
+use Rattle.mgs_model.specs.declared.session.Question.TheVariants.{RunWhich, ReplaceWhat, ReplaceWith}
 use Rattle.mgs_model.specs.declared.search.SearchStep.{SearchStep}
 use Rattle.mgs_model.specs.declared.session.Setting.TheVariants.{CallMacro}
 use Rattle.mgs_model.specs.declared.session.Kind.{Kind}
@@ -27,26 +28,34 @@ use Rattle.mgs_model.specs.declared.limits.TheConstants.{REPETITION_LIMIT}
 use Rattle.mgs_model.specs.Completion.{granted_names, shown_names}
 use Rattle.mgs_model.specs.Commands.{find_command}
 use Rattle.mgs_model.specs.Keys.{value_of}
-use Rattle.mgs_mini.specs.Typing.{PromptInput, is_asked}
-use Rattle.mgs_maps.specs.Held.{is_bound}
+use Rattle.mgs_mini.specs.Typing.{PromptInput}
+use Rattle.mgs_mini.specs.declared.Waiting.TheVariants.{NoKey}
+use Rattle.mgs_maps.specs.Held.{is_bound, nothing_held}
 use Rattle.mgs_buffers.specs.MarkedBuffer.{MarkedBuffer}
-use Rattle.mgs_act.specs.Actions.{act_of}
+use Rattle.mgs_act.specs.Actions.{act_of, is_answered}
+use Rattle.mgs_act.specs.Replacing.{replacement, replacing_own}
 use Rattle.mgs_act.specs.Searching.{meant}
 use Rattle.mgs_session.specs.declared.Own.{Own}
 use Rattle.mgs_session.specs.declared.Session.{Session}
+use Rattle.mgs_session.specs.declared.search.Aim.{Aim}
+use Rattle.mgs_session.specs.declared.search.Aim.TheVariants.{Find, Replace}
+use Rattle.mgs_session.specs.declared.search.Replacing.{Replacing}
 use Rattle.mgs_session.specs.declared.search.Search.{Search}
-use Rattle.mgs_session.specs.Playing.{Playing, are_played}
-use Rattle.mgs_session.specs.Sessions.{acted, failed, macro_called, playing_as, resting, told}
-use Rattle.mgs_world.specs.Worlds.{buffers_of, idle, input_in, keys_in, mode_in, own_of, search_of}
+use Rattle.mgs_model.specs.Searching.{Sought}
+use Rattle.mgs_session.specs.Playing.{Playing, are_behind, are_played}
+use Rattle.mgs_session.specs.Sessions.{acted, failed, macro_called, playing_as, prompting, resting, told}
+use Rattle.mgs_world.specs.Worlds.{buffers_of, count_in, idle, input_in, keys_in, mode_in, old_in, own_of, search_of}
 use Rattle.mgs_core.specs.declared.deeds.Deed.{Deed}
 use Rattle.mgs_core.specs.declared.deeds.Deed.TheVariants as deeds
 use Rattle.mgs_core.specs.declared.deeds.Before.{Before}
 use Rattle.mgs_core.specs.declared.deeds.Before.TheVariants as befores
 use Rattle.mgs_core.specs.declared.keying.ByteStep.{ByteStep}
 use Rattle.mgs_core.specs.declared.keying.ByteStep.TheVariants.{Kept, Failed, Ends, Acts}
+use Rattle.mgs_core.specs.declared.typing.ReplaceKey.{ReplaceKey}
+use Rattle.mgs_core.specs.declared.typing.ReplaceKey.TheVariants as keys
 use Rattle.mgs_core.specs.Prompted.{own_turn}
-use Rattle.mgs_core.specs.Steps.{command_act, is_acted, started_by, started_own}
-use Rattle.mgs_core.specs.Turned.{IsLess, IsWithin, is_played, weight}
+use Rattle.mgs_core.specs.Steps.{command_act, is_acted, started_by, started_own, started_world}
+use Rattle.mgs_core.specs.Turned.{IsFit, IsWithin, has_all, is_played, is_quiet, weight}
 
 -- A DEED
 
@@ -61,111 +70,191 @@ deed_act own (deeds.Act a b) = act_of a
 deed_act own (deeds.Answer p n) = Run (answered p.question) n (meant p.question own.pattern p.input)
 deed_act own (deeds.Seek step) = seek_act own.mode step own.input
 deed_act own deeds.QuitSearch = Run LeaveSearch None []
+deed_act own (deeds.StartReplacing pattern put) = Run (Move StartReplace) None put
+deed_act own (deeds.Replace last) = Run (Alter (replacement last)) None own.input
+deed_act own deeds.Skip = Run (Move SkipMatch) None own.input
 
--- the direction of a search that it starts
-abbrev pub deed_started : Deed → Option Direction
-deed_started (deeds.Act a b) = started_by a
-deed_started (deeds.Answer p n) = None
-deed_started (deeds.Seek step) = None
-deed_started deeds.QuitSearch = None
+-- the record with which it is decided, and the world in which it is: what begins has its mode
+abbrev pub deed_own : Deed → model.Own → model.Own
+deed_own (deeds.Act a b) own = started_own (started_by a) own
+deed_own (deeds.Answer p n) own = own
+deed_own (deeds.Seek step) own = own
+deed_own deeds.QuitSearch own = own
+deed_own (deeds.StartReplacing pattern put) own = replacing_own pattern put own
+deed_own (deeds.Replace last) own = own
+deed_own deeds.Skip own = own
+
+abbrev pub deed_world : Deed → ℕ → World → World
+deed_world (deeds.Act a b) id w = started_world (started_by a) id w
+deed_world (deeds.Answer p n) id w = w
+deed_world (deeds.Seek step) id w = w
+deed_world deeds.QuitSearch id w = w
+deed_world (deeds.StartReplacing pattern put) id w = with_own id (replacing_own pattern put) w
+deed_world (deeds.Replace last) id w = w
+deed_world deeds.Skip id w = w
+
+-- a query-replace begins, or replaces a match
+abbrev pub starts_replacing : Deed → Bool
+starts_replacing (deeds.StartReplacing pattern put) = true
+starts_replacing _ = false
+
+abbrev pub is_replacement : Deed → Bool
+is_replacement (deeds.Replace last) = true
+is_replacement _ = false
+
+-- what a search is for
+abbrev pub finds : Aim → Bool
+finds (Find s) = true
+finds (Replace r) = false
+
+abbrev pub is_finding : Option Search → Bool
+is_finding None = false
+is_finding (Some s) = finds s.aim
+
+abbrev pub is_replacing : Option Search → Bool
+is_replacing None = false
+is_replacing (Some s) = not (finds s.aim)
 
 -- a session with this search that holds this can begin with it: it is at rest, or searches
 abbrev pub IsReady : Deed → Option Search → model.Own → Type 0
 IsReady (deeds.Act a b) s own = own ≡ idle own
 IsReady (deeds.Answer p n) s own = own ≡ idle own
-IsReady (deeds.Seek step) s own = is_some s ≡ true
+IsReady (deeds.Seek step) s own = is_finding s ≡ true
 IsReady deeds.QuitSearch s own = Unit {0}
+IsReady (deeds.StartReplacing pattern put) s own = own ≡ idle own
+IsReady (deeds.Replace last) s own = is_replacing s ≡ true
+IsReady deeds.Skip s own = is_replacing s ≡ true
 
--- the server does it: an answer names no command
+-- the server does it: an answer is for a command of its own
 abbrev pub CanDo : Deed → Type 0
 CanDo (deeds.Act a b) = is_acted a ≡ true
-CanDo (deeds.Answer p n) = names_commands p.question ≡ false
-CanDo (deeds.Seek step) = Unit {0}
-CanDo deeds.QuitSearch = Unit {0}
+CanDo (deeds.Answer p n) = is_answered p.question ≡ true
+CanDo _ = Unit {0}
 
-abbrev pub is_deed_asked : Deed → Bool
-is_deed_asked (deeds.Act a b) = true
-is_deed_asked (deeds.Answer p n) = is_asked p.question
-is_deed_asked (deeds.Seek step) = true
-is_deed_asked deeds.QuitSearch = true
-
--- no step of a search takes memory
+-- no step of a search takes memory but a replacement
 abbrev pub may_want_memory : Deed → Bool
 may_want_memory (deeds.Act a b) = not (is_some (started_by a))
 may_want_memory (deeds.Answer p n) = true
 may_want_memory (deeds.Seek step) = false
 may_want_memory deeds.QuitSearch = false
+may_want_memory (deeds.StartReplacing pattern put) = false
+may_want_memory (deeds.Replace last) = true
+may_want_memory deeds.Skip = false
 
 -- WHAT WAS THERE BEFORE IT
 
 abbrev pub before_of : Deed → Before
 before_of (deeds.Act a b) = b
 before_of (deeds.Answer p n) = befores.Prompt p
-before_of (deeds.Seek step) = befores.Plain
-before_of deeds.QuitSearch = befores.Plain
+before_of (deeds.Replace last) = befores.Held
+before_of _ = befores.Plain
 
-abbrev pub prompt_before : Before → Option PromptInput
-prompt_before befores.Plain = None
-prompt_before (befores.Prompt p) = Some p
-prompt_before (befores.Search s last) = None
+-- what a session has of it that holds this
+abbrev pub prompt_before : Before → Option PromptInput → Option PromptInput
+prompt_before befores.Plain p = None
+prompt_before (befores.Prompt q) p = Some q
+prompt_before (befores.Search s last) p = None
+prompt_before befores.Held p = p
 
-abbrev pub search_before : Before → Option Search
-search_before befores.Plain = None
-search_before (befores.Prompt p) = None
-search_before (befores.Search s last) = Some s
+abbrev pub search_before : Before → Option Search → Option Search
+search_before befores.Plain s = None
+search_before (befores.Prompt p) s = None
+search_before (befores.Search t last) s = Some t
+search_before befores.Held s = s
 
 abbrev pub pattern_before : Before → List ℕ → List ℕ
-pattern_before befores.Plain pattern = pattern
-pattern_before (befores.Prompt p) pattern = pattern
 pattern_before (befores.Search s last) pattern = last
+pattern_before _ pattern = pattern
 
--- it is there again in a session that is at rest
+-- nothing is half read, and it is there again
 abbrev pub own_before : Before → Own → Own
-own_before befores.Plain own = own
-own_before (befores.Prompt p) own = record own { prompt = Some p }
-own_before (befores.Search s last) own = record own { search = Some s; pattern = last }
+own_before b own =
+    record own {
+      echo = Silent;
+      keyboard = nothing_held;
+      search = search_before b own.search;
+      prompt = prompt_before b own.prompt;
+      pattern = pattern_before b own.pattern;
+    }
 
 -- MEMORY IS REFUSED to a deed: the session is told so, has nothing more to do, and what was there before is there again, with the last
 -- command's kind and the macro's play as they were
 
 abbrev pub refused : Before → Kind → Bool → Session → Session
 refused b k playing x =
-    let y : Session = resting x in
-    let again : Session = record y { own = own_before b y.own } in
+    let again : Session = record x { own = own_before b x.own } in
     let z : Session = acted k again in
     playing_as (record { playing = playing; todo = [] }) (told NoMemory z)
 
-abbrev pub refused_again : Before → Kind → Bool → model.Own → model.Own
-refused_again b k playing own =
+-- no key is half read but at a prompt, which has its own
+abbrev pub keys_left : Mode → List ℕ → List ℕ
+keys_left (Prompt c) keys = keys
+keys_left _ keys = []
+
+abbrev pub keys_again : Before → Mode → List ℕ → List ℕ
+keys_again befores.Plain m keys = keys_in None [] None
+keys_again (befores.Prompt p) m keys = keys_in None [] (Some p)
+keys_again (befores.Search s last) m keys = keys_in (Some s) [] None
+keys_again befores.Held m keys = keys_left m keys
+
+abbrev pub mode_again : Before → Mode → Mode
+mode_again befores.Plain m = mode_in None None
+mode_again (befores.Prompt p) m = mode_in None (Some p)
+mode_again (befores.Search s last) m = mode_in (Some s) None
+mode_again befores.Held m = m
+
+abbrev pub input_again : Before → List ℕ → List ℕ
+input_again befores.Plain input = input_in None None
+input_again (befores.Prompt p) input = input_in None (Some p)
+input_again (befores.Search s last) input = input_in (Some s) None
+input_again befores.Held input = input
+
+abbrev pub old_again : Before → List ℕ → List ℕ
+old_again befores.Plain old = old_in None None
+old_again (befores.Prompt p) old = old_in None (Some p)
+old_again (befores.Search s last) old = old_in (Some s) None
+old_again befores.Held old = old
+
+abbrev pub count_again : Before → ℕ → ℕ
+count_again (befores.Search s last) count = count_in (Some s)
+count_again befores.Held count = count
+count_again _ count = 0
+
+-- the same of what the model's session holds, and of its search over these texts
+abbrev pub own_again : Before → model.Own → model.Own
+own_again b own =
     record own {
-      echo = NoMemory;
       pattern = pattern_before b own.pattern;
-      argument = None;
-      keys = keys_in (search_before b) [] (prompt_before b);
-      kind = k;
-      mode = mode_in (search_before b) (prompt_before b);
-      input = input_in (search_before b) (prompt_before b);
-      playing = playing;
-      todo = [];
-      old = [];
-      count = 0;
+      keys = keys_again b own.mode own.keys;
+      mode = mode_again b own.mode;
+      input = input_again b own.input;
+      old = old_again b own.old;
+      count = count_again b own.count;
     }
 
--- the same of the model's session, over these texts
+abbrev pub refused_again : Before → Kind → Bool → model.Own → model.Own
+refused_again b k playing own = record (own_again b own) { echo = NoMemory; argument = None; kind = k; playing = playing; todo = [] }
+
+abbrev pub search_again : List Buffer → Before → Option model.Search → Option model.Search
+search_again bs (befores.Search s last) old = search_of bs (Some s)
+search_again bs befores.Held old = old
+search_again bs _ old = None
+
 abbrev pub put_back : List Buffer → Before → Kind → Bool → model.Session → model.Session
-put_back bs b k playing x = record x { search = search_of bs (search_before b); own = refused_again b k playing x.own }
+put_back bs b k playing x = record x { search = search_again bs b x.search; own = refused_again b k playing x.own }
 
 -- WHAT IS LEFT TO DO
 
--- a byte of a macro leaves no more, and one that was typed leaves what a macro has at most
+-- a byte of a macro leaves no more but all further replacements, and one that was typed leaves what a macro has at most
 pub record IsLeft (old : Playing) (todo : List Todo) : Type 0 where
-  pub played : old.playing ≡ true → (n : ℕ) → IsWithin n old.todo → IsWithin n todo
-  pub typed : old.playing ≡ false → IsWithin 51201 todo
-  pub all : are_played old.todo ≡ true → old.playing ≡ true → are_played todo ≡ true
+  pub played : old.playing ≡ true → (n : ℕ) → IsWithin n old.todo → IsWithin (1048577 + n) todo
+  pub typed : old.playing ≡ false → IsWithin 53689341957 todo
+  pub behind : old.playing ≡ true → are_behind todo ≡ true
 
--- nothing is to be done behind a byte that was typed
-abbrev pub IsAlone : Playing → Type 0
-IsAlone p = p.playing ≡ false → p.todo ≡ []
+-- nothing is to be done behind a byte that was typed, and all of a macro behind one of its bytes
+pub record IsAlone (p : Playing) : Type 0 where
+  pub typed : p.playing ≡ false → p.todo ≡ []
+  pub played : are_played p.todo ≡ true
 
 -- a search that goes on has the positions that it had, in any texts
 abbrev pub SearchStays : Own → Own → Type 0
@@ -179,6 +268,7 @@ pub record StepKept (Sees : View → Type 0) (comes : View → Turn) (Left : Lis
   pub stays : SearchStays old.own new.own
   pub turn : (v : View) → Sees v → comes v ≡ Keep (own_of new.own)
   pub left : Left new.own.player.todo
+  pub fit : IsFit (own_of new.own)
 
 -- what comes next is an act that fails, which breaks a run of commands
 pub record StepFailed (Sees : View → Type 0) (comes : View → Turn) (plays : Bool) (old new : Session) : Type 0 where
@@ -210,12 +300,14 @@ pub record StepActs (Sees : View → Type 0) (comes : View → Turn) (plays : Bo
   pub stays : SearchStays old.own new.own
   pub ready : IsReady deed new.own.search (own_of new.own)
   pub here : CanDo deed
-  pub turn : is_deed_asked deed ≡ true → (v : View) → Sees v → comes v ≡ Do (started_own (deed_started deed) (own_of new.own)) (deed_act (own_of new.own) deed)
-  pub playing : new.own.player.playing ≡ plays
+  pub turn : (v : View) → Sees v → comes v ≡ Do (deed_own deed (own_of new.own)) (deed_act (own_of new.own) deed)
+  pub playing : plays ≡ true → is_quiet new.own.player.playing (deed_act (own_of new.own) deed) ≡ true
   pub typed : plays ≡ false → new.own.player.todo ≡ []
   pub left : Left new.own.player.todo
   pub again : may_want_memory deed ≡ true → refused_again (before_of deed) old.own.kind old.own.player.playing (own_of new.own) ≡ refused_own (own_of old.own)
-  pub search : may_want_memory deed ≡ true → search_before (before_of deed) ≡ old.own.search
+  pub search : may_want_memory deed ≡ true → search_before (before_of deed) new.own.search ≡ old.own.search
+  pub fit : IsFit (own_of new.own)
+  pub begins : starts_replacing deed ≡ true → old.own.search ≡ None
 
 abbrev pub IsStep : (View → Type 0) → (View → Turn) → Bool → (List Todo → Type 0) → Session → Session → ByteStep → Type 0
 IsStep Sees comes playing Left old new Kept = StepKept Sees comes Left old new
@@ -233,14 +325,24 @@ IsByteStep directory ks old new byte step =
     IsStep (SeesNames directory ks old.user) (λ v. own_turn v old.own byte) old.own.player.playing (IsLeft old.own.player) old new step
 
 -- A TURN
+abbrev pub replaces : ByteStep → Bool
+replaces (Acts deed) = is_replacement deed
+replaces _ = false
+
+-- less is left, or all further replacements go on by one
+pub record TurnLeft (replaces : Bool) (old new : List Todo) : Type 0 where
+  pub played : is_played new ≡ true
+  pub less : has_all old ≡ false → weight 1048576 new < weight 1048576 old
+  pub same : has_all old ≡ true → (replaces ≡ true) × (new ≡ old) × (has_all (without_all old) ≡ false)
+
 abbrev pub IsTurnStep : Directory → List MarkedBuffer → Session → Session → ByteStep → Type 0
 IsTurnStep directory ks old new step =
-    IsStep (SeesNames directory ks old.user) (λ v. todo_turn v (own_of old.own) old.own.player.todo) (is_played old.own.player.todo) (IsLess old.own.player.todo) old new step
+    IsStep (SeesNames directory ks old.user) (λ v. todo_turn v (own_of old.own) old.own.player.todo) (is_played old.own.player.todo) (TurnLeft (replaces step) old.own.player.todo) old new step
 
 -- the first act of a play, or none of it
 abbrev pub IsFirstStep : Directory → List MarkedBuffer → model.Own → Session → Session → ℕ → ByteStep → Type 0
 IsFirstStep directory ks own old new byte step =
-    IsStep (SeesNames directory ks old.user) (λ v. first_played own (own_turn v old.own byte)) true (IsWithin (1 + weight old.own.player.todo)) old new step
+    IsStep (SeesNames directory ks old.user) (λ v. first_played own (own_turn v old.own byte)) true (IsWithin (1048578 + weight 1048576 old.own.player.todo)) old new step
 
 -- A COMMAND of a session at rest
 
@@ -282,16 +384,12 @@ IsCommandStep old new c n b Kept = (is_call c ≡ true) × MacroPlayed old new n
 IsCommandStep old new c n b Failed = CommandFailed old new c n
 IsCommandStep old new c n b Ends = (is_exit c ≡ true) × (old.own.player.playing ≡ false) × (new ≡ old)
 IsCommandStep old new c n b (Acts (deeds.Act a e)) = (is_exit c ≡ false) × (is_call c ≡ false) × (a ≡ command_act c n) × (e ≡ b) × (new ≡ old)
-IsCommandStep old new c n b (Acts (deeds.Answer q m)) = ⊥
-IsCommandStep old new c n b (Acts (deeds.Seek step)) = ⊥
-IsCommandStep old new c n b (Acts deeds.QuitSearch) = ⊥
+IsCommandStep old new c n b (Acts _) = ⊥
 
 -- a step of a key asks for no deed but an act
 abbrev pub is_act : Deed → Bool
 is_act (deeds.Act a b) = true
-is_act (deeds.Answer p n) = false
-is_act (deeds.Seek step) = false
-is_act deeds.QuitSearch = false
+is_act _ = false
 
 abbrev pub is_keyed : ByteStep → Bool
 is_keyed Kept = true
@@ -302,9 +400,7 @@ is_keyed (Acts deed) = is_act deed
 -- such a step, before which a search went on
 abbrev pub deed_from : Search → List ℕ → Deed → Deed
 deed_from s last (deeds.Act a b) = deeds.Act a (befores.Search s last)
-deed_from s last (deeds.Answer p n) = deeds.Answer p n
-deed_from s last (deeds.Seek step) = deeds.Seek step
-deed_from s last deeds.QuitSearch = deeds.QuitSearch
+deed_from s last deed = deed
 
 abbrev pub step_from_search : Search → List ℕ → ByteStep → ByteStep
 step_from_search s last Kept = Kept
@@ -318,9 +414,42 @@ abbrev pub IsNamedStep : Session → Session → PromptInput → Option Command 
 IsNamedStep old new p None step = (step ≡ Kept) × (new ≡ failed NoSuchCommand old)
 IsNamedStep old new p (Some c) step = (is_bound c ≡ true) × IsCommandStep (resting old) new c (value_of old.own.keyboard.argument) (befores.Prompt p) step
 
-abbrev pub IsReplyStep : Bool → Session → Session → PromptInput → ByteStep → Type 0
-IsReplyStep true old new p step = IsNamedStep old new p (find_command p.input) step
-IsReplyStep false old new p step = (step ≡ Acts (deeds.Answer p (value_of old.own.keyboard.argument))) × (new ≡ resting old)
+-- the second question is asked, where the first was answered so
+abbrev pub second_input : List ℕ → PromptInput
+second_input first = record { question = ReplaceWith; first = first; input = []; waiting = NoKey }
+
+-- there is a first answer beside the second question alone
+abbrev pub IsFirst : Question → List ℕ → Type 0
+IsFirst ReplaceWith first = Unit {0}
+IsFirst _ first = first ≡ []
+
+abbrev pub IsAskedStep : Session → Session → PromptInput → ByteStep → Type 0
+IsAskedStep old new p step = (step ≡ Acts (deeds.Answer p (value_of old.own.keyboard.argument))) × (new ≡ resting old)
+
+abbrev pub IsReplyStep : Question → Session → Session → PromptInput → ByteStep → Type 0
+IsReplyStep RunWhich old new p step = IsNamedStep old new p (find_command p.input) step
+IsReplyStep ReplaceWhat old new p step = (step ≡ Kept) × (new ≡ prompting (second_input p.input) old)
+IsReplyStep ReplaceWith old new p step = (step ≡ Acts (deeds.StartReplacing p.first p.input)) × (new ≡ resting old)
+IsReplyStep _ old new p step = IsAskedStep old new p step
 
 abbrev pub IsAnswerStep : Session → Session → PromptInput → ByteStep → Type 0
-IsAnswerStep old new p step = IsReplyStep (names_commands p.question) old new p step
+IsAnswerStep old new p step = IsReplyStep p.question old new p step
+
+-- A BYTE OF A QUERY-REPLACE
+
+abbrev pub replace_key : ℕ → ReplaceKey
+replace_key byte =
+    if (byte == 121) || (byte == 32) then keys.Replaces
+    else if byte == 46 then keys.ReplacesLast
+    else if (byte == 110) || (byte == 127) then keys.Skips
+    else if byte == 33 then keys.ReplacesAll
+    else if (byte == 113) || (byte == 13) then keys.Ends
+    else if byte == 7 then keys.Quits
+    else keys.Other
+
+-- a search by its parts
+abbrev pub finding : List ℕ → ℕ → ℕ → Sought → Search
+finding name origin anchor f = record { name = name; origin = origin; anchor = anchor; aim = Find f }
+
+abbrev pub replacing_at : List ℕ → ℕ → ℕ → Replacing → Search
+replacing_at name origin anchor r = record { name = name; origin = origin; anchor = anchor; aim = Replace r }

@@ -1,5 +1,5 @@
 -- One turn of an event: of what a session has still to do, the next is done.
-use Rattle.std.specs.Prelude.{◌≡◌, ◌≤◌, ◌<◌, IsSome, ℕ, ◌+◌, Bool, true, false, not, List, [], ◌∷◌, Option, Some, None, cond}
+use Rattle.std.specs.Prelude.{◌≡◌, ◌≤◌, ◌<◌, IsSome, ℕ, ◌+◌, Bool, true, false, not, ◌||◌, List, [], ◌∷◌, length, Option, Some, None, cond}
 use Rattle.mgs_model.specs.World.{World, Session, Own, Todo, Typed, Played, Replace_all, Play, find_session, has_id}
 use Rattle.mgs_model.specs.Outcome.{Act, Run}
 use Rattle.mgs_model.specs.Apply.{change_first, outcome_in}
@@ -10,19 +10,33 @@ use Rattle.mgs_model.specs.declared.touched.Touched.{Touched}
 use Rattle.mgs_model.specs.declared.touched.Touched.TheVariants.{Nowhere, In, Anywhere}
 use Rattle.mgs_model.specs.declared.errors.Keyed.{Keyed}
 use Rattle.mgs_model.specs.declared.errors.Keyed.TheVariants as keyed
-use Rattle.mgs_model.specs.declared.search.Direction.{Direction}
-use Rattle.mgs_model.specs.declared.session.Command.TheVariants.{Exit}
+use Rattle.mgs_model.specs.declared.session.Command.TheVariants.{Exit, SaveBuffer}
+use Rattle.mgs_model.specs.declared.session.Mode.TheVariants.{Replacing}
 use Rattle.mgs_store.specs.Stores.{StoreTold}
 use Rattle.mgs_session.specs.Playing.{is_nothing}
-use Rattle.mgs_core.specs.Steps.{ActedBy, KeyedBy, closed, started_world}
+use Rattle.mgs_core.specs.Steps.{ActedBy, KeyedBy, closed}
 
--- A MEASURE of what is to be done: a byte that was typed may call for all that can be played, 100 times 512 bytes and their begin
-abbrev pub weight : List Todo → ℕ
-weight [] = 0
-weight (Typed byte ∷ todo) = 51202 + weight todo
-weight (Played byte ∷ todo) = 1 + weight todo
-weight (Replace_all ∷ todo) = 1 + weight todo
-weight (Play ∷ todo) = 1 + weight todo
+-- A MEASURE of what is to be done, where so many characters are left of the text that is replaced in: a further replacement leaves fewer of
+-- them, a byte of a macro may call for all further ones, of at most 1,048,576 characters, and a byte that was typed for all that can be
+-- played, 100 times 512 bytes and their begin
+abbrev pub weight : ℕ → List Todo → ℕ
+weight n [] = 0
+weight n (Typed byte ∷ todo) = 53689341958 + weight n todo
+weight n (Played byte ∷ todo) = 1048579 + weight n todo
+weight n (Replace_all ∷ todo) = 1 + n + weight n todo
+weight n (Play ∷ todo) = 1 + weight n todo
+
+-- further replacements are to be done
+abbrev pub has_all : List Todo → Bool
+has_all [] = false
+has_all (Typed byte ∷ todo) = has_all todo
+has_all (Played byte ∷ todo) = has_all todo
+has_all (Replace_all ∷ todo) = true
+has_all (Play ∷ todo) = has_all todo
+
+-- they are those of a query-replace that replaces something
+abbrev pub IsFit : Own → Type 0
+IsFit own = has_all own.todo ≡ true → (own.mode ≡ Replacing) × (0 < length own.old)
 
 -- nothing of it was typed
 abbrev pub is_played : List Todo → Bool
@@ -34,17 +48,25 @@ is_played (Play ∷ todo) = is_played todo
 
 -- no more than this is to be done, and nothing of it was typed
 abbrev pub IsWithin : ℕ → List Todo → Type 0
-IsWithin n todo = (weight todo ≤ n) × (is_played todo ≡ true)
+IsWithin n todo = (weight 1048576 todo ≤ n) × (is_played todo ≡ true)
 
 -- what a turn is that goes on: the own record alone changes, or an act
 abbrev pub turn_to : Own → Option Act → Turn
 turn_to own None = Keep own
 turn_to own (Some c) = Do own c
 
+-- an act saves nothing where a macro plays, and only a save saves
+abbrev pub asks : Act → Bool
+asks (Run SaveBuffer n typed) = true
+asks _ = false
+
+abbrev pub is_quiet : Bool → Act → Bool
+is_quiet playing c = playing || not (asks c)
+
 -- an act of a byte that was typed leaves nothing to do
 abbrev pub IsTurnDone : Bool → List Todo → Own → Option Act → World → World → StoreTold → StoreTold → ℕ → Type 0
 IsTurnDone playing left own None old new before after id = (new ≡ with_own id (λ was. own) old) × (after ≡ before)
-IsTurnDone playing left own (Some c) old new before after id = (own.playing ≡ playing) × (playing ≡ false → left ≡ []) × ActedBy (with_own id (λ was. own) old) new before after id c
+IsTurnDone playing left own (Some c) old new before after id = (playing ≡ true → is_quiet own.playing c ≡ true) × (playing ≡ false → left ≡ []) × ActedBy (with_own id (λ was. own) old) new before after id c
 
 -- IT IS DONE, of a byte that was typed or that a macro plays, and this is left
 pub record TurnDone (playing : Bool) (left : List Todo) (old new : World) (before after : StoreTold) (id : ℕ) : Type 0 where
@@ -78,23 +100,23 @@ TurnedBy playing left old new before after id keyed.Short = TurnRefused old new 
 TurnedBy playing left old new before after id keyed.Quit = TurnEnds playing old new before after id
 TurnedBy playing left old new before after id keyed.NoSession = ⊥
 
--- A DEED, which is this act: it is done, which may start a search in this direction; or memory was refused to it, if it takes any, and this is
--- what is left of the session
+-- A DEED, which is this act: it is done, in the world in which it is decided; or memory was refused to it, if it takes any, and this is what is
+-- left of the session
 pub record DeedRefused (old new : World) (before after : StoreTold) (id : ℕ) (takes : Bool) (c : Act) (f : Session → Session) : Type 0 where
   pub wants : takes ≡ true
   pub told : new ≡ record old { sessions = change_first (has_id id) f old.sessions }
   pub may : may_be_refused (outcome_in old id c true) ≡ true
   pub accepted : after.accepted ≡ before.accepted
 
-abbrev pub DeedBy : World → World → StoreTold → StoreTold → ℕ → Option Direction → Bool → Act → (Session → Session) → Keyed → Type 0
-DeedBy old new before after id d takes c f keyed.Done = ActedBy (started_world d id old) new before after id c
-DeedBy old new before after id d takes c f keyed.Short = DeedRefused old new before after id takes c f
-DeedBy old new before after id d takes c f keyed.Quit = ⊥
-DeedBy old new before after id d takes c f keyed.NoSession = ⊥
+abbrev pub DeedBy : World → World → World → StoreTold → StoreTold → ℕ → Bool → Act → (Session → Session) → Keyed → Type 0
+DeedBy old begun new before after id takes c f keyed.Done = ActedBy begun new before after id c
+DeedBy old begun new before after id takes c f keyed.Short = DeedRefused old new before after id takes c f
+DeedBy old begun new before after id takes c f keyed.Quit = ⊥
+DeedBy old begun new before after id takes c f keyed.NoSession = ⊥
 
--- less is left than was, and nothing that was typed
-abbrev pub IsLess : List Todo → List Todo → Type 0
-IsLess old new = (weight new < weight old) × (is_played new ≡ true)
+-- less is left than was, and nothing that was typed, where so many characters were left and are
+abbrev pub IsLess : ℕ → ℕ → List Todo → List Todo → Type 0
+IsLess m n old new = (weight n new < weight m old) × (is_played new ≡ true)
 
 -- AN EVENT whose byte was to be done first, before it settles: the world that it leads to, and what is answered. A session that ends
 -- is to be taken out
@@ -113,9 +135,9 @@ touched_both (In name) Anywhere = Anywhere
 touched_both Anywhere t = Anywhere
 
 -- how much is left, where it goes on
-abbrev pub left_to_do : Keyed → List Todo → ℕ
-left_to_do keyed.Done todo = 1 + weight todo
-left_to_do _ todo = 0
+abbrev pub left_to_do : Keyed → ℕ → List Todo → ℕ
+left_to_do keyed.Done n todo = 1 + weight n todo
+left_to_do _ n todo = 0
 
 -- it goes on as long as something is left, and neither memory was refused nor the session ends
 abbrev pub goes_on : Keyed → List Todo → Bool

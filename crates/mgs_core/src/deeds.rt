@@ -1,18 +1,22 @@
 // What a byte asks for: the act of a key, or of the answer to a prompt.
-ghost use Rattle.std.specs.Prelude.{◌≡◌, ◌<◌, ℕ, Option, None, IfOk, IfErr, OnOk, OnErr, length, true};
+ghost use Rattle.std.specs.Prelude.{◌≡◌, ◌<◌, ℕ, Option, Some, None, IfOk, IfErr, OnOk, OnErr, length, true};
 ghost use Rattle.std.specs.List.{position_or_len};
 ghost use Rattle.mgs_model.specs.Apart.{Apart};
 ghost use Rattle.mgs_model.specs.Apply.{outcome_in};
 ghost use Rattle.mgs_model.specs.Events.{may_be_refused};
 ghost use Rattle.mgs_act.specs.Actions.{act_of};
 ghost use Rattle.mgs_act.specs.Beginning.{search_held};
+ghost use Rattle.mgs_act.specs.Replacing.{remaining_at};
+ghost use Rattle.mgs_session.specs.declared.search.Search.{Search};
 ghost use Rattle.mgs_store.specs.Stores.{store_told};
 ghost use Rattle.mgs_world.specs.Sound.{IsSound};
-ghost use Rattle.mgs_world.specs.Worlds.{idle, own_at, session_id, sizes_in, world_of};
+ghost use Rattle.mgs_world.specs.Worlds.{aim_old, idle, own_at, session_id, sizes_in, world_of};
 ghost use Rattle.mgs_core.specs.Steps.{ActedBy, asks_store, is_acted, is_plain_act, started_by, started_in_motion, started_world};
-ghost use Rattle.mgs_core.specs.Stepped.{CanDo, IsReady, before_of, deed_act, deed_started, is_deed_asked, may_want_memory};
+ghost use Rattle.mgs_core.specs.Stepped.{CanDo, IsReady, before_of, deed_act, deed_world, is_replacement, may_want_memory};
 
-use mgs_act::{KeyAct, act, answer, quit_search, save, search_on, start_search};
+use mgs_act::{
+    KeyAct, act, answer, quit_search, replace, save, search_on, skip, start_replacing, start_search,
+};
 use mgs_buffers::Buffers;
 use mgs_marks::Marked;
 use mgs_mini::Prompt;
@@ -31,6 +35,8 @@ pub enum Before {
     Prompt(Prompt),
     /// The search that a byte ended, and what had been searched for last.
     Search(Search, SearchString),
+    /// The search that the session still holds.
+    Held,
 }
 
 /// What is to be done for a byte by its session.
@@ -44,6 +50,12 @@ pub enum Deed {
     Seek(SearchStep),
     /// The session's search is quit.
     QuitSearch,
+    /// The first text is to be replaced by the second one. The session is at rest.
+    StartReplacing(SearchString, SearchString),
+    /// The match at which the session's query-replace stands is replaced. `true`: it is the last one.
+    Replace(bool),
+    /// That match stays as it is.
+    Skip,
 }
 
 /// Whether an act asks the store.
@@ -159,16 +171,16 @@ pub fn do_deed<T: Marked + Drop, S: Store>(
     requires within { at < length sessions.old }
     requires ready { IsReady deed (search_held at sessions.old) (own_at at sessions.old) }
     requires here { CanDo deed }
-    ensures asked { is_deed_asked deed ≡ true }
     ensures sound { IsSound buffers.new sessions.new }
     ensures sizes { sizes_in sessions.new ≡ sizes_in sessions.old }
-    ensures ok { OnOk result ((id : ℕ) (next : Option ℕ) → at ≡ position_or_len (session_id id) sessions.old → ActedBy (started_world (deed_started deed) id (world_of directory.now buffers.old sessions.old next)) (world_of directory.now buffers.new sessions.new next) (store_told S.failed S.accepted store.old) (store_told S.failed S.accepted store.new) id (deed_act (own_at at sessions.old) deed)) }
+    ensures ok { OnOk result ((id : ℕ) (next : Option ℕ) → at ≡ position_or_len (session_id id) sessions.old → ActedBy (deed_world deed id (world_of directory.now buffers.old sessions.old next)) (world_of directory.now buffers.new sessions.new next) (store_told S.failed S.accepted store.old) (store_told S.failed S.accepted store.new) id (deed_act (own_at at sessions.old) deed)) }
     ensures touched { IfOk result (λ touched. (id : ℕ) (next : Option ℕ) → at ≡ position_or_len (session_id id) sessions.old → Apart touched id (world_of directory.now buffers.old sessions.old next) (world_of directory.now buffers.new sessions.new next)) }
     ensures before { IfErr result (λ before. before ≡ before_of deed) }
     ensures wants { OnErr result (may_want_memory deed ≡ true) }
     ensures err { OnErr result ((next : Option ℕ) → world_of directory.now buffers.new sessions.new next ≡ world_of directory.now buffers.old sessions.old next) }
     ensures accepted { OnErr result (S.accepted store.new ≡ S.accepted store.old) }
     ensures may { OnErr result ((id : ℕ) (next : Option ℕ) → at ≡ position_or_len (session_id id) sessions.old → may_be_refused (outcome_in (world_of directory.now buffers.old sessions.old next) id (deed_act (own_at at sessions.old) deed) true) ≡ true) }
+    ensures further { OnOk result ((s t : Search) → is_replacement deed ≡ true → search_held at sessions.old ≡ Some s → search_held at sessions.new ≡ Some t → 0 < length (aim_old s.aim) → remaining_at at buffers.new sessions.new < remaining_at at buffers.old sessions.old) }
 {
     match deed {
         Deed::Act(done, before) => {
@@ -193,6 +205,18 @@ pub fn do_deed<T: Marked + Drop, S: Store>(
         }
         Deed::QuitSearch => {
             quit_search(buffers, sessions, at);
+            Ok(Touched::Nowhere)
+        }
+        Deed::StartReplacing(pattern, put) => {
+            start_replacing(buffers, directory, sessions, at, pattern, put);
+            Ok(Touched::Nowhere)
+        }
+        Deed::Replace(last) => match replace(buffers, directory, sessions, at, last) {
+            Ok(touched) => Ok(touched),
+            Err(Short) => Err(Before::Held),
+        },
+        Deed::Skip => {
+            skip(buffers, directory, sessions, at);
             Ok(Touched::Nowhere)
         }
     }

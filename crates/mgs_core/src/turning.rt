@@ -1,5 +1,5 @@
 // Of what a session has still to do in an event, one after another is done until nothing is left.
-ghost use Rattle.std.specs.Prelude.{◌≡◌, ◌<◌, ◌≤◌, ℕ, [], Option, length, true};
+ghost use Rattle.std.specs.Prelude.{◌≡◌, ◌<◌, ◌≤◌, ℕ, [], Option, Some, length, false, true};
 ghost use Rattle.std.specs.List.{position_or_len};
 ghost use Rattle.mgs_model.specs.Apart.{Apart};
 ghost use Rattle.mgs_model.specs.World as model;
@@ -8,23 +8,26 @@ ghost use Rattle.mgs_buffers.specs.Judging.{AreJudged, rules_kept};
 ghost use Rattle.mgs_session.specs.Playing.{are_played};
 ghost use Rattle.mgs_store.specs.Stores.{store_told};
 ghost use Rattle.mgs_act.specs.Beginning.{search_held};
+ghost use Rattle.mgs_act.specs.Replacing.{remaining_at};
+ghost use Rattle.mgs_session.specs.declared.search.Search.{Search};
 ghost use Rattle.mgs_world.specs.Sound.{IsSound};
-ghost use Rattle.mgs_world.specs.Worlds.{IsUnique, buffers_of, own_at, session_id, sizes_in, world_of};
+ghost use Rattle.mgs_world.specs.Worlds.{IsUnique, aim_old, buffers_of, own_at, own_of, session_id, sizes_in, world_of};
 ghost use Rattle.mgs_core.specs.Held.{AreSettled};
 ghost use Rattle.mgs_core.specs.Judged.{judged_touched};
-ghost use Rattle.mgs_core.specs.Stepped.{CanDo, IsFirstStep, IsReady, IsTurnStep, before_of, deed_act, deed_started, is_deed_asked, may_want_memory, own_before, put_back, refused};
+ghost use Rattle.mgs_core.specs.Stepped.{CanDo, IsFirstStep, IsReady, IsTurnStep, before_of, deed_act, deed_world, is_replacement, may_want_memory, own_before, put_back, refused};
 ghost use Rattle.mgs_core.specs.Steps.{TypedBy, closed};
-ghost use Rattle.mgs_core.specs.Turned.{DeedBy, EventBy, IsLess, TurnedBy, goes_on, is_played, touched_both, weight};
+ghost use Rattle.mgs_core.specs.Turned.{DeedBy, EventBy, IsFit, IsLess, TurnedBy, goes_on, has_all, is_played, touched_both, weight};
 
 use crate::deeds::{Before, Deed, do_deed};
 use crate::keying::ByteStep;
 use crate::typing::step_byte;
 use mgs_buffers::Buffers;
 use mgs_cache::Judge;
+use mgs_maps::Keyboard;
 use mgs_marks::Marked;
 use mgs_model::{Keyed, Kind, Message, SessionId, Touched};
 use mgs_policy::Directory;
-use mgs_session::{Session, Task, begin, break_off, next_task, rest, set_kind};
+use mgs_session::{Session, Task, begin, break_off, next_task, rest, set_echo, set_kind};
 use mgs_store::Store;
 use mgs_world::settle_apart;
 use std::alloc::Global;
@@ -88,6 +91,7 @@ fn next_step<T: Marked + Drop>(
 ) -> ByteStep
     requires judged { AreJudged directory.now (rules_kept buffers.now) judge.old }
     requires some { session.old.own.player.todo ≡ [] → ⊥ }
+    requires fit { IsFit (own_of session.old.own) }
     ensures step { IsTurnStep directory.now buffers.now session.old session.new result }
     ensures judged { AreJudged directory.now (rules_kept buffers.now) judge.new }
 {
@@ -99,20 +103,33 @@ fn next_step<T: Marked + Drop>(
             set_kind(session, Kind::Other);
             ByteStep::Kept
         }
+        Task::Replacement => ByteStep::Acts(Deed::Replace(false)),
+        Task::FirstReplacement => {
+            set_kind(session, Kind::Other);
+            ByteStep::Acts(Deed::Replace(false))
+        }
         Task::Nothing => ByteStep::Kept,
     }
 }
 
-/// What was there before an act is there again.
+/// What was there before an act is there again, with nothing half read.
 fn return_to(session: &mut Session, before: Before)
     ensures { session.new ≡ record session.old { own = own_before before session.old.own } }
 {
     match before {
-        Before::Plain => {}
-        Before::Prompt(prompt) => session.own.prompt = Some(prompt),
+        Before::Plain => rest(session),
+        Before::Prompt(prompt) => {
+            rest(session);
+            session.own.prompt = Some(prompt);
+        }
         Before::Search(search, last) => {
+            rest(session);
             session.own.search = Some(search);
             session.own.pattern = last;
+        }
+        Before::Held => {
+            set_echo(session, Message::Silent);
+            session.own.keyboard = Keyboard::new();
         }
     }
 }
@@ -122,7 +139,6 @@ fn return_to(session: &mut Session, before: Before)
 fn refuse(session: &mut Session, before: Before, kind: Kind, is_playing: bool)
     ensures { session.new ≡ refused before kind is_playing session.old }
 {
-    rest(session);
     return_to(session, before);
     set_kind(session, kind);
     session.own.player.set_playing(is_playing);
@@ -159,11 +175,11 @@ fn act_turn<T: Marked + Drop, S: Store>(
     requires ready { IsReady deed (search_held at sessions.old) (own_at at sessions.old) }
     requires here { CanDo deed }
     requires judged { AreJudged directory.now (rules_kept buffers.old) judge.old }
-    ensures asked { is_deed_asked deed ≡ true }
     ensures judged { AreJudged directory.now (rules_kept buffers.new) judge.new }
     ensures sound { IsSound buffers.new sessions.new }
     ensures sizes { sizes_in sessions.new ≡ sizes_in sessions.old }
-    ensures acted { (next : Option ℕ) → DeedBy (world_of directory.now buffers.old sessions.old next) (world_of directory.now buffers.new sessions.new next) (store_told S.failed S.accepted store.old) (store_told S.failed S.accepted store.new) id (deed_started deed) (may_want_memory deed) (deed_act (own_at at sessions.old) deed) (put_back (buffers_of buffers.old) (before_of deed) kind is_playing) result.0 }
+    ensures acted { (next : Option ℕ) → DeedBy (world_of directory.now buffers.old sessions.old next) (deed_world deed id (world_of directory.now buffers.old sessions.old next)) (world_of directory.now buffers.new sessions.new next) (store_told S.failed S.accepted store.old) (store_told S.failed S.accepted store.new) id (may_want_memory deed) (deed_act (own_at at sessions.old) deed) (put_back (buffers_of buffers.old) (before_of deed) kind is_playing) result.0 }
+    ensures further { result.0 ≡ Done → (s t : Search) → is_replacement deed ≡ true → search_held at sessions.old ≡ Some s → search_held at sessions.new ≡ Some t → 0 < length (aim_old s.aim) → remaining_at at buffers.new sessions.new < remaining_at at buffers.old sessions.old }
     ensures touched { (next : Option ℕ) → Apart result.1 id (world_of directory.now buffers.old sessions.old next) (world_of directory.now buffers.new sessions.new next) }
 {
     match do_deed(alloc, buffers, directory, sessions, at, store, deed) {
@@ -195,13 +211,17 @@ fn take_turn<T: Marked + Drop, S: Store>(
     requires within { at < length sessions.old }
     requires judged { AreJudged directory.now (rules_kept buffers.old) judge.old }
     requires some { (own_at at sessions.old).todo ≡ [] → ⊥ }
+    requires fit { IsFit (own_at at sessions.old) }
     ensures judged { AreJudged directory.now (rules_kept buffers.new) judge.new }
     ensures sound { IsSound buffers.new sessions.new }
     ensures sizes { sizes_in sessions.new ≡ sizes_in sessions.old }
-    ensures less { result.0 ≡ Done → IsLess (own_at at sessions.old).todo (own_at at sessions.new).todo }
+    ensures less { result.0 ≡ Done → IsLess (remaining_at at buffers.old sessions.old) (remaining_at at buffers.new sessions.new) (own_at at sessions.old).todo (own_at at sessions.new).todo }
+    ensures fit { result.0 ≡ Done → IsFit (own_at at sessions.new) }
     ensures turned { (next : Option ℕ) → TurnedBy (is_played (own_at at sessions.old).todo) (own_at at sessions.new).todo (world_of directory.now buffers.old sessions.old next) (world_of directory.now buffers.new sessions.new next) (store_told S.failed S.accepted store.old) (store_told S.failed S.accepted store.new) id result.0 }
     ensures touched { (next : Option ℕ) → Apart result.1 id (world_of directory.now buffers.old sessions.old next) (world_of directory.now buffers.new sessions.new next) }
 {
+    // Tells the prover that each text is within the limit.
+    let _count = buffers.len();
     let kind = sessions[at].own.kind;
     let is_playing = sessions[at].own.player.is_playing();
     match next_step(buffers, judge, directory, &mut sessions[at]) {
@@ -240,7 +260,8 @@ pub fn take_turns<T: Marked + Drop, S: Store>(
     requires place { at ≡ position_or_len (session_id id) sessions.old }
     requires within { at < length sessions.old }
     requires judged { AreJudged directory.now (rules_kept buffers.old) judge.old }
-    requires weight { weight (own_at at sessions.old).todo ≤ 51202 }
+    requires weight { weight 0 (own_at at sessions.old).todo ≤ 53689341958 }
+    requires none { has_all (own_at at sessions.old).todo ≡ false }
     ensures judged { AreJudged directory.now (rules_kept buffers.new) judge.new }
     ensures sound { IsSound buffers.new sessions.new }
     ensures sizes { sizes_in sessions.new ≡ sizes_in sessions.old }

@@ -1,5 +1,5 @@
 // A byte of a session: in a search and at a prompt it is typed, and else it is a key.
-ghost use Rattle.std.specs.Prelude.{◌≡◌, ◌≤◌, List, Option, IfSome, length};
+ghost use Rattle.std.specs.Prelude.{◌≡◌, ◌≤◌, ◌<◌, List, Option, IfSome, length, true};
 ghost use Rattle.std.specs.Option.{option_map};
 ghost use Rattle.mgs_model.specs.Access.{Directory};
 ghost use Rattle.mgs_model.specs.Searching.{read_byte};
@@ -10,10 +10,13 @@ ghost use Rattle.mgs_buffers.specs.Judging.{AreJudged, rules_kept};
 ghost use Rattle.mgs_buffers.specs.MarkedBuffer.{MarkedBuffer};
 ghost use Rattle.mgs_mini.specs.Typing as prompts;
 ghost use Rattle.mgs_session.specs.Seeking.{searching, unsearched};
-ghost use Rattle.mgs_session.specs.Sessions.{prompting};
+ghost use Rattle.mgs_session.specs.Playing.{are_played, replacing_all};
+ghost use Rattle.mgs_model.specs.Commands.{find_command};
+ghost use Rattle.mgs_model.specs.declared.message.Message.TheVariants.{Replaced, Silent};
+ghost use Rattle.mgs_session.specs.Sessions.{playing_as, prompting, told, unprompted};
 ghost use Rattle.mgs_world.specs.Worlds.{own_of};
 ghost use Rattle.mgs_core.specs.Prompted.{names_for};
-ghost use Rattle.mgs_core.specs.Stepped.{IsAlone, IsAnswerStep, IsByteStep, deed_from, step_from_search};
+ghost use Rattle.mgs_core.specs.Stepped.{IsAlone, IsAnswerStep, IsByteStep, IsFirst, IsNamedStep, deed_from, finding, replace_key, replacing_at, step_from_search};
 
 use crate::deeds::{Before, Deed};
 use crate::keying::{ByteStep, step_command, step_key};
@@ -22,12 +25,19 @@ use mgs_cache::Judge;
 use mgs_maps::{command_named, name_completion};
 use mgs_marks::Marked;
 use mgs_mini::{Prompt, Step};
-use mgs_model::{Message, Name, SearchStep};
+use mgs_model::{Message, Name, Question, SearchStep};
 use mgs_policy::Directory;
+use mgs_search::IncrementalSearch;
 use mgs_session::{
-    Search, SearchString, Session, fail, hold_prompt, hold_search, leave_search, rest, set_echo,
-    take_prompt, take_search,
+    Aim, Replacing, Search, SearchString, Session, fail, hold_prompt, hold_search, leave_search,
+    rest, set_echo, take_prompt, take_search,
 };
+
+const QUIT: u8 = 0x07;
+
+const RETURN: u8 = 0x0D;
+
+const DELETE: u8 = 0x7F;
 
 /// What the input of a prompt is completed to, where its answer names a buffer or a command. `None`: no name begins with it.
 fn completion_for<'a, T: Marked + Drop>(
@@ -82,20 +92,52 @@ fn complete<T: Marked + Drop>(
     hold_completed(session, prompt, completes);
 }
 
-/// What an answer comes to, whose prompt was taken out of the session.
-fn step_answer(session: &mut Session, prompt: Prompt) -> ByteStep
-    ensures { IsAnswerStep session.old session.new prompt result }
+/// What the name of a command comes to, whose prompt was taken out of the session.
+fn step_name(session: &mut Session, prompt: Prompt) -> ByteStep
+    ensures { IsNamedStep session.old session.new prompt (find_command prompt.input) result }
 {
     let argument = session.own.keyboard.argument();
-    rest(session);
-    if !prompt.names_command() {
-        return ByteStep::Acts(Deed::Answer(prompt, argument));
-    }
     let Some(command) = command_named(prompt.input()) else {
         fail(session, Message::NoSuchCommand);
         return ByteStep::Kept;
     };
+    rest(session);
     step_command(session, command, argument, Before::Prompt(prompt))
+}
+
+/// There is a first answer beside the second question alone. TODO: by the invariant of `Prompt`.
+fn has_first(prompt: &Prompt)
+    ensures { IsFirst prompt.now.question prompt.now.first }
+{}
+
+/// What an answer comes to, whose prompt was taken out of the session.
+fn step_answer(session: &mut Session, prompt: Prompt) -> ByteStep
+    ensures first { IsFirst prompt.question prompt.first }
+    ensures step { IsAnswerStep session.old session.new prompt result }
+{
+    has_first(&prompt);
+    match prompt.question() {
+        Question::RunWhich => step_name(session, prompt),
+        Question::ReplaceWhat => {
+            hold_prompt(
+                session,
+                Prompt::second(Question::ReplaceWith, prompt.input()),
+            );
+            ByteStep::Kept
+        }
+        Question::ReplaceWith => {
+            rest(session);
+            ByteStep::Acts(Deed::StartReplacing(
+                SearchString::typed(prompt.first()),
+                SearchString::typed(prompt.input()),
+            ))
+        }
+        _ => {
+            let argument = session.own.keyboard.argument();
+            rest(session);
+            ByteStep::Acts(Deed::Answer(prompt, argument))
+        }
+    }
 }
 
 /// What a byte comes to in a session that does not search.
@@ -139,9 +181,7 @@ fn deed_from(deed: Deed, search: Search, last: SearchString) -> Deed
 {
     match deed {
         Deed::Act(done, _) => Deed::Act(done, Before::Search(search, last)),
-        Deed::Answer(prompt, argument) => Deed::Answer(prompt, argument),
-        Deed::Seek(step) => Deed::Seek(step),
-        Deed::QuitSearch => Deed::QuitSearch,
+        _ => deed,
     }
 }
 
@@ -159,15 +199,207 @@ fn step_from(step: ByteStep, search: Search, last: SearchString) -> ByteStep
 
 /// What a byte comes to that is none of a search's own. The search, which was taken out of the session, is over, and the byte is a key. Where
 /// memory is refused to what it asks for, the search goes on.
-fn step_foreign(session: &mut Session, search: Search, byte: u8) -> ByteStep
+fn step_foreign(
+    session: &mut Session,
+    name: Name,
+    origin: usize,
+    anchor: usize,
+    sought: IncrementalSearch,
+    byte: u8,
+) -> ByteStep
     requires still { session.old ≡ unsearched session.old }
     requires alone { IsAlone session.old.own.player }
-    requires leaves { read_byte session.old.own.pattern search.sought byte ≡ (search.sought, Leaves) }
-    ensures { (directory : Directory) (ks : List MarkedBuffer) → IsByteStep directory ks (searching search session.old) session.new byte result }
+    requires leaves { read_byte session.old.own.pattern sought byte ≡ (sought, Leaves) }
+    ensures { (directory : Directory) (ks : List MarkedBuffer) → IsByteStep directory ks (searching (finding name origin anchor sought) session.old) session.new byte result }
 {
     let last = SearchString::of(session.own.pattern.as_slice());
-    leave_search(session, &search);
+    leave_search(session, &sought);
+    let search = Search {
+        name,
+        origin,
+        anchor,
+        aim: Aim::Find(sought),
+    };
     step_from(step_key(session, byte), search, last)
+}
+
+/// What a byte comes to in an incremental search, which was taken out of the session.
+fn step_find(
+    session: &mut Session,
+    name: Name,
+    origin: usize,
+    anchor: usize,
+    sought: IncrementalSearch,
+    byte: u8,
+) -> ByteStep
+    requires still { session.old ≡ unsearched session.old }
+    requires alone { IsAlone session.old.own.player }
+    ensures { (directory : Directory) (ks : List MarkedBuffer) → IsByteStep directory ks (searching (finding name origin anchor sought) session.old) session.new byte result }
+{
+    let mut sought = sought;
+    match sought.feed(session.own.pattern.as_slice(), byte) {
+        SearchStep::Ends => {
+            leave_search(session, &sought);
+            ByteStep::Kept
+        }
+        SearchStep::Leaves => step_foreign(session, name, origin, anchor, sought, byte),
+        SearchStep::Quits => {
+            hold_sought(session, name, origin, anchor, sought);
+            ByteStep::Acts(Deed::QuitSearch)
+        }
+        step => {
+            hold_sought(session, name, origin, anchor, sought);
+            ByteStep::Acts(Deed::Seek(step))
+        }
+    }
+}
+
+/// Holds an incremental search that goes on, and empties the echo line.
+fn hold_sought(
+    session: &mut Session,
+    name: Name,
+    origin: usize,
+    anchor: usize,
+    sought: IncrementalSearch,
+)
+    ensures { session.new ≡ searching (finding name origin anchor sought) (told Silent session.old) }
+{
+    set_echo(session, Message::Silent);
+    hold_search(
+        session,
+        Search {
+            name,
+            origin,
+            anchor,
+            aim: Aim::Find(sought),
+        },
+    );
+}
+
+/// What a byte asks of a query-replace.
+#[derive(Clone, Copy)]
+pub enum ReplaceKey {
+    Replaces,
+    ReplacesLast,
+    Skips,
+    ReplacesAll,
+    Ends,
+    Quits,
+    Other,
+}
+
+fn replace_key(byte: u8) -> ReplaceKey
+    ensures { result ≡ replace_key byte }
+{
+    if byte == b'y' || byte == b' ' {
+        return ReplaceKey::Replaces;
+    }
+    if byte == b'.' {
+        return ReplaceKey::ReplacesLast;
+    }
+    if byte == b'n' || byte == DELETE {
+        return ReplaceKey::Skips;
+    }
+    if byte == b'!' {
+        return ReplaceKey::ReplacesAll;
+    }
+    if byte == b'q' || byte == RETURN {
+        return ReplaceKey::Ends;
+    }
+    if byte == QUIT {
+        return ReplaceKey::Quits;
+    }
+    ReplaceKey::Other
+}
+
+/// The query-replace, which was taken out of the session, is over, and it is told how often it did.
+fn end_replacing(session: &mut Session, count: usize)
+    ensures { session.new ≡ told (Replaced count) (unprompted session.old) }
+{
+    let _prompt = take_prompt(session);
+    set_echo(session, Message::Replaced(count));
+}
+
+/// Holds a query-replace that goes on, and empties the echo line.
+fn hold_replacing(
+    session: &mut Session,
+    name: Name,
+    origin: usize,
+    anchor: usize,
+    replacing: Replacing,
+)
+    ensures { session.new ≡ searching (replacing_at name origin anchor replacing) (told Silent session.old) }
+{
+    set_echo(session, Message::Silent);
+    hold_search(
+        session,
+        Search {
+            name,
+            origin,
+            anchor,
+            aim: Aim::Replace(replacing),
+        },
+    );
+}
+
+/// All further matches are to be replaced.
+fn replace_all(session: &mut Session)
+    requires { are_played session.old.own.player.todo ≡ true }
+    ensures { session.new ≡ playing_as (replacing_all session.old.own.player) session.old }
+{
+    session.own.player.replace_all();
+}
+
+/// A query-replace replaces something. TODO: by the invariant of `Replacing`.
+fn replaces_something(replacing: &Replacing)
+    ensures { 0 < length replacing.now.pattern }
+{}
+
+/// What a byte comes to in a query-replace, which was taken out of the session.
+fn step_replace(
+    session: &mut Session,
+    name: Name,
+    origin: usize,
+    anchor: usize,
+    replacing: Replacing,
+    byte: u8,
+) -> ByteStep
+    requires still { session.old ≡ unsearched session.old }
+    requires alone { IsAlone session.old.own.player }
+    ensures { (directory : Directory) (ks : List MarkedBuffer) → IsByteStep directory ks (searching (replacing_at name origin anchor replacing) session.old) session.new byte result }
+{
+    replaces_something(&replacing);
+    match replace_key(byte) {
+        ReplaceKey::Replaces => {
+            hold_replacing(session, name, origin, anchor, replacing);
+            ByteStep::Acts(Deed::Replace(false))
+        }
+        ReplaceKey::ReplacesLast => {
+            hold_replacing(session, name, origin, anchor, replacing);
+            ByteStep::Acts(Deed::Replace(true))
+        }
+        ReplaceKey::Skips => {
+            hold_replacing(session, name, origin, anchor, replacing);
+            ByteStep::Acts(Deed::Skip)
+        }
+        ReplaceKey::ReplacesAll => {
+            hold_replacing(session, name, origin, anchor, replacing);
+            replace_all(session);
+            ByteStep::Kept
+        }
+        ReplaceKey::Ends => {
+            end_replacing(session, replacing.count);
+            ByteStep::Kept
+        }
+        ReplaceKey::Quits => {
+            fail(session, Message::Quitting);
+            ByteStep::Kept
+        }
+        ReplaceKey::Other => {
+            hold_replacing(session, name, origin, anchor, replacing);
+            ByteStep::Kept
+        }
+    }
 }
 
 /// What a byte comes to in a search, which was taken out of the session.
@@ -176,23 +408,15 @@ fn step_search(session: &mut Session, search: Search, byte: u8) -> ByteStep
     requires alone { IsAlone session.old.own.player }
     ensures { (directory : Directory) (ks : List MarkedBuffer) → IsByteStep directory ks (searching search session.old) session.new byte result }
 {
-    let mut search = search;
-    match search.feed(session.own.pattern.as_slice(), byte) {
-        SearchStep::Ends => {
-            leave_search(session, &search);
-            ByteStep::Kept
-        }
-        SearchStep::Leaves => step_foreign(session, search, byte),
-        SearchStep::Quits => {
-            set_echo(session, Message::Silent);
-            hold_search(session, search);
-            ByteStep::Acts(Deed::QuitSearch)
-        }
-        step => {
-            set_echo(session, Message::Silent);
-            hold_search(session, search);
-            ByteStep::Acts(Deed::Seek(step))
-        }
+    let Search {
+        name,
+        origin,
+        anchor,
+        aim,
+    } = search;
+    match aim {
+        Aim::Find(sought) => step_find(session, name, origin, anchor, sought, byte),
+        Aim::Replace(replacing) => step_replace(session, name, origin, anchor, replacing, byte),
     }
 }
 

@@ -8,7 +8,7 @@ use Rattle.mgs_world.specs.Sound.{session_uses}
 use Rattle.mgs_world.specs.Worlds.{size_in, world_of}
 use Rattle.mgs_world.proofs.Soundness.{sound_set, sizes_set}
 use Rattle.mgs_core.proofs.Sizes.{place_same}
-use Rattle.mgs_core.proofs.Taken.{acted_less, deed_turned, ends_turn, failed_less, failed_turn, kept_less, kept_turn, ready_put, some_there, step_apart}
+use Rattle.mgs_core.proofs.Taken.{deed_turned, ends_turn, failed_fit, failed_less, failed_turn, kept_fit, kept_less, kept_turn, left_within, ready_put, some_there, step_apart}
 use Rattle.mgs_core.proofs.turning.take_turn.Goals as goal
 
 pub next_step-requires-clause-some : goal.next_step-requires-clause-some
@@ -116,7 +116,7 @@ returns-in-Kept-clause-less g c e =
     let h = get_or xs c.args.at c.index-sessions-at-3.result in
     let is_h = ap (get_or xs c.args.at) c.index-sessions-at-3.is in
     let y = c.next_step.new.session in
-    kept_less d ks xs None c.args.id c.args.at h y c.requires.place c.requires.within is_h c.in-Kept.ensures.step
+    kept_less d ks xs None c.args.id c.args.at h y c.requires.place c.requires.within is_h _ _ (left_within c.args.at ks (slice_set xs c.args.at y) c.len-count.ensures.limits) c.in-Kept.ensures.step
 
 pub returns-in-Kept-clause-turned : goal.returns-in-Kept-clause-turned
 returns-in-Kept-clause-turned g c next =
@@ -136,7 +136,7 @@ returns-in-Failed-clause-less g c e =
     let h = get_or xs c.args.at c.index-sessions-at-3.result in
     let is_h = ap (get_or xs c.args.at) c.index-sessions-at-3.is in
     let y = c.next_step.new.session in
-    failed_less d ks xs None c.args.id c.args.at h y c.requires.place c.requires.within is_h c.in-Failed.ensures.step c.requires.some
+    failed_less d ks xs None c.args.id c.args.at h y c.requires.place c.requires.within is_h _ _ c.in-Failed.ensures.step c.requires.some
 
 pub returns-in-Failed-clause-turned : goal.returns-in-Failed-clause-turned
 returns-in-Failed-clause-turned g c next =
@@ -216,22 +216,11 @@ returns-in-Acts-clause-turned g c next =
     let h = get_or xs c.args.at c.index-sessions-at-3.result in
     let is_h = ap (get_or xs c.args.at) c.index-sessions-at-3.is in
     let y = c.next_step.new.session in
-    deed_turned d ks xs next c.args.id c.args.at h y c.requires.place c.requires.within is_h c.in-Acts.deed c.in-Acts.ensures.step c.act_turn.ensures.asked
+    deed_turned d ks xs next c.args.id c.args.at h y c.requires.place c.requires.within is_h c.in-Acts.deed c.in-Acts.ensures.step
     c.act_turn.new.buffers c.act_turn.new.sessions _ _ _ _ c.act_turn.result.0
     (ap (λ (s : Session). s.own.kind) (get_or_default xs c.args.at c.index-sessions-at.result c.index-sessions-at-3.result c.requires.within))
     (c.is_playing-is_playing.ensures ∙ ap (λ (s : Session). s.own.player.playing) (get_or_default xs c.args.at c.index-sessions-at-2.result c.index-sessions-at-3.result c.requires.within))
     (returns-in-Acts-clause-sizes g c) (c.act_turn.ensures.acted next)
-
-pub returns-in-Acts-clause-less : goal.returns-in-Acts-clause-less
-returns-in-Acts-clause-less g c e =
-    let d = c.args.directory.now in
-    let ks = c.args.buffers.now in
-    let xs = c.args.sessions.now in
-    let h = get_or xs c.args.at c.index-sessions-at-3.result in
-    let is_h = ap (get_or xs c.args.at) c.index-sessions-at-3.is in
-    let y = c.next_step.new.session in
-    acted_less d ks xs None c.args.id c.args.at h y c.requires.place c.requires.within is_h c.in-Acts.deed c.in-Acts.ensures.step c.act_turn.ensures.asked
-    c.act_turn.new.buffers c.act_turn.new.sessions _ _ _ _ c.act_turn.result.0 e (returns-in-Acts-clause-sizes g c) (c.act_turn.ensures.acted None)
 
 pub returns-in-Acts-clause-touched : goal.returns-in-Acts-clause-touched
 returns-in-Acts-clause-touched g c next =
@@ -243,3 +232,23 @@ returns-in-Acts-clause-touched g c next =
     let y = c.next_step.new.session in
     apart_then c.act_turn.result.1 c.args.id (world_of d ks xs next) (world_of d ks (slice_set xs c.args.at y) next) (world_of d c.act_turn.new.buffers c.act_turn.new.sessions next)
     (step_apart d ks xs next c.args.id c.args.at h y c.requires.place c.requires.within is_h c.act_turn.result.1 c.in-Acts.ensures.step.own c.in-Acts.ensures.step.stays) (c.act_turn.ensures.touched next)
+
+pub returns-in-Kept-clause-fit : goal.returns-in-Kept-clause-fit
+returns-in-Kept-clause-fit g c e =
+    let d = c.args.directory.now in
+    let ks = c.args.buffers.now in
+    let xs = c.args.sessions.now in
+    let h = get_or xs c.args.at c.index-sessions-at-3.result in
+    let is_h = ap (get_or xs c.args.at) c.index-sessions-at-3.is in
+    let y = c.next_step.new.session in
+    kept_fit d ks xs None c.args.id c.args.at h y c.requires.place c.requires.within is_h c.in-Kept.ensures.step
+
+pub returns-in-Failed-clause-fit : goal.returns-in-Failed-clause-fit
+returns-in-Failed-clause-fit g c e =
+    let d = c.args.directory.now in
+    let ks = c.args.buffers.now in
+    let xs = c.args.sessions.now in
+    let h = get_or xs c.args.at c.index-sessions-at-3.result in
+    let is_h = ap (get_or xs c.args.at) c.index-sessions-at-3.is in
+    let y = c.next_step.new.session in
+    failed_fit d ks xs None c.args.id c.args.at h y c.requires.place c.requires.within is_h c.in-Failed.ensures.step

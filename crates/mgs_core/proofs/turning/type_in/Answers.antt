@@ -11,7 +11,7 @@ use Rattle.mgs_world.proofs.Sessions.{session_some}
 use Rattle.mgs_world.proofs.Soundness.{sound_set, sizes_set}
 use Rattle.mgs_core.specs.Steps.{closed}
 use Rattle.mgs_core.proofs.Apart.{apart_rests}
-use Rattle.mgs_core.proofs.Begun.{begun_same, begun_weight, begun_world, closed_own}
+use Rattle.mgs_core.proofs.Begun.{begun_none, begun_same, begun_weight, begun_world, closed_own}
 use Rattle.mgs_core.proofs.Quits.{event_ends, event_keyed, event_quits, typed_ends}
 use Rattle.mgs_core.proofs.Sizes.{place_same, sizes_world}
 use Rattle.mgs_core.proofs.Steps.{open_still}
@@ -34,6 +34,11 @@ pub take_turns-keyed-requires-clause-weight : goal.take_turns-keyed-requires-cla
 take_turns-keyed-requires-clause-weight g c =
     let xs = c.args.sessions.now in
     begun_weight xs c.args.at c.args.byte (get_or xs c.args.at c.index-sessions-at.result) c.begin.new.session c.requires.within c.begin.ensures
+
+pub take_turns-keyed-requires-clause-none : goal.take_turns-keyed-requires-clause-none
+take_turns-keyed-requires-clause-none g c =
+    let xs = c.args.sessions.now in
+    begun_none xs c.args.at c.args.byte (get_or xs c.args.at c.index-sessions-at.result) c.begin.new.session c.requires.within c.begin.ensures
 
 pub returns-in-Quit-clause-sizes : goal.returns-in-Quit-clause-sizes
 returns-in-Quit-clause-sizes g c =

@@ -1,0 +1,169 @@
+-- A byte of a session that replaces.
+use Rattle.std.proofs.Common.{◌≡◌, ℕ, ◌+◌, ◌<◌, ◌≤◌, length, Bool, true, false, cond, List, [], ◌∷◌, Option, Some, None, refl, sym, ap, subst, ◌∙◌, arith}
+use Rattle.std.specs.Prelude.{◌==◌, ◌||◌}
+use Rattle.mgs_model.specs.Access.{Directory}
+use Rattle.mgs_model.specs.Apply.{searches}
+use Rattle.mgs_model.specs.Outcome.{Act, Run}
+use Rattle.mgs_model.specs.Plans.{failed_own}
+use Rattle.mgs_model.specs.World as model
+use Rattle.mgs_model.specs.World.{Buffer, Todo, Typed, Played, Replace_all, Play}
+use Rattle.mgs_model.specs.View.{View}
+use Rattle.mgs_model.specs.Turns.{Turn, Keep, Do, replace_turn, replacing}
+use Rattle.mgs_model.specs.declared.message.Message.TheVariants.{Quitting, Replaced, Silent}
+use Rattle.mgs_model.specs.declared.session.Alteration.TheVariants.{ReplaceLast, ReplaceMatch}
+use Rattle.mgs_model.specs.declared.session.Command.TheVariants.{Alter, Move}
+use Rattle.mgs_model.specs.declared.session.Mode.TheVariants.{Plain}
+use Rattle.mgs_model.specs.declared.session.Motion.TheVariants.{SkipMatch}
+use Rattle.mgs_buffers.specs.MarkedBuffer.{MarkedBuffer}
+use Rattle.mgs_session.specs.declared.search.Replacing.{Replacing}
+use Rattle.mgs_session.specs.declared.search.Search.{Search}
+use Rattle.mgs_session.specs.declared.Session.{Session}
+use Rattle.mgs_session.specs.Playing.{Playing, are_behind, are_played, replacing_all}
+use Rattle.mgs_session.specs.Seeking.{searching, unsearched}
+use Rattle.mgs_session.specs.Sessions.{failed, playing_as, told, unprompted}
+use Rattle.mgs_world.specs.Worlds.{own_of, search_of}
+use Rattle.mgs_core.specs.declared.deeds.Deed.{Deed}
+use Rattle.mgs_core.specs.declared.deeds.Deed.TheVariants as deeds
+use Rattle.mgs_core.specs.declared.deeds.Before.TheVariants as befores
+use Rattle.mgs_core.specs.declared.keying.ByteStep.TheVariants.{Kept, Acts}
+use Rattle.mgs_core.specs.declared.typing.ReplaceKey.{ReplaceKey}
+use Rattle.mgs_core.specs.declared.typing.ReplaceKey.TheVariants as keys
+use Rattle.mgs_core.specs.Prompted.{own_turn}
+use Rattle.mgs_core.specs.Stepped.{IsAlone, IsByteStep, IsLeft, IsReady, SearchStays, deed_act, refused_again, replace_key, replacing_at}
+use Rattle.mgs_core.specs.Turned.{IsWithin, is_played, is_quiet, weight}
+use Rattle.mgs_core.proofs.Stepped.{fit_empty, fit_same, left_none, left_same, none_stays}
+
+-- what each byte comes to, by what it asks
+abbrev pub keyed_turn : model.Own → ReplaceKey → Turn
+keyed_turn own keys.Replaces = replacing own ReplaceMatch
+keyed_turn own keys.ReplacesLast = replacing own ReplaceLast
+keyed_turn own keys.Skips = Do own (Run (Move SkipMatch) None own.input)
+keyed_turn own keys.ReplacesAll = Keep (record own { todo = Replace_all ∷ own.todo })
+keyed_turn own keys.Ends = Keep (record own { echo = Replaced own.count; mode = Plain; input = []; old = []; count = 0 })
+keyed_turn own keys.Quits = Keep (failed_own Quitting own)
+keyed_turn own keys.Other = Keep own
+
+turn_keyed : (own : model.Own) (byte : ℕ) → replace_turn own byte ≡ keyed_turn own (replace_key byte)
+turn_keyed own byte = by ((byte == 121) || (byte == 32)) (byte == 46) ((byte == 110) || (byte == 127)) (byte == 33) ((byte == 113) || (byte == 13)) (byte == 7)
+  where
+    by : (a b c e f g : Bool) → cond a (keyed_turn own keys.Replaces) (cond b (keyed_turn own keys.ReplacesLast) (cond c (keyed_turn own keys.Skips) (cond e (keyed_turn own keys.ReplacesAll) (cond f (keyed_turn own keys.Ends) (cond g (keyed_turn own keys.Quits) (keyed_turn own keys.Other)))))) ≡ keyed_turn own (cond a keys.Replaces (cond b keys.ReplacesLast (cond c keys.Skips (cond e keys.ReplacesAll (cond f keys.Ends (cond g keys.Quits keys.Other))))))
+    by true b c e f g = refl
+    by false true c e f g = refl
+    by false false true e f g = refl
+    by false false false true f g = refl
+    by false false false false true g = refl
+    by false false false false false true = refl
+    by false false false false false false = refl
+
+-- further replacements go before what was to be done
+left_all : (old : Playing) (todo : List Todo) → IsAlone old → todo ≡ Replace_all ∷ old.todo → IsLeft old todo
+left_all old todo alone is = record {
+  played = λ e n h. subst (IsWithin (1048577 + n)) (sym is) (omega (arith, h.0), h.1);
+  typed = λ e. subst (IsWithin 53689341957) (sym (is ∙ ap (λ (more : List Todo). Replace_all ∷ more) (alone.typed e))) (omega arith, refl);
+  behind = λ e. ap are_behind is ∙ alone.played;
+}
+
+module _ (d : Directory) (ks : List MarkedBuffer) (y new : Session) (name : List ℕ) (origin anchor : ℕ) (r : Replacing) (byte : ℕ) (alone : IsAlone y.own.player) where
+  abbrev pub s : Search
+  s = replacing_at name origin anchor r
+
+  abbrev z : Session
+  z = unsearched y
+
+  abbrev x : Session
+  x = searching s z
+
+  abbrev own : model.Own
+  own = record (own_of x.own) { echo = Silent }
+
+  comes : (v : View) (k e : ReplaceKey) → k ≡ replace_key byte → k ≡ e → own_turn v x.own byte ≡ keyed_turn own e
+  comes v k e of_byte is = turn_keyed own byte ∙ ap (keyed_turn own) (sym of_byte ∙ is)
+
+  -- it goes on
+  held_stays : new ≡ searching s (told Silent z) → SearchStays x.own new.own
+  held_stays is bs = ap (λ (w : Session). search_of bs w.own.search) is ∙ sym (ap (λ (w : Session). cond (searches (own_of w.own).mode) (search_of bs (Some s)) None) is)
+
+  pub replace_other : (k : ReplaceKey) → k ≡ replace_key byte → k ≡ keys.Other → new ≡ searching s (told Silent (unsearched y)) → IsByteStep d ks (searching s (unsearched y)) new byte Kept
+  replace_other k of_byte e is = record {
+    own = is ∙ sym (ap (λ (w : Session). record x { own = w.own }) is);
+    stays = held_stays is;
+    turn = λ v sees. comes v k keys.Other of_byte e ∙ sym (ap (λ (w : Session). Keep (own_of w.own)) is);
+    left = left_same x.own.player new.own.player.todo alone (ap (λ (w : Session). w.own.player.todo) is);
+    fit = fit_same x.own.player (own_of new.own) alone (ap (λ (w : Session). w.own.player.todo) is);
+  }
+
+  pub replace_every : (held : Session) (k : ReplaceKey) → k ≡ replace_key byte → k ≡ keys.ReplacesAll → 0 < length r.pattern → held ≡ searching s (told Silent (unsearched y)) → new ≡ playing_as (replacing_all held.own.player) held → IsByteStep d ks (searching s (unsearched y)) new byte Kept
+  replace_every held k of_byte e some is all =
+      let put : new ≡ playing_as (replacing_all y.own.player) (searching s (told Silent z)) = all ∙ ap (λ (w : Session). playing_as (replacing_all w.own.player) w) is in
+      record {
+        own = put ∙ sym (ap (λ (w : Session). record x { own = w.own }) put);
+        stays = λ bs. ap (λ (w : Session). search_of bs w.own.search) put ∙ sym (ap (λ (w : Session). cond (searches (own_of w.own).mode) (search_of bs (Some s)) None) put);
+        turn = λ v sees. comes v k keys.ReplacesAll of_byte e ∙ sym (ap (λ (w : Session). Keep (own_of w.own)) put);
+        left = left_all x.own.player new.own.player.todo alone (ap (λ (w : Session). w.own.player.todo) put);
+        fit = λ h. (ap (λ (w : Session). (own_of w.own).mode) put, subst (λ (w : Session). 0 < length (own_of w.own).old) (sym put) some);
+      }
+
+  pub replace_ends : (k : ReplaceKey) → k ≡ replace_key byte → k ≡ keys.Ends → y ≡ unsearched y → new ≡ told (Replaced r.count) (unprompted y) → IsByteStep d ks (searching s (unsearched y)) new byte Kept
+  replace_ends k of_byte e still is =
+      let over : new ≡ told (Replaced r.count) (unprompted z) = is ∙ ap (λ (w : Session). told (Replaced r.count) (unprompted w)) still in
+      record {
+        own = over ∙ sym (ap (λ (w : Session). record x { own = w.own }) over);
+        stays = none_stays x.own new.own (ap (λ (w : Session). w.own.search) over);
+        turn = λ v sees. comes v k keys.Ends of_byte e ∙ sym (ap (λ (w : Session). Keep (own_of w.own)) over);
+        left = left_same x.own.player new.own.player.todo alone (ap (λ (w : Session). w.own.player.todo) over);
+        fit = fit_same x.own.player (own_of new.own) alone (ap (λ (w : Session). w.own.player.todo) over);
+      }
+
+  pub replace_quits : (k : ReplaceKey) → k ≡ replace_key byte → k ≡ keys.Quits → y ≡ unsearched y → new ≡ failed Quitting y → IsByteStep d ks (searching s (unsearched y)) new byte Kept
+  replace_quits k of_byte e still is =
+      let over : new ≡ failed Quitting z = is ∙ ap (failed Quitting) still in
+      let none : new.own.player.todo ≡ [] = ap (λ (w : Session). w.own.player.todo) over in
+      record {
+        own = over ∙ sym (ap (λ (w : Session). record x { own = w.own }) over);
+        stays = none_stays x.own new.own (ap (λ (w : Session). w.own.search) over);
+        turn = λ v sees. comes v k keys.Quits of_byte e ∙ sym (ap (λ (w : Session). Keep (own_of w.own)) over);
+        left = left_none x.own.player new.own.player.todo none;
+        fit = fit_empty (own_of new.own) none;
+      }
+
+  pub replace_skips : (k : ReplaceKey) → k ≡ replace_key byte → k ≡ keys.Skips → new ≡ searching s (told Silent (unsearched y)) → IsByteStep d ks (searching s (unsearched y)) new byte (Acts deeds.Skip)
+  replace_skips k of_byte e is = record {
+    own = is ∙ sym (ap (λ (w : Session). record x { own = w.own }) is);
+    stays = held_stays is;
+    ready = subst (λ (w : Session). IsReady deeds.Skip w.own.search (own_of w.own)) (sym is) refl;
+    here = tt;
+    turn = λ v sees. comes v k keys.Skips of_byte e ∙ sym (ap (λ (w : Session). Do (own_of w.own) (deed_act (own_of w.own) deeds.Skip)) is);
+    playing = λ p. ap (λ (b : Bool). is_quiet b (deed_act (own_of new.own) deeds.Skip)) (ap (λ (w : Session). w.own.player.playing) is ∙ p);
+    typed = λ p. ap (λ (w : Session). w.own.player.todo) is ∙ alone.typed p;
+    left = left_same x.own.player new.own.player.todo alone (ap (λ (w : Session). w.own.player.todo) is);
+    again = λ wants. cc;
+    search = λ wants. cc;
+    fit = fit_same x.own.player (own_of new.own) alone (ap (λ (w : Session). w.own.player.todo) is);
+    begins = λ h. cc;
+  }
+
+  -- a match is replaced
+  abbrev replaced_turn : (last : Bool) → Turn
+  replaced_turn last = Do own (deed_act own (deeds.Replace last))
+
+  replaces_step : (last : Bool) → ((v : View) → own_turn v x.own byte ≡ replaced_turn last) → new ≡ searching s (told Silent z) → IsByteStep d ks x new byte (Acts (deeds.Replace last))
+  replaces_step last turn is = record {
+    own = is ∙ sym (ap (λ (w : Session). record x { own = w.own }) is);
+    stays = held_stays is;
+    ready = subst (λ (w : Session). IsReady (deeds.Replace last) w.own.search (own_of w.own)) (sym is) refl;
+    here = tt;
+    turn = λ v sees. turn v ∙ sym (ap (λ (w : Session). Do (own_of w.own) (deed_act (own_of w.own) (deeds.Replace last))) is);
+    playing = λ p. ap (λ (b : Bool). is_quiet b (deed_act (own_of new.own) (deeds.Replace last))) (ap (λ (w : Session). w.own.player.playing) is ∙ p);
+    typed = λ p. ap (λ (w : Session). w.own.player.todo) is ∙ alone.typed p;
+    left = left_same x.own.player new.own.player.todo alone (ap (λ (w : Session). w.own.player.todo) is);
+    again = λ wants. ap (λ (w : Session). refused_again befores.Held x.own.kind x.own.player.playing (own_of w.own)) is;
+    search = λ wants. ap (λ (w : Session). w.own.search) is;
+    fit = fit_same x.own.player (own_of new.own) alone (ap (λ (w : Session). w.own.player.todo) is);
+    begins = λ h. cc;
+  }
+
+  pub replace_one : (k : ReplaceKey) → k ≡ replace_key byte → k ≡ keys.Replaces → new ≡ searching s (told Silent (unsearched y)) → IsByteStep d ks (searching s (unsearched y)) new byte (Acts (deeds.Replace false))
+  replace_one k of_byte e is = replaces_step false (λ v. comes v k keys.Replaces of_byte e) is
+
+  pub replace_last : (k : ReplaceKey) → k ≡ replace_key byte → k ≡ keys.ReplacesLast → new ≡ searching s (told Silent (unsearched y)) → IsByteStep d ks (searching s (unsearched y)) new byte (Acts (deeds.Replace true))
+  replace_last k of_byte e is = replaces_step true (λ v. comes v k keys.ReplacesLast of_byte e) is
