@@ -18,7 +18,7 @@ use Rattle.mgs_windows.specs.declared.WindowMarks.{WindowMarks}
 use Rattle.mgs_session.specs.Sessions.{failed, window_marks_of}
 use Rattle.mgs_session.specs.declared.Session.{Session}
 use Rattle.mgs_session.specs.declared.search.Aim.TheVariants.{Replace}
-use Rattle.mgs_session.specs.declared.search.Replacing.{Replacing}
+use Rattle.mgs_session.specs.Replacing.{Replacing}
 use Rattle.mgs_session.specs.declared.search.Search.{Search}
 use Rattle.mgs_act.specs.Beginning.{search_held, search_or_none}
 use Rattle.mgs_act.specs.Inserting.{rights_decision}

@@ -14,7 +14,7 @@ use Rattle.mgs_session.specs.Seeking.{searching}
 use Rattle.mgs_session.specs.Sessions.{window_marks_of}
 use Rattle.mgs_session.specs.declared.Session.{Session}
 use Rattle.mgs_session.specs.declared.search.Edited.{Edited}
-use Rattle.mgs_session.specs.declared.search.Replacing.{Replacing}
+use Rattle.mgs_session.specs.Replacing.{Replacing}
 use Rattle.mgs_session.specs.declared.search.Search.{Search}
 use Rattle.mgs_act.specs.Actions.{edited_by, mark_gone}
 use Rattle.mgs_act.specs.Following.{edit_told, followed}

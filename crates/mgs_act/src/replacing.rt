@@ -16,7 +16,7 @@ ghost use Rattle.mgs_buffers.specs.MarkedBuffer.{HasBuffer, IsMark, marked_at};
 ghost use Rattle.mgs_session.specs.Seeking.{searching, unsearched};
 ghost use Rattle.mgs_session.specs.declared.Session.{Session};
 ghost use Rattle.mgs_session.specs.declared.search.Aim.TheVariants.{Replace};
-ghost use Rattle.mgs_session.specs.declared.search.Replacing.{Replacing};
+ghost use Rattle.mgs_session.specs.Replacing.{Replacing};
 ghost use Rattle.mgs_session.specs.declared.search.Search.{Search};
 ghost use Rattle.mgs_act.specs.Actions.{edited_by, mark_gone};
 ghost use Rattle.mgs_act.specs.Beginning.{search_held};

@@ -25,7 +25,7 @@ use Rattle.mgs_model.specs.Searching.{Sought}
 use Rattle.mgs_mini.specs.Typing.{PromptInput}
 use Rattle.mgs_session.specs.declared.search.Aim.{Aim}
 use Rattle.mgs_session.specs.declared.search.Aim.TheVariants.{Find, Replace}
-use Rattle.mgs_session.specs.declared.search.Replacing.{Replacing}
+use Rattle.mgs_session.specs.Replacing.{Replacing}
 use Rattle.mgs_act.specs.Replacing.{remaining_at, remaining_in, replacement, replacing_own}
 use Rattle.mgs_model.specs.declared.session.Kind.{Kind}
 use Rattle.mgs_model.specs.declared.touched.Touched.{Touched}

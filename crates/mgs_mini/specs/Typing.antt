@@ -1,5 +1,5 @@
 -- The input of a prompt, and what a byte comes to in it.
-use Rattle.std.specs.Prelude.{ℕ, Bool, true, false, List, [], ◌∷◌, length, take, ◌-◌}
+use Rattle.std.specs.Prelude.{◌≡◌, ℕ, Bool, true, false, List, [], ◌∷◌, length, take, ◌-◌}
 use Rattle.mgs_model.specs.World.{Own}
 use Rattle.mgs_model.specs.View.{View}
 use Rattle.mgs_model.specs.Completion.{completion}
@@ -7,6 +7,7 @@ use Rattle.mgs_model.specs.Turns.{Turn, Keep, answer_turn, completed, names_comp
 use Rattle.mgs_model.specs.Plans.{failed_own}
 use Rattle.mgs_model.specs.declared.message.Message.TheVariants.{Quitting, NoMatch}
 use Rattle.mgs_model.specs.declared.session.Question.{Question}
+use Rattle.mgs_model.specs.declared.session.Question.TheVariants.{ReplaceWith}
 use Rattle.mgs_mini.specs.declared.Waiting.{Waiting}
 use Rattle.mgs_mini.specs.declared.Waiting.TheVariants.{NoKey, Escape, Arrow, ArrowEscape}
 use Rattle.mgs_mini.specs.declared.Step.{Step}
@@ -18,6 +19,11 @@ pub record PromptInput : Type 0 where
   pub first : List ℕ
   pub input : List ℕ
   pub waiting : Waiting
+
+-- no other question has one
+abbrev pub IsFirst : Question → List ℕ → Type 0
+IsFirst ReplaceWith first = Unit {0}
+IsFirst _ first = first ≡ []
 
 -- the half-read keys
 abbrev pub keys_of : Waiting → List ℕ

@@ -8,7 +8,8 @@ ghost use Rattle.mgs_model.specs.World.{Own};
 ghost use Rattle.mgs_model.specs.View.{View};
 ghost use Rattle.mgs_model.specs.declared.session.Question.{Question};
 ghost use Rattle.mgs_model.specs.Turns.{prompt_turn, prompt_keys, prompt_key, completed, names_buffers, names_commands};
-ghost use Rattle.mgs_mini.specs.Typing.{keys_of, typed_own, stepped, last_dropped, told};
+ghost use Rattle.mgs_model.specs.declared.session.Question.TheVariants.{ReplaceWith};
+ghost use Rattle.mgs_mini.specs.Typing.{IsFirst, keys_of, typed_own, stepped, last_dropped, told};
 ghost use Rattle.mgs_mini.specs.declared.Waiting.TheVariants.{NoKey};
 ghost use Rattle.mgs_mini.specs.declared.Step.TheVariants.{Answered};
 
@@ -66,6 +67,10 @@ impl Model for Prompt {
     ghost Value = { PromptInput };
 
     ghost view = { λ p. record { question = p.question; first = p.first.items; input = p.input.items; waiting = p.waiting } };
+
+    ghost use Rattle.mgs_mini.specs.Typing.{IsFirst};
+
+    ghost invariant = { λ p. IsFirst p.question p.first.items };
 }
 
 fn names_buffers(question: Question) -> bool
@@ -167,6 +172,7 @@ fn feed_byte(input: &mut ArrayVec<u8, 120>, waiting: Waiting, byte: u8) -> (Step
 
 impl Prompt {
     /// A question with nothing typed.
+    #[tactic(auto, using(crate::proofs::Questions::none_first))]
     pub fn new(question: Question) -> Prompt
         ensures { result ≡ record { question = question; first = []; input = []; waiting = NoKey } }
     {
@@ -178,12 +184,12 @@ impl Prompt {
         }
     }
 
-    /// The second of two questions, where the first one was answered so: nothing is typed.
-    pub fn second(question: Question, first: &[u8]) -> Prompt
+    /// With what to replace, where it was answered so what is replaced: nothing is typed.
+    pub fn second(first: &[u8]) -> Prompt
         requires { length first.now ≤ 120 }
-        ensures { result ≡ record { question = question; first = first.now; input = []; waiting = NoKey } }
+        ensures { result ≡ record { question = ReplaceWith; first = first.now; input = []; waiting = NoKey } }
     {
-        let mut prompt = Prompt::new(question);
+        let mut prompt = Prompt::new(Question::ReplaceWith);
         put_input(&mut prompt.first, first);
         prompt
     }
@@ -241,6 +247,7 @@ impl Prompt {
     pub fn first(&self) -> &[u8]
         ensures value { result.now ≡ self.now.first }
         ensures within { length result.now ≤ 120 }
+        ensures second { IsFirst self.now.question self.now.first }
     {
         self.first.as_slice()
     }

@@ -1,5 +1,5 @@
 // Query-replace: where its matches are.
-ghost use Rattle.std.specs.Prelude.{◌≡◌, ℕ, ◌+◌, ◌-◌, ◌≤◌, ◌<◌, ◌^◌, List, length, true, Ok, IfSome, IfOk};
+ghost use Rattle.std.specs.Prelude.{◌≡◌, ℕ, ◌+◌, ◌-◌, ◌≤◌, ◌<◌, ◌^◌, List, length, true, Ok, IfSome, IfOk, OnOk};
 ghost use Rattle.std.specs.Option.{option_map};
 ghost use Rattle.mgs_model.specs.Plans as model;
 ghost use Rattle.mgs_model.specs.Plans.{motion, alteration, stays};
@@ -26,6 +26,7 @@ pub fn begin_replacing<T: Text>(text: &T, p: usize, old: &[char]) -> Result<Opti
     requires { p ≤ length (T.text text.now) }
     ensures plan { (rest : model.Around) → begun rest.name p (length old.now) result ≡ motion StartReplace (T.text text.now) (record rest { place = p; old = old.now }) }
     ensures within { IfOk result (λ o. IfSome o (λ m. m + length old.now ≤ length (T.text text.now))) }
+    ensures some { OnOk result (0 < length old.now) }
 {
     if old.is_empty() {
         return Err(Message::NoPattern);

@@ -1,4 +1,5 @@
 pub mod Playing
 pub mod Recording
+pub mod Replacing
 pub mod Sessions
 pub mod Seeking

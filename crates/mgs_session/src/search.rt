@@ -1,11 +1,12 @@
 // What a session looks for: an incremental search, or a query-replace.
-ghost use Rattle.std.specs.Prelude.{◌≡◌, ◌+◌, ◌<◌, ◌≤◌, ◌^◌};
+ghost use Rattle.std.specs.Prelude.{◌≡◌, ◌+◌, ◌<◌, ◌≤◌, ◌^◌, length};
 ghost use Rattle.mgs_model.specs.Acts.{counted};
 ghost use Rattle.mgs_session.specs.Seeking.{moved, replacing_begun, search_begun, search_edited};
 
 use crate::search_string::SearchString;
 use mgs_model::{Direction, Name};
 use mgs_search::IncrementalSearch;
+use std::marker::Model;
 
 /// An edit of a text of `size` characters: `added` characters come in the place of those from `from` up to `to`.
 #[derive(Clone, Copy)]
@@ -16,18 +17,30 @@ pub struct Edited {
     pub added: usize,
 }
 
-/// A query-replace: the text that is replaced, the text that comes in its place, and how often it did. The largest count stands for
-/// all that are larger.
+/// A query-replace: the text that is replaced, at least one character of it, the text that comes in its place, and how often it did.
+/// The largest count stands for all that are larger.
 #[derive(Drop)]
 pub struct Replacing {
-    pub pattern: SearchString,
-    pub put: SearchString,
-    pub count: usize,
+    pattern: SearchString,
+    put: SearchString,
+    count: usize,
+}
+
+impl Model for Replacing {
+    ghost use Rattle.std.specs.Prelude.{◌<◌, length};
+    ghost use Rattle.mgs_session.specs.Replacing.{Replacing};
+
+    ghost Value = { Replacing };
+
+    ghost view = { λ r. record { pattern = r.pattern; put = r.put; count = r.count } };
+
+    ghost invariant = { λ r. 0 < length r.pattern };
 }
 
 impl Replacing {
     /// One in which nothing was replaced yet.
     pub fn new(pattern: SearchString, put: SearchString) -> Replacing
+        requires { 0 < length pattern }
         ensures { result ≡ record { pattern = pattern; put = put; count = 0 } }
     {
         Replacing {
@@ -35,6 +48,31 @@ impl Replacing {
             put,
             count: 0,
         }
+    }
+
+    /// What is replaced: 1 to 120 characters.
+    pub fn pattern(&self) -> &[char]
+        ensures value { result.now ≡ self.now.pattern }
+        ensures within { length result.now ≤ 120 }
+        ensures some { 0 < length self.now.pattern }
+    {
+        self.pattern.as_slice()
+    }
+
+    /// What comes in its place, at most 120 characters.
+    pub fn put(&self) -> &[char]
+        ensures value { result.now ≡ self.now.put }
+        ensures within { length result.now ≤ 120 }
+    {
+        self.put.as_slice()
+    }
+
+    /// How often it was replaced.
+    pub fn count(&self) -> usize
+        ensures value { result ≡ self.now.count }
+        ensures small { result < 2 ^ 64 }
+    {
+        self.count
     }
 
     /// One more was replaced.
