@@ -48,7 +48,7 @@ fn replaced_text(search: &Search) -> &[char]
 {
     match &search.aim {
         Aim::Find(_) => &[],
-        Aim::Replace(replacing) => replacing.pattern.as_slice(),
+        Aim::Replace(replacing) => replacing.pattern(),
     }
 }
 
@@ -59,16 +59,8 @@ fn put_text(search: &Search) -> &[char]
 {
     match &search.aim {
         Aim::Find(sought) => sought.pattern(),
-        Aim::Replace(replacing) => replacing.put.as_slice(),
+        Aim::Replace(replacing) => replacing.put(),
     }
-}
-
-/// A number as it is: that it fits its type.
-fn in_range(number: usize) -> usize
-    ensures value { result ≡ number }
-    ensures small { result < 2 ^ 64 }
-{
-    number
 }
 
 /// How often it was replaced.
@@ -78,7 +70,7 @@ fn replaced_count(search: &Search) -> usize
 {
     match &search.aim {
         Aim::Find(_) => 0,
-        Aim::Replace(replacing) => in_range(replacing.count),
+        Aim::Replace(replacing) => replacing.count(),
     }
 }
 

@@ -47,7 +47,8 @@ use Rattle.mgs_core.specs.declared.deeds.Before.TheVariants as befores
 use Rattle.mgs_core.specs.declared.keying.ByteStep.{ByteStep}
 use Rattle.mgs_core.specs.declared.keying.ByteStep.TheVariants.{Kept, Acts}
 use Rattle.mgs_core.specs.Prompted.{names_for, own_turn}
-use Rattle.mgs_core.specs.Stepped.{IsAlone, IsAnswerStep, IsAskedStep, IsByteStep, IsCommandStep, IsFirst, IsLeft, IsNamedStep, IsReplyStep, SeesNames, deed_act, deed_own, deed_world, refused_again, second_input}
+use Rattle.mgs_mini.specs.Typing.{IsFirst}
+use Rattle.mgs_core.specs.Stepped.{IsAlone, IsAnswerStep, IsAskedStep, IsByteStep, IsCommandStep, IsLeft, IsNamedStep, IsReplyStep, SeesNames, deed_act, deed_own, deed_world, refused_again, second_input}
 use Rattle.mgs_core.specs.Turned.{IsFit, is_quiet}
 use Rattle.mgs_core.proofs.Stepped.{command_step, fit_empty, fit_same, left_none, left_same, none_stays}
 

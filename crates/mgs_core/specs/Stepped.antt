@@ -418,11 +418,6 @@ IsNamedStep old new p (Some c) step = (is_bound c ≡ true) × IsCommandStep (re
 abbrev pub second_input : List ℕ → PromptInput
 second_input first = record { question = ReplaceWith; first = first; input = []; waiting = NoKey }
 
--- there is a first answer beside the second question alone
-abbrev pub IsFirst : Question → List ℕ → Type 0
-IsFirst ReplaceWith first = Unit {0}
-IsFirst _ first = first ≡ []
-
 abbrev pub IsAskedStep : Session → Session → PromptInput → ByteStep → Type 0
 IsAskedStep old new p step = (step ≡ Acts (deeds.Answer p (value_of old.own.keyboard.argument))) × (new ≡ resting old)
 

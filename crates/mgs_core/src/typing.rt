@@ -9,6 +9,7 @@ ghost use Rattle.mgs_model.specs.declared.search.SearchStep.TheVariants.{Leaves}
 ghost use Rattle.mgs_buffers.specs.Judging.{AreJudged, rules_kept};
 ghost use Rattle.mgs_buffers.specs.MarkedBuffer.{MarkedBuffer};
 ghost use Rattle.mgs_mini.specs.Typing as prompts;
+ghost use Rattle.mgs_mini.specs.Typing.{IsFirst};
 ghost use Rattle.mgs_session.specs.Seeking.{searching, unsearched};
 ghost use Rattle.mgs_session.specs.Playing.{are_played, replacing_all};
 ghost use Rattle.mgs_model.specs.Commands.{find_command};
@@ -16,7 +17,7 @@ ghost use Rattle.mgs_model.specs.declared.message.Message.TheVariants.{Replaced,
 ghost use Rattle.mgs_session.specs.Sessions.{playing_as, prompting, told, unprompted};
 ghost use Rattle.mgs_world.specs.Worlds.{own_of};
 ghost use Rattle.mgs_core.specs.Prompted.{names_for};
-ghost use Rattle.mgs_core.specs.Stepped.{IsAlone, IsAnswerStep, IsByteStep, IsFirst, IsNamedStep, deed_from, finding, replace_key, replacing_at, step_from_search};
+ghost use Rattle.mgs_core.specs.Stepped.{IsAlone, IsAnswerStep, IsByteStep, IsNamedStep, deed_from, finding, replace_key, replacing_at, step_from_search};
 
 use crate::deeds::{Before, Deed};
 use crate::keying::{ByteStep, step_command, step_key};
@@ -105,24 +106,17 @@ fn step_name(session: &mut Session, prompt: Prompt) -> ByteStep
     step_command(session, command, argument, Before::Prompt(prompt))
 }
 
-/// There is a first answer beside the second question alone. TODO: by the invariant of `Prompt`.
-fn has_first(prompt: &Prompt)
-    ensures { IsFirst prompt.now.question prompt.now.first }
-{}
-
 /// What an answer comes to, whose prompt was taken out of the session.
 fn step_answer(session: &mut Session, prompt: Prompt) -> ByteStep
     ensures first { IsFirst prompt.question prompt.first }
     ensures step { IsAnswerStep session.old session.new prompt result }
 {
-    has_first(&prompt);
+    // Tells the prover that there is a first answer beside the second question alone.
+    let _first = prompt.first();
     match prompt.question() {
         Question::RunWhich => step_name(session, prompt),
         Question::ReplaceWhat => {
-            hold_prompt(
-                session,
-                Prompt::second(Question::ReplaceWith, prompt.input()),
-            );
+            hold_prompt(session, Prompt::second(prompt.input()));
             ByteStep::Kept
         }
         Question::ReplaceWith => {
@@ -350,11 +344,6 @@ fn replace_all(session: &mut Session)
     session.own.player.replace_all();
 }
 
-/// A query-replace replaces something. TODO: by the invariant of `Replacing`.
-fn replaces_something(replacing: &Replacing)
-    ensures { 0 < length replacing.now.pattern }
-{}
-
 /// What a byte comes to in a query-replace, which was taken out of the session.
 fn step_replace(
     session: &mut Session,
@@ -368,7 +357,8 @@ fn step_replace(
     requires alone { IsAlone session.old.own.player }
     ensures { (directory : Directory) (ks : List MarkedBuffer) → IsByteStep directory ks (searching (replacing_at name origin anchor replacing) session.old) session.new byte result }
 {
-    replaces_something(&replacing);
+    // Tells the prover that something is replaced.
+    let _pattern = replacing.pattern();
     match replace_key(byte) {
         ReplaceKey::Replaces => {
             hold_replacing(session, name, origin, anchor, replacing);
@@ -388,7 +378,7 @@ fn step_replace(
             ByteStep::Kept
         }
         ReplaceKey::Ends => {
-            end_replacing(session, replacing.count);
+            end_replacing(session, replacing.count());
             ByteStep::Kept
         }
         ReplaceKey::Quits => {
