@@ -201,6 +201,17 @@ impl Grid {
         self.lines[row].draw_search(direction, failing, pattern)
     }
 
+    /// Draws the line of a query-replace in the echo row. A line that leaves no cell behind it is shown as a `$` and its end. Tells
+    /// the column behind it.
+    pub fn draw_replacing(&mut self, row: usize) -> usize
+        requires row { row < self.old.rows }
+        ensures grid { self.new ≡ record self.old { lines = rows_put row (line_row self.old.cols (codes "Replace? ") ∷ []) self.old.lines } }
+        ensures column { result ≡ line_end_column self.old.cols (codes "Replace? ") }
+        ensures within { result < self.old.cols }
+    {
+        self.lines[row].draw_replacing()
+    }
+
     /// Draws a row of the listing of all buffers: whether the buffer is modified, its size, its name and its owner.
     pub fn draw_listed(
         &mut self,

@@ -12,7 +12,7 @@ ghost use Rattle.mgs_grid.specs.Lists.{acl_mode};
 use crate::cells::{fill, finish, put_bytes, put_line};
 use crate::lists::{put_acl_mode, put_entry, put_listed, put_unlisted};
 use crate::words::{
-    prompt_width, put_heading, put_message, put_place, put_prompt, put_search, put_unread,
+    prompt_width, put_heading, put_message, put_place, put_prompt, put_replacing, put_search, put_unread, replacing_width,
     search_width,
 };
 use mgs_lines::line_end;
@@ -211,6 +211,23 @@ impl Line {
         fill(row, ' ');
         let shift = shift_to_end(row.len(), search_width(direction, failing, pattern));
         let end = put_search(row, shift, direction, failing, pattern);
+        finish(row, shift, end);
+        end - shift
+    }
+
+    /// Draws the line of a query-replace, plain. A line that leaves no cell behind it is shown as a `$` and its end. Tells the
+    /// column behind it.
+    pub(crate) fn draw_replacing(&mut self) -> usize
+        requires some { 2 ≤ length self.old.text }
+        requires width { length self.old.text < 2 ^ 62 }
+        ensures row { self.new ≡ line_row (length self.old.text) (codes "Replace? ") }
+        ensures column { result ≡ line_end_column (length self.old.text) (codes "Replace? ") }
+    {
+        self.reversed = false;
+        let row = self.text.as_mut_slice();
+        fill(row, ' ');
+        let shift = shift_to_end(row.len(), replacing_width());
+        let end = put_replacing(row, shift);
         finish(row, shift, end);
         end - shift
     }

@@ -302,6 +302,16 @@ pub(crate) fn put_search(
     put_pattern(row, shift, start, pattern)
 }
 
+/// Writes the cells of a query-replace's line into a row that shows the line from column `shift` on, and tells the column after
+/// them. Cells that are not in sight are passed over.
+pub(crate) fn put_replacing(row: &mut [char], shift: usize) -> usize
+    ensures row { row.new ≡ over row.old shift 0 (cells (codes "Replace? ")) }
+    ensures next { result ≡ length (cells (codes "Replace? ")) }
+    ensures few { result < 2 ^ 40 }
+{
+    put_chars(row, shift, 0, b"Replace? ")
+}
+
 /// How many cells a search's line has.
 pub(crate) fn search_width(direction: Direction, failing: bool, pattern: &[char]) -> usize
     requires short { length pattern.now < 2 ^ 32 }
@@ -309,4 +319,12 @@ pub(crate) fn search_width(direction: Direction, failing: bool, pattern: &[char]
     ensures few { result < 2 ^ 40 }
 {
     put_search(&mut [], 0, direction, failing, pattern)
+}
+
+/// How many cells a query-replace's line has.
+pub(crate) fn replacing_width() -> usize
+    ensures width { result ≡ length (cells (codes "Replace? ")) }
+    ensures few { result < 2 ^ 40 }
+{
+    put_replacing(&mut [], 0)
 }

@@ -36,7 +36,7 @@ pub struct Binding {
     pub command: Command,
 }
 
-static BINDINGS: [Binding; 72] = [
+static BINDINGS: [Binding; 73] = [
     Binding {
         keys: b"\r",
         name: "newline",
@@ -306,6 +306,11 @@ static BINDINGS: [Binding; 72] = [
         keys: b"\x1Br",
         name: "search-backward",
         command: Command::Ask(Question::SearchWhat(Direction::Backward)),
+    },
+    Binding {
+        keys: b"\x1B%",
+        name: "query-replace",
+        command: Command::Ask(Question::ReplaceWhat),
     },
     Binding {
         keys: b"\x07",

@@ -12,7 +12,7 @@ use Rattle.mgs_model.specs.declared.session.Alteration.TheVariants.{DeleteChar, 
 use Rattle.mgs_model.specs.declared.session.Scrolling.TheVariants.{ScrollUp, ScrollDown}
 use Rattle.mgs_model.specs.declared.session.Setting.TheVariants.{SetFillColumn, KeyboardQuit, StartMacro, EndMacro, CallMacro}
 use Rattle.mgs_model.specs.declared.session.Arrangement.TheVariants.{DeleteWindow, DeleteOtherWindows, SplitWindow, NextWindow, PreviousWindow, EnlargeWindow, ListBuffers}
-use Rattle.mgs_model.specs.declared.session.Question.TheVariants.{SwitchTo, FindWhich, KillWhich, RunWhich, SearchWhat}
+use Rattle.mgs_model.specs.declared.session.Question.TheVariants.{SwitchTo, FindWhich, KillWhich, RunWhich, SearchWhat, ReplaceWhat}
 use Rattle.mgs_model.specs.declared.session.Command.{Command}
 use Rattle.mgs_model.specs.declared.session.Command.TheVariants.{Insert, InsertReading, Move, Alter, Scroll, Set, Rearrange, Ask, UndoEdit, NotModified, SaveBuffer, Exit}
 
@@ -91,6 +91,7 @@ key_rows =
     ∷ key 18 (codes "isearch-backward") (Move (StartSearch Backward))
     ∷ meta 115 (codes "search-forward") (Ask (SearchWhat Forward))
     ∷ meta 114 (codes "search-backward") (Ask (SearchWhat Backward))
+    ∷ meta 37 (codes "query-replace") (Ask ReplaceWhat)
     ∷ key 7 (codes "keyboard-quit") (Set KeyboardQuit)
     ∷ control_x 40 [] (Set StartMacro)
     ∷ control_x 41 [] (Set EndMacro)

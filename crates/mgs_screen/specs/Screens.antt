@@ -1,11 +1,10 @@
 -- What a screen shows of the kept buffers.
-use Rattle.std.specs.Prelude.{ℕ, ◌-◌, min, Bool, true, false, List, [], ◌∷◌, ◌++◌, map, Option, Some, None, if◌then◌else◌}
+use Rattle.std.specs.Prelude.{ℕ, ◌-◌, min, Bool, true, false, List, [], ◌∷◌, ◌++◌, map, Option, Some, None, if◌then◌else◌, codes}
 use Rattle.mgs_model.specs.Access.{Directory}
 use Rattle.mgs_model.specs.World.{Own, may}
 use Rattle.mgs_model.specs.Lines.{column}
 use Rattle.mgs_model.specs.Picture.{Picture}
 use Rattle.mgs_model.specs.Prompts.{line_in_mode, prompt_line, search_text}
-use Rattle.mgs_model.specs.Searching.{Sought}
 use Rattle.mgs_model.specs.declared.message.Message.{Message}
 use Rattle.mgs_model.specs.declared.session.Mode.{Mode}
 use Rattle.mgs_model.specs.Rows.{Row, rows_put, mode_row, echo_row, line_row, line_end_column, shift_for, buffer_mode, unless_told}
@@ -17,6 +16,8 @@ use Rattle.mgs_mini.specs.Typing.{PromptInput}
 use Rattle.mgs_buffers.specs.MarkedBuffer.{MarkedBuffer, marked_at, mark_at}
 use Rattle.mgs_windows.specs.declared.WindowMarks.{WindowMarks}
 use Rattle.mgs_windows.specs.declared.Window.{Window}
+use Rattle.mgs_session.specs.declared.search.Aim.{Aim}
+use Rattle.mgs_session.specs.declared.search.Aim.TheVariants.{Find, Replace}
 use Rattle.mgs_world.specs.Worlds.{buffers_of, window_of}
 
 -- the column from which the point's line is shown
@@ -74,9 +75,13 @@ abbrev pub last_row_drawn : Own → ℕ → ℕ × ℕ → Picture → Picture
 last_row_drawn own row point p = row_in_mode own.mode own.input own.echo row point p
 
 -- the line of a search in a row, and the cursor at the point
-abbrev pub search_drawn : Sought → ℕ → ℕ × ℕ → Picture → Picture
-search_drawn s row point p = record p {
-  lines = rows_put row (line_row p.cols (search_text s.direction s.failing ++ s.pattern) ∷ []) p.lines;
+abbrev pub search_line : Aim → List ℕ
+search_line (Find s) = search_text s.direction s.failing ++ s.pattern
+search_line (Replace r) = codes "Replace? "
+
+abbrev pub search_drawn : Aim → ℕ → ℕ × ℕ → Picture → Picture
+search_drawn a row point p = record p {
+  lines = rows_put row (line_row p.cols (search_line a) ∷ []) p.lines;
   row = point.0;
   col = point.1;
 }

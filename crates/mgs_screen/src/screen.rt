@@ -19,8 +19,7 @@ use mgs_marks::Marked;
 use mgs_mini::Prompt;
 use mgs_model::{Message, Name, Right};
 use mgs_policy::Directory;
-use mgs_search::IncrementalSearch;
-use mgs_session::{Own, Session};
+use mgs_session::{Aim, Own, Session};
 use mgs_text::Text;
 use mgs_windows::{Window, WindowMarks};
 
@@ -177,18 +176,21 @@ fn draw_told(echo: &Message, row: usize, point: (usize, usize), grid: &mut Grid)
 }
 
 /// Draws the line of a search, and puts the cursor at the point.
-fn draw_search(sought: &IncrementalSearch, row: usize, point: (usize, usize), grid: &mut Grid)
+fn draw_search(aim: &Aim, row: usize, point: (usize, usize), grid: &mut Grid)
     requires last { row < grid.old.rows }
     requires row { point.0 < grid.old.rows }
     requires col { point.1 < grid.old.cols }
-    ensures { grid.new ≡ search_drawn sought.now row point grid.old }
+    ensures { grid.new ≡ search_drawn aim.now row point grid.old }
 {
-    let _column = grid.draw_search(
-        row,
-        sought.direction(),
-        sought.is_failing(),
-        sought.pattern(),
-    );
+    let _column = match aim {
+        Aim::Find(sought) => grid.draw_search(
+            row,
+            sought.direction(),
+            sought.is_failing(),
+            sought.pattern(),
+        ),
+        Aim::Replace(_) => grid.draw_replacing(row),
+    };
     grid.set_cursor(point.0, point.1);
 }
 
@@ -223,7 +225,7 @@ fn draw_last_row(own: &Own, row: usize, point: (usize, usize), grid: &mut Grid)
     match &own.search {
         Some(search) => {
             if is_silent(&own.echo) {
-                draw_search(&search.sought, row, point, grid);
+                draw_search(&search.aim, row, point, grid);
             } else {
                 draw_told(&own.echo, row, point, grid);
             }
