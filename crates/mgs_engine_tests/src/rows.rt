@@ -260,6 +260,31 @@ fn no_text_is_inserted_past_the_limit(rt: HostRuntime) -> Result<(), Fail> {
     Ok(())
 }
 
+// Of all further replacements those that have room are done, and what is full ends the rest.
+#[test]
+fn a_full_text_ends_all_replacements(rt: HostRuntime) -> Result<(), Fail> {
+    let alloc = rt.alloc();
+    let text = nearly_full(alloc, &rt);
+    let mut engine = serve(alloc, &["ALLOW ann rwat"], &text, &rt);
+    let mut clients = Clients {
+        all: Vec::new(alloc),
+    };
+    let ann = sit(alloc, &mut engine, &mut clients, "ann", &rt);
+    press(
+        &mut engine,
+        &mut clients,
+        ann,
+        b"\x1b%a\rbbb\r!",
+        &rt,
+    );
+    let told = "bbbbbbbbbaaaaaaaaaa$ | -**-notes-L1-C10---- | Buffer full";
+    assert!(rt; shows(&clients, ann, told, (1, 11)));
+    press(&mut engine, &mut clients, ann, b"\x06", &rt);
+    let plain = "bbbbbbbbbaaaaaaaaaa$ | -**-notes-L1-C11----";
+    assert!(rt; shows(&clients, ann, plain, (1, 12)));
+    Ok(())
+}
+
 // A byte past ASCII is none of a search's own. It ends the search, and no command has it.
 #[test]
 fn a_byte_past_ascii_ends_a_search(rt: HostRuntime) -> Result<(), Fail> {

@@ -26,6 +26,8 @@ mod motions;
 #[cfg(test)]
 mod prompts;
 #[cfg(test)]
+mod replacing;
+#[cfg(test)]
 mod replay;
 #[cfg(test)]
 mod script;
