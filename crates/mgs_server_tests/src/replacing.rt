@@ -102,7 +102,7 @@ fn rights_are_judged_at_each_replacement(rt: HostRuntime) -> Result<(), Fail> {
         a M-% 'a RET 'b RET | a a a | --L1-C1 | 1 2 | Replace?
         keys b C-u '2 M-x 'acl-delete RET
         a '!                | a a a | --L1-C1 | 1 2 | Denied: no entry grants WRITE_DATA
-        a 'x                | a a a | --L1-C1 | 1 2 | Denied: no entry grants APPEND_DATA
+        a C-f               | a a a | --L1-C2 | 1 3
     ";
     steps_show(&rt, rt.alloc(), setting, steps)
 }
