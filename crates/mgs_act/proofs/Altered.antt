@@ -4,6 +4,7 @@ use Rattle.std.specs.Prelude.{IfSome, IfOk, OnOk, OnErr, Result, Ok, Err, slice_
 use Rattle.std.specs.List.{position_or_len}
 use Rattle.std.proofs.lemmas.Option.{get_or_from_slice_get}
 use Rattle.mgs_model.specs.Access.{Directory}
+use Rattle.mgs_model.specs.Searching.{first_match}
 use Rattle.mgs_model.specs.Text.{edited}
 use Rattle.mgs_model.specs.World.{Own, World}
 use Rattle.mgs_model.specs.World as model
@@ -45,15 +46,16 @@ use Rattle.mgs_world.proofs.Soundness.{mark_is_kept, sizes_set, sound_set}
 use Rattle.mgs_act.proofs.Alterations.{altered_here}
 use Rattle.mgs_act.proofs.Changes.{change_is, left_met, one_met, planned_change, to_met}
 use Rattle.mgs_act.proofs.Commands.{outcome_known}
-use Rattle.mgs_act.proofs.Deeds.{edited_sound, failed_always, gone_sound, set_back}
+use Rattle.mgs_act.proofs.Deeds.{edited_sound, failed_always, gone_buffers, gone_sound, set_back}
 use Rattle.mgs_act.proofs.Followed.{get_followed, set_followed, sizes_kept, sound_kept}
 use Rattle.mgs_act.proofs.Leaving.{length_edited_by, mark_edited_by}
 use Rattle.mgs_act.proofs.Marked.{set_twice}
 use Rattle.mgs_act.proofs.Meets.{counts, finish_met, replaces}
-use Rattle.mgs_act.proofs.Puts.{change_inside, change_order, next_within, text_changed}
-use Rattle.mgs_act.proofs.Replaces.{replaced_so}
+use Rattle.mgs_act.proofs.Puts.{change_inside, change_order, less_left, next_within, text_changed}
+use Rattle.mgs_act.proofs.Replaces.{name_followed, replaced_so}
+use Rattle.mgs_act.proofs.Replacements.{set_unsought}
 use Rattle.mgs_act.proofs.Seeks.{act_so, failed_apart, failed_sizes, failed_sound, held_so}
-use Rattle.mgs_act.proofs.Skips.{met_unsearched, met_uses, none_counted, shown_replaces, size_met}
+use Rattle.mgs_act.proofs.Skips.{met_unsearched, met_uses, none_counted, same_replacing, shown_replaces, size_met}
 
 -- A SESSION WHOSE SEARCH WAS TAKEN OUT
 
@@ -118,8 +120,8 @@ left_is : (b : Bool) (a : ℕ) (old put : List ℕ) → cond b (Some ((change_me
 left_is true a old put = refl
 left_is false a old put = refl
 
--- THE ACT, of a session that has this query-replace in the buffer of its window
-module _ (directory : Directory) (ks : List MarkedBuffer) (xs : List Session) (next : Option ℕ) (id at : ℕ) (h : Session) (x : WindowMarks) (s : Search) (r : Replacing) (last : Bool) (place : at ≡ position_or_len (session_id id) xs) (within : at < length xs) (found : slice_get xs at ≡ Some h) (sound : IsSound ks xs) (sel : window_marks_of h ≡ Some x) (mark : IsMark x.name x.point ks) (held_is : h.own.search ≡ Some (replaces s r)) (name : s.name ≡ x.name) (few : r.count < 2 ^ 64) where
+-- A SESSION THAT HAS THIS QUERY-REPLACE in the buffer of its window
+module _ (ks : List MarkedBuffer) (xs : List Session) (at : ℕ) (h : Session) (x : WindowMarks) (s : Search) (r : Replacing) (last : Bool) (found : slice_get xs at ≡ Some h) (mark : IsMark x.name x.point ks) (held_is : h.own.search ≡ Some (replaces s r)) (name : s.name ≡ x.name) where
   abbrev held : Session
   held = searching (replaces s r) h
 
@@ -188,77 +190,129 @@ module _ (directory : Directory) (ks : List MarkedBuffer) (xs : List Session) (n
       ∙ set_twice (followed x.name e xs) at (unsearched h) (session_replaced last x u ks (unsearched h))
       ∙ ap (slice_set (followed x.name e xs) at) (met_unsearched to (search_followed b x.name e u) h ∙ ap (λ (v : Search). session_met to v h) (search_is b x.name e s r))
 
-  put_so : world_of directory (buffers_replaced last x u ks) sessions_put next ≡ apply (world_of directory ks xs next) id (finished own f (edit_of x.name c))
-  put_so =
-      ap (λ (zs : List Session). world_of directory (buffers_replaced last x u ks) zs next) sessions_so
-      ∙ replaced_so directory ks xs next id at h x s r c place within found_held sound sel mark name order inside to left (count_met b r.count) (one_met b) (count_is b r.count few) (length r.pattern) small
+  -- WHAT IS LEFT becomes less
+  pub further_done : (q : Bool) (ls : List MarkedBuffer) (ys : List Session) (touched : Touched) → IsReplaced q last at x u (unsearched h) ks ls (slice_set xs at (unsearched h)) ys touched → (t : Search) → search_held at ys ≡ Some t → 0 < length r.pattern → remaining_at at ls ys < remaining_at at ks xs
+  further_done true ls ys touched done t held_t some =
+      absurd (set_unsought (slice_set xs at (unsearched h)) at (unsearched h) (failed BufferFull (unsearched h)) t (get_set xs at h (unsearched h) found) refl (ap (search_held at) (sym done.sessions) ∙ held_t))
+  further_done false ls ys touched done t held_t some = by to refl
+    where
+      new_held : search_held at ys ≡ (session_met to (search_followed b x.name (edit_replaced x u ks) u) (unsearched h)).own.search
+      new_held =
+          let e = edit_replaced x u ks in
+          let zs = slice_set xs at (unsearched h) in
+          ap search_or_none (ap (λ (k : List Session). slice_get k at) done.sessions ∙ get_set (followed x.name e zs) at (unsearched h) (session_replaced last x u ks (unsearched h)) (get_followed x.name e zs at (unsearched h) refl (get_set xs at h (unsearched h) found)))
 
-  pub put_apart : Apart (touched_by (edit_of x.name c)) id (world_of directory ks xs next) (world_of directory (buffers_replaced last x u ks) sessions_put next)
-  put_apart = rw put_so (apart_apply (world_of directory ks xs next) id (finished own f (edit_of x.name c)))
+      kept_after : HasBuffer x.name (edited_by x.name c ks)
+      kept_after = mark_is_kept x.name x.point (edited_by x.name c ks) (mark_edited_by x.name c ks x.point mark)
 
-  full_sessions : slice_set (slice_set xs at (unsearched h)) at (failed BufferFull (unsearched h)) ≡ slice_set xs at (failed BufferFull held)
-  full_sessions = set_twice xs at (unsearched h) (failed BufferFull (unsearched h))
+      size_after : (n : List ℕ) → n ≡ x.name → size_named n (buffers_of ls) ≡ length after
+      size_after n same =
+          ap (λ (k : List ℕ). size_named k (buffers_of ls)) same
+          ∙ ap (λ (k : List MarkedBuffer). size_named x.name (buffers_of k)) done.buffers
+          ∙ ap (size_named x.name) (gone_buffers x.name x.point (point_met (length r.pattern) to left) (edited_by x.name c ks))
+          ∙ size_kept x.name (edited_by x.name c ks) kept_after
 
-  pub full_apart : Apart Nowhere id (world_of directory ks xs next) (world_of directory ks (slice_set (slice_set xs at (unsearched h)) at (failed BufferFull (unsearched h))) next)
-  full_apart = rw full_sessions (failed_apart directory ks xs next id at held BufferFull place within found_held)
+      size_before : (n : List ℕ) → n ≡ x.name → size_named n (buffers_of ks) ≡ length text
+      size_before n same = ap (λ (k : List ℕ). size_named k (buffers_of ks)) same ∙ size_kept x.name ks kept
 
-  pub apart_done : (q : Bool) (ls : List MarkedBuffer) (ys : List Session) (touched : Touched) → IsReplaced q last at x u (unsearched h) ks ls (slice_set xs at (unsearched h)) ys touched → Apart touched id (world_of directory ks xs next) (world_of directory ls ys next)
-  apart_done true ls ys touched done = rw (done.tells, done.buffers, done.sessions) full_apart
-  apart_done false ls ys touched done = rw (done.tells, done.buffers, done.sessions) put_apart
+      named : (search_followed b x.name (edit_replaced x u ks) u).name ≡ x.name
+      named = ap (λ (k : Search). k.name) (search_is b x.name (edit_replaced x u ks) s r) ∙ name_followed x.name (edit_replaced x u ks) s ∙ name
 
-  -- WHAT THE ACT COMES TO
-  module _ (granted : rights_decision directory ks h.user x.name 3 ≡ Granted) where
-    abbrev serial : ℕ
-    serial = (marked_at x.name ks).buffer.serial
+      was : remaining_at at ks xs ≡ length text - a
+      was =
+          ap (remaining_in ks) (ap search_or_none found ∙ held_is)
+          ∙ ap (λ (k : ℕ). k - min s.anchor k) (size_before s.name name)
 
-    abbrev places : SearchPlaces
-    places = record { origin = min s.origin (length text); anchor = min s.anchor (length text); point = mark_at x.name ks x.point }
+      no : Path (Option Search) None (Some t) → ⊥
+      no e = cc
 
-    abbrev planned : Change
-    planned = planned_change last b a r.pattern r.put text
+      sought : (k : Bool) (m : ℕ) → next_met k u after (c.a + length c.put) ≡ Some m → first_match r.pattern after (c.a + length c.put) ≡ Some m
+      sought true m is = cc
+      sought false m is = is
 
-    size : size_named s.name (buffers_of ks) ≡ length text
-    size = ap (λ (n : List ℕ). size_named n (buffers_of ks)) name ∙ size_kept x.name ks kept
+      by : (o : Option ℕ) → to ≡ o → remaining_at at ls ys < remaining_at at ks xs
+      by None is = absurd (no (sym (new_held ∙ ap (λ (k : Option ℕ). (session_met k (search_followed b x.name (edit_replaced x u ks) u) (unsearched h)).own.search) is) ∙ held_t))
+      by (Some m) is =
+          let now : remaining_at at ls ys ≡ length after - min m (length after) =
+          ap (remaining_in ls) (new_held ∙ ap (λ (k : Option ℕ). (session_met k (search_followed b x.name (edit_replaced x u ks) u) (unsearched h)).own.search) is)
+          ∙ ap (λ (k : ℕ). k - min m k) (size_after _ named) in
+          let less : length after - min m (length after) < length text - a =
+          less_left b a m r.pattern r.put text after refl anchored some (text_changed x.name c ks kept order) (length_edited_by x.name c ks kept order inside) (sought last m is) in
+          omega (arith, now, was, less)
 
-    planned_so : (rest : Around) → rest.old ≡ r.pattern → Path (Result Change Message) (Ok planned) (alteration (replacement last) text (seeking rest places r.put))
-    planned_so rest old =
-        change_is last b a r.pattern r.put text (seeking rest places r.put) refl
-        ∙ ap (λ (q : List ℕ). alteration (replacement last) text (record (seeking rest places r.put) { old = q })) (sym old)
+  -- THE ACT
+  module _ (directory : Directory) (next : Option ℕ) (id : ℕ) (place : at ≡ position_or_len (session_id id) xs) (within : at < length xs) (sound : IsSound ks xs) (sel : window_marks_of h ≡ Some x) (few : r.count < 2 ^ 64) where
+    put_so : world_of directory (buffers_replaced last x u ks) sessions_put next ≡ apply (world_of directory ks xs next) id (finished own f (edit_of x.name c))
+    put_so =
+        ap (λ (zs : List Session). world_of directory (buffers_replaced last x u ks) zs next) sessions_so
+        ∙ replaced_so directory ks xs next id at h x s r c place within found_held sound sel mark name order inside to left (count_met b r.count) (one_met b) (count_is b r.count few) (length r.pattern) small
 
-    finish_is : f ≡ planned.finish
-    finish_is =
-        ap (λ (o : Option ℕ). finish_met (length r.pattern) o left (one_met b)) (to_is last u after (c.a + length c.put) ∙ ap (λ (t : List ℕ). to_met last r.pattern t (c.a + length c.put)) (text_changed x.name c ks kept order))
-        ∙ ap (λ (o : Option ℕ). finish_met (length r.pattern) (to_met last r.pattern (edited c.a c.b c.put text) (c.a + length c.put)) o (one_met b)) (left_is b a r.pattern r.put)
+    pub put_apart : Apart (touched_by (edit_of x.name c)) id (world_of directory ks xs next) (world_of directory (buffers_replaced last x u ks) sessions_put next)
+    put_apart = rw put_so (apart_apply (world_of directory ks xs next) id (finished own f (edit_of x.name c)))
 
-    abbrev comes : Bool → Outcome
-    comes q = cond q (fails own BufferFull) (finished own f (edit_of x.name c))
+    full_sessions : slice_set (slice_set xs at (unsearched h)) at (failed BufferFull (unsearched h)) ≡ slice_set xs at (failed BufferFull held)
+    full_sessions = set_twice xs at (unsearched h) (failed BufferFull (unsearched h))
 
-    comes_to : outcome (view (world_of directory ks xs next) (session_of ks held)) replaces_it true ≡ comes (is_full (length text) serial c)
-    comes_to =
-        let w = world_of directory ks xs next in
-        ap (λ (q : Option model.Search). let y : model.Session = record (session_of ks held) { search = q } in outcome (view w y) replaces_it true)
-        (λ i. Some (record { name = name i; origin = min s.origin (size i); anchor = min s.anchor (size i) }))
-        ∙ altered_here directory ks xs next held own None r.put (replacement last) x sel kept granted places refl planned planned_so
-        ∙ ap (λ (g : Finish). cond (is_full (length text) serial c) (fails own BufferFull) (finished own g (edit_of x.name c))) (sym finish_is)
+    pub full_apart : Apart Nowhere id (world_of directory ks xs next) (world_of directory ks (slice_set (slice_set xs at (unsearched h)) at (failed BufferFull (unsearched h))) next)
+    full_apart = rw full_sessions (failed_apart directory ks xs next id at held BufferFull place within found_held)
 
-    pub act_put : is_full (length text) serial c ≡ false → world_of directory (buffers_replaced last x u ks) sessions_put next ≡ act (world_of directory ks xs next) id replaces_it true
-    act_put room = act_so directory ks xs next id at held replaces_it (finished own f (edit_of x.name c)) _ place within found_held put_so (comes_to ∙ ap comes room)
+    pub apart_done : (q : Bool) (ls : List MarkedBuffer) (ys : List Session) (touched : Touched) → IsReplaced q last at x u (unsearched h) ks ls (slice_set xs at (unsearched h)) ys touched → Apart touched id (world_of directory ks xs next) (world_of directory ls ys next)
+    apart_done true ls ys touched done = rw (done.tells, done.buffers, done.sessions) full_apart
+    apart_done false ls ys touched done = rw (done.tells, done.buffers, done.sessions) put_apart
 
-    pub act_full : is_full (length text) serial c ≡ true → world_of directory ks (slice_set (slice_set xs at (unsearched h)) at (failed BufferFull (unsearched h))) next ≡ act (world_of directory ks xs next) id replaces_it true
-    act_full room =
-        ap (λ (zs : List Session). world_of directory ks zs next) full_sessions
-        ∙ act_so directory ks xs next id at held replaces_it (fails own BufferFull) _ place within found_held (failed_always directory ks xs next id at held BufferFull place within found_held) (comes_to ∙ ap comes room)
+    -- WHAT THE ACT COMES TO
+    module _ (granted : rights_decision directory ks h.user x.name 3 ≡ Granted) where
+      abbrev serial : ℕ
+      serial = (marked_at x.name ks).buffer.serial
 
-    pub act_done : (q : Bool) (ls : List MarkedBuffer) (ys : List Session) (touched : Touched) → is_full (length text) serial c ≡ q → IsReplaced q last at x u (unsearched h) ks ls (slice_set xs at (unsearched h)) ys touched → world_of directory ls ys next ≡ act (world_of directory ks xs next) id replaces_it true
-    act_done true ls ys touched full done =
-        ap (λ (k : List MarkedBuffer). world_of directory k ys next) done.buffers ∙ ap (λ (zs : List Session). world_of directory ks zs next) done.sessions ∙ act_full full
-    act_done false ls ys touched full done =
-        ap (λ (k : List MarkedBuffer). world_of directory k ys next) done.buffers ∙ ap (λ (zs : List Session). world_of directory (buffers_replaced last x u ks) zs next) done.sessions ∙ act_put full
+      abbrev places : SearchPlaces
+      places = record { origin = min s.origin (length text); anchor = min s.anchor (length text); point = mark_at x.name ks x.point }
 
-    pub put_may : is_full (length text) serial c ≡ false → is_change c ≡ true → may_be_refused (outcome_in (world_of directory ks xs next) id replaces_it true) ≡ true
-    put_may room change =
-        ap may_be_refused (outcome_known directory ks xs next id at held replaces_it place within found_held ∙ ap (λ (o : Outcome). Some o) (comes_to ∙ ap comes room))
-        ∙ ap (λ (q : Bool). takes_memory (finished own f (cond q (Edit x.name c.a c.b c.put) No_effect))) change
+      abbrev planned : Change
+      planned = planned_change last b a r.pattern r.put text
+
+      size : size_named s.name (buffers_of ks) ≡ length text
+      size = ap (λ (n : List ℕ). size_named n (buffers_of ks)) name ∙ size_kept x.name ks kept
+
+      planned_so : (rest : Around) → rest.old ≡ r.pattern → Path (Result Change Message) (Ok planned) (alteration (replacement last) text (seeking rest places r.put))
+      planned_so rest old =
+          change_is last b a r.pattern r.put text (seeking rest places r.put) refl
+          ∙ ap (λ (q : List ℕ). alteration (replacement last) text (record (seeking rest places r.put) { old = q })) (sym old)
+
+      finish_is : f ≡ planned.finish
+      finish_is =
+          ap (λ (o : Option ℕ). finish_met (length r.pattern) o left (one_met b)) (to_is last u after (c.a + length c.put) ∙ ap (λ (t : List ℕ). to_met last r.pattern t (c.a + length c.put)) (text_changed x.name c ks kept order))
+          ∙ ap (λ (o : Option ℕ). finish_met (length r.pattern) (to_met last r.pattern (edited c.a c.b c.put text) (c.a + length c.put)) o (one_met b)) (left_is b a r.pattern r.put)
+
+      abbrev comes : Bool → Outcome
+      comes q = cond q (fails own BufferFull) (finished own f (edit_of x.name c))
+
+      comes_to : outcome (view (world_of directory ks xs next) (session_of ks held)) replaces_it true ≡ comes (is_full (length text) serial c)
+      comes_to =
+          let w = world_of directory ks xs next in
+          ap (λ (q : Option model.Search). let y : model.Session = record (session_of ks held) { search = q } in outcome (view w y) replaces_it true)
+          (λ i. Some (record { name = name i; origin = min s.origin (size i); anchor = min s.anchor (size i) }))
+          ∙ altered_here directory ks xs next held own None r.put (replacement last) x sel kept granted places refl planned planned_so
+          ∙ ap (λ (g : Finish). cond (is_full (length text) serial c) (fails own BufferFull) (finished own g (edit_of x.name c))) (sym finish_is)
+
+      pub act_put : is_full (length text) serial c ≡ false → world_of directory (buffers_replaced last x u ks) sessions_put next ≡ act (world_of directory ks xs next) id replaces_it true
+      act_put room = act_so directory ks xs next id at held replaces_it (finished own f (edit_of x.name c)) _ place within found_held put_so (comes_to ∙ ap comes room)
+
+      pub act_full : is_full (length text) serial c ≡ true → world_of directory ks (slice_set (slice_set xs at (unsearched h)) at (failed BufferFull (unsearched h))) next ≡ act (world_of directory ks xs next) id replaces_it true
+      act_full room =
+          ap (λ (zs : List Session). world_of directory ks zs next) full_sessions
+          ∙ act_so directory ks xs next id at held replaces_it (fails own BufferFull) _ place within found_held (failed_always directory ks xs next id at held BufferFull place within found_held) (comes_to ∙ ap comes room)
+
+      pub act_done : (q : Bool) (ls : List MarkedBuffer) (ys : List Session) (touched : Touched) → is_full (length text) serial c ≡ q → IsReplaced q last at x u (unsearched h) ks ls (slice_set xs at (unsearched h)) ys touched → world_of directory ls ys next ≡ act (world_of directory ks xs next) id replaces_it true
+      act_done true ls ys touched full done =
+          ap (λ (k : List MarkedBuffer). world_of directory k ys next) done.buffers ∙ ap (λ (zs : List Session). world_of directory ks zs next) done.sessions ∙ act_full full
+      act_done false ls ys touched full done =
+          ap (λ (k : List MarkedBuffer). world_of directory k ys next) done.buffers ∙ ap (λ (zs : List Session). world_of directory (buffers_replaced last x u ks) zs next) done.sessions ∙ act_put full
+
+      pub put_may : is_full (length text) serial c ≡ false → is_change c ≡ true → may_be_refused (outcome_in (world_of directory ks xs next) id replaces_it true) ≡ true
+      put_may room change =
+          ap may_be_refused (outcome_known directory ks xs next id at held replaces_it place within found_held ∙ ap (λ (o : Outcome). Some o) (comes_to ∙ ap comes room))
+          ∙ ap (λ (q : Bool). takes_memory (finished own f (cond q (Edit x.name c.a c.b c.put) No_effect))) change
 
 -- WHATEVER CAME OF IT
 
@@ -304,3 +358,64 @@ ok_never (Err e) p = tt
 pub err_never : {T E P : Type 0} (res : Result T E) → P → OnErr res P
 err_never (Ok o) p = tt
 err_never (Err e) p = p
+
+-- the act of a session that has a query-replace there, by what came of it
+module _ (directory : Directory) (ks ls : List MarkedBuffer) (xs ys : List Session) (at : ℕ) (h y : Session) (x : WindowMarks) (s : Search) (last : Bool) (within : at < length xs) (found : slice_get xs at ≡ Some h) (sound : IsSound ks xs) (sel : window_marks_of h ≡ Some x) (mark : IsMark x.name x.point ks) (rest : y ≡ unsearched h) (shown : replacing_shown x.name h.own.search ≡ Some s) (few : aim_count s.aim < 2 ^ 64) where
+  abbrev r : Replacing
+  r = (shown_replaces x.name h.own.search s shown).0
+
+  held_is : h.own.search ≡ Some (replaces s r)
+  held_is = (shown_replaces x.name h.own.search s shown).1
+
+  whole : s ≡ replaces s r
+  whole = (shown_replaces x.name h.own.search s shown).2
+
+  name : s.name ≡ x.name
+  name = (shown_replaces x.name h.own.search s shown).3
+
+  few_so : r.count < 2 ^ 64
+  few_so = subst (λ (u : Search). aim_count u.aim < 2 ^ 64) whole few
+
+  abbrev pub full_by : Search → Bool
+  full_by u = is_full (length (text_at x ks)) (marked_at x.name ks).buffer.serial (replaced_change u (text_at x ks))
+
+  abbrev pub DoneBy : Touched → Type 0
+  DoneBy touched = (g : Session) → slice_get (slice_set xs at y) at ≡ Some g → g.own.search ≡ None → IsReplaced (full_by s) last at x s g ks ls (slice_set xs at y) ys touched
+
+  done_so : (touched : Touched) → DoneBy touched → IsReplaced (full_by (replaces s r)) last at x (replaces s r) (unsearched h) ks ls (slice_set xs at (unsearched h)) ys touched
+  done_so touched done =
+      subst (λ (u : Search). IsReplaced (full_by u) last at x u (unsearched h) ks ls (slice_set xs at (unsearched h)) ys touched) whole (done_at (full_by s) last ks ls xs ys at h y x s touched found rest done)
+
+  replacing_of : (t : Search) (u : Replacing) → search_held at xs ≡ Some t → t.aim ≡ Replace u → r ≡ u
+  replacing_of t u held aim = same_replacing s r t u (sym held_is ∙ held_here xs at h (Some t) found held) aim
+
+  pub replace_ok : {E : Type 0} (res : Result Touched E) → rights_decision directory ks h.user x.name 3 ≡ Granted → IfOk res DoneBy
+      → OnOk res ((id : ℕ) (next : Option ℕ) (t : Search) (u : Replacing) → at ≡ position_or_len (session_id id) xs → search_held at xs ≡ Some t → t.aim ≡ Replace u → world_of directory ls ys next ≡ act (world_of directory ks xs next) id (Run (Alter (replacement last)) None u.put) true)
+  replace_ok (Ok touched) granted done = λ id next t u place held aim.
+      act_done ks xs at h x s r last found mark held_is name directory next id place within sound sel few_so granted (full_by (replaces s r)) ls ys touched refl (done_so touched done)
+      ∙ ap (λ (v : Replacing). act (world_of directory ks xs next) id (Run (Alter (replacement last)) None v.put) true) (replacing_of t u held aim)
+  replace_ok (Err e) granted done = tt
+
+  pub replace_touched : {E : Type 0} (res : Result Touched E) → IfOk res DoneBy → IfOk res (λ touched. (id : ℕ) (next : Option ℕ) → at ≡ position_or_len (session_id id) xs → Apart touched id (world_of directory ks xs next) (world_of directory ls ys next))
+  replace_touched (Ok touched) done = λ id next place.
+      apart_done ks xs at h x s r last found mark held_is name directory next id place within sound sel few_so (full_by (replaces s r)) ls ys touched (done_so touched done)
+  replace_touched (Err e) done = tt
+
+  pub replace_may : {E : Type 0} (res : Result Touched E) → rights_decision directory ks h.user x.name 3 ≡ Granted → OnErr res (full_by s ≡ false) → OnErr res (is_change (replaced_change s (text_at x ks)) ≡ true)
+      → OnErr res ((id : ℕ) (next : Option ℕ) (t : Search) (u : Replacing) → at ≡ position_or_len (session_id id) xs → search_held at xs ≡ Some t → t.aim ≡ Replace u → may_be_refused (outcome_in (world_of directory ks xs next) id (Run (Alter (replacement last)) None u.put) true) ≡ true)
+  replace_may (Ok touched) granted room change = tt
+  replace_may (Err e) granted room change = λ id next t u place held aim.
+      sym (ap (λ (v : Replacing). may_be_refused (outcome_in (world_of directory ks xs next) id (Run (Alter (replacement last)) None v.put) true)) (replacing_of t u held aim))
+      ∙ put_may ks xs at h x s r last found mark held_is name directory next id place within sound sel few_so granted (sym (ap full_by whole) ∙ room) (sym (ap (λ (v : Search). is_change (replaced_change v (text_at x ks))) whole) ∙ change)
+
+  some_so : (t : Search) → search_held at xs ≡ Some t → 0 < length (aim_old t.aim) → 0 < length r.pattern
+  some_so t held some =
+      let both : Path (Option Search) (Some t) (Some (replaces s r)) = sym (held_here xs at h (Some t) found held) ∙ held_is in
+      let one : t ≡ replaces s r = cc in
+      subst (λ (u : Search). 0 < length (aim_old u.aim)) one some
+
+  pub replace_further : {E : Type 0} (res : Result Touched E) → IfOk res DoneBy
+      → OnOk res ((t v : Search) → search_held at xs ≡ Some t → search_held at ys ≡ Some v → 0 < length (aim_old t.aim) → remaining_at at ls ys < remaining_at at ks xs)
+  replace_further (Ok touched) done = λ t v before now some.
+      further_done ks xs at h x s r last found mark held_is name (full_by (replaces s r)) ls ys touched (done_so touched done) v now (some_so t before some)
+  replace_further (Err e) done = tt

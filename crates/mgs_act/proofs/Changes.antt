@@ -1,5 +1,5 @@
 -- A match is replaced: what the text is then, and what is planned.
-use Rattle.std.proofs.Common.{◌≡◌, ℕ, ◌+◌, Bool, true, false, cond, List, [], ◌++◌, length, take, drop, Option, Some, None, refl, sym, ap, ◌∙◌, append-nil}
+use Rattle.std.proofs.Common.{◌≡◌, ℕ, ◌+◌, Bool, true, false, cond, List, [], ◌++◌, length, take, drop, Option, Some, None, refl, sym, ap, ◌∙◌, arith, append-nil}
 use Rattle.std.specs.Prelude.{Result, Ok}
 use Rattle.std.proofs.lemmas.List.{take-append-drop}
 use Rattle.mgs_model.specs.Outcome.{Anchor_at, At}
@@ -55,8 +55,9 @@ change_is false false a old put text rest is =
     let x : Around = record rest { anchor = a; sought_here = true; old = old; typed = put } in
     let after = edited a (a + length old) put text in
     let f : Finish = record (goes (a + length put)) { replaced = 1 } in
+    let from : a + 0 ≡ a = omega arith in
     ap (λ (g : Finish). let c : Change = record { a = a; b = a; put = []; finish = g } in Ok c)
-    (ap (λ (t : List ℕ). finish_met (length old) (first_match old t (a + 0)) None 0) (same_text a text) ∙ next_is x stays (a + 0) text None 0 met_here)
+    (ap (λ (t : List ℕ). finish_met (length old) (first_match old t (a + 0)) None 0) (same_text a text) ∙ ap (λ (k : ℕ). finish_met (length old) (first_match old text k) None 0) from ∙ next_is x stays a text None 0 met_here)
     ∙ ap (λ (q : Bool). Ok (cond q (record { a = a; b = a + length old; put = put; finish = next_match x (a + length put) f after }) (record { a = a; b = a; put = []; finish = next_match x a stays text }))) (sym is)
   where
     met_here : (to : Option ℕ) → finish_met (length old) to None 0 ≡ elim to [ None ↦ record stays { mode = Over } | Some m ↦ record stays { point = At (m + length old); sought = Anchor_at m } ]

@@ -42,11 +42,11 @@ text_changed name c ks kept order = go (is_edit c.a c.b c.put) refl
 begins_fits : (ps xs : List ℕ) → begins ps xs ≡ true → length ps ≤ length xs
 begins_fits [] xs e = omega arith
 begins_fits (p ∷ ps) [] e = cc
-begins_fits (p ∷ ps) (x ∷ xs) e = by (eq_ignore_ascii_case p x) e
+begins_fits (p ∷ ps) (x ∷ xs) e = by (eq_ignore_ascii_case p x) (begins_fits ps xs) e
   where
-    by : (b : Bool) → (b && begins ps xs) ≡ true → length (p ∷ ps) ≤ length (x ∷ xs)
-    by true is = omega (arith, begins_fits ps xs is)
-    by false is = cc
+    by : (b : Bool) → (begins ps xs ≡ true → length ps ≤ length xs) → (b && begins ps xs) ≡ true → length (p ∷ ps) ≤ length (x ∷ xs)
+    by true rest is = omega (arith, rest is)
+    by false rest is = cc
 
 matches_fit : (ps text : List ℕ) (a : ℕ) → a ≤ length text → matches_at ps text a ≡ true → a + length ps ≤ length text
 matches_fit ps text a inside is = omega (arith, inside, begins_fits ps (drop a text) is, length-drop a text)
