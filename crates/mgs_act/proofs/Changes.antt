@@ -1,5 +1,5 @@
 -- A match is replaced: what the text is then, and what is planned.
-use Rattle.std.proofs.Common.{◌≡◌, ℕ, ◌+◌, Bool, true, false, cond, List, [], length, Option, Some, None, refl, sym, ap, ◌∙◌}
+use Rattle.std.proofs.Common.{◌≡◌, ℕ, ◌+◌, Bool, true, false, cond, List, [], ◌++◌, length, take, drop, Option, Some, None, refl, sym, ap, ◌∙◌, arith, append-nil}
 use Rattle.std.specs.Prelude.{Result, Ok}
 use Rattle.std.proofs.lemmas.List.{take-append-drop}
 use Rattle.mgs_model.specs.Outcome.{Anchor_at, At}
@@ -33,8 +33,8 @@ abbrev pub planned_change : Bool → Bool → ℕ → List ℕ → List ℕ → 
 planned_change last b a old put text = (let c = change_met b a old put in record c { finish = finish_met (length old) (to_met last old (edited c.a c.b c.put text) (c.a + length c.put)) (left_met b a put) (one_met b) })
 
 -- an edit that takes out and puts in nothing
-same_text : (a : ℕ) (text : List ℕ) → edited a a [] text ≡ text
-same_text a text = take-append-drop a text
+pub same_text : (a : ℕ) (text : List ℕ) → edited a a [] text ≡ text
+same_text a text = ap (λ (t : List ℕ). t ++ drop a text) (append-nil (take a text)) ∙ take-append-drop a text
 
 pub change_is : (last b : Bool) (a : ℕ) (old put text : List ℕ) (rest : Around) → matches_at old text a ≡ b → Path (Result Change Message) (Ok (planned_change last b a old put text)) (alteration (replacement last) text (record rest { anchor = a; sought_here = true; old = old; typed = put }))
 change_is true true a old put text rest is =
@@ -55,8 +55,9 @@ change_is false false a old put text rest is =
     let x : Around = record rest { anchor = a; sought_here = true; old = old; typed = put } in
     let after = edited a (a + length old) put text in
     let f : Finish = record (goes (a + length put)) { replaced = 1 } in
+    let from : a + 0 ≡ a = omega arith in
     ap (λ (g : Finish). let c : Change = record { a = a; b = a; put = []; finish = g } in Ok c)
-    (ap (λ (t : List ℕ). finish_met (length old) (first_match old t (a + 0)) None 0) (same_text a text) ∙ next_is x stays (a + 0) text None 0 met_here)
+    (ap (λ (t : List ℕ). finish_met (length old) (first_match old t (a + 0)) None 0) (same_text a text) ∙ ap (λ (k : ℕ). finish_met (length old) (first_match old text k) None 0) from ∙ next_is x stays a text None 0 met_here)
     ∙ ap (λ (q : Bool). Ok (cond q (record { a = a; b = a + length old; put = put; finish = next_match x (a + length put) f after }) (record { a = a; b = a; put = []; finish = next_match x a stays text }))) (sym is)
   where
     met_here : (to : Option ℕ) → finish_met (length old) to None 0 ≡ elim to [ None ↦ record stays { mode = Over } | Some m ↦ record stays { point = At (m + length old); sought = Anchor_at m } ]

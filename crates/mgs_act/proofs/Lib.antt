@@ -21,8 +21,10 @@ pub mod Begins
 mod Seeks
 mod Meets
 mod Alterations
+mod Altered
 mod Skips
 mod Starts
 mod Changes
 mod Replaces
+mod Puts
 mod Replacements

@@ -67,7 +67,7 @@ reserved_in_use (Some m) x id ks ls is kept marks r = rw (r.1, r.0) (marks.mark 
 
 -- LISTS
 
-set_twice : {A : Type 0} (xs : List A) (at : ℕ) (x y : A) → slice_set (slice_set xs at x) at y ≡ slice_set xs at y
+pub set_twice : {A : Type 0} (xs : List A) (at : ℕ) (x y : A) → slice_set (slice_set xs at x) at y ≡ slice_set xs at y
 set_twice [] zero x y = refl
 set_twice [] (suc at) x y = refl
 set_twice (z ∷ zs) zero x y = refl

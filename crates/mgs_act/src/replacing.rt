@@ -488,7 +488,11 @@ pub fn replace<T: Marked + Drop>(
             Ok(Touched::Nowhere)
         }
         None => match take_replacing_in(session, name) {
-            Some(search) => replace_in(buffers, sessions, at, &window_marks, search, last),
+            Some(search) => {
+                // For the range of a count.
+                let _count = replaced_count(&search);
+                replace_in(buffers, sessions, at, &window_marks, search, last)
+            }
             None => {
                 fail(session, Message::NoBuffer);
                 Ok(Touched::Nowhere)
