@@ -9,8 +9,7 @@ use Rattle.mgs_model.specs.Text.{edited}
 use Rattle.mgs_model.specs.World.{Own, World}
 use Rattle.mgs_model.specs.World as model
 use Rattle.mgs_model.specs.View.{view}
-use Rattle.mgs_model.specs.Outcome.{Act, Edit, Effect, No_effect, Outcome, Run, takes_memory}
-use Rattle.mgs_model.specs.Plans as plans
+use Rattle.mgs_model.specs.Outcome.{Act, Edit, No_effect, Outcome, Run, takes_memory}
 use Rattle.mgs_model.specs.Plans.{Around, Change, Finish, alteration}
 use Rattle.mgs_model.specs.Acts.{counted, edit_of, fails, finished, is_full, outcome}
 use Rattle.mgs_model.specs.Apart.{Apart, touched_by}
@@ -33,11 +32,11 @@ use Rattle.mgs_session.specs.declared.search.Edited.{Edited}
 use Rattle.mgs_session.specs.Replacing.{Replacing}
 use Rattle.mgs_session.specs.declared.search.Aim.TheVariants.{Replace}
 use Rattle.mgs_session.specs.declared.search.Search.{Search}
-use Rattle.mgs_act.specs.Actions.{edited_by, mark_gone}
+use Rattle.mgs_act.specs.Actions.{edited_by}
 use Rattle.mgs_act.specs.Beginning.{search_held, search_or_none, seeking}
-use Rattle.mgs_act.specs.Following.{edit_told, followed}
+use Rattle.mgs_act.specs.Following.{followed}
 use Rattle.mgs_act.specs.Inserting.{rights_decision}
-use Rattle.mgs_act.specs.Replacing.{IsFull, IsPut, IsReplaced, anchor_of, buffers_replaced, change_met, edit_replaced, edited_if, is_change, is_met, left_at, next_after, next_met, plan_at, point_met, remaining_at, remaining_in, replaced_change, replacement, replacing_shown, search_followed, session_met, session_replaced, text_at}
+use Rattle.mgs_act.specs.Replacing.{IsReplaced, anchor_of, buffers_replaced, change_met, edit_replaced, edited_if, is_change, is_met, left_at, next_after, next_met, plan_at, point_met, remaining_at, remaining_in, replaced_change, replacement, replacing_shown, search_followed, session_met, session_replaced, text_at}
 use Rattle.mgs_world.specs.Sound.{IsSound}
 use Rattle.mgs_world.specs.Worlds.{aim_count, aim_old, buffers_of, own_of, session_id, session_of, size_named, sizes_in, world_of}
 use Rattle.mgs_world.proofs.Edits.{size_kept}

@@ -7,7 +7,6 @@ use Rattle.mgs_model.specs.Text.{edited}
 use Rattle.mgs_model.specs.Searching.{first_match, matches_at}
 use Rattle.mgs_model.specs.Plans.{Around, Change, Finish, Over, alteration, goes, next_match, stays}
 use Rattle.mgs_model.specs.declared.message.Message.{Message}
-use Rattle.mgs_model.specs.declared.session.Alteration.TheVariants.{ReplaceMatch, ReplaceLast}
 use Rattle.mgs_act.specs.Replacing.{change_met, replacement}
 use Rattle.mgs_act.proofs.Meets.{finish_met}
 

@@ -102,8 +102,8 @@ abbrev pub counts : Search → Replacing → ℕ → Search
 counts s r k = replaces s (record r { count = k })
 
 met_own : (len : ℕ) (met left : Option ℕ) (s : Search) (r : Replacing) (k n : ℕ) (h : Session) → k ≡ counted r.count n → own_of (session_met met (counts s r k) h).own ≡ finished_own (finish_met len met left n) (own_of (searching (replaces s r) h).own)
-met_own len None left s r k n h e = ap (λ (q : ℕ). own_of (session_over q h).own) e
-met_own len (Some m) left s r k n h e = ap (λ (q : ℕ). own_of (session_met (Some m) (counts s r q) h).own) e
+met_own len None _ s r k n h e = ap (λ (q : ℕ). own_of (session_over q h).own) e
+met_own len (Some m) _ s r k n h e = ap (λ (q : ℕ). own_of (session_met (Some m) (counts s r q) h).own) e
 
 module _ (directory : Directory) (ks : List MarkedBuffer) (xs : List Session) (next : Option ℕ) (id at : ℕ) (h : Session) (x : WindowMarks) (s : Search) (r : Replacing) (place : at ≡ position_or_len (session_id id) xs) (within : at < length xs) (found : slice_get xs at ≡ Some (searching (replaces s r) h)) (sel : window_marks_of h ≡ Some x) (mark : IsMark x.name x.point ks) (once : uses x.name x.point xs ≤ 1) (name : s.name ≡ x.name) (len : ℕ) (left : Option ℕ) (k n : ℕ) (count : k ≡ counted r.count n) where
   pub met_so : (met : Option ℕ) → IfSome met (λ m. m ≤ length (marked_at x.name ks).buffer.text)

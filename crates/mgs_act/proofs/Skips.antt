@@ -1,5 +1,5 @@
 -- A match is skipped: that what is done is the act.
-use Rattle.std.proofs.Common.{◌≡◌, ℕ, ◌+◌, ◌<◌, ◌≤◌, ◌^◌, min, Bool, true, false, cond, List, [], length, Option, Some, None, refl, sym, ap, subst, ◌∙◌, arith}
+use Rattle.std.proofs.Common.{◌≡◌, ℕ, ◌+◌, ◌<◌, ◌≤◌, ◌^◌, min, Bool, true, false, cond, List, length, Option, Some, None, refl, sym, ap, subst, ◌∙◌, arith}
 use Rattle.std.proofs.Math.Nat.{min-eq_left}
 use Rattle.std.specs.Prelude.{IfSome, Result, Ok, slice_get, slice_set}
 use Rattle.std.specs.List.{position_or_len}
@@ -44,7 +44,7 @@ use Rattle.mgs_world.proofs.Found.{name_kept}
 use Rattle.mgs_world.proofs.Marks.{false_from, is_same, not_both, same_is}
 use Rattle.mgs_world.proofs.Soundness.{mark_is_kept, sizes_set, sound_set}
 use Rattle.mgs_act.proofs.Deeds.{failed_always, gone_sound, once_used}
-use Rattle.mgs_act.proofs.Meets.{counts, finish_met, met_so, replaces}
+use Rattle.mgs_act.proofs.Meets.{finish_met, met_so, replaces}
 use Rattle.mgs_act.proofs.Outcomes.{moved_denied, moved_elsewhere, moved_here, moved_off}
 use Rattle.mgs_act.proofs.Seeks.{act_so, held_so}
 

@@ -31,7 +31,6 @@ use Rattle.mgs_search.specs.Planned.{begun}
 use Rattle.mgs_session.specs.Seeking.{replacing_begun}
 use Rattle.mgs_session.specs.Sessions.{failed, window_marks_of}
 use Rattle.mgs_session.specs.declared.Session.{Session}
-use Rattle.mgs_session.specs.Replacing.{Replacing}
 use Rattle.mgs_session.specs.declared.search.Search.{Search}
 use Rattle.mgs_act.specs.Actions.{around_in, mark_gone, place_in, selected_height}
 use Rattle.mgs_act.specs.Inserting.{rights_decision}

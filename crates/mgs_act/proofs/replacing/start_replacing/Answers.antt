@@ -1,13 +1,9 @@
-use Rattle.std.proofs.Common.{◌≡◌, ◌≤◌, ℕ, List, Option, None, length, get_or, sym, ap, subst, ◌∙◌}
+use Rattle.std.proofs.Common.{◌≤◌, ℕ, None, length, get_or, sym, ap, subst, ◌∙◌}
 use Rattle.std.specs.Prelude.{Ok, Err}
 use Rattle.std.specs.Option.{option_and_then}
 use Rattle.std.proofs.lemmas.Option.{slice_get-get_or}
 use Rattle.mgs_model.specs.declared.message.Message.TheVariants.{NoBuffer}
-use Rattle.mgs_model.specs.declared.message.Message.{Message}
-use Rattle.mgs_model.specs.Plans.{motion}
-use Rattle.mgs_model.specs.declared.session.Motion.TheVariants.{StartReplace}
 use Rattle.mgs_buffers.specs.MarkedBuffer.{mark_at, marked_at}
-use Rattle.mgs_search.specs.Planned.{begun}
 use Rattle.mgs_session.specs.Sessions.{window_marks_of}
 use Rattle.mgs_world.proofs.Soundness.{mark_is_kept}
 use Rattle.mgs_act.proofs.Deeds.{acting_marks}
