@@ -115,20 +115,17 @@ TABLE = {
     b"\x18n": "next-window", b"\x18p": "previous-window", b"\x18^": "enlarge-window", b"\x1bx": "execute-extended-command",
     b"\x18\x03": "save-buffers-kill-emacs", b"\x07": "keyboard-quit", b"\x18g": "goto-line",
     b"\x13": "isearch-forward", b"\x12": "isearch-backward", b"\x1bs": "search-forward", b"\x1br": "search-backward", b"\x18(": "start-kbd-macro", b"\x18)": "end-kbd-macro",
-    b"\x18e": "call-last-kbd-macro",
+    b"\x18e": "call-last-kbd-macro", b"\x1b%": "query-replace",
     b"\x1b[A": "previous-line", b"\x1b[B": "next-line", b"\x1b[C": "forward-char", b"\x1b[D": "backward-char",
 }
-REPLACING = {b"\x1b%": "query-replace"}
 KEYLESS = ["insert-buffer", "shrink-window", "acl-list", "acl-insert", "acl-delete", "acl-replace", "set-owner"]
 UNNAMED = ["execute-extended-command", "start-kbd-macro", "end-kbd-macro", "call-last-kbd-macro", "quoted-insert"]
 
 
 class World:
-    def __init__(self, replacing=False):
+    def __init__(self):
         self.users, self.groups, self.buffers, self.sessions = [], {}, [], {}
-        self.table = dict(TABLE)
-        if replacing:
-            self.table.update(REPLACING)
+        self.table = TABLE
         self.names = sorted(set(x for x in self.table.values() if x not in UNNAMED) | set(KEYLESS))
 
     # RIGHTS

@@ -1,6 +1,6 @@
 """Plays random scripts with mgd, and compares every screen after every byte with those of plain_editor.py.
 
-    python3 bench/try_scripts.py [--program PATH] [--seed N] [--count N] [--steps N] [--replacing]
+    python3 bench/try_scripts.py [--program PATH] [--seed N] [--count N] [--steps N]
 
 A script has up to four buffers with random access lists, owners and texts, and up to three sessions. The first difference of a
 script is printed with the keys before it, and the script is left in a file. Status 1 where there was one."""
@@ -12,7 +12,7 @@ import subprocess
 import sys
 import tempfile
 
-from plain_editor import ORDER, TABLE, REPLACING, Buffer, World, read_entry
+from plain_editor import ORDER, TABLE, Buffer, World, read_entry
 
 TOP = os.path.dirname(os.path.dirname(os.path.abspath(__file__)))
 NAMED_KEYS = {0x00: "C-SPC", 0x09: "TAB", 0x0D: "RET", 0x1B: "ESC", 0x1F: "C-_", 0x20: "SPC", 0x7F: "DEL"}
@@ -26,7 +26,8 @@ MACROS = [b"\x18(", b"\x18(", b"\x18)", b"\x18)", b"\x18e", b"\x18e", b"\x153\x1
 SEARCHING = [b"\x13", b"\x12", b"\x13a", b"\x12b", b"\x13ab\x13", b"\x12b\x12", b"\x13c\x7f", b"\x13\x13", b"\x12\x12", b"\x13\x12", b"\x12\x13\x13",
              b"\x13bE\x7f\x7f\x7f", b"\x12zz\x7f", b"\x13a\r", b"\x12d\r", b"\x13 \x13\x13\x07", b"\x13b\x12\x12\x13", b"\x13d\x0b", b"\x12a\t",
              b"\x13b\x1bf", b"\x13a\x152\x06", b"\x13" + b"a" * 121 + b"\x7f", b"\x7f", b"\r", b"\x07"]
-REPLACEMENTS = [b"\x1b%a\rxy\r", b"\x1b%ab\r\r", b"y", b"n", b"!", b".", b"q", b" "]
+REPLACEMENTS = [b"\x1b%a\rxy\r", b"\x1b%ab\r\r", b"\x1b%b\rB\ry", b"\x1b%a\rb\r!", b"\x1b% \r\t\rn", b"\x1b%e\rEe\r", b"\x1b%\r\r",
+                b"y", b"yn", b"n", b"\x7f", b"!", b".", b"q", b"\r", b" ", b"z", b"\x07", b"\x18(\x1b%a\rc\r!\x18)", b"\x18e"]
 
 
 def token(byte):
@@ -46,10 +47,9 @@ def text_tokens(text):
 class Script:
     """A random script, and the screens that it is to print."""
 
-    def __init__(self, seed, steps, replacing):
+    def __init__(self, seed, steps):
         self.random = random.Random(seed)
-        self.world, self.lines, self.screens = World(replacing), [], []
-        self.replacing = replacing
+        self.world, self.lines, self.screens = World(), [], []
         self.set_up()
         for _ in range(steps):
             self.step()
@@ -114,13 +114,13 @@ class Script:
         r = self.random
         if r.random() < .15:
             return r.choice(SEARCHING)
-        if self.replacing and r.random() < .3:
+        if r.random() < .15:
             return r.choice(REPLACEMENTS)
         x = r.random()
         if x < .30:
             return bytes(r.choice(b"abcE .x1\t") for _ in range(r.randint(1, 4)))
         if x < .62:
-            return r.choice(ARGUMENTS) + r.choice(list(TABLE) + (list(REPLACING) if self.replacing else []))
+            return r.choice(ARGUMENTS) + r.choice(list(TABLE))
         if x < .70:
             return self.named(r.choice(ASKING))
         if x < .86:
@@ -181,7 +181,6 @@ def main():
     options.add_argument("--seed", type=int, default=1)
     options.add_argument("--count", type=int, default=100)
     options.add_argument("--steps", type=int, default=40)
-    options.add_argument("--replacing", action="store_true", help="replacements too")
     options.add_argument("--write", metavar="FOLDER", help="write the scripts there, and play none")
     options.add_argument("--read", metavar="FILE", help="compare what `rt try --cases` printed of them, and play none")
     chosen = options.parse_args()
@@ -192,7 +191,7 @@ def main():
     printed_cases = cases_of(chosen.read) if chosen.read else None
     played = differ = 0
     for seed in seeds:
-        script = Script(seed, chosen.steps, chosen.replacing)
+        script = Script(seed, chosen.steps)
         if printed_cases is None:
             run = subprocess.run([chosen.program, "replay"], input=script.source().encode(), capture_output=True)
             printed = run.stdout.decode("latin1")
@@ -213,7 +212,7 @@ def write_scripts(folder, seeds, chosen):
     os.makedirs(folder, exist_ok=True)
     for seed in seeds:
         with open(os.path.join(folder, "%06d" % seed), "w") as file:
-            file.write(Script(seed, chosen.steps, chosen.replacing).source())
+            file.write(Script(seed, chosen.steps).source())
 
 
 def cases_of(path):
