@@ -1,9 +1,10 @@
 -- Further replacements are left by an alteration only where its session goes on to replace.
-use Rattle.std.proofs.Common.{◌≡◌, ℕ, ◌<◌, length, Bool, true, false, cond, List, Option, Some, None, refl, sym, ap, subst, ◌∙◌}
+use Rattle.std.proofs.Common.{◌≡◌, ℕ, ◌<◌, length, Bool, true, false, cond, List, map, Option, Some, None, refl, sym, ap, subst, ◌∙◌}
 use Rattle.std.specs.Prelude.{Result, Ok, Err}
-use Rattle.mgs_model.specs.World.{Own}
-use Rattle.mgs_model.specs.View.{View, serial_told, size_told, text_in}
-use Rattle.mgs_model.specs.Outcome.{Effect, Outcome, Run, Adjust}
+use Rattle.std.specs.Option.{option_map}
+use Rattle.mgs_model.specs.World.{World, Session, Own, find_session, has_id}
+use Rattle.mgs_model.specs.View.{View, view, serial_told, size_told, text_in}
+use Rattle.mgs_model.specs.Outcome.{Effect, Outcome, Run, Adjust, Quit}
 use Rattle.mgs_model.specs.Plans.{Change, Failing, Finish, Goes_on, ModePlan, Over, acted_own, alteration}
 use Rattle.mgs_model.specs.Acts.{Target, allowed, around, counted, edit_of, edited_by, edits, fails, failing_in, finished, finished_own, is_full, is_too_large, judged, mode_left, needs, outcome, permitted, target, without_all}
 use Rattle.mgs_model.specs.declared.entry.Decision.{Decision}
@@ -13,6 +14,15 @@ use Rattle.mgs_model.specs.declared.message.Message.TheVariants.{BufferFull, Kil
 use Rattle.mgs_model.specs.declared.session.Alteration.{Alteration}
 use Rattle.mgs_model.specs.declared.session.Command.TheVariants.{Alter}
 use Rattle.mgs_model.specs.declared.session.Mode.TheVariants.{Replacing}
+use Rattle.mgs_model.specs.Apply.{act, after_quit, applied, apply, change_first, session_after, session_arranged}
+use Rattle.mgs_model.specs.Events.{with_own}
+use Rattle.mgs_model.proofs.After.{find_after, find_without}
+use Rattle.mgs_model.proofs.LeftToDo.{seen_begun}
+use Rattle.mgs_model.proofs.Turning.{begun_view}
+use Rattle.mgs_act.specs.Replacing.{replacement}
+use Rattle.mgs_core.specs.declared.deeds.Deed.{Deed}
+use Rattle.mgs_core.specs.declared.deeds.Deed.TheVariants as deeds
+use Rattle.mgs_core.specs.Stepped.{deed_act, deed_own, is_replacement}
 use Rattle.mgs_core.specs.Turned.{IsFit, has_all}
 use Rattle.mgs_core.proofs.Stepped.{fit_none}
 
@@ -55,3 +65,37 @@ unfolding outcome
 altered_fits v c n typed stored mode some rest =
     permitted_fits v.session.own mode some rest (judged v (needs v (Run (Alter c) n typed))) (allowed v (Run (Alter c) n typed) stored)
     (edits_fit v.session.own mode some rest (target v) (λ t. alteration c (text_in t.buffer.full) (around v.session n typed t)))
+
+-- what the session of an act holds then
+own_applied : (P : Own → Type 0) (w : World) (id : ℕ) (o : Outcome) → P o.own → (y : Session) → find_session id (apply w id o).sessions ≡ Some y → P y.own
+own_applied P w id o h y found = by o.effect refl
+  where
+    arranged : (s : Option Session) → option_map (λ x. session_arranged o (session_after o.effect x)) s ≡ Some y → P y.own
+    arranged None q = cc
+    arranged (Some x) q = (let r : session_arranged o (session_after o.effect x) ≡ y = cc in subst (λ (z : Session). P z.own) r h)
+
+    stays : (q : (xs : List Session) → after_quit o.effect id xs ≡ xs) → P y.own
+    stays q =
+        arranged (find_session id w.sessions)
+        (sym (ap (find_session id) (q (change_first (has_id id) (session_arranged o) (map (session_after o.effect) w.sessions))) ∙ find_after id o w.sessions) ∙ found)
+
+    by : (f : Effect) → o.effect ≡ f → P y.own
+    by Quit q =
+        let gone : find_session id (apply w id o).sessions ≡ None =
+        ap (λ f. find_session id (after_quit f id (change_first (has_id id) (session_arranged o) (map (session_after o.effect) w.sessions)))) q ∙ find_without id (change_first (has_id id) (session_arranged o) (map (session_after o.effect) w.sessions)) in
+        cc
+    by f q = stays (λ xs. ap (λ g. after_quit g id xs) q)
+
+altered_acted : (w : World) (id : ℕ) (own : Own) (c : Alteration) (n : Option ℕ) (typed : List ℕ) (stored : Bool) (x y : Session) → find_session id w.sessions ≡ Some x → own.mode ≡ Replacing → 0 < length own.old → has_all (without_all own.todo) ≡ false
+    → find_session id (act (with_own id (λ was. own) w) id (Run (Alter c) n typed) stored).sessions ≡ Some y → IsFit y.own
+altered_acted w id own c n typed stored x y found mode some rest stays =
+    let v : View = begun_view (λ was. own) (view w x) in
+    own_applied IsFit (with_own id (λ was. own) w) id (outcome v (Run (Alter c) n typed) stored) (altered_fits v c n typed stored mode some rest) y
+    (sym (ap (λ o. find_session id (applied (with_own id (λ was. own) w) id (option_map (λ z. outcome z (Run (Alter c) n typed) stored) o)).sessions) (seen_begun w id (λ was. own) x found)) ∙ stays)
+
+-- of a replacement, where all further ones are to be done
+pub replaced_fits : (w : World) (id : ℕ) (own : Own) (deed : Deed) (stored : Bool) (x y : Session) → find_session id w.sessions ≡ Some x → is_replacement deed ≡ true → IsFit own → has_all own.todo ≡ true → has_all (without_all own.todo) ≡ false
+    → find_session id (act (with_own id (λ was. deed_own deed own) w) id (deed_act own deed) stored).sessions ≡ Some y → IsFit y.own
+replaced_fits w id own (deeds.Replace last) stored x y found is fit all rest stays =
+    let fits = fit all in altered_acted w id own (replacement last) None own.input stored x y found fits.0 fits.1 rest stays
+replaced_fits w id own _ stored x y found is fit all rest stays = cc

@@ -50,7 +50,7 @@ use Rattle.mgs_core.specs.Prompted.{names_for, own_turn}
 use Rattle.mgs_mini.specs.Typing.{IsFirst}
 use Rattle.mgs_core.specs.Stepped.{IsAlone, IsAnswerStep, IsAskedStep, IsByteStep, IsCommandStep, IsLeft, IsNamedStep, IsReplyStep, SeesNames, deed_act, deed_own, deed_world, refused_again, second_input}
 use Rattle.mgs_core.specs.Turned.{IsFit, is_quiet}
-use Rattle.mgs_core.proofs.Stepped.{command_step, fit_empty, fit_same, left_none, left_same, none_stays}
+use Rattle.mgs_core.proofs.Stepped.{command_step, fit_empty, fit_same, further_same, left_none, left_same, none_stays}
 
 -- WHAT AN ANSWER IS FOR
 
@@ -243,6 +243,7 @@ module _ (d : Directory) (ks : List MarkedBuffer) (y taken new : Session) (p : P
         again = λ wants. ap (λ (s : Session). refused_again (befores.Prompt p) (unsearched y).own.kind (unsearched y).own.player.playing (own_of s.own)) same ∙ again_prompted y p is none;
         search = λ wants. refl;
         fit = fit_same (unsearched y).own.player (own_of new.own) alone (ap (λ (s : Session). s.own.player.todo) same);
+        further = further_same (unsearched y).own.player (own_of new.own) alone (ap (λ (s : Session). s.own.player.todo) same);
         begins = λ h. cc;
       }
 
@@ -278,6 +279,7 @@ module _ (d : Directory) (ks : List MarkedBuffer) (y taken new : Session) (p : P
         again = λ wants. cc;
         search = λ wants. cc;
         fit = fit_same (unsearched y).own.player (own_of new.own) alone (ap (λ (s : Session). s.own.player.todo) same);
+        further = further_same (unsearched y).own.player (own_of new.own) alone (ap (λ (s : Session). s.own.player.todo) same);
         begins = λ h. refl;
       }
 

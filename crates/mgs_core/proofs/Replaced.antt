@@ -31,7 +31,7 @@ use Rattle.mgs_core.specs.declared.typing.ReplaceKey.TheVariants as keys
 use Rattle.mgs_core.specs.Prompted.{own_turn}
 use Rattle.mgs_core.specs.Stepped.{IsAlone, IsByteStep, IsLeft, IsReady, SearchStays, deed_act, refused_again, replace_key, replacing_at}
 use Rattle.mgs_core.specs.Turned.{IsWithin, is_played, is_quiet, weight}
-use Rattle.mgs_core.proofs.Stepped.{fit_empty, fit_same, left_none, left_same, none_stays}
+use Rattle.mgs_core.proofs.Stepped.{fit_empty, fit_same, further_same, left_none, left_same, none_stays}
 
 -- what each byte comes to, by what it asks
 abbrev pub keyed_turn : model.Own → ReplaceKey → Turn
@@ -139,6 +139,7 @@ module _ (d : Directory) (ks : List MarkedBuffer) (y new : Session) (name : List
     again = λ wants. cc;
     search = λ wants. cc;
     fit = fit_same x.own.player (own_of new.own) alone (ap (λ (w : Session). w.own.player.todo) is);
+    further = further_same x.own.player (own_of new.own) alone (ap (λ (w : Session). w.own.player.todo) is);
     begins = λ h. cc;
   }
 
@@ -159,6 +160,7 @@ module _ (d : Directory) (ks : List MarkedBuffer) (y new : Session) (name : List
     again = λ wants. ap (λ (w : Session). refused_again befores.Held x.own.kind x.own.player.playing (own_of w.own)) is;
     search = λ wants. ap (λ (w : Session). w.own.search) is;
     fit = fit_same x.own.player (own_of new.own) alone (ap (λ (w : Session). w.own.player.todo) is);
+    further = further_same x.own.player (own_of new.own) alone (ap (λ (w : Session). w.own.player.todo) is);
     begins = λ h. cc;
   }
 

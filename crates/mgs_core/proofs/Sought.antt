@@ -34,7 +34,7 @@ use Rattle.mgs_core.specs.Stepped.{IsAlone, IsByteStep, SearchStays, deed_act, f
 use Rattle.mgs_core.specs.Turned.{is_quiet}
 use Rattle.mgs_session.specs.declared.search.Aim.{Aim}
 use Rattle.mgs_session.specs.declared.search.Aim.TheVariants.{Find, Replace}
-use Rattle.mgs_core.proofs.Stepped.{fit_same, left_same, none_stays}
+use Rattle.mgs_core.proofs.Stepped.{fit_same, further_same, left_same, none_stays}
 
 -- WHAT A BYTE LEAVES OF WHAT IS LOOKED FOR, where it goes on with nothing
 
@@ -143,6 +143,7 @@ module _ (d : Directory) (ks : List MarkedBuffer) (y new : Session) (name : List
         typed = λ e. ap (λ (w : Session). w.own.player.todo) kept ∙ alone.typed e;
         left = left_same x.own.player new.own.player.todo alone (ap (λ (w : Session). w.own.player.todo) kept);
         fit = fit_same x.own.player (own_of new.own) alone (ap (λ (w : Session). w.own.player.todo) kept);
+        further = further_same x.own.player (own_of new.own) alone (ap (λ (w : Session). w.own.player.todo) kept);
         begins = λ h. cc;
         again = λ wants. cc;
         search = λ wants. cc;
@@ -166,6 +167,7 @@ module _ (d : Directory) (ks : List MarkedBuffer) (y new : Session) (name : List
     typed = λ e. ap (λ (w : Session). w.own.player.todo) is ∙ alone.typed e;
     left = left_same x.own.player new.own.player.todo alone (ap (λ (w : Session). w.own.player.todo) is);
     fit = fit_same x.own.player (own_of new.own) alone (ap (λ (w : Session). w.own.player.todo) is);
+    further = further_same x.own.player (own_of new.own) alone (ap (λ (w : Session). w.own.player.todo) is);
     begins = λ h. cc;
     again = λ wants. cc;
     search = λ wants. cc;
@@ -240,6 +242,7 @@ module _ (d : Directory) (ks : List MarkedBuffer) (y new : Session) (name : List
         ∙ ap (λ (p : List ℕ). record (refused_own (own_of w.own)) { pattern = p }) same;
     search = λ wants. refl;
     fit = t.fit;
+    further = t.further;
     begins = λ h. cc;
   }
   key_left (Acts _) keyed t = cc

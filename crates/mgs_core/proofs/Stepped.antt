@@ -89,6 +89,14 @@ fit_none o none all = either (has_all o.todo) all none
 pub fit_same : (old : Playing) (o : model.Own) → IsAlone old → o.todo ≡ old.todo → IsFit o
 fit_same old o alone same = fit_none o (ap has_all same ∙ none_all old.todo alone.played)
 
+-- a step of a byte keeps none of them to be done
+pub further_same : {X : Type 0} (old : Playing) (o : model.Own) → IsAlone old → o.todo ≡ old.todo → has_all o.todo ≡ true → X
+further_same old o alone same all = neither (has_all o.todo) all (ap has_all same ∙ none_all old.todo alone.played)
+  where
+    neither : {X : Type 0} (b : Bool) → b ≡ true → b ≡ false → X
+    neither true e f = cc
+    neither false e f = cc
+
 pub fit_empty : (o : model.Own) → o.todo ≡ [] → IsFit o
 fit_empty o none = fit_none o (ap has_all none)
 
@@ -279,6 +287,7 @@ module _ (Sees : View → Type 0) (comes : View → Turn) (x new : Session) (c :
     again = λ wants. ap (λ (s : Session). refused_again b x.own.kind x.own.player.playing (own_of s.own)) same ∙ again;
     search = λ wants. search new.own.search;
     fit = fit_same x.own.player (own_of new.own) alone (ap (λ (s : Session). s.own.player.todo) same);
+    further = further_same x.own.player (own_of new.own) alone (ap (λ (s : Session). s.own.player.todo) same);
     begins = λ h. cc;
   }
 
@@ -351,6 +360,7 @@ key_unbound d ks x new byte k still none alone read same = record {
   again = λ wants. ap (λ (s : Session). refused_again befores.Plain x.own.kind x.own.player.playing (own_of s.own)) same ∙ again_plain x still none;
   search = λ wants. sym still;
   fit = fit_same x.own.player (own_of new.own) alone (ap (λ (s : Session). s.own.player.todo) same);
+  further = further_same x.own.player (own_of new.own) alone (ap (λ (s : Session). s.own.player.todo) same);
   begins = λ h. cc;
 }
 

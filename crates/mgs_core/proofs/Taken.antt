@@ -19,7 +19,7 @@ use Rattle.mgs_model.specs.declared.search.Direction.{Direction}
 use Rattle.mgs_model.specs.declared.search.SearchStep.{SearchStep}
 use Rattle.mgs_model.specs.declared.session.Command.TheVariants.{Alter, Exit, LeaveSearch, Move}
 use Rattle.mgs_model.specs.declared.session.Mode.{Mode}
-use Rattle.mgs_model.specs.declared.session.Mode.TheVariants.{Searching}
+use Rattle.mgs_model.specs.declared.session.Mode.TheVariants.{Replacing as replacing_mode, Searching}
 use Rattle.mgs_model.specs.declared.session.Motion.TheVariants.{SearchOn, SkipMatch, StartReplace}
 use Rattle.mgs_model.specs.Searching.{Sought}
 use Rattle.mgs_mini.specs.Typing.{PromptInput}
@@ -45,7 +45,7 @@ use Rattle.mgs_session.specs.declared.Session.{Session}
 use Rattle.mgs_session.specs.declared.search.Search.{Search}
 use Rattle.mgs_store.specs.Stores.{StoreTold}
 use Rattle.mgs_store.proofs.Told.{told_none}
-use Rattle.mgs_world.specs.Worlds.{aim_input, aim_mode, buffers_of, input_in, keys_in, mode_in, own_at, own_of, own_or_first, search_of, session_id, session_of, size_found, size_in, size_named, sizes_in, world_of}
+use Rattle.mgs_world.specs.Worlds.{aim_input, aim_mode, aim_old, buffers_of, input_in, keys_in, mode_in, old_in, own_at, own_of, own_or_first, search_of, session_id, session_of, size_found, size_in, size_named, sizes_in, world_of}
 use Rattle.mgs_world.proofs.Sessions.{session_some}
 use Rattle.mgs_core.specs.declared.deeds.Deed.{Deed}
 use Rattle.mgs_core.specs.declared.deeds.Deed.TheVariants as deeds
@@ -53,7 +53,7 @@ use Rattle.mgs_core.specs.declared.deeds.Before.{Before}
 use Rattle.mgs_core.specs.declared.deeds.Before.TheVariants as befores
 use Rattle.mgs_core.specs.declared.keying.ByteStep.TheVariants.{Kept, Failed, Ends, Acts}
 use Rattle.mgs_core.specs.Steps.{ActedBy, closed, started_by, started_own}
-use Rattle.mgs_core.specs.Stepped.{CanDo, IsReady, IsTurnStep, SearchStays, SeesNames, TurnLeft, before_of, deed_act, deed_own, deed_world, finds, is_finding, is_replacing, keys_left, may_want_memory, put_back, refused, search_again, search_before, seek_act, starts_replacing}
+use Rattle.mgs_core.specs.Stepped.{CanDo, IsReady, IsTurnStep, SearchStays, SeesNames, TurnLeft, before_of, deed_act, deed_own, deed_world, finds, is_finding, is_replacement, is_replacing, keys_left, may_want_memory, put_back, refused, search_again, search_before, seek_act, starts_replacing}
 use Rattle.mgs_core.specs.Turned.{DeedBy, DeedRefused, IsLess, IsWithin, TurnDone, TurnEnds, TurnRefused, TurnedBy, IsFit, has_all, is_played, is_quiet, weight}
 use Rattle.mgs_core.proofs.Begun.{closed_own, search_still}
 use Rattle.mgs_core.proofs.Keyed.{acted_single}
@@ -61,8 +61,10 @@ use Rattle.mgs_core.proofs.Prompted.{answered_single}
 use Rattle.mgs_core.proofs.Sizes.{place_same}
 use Rattle.mgs_core.proofs.Started.{begun_act, change_twice}
 use Rattle.mgs_core.proofs.Steps.{session_changed, session_there, set_there, world_changed}
-use Rattle.mgs_core.proofs.Turned.{AllLeft, all_less, all_none, all_same, all_without, more_weight, none_weight, some_left, without_within}
-use Rattle.mgs_core.proofs.Stepped.{fit_empty}
+use Rattle.mgs_core.proofs.Turned.{AllLeft, all_less, all_none, all_same, all_without, more_weight, none_weight, some_left, without_same, without_within}
+use Rattle.mgs_core.proofs.Fitting.{replaced_fits}
+use Rattle.mgs_core.proofs.Stepped.{fit_empty, fit_none}
+use Rattle.mgs_core.proofs.Turns.{mode_replacing}
 
 there : (xs : List Session) (at : ℕ) → at < length xs → (h : Session) × (h ≡ get_or xs at h) × (slice_get xs at ≡ Some h)
 there [] at within = absurd (omega (arith, within))
@@ -77,6 +79,11 @@ open_at d ks xs next id at place within =
 -- what the session at a place holds
 own_there : (xs : List Session) (at : ℕ) (h : Session) → at < length xs → h ≡ get_or xs at h → own_at at xs ≡ own_of h.own
 own_there xs at h within is = ap own_or_first (session_there xs at h within is)
+
+pub open_own : (d : Directory) (ks : List MarkedBuffer) (xs : List Session) (next : Option ℕ) (id at : ℕ) → at ≡ position_or_len (session_id id) xs → at < length xs → (x : model.Session) × (find_session id (world_of d ks xs next).sessions ≡ Some x) × (x.own ≡ own_at at xs)
+open_own d ks xs next id at place within =
+    let h = there xs at within in
+    (session_of ks h.0, session_some d ks xs next id at h.0 place within h.1, sym (ap own_or_first h.2))
 
 own_put : (xs : List Session) (at : ℕ) (y : Session) → at < length xs → own_at at (slice_set xs at y) ≡ own_of y.own
 own_put xs at y within = ap own_or_first (set_there xs at y within)
@@ -263,6 +270,24 @@ deed_done old begun new before after id takes c f keyed.Quit is h = cc
 deed_done old begun new before after id takes c f keyed.NoSession is h = cc
 
 -- A TURN
+
+-- the search of the session at a place, where all further matches are to be replaced
+search_is : (o : Option Search) → is_replacing o ≡ true → (s : Search) × (o ≡ Some s)
+search_is None h = cc
+search_is (Some s) h = (s, refl)
+
+replacing_held : (o : Option Session) → (own_or_first o).mode ≡ replacing_mode → is_replacing (search_or_none o) ≡ true
+replacing_held None h = cc
+replacing_held (Some x) h = mode_replacing x.own.search x.own.prompt h
+
+-- a replacement reads the session's search, and leaves it
+replacing_ready : (deed : Deed) (s : Option Search) (own : model.Own) → is_replacement deed ≡ true → IsReady deed s own → is_replacing s ≡ true
+replacing_ready (deeds.Replace last) s own is ready = ready
+replacing_ready _ s own is ready = cc
+
+replacing_same : (deed : Deed) (s old : Option Search) → is_replacement deed ≡ true → (may_want_memory deed ≡ true → search_before (before_of deed) s ≡ old) → s ≡ old
+replacing_same (deeds.Replace last) s old is same = same refl
+replacing_same _ s old is same = cc
 
 seek_single : (mode : Mode) (step : SearchStep) (input : List ℕ) → is_single (seek_act mode step input) ≡ true
 seek_single (Searching d failing) step input = refl
@@ -473,6 +498,47 @@ module _ (d : Directory) (ks : List MarkedBuffer) (xs : List Session) (next : Op
         let stays = s.left.same all in
         let left = deed_leaves (AllLeft m todo) (all_none m todo all) (all_without m todo all stays.2) (subst (AllLeft m todo) (sym stays.1) (all_same m todo all (ap is_played (sym stays.1) ∙ s.left.played))) K ys before after same (done_from new before after did) in
         subst (λ (ts : List Todo). IsLess m n ts (own_at at ys).todo) (sym todo_there) (all_less m n todo (own_at at ys).todo all left further)
+
+    -- further replacements are left only where the session goes on to replace
+    pub acted_fit : (K : List MarkedBuffer) (ys : List Session) (before after : StoreTold) (kind : Kind) (playing : Bool) (k : Keyed) → k ≡ keyed.Done → sizes_in ys ≡ sizes_in xs
+        → DeedBy (world_of d ks (slice_set xs at y) next) (deed_world deed id (world_of d ks (slice_set xs at y) next)) (world_of d K ys next) before after id (may_want_memory deed) (deed_act (own_at at (slice_set xs at y)) deed) (put_back (buffers_of ks) (before_of deed) kind playing) k
+        → IsFit (own_at at ys)
+    acted_fit K ys before after kind playing k is same by =
+        let new : World = world_of d K ys next in
+        either (has_all y.own.player.todo) refl
+        (done_from new before after (deed_done begun (deed_world deed id begun) new before after id (may_want_memory deed) (deed_act (own_at at (slice_set xs at y)) deed) (put_back (buffers_of ks) (before_of deed) kind playing) k is by))
+      where
+        either : (b : Bool) → has_all y.own.player.todo ≡ b → ActedBy (with_own id (λ was. own) old) (world_of d K ys next) before after id act_done → IsFit (own_at at ys)
+        either true e did =
+            let r = s.further e in
+            let z = open_own d K ys next id at (place_same id at xs ys place same) (within_still at xs ys within same) in
+            subst IsFit z.2
+            (replaced_fits (world_of d ks xs next) id (own_of y.own) deed did.stored (session_of ks h) z.0 (session_some d ks xs next id at h place within is_h) r.0 s.fit e r.1
+            (ap (λ (v : World). find_session id v.sessions) (sym did.world) ∙ z.1))
+        either false e did =
+            fit_none (own_at at ys)
+            (deed_leaves (λ (todo : List Todo). has_all todo ≡ false) refl (λ todo f. ap has_all (without_same todo f) ∙ f) e K ys before after same did)
+
+    -- less is left in any case
+    pub acts_less : (K : List MarkedBuffer) (ys : List Session) (before after : StoreTold) (kind : Kind) (playing : Bool) (k : Keyed) → AreWithinLimit K → k ≡ keyed.Done → sizes_in ys ≡ sizes_in xs
+        → DeedBy (world_of d ks (slice_set xs at y) next) (deed_world deed id (world_of d ks (slice_set xs at y) next)) (world_of d K ys next) before after id (may_want_memory deed) (deed_act (own_at at (slice_set xs at y)) deed) (put_back (buffers_of ks) (before_of deed) kind playing) k
+        → ((s t : Search) → is_replacement deed ≡ true → search_held at (slice_set xs at y) ≡ Some s → search_held at ys ≡ Some t → 0 < length (aim_old s.aim) → remaining_at at K ys < remaining_at at ks (slice_set xs at y))
+        → IsLess (remaining_at at ks xs) (remaining_at at K ys) (own_at at xs).todo (own_at at ys).todo
+    acts_less K ys before after kind playing k limits is same by further = either (has_all h.own.player.todo) refl
+      where
+        fewer : has_all h.own.player.todo ≡ true → has_all (own_at at ys).todo ≡ true → remaining_at at K ys < remaining_at at ks xs
+        fewer e all =
+            let stays = s.left.same e in
+            let now = search_is y.own.search (replacing_ready deed y.own.search (own_of y.own) stays.0 s.ready) in
+            let then = search_is (search_held at ys) (replacing_held (slice_get ys at) (acted_fit K ys before after kind playing k is same by all).0) in
+            let some = subst (λ (o : Option Search). 0 < length (old_in o y.own.prompt)) now.1 (s.fit (ap has_all stays.1 ∙ e)).1 in
+            let less = further now.0 then.0 stays.0 (search_put xs at y within ∙ now.1) then.1 some in
+            let alike : remaining_at at ks (slice_set xs at y) ≡ remaining_at at ks xs = ap (remaining_in ks) (search_put xs at y within ∙ replacing_same deed y.own.search h.own.search stays.0 s.search ∙ sym (ap search_or_none (session_there xs at h within is_h))) in
+            omega (arith, less, alike)
+
+        either : (b : Bool) → has_all h.own.player.todo ≡ b → IsLess (remaining_at at ks xs) (remaining_at at K ys) (own_at at xs).todo (own_at at ys).todo
+        either true e = replaced_less (remaining_at at ks xs) (remaining_at at K ys) K ys before after kind playing k is same by e (fewer e)
+        either false e = acted_less (remaining_at at ks xs) (remaining_at at K ys) K ys before after kind playing k (left_within at K ys limits) is same by e
 
     acted_turn : (K : List MarkedBuffer) (ys : List Session) (before after : StoreTold) → sizes_in ys ≡ sizes_in xs → ActedBy (with_own id (λ was. own) old) (world_of d K ys next) before after id act_done → TurnDone (is_played (own_at at xs).todo) (own_at at ys).todo old (world_of d K ys next) before after id
     acted_turn K ys before after same did = record {

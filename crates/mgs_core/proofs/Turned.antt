@@ -405,7 +405,7 @@ all_some m (Typed byte ∷ todo) h = omega arith
 all_some m (Played byte ∷ todo) h = omega arith
 all_some m (Play ∷ todo) h = omega arith
 
-without_same : (todo : List Todo) → has_all todo ≡ false → without_all todo ≡ todo
+pub without_same : (todo : List Todo) → has_all todo ≡ false → without_all todo ≡ todo
 without_same [] h = refl
 without_same (Replace_all ∷ todo) h = cc
 without_same (Typed byte ∷ todo) h = refl

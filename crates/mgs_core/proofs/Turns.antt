@@ -36,7 +36,7 @@ use Rattle.mgs_core.specs.declared.deeds.Before.TheVariants as befores
 use Rattle.mgs_core.specs.declared.keying.ByteStep.{ByteStep}
 use Rattle.mgs_core.specs.declared.keying.ByteStep.TheVariants.{Kept, Failed, Ends, Acts}
 use Rattle.mgs_core.specs.Prompted.{own_turn}
-use Rattle.mgs_core.specs.Stepped.{IsByteStep, IsFirstStep, IsLeft, IsReady, IsStep, IsTurnStep, SearchStays, SeesNames, TurnLeft, before_of, deed_act, deed_own, finds, is_replacing, refused_again, replaces, search_before}
+use Rattle.mgs_core.specs.Stepped.{IsByteStep, IsFirstStep, IsFurther, IsLeft, IsReady, IsStep, IsTurnStep, SearchStays, SeesNames, TurnLeft, before_of, deed_act, deed_own, finds, is_replacing, refused_again, replaces, search_before}
 use Rattle.mgs_core.specs.Steps.{started_by, started_own}
 use Rattle.mgs_core.proofs.Begun.{search_still}
 use Rattle.mgs_core.specs.Turned.{IsFit, IsWithin, has_all, is_played, is_quiet, weight}
@@ -137,6 +137,7 @@ module _ (d : Directory) (ks : List MarkedBuffer) (own : model.Own) (x y new : S
         search = λ wants. ap (λ (z : Session). search_before (before_of deed) z.own.search) is ∙ s.search wants;
         fit = subst (λ (z : Session). IsFit (own_of z.own)) (sym is) s.fit;
         begins = s.begins;
+        further = subst (λ (z : Session). IsFurther deed z.own.player.todo) (sym is) s.further;
       }
 
   first_failed : IsByteStep d ks x new byte Failed → IsFirstStep d ks own x new byte Failed
@@ -200,6 +201,7 @@ step_from Sees comes mine a b Left Mine q x new same is less (Acts deed) s = rec
   search = s.search;
   fit = s.fit;
   begins = s.begins;
+  further = s.further;
 }
 
 -- where no further replacements are to be done
@@ -281,6 +283,7 @@ module _ (d : Directory) (ks : List MarkedBuffer) (x y new : Session) (taken : y
         search = λ wants. ap (λ (z : Session). z.own.search) is;
         fit = subst (λ (z : Session). IsFit (own_of z.own)) (sym is) fit;
         begins = λ h. cc;
+        further = λ e. (refl, ap (λ (ts : List Todo). has_all (without_all ts)) (left ∙ todo) ∙ rest);
       }
     where
       or_true : (b : Bool) → is_quiet b (Run (Alter ReplaceMatch) None (own_of new.own).input) ≡ true

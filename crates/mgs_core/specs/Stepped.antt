@@ -294,6 +294,10 @@ pub record StepEnds (Sees : View → Type 0) (comes : View → Turn) (plays : Bo
   pub quiet : before.playing ≡ false
   pub typed : plays ≡ false
 
+-- further replacements are to be done behind a replacement alone, and its end leaves none of them
+abbrev pub IsFurther : Deed → List Todo → Type 0
+IsFurther deed todo = has_all todo ≡ true → (is_replacement deed ≡ true) × (has_all (without_all todo) ≡ false)
+
 -- or this deed, for which the session is ready; where memory is refused to it, it leaves what the model says
 pub record StepActs (Sees : View → Type 0) (comes : View → Turn) (plays : Bool) (Left : List Todo → Type 0) (old new : Session) (deed : Deed) : Type 0 where
   pub own : new ≡ record old { own = new.own }
@@ -308,6 +312,7 @@ pub record StepActs (Sees : View → Type 0) (comes : View → Turn) (plays : Bo
   pub search : may_want_memory deed ≡ true → search_before (before_of deed) new.own.search ≡ old.own.search
   pub fit : IsFit (own_of new.own)
   pub begins : starts_replacing deed ≡ true → old.own.search ≡ None
+  pub further : IsFurther deed new.own.player.todo
 
 abbrev pub IsStep : (View → Type 0) → (View → Turn) → Bool → (List Todo → Type 0) → Session → Session → ByteStep → Type 0
 IsStep Sees comes playing Left old new Kept = StepKept Sees comes Left old new

@@ -228,9 +228,13 @@ fn take_turn<T: Marked + Drop, S: Store>(
         ByteStep::Kept => (Keyed::Done, Touched::Nowhere),
         ByteStep::Failed => (Keyed::Done, Touched::Nowhere),
         ByteStep::Ends => (Keyed::Quit, Touched::Anywhere),
-        ByteStep::Acts(deed) => act_turn(
-            alloc, buffers, judge, directory, sessions, at, store, id, deed, kind, is_playing,
-        ),
+        ByteStep::Acts(deed) => {
+            let done = act_turn(
+                alloc, buffers, judge, directory, sessions, at, store, id, deed, kind, is_playing,
+            );
+            let _later = buffers.len();
+            done
+        }
     }
 }
 

@@ -8,7 +8,7 @@ use Rattle.mgs_world.specs.Sound.{session_uses}
 use Rattle.mgs_world.specs.Worlds.{size_in, world_of}
 use Rattle.mgs_world.proofs.Soundness.{sound_set, sizes_set}
 use Rattle.mgs_core.proofs.Sizes.{place_same}
-use Rattle.mgs_core.proofs.Taken.{deed_turned, ends_turn, failed_fit, failed_less, failed_turn, kept_fit, kept_less, kept_turn, left_within, ready_put, some_there, step_apart}
+use Rattle.mgs_core.proofs.Taken.{acted_fit, acts_less, deed_turned, ends_turn, failed_fit, failed_less, failed_turn, kept_fit, kept_less, kept_turn, left_within, ready_put, some_there, step_apart}
 use Rattle.mgs_core.proofs.turning.take_turn.Goals as goal
 
 pub next_step-requires-clause-some : goal.next_step-requires-clause-some
@@ -158,8 +158,8 @@ returns-in-Ends-clause-turned g c next =
     let y = c.next_step.new.session in
     ends_turn d ks xs next c.args.id c.args.at h y c.requires.place c.requires.within is_h _ c.in-Ends.ensures.step
 
-pub act_turn-requires-clause-sound : goal.act_turn-requires-clause-sound
-act_turn-requires-clause-sound g c =
+pub act_turn-done-requires-clause-sound : goal.act_turn-done-requires-clause-sound
+act_turn-done-requires-clause-sound g c =
     let d = c.args.directory.now in
     let ks = c.args.buffers.now in
     let xs = c.args.sessions.now in
@@ -168,8 +168,8 @@ act_turn-requires-clause-sound g c =
     let y = c.next_step.new.session in
     sound_set ks xs c.args.at h y is_h (λ n i. ap (session_uses n i) c.in-Acts.ensures.step.own) c.requires.sound
 
-pub act_turn-requires-clause-place : goal.act_turn-requires-clause-place
-act_turn-requires-clause-place g c =
+pub act_turn-done-requires-clause-place : goal.act_turn-done-requires-clause-place
+act_turn-done-requires-clause-place g c =
     let d = c.args.directory.now in
     let ks = c.args.buffers.now in
     let xs = c.args.sessions.now in
@@ -178,8 +178,8 @@ act_turn-requires-clause-place g c =
     let y = c.next_step.new.session in
     place_same c.args.id c.args.at xs (slice_set xs c.args.at y) c.requires.place (sizes_set xs c.args.at h y is_h (ap size_in c.in-Acts.ensures.step.own))
 
-pub act_turn-requires-clause-ready : goal.act_turn-requires-clause-ready
-act_turn-requires-clause-ready g c =
+pub act_turn-done-requires-clause-ready : goal.act_turn-done-requires-clause-ready
+act_turn-done-requires-clause-ready g c =
     let d = c.args.directory.now in
     let ks = c.args.buffers.now in
     let xs = c.args.sessions.now in
@@ -188,8 +188,8 @@ act_turn-requires-clause-ready g c =
     let y = c.next_step.new.session in
     ready_put xs c.args.at y c.in-Acts.deed c.requires.within c.in-Acts.ensures.step.ready
 
-pub act_turn-requires-clause-here : goal.act_turn-requires-clause-here
-act_turn-requires-clause-here g c =
+pub act_turn-done-requires-clause-here : goal.act_turn-done-requires-clause-here
+act_turn-done-requires-clause-here g c =
     let d = c.args.directory.now in
     let ks = c.args.buffers.now in
     let xs = c.args.sessions.now in
@@ -206,7 +206,7 @@ returns-in-Acts-clause-sizes g c =
     let h = get_or xs c.args.at c.index-sessions-at-3.result in
     let is_h = ap (get_or xs c.args.at) c.index-sessions-at-3.is in
     let y = c.next_step.new.session in
-    c.act_turn.ensures.sizes ∙ sizes_set xs c.args.at h y is_h (ap size_in c.in-Acts.ensures.step.own)
+    c.act_turn-done.ensures.sizes ∙ sizes_set xs c.args.at h y is_h (ap size_in c.in-Acts.ensures.step.own)
 
 pub returns-in-Acts-clause-turned : goal.returns-in-Acts-clause-turned
 returns-in-Acts-clause-turned g c next =
@@ -217,10 +217,10 @@ returns-in-Acts-clause-turned g c next =
     let is_h = ap (get_or xs c.args.at) c.index-sessions-at-3.is in
     let y = c.next_step.new.session in
     deed_turned d ks xs next c.args.id c.args.at h y c.requires.place c.requires.within is_h c.in-Acts.deed c.in-Acts.ensures.step
-    c.act_turn.new.buffers c.act_turn.new.sessions _ _ _ _ c.act_turn.result.0
+    c.act_turn-done.new.buffers c.act_turn-done.new.sessions _ _ _ _ c.act_turn-done.result.0
     (ap (λ (s : Session). s.own.kind) (get_or_default xs c.args.at c.index-sessions-at.result c.index-sessions-at-3.result c.requires.within))
     (c.is_playing-is_playing.ensures ∙ ap (λ (s : Session). s.own.player.playing) (get_or_default xs c.args.at c.index-sessions-at-2.result c.index-sessions-at-3.result c.requires.within))
-    (returns-in-Acts-clause-sizes g c) (c.act_turn.ensures.acted next)
+    (returns-in-Acts-clause-sizes g c) (c.act_turn-done.ensures.acted next)
 
 pub returns-in-Acts-clause-touched : goal.returns-in-Acts-clause-touched
 returns-in-Acts-clause-touched g c next =
@@ -230,8 +230,8 @@ returns-in-Acts-clause-touched g c next =
     let h = get_or xs c.args.at c.index-sessions-at-3.result in
     let is_h = ap (get_or xs c.args.at) c.index-sessions-at-3.is in
     let y = c.next_step.new.session in
-    apart_then c.act_turn.result.1 c.args.id (world_of d ks xs next) (world_of d ks (slice_set xs c.args.at y) next) (world_of d c.act_turn.new.buffers c.act_turn.new.sessions next)
-    (step_apart d ks xs next c.args.id c.args.at h y c.requires.place c.requires.within is_h c.act_turn.result.1 c.in-Acts.ensures.step.own c.in-Acts.ensures.step.stays) (c.act_turn.ensures.touched next)
+    apart_then c.act_turn-done.result.1 c.args.id (world_of d ks xs next) (world_of d ks (slice_set xs c.args.at y) next) (world_of d c.act_turn-done.new.buffers c.act_turn-done.new.sessions next)
+    (step_apart d ks xs next c.args.id c.args.at h y c.requires.place c.requires.within is_h c.act_turn-done.result.1 c.in-Acts.ensures.step.own c.in-Acts.ensures.step.stays) (c.act_turn-done.ensures.touched next)
 
 pub returns-in-Kept-clause-fit : goal.returns-in-Kept-clause-fit
 returns-in-Kept-clause-fit g c e =
@@ -252,3 +252,27 @@ returns-in-Failed-clause-fit g c e =
     let is_h = ap (get_or xs c.args.at) c.index-sessions-at-3.is in
     let y = c.next_step.new.session in
     failed_fit d ks xs None c.args.id c.args.at h y c.requires.place c.requires.within is_h c.in-Failed.ensures.step
+
+pub returns-in-Acts-clause-fit : goal.returns-in-Acts-clause-fit
+returns-in-Acts-clause-fit g c e =
+    let d = c.args.directory.now in
+    let ks = c.args.buffers.now in
+    let xs = c.args.sessions.now in
+    let h = get_or xs c.args.at c.index-sessions-at-3.result in
+    let is_h = ap (get_or xs c.args.at) c.index-sessions-at-3.is in
+    let y = c.next_step.new.session in
+    acted_fit d ks xs None c.args.id c.args.at h y c.requires.place c.requires.within is_h c.in-Acts.deed c.in-Acts.ensures.step
+    c.act_turn-done.new.buffers c.act_turn-done.new.sessions _ _ _ _ c.act_turn-done.result.0 e
+    (returns-in-Acts-clause-sizes g c) (c.act_turn-done.ensures.acted None)
+
+pub returns-in-Acts-clause-less : goal.returns-in-Acts-clause-less
+returns-in-Acts-clause-less g c e =
+    let d = c.args.directory.now in
+    let ks = c.args.buffers.now in
+    let xs = c.args.sessions.now in
+    let h = get_or xs c.args.at c.index-sessions-at-3.result in
+    let is_h = ap (get_or xs c.args.at) c.index-sessions-at-3.is in
+    let y = c.next_step.new.session in
+    acts_less d ks xs None c.args.id c.args.at h y c.requires.place c.requires.within is_h c.in-Acts.deed c.in-Acts.ensures.step
+    c.act_turn-done.new.buffers c.act_turn-done.new.sessions _ _ _ _ c.act_turn-done.result.0 c.len-later.ensures.limits e
+    (returns-in-Acts-clause-sizes g c) (c.act_turn-done.ensures.acted None) (c.act_turn-done.ensures.further e)
