@@ -1,9 +1,9 @@
 -- A byte of a session that replaces.
-use Rattle.std.proofs.Common.{◌≡◌, ℕ, ◌+◌, ◌<◌, ◌≤◌, length, Bool, true, false, cond, List, [], ◌∷◌, Option, Some, None, refl, sym, ap, subst, ◌∙◌, arith}
+use Rattle.std.proofs.Common.{◌≡◌, ℕ, ◌+◌, ◌<◌, length, Bool, true, false, cond, List, [], ◌∷◌, Some, None, refl, sym, ap, subst, ◌∙◌, arith}
 use Rattle.std.specs.Prelude.{◌==◌, ◌||◌}
 use Rattle.mgs_model.specs.Access.{Directory}
 use Rattle.mgs_model.specs.Apply.{searches}
-use Rattle.mgs_model.specs.Outcome.{Act, Run}
+use Rattle.mgs_model.specs.Outcome.{Run}
 use Rattle.mgs_model.specs.Plans.{failed_own}
 use Rattle.mgs_model.specs.World as model
 use Rattle.mgs_model.specs.World.{Buffer, Todo, Typed, Played, Replace_all, Play}
@@ -11,18 +11,17 @@ use Rattle.mgs_model.specs.View.{View}
 use Rattle.mgs_model.specs.Turns.{Turn, Keep, Do, replace_turn, replacing}
 use Rattle.mgs_model.specs.declared.message.Message.TheVariants.{Quitting, Replaced, Silent}
 use Rattle.mgs_model.specs.declared.session.Alteration.TheVariants.{ReplaceLast, ReplaceMatch}
-use Rattle.mgs_model.specs.declared.session.Command.TheVariants.{Alter, Move}
+use Rattle.mgs_model.specs.declared.session.Command.TheVariants.{Move}
 use Rattle.mgs_model.specs.declared.session.Mode.TheVariants.{Plain}
 use Rattle.mgs_model.specs.declared.session.Motion.TheVariants.{SkipMatch}
 use Rattle.mgs_buffers.specs.MarkedBuffer.{MarkedBuffer}
 use Rattle.mgs_session.specs.Replacing.{Replacing}
 use Rattle.mgs_session.specs.declared.search.Search.{Search}
 use Rattle.mgs_session.specs.declared.Session.{Session}
-use Rattle.mgs_session.specs.Playing.{Playing, are_behind, are_played, replacing_all}
+use Rattle.mgs_session.specs.Playing.{Playing, are_behind, replacing_all}
 use Rattle.mgs_session.specs.Seeking.{searching, unsearched}
 use Rattle.mgs_session.specs.Sessions.{failed, playing_as, told, unprompted}
 use Rattle.mgs_world.specs.Worlds.{own_of, search_of}
-use Rattle.mgs_core.specs.declared.deeds.Deed.{Deed}
 use Rattle.mgs_core.specs.declared.deeds.Deed.TheVariants as deeds
 use Rattle.mgs_core.specs.declared.deeds.Before.TheVariants as befores
 use Rattle.mgs_core.specs.declared.keying.ByteStep.TheVariants.{Kept, Acts}
@@ -30,7 +29,7 @@ use Rattle.mgs_core.specs.declared.typing.ReplaceKey.{ReplaceKey}
 use Rattle.mgs_core.specs.declared.typing.ReplaceKey.TheVariants as keys
 use Rattle.mgs_core.specs.Prompted.{own_turn}
 use Rattle.mgs_core.specs.Stepped.{IsAlone, IsByteStep, IsLeft, IsReady, SearchStays, deed_act, refused_again, replace_key, replacing_at}
-use Rattle.mgs_core.specs.Turned.{IsWithin, is_played, is_quiet, weight}
+use Rattle.mgs_core.specs.Turned.{IsWithin, is_quiet}
 use Rattle.mgs_core.proofs.Stepped.{fit_empty, fit_same, further_same, left_none, left_same, none_stays}
 
 -- what each byte comes to, by what it asks

@@ -6,7 +6,7 @@ use Rattle.mgs_model.specs.Apply.{searches}
 use Rattle.mgs_model.specs.Keys.{is_graphic}
 use Rattle.mgs_model.specs.World as model
 use Rattle.mgs_model.specs.View.{View}
-use Rattle.mgs_model.specs.Outcome.{Act, Run}
+use Rattle.mgs_model.specs.Outcome.{Run}
 use Rattle.mgs_model.specs.Searching.{Sought, directed, dropped, lengthened, read_byte, shortened}
 use Rattle.mgs_model.specs.Turns.{Keep, Do, sought_turn}
 use Rattle.mgs_model.specs.Events.{refused_own}

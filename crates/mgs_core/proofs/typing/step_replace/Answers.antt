@@ -1,4 +1,4 @@
-use Rattle.std.proofs.Common.{ℕ, true, false, ap, ◌∙◌}
+use Rattle.std.proofs.Common.{ℕ, false, true, ap, ◌∙◌}
 use Rattle.mgs_model.specs.declared.message.Message.TheVariants.{Replaced}
 use Rattle.mgs_session.specs.Sessions.{told, unprompted}
 use Rattle.mgs_session.specs.Seeking.{searching}
