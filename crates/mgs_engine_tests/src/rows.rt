@@ -270,13 +270,7 @@ fn a_full_text_ends_all_replacements(rt: HostRuntime) -> Result<(), Fail> {
         all: Vec::new(alloc),
     };
     let ann = sit(alloc, &mut engine, &mut clients, "ann", &rt);
-    press(
-        &mut engine,
-        &mut clients,
-        ann,
-        b"\x1b%a\rbbb\r!",
-        &rt,
-    );
+    press(&mut engine, &mut clients, ann, b"\x1b%a\rbbb\r!", &rt);
     let told = "bbbbbbbbbaaaaaaaaaa$ | -**-notes-L1-C10---- | Buffer full";
     assert!(rt; shows(&clients, ann, told, (1, 11)));
     press(&mut engine, &mut clients, ann, b"\x06", &rt);

@@ -12,8 +12,8 @@ ghost use Rattle.mgs_grid.specs.Lists.{acl_mode};
 use crate::cells::{fill, finish, put_bytes, put_line};
 use crate::lists::{put_acl_mode, put_entry, put_listed, put_unlisted};
 use crate::words::{
-    prompt_width, put_heading, put_message, put_place, put_prompt, put_replacing, put_search, put_unread, replacing_width,
-    search_width,
+    prompt_width, put_heading, put_message, put_place, put_prompt, put_replacing, put_search,
+    put_unread, replacing_width, search_width,
 };
 use mgs_lines::line_end;
 use mgs_model::{Decision, Direction, Message, Name, Question, Short};
