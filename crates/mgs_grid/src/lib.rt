@@ -8,10 +8,12 @@ mod cells;
 mod grid;
 mod line;
 mod lists;
+mod row_set;
 mod shift;
 mod window;
 mod words;
 
 pub use grid::Grid;
 pub use line::Line;
+pub use row_set::RowSet;
 pub use shift::shift_for;

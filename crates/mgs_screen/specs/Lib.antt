@@ -1,2 +1,3 @@
 pub mod Screens
 pub mod Listings
+pub mod Sketches

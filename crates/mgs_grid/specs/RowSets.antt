@@ -1,0 +1,15 @@
+-- Some of the rows of a screen.
+use Rattle.std.specs.Prelude.{◌≡◌, ℕ, Bool, false, List, Option, Some, None, slice_get}
+use Rattle.mgs_model.specs.Rows.{Row}
+
+abbrev pub told_in : Option Bool → Bool
+told_in None = false
+told_in (Some b) = b
+
+-- a set has a row
+abbrev pub has_row : ℕ → List Bool → Bool
+has_row i set = told_in (slice_get set i)
+
+-- the rows that a set has not are the same
+abbrev pub AreSameApart : List Bool → List Row → List Row → Type 0
+AreSameApart set old new = (i : ℕ) → has_row i set ≡ false → slice_get new i ≡ slice_get old i
