@@ -8,3 +8,4 @@ pub mod Drawn
 pub mod Cuts
 pub mod Ends
 pub mod OneRow
+pub mod RowSets
