@@ -1,10 +1,10 @@
 -- Rows in sets, and rows that are the same apart from those of a set.
-use Rattle.std.proofs.Common.{◌≡◌, ℕ, zero, suc, ◌+◌, ◌-◌, ◌<◌, ◌≤◌, Bool, true, false, inl, inr, List, [], ◌∷◌, ◌++◌, length, take, drop, set, replicate, refl, sym, ap, ◌∙◌, arith, length-append}
+use Rattle.std.proofs.Common.{◌≡◌, ℕ, zero, suc, ◌+◌, ◌<◌, ◌≤◌, Bool, true, false, inl, inr, List, [], ◌∷◌, length, take, drop, set, replicate, refl, sym, ap, ◌∙◌, arith}
 use Rattle.std.specs.Prelude.{slice_get}
 use Rattle.std.proofs.lemmas.Bool.{cases_Bool, cases_lt, cases_eq}
-use Rattle.std.proofs.lemmas.List.{length-take-le}
 use Rattle.std.proofs.lemmas.Option.{slice_get_past}
 use Rattle.mgs_model.specs.Rows.{Row, rows_put}
+use Rattle.mgs_grid.proofs.Panes.{above_put, below_put}
 use Rattle.mgs_grid.specs.RowSets.{has_row, AreIn, AreSameApart}
 
 -- ROWS OF A SET
@@ -82,16 +82,6 @@ same_then s t xs ys zs first second inside =
 
 -- ROWS THAT ARE PUT
 
-get_front : (xs ys : List Row) (i : ℕ) → i < length xs → slice_get (xs ++ ys) i ≡ slice_get xs i
-get_front [] ys i within = absurd (omega arith)
-get_front (x ∷ xs) ys zero within = refl
-get_front (x ∷ xs) ys (suc i) within = get_front xs ys i (omega arith)
-
-get_back : (xs ys : List Row) (i k : ℕ) → i ≡ length xs + k → slice_get (xs ++ ys) i ≡ slice_get ys k
-get_back [] ys i k at = ap (slice_get ys) (omega arith)
-get_back (x ∷ xs) ys zero k at = absurd (omega arith)
-get_back (x ∷ xs) ys (suc i) k at = get_back xs ys i k (omega arith)
-
 get_take : (n i : ℕ) (xs : List Row) → i < n → slice_get (take n xs) i ≡ slice_get xs i
 get_take zero i xs within = absurd (omega arith)
 get_take (suc n) i [] within = refl
@@ -104,27 +94,23 @@ get_drop (suc n) i k [] at = refl
 get_drop (suc n) zero k (x ∷ xs) at = absurd (omega arith)
 get_drop (suc n) (suc i) k (x ∷ xs) at = get_drop n i k xs (omega arith)
 
--- rows above those that are put
-pub get_above : (i first : ℕ) (new old : List Row) → i < first → first ≤ length old → slice_get (rows_put first new old) i ≡ slice_get old i
+-- a row above those that are put
+get_above : (i first : ℕ) (new old : List Row) → i < first → first ≤ length old → slice_get (rows_put first new old) i ≡ slice_get old i
 get_above i first new old above within =
-    let front : List Row = take first old in
-    let e : length front ≡ first = length-take-le first old within in
-    get_front (front ++ new) (drop (first + length new) old) i (omega (arith, e, length-append front new))
-    ∙ get_front front new i (omega (arith, e))
-    ∙ get_take first i old above
+    sym (get_take (i + 1) i (rows_put first new old) (omega arith))
+    ∙ ap (λ (rs : List Row). slice_get rs i) (above_put (i + 1) first new old (omega arith) within)
+    ∙ get_take (i + 1) i old (omega arith)
 
 -- and below them
-pub get_below : (i first : ℕ) (new old : List Row) → first + length new ≤ i → first ≤ length old → slice_get (rows_put first new old) i ≡ slice_get old i
+get_below : (i first : ℕ) (new old : List Row) → first + length new ≤ i → first ≤ length old → slice_get (rows_put first new old) i ≡ slice_get old i
 get_below i first new old below within =
-    let n : ℕ = first + length new in
-    let front : List Row = take first old ++ new in
-    let e : length front ≡ n = omega (arith, length-append (take first old) new, length-take-le first old within) in
-    get_back front (drop n old) i (i - n) (omega (arith, e, below))
-    ∙ get_drop n i (i - n) old (omega (arith, below))
+    sym (get_drop i i 0 (rows_put first new old) (omega arith))
+    ∙ ap (λ (rs : List Row). slice_get rs 0) (below_put i first new old below within)
+    ∙ get_drop i i 0 old (omega arith)
 
 -- only the rows that are put differ
-pub same_put : (rows : List Bool) (first count : ℕ) (new old : List Row) → length new ≡ count → ((i : ℕ) → first ≤ i → i < first + count → has_row i rows ≡ true) → first + count ≤ length old → AreSameApart rows old (rows_put first new old)
-same_put rows first count new old size put within = record {
+pub put_apart : (rows : List Bool) (first count : ℕ) (new old : List Row) → length new ≡ count → ((i : ℕ) → first ≤ i → i < first + count → has_row i rows ≡ true) → first + count ≤ length old → AreSameApart rows old (rows_put first new old)
+put_apart rows first count new old size put within = record {
   each = λ i out. elim (cases_lt i first) [
     | inl above ↦ get_above i first new old above (omega arith)
     | inr from ↦ elim (cases_lt i (first + count)) [
