@@ -8,3 +8,6 @@ pub mod Drawn
 pub mod Cuts
 pub mod Ends
 pub mod OneRow
+pub mod Panes
+pub mod Edited
+pub mod RowSets

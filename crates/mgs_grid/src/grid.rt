@@ -5,6 +5,7 @@ ghost use Rattle.mgs_model.specs.Draw.{listing_text};
 ghost use Rattle.mgs_model.specs.Prompts.{prompt_line, search_text};
 ghost use Rattle.mgs_model.specs.Picture.{Picture, IsPicture, IsPrintable, IsSize, blank_picture};
 ghost use Rattle.mgs_grid.specs.Lists.{acl_mode};
+ghost use Rattle.mgs_grid.specs.Panes.{IsDrawnBut, text_put};
 
 use crate::line::Line;
 use crate::window::{clear_rows, draw_rows};
@@ -120,6 +121,31 @@ impl Grid {
         let cols = self.cols;
         let lines = &mut self.lines[first..first + height];
         draw_rows(lines, cols, text, top, row, shift);
+    }
+
+    // Draws row `at` with the line of a text that starts at `start`.
+    fn draw_line<T: Text>(&mut self, at: usize, text: &T, start: usize, shift: usize)
+        requires row { at < self.old.rows }
+        requires within { start ≤ length (T.text text.now) }
+        requires short { length (T.text text.now) < 2 ^ 32 }
+        requires shift { shift < 2 ^ 62 }
+        ensures { self.new ≡ record self.old { lines = text_put at 1 0 shift (drop start (T.text text.now)) self.old } }
+    {
+        self.draw_text(at, 1, text, start, 0, shift);
+    }
+
+    /// Draws row `at` of a pane that shows a text, with the line that starts at `start`. Where the pane's other rows show the
+    /// text already, this does what `draw_text` does. The row is shown from column `shift`, after a `$` unless that is 0.
+    pub fn draw_text_row<T: Text>(&mut self, at: usize, text: &T, start: usize, shift: usize)
+        requires row { at < self.old.rows }
+        requires within { start ≤ length (T.text text.now) }
+        requires short { length (T.text text.now) < 2 ^ 32 }
+        requires shift { shift < 2 ^ 62 }
+        ensures row { self.new ≡ record self.old { lines = text_put at 1 0 shift (drop start (T.text text.now)) self.old } }
+        ensures pane { (i first height top row from : ℕ) → IsDrawnBut i at start shift first height (T.text text.now) top row from self.old → self.new ≡ record self.old { lines = text_put first height row from (drop top (T.text text.now)) self.old } }
+    {
+        let _rows = self.rows();
+        self.draw_line(at, text, start, shift);
     }
 
     /// Draws `height` rows from row `first` on, of which the first says why a text may not be read.
