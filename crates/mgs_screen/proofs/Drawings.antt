@@ -1,8 +1,7 @@
 -- Rows that are drawn one below the other, and what a window shows.
 use Rattle.std.proofs.Common.{◌≡◌, ℕ, zero, suc, ◌+◌, ◌-◌, ◌<◌, ◌≤◌, Bool, true, false, List, [], ◌∷◌, ◌++◌, length, map, take, drop, get_or, Option, Some, None, refl, sym, ap, ◌∙◌, arith, append_assoc, length-append, eq-eqb}
-use Rattle.std.specs.Prelude.{slice_get, min, nat_eq, if◌then◌else◌}
+use Rattle.std.specs.Prelude.{slice_get, nat_eq, if◌then◌else◌}
 use Rattle.std.specs.Option.{option_map}
-use Rattle.std.proofs.Math.Nat.{min_comm}
 use Rattle.std.proofs.Math.Seq.{take-append_seam, drop-append-add}
 use Rattle.std.proofs.lemmas.Bool.{ne_eqb}
 use Rattle.std.proofs.lemmas.List.{length-map, length-take, drop-drop, drop_all, append-nil, drop_more}
@@ -10,7 +9,7 @@ use Rattle.std.proofs.lemmas.List.Folds.{list_any_at}
 use Rattle.mgs_model.specs.Rights.{all_rights}
 use Rattle.mgs_model.specs.Access.{Directory, Decider, decider, decision_by, allows, any_right}
 use Rattle.mgs_model.specs.Lines.{line_of, line_start, column}
-use Rattle.mgs_model.specs.Rows.{Row, rows_put, mode_row, buffer_mode, unread_rows, text_rows, shift_at, shift_for, echo_row}
+use Rattle.mgs_model.specs.Rows.{Row, rows_put, mode_row, buffer_mode, unread_rows, text_rows, shift_at, echo_row}
 use Rattle.mgs_model.specs.Picture.{Picture}
 use Rattle.mgs_model.specs.World.{Buffer, may}
 use Rattle.mgs_model.specs.View.{BufferSeen, Positions, buffer_seen, reads, reads_found, window_seen, positions_if, told_if, full_if}
@@ -18,7 +17,6 @@ use Rattle.mgs_model.specs.Seen.{WindowPane, Text_pane, text_seen, attributes_se
 use Rattle.mgs_model.specs.Draw.{draw, screen, read_rows, place_of, point_row, point_shift, window_rows, windows_rows, window_cursor, first_row, heading_of, own_line, cursor_in_mode}
 use Rattle.mgs_model.specs.declared.right.Right.{Right}
 use Rattle.mgs_model.specs.declared.right.Right.TheVariants.{ReadData, ReadAttributes}
-use Rattle.mgs_marks.specs.Marks.{mark_in, or_zero, position_in}
 use Rattle.mgs_buffers.specs.MarkedBuffer.{MarkedBuffer, marked_at, HasBuffer, mark_at}
 use Rattle.mgs_windows.specs.declared.WindowMarks.{WindowMarks}
 use Rattle.mgs_windows.specs.declared.Window.{Window}
@@ -28,7 +26,7 @@ use Rattle.mgs_session.specs.declared.Own.{Own}
 use Rattle.mgs_session.specs.declared.Session.{Session}
 use Rattle.mgs_world.specs.Worlds.{buffers_of, window_shown, window_of, world_of, session_of, own_of}
 use Rattle.mgs_screen.specs.Screens as screens
-use Rattle.mgs_screen.specs.Screens.{window_to, windows_to, heading_to, window_marks_rows, window_marks_cursor}
+use Rattle.mgs_screen.specs.Screens.{IsMeasured, window_to, windows_to, heading_to, window_marks_rows, window_marks_cursor}
 use Rattle.mgs_model.specs.declared.entry.Decision.{Decision}
 use Rattle.mgs_world.specs.Sound.{IsWindowSound}
 use Rattle.mgs_world.proofs.Soundness.{mark_is_kept, window_point}
@@ -81,13 +79,6 @@ shift_same : (selected : Bool) (cols : ℕ) (text : List ℕ) (point : ℕ) → 
 shift_same true cols text point = refl
 shift_same false cols text point = refl
 
--- the numbers that were taken from a text
-pub record IsMeasured (text : List ℕ) (point top line row place start : ℕ) : Type 0 where
-  pub line_is : line ≡ line_of text point
-  pub row_is : row ≡ point_row text top point
-  pub place_is : place ≡ column text point
-  pub start_is : start ≡ line_start text top
-
 pub measured : (text : List ℕ) (point top line above row place start : ℕ) → line ≡ line_of text point → above ≡ line_of text top → row ≡ line - above → place ≡ column text point → start ≡ line_start text top → IsMeasured text point top line row place start
 measured text point top line above row place start is over down at from = record {
   line_is = is;
@@ -107,28 +98,12 @@ text_drawn selected cols height heading text point top line row place start shif
     ∙ ap (λ (n : ℕ). read_rows selected cols height text top point ++ mode_row cols (buffer_mode heading (Some (n + 1, place))) ∷ []) is.line_is
     ∙ ap (λ (n : ℕ). read_rows selected cols height text top point ++ mode_row cols (buffer_mode heading (Some (line_of text point + 1, n))) ∷ []) is.place_is
 
--- a mark of a text that is a buffer's
-pub mark_here : (name : List ℕ) (ks : List MarkedBuffer) (id p : ℕ) (marks : List (Option ℕ)) → marks ≡ (marked_at name ks).marks → mark_in marks id ≡ Some p → p ≡ mark_at name ks id
-mark_here name ks id p marks same at = sym (ap (λ (k : List (Option ℕ)). position_in k id) (sym same) ∙ ap or_zero at)
-
 pub window_marks_drawn : (selected : Bool) (cols height : ℕ) (ks : List MarkedBuffer) (heading : Option (List ℕ × Bool)) (x : WindowMarks) (text : List ℕ) (point top : ℕ) → text ≡ (marked_at x.name ks).buffer.text → point ≡ mark_at x.name ks x.point → top ≡ mark_at x.name ks x.top
     → read_rows selected cols height text top point ++ mode_row cols (buffer_mode heading (place_of text point)) ∷ [] ≡ window_marks_rows selected cols height ks heading x
 window_marks_drawn selected cols height ks heading x text point top t p q =
     ap (λ (ys : List ℕ). read_rows selected cols height ys top point ++ mode_row cols (buffer_mode heading (place_of ys point)) ∷ []) t
     ∙ ap (λ (n : ℕ). read_rows selected cols height (marked_at x.name ks).buffer.text top n ++ mode_row cols (buffer_mode heading (place_of (marked_at x.name ks).buffer.text n)) ∷ []) p
     ∙ ap (λ (n : ℕ). read_rows selected cols height (marked_at x.name ks).buffer.text n (mark_at x.name ks x.point) ++ mode_row cols (buffer_mode heading (place_of (marked_at x.name ks).buffer.text (mark_at x.name ks x.point))) ∷ []) q
-
-pub cursor_drawn : (cols height : ℕ) (ks : List MarkedBuffer) (x : WindowMarks) (text : List ℕ) (point top line row place start down right : ℕ) → text ≡ (marked_at x.name ks).buffer.text → point ≡ mark_at x.name ks x.point → top ≡ mark_at x.name ks x.top
-    → IsMeasured text point top line row place start → down ≡ min row (height - 1) → right ≡ place - shift_for cols place
-    → ◌≡◌ {A = ℕ × ℕ} (down, right) (window_marks_cursor cols height ks x)
-cursor_drawn cols height ks x text point top line row place start down right t p q is low far =
-    let d : down ≡ min (height - 1) (point_row text top point) = low ∙ min_comm row (height - 1) ∙ ap (min (height - 1)) is.row_is in
-    let r : right ≡ column text point - shift_for cols (column text point) = far ∙ ap (λ (n : ℕ). n - shift_for cols n) is.place_is in
-    ap (λ (n : ℕ). let c : ℕ × ℕ = (n, right) in c) d
-    ∙ ap (λ (n : ℕ). let c : ℕ × ℕ = (min (height - 1) (point_row text top point), n) in c) r
-    ∙ ap (λ (ys : List ℕ). let c : ℕ × ℕ = (min (height - 1) (point_row ys top point), column ys point - shift_for cols (column ys point)) in c) t
-    ∙ ap (λ (n : ℕ). let ys : List ℕ = (marked_at x.name ks).buffer.text in let c : ℕ × ℕ = (min (height - 1) (point_row ys top n), column ys n - shift_for cols (column ys n)) in c) p
-    ∙ ap (λ (n : ℕ). let ys : List ℕ = (marked_at x.name ks).buffer.text in let c : ℕ × ℕ = (min (height - 1) (point_row ys n (mark_at x.name ks x.point)), column ys (mark_at x.name ks x.point) - shift_for cols (column ys (mark_at x.name ks x.point))) in c) q
 
 -- THE PANE OF A WINDOW
 

@@ -1,6 +1,7 @@
-pub mod Screens
 pub mod Drawings
 pub mod Sights
 pub mod Listings
 pub mod RowPanes
 pub mod Sketches
+pub mod Changes
+pub mod Redrawn

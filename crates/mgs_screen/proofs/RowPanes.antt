@@ -56,7 +56,7 @@ length_list cols height row texts mode = omega (arith, length-append (rows_from 
 length_blank : (cols height : ℕ) (mode : Row) → length (blank_rows cols height ++ mode ∷ []) ≡ height + 1
 length_blank cols height mode = omega (arith, length-append (blank_rows cols height) (mode ∷ []), length-blank_rows cols height)
 
-length_rows : (selected : Bool) (cols height : ℕ) (d : Directory) (user : List ℕ) (ks : List MarkedBuffer) (rows : RowPane) → length (pane_rows selected cols height (rows_to d user ks rows)) ≡ height + 1
+pub length_rows : (selected : Bool) (cols height : ℕ) (d : Directory) (user : List ℕ) (ks : List MarkedBuffer) (rows : RowPane) → length (pane_rows selected cols height (rows_to d user ks rows)) ≡ height + 1
 length_rows selected cols height d user ks NoRows = length_blank cols height (mode_row cols none_mode)
 length_rows selected cols height d user ks (Buffers row) = length_list cols height row _ (mode_row cols (codes "-Buffers"))
 length_rows selected cols height d user ks (Entries name row) = by (find_seen name (map (buffer_seen d user) (buffers_of ks)))

@@ -1,12 +1,22 @@
 -- What a sketch says stays true.
-use Rattle.std.proofs.Common.{List, []}
-use Rattle.std.specs.Prelude.{Option}
+use Rattle.std.proofs.Common.{◌≡◌, ℕ, zero, suc, ◌+◌, ◌≤◌, Bool, true, false, List, [], ◌∷◌, ◌++◌, length, take, drop, Some, None, inl, inr, refl, sym, ap, subst, ◌∙◌, arith, append_assoc, length-append, length-drop}
+use Rattle.std.specs.Prelude.{Option, slice_get, if◌then◌else◌, ◌⊎◌, ◌==◌}
+use Rattle.std.specs.List.{before_first, after_first}
+use Rattle.std.proofs.Math.Seq.{take-append_seam, drop-append-add}
+use Rattle.std.proofs.lemmas.Bool.{eqb-true}
+use Rattle.std.proofs.lemmas.Option.{same_Some, none-some, cond_some}
+use Rattle.std.proofs.lemmas.List.{take-append-drop, drop-drop, drop-take, length-take-le}
 use Rattle.mgs_model.specs.Apart.{AreFollowed}
+use Rattle.mgs_model.specs.Cells.{cells}
+use Rattle.mgs_model.specs.Lines.{is_feed}
 use Rattle.mgs_model.specs.Picture.{Picture}
-use Rattle.mgs_model.specs.World.{Buffer}
-use Rattle.mgs_model.proofs.Follow.{follows_then}
+use Rattle.mgs_model.specs.Rows.{Row, rows_put, text_rows, shift_at, shown_row}
+use Rattle.mgs_model.specs.World.{Buffer, find_buffer}
+use Rattle.mgs_model.proofs.Follow.{follows_then, follows_same}
+use Rattle.mgs_grid.proofs.Panes.{above_put, below_put}
+use Rattle.mgs_grid.proofs.Pictures.{length-rows_put, length-text_rows}
 use Rattle.mgs_screen.specs.declared.sketch.DrawnText.{DrawnText}
-use Rattle.mgs_screen.specs.Sketches.{Stands, AreStanding}
+use Rattle.mgs_screen.specs.Sketches.{Stands, AreStanding, AreStandingAbove, AreStandingFrom, rows_at, pushed}
 
 -- where there is no text
 pub standing_none : (bs : List Buffer) (p : Picture) → AreStanding bs p []
@@ -30,3 +40,182 @@ stands_followed bs cs p d followed s =
 -- while the buffers follow one another
 pub standing_followed : (bs cs : List Buffer) (p : Picture) (ds : List (Option DrawnText)) → AreFollowed bs cs → AreStanding bs p ds → AreStanding cs p ds
 standing_followed bs cs p ds followed s = record { each = λ i d is. stands_followed bs cs p d followed (s.each i d is) }
+
+-- ROWS THAT ARE PUT
+
+-- they are there
+pub put_there : (first height : ℕ) (new more old : List Row) → first ≤ length old → length new ≡ height → rows_at first height (rows_put first (new ++ more) old) ≡ new
+put_there first height new more old begins size =
+    let front : List Row = take first old in
+    let rest : List Row = drop (first + length (new ++ more)) old in
+    let at : first ≡ length front + 0 = omega (arith, length-take-le first old begins) in
+    ap (λ n. rows_at first n (rows_put first (new ++ more) old)) (sym size)
+    ∙ ap (λ n. take (length new) (drop n (front ++ (new ++ more) ++ rest))) at
+    ∙ ap (λ (ls : List Row). take (length new) (drop (length front + 0) ls)) (append_assoc front (new ++ more) rest)
+    ∙ ap (take (length new)) (drop-append-add front ((new ++ more) ++ rest) 0)
+    ∙ ap (take (length new)) (append_assoc new more rest)
+    ∙ take-append_seam new (more ++ rest)
+
+-- rows in their own place
+pub put_same : (first height : ℕ) (lines : List Row) → first + height ≤ length lines → rows_put first (rows_at first height lines) lines ≡ lines
+put_same first height lines fits =
+    let rows : List Row = take height (drop first lines) in
+    let size : length rows ≡ height = length-take-le height (drop first lines) (omega (arith, length-drop first lines, fits)) in
+    ap (λ n. take first lines ++ rows ++ drop (first + n) lines) size
+    ∙ ap (λ (ls : List Row). take first lines ++ rows ++ ls) (sym (drop-drop height first lines))
+    ∙ append_assoc (take first lines) rows (drop height (drop first lines))
+    ∙ ap (λ (ls : List Row). take first lines ++ ls) (take-append-drop height (drop first lines))
+    ∙ take-append-drop first lines
+
+-- those above and below stay
+rows_above : (f h first : ℕ) (new old : List Row) → f + h ≤ first → first ≤ length old → rows_at f h (rows_put first new old) ≡ rows_at f h old
+rows_above f h first new old above within =
+    sym (drop-take f h (rows_put first new old)) ∙ ap (drop f) (above_put (f + h) first new old above within) ∙ drop-take f h old
+
+rows_below : (f h first : ℕ) (new old : List Row) → first + length new ≤ f → first ≤ length old → rows_at f h (rows_put first new old) ≡ rows_at f h old
+rows_below f h first new old below within = ap (take h) (below_put f first new old below within)
+
+-- TEXTS THAT STAND
+
+stands_moved : (bs : List Buffer) (p q : Picture) (d : DrawnText) → q.cols ≡ p.cols → length q.lines ≡ length p.lines → rows_at d.first d.height q.lines ≡ rows_at d.first d.height p.lines → Stands bs p d → Stands bs q d
+stands_moved bs p q d wide long same s = record {
+  drawn = s.drawn;
+  serial = s.serial;
+  size = s.size;
+  start = s.start;
+  fits = omega (arith, s.fits, long);
+  rows = same ∙ s.rows ∙ ap (λ n. text_rows n (λ i. 0) 0 d.height (drop d.start s.drawn.text)) (sym wide);
+  now = s.now;
+  found = s.found;
+  follows = s.follows;
+}
+
+-- rows put in a picture's lines
+pub record IsPut (first : ℕ) (new : List Row) (p q : Picture) : Type 0 where
+  pub lines : q.lines ≡ rows_put first new p.lines
+  pub wide : q.cols ≡ p.cols
+  pub fits : first + length new ≤ length p.lines
+
+put_long : (first : ℕ) (new : List Row) (p q : Picture) → IsPut first new p q → length q.lines ≡ length p.lines
+put_long first new p q put = ap length put.lines ∙ length-rows_put first new p.lines put.fits
+
+-- the texts above stand still
+pub above_stay : (bs : List Buffer) (p q : Picture) (k first : ℕ) (new : List Row) (ds : List (Option DrawnText)) → IsPut first new p q → k ≤ first → AreStandingAbove k bs p ds → AreStandingAbove k bs q ds
+above_stay bs p q k first new ds put above s = record {
+  each = λ i d is.
+      let one = s.each i d is in (
+        stands_moved bs p q d put.wide (put_long first new p q put)
+            (ap (rows_at d.first d.height) put.lines ∙ rows_above d.first d.height first new p.lines (omega (arith, one.1, above)) (omega (arith, put.fits)))
+            one.0,
+        one.1,
+      );
+}
+
+-- and those below
+pub from_stay : (bs : List Buffer) (p q : Picture) (first k : ℕ) (new : List Row) (ds : List (Option DrawnText)) → IsPut first new p q → first + length new ≤ k → AreStandingFrom first bs p ds → AreStandingFrom k bs q ds
+from_stay bs p q first k new ds put below s = record {
+  each = λ i d is from.
+      stands_moved bs p q d put.wide (put_long first new p q put)
+      (ap (rows_at d.first d.height) put.lines ∙ rows_below d.first d.height first new p.lines (omega (arith, from, below)) (omega (arith, put.fits)))
+      (s.each i d is (omega (arith, from, below)));
+}
+
+-- all of them from the first row on
+pub from_all : (bs : List Buffer) (p : Picture) (ds : List (Option DrawnText)) → AreStanding bs p ds → AreStandingFrom 0 bs p ds
+from_all bs p ds s = record { each = λ i d is from. s.each i d is }
+
+pub above_none : (k : ℕ) (bs : List Buffer) (p : Picture) → AreStandingAbove k bs p []
+above_none k bs p = record { each = λ i d is. cc }
+
+pub above_all : (k : ℕ) (bs : List Buffer) (p : Picture) (ds : List (Option DrawnText)) → AreStandingAbove k bs p ds → AreStanding bs p ds
+above_all k bs p ds s = record { each = λ i d is. (s.each i d is).0 }
+
+-- ONE MORE
+
+last_or_before : (ds : List (Option DrawnText)) (o : Option DrawnText) (i : ℕ) (d : DrawnText) → slice_get (ds ++ o ∷ []) i ≡ Some (Some d) → (slice_get ds i ≡ Some (Some d)) ⊎ (o ≡ Some d)
+last_or_before [] o zero d is = inr (same_Some o (Some d) is)
+last_or_before [] o (suc i) d is = cc
+last_or_before (x ∷ ds) o zero d is = inl is
+last_or_before (x ∷ ds) o (suc i) d is = last_or_before ds o i d is
+
+pushed_has : (full : Bool) (ds : List (Option DrawnText)) (o : Option DrawnText) (i : ℕ) (d : DrawnText) → slice_get (if full then ds else ds ++ o ∷ []) i ≡ Some (Some d) → (slice_get ds i ≡ Some (Some d)) ⊎ (o ≡ Some d)
+pushed_has true ds o i d is = inl is
+pushed_has false ds o i d is = last_or_before ds o i d is
+
+pub above_pushed : (k m : ℕ) (bs : List Buffer) (p : Picture) (ds : List (Option DrawnText)) (o : Option DrawnText) → k ≤ m
+    → AreStandingAbove k bs p ds → ((d : DrawnText) → o ≡ Some d → Stands bs p d × (d.first + d.height ≤ m)) → AreStandingAbove m bs p (pushed o ds)
+above_pushed k m bs p ds o lower s more = record {
+  each = λ i d is. elim (pushed_has (length ds == 8) ds o i d is) [
+    | inl old ↦
+        let one = s.each i d old in
+        (one.0, omega (arith, one.1, lower))
+    | inr new ↦ more d new
+  ];
+}
+
+-- A TEXT THAT IS DRAWN
+
+no_shift : (b : Bool) → ◌≡◌ {A = ℕ} (if b then 0 else 0) 0
+no_shift true = refl
+no_shift false = refl
+
+pub unshifted_at : (row i : ℕ) → shift_at row 0 i ≡ 0
+unshifted_at row i = no_shift (i == row)
+
+-- a row that is shifted by nothing
+pub unshifted : (cols row j h : ℕ) (rest : List ℕ) → text_rows cols (shift_at row 0) j h rest ≡ text_rows cols (λ i. 0) j h rest
+unshifted cols row j zero rest = refl
+unshifted cols row j (suc h) rest =
+    ap (λ s. let r : Row = record { text = shown_row cols s (cells (before_first is_feed rest)); reversed = false } in r ∷ text_rows cols (shift_at row 0) (j + 1) h (after_first is_feed rest)) (unshifted_at row j)
+    ∙ ap (λ (rs : List Row). let r : Row = record { text = shown_row cols 0 (cells (before_first is_feed rest)); reversed = false } in r ∷ rs) (unshifted cols row (j + 1) h (after_first is_feed rest))
+
+-- it stands
+pub stands_drawn : (bs : List Buffer) (q : Picture) (d : DrawnText) (b : Buffer) (row : ℕ) → find_buffer d.name bs ≡ Some b → d.serial ≡ b.serial → d.size ≡ length b.text → d.start ≤ length b.text → d.first + d.height ≤ length q.lines
+    → rows_at d.first d.height q.lines ≡ text_rows q.cols (shift_at row 0) 0 d.height (drop d.start b.text) → Stands bs q d
+stands_drawn bs q d b row found serial size start fits rows = record {
+  drawn = b;
+  serial = sym serial;
+  size = sym size;
+  start = start;
+  fits = fits;
+  rows = rows ∙ unshifted q.cols row 0 d.height (drop d.start b.text);
+  now = b;
+  found = found;
+  follows = follows_same b;
+}
+
+-- A WINDOW THAT IS DRAWN
+
+-- it shows no text that is kept
+pub texts_passed : (bs : List Buffer) (p q : Picture) (first k : ℕ) (new : List Row) (ds es : List (Option DrawnText)) → IsPut first new p q → first ≤ k → es ≡ pushed None ds
+    → AreStandingAbove first bs p ds → AreStandingAbove k bs q es
+texts_passed bs p q first k new ds es put lower is s =
+    subst (λ (xs : List (Option DrawnText)). AreStandingAbove k bs q xs) (sym is) (
+    above_pushed first k bs q ds None lower (above_stay bs p q first first new ds put (omega arith) s) (λ d none. absurd (none-some d none)))
+
+-- it shows a text
+pub texts_kept : (bs : List Buffer) (p q : Picture) (d : DrawnText) (b : Buffer) (text : List ℕ) (row shift : ℕ) (mode : Row) (ds es : List (Option DrawnText))
+    → IsPut d.first (text_rows p.cols (shift_at row shift) 0 d.height (drop d.start text) ++ mode ∷ []) p q
+    → find_buffer d.name bs ≡ Some b → d.serial ≡ b.serial → d.size ≡ length text → d.start ≤ length text → text ≡ b.text → es ≡ pushed (if shift == 0 then Some d else None) ds
+    → AreStandingAbove d.first bs p ds → AreStandingAbove (d.first + (d.height + 1)) bs q es
+texts_kept bs p q d b text row shift mode ds es put found serial size start same is s =
+    let pane : List Row = text_rows p.cols (shift_at row shift) 0 d.height (drop d.start text) in
+    let high : length pane ≡ d.height = length-text_rows p.cols (shift_at row shift) 0 d.height (drop d.start text) in
+    let long : ℕ = length q.lines in
+    let fits : d.first + d.height ≤ long = omega (arith, put_long d.first (pane ++ mode ∷ []) p q put, put.fits, length-append pane (mode ∷ []), high) in
+    let there : rows_at d.first d.height q.lines ≡ pane =
+    ap (rows_at d.first d.height) put.lines ∙ put_there d.first d.height pane (mode ∷ []) p.lines (omega (arith, put.fits)) high in
+    let now : shift ≡ 0 → Stands bs q d = λ none.
+    stands_drawn bs q d b row found serial (size ∙ ap length same) (omega (arith, start, ap length same)) fits (
+    there
+    ∙ ap (λ n. text_rows p.cols (shift_at row n) 0 d.height (drop d.start text)) none
+    ∙ ap (λ n. text_rows n (shift_at row 0) 0 d.height (drop d.start text)) (sym put.wide)
+    ∙ ap (λ (ys : List ℕ). text_rows q.cols (shift_at row 0) 0 d.height (drop d.start ys)) same) in
+    let k : ℕ = d.first + (d.height + 1) in
+    let o : Option DrawnText = if shift == 0 then Some d else None in
+    subst (λ (xs : List (Option DrawnText)). AreStandingAbove k bs q xs) (sym is) (
+    above_pushed d.first k bs q ds o (omega arith) (above_stay bs p q d.first d.first (pane ++ mode ∷ []) ds put (omega arith) s)
+    (λ e kept.
+    let both = cond_some (shift == 0) d e kept in
+    let inside : d.first + d.height ≤ k = omega arith in
+    subst (λ (x : DrawnText). Stands bs q x × (x.first + x.height ≤ k)) both.1 (now (eqb-true shift 0 both.0), inside)))

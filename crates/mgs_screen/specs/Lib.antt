@@ -1,3 +1,4 @@
 pub mod Screens
 pub mod Listings
 pub mod Sketches
+pub mod Changes

@@ -1,8 +1,8 @@
 -- What a screen shows of the kept buffers.
-use Rattle.std.specs.Prelude.{ℕ, ◌-◌, min, Bool, true, false, List, [], ◌∷◌, ◌++◌, map, Option, Some, None, if◌then◌else◌, codes}
+use Rattle.std.specs.Prelude.{◌≡◌, ℕ, ◌-◌, min, Bool, true, false, List, [], ◌∷◌, ◌++◌, map, Option, Some, None, if◌then◌else◌, codes}
 use Rattle.mgs_model.specs.Access.{Directory}
 use Rattle.mgs_model.specs.World.{Own, may}
-use Rattle.mgs_model.specs.Lines.{column}
+use Rattle.mgs_model.specs.Lines.{column, line_of, line_start}
 use Rattle.mgs_model.specs.Picture.{Picture}
 use Rattle.mgs_model.specs.Prompts.{line_in_mode, prompt_line, search_text}
 use Rattle.mgs_model.specs.declared.message.Message.{Message}
@@ -38,6 +38,13 @@ windows_to directory user ks xs =
 abbrev pub heading_to : Directory → List ℕ → List MarkedBuffer → List ℕ → Option (List ℕ × Bool)
 heading_to directory user ks name =
     if may directory user ReadAttributes (marked_at name ks).buffer then Some (name, (marked_at name ks).buffer.modified) else None
+
+-- the numbers that were taken from a text
+pub record IsMeasured (text : List ℕ) (point top line row place start : ℕ) : Type 0 where
+  pub line_is : line ≡ line_of text point
+  pub row_is : row ≡ point_row text top point
+  pub place_is : place ≡ column text point
+  pub start_is : start ≡ line_start text top
 
 -- the rows of a text that may be read, and its mode line
 abbrev pub window_marks_rows : Bool → ℕ → ℕ → List MarkedBuffer → Option (List ℕ × Bool) → WindowMarks → List Row

@@ -1,5 +1,5 @@
 -- What texts the rows of a picture were drawn from, and what has become of their buffers since.
-use Rattle.std.specs.Prelude.{◌≡◌, ℕ, ◌+◌, ◌≤◌, List, Option, Some, take, drop, length, slice_get}
+use Rattle.std.specs.Prelude.{◌≡◌, ℕ, ◌+◌, ◌≤◌, ◌==◌, List, [], ◌∷◌, ◌++◌, Option, Some, take, drop, length, slice_get, if◌then◌else◌}
 use Rattle.mgs_model.specs.Apart.{Follows}
 use Rattle.mgs_model.specs.Picture.{Picture}
 use Rattle.mgs_model.specs.Rows.{Row, text_rows}
@@ -25,3 +25,17 @@ pub record Stands (bs : List Buffer) (p : Picture) (d : DrawnText) : Type 0 wher
 -- a sketch has a place for each window, from the top; where one shows a text that may be read and is not shifted, it holds this
 pub record AreStanding (bs : List Buffer) (p : Picture) (ds : List (Option DrawnText)) : Type 0 where
   pub each : (i : ℕ) (d : DrawnText) → slice_get ds i ≡ Some (Some d) → Stands bs p d
+
+-- WHILE A SCREEN IS DRAWN
+
+-- all texts stand, and above a row
+pub record AreStandingAbove (k : ℕ) (bs : List Buffer) (p : Picture) (ds : List (Option DrawnText)) : Type 0 where
+  pub each : (i : ℕ) (d : DrawnText) → slice_get ds i ≡ Some (Some d) → Stands bs p d × (d.first + d.height ≤ k)
+
+-- the texts from a row on stand
+pub record AreStandingFrom (k : ℕ) (bs : List Buffer) (p : Picture) (ds : List (Option DrawnText)) : Type 0 where
+  pub each : (i : ℕ) (d : DrawnText) → slice_get ds i ≡ Some (Some d) → k ≤ d.first → Stands bs p d
+
+-- a place more, of which there are eight at most
+abbrev pub pushed : Option DrawnText → List (Option DrawnText) → List (Option DrawnText)
+pushed o ds = if length ds == 8 then ds else ds ++ o ∷ []

@@ -1,12 +1,14 @@
 //! The screen of a session, as it is drawn into a grid.
 #![tactic(auto)]
 
+mod change;
+mod last_row;
 mod listing;
+mod measuring;
 mod redrawing;
 mod screen;
 mod sketch;
 
 pub use listing::{draw_entries, draw_listing};
-pub use redrawing::redraw_session;
-pub use screen::draw_session;
+pub use screen::{draw_session, redraw_session};
 pub use sketch::Sketch;

@@ -1,5 +1,6 @@
 // Which texts a screen shows, and as of which edits.
-ghost use Rattle.std.specs.Prelude.{◌≡◌, []};
+ghost use Rattle.std.specs.Prelude.{◌≡◌, ◌<◌, ◌++◌, ◌∷◌, [], length, Some, None, IfSome, slice_get};
+ghost use Rattle.mgs_screen.specs.Sketches.{pushed};
 
 use arrayvec::ArrayVec;
 use mgs_model::Name;
@@ -38,6 +39,42 @@ impl Model for Sketch {
     ghost view = { λ s. s.texts.items };
 }
 
+/// The serial and the size of the text in a place, if it lies in the same rows as this one and starts at the same line.
+fn drawn_in(texts: &[Option<DrawnText>], index: usize, text: &DrawnText) -> Option<(u64, usize)>
+    ensures { IfSome result (λ s. slice_get texts.now index ≡ Some (Some (record text.now { serial = s.0; size = s.1 }))) }
+{
+    let Some(place) = texts.get(index) else {
+        return None;
+    };
+    let Some(drawn) = place else {
+        return None;
+    };
+    if drawn.first == text.first
+        && drawn.height == text.height
+        && drawn.start == text.start
+        && drawn.name == text.name
+    {
+        Some((drawn.serial, drawn.size))
+    } else {
+        None
+    }
+}
+
+/// A place more for a text, in a sketch that is not full.
+fn put_text(texts: &mut ArrayVec<Option<DrawnText>, 8>, text: &DrawnText)
+    requires { length texts.old.items < 8 }
+    ensures { texts.new.items ≡ texts.old.items ++ Some text.now ∷ [] }
+{
+    texts.push(Some(DrawnText {
+        name: text.name,
+        serial: text.serial,
+        size: text.size,
+        start: text.start,
+        first: text.first,
+        height: text.height,
+    }));
+}
+
 impl Sketch {
     /// No text.
     pub fn new() -> Sketch
@@ -53,5 +90,31 @@ impl Sketch {
         ensures { self.new ≡ [] }
     {
         self.texts.clear();
+    }
+
+    /// The serial and the size that a text had when it was drawn in the place of this index, if it was drawn in the same rows as this
+    /// one, and from the same line's start on.
+    pub(crate) fn drawn(&self, index: usize, text: &DrawnText) -> Option<(u64, usize)>
+        ensures { IfSome result (λ s. slice_get self.now index ≡ Some (Some (record text.now { serial = s.0; size = s.1 }))) }
+    {
+        drawn_in(self.texts.as_slice(), index, text)
+    }
+
+    /// A place more, for a text. Where there are eight already, nothing changes.
+    pub(crate) fn push_text(&mut self, text: &DrawnText)
+        ensures { self.new ≡ pushed (Some text.now) self.old }
+    {
+        if !self.texts.is_full() {
+            put_text(&mut self.texts, text);
+        }
+    }
+
+    /// A place more, for no text. Where there are eight already, nothing changes.
+    pub(crate) fn push_none(&mut self)
+        ensures { self.new ≡ pushed None self.old }
+    {
+        if !self.texts.is_full() {
+            self.texts.push(None);
+        }
     }
 }

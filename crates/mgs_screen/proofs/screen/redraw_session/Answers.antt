@@ -14,14 +14,18 @@ use Rattle.mgs_world.specs.Sound.{IsWindowSound}
 use Rattle.mgs_world.specs.Worlds.{own_of}
 use Rattle.mgs_screen.specs.Screens.{window_to, windows_to}
 use Rattle.mgs_world.proofs.Soundness.{window_sound}
+use Rattle.mgs_world.specs.Worlds.{buffers_of}
 use Rattle.mgs_grid.proofs.Pictures.{length-rows_put}
+use Rattle.mgs_grid.proofs.RowSets.{same_then}
+use Rattle.mgs_screen.proofs.Redrawn.{row_apart}
+use Rattle.mgs_screen.proofs.Sketches.{IsPut, from_stay, above_stay, above_all}
 use Rattle.mgs_screen.proofs.Drawings.{rows_more, cursor_more, cursor_in, cursor_all, rows_all, session_drawn}
 use Rattle.mgs_screen.proofs.RowPanes.{length_window}
-use Rattle.mgs_screen.proofs.screen.draw_session.Goals as goal
-use Rattle.mgs_screen.proofs.screen.draw_session.Goals.{then-i-selected, else-i-selected}
+use Rattle.mgs_screen.proofs.screen.redraw_session.Goals as goal
+use Rattle.mgs_screen.proofs.screen.redraw_session.Goals.{then-i-selected, else-i-selected}
 
-pub draw_window-row-requires-clause-sound : goal.draw_window-row-requires-clause-sound
-draw_window-row-requires-clause-sound g c =
+pub redraw_window-row-requires-clause-sound : goal.redraw_window-row-requires-clause-sound
+redraw_window-row-requires-clause-sound g c =
     let v = c.as_slice-window-items.ensures.value in
     window_sound c.args.buffers.now c.args.session.now c.loop-i.i c.window-item.result c.requires.sound
     (c.window-item.is ∙ ap (λ (ws : List Window). get_or ws c.loop-i.i c.window-item.result) v)
@@ -47,37 +51,45 @@ loop-i-preserved g c =
     let mine : List Row = window_rows (nat_eq i selected) cols (window_to d user ks w) in
     let size : length mine ≡ w.height + 1 = length_window (nat_eq i selected) cols d user ks w sound in
     let next : room_of (drop i ws) ≡ w.height + 1 + room_of (drop (i + 1) ws) = ap room_of (drop_more ws i w c.loop-i-test.true ∙ ap (λ (u : Window). u ∷ drop (i + 1) ws) (sym c.window-item.is)) in
-    let put : c.draw_window-row.new.grid.lines ≡ rows_put first mine old =
-    c.draw_window-row.ensures.lines ∙ ap (λ (n : ℕ). rows_put first (window_rows (nat_eq i selected) n (window_to d user ks w)) old) inv.cols_stay in
+    let put : c.redraw_window-row.new.grid.lines ≡ rows_put first mine old =
+    c.redraw_window-row.ensures.lines ∙ ap (λ (n : ℕ). rows_put first (window_rows (nat_eq i selected) n (window_to d user ks w)) old) inv.cols_stay in
     let shown : ℕ × ℕ = window_cursor cols (Some (window_to d user ks w)) in
     let cursor : c.if-i-selected.cursor ≡ (if nat_eq i selected then (first + shown.0, shown.1) else c.loop-i.cursor) = elim c.if-i-selected.branch [
       | then-i-selected b ↦
           let same : nat_eq i selected ≡ true = eq-eqb i selected b.if-i-selected.true in
           b.cursor-is
-          ∙ ap (λ (p : ℕ × ℕ). let q : ℕ × ℕ = (first + p.0, p.1) in q) (c.draw_window-row.ensures.cursor same ∙ ap (λ (n : ℕ). window_cursor n (Some (window_to d user ks w))) inv.cols_stay)
+          ∙ ap (λ (p : ℕ × ℕ). let q : ℕ × ℕ = (first + p.0, p.1) in q) (c.redraw_window-row.ensures.cursor same ∙ ap (λ (n : ℕ). window_cursor n (Some (window_to d user ks w))) inv.cols_stay)
           ∙ sym (ap (λ (r : Bool). if r then (first + shown.0, shown.1) else c.loop-i.cursor) same)
       | else-i-selected b ↦
           b.cursor-is
           ∙ sym (ap (λ (r : Bool). if r then (first + shown.0, shown.1) else c.loop-i.cursor) (ne_eqb i selected b.if-i-selected.false))
     ] in
     let row : c.if-i-selected.cursor.0 < c.args.grid.now.rows = elim c.if-i-selected.branch [
-      | then-i-selected b ↦ let e : c.if-i-selected.cursor.0 ≡ first + c.draw_window-row.result.0 = ap (λ (p : ℕ × ℕ). p.0) b.cursor-is in omega (arith, e, c.draw_window-row.ensures.row, inv.room, next)
+      | then-i-selected b ↦ let e : c.if-i-selected.cursor.0 ≡ first + c.redraw_window-row.result.0 = ap (λ (p : ℕ × ℕ). p.0) b.cursor-is in omega (arith, e, c.redraw_window-row.ensures.row, inv.room, next)
       | else-i-selected b ↦ let e : c.if-i-selected.cursor.0 ≡ c.loop-i.cursor.0 = ap (λ (p : ℕ × ℕ). p.0) b.cursor-is in omega (arith, e, inv.row_within)
     ] in
     let col : c.if-i-selected.cursor.1 < cols = elim c.if-i-selected.branch [
-      | then-i-selected b ↦ let e : c.if-i-selected.cursor.1 ≡ c.draw_window-row.result.1 = ap (λ (p : ℕ × ℕ). p.1) b.cursor-is in omega (arith, e, c.draw_window-row.ensures.col, inv.cols_stay)
+      | then-i-selected b ↦ let e : c.if-i-selected.cursor.1 ≡ c.redraw_window-row.result.1 = ap (λ (p : ℕ × ℕ). p.1) b.cursor-is in omega (arith, e, c.redraw_window-row.ensures.col, inv.cols_stay)
       | else-i-selected b ↦ let e : c.if-i-selected.cursor.1 ≡ c.loop-i.cursor.1 = ap (λ (p : ℕ × ℕ). p.1) b.cursor-is in omega (arith, e, inv.col_within)
     ] in
+    let whole : IsPut first mine c.loop-i.grid c.redraw_window-row.new.grid = record {
+      lines = put;
+      wide = c.redraw_window-row.ensures.cols;
+      fits = omega (arith, size, inv.room, inv.count, next);
+    } in
     record {
-      judged = c.draw_window-row.ensures.judged;
-      rows_stay = c.draw_window-row.ensures.rows ∙ inv.rows_stay;
-      cols_stay = c.draw_window-row.ensures.cols ∙ inv.cols_stay;
+      judged = c.redraw_window-row.ensures.judged;
+      rows_stay = c.redraw_window-row.ensures.rows ∙ inv.rows_stay;
+      cols_stay = c.redraw_window-row.ensures.cols ∙ inv.cols_stay;
       count = ap length put ∙ length-rows_put first mine old (omega (arith, size, inv.room, inv.count, next)) ∙ inv.count;
       room = omega (arith, inv.room, next);
       row_within = row;
       col_within = col;
-      lines_are = rows_more d user ks cols selected i first ws w old c.draw_window-row.new.grid.lines _ c.window-item.is c.loop-i-test.true (omega (arith, inv.room, inv.count, next)) size put inv.lines_are;
+      lines_are = rows_more d user ks cols selected i first ws w old c.redraw_window-row.new.grid.lines _ c.window-item.is c.loop-i-test.true (omega (arith, inv.room, inv.count, next)) size put inv.lines_are;
       cursor_is = cursor_more d user ks cols selected i first ws w c.loop-i.cursor c.if-i-selected.cursor _ shown c.window-item.is c.loop-i-test.true refl cursor inv.cursor_is;
+      stands = from_stay (buffers_of ks) c.loop-i.grid c.redraw_window-row.new.grid first (first + (w.height + 1)) mine c.args.sketch.now whole (omega (arith, size)) inv.stands;
+      above = c.redraw_window-row.ensures.texts;
+      apart = same_then c.loop-i.rows c.redraw_window-row.new.rows c.args.grid.now.lines old c.redraw_window-row.new.grid.lines inv.apart c.redraw_window-row.ensures.apart c.redraw_window-row.ensures.more;
     }
 
 pub returns-clause-grid : goal.returns-clause-grid
@@ -108,3 +120,28 @@ returns-clause-grid g c = λ sessions. λ next.
     (ap (λ (q : Picture). q.row) c.draw_last_row.ensures ∙ ap (λ (n : ℕ × ℕ). n.0) cursor)
     (ap (λ (q : Picture). q.col) c.draw_last_row.ensures ∙ ap (λ (n : ℕ × ℕ). n.1) cursor)
     (cursor_all d x.user ks old.cols selected c.loop-i.i c.loop-i.first ws c.loop-i.cursor within c.loop-i-test.false inv.cursor_is)
+
+pub returns-clause-stands : goal.returns-clause-stands
+returns-clause-stands g c =
+    let ks : List MarkedBuffer = c.args.buffers.now in
+    let x : Session = c.args.session.now in
+    let p : Picture = c.loop-i.grid in
+    let q : Picture = c.draw_last_row.new.grid in
+    let inv = c.loop-i.invariant in
+    let echo : Row = echo_row p.cols (own_line (own_of x.own)) x.own.echo in
+    let put : IsPut c.loop-i.first (echo ∷ []) p q = record {
+      lines = ap (λ (r : Picture). r.lines) c.draw_last_row.ensures;
+      wide = ap (λ (r : Picture). r.cols) c.draw_last_row.ensures;
+      fits = omega (arith, inv.room, inv.count);
+    } in
+    above_all c.loop-i.first (buffers_of ks) q c.loop-i.texts (above_stay (buffers_of ks) p q c.loop-i.first c.loop-i.first (echo ∷ []) c.loop-i.texts put (omega arith) inv.above)
+
+pub returns-clause-apart : goal.returns-clause-apart
+returns-clause-apart g c =
+    let x : Session = c.args.session.now in
+    let p : Picture = c.loop-i.grid in
+    let q : Picture = c.draw_last_row.new.grid in
+    let inv = c.loop-i.invariant in
+    let echo : Row = echo_row p.cols (own_line (own_of x.own)) x.own.echo in
+    let last = row_apart c.insert.new.self c.loop-i.first (echo ∷ []) p q (ap (λ (r : Picture). r.lines) c.draw_last_row.ensures) refl c.insert.ensures.put (omega (arith, inv.room, inv.count)) in
+    same_then c.loop-i.rows c.insert.new.self c.args.grid.now.lines p.lines q.lines inv.apart last c.insert.ensures.kept

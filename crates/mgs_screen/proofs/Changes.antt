@@ -1,0 +1,150 @@
+-- What an edit without line feeds changes of a text.
+use Rattle.std.proofs.Common.{◌≡◌, ℕ, zero, suc, ◌+◌, ◌-◌, ◌≤◌, List, [], ◌∷◌, ◌++◌, length, take, drop, cond, inl, inr, true, Some, refl, sym, ap, subst, ◌∙◌, arith}
+use Rattle.std.specs.List.{count_by, find}
+use Rattle.std.proofs.Math.Seq.{take-append_seam, take-append-add}
+use Rattle.std.proofs.lemmas.Bool.{cases_eq, eq-eqb, ne_eqb}
+use Rattle.std.proofs.lemmas.List.{take-append-drop, take-append-le, drop-append-le, length-take-le}
+use Rattle.std.proofs.lemmas.List.Sums.{sum_by-append}
+use Rattle.std.proofs.lemmas.Option.{same_Some}
+use Rattle.mgs_model.specs.Apart.{IsEditOf}
+use Rattle.mgs_model.specs.Lines.{is_feed, line_of, start_of}
+use Rattle.mgs_model.specs.World.{Buffer, Item}
+use Rattle.mgs_model.proofs.Follow.{edit_parts}
+use Rattle.mgs_undo.specs.declared.Edit.{Edit}
+use Rattle.mgs_undo.specs.History.{has_serial}
+use Rattle.mgs_undo.specs.Numbered.{item_of}
+use Rattle.mgs_screen.specs.Changes.{IsLineEdited}
+
+-- LINES FURTHER DOWN
+
+-- where a line starts that is some lines below another
+pub start_below : (k i : ℕ) (text : List ℕ) → start_of (k + i) text ≡ start_of k text + start_of i (drop (start_of k text) text)
+start_below zero i text =
+    let none : 0 + i ≡ i = omega arith in
+    let sum : start_of i text ≡ 0 + start_of i text = omega arith in
+    ap (λ n. start_of n text) none ∙ sum
+start_below (suc k) zero [] =
+    let more : suc k + 0 ≡ suc (k + 0) = omega arith in
+    ap (λ n. start_of n []) more
+start_below (suc k) (suc i) [] =
+    let more : suc k + suc i ≡ suc (k + suc i) = omega arith in
+    ap (λ n. start_of n []) more
+start_below (suc k) i (c ∷ cs) =
+    elim (cases_eq c 10) [
+      | inl e ↦
+          let at : suc k + i ≡ suc (k + i) = omega arith in
+          let next : 1 + start_of k cs ≡ suc (start_of k cs) = omega arith in
+          let rest : List ℕ = drop (start_of k cs) cs in
+          let sum : 1 + (start_of k cs + start_of i rest) ≡ 1 + start_of k cs + start_of i rest = omega arith in
+          ap (λ n. start_of n (c ∷ cs)) at
+          ∙ rw (eq-eqb c 10 e) (ap (λ n. 1 + n) (start_below k i cs) ∙ sum ∙ ap (λ n. 1 + start_of k cs + start_of i (drop n (c ∷ cs))) (sym next))
+      | inr n ↦
+          let at : suc k + i ≡ suc (k + i) = omega arith in
+          let back : suc (k + i) ≡ suc k + i = omega arith in
+          let next : 1 + start_of (suc k) cs ≡ suc (start_of (suc k) cs) = omega arith in
+          let rest : List ℕ = drop (start_of (suc k) cs) cs in
+          let sum : 1 + (start_of (suc k) cs + start_of i rest) ≡ 1 + start_of (suc k) cs + start_of i rest = omega arith in
+          ap (λ m. start_of m (c ∷ cs)) at
+          ∙ rw (ne_eqb c 10 n) (ap (λ m. 1 + start_of m cs) back ∙ ap (λ m. 1 + m) (start_below (suc k) i cs) ∙ sum ∙ ap (λ m. 1 + start_of (suc k) cs + start_of i (drop m (c ∷ cs))) (sym next))
+    ]
+
+pub start_down : (above line start : ℕ) (text : List ℕ) → above ≤ line → start_of above text ≡ start → start_of line text ≡ start + start_of (line - above) (drop start text)
+start_down above line start text below from =
+    let down : line ≡ above + (line - above) = omega arith in
+    ap (λ n. start_of n text) down
+    ∙ start_below above (line - above) text
+    ∙ ap (λ n. n + start_of (line - above) (drop n text)) from
+
+-- LINE FEEDS
+
+feeds_joined : (xs ys : List ℕ) → count_by is_feed (xs ++ ys) ≡ count_by is_feed xs + count_by is_feed ys
+feeds_joined xs ys = sum_by-append (λ y. cond (is_feed y) 1 0) xs ys
+
+feeds_parted : (n : ℕ) (xs : List ℕ) → count_by is_feed xs ≡ count_by is_feed (take n xs) + count_by is_feed (drop n xs)
+feeds_parted n xs = ap (count_by is_feed) (sym (take-append-drop n xs)) ∙ feeds_joined (take n xs) (drop n xs)
+
+-- before and behind what was put in
+line_here : (x y text : List ℕ) (p : ℕ) → text ≡ x ++ y → length x ≡ p → line_of text p ≡ count_by is_feed x
+line_here x y text p is size =
+    ap (λ (ys : List ℕ). line_of ys p) is
+    ∙ ap (λ n. line_of (x ++ y) n) (sym size)
+    ∙ ap (count_by is_feed) (take-append_seam x y)
+
+line_behind : (x q y text : List ℕ) (p : ℕ) → text ≡ x ++ (q ++ y) → length x ≡ p → line_of text (p + length q) ≡ count_by is_feed x + count_by is_feed q
+line_behind x q y text p is size =
+    ap (λ (ys : List ℕ). line_of ys (p + length q)) is
+    ∙ ap (λ n. line_of (x ++ (q ++ y)) (n + length q)) (sym size)
+    ∙ ap (count_by is_feed) (take-append-add x (q ++ y) (length q) ∙ ap (λ (ys : List ℕ). x ++ ys) (take-append_seam q y))
+    ∙ feeds_joined x q
+
+line_before : (x y text : List ℕ) (s : ℕ) → text ≡ x ++ y → s ≤ length x → line_of text s ≡ count_by is_feed (take s x)
+line_before x y text s is within = ap (λ (ys : List ℕ). line_of ys s) is ∙ ap (count_by is_feed) (take-append-le s x y within)
+
+-- ONE LINE
+
+pub one_line : (x r q y old new : List ℕ) (p s above : ℕ) → old ≡ x ++ (r ++ y) → new ≡ x ++ (q ++ y) → length x ≡ p → s ≤ p
+    → count_by is_feed r ≡ 0 → line_of new (p + length q) ≡ line_of new p → line_of new s ≡ above
+    → IsLineEdited (line_of new p - above) s old new
+one_line x r q y old new p s above was came size within none same from =
+    let at : line_of new p ≡ count_by is_feed x = line_here x (q ++ y) new p came size in
+    let top : above ≡ count_by is_feed (take s x) = sym from ∙ line_before x (q ++ y) new s came (omega (arith, size, within)) in
+    let all : count_by is_feed x ≡ count_by is_feed (take s x) + count_by is_feed (drop s x) = feeds_parted s x in
+    let more : line_of new (p + length q) ≡ count_by is_feed x + count_by is_feed q = line_behind x q y new p came size in
+    record {
+      before = drop s x;
+      out = r;
+      put = q;
+      behind = y;
+      was = ap (drop s) was ∙ drop-append-le s x (r ++ y) (omega (arith, size, within));
+      came = ap (drop s) came ∙ drop-append-le s x (q ++ y) (omega (arith, size, within));
+      lines = omega (arith, at, top, all);
+      none_out = none;
+      none_put = omega (arith, more, at, same);
+    }
+
+-- the line of what lies below is not above
+pub line_down : (x y new : List ℕ) (p s above : ℕ) → new ≡ x ++ y → length x ≡ p → s ≤ p → line_of new s ≡ above → above ≤ line_of new p
+line_down x y new p s above came size within from =
+    let at : line_of new p ≡ count_by is_feed x = line_here x y new p came size in
+    let top : above ≡ count_by is_feed (take s x) = sym from ∙ line_before x y new s came (omega (arith, size, within)) in
+    let all : count_by is_feed x ≡ count_by is_feed (take s x) + count_by is_feed (drop s x) = feeds_parted s x in
+    omega (arith, at, top, all)
+
+-- a position further on is in no line before
+pub line_mono : (text : List ℕ) (s p : ℕ) → s ≤ p → p ≤ length text → line_of text s ≤ line_of text p
+line_mono text s p order within =
+    line_down (take p text) (drop p text) text p s (line_of text s) (sym (take-append-drop p text)) (length-take-le p text within) order refl
+
+-- an edit of a buffer, as it is kept
+pub edited_line : (old new : Buffer) (e : IsEditOf old new) (serial : ℕ) (edit : Edit) (text : List ℕ) (start above line size : ℕ)
+    → e.item ≡ item_of serial edit → new.text ≡ text → length old.text ≡ size
+    → edit.at + edit.added ≤ length text → length text + length edit.removed.items ≡ size + edit.added
+    → start ≤ edit.at → count_by is_feed edit.removed.items ≡ 0
+    → line ≡ line_of text edit.at → line_of text (edit.at + edit.added) ≡ line → line_of text start ≡ above
+    → IsLineEdited (line - above) start old.text text
+edited_line old new e serial edit text start above line size item came count within sizes order none here same top =
+    let place : e.item.place ≡ edit.at = ap (λ (i : Item). i.place) item in
+    let out : e.item.removed ≡ edit.removed.items = ap (λ (i : Item). i.removed) item in
+    let added : e.item.put ≡ edit.added = ap (λ (i : Item). i.put) item in
+    let told : length new.text + length e.item.removed ≡ length old.text + e.item.put =
+    ap (λ (ys : List ℕ). length ys + length e.item.removed) came
+    ∙ ap (λ (ys : List ℕ). length text + length ys) out
+    ∙ sizes
+    ∙ ap (λ n. n + edit.added) (sym count)
+    ∙ ap (λ n. length old.text + n) (sym added) in
+    let parts = edit_parts old new e told in
+    let inside : e.item.place ≤ length old.text = omega (arith, place, count, sizes, within) in
+    let before : length parts.before ≡ edit.at = ap length parts.place ∙ length-take-le e.item.place old.text inside ∙ place in
+    let long : length parts.put ≡ edit.added = parts.count ∙ added in
+    let was : old.text ≡ parts.before ++ (edit.removed.items ++ parts.behind) = parts.was ∙ ap (λ (ys : List ℕ). parts.before ++ (ys ++ parts.behind)) out in
+    let is : text ≡ parts.before ++ (parts.put ++ parts.behind) = sym came ∙ parts.came in
+    subst (λ (n : ℕ). IsLineEdited (n - above) start old.text text) (sym here) (
+    one_line parts.before edit.removed.items parts.put parts.behind old.text text edit.at start above was is before order none
+    (ap (λ n. line_of text (edit.at + n)) long ∙ same ∙ here) top)
+
+-- the latest item, looked up by the buffer's serial
+pub item_found : (old new : Buffer) (e : IsEditOf old new) (item : Item) (serial : ℕ) → serial ≡ new.serial → Some item ≡ find (has_serial serial) new.items → e.item ≡ item
+item_found old new e item serial now found =
+    let here : has_serial serial e.item ≡ true = eq-eqb e.item.serial serial (e.serial ∙ sym now) in
+    let first : find (has_serial serial) (e.item ∷ e.older) ≡ Some e.item = ap (λ b. cond b (Some e.item) (find (has_serial serial) e.older)) here in
+    sym (same_Some item e.item (found ∙ ap (find (has_serial serial)) e.items ∙ first))

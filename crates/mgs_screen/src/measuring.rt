@@ -1,0 +1,84 @@
+// What a window measures of a text before it shows it.
+ghost use Rattle.std.specs.Prelude.{◌≡◌, ◌-◌, ◌<◌, ◌≤◌, ◌^◌, true, length, IsSome};
+ghost use Rattle.mgs_model.specs.Lines.{line_of, start_of};
+ghost use Rattle.mgs_model.specs.Rows.{shift_for};
+ghost use Rattle.mgs_marks.specs.Marks.{mark_in, position_in};
+ghost use Rattle.mgs_screen.specs.Screens.{IsMeasured, screen_shift};
+
+use mgs_grid::shift_for;
+use mgs_lines::column;
+use mgs_marks::Marked;
+use mgs_windows::WindowMarks;
+
+/// What a window measures of a text before it shows it.
+#[derive(Clone, Copy)]
+pub(crate) struct Measures {
+    /// The line that the first row shows.
+    pub(crate) above: usize,
+    /// Where that starts.
+    pub(crate) start: usize,
+    /// The point's line.
+    pub(crate) line: usize,
+    /// The point's column.
+    pub(crate) column: usize,
+    /// The row of the point's line, from the window's first.
+    pub(crate) row: usize,
+    /// From which column that is shown.
+    pub(crate) shift: usize,
+    /// The cursor's column on the screen.
+    pub(crate) col: usize,
+}
+
+/// From which column the point's line is shown, and where the cursor then is. Only the selected window is shifted.
+fn shifted(cols: usize, column: usize, selected: bool) -> (usize, usize)
+    requires cols { 20 ≤ cols }
+    ensures shift { result.0 ≡ screen_shift selected cols column }
+    ensures few { result.0 ≤ column }
+    ensures col { result.1 < cols }
+    ensures cursor { selected ≡ true → result.1 ≡ column - shift_for cols column }
+{
+    if selected {
+        let shift = shift_for(cols, column);
+        (shift, column - shift)
+    } else {
+        (0, 0)
+    }
+}
+
+/// What a window measures of a text. Only the selected window shifts the point's line.
+pub(crate) fn measure<T: Marked>(
+    text: &T,
+    window_marks: &WindowMarks,
+    selected: bool,
+    cols: usize,
+) -> Measures
+    requires point { IsSome (mark_in (T.marks text.now) window_marks.now.point) }
+    requires top { IsSome (mark_in (T.marks text.now) window_marks.now.top) }
+    requires short { length (T.text text.now) ≤ 1048576 }
+    requires cols { 20 ≤ cols }
+    ensures is { IsMeasured (T.text text.now) (position_in (T.marks text.now) window_marks.now.point) (position_in (T.marks text.now) window_marks.now.top) result.line result.row result.column result.start }
+    ensures shift { result.shift ≡ screen_shift selected cols result.column }
+    ensures cursor { selected ≡ true → result.col ≡ result.column - shift_for cols result.column }
+    ensures above { line_of (T.text text.now) result.start ≡ result.above }
+    ensures start { start_of result.above (T.text text.now) ≡ result.start }
+    ensures within { result.start ≤ length (T.text text.now) }
+    ensures few { result.line ≤ 1048576 }
+    ensures near { result.shift < 2 ^ 62 }
+    ensures col { result.col < cols }
+{
+    let point = text.pos(window_marks.point);
+    let top = text.pos(window_marks.top);
+    let line = text.line_of(point);
+    let above = text.line_of(top);
+    let column = column(text, point);
+    let (shift, col) = shifted(cols, column, selected);
+    Measures {
+        above,
+        start: text.start_of(above),
+        line,
+        column,
+        row: line.saturating_sub(above),
+        shift,
+        col,
+    }
+}
