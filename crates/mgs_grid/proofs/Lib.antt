@@ -8,3 +8,7 @@ pub mod Drawn
 pub mod Cuts
 pub mod Ends
 pub mod OneRow
+pub mod Panes
+pub mod Edited
+pub mod RowSets
+pub mod Taken

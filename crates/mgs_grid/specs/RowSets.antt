@@ -1,5 +1,5 @@
 -- Some of the rows of a screen.
-use Rattle.std.specs.Prelude.{◌≡◌, ℕ, Bool, false, List, Option, Some, None, slice_get}
+use Rattle.std.specs.Prelude.{◌≡◌, ℕ, Bool, true, false, List, Option, Some, None, slice_get}
 use Rattle.mgs_model.specs.Rows.{Row}
 
 abbrev pub told_in : Option Bool → Bool
@@ -10,6 +10,10 @@ told_in (Some b) = b
 abbrev pub has_row : ℕ → List Bool → Bool
 has_row i set = told_in (slice_get set i)
 
+-- each row of a set is in another one
+pub record AreIn (inner outer : List Bool) : Type 0 where
+  pub each : (i : ℕ) → has_row i inner ≡ true → has_row i outer ≡ true
+
 -- the rows that a set has not are the same
-abbrev pub AreSameApart : List Bool → List Row → List Row → Type 0
-AreSameApart set old new = (i : ℕ) → has_row i set ≡ false → slice_get new i ≡ slice_get old i
+pub record AreSameApart (set : List Bool) (old new : List Row) : Type 0 where
+  pub each : (i : ℕ) → has_row i set ≡ false → slice_get new i ≡ slice_get old i

@@ -5,9 +5,12 @@ ghost use Rattle.mgs_model.specs.Draw.{listing_text};
 ghost use Rattle.mgs_model.specs.Prompts.{prompt_line, search_text};
 ghost use Rattle.mgs_model.specs.Picture.{Picture, IsPicture, IsPrintable, IsSize, blank_picture};
 ghost use Rattle.mgs_grid.specs.Lists.{acl_mode};
+ghost use Rattle.mgs_grid.specs.Panes.{IsDrawnBut, text_put};
+ghost use Rattle.mgs_grid.specs.RowSets.{AreSameApart};
 
 use crate::line::Line;
-use crate::window::{clear_rows, draw_rows};
+use crate::row_set::RowSet;
+use crate::window::{clear_rows, draw_rows, take_rows};
 use mgs_model::{Decision, Direction, Message, Name, Question, Short};
 use mgs_text::Text;
 use std::alloc::Global;
@@ -99,6 +102,19 @@ impl Grid {
         self.col = col;
     }
 
+    /// Becomes the same as a screen of the same size that is the same but for its cursor and the rows of a set. Only these are copied.
+    pub fn take_rows(&mut self, from: &Grid, rows: &RowSet)
+        requires rows { from.now.rows ≡ self.old.rows }
+        requires cols { from.now.cols ≡ self.old.cols }
+        requires same { AreSameApart rows.now self.old.lines from.now.lines }
+        ensures { self.new ≡ from.now }
+    {
+        let cols = self.cols;
+        take_rows(&mut self.lines, cols, &from.lines, rows);
+        self.row = from.row;
+        self.col = from.col;
+    }
+
     /// Draws a text into `height` rows from row `first` on, one line in each, from the line that starts at
     /// `top` on. A line that is too long is cut with a `$`. Row `row` of these is shown from column `shift`,
     /// after a `$` unless that is 0. Rows past the text are blank.
@@ -120,6 +136,31 @@ impl Grid {
         let cols = self.cols;
         let lines = &mut self.lines[first..first + height];
         draw_rows(lines, cols, text, top, row, shift);
+    }
+
+    // Draws row `at` with the line of a text that starts at `start`.
+    fn draw_line<T: Text>(&mut self, at: usize, text: &T, start: usize, shift: usize)
+        requires row { at < self.old.rows }
+        requires within { start ≤ length (T.text text.now) }
+        requires short { length (T.text text.now) < 2 ^ 32 }
+        requires shift { shift < 2 ^ 62 }
+        ensures { self.new ≡ record self.old { lines = text_put at 1 0 shift (drop start (T.text text.now)) self.old } }
+    {
+        self.draw_text(at, 1, text, start, 0, shift);
+    }
+
+    /// Draws row `at` of a pane that shows a text, with the line that starts at `start`. Where the pane's other rows show the
+    /// text already, this does what `draw_text` does. The row is shown from column `shift`, after a `$` unless that is 0.
+    pub fn draw_text_row<T: Text>(&mut self, at: usize, text: &T, start: usize, shift: usize)
+        requires row { at < self.old.rows }
+        requires within { start ≤ length (T.text text.now) }
+        requires short { length (T.text text.now) < 2 ^ 32 }
+        requires shift { shift < 2 ^ 62 }
+        ensures row { self.new ≡ record self.old { lines = text_put at 1 0 shift (drop start (T.text text.now)) self.old } }
+        ensures pane { (i first height top row from : ℕ) → IsDrawnBut i at start shift first height (T.text text.now) top row from self.old → self.new ≡ record self.old { lines = text_put first height row from (drop top (T.text text.now)) self.old } }
+    {
+        let _rows = self.rows();
+        self.draw_line(at, text, start, shift);
     }
 
     /// Draws `height` rows from row `first` on, of which the first says why a text may not be read.

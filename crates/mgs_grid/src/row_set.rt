@@ -1,6 +1,6 @@
 // Some of the rows of a screen.
-ghost use Rattle.std.specs.Prelude.{◌≡◌, ◌<◌, ℕ, true, false, slice_set};
-ghost use Rattle.mgs_grid.specs.RowSets.{has_row};
+ghost use Rattle.std.specs.Prelude.{◌≡◌, ◌+◌, ◌<◌, ◌≤◌, ℕ, true, false, slice_set};
+ghost use Rattle.mgs_grid.specs.RowSets.{has_row, AreIn};
 
 use mgs_model::ROWS_MAX;
 use std::marker::Model;
@@ -8,7 +8,7 @@ use std::marker::Model;
 /// Some of the rows of a screen, by their numbers from the top, from 0.
 #[derive(Drop)]
 pub struct RowSet {
-    has: [bool; 64],
+    has: [bool; ROWS_MAX],
 }
 
 impl Model for RowSet {
@@ -24,14 +24,18 @@ impl RowSet {
     pub fn none() -> RowSet
         ensures { (i : ℕ) → has_row i result ≡ false }
     {
-        RowSet { has: [false; 64] }
+        RowSet {
+            has: [false; ROWS_MAX],
+        }
     }
 
     /// All rows that a screen may have.
     pub fn all() -> RowSet
-        ensures { (i : ℕ) → i < 64 → has_row i result ≡ true }
+        ensures { (i : ℕ) → i < ROWS_MAX → has_row i result ≡ true }
     {
-        RowSet { has: [true; 64] }
+        RowSet {
+            has: [true; ROWS_MAX],
+        }
     }
 
     /// Whether the row is one of them.
@@ -45,8 +49,24 @@ impl RowSet {
     /// One row more.
     pub fn insert(&mut self, row: usize)
         requires { row < ROWS_MAX }
-        ensures { self.new ≡ slice_set self.old row true }
+        ensures value { self.new ≡ slice_set self.old row true }
+        ensures put { has_row row self.new ≡ true }
+        ensures kept { AreIn self.old self.new }
+        ensures others { (i : ℕ) → (i ≡ row → ⊥) → has_row i self.new ≡ has_row i self.old }
     {
         self.has[row] = true;
+    }
+
+    /// More rows: `count` of them, from row `first` on.
+    pub fn insert_rows(&mut self, first: usize, count: usize)
+        requires { first + count ≤ ROWS_MAX }
+        ensures put { (i : ℕ) → first ≤ i → i < first + count → has_row i self.new ≡ true }
+        ensures kept { AreIn self.old self.new }
+        ensures above { (i : ℕ) → i < first → has_row i self.new ≡ has_row i self.old }
+        ensures below { (i : ℕ) → first + count ≤ i → has_row i self.new ≡ has_row i self.old }
+    {
+        for row in first..first + count {
+            self.insert(row);
+        }
     }
 }

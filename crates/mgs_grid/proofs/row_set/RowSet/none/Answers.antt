@@ -1,0 +1,5 @@
+use Rattle.mgs_grid.proofs.RowSets.{has_none}
+use Rattle.mgs_grid.proofs.row_set.RowSet.none.Goals as goal
+
+pub returns : goal.returns
+returns c = has_none 64

@@ -1,0 +1,23 @@
+-- Rows of a text on a screen.
+use Rattle.std.specs.Prelude.{◌≡◌, ℕ, ◌+◌, ◌<◌, ◌≤◌, List, drop, slice_set}
+use Rattle.mgs_model.specs.Lines.{start_of}
+use Rattle.mgs_model.specs.Rows.{Row, text_rows, shift_at, rows_put}
+use Rattle.mgs_model.specs.Picture.{Picture}
+
+-- rows that are the same but for the i-th, whatever that is
+abbrev pub AreSameBut : ℕ → List Row → List Row → Type 0
+AreSameBut i olds news = (r : Row) → slice_set olds i r ≡ slice_set news i r
+
+-- a picture's rows, of which those from the first on show a text; one of these is shown from another column than 0
+abbrev pub text_put : ℕ → ℕ → ℕ → ℕ → List ℕ → Picture → List Row
+text_put first height row shift rest p = rows_put first (text_rows p.cols (shift_at row shift) 0 height rest) p.lines
+
+-- A text's rows stand already but for the i-th of them. That one is row `at` of the picture, and shows the line that starts at `start`
+-- from column `from`.
+pub record IsDrawnBut (i at start from first height : ℕ) (text : List ℕ) (top row shift : ℕ) (p : Picture) : Type 0 where
+  pub place : at ≡ first + i
+  pub within : i < height
+  pub fits : first + height ≤ p.rows
+  pub line : start ≡ top + start_of i (drop top text)
+  pub column : from ≡ shift_at row shift i
+  pub others : AreSameBut at p.lines (text_put first height row shift (drop top text) p)
