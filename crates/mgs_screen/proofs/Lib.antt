@@ -3,3 +3,4 @@ pub mod Drawings
 pub mod Sights
 pub mod Listings
 pub mod RowPanes
+pub mod Sketches

@@ -1,5 +1,5 @@
 -- What texts the rows of a picture were drawn from, and what has become of their buffers since.
-use Rattle.std.specs.Prelude.{◌≡◌, ℕ, ◌+◌, ◌≤◌, List, Some, take, drop, length, All}
+use Rattle.std.specs.Prelude.{◌≡◌, ℕ, ◌+◌, ◌≤◌, List, Option, Some, take, drop, length, slice_get}
 use Rattle.mgs_model.specs.Apart.{Follows}
 use Rattle.mgs_model.specs.Picture.{Picture}
 use Rattle.mgs_model.specs.Rows.{Row, text_rows}
@@ -22,5 +22,6 @@ pub record Stands (bs : List Buffer) (p : Picture) (d : DrawnText) : Type 0 wher
   pub found : find_buffer d.name bs ≡ Some now
   pub follows : Follows drawn now
 
-abbrev pub AreStanding : List Buffer → Picture → List DrawnText → Type 0
-AreStanding bs p ds = All (Stands bs p) ds
+-- a sketch has a place for each window, from the top; where one shows a text that may be read and is not shifted, it holds this
+pub record AreStanding (bs : List Buffer) (p : Picture) (ds : List (Option DrawnText)) : Type 0 where
+  pub each : (i : ℕ) (d : DrawnText) → slice_get ds i ≡ Some (Some d) → Stands bs p d

@@ -38,7 +38,9 @@ pub fn redraw_session<T: Marked + Drop>(
     ensures stands { AreStanding (buffers_of buffers.now) grid.new sketch.new }
     ensures apart { AreSameApart result grid.old.lines grid.new.lines }
 {
+    let _rows = grid.rows();
     draw_session(buffers, judge, directory, session, grid);
+    let _drawn = grid.rows();
     sketch.clear();
     RowSet::all()
 }

@@ -1,5 +1,5 @@
 // Which texts a screen shows, and as of which edits.
-ghost use Rattle.std.specs.Prelude.{◌≡◌, [], ◌∷◌, ◌++◌, length};
+ghost use Rattle.std.specs.Prelude.{◌≡◌, []};
 
 use arrayvec::ArrayVec;
 use mgs_model::Name;
@@ -22,18 +22,18 @@ pub struct DrawnText {
     pub(crate) height: usize,
 }
 
-/// The texts that a screen shows, so that it can be drawn again in the rows alone that change. It has room for as many as there are
-/// windows, and takes no memory.
+/// The texts that a screen shows, so that it can be drawn again in the rows alone that change: one for each window, from the top, or
+/// none where the window shows none or shifts it. It has room for as many as there are windows, and takes no memory.
 #[derive(Drop)]
 pub struct Sketch {
-    texts: ArrayVec<DrawnText, 8>,
+    texts: ArrayVec<Option<DrawnText>, 8>,
 }
 
 impl Model for Sketch {
-    ghost use Rattle.std.specs.Prelude.{List};
+    ghost use Rattle.std.specs.Prelude.{List, Option};
     ghost use Rattle.mgs_screen.specs.declared.sketch.DrawnText.{DrawnText};
 
-    ghost Value = { List DrawnText };
+    ghost Value = { List (Option DrawnText) };
 
     ghost view = { λ s. s.texts.items };
 }
