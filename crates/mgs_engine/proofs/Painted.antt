@@ -14,9 +14,11 @@ use Rattle.mgs_model.specs.World.{World, Session, find_session}
 use Rattle.mgs_model.specs.Draw.{screen}
 use Rattle.mgs_term.specs.Drawing.{Draws, IsFaithful}
 use Rattle.mgs_paint.specs.Painting.{Paints, bound_of, cells_of, shown}
+use Rattle.mgs_model.proofs.Basics.{cons_head, cons_tail}
 use Rattle.mgs_model.proofs.Firsts.{found_passes}
 use Rattle.mgs_world.specs.Worlds.{find_size, sizes, is_size_of, IsOther, IsUnique}
 use Rattle.mgs_world.specs.Worlds as core
+use Rattle.mgs_screen.specs.Sketches.{AreStanding}
 use Rattle.mgs_engine.specs.declared.screen.Screen.{Screen}
 use Rattle.mgs_engine.specs.Queues.{waiting_in, is_queue_of}
 use Rattle.mgs_engine.specs.declared.ending.Cause.{Cause}
@@ -44,6 +46,12 @@ screen_known w xs id x e f =
 
 -- ALL SCREENS
 
+no_more : {A X : Type 0} (x : A) (xs : List A) → x ∷ xs ≡ [] → X
+no_more x xs e = cc
+
+nothing : {A X : Type 0} (x : A) → None ≡ Some x → X
+nothing x e = cc
+
 drawn_sizes : (xs : List Screen) → map (λ (d : Drawn). record { id = d.id; rows = d.picture.rows; cols = d.picture.cols }) (map drawn_of xs) ≡ map shown_size xs
 drawn_sizes [] = refl
 drawn_sizes (x ∷ xs) = ap (λ ss. shown_size x ∷ ss) (drawn_sizes xs)
@@ -58,34 +66,36 @@ drawn_one w x y e d = record {
   session = d.session;
   found = ap (λ (z : Drawn). find_session z.id w.sessions) e ∙ d.found;
   picture = ap (λ (z : Drawn). z.picture) e ∙ d.picture;
+  level = ap (λ (z : Drawn). z.next) e ∙ d.level ∙ sym (ap (λ (z : Drawn). z.picture) e);
+  stands = subst (λ (z : Drawn). AreStanding w.buffers z.picture z.texts) (sym e) d.stands;
 }
 
 pub drawn_same : (w : World) (xs ys : List Screen) → map drawn_of xs ≡ map drawn_of ys → All (IsDrawn w) ys → All (IsDrawn w) xs
 drawn_same w [] ys e h = All-nil (IsDrawn w)
-drawn_same w (x ∷ xs) [] e h = cc
+drawn_same w (x ∷ xs) [] e h = no_more (drawn_of x) (map drawn_of xs) e
 drawn_same w (x ∷ xs) (y ∷ ys) e h =
-    let one : drawn_of x ≡ drawn_of y = cc in
-    let rest : map drawn_of xs ≡ map drawn_of ys = cc in
+    let one : drawn_of x ≡ drawn_of y = cons_head (drawn_of x) (drawn_of y) (map drawn_of xs) (map drawn_of ys) e in
+    let rest : map drawn_of xs ≡ map drawn_of ys = cons_tail (drawn_of x) (drawn_of y) (map drawn_of xs) (map drawn_of ys) e in
     All-cons (IsDrawn w) x xs (drawn_one w x y one (All-head (IsDrawn w) y ys h)) (drawn_same w xs ys rest (All-tail (IsDrawn w) y ys h))
 
 pub on_time_same : (xs ys : List Screen) → map drawn_of xs ≡ map drawn_of ys → All IsOnTime ys → All IsOnTime xs
 on_time_same [] ys e h = All-nil IsOnTime
-on_time_same (x ∷ xs) [] e h = cc
+on_time_same (x ∷ xs) [] e h = no_more (drawn_of x) (map drawn_of xs) e
 on_time_same (x ∷ xs) (y ∷ ys) e h =
-    let one : drawn_of x ≡ drawn_of y = cc in
-    let rest : map drawn_of xs ≡ map drawn_of ys = cc in
+    let one : drawn_of x ≡ drawn_of y = cons_head (drawn_of x) (drawn_of y) (map drawn_of xs) (map drawn_of ys) e in
+    let rest : map drawn_of xs ≡ map drawn_of ys = cons_tail (drawn_of x) (drawn_of y) (map drawn_of xs) (map drawn_of ys) e in
     All-cons IsOnTime x xs (ap (λ (z : Drawn). z.late) one ∙ All-head IsOnTime y ys h) (on_time_same xs ys rest (All-tail IsOnTime y ys h))
 
 -- a screen is found after where it was found before
 found_after : (w : World) (id : ℕ) (xs ys : List Screen) (s : Screen) → AreRedrawn w xs ys → find (screen_id id) xs ≡ Some s → (t : Screen) × (find (screen_id id) ys ≡ Some t) × IsRedrawn w s t
-found_after w id [] [] s h e = cc
+found_after w id [] [] s h e = nothing s e
 found_after w id [] (y ∷ ys) s h e = absurd h
 found_after w id (x ∷ xs) [] s h e = absurd h
 found_after w id (x ∷ xs) (y ∷ ys) s h e =
     let goal : Bool → Type 0 = λ b. (t : Screen) × (cond b (Some y) (find (screen_id id) ys) ≡ Some t) × IsRedrawn w s t in
     let go : (b : Bool) → cond b (Some x) (find (screen_id id) xs) ≡ Some s → goal b =
     λ b. elim b as (λ b. cond b (Some x) (find (screen_id id) xs) ≡ Some s → goal b) [
-      | true ↦ λ f. let is : x ≡ s = cc in (y, refl, subst (λ (z : Screen). IsRedrawn w z y) is h.0)
+      | true ↦ λ f. (y, refl, subst (λ (z : Screen). IsRedrawn w z y) (same_some x s f) h.0)
       | false ↦ λ f. found_after w id xs ys s h.1 f
     ]
     in subst goal (ap (λ n. nat_eq n id) (sym h.0.id)) (go (nat_eq x.id id) e)

@@ -1,22 +1,26 @@
 -- Screens that are drawn and painted.
-use Rattle.std.proofs.Common.{◌≡◌, ℕ, zero, suc, ◌+◌, ◌<◌, ◌≤◌, List, [], ◌∷◌, ◌++◌, length, get_or, set, take, drop, map, Bool, not, true, false, Some, None, refl, sym, ap, subst, ◌∙◌, arith}
+use Rattle.std.proofs.Common.{◌≡◌, ℕ, zero, suc, ◌+◌, ◌<◌, ◌≤◌, List, [], ◌∷◌, ◌++◌, length, get_or, set, take, drop, map, Bool, not, true, false, cond, Some, None, refl, sym, ap, subst, ◌∙◌, arith}
 use Rattle.std.specs.Prelude.{slice_get, All}
 use Rattle.std.proofs.lemmas.Option.{get_or_from_slice_get, slice_get_within}
 use Rattle.std.proofs.lemmas.List.{append-nil, map-append, length_push, take_more, take_more_set, take_all}
 use Rattle.std.proofs.lemmas.List.Elements.{All-cons, All-nil}
+use Rattle.mgs_model.specs.Apart.{is_anywhere}
 use Rattle.mgs_model.specs.Picture.{Picture}
+use Rattle.mgs_model.specs.declared.touched.Touched.{Touched}
 use Rattle.mgs_model.specs.World.{World, Session, find_session}
 use Rattle.mgs_model.specs.Draw.{screen, draw}
 use Rattle.mgs_term.specs.Drawing.{Draws, IsFaithful}
 use Rattle.mgs_paint.specs.Painting.{Paints, bound_of, cells_of, shown}
 use Rattle.mgs_paint.specs.Repainting.{Repaints}
 use Rattle.mgs_paint.proofs.Changing.{Draws-faithful}
+use Rattle.mgs_screen.specs.Sketches.{AreStanding}
+use Rattle.mgs_screen.proofs.Sketches.{standing_none}
 use Rattle.mgs_world.specs.declared.size.Size.{Size}
 use Rattle.mgs_world.specs.Worlds.{find_size, sizes, is_size_of, IsOfSize, IsUnique}
 use Rattle.mgs_world.specs.Worlds as core
 use Rattle.mgs_engine.specs.declared.screen.Screen.{Screen}
 use Rattle.mgs_engine.specs.Queues.{IsTaken}
-use Rattle.mgs_engine.specs.Screens.{queue_of, shown_size, IsSessionScreen, IsKnown, IsDrawn, IsAhead, IsOnTime, IsRedrawn, IsRepaint, AreRedrawn, IsFirst}
+use Rattle.mgs_engine.specs.Screens.{queue_of, shown_size, texts_left, Texts, IsSessionScreen, IsKnown, IsDrawn, IsReady, IsReadyApart, IsAhead, IsOnTime, IsRedrawn, IsRepaint, AreRedrawn, IsFirst}
 use Rattle.mgs_engine.specs.Served.{IsDrawnInTime}
 use Rattle.mgs_engine.specs.Slow.{falls_behind, same_picture}
 use Rattle.mgs_core.proofs.Ids.{found_sizes, known_at, same_some, some_of}
@@ -48,8 +52,8 @@ pub screen_cols : (w : World) (x : Session) → (screen w x).cols ≡ x.cols
 unfolding draw
 screen_cols w x = refl
 
-pub ahead_screen : (w : World) (old new : Screen) → IsKnown (sizes w) old → IsAhead w old new → IsSessionScreen old → IsSessionScreen new
-ahead_screen w old new k h s =
+pub ahead_screen : (w : World) (old new : Screen) (rows : List Bool) → IsKnown (sizes w) old → IsAhead w old new rows → IsSessionScreen old → IsSessionScreen new
+ahead_screen w old new rows k h s =
     let known = session_known w old k in
     let same : known.0 ≡ h.session = same_some known.0 h.session (sym known.1 ∙ h.found) in
     let size : core.session_size h.session ≡ shown_size old = ap core.session_size (sym same) ∙ known.2 in
@@ -109,8 +113,8 @@ marked_repaint old new e = subst (IsRepaint old) (sym e) (record {
 })
 
 -- and else it is painted
-pub ahead_repaint : (w : World) (old mid new : Screen) → IsAhead w old mid → IsRepaint mid new → IsRepaint old new
-ahead_repaint w old mid new h r = record {
+pub ahead_repaint : (w : World) (old mid new : Screen) (rows : List Bool) → IsAhead w old mid rows → IsRepaint mid new → IsRepaint old new
+ahead_repaint w old mid new rows h r = record {
   id = r.id ∙ ap (λ (z : Screen). z.id) h.same;
   bytes = r.bytes;
   appended = r.appended ∙ ap (λ (z : Screen). z.queue ++ r.bytes) h.same;
@@ -119,25 +123,53 @@ ahead_repaint w old mid new h r = record {
   bound = r.bound;
 }
 
-pub ahead_drawn : (w : World) (old mid new : Screen) → IsAhead w old mid → shown_size new ≡ shown_size mid → new.shown ≡ mid.next → IsDrawn w new
-ahead_drawn w old mid new h s e = record {
+pub ahead_drawn : (w : World) (old mid new : Screen) (rows : List Bool) → IsAhead w old mid rows → shown_size new ≡ shown_size mid → new.shown ≡ mid.next → new.next ≡ mid.next → new.sketch ≡ mid.sketch → IsDrawn w new
+ahead_drawn w old mid new rows h s e n t = record {
   session = h.session;
   found = ap (λ (z : Size). find_session z.id w.sessions) s ∙ ap (λ (z : Screen). find_session z.id w.sessions) h.same ∙ h.found;
   picture = e ∙ ap (λ (z : Screen). z.next) h.same;
+  level = n ∙ sym e;
+  stands =
+      subst (λ (p : Picture). AreStanding w.buffers p new.sketch) (sym e)
+      (subst (λ (ts : Texts). AreStanding w.buffers mid.next ts) (sym t) h.stands);
 }
 
 -- DRAWN AGAIN
 
-pub ahead_redrawn : (w : World) (old mid new : Screen) → IsAhead w old mid → shown_size new ≡ shown_size mid → new.late ≡ falls_behind (length mid.queue) mid.shown mid.next
-    → (new.late ≡ false → new.shown ≡ mid.next) → (new.late ≡ false → IsRepaint mid new) → (IsTaken (queue_of mid) → new.late ≡ false) → IsRedrawn w old new
-ahead_redrawn w old mid new h s late shows repaint prompt = record {
+-- a blank screen is ready
+pub ready_blank : (w : World) (x : Screen) → x.next ≡ x.shown → x.sketch ≡ [] → IsReady w x
+ready_blank w x level none = record { level = level; stands = subst (AreStanding w.buffers x.shown) (sym none) (standing_none w.buffers x.shown) }
+
+-- and any that was drawn, without the texts that an event can have changed
+pub ready_left : (w : World) (t : Touched) (x y : Screen) → IsReadyApart w t x → y ≡ record x { sketch = texts_left t x.sketch } → IsReady w y
+ready_left w t x y h e = subst (IsReady w) (sym e) (record { level = h.level; stands = go (is_anywhere t) refl })
+  where
+    go : (b : Bool) → is_anywhere t ≡ b → AreStanding w.buffers x.shown (cond b [] x.sketch)
+    go true any = standing_none w.buffers x.shown
+    go false own = h.stands own
+
+pub screen_left : (ts : Texts) (x y : Screen) → IsSessionScreen x → y ≡ record x { sketch = ts } → IsSessionScreen y
+screen_left ts x y h e = subst IsSessionScreen (sym e) (record { rows = h.rows; cols = h.cols })
+
+pub ahead_left : (w : World) (ts : Texts) (x y new : Screen) (rows : List Bool) → y ≡ record x { sketch = ts } → IsAhead w y new rows → IsAhead w x new rows
+ahead_left w ts x y new rows e h = record {
+  session = h.session;
+  found = ap (λ (z : Screen). find_session z.id w.sessions) (sym e) ∙ h.found;
+  same = h.same ∙ ap (λ (z : Screen). record z { next = screen w h.session; sketch = new.sketch }) e;
+  stands = h.stands;
+  apart = h.apart;
+}
+
+pub ahead_redrawn : (w : World) (old mid new : Screen) (rows : List Bool) → IsAhead w old mid rows → shown_size new ≡ shown_size mid → new.late ≡ falls_behind (length mid.queue) mid.shown mid.next
+    → (new.late ≡ false → new.shown ≡ mid.next) → new.next ≡ mid.next → new.sketch ≡ mid.sketch → (new.late ≡ false → IsRepaint mid new) → (IsTaken (queue_of mid) → new.late ≡ false) → IsRedrawn w old new
+ahead_redrawn w old mid new rows h s late shows next texts repaint prompt = record {
   id = ap (λ (z : Size). z.id) s ∙ ap (λ (z : Screen). z.id) h.same;
   session = h.session;
   found = h.found;
   late = late ∙ ap (λ (z : Screen). falls_behind (length z.queue) z.shown z.next) h.same;
   prompt = λ t. prompt (ap (λ (z : Screen). z.queue) h.same ∙ t);
-  repaint = λ l. ahead_repaint w old mid new h (repaint l);
-  drawn = λ l. ahead_drawn w old mid new h s (shows l);
+  repaint = λ l. ahead_repaint w old mid new rows h (repaint l);
+  drawn = λ l. ahead_drawn w old mid new rows h s (shows l) next texts;
 }
 
 -- a screen that is what the world has is left alone

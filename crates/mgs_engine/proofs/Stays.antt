@@ -26,6 +26,8 @@ drawn_opened w id user rows cols x d =
       session = d.session;
       found = find-append (has_id x.id) w.sessions more ∙ ap (λ o. option_or o (find (has_id x.id) more)) d.found;
       picture = d.picture;
+      level = d.level;
+      stands = d.stands;
     }
 
 drawn_closed : (w : World) (id : ℕ) (x : Screen) → nat_eq id x.id ≡ false → IsDrawn w x → IsDrawn (closed w id) x
@@ -35,6 +37,8 @@ drawn_closed w id x other d =
       session = d.session;
       found = find-remove_first_other (has_id id) (has_id x.id) apart w.sessions ∙ d.found;
       picture = d.picture;
+      level = d.level;
+      stands = d.stands;
     }
 
 drawn_closed_in_time : (w : World) (id : ℕ) (x : Screen) → nat_eq id x.id ≡ false → IsDrawnInTime w x → IsDrawnInTime (closed w id) x

@@ -1,5 +1,5 @@
 -- The screens of open sessions, and the worlds that they are drawn from.
-use Rattle.std.specs.Prelude.{◌≡◌, ℕ, ◌≤◌, Bool, false, find, nat_eq, slice_get, List, [], ◌∷◌, ◌++◌, Some, map, length}
+use Rattle.std.specs.Prelude.{◌≡◌, ℕ, ◌≤◌, Bool, false, cond, find, nat_eq, slice_get, List, [], ◌∷◌, ◌++◌, Option, Some, map, length}
 use Rattle.std.specs.List.{filter}
 use Rattle.mgs_world.specs.declared.size.Size.{Size}
 use Rattle.mgs_world.specs.Worlds.{find_size}
@@ -8,6 +8,10 @@ use Rattle.mgs_core.specs.Steps.{differs_at}
 use Rattle.mgs_model.specs.World.{World, Session, find_session}
 use Rattle.mgs_model.specs.Draw.{screen}
 use Rattle.mgs_model.specs.Picture.{Picture}
+use Rattle.mgs_model.specs.Apart.{is_anywhere}
+use Rattle.mgs_grid.specs.RowSets.{AreSameApart}
+use Rattle.mgs_screen.specs.Sketches.{AreStanding}
+use Rattle.mgs_screen.specs.declared.sketch.DrawnText.{DrawnText}
 use Rattle.mgs_paint.specs.Painting.{Paints, bound_of, cells_of, shown}
 use Rattle.mgs_term.specs.Drawing.{Draws, IsFaithful}
 use Rattle.mgs_engine.specs.declared.screen.Screen.{Screen}
@@ -27,14 +31,24 @@ screen_id id x = nat_eq x.id id
 abbrev pub shown_size : Screen → Size
 shown_size x = record { id = x.id; rows = x.shown.rows; cols = x.shown.cols }
 
--- what a terminal shows
+-- a sketch, as it is seen
+abbrev pub Texts : Type 0
+Texts = List (Option DrawnText)
+
+-- what is left of a sketch behind an event that touched this
+abbrev pub texts_left : Touched → Texts → Texts
+texts_left touched texts = cond (is_anywhere touched) [] texts
+
+-- what a terminal shows, and what it is drawn again from
 pub record Drawn : Type 0 where
   pub id : ℕ
   pub picture : Picture
+  pub next : Picture
+  pub texts : Texts
   pub late : Bool
 
 abbrev pub drawn_of : Screen → Drawn
-drawn_of x = record { id = x.id; picture = x.shown; late = x.late }
+drawn_of x = record { id = x.id; picture = x.shown; next = x.next; texts = x.sketch; late = x.late }
 
 -- both grids have one size
 pub record IsSessionScreen (x : Screen) : Type 0 where
@@ -56,21 +70,37 @@ late_ids xs = map (λ (x : Screen). x.id) (filter is_late xs)
 abbrev pub IsKnown : List Size → Screen → Type 0
 IsKnown ss x = find_size x.id ss ≡ Some (shown_size x)
 
--- the terminal shows what the world has for the session of its id
+-- The terminal shows what the world has for the session of its id. Both grids are the same, and the sketch tells of what is shown: its
+-- texts have become what the world has.
 pub record IsDrawn (w : World) (x : Screen) : Type 0 where
   pub session : Session
   pub found : find_session x.id w.sessions ≡ Some session
   pub picture : x.shown ≡ screen w session
+  pub level : x.next ≡ x.shown
+  pub stands : AreStanding w.buffers x.shown x.sketch
+
+-- so much of it is needed to draw a screen again
+pub record IsReady (w : World) (x : Screen) : Type 0 where
+  pub level : x.next ≡ x.shown
+  pub stands : AreStanding w.buffers x.shown x.sketch
+
+-- and behind an event: where that touched anything, the sketch tells nothing more
+pub record IsReadyApart (w : World) (touched : Touched) (x : Screen) : Type 0 where
+  pub level : x.next ≡ x.shown
+  pub stands : is_anywhere touched ≡ false → AreStanding w.buffers x.shown x.sketch
 
 -- the screens of sessions, by their places, that an event of this session cannot have changed, are what the world has
 abbrev pub AreDrawnApart : World → Touched → ℕ → List Screen → Type 0
 AreDrawnApart w touched id xs = (at : ℕ) (x : Screen) → slice_get xs at ≡ Some x → differs_at touched id at w ≡ false → IsDrawn w x
 
--- only what is to be shown next was drawn, for the session of its id
-pub record IsAhead (w : World) (old new : Screen) : Type 0 where
+-- Only what is to be shown next was drawn, for the session of its id, and the sketch tells of that. It is the same as what is shown but
+-- for these rows.
+pub record IsAhead (w : World) (old new : Screen) (rows : List Bool) : Type 0 where
   pub session : Session
   pub found : find_session old.id w.sessions ≡ Some session
-  pub same : new ≡ record old { next = screen w session }
+  pub same : new ≡ record old { next = screen w session; sketch = new.sketch }
+  pub stands : AreStanding w.buffers new.next new.sketch
+  pub apart : AreSameApart rows new.shown.lines new.next.lines
 
 -- what was appended to the bytes draws what is shown now over what was shown before; where that is the same nothing was
 pub record IsRepaint (old new : Screen) : Type 0 where

@@ -3,43 +3,87 @@ ghost use Rattle.std.specs.Prelude.{◌≡◌, ◌≤◌, ◌<◌, ℕ, List, []
 ghost use Rattle.mgs_world.specs.Worlds.{sizes, find_size, IsOfSize, IsUnique};
 ghost use Rattle.mgs_core.specs.Steps.{differs_at};
 ghost use Rattle.mgs_engine.specs.Queues.{IsTaken};
-ghost use Rattle.mgs_engine.specs.Screens.{IsSessionScreen, IsKnown, IsAhead, IsDrawn, IsOnTime, IsRepaint, IsRedrawn, IsFirst, AreRedrawn, AreDrawnApart, shown_size, queue_of};
+ghost use Rattle.mgs_grid.specs.RowSets.{AreSameApart};
+ghost use Rattle.mgs_engine.specs.Screens.{IsSessionScreen, IsKnown, IsAhead, IsDrawn, IsReady, IsReadyApart, IsOnTime, IsRepaint, IsRedrawn, IsFirst, AreRedrawn, AreDrawnApart, texts_left, shown_size, queue_of};
 ghost use Rattle.mgs_engine.specs.Slow.{falls_behind, is_past, same_picture};
 
 use crate::same::same_grid;
 use crate::screen::Screen;
 use mgs_core::{Core, Size};
+use mgs_grid::RowSet;
 use mgs_marks::Marked;
 use mgs_model::{QUEUE_LIMIT, SessionId, Short, Touched};
 use mgs_paint::bound;
 use mgs_store::Store;
 use std::alloc::Global;
-use std::mem::swap;
 
-// Draws what the terminal is to show next.
-fn draw_next<T: Marked + Drop, S: Store + Drop>(core: &mut Core<T, S>, screen: &mut Screen)
+// Draws what the terminal is to show next, and tells which rows it drew.
+fn draw_next<T: Marked + Drop, S: Store + Drop>(
+    core: &mut Core<T, S>,
+    screen: &mut Screen,
+) -> RowSet
     requires known { IsKnown (sizes core.old.world) screen.old }
     requires screen { IsSessionScreen screen.old }
+    requires ready { IsReady core.old.world screen.old }
     ensures core { core.new ≡ core.old }
-    ensures ahead { IsAhead core.old.world screen.old screen.new }
+    ensures ahead { IsAhead core.old.world screen.old screen.new result }
 {
-    core.draw(screen.id, &mut screen.next);
+    core.redraw(screen.id, &mut screen.sketch, &mut screen.next)
+}
+
+// Forgets which texts are drawn, where an event can have changed any of them.
+fn forget(screen: &mut Screen, touched: &Touched)
+    ensures { screen.new ≡ record screen.old { sketch = texts_left touched.now screen.old.sketch } }
+{
+    match *touched {
+        Touched::Anywhere => screen.sketch.clear(),
+        Touched::In(_) => {}
+        Touched::Nowhere => {}
+    }
+}
+
+// Draws what the terminal is to show after an event that touched this, and tells which rows it drew.
+fn draw_again<T: Marked + Drop, S: Store + Drop>(
+    core: &mut Core<T, S>,
+    screen: &mut Screen,
+    touched: &Touched,
+) -> RowSet
+    requires known { IsKnown (sizes core.old.world) screen.old }
+    requires screen { IsSessionScreen screen.old }
+    requires ready { IsReadyApart core.old.world touched.now screen.old }
+    ensures core { core.new ≡ core.old }
+    ensures ahead { IsAhead core.old.world screen.old screen.new result }
+{
+    forget(screen, touched);
+    draw_next(core, screen)
+}
+
+// What was drawn is what the terminal shows. It differs in some of these rows from what that showed before.
+fn show(screen: &mut Screen, rows: &RowSet)
+    requires screen { IsSessionScreen screen.old }
+    requires apart { AreSameApart rows.now screen.old.shown.lines screen.old.next.lines }
+    ensures { screen.new ≡ record screen.old { shown = screen.old.next } }
+{
+    screen.shown.take_rows(&screen.next, rows);
 }
 
 // Paints the whole of what was drawn, whatever the terminal shows.
-fn paint_whole(screen: &mut Screen)
+fn paint_whole(screen: &mut Screen, rows: &RowSet)
     requires screen { IsSessionScreen screen.old }
     requires taken { IsTaken (queue_of screen.old) }
+    requires apart { AreSameApart rows.now screen.old.shown.lines screen.old.next.lines }
     ensures screen { IsSessionScreen screen.new }
     ensures size { shown_size screen.new ≡ shown_size screen.old }
     ensures shown { screen.new.shown ≡ screen.old.next }
+    ensures next { screen.new.next ≡ screen.old.next }
+    ensures texts { screen.new.sketch ≡ screen.old.sketch }
     ensures late { screen.new.late ≡ screen.old.late }
     ensures first { IsFirst screen.new }
 {
     // Reads the grid once: its rows and columns are those of a picture.
     let _rows = screen.next.rows();
     screen.queue.first(&screen.next);
-    swap(&mut screen.shown, &mut screen.next);
+    show(screen, rows);
 }
 
 // Whether the paint of what was drawn may not have room in the queue.
@@ -50,18 +94,21 @@ fn is_past(screen: &Screen) -> bool
     QUEUE_LIMIT < screen.queue.len() + bound(screen.next.rows(), screen.next.cols())
 }
 
-// Paints what was drawn where it differs from what the terminal shows.
-fn paint_changed(screen: &mut Screen)
+// Paints what was drawn where it differs from what the terminal shows: in some of these rows.
+fn paint_changed(screen: &mut Screen, rows: &RowSet)
     requires screen { IsSessionScreen screen.old }
+    requires apart { AreSameApart rows.now screen.old.shown.lines screen.old.next.lines }
     requires room { is_past (length screen.old.queue) screen.old.next.rows screen.old.next.cols ≡ false }
     ensures screen { IsSessionScreen screen.new }
     ensures size { shown_size screen.new ≡ shown_size screen.old }
     ensures shown { screen.new.shown ≡ screen.old.next }
+    ensures next { screen.new.next ≡ screen.old.next }
+    ensures texts { screen.new.sketch ≡ screen.old.sketch }
     ensures late { screen.new.late ≡ screen.old.late }
     ensures repaint { IsRepaint screen.old screen.new }
 {
-    screen.queue.repaint(&screen.shown, &screen.next);
-    swap(&mut screen.shown, &mut screen.next);
+    screen.queue.repaint(&screen.shown, &screen.next, rows);
+    show(screen, rows);
 }
 
 // The screen is late, where what was drawn is not what the terminal shows.
@@ -71,35 +118,39 @@ fn mark_late(screen: &mut Screen)
     screen.late = !same_grid(&screen.shown, &screen.next);
 }
 
-// Paints what was drawn where it differs from what the terminal shows. Where its paint may not have room, the screen is late
-// instead.
-fn paint_in_time(screen: &mut Screen)
+// Paints what was drawn where it differs from what the terminal shows, in some of these rows. Where its paint may not have room, the
+// screen is late instead.
+fn paint_in_time(screen: &mut Screen, rows: &RowSet)
     requires screen { IsSessionScreen screen.old }
+    requires apart { AreSameApart rows.now screen.old.shown.lines screen.old.next.lines }
     requires on_time { IsOnTime screen.old }
     ensures screen { IsSessionScreen screen.new }
     ensures size { shown_size screen.new ≡ shown_size screen.old }
     ensures late { screen.new.late ≡ falls_behind (length screen.old.queue) screen.old.shown screen.old.next }
     ensures shown { screen.new.late ≡ false → screen.new.shown ≡ screen.old.next }
+    ensures next { screen.new.next ≡ screen.old.next }
+    ensures texts { screen.new.sketch ≡ screen.old.sketch }
     ensures repaint { screen.new.late ≡ false → IsRepaint screen.old screen.new }
     ensures prompt { IsTaken (queue_of screen.old) → screen.new.late ≡ false }
 {
     if is_past(screen) {
         mark_late(screen);
     } else {
-        paint_changed(screen);
+        paint_changed(screen, rows);
     }
 }
 
 /// Draws the screen of a session for the first time: the bytes that wait then paint the whole of it, whatever the
 /// terminal showed.
 ///
-/// The world knows the session in the size of the screen, and no bytes wait.
+/// The world knows the session in the size of the screen, both grids are the same, and no bytes wait.
 pub(crate) fn draw_first<T: Marked + Drop, S: Store + Drop>(
     core: &mut Core<T, S>,
     screen: &mut Screen,
 )
     requires known { IsKnown (sizes core.old.world) screen.old }
     requires screen { IsSessionScreen screen.old }
+    requires ready { IsReady core.old.world screen.old }
     requires taken { IsTaken (queue_of screen.old) }
     ensures screen { IsSessionScreen screen.new }
     ensures size { shown_size screen.new ≡ shown_size screen.old }
@@ -108,8 +159,8 @@ pub(crate) fn draw_first<T: Marked + Drop, S: Store + Drop>(
     ensures first { IsFirst screen.new }
     ensures core { core.new ≡ core.old }
 {
-    draw_next(core, screen);
-    paint_whole(screen);
+    let rows = draw_next(core, screen);
+    paint_whole(screen, &rows);
 }
 
 // The screen of a session, drawn for the first time.
@@ -157,19 +208,24 @@ pub(crate) fn first_screens<T: Marked + Drop, S: Store + Drop>(
     Ok(screens)
 }
 
-// Draws a screen again, and paints it where it is not what the terminal shows: the bytes that do so wait then. Where they may
-// not have room, the screen is late.
-fn redraw<T: Marked + Drop, S: Store + Drop>(core: &mut Core<T, S>, screen: &mut Screen)
+// Draws a screen again, after an event that touched this, and paints it where it is not what the terminal shows: the bytes that do so
+// wait then. Where they may not have room, the screen is late.
+fn redraw<T: Marked + Drop, S: Store + Drop>(
+    core: &mut Core<T, S>,
+    screen: &mut Screen,
+    touched: &Touched,
+)
     requires known { IsKnown (sizes core.old.world) screen.old }
     requires screen { IsSessionScreen screen.old }
+    requires ready { IsReadyApart core.old.world touched.now screen.old }
     requires on_time { IsOnTime screen.old }
     ensures screen { IsSessionScreen screen.new }
     ensures size { shown_size screen.new ≡ shown_size screen.old }
     ensures redrawn { IsRedrawn core.old.world screen.old screen.new }
     ensures core { core.new ≡ core.old }
 {
-    draw_next(core, screen);
-    paint_in_time(screen);
+    let rows = draw_again(core, screen, touched);
+    paint_in_time(screen, &rows);
 }
 
 // Draws a screen again where an event that touched this can have changed it, by its place.
@@ -182,6 +238,7 @@ fn redraw_at<T: Marked + Drop, S: Store + Drop>(
 )
     requires known { IsKnown (sizes core.old.world) screen.old }
     requires screen { IsSessionScreen screen.old }
+    requires ready { IsReadyApart core.old.world touched.now screen.old }
     requires on_time { IsOnTime screen.old }
     requires drawn { differs_at touched.now id at core.old.world ≡ false → IsDrawn core.old.world screen.old }
     ensures screen { IsSessionScreen screen.new }
@@ -190,7 +247,7 @@ fn redraw_at<T: Marked + Drop, S: Store + Drop>(
     ensures core { core.new ≡ core.old }
 {
     if core.may_differ(at, id, touched) {
-        redraw(core, screen);
+        redraw(core, screen, touched);
     }
 }
 
@@ -202,6 +259,7 @@ fn redraw_each<T: Marked + Drop, S: Store + Drop>(
 )
     requires known { All (IsKnown (sizes core.old.world)) screens.old }
     requires each { All IsSessionScreen screens.old }
+    requires ready { All (IsReadyApart core.old.world touched.now) screens.old }
     requires on_time { All IsOnTime screens.old }
     requires drawn { AreDrawnApart core.old.world touched.now id screens.old }
     ensures each { All IsSessionScreen screens.new }
@@ -217,8 +275,9 @@ fn redraw_each<T: Marked + Drop, S: Store + Drop>(
 /// Draws the screens again that an event of the session `id` can have changed, by what it touched, and paints each that
 /// is not what its terminal shows. A screen whose paint may not have room is late.
 ///
-/// The screens are those of the open sessions, in their order, each in the size that the world knows, and none is late.
-/// Those that the event cannot have changed are what the world has for their sessions.
+/// The screens are those of the open sessions, in their order, each in the size that the world knows, with both grids the same, and none
+/// is late. Unless the event touched anything, the texts that are drawn in each are known. Those screens that the event cannot have
+/// changed are what the world has for their sessions.
 pub(crate) fn redraw_apart<T: Marked + Drop, S: Store + Drop>(
     core: &mut Core<T, S>,
     screens: &mut Vec<Screen>,
@@ -227,6 +286,7 @@ pub(crate) fn redraw_apart<T: Marked + Drop, S: Store + Drop>(
 )
     requires known { All (IsKnown (sizes core.old.world)) screens.old.items }
     requires each { All IsSessionScreen screens.old.items }
+    requires ready { All (IsReadyApart core.old.world touched.now) screens.old.items }
     requires on_time { All IsOnTime screens.old.items }
     requires drawn { AreDrawnApart core.old.world touched.now id screens.old.items }
     ensures each { All IsSessionScreen screens.new.items }

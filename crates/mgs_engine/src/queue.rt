@@ -2,12 +2,13 @@
 ghost use Rattle.std.specs.Prelude.{◌≡◌, ℕ, ◌+◌, ◌≤◌, List, [], ◌++◌, drop, length, IfOk};
 ghost use Rattle.mgs_paint.specs.Painting.{bound_of, Paints};
 ghost use Rattle.mgs_paint.specs.Repainting.{Repaints};
+ghost use Rattle.mgs_grid.specs.RowSets.{AreSameApart};
 ghost use Rattle.mgs_model.specs.declared.limits.TheConstants.{QUEUE_LIMIT};
 ghost use Rattle.mgs_engine.specs.Waiting.{IsByteQueue};
 
-use mgs_grid::Grid;
+use mgs_grid::{Grid, RowSet};
 use mgs_model::{QUEUE_LIMIT, Short};
-use mgs_paint::{first, paint};
+use mgs_paint::{first, paint_rows};
 use std::alloc::Global;
 use std::marker::Model;
 
@@ -59,16 +60,17 @@ fn put_first(bytes: &mut Vec<u8>, taken: usize, new: &Grid)
     first(new, bytes);
 }
 
-// Puts the bytes behind those that wait that repaint a grid where it differs from the shown one.
-fn put_changes(bytes: &mut Vec<u8>, taken: usize, old: &Grid, new: &Grid)
+// Puts the bytes behind those that wait that repaint a grid where it differs from the shown one: in some of these rows.
+fn put_changes(bytes: &mut Vec<u8>, taken: usize, old: &Grid, new: &Grid, rows: &RowSet)
     requires queue { IsByteQueue bytes.old taken }
     requires rows { new.now.rows ≡ old.now.rows }
     requires cols { new.now.cols ≡ old.now.cols }
+    requires apart { AreSameApart rows.now old.now.lines new.now.lines }
     requires room { length (drop taken bytes.old.items) + bound_of new.now.rows new.now.cols ≤ QUEUE_LIMIT }
     ensures queue { IsByteQueue bytes.new taken }
     ensures repaints { (more : List ℕ) × (drop taken bytes.new.items ≡ drop taken bytes.old.items ++ more) × Repaints old.now new.now more }
 {
-    paint(old, new, bytes);
+    paint_rows(old, new, rows, bytes);
 }
 
 impl ByteQueue {
@@ -105,14 +107,15 @@ impl ByteQueue {
         put_first(&mut self.bytes, self.taken, new);
     }
 
-    /// Appends the bytes that repaint a grid where it differs from the shown one.
-    pub(crate) fn repaint(&mut self, old: &Grid, new: &Grid)
+    /// Appends the bytes that repaint a grid where it differs from the shown one: in some of these rows.
+    pub(crate) fn repaint(&mut self, old: &Grid, new: &Grid, rows: &RowSet)
         requires rows { new.now.rows ≡ old.now.rows }
         requires cols { new.now.cols ≡ old.now.cols }
+        requires apart { AreSameApart rows.now old.now.lines new.now.lines }
         requires room { length self.old + bound_of new.now.rows new.now.cols ≤ QUEUE_LIMIT }
         ensures { (more : List ℕ) × (self.new ≡ self.old ++ more) × Repaints old.now new.now more }
     {
-        put_changes(&mut self.bytes, self.taken, old, new);
+        put_changes(&mut self.bytes, self.taken, old, new, rows);
     }
 
     /// Takes `n` bytes from the front.

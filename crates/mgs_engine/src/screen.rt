@@ -5,9 +5,11 @@ ghost use Rattle.mgs_model.specs.Picture.{IsSize};
 use crate::queue::ByteQueue;
 use mgs_grid::Grid;
 use mgs_model::{SessionId, Short};
+use mgs_screen::Sketch;
 use std::alloc::Global;
 
-/// What a session's terminal shows, a grid to draw into, and the bytes that wait for the terminal.
+/// What a session's terminal shows, a grid to draw into, which texts are drawn in it, and the bytes that wait for the terminal. Between
+/// events both grids are the same.
 #[derive(Drop)]
 pub(crate) struct Screen {
     /// The session.
@@ -16,6 +18,8 @@ pub(crate) struct Screen {
     pub(crate) shown: Grid,
     /// What is drawn next, in the same size.
     pub(crate) next: Grid,
+    /// The texts that `next` shows.
+    pub(crate) sketch: Sketch,
     /// The bytes that wait.
     pub(crate) queue: ByteQueue,
     /// Within an event: the screen changed, and was not painted, since the queue may not have the room. Its session is
@@ -26,13 +30,15 @@ pub(crate) struct Screen {
 impl Screen {
     ghost use Rattle.mgs_engine.specs.Screens.{IsOnTime, IsSessionScreen};
 
-    /// A blank screen of so many rows (6 to 64) and columns (20 to 160), which no session has yet: no bytes wait, and the
-    /// id is to be set. `Short`: memory was refused.
+    /// A blank screen of so many rows (6 to 64) and columns (20 to 160), which no session has yet: no text is drawn, no bytes wait, and
+    /// the id is to be set. `Short`: memory was refused.
     pub(crate) fn blank(alloc: Global, rows: usize, cols: usize) -> Result<Screen, Short>
         requires { IsSize rows cols }
         ensures screen { IfOk result IsSessionScreen }
         ensures rows { IfOk result (λ x. x.shown.rows ≡ rows) }
         ensures cols { IfOk result (λ x. x.shown.cols ≡ cols) }
+        ensures level { IfOk result (λ x. x.next ≡ x.shown) }
+        ensures untold { IfOk result (λ x. x.sketch ≡ []) }
         ensures empty { IfOk result (λ x. x.queue ≡ []) }
         ensures on_time { IfOk result IsOnTime }
     {
@@ -43,6 +49,7 @@ impl Screen {
             id: 0,
             shown,
             next,
+            sketch: Sketch::new(),
             queue,
             late: false,
         })

@@ -11,3 +11,4 @@ pub mod OneRow
 pub mod Panes
 pub mod Edited
 pub mod RowSets
+pub mod Taken

@@ -119,3 +119,17 @@ put_apart rows first count new old size put within = record {
     ]
   ];
 }
+
+-- one row alone
+pub one_apart : (rows : List Bool) (row : ℕ) (r : Row) (old : List Row) → has_row row rows ≡ true → row < length old → AreSameApart rows old (rows_put row (r ∷ []) old)
+one_apart rows row r old has within =
+    put_apart rows row 1 (r ∷ []) old refl (λ i from before. let same : i ≡ row = omega arith in ap (λ k. has_row k rows) same ∙ has) (omega arith)
+
+-- rows that are put after other changes
+pub then_put : (s t : List Bool) (first count : ℕ) (new xs ys zs : List Row) → AreSameApart s xs ys → AreIn s t → zs ≡ rows_put first new ys → length new ≡ count → ((i : ℕ) → first ≤ i → i < first + count → has_row i t ≡ true) → first + count ≤ length ys → AreSameApart t xs zs
+then_put s t first count new xs ys zs before inside is size put within =
+    rw is (same_then s t xs ys (rows_put first new ys) before (put_apart t first count new ys size put within) inside)
+
+pub then_one : (s t : List Bool) (row : ℕ) (r : Row) (xs ys zs : List Row) → AreSameApart s xs ys → AreIn s t → zs ≡ rows_put row (r ∷ []) ys → has_row row t ≡ true → row < length ys → AreSameApart t xs zs
+then_one s t row r xs ys zs before inside is has within =
+    rw is (same_then s t xs ys (rows_put row (r ∷ []) ys) before (one_apart t row r ys has within) inside)

@@ -6,9 +6,11 @@ ghost use Rattle.mgs_model.specs.Prompts.{prompt_line, search_text};
 ghost use Rattle.mgs_model.specs.Picture.{Picture, IsPicture, IsPrintable, IsSize, blank_picture};
 ghost use Rattle.mgs_grid.specs.Lists.{acl_mode};
 ghost use Rattle.mgs_grid.specs.Panes.{IsDrawnBut, text_put};
+ghost use Rattle.mgs_grid.specs.RowSets.{AreSameApart};
 
 use crate::line::Line;
-use crate::window::{clear_rows, draw_rows};
+use crate::row_set::RowSet;
+use crate::window::{clear_rows, draw_rows, take_rows};
 use mgs_model::{Decision, Direction, Message, Name, Question, Short};
 use mgs_text::Text;
 use std::alloc::Global;
@@ -98,6 +100,19 @@ impl Grid {
     {
         self.row = row;
         self.col = col;
+    }
+
+    /// Becomes the same as a screen of the same size that is the same but for its cursor and the rows of a set. Only these are copied.
+    pub fn take_rows(&mut self, from: &Grid, rows: &RowSet)
+        requires rows { from.now.rows ≡ self.old.rows }
+        requires cols { from.now.cols ≡ self.old.cols }
+        requires same { AreSameApart rows.now self.old.lines from.now.lines }
+        ensures { self.new ≡ from.now }
+    {
+        let cols = self.cols;
+        take_rows(&mut self.lines, cols, &from.lines, rows);
+        self.row = from.row;
+        self.col = from.col;
     }
 
     /// Draws a text into `height` rows from row `first` on, one line in each, from the line that starts at

@@ -95,6 +95,15 @@ impl Line {
         fill(&mut self.text, ' ');
     }
 
+    /// Becomes the same as a row of as many columns.
+    pub(crate) fn take(&mut self, from: &Line)
+        requires { length self.old.text ≡ length from.now.text }
+        ensures { self.new ≡ from.now }
+    {
+        self.reversed = from.reversed;
+        self.text.copy_from_slice(&from.text);
+    }
+
     /// Draws the line of a text that starts at `start`, plain, and tells where it ends. A line that is too long is cut
     /// with a `$`. It is shown from column `shift`, below 2^62, after a `$` unless that is 0.
     pub(crate) fn draw_text<T: Text>(&mut self, text: &T, start: usize, shift: usize) -> usize

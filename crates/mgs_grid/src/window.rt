@@ -1,9 +1,12 @@
 // Rows one below another. None of this takes memory.
-ghost use Rattle.std.specs.Prelude.{◌≡◌, ◌<◌, ◌≤◌, ◌^◌, length, drop, All};
+ghost use Rattle.std.specs.Prelude.{◌≡◌, ◌<◌, ◌≤◌, ◌^◌, length, drop, false, All};
 ghost use Rattle.mgs_model.specs.Rows.{blank_rows, text_rows, shift_at};
 ghost use Rattle.mgs_grid.specs.Cells.{HasWidth};
+ghost use Rattle.mgs_grid.specs.RowSets.{AreSameApart};
 
 use crate::line::Line;
+use crate::row_set::RowSet;
+use mgs_model::ROWS_MAX;
 use mgs_text::Text;
 
 // Draws a text from the line that starts at `top` on; row `row` is shown from column `shift`.
@@ -38,5 +41,30 @@ pub(crate) fn clear_rows(lines: &mut [Line], cols: usize)
 {
     for line in lines.iter_mut() {
         line.draw_blank();
+    }
+}
+
+// Copies a row, where it may be another one.
+fn take_row(line: &mut Line, from: &Line, other: bool)
+    requires width { length line.old.text ≡ length from.now.text }
+    requires same { other ≡ false → from.now ≡ line.old }
+    ensures { line.new ≡ from.now }
+{
+    if other {
+        line.take(from);
+    }
+}
+
+// Copies rows of the same width: those of a set, where the others are the same.
+pub(crate) fn take_rows(lines: &mut [Line], cols: usize, from: &[Line], rows: &RowSet)
+    requires count { length lines.old ≡ length from.now }
+    requires few { length from.now ≤ ROWS_MAX }
+    requires each { All (HasWidth cols) lines.old }
+    requires each_from { All (HasWidth cols) from.now }
+    requires same { AreSameApart rows.now lines.old from.now }
+    ensures { lines.new ≡ from.now }
+{
+    for (i, line) in lines.iter_mut().enumerate() {
+        take_row(line, &from[i], rows.has(i));
     }
 }

@@ -149,6 +149,9 @@ same_row old new n some none = elim (cases_Bool (beq old.reversed new.reversed))
 pub same_columns : (old new : Row) → old ≡ new → end_column old new ≡ 0
 same_columns old new same = rw (same, (booleans_Decides new.reversed new.reversed).1 refl) (change_end-same new.text)
 
+pub no_columns : (old new : Row) → old ≡ new → 0 ≡ end_column old new
+no_columns old new same = sym (same_columns old new same)
+
 -- what stays of the cells of a row
 pub cells_stay : (old new : Row) → length old.text ≡ length new.text → (take (start_column old new) (row_cells old) ≡ take (start_column old new) (row_cells new)) × (drop (end_column old new) (row_cells old) ≡ drop (end_column old new) (row_cells new)) × (end_column old new ≤ length new.text)
 cells_stay old new n = elim (cases_Bool (beq old.reversed new.reversed)) [

@@ -1,14 +1,15 @@
 // The bytes of what changes from a shown picture to a new one.
-ghost use Rattle.std.specs.Prelude.{◌≡◌, ℕ, ◌+◌, ◌-◌, ◌*◌, ◌<◌, ◌≤◌, ◌++◌, length, vec_len, vec_capacity, All};
+ghost use Rattle.std.specs.Prelude.{◌≡◌, ℕ, ◌+◌, ◌-◌, ◌*◌, ◌<◌, ◌≤◌, ◌++◌, length, vec_len, vec_capacity, false, All};
 ghost use Rattle.mgs_model.specs.Picture.{IsRow, IsPrintable};
 ghost use Rattle.mgs_model.specs.declared.limits.TheConstants.{COLS_MAX, ROWS_MAX};
+ghost use Rattle.mgs_grid.specs.RowSets.{AreSameApart};
 ghost use Rattle.mgs_paint.specs.Painting.{bound_of};
 ghost use Rattle.mgs_paint.specs.Repainting.{Repaints};
 ghost use Rattle.mgs_paint.specs.Operations.{bytes_of};
 ghost use Rattle.mgs_paint.specs.Changes.{change_start, change_end, ink_end, start_column, end_column, moved, way, plain_piece, piece, row_changes, rows_changes, changes};
 
 use crate::put::{put_erase, put_goto, put_reverse, put_text};
-use mgs_grid::{Grid, Line};
+use mgs_grid::{Grid, Line, RowSet};
 
 // The first place at which two texts differ, or their length.
 fn change_start(old: &[char], new: &[char]) -> usize
@@ -64,12 +65,17 @@ fn start_column(old: &Line, new: &Line) -> usize
     }
 }
 
-// The column after the last that changes: 0 where the row stays the same.
-fn end_column(old: &Line, new: &Line) -> usize
-    requires { length old.now.text ≡ length new.now.text }
+// The column after the last that changes: 0 where the row stays the same. A row that cannot be another one is not looked at.
+#[tactic(auto, using(crate::proofs::Columns::no_columns))]
+fn end_column(old: &Line, new: &Line, other: bool) -> usize
+    requires width { length old.now.text ≡ length new.now.text }
+    requires same { other ≡ false → old.now ≡ new.now }
     ensures value { result ≡ end_column old.now new.now }
     ensures within { result ≤ length new.now.text }
 {
+    if !other {
+        return 0;
+    }
     if old.is_reversed() == new.is_reversed() {
         change_end(old.text(), new.text())
     } else {
@@ -144,7 +150,7 @@ fn put_piece(out: &mut Vec<u8>, row: usize, new: &Line, start: usize, end: usize
     }
 }
 
-// One row, and where its bytes leave the cursor.
+// One row, which may be another one or stays the same, and where its bytes leave the cursor.
 #[tactic(auto, using(crate::proofs::Columns::start_first))]
 fn put_row_changes(
     out: &mut Vec<u8>,
@@ -152,9 +158,11 @@ fn put_row_changes(
     row: usize,
     old: &Line,
     new: &Line,
+    other: bool,
 ) -> (usize, usize)
     requires row { row < ROWS_MAX }
-    requires same { length old.now.text ≡ length new.now.text }
+    requires lengths { length old.now.text ≡ length new.now.text }
+    requires same { other ≡ false → old.now ≡ new.now }
     requires width { length new.now.text ≤ COLS_MAX }
     requires printable { All IsPrintable new.now.text }
     requires room { vec_len out.old + (18 + length new.now.text) ≤ vec_capacity out.old }
@@ -163,7 +171,7 @@ fn put_row_changes(
     ensures len { vec_len out.new ≤ vec_len out.old + (18 + length new.now.text) }
     ensures cursor { result ≡ moved (length new.now.text) at (row_changes at row old.now new.now) }
 {
-    let end = end_column(old, new);
+    let end = end_column(old, new, other);
     if end == 0 {
         return at;
     }
@@ -172,19 +180,21 @@ fn put_row_changes(
     put_piece(out, row, new, start, end)
 }
 
-// Each row, and where their bytes leave the cursor.
+// Each row, and where their bytes leave the cursor. Those that are not of the set stay the same.
 fn put_rows_changes(
     out: &mut Vec<u8>,
     at: (usize, usize),
     cols: usize,
     old: &[Line],
     new: &[Line],
+    rows: &RowSet,
 ) -> (usize, usize)
     requires count { length old.now ≡ length new.now }
     requires rows { length new.now ≤ ROWS_MAX }
     requires cols { cols ≤ COLS_MAX }
     requires each_old { All (IsRow cols) old.now }
     requires each_new { All (IsRow cols) new.now }
+    requires same { AreSameApart rows.now old.now new.now }
     requires room { vec_len out.old + length new.now * (18 + cols) ≤ vec_capacity out.old }
     ensures items { out.new.items ≡ out.old.items ++ bytes_of (rows_changes cols at 0 old.now new.now) }
     ensures capacity { vec_capacity out.new ≡ vec_capacity out.old }
@@ -193,21 +203,29 @@ fn put_rows_changes(
 {
     let mut cursor = at;
     for (i, line) in new.iter().enumerate() {
-        cursor = put_row_changes(out, cursor, i, &old[i], line);
+        cursor = put_row_changes(out, cursor, i, &old[i], line, rows.has(i));
     }
     cursor
 }
 
-// Each row that changes, and the cursor.
-fn put_changes(out: &mut Vec<u8>, old: &Grid, new: &Grid)
+// Each row that changes, and the cursor. The rows that are not of the set stay the same.
+fn put_changes(out: &mut Vec<u8>, old: &Grid, new: &Grid, rows: &RowSet)
     requires rows { new.now.rows ≡ old.now.rows }
     requires cols { new.now.cols ≡ old.now.cols }
+    requires same { AreSameApart rows.now old.now.lines new.now.lines }
     requires room { vec_len out.old + bound_of new.now.rows new.now.cols ≤ vec_capacity out.old }
     ensures items { out.new.items ≡ out.old.items ++ bytes_of (changes old.now new.now) }
     ensures capacity { vec_capacity out.new ≡ vec_capacity out.old }
     ensures len { vec_len out.new ≤ vec_len out.old + bound_of new.now.rows new.now.cols }
 {
-    let cursor = put_rows_changes(out, old.cursor(), new.cols(), old.lines(), new.lines());
+    let cursor = put_rows_changes(
+        out,
+        old.cursor(),
+        new.cols(),
+        old.lines(),
+        new.lines(),
+        rows,
+    );
     put_way(out, cursor, new.cursor());
 }
 
@@ -225,8 +243,27 @@ pub fn paint(old: &Grid, new: &Grid, out: &mut Vec<u8>)
     ensures repaints { Repaints old.now new.now (bytes_of (changes old.now new.now)) }
     ensures capacity { vec_capacity out.new ≡ vec_capacity out.old }
 {
+    // Reads each grid once: they have as many rows.
+    let _old_rows = old.rows();
+    let _new_rows = new.rows();
+    paint_rows(old, new, &RowSet::all(), out);
+}
+
+/// Appends the bytes that `paint` does, where it is known that the grids are the same but for their cursors and the rows of a set: only
+/// these rows are compared.
+///
+/// The grids have the same size, `out` has room for `bound` bytes more, and no memory is taken.
+pub fn paint_rows(old: &Grid, new: &Grid, rows: &RowSet, out: &mut Vec<u8>)
+    requires rows { new.now.rows ≡ old.now.rows }
+    requires cols { new.now.cols ≡ old.now.cols }
+    requires same { AreSameApart rows.now old.now.lines new.now.lines }
+    requires room { vec_len out.old + bound_of new.now.rows new.now.cols ≤ vec_capacity out.old }
+    ensures bytes { out.new.items ≡ out.old.items ++ bytes_of (changes old.now new.now) }
+    ensures repaints { Repaints old.now new.now (bytes_of (changes old.now new.now)) }
+    ensures capacity { vec_capacity out.new ≡ vec_capacity out.old }
+{
     // Reads each grid once: its rows and columns are those of a picture.
     let _old_rows = old.rows();
     let _new_rows = new.rows();
-    put_changes(out, old, new);
+    put_changes(out, old, new, rows);
 }

@@ -5,5 +5,5 @@ mod changes;
 mod put;
 mod whole;
 
-pub use changes::paint;
+pub use changes::{paint, paint_rows};
 pub use whole::{bound, first};

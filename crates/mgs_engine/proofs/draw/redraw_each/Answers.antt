@@ -5,7 +5,7 @@ use Rattle.std.proofs.lemmas.List.Elements.{All-set}
 use Rattle.mgs_world.specs.Worlds.{sizes}
 use Rattle.mgs_core.specs.Kept.{Kept}
 use Rattle.mgs_core.specs.Steps.{differs_at}
-use Rattle.mgs_engine.specs.Screens.{IsDrawn, IsKnown, IsRedrawn, IsSessionScreen, shown_size}
+use Rattle.mgs_engine.specs.Screens.{IsDrawn, IsKnown, IsReadyApart, IsRedrawn, IsSessionScreen, shown_size}
 use Rattle.mgs_engine.proofs.ScreenLemmas.{rest_at, rest_after, same_set}
 use Rattle.mgs_engine.proofs.Repaints.{redrawn_next, redrawn_all}
 use Rattle.mgs_engine.proofs.draw.redraw_each.Goals as goal
@@ -16,6 +16,13 @@ redraw_at-requires-clause-known g c =
     rw (rest_at c.loop-at.screens c.args.screens.now c.loop-at.at c.index-screens-at.result c.loop-at.invariant.rest)
     (c.requires.known c.loop-at.at c.index-screens-at.result (omega arith)) in
     subst (λ (k : Kept). IsKnown (sizes k.world) (get_or c.loop-at.screens c.loop-at.at c.index-screens-at.result)) (sym c.loop-at.invariant.core) known
+
+pub redraw_at-requires-clause-ready : goal.redraw_at-requires-clause-ready
+redraw_at-requires-clause-ready g c =
+    let ready : IsReadyApart c.args.core.now.world c.args.touched.now (get_or c.loop-at.screens c.loop-at.at c.index-screens-at.result) =
+    rw (rest_at c.loop-at.screens c.args.screens.now c.loop-at.at c.index-screens-at.result c.loop-at.invariant.rest)
+    (c.requires.ready c.loop-at.at c.index-screens-at.result (omega arith)) in
+    subst (λ (k : Kept). IsReadyApart k.world c.args.touched.now (get_or c.loop-at.screens c.loop-at.at c.index-screens-at.result)) (sym c.loop-at.invariant.core) ready
 
 pub redraw_at-requires-clause-on_time : goal.redraw_at-requires-clause-on_time
 redraw_at-requires-clause-on_time g c =

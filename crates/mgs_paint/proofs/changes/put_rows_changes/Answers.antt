@@ -1,4 +1,4 @@
-use Rattle.std.proofs.Common.{◌≡◌, ◌+◌, List, length, get_or, drop, ap, ◌∙◌, arith}
+use Rattle.std.proofs.Common.{◌≡◌, ◌+◌, ◌≤◌, List, length, get_or, drop, ap, ◌∙◌, arith, mul-le-mul_right}
 use Rattle.mgs_model.specs.Picture.{IsRow}
 use Rattle.mgs_term.specs.declared.operation.Operation.{Operation}
 use Rattle.mgs_paint.specs.Changes.{moved, row_changes, rows_changes}
@@ -24,3 +24,13 @@ loop-i-preserved c =
       capacity = search (arith);
       len = omega (arith, wide, c.put_row_changes-cursor.ensures.len, c.loop-i.invariant.len);
     }
+
+pub put_row_changes-cursor-requires-clause-room : goal.put_row_changes-cursor-requires-clause-room
+put_row_changes-cursor-requires-clause-room c =
+    let news = c.args.new.now in
+    let i = c.loop-i.i in
+    let b = c.index-new-i.result in
+    let of_row : IsRow c.args.cols (get_or news i b) = c.requires.each_new i b (omega arith) in
+    let wide : length b.text ≡ c.args.cols = rw c.index-new-i.is of_row.width in
+    let more : i + 1 ≤ length news = omega arith in
+    omega (arith, wide, mul-le-mul_right (18 + c.args.cols) more)

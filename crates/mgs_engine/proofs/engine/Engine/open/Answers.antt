@@ -12,7 +12,7 @@ use Rattle.mgs_engine.specs.Screens.{queues_of}
 use Rattle.mgs_engine.specs.Serving.{Serving, pending_of, queue_ids}
 use Rattle.mgs_engine.specs.Painted.{Painted}
 use Rattle.mgs_engine.specs.Served.{serving_of, IsServed}
-use Rattle.mgs_engine.proofs.Repaints.{same_size}
+use Rattle.mgs_engine.proofs.Repaints.{ready_blank, same_size}
 use Rattle.mgs_engine.proofs.Screens.{ids_opened}
 use Rattle.mgs_engine.proofs.Slots.{more_slots}
 use Rattle.mgs_engine.proofs.Stays.{served_opened}
@@ -25,6 +25,9 @@ draw_first-requires-clause-known g c =
     ap (find_size c.in_ok-id.id) c.in_ok-id.ensures.opened
     ∙ known_last (sizes c.self.inside.core.world) y c.in_ok-id.ensures.fresh
     ∙ ap (λ (s : Size). Some s) (sym (same_size c.in_ok-id.id c.args.rows c.args.cols _ _ c.in-Ok.ensures.rows c.in-Ok.ensures.cols))
+
+pub draw_first-requires-clause-ready : goal.draw_first-requires-clause-ready
+draw_first-requires-clause-ready g c = ready_blank c.open.new.self.world _ c.in-Ok.ensures.level c.in-Ok.ensures.untold
 
 pub invariant_of-self-2 : goal.invariant_of-self-2
 invariant_of-self-2 g c =

@@ -3,7 +3,7 @@ use Rattle.mgs_paint.specs.Operations.{bytes_of}
 use Rattle.mgs_paint.specs.Changes.{changes}
 use Rattle.mgs_paint.proofs.Rows.{grown}
 use Rattle.mgs_paint.proofs.Changing.{changes_lead, changes_same}
-use Rattle.mgs_paint.proofs.changes.paint.Goals as goal
+use Rattle.mgs_paint.proofs.changes.paint_rows.Goals as goal
 
 pub returns-clause-repaints : goal.returns-clause-repaints
 returns-clause-repaints c =
