@@ -56,10 +56,11 @@ fn draw_line_of<T: Text>(
     ensures apart { AreSameApart rows.new grid.old.lines grid.new.lines }
 {
     let _rows = grid.rows();
-    if down < drawn.height {
-        grid.draw_text_row(drawn.first + down, text, start, 0);
-        rows.insert(drawn.first + down);
+    if down >= drawn.height {
+        return;
     }
+    grid.draw_text_row(drawn.first + down, text, start, 0);
+    rows.insert(drawn.first + down);
 }
 
 /// Draws those rows of a text that changed since they were drawn.
