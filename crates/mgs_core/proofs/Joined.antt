@@ -14,7 +14,7 @@ use Rattle.mgs_core.specs.Turned.{touched_both}
 
 -- nothing is said to stay where anything was touched
 pub apart_anywhere : (id : ℕ) (u v : World) → v.directory ≡ u.directory → Apart Anywhere id u v
-apart_anywhere id u v same = record { directory = same; buffers = tt; rules = λ h. cc; sessions = λ h. cc }
+apart_anywhere id u v same = record { directory = same; buffers = tt; rules = λ h. cc; texts = λ h. cc; sessions = λ h. cc }
 
 -- a session that shows nothing of a buffer is one that is not the acting one
 spared_less : (name : List ℕ) (id : ℕ) (x : Session) → spared (In name) id x ≡ option_and_then (spared (In name) id) (spared Nowhere id x)
@@ -43,6 +43,7 @@ nowhere_in name id u v a = record {
   directory = a.directory;
   buffers = λ other differs. ap (find_buffer other) a.buffers;
   rules = λ h. a.rules refl;
+  texts = λ h. a.texts refl;
   sessions = λ h. map_through (spared (In name) id) (spared Nowhere id) (option_and_then (spared (In name) id)) (spared_less name id) v.sessions u.sessions (a.sessions refl);
 }
 

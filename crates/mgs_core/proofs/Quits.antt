@@ -117,7 +117,7 @@ typed_ends w new before after id byte keyed.NoSession is h = cc
 
 -- nothing is said to stay
 pub apart_closed : (w : World) (id : ℕ) → Apart Anywhere id w (closed w id)
-apart_closed w id = record { directory = refl; buffers = tt; rules = λ h. cc; sessions = λ h. cc }
+apart_closed w id = record { directory = refl; buffers = tt; rules = λ h. cc; texts = λ h. cc; sessions = λ h. cc }
 
 -- what was typed, where it ends the session and where it does not
 pub typed_quit : (v w : World) (before after : StoreTold) (id byte : ℕ) (k : Keyed) → k ≡ keyed.Quit → TypedBy v w before after id byte k → KeyedBy v (closed v id) before after id byte keyed.Quit

@@ -35,6 +35,7 @@ use Rattle.mgs_model.proofs.Blind.{change_inside}
 use Rattle.mgs_model.proofs.Completing.{shown_names_of}
 use Rattle.mgs_model.proofs.Ends.{act_fails}
 use Rattle.mgs_model.proofs.Firsts.{change_first_found}
+use Rattle.mgs_model.proofs.Follow.{followed_same}
 use Rattle.mgs_model.proofs.LeftToDo.{is_single, single_brief, todo_acted}
 use Rattle.mgs_model.proofs.Saves.{act_saves_none, is_save}
 use Rattle.mgs_model.proofs.Turned.{turn_todo}
@@ -260,7 +261,7 @@ changed_spared id f same xs =
 -- which touches nothing
 pub refused_apart : (bs : List Buffer) (b : Before) (kind : Kind) (playing : Bool) (id : ℕ) (w v : World) → v ≡ record w { sessions = change_first (has_id id) (put_back bs b kind playing) w.sessions } → Apart Nowhere id w v
 refused_apart bs b kind playing id w v is =
-    let stays : Apart Nowhere id w (world_back bs b kind playing id w) = record { directory = refl; buffers = refl; rules = λ h. refl; sessions = λ h. changed_spared id (put_back bs b kind playing) (λ x. refl) w.sessions } in
+    let stays : Apart Nowhere id w (world_back bs b kind playing id w) = record { directory = refl; buffers = refl; rules = λ h. refl; texts = λ h. followed_same w.buffers; sessions = λ h. changed_spared id (put_back bs b kind playing) (λ x. refl) w.sessions } in
     subst (Apart Nowhere id w) (sym is) stays
 
 deed_done : (old begun new : World) (before after : StoreTold) (id : ℕ) (takes : Bool) (c : Act) (f : model.Session → model.Session) (k : Keyed) → k ≡ keyed.Done → DeedBy old begun new before after id takes c f k → ActedBy begun new before after id c
