@@ -44,13 +44,13 @@ pub(crate) fn clear_rows(lines: &mut [Line], cols: usize)
     }
 }
 
-// Copies a row, where it may be another one.
-fn take_row(line: &mut Line, from: &Line, other: bool)
+// Copies a row, where it may differ.
+fn take_row(line: &mut Line, from: &Line, may_differ: bool)
     requires width { length line.old.text ≡ length from.now.text }
-    requires same { other ≡ false → from.now ≡ line.old }
+    requires same { may_differ ≡ false → from.now ≡ line.old }
     ensures { line.new ≡ from.now }
 {
-    if other {
+    if may_differ {
         line.take(from);
     }
 }

@@ -8,7 +8,7 @@ use Rattle.mgs_model.specs.Text.{edited, removed, is_edit}
 use Rattle.mgs_model.specs.World.{Item, Buffer, is_named, find_buffer}
 use Rattle.mgs_model.specs.Outcome.{Effect, No_effect, Edit, Unmodified, Relist, Reown, Create, Kill, Save, Quit}
 use Rattle.mgs_model.specs.Apply.{change_first, buffer_edited_if, buffer_edited, buffer_unmodified, buffers_after}
-use Rattle.mgs_model.specs.Apart.{is_anywhere, IsEditOf, Follows, AreFollowed, touched_by}
+use Rattle.mgs_model.specs.Apart.{is_anywhere, IsEditedOnce, Follows, AreFollowed, touched_by}
 
 -- ONE BUFFER
 
@@ -19,7 +19,7 @@ follows_kept b c text items serial = record { later = omega arith; same = λ e. 
 pub follows_same : (b : Buffer) → Follows b b
 follows_same b = follows_kept b b refl refl refl
 
-edit_before : (b c d : Buffer) → c.text ≡ b.text → IsEditOf c d → IsEditOf b d
+edit_before : (b c d : Buffer) → c.text ≡ b.text → IsEditedOnce c d → IsEditedOnce b d
 edit_before b c d text e = record {
   item = e.item;
   older = e.older;
@@ -32,7 +32,7 @@ edit_before b c d text e = record {
   text = e.text ∙ ap (edited e.item.place e.until e.put) text;
 }
 
-edit_behind : (b c d : Buffer) → d.text ≡ c.text → d.items ≡ c.items → d.serial ≡ c.serial → IsEditOf b c → IsEditOf b d
+edit_behind : (b c d : Buffer) → d.text ≡ c.text → d.items ≡ c.items → d.serial ≡ c.serial → IsEditedOnce b c → IsEditedOnce b d
 edit_behind b c d text items serial e = record {
   item = e.item;
   older = e.older;
@@ -169,7 +169,7 @@ begins : (a : ℕ) (text rest : List ℕ) → a ≤ length text → take a (take
 begins a text rest within =
     ap (λ n. take n (take a text ++ rest)) (sym (length-take-le a text within)) ∙ take-append_seam (take a text) rest
 
-pub edit_parts : (old new : Buffer) (e : IsEditOf old new) → length new.text + length e.item.removed ≡ length old.text + e.item.put → EditParts old new e.item
+pub edit_parts : (old new : Buffer) (e : IsEditedOnce old new) → length new.text + length e.item.removed ≡ length old.text + e.item.put → EditParts old new e.item
 edit_parts old new e sizes = record {
   before = take e.item.place old.text;
   put = e.put;

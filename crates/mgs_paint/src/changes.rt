@@ -65,15 +65,15 @@ fn start_column(old: &Line, new: &Line) -> usize
     }
 }
 
-// The column after the last that changes: 0 where the row stays the same. A row that cannot be another one is not looked at.
+// The column after the last that changes: 0 where the row stays the same. A row that cannot differ is not looked at.
 #[tactic(auto, using(crate::proofs::Columns::no_columns))]
-fn end_column(old: &Line, new: &Line, other: bool) -> usize
+fn end_column(old: &Line, new: &Line, may_differ: bool) -> usize
     requires width { length old.now.text ≡ length new.now.text }
-    requires same { other ≡ false → old.now ≡ new.now }
+    requires same { may_differ ≡ false → old.now ≡ new.now }
     ensures value { result ≡ end_column old.now new.now }
     ensures within { result ≤ length new.now.text }
 {
-    if !other {
+    if !may_differ {
         return 0;
     }
     if old.is_reversed() == new.is_reversed() {
@@ -150,7 +150,7 @@ fn put_piece(out: &mut Vec<u8>, row: usize, new: &Line, start: usize, end: usize
     }
 }
 
-// One row, which may be another one or stays the same, and where its bytes leave the cursor.
+// One row, which may differ or stays the same, and where its bytes leave the cursor.
 #[tactic(auto, using(crate::proofs::Columns::start_first))]
 fn put_row_changes(
     out: &mut Vec<u8>,
@@ -158,11 +158,11 @@ fn put_row_changes(
     row: usize,
     old: &Line,
     new: &Line,
-    other: bool,
+    may_differ: bool,
 ) -> (usize, usize)
     requires row { row < ROWS_MAX }
     requires lengths { length old.now.text ≡ length new.now.text }
-    requires same { other ≡ false → old.now ≡ new.now }
+    requires same { may_differ ≡ false → old.now ≡ new.now }
     requires width { length new.now.text ≤ COLS_MAX }
     requires printable { All IsPrintable new.now.text }
     requires room { vec_len out.old + (18 + length new.now.text) ≤ vec_capacity out.old }
@@ -171,7 +171,7 @@ fn put_row_changes(
     ensures len { vec_len out.new ≤ vec_len out.old + (18 + length new.now.text) }
     ensures cursor { result ≡ moved (length new.now.text) at (row_changes at row old.now new.now) }
 {
-    let end = end_column(old, new, other);
+    let end = end_column(old, new, may_differ);
     if end == 0 {
         return at;
     }

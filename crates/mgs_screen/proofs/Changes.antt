@@ -6,7 +6,7 @@ use Rattle.std.proofs.lemmas.Bool.{cases_eq, eq-eqb, ne_eqb}
 use Rattle.std.proofs.lemmas.List.{take-append-drop, take-append-le, drop-append-le, length-take-le}
 use Rattle.std.proofs.lemmas.List.Sums.{sum_by-append}
 use Rattle.std.proofs.lemmas.Option.{same_Some}
-use Rattle.mgs_model.specs.Apart.{IsEditOf}
+use Rattle.mgs_model.specs.Apart.{IsEditedOnce}
 use Rattle.mgs_model.specs.Lines.{is_feed, line_of, start_of}
 use Rattle.mgs_model.specs.World.{Buffer, Item}
 use Rattle.mgs_model.proofs.Follow.{edit_parts}
@@ -116,7 +116,7 @@ line_mono text s p order within =
     line_down (take p text) (drop p text) text p s (line_of text s) (sym (take-append-drop p text)) (length-take-le p text within) order refl
 
 -- an edit of a buffer, as it is kept
-pub edited_line : (old new : Buffer) (e : IsEditOf old new) (serial : ℕ) (edit : Edit) (text : List ℕ) (start above line size : ℕ)
+pub edited_line : (old new : Buffer) (e : IsEditedOnce old new) (serial : ℕ) (edit : Edit) (text : List ℕ) (start above line size : ℕ)
     → e.item ≡ item_of serial edit → new.text ≡ text → length old.text ≡ size
     → edit.at + edit.added ≤ length text → length text + length edit.removed.items ≡ size + edit.added
     → start ≤ edit.at → count_by is_feed edit.removed.items ≡ 0
@@ -143,7 +143,7 @@ edited_line old new e serial edit text start above line size item came count wit
     (ap (λ n. line_of text (edit.at + n)) long ∙ same ∙ here) top)
 
 -- the latest item, looked up by the buffer's serial
-pub item_found : (old new : Buffer) (e : IsEditOf old new) (item : Item) (serial : ℕ) → serial ≡ new.serial → Some item ≡ find (has_serial serial) new.items → e.item ≡ item
+pub item_found : (old new : Buffer) (e : IsEditedOnce old new) (item : Item) (serial : ℕ) → serial ≡ new.serial → Some item ≡ find (has_serial serial) new.items → e.item ≡ item
 item_found old new e item serial now found =
     let here : has_serial serial e.item ≡ true = eq-eqb e.item.serial serial (e.serial ∙ sym now) in
     let first : find (has_serial serial) (e.item ∷ e.older) ≡ Some e.item = ap (λ b. cond b (Some e.item) (find (has_serial serial) e.older)) here in

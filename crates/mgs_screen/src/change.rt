@@ -1,6 +1,6 @@
 // What has become of the rows of a text since it was drawn.
 ghost use Rattle.std.specs.Prelude.{◌≡◌, ℕ, ◌+◌, ◌≤◌, List, true, length, count_by};
-ghost use Rattle.mgs_model.specs.Apart.{IsEditOf, Follows};
+ghost use Rattle.mgs_model.specs.Apart.{IsEditedOnce, Follows};
 ghost use Rattle.mgs_model.specs.Lines.{is_feed, line_of, start_of};
 ghost use Rattle.mgs_model.specs.World.{Buffer};
 ghost use Rattle.mgs_buffers.specs.MarkedBuffer.{HasBuffer, marked_at};
@@ -48,7 +48,7 @@ fn change_by<T: Text>(edit: &Edit, text: &T, start: usize, above: usize, size: u
     requires above { line_of (T.text text.now) start ≡ above }
     requires start { start_of above (T.text text.now) ≡ start }
     ensures within { IsChangeIn (length (T.text text.now)) result }
-    ensures change { (old new : Buffer) (serial : ℕ) (e : IsEditOf old new) → e.item ≡ item_of serial edit.now → new.text ≡ T.text text.now → length old.text ≡ size → IsChange result start old.text (T.text text.now) }
+    ensures change { (old new : Buffer) (serial : ℕ) (e : IsEditedOnce old new) → e.item ≡ item_of serial edit.now → new.text ≡ T.text text.now → length old.text ≡ size → IsChange result start old.text (T.text text.now) }
 {
     let len = text.len();
     if edit.at < start {

@@ -10,5 +10,5 @@ mod screen;
 mod sketch;
 
 pub use listing::{draw_entries, draw_listing};
-pub use screen::{draw_session, redraw_session};
+pub use screen::redraw_session;
 pub use sketch::Sketch;

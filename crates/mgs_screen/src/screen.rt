@@ -95,6 +95,7 @@ fn redraw_text<T: Marked + Drop>(
     ensures more { AreIn rows.old rows.new }
     ensures apart { AreSameApart rows.new grid.old.lines grid.new.lines }
 {
+    // Tells the prover that each text is within the limit.
     let _count = buffers.len();
     let cols = grid.cols();
     let text = buffers.text(&window_marks.name);
@@ -207,8 +208,8 @@ fn redraw_window<T: Marked + Drop>(
 }
 
 /// Draws a session's screen into a grid that shows an earlier screen of it, with the texts of this sketch. It tells which rows it drew:
-/// the others are as they were. The sketch has then the texts of the new screen. Who may see what is decided by a judge, as `draw_session`
-/// does.
+/// the others are as they were. With a sketch of no text it draws them all. The sketch has then the texts of the new screen. Who may see
+/// what is decided by a judge that keeps what was decided on these buffers. Where memory is refused to it, the screen is drawn as well.
 pub fn redraw_session<T: Marked + Drop>(
     buffers: &Buffers<T>,
     judge: &mut Judge,
@@ -260,24 +261,4 @@ pub fn redraw_session<T: Marked + Drop>(
     rows.insert(first);
     *sketch = texts;
     rows
-}
-
-/// Draws a session's screen. Who may see what is decided by a judge that keeps what was decided on these buffers. Where memory is
-/// refused to it, the screen is drawn as well.
-pub fn draw_session<T: Marked + Drop>(
-    buffers: &Buffers<T>,
-    judge: &mut Judge,
-    directory: &Directory,
-    session: &Session,
-    grid: &mut Grid,
-)
-    requires sound { IsSessionSound buffers.now session.now }
-    requires rows { session.now.windows.rows ≡ grid.old.rows }
-    requires cols { session.now.cols ≡ grid.old.cols }
-    requires judged { AreJudged directory.now (rules_kept buffers.now) judge.old }
-    ensures judged { AreJudged directory.now (rules_kept buffers.now) judge.new }
-    ensures grid { (sessions : List Session) (next : Option ℕ) → grid.new ≡ screen (world_of directory.now buffers.now sessions next) (session_of buffers.now session.now) }
-{
-    let mut sketch = Sketch::new();
-    redraw_session(buffers, judge, directory, session, &mut sketch, grid);
 }

@@ -1,5 +1,5 @@
 use Rattle.std.proofs.Common.{◌≡◌, ◌+◌, sym, arith}
-use Rattle.mgs_model.specs.Apart.{IsEditOf}
+use Rattle.mgs_model.specs.Apart.{IsEditedOnce}
 use Rattle.mgs_model.specs.World.{Buffer}
 use Rattle.mgs_buffers.specs.MarkedBuffer.{marked_at}
 use Rattle.mgs_undo.specs.Numbered.{item_of}
@@ -10,7 +10,7 @@ pub returns-in-Some-clause-change : goal.returns-in-Some-clause-change
 returns-in-Some-clause-change g c = λ old serial count follows.
     let b : Buffer = (marked_at c.args.drawn.now.name c.args.buffers.now).buffer in
     let next : b.serial ≡ old.serial + 1 = omega (arith, serial, c.requires.serial, c.if-drawn-serial.false, c.if-drawn-serial-2.false, c.if-drawn-serial-gt1.false) in
-    let e : IsEditOf old b = follows.once next in
+    let e : IsEditedOnce old b = follows.once next in
     c.change_by.ensures.change old b c.args.drawn.now.serial e
     (item_found old b e (item_of c.args.drawn.now.serial c.in-Some.edit.now) c.args.drawn.now.serial c.requires.serial c.in-Some.ensures)
     (sym c.requires.text) count

@@ -1,20 +1,8 @@
-use Rattle.std.proofs.Common.{◌≡◌, ◌∙◌, ap, sym, List}
-use Rattle.mgs_model.specs.World.{World, find_session}
-use Rattle.mgs_model.specs.Draw.{screen}
-use Rattle.mgs_session.specs.declared.Session.{Session}
-use Rattle.mgs_world.specs.Worlds.{sizes, sizes_in, find_size, world_of}
-use Rattle.mgs_core.proofs.Sizes.{sizes_world}
-use Rattle.mgs_core.proofs.Kept.{world_is}
+use Rattle.std.proofs.Common.{sym, subst}
+use Rattle.mgs_screen.specs.Sketches.{AreStanding}
+use Rattle.mgs_screen.proofs.Sketches.{standing_none}
 use Rattle.mgs_core.proofs.server.Core.draw.Goals as goal
 
-pub draw_in-requires-clause-open : goal.draw_in-requires-clause-open
-draw_in-requires-clause-open g c =
-    let i = c.self.inside in
-    ap (λ (xs : List Session). find_size c.args.id (sizes_in xs)) c.deref.ensures.value
-    ∙ ap (find_size c.args.id) (sym (sizes_world i.directory i.buffers i.sessions.items i.next_id) ∙ ap sizes (world_is _ _ c.self.view_is)) ∙ c.requires
-
-pub returns-clause-grid : goal.returns-clause-grid
-returns-clause-grid g c x found =
-    let i = c.self.inside in
-    let e : world_of i.directory i.buffers c.deref.result.now i.next_id ≡ c.args.self.now.world = ap (λ (xs : List Session). world_of i.directory i.buffers xs i.next_id) c.deref.ensures.value ∙ (world_is _ _ c.self.view_is) in
-    c.draw_in.ensures.grid i.next_id x (ap (λ (w : World). find_session c.args.id w.sessions) e ∙ found) ∙ ap (λ (w : World). screen w x) e
+pub redraw-requires-clause-stands : goal.redraw-requires-clause-stands
+redraw-requires-clause-stands g c =
+    subst (AreStanding c.args.self.now.world.buffers c.args.grid.now) (sym c.new-sketch.ensures) (standing_none c.args.self.now.world.buffers c.args.grid.now)
