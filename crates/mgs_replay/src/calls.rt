@@ -13,13 +13,13 @@ ghost use Rattle.mgs_engine.specs.Tapes.{bytes_on};
 ghost use Rattle.mgs_replay.specs.Served.{all_taken_by};
 
 use mgs_engine::{Answer, Call, Engine, Tape, drive};
-use mgs_gap::GapText;
+use mgs_marks::Marked;
 use mgs_model::{Keyed, OpenFault, SessionId, Short};
 use mgs_store::RefusingStore;
 use std::alloc::Global;
 
 /// An engine of texts that no store takes.
-pub(crate) type Server = Engine<GapText, RefusingStore>;
+pub(crate) type Server<T> = Engine<T, RefusingStore>;
 
 // What the only call on a tape answered, which was an open.
 fn opened(answers: &[Answer]) -> Result<SessionId, OpenFault>
@@ -49,9 +49,9 @@ fn told(answers: &[Answer]) -> bool
 }
 
 /// Opens a session, as the engine does. `Short`: memory was refused to the tape.
-pub(crate) fn open(
+pub(crate) fn open<T: Marked + Drop>(
     alloc: Global,
-    server: &mut Server,
+    server: &mut Server<T>,
     user: &str,
     rows: usize,
     cols: usize,
@@ -67,9 +67,9 @@ pub(crate) fn open(
 }
 
 /// A byte of a session, as the engine takes it. `Short`: memory was refused to the tape.
-pub(crate) fn byte(
+pub(crate) fn byte<T: Marked + Drop>(
     alloc: Global,
-    server: &mut Server,
+    server: &mut Server<T>,
     id: SessionId,
     byte: u8,
 ) -> Result<Keyed, Short>
@@ -83,7 +83,11 @@ pub(crate) fn byte(
 }
 
 /// Closes a session, as the engine does. `Short`: memory was refused to the tape.
-pub(crate) fn close(alloc: Global, server: &mut Server, id: SessionId) -> Result<(), Short>
+pub(crate) fn close<T: Marked + Drop>(
+    alloc: Global,
+    server: &mut Server<T>,
+    id: SessionId,
+) -> Result<(), Short>
     ensures does { OnOk result (Does server.old (wire.Close id) server.new) }
     ensures world { OnOk result (server.new.world ≡ step server.old.world (Close id)) }
 {
@@ -92,7 +96,11 @@ pub(crate) fn close(alloc: Global, server: &mut Server, id: SessionId) -> Result
 }
 
 /// Takes all bytes that wait for a session: they are on the tape. `Short`: memory was refused to the tape.
-pub(crate) fn take(alloc: Global, server: &mut Server, id: SessionId) -> Result<Tape, Short>
+pub(crate) fn take<T: Marked + Drop>(
+    alloc: Global,
+    server: &mut Server<T>,
+    id: SessionId,
+) -> Result<Tape, Short>
     ensures bytes { IfOk result (λ t. bytes_on id t ≡ pending_of id server.old) }
     ensures taken { IfOk result (λ t. server.new ≡ all_taken_by id server.old) }
 {
@@ -105,7 +113,7 @@ pub(crate) fn take(alloc: Global, server: &mut Server, id: SessionId) -> Result<
 }
 
 // The session that ended first is told. False: each was told. `Short`: memory was refused to the tape.
-fn tell_one(alloc: Global, server: &mut Server) -> Result<bool, Short>
+fn tell_one<T: Marked + Drop>(alloc: Global, server: &mut Server<T>) -> Result<bool, Short>
     ensures told { IfOk result (λ more. more ≡ is_some (slice_get server.old.ended 0)) }
     ensures rest { OnOk result (server.new ≡ record server.old { ended = drop 1 server.old.ended }) }
 {
@@ -117,7 +125,7 @@ fn tell_one(alloc: Global, server: &mut Server) -> Result<bool, Short>
 }
 
 /// Asks for sessions that ended until each was told. `Short`: memory was refused to the tape.
-pub(crate) fn tell_all(alloc: Global, server: &mut Server) -> Result<(), Short>
+pub(crate) fn tell_all<T: Marked + Drop>(alloc: Global, server: &mut Server<T>) -> Result<(), Short>
     ensures { OnOk result (server.new ≡ record server.old { ended = [] }) }
 {
     let mut more = true;

@@ -6,6 +6,7 @@ ghost use Rattle.mgs_replay.specs.Served.{AllTake, Takes};
 
 use crate::calls::{Server, take};
 use crate::client::{Cause, Client, Labelled};
+use mgs_marks::Marked;
 use mgs_model::{Name, Short};
 use std::alloc::Global;
 use std::marker::Model;
@@ -33,7 +34,11 @@ fn found<'a>(all: &'a [Labelled], label: &Name) -> Option<&'a Labelled>
 }
 
 // The terminal of an open label takes all that waits for its session.
-fn take_labelled(alloc: Global, server: &mut Server, labelled: &mut Labelled) -> Result<(), Short>
+fn take_labelled<T: Marked + Drop>(
+    alloc: Global,
+    server: &mut Server<T>,
+    labelled: &mut Labelled,
+) -> Result<(), Short>
     ensures { OnOk result (Takes server.old labelled.old server.new labelled.new) }
 {
     match &mut labelled.client {
@@ -94,7 +99,11 @@ impl Clients {
     }
 
     /// Each terminal takes all that waits for it. `Short`: memory was refused to a tape.
-    pub(crate) fn take_all(&mut self, alloc: Global, server: &mut Server) -> Result<(), Short>
+    pub(crate) fn take_all<T: Marked + Drop>(
+        &mut self,
+        alloc: Global,
+        server: &mut Server<T>,
+    ) -> Result<(), Short>
         ensures { OnOk result (AllTake server.old self.old server.new self.new) }
     {
         for labelled in self.all.iter_mut() {

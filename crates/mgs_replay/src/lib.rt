@@ -12,4 +12,4 @@ mod script;
 mod setup;
 
 pub use law::output_is_determined;
-pub use script::{ReplayFault, replay};
+pub use script::{ReplayFault, replay, replay_over};

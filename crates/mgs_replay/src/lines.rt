@@ -16,6 +16,7 @@ use crate::player::step_line;
 use crate::script::ReplayFault;
 use crate::setup::Setup;
 use mgs_engine::Engine;
+use mgs_marks::Marked;
 use mgs_model::{SCRIPT_LIMIT, Short};
 use mgs_script::{Line, LineFault, cut_line, read_line, typed_label};
 use std::alloc::Global;
@@ -50,9 +51,9 @@ fn ended_at(number: usize, fault: TurnFault) -> ReplayFault
 }
 
 // A line, and what it prints.
-fn turn<W: Write>(
+fn turn<T: Marked + Drop, W: Write>(
     alloc: Global,
-    server: &mut Server,
+    server: &mut Server<T>,
     clients: &mut Clients,
     out: &mut Vec<u8>,
     line: &[u8],
@@ -73,9 +74,9 @@ fn turn<W: Write>(
 }
 
 // The lines from the first `open` on, which is line `first`.
-fn run_lines<W: Write>(
+fn run_lines<T: Marked + Drop, W: Write>(
     alloc: Global,
-    server: &mut Server,
+    server: &mut Server<T>,
     text: &[u8],
     first: usize,
     writer: &mut W,
@@ -158,7 +159,7 @@ fn set_up<'a>(
 }
 
 // The engine over the users and buffers that were set.
-fn server_of(alloc: Global, setup: Setup) -> Result<Server, Short>
+fn server_of<T: Marked + Drop>(alloc: Global, setup: Setup) -> Result<Server<T>, Short>
     ensures world { IfOk result (λ e. e.world ≡ setup.entry) }
     ensures sessions { IfOk result (λ e. e.world.sessions ≡ []) }
     ensures queues { IfOk result (λ e. e.queues ≡ []) }
@@ -173,7 +174,7 @@ fn server_of(alloc: Global, setup: Setup) -> Result<Server, Short>
 /// `Line` is the first line that is refused; what the lines before it print is written. `Write`: writing fails, and
 /// nothing is said of what was written. `Short`: memory is refused at a line that is not refused, or at the line of a
 /// group or a text before the first `open`; what the lines before it print is written.
-pub(crate) fn play<W: Write>(
+pub(crate) fn play<T: Marked + Drop, W: Write>(
     alloc: Global,
     script: &[u8],
     writer: &mut W,
@@ -185,7 +186,7 @@ pub(crate) fn play<W: Write>(
     let mut setup = Setup::new(alloc);
     match set_up(alloc, &mut setup, script) {
         Ok(None) => Ok(()),
-        Ok(Some((number, text))) => match server_of(alloc, setup) {
+        Ok(Some((number, text))) => match server_of::<T>(alloc, setup) {
             Ok(mut server) => run_lines(alloc, &mut server, text, number, writer),
             Err(Short) => Err(ReplayFault::Short),
         },

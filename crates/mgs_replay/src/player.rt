@@ -15,6 +15,7 @@ use crate::calls::{Server, byte, close, open, tell_all};
 use crate::client::{Cause, Client};
 use crate::clients::Clients;
 use crate::print::{print_ended, print_refusal, print_screen};
+use mgs_marks::Marked;
 use mgs_model::{Keyed, Name, OpenFault, SessionId, Short};
 use mgs_script::{Line, LineFault, read_line, typed_label};
 use mgs_term::Term;
@@ -55,7 +56,11 @@ fn session_of(clients: &Clients, label: &Name) -> Option<SessionId>
 }
 
 // The terminals take what waits for them, and each session that ended is told. `Short`: memory was refused to a tape.
-fn hand_over(alloc: Global, server: &mut Server, clients: &mut Clients) -> Result<(), Short>
+fn hand_over<T: Marked + Drop>(
+    alloc: Global,
+    server: &mut Server<T>,
+    clients: &mut Clients,
+) -> Result<(), Short>
     requires { IsWaiting server.old clients.old }
     ensures ready { OnOk result (IsReady server.new clients.new) }
     ensures world { OnOk result (server.new.world ≡ server.old.world) }
@@ -68,9 +73,9 @@ fn hand_over(alloc: Global, server: &mut Server, clients: &mut Clients) -> Resul
 }
 
 // A session that was opened gets its label and its terminal, which takes the first bytes.
-fn client_session(
+fn client_session<T: Marked + Drop>(
     alloc: Global,
-    server: &mut Server,
+    server: &mut Server<T>,
     clients: &mut Clients,
     label: Name,
     id: SessionId,
@@ -110,9 +115,9 @@ fn refuse_open(
     printed(print_refusal(out, &label, fault))
 }
 
-fn open_line(
+fn open_line<T: Marked + Drop>(
     alloc: Global,
-    server: &mut Server,
+    server: &mut Server<T>,
     clients: &mut Clients,
     out: &mut Vec<u8>,
     label: Name,
@@ -147,9 +152,9 @@ fn end_if_quit(clients: &mut Clients, label: &Name, keyed: Keyed)
 }
 
 // One byte of the open session of a label. Where it ends the session, it ends the label's.
-fn type_key(
+fn type_key<T: Marked + Drop>(
     alloc: Global,
-    server: &mut Server,
+    server: &mut Server<T>,
     clients: &mut Clients,
     label: &Name,
     id: SessionId,
@@ -170,9 +175,9 @@ fn type_key(
 }
 
 // One byte of a label; none where its session ended.
-fn type_one(
+fn type_one<T: Marked + Drop>(
     alloc: Global,
-    server: &mut Server,
+    server: &mut Server<T>,
     clients: &mut Clients,
     label: &Name,
     key: u8,
@@ -187,9 +192,9 @@ fn type_one(
     }
 }
 
-fn type_all(
+fn type_all<T: Marked + Drop>(
     alloc: Global,
-    server: &mut Server,
+    server: &mut Server<T>,
     clients: &mut Clients,
     label: &Name,
     keys: &[u8],
@@ -217,9 +222,9 @@ fn show_line(clients: &Clients, out: &mut Vec<u8>, label: &Name) -> Result<(), L
     }
 }
 
-fn close_session(
+fn close_session<T: Marked + Drop>(
     alloc: Global,
-    server: &mut Server,
+    server: &mut Server<T>,
     clients: &mut Clients,
     label: &Name,
     id: SessionId,
@@ -239,9 +244,9 @@ fn close_session(
 }
 
 // Closes the session of a label, where it is open.
-fn close_label(
+fn close_label<T: Marked + Drop>(
     alloc: Global,
-    server: &mut Server,
+    server: &mut Server<T>,
     clients: &mut Clients,
     label: &Name,
 ) -> Result<(), Short>
@@ -255,9 +260,9 @@ fn close_label(
     }
 }
 
-fn keys_line(
+fn keys_line<T: Marked + Drop>(
     alloc: Global,
-    server: &mut Server,
+    server: &mut Server<T>,
     clients: &mut Clients,
     label: &Name,
     keys: &[u8],
@@ -272,9 +277,9 @@ fn keys_line(
     played(type_all(alloc, server, clients, label, keys))
 }
 
-fn close_line(
+fn close_line<T: Marked + Drop>(
     alloc: Global,
-    server: &mut Server,
+    server: &mut Server<T>,
     clients: &mut Clients,
     label: &Name,
 ) -> Result<(), LineFault>
@@ -289,9 +294,9 @@ fn close_line(
 }
 
 // A line from the first `open` on. What it prints is put after `out`.
-fn run_line(
+fn run_line<T: Marked + Drop>(
     alloc: Global,
-    server: &mut Server,
+    server: &mut Server<T>,
     clients: &mut Clients,
     out: &mut Vec<u8>,
     line: &Line,
@@ -342,9 +347,9 @@ fn unread_fault(clients: &Clients, line: &[u8]) -> LineFault
 /// `Bad`: the line is refused. It says nothing that is known, sets users or buffers, opens a label that was used, or
 /// names one that had no session. `Short` is out of memory, which comes only where the line is not refused. Nothing is
 /// said of what these two leave.
-pub(crate) fn step_line(
+pub(crate) fn step_line<T: Marked + Drop>(
     alloc: Global,
-    server: &mut Server,
+    server: &mut Server<T>,
     clients: &mut Clients,
     out: &mut Vec<u8>,
     line: &[u8],

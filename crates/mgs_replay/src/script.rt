@@ -7,6 +7,8 @@ ghost use Rattle.mgs_replay.specs.Plays.{WrittenOrUnread};
 ghost use Rattle.mgs_replay.specs.Reads.{PieceRead, TakesAtMost, LeavesUnread, KeepsLimit};
 
 use crate::lines::play;
+use mgs_gap::GapText;
+use mgs_marks::Marked;
 use mgs_model::SCRIPT_LIMIT;
 use std::alloc::Global;
 use std::io::{ErrorKind, Read, Write};
@@ -85,12 +87,28 @@ pub fn replay<R: Read, W: Write>(
     ensures limit { KeepsLimit (R.remaining reader.old) result (W.contents writer.old) (W.contents writer.new) }
     ensures taken { TakesAtMost (R.remaining reader.old) (R.remaining reader.new) (SCRIPT_LIMIT + 1) }
 {
+    replay_over::<GapText, R, W>(alloc, reader, writer)
+}
+
+/// `replay` over another type of texts, with the same clauses. The programs have no use for it: tests play a script over the
+/// programs' texts and over plain ones, and compare what is printed.
+pub fn replay_over<T: Marked + Drop, R: Read, W: Write>(
+    alloc: Global,
+    reader: &mut R,
+    writer: &mut W,
+) -> Result<(), ReplayFault>
+    ensures written { IfSome (R.remaining reader.old) (λ script. WrittenOrUnread first_world script (W.contents writer.old) (W.contents writer.new) result) }
+    ensures line { IsCounted result }
+    ensures unread { LeavesUnread result (W.contents writer.old) (W.contents writer.new) }
+    ensures limit { KeepsLimit (R.remaining reader.old) result (W.contents writer.old) (W.contents writer.new) }
+    ensures taken { TakesAtMost (R.remaining reader.old) (R.remaining reader.new) (SCRIPT_LIMIT + 1) }
+{
     let script = match read_script(alloc, reader) {
         Ok(script) => script,
         Err(ScriptFault::Read) => return Err(ReplayFault::Read),
         Err(ScriptFault::Short) => return Err(ReplayFault::Short),
     };
-    let outcome = play(alloc, script.as_slice(), writer);
+    let outcome = play::<T, W>(alloc, script.as_slice(), writer);
     if matches!(outcome, Ok(()) | Err(ReplayFault::Line(_))) && writer.flush().is_err() {
         return Err(ReplayFault::Write);
     }

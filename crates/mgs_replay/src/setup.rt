@@ -10,7 +10,7 @@ ghost use Rattle.mgs_replay.specs.Setups.{cannot_add, Listed, Lengthened, PutsEn
 use mgs_acl::{List, read_entry, user_named};
 use mgs_buffers::{AddFault, Buffers};
 use mgs_core::Core;
-use mgs_gap::GapText;
+use mgs_marks::Marked;
 use mgs_model::{BUFFER_LIMIT, Name, Short, TEXT_LIMIT};
 use mgs_policy::{Directory, DirectoryFault};
 use mgs_script::{Line, LineFault};
@@ -116,7 +116,7 @@ fn text_line(drafts: &mut [Draft], name: &Name, text: &[char]) -> Result<(), Lin
 }
 
 // Every fault but out of memory was checked at its line.
-fn add_all(alloc: Global, drafts: &[Draft]) -> Result<Buffers<GapText>, AddFault>
+fn add_all<T: Marked + Drop>(alloc: Global, drafts: &[Draft]) -> Result<Buffers<T>, AddFault>
     requires { AreFit (buffers_in drafts.now) }
     ensures kept { IfOk result (λ b. b ≡ map drafted_buffer drafts.now) }
     ensures fault { OnlyShort result }
@@ -132,7 +132,7 @@ fn add_all(alloc: Global, drafts: &[Draft]) -> Result<Buffers<GapText>, AddFault
     Ok(buffers)
 }
 
-fn buffers_of(alloc: Global, drafts: &[Draft]) -> Result<Buffers<GapText>, Short>
+fn buffers_of<T: Marked + Drop>(alloc: Global, drafts: &[Draft]) -> Result<Buffers<T>, Short>
     requires { AreFit (buffers_in drafts.now) }
     ensures { IfOk result (λ b. b ≡ map drafted_buffer drafts.now) }
 {
@@ -242,7 +242,7 @@ impl<'a> Setup<'a> {
 
     /// A server over these users and buffers, without a session. No buffer of a script has a file, so nothing is saved.
     #[tactic(auto, using(crate::proofs::Drafts::marked_buffers, crate::proofs::Drafts::unmarked_drafts))]
-    pub(crate) fn into_core(self) -> Result<Core<GapText, RefusingStore>, Short>
+    pub(crate) fn into_core<T: Marked + Drop>(self) -> Result<Core<T, RefusingStore>, Short>
         ensures world { IfOk result (λ c. c.world ≡ self.entry) }
         ensures sessions { IfOk result (λ c. c.world.sessions ≡ []) }
     {

@@ -1,6 +1,8 @@
 // Whole scripts, over readers and writers in memory.
+use mgs_gap::GapText;
+use mgs_marks::{Marked, PlainMarked};
 use mgs_model::SCRIPT_LIMIT;
-use mgs_replay::{ReplayFault, replay};
+use mgs_replay::{ReplayFault, replay, replay_over};
 use std::alloc::Global;
 use std::io::{self, ErrorKind, Read, Write};
 use std::process::Abort;
@@ -8,7 +10,23 @@ use std::test::Fail;
 
 pub(crate) const NOTES: &str = "user ann\nbuffer notes ann\nentry notes ALLOW OWNER@ rwatdcCo\n";
 
-// A script gives this output and this end.
+// A script gives this output and this end over texts of one type, which a message calls so.
+fn gives_over<T: Marked + Drop>(
+    rt: &impl Abort,
+    alloc: Global,
+    texts: &str,
+    script: &[u8],
+    output: &str,
+    end: Result<(), ReplayFault>,
+) {
+    let mut reader = script;
+    let mut written = Vec::new(alloc);
+    let outcome = replay_over::<T, _, _>(alloc, &mut reader, &mut written);
+    assert_eq!(rt; outcome, end, "over {texts}");
+    assert!(rt; written.as_slice() == output.as_bytes(), "over {texts}");
+}
+
+// A script gives this output and this end, over the texts of the programs and over plain ones.
 pub(crate) fn gives(
     rt: &impl Abort,
     alloc: Global,
@@ -16,11 +34,8 @@ pub(crate) fn gives(
     output: &str,
     end: Result<(), ReplayFault>,
 ) {
-    let mut reader = script;
-    let mut written = Vec::new(alloc);
-    let outcome = replay(alloc, &mut reader, &mut written);
-    assert_eq!(rt; outcome, end);
-    assert!(rt; written.as_slice() == output.as_bytes());
+    gives_over::<GapText>(rt, alloc, "texts with a gap", script, output, end);
+    gives_over::<PlainMarked>(rt, alloc, "plain texts", script, output, end);
 }
 
 // The same of lines after the user, the buffer and the entry of `NOTES`.
