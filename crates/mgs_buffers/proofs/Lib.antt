@@ -6,3 +6,4 @@ pub mod Unmarked
 mod Completed
 pub mod Judged
 pub mod Told
+pub mod Finds

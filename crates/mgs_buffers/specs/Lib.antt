@@ -2,5 +2,6 @@ pub mod Adding
 pub mod MarkedBuffer
 pub mod Contents
 pub mod Completed
+pub mod Found
 pub mod Judging
 pub mod Told

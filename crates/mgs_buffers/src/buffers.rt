@@ -20,10 +20,11 @@ ghost use Rattle.mgs_buffers.specs.MarkedBuffer.{AreUnmarked, AreWithinLimit, ma
 use crate::buffer::{Buffer, new_buffer, owners_list};
 use crate::completing::completion;
 use crate::fault::AddFault;
+use crate::found::Found;
 use crate::naming::name_typed;
 use crate::telling::{Attributes, is_shown, told};
 use indexmap::IndexMap;
-use mgs_acl::{Entry, user_named};
+use mgs_acl::user_named;
 use mgs_cache::Judge;
 use mgs_marks::Marked;
 use mgs_model::{BUFFER_LIMIT, Decision, MarkId, Mask, Name, Right, Short, TEXT_LIMIT};
@@ -217,11 +218,36 @@ impl<T: Marked + Drop> Buffers<T> {
         self.all.get_index_of(name).unwrap()
     }
 
+    // The place of a buffer, the name that it is kept under, and the buffer.
+    fn placed(&self, name: &Name) -> (usize, &Name, &Buffer<T>)
+        requires { HasBuffer name.now self.now }
+        ensures name { result.1.now ≡ name.now }
+        ensures buffer { marked_of T.text T.marks name.now result.2.now ≡ marked_at name.now self.now }
+        ensures place { IsRuled result.0 result.2.now.owner result.2.now.list (rules_kept self.now) }
+    {
+        self.all.get_full(name).unwrap()
+    }
+
     fn buffer(&self, name: &Name) -> &Buffer<T>
         requires { HasBuffer name.now self.now }
         ensures { marked_of T.text T.marks name.now result.now ≡ marked_at name.now self.now }
     {
-        self.all.get(name).unwrap()
+        self.placed(name).2
+    }
+
+    /// Looks the buffer up, for all that is then asked of it.
+    #[tactic(auto, using(crate::proofs::Finds::found_there))]
+    pub fn find(&self, name: &Name) -> Found<'_, T>
+        requires { HasBuffer name.now self.now }
+        ensures { result ≡ record { name = name.now; all = self.now } }
+    {
+        let (place, name, buffer) = self.placed(name);
+        Found {
+            buffers: self,
+            name,
+            place,
+            buffer,
+        }
     }
 
     /// What the buffer's access list decides on one right of a user (RFC 8881, section 6.2.1).
@@ -254,59 +280,12 @@ impl<T: Marked + Drop> Buffers<T> {
         self.buffer(name).grants(directory, user, right)
     }
 
-    // The place of a buffer, and the buffer.
-    fn placed(&self, name: &Name) -> (usize, &Buffer<T>)
-        requires { HasBuffer name.now self.now }
-        ensures buffer { marked_of T.text T.marks name.now result.1.now ≡ marked_at name.now self.now }
-        ensures place { IsRuled result.0 result.1.now.owner result.1.now.list (rules_kept self.now) }
-    {
-        let (place, _, buffer) = self.all.get_full(name).unwrap();
-        (place, buffer)
-    }
-
     /// A judge for these buffers, which keeps nothing yet. `Short`: memory was refused.
     #[tactic(auto, using(crate::proofs::Judged::judged_none))]
     pub fn judge(&self) -> Result<Judge, Short>
         ensures { IfOk result (λ judge. (directory : Directory) → AreJudged directory (rules_kept self.now) judge) }
     {
         Judge::new(self.alloc)
-    }
-
-    /// What the buffer's access list decides on one right of a user, as `decide` says, by a judge that keeps what was decided on
-    /// these buffers.
-    pub fn decide_by(
-        &self,
-        judge: &mut Judge,
-        directory: &Directory,
-        name: &Name,
-        user: &Name,
-        right: Right,
-    ) -> Decision
-        requires kept { HasBuffer name.now self.now }
-        requires judged { AreJudged directory.now (rules_kept self.now) judge.old }
-        ensures value { let b = (marked_at name.now self.now).buffer in result ≡ decision_by (decider directory.now b.owner user.now b.entries) (right ∷ []) }
-        ensures judged { AreJudged directory.now (rules_kept self.now) judge.new }
-    {
-        let (place, buffer) = self.placed(name);
-        buffer.decide_by(judge, place, directory, user, right)
-    }
-
-    /// Whether a user is granted a right on the buffer, by a judge that keeps what was decided on these buffers.
-    pub fn grants_by(
-        &self,
-        judge: &mut Judge,
-        directory: &Directory,
-        name: &Name,
-        user: &Name,
-        right: Right,
-    ) -> bool
-        requires kept { HasBuffer name.now self.now }
-        requires judged { AreJudged directory.now (rules_kept self.now) judge.old }
-        ensures value { result ≡ may directory.now user.now right (marked_at name.now self.now).buffer }
-        ensures judged { AreJudged directory.now (rules_kept self.now) judge.new }
-    {
-        let (place, buffer) = self.placed(name);
-        buffer.grants_by(judge, place, directory, user, right)
     }
 
     /// The first buffer on which a user is granted READ_ATTRIBUTES: its name.
@@ -359,14 +338,6 @@ impl<T: Marked + Drop> Buffers<T> {
         }
     }
 
-    /// The entries of the buffer's access list, in order.
-    pub fn entries(&self, name: &Name) -> &[Entry]
-        requires { HasBuffer name.now self.now }
-        ensures { result.now ≡ (marked_at name.now self.now).buffer.entries }
-    {
-        self.buffer(name).list.as_slice()
-    }
-
     /// The buffer's access list once more. It takes no memory.
     pub fn copy_list(&self, name: &Name) -> mgs_acl::List
         requires { HasBuffer name.now self.now }
@@ -381,7 +352,7 @@ impl<T: Marked + Drop> Buffers<T> {
         ensures text { T.text result.now ≡ (marked_at name.now self.now).buffer.text }
         ensures marks { T.marks result.now ≡ (marked_at name.now self.now).marks }
     {
-        &self.buffer(name).text
+        self.find(name).text()
     }
 
     /// The number of characters of the buffer's text.
@@ -400,7 +371,7 @@ impl<T: Marked + Drop> Buffers<T> {
         requires { HasBuffer name.now self.now }
         ensures { result ≡ (marked_at name.now self.now).buffer.serial }
     {
-        self.buffer(name).record.serial()
+        self.find(name).serial()
     }
 
     /// Whether the buffer was edited since it was made or last written to its file.
@@ -408,7 +379,7 @@ impl<T: Marked + Drop> Buffers<T> {
         requires { HasBuffer name.now self.now }
         ensures { result ≡ (marked_at name.now self.now).buffer.modified }
     {
-        self.buffer(name).modified
+        self.find(name).is_modified()
     }
 
     /// Whether the buffer has a file.
@@ -424,7 +395,7 @@ impl<T: Marked + Drop> Buffers<T> {
         requires { HasBuffer name.now self.now }
         ensures { option_map (item_of serial) (option_copied result) ≡ find (has_serial serial) (marked_at name.now self.now).buffer.items }
     {
-        self.buffer(name).record.item(serial)
+        self.find(name).item(serial)
     }
 
     /// Where a mark of the buffer stands.

@@ -17,7 +17,8 @@ use Rattle.mgs_model.specs.Seen.{WindowPane, Text_pane, text_seen, attributes_se
 use Rattle.mgs_model.specs.Draw.{draw, screen, read_rows, place_of, point_row, point_shift, window_rows, windows_rows, window_cursor, first_row, heading_of, own_line, cursor_in_mode}
 use Rattle.mgs_model.specs.declared.right.Right.{Right}
 use Rattle.mgs_model.specs.declared.right.Right.TheVariants.{ReadData, ReadAttributes}
-use Rattle.mgs_buffers.specs.MarkedBuffer.{MarkedBuffer, marked_at, HasBuffer, mark_at}
+use Rattle.mgs_buffers.specs.MarkedBuffer.{MarkedBuffer, marked_at, HasBuffer, IsMark, mark_at}
+use Rattle.mgs_marks.specs.Marks.{position_in}
 use Rattle.mgs_windows.specs.declared.WindowMarks.{WindowMarks}
 use Rattle.mgs_windows.specs.declared.Window.{Window}
 use Rattle.mgs_windows.specs.declared.RowPane.{RowPane}
@@ -28,8 +29,8 @@ use Rattle.mgs_world.specs.Worlds.{buffers_of, window_shown, window_of, world_of
 use Rattle.mgs_screen.specs.Screens as screens
 use Rattle.mgs_screen.specs.Screens.{IsMeasured, window_to, windows_to, heading_to, window_marks_rows, window_marks_cursor}
 use Rattle.mgs_model.specs.declared.entry.Decision.{Decision}
-use Rattle.mgs_world.specs.Sound.{IsWindowSound}
-use Rattle.mgs_world.proofs.Soundness.{mark_is_kept, window_point}
+use Rattle.mgs_world.specs.Sound.{IsWindowSound, window_marks_uses}
+use Rattle.mgs_world.proofs.Soundness.{in_use_mark, mark_is_kept, shown_sound, top_used, window_point}
 use Rattle.mgs_grid.proofs.Pictures.{length-text_rows}
 use Rattle.mgs_world.proofs.Found.{found_buffer, found_seen, name_kept}
 
@@ -98,12 +99,12 @@ text_drawn selected cols height heading text point top line row place start shif
     ∙ ap (λ (n : ℕ). read_rows selected cols height text top point ++ mode_row cols (buffer_mode heading (Some (n + 1, place))) ∷ []) is.line_is
     ∙ ap (λ (n : ℕ). read_rows selected cols height text top point ++ mode_row cols (buffer_mode heading (Some (line_of text point + 1, n))) ∷ []) is.place_is
 
-pub window_marks_drawn : (selected : Bool) (cols height : ℕ) (ks : List MarkedBuffer) (heading : Option (List ℕ × Bool)) (x : WindowMarks) (text : List ℕ) (point top : ℕ) → text ≡ (marked_at x.name ks).buffer.text → point ≡ mark_at x.name ks x.point → top ≡ mark_at x.name ks x.top
-    → read_rows selected cols height text top point ++ mode_row cols (buffer_mode heading (place_of text point)) ∷ [] ≡ window_marks_rows selected cols height ks heading x
-window_marks_drawn selected cols height ks heading x text point top t p q =
+pub window_marks_drawn : (selected : Bool) (cols height : ℕ) (k : MarkedBuffer) (heading : Option (List ℕ × Bool)) (x : WindowMarks) (text : List ℕ) (point top : ℕ) → text ≡ k.buffer.text → point ≡ position_in k.marks x.point → top ≡ position_in k.marks x.top
+    → read_rows selected cols height text top point ++ mode_row cols (buffer_mode heading (place_of text point)) ∷ [] ≡ window_marks_rows selected cols height k heading x
+window_marks_drawn selected cols height k heading x text point top t p q =
     ap (λ (ys : List ℕ). read_rows selected cols height ys top point ++ mode_row cols (buffer_mode heading (place_of ys point)) ∷ []) t
-    ∙ ap (λ (n : ℕ). read_rows selected cols height (marked_at x.name ks).buffer.text top n ++ mode_row cols (buffer_mode heading (place_of (marked_at x.name ks).buffer.text n)) ∷ []) p
-    ∙ ap (λ (n : ℕ). read_rows selected cols height (marked_at x.name ks).buffer.text n (mark_at x.name ks x.point) ++ mode_row cols (buffer_mode heading (place_of (marked_at x.name ks).buffer.text (mark_at x.name ks x.point))) ∷ []) q
+    ∙ ap (λ (n : ℕ). read_rows selected cols height k.buffer.text top n ++ mode_row cols (buffer_mode heading (place_of k.buffer.text n)) ∷ []) p
+    ∙ ap (λ (n : ℕ). read_rows selected cols height k.buffer.text n (position_in k.marks x.point) ++ mode_row cols (buffer_mode heading (place_of k.buffer.text (position_in k.marks x.point))) ∷ []) q
 
 -- THE PANE OF A WINDOW
 
@@ -150,13 +151,13 @@ heading_seen d user ks name kept =
 -- WHAT A WINDOW SHOWS
 
 pub window_read : (selected : Bool) (cols : ℕ) (d : Directory) (user : List ℕ) (ks : List MarkedBuffer) (w : Window) (x : WindowMarks) → w.shows ≡ Some x → HasBuffer x.name ks → may d user ReadData (marked_at x.name ks).buffer ≡ true
-    → window_rows selected cols (window_to d user ks w) ≡ window_marks_rows selected cols w.height ks (heading_to d user ks x.name) x
+    → window_rows selected cols (window_to d user ks w) ≡ window_marks_rows selected cols w.height (marked_at x.name ks) (heading_to d user ks x.name) x
 window_read selected cols d user ks w x is kept can =
     ap (window_rows selected cols) (pane_shown d user ks w x true is kept can)
-    ∙ ap (λ (h : Option (List ℕ × Bool)). window_marks_rows selected cols w.height ks h x) (heading_seen d user ks x.name kept)
+    ∙ ap (λ (h : Option (List ℕ × Bool)). window_marks_rows selected cols w.height (marked_at x.name ks) h x) (heading_seen d user ks x.name kept)
 
 pub window_cursor_read : (cols : ℕ) (d : Directory) (user : List ℕ) (ks : List MarkedBuffer) (w : Window) (x : WindowMarks) → w.shows ≡ Some x → HasBuffer x.name ks → may d user ReadData (marked_at x.name ks).buffer ≡ true
-    → window_cursor cols (Some (window_to d user ks w)) ≡ window_marks_cursor cols w.height ks x
+    → window_cursor cols (Some (window_to d user ks w)) ≡ window_marks_cursor cols w.height (marked_at x.name ks) x
 window_cursor_read cols d user ks w x is kept can = ap (λ (p : WindowPane). window_cursor cols (Some p)) (pane_shown d user ks w x true is kept can)
 
 pub window_unread : (selected : Bool) (cols : ℕ) (d : Directory) (user : List ℕ) (ks : List MarkedBuffer) (w : Window) (x : WindowMarks) → w.shows ≡ Some x → HasBuffer x.name ks → may d user ReadData (marked_at x.name ks).buffer ≡ false
@@ -176,12 +177,17 @@ window_cursor_unread cols d user ks w x is kept can = ap (λ (p : WindowPane). w
 pub shown_kept : (ks : List MarkedBuffer) (w : Window) (x : WindowMarks) → IsWindowSound ks w → w.shows ≡ Some x → HasBuffer x.name ks
 shown_kept ks w x sound is = mark_is_kept x.name x.point ks (window_point ks w x sound is)
 
+pub window_top : (ks : List MarkedBuffer) (w : Window) (x : WindowMarks) → IsWindowSound ks w → w.shows ≡ Some x → IsMark x.name x.top ks
+window_top ks w x sound is =
+    let used : window_marks_uses x.name x.top w.shows ≡ window_marks_uses x.name x.top (Some x) = ap (window_marks_uses x.name x.top) is in
+    in_use_mark ks x.name x.top (omega (arith, (shown_sound ks w sound).once x.name x.top, used, top_used x))
+
 -- as many rows as a window has
-pub length_window_marks : (selected : Bool) (cols height : ℕ) (ks : List MarkedBuffer) (heading : Option (List ℕ × Bool)) (x : WindowMarks) → length (window_marks_rows selected cols height ks heading x) ≡ height + 1
-length_window_marks selected cols height ks heading x =
-    let text : List ℕ = (marked_at x.name ks).buffer.text in
-    let top : ℕ = mark_at x.name ks x.top in
-    let point : ℕ = mark_at x.name ks x.point in
+pub length_window_marks : (selected : Bool) (cols height : ℕ) (k : MarkedBuffer) (heading : Option (List ℕ × Bool)) (x : WindowMarks) → length (window_marks_rows selected cols height k heading x) ≡ height + 1
+length_window_marks selected cols height k heading x =
+    let text : List ℕ = k.buffer.text in
+    let top : ℕ = position_in k.marks x.top in
+    let point : ℕ = position_in k.marks x.point in
     let mode : Row = mode_row cols (buffer_mode heading (place_of text point)) in
     let pane : List Row = read_rows selected cols height text top point in
     omega (arith, length-append pane (mode ∷ []), length-text_rows cols (shift_at (point_row text top point) (point_shift selected cols text point)) 0 height (drop (line_start text top) text))

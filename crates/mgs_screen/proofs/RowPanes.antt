@@ -75,7 +75,7 @@ length_window selected cols d user ks w sound =
     let decision : Decision = decision_by (decider d (marked_at x.name ks).buffer.owner user (marked_at x.name ks).buffer.entries) (ReadData ∷ []) in
     let mode : List Row = mode_row cols (buffer_mode (heading_to d user ks x.name) None) ∷ [] in
     λ r. elim r as (λ r. may d user ReadData (marked_at x.name ks).buffer ≡ r → goal) [
-      | true ↦ λ can. ap (λ (rows : List Row). length rows) (window_read selected cols d user ks w x is kept can) ∙ length_window_marks selected cols w.height ks (heading_to d user ks x.name) x
+      | true ↦ λ can. ap (λ (rows : List Row). length rows) (window_read selected cols d user ks w x is kept can) ∙ length_window_marks selected cols w.height (marked_at x.name ks) (heading_to d user ks x.name) x
       | false ↦ λ can. ap (λ (rows : List Row). length rows) (window_unread selected cols d user ks w x is kept can)
           ∙ omega (arith, length-append (unread_rows cols w.height decision) mode, length-unread_rows cols w.height decision)
     ] in

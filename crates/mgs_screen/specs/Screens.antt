@@ -13,7 +13,8 @@ use Rattle.mgs_model.specs.Seen.{WindowPane, window_pane}
 use Rattle.mgs_model.specs.Draw.{read_rows, place_of, point_row, cursor_in_mode}
 use Rattle.mgs_model.specs.declared.right.Right.TheVariants.{ReadAttributes}
 use Rattle.mgs_mini.specs.Typing.{PromptInput}
-use Rattle.mgs_buffers.specs.MarkedBuffer.{MarkedBuffer, marked_at, mark_at}
+use Rattle.mgs_marks.specs.Marks.{position_in}
+use Rattle.mgs_buffers.specs.MarkedBuffer.{MarkedBuffer, marked_at}
 use Rattle.mgs_windows.specs.declared.WindowMarks.{WindowMarks}
 use Rattle.mgs_windows.specs.declared.Window.{Window}
 use Rattle.mgs_session.specs.declared.search.Aim.{Aim}
@@ -47,16 +48,16 @@ pub record IsMeasured (text : List ℕ) (point top line row place start : ℕ) :
   pub start_is : start ≡ line_start text top
 
 -- the rows of a text that may be read, and its mode line
-abbrev pub window_marks_rows : Bool → ℕ → ℕ → List MarkedBuffer → Option (List ℕ × Bool) → WindowMarks → List Row
-window_marks_rows selected cols height ks heading x =
-    read_rows selected cols height (marked_at x.name ks).buffer.text (mark_at x.name ks x.top) (mark_at x.name ks x.point)
-    ++ mode_row cols (buffer_mode heading (place_of (marked_at x.name ks).buffer.text (mark_at x.name ks x.point))) ∷ []
+abbrev pub window_marks_rows : Bool → ℕ → ℕ → MarkedBuffer → Option (List ℕ × Bool) → WindowMarks → List Row
+window_marks_rows selected cols height k heading x =
+    read_rows selected cols height k.buffer.text (position_in k.marks x.top) (position_in k.marks x.point)
+    ++ mode_row cols (buffer_mode heading (place_of k.buffer.text (position_in k.marks x.point))) ∷ []
 
 -- where the selected window's cursor is in such a text
-abbrev pub window_marks_cursor : ℕ → ℕ → List MarkedBuffer → WindowMarks → ℕ × ℕ
-window_marks_cursor cols height ks x = (
-  min (height - 1) (point_row (marked_at x.name ks).buffer.text (mark_at x.name ks x.top) (mark_at x.name ks x.point)),
-  column (marked_at x.name ks).buffer.text (mark_at x.name ks x.point) - shift_for cols (column (marked_at x.name ks).buffer.text (mark_at x.name ks x.point)),
+abbrev pub window_marks_cursor : ℕ → ℕ → MarkedBuffer → WindowMarks → ℕ × ℕ
+window_marks_cursor cols height k x = (
+  min (height - 1) (point_row k.buffer.text (position_in k.marks x.top) (position_in k.marks x.point)),
+  column k.buffer.text (position_in k.marks x.point) - shift_for cols (column k.buffer.text (position_in k.marks x.point)),
 )
 
 -- the line of a prompt in a row, and the cursor behind it

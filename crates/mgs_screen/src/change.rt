@@ -3,12 +3,12 @@ ghost use Rattle.std.specs.Prelude.{◌≡◌, ℕ, ◌+◌, ◌≤◌, List, tr
 ghost use Rattle.mgs_model.specs.Apart.{IsEditedOnce, Follows};
 ghost use Rattle.mgs_model.specs.Lines.{is_feed, line_of, start_of};
 ghost use Rattle.mgs_model.specs.World.{Buffer};
-ghost use Rattle.mgs_buffers.specs.MarkedBuffer.{HasBuffer, marked_at};
+ghost use Rattle.mgs_buffers.specs.MarkedBuffer.{marked_at};
 ghost use Rattle.mgs_undo.specs.Numbered.{item_of};
 ghost use Rattle.mgs_screen.specs.Changes.{IsChange, IsChangeIn};
 
 use crate::sketch::DrawnText;
-use mgs_buffers::Buffers;
+use mgs_buffers::Found;
 use mgs_marks::Marked;
 use mgs_text::Text;
 use mgs_undo::Edit;
@@ -72,21 +72,20 @@ fn change_by<T: Text>(edit: &Edit, text: &T, start: usize, above: usize, size: u
 
 /// What has become of a buffer's text since it had this serial and so many characters.
 pub(crate) fn change_since<T: Marked + Drop>(
-    buffers: &Buffers<T>,
+    found: &Found<T>,
     text: &T,
     drawn: &DrawnText,
     above: usize,
     serial: u64,
     size: usize,
 ) -> Change
-    requires kept { HasBuffer drawn.now.name buffers.now }
-    requires text { T.text text.now ≡ (marked_at drawn.now.name buffers.now).buffer.text }
-    requires serial { drawn.now.serial ≡ (marked_at drawn.now.name buffers.now).buffer.serial }
+    requires text { T.text text.now ≡ (marked_at found.now.name found.now.all).buffer.text }
+    requires serial { drawn.now.serial ≡ (marked_at found.now.name found.now.all).buffer.serial }
     requires within { drawn.now.start ≤ length (T.text text.now) }
     requires above { line_of (T.text text.now) drawn.now.start ≡ above }
     requires start { start_of above (T.text text.now) ≡ drawn.now.start }
     ensures within { IsChangeIn (length (T.text text.now)) result }
-    ensures change { (old : Buffer) → old.serial ≡ serial → length old.text ≡ size → Follows old (marked_at drawn.now.name buffers.now).buffer → IsChange result drawn.now.start old.text (T.text text.now) }
+    ensures change { (old : Buffer) → old.serial ≡ serial → length old.text ≡ size → Follows old (marked_at found.now.name found.now.all).buffer → IsChange result drawn.now.start old.text (T.text text.now) }
 {
     if drawn.serial == serial {
         return Change::Nothing;
@@ -94,7 +93,7 @@ pub(crate) fn change_since<T: Marked + Drop>(
     if drawn.serial < serial || drawn.serial - serial > 1 {
         return Change::Anything;
     }
-    match buffers.item(&drawn.name, drawn.serial) {
+    match found.item(drawn.serial) {
         Some(edit) => change_by(edit, text, drawn.start, above, size),
         None => Change::Anything,
     }

@@ -10,7 +10,7 @@ ghost use Rattle.mgs_buffers.specs.Told.{attributes_read};
 ghost use Rattle.mgs_screen.specs.Listings.{listing_to, entries_to, rows_to, entries_told, name_to, place_in, row_drawn, buffer_drawn, drawn, listed};
 
 use mgs_acl::{Entry, print_entry};
-use mgs_buffers::{Attributes, Buffers};
+use mgs_buffers::{Attributes, Buffers, Found};
 use mgs_cache::Judge;
 use mgs_grid::Grid;
 use mgs_marks::Marked;
@@ -172,43 +172,39 @@ fn draw_unlisted(decision: Decision, sight: Sight, grid: &mut Grid)
 
 /// Draws the rows of a buffer's access list.
 fn draw_acl<T: Marked + Drop>(
-    buffers: &Buffers<T>,
+    found: &Found<T>,
     judge: &mut Judge,
     directory: &Directory,
     user: &Name,
-    name: &Name,
     sight: Sight,
     grid: &mut Grid,
 )
-    requires kept { HasBuffer name.now buffers.now }
     requires room { sight.first + sight.height ≤ grid.old.rows }
-    requires judged { AreJudged directory.now (rules_kept buffers.now) judge.old }
-    ensures judged { AreJudged directory.now (rules_kept buffers.now) judge.new }
-    ensures grid { grid.new ≡ drawn sight.first sight.height sight.row (entries_shown (entries_told directory.now user.now (marked_at name.now buffers.now).buffer)) grid.old }
+    requires judged { AreJudged directory.now (rules_kept found.now.all) judge.old }
+    ensures judged { AreJudged directory.now (rules_kept found.now.all) judge.new }
+    ensures grid { grid.new ≡ drawn sight.first sight.height sight.row (entries_shown (entries_told directory.now user.now (marked_at found.now.name found.now.all).buffer)) grid.old }
 {
-    if buffers.grants_by(judge, directory, name, user, Right::ReadAcl) {
-        draw_list(buffers.entries(name), sight, grid);
+    if found.grants_by(judge, directory, user, Right::ReadAcl) {
+        draw_list(found.entries(), sight, grid);
     } else {
-        let decision = buffers.decide_by(judge, directory, name, user, Right::ReadAcl);
+        let decision = found.decide_by(judge, directory, user, Right::ReadAcl);
         draw_unlisted(decision, sight, grid);
     }
 }
 
 /// A buffer's name, where its attributes may be read.
 fn shown_name<T: Marked + Drop>(
-    buffers: &Buffers<T>,
+    found: &Found<T>,
     judge: &mut Judge,
     directory: &Directory,
     user: &Name,
-    name: &Name,
 ) -> Option<Name>
-    requires kept { HasBuffer name.now buffers.now }
-    requires judged { AreJudged directory.now (rules_kept buffers.now) judge.old }
-    ensures value { result ≡ name_to directory.now user.now buffers.now name.now }
-    ensures judged { AreJudged directory.now (rules_kept buffers.now) judge.new }
+    requires { AreJudged directory.now (rules_kept found.now.all) judge.old }
+    ensures value { result ≡ name_to directory.now user.now found.now.all found.now.name }
+    ensures judged { AreJudged directory.now (rules_kept found.now.all) judge.new }
 {
-    if buffers.grants_by(judge, directory, name, user, Right::ReadAttributes) {
-        Some(*name)
+    if found.grants_by(judge, directory, user, Right::ReadAttributes) {
+        Some(*found.name())
     } else {
         None
     }
@@ -236,8 +232,9 @@ pub fn draw_entries<T: Marked + Drop>(
 {
     let _rows = grid.rows();
     let sight = Sight { first, height, row };
-    draw_acl(buffers, judge, directory, user, name, sight, grid);
-    let shown = shown_name(buffers, judge, directory, user, name);
+    let found = buffers.find(name);
+    draw_acl(&found, judge, directory, user, sight, grid);
+    let shown = shown_name(&found, judge, directory, user);
     grid.draw_acl_mode(first + height, shown);
 }
 

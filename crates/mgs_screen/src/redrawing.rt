@@ -12,7 +12,7 @@ ghost use Rattle.mgs_screen.specs.Sketches.{AreStandingFrom, rows_at};
 use crate::change::{Change, change_since};
 use crate::measuring::Measures;
 use crate::sketch::{DrawnText, Sketch};
-use mgs_buffers::Buffers;
+use mgs_buffers::Found;
 use mgs_grid::{Grid, RowSet};
 use mgs_marks::Marked;
 use mgs_text::Text;
@@ -90,7 +90,7 @@ fn redraw_rows<T: Text>(
 
 /// Draws the rows of a text that may be read: where it is shown as before, those that changed, and else all.
 pub(crate) fn redraw_pane<T: Marked + Drop>(
-    buffers: &Buffers<T>,
+    found: &Found<T>,
     text: &T,
     drawn: &DrawnText,
     measures: &Measures,
@@ -99,23 +99,24 @@ pub(crate) fn redraw_pane<T: Marked + Drop>(
     rows: &mut RowSet,
     grid: &mut Grid,
 )
-    requires kept { HasBuffer drawn.now.name buffers.now }
-    requires text { T.text text.now ≡ (marked_at drawn.now.name buffers.now).buffer.text }
-    requires serial { drawn.now.serial ≡ (marked_at drawn.now.name buffers.now).buffer.serial }
+    requires kept { HasBuffer found.now.name found.now.all }
+    requires name { drawn.now.name ≡ found.now.name }
+    requires text { T.text text.now ≡ (marked_at found.now.name found.now.all).buffer.text }
+    requires serial { drawn.now.serial ≡ (marked_at found.now.name found.now.all).buffer.serial }
     requires room { drawn.now.first + drawn.now.height ≤ grid.old.rows }
     requires within { drawn.now.start ≤ length (T.text text.now) }
     requires short { length (T.text text.now) < 2 ^ 32 }
     requires shift { measures.now.shift < 2 ^ 62 }
     requires above { line_of (T.text text.now) drawn.now.start ≡ measures.now.above }
     requires start { start_of measures.now.above (T.text text.now) ≡ drawn.now.start }
-    requires stands { AreStandingFrom drawn.now.first (buffers_of buffers.now) grid.old sketch.now }
+    requires stands { AreStandingFrom drawn.now.first (buffers_of found.now.all) grid.old sketch.now }
     ensures grid { grid.new ≡ record grid.old { lines = text_put drawn.now.first drawn.now.height measures.now.row measures.now.shift (drop drawn.now.start (T.text text.now)) grid.old } }
     ensures rows { AreIn rows.old rows.new }
     ensures apart { AreSameApart rows.new grid.old.lines grid.new.lines }
 {
     if measures.shift == 0 {
         if let Some((serial, size)) = sketch.drawn(index, drawn) {
-            let change = change_since(buffers, text, drawn, measures.above, serial, size);
+            let change = change_since(found, text, drawn, measures.above, serial, size);
             redraw_rows(change, text, drawn, measures.row, rows, grid);
             return;
         }

@@ -6,7 +6,7 @@ ghost use Rattle.mgs_session.specs.declared.Session.{Session};
 ghost use Rattle.mgs_world.specs.Worlds.{buffers_of, world_of, session_of};
 ghost use Rattle.mgs_world.specs.Sound.{IsSessionSound, IsWindowSound};
 ghost use Rattle.mgs_buffers.specs.Judging.{AreJudged, rules_kept};
-ghost use Rattle.mgs_buffers.specs.MarkedBuffer.{HasBuffer, IsMark};
+ghost use Rattle.mgs_buffers.specs.MarkedBuffer.{IsMark, marked_at};
 ghost use Rattle.mgs_grid.specs.RowSets.{has_row, AreIn, AreSameApart};
 ghost use Rattle.mgs_screen.specs.Screens.{window_to, heading_to, window_marks_rows, window_marks_cursor};
 ghost use Rattle.mgs_screen.specs.Sketches.{AreStanding, AreStandingAbove, AreStandingFrom, pushed};
@@ -16,7 +16,7 @@ use crate::listing::draw_rows;
 use crate::measuring::measure;
 use crate::redrawing::redraw_pane;
 use crate::sketch::{DrawnText, Sketch};
-use mgs_buffers::Buffers;
+use mgs_buffers::{Buffers, Found};
 use mgs_cache::Judge;
 use mgs_grid::{Grid, RowSet};
 use mgs_marks::Marked;
@@ -36,19 +36,17 @@ struct Place {
 
 /// The buffer's name and flag, where its attributes may be read.
 fn heading<T: Marked + Drop>(
-    buffers: &Buffers<T>,
+    found: &Found<T>,
     judge: &mut Judge,
     directory: &Directory,
     user: &Name,
-    name: &Name,
 ) -> Option<(Name, bool)>
-    requires kept { HasBuffer name.now buffers.now }
-    requires judged { AreJudged directory.now (rules_kept buffers.now) judge.old }
-    ensures value { result ≡ heading_to directory.now user.now buffers.now name.now }
-    ensures judged { AreJudged directory.now (rules_kept buffers.now) judge.new }
+    requires { AreJudged directory.now (rules_kept found.now.all) judge.old }
+    ensures value { result ≡ heading_to directory.now user.now found.now.all found.now.name }
+    ensures judged { AreJudged directory.now (rules_kept found.now.all) judge.new }
 {
-    if buffers.grants_by(judge, directory, name, user, Right::ReadAttributes) {
-        Some((*name, buffers.is_modified(name)))
+    if found.grants_by(judge, directory, user, Right::ReadAttributes) {
+        Some((*found.name(), found.is_modified()))
     } else {
         None
     }
@@ -68,7 +66,7 @@ fn note_text(texts: &mut Sketch, drawn: &DrawnText, shift: usize)
 /// Draws a text that may be read, and its mode line. Tells where the cursor is, from the window's first cell, if the window is the
 /// selected one.
 fn redraw_text<T: Marked + Drop>(
-    buffers: &Buffers<T>,
+    found: &Found<T>,
     heading: Option<(Name, bool)>,
     window_marks: &WindowMarks,
     height: usize,
@@ -78,38 +76,35 @@ fn redraw_text<T: Marked + Drop>(
     rows: &mut RowSet,
     grid: &mut Grid,
 ) -> (usize, usize)
-    requires kept { HasBuffer window_marks.now.name buffers.now }
-    requires point { IsMark window_marks.now.name window_marks.now.point buffers.now }
-    requires top { IsMark window_marks.now.name window_marks.now.top buffers.now }
+    requires point { IsMark found.now.name window_marks.now.point found.now.all }
+    requires top { IsMark found.now.name window_marks.now.top found.now.all }
     requires some { 1 ≤ height }
     requires room { place.first + height < grid.old.rows }
-    requires stands { AreStandingFrom place.first (buffers_of buffers.now) grid.old sketch.now }
-    requires above { AreStandingAbove place.first (buffers_of buffers.now) grid.old texts.old }
+    requires stands { AreStandingFrom place.first (buffers_of found.now.all) grid.old sketch.now }
+    requires above { AreStandingAbove place.first (buffers_of found.now.all) grid.old texts.old }
     ensures rows { grid.new.rows ≡ grid.old.rows }
     ensures cols { grid.new.cols ≡ grid.old.cols }
-    ensures lines { grid.new.lines ≡ rows_put place.first (window_marks_rows place.selected grid.old.cols height buffers.now heading window_marks.now) grid.old.lines }
-    ensures cursor { place.selected ≡ true → result ≡ window_marks_cursor grid.old.cols height buffers.now window_marks.now }
+    ensures lines { grid.new.lines ≡ rows_put place.first (window_marks_rows place.selected grid.old.cols height (marked_at found.now.name found.now.all) heading window_marks.now) grid.old.lines }
+    ensures cursor { place.selected ≡ true → result ≡ window_marks_cursor grid.old.cols height (marked_at found.now.name found.now.all) window_marks.now }
     ensures row { result.0 < height }
     ensures col { result.1 < grid.old.cols }
-    ensures texts { AreStandingAbove (place.first + (height + 1)) (buffers_of buffers.now) grid.new texts.new }
+    ensures texts { AreStandingAbove (place.first + (height + 1)) (buffers_of found.now.all) grid.new texts.new }
     ensures more { AreIn rows.old rows.new }
     ensures apart { AreSameApart rows.new grid.old.lines grid.new.lines }
 {
-    // Tells the prover that each text is within the limit.
-    let _count = buffers.len();
     let cols = grid.cols();
-    let text = buffers.text(&window_marks.name);
+    let text = found.text();
     let measures = measure(text, window_marks, place.selected, cols);
     let drawn = DrawnText {
-        name: window_marks.name,
-        serial: buffers.serial(&window_marks.name),
+        name: *found.name(),
+        serial: found.serial(),
         size: text.len(),
         start: measures.start,
         first: place.first,
         height,
     };
     redraw_pane(
-        buffers,
+        found,
         text,
         &drawn,
         &measures,
@@ -186,10 +181,11 @@ fn redraw_window<T: Marked + Drop>(
         note_rows(place.first, height, texts, rows);
         return (0, 0);
     };
-    let heading = heading(buffers, judge, directory, user, &window_marks.name);
-    if buffers.grants_by(judge, directory, &window_marks.name, user, Right::ReadData) {
+    let found = buffers.find(&window_marks.name);
+    let heading = heading(&found, judge, directory, user);
+    if found.grants_by(judge, directory, user, Right::ReadData) {
         return redraw_text(
-            buffers,
+            &found,
             heading,
             &window_marks,
             height,
@@ -200,7 +196,7 @@ fn redraw_window<T: Marked + Drop>(
             grid,
         );
     }
-    let decision = buffers.decide_by(judge, directory, &window_marks.name, user, Right::ReadData);
+    let decision = found.decide_by(judge, directory, user, Right::ReadData);
     grid.draw_unread(place.first, height, decision);
     grid.draw_mode(place.first + height, heading, None);
     note_rows(place.first, height, texts, rows);

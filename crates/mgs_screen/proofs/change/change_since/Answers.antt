@@ -8,7 +8,7 @@ use Rattle.mgs_screen.proofs.change.change_since.Goals as goal
 
 pub returns-in-Some-clause-change : goal.returns-in-Some-clause-change
 returns-in-Some-clause-change g c = λ old serial count follows.
-    let b : Buffer = (marked_at c.args.drawn.now.name c.args.buffers.now).buffer in
+    let b : Buffer = (marked_at c.args.found.now.name c.args.found.now.all).buffer in
     let next : b.serial ≡ old.serial + 1 = omega (arith, serial, c.requires.serial, c.if-drawn-serial.false, c.if-drawn-serial-2.false, c.if-drawn-serial-gt1.false) in
     let e : IsEditedOnce old b = follows.once next in
     c.change_by.ensures.change old b c.args.drawn.now.serial e

@@ -1,19 +1,31 @@
-use Rattle.std.proofs.Common.{ℕ, List, [], ◌∷◌, ◌++◌, Option, sym, ap, ◌∙◌, arith}
+use Rattle.std.proofs.Common.{ℕ, List, [], ◌∷◌, ◌++◌, Option, sym, ap, subst, ◌∙◌, arith}
 use Rattle.mgs_model.specs.Rows.{Row, rows_put, mode_row}
 use Rattle.mgs_model.specs.Picture.{Picture}
 use Rattle.mgs_model.specs.Draw.{rows_from, entries_shown}
+use Rattle.mgs_buffers.specs.Found.{Named}
+use Rattle.mgs_buffers.specs.Judging.{AreJudged, rules_kept}
 use Rattle.mgs_buffers.specs.MarkedBuffer.{marked_at}
 use Rattle.mgs_grid.specs.Lists.{acl_mode}
-use Rattle.mgs_screen.specs.Listings.{entries_told}
+use Rattle.mgs_screen.specs.Listings.{entries_told, name_to}
 use Rattle.mgs_screen.proofs.Sights.{mode_below}
 use Rattle.mgs_screen.proofs.Listings.{entries_pane_is}
 use Rattle.mgs_screen.proofs.listing.draw_entries.Goals as goal
 
+pub draw_acl-requires-clause-judged : goal.draw_acl-requires-clause-judged
+draw_acl-requires-clause-judged g c = subst (λ (f : Named). AreJudged c.args.directory.now (rules_kept f.all) c.args.judge.now) (sym c.find-found.ensures) c.requires.judged
+
+pub returns-clause-judged : goal.returns-clause-judged
+returns-clause-judged g c = subst (λ (f : Named). AreJudged c.args.directory.now (rules_kept f.all) c.shown_name-shown.new.judge) c.find-found.ensures c.shown_name-shown.ensures.judged
+
 pub returns-clause-grid : goal.returns-clause-grid
 returns-clause-grid g c = λ selected.
     let old : Picture = c.args.grid.now in
-    let texts : List (List ℕ) = entries_shown (entries_told c.args.directory.now c.args.user.now (marked_at c.args.name.now c.args.buffers.now).buffer) in
-    let rows : Option (List ℕ) → List Row = λ (name : Option (List ℕ)). rows_from old.cols c.args.height c.args.row texts ++ mode_row old.cols (acl_mode name) ∷ [] in
-    mode_below c.args.first c.args.height c.args.row texts (acl_mode c.shown_name-shown.result) old c.draw_acl.new.grid c.draw_acl_mode.new.self (omega (arith, c.requires.room, c.rows-rows.ensures.picture.count)) c.draw_acl.ensures.grid c.draw_acl_mode.ensures
-    ∙ ap (λ (name : Option (List ℕ)). record old { lines = rows_put c.args.first (rows name) old.lines }) c.shown_name-shown.ensures.value
+    let f : Named = c.find-found.result in
+    let texts : Named → List (List ℕ) = λ (y : Named). entries_shown (entries_told c.args.directory.now c.args.user.now (marked_at y.name y.all).buffer) in
+    let shown : Named → Option (List ℕ) = λ (y : Named). name_to c.args.directory.now c.args.user.now y.all y.name in
+    let drawn : Named → Option (List ℕ) → Picture = λ (y : Named) (name : Option (List ℕ)).
+    record old { lines = rows_put c.args.first (rows_from old.cols c.args.height c.args.row (texts y) ++ mode_row old.cols (acl_mode name) ∷ []) old.lines } in
+    mode_below c.args.first c.args.height c.args.row (texts f) (acl_mode c.shown_name-shown.result) old c.draw_acl.new.grid c.draw_acl_mode.new.self (omega (arith, c.requires.room, c.rows-rows.ensures.picture.count)) c.draw_acl.ensures.grid c.draw_acl_mode.ensures
+    ∙ ap (drawn f) c.shown_name-shown.ensures.value
+    ∙ ap (λ (y : Named). drawn y (shown y)) c.find-found.ensures
     ∙ ap (λ (rs : List Row). record old { lines = rows_put c.args.first rs old.lines }) (sym (entries_pane_is selected old.cols c.args.height c.args.row c.args.directory.now c.args.user.now c.args.name.now c.args.buffers.now c.requires.kept))

@@ -1,9 +1,9 @@
 use Rattle.std.proofs.Common.{◌≡◌, ◌+◌, ◌++◌, ℕ, List, [], ◌∷◌, Some, length, drop, refl, ap, ◌∙◌, arith, length-append}
 use Rattle.mgs_model.specs.Picture.{Picture}
+use Rattle.mgs_model.specs.World.{Buffer, find_buffer}
 use Rattle.mgs_model.specs.Rows.{Row, buffer_mode, mode_row, rows_put, text_rows, shift_at}
 use Rattle.mgs_marks.specs.Marks.{position_in}
 use Rattle.mgs_buffers.specs.MarkedBuffer.{MarkedBuffer, marked_at}
-use Rattle.mgs_buffers.proofs.Limits.{limit-at}
 use Rattle.mgs_grid.proofs.Pictures.{length-text_rows, length-rows_put}
 use Rattle.mgs_grid.proofs.RowSets.{same_then}
 use Rattle.mgs_world.specs.Worlds.{buffers_of}
@@ -15,20 +15,15 @@ use Rattle.mgs_screen.proofs.Redrawn.{row_apart}
 use Rattle.mgs_screen.proofs.Sketches.{IsPut, texts_kept}
 use Rattle.mgs_screen.proofs.screen.redraw_text.Goals as goal
 
-pub measure-measures-requires-clause-short : goal.measure-measures-requires-clause-short
-measure-measures-requires-clause-short g c =
-    omega (arith, limit-at c.args.window_marks.now.name c.args.buffers.now c.len-count.ensures.limits, ap length c.text-text.ensures.text)
-
 pub redraw_pane-requires-clause-short : goal.redraw_pane-requires-clause-short
-redraw_pane-requires-clause-short g c =
-    omega (arith, limit-at c.args.window_marks.now.name c.args.buffers.now c.len-count.ensures.limits, ap length c.text-text.ensures.text)
+redraw_pane-requires-clause-short g c = omega (arith, c.text-text.ensures.limit)
 
 pub returns-clause-lines : goal.returns-clause-lines
 returns-clause-lines g c =
     let p : Picture = c.args.grid.now in
     let cols : ℕ = p.cols in
     let height : ℕ = c.args.height in
-    let ks : List MarkedBuffer = c.args.buffers.now in
+    let k : MarkedBuffer = marked_at c.args.found.now.name c.args.found.now.all in
     let text : List ℕ = g.T.Text.text c.text-text.result.now in
     let marks = g.T.Text.marks c.text-text.result.now in
     let x = c.args.window_marks.now in
@@ -40,7 +35,7 @@ returns-clause-lines g c =
     c.requires.room c.cols-cols.ensures.picture.count (length-text_rows cols (shift_at m.row m.shift) 0 height rest) c.redraw_pane.ensures.grid c.draw_mode.ensures
     ∙ ap (λ (rows : List Row). rows_put c.args.place.first rows p.lines) (
     text_drawn c.args.place.selected cols height c.args.heading text (position_in marks x.point) (position_in marks x.top) m.line m.row m.column m.start m.shift c.measure-measures.ensures.is shifted
-    ∙ window_marks_drawn c.args.place.selected cols height ks c.args.heading x text (position_in marks x.point) (position_in marks x.top) c.text-text.ensures.text
+    ∙ window_marks_drawn c.args.place.selected cols height k c.args.heading x text (position_in marks x.point) (position_in marks x.top) c.text-text.ensures.text
     (ap (λ ms. position_in ms x.point) c.text-text.ensures.marks) (ap (λ ms. position_in ms x.top) c.text-text.ensures.marks))
 
 pub returns-clause-texts : goal.returns-clause-texts
@@ -49,10 +44,11 @@ returns-clause-texts g c =
     let q : Picture = c.draw_mode.new.self in
     let height : ℕ = c.args.height in
     let first : ℕ = c.args.place.first in
-    let x = c.args.window_marks.now in
+    let ks : List MarkedBuffer = c.args.found.now.all in
+    let b : Buffer = (marked_at c.args.found.now.name ks).buffer in
     let text : List ℕ = g.T.Text.text c.text-text.result.now in
     let m = c.measure-measures.result in
-    let d : DrawnText = record { name = x.name; serial = c.serial.result; size = c.len.result; start = m.start; first = first; height = height } in
+    let d : DrawnText = record { name = c.name.result.now; serial = c.serial.result; size = c.len.result; start = m.start; first = first; height = height } in
     let rest : List ℕ = drop m.start text in
     let pane : List Row = text_rows p.cols (shift_at m.row m.shift) 0 height rest in
     let mode : List ℕ = buffer_mode c.args.heading (Some (m.line + 1, m.column)) in
@@ -62,8 +58,9 @@ returns-clause-texts g c =
       wide = ap (λ (r : Picture). r.cols) c.draw_mode.ensures ∙ ap (λ (r : Picture). r.cols) c.redraw_pane.ensures.grid;
       fits = omega (arith, length-append pane (mode_row p.cols mode ∷ []), size, c.requires.room, c.cols-cols.ensures.picture.count);
     } in
-    texts_kept (buffers_of c.args.buffers.now) p q d (marked_at x.name c.args.buffers.now).buffer text m.row m.shift (mode_row p.cols mode) c.args.texts.now c.note_text.new.texts put
-    (found_buffer x.name c.args.buffers.now c.requires.kept) c.serial.ensures c.len.ensures.value c.measure-measures.ensures.within c.text-text.ensures.text c.note_text.ensures c.requires.above
+    let there : find_buffer d.name (buffers_of ks) ≡ Some b = ap (λ (n : List ℕ). find_buffer n (buffers_of ks)) c.name.ensures.value ∙ found_buffer c.args.found.now.name ks c.name.ensures.kept in
+    texts_kept (buffers_of ks) p q d b text m.row m.shift (mode_row p.cols mode) c.args.texts.now c.note_text.new.texts put
+    there c.serial.ensures c.len.ensures.value c.measure-measures.ensures.within c.text-text.ensures.text c.note_text.ensures c.requires.above
 
 pub returns-clause-apart : goal.returns-clause-apart
 returns-clause-apart g c =

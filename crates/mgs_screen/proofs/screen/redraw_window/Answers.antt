@@ -1,34 +1,57 @@
-use Rattle.std.proofs.Common.{◌≡◌, ◌+◌, ◌++◌, ℕ, length, arith, length-append, Bool, true, false, List, [], ◌∷◌, Option, None, sym, ap, ◌∙◌}
+use Rattle.std.proofs.Common.{◌≡◌, ◌+◌, ◌++◌, ℕ, length, arith, length-append, Bool, true, false, List, [], ◌∷◌, Option, None, sym, ap, subst, ◌∙◌}
 use Rattle.mgs_model.specs.Picture.{Picture}
 use Rattle.mgs_model.specs.World.{may}
 use Rattle.mgs_model.specs.Rows.{Row, rows_put, mode_row, buffer_mode, unread_rows}
 use Rattle.mgs_model.specs.declared.right.Right.TheVariants.{ReadData}
 use Rattle.mgs_model.specs.declared.entry.Decision.{Decision}
-use Rattle.mgs_buffers.specs.MarkedBuffer.{MarkedBuffer, HasBuffer, marked_at}
+use Rattle.mgs_model.specs.Access.{decider, decision_by}
+use Rattle.mgs_buffers.specs.Found.{Named}
+use Rattle.mgs_buffers.specs.Judging.{AreJudged, rules_kept}
+use Rattle.mgs_buffers.specs.MarkedBuffer.{MarkedBuffer, HasBuffer, IsMark, marked_at}
 use Rattle.mgs_windows.specs.declared.WindowMarks.{WindowMarks}
 use Rattle.mgs_windows.specs.declared.Window.{Window}
 use Rattle.mgs_model.specs.Draw.{pane_rows}
 use Rattle.mgs_grid.proofs.Pictures.{length-unread_rows}
 use Rattle.mgs_world.specs.Worlds.{buffers_of}
+use Rattle.mgs_world.proofs.Soundness.{window_point}
 use Rattle.mgs_screen.specs.Listings.{rows_to}
 use Rattle.mgs_screen.proofs.Redrawn.{lines_apart}
 use Rattle.mgs_screen.proofs.RowPanes.{length_rows}
 use Rattle.mgs_screen.proofs.Sketches.{IsPut, texts_passed}
-use Rattle.mgs_screen.specs.Screens.{heading_to, window_marks_rows}
-use Rattle.mgs_screen.proofs.Drawings.{pane_put, shown_kept, window_read, window_unread, window_cursor_read, window_cursor_unread}
+use Rattle.mgs_screen.specs.Screens.{heading_to, window_marks_cursor, window_marks_rows}
+use Rattle.mgs_screen.specs.Sketches.{AreStandingAbove, AreStandingFrom}
+use Rattle.mgs_screen.proofs.Drawings.{pane_put, shown_kept, window_read, window_top, window_unread, window_cursor_read, window_cursor_unread}
 use Rattle.mgs_screen.proofs.screen.redraw_window.Goals as goal
 
-pub heading-heading-requires-clause-kept : goal.heading-heading-requires-clause-kept
-heading-heading-requires-clause-kept g c =
+pub find-found-requires : goal.find-found-requires
+find-found-requires g c =
     shown_kept c.args.buffers.now c.args.window.now c.in-Some.window_marks c.requires.sound c.in-Some.is
 
-pub grants_by-requires-clause-kept : goal.grants_by-requires-clause-kept
-grants_by-requires-clause-kept g c =
-    shown_kept c.args.buffers.now c.args.window.now c.in-Some.window_marks c.requires.sound c.in-Some.is
+pub heading-heading-requires : goal.heading-heading-requires
+heading-heading-requires g c = subst (λ (f : Named). AreJudged c.args.directory.now (rules_kept f.all) c.args.judge.now) (sym c.find-found.ensures) c.requires.judged
 
-pub decide_by-decision-requires-clause-kept : goal.decide_by-decision-requires-clause-kept
-decide_by-decision-requires-clause-kept g c =
-    shown_kept c.args.buffers.now c.args.window.now c.in-Some.window_marks c.requires.sound c.in-Some.is
+pub redraw_text-requires-clause-point : goal.redraw_text-requires-clause-point
+redraw_text-requires-clause-point g c =
+    let x : WindowMarks = c.in-Some.window_marks in
+    subst (λ (f : Named). IsMark f.name x.point f.all) (sym c.find-found.ensures) (window_point c.args.buffers.now c.args.window.now x c.requires.sound c.in-Some.is)
+
+pub redraw_text-requires-clause-top : goal.redraw_text-requires-clause-top
+redraw_text-requires-clause-top g c =
+    let x : WindowMarks = c.in-Some.window_marks in
+    subst (λ (f : Named). IsMark f.name x.top f.all) (sym c.find-found.ensures) (window_top c.args.buffers.now c.args.window.now x c.requires.sound c.in-Some.is)
+
+pub redraw_text-requires-clause-stands : goal.redraw_text-requires-clause-stands
+redraw_text-requires-clause-stands g c = subst (λ (f : Named). AreStandingFrom c.args.place.first (buffers_of f.all) c.args.grid.now c.args.sketch.now) (sym c.find-found.ensures) c.requires.stands
+
+pub redraw_text-requires-clause-above : goal.redraw_text-requires-clause-above
+redraw_text-requires-clause-above g c = subst (λ (f : Named). AreStandingAbove c.args.place.first (buffers_of f.all) c.args.grid.now c.args.texts.now) (sym c.find-found.ensures) c.requires.above
+
+pub returns-then-grants_by-clause-judged : goal.returns-then-grants_by-clause-judged
+returns-then-grants_by-clause-judged g c = subst (λ (f : Named). AreJudged c.args.directory.now (rules_kept f.all) c.grants_by.new.judge) c.find-found.ensures c.grants_by.ensures.judged
+
+pub returns-then-grants_by-clause-texts : goal.returns-then-grants_by-clause-texts
+returns-then-grants_by-clause-texts g c =
+    subst (λ (f : Named). AreStandingAbove (c.args.place.first + (c.args.window.now.height + 1)) (buffers_of f.all) c.redraw_text.new.grid c.redraw_text.new.texts) c.find-found.ensures c.redraw_text.ensures.texts
 
 pub returns-then-grants_by-clause-lines : goal.returns-then-grants_by-clause-lines
 returns-then-grants_by-clause-lines g c =
@@ -38,9 +61,13 @@ returns-then-grants_by-clause-lines g c =
     let cols : ℕ = c.args.grid.now.cols in
     let user : List ℕ = c.args.user.now in
     let kept : HasBuffer x.name ks = shown_kept ks w x c.requires.sound c.in-Some.is in
-    let can : may c.args.directory.now user ReadData (marked_at x.name ks).buffer ≡ true = sym c.grants_by.ensures.value ∙ c.if-grants_by.true in
+    let can : may c.args.directory.now user ReadData (marked_at x.name ks).buffer ≡ true =
+    sym (ap (λ (f : Named). may c.args.directory.now user ReadData (marked_at f.name f.all).buffer) c.find-found.ensures) ∙ sym c.grants_by.ensures.value ∙ c.if-grants_by.true in
+    let drawn : Named → Option (List ℕ × Bool) → List Row = λ (f : Named) (h : Option (List ℕ × Bool)).
+    rows_put c.args.place.first (window_marks_rows c.args.place.selected cols w.height (marked_at f.name f.all) h x) c.args.grid.now.lines in
     c.redraw_text.ensures.lines
-    ∙ ap (λ (h : Option (List ℕ × Bool)). rows_put c.args.place.first (window_marks_rows c.args.place.selected cols w.height ks h x) c.args.grid.now.lines) c.heading-heading.ensures.value
+    ∙ ap (drawn c.find-found.result) c.heading-heading.ensures.value
+    ∙ ap (λ (f : Named). drawn f (heading_to c.args.directory.now user f.all f.name)) c.find-found.ensures
     ∙ ap (λ (rows : List Row). rows_put c.args.place.first rows c.args.grid.now.lines) (sym (window_read c.args.place.selected cols c.args.directory.now user ks w x c.in-Some.is kept can))
 
 pub returns-then-grants_by-clause-cursor : goal.returns-then-grants_by-clause-cursor
@@ -50,9 +77,14 @@ returns-then-grants_by-clause-cursor g c = λ selected.
     let w : Window = c.args.window.now in
     let user : List ℕ = c.args.user.now in
     let kept : HasBuffer x.name ks = shown_kept ks w x c.requires.sound c.in-Some.is in
-    let can : may c.args.directory.now user ReadData (marked_at x.name ks).buffer ≡ true = sym c.grants_by.ensures.value ∙ c.if-grants_by.true in
+    let can : may c.args.directory.now user ReadData (marked_at x.name ks).buffer ≡ true =
+    sym (ap (λ (f : Named). may c.args.directory.now user ReadData (marked_at f.name f.all).buffer) c.find-found.ensures) ∙ sym c.grants_by.ensures.value ∙ c.if-grants_by.true in
     c.redraw_text.ensures.cursor selected
+    ∙ ap (λ (f : Named). window_marks_cursor c.args.grid.now.cols w.height (marked_at f.name f.all) x) c.find-found.ensures
     ∙ sym (window_cursor_read c.args.grid.now.cols c.args.directory.now user ks w x c.in-Some.is kept can)
+
+pub returns-clause-judged : goal.returns-clause-judged
+returns-clause-judged g c = subst (λ (f : Named). AreJudged c.args.directory.now (rules_kept f.all) c.decide_by-decision.new.judge) c.find-found.ensures c.decide_by-decision.ensures.judged
 
 pub returns-clause-lines : goal.returns-clause-lines
 returns-clause-lines g c =
@@ -62,11 +94,17 @@ returns-clause-lines g c =
     let cols : ℕ = c.args.grid.now.cols in
     let user : List ℕ = c.args.user.now in
     let kept : HasBuffer x.name ks = shown_kept ks w x c.requires.sound c.in-Some.is in
-    let cannot : may c.args.directory.now user ReadData (marked_at x.name ks).buffer ≡ false = sym c.grants_by.ensures.value ∙ c.if-grants_by.false in
+    let cannot : may c.args.directory.now user ReadData (marked_at x.name ks).buffer ≡ false =
+    sym (ap (λ (f : Named). may c.args.directory.now user ReadData (marked_at f.name f.all).buffer) c.find-found.ensures) ∙ sym c.grants_by.ensures.value ∙ c.if-grants_by.false in
+    let head : Named → Option (List ℕ × Bool) = λ (f : Named). heading_to c.args.directory.now user f.all f.name in
+    let why : Named → Decision = λ (f : Named). decision_by (decider c.args.directory.now (marked_at f.name f.all).buffer.owner user (marked_at f.name f.all).buffer.entries) (ReadData ∷ []) in
+    let drawn : Option (List ℕ × Bool) → Decision → List Row = λ (h : Option (List ℕ × Bool)) (d : Decision).
+    rows_put c.args.place.first (unread_rows cols w.height d ++ mode_row cols (buffer_mode h None) ∷ []) c.args.grid.now.lines in
     pane_put c.args.place.first w.height (unread_rows cols w.height c.decide_by-decision.result) (buffer_mode c.heading-heading.result None) c.args.grid.now c.draw_unread.new.self c.draw_mode.new.self
     c.requires.room c.cols-cols.ensures.picture.count (length-unread_rows cols w.height c.decide_by-decision.result) c.draw_unread.ensures c.draw_mode.ensures
-    ∙ ap (λ (h : Option (List ℕ × Bool)). rows_put c.args.place.first (unread_rows cols w.height c.decide_by-decision.result ++ mode_row cols (buffer_mode h None) ∷ []) c.args.grid.now.lines) c.heading-heading.ensures.value
-    ∙ ap (λ (d : Decision). rows_put c.args.place.first (unread_rows cols w.height d ++ mode_row cols (buffer_mode (heading_to c.args.directory.now user ks x.name) None) ∷ []) c.args.grid.now.lines) c.decide_by-decision.ensures.value
+    ∙ ap (λ (h : Option (List ℕ × Bool)). drawn h c.decide_by-decision.result) c.heading-heading.ensures.value
+    ∙ ap (drawn (head c.find-found.result)) c.decide_by-decision.ensures.value
+    ∙ ap (λ (f : Named). drawn (head f) (why f)) c.find-found.ensures
     ∙ ap (λ (rows : List Row). rows_put c.args.place.first rows c.args.grid.now.lines) (sym (window_unread c.args.place.selected cols c.args.directory.now user ks w x c.in-Some.is kept cannot))
 
 pub returns-clause-cursor : goal.returns-clause-cursor
@@ -76,7 +114,8 @@ returns-clause-cursor g c = λ selected.
     let w : Window = c.args.window.now in
     let user : List ℕ = c.args.user.now in
     let kept : HasBuffer x.name ks = shown_kept ks w x c.requires.sound c.in-Some.is in
-    let cannot : may c.args.directory.now user ReadData (marked_at x.name ks).buffer ≡ false = sym c.grants_by.ensures.value ∙ c.if-grants_by.false in
+    let cannot : may c.args.directory.now user ReadData (marked_at x.name ks).buffer ≡ false =
+    sym (ap (λ (f : Named). may c.args.directory.now user ReadData (marked_at f.name f.all).buffer) c.find-found.ensures) ∙ sym c.grants_by.ensures.value ∙ c.if-grants_by.false in
     sym (window_cursor_unread c.args.grid.now.cols c.args.directory.now user ks w x c.in-Some.is kept cannot)
 
 pub returns-in_default-clause-rows : goal.returns-in_default-clause-rows

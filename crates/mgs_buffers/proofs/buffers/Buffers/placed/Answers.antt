@@ -1,20 +1,28 @@
 use Rattle.std.proofs.Common.{sym, ap, ◌∙◌}
+use Rattle.std.specs.Prelude.{is_some}
+use Rattle.std.proofs.lemmas.Map.Made.{lookup_key_same}
+use Rattle.std.proofs.lemmas.Slice.Eq.{bytes_eq-Decides}
+use Rattle.mgs_model.specs.Names.{same_name}
 use Rattle.mgs_buffers.proofs.MarkedLemmas.{has_buffer-lookup, kept-found}
 use Rattle.mgs_buffers.proofs.Judged.{mapped_one, ruled_at, some_holds, some_mapped}
-use Rattle.std.specs.Prelude.{is_some}
 use Rattle.mgs_buffers.proofs.buffers.Buffers.placed.Goals as goal
 
-pub unwrap-place-requires : goal.unwrap-place-requires
-unwrap-place-requires g c =
+pub unwrap-requires : goal.unwrap-requires
+unwrap-requires g c =
     some_mapped _ c.get_full.result ∙ ap is_some c.get_full.ensures.value
     ∙ has_buffer-lookup g.T.Text.text g.T.Text.marks c.args.name.now c.self.inside.all.entries c.args.self.now c.self.view_is ∙ c.requires
 
+pub returns-clause-name : goal.returns-clause-name
+returns-clause-name g c =
+    sym (lookup_key_same {eq = same_name} bytes_eq-Decides c.args.name.now c.self.inside.all.entries c.unwrap.result.1.now
+    (sym (mapped_one _ c.get_full.result c.unwrap.result _ c.unwrap.ensures c.get_full.ensures.key)))
+
 pub returns-clause-buffer : goal.returns-clause-buffer
 returns-clause-buffer g c =
-    kept-found g.T.Text.text g.T.Text.marks c.args.name.now c.self.inside.all.entries c.args.self.now c.unwrap-place.result.2.now c.self.view_is
-    (mapped_one _ c.get_full.result c.unwrap-place.result _ c.unwrap-place.ensures c.get_full.ensures.value)
+    kept-found g.T.Text.text g.T.Text.marks c.args.name.now c.self.inside.all.entries c.args.self.now c.unwrap.result.2.now c.self.view_is
+    (mapped_one _ c.get_full.result c.unwrap.result _ c.unwrap.ensures c.get_full.ensures.value)
 
 pub returns-clause-place : goal.returns-clause-place
 returns-clause-place g c =
-    ruled_at g.T.Text.text g.T.Text.marks c.self.inside.all.entries c.args.self.now c.unwrap-place.result.0 c.unwrap-place.result.1.now c.unwrap-place.result.2.now c.self.view_is
-    (some_holds _ c.get_full.result c.unwrap-place.result c.unwrap-place.ensures c.get_full.ensures.entry)
+    ruled_at g.T.Text.text g.T.Text.marks c.self.inside.all.entries c.args.self.now c.unwrap.result.0 c.unwrap.result.1.now c.unwrap.result.2.now c.self.view_is
+    (some_holds _ c.get_full.result c.unwrap.result c.unwrap.ensures c.get_full.ensures.entry)

@@ -1,0 +1,17 @@
+-- A buffer that was looked up by its name.
+use Rattle.std.specs.Prelude.{◌≡◌, ℕ, List, Option}
+use Rattle.mgs_buffers.specs.declared.buffer.Buffer.{Buffer}
+use Rattle.mgs_buffers.specs.Contents.{marked_of}
+use Rattle.mgs_buffers.specs.Judging.{IsRuled, rules_kept}
+use Rattle.mgs_buffers.specs.MarkedBuffer.{MarkedBuffer, HasBuffer, marked_at}
+
+-- all buffers, and the name of one
+pub record Named : Type 0 where
+  pub name : List ℕ
+  pub all : List MarkedBuffer
+
+-- at this place stands this buffer, and it is the one of that name
+pub record IsFound {T : Type 0} (text : T → List ℕ) (marks : T → List (Option ℕ)) (name : List ℕ) (all : List MarkedBuffer) (place : ℕ) (b : Buffer T) : Type 0 where
+  pub kept : HasBuffer name all
+  pub is : marked_of text marks name b ≡ marked_at name all
+  pub there : IsRuled place b.owner b.list (rules_kept all)
