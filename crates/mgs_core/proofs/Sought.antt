@@ -26,11 +26,12 @@ use Rattle.mgs_session.specs.declared.Session.{Session}
 use Rattle.mgs_session.specs.Seeking.{search_left, searching, unsearched}
 use Rattle.mgs_session.specs.Sessions.{told}
 use Rattle.mgs_world.specs.Worlds.{aim_mode, mode_in, own_of, search_of}
+use Rattle.mgs_core.specs.declared.deeds.Before.TheVariants as befores
 use Rattle.mgs_core.specs.declared.deeds.Deed.TheVariants as deeds
 use Rattle.mgs_core.specs.declared.keying.ByteStep.{ByteStep}
 use Rattle.mgs_core.specs.declared.keying.ByteStep.TheVariants.{Kept, Failed, Ends, Acts}
 use Rattle.mgs_core.specs.Prompted.{own_turn}
-use Rattle.mgs_core.specs.Stepped.{IsAlone, IsByteStep, SearchStays, deed_act, finding, is_finding, is_keyed, step_from_search}
+use Rattle.mgs_core.specs.Stepped.{IsAlone, IsByteStep, SearchStays, deed_act, finding, is_finding, is_keyed, step_from}
 use Rattle.mgs_core.specs.Turned.{is_quiet}
 use Rattle.mgs_session.specs.declared.search.Aim.{Aim}
 use Rattle.mgs_session.specs.declared.search.Aim.TheVariants.{Find, Replace}
@@ -204,7 +205,7 @@ module _ (d : Directory) (ks : List MarkedBuffer) (y new : Session) (name : List
   left_stays : SearchStays left_one.own new.own → SearchStays w.own new.own
   left_stays stays = none_stays w.own new.own (stays_none left_one.own new.own refl stays)
 
-  key_left : (k : ByteStep) → is_keyed k ≡ true → IsByteStep d ks left_one new byte k → IsByteStep d ks w new byte (step_from_search was last k)
+  key_left : (k : ByteStep) → is_keyed k ≡ true → IsByteStep d ks left_one new byte k → IsByteStep d ks w new byte (step_from (befores.Search was last) k)
   key_left Kept keyed t = record { own = t.own; stays = left_stays t.stays; turn = λ v sees. key_comes v ∙ t.turn v sees; left = t.left; fit = t.fit }
   key_left Failed keyed t = record {
     own = t.own;
@@ -247,7 +248,7 @@ module _ (d : Directory) (ks : List MarkedBuffer) (y new : Session) (name : List
   }
   key_left (Acts _) keyed t = cc
 
-pub search_leaves : (d : Directory) (ks : List MarkedBuffer) (y left new : Session) (name : List ℕ) (origin anchor : ℕ) (f : Sought) (last : List ℕ) (byte : ℕ) (k : ByteStep) → last ≡ y.own.pattern → read_byte y.own.pattern f byte ≡ (f, step.Leaves) → left ≡ search_left f.pattern (unsearched y) → is_keyed k ≡ true → IsByteStep d ks left new byte k → IsByteStep d ks (searching (finding name origin anchor f) (unsearched y)) new byte (step_from_search (finding name origin anchor f) last k)
+pub search_leaves : (d : Directory) (ks : List MarkedBuffer) (y left new : Session) (name : List ℕ) (origin anchor : ℕ) (f : Sought) (last : List ℕ) (byte : ℕ) (k : ByteStep) → last ≡ y.own.pattern → read_byte y.own.pattern f byte ≡ (f, step.Leaves) → left ≡ search_left f.pattern (unsearched y) → is_keyed k ≡ true → IsByteStep d ks left new byte k → IsByteStep d ks (searching (finding name origin anchor f) (unsearched y)) new byte (step_from (befores.Search (finding name origin anchor f) last) k)
 search_leaves d ks y left new name origin anchor f last byte k same read is keyed t = key_left d ks y new name origin anchor f last byte same read k keyed (subst (λ (g : Session). IsByteStep d ks g new byte k) is t)
 
 -- what was read with the search string, as the session has it

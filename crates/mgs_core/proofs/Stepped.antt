@@ -44,7 +44,7 @@ use Rattle.mgs_core.specs.declared.keying.ByteStep.{ByteStep}
 use Rattle.mgs_core.specs.declared.keying.ByteStep.TheVariants.{Kept, Failed, Ends, Acts}
 use Rattle.mgs_core.specs.Prompted.{own_turn}
 use Rattle.mgs_core.specs.Steps.{command_act, started_by, started_own}
-use Rattle.mgs_core.specs.Stepped.{IsAlone, IsByteStep, IsCommandStep, IsLeft, IsStep, MacroPlayed, SearchStays, SeesNames, StepActs, StepEnds, StepFailed, StepKept, call_fault, fault_of, is_call, is_exit, refused_again, search_before}
+use Rattle.mgs_core.specs.Stepped.{IsAlone, IsByteStep, IsCommandStep, IsLeft, IsStep, MacroPlayed, SearchStays, SeesNames, StepActs, StepEnds, StepFailed, StepKept, call_fault, fault_of, is_call, is_exit, refused_again, search_before, step_from}
 use Rattle.mgs_core.specs.Turned.{IsFit, IsWithin, has_all, is_played, is_quiet, weight}
 use Rattle.mgs_core.proofs.Keyed.{command_done, command_here, turn_command, turn_kept, turn_unbound}
 
@@ -325,6 +325,14 @@ command_step Sees comes x new c n b (Acts (deeds.Act a q)) turn bound alone agai
     let same : deeds.Act a q ≡ deeds.Act (command_act c n) b = ap (λ (k : _). deeds.Act k q) s.2 ∙ ap (deeds.Act (command_act c n)) s.3 in
     subst (λ (d : Deed). StepActs Sees comes x.own.player.playing (IsLeft x.own.player) x new d) (sym same) (acts_step Sees comes x new c n turn b bound s.0 s.1 alone s.4 again search)
 command_step Sees comes x new c n b (Acts _) turn bound alone again search s = absurd s
+
+-- the same, where this was there before
+pub command_from : (x new : Session) (c : Command) (n : Option ℕ) (b : Before) (step : ByteStep) → IsCommandStep x new c n befores.Plain step → IsCommandStep x new c n b (step_from b step)
+command_from x new c n b Kept s = s
+command_from x new c n b Failed s = s
+command_from x new c n b Ends s = s
+command_from x new c n b (Acts (deeds.Act a e)) s = (s.0, s.1, s.2, refl, s.4)
+command_from x new c n b (Acts _) s = absurd s
 
 -- A KEY
 

@@ -402,16 +402,16 @@ is_keyed Failed = true
 is_keyed Ends = true
 is_keyed (Acts deed) = is_act deed
 
--- such a step, before which a search went on
-abbrev pub deed_from : Search → List ℕ → Deed → Deed
-deed_from s last (deeds.Act a b) = deeds.Act a (befores.Search s last)
-deed_from s last deed = deed
+-- such a step, before which this was there
+abbrev pub deed_from : Before → Deed → Deed
+deed_from b (deeds.Act a e) = deeds.Act a b
+deed_from b deed = deed
 
-abbrev pub step_from_search : Search → List ℕ → ByteStep → ByteStep
-step_from_search s last Kept = Kept
-step_from_search s last Failed = Failed
-step_from_search s last Ends = Ends
-step_from_search s last (Acts deed) = Acts (deed_from s last deed)
+abbrev pub step_from : Before → ByteStep → ByteStep
+step_from b Kept = Kept
+step_from b Failed = Failed
+step_from b Ends = Ends
+step_from b (Acts deed) = Acts (deed_from b deed)
 
 -- AN ANSWER, whose prompt was taken out: it names a command, or is what the question is for
 

@@ -1,5 +1,5 @@
 // What a byte asks for: the act of a key, or of the answer to a prompt.
-ghost use Rattle.std.specs.Prelude.{◌≡◌, ◌<◌, ℕ, Option, Some, None, IfOk, IfErr, OnOk, OnErr, length, true};
+ghost use Rattle.std.specs.Prelude.{◌≡◌, ◌<◌, ℕ, Option, Some, None, IfOk, OnOk, OnErr, length, true};
 ghost use Rattle.std.specs.List.{position_or_len};
 ghost use Rattle.mgs_model.specs.Apart.{Apart};
 ghost use Rattle.mgs_model.specs.Apply.{outcome_in};
@@ -25,6 +25,7 @@ use mgs_policy::Directory;
 use mgs_session::{Search, SearchString, Session};
 use mgs_store::Store;
 use std::alloc::Global;
+use std::mem;
 
 /// What was there before an act. Where memory is refused to the act, it is there again.
 #[derive(Drop)]
@@ -56,6 +57,18 @@ pub enum Deed {
     Replace(bool),
     /// That match stays as it is.
     Skip,
+}
+
+/// What was there before a deed, which is taken out of it.
+pub fn take_before(deed: &mut Deed) -> Before
+    ensures { result ≡ before_of deed.old }
+{
+    match mem::replace(deed, Deed::Skip) {
+        Deed::Act(_, before) => before,
+        Deed::Answer(prompt, _) => Before::Prompt(prompt),
+        Deed::Replace(_) => Before::Held,
+        _ => Before::Plain,
+    }
 }
 
 /// Whether an act asks the store.
@@ -157,7 +170,14 @@ fn do_act<T: Marked + Drop, S: Store>(
     }
 }
 
-/// Does what is to be done, by the session at `at`. The error is what was there before it: memory was refused, and nothing of it was done.
+/// A text once more, where its deed is only lent.
+fn copied(text: &SearchString) -> SearchString
+    ensures { result ≡ text.now }
+{
+    SearchString::of(text.as_slice())
+}
+
+/// Does what is to be done, by the session at `at`. The error: memory was refused, and nothing of it was done.
 pub fn do_deed<T: Marked + Drop, S: Store>(
     alloc: Global,
     buffers: &mut Buffers<T>,
@@ -165,42 +185,39 @@ pub fn do_deed<T: Marked + Drop, S: Store>(
     sessions: &mut [Session],
     at: usize,
     store: &mut S,
-    deed: Deed,
-) -> Result<Touched, Before>
+    deed: &Deed,
+) -> Result<Touched, Short>
     requires sound { IsSound buffers.old sessions.old }
     requires within { at < length sessions.old }
-    requires ready { IsReady deed (search_held at sessions.old) (own_at at sessions.old) }
-    requires here { CanDo deed }
+    requires ready { IsReady deed.now (search_held at sessions.old) (own_at at sessions.old) }
+    requires here { CanDo deed.now }
     ensures sound { IsSound buffers.new sessions.new }
     ensures sizes { sizes_in sessions.new ≡ sizes_in sessions.old }
-    ensures ok { OnOk result ((id : ℕ) (next : Option ℕ) → at ≡ position_or_len (session_id id) sessions.old → ActedBy (deed_world deed id (world_of directory.now buffers.old sessions.old next)) (world_of directory.now buffers.new sessions.new next) (store_told S.failed S.accepted store.old) (store_told S.failed S.accepted store.new) id (deed_act (own_at at sessions.old) deed)) }
+    ensures ok { OnOk result ((id : ℕ) (next : Option ℕ) → at ≡ position_or_len (session_id id) sessions.old → ActedBy (deed_world deed.now id (world_of directory.now buffers.old sessions.old next)) (world_of directory.now buffers.new sessions.new next) (store_told S.failed S.accepted store.old) (store_told S.failed S.accepted store.new) id (deed_act (own_at at sessions.old) deed.now)) }
     ensures touched { IfOk result (λ touched. (id : ℕ) (next : Option ℕ) → at ≡ position_or_len (session_id id) sessions.old → Apart touched id (world_of directory.now buffers.old sessions.old next) (world_of directory.now buffers.new sessions.new next)) }
-    ensures before { IfErr result (λ before. before ≡ before_of deed) }
-    ensures wants { OnErr result (may_want_memory deed ≡ true) }
+    ensures wants { OnErr result (may_want_memory deed.now ≡ true) }
     ensures err { OnErr result ((next : Option ℕ) → world_of directory.now buffers.new sessions.new next ≡ world_of directory.now buffers.old sessions.old next) }
     ensures accepted { OnErr result (S.accepted store.new ≡ S.accepted store.old) }
-    ensures may { OnErr result ((id : ℕ) (next : Option ℕ) → at ≡ position_or_len (session_id id) sessions.old → may_be_refused (outcome_in (world_of directory.now buffers.old sessions.old next) id (deed_act (own_at at sessions.old) deed) true) ≡ true) }
-    ensures further { OnOk result ((s t : Search) → is_replacement deed ≡ true → search_held at sessions.old ≡ Some s → search_held at sessions.new ≡ Some t → 0 < length (aim_old s.aim) → remaining_at at buffers.new sessions.new < remaining_at at buffers.old sessions.old) }
+    ensures may { OnErr result ((id : ℕ) (next : Option ℕ) → at ≡ position_or_len (session_id id) sessions.old → may_be_refused (outcome_in (world_of directory.now buffers.old sessions.old next) id (deed_act (own_at at sessions.old) deed.now) true) ≡ true) }
+    ensures further { OnOk result ((s t : Search) → is_replacement deed.now ≡ true → search_held at sessions.old ≡ Some s → search_held at sessions.new ≡ Some t → 0 < length (aim_old s.aim) → remaining_at at buffers.new sessions.new < remaining_at at buffers.old sessions.old) }
 {
     match deed {
-        Deed::Act(done, before) => {
-            match do_act(alloc, buffers, directory, sessions, at, store, done) {
-                Ok(touched) => Ok(touched),
-                Err(Short) => Err(before),
-            }
-        }
+        Deed::Act(done, _) => match do_act(alloc, buffers, directory, sessions, at, store, *done) {
+            Ok(touched) => Ok(touched),
+            Err(Short) => Err(Short),
+        },
         Deed::Answer(prompt, argument) => {
             let question = prompt.question();
             let input = prompt.input();
             match answer(
-                alloc, buffers, directory, sessions, at, question, argument, input,
+                alloc, buffers, directory, sessions, at, question, *argument, input,
             ) {
                 Ok(touched) => Ok(touched),
-                Err(Short) => Err(Before::Prompt(prompt)),
+                Err(Short) => Err(Short),
             }
         }
         Deed::Seek(step) => {
-            search_on(buffers, directory, sessions, at, step);
+            search_on(buffers, directory, sessions, at, *step);
             Ok(Touched::Nowhere)
         }
         Deed::QuitSearch => {
@@ -208,12 +225,14 @@ pub fn do_deed<T: Marked + Drop, S: Store>(
             Ok(Touched::Nowhere)
         }
         Deed::StartReplacing(pattern, put) => {
+            let pattern = copied(pattern);
+            let put = copied(put);
             start_replacing(buffers, directory, sessions, at, pattern, put);
             Ok(Touched::Nowhere)
         }
-        Deed::Replace(last) => match replace(buffers, directory, sessions, at, last) {
+        Deed::Replace(last) => match replace(buffers, directory, sessions, at, *last) {
             Ok(touched) => Ok(touched),
-            Err(Short) => Err(Before::Held),
+            Err(Short) => Err(Short),
         },
         Deed::Skip => {
             skip(buffers, directory, sessions, at);

@@ -4,6 +4,7 @@ ghost use Rattle.mgs_model.specs.Access.{Directory};
 ghost use Rattle.mgs_buffers.specs.MarkedBuffer.{MarkedBuffer};
 ghost use Rattle.mgs_model.specs.Plans.{count_of};
 ghost use Rattle.mgs_core.specs.Steps.{command_act, line_act, motion_act};
+ghost use Rattle.mgs_core.specs.declared.deeds.Before.TheVariants.{Plain};
 ghost use Rattle.mgs_core.specs.Stepped.{IsAlone, IsByteStep, IsCommandStep, call_fault, is_call, is_exit, is_keyed};
 
 use crate::deeds::{Before, Deed};
@@ -101,14 +102,9 @@ fn call_fault(session: &Session, argument: Option<usize>) -> Option<Message>
 }
 
 /// The session's macro is to be played, or it is told why not.
-fn step_call(
-    session: &mut Session,
-    command: Command,
-    argument: Option<usize>,
-    before: Before,
-) -> ByteStep
+fn step_call(session: &mut Session, command: Command, argument: Option<usize>) -> ByteStep
     requires { is_call command ≡ true }
-    ensures step { IsCommandStep session.old session.new command argument before result }
+    ensures step { IsCommandStep session.old session.new command argument Plain result }
     ensures keyed { is_keyed result ≡ true }
 {
     if let Some(message) = call_fault(session, argument) {
@@ -119,21 +115,16 @@ fn step_call(
     ByteStep::Kept
 }
 
-/// What a command comes to in a session at rest, in which this was there before. None ends its session while a macro plays.
-pub fn step_command(
-    session: &mut Session,
-    command: Command,
-    argument: Option<usize>,
-    before: Before,
-) -> ByteStep
-    ensures step { IsCommandStep session.old session.new command argument before result }
+/// What a command comes to in a session at rest, in which nothing was there before. None ends its session while a macro plays.
+pub fn step_command(session: &mut Session, command: Command, argument: Option<usize>) -> ByteStep
+    ensures step { IsCommandStep session.old session.new command argument Plain result }
     ensures keyed { is_keyed result ≡ true }
 {
     if is_call(command) {
-        return step_call(session, command, argument, before);
+        return step_call(session, command, argument);
     }
     if !is_exit(command) {
-        return ByteStep::Acts(Deed::Act(command_act(command, argument), before));
+        return ByteStep::Acts(Deed::Act(command_act(command, argument), Before::Plain));
     }
     if session.own.player.is_playing() {
         fail(session, Message::InMacro);
@@ -162,7 +153,7 @@ pub fn step_key(session: &mut Session, byte: u8) -> ByteStep
         }
         Fed::Run(command, argument) => {
             rest(session);
-            step_command(session, command, argument, Before::Plain)
+            step_command(session, command, argument)
         }
     }
 }

@@ -18,14 +18,14 @@ ghost use Rattle.mgs_core.specs.Stepped.{CanDo, IsFirstStep, IsReady, IsTurnStep
 ghost use Rattle.mgs_core.specs.Steps.{TypedBy, closed};
 ghost use Rattle.mgs_core.specs.Turned.{DeedBy, EventBy, IsFit, IsLess, TurnedBy, goes_on, has_all, is_played, touched_both, weight};
 
-use crate::deeds::{Before, Deed, do_deed};
+use crate::deeds::{Before, Deed, do_deed, take_before};
 use crate::keying::ByteStep;
 use crate::typing::step_byte;
 use mgs_buffers::Buffers;
 use mgs_cache::Judge;
 use mgs_maps::Keyboard;
 use mgs_marks::Marked;
-use mgs_model::{Keyed, Kind, Message, SessionId, Touched};
+use mgs_model::{Keyed, Kind, Message, SessionId, Short, Touched};
 use mgs_policy::Directory;
 use mgs_session::{Session, Task, begin, break_off, next_task, rest, set_echo, set_kind};
 use mgs_store::Store;
@@ -165,21 +165,21 @@ fn act_turn<T: Marked + Drop, S: Store>(
     at: usize,
     store: &mut S,
     id: SessionId,
-    deed: Deed,
+    deed: &mut Deed,
     kind: Kind,
     is_playing: bool,
 ) -> (Keyed, Touched)
     requires sound { IsSound buffers.old sessions.old }
     requires place { at ≡ position_or_len (session_id id) sessions.old }
     requires within { at < length sessions.old }
-    requires ready { IsReady deed (search_held at sessions.old) (own_at at sessions.old) }
-    requires here { CanDo deed }
+    requires ready { IsReady deed.old (search_held at sessions.old) (own_at at sessions.old) }
+    requires here { CanDo deed.old }
     requires judged { AreJudged directory.now (rules_kept buffers.old) judge.old }
     ensures judged { AreJudged directory.now (rules_kept buffers.new) judge.new }
     ensures sound { IsSound buffers.new sessions.new }
     ensures sizes { sizes_in sessions.new ≡ sizes_in sessions.old }
-    ensures acted { (next : Option ℕ) → DeedBy (world_of directory.now buffers.old sessions.old next) (deed_world deed id (world_of directory.now buffers.old sessions.old next)) (world_of directory.now buffers.new sessions.new next) (store_told S.failed S.accepted store.old) (store_told S.failed S.accepted store.new) id (may_want_memory deed) (deed_act (own_at at sessions.old) deed) (put_back (buffers_of buffers.old) (before_of deed) kind is_playing) result.0 }
-    ensures further { result.0 ≡ Done → (s t : Search) → is_replacement deed ≡ true → search_held at sessions.old ≡ Some s → search_held at sessions.new ≡ Some t → 0 < length (aim_old s.aim) → remaining_at at buffers.new sessions.new < remaining_at at buffers.old sessions.old }
+    ensures acted { (next : Option ℕ) → DeedBy (world_of directory.now buffers.old sessions.old next) (deed_world deed.old id (world_of directory.now buffers.old sessions.old next)) (world_of directory.now buffers.new sessions.new next) (store_told S.failed S.accepted store.old) (store_told S.failed S.accepted store.new) id (may_want_memory deed.old) (deed_act (own_at at sessions.old) deed.old) (put_back (buffers_of buffers.old) (before_of deed.old) kind is_playing) result.0 }
+    ensures further { result.0 ≡ Done → (s t : Search) → is_replacement deed.old ≡ true → search_held at sessions.old ≡ Some s → search_held at sessions.new ≡ Some t → 0 < length (aim_old s.aim) → remaining_at at buffers.new sessions.new < remaining_at at buffers.old sessions.old }
     ensures touched { (next : Option ℕ) → Apart result.1 id (world_of directory.now buffers.old sessions.old next) (world_of directory.now buffers.new sessions.new next) }
 {
     match do_deed(alloc, buffers, directory, sessions, at, store, deed) {
@@ -187,8 +187,8 @@ fn act_turn<T: Marked + Drop, S: Store>(
             forget_touched(judge, &touched);
             (Keyed::Done, touched)
         }
-        Err(before) => {
-            refuse(&mut sessions[at], before, kind, is_playing);
+        Err(Short) => {
+            refuse(&mut sessions[at], take_before(deed), kind, is_playing);
             (Keyed::Short, Touched::Nowhere)
         }
     }
@@ -224,7 +224,8 @@ fn take_turn<T: Marked + Drop, S: Store>(
     let _count = buffers.len();
     let kind = sessions[at].own.kind;
     let is_playing = sessions[at].own.player.is_playing();
-    match next_step(buffers, judge, directory, &mut sessions[at]) {
+    let mut step = next_step(buffers, judge, directory, &mut sessions[at]);
+    match &mut step {
         ByteStep::Kept => (Keyed::Done, Touched::Nowhere),
         ByteStep::Failed => (Keyed::Done, Touched::Nowhere),
         ByteStep::Ends => (Keyed::Quit, Touched::Anywhere),

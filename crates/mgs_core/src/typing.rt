@@ -17,7 +17,8 @@ ghost use Rattle.mgs_model.specs.declared.message.Message.TheVariants.{Replaced,
 ghost use Rattle.mgs_session.specs.Sessions.{playing_as, prompting, told, unprompted};
 ghost use Rattle.mgs_world.specs.Worlds.{own_of};
 ghost use Rattle.mgs_core.specs.Prompted.{names_for};
-ghost use Rattle.mgs_core.specs.Stepped.{IsAlone, IsAnswerStep, IsByteStep, IsNamedStep, deed_from, finding, replace_key, replacing_at, step_from_search};
+ghost use Rattle.mgs_core.specs.declared.deeds.Before.TheVariants as befores;
+ghost use Rattle.mgs_core.specs.Stepped.{IsAlone, IsAnswerStep, IsByteStep, IsCommandStep, IsNamedStep, deed_from, finding, replace_key, replacing_at, step_from};
 
 use crate::deeds::{Before, Deed};
 use crate::keying::{ByteStep, step_command, step_key};
@@ -26,7 +27,7 @@ use mgs_cache::Judge;
 use mgs_maps::{command_named, name_completion};
 use mgs_marks::Marked;
 use mgs_mini::{Prompt, Step};
-use mgs_model::{Message, Name, Question, SearchStep};
+use mgs_model::{Command, Message, Name, Question, SearchStep};
 use mgs_policy::Directory;
 use mgs_search::IncrementalSearch;
 use mgs_session::{
@@ -93,6 +94,41 @@ fn complete<T: Marked + Drop>(
     hold_completed(session, prompt, completes);
 }
 
+/// The deed of a command, with what was there before it.
+fn deed_from(deed: Deed, before: Before) -> Deed
+    ensures { result ≡ deed_from before deed }
+{
+    match deed {
+        Deed::Act(done, _) => Deed::Act(done, before),
+        _ => deed,
+    }
+}
+
+/// The step of a command, with what was there before it.
+fn step_from(step: ByteStep, before: Before) -> ByteStep
+    ensures { result ≡ step_from before step }
+{
+    match step {
+        ByteStep::Kept => ByteStep::Kept,
+        ByteStep::Failed => ByteStep::Failed,
+        ByteStep::Ends => ByteStep::Ends,
+        ByteStep::Acts(deed) => ByteStep::Acts(deed_from(deed, before)),
+    }
+}
+
+/// What a command comes to that was named at this prompt, in a session at rest.
+fn step_named(
+    session: &mut Session,
+    command: Command,
+    argument: Option<usize>,
+    prompt: Prompt,
+) -> ByteStep
+    ensures { IsCommandStep session.old session.new command argument (befores.Prompt prompt) result }
+{
+    let step = step_command(session, command, argument);
+    step_from(step, Before::Prompt(prompt))
+}
+
 /// What the name of a command comes to, whose prompt was taken out of the session.
 fn step_name(session: &mut Session, prompt: Prompt) -> ByteStep
     ensures { IsNamedStep session.old session.new prompt (find_command prompt.input) result }
@@ -103,7 +139,7 @@ fn step_name(session: &mut Session, prompt: Prompt) -> ByteStep
         return ByteStep::Kept;
     };
     rest(session);
-    step_command(session, command, argument, Before::Prompt(prompt))
+    step_named(session, command, argument, prompt)
 }
 
 /// What an answer comes to, whose prompt was taken out of the session.
@@ -134,6 +170,17 @@ fn step_answer(session: &mut Session, prompt: Prompt) -> ByteStep
     }
 }
 
+/// The prompt, if there is one, is taken out. Where there is none, nothing of its size is moved.
+fn prompt_out(session: &mut Session) -> Option<Prompt>
+    ensures prompt { result ≡ session.old.own.prompt }
+    ensures rest { session.new ≡ unprompted session.old }
+{
+    match &session.own.prompt {
+        None => None,
+        Some(_) => take_prompt(session),
+    }
+}
+
 /// What a byte comes to in a session that does not search.
 fn step_still<T: Marked + Drop>(
     buffers: &Buffers<T>,
@@ -148,7 +195,7 @@ fn step_still<T: Marked + Drop>(
     ensures step { IsByteStep directory.now buffers.now session.old session.new byte result }
     ensures judged { AreJudged directory.now (rules_kept buffers.now) judge.new }
 {
-    let Some(prompt) = take_prompt(session) else {
+    let Some(prompt) = prompt_out(session) else {
         return step_key(session, byte);
     };
     let mut prompt = prompt;
@@ -166,28 +213,6 @@ fn step_still<T: Marked + Drop>(
             ByteStep::Kept
         }
         Step::Answered => step_answer(session, prompt),
-    }
-}
-
-/// A deed, before which a search went on.
-fn deed_from(deed: Deed, search: Search, last: SearchString) -> Deed
-    ensures { result ≡ deed_from search last deed }
-{
-    match deed {
-        Deed::Act(done, _) => Deed::Act(done, Before::Search(search, last)),
-        _ => deed,
-    }
-}
-
-/// A step, before which a search went on.
-fn step_from(step: ByteStep, search: Search, last: SearchString) -> ByteStep
-    ensures { result ≡ step_from_search search last step }
-{
-    match step {
-        ByteStep::Kept => ByteStep::Kept,
-        ByteStep::Failed => ByteStep::Failed,
-        ByteStep::Ends => ByteStep::Ends,
-        ByteStep::Acts(deed) => ByteStep::Acts(deed_from(deed, search, last)),
     }
 }
 
@@ -214,7 +239,7 @@ fn step_foreign(
         anchor,
         aim: Aim::Find(sought),
     };
-    step_from(step_key(session, byte), search, last)
+    step_from(step_key(session, byte), Before::Search(search, last))
 }
 
 /// What a byte comes to in an incremental search, which was taken out of the session.
@@ -410,6 +435,17 @@ fn step_search(session: &mut Session, search: Search, byte: u8) -> ByteStep
     }
 }
 
+/// The search, if one goes on, is taken out. Where there is none, nothing of its size is moved.
+fn search_out(session: &mut Session) -> Option<Search>
+    ensures search { result ≡ session.old.own.search }
+    ensures rest { session.new ≡ unsearched session.old }
+{
+    match &session.own.search {
+        None => None,
+        Some(_) => take_search(session),
+    }
+}
+
 /// What a byte comes to in its session.
 pub fn step_byte<T: Marked + Drop>(
     buffers: &Buffers<T>,
@@ -423,7 +459,7 @@ pub fn step_byte<T: Marked + Drop>(
     ensures step { IsByteStep directory.now buffers.now session.old session.new byte result }
     ensures judged { AreJudged directory.now (rules_kept buffers.now) judge.new }
 {
-    match take_search(session) {
+    match search_out(session) {
         Some(search) => step_search(session, search, byte),
         None => step_still(buffers, judge, directory, session, byte),
     }
