@@ -87,11 +87,11 @@ pub fn replay<R: Read, W: Write>(
     ensures limit { KeepsLimit (R.remaining reader.old) result (W.contents writer.old) (W.contents writer.new) }
     ensures taken { TakesAtMost (R.remaining reader.old) (R.remaining reader.new) (SCRIPT_LIMIT + 1) }
 {
-    replay_over::<GapText, R, W>(alloc, reader, writer)
+    replay_over::<GapText, _, _>(alloc, reader, writer)
 }
 
-/// `replay` over another type of texts, with the same clauses. The programs have no use for it: tests play a script over the
-/// programs' texts and over plain ones, and compare what is printed.
+/// Runs a script as `replay` does, and ends by the same faults, over texts of any type: `replay` is this over `GapText`.
+/// Tests play a script over that and over a plain type, and compare what is printed.
 pub fn replay_over<T: Marked + Drop, R: Read, W: Write>(
     alloc: Global,
     reader: &mut R,
@@ -108,7 +108,7 @@ pub fn replay_over<T: Marked + Drop, R: Read, W: Write>(
         Err(ScriptFault::Read) => return Err(ReplayFault::Read),
         Err(ScriptFault::Short) => return Err(ReplayFault::Short),
     };
-    let outcome = play::<T, W>(alloc, script.as_slice(), writer);
+    let outcome = play::<T, _>(alloc, script.as_slice(), writer);
     if matches!(outcome, Ok(()) | Err(ReplayFault::Line(_))) && writer.flush().is_err() {
         return Err(ReplayFault::Write);
     }

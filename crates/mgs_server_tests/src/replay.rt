@@ -341,11 +341,8 @@ fn long_lines_are_shown_around_the_point(rt: HostRuntime) -> Result<(), Fail> {
 
 #[test]
 fn lines_before_a_refused_one_have_printed(rt: HostRuntime) -> Result<(), Fail> {
-    let mut reader = b"user ann\nfrob\nopen a ann 6 20\n".as_slice();
-    let mut written = Vec::new(rt.alloc());
-    let outcome = replay(rt.alloc(), &mut reader, &mut written);
-    assert_eq!(rt; outcome, Err(ReplayFault::Line(2)));
-    assert!(rt; written.is_empty());
+    let script = b"user ann\nfrob\nopen a ann 6 20\n";
+    gives(&rt, rt.alloc(), script, "", Err(ReplayFault::Line(2)));
     let lines = "open a ann 0 20\nopen b bob 6 20\n# a remark\n\nfrob\nshow a\n";
     let output = "refused a 2 Size\nrefused b 1 NoUser\n";
     plays(&rt, rt.alloc(), lines, output, Err(ReplayFault::Line(8)))
@@ -416,21 +413,13 @@ fn sessions_are_closed(rt: HostRuntime) -> Result<(), Fail> {
 
 #[test]
 fn lists_are_full_at_64_entries(rt: HostRuntime) -> Result<(), Fail> {
-    let mut lines = Vec::new(rt.alloc());
-    for _ in 0..63 {
-        lines.extend_from_slice(b"entry notes ALLOW ann r\n")?;
-    }
     let mut script = Vec::from_slice(rt.alloc(), NOTES.as_bytes())?;
-    script.extend_from_slice(lines.as_slice())?;
-    let mut reader = script.as_slice();
-    let mut written = Vec::new(rt.alloc());
-    assert_eq!(rt; replay(rt.alloc(), &mut reader, &mut written), Ok(()));
+    for _ in 0..63 {
+        script.extend_from_slice(b"entry notes ALLOW ann r\n")?;
+    }
+    gives(&rt, rt.alloc(), &script, "", Ok(()));
     script.extend_from_slice(b"entry notes ALLOW ann r")?;
-    let mut reader = script.as_slice();
-    assert_eq!(rt;
-        replay(rt.alloc(), &mut reader, &mut written),
-        Err(ReplayFault::Line(67))
-    );
+    gives(&rt, rt.alloc(), &script, "", Err(ReplayFault::Line(67)));
     Ok(())
 }
 
