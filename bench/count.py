@@ -25,7 +25,7 @@ GROUPS = (
     ("player", r"mgs_replay|mgs_script|mgs_keys|mgs_term|mgs_engine::driving|utf8|core::str|read_until"),
     # Rows of cells that are compared, and not names.
     ("draw", r"groups_equal::<i32"),
-    ("look-ups", r"Buffers::buffer\b|Buffers::place|Buffers::find|groups_equal|indexmap|lookup"),
+    ("look-ups", r"Buffers::buffer\b|Buffers::place(d|_of)\b|Buffers::find|groups_equal|indexmap|lookup"),
     ("settle", r"mgs_world::settl|mgs_lines"),
     ("draw", r"mgs_engine::draw|mgs_screen|mgs_grid|itoa"),
     ("paint", r"mgs_paint"),
