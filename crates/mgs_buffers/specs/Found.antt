@@ -5,12 +5,12 @@ use Rattle.mgs_buffers.specs.Contents.{marked_of}
 use Rattle.mgs_buffers.specs.Judging.{IsRuled, rules_kept}
 use Rattle.mgs_buffers.specs.MarkedBuffer.{MarkedBuffer, HasBuffer, marked_at}
 
--- all buffers, and the name of one
+-- what was found: the name of one buffer, among all buffers
 pub record Named : Type 0 where
   pub name : List ℕ
   pub all : List MarkedBuffer
 
--- at this place stands this buffer, and it is the one of that name
+-- these fields fit each other: the buffer is that of the name, and what a judge kept for the place is about its owner and its list
 pub record IsFound {T : Type 0} (text : T → List ℕ) (marks : T → List (Option ℕ)) (name : List ℕ) (all : List MarkedBuffer) (place : ℕ) (b : Buffer T) : Type 0 where
   pub kept : HasBuffer name all
   pub is : marked_of text marks name b ≡ marked_at name all

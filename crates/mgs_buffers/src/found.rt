@@ -24,9 +24,11 @@ use std::marker::Model;
 pub struct Found<'a, T: Marked + Drop> {
     /// All buffers, among which it was looked up.
     pub(crate) buffers: &'a Buffers<T>,
+    /// The name that it was looked up by.
     pub(crate) name: &'a Name,
-    /// Its place among all.
+    /// Its place among all: the judge keeps decisions by it.
     pub(crate) place: usize,
+    /// What stands at that place.
     pub(crate) buffer: &'a Buffer<T>,
 }
 
@@ -41,7 +43,7 @@ impl<'a, T: Marked + Drop> Model for Found<'a, T> {
 }
 
 impl<'a, T: Marked + Drop> Found<'a, T> {
-    // What is kept of the buffer.
+    // The field, with what the invariant says of it: the calls below ask it and need no lemma of their own.
     fn buffer(&self) -> &'a Buffer<T>
         ensures { marked_of T.text T.marks self.now.name result.now ≡ marked_at self.now.name self.now.all }
     {
