@@ -67,7 +67,7 @@ fn draw_row_of<T: Text>(
     rows.insert(drawn.first + row);
 }
 
-/// Shows a row of a text that stands, which is shown from column `from`, from column `to`.
+/// Shows row `row` of a text that stands from column `to`. It is shown from column `from` before.
 fn shift_row<T: Text>(
     text: &T,
     drawn: &DrawnText,
@@ -132,8 +132,8 @@ fn shift_of(drawn: &DrawnText, row: usize) -> usize
     if row == drawn.row { drawn.shift } else { 0 }
 }
 
-/// Draws the row of the one line that changed, in a text whose other rows stand, with row `row` shown from column `shift`. Tells from which
-/// column this row is shown then.
+/// Draws the row of the one line that changed, in a text whose other rows stand, with row `row` shown from column `shift`. Tells from
+/// which column row `row` is shown then.
 fn draw_line_of<T: Text>(
     text: &T,
     drawn: &DrawnText,

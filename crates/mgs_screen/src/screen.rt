@@ -195,8 +195,9 @@ fn redraw_window<T: Marked + Drop>(
 }
 
 /// Draws a session's screen into a grid that shows an earlier screen of it, with the texts of this sketch. It tells which rows it drew:
-/// the others are as they were. With a sketch of no text it draws them all. The sketch has then the texts of the new screen. Who may see
-/// what is decided by a judge that keeps what was decided on these buffers. Where memory is refused to it, the screen is drawn as well.
+/// the others are as they were. With a sketch of no text the grid may show anything before, and all rows are drawn. The sketch has then
+/// the texts of the new screen. Who may see what is decided by a judge that keeps what was decided on these buffers. Where memory is
+/// refused to it, the screen is drawn as well.
 pub fn redraw_session<T: Marked + Drop>(
     buffers: &Buffers<T>,
     judge: &mut Judge,
