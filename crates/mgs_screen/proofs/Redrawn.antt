@@ -144,11 +144,11 @@ shown_unshifted d row other text p stand = stand ∙ unshifted p.cols row other 
 
 -- one text over another
 pub shown_over : (d : DrawnText) (row shift top from : ℕ) (old new : List ℕ) (p q r : Picture) → d.first ≤ length p.lines → q ≡ showing d row shift old p → r ≡ showing d top from new q → r ≡ showing d top from new p
-shown_over d row shift top from old new p q r begins first then =
+shown_over d row shift top from old new p q r begins first second =
     let olds : List Row = text_rows p.cols (shift_at row shift) 0 d.height (drop d.start old) in
     let news : List Row = text_rows p.cols (shift_at top from) 0 d.height (drop d.start new) in
     let size : length olds ≡ length news = length-text_rows p.cols (shift_at row shift) 0 d.height (drop d.start old) ∙ sym (length-text_rows p.cols (shift_at top from) 0 d.height (drop d.start new)) in
-    then
+    second
     ∙ ap (showing d top from new) first
     ∙ ap (λ (ls : List Row). record p { lines = ls }) (put_again d.first olds news p.lines size begins)
 

@@ -20,7 +20,7 @@ pub returns-in-Line-clause-grid : goal.returns-in-Line-clause-grid
 returns-in-Line-clause-grid g c = λ old stand change.
     let p : Picture = c.args.grid.now in
     let q : Picture = c.draw_line_of-shift.new.grid in
-    let r : Picture = c.shift_rows-2.new.grid in
+    let r : Picture = c.shift_rows-in-Line.new.grid in
     let d = c.args.drawn.now in
     let e = c.args.earlier.now in
     let shift : ℕ = c.draw_line_of-shift.result in
@@ -28,9 +28,9 @@ returns-in-Line-clause-grid g c = λ old stand change.
     let edited : IsLineEdited c.in-Line.down d.start old text = subst (λ (x : Change). IsChange x d.start old text) c.in-Line.is change in
     let begins : d.first ≤ length p.lines = omega (arith, c.requires.room, c.rows-rows.ensures.picture.count) in
     let first = c.draw_line_of-shift.ensures.grid old stand edited in
-    shown_over d e.row shift d.row d.shift text text p q r begins first (c.shift_rows-2.ensures.grid (shown_there d e.row shift text p q begins first))
+    shown_over d e.row shift d.row d.shift text text p q r begins first (c.shift_rows-in-Line.ensures.grid (shown_there d e.row shift text p q begins first))
 
 pub returns-in-Line-clause-apart : goal.returns-in-Line-clause-apart
 returns-in-Line-clause-apart g c =
-    same_then c.draw_line_of-shift.new.rows c.shift_rows-2.new.rows c.args.grid.now.lines c.draw_line_of-shift.new.grid.lines c.shift_rows-2.new.grid.lines
-    c.draw_line_of-shift.ensures.apart c.shift_rows-2.ensures.apart c.shift_rows-2.ensures.rows
+    same_then c.draw_line_of-shift.new.rows c.shift_rows-in-Line.new.rows c.args.grid.now.lines c.draw_line_of-shift.new.grid.lines c.shift_rows-in-Line.new.grid.lines
+    c.draw_line_of-shift.ensures.apart c.shift_rows-in-Line.ensures.apart c.shift_rows-in-Line.ensures.rows
