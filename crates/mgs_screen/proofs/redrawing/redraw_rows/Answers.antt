@@ -1,4 +1,4 @@
-use Rattle.std.proofs.Common.{◌≡◌, ◌≤◌, ◌+◌, ℕ, List, length, sym, subst, arith}
+use Rattle.std.proofs.Common.{◌≡◌, ◌≤◌, ℕ, List, length, sym, subst, arith}
 use Rattle.mgs_model.specs.Picture.{Picture}
 use Rattle.mgs_grid.proofs.RowSets.{same_then}
 use Rattle.mgs_screen.specs.Changes.{IsChange, IsLineEdited}

@@ -1,6 +1,6 @@
-use Rattle.std.proofs.Common.{◌≡◌, ℕ, List, drop, refl}
+use Rattle.std.proofs.Common.{ℕ, List, drop, refl}
 use Rattle.mgs_model.specs.Picture.{Picture}
-use Rattle.mgs_model.specs.Rows.{Row, text_rows, shift_at}
+use Rattle.mgs_model.specs.Rows.{text_rows, shift_at}
 use Rattle.mgs_screen.proofs.Redrawn.{row_shifted, shift_here, shown_already}
 use Rattle.mgs_screen.proofs.redrawing.shift_row.Goals as goal
 
