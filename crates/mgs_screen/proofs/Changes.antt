@@ -18,7 +18,7 @@ use Rattle.mgs_screen.specs.Changes.{IsLineEdited}
 -- LINES FURTHER DOWN
 
 -- where a line starts that is some lines below another
-pub start_below : (k i : ℕ) (text : List ℕ) → start_of (k + i) text ≡ start_of k text + start_of i (drop (start_of k text) text)
+start_below : (k i : ℕ) (text : List ℕ) → start_of (k + i) text ≡ start_of k text + start_of i (drop (start_of k text) text)
 start_below zero i text =
     let none : 0 + i ≡ i = omega arith in
     let sum : start_of i text ≡ 0 + start_of i text = omega arith in
@@ -48,12 +48,8 @@ start_below (suc k) i (c ∷ cs) =
           ∙ rw (ne_eqb c 10 n) (ap (λ m. 1 + start_of m cs) back ∙ ap (λ m. 1 + m) (start_below (suc k) i cs) ∙ sum ∙ ap (λ m. 1 + start_of (suc k) cs + start_of i (drop m (c ∷ cs))) (sym next))
     ]
 
-pub start_down : (above line start : ℕ) (text : List ℕ) → above ≤ line → start_of above text ≡ start → start_of line text ≡ start + start_of (line - above) (drop start text)
-start_down above line start text below from =
-    let down : line ≡ above + (line - above) = omega arith in
-    ap (λ n. start_of n text) down
-    ∙ start_below above (line - above) text
-    ∙ ap (λ n. n + start_of (line - above) (drop n text)) from
+pub start_down : (above down start : ℕ) (text : List ℕ) → start_of above text ≡ start → start_of (above + down) text ≡ start + start_of down (drop start text)
+start_down above down start text from = start_below above down text ∙ ap (λ n. n + start_of down (drop n text)) from
 
 -- LINE FEEDS
 

@@ -1,82 +1,156 @@
 -- Those rows of a text that changed are drawn, where the others stand.
-use Rattle.std.proofs.Common.{◌≡◌, ℕ, ◌+◌, ◌<◌, ◌≤◌, List, ◌++◌, Bool, length, drop, set, true, false, refl, sym, ap, subst, ◌∙◌, arith}
-use Rattle.std.proofs.lemmas.List.{set_past}
-use Rattle.mgs_model.specs.Lines.{start_of}
+use Rattle.std.proofs.Common.{◌≡◌, ℕ, zero, suc, ◌+◌, ◌<◌, ◌≤◌, List, [], ◌∷◌, ◌++◌, Bool, length, drop, set, true, false, refl, sym, ap, subst, ◌∙◌, arith}
+use Rattle.std.specs.Prelude.{◌==◌, if◌then◌else◌}
+use Rattle.std.specs.List.{before_first, after_first}
+use Rattle.std.proofs.lemmas.Bool.{eq-eqb, ne_eqb}
+use Rattle.std.proofs.lemmas.List.{append-nil, set_past}
+use Rattle.mgs_model.specs.Cells.{cells}
+use Rattle.mgs_model.specs.Lines.{is_feed, start_of}
 use Rattle.mgs_model.specs.Picture.{Picture}
-use Rattle.mgs_model.specs.Rows.{Row, rows_put, text_rows, shift_at}
+use Rattle.mgs_model.specs.Rows.{Row, rows_put, text_rows, shift_at, shown_row}
 use Rattle.mgs_grid.specs.Panes.{AreSameBut, IsDrawnBut, text_put}
 use Rattle.mgs_grid.specs.RowSets.{has_row, AreSameApart}
 use Rattle.mgs_grid.proofs.RowSets.{put_apart}
 use Rattle.mgs_grid.proofs.Edited.{edited_rows}
-use Rattle.mgs_grid.proofs.Panes.{same_put}
+use Rattle.mgs_grid.proofs.Panes.{put_again, same_put}
 use Rattle.mgs_grid.proofs.Pictures.{length-text_rows}
 use Rattle.mgs_screen.specs.Changes.{IsLineEdited}
-use Rattle.mgs_screen.specs.Sketches.{rows_at}
-use Rattle.mgs_screen.proofs.Sketches.{put_same, unshifted, unshifted_at}
+use Rattle.mgs_screen.specs.Sketches.{DoesShow, rows_at, showing}
+use Rattle.mgs_screen.specs.declared.sketch.DrawnText.{DrawnText}
+use Rattle.mgs_screen.proofs.Sketches.{length-rows_at, put_same, put_there}
 
--- where a line of a text changed, its row alone does
-rows_edited : (cols row h down start : ℕ) (old new : List ℕ) → IsLineEdited down start old new → AreSameBut down (text_rows cols (λ i. 0) 0 h (drop start old)) (text_rows cols (shift_at row 0) 0 h (drop start new))
-rows_edited cols row h down start old new e = λ r.
-    ap (λ (ys : List ℕ). set (text_rows cols (λ i. 0) 0 h ys) down r) e.was
-    ∙ ap (λ n. set (text_rows cols (λ i. 0) 0 h (e.before ++ (e.out ++ e.behind))) n r) e.lines
-    ∙ edited_rows cols (λ i. 0) (shift_at row 0) 0 h e.before e.out e.put e.behind e.none_out e.none_put (λ k other. sym (unshifted_at row k)) r
-    ∙ sym (ap (λ n. set (text_rows cols (shift_at row 0) 0 h (e.before ++ (e.put ++ e.behind))) n r) e.lines)
-    ∙ sym (ap (λ (ys : List ℕ). set (text_rows cols (shift_at row 0) 0 h ys) down r) e.came)
+-- FROM WHICH COLUMNS ROWS ARE SHOWN
 
--- the rows of a text that stand in a picture
-abbrev DoStand : ℕ → ℕ → List ℕ → Picture → Type 0
-DoStand first h rest p = rows_at first h p.lines ≡ text_rows p.cols (λ i. 0) 0 h rest
+pub shift_here : (row shift i : ℕ) → i ≡ row → shift ≡ shift_at row shift i
+shift_here row shift i here = rw (eq-eqb i row here) refl
 
-standing_put : (first h : ℕ) (rest : List ℕ) (p : Picture) → first + h ≤ length p.lines → DoStand first h rest p → rows_put first (text_rows p.cols (λ i. 0) 0 h rest) p.lines ≡ p.lines
-standing_put first h rest p fits stand = ap (λ (rs : List Row). rows_put first rs p.lines) (sym stand) ∙ put_same first h p.lines fits
+pub shift_elsewhere : (row shift i : ℕ) → (i ≡ row → ⊥) → 0 ≡ shift_at row shift i
+shift_elsewhere row shift i other = rw (ne_eqb i row other) refl
 
--- the row of the changed line is in sight
-pub but_one : (down start first h row from : ℕ) (old new : List ℕ) (p : Picture) → length p.lines ≡ p.rows → first + h ≤ p.rows → down < h
-    → DoStand first h (drop start old) p → from ≡ start + start_of down (drop start new) → IsLineEdited down start old new
-    → IsDrawnBut down (first + down) from 0 first h new start row 0 p
-but_one down start first h row from old new p count room within stand at e =
-    let olds : List Row = text_rows p.cols (λ i. 0) 0 h (drop start old) in
-    let news : List Row = text_rows p.cols (shift_at row 0) 0 h (drop start new) in
-    let size : length news ≡ h = length-text_rows p.cols (shift_at row 0) 0 h (drop start new) in
-    let long : length olds ≡ h = length-text_rows p.cols (λ i. 0) 0 h (drop start old) in
+pub shift_other : (row from to i : ℕ) → (i ≡ row → ⊥) → shift_at row from i ≡ shift_at row to i
+shift_other row from to i other = sym (shift_elsewhere row from i other) ∙ shift_elsewhere row to i other
+
+no_shift : (b : Bool) → ◌≡◌ {A = ℕ} (if b then 0 else 0) 0
+no_shift true = refl
+no_shift false = refl
+
+unshifted_at : (row i : ℕ) → shift_at row 0 i ≡ 0
+unshifted_at row i = no_shift (i == row)
+
+-- ROWS THAT ARE THE SAME BUT FOR ONE
+
+-- where one row is shown from another column
+rows_shifted : (cols j i h : ℕ) (olds news : ℕ → ℕ) (rest : List ℕ) → ((k : ℕ) → (k ≡ j + i → ⊥) → olds k ≡ news k) → AreSameBut i (text_rows cols olds j h rest) (text_rows cols news j h rest)
+rows_shifted cols j i zero olds news rest same = λ r. refl
+rows_shifted cols j zero (suc h) olds news rest same = edited_rows cols olds news j (suc h) [] [] [] rest refl refl same
+rows_shifted cols j (suc i) (suc h) olds news rest same =
+    let line : List ℕ = cells (before_first is_feed rest) in
+    let below : List ℕ = after_first is_feed rest in
+    let later = rows_shifted cols (j + 1) i h olds news below (λ k other. same k (λ at. other (omega (arith, at)))) in
+    λ r.
+    ap (λ s. let first : Row = record { text = shown_row cols s line; reversed = false } in first ∷ set (text_rows cols olds (j + 1) h below) i r) (same j (λ at. omega (arith, at)))
+    ∙ ap (λ (rs : List Row). let first : Row = record { text = shown_row cols (news j) line; reversed = false } in first ∷ rs) (later r)
+
+pub row_shifted : (cols row from to h : ℕ) (rest : List ℕ) → AreSameBut row (text_rows cols (shift_at row from) 0 h rest) (text_rows cols (shift_at row to) 0 h rest)
+row_shifted cols row from to h rest = rows_shifted cols 0 row h (shift_at row from) (shift_at row to) rest (λ k other. shift_other row from to k (λ at. other (omega (arith, at))))
+
+-- where a line of the text changed
+pub rows_edited : (cols row from to h down start : ℕ) (old new : List ℕ) → ((k : ℕ) → (k ≡ down → ⊥) → shift_at row from k ≡ shift_at row to k) → IsLineEdited down start old new
+    → AreSameBut down (text_rows cols (shift_at row from) 0 h (drop start old)) (text_rows cols (shift_at row to) 0 h (drop start new))
+rows_edited cols row from to h down start old new same e = λ r.
+    ap (λ (ys : List ℕ). set (text_rows cols (shift_at row from) 0 h ys) down r) e.was
+    ∙ ap (λ n. set (text_rows cols (shift_at row from) 0 h (e.before ++ (e.out ++ e.behind))) n r) e.lines
+    ∙ edited_rows cols (shift_at row from) (shift_at row to) 0 h e.before e.out e.put e.behind e.none_out e.none_put (λ k other. same k (λ at. other (omega (arith, at, e.lines)))) r
+    ∙ sym (ap (λ n. set (text_rows cols (shift_at row to) 0 h (e.before ++ (e.put ++ e.behind))) n r) e.lines)
+    ∙ sym (ap (λ (ys : List ℕ). set (text_rows cols (shift_at row to) 0 h ys) down r) e.came)
+
+-- where that one is none of them
+same_past : (i : ℕ) (olds news : List Row) → length olds ≤ i → length news ≤ i → AreSameBut i olds news → news ≡ olds
+same_past i olds news old new same =
+    let blank : Row = record { text = []; reversed = false } in
+    sym (set_past news i blank new) ∙ sym (same blank) ∙ set_past olds i blank old
+
+unshifted : (cols row other h : ℕ) (rest : List ℕ) → text_rows cols (shift_at row 0) 0 h rest ≡ text_rows cols (shift_at other 0) 0 h rest
+unshifted cols row other h rest =
+    let rows : List Row = text_rows cols (shift_at row 0) 0 h rest in
+    let others : List Row = text_rows cols (shift_at other 0) 0 h rest in
+    same_past h others rows (omega (arith, length-text_rows cols (shift_at other 0) 0 h rest)) (omega (arith, length-text_rows cols (shift_at row 0) 0 h rest))
+    (rows_shifted cols 0 h h (shift_at other 0) (shift_at row 0) rest (λ k past. unshifted_at other k ∙ sym (unshifted_at row k)))
+
+-- A ROW THAT IS DRAWN WHERE THE OTHERS STAND
+
+standing_put : (first h : ℕ) (olds : List Row) (p : Picture) → first + h ≤ length p.lines → rows_at first h p.lines ≡ olds → rows_put first olds p.lines ≡ p.lines
+standing_put first h olds p fits stand = ap (λ (rs : List Row). rows_put first rs p.lines) (sym stand) ∙ put_same first h p.lines fits
+
+length_standing : (first h : ℕ) (olds : List Row) (p : Picture) → first + h ≤ length p.lines → rows_at first h p.lines ≡ olds → length olds ≡ h
+length_standing first h olds p fits stand = ap length (sym stand) ∙ length-rows_at first h p.lines fits
+
+-- it is in sight
+pub but_one : (i first h top at row shift from : ℕ) (text : List ℕ) (olds : List Row) (p : Picture) → length p.lines ≡ p.rows → first + h ≤ p.rows → i < h
+    → at ≡ top + start_of i (drop top text) → from ≡ shift_at row shift i
+    → rows_at first h p.lines ≡ olds → AreSameBut i olds (text_rows p.cols (shift_at row shift) 0 h (drop top text))
+    → IsDrawnBut i (first + i) at from first h text top row shift p
+but_one i first h top at row shift from text olds p count room within line column stand same =
+    let news : List Row = text_rows p.cols (shift_at row shift) 0 h (drop top text) in
+    let size : length news ≡ h = length-text_rows p.cols (shift_at row shift) 0 h (drop top text) in
+    let long : length olds ≡ h = length_standing first h olds p (omega (arith, count, room)) stand in
     record {
       place = refl;
       within = within;
       fits = room;
-      line = at;
-      column = sym (unshifted_at row down);
+      line = line;
+      column = column;
       others = λ r.
-          ap (λ (ls : List Row). set ls (first + down) r) (sym (standing_put first h (drop start old) p (omega (arith, count, room)) stand))
-          ∙ same_put first down olds news p.lines (long ∙ sym size) (omega (arith, size, within)) (omega (arith, count, room)) (rows_edited p.cols row h down start old new e) r;
+          ap (λ (ls : List Row). set ls (first + i) r) (sym (standing_put first h olds p (omega (arith, count, room)) stand))
+          ∙ same_put first i olds news p.lines (long ∙ sym size) (omega (arith, size, within)) (omega (arith, count, room)) same r;
     }
 
 -- the same picture, where the rows are the same
 same_picture : (p : Picture) (ls : List Row) → ls ≡ p.lines → p ≡ record p { lines = ls }
 same_picture p ls e = ap (λ (rs : List Row). record p { lines = rs }) (sym e)
 
-pub same_text : (first h start row : ℕ) (old new : List ℕ) (p : Picture) → length p.lines ≡ p.rows → first + h ≤ p.rows → DoStand first h (drop start old) p → new ≡ old → p ≡ record p { lines = text_put first h row 0 (drop start new) p }
-same_text first h start row old new p count room stand same =
-    same_picture p (text_put first h row 0 (drop start new) p) (
-    ap (λ (rs : List Row). rows_put first rs p.lines) (unshifted p.cols row 0 h (drop start new))
-    ∙ ap (λ (ys : List ℕ). rows_put first (text_rows p.cols (λ i. 0) 0 h (drop start ys)) p.lines) same
-    ∙ standing_put first h (drop start old) p (omega (arith, count, room)) stand)
-
 -- it is out of sight
-pub out_of_sight : (down start first h row : ℕ) (old new : List ℕ) (p : Picture) → length p.lines ≡ p.rows → first + h ≤ p.rows → h ≤ down
-    → DoStand first h (drop start old) p → IsLineEdited down start old new → p ≡ record p { lines = text_put first h row 0 (drop start new) p }
-out_of_sight down start first h row old new p count room past stand e =
-    let olds : List Row = text_rows p.cols (λ i. 0) 0 h (drop start old) in
-    let news : List Row = text_rows p.cols (shift_at row 0) 0 h (drop start new) in
-    let size : length news ≡ h = length-text_rows p.cols (shift_at row 0) 0 h (drop start new) in
-    let long : length olds ≡ h = length-text_rows p.cols (λ i. 0) 0 h (drop start old) in
-    let blank : Row = record { text = old; reversed = false } in
-    let same : news ≡ olds =
-    sym (set_past news down blank (omega (arith, size, past)))
-    ∙ sym (rows_edited p.cols row h down start old new e blank)
-    ∙ set_past olds down blank (omega (arith, long, past)) in
-    same_picture p (text_put first h row 0 (drop start new) p) (
-    ap (λ (rs : List Row). rows_put first rs p.lines) same
-    ∙ standing_put first h (drop start old) p (omega (arith, count, room)) stand)
+pub out_of_sight : (i first h top row shift : ℕ) (text : List ℕ) (olds : List Row) (p : Picture) → length p.lines ≡ p.rows → first + h ≤ p.rows → h ≤ i
+    → rows_at first h p.lines ≡ olds → AreSameBut i olds (text_rows p.cols (shift_at row shift) 0 h (drop top text)) → p ≡ record p { lines = text_put first h row shift (drop top text) p }
+out_of_sight i first h top row shift text olds p count room past stand same =
+    let news : List Row = text_rows p.cols (shift_at row shift) 0 h (drop top text) in
+    let size : length news ≡ h = length-text_rows p.cols (shift_at row shift) 0 h (drop top text) in
+    let long : length olds ≡ h = length_standing first h olds p (omega (arith, count, room)) stand in
+    same_picture p (text_put first h row shift (drop top text) p) (
+    ap (λ (rs : List Row). rows_put first rs p.lines) (same_past i olds news (omega (arith, long, past)) (omega (arith, size, past)) same)
+    ∙ standing_put first h olds p (omega (arith, count, room)) stand)
+
+-- A TEXT THAT IS SHOWN
+
+-- already
+pub shown_already : (d : DrawnText) (row from to : ℕ) (text : List ℕ) (p : Picture) → length p.lines ≡ p.rows → d.first + d.height ≤ p.rows → from ≡ to → DoesShow d row from text p → p ≡ showing d row to text p
+shown_already d row from to text p count room same stand =
+    same_picture p (text_put d.first d.height row to (drop d.start text) p) (
+    standing_put d.first d.height (text_rows p.cols (shift_at row to) 0 d.height (drop d.start text)) p (omega (arith, count, room))
+    (stand ∙ ap (λ n. text_rows p.cols (shift_at row n) 0 d.height (drop d.start text)) same))
+
+-- it is there
+pub shown_there : (d : DrawnText) (row shift : ℕ) (text : List ℕ) (p q : Picture) → d.first ≤ length p.lines → q ≡ showing d row shift text p → DoesShow d row shift text q
+shown_there d row shift text p q begins is =
+    let new : List Row = text_rows p.cols (shift_at row shift) 0 d.height (drop d.start text) in
+    ap (λ (x : Picture). rows_at d.first d.height x.lines) is
+    ∙ ap (λ (rs : List Row). rows_at d.first d.height (rows_put d.first rs p.lines)) (sym (append-nil new))
+    ∙ put_there d.first d.height new [] p.lines begins (length-text_rows p.cols (shift_at row shift) 0 d.height (drop d.start text))
+    ∙ ap (λ n. text_rows n (shift_at row shift) 0 d.height (drop d.start text)) (sym (ap (λ (x : Picture). x.cols) is))
+
+-- where no row is shifted, any row is shown from column 0
+pub shown_unshifted : (d : DrawnText) (row other : ℕ) (text : List ℕ) (p : Picture) → DoesShow d row 0 text p → DoesShow d other 0 text p
+shown_unshifted d row other text p stand = stand ∙ unshifted p.cols row other d.height (drop d.start text)
+
+-- one text over another
+pub shown_over : (d : DrawnText) (row shift top from : ℕ) (old new : List ℕ) (p q r : Picture) → d.first ≤ length p.lines → q ≡ showing d row shift old p → r ≡ showing d top from new q → r ≡ showing d top from new p
+shown_over d row shift top from old new p q r begins first second =
+    let olds : List Row = text_rows p.cols (shift_at row shift) 0 d.height (drop d.start old) in
+    let news : List Row = text_rows p.cols (shift_at top from) 0 d.height (drop d.start new) in
+    let size : length olds ≡ length news = length-text_rows p.cols (shift_at row shift) 0 d.height (drop d.start old) ∙ sym (length-text_rows p.cols (shift_at top from) 0 d.height (drop d.start new)) in
+    second
+    ∙ ap (showing d top from new) first
+    ∙ ap (λ (ls : List Row). record p { lines = ls }) (put_again d.first olds news p.lines size begins)
 
 -- WHICH ROWS WERE DRAWN
 

@@ -1,22 +1,18 @@
 -- What a sketch says stays true.
-use Rattle.std.proofs.Common.{◌≡◌, ℕ, zero, suc, ◌+◌, ◌≤◌, Bool, true, false, List, [], ◌∷◌, ◌++◌, length, take, drop, Some, None, inl, inr, refl, sym, ap, subst, ◌∙◌, arith, append_assoc, length-append, length-drop}
+use Rattle.std.proofs.Common.{◌≡◌, ℕ, zero, suc, ◌+◌, ◌≤◌, Bool, true, false, List, [], ◌∷◌, ◌++◌, length, take, drop, Some, None, inl, inr, sym, ap, subst, ◌∙◌, arith, append_assoc, length-append, length-drop}
 use Rattle.std.specs.Prelude.{Option, slice_get, if◌then◌else◌, ◌⊎◌, ◌==◌}
-use Rattle.std.specs.List.{before_first, after_first}
 use Rattle.std.proofs.Math.Seq.{take-append_seam, drop-append-add}
-use Rattle.std.proofs.lemmas.Bool.{eqb-true}
-use Rattle.std.proofs.lemmas.Option.{same_Some, none-some, cond_some}
+use Rattle.std.proofs.lemmas.Option.{same_Some, none-some}
 use Rattle.std.proofs.lemmas.List.{take-append-drop, drop-drop, drop-take, length-take-le}
 use Rattle.mgs_model.specs.Apart.{AreFollowed}
-use Rattle.mgs_model.specs.Cells.{cells}
-use Rattle.mgs_model.specs.Lines.{is_feed}
 use Rattle.mgs_model.specs.Picture.{Picture}
-use Rattle.mgs_model.specs.Rows.{Row, rows_put, text_rows, shift_at, shown_row}
+use Rattle.mgs_model.specs.Rows.{Row, rows_put, text_rows, shift_at}
 use Rattle.mgs_model.specs.World.{Buffer, find_buffer}
 use Rattle.mgs_model.proofs.Follow.{follows_then, follows_same}
 use Rattle.mgs_grid.proofs.Panes.{above_put, below_put}
 use Rattle.mgs_grid.proofs.Pictures.{length-rows_put, length-text_rows}
 use Rattle.mgs_screen.specs.declared.sketch.DrawnText.{DrawnText}
-use Rattle.mgs_screen.specs.Sketches.{Stands, AreStanding, AreStandingAbove, AreStandingFrom, rows_at, pushed}
+use Rattle.mgs_screen.specs.Sketches.{Stands, AreStanding, AreStandingAbove, AreStandingFrom, DoesShow, rows_at, pushed}
 
 -- where there is no text
 pub standing_none : (bs : List Buffer) (p : Picture) → AreStanding bs p []
@@ -56,11 +52,14 @@ put_there first height new more old begins size =
     ∙ ap (take (length new)) (append_assoc new more rest)
     ∙ take-append_seam new (more ++ rest)
 
+pub length-rows_at : (first height : ℕ) (lines : List Row) → first + height ≤ length lines → length (rows_at first height lines) ≡ height
+length-rows_at first height lines fits = length-take-le height (drop first lines) (omega (arith, length-drop first lines, fits))
+
 -- rows in their own place
 pub put_same : (first height : ℕ) (lines : List Row) → first + height ≤ length lines → rows_put first (rows_at first height lines) lines ≡ lines
 put_same first height lines fits =
     let rows : List Row = take height (drop first lines) in
-    let size : length rows ≡ height = length-take-le height (drop first lines) (omega (arith, length-drop first lines, fits)) in
+    let size : length rows ≡ height = length-rows_at first height lines fits in
     ap (λ n. take first lines ++ rows ++ drop (first + n) lines) size
     ∙ ap (λ (ls : List Row). take first lines ++ rows ++ ls) (sym (drop-drop height first lines))
     ∙ append_assoc (take first lines) rows (drop height (drop first lines))
@@ -84,7 +83,7 @@ stands_moved bs p q d wide long same s = record {
   size = s.size;
   start = s.start;
   fits = omega (arith, s.fits, long);
-  rows = same ∙ s.rows ∙ ap (λ n. text_rows n (λ i. 0) 0 d.height (drop d.start s.drawn.text)) (sym wide);
+  rows = same ∙ s.rows ∙ ap (λ n. text_rows n (shift_at d.row d.shift) 0 d.height (drop d.start s.drawn.text)) (sym wide);
   now = s.now;
   found = s.found;
   follows = s.follows;
@@ -155,30 +154,16 @@ above_pushed k m bs p ds o lower s more = record {
 
 -- A TEXT THAT IS DRAWN
 
-no_shift : (b : Bool) → ◌≡◌ {A = ℕ} (if b then 0 else 0) 0
-no_shift true = refl
-no_shift false = refl
-
-pub unshifted_at : (row i : ℕ) → shift_at row 0 i ≡ 0
-unshifted_at row i = no_shift (i == row)
-
--- a row that is shifted by nothing
-pub unshifted : (cols row j h : ℕ) (rest : List ℕ) → text_rows cols (shift_at row 0) j h rest ≡ text_rows cols (λ i. 0) j h rest
-unshifted cols row j zero rest = refl
-unshifted cols row j (suc h) rest =
-    ap (λ s. let r : Row = record { text = shown_row cols s (cells (before_first is_feed rest)); reversed = false } in r ∷ text_rows cols (shift_at row 0) (j + 1) h (after_first is_feed rest)) (unshifted_at row j)
-    ∙ ap (λ (rs : List Row). let r : Row = record { text = shown_row cols 0 (cells (before_first is_feed rest)); reversed = false } in r ∷ rs) (unshifted cols row (j + 1) h (after_first is_feed rest))
-
 -- it stands
-pub stands_drawn : (bs : List Buffer) (q : Picture) (d : DrawnText) (b : Buffer) (row : ℕ) → find_buffer d.name bs ≡ Some b → d.serial ≡ b.serial → d.size ≡ length b.text → d.start ≤ length b.text → d.first + d.height ≤ length q.lines
-    → rows_at d.first d.height q.lines ≡ text_rows q.cols (shift_at row 0) 0 d.height (drop d.start b.text) → Stands bs q d
-stands_drawn bs q d b row found serial size start fits rows = record {
+pub stands_drawn : (bs : List Buffer) (q : Picture) (d : DrawnText) (b : Buffer) → find_buffer d.name bs ≡ Some b → d.serial ≡ b.serial → d.size ≡ length b.text → d.start ≤ length b.text → d.first + d.height ≤ length q.lines
+    → DoesShow d d.row d.shift b.text q → Stands bs q d
+stands_drawn bs q d b found serial size start fits rows = record {
   drawn = b;
   serial = sym serial;
   size = sym size;
   start = start;
   fits = fits;
-  rows = rows ∙ unshifted q.cols row 0 d.height (drop d.start b.text);
+  rows = rows;
   now = b;
   found = found;
   follows = follows_same b;
@@ -194,28 +179,24 @@ texts_passed bs p q first k new ds es put lower is s =
     above_pushed first k bs q ds None lower (above_stay bs p q first first new ds put (omega arith) s) (λ d none. absurd (none-some d none)))
 
 -- it shows a text
-pub texts_kept : (bs : List Buffer) (p q : Picture) (d : DrawnText) (b : Buffer) (text : List ℕ) (row shift : ℕ) (mode : Row) (ds es : List (Option DrawnText))
-    → IsPut d.first (text_rows p.cols (shift_at row shift) 0 d.height (drop d.start text) ++ mode ∷ []) p q
-    → find_buffer d.name bs ≡ Some b → d.serial ≡ b.serial → d.size ≡ length text → d.start ≤ length text → text ≡ b.text → es ≡ pushed (if shift == 0 then Some d else None) ds
+pub texts_kept : (bs : List Buffer) (p q : Picture) (d : DrawnText) (b : Buffer) (text : List ℕ) (mode : Row) (ds es : List (Option DrawnText))
+    → IsPut d.first (text_rows p.cols (shift_at d.row d.shift) 0 d.height (drop d.start text) ++ mode ∷ []) p q
+    → find_buffer d.name bs ≡ Some b → d.serial ≡ b.serial → d.size ≡ length text → d.start ≤ length text → text ≡ b.text → es ≡ pushed (Some d) ds
     → AreStandingAbove d.first bs p ds → AreStandingAbove (d.first + (d.height + 1)) bs q es
-texts_kept bs p q d b text row shift mode ds es put found serial size start same is s =
-    let pane : List Row = text_rows p.cols (shift_at row shift) 0 d.height (drop d.start text) in
-    let high : length pane ≡ d.height = length-text_rows p.cols (shift_at row shift) 0 d.height (drop d.start text) in
+texts_kept bs p q d b text mode ds es put found serial size start same is s =
+    let pane : List Row = text_rows p.cols (shift_at d.row d.shift) 0 d.height (drop d.start text) in
+    let high : length pane ≡ d.height = length-text_rows p.cols (shift_at d.row d.shift) 0 d.height (drop d.start text) in
     let long : ℕ = length q.lines in
     let fits : d.first + d.height ≤ long = omega (arith, put_long d.first (pane ++ mode ∷ []) p q put, put.fits, length-append pane (mode ∷ []), high) in
     let there : rows_at d.first d.height q.lines ≡ pane =
     ap (rows_at d.first d.height) put.lines ∙ put_there d.first d.height pane (mode ∷ []) p.lines (omega (arith, put.fits)) high in
-    let now : shift ≡ 0 → Stands bs q d = λ none.
-    stands_drawn bs q d b row found serial (size ∙ ap length same) (omega (arith, start, ap length same)) fits (
+    let now : Stands bs q d =
+    stands_drawn bs q d b found serial (size ∙ ap length same) (omega (arith, start, ap length same)) fits (
     there
-    ∙ ap (λ n. text_rows p.cols (shift_at row n) 0 d.height (drop d.start text)) none
-    ∙ ap (λ n. text_rows n (shift_at row 0) 0 d.height (drop d.start text)) (sym put.wide)
-    ∙ ap (λ (ys : List ℕ). text_rows q.cols (shift_at row 0) 0 d.height (drop d.start ys)) same) in
+    ∙ ap (λ n. text_rows n (shift_at d.row d.shift) 0 d.height (drop d.start text)) (sym put.wide)
+    ∙ ap (λ (ys : List ℕ). text_rows q.cols (shift_at d.row d.shift) 0 d.height (drop d.start ys)) same) in
     let k : ℕ = d.first + (d.height + 1) in
-    let o : Option DrawnText = if shift == 0 then Some d else None in
-    subst (λ (xs : List (Option DrawnText)). AreStandingAbove k bs q xs) (sym is) (
-    above_pushed d.first k bs q ds o (omega arith) (above_stay bs p q d.first d.first (pane ++ mode ∷ []) ds put (omega arith) s)
-    (λ e kept.
-    let both = cond_some (shift == 0) d e kept in
     let inside : d.first + d.height ≤ k = omega arith in
-    subst (λ (x : DrawnText). Stands bs q x × (x.first + x.height ≤ k)) both.1 (now (eqb-true shift 0 both.0), inside)))
+    subst (λ (xs : List (Option DrawnText)). AreStandingAbove k bs q xs) (sym is) (
+    above_pushed d.first k bs q ds (Some d) (omega arith) (above_stay bs p q d.first d.first (pane ++ mode ∷ []) ds put (omega arith) s)
+    (λ e kept. subst (λ (x : DrawnText). Stands bs q x × (x.first + x.height ≤ k)) (same_Some d e kept) (now, inside)))

@@ -1,6 +1,6 @@
 -- What has become of the rows of a text.
-use Rattle.std.specs.Prelude.{◌≡◌, ℕ, ◌+◌, ◌≤◌, List, ◌++◌, drop, count_by}
-use Rattle.mgs_model.specs.Lines.{is_feed, start_of}
+use Rattle.std.specs.Prelude.{◌≡◌, ℕ, List, ◌++◌, drop, count_by}
+use Rattle.mgs_model.specs.Lines.{is_feed}
 use Rattle.mgs_screen.specs.declared.change.Change.{Change}
 use Rattle.mgs_screen.specs.declared.change.Change.TheVariants.{Nothing, Line, Anything}
 
@@ -18,11 +18,5 @@ pub record IsLineEdited (down start : ℕ) (old new : List ℕ) : Type 0 where
 
 abbrev pub IsChange : Change → ℕ → List ℕ → List ℕ → Type 0
 IsChange Nothing start old new = new ≡ old
-IsChange (Line down at) start old new = (at ≡ start + start_of down (drop start new)) × IsLineEdited down start old new
+IsChange (Line down) start old new = IsLineEdited down start old new
 IsChange Anything start old new = Unit {0}
-
--- the line that changed starts within a text of this length
-abbrev pub IsChangeIn : ℕ → Change → Type 0
-IsChangeIn n Nothing = Unit {0}
-IsChangeIn n (Line down at) = at ≤ n
-IsChangeIn n Anything = Unit {0}

@@ -1,11 +1,11 @@
 // What has become of the rows of a text since it was drawn.
 ghost use Rattle.std.specs.Prelude.{◌≡◌, ℕ, ◌+◌, ◌≤◌, List, true, length, count_by};
 ghost use Rattle.mgs_model.specs.Apart.{IsEditedOnce, Follows};
-ghost use Rattle.mgs_model.specs.Lines.{is_feed, line_of, start_of};
+ghost use Rattle.mgs_model.specs.Lines.{is_feed, line_of};
 ghost use Rattle.mgs_model.specs.World.{Buffer};
 ghost use Rattle.mgs_buffers.specs.MarkedBuffer.{marked_at};
 ghost use Rattle.mgs_undo.specs.Numbered.{item_of};
-ghost use Rattle.mgs_screen.specs.Changes.{IsChange, IsChangeIn};
+ghost use Rattle.mgs_screen.specs.Changes.{IsChange};
 
 use crate::sketch::DrawnText;
 use mgs_buffers::Found;
@@ -21,8 +21,8 @@ const FEW: usize = 80;
 pub(crate) enum Change {
     /// The text is the same.
     Nothing,
-    /// One line alone is another one: it is so many lines further down, and starts there.
-    Line { down: usize, start: usize },
+    /// One line alone is another one: it is so many lines further down.
+    Line(usize),
     /// Each row may show something else.
     Anything,
 }
@@ -44,11 +44,8 @@ fn fits(at: usize, removed: usize, added: usize, size: usize, len: usize) -> boo
 
 /// What an edit made of a text that has now these characters and had `size` of them. Line `above` starts at `start`.
 fn change_by<T: Text>(edit: &Edit, text: &T, start: usize, above: usize, size: usize) -> Change
-    requires within { start ≤ length (T.text text.now) }
-    requires above { line_of (T.text text.now) start ≡ above }
-    requires start { start_of above (T.text text.now) ≡ start }
-    ensures within { IsChangeIn (length (T.text text.now)) result }
-    ensures change { (old new : Buffer) (serial : ℕ) (e : IsEditedOnce old new) → e.item ≡ item_of serial edit.now → new.text ≡ T.text text.now → length old.text ≡ size → IsChange result start old.text (T.text text.now) }
+    requires { line_of (T.text text.now) start ≡ above }
+    ensures { (old new : Buffer) (serial : ℕ) (e : IsEditedOnce old new) → e.item ≡ item_of serial edit.now → new.text ≡ T.text text.now → length old.text ≡ size → IsChange result start old.text (T.text text.now) }
 {
     let len = text.len();
     if edit.at < start {
@@ -64,10 +61,7 @@ fn change_by<T: Text>(edit: &Edit, text: &T, start: usize, above: usize, size: u
     if text.line_of(edit.at + edit.added) != line {
         return Change::Anything;
     }
-    Change::Line {
-        down: line - above,
-        start: text.start_of(line),
-    }
+    Change::Line(line - above)
 }
 
 /// What has become of a buffer's text since it had this serial and so many characters.
@@ -81,11 +75,8 @@ pub(crate) fn change_since<T: Marked + Drop>(
 ) -> Change
     requires text { T.text text.now ≡ (marked_at found.now.name found.now.all).buffer.text }
     requires serial { drawn.now.serial ≡ (marked_at found.now.name found.now.all).buffer.serial }
-    requires within { drawn.now.start ≤ length (T.text text.now) }
     requires above { line_of (T.text text.now) drawn.now.start ≡ above }
-    requires start { start_of above (T.text text.now) ≡ drawn.now.start }
-    ensures within { IsChangeIn (length (T.text text.now)) result }
-    ensures change { (old : Buffer) → old.serial ≡ serial → length old.text ≡ size → Follows old (marked_at found.now.name found.now.all).buffer → IsChange result drawn.now.start old.text (T.text text.now) }
+    ensures { (old : Buffer) → old.serial ≡ serial → length old.text ≡ size → Follows old (marked_at found.now.name found.now.all).buffer → IsChange result drawn.now.start old.text (T.text text.now) }
 {
     if drawn.serial == serial {
         return Change::Nothing;

@@ -1,90 +1,207 @@
 // The rows of a text, drawn where those of an earlier one stand.
 ghost use Rattle.std.specs.Prelude.{◌≡◌, ◌+◌, ◌≤◌, ◌<◌, ◌^◌, ℕ, List, length, drop};
 ghost use Rattle.mgs_model.specs.Lines.{line_of, start_of};
-ghost use Rattle.mgs_model.specs.Rows.{text_rows};
+ghost use Rattle.mgs_model.specs.Rows.{Row, text_rows, shift_at};
 ghost use Rattle.mgs_world.specs.Worlds.{buffers_of};
 ghost use Rattle.mgs_buffers.specs.MarkedBuffer.{HasBuffer, marked_at};
-ghost use Rattle.mgs_grid.specs.Panes.{text_put};
+ghost use Rattle.mgs_grid.specs.Panes.{AreSameBut};
 ghost use Rattle.mgs_grid.specs.RowSets.{AreIn, AreSameApart};
-ghost use Rattle.mgs_screen.specs.Changes.{IsChange, IsChangeIn, IsLineEdited};
-ghost use Rattle.mgs_screen.specs.Sketches.{AreStandingFrom, rows_at};
+ghost use Rattle.mgs_screen.specs.Changes.{IsChange, IsLineEdited};
+ghost use Rattle.mgs_screen.specs.Sketches.{AreStandingFrom, DoesShow, rows_at, showing};
 
 use crate::change::{Change, change_since};
-use crate::measuring::Measures;
-use crate::sketch::{DrawnText, Sketch};
+use crate::sketch::{DrawnText, Earlier, Sketch};
 use mgs_buffers::Found;
 use mgs_grid::{Grid, RowSet};
 use mgs_marks::Marked;
 use mgs_text::Text;
 
-/// Draws the rows of a text, of which row `row` is shown from column `shift`.
-fn draw_rows_of<T: Text>(
+/// Draws all rows of a text.
+fn draw_rows_of<T: Text>(text: &T, drawn: &DrawnText, rows: &mut RowSet, grid: &mut Grid)
+    requires room { drawn.now.first + drawn.now.height ≤ grid.old.rows }
+    requires within { drawn.now.start ≤ length (T.text text.now) }
+    requires short { length (T.text text.now) < 2 ^ 32 }
+    requires shift { drawn.now.shift < 2 ^ 62 }
+    ensures grid { grid.new ≡ showing drawn.now drawn.now.row drawn.now.shift (T.text text.now) grid.old }
+    ensures rows { AreIn rows.old rows.new }
+    ensures apart { AreSameApart rows.new grid.old.lines grid.new.lines }
+{
+    let _rows = grid.rows();
+    grid.draw_text(
+        drawn.first,
+        drawn.height,
+        text,
+        drawn.start,
+        drawn.row,
+        drawn.shift,
+    );
+    rows.insert_rows(drawn.first, drawn.height);
+}
+
+/// Draws one row of a text, whose first row shows line `above`, from a column. Where it is out of sight there is nothing to draw.
+fn draw_row_of<T: Text>(
     text: &T,
     drawn: &DrawnText,
+    above: usize,
     row: usize,
     shift: usize,
     rows: &mut RowSet,
     grid: &mut Grid,
 )
     requires room { drawn.now.first + drawn.now.height ≤ grid.old.rows }
-    requires within { drawn.now.start ≤ length (T.text text.now) }
     requires short { length (T.text text.now) < 2 ^ 32 }
+    requires few { above < 2 ^ 32 }
+    requires start { start_of above (T.text text.now) ≡ drawn.now.start }
     requires shift { shift < 2 ^ 62 }
-    ensures grid { grid.new ≡ record grid.old { lines = text_put drawn.now.first drawn.now.height row shift (drop drawn.now.start (T.text text.now)) grid.old } }
+    ensures grid { (top from : ℕ) (olds : List Row) → shift ≡ shift_at top from row → rows_at drawn.now.first drawn.now.height grid.old.lines ≡ olds → AreSameBut row olds (text_rows grid.old.cols (shift_at top from) 0 drawn.now.height (drop drawn.now.start (T.text text.now))) → grid.new ≡ showing drawn.now top from (T.text text.now) grid.old }
+    ensures size { grid.new.rows ≡ grid.old.rows }
     ensures rows { AreIn rows.old rows.new }
     ensures apart { AreSameApart rows.new grid.old.lines grid.new.lines }
 {
     let _rows = grid.rows();
-    grid.draw_text(drawn.first, drawn.height, text, drawn.start, row, shift);
-    rows.insert_rows(drawn.first, drawn.height);
+    if row >= drawn.height {
+        return;
+    }
+    let start = text.start_of(above + row);
+    grid.draw_text_row(drawn.first + row, text, start, shift);
+    rows.insert(drawn.first + row);
 }
 
-/// Draws the row of the one line that changed in a text whose other rows stand already.
-fn draw_line_of<T: Text>(
+/// Shows row `row` of a text that stands from column `to`. It is shown from column `from` before.
+fn shift_row<T: Text>(
     text: &T,
     drawn: &DrawnText,
-    down: usize,
-    start: usize,
+    above: usize,
+    row: usize,
+    from: usize,
+    to: usize,
     rows: &mut RowSet,
     grid: &mut Grid,
 )
     requires room { drawn.now.first + drawn.now.height ≤ grid.old.rows }
-    requires within { start ≤ length (T.text text.now) }
     requires short { length (T.text text.now) < 2 ^ 32 }
-    ensures grid { (row : ℕ) (old : List ℕ) → rows_at drawn.now.first drawn.now.height grid.old.lines ≡ text_rows grid.old.cols (λ i. 0) 0 drawn.now.height (drop drawn.now.start old) → start ≡ drawn.now.start + start_of down (drop drawn.now.start (T.text text.now)) → IsLineEdited down drawn.now.start old (T.text text.now) → grid.new ≡ record grid.old { lines = text_put drawn.now.first drawn.now.height row 0 (drop drawn.now.start (T.text text.now)) grid.old } }
+    requires few { above < 2 ^ 32 }
+    requires start { start_of above (T.text text.now) ≡ drawn.now.start }
+    requires shift { to < 2 ^ 62 }
+    ensures grid { DoesShow drawn.now row from (T.text text.now) grid.old → grid.new ≡ showing drawn.now row to (T.text text.now) grid.old }
+    ensures size { grid.new.rows ≡ grid.old.rows }
     ensures rows { AreIn rows.old rows.new }
     ensures apart { AreSameApart rows.new grid.old.lines grid.new.lines }
 {
     let _rows = grid.rows();
-    if down >= drawn.height {
+    if from == to {
         return;
     }
-    grid.draw_text_row(drawn.first + down, text, start, 0);
-    rows.insert(drawn.first + down);
+    draw_row_of(text, drawn, above, row, to, rows, grid);
 }
 
-/// Draws those rows of a text that changed since they were drawn.
+/// Shows a text that stands, of which row `row` is shown from column `shift`, with its own row shifted.
+fn shift_rows<T: Text>(
+    text: &T,
+    drawn: &DrawnText,
+    above: usize,
+    row: usize,
+    shift: usize,
+    rows: &mut RowSet,
+    grid: &mut Grid,
+)
+    requires room { drawn.now.first + drawn.now.height ≤ grid.old.rows }
+    requires short { length (T.text text.now) < 2 ^ 32 }
+    requires few { above < 2 ^ 32 }
+    requires start { start_of above (T.text text.now) ≡ drawn.now.start }
+    requires shift { drawn.now.shift < 2 ^ 62 }
+    ensures grid { DoesShow drawn.now row shift (T.text text.now) grid.old → grid.new ≡ showing drawn.now drawn.now.row drawn.now.shift (T.text text.now) grid.old }
+    ensures rows { AreIn rows.old rows.new }
+    ensures apart { AreSameApart rows.new grid.old.lines grid.new.lines }
+{
+    let _rows = grid.rows();
+    if row == drawn.row {
+        shift_row(text, drawn, above, row, shift, drawn.shift, rows, grid);
+        return;
+    }
+    shift_row(text, drawn, above, row, shift, 0, rows, grid);
+    shift_row(text, drawn, above, drawn.row, 0, drawn.shift, rows, grid);
+}
+
+/// From which column a text shows a row.
+fn shift_of(drawn: &DrawnText, row: usize) -> usize
+    requires { drawn.now.shift < 2 ^ 62 }
+    ensures value { result ≡ shift_at drawn.now.row drawn.now.shift row }
+    ensures near { result < 2 ^ 62 }
+{
+    if row == drawn.row { drawn.shift } else { 0 }
+}
+
+/// Draws the row of the one line that changed, in a text whose other rows stand, with row `row` shown from column `shift`. Tells from
+/// which column row `row` is shown then.
+fn draw_line_of<T: Text>(
+    text: &T,
+    drawn: &DrawnText,
+    above: usize,
+    down: usize,
+    row: usize,
+    shift: usize,
+    rows: &mut RowSet,
+    grid: &mut Grid,
+) -> usize
+    requires room { drawn.now.first + drawn.now.height ≤ grid.old.rows }
+    requires short { length (T.text text.now) < 2 ^ 32 }
+    requires few { above < 2 ^ 32 }
+    requires start { start_of above (T.text text.now) ≡ drawn.now.start }
+    requires shift { drawn.now.shift < 2 ^ 62 }
+    ensures grid { (old : List ℕ) → DoesShow drawn.now row shift old grid.old → IsLineEdited down drawn.now.start old (T.text text.now) → grid.new ≡ showing drawn.now row result (T.text text.now) grid.old }
+    ensures size { grid.new.rows ≡ grid.old.rows }
+    ensures rows { AreIn rows.old rows.new }
+    ensures apart { AreSameApart rows.new grid.old.lines grid.new.lines }
+{
+    if down != row {
+        draw_row_of(text, drawn, above, down, 0, rows, grid);
+        return shift;
+    }
+    let now = shift_of(drawn, row);
+    draw_row_of(text, drawn, above, down, now, rows, grid);
+    now
+}
+
+/// Draws those rows of a text that are not as they were when it was drawn earlier.
 fn redraw_rows<T: Text>(
     change: Change,
     text: &T,
     drawn: &DrawnText,
-    row: usize,
+    above: usize,
+    earlier: &Earlier,
     rows: &mut RowSet,
     grid: &mut Grid,
 )
     requires room { drawn.now.first + drawn.now.height ≤ grid.old.rows }
     requires within { drawn.now.start ≤ length (T.text text.now) }
     requires short { length (T.text text.now) < 2 ^ 32 }
-    requires change { IsChangeIn (length (T.text text.now)) change }
-    ensures grid { (old : List ℕ) → rows_at drawn.now.first drawn.now.height grid.old.lines ≡ text_rows grid.old.cols (λ i. 0) 0 drawn.now.height (drop drawn.now.start old) → IsChange change drawn.now.start old (T.text text.now) → grid.new ≡ record grid.old { lines = text_put drawn.now.first drawn.now.height row 0 (drop drawn.now.start (T.text text.now)) grid.old } }
+    requires few { above < 2 ^ 32 }
+    requires start { start_of above (T.text text.now) ≡ drawn.now.start }
+    requires shift { drawn.now.shift < 2 ^ 62 }
+    ensures grid { (old : List ℕ) → DoesShow drawn.now earlier.now.row earlier.now.shift old grid.old → IsChange change drawn.now.start old (T.text text.now) → grid.new ≡ showing drawn.now drawn.now.row drawn.now.shift (T.text text.now) grid.old }
     ensures rows { AreIn rows.old rows.new }
     ensures apart { AreSameApart rows.new grid.old.lines grid.new.lines }
 {
     let _rows = grid.rows();
     match change {
-        Change::Nothing => {}
-        Change::Line { down, start } => draw_line_of(text, drawn, down, start, rows, grid),
-        Change::Anything => draw_rows_of(text, drawn, row, 0, rows, grid),
+        Change::Nothing => {
+            shift_rows(text, drawn, above, earlier.row, earlier.shift, rows, grid);
+        }
+        Change::Line(down) => {
+            let shift = draw_line_of(
+                text,
+                drawn,
+                above,
+                down,
+                earlier.row,
+                earlier.shift,
+                rows,
+                grid,
+            );
+            shift_rows(text, drawn, above, earlier.row, shift, rows, grid);
+        }
+        Change::Anything => draw_rows_of(text, drawn, rows, grid),
     }
 }
 
@@ -93,7 +210,7 @@ pub(crate) fn redraw_pane<T: Marked + Drop>(
     found: &Found<T>,
     text: &T,
     drawn: &DrawnText,
-    measures: &Measures,
+    above: usize,
     index: usize,
     sketch: &Sketch,
     rows: &mut RowSet,
@@ -106,20 +223,18 @@ pub(crate) fn redraw_pane<T: Marked + Drop>(
     requires room { drawn.now.first + drawn.now.height ≤ grid.old.rows }
     requires within { drawn.now.start ≤ length (T.text text.now) }
     requires short { length (T.text text.now) < 2 ^ 32 }
-    requires shift { measures.now.shift < 2 ^ 62 }
-    requires above { line_of (T.text text.now) drawn.now.start ≡ measures.now.above }
-    requires start { start_of measures.now.above (T.text text.now) ≡ drawn.now.start }
+    requires shift { drawn.now.shift < 2 ^ 62 }
+    requires above { line_of (T.text text.now) drawn.now.start ≡ above }
+    requires start { start_of above (T.text text.now) ≡ drawn.now.start }
     requires stands { AreStandingFrom drawn.now.first (buffers_of found.now.all) grid.old sketch.now }
-    ensures grid { grid.new ≡ record grid.old { lines = text_put drawn.now.first drawn.now.height measures.now.row measures.now.shift (drop drawn.now.start (T.text text.now)) grid.old } }
+    ensures grid { grid.new ≡ showing drawn.now drawn.now.row drawn.now.shift (T.text text.now) grid.old }
     ensures rows { AreIn rows.old rows.new }
     ensures apart { AreSameApart rows.new grid.old.lines grid.new.lines }
 {
-    if measures.shift == 0 {
-        if let Some((serial, size)) = sketch.drawn(index, drawn) {
-            let change = change_since(found, text, drawn, measures.above, serial, size);
-            redraw_rows(change, text, drawn, measures.row, rows, grid);
-            return;
-        }
-    }
-    draw_rows_of(text, drawn, measures.row, measures.shift, rows, grid);
+    let Some(earlier) = sketch.drawn(index, drawn) else {
+        draw_rows_of(text, drawn, rows, grid);
+        return;
+    };
+    let change = change_since(found, text, drawn, above, earlier.serial, earlier.size);
+    redraw_rows(change, text, drawn, above, &earlier, rows, grid);
 }

@@ -1,5 +1,5 @@
 // The screen of a session, drawn into a grid that is there.
-ghost use Rattle.std.specs.Prelude.{◌≡◌, ◌+◌, ◌<◌, ◌≤◌, ◌==◌, ℕ, true, List, Option, None, Some, if◌then◌else◌};
+ghost use Rattle.std.specs.Prelude.{◌≡◌, ◌+◌, ◌<◌, ◌≤◌, ℕ, true, List, Option, None, Some};
 ghost use Rattle.mgs_model.specs.Draw.{screen, window_rows, window_cursor};
 ghost use Rattle.mgs_model.specs.Rows.{rows_put};
 ghost use Rattle.mgs_session.specs.declared.Session.{Session};
@@ -52,17 +52,6 @@ fn heading<T: Marked + Drop>(
     }
 }
 
-/// Notes the text that a window shows, unless a line of it is shifted.
-fn note_text(texts: &mut Sketch, drawn: &DrawnText, shift: usize)
-    ensures { texts.new ≡ pushed (if shift == 0 then Some drawn.now else None) texts.old }
-{
-    if shift == 0 {
-        texts.push_text(drawn);
-    } else {
-        texts.push_none();
-    }
-}
-
 /// Draws a text that may be read, and its mode line. Tells where the cursor is, from the window's first cell, if the window is the
 /// selected one.
 fn redraw_text<T: Marked + Drop>(
@@ -102,12 +91,14 @@ fn redraw_text<T: Marked + Drop>(
         start: measures.start,
         first: place.first,
         height,
+        row: measures.row,
+        shift: measures.shift,
     };
     redraw_pane(
         found,
         text,
         &drawn,
-        &measures,
+        measures.above,
         place.index,
         sketch,
         rows,
@@ -119,7 +110,7 @@ fn redraw_text<T: Marked + Drop>(
         Some((measures.line + 1, measures.column)),
     );
     rows.insert(place.first + height);
-    note_text(texts, &drawn, measures.shift);
+    texts.push_text(&drawn);
     (measures.row.min(height - 1), measures.col)
 }
 
@@ -204,8 +195,9 @@ fn redraw_window<T: Marked + Drop>(
 }
 
 /// Draws a session's screen into a grid that shows an earlier screen of it, with the texts of this sketch. It tells which rows it drew:
-/// the others are as they were. With a sketch of no text it draws them all. The sketch has then the texts of the new screen. Who may see
-/// what is decided by a judge that keeps what was decided on these buffers. Where memory is refused to it, the screen is drawn as well.
+/// the others are as they were. With a sketch of no text the grid may show anything before, and all rows are drawn. The sketch has then
+/// the texts of the new screen. Who may see what is decided by a judge that keeps what was decided on these buffers. Where memory is
+/// refused to it, the screen is drawn as well.
 pub fn redraw_session<T: Marked + Drop>(
     buffers: &Buffers<T>,
     judge: &mut Judge,

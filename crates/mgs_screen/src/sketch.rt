@@ -6,7 +6,7 @@ use arrayvec::ArrayVec;
 use mgs_model::Name;
 use std::marker::Model;
 
-/// A text that was drawn, none of whose rows was shifted.
+/// A text that was drawn.
 #[derive(Clone, Copy)]
 pub struct DrawnText {
     /// The buffer.
@@ -21,10 +21,27 @@ pub struct DrawnText {
     pub(crate) first: usize,
     /// How many rows.
     pub(crate) height: usize,
+    /// The row of the point's line, from the first.
+    pub(crate) row: usize,
+    /// From which column that row is shown. The others are shown from column 0.
+    pub(crate) shift: usize,
+}
+
+/// What is not the same in a text that was drawn earlier in the same rows.
+#[derive(Clone, Copy)]
+pub(crate) struct Earlier {
+    /// The serial of the buffer's last edit then.
+    pub(crate) serial: u64,
+    /// How many characters the text had then.
+    pub(crate) size: usize,
+    /// The row of the point's line then, from the first.
+    pub(crate) row: usize,
+    /// From which column that row was shown.
+    pub(crate) shift: usize,
 }
 
 /// The texts that a screen shows, so that it can be drawn again in the rows alone that change: one for each window, from the top, or
-/// none where the window shows none or shifts it. It has room for as many as there are windows, and takes no memory.
+/// none where the window shows none. It has room for as many as there are windows, and takes no memory.
 #[derive(Drop)]
 pub struct Sketch {
     texts: ArrayVec<Option<DrawnText>, 8>,
@@ -39,9 +56,9 @@ impl Model for Sketch {
     ghost view = { λ s. s.texts.items };
 }
 
-/// The serial and the size of the text in a place, if it lies in the same rows as this one and starts at the same line.
-fn drawn_in(texts: &[Option<DrawnText>], index: usize, text: &DrawnText) -> Option<(u64, usize)>
-    ensures { IfSome result (λ s. slice_get texts.now index ≡ Some (Some (record text.now { serial = s.0; size = s.1 }))) }
+/// The text in a place, as far as it may not be this one, if it lies in the same rows and starts at the same line.
+fn drawn_in(texts: &[Option<DrawnText>], index: usize, text: &DrawnText) -> Option<Earlier>
+    ensures { IfSome result (λ e. slice_get texts.now index ≡ Some (Some (record text.now { serial = e.serial; size = e.size; row = e.row; shift = e.shift }))) }
 {
     let Some(place) = texts.get(index) else {
         return None;
@@ -54,7 +71,12 @@ fn drawn_in(texts: &[Option<DrawnText>], index: usize, text: &DrawnText) -> Opti
         && drawn.start == text.start
         && drawn.name == text.name
     {
-        Some((drawn.serial, drawn.size))
+        Some(Earlier {
+            serial: drawn.serial,
+            size: drawn.size,
+            row: drawn.row,
+            shift: drawn.shift,
+        })
     } else {
         None
     }
@@ -72,6 +94,8 @@ fn put_text(texts: &mut ArrayVec<Option<DrawnText>, 8>, text: &DrawnText)
         start: text.start,
         first: text.first,
         height: text.height,
+        row: text.row,
+        shift: text.shift,
     }));
 }
 
@@ -92,10 +116,10 @@ impl Sketch {
         self.texts.clear();
     }
 
-    /// The serial and the size that a text had when it was drawn in the place of this index, if it was drawn in the same rows as this
-    /// one, and from the same line's start on.
-    pub(crate) fn drawn(&self, index: usize, text: &DrawnText) -> Option<(u64, usize)>
-        ensures { IfSome result (λ s. slice_get self.now index ≡ Some (Some (record text.now { serial = s.0; size = s.1 }))) }
+    /// The text that was drawn in the place of this index, as far as it may not be this one, if it was drawn in the same rows, and from
+    /// the same line's start on.
+    pub(crate) fn drawn(&self, index: usize, text: &DrawnText) -> Option<Earlier>
+        ensures { IfSome result (λ e. slice_get self.now index ≡ Some (Some (record text.now { serial = e.serial; size = e.size; row = e.row; shift = e.shift }))) }
     {
         drawn_in(self.texts.as_slice(), index, text)
     }

@@ -1,30 +1,28 @@
-use Rattle.std.proofs.Common.{◌+◌, ℕ, List, drop, ap, arith}
+use Rattle.std.proofs.Common.{◌≡◌, ℕ, List, drop, refl, sym, ◌∙◌}
 use Rattle.mgs_model.specs.Picture.{Picture}
 use Rattle.mgs_model.specs.Rows.{text_rows, shift_at}
-use Rattle.mgs_grid.proofs.Pictures.{length-text_rows}
-use Rattle.mgs_screen.proofs.Redrawn.{row_apart, but_one, out_of_sight}
+use Rattle.mgs_screen.proofs.Redrawn.{rows_edited, shift_elsewhere, shift_here, shift_other}
 use Rattle.mgs_screen.proofs.redrawing.draw_line_of.Goals as goal
 
-pub returns-clause-grid : goal.returns-clause-grid
-returns-clause-grid g c = λ row old stand at e.
+pub returns-then-down-row-clause-grid : goal.returns-then-down-row-clause-grid
+returns-then-down-row-clause-grid g c = λ old stand edited.
     let p : Picture = c.args.grid.now in
     let d = c.args.drawn.now in
+    let row : ℕ = c.args.row in
+    let shift : ℕ = c.args.shift in
     let text : List ℕ = g.T.Text.text c.args.text.now in
-    c.draw_text_row.ensures.pane c.args.down d.first d.height d.start row 0
-    (but_one c.args.down d.start d.first d.height row c.args.start old text p c.rows-rows.ensures.picture.count c.requires.room c.if-down-drawn.false stand at e)
+    c.draw_row_of.ensures.grid row shift (text_rows p.cols (shift_at row shift) 0 d.height (drop d.start old)) (shift_elsewhere row shift c.args.down c.if-down-row.true) stand
+    (rows_edited p.cols row shift shift d.height c.args.down d.start old text (λ k other. refl) edited)
 
-pub returns-clause-apart : goal.returns-clause-apart
-returns-clause-apart g c =
+pub returns-clause-grid : goal.returns-clause-grid
+returns-clause-grid g c = λ old stand edited.
     let p : Picture = c.args.grid.now in
-    let at : ℕ = c.args.drawn.now.first + c.args.down in
-    let rest : List ℕ = drop c.args.start (g.T.Text.text c.args.text.now) in
-    row_apart c.insert.new.self at (text_rows p.cols (shift_at 0 0) 0 1 rest) p c.draw_text_row.new.self
-    (ap (λ (q : Picture). q.lines) c.draw_text_row.ensures.row)
-    (length-text_rows p.cols (shift_at 0 0) 0 1 rest)
-    c.insert.ensures.put
-    (omega (arith, c.requires.room, c.if-down-drawn.false, c.rows-rows.ensures.picture.count))
-
-pub returns-then-down-drawn-clause-grid : goal.returns-then-down-drawn-clause-grid
-returns-then-down-drawn-clause-grid g c = λ row old stand at e.
     let d = c.args.drawn.now in
-    out_of_sight c.args.down d.start d.first d.height row old (g.T.Text.text c.args.text.now) c.args.grid.now c.rows-rows.ensures.picture.count c.requires.room c.if-down-drawn.true stand e
+    let row : ℕ = c.args.row in
+    let down : ℕ = c.args.down in
+    let shift : ℕ = c.args.shift in
+    let now : ℕ = c.shift_of-now.result in
+    let here : down ≡ row = c.if-down-row.false in
+    let text : List ℕ = g.T.Text.text c.args.text.now in
+    c.draw_row_of-2.ensures.grid row now (text_rows p.cols (shift_at row shift) 0 d.height (drop d.start old)) (shift_here row now down here) stand
+    (rows_edited p.cols row shift now d.height down d.start old text (λ k other. shift_other row shift now k (λ at. other (at ∙ sym here))) edited)

@@ -10,8 +10,8 @@ returns-clause-apart g c =
     let p : Picture = c.args.grid.now in
     let d = c.args.drawn.now in
     let rest : List ℕ = drop d.start (g.T.Text.text c.args.text.now) in
-    lines_apart c.insert_rows.new.self d.first d.height (text_rows p.cols (shift_at c.args.row c.args.shift) 0 d.height rest) p c.draw_text.new.self
+    lines_apart c.insert_rows.new.self d.first d.height (text_rows p.cols (shift_at d.row d.shift) 0 d.height rest) p c.draw_text.new.self
     (ap (λ (q : Picture). q.lines) c.draw_text.ensures)
-    (length-text_rows p.cols (shift_at c.args.row c.args.shift) 0 d.height rest)
+    (length-text_rows p.cols (shift_at d.row d.shift) 0 d.height rest)
     c.insert_rows.ensures.put
     (omega (arith, c.requires.room, c.rows-rows.ensures.picture.count))

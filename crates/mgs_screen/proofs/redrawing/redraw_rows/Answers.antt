@@ -1,12 +1,36 @@
-use Rattle.std.proofs.Common.{◌≡◌, ℕ, List, subst}
-use Rattle.mgs_screen.specs.Changes.{IsChange}
+use Rattle.std.proofs.Common.{◌≡◌, ◌≤◌, ℕ, List, length, sym, subst, arith}
+use Rattle.mgs_model.specs.Picture.{Picture}
+use Rattle.mgs_grid.proofs.RowSets.{same_then}
+use Rattle.mgs_screen.specs.Changes.{IsChange, IsLineEdited}
+use Rattle.mgs_screen.specs.Sketches.{DoesShow}
 use Rattle.mgs_screen.specs.declared.change.Change.{Change}
-use Rattle.mgs_screen.proofs.Redrawn.{same_text}
+use Rattle.mgs_screen.proofs.Redrawn.{shown_over, shown_there}
 use Rattle.mgs_screen.proofs.redrawing.redraw_rows.Goals as goal
 
 pub returns-in-Nothing-clause-grid : goal.returns-in-Nothing-clause-grid
 returns-in-Nothing-clause-grid g c = λ old stand change.
+    let p : Picture = c.args.grid.now in
     let d = c.args.drawn.now in
+    let e = c.args.earlier.now in
     let text : List ℕ = g.T.Text.text c.args.text.now in
     let same : text ≡ old = subst (λ (x : Change). IsChange x d.start old text) c.in-Nothing.is change in
-    same_text d.first d.height d.start c.args.row old text c.args.grid.now c.rows-rows.ensures.picture.count c.requires.room stand same
+    c.shift_rows.ensures.grid (subst (λ (ys : List ℕ). DoesShow d e.row e.shift ys p) (sym same) stand)
+
+pub returns-in-Line-clause-grid : goal.returns-in-Line-clause-grid
+returns-in-Line-clause-grid g c = λ old stand change.
+    let p : Picture = c.args.grid.now in
+    let q : Picture = c.draw_line_of-shift.new.grid in
+    let r : Picture = c.shift_rows-in-Line.new.grid in
+    let d = c.args.drawn.now in
+    let e = c.args.earlier.now in
+    let shift : ℕ = c.draw_line_of-shift.result in
+    let text : List ℕ = g.T.Text.text c.args.text.now in
+    let edited : IsLineEdited c.in-Line.down d.start old text = subst (λ (x : Change). IsChange x d.start old text) c.in-Line.is change in
+    let begins : d.first ≤ length p.lines = omega (arith, c.requires.room, c.rows-rows.ensures.picture.count) in
+    let first = c.draw_line_of-shift.ensures.grid old stand edited in
+    shown_over d e.row shift d.row d.shift text text p q r begins first (c.shift_rows-in-Line.ensures.grid (shown_there d e.row shift text p q begins first))
+
+pub returns-in-Line-clause-apart : goal.returns-in-Line-clause-apart
+returns-in-Line-clause-apart g c =
+    same_then c.draw_line_of-shift.new.rows c.shift_rows-in-Line.new.rows c.args.grid.now.lines c.draw_line_of-shift.new.grid.lines c.shift_rows-in-Line.new.grid.lines
+    c.draw_line_of-shift.ensures.apart c.shift_rows-in-Line.ensures.apart c.shift_rows-in-Line.ensures.rows

@@ -48,7 +48,7 @@ returns-clause-texts g c =
     let b : Buffer = (marked_at c.args.found.now.name ks).buffer in
     let text : List ℕ = g.T.Text.text c.text-text.result.now in
     let m = c.measure-measures.result in
-    let d : DrawnText = record { name = c.name.result.now; serial = c.serial.result; size = c.len.result; start = m.start; first = first; height = height } in
+    let d : DrawnText = record { name = c.name.result.now; serial = c.serial.result; size = c.len.result; start = m.start; first = first; height = height; row = m.row; shift = m.shift } in
     let rest : List ℕ = drop m.start text in
     let pane : List Row = text_rows p.cols (shift_at m.row m.shift) 0 height rest in
     let mode : List ℕ = buffer_mode c.args.heading (Some (m.line + 1, m.column)) in
@@ -59,8 +59,8 @@ returns-clause-texts g c =
       fits = omega (arith, length-append pane (mode_row p.cols mode ∷ []), size, c.requires.room, c.cols-cols.ensures.picture.count);
     } in
     let there : find_buffer d.name (buffers_of ks) ≡ Some b = ap (λ (n : List ℕ). find_buffer n (buffers_of ks)) c.name.ensures.value ∙ found_buffer c.args.found.now.name ks c.name.ensures.kept in
-    texts_kept (buffers_of ks) p q d b text m.row m.shift (mode_row p.cols mode) c.args.texts.now c.note_text.new.texts put
-    there c.serial.ensures c.len.ensures.value c.measure-measures.ensures.within c.text-text.ensures.text c.note_text.ensures c.requires.above
+    texts_kept (buffers_of ks) p q d b text (mode_row p.cols mode) c.args.texts.now c.push_text.new.self put
+    there c.serial.ensures c.len.ensures.value c.measure-measures.ensures.within c.text-text.ensures.text c.push_text.ensures c.requires.above
 
 pub returns-clause-apart : goal.returns-clause-apart
 returns-clause-apart g c =

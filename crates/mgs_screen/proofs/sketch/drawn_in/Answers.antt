@@ -5,7 +5,7 @@ use Rattle.mgs_screen.specs.declared.sketch.DrawnText.{DrawnText}
 use Rattle.mgs_screen.proofs.sketch.drawn_in.Goals as goal
 
 -- two texts in the same rows, from the same start on
-same_place : (d t : DrawnText) → d.name ≡ t.name → d.start ≡ t.start → d.first ≡ t.first → d.height ≡ t.height → d ≡ record t { serial = d.serial; size = d.size }
+same_place : (d t : DrawnText) → d.name ≡ t.name → d.start ≡ t.start → d.first ≡ t.first → d.height ≡ t.height → d ≡ record t { serial = d.serial; size = d.size; row = d.row; shift = d.shift }
 same_place d t name start first height =
     ap (λ (n : List ℕ). record d { name = n }) name
     ∙ ap (λ (n : ℕ). record d { name = t.name; start = n }) start

@@ -1,0 +1,31 @@
+use Rattle.std.proofs.Common.{◌≡◌, ◌≤◌, ℕ, List, length, subst, arith}
+use Rattle.mgs_model.specs.Picture.{Picture}
+use Rattle.mgs_grid.proofs.RowSets.{same_then}
+use Rattle.mgs_screen.specs.Sketches.{showing}
+use Rattle.mgs_screen.proofs.Redrawn.{shown_over, shown_there, shown_unshifted}
+use Rattle.mgs_screen.proofs.redrawing.shift_rows.Goals as goal
+
+pub returns-then-row-drawn-clause-grid : goal.returns-then-row-drawn-clause-grid
+returns-then-row-drawn-clause-grid g c = λ stand.
+    let p : Picture = c.args.grid.now in
+    let d = c.args.drawn.now in
+    let text : List ℕ = g.T.Text.text c.args.text.now in
+    subst (λ (n : ℕ). c.shift_row.new.grid ≡ showing d n d.shift text p) c.if-row-drawn.true (c.shift_row.ensures.grid stand)
+
+pub returns-clause-grid : goal.returns-clause-grid
+returns-clause-grid g c = λ stand.
+    let p : Picture = c.args.grid.now in
+    let q : Picture = c.shift_row-2.new.grid in
+    let r : Picture = c.shift_row-3.new.grid in
+    let d = c.args.drawn.now in
+    let row : ℕ = c.args.row in
+    let text : List ℕ = g.T.Text.text c.args.text.now in
+    let begins : d.first ≤ length p.lines = omega (arith, c.requires.room, c.rows-rows.ensures.picture.count) in
+    let first = c.shift_row-2.ensures.grid stand in
+    shown_over d row 0 d.row d.shift text text p q r begins first
+    (c.shift_row-3.ensures.grid (shown_unshifted d row d.row text q (shown_there d row 0 text p q begins first)))
+
+pub returns-clause-apart : goal.returns-clause-apart
+returns-clause-apart g c =
+    same_then c.shift_row-2.new.rows c.shift_row-3.new.rows c.args.grid.now.lines c.shift_row-2.new.grid.lines c.shift_row-3.new.grid.lines
+    c.shift_row-2.ensures.apart c.shift_row-3.ensures.apart c.shift_row-3.ensures.rows
