@@ -401,7 +401,7 @@ IsCommandStep old new c n Ends = (is_exit c ≡ true) × (old.own.player.playing
 IsCommandStep old new c n (Acts (deeds.Act a)) = (is_exit c ≡ false) × (is_call c ≡ false) × (a ≡ command_act c n) × (new ≡ old)
 IsCommandStep old new c n (Acts _) = ⊥
 
--- a step of a key asks for no deed but an act
+-- a key asks for an act alone, and for no other deed
 abbrev pub is_act : Deed → Bool
 is_act (deeds.Act a) = true
 is_act _ = false
@@ -412,7 +412,8 @@ is_keyed Failed = true
 is_keyed Ends = true
 is_keyed (Acts deed) = is_act deed
 
--- AN ANSWER, whose prompt was taken out: it names a command, or is what the question is for. The prompt is what was there before a deed
+-- AN ANSWER, whose prompt was taken out of the session: it names a command, or is what the question is for. Where a deed comes of it, this
+-- prompt is what was there before
 
 abbrev pub IsNamedStep : Session → Session → PromptInput → Before → Option Command → ByteStep → Type 0
 IsNamedStep old new p b None step = (step ≡ Kept) × (new ≡ failed NoSuchCommand old)

@@ -60,7 +60,8 @@ pub enum Deed {
     Skip,
 }
 
-/// What is there again where memory was refused to a deed. What was there before it is taken out of its place.
+/// What is there again where memory was refused to a deed. It is taken out of its place, in which `Plain` is left. A replacement leaves the
+/// place as it is: its session holds the search.
 pub fn take_before(before: &mut Before, deed: Deed) -> Before
     ensures { result ≡ before_of before.old deed }
 {
