@@ -207,10 +207,7 @@ pub fn do_deed<T: Marked + Drop, S: Store>(
     ensures further { OnOk result ((s t : Search) → is_replacement deed ≡ true → search_held at sessions.old ≡ Some s → search_held at sessions.new ≡ Some t → 0 < length (aim_old s.aim) → remaining_at at buffers.new sessions.new < remaining_at at buffers.old sessions.old) }
 {
     match deed {
-        Deed::Act(done) => match do_act(alloc, buffers, directory, sessions, at, store, done) {
-            Ok(touched) => Ok(touched),
-            Err(Short) => Err(Short),
-        },
+        Deed::Act(done) => do_act(alloc, buffers, directory, sessions, at, store, done),
         Deed::Answer(argument) => {
             let prompt = asked(before);
             let question = prompt.question();

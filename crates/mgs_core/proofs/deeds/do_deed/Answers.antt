@@ -1,4 +1,5 @@
 use Rattle.std.proofs.Common.{◌∙◌, true, ap}
+use Rattle.std.proofs.lemmas.Result.{on_err_weaker}
 use Rattle.mgs_model.specs.Apply.{outcome_in}
 use Rattle.mgs_model.specs.Events.{may_be_refused}
 use Rattle.mgs_world.specs.Worlds.{own_at, world_of}
@@ -8,20 +9,23 @@ use Rattle.mgs_core.proofs.Prompted.{answer_may, answer_quietly}
 use Rattle.mgs_core.proofs.Taken.{quit_quietly, replaced_may, replaced_quietly, skipped_quietly, sought_quietly, started_replacing}
 use Rattle.mgs_core.proofs.deeds.do_deed.Goals as goal
 
+pub returns-in-Act-clause-may : goal.returns-in-Act-clause-may
+returns-in-Act-clause-may g c =
+    on_err_weaker c.do_act.result
+    (λ may id next place.
+    ap (λ (d : Deed). may_be_refused (outcome_in (world_of c.args.directory.now c.args.buffers.now c.args.sessions.now next) id (deed_act (own_at c.args.at c.args.sessions.now) c.args.before.now d) true)) c.in-Act.is
+    ∙ may id next place)
+    c.do_act.ensures.may
+
+pub returns-in-Ok-clause-ok : goal.returns-in-Ok-clause-ok
+returns-in-Ok-clause-ok g c id next place =
+    answer_quietly _ _ _ id (own_at c.args.at c.args.sessions.now) c.args.before.now c.args.deed c.asked-prompt.result.now c.in-Answer.argument c.question-question.result c.input-input.result.now
+    c.in-Answer.is c.asked-prompt.ensures c.question-question.ensures c.input-input.ensures.value (c.in-Ok.ensures.ok id next place)
+
 pub returns-in-Err-clause-may : goal.returns-in-Err-clause-may
 returns-in-Err-clause-may g c id next place =
-    ap (λ (d : Deed). may_be_refused (outcome_in (world_of c.args.directory.now c.args.buffers.now c.args.sessions.now next) id (deed_act (own_at c.args.at c.args.sessions.now) c.args.before.now d) true)) c.in-Act.is
-    ∙ c.in-Err.ensures.may id next place
-
-pub returns-in-Ok-answer-clause-ok : goal.returns-in-Ok-answer-clause-ok
-returns-in-Ok-answer-clause-ok g c id next place =
-    answer_quietly _ _ _ id (own_at c.args.at c.args.sessions.now) c.args.before.now c.args.deed c.asked-prompt.result.now c.in-Answer.argument c.question-question.result c.input-input.result.now
-    c.in-Answer.is c.asked-prompt.ensures c.question-question.ensures c.input-input.ensures.value (c.in-Ok-answer.ensures.ok id next place)
-
-pub returns-in-Err-answer-clause-may : goal.returns-in-Err-answer-clause-may
-returns-in-Err-answer-clause-may g c id next place =
     answer_may (world_of c.args.directory.now c.args.buffers.now c.args.sessions.now next) id (own_at c.args.at c.args.sessions.now) c.args.before.now c.args.deed c.asked-prompt.result.now c.in-Answer.argument c.question-question.result c.input-input.result.now
-    c.in-Answer.is c.asked-prompt.ensures c.question-question.ensures c.input-input.ensures.value (c.in-Err-answer.ensures.may id next place)
+    c.in-Answer.is c.asked-prompt.ensures c.question-question.ensures c.input-input.ensures.value (c.in-Err.ensures.may id next place)
 
 pub returns-in-Seek-clause-ok : goal.returns-in-Seek-clause-ok
 returns-in-Seek-clause-ok g c id next place =
