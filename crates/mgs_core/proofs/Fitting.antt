@@ -20,6 +20,7 @@ use Rattle.mgs_model.proofs.After.{find_after, find_without}
 use Rattle.mgs_model.proofs.LeftToDo.{seen_begun}
 use Rattle.mgs_model.proofs.Turning.{begun_view}
 use Rattle.mgs_act.specs.Replacing.{replacement}
+use Rattle.mgs_core.specs.declared.deeds.Before.{Before}
 use Rattle.mgs_core.specs.declared.deeds.Deed.{Deed}
 use Rattle.mgs_core.specs.declared.deeds.Deed.TheVariants as deeds
 use Rattle.mgs_core.specs.Stepped.{deed_act, deed_own, is_replacement}
@@ -94,8 +95,8 @@ altered_acted w id own c n typed stored x y found mode some rest stays =
     (sym (ap (λ o. find_session id (applied (with_own id (λ was. own) w) id (option_map (λ z. outcome z (Run (Alter c) n typed) stored) o)).sessions) (seen_begun w id (λ was. own) x found)) ∙ stays)
 
 -- of a replacement, where all further ones are to be done
-pub replaced_fits : (w : World) (id : ℕ) (own : Own) (deed : Deed) (stored : Bool) (x y : Session) → find_session id w.sessions ≡ Some x → is_replacement deed ≡ true → IsFit own → has_all own.todo ≡ true → has_all (without_all own.todo) ≡ false
-    → find_session id (act (with_own id (λ was. deed_own deed own) w) id (deed_act own deed) stored).sessions ≡ Some y → IsFit y.own
-replaced_fits w id own (deeds.Replace last) stored x y found is fit all rest stays =
+pub replaced_fits : (w : World) (id : ℕ) (own : Own) (b : Before) (deed : Deed) (stored : Bool) (x y : Session) → find_session id w.sessions ≡ Some x → is_replacement deed ≡ true → IsFit own → has_all own.todo ≡ true → has_all (without_all own.todo) ≡ false
+    → find_session id (act (with_own id (λ was. deed_own b deed own) w) id (deed_act own b deed) stored).sessions ≡ Some y → IsFit y.own
+replaced_fits w id own b (deeds.Replace last) stored x y found is fit all rest stays =
     let fits = fit all in altered_acted w id own (replacement last) None own.input stored x y found fits.0 fits.1 rest stays
-replaced_fits w id own _ stored x y found is fit all rest stays = cc
+replaced_fits w id own b _ stored x y found is fit all rest stays = cc

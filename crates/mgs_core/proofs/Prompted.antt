@@ -43,12 +43,13 @@ use Rattle.mgs_world.specs.Worlds.{aim_mode, buffers_of, idle, mode_in, own_of}
 use Rattle.mgs_world.proofs.Owns.{prompt_fed}
 use Rattle.mgs_core.specs.declared.deeds.Deed.{Deed}
 use Rattle.mgs_core.specs.declared.deeds.Deed.TheVariants as deeds
+use Rattle.mgs_core.specs.declared.deeds.Before.{Before}
 use Rattle.mgs_core.specs.declared.deeds.Before.TheVariants as befores
 use Rattle.mgs_core.specs.declared.keying.ByteStep.{ByteStep}
 use Rattle.mgs_core.specs.declared.keying.ByteStep.TheVariants.{Kept, Acts}
 use Rattle.mgs_core.specs.Prompted.{names_for, own_turn}
 use Rattle.mgs_mini.specs.Typing.{IsFirst}
-use Rattle.mgs_core.specs.Stepped.{IsAlone, IsAnswerStep, IsAskedStep, IsByteStep, IsCommandStep, IsLeft, IsNamedStep, IsReplyStep, SeesNames, deed_act, deed_own, deed_world, refused_again, second_input}
+use Rattle.mgs_core.specs.Stepped.{IsAlone, IsAnswerStep, IsAskedStep, IsByteStep, IsCommandStep, IsLeft, IsNamedStep, IsReplyStep, SeesNames, asked_of, deed_act, deed_own, deed_world, refused_again, second_input}
 use Rattle.mgs_core.specs.Turned.{IsFit, is_quiet}
 use Rattle.mgs_core.proofs.Stepped.{command_step, fit_empty, fit_same, further_same, left_none, left_same, none_stays}
 
@@ -106,7 +107,7 @@ step_turn v y p q step byte is question first turn = at_prompt v y p byte is ∙
 
 -- what the session holds changed alone
 kept_as : (d : Directory) (ks : List MarkedBuffer) (y new : Session) (own : Own) (byte : ℕ) → new ≡ record (unsearched y) { own = own }
-    → ((v : View) → shown_names v ≡ granted_names d (unsearched y).user (buffers_of ks) → own_turn v (unsearched y).own byte ≡ Keep (own_of own)) → own.search ≡ None → IsLeft (unsearched y).own.player own.player.todo → IsFit (own_of own) → IsByteStep d ks (unsearched y) new byte Kept
+    → ((v : View) → shown_names v ≡ granted_names d (unsearched y).user (buffers_of ks) → own_turn v (unsearched y).own byte ≡ Keep (own_of own)) → own.search ≡ None → IsLeft (unsearched y).own.player own.player.todo → IsFit (own_of own) → IsByteStep d ks (unsearched y) new byte befores.Plain Kept
 kept_as d ks y new own byte is turn none left fit =
     let same : new.own ≡ own = ap (λ (s : Session). s.own) is in
     record {
@@ -117,11 +118,11 @@ kept_as d ks y new own byte is turn none left fit =
       fit = subst (λ (o : Own). IsFit (own_of o)) (sym same) fit;
     }
 
-pub goes_on : (d : Directory) (ks : List MarkedBuffer) (y taken new : Session) (p q : PromptInput) (byte : ℕ) → IsAlone (unsearched y).own.player → (unsearched y).own.prompt ≡ Some p → q.question ≡ p.question → q.first ≡ p.first → IsFed p q byte GoesOn → taken ≡ unprompted (unsearched y) → new ≡ prompting q taken → IsByteStep d ks (unsearched y) new byte Kept
+pub goes_on : (d : Directory) (ks : List MarkedBuffer) (y taken new : Session) (p q : PromptInput) (byte : ℕ) → IsAlone (unsearched y).own.player → (unsearched y).own.prompt ≡ Some p → q.question ≡ p.question → q.first ≡ p.first → IsFed p q byte GoesOn → taken ≡ unprompted (unsearched y) → new ≡ prompting q taken → IsByteStep d ks (unsearched y) new byte befores.Plain Kept
 goes_on d ks y taken new p q byte alone is question first turn took held =
     kept_as d ks y new (prompting q (unsearched y)).own byte (held ∙ ap (prompting q) took) (λ v sees. step_turn v y p q GoesOn byte is question first turn) refl (left_same (unsearched y).own.player (unsearched y).own.player.todo alone refl) (fit_same (unsearched y).own.player (own_of (prompting q (unsearched y)).own) alone refl)
 
-pub quits : (d : Directory) (ks : List MarkedBuffer) (y taken new : Session) (p q : PromptInput) (byte : ℕ) → (unsearched y).own.prompt ≡ Some p → q.question ≡ p.question → q.first ≡ p.first → IsFed p q byte Quit → taken ≡ unprompted (unsearched y) → new ≡ failed Quitting taken → IsByteStep d ks (unsearched y) new byte Kept
+pub quits : (d : Directory) (ks : List MarkedBuffer) (y taken new : Session) (p q : PromptInput) (byte : ℕ) → (unsearched y).own.prompt ≡ Some p → q.question ≡ p.question → q.first ≡ p.first → IsFed p q byte Quit → taken ≡ unprompted (unsearched y) → new ≡ failed Quitting taken → IsByteStep d ks (unsearched y) new byte befores.Plain Kept
 quits d ks y taken new p q byte is question first turn took held =
     kept_as d ks y new (failed Quitting (unsearched y)).own byte (held ∙ ap (failed Quitting) took) (λ v sees. step_turn v y p q Quit byte is question first turn) refl (left_none (unsearched y).own.player [] refl) (fit_empty (own_of (failed Quitting (unsearched y)).own) refl)
 
@@ -149,7 +150,7 @@ prompted_none (Some s) p c e = by s.aim e
     by (Replace r) h = cc
 
 pub completes : (d : Directory) (ks : List MarkedBuffer) (y taken new : Session) (p q : PromptInput) (byte : ℕ) → IsAlone (unsearched y).own.player → (unsearched y).own.prompt ≡ Some p → q.question ≡ p.question → q.first ≡ p.first → IsFed p q byte Completes → taken ≡ unprompted (unsearched y)
-    → own_of new.own ≡ completed (own_of (prompting q taken).own) (completion (names_for d taken.user ks q.question) q.input) → new ≡ record taken { own = new.own } → IsByteStep d ks (unsearched y) new byte Kept
+    → own_of new.own ≡ completed (own_of (prompting q taken).own) (completion (names_for d taken.user ks q.question) q.input) → new ≡ record taken { own = new.own } → IsByteStep d ks (unsearched y) new byte befores.Plain Kept
 completes d ks y taken new p q byte alone is question first turn took owns rest = record {
   own = rest ∙ ap (λ (s : Session). record s { own = new.own }) took;
   stays = none_stays (unsearched y).own new.own
@@ -212,32 +213,39 @@ again_prompted y p is none =
     ap (λ (w : Waiting). record own { echo = NoMemory; keys = keys_of w; mode = Prompt p.question; input = p.input; old = p.first; todo = [] }) none
     ∙ sym (ap (λ (r : Option PromptInput). refused_own (own_of (record (unsearched y).own { prompt = r }))) is)
 
-module _ (d : Directory) (ks : List MarkedBuffer) (y taken new : Session) (p : PromptInput) (byte : ℕ) (alone : IsAlone (unsearched y).own.player) (is : (unsearched y).own.prompt ≡ Some p) (none : p.waiting ≡ NoKey) (turn : IsFed p p byte Answered) (took : taken ≡ unprompted (unsearched y)) where
+module _ (d : Directory) (ks : List MarkedBuffer) (y taken new : Session) (p : PromptInput) (byte : ℕ) (b : Before) (alone : IsAlone (unsearched y).own.player) (is : (unsearched y).own.prompt ≡ Some p) (none : p.waiting ≡ NoKey) (turn : IsFed p p byte Answered) (took : taken ≡ unprompted (unsearched y)) where
+  -- its prompt was there before
+  prompt_was : (step k : ByteStep) → step ≡ k → b ≡ befores.Prompt p → IsByteStep d ks (unsearched y) new byte (befores.Prompt p) k → IsByteStep d ks (unsearched y) new byte b step
+  prompt_was step k same was s =
+      subst (λ (e : Before). IsByteStep d ks (unsearched y) new byte e step) (sym was)
+      (subst (IsByteStep d ks (unsearched y) new byte (befores.Prompt p)) (sym same) s)
+
   -- where it names a command
-  named_step : (step : ByteStep) (o : Option Command) → p.question ≡ RunWhich → p.first ≡ [] → find_command p.input ≡ o → IsNamedStep taken new p o step → IsByteStep d ks (unsearched y) new byte step
+  named_step : (step : ByteStep) (o : Option Command) → p.question ≡ RunWhich → p.first ≡ [] → find_command p.input ≡ o → IsNamedStep taken new p b o step → IsByteStep d ks (unsearched y) new byte b step
   named_step step None names first found did =
-      let kept : IsByteStep d ks (unsearched y) new byte Kept =
+      let kept : IsByteStep d ks (unsearched y) new byte b Kept =
       kept_as d ks y new (failed NoSuchCommand (unsearched y)).own byte (did.1 ∙ ap (failed NoSuchCommand) took)
       (λ v sees. named_at v y p None byte is turn names found ∙ ap (λ (o : model.Own). Keep (failed_own NoSuchCommand o)) (plain_rests y p none first))
       refl (left_none (unsearched y).own.player [] refl) (fit_empty (own_of (failed NoSuchCommand (unsearched y)).own) refl) in
-      subst (IsByteStep d ks (unsearched y) new byte) (sym did.0) kept
+      subst (IsByteStep d ks (unsearched y) new byte b) (sym did.0) kept
   named_step step (Some c) names first found did =
-      command_step (SeesNames d ks (unsearched y).user) (λ v. own_turn v (unsearched y).own byte) (unsearched y) new c (value_of (unsearched y).own.keyboard.argument) (befores.Prompt p) step
+      prompt_was step step refl did.1
+      (command_step (SeesNames d ks (unsearched y).user) (λ v. own_turn v (unsearched y).own byte) (unsearched y) new c (value_of (unsearched y).own.keyboard.argument) (befores.Prompt p) step
       (λ v sees. named_at v y p (Some c) byte is turn names found ∙ ap (λ (own : model.Own). command_turn own (value_of (unsearched y).own.keyboard.argument) c) (plain_rests y p none first))
       did.0 alone (again_prompted y p is none) (λ r. refl)
-      (subst (λ (s : Session). IsCommandStep (resting s) new c (value_of s.own.keyboard.argument) (befores.Prompt p) step) took did.1)
+      (subst (λ (s : Session). IsCommandStep (resting s) new c (value_of s.own.keyboard.argument) step) took did.2))
 
   -- where it is what the question is for
-  asked_step : is_answered p.question ≡ true → p.first ≡ [] → new ≡ resting (unsearched y) → IsByteStep d ks (unsearched y) new byte (Acts (deeds.Answer p (value_of (unsearched y).own.keyboard.argument)))
+  asked_step : is_answered p.question ≡ true → p.first ≡ [] → new ≡ resting (unsearched y) → IsByteStep d ks (unsearched y) new byte (befores.Prompt p) (Acts (deeds.Answer (value_of (unsearched y).own.keyboard.argument)))
   asked_step answers first same =
-      let deed : Deed = deeds.Answer p (value_of (unsearched y).own.keyboard.argument) in
+      let deed : Deed = deeds.Answer (value_of (unsearched y).own.keyboard.argument) in
       record {
         own = same ∙ sym (ap (λ (s : Session). record (unsearched y) { own = s.own }) same);
         stays = none_stays (unsearched y).own new.own (ap (λ (s : Session). s.own.search) same);
         ready = ap (λ (s : Session). own_of s.own) same ∙ sym (ap (λ (s : Session). idle (own_of s.own)) same);
-        here = answers;
-        turn = λ v sees. asked_at v y p byte is none first turn answers ∙ sym (ap (λ (s : Session). Do (own_of s.own) (deed_act (own_of s.own) deed)) same);
-        playing = λ e. ap (λ (b : Bool). is_quiet b (deed_act (own_of new.own) deed)) (ap (λ (s : Session). s.own.player.playing) same ∙ e);
+        here = (refl, answers);
+        turn = λ v sees. asked_at v y p byte is none first turn answers ∙ sym (ap (λ (s : Session). Do (own_of s.own) (deed_act (own_of s.own) (befores.Prompt p) deed)) same);
+        playing = λ e. ap (λ (plays : Bool). is_quiet plays (deed_act (own_of new.own) (befores.Prompt p) deed)) (ap (λ (s : Session). s.own.player.playing) same ∙ e);
         typed = λ e. ap (λ (s : Session). s.own.player.todo) same ∙ alone.typed e;
         left = left_same (unsearched y).own.player new.own.player.todo alone (ap (λ (s : Session). s.own.player.todo) same);
         again = λ wants. ap (λ (s : Session). refused_again (befores.Prompt p) (unsearched y).own.kind (unsearched y).own.player.playing (own_of s.own)) same ∙ again_prompted y p is none;
@@ -247,13 +255,13 @@ module _ (d : Directory) (ks : List MarkedBuffer) (y taken new : Session) (p : P
         begins = λ h. cc;
       }
 
-  other_step : (step : ByteStep) → is_answered p.question ≡ true → p.first ≡ [] → IsAskedStep taken new p step → IsByteStep d ks (unsearched y) new byte step
+  other_step : (step : ByteStep) → is_answered p.question ≡ true → p.first ≡ [] → IsAskedStep taken new p b (deeds.Answer (value_of taken.own.keyboard.argument)) step → IsByteStep d ks (unsearched y) new byte b step
   other_step step answers first did =
-      let deed : step ≡ Acts (deeds.Answer p (value_of (unsearched y).own.keyboard.argument)) = did.0 ∙ ap (λ (s : Session). Acts (deeds.Answer p (value_of s.own.keyboard.argument))) took in
-      subst (IsByteStep d ks (unsearched y) new byte) (sym deed) (asked_step answers first (did.1 ∙ ap resting took))
+      prompt_was step (Acts (deeds.Answer (value_of (unsearched y).own.keyboard.argument))) (did.0 ∙ ap (λ (s : Session). Acts (deeds.Answer (value_of s.own.keyboard.argument))) took) did.1
+      (asked_step answers first (did.2 ∙ ap resting took))
 
   -- where it is the first of two
-  second_step : p.question ≡ ReplaceWhat → new ≡ prompting (second_input p.input) taken → IsByteStep d ks (unsearched y) new byte Kept
+  second_step : p.question ≡ ReplaceWhat → new ≡ prompting (second_input p.input) taken → IsByteStep d ks (unsearched y) new byte b Kept
   second_step of_c held =
       let q : PromptInput = second_input p.input in
       kept_as d ks y new (prompting q (unsearched y)).own byte (held ∙ ap (prompting q) took)
@@ -261,19 +269,19 @@ module _ (d : Directory) (ks : List MarkedBuffer) (y taken new : Session) (p : P
       refl (left_same (unsearched y).own.player (unsearched y).own.player.todo alone refl) (fit_same (unsearched y).own.player (own_of (prompting q (unsearched y)).own) alone refl)
 
   -- and where it is the second
-  replacing_step : p.question ≡ ReplaceWith → new ≡ resting (unsearched y) → IsByteStep d ks (unsearched y) new byte (Acts (deeds.StartReplacing p.first p.input))
+  replacing_step : p.question ≡ ReplaceWith → new ≡ resting (unsearched y) → IsByteStep d ks (unsearched y) new byte (befores.Prompt p) (Acts deeds.StartReplacing)
   replacing_step of_c same =
-      let deed : Deed = deeds.StartReplacing p.first p.input in
+      let deed : Deed = deeds.StartReplacing in
       record {
         own = same ∙ sym (ap (λ (s : Session). record (unsearched y) { own = s.own }) same);
         stays = none_stays (unsearched y).own new.own (ap (λ (s : Session). s.own.search) same);
         ready = ap (λ (s : Session). own_of s.own) same ∙ sym (ap (λ (s : Session). idle (own_of s.own)) same);
-        here = tt;
+        here = refl;
         turn = λ v sees.
             answered_at v y p byte ReplaceWith is turn of_c
-            ∙ ap (λ (w : Waiting). Do (record (deed_own deed (own_of (resting (unsearched y)).own)) { keys = keys_of w }) (deed_act (own_of (unsearched y).own) deed)) none
-            ∙ sym (ap (λ (s : Session). Do (deed_own deed (own_of s.own)) (deed_act (own_of s.own) deed)) same);
-        playing = λ e. ap (λ (b : Bool). is_quiet b (deed_act (own_of new.own) deed)) (ap (λ (s : Session). s.own.player.playing) same ∙ e);
+            ∙ ap (λ (w : Waiting). Do (record (deed_own (befores.Prompt p) deed (own_of (resting (unsearched y)).own)) { keys = keys_of w }) (deed_act (own_of (unsearched y).own) (befores.Prompt p) deed)) none
+            ∙ sym (ap (λ (s : Session). Do (deed_own (befores.Prompt p) deed (own_of s.own)) (deed_act (own_of s.own) (befores.Prompt p) deed)) same);
+        playing = λ e. ap (λ (plays : Bool). is_quiet plays (deed_act (own_of new.own) (befores.Prompt p) deed)) (ap (λ (s : Session). s.own.player.playing) same ∙ e);
         typed = λ e. ap (λ (s : Session). s.own.player.todo) same ∙ alone.typed e;
         left = left_same (unsearched y).own.player new.own.player.todo alone (ap (λ (s : Session). s.own.player.todo) same);
         again = λ wants. cc;
@@ -283,46 +291,43 @@ module _ (d : Directory) (ks : List MarkedBuffer) (y taken new : Session) (p : P
         begins = λ h. refl;
       }
 
-  reply_step : (step : ByteStep) (c : Question) → p.question ≡ c → IsFirst c p.first → IsReplyStep c taken new p step → IsByteStep d ks (unsearched y) new byte step
+  reply_step : (step : ByteStep) (c : Question) → p.question ≡ c → IsFirst c p.first → IsReplyStep c taken new p b step → IsByteStep d ks (unsearched y) new byte b step
   reply_step step RunWhich of_c first did = named_step step (find_command p.input) of_c first refl did
-  reply_step step ReplaceWhat of_c first did = subst (IsByteStep d ks (unsearched y) new byte) (sym did.0) (second_step of_c did.1)
-  reply_step step ReplaceWith of_c first did = subst (IsByteStep d ks (unsearched y) new byte) (sym did.0) (replacing_step of_c (did.1 ∙ ap resting took))
+  reply_step step ReplaceWhat of_c first did = subst (IsByteStep d ks (unsearched y) new byte b) (sym did.0) (second_step of_c did.1)
+  reply_step step ReplaceWith of_c first did = prompt_was step (Acts deeds.StartReplacing) did.0 did.1 (replacing_step of_c (did.2 ∙ ap resting took))
   reply_step step _ of_c first did = other_step step (ap is_answered of_c) first did
 
-pub answers : (d : Directory) (ks : List MarkedBuffer) (y taken new : Session) (p q : PromptInput) (byte : ℕ) (step : ByteStep) → IsAlone (unsearched y).own.player → (unsearched y).own.prompt ≡ Some p → (q ≡ p) × (p.waiting ≡ NoKey) → IsFed p q byte Answered → taken ≡ unprompted (unsearched y) → IsFirst q.question q.first → IsAnswerStep taken new q step → IsByteStep d ks (unsearched y) new byte step
-answers d ks y taken new p q byte step alone is same turn took first did =
-    reply_step d ks y taken new p byte alone is same.1 (subst (λ (k : PromptInput). IsFed p k byte Answered) same.0 turn) took step p.question refl (subst (λ (k : PromptInput). IsFirst k.question k.first) same.0 first) (subst (λ (k : PromptInput). IsAnswerStep taken new k step) same.0 did)
+pub answers : (d : Directory) (ks : List MarkedBuffer) (y taken new : Session) (p q : PromptInput) (byte : ℕ) (b : Before) (step : ByteStep) → IsAlone (unsearched y).own.player → (unsearched y).own.prompt ≡ Some p → (q ≡ p) × (p.waiting ≡ NoKey) → IsFed p q byte Answered → taken ≡ unprompted (unsearched y) → IsFirst q.question q.first → IsAnswerStep taken new q b step → IsByteStep d ks (unsearched y) new byte b step
+answers d ks y taken new p q byte b step alone is same turn took first did =
+    reply_step d ks y taken new p byte b alone is same.1 (subst (λ (k : PromptInput). IsFed p k byte Answered) same.0 turn) took step p.question refl (subst (λ (k : PromptInput). IsFirst k.question k.first) same.0 first) (subst (λ (k : PromptInput). IsAnswerStep taken new k b step) same.0 did)
 
--- WITHOUT A SEARCH, and without a prompt
+-- WITHOUT A SEARCH
 
-pub still_step : (d : Directory) (ks : List MarkedBuffer) (y new : Session) (byte : ℕ) (step : ByteStep) → y ≡ unsearched y → IsByteStep d ks (unsearched y) new byte step → IsByteStep d ks y new byte step
-still_step d ks y new byte step still s = subst (λ (z : Session). IsByteStep d ks z new byte step) (sym still) s
-
-pub unasked : (d : Directory) (ks : List MarkedBuffer) (y taken new : Session) (byte : ℕ) (step : ByteStep) → (unsearched y).own.prompt ≡ None → taken ≡ unprompted (unsearched y) → IsByteStep d ks taken new byte step → IsByteStep d ks (unsearched y) new byte step
-unasked d ks y taken new byte step none took s =
-    subst (λ (z : Session). IsByteStep d ks z new byte step) (took ∙ sym (ap (λ (r : Option PromptInput). record (unsearched y) { own = record (unsearched y).own { prompt = r } }) none)) s
+pub still_step : (d : Directory) (ks : List MarkedBuffer) (y new : Session) (byte : ℕ) (b : Before) (step : ByteStep) → y ≡ unsearched y → IsByteStep d ks (unsearched y) new byte b step → IsByteStep d ks y new byte b step
+still_step d ks y new byte b step still s = subst (λ (z : Session). IsByteStep d ks z new byte b step) (sym still) s
 
 -- WHAT AN ANSWER DOES
 
-answer_act : {X : Type 0} (f : Act → X) (own : model.Own) (deed : Deed) (p : PromptInput) (n : Option ℕ) (c : Question) (typed : List ℕ) → deed ≡ deeds.Answer p n → c ≡ p.question → typed ≡ p.input → f (Run (answered c) n (meant c own.pattern typed)) ≡ f (deed_act own deed)
-answer_act f own deed p n c typed is question input =
+answer_act : {X : Type 0} (f : Act → X) (own : model.Own) (b : Before) (deed : Deed) (p : PromptInput) (n : Option ℕ) (c : Question) (typed : List ℕ) → deed ≡ deeds.Answer n → p ≡ asked_of b → c ≡ p.question → typed ≡ p.input → f (Run (answered c) n (meant c own.pattern typed)) ≡ f (deed_act own b deed)
+answer_act f own b deed p n c typed is asked question input =
     ap (λ (q : Question). f (Run (answered q) n (meant q own.pattern typed))) question
     ∙ ap (λ (t : List ℕ). f (Run (answered p.question) n (meant p.question own.pattern t))) input
-    ∙ sym (ap (λ (d : Deed). f (deed_act own d)) is)
+    ∙ ap (λ (q : PromptInput). f (Run (answered q.question) n (meant q.question own.pattern q.input))) asked
+    ∙ sym (ap (λ (d : Deed). f (deed_act own b d)) is)
 
-pub answer_quietly : (old new : World) (t : StoreTold) (id : ℕ) (own : model.Own) (deed : Deed) (p : PromptInput) (n : Option ℕ) (c : Question) (typed : List ℕ) → deed ≡ deeds.Answer p n → c ≡ p.question → typed ≡ p.input → new ≡ act old id (Run (answered c) n (meant c own.pattern typed)) true → ActedBy (deed_world deed id old) new t t id (deed_act own deed)
-answer_quietly old new t id own deed p n c typed is question input world =
-    let this : Deed = deeds.Answer p n in
-    let did : ActedBy old new t t id (deed_act own this) =
+pub answer_quietly : (old new : World) (t : StoreTold) (id : ℕ) (own : model.Own) (b : Before) (deed : Deed) (p : PromptInput) (n : Option ℕ) (c : Question) (typed : List ℕ) → deed ≡ deeds.Answer n → p ≡ asked_of b → c ≡ p.question → typed ≡ p.input → new ≡ act old id (Run (answered c) n (meant c own.pattern typed)) true → ActedBy (deed_world b deed id old) new t t id (deed_act own b deed)
+answer_quietly old new t id own b deed p n c typed is asked question input world =
+    let this : Deed = deeds.Answer n in
+    let did : ActedBy old new t t id (deed_act own b this) =
     record {
       stored = true;
-      world = world ∙ answer_act (λ (a : Act). act old id a true) own this p n c typed refl question input;
+      world = world ∙ answer_act (λ (a : Act). act old id a true) own b this p n c typed refl asked question input;
       fault = λ e. cc;
       saves =
           told_none t.accepted (flat_map saved_by (act_effects old id (Run (answered c) n (meant c own.pattern typed)) true)) (act_saves_none old id (Run (answered c) n (meant c own.pattern typed)) true (answered_saves_none c n (meant c own.pattern typed)))
-          ∙ answer_act (λ (a : Act). told_more (flat_map saved_by (act_effects old id a true)) t.accepted) own this p n c typed refl question input;
+          ∙ answer_act (λ (a : Act). told_more (flat_map saved_by (act_effects old id a true)) t.accepted) own b this p n c typed refl asked question input;
     }
-    in subst (λ (e : Deed). ActedBy (deed_world e id old) new t t id (deed_act own e)) (sym is) did
+    in subst (λ (e : Deed). ActedBy (deed_world b e id old) new t t id (deed_act own b e)) (sym is) did
 
-pub answer_may : (w : World) (id : ℕ) (own : model.Own) (deed : Deed) (p : PromptInput) (n : Option ℕ) (c : Question) (typed : List ℕ) → deed ≡ deeds.Answer p n → c ≡ p.question → typed ≡ p.input → may_be_refused (outcome_in w id (Run (answered c) n (meant c own.pattern typed)) true) ≡ true → may_be_refused (outcome_in w id (deed_act own deed) true) ≡ true
-answer_may w id own deed p n c typed is question input may = sym (answer_act (λ (a : Act). may_be_refused (outcome_in w id a true)) own deed p n c typed is question input) ∙ may
+pub answer_may : (w : World) (id : ℕ) (own : model.Own) (b : Before) (deed : Deed) (p : PromptInput) (n : Option ℕ) (c : Question) (typed : List ℕ) → deed ≡ deeds.Answer n → p ≡ asked_of b → c ≡ p.question → typed ≡ p.input → may_be_refused (outcome_in w id (Run (answered c) n (meant c own.pattern typed)) true) ≡ true → may_be_refused (outcome_in w id (deed_act own b deed) true) ≡ true
+answer_may w id own b deed p n c typed is asked question input may = sym (answer_act (λ (a : Act). may_be_refused (outcome_in w id a true)) own b deed p n c typed is asked question input) ∙ may

@@ -23,6 +23,7 @@ use Rattle.mgs_session.specs.Seeking.{searching, unsearched}
 use Rattle.mgs_session.specs.Sessions.{failed, playing_as, told, unprompted}
 use Rattle.mgs_world.specs.Worlds.{own_of, search_of}
 use Rattle.mgs_core.specs.declared.deeds.Deed.TheVariants as deeds
+use Rattle.mgs_core.specs.declared.deeds.Before.{Before}
 use Rattle.mgs_core.specs.declared.deeds.Before.TheVariants as befores
 use Rattle.mgs_core.specs.declared.keying.ByteStep.TheVariants.{Kept, Acts}
 use Rattle.mgs_core.specs.declared.typing.ReplaceKey.{ReplaceKey}
@@ -82,7 +83,7 @@ module _ (d : Directory) (ks : List MarkedBuffer) (y new : Session) (name : List
   held_stays : new ≡ searching s (told Silent z) → SearchStays x.own new.own
   held_stays is bs = ap (λ (w : Session). search_of bs w.own.search) is ∙ sym (ap (λ (w : Session). cond (searches (own_of w.own).mode) (search_of bs (Some s)) None) is)
 
-  pub replace_other : (k : ReplaceKey) → k ≡ replace_key byte → k ≡ keys.Other → new ≡ searching s (told Silent (unsearched y)) → IsByteStep d ks (searching s (unsearched y)) new byte Kept
+  pub replace_other : (k : ReplaceKey) → k ≡ replace_key byte → k ≡ keys.Other → new ≡ searching s (told Silent (unsearched y)) → IsByteStep d ks (searching s (unsearched y)) new byte befores.Plain Kept
   replace_other k of_byte e is = record {
     own = is ∙ sym (ap (λ (w : Session). record x { own = w.own }) is);
     stays = held_stays is;
@@ -91,7 +92,7 @@ module _ (d : Directory) (ks : List MarkedBuffer) (y new : Session) (name : List
     fit = fit_same x.own.player (own_of new.own) alone (ap (λ (w : Session). w.own.player.todo) is);
   }
 
-  pub replace_every : (held : Session) (k : ReplaceKey) → k ≡ replace_key byte → k ≡ keys.ReplacesAll → 0 < length r.pattern → held ≡ searching s (told Silent (unsearched y)) → new ≡ playing_as (replacing_all held.own.player) held → IsByteStep d ks (searching s (unsearched y)) new byte Kept
+  pub replace_every : (held : Session) (k : ReplaceKey) → k ≡ replace_key byte → k ≡ keys.ReplacesAll → 0 < length r.pattern → held ≡ searching s (told Silent (unsearched y)) → new ≡ playing_as (replacing_all held.own.player) held → IsByteStep d ks (searching s (unsearched y)) new byte befores.Plain Kept
   replace_every held k of_byte e some is all =
       let put : new ≡ playing_as (replacing_all y.own.player) (searching s (told Silent z)) = all ∙ ap (λ (w : Session). playing_as (replacing_all w.own.player) w) is in
       record {
@@ -102,7 +103,7 @@ module _ (d : Directory) (ks : List MarkedBuffer) (y new : Session) (name : List
         fit = λ h. (ap (λ (w : Session). (own_of w.own).mode) put, subst (λ (w : Session). 0 < length (own_of w.own).old) (sym put) some);
       }
 
-  pub replace_ends : (k : ReplaceKey) → k ≡ replace_key byte → k ≡ keys.Ends → y ≡ unsearched y → new ≡ told (Replaced r.count) (unprompted y) → IsByteStep d ks (searching s (unsearched y)) new byte Kept
+  pub replace_ends : (k : ReplaceKey) → k ≡ replace_key byte → k ≡ keys.Ends → y ≡ unsearched y → new ≡ told (Replaced r.count) (unprompted y) → IsByteStep d ks (searching s (unsearched y)) new byte befores.Plain Kept
   replace_ends k of_byte e still is =
       let over : new ≡ told (Replaced r.count) (unprompted z) = is ∙ ap (λ (w : Session). told (Replaced r.count) (unprompted w)) still in
       record {
@@ -113,7 +114,7 @@ module _ (d : Directory) (ks : List MarkedBuffer) (y new : Session) (name : List
         fit = fit_same x.own.player (own_of new.own) alone (ap (λ (w : Session). w.own.player.todo) over);
       }
 
-  pub replace_quits : (k : ReplaceKey) → k ≡ replace_key byte → k ≡ keys.Quits → y ≡ unsearched y → new ≡ failed Quitting y → IsByteStep d ks (searching s (unsearched y)) new byte Kept
+  pub replace_quits : (k : ReplaceKey) → k ≡ replace_key byte → k ≡ keys.Quits → y ≡ unsearched y → new ≡ failed Quitting y → IsByteStep d ks (searching s (unsearched y)) new byte befores.Plain Kept
   replace_quits k of_byte e still is =
       let over : new ≡ failed Quitting z = is ∙ ap (failed Quitting) still in
       let none : new.own.player.todo ≡ [] = ap (λ (w : Session). w.own.player.todo) over in
@@ -125,14 +126,14 @@ module _ (d : Directory) (ks : List MarkedBuffer) (y new : Session) (name : List
         fit = fit_empty (own_of new.own) none;
       }
 
-  pub replace_skips : (k : ReplaceKey) → k ≡ replace_key byte → k ≡ keys.Skips → new ≡ searching s (told Silent (unsearched y)) → IsByteStep d ks (searching s (unsearched y)) new byte (Acts deeds.Skip)
-  replace_skips k of_byte e is = record {
+  pub replace_skips : (b : Before) (k : ReplaceKey) → k ≡ replace_key byte → k ≡ keys.Skips → new ≡ searching s (told Silent (unsearched y)) → IsByteStep d ks (searching s (unsearched y)) new byte b (Acts deeds.Skip)
+  replace_skips b k of_byte e is = record {
     own = is ∙ sym (ap (λ (w : Session). record x { own = w.own }) is);
     stays = held_stays is;
     ready = subst (λ (w : Session). IsReady deeds.Skip w.own.search (own_of w.own)) (sym is) refl;
     here = tt;
-    turn = λ v sees. comes v k keys.Skips of_byte e ∙ sym (ap (λ (w : Session). Do (own_of w.own) (deed_act (own_of w.own) deeds.Skip)) is);
-    playing = λ p. ap (λ (b : Bool). is_quiet b (deed_act (own_of new.own) deeds.Skip)) (ap (λ (w : Session). w.own.player.playing) is ∙ p);
+    turn = λ v sees. comes v k keys.Skips of_byte e ∙ sym (ap (λ (w : Session). Do (own_of w.own) (deed_act (own_of w.own) b deeds.Skip)) is);
+    playing = λ p. ap (λ (plays : Bool). is_quiet plays (deed_act (own_of new.own) b deeds.Skip)) (ap (λ (w : Session). w.own.player.playing) is ∙ p);
     typed = λ p. ap (λ (w : Session). w.own.player.todo) is ∙ alone.typed p;
     left = left_same x.own.player new.own.player.todo alone (ap (λ (w : Session). w.own.player.todo) is);
     again = λ wants. cc;
@@ -144,16 +145,16 @@ module _ (d : Directory) (ks : List MarkedBuffer) (y new : Session) (name : List
 
   -- a match is replaced
   abbrev replaced_turn : (last : Bool) → Turn
-  replaced_turn last = Do own (deed_act own (deeds.Replace last))
+  replaced_turn last = Do own (deed_act own befores.Plain (deeds.Replace last))
 
-  replaces_step : (last : Bool) → ((v : View) → own_turn v x.own byte ≡ replaced_turn last) → new ≡ searching s (told Silent z) → IsByteStep d ks x new byte (Acts (deeds.Replace last))
-  replaces_step last turn is = record {
+  replaces_step : (b : Before) (last : Bool) → ((v : View) → own_turn v x.own byte ≡ replaced_turn last) → new ≡ searching s (told Silent z) → IsByteStep d ks x new byte b (Acts (deeds.Replace last))
+  replaces_step b last turn is = record {
     own = is ∙ sym (ap (λ (w : Session). record x { own = w.own }) is);
     stays = held_stays is;
     ready = subst (λ (w : Session). IsReady (deeds.Replace last) w.own.search (own_of w.own)) (sym is) refl;
     here = tt;
-    turn = λ v sees. turn v ∙ sym (ap (λ (w : Session). Do (own_of w.own) (deed_act (own_of w.own) (deeds.Replace last))) is);
-    playing = λ p. ap (λ (b : Bool). is_quiet b (deed_act (own_of new.own) (deeds.Replace last))) (ap (λ (w : Session). w.own.player.playing) is ∙ p);
+    turn = λ v sees. turn v ∙ sym (ap (λ (w : Session). Do (own_of w.own) (deed_act (own_of w.own) b (deeds.Replace last))) is);
+    playing = λ p. ap (λ (plays : Bool). is_quiet plays (deed_act (own_of new.own) b (deeds.Replace last))) (ap (λ (w : Session). w.own.player.playing) is ∙ p);
     typed = λ p. ap (λ (w : Session). w.own.player.todo) is ∙ alone.typed p;
     left = left_same x.own.player new.own.player.todo alone (ap (λ (w : Session). w.own.player.todo) is);
     again = λ wants. ap (λ (w : Session). refused_again befores.Held x.own.kind x.own.player.playing (own_of w.own)) is;
@@ -163,8 +164,8 @@ module _ (d : Directory) (ks : List MarkedBuffer) (y new : Session) (name : List
     begins = λ h. cc;
   }
 
-  pub replace_one : (k : ReplaceKey) → k ≡ replace_key byte → k ≡ keys.Replaces → new ≡ searching s (told Silent (unsearched y)) → IsByteStep d ks (searching s (unsearched y)) new byte (Acts (deeds.Replace false))
-  replace_one k of_byte e is = replaces_step false (λ v. comes v k keys.Replaces of_byte e) is
+  pub replace_one : (b : Before) (k : ReplaceKey) → k ≡ replace_key byte → k ≡ keys.Replaces → new ≡ searching s (told Silent (unsearched y)) → IsByteStep d ks (searching s (unsearched y)) new byte b (Acts (deeds.Replace false))
+  replace_one b k of_byte e is = replaces_step b false (λ v. comes v k keys.Replaces of_byte e) is
 
-  pub replace_last : (k : ReplaceKey) → k ≡ replace_key byte → k ≡ keys.ReplacesLast → new ≡ searching s (told Silent (unsearched y)) → IsByteStep d ks (searching s (unsearched y)) new byte (Acts (deeds.Replace true))
-  replace_last k of_byte e is = replaces_step true (λ v. comes v k keys.ReplacesLast of_byte e) is
+  pub replace_last : (b : Before) (k : ReplaceKey) → k ≡ replace_key byte → k ≡ keys.ReplacesLast → new ≡ searching s (told Silent (unsearched y)) → IsByteStep d ks (searching s (unsearched y)) new byte b (Acts (deeds.Replace true))
+  replace_last b k of_byte e is = replaces_step b true (λ v. comes v k keys.ReplacesLast of_byte e) is

@@ -26,12 +26,13 @@ use Rattle.mgs_session.specs.declared.Session.{Session}
 use Rattle.mgs_session.specs.Seeking.{search_left, searching, unsearched}
 use Rattle.mgs_session.specs.Sessions.{told}
 use Rattle.mgs_world.specs.Worlds.{aim_mode, mode_in, own_of, search_of}
+use Rattle.mgs_core.specs.declared.deeds.Before.{Before}
 use Rattle.mgs_core.specs.declared.deeds.Before.TheVariants as befores
 use Rattle.mgs_core.specs.declared.deeds.Deed.TheVariants as deeds
 use Rattle.mgs_core.specs.declared.keying.ByteStep.{ByteStep}
 use Rattle.mgs_core.specs.declared.keying.ByteStep.TheVariants.{Kept, Failed, Ends, Acts}
 use Rattle.mgs_core.specs.Prompted.{own_turn}
-use Rattle.mgs_core.specs.Stepped.{IsAlone, IsByteStep, SearchStays, deed_act, finding, is_finding, is_keyed, step_from}
+use Rattle.mgs_core.specs.Stepped.{IsAlone, IsByteStep, SearchStays, deed_act, finding, is_finding, is_keyed}
 use Rattle.mgs_core.specs.Turned.{is_quiet}
 use Rattle.mgs_session.specs.declared.search.Aim.{Aim}
 use Rattle.mgs_session.specs.declared.search.Aim.TheVariants.{Find, Replace}
@@ -78,20 +79,19 @@ sought_over last s q byte k e over = by (is_graphic byte) (byte == 19) (byte == 
     by false false false false false false e = sym (same_sought s q step.Leaves k e)
 
 -- a search that was taken out is put back
-pub searched_step : (d : Directory) (ks : List MarkedBuffer) (y taken new : Session) (s : Search) (byte : ℕ) (k : ByteStep) → y.own.search ≡ Some s → taken ≡ unsearched y → IsByteStep d ks (searching s taken) new byte k → IsByteStep d ks y new byte k
-searched_step d ks y taken new s byte k is took t =
-    subst (λ (z : Session). IsByteStep d ks z new byte k)
+pub searched_step : (d : Directory) (ks : List MarkedBuffer) (y taken new : Session) (s : Search) (byte : ℕ) (b : Before) (k : ByteStep) → y.own.search ≡ Some s → taken ≡ unsearched y → IsByteStep d ks (searching s taken) new byte b k → IsByteStep d ks y new byte b k
+searched_step d ks y taken new s byte b k is took t =
+    subst (λ (z : Session). IsByteStep d ks z new byte b k)
     (ap (searching s) took ∙ sym (ap (λ (o : Option Search). record y { own = record y.own { search = o } }) is)) t
 
-pub unsearched_step : (d : Directory) (ks : List MarkedBuffer) (y taken new : Session) (byte : ℕ) (k : ByteStep) → y.own.search ≡ None → taken ≡ unsearched y → IsByteStep d ks taken new byte k → IsByteStep d ks y new byte k
-unsearched_step d ks y taken new byte k none took t =
-    subst (λ (z : Session). IsByteStep d ks z new byte k)
-    (took ∙ sym (ap (λ (o : Option Search). record y { own = record y.own { search = o } }) none)) t
+-- one that does not search
+pub unsearched_same : (y : Session) → y.own.search ≡ None → y ≡ unsearched y
+unsearched_same y none = ap (λ (o : Option Search). record y { own = record y.own { search = o } }) none
 
 -- WHAT COMES NEXT
 
 -- the session that was searching
-module _ (d : Directory) (ks : List MarkedBuffer) (y new : Session) (name : List ℕ) (origin anchor : ℕ) (f g : Sought) (byte : ℕ) (alone : IsAlone y.own.player) where
+module _ (d : Directory) (ks : List MarkedBuffer) (y new : Session) (name : List ℕ) (origin anchor : ℕ) (f g : Sought) (byte : ℕ) (b : Before) (alone : IsAlone y.own.player) where
   abbrev pub s : Search
   s = finding name origin anchor f
 
@@ -111,7 +111,7 @@ module _ (d : Directory) (ks : List MarkedBuffer) (y new : Session) (name : List
   comes v k read = ap (λ (p : Sought × SearchStep). sought_turn (record (own_of x.own) { echo = Silent }) byte p.0 p.1) read
 
   -- it is over
-  pub search_ends : read_byte y.own.pattern f byte ≡ (g, step.Ends) → new ≡ search_left g.pattern (unsearched y) → IsByteStep d ks (searching s (unsearched y)) new byte Kept
+  pub search_ends : read_byte y.own.pattern f byte ≡ (g, step.Ends) → new ≡ search_left g.pattern (unsearched y) → IsByteStep d ks (searching s (unsearched y)) new byte b Kept
   search_ends read is =
       let same : g ≡ f = sought_over z.own.pattern f g byte step.Ends read tt in
       let left : new ≡ search_left f.pattern z = is ∙ ap (λ (p : Sought). search_left p.pattern z) same in
@@ -130,7 +130,7 @@ module _ (d : Directory) (ks : List MarkedBuffer) (y new : Session) (name : List
       ∙ sym (ap (λ (w : Session). cond (searches (own_of w.own).mode) (search_of bs (Some s)) None) is)
 
   -- or is given up
-  pub search_quits : read_byte y.own.pattern f byte ≡ (g, step.Quits) → new ≡ searching r (told Silent (unsearched y)) → IsByteStep d ks (searching s (unsearched y)) new byte (Acts deeds.QuitSearch)
+  pub search_quits : read_byte y.own.pattern f byte ≡ (g, step.Quits) → new ≡ searching r (told Silent (unsearched y)) → IsByteStep d ks (searching s (unsearched y)) new byte b (Acts deeds.QuitSearch)
   search_quits read is =
       let same : g ≡ f = sought_over z.own.pattern f g byte step.Quits read tt in
       let kept : new ≡ searching s (told Silent z) = is ∙ ap (λ (h : Sought). searching (finding name origin anchor h) (told Silent z)) same in
@@ -139,8 +139,8 @@ module _ (d : Directory) (ks : List MarkedBuffer) (y new : Session) (name : List
         stays = on_stays is;
         ready = tt;
         here = tt;
-        turn = λ v sees. comes v step.Quits read ∙ sym (ap (λ (w : Session). Do (own_of w.own) (deed_act (own_of w.own) deeds.QuitSearch)) kept);
-        playing = λ e. ap (λ (b : Bool). is_quiet b (deed_act (own_of new.own) deeds.QuitSearch)) (ap (λ (w : Session). w.own.player.playing) kept ∙ e);
+        turn = λ v sees. comes v step.Quits read ∙ sym (ap (λ (w : Session). Do (own_of w.own) (deed_act (own_of w.own) b deeds.QuitSearch)) kept);
+        playing = λ e. ap (λ (p : Bool). is_quiet p (deed_act (own_of new.own) b deeds.QuitSearch)) (ap (λ (w : Session). w.own.player.playing) kept ∙ e);
         typed = λ e. ap (λ (w : Session). w.own.player.todo) kept ∙ alone.typed e;
         left = left_same x.own.player new.own.player.todo alone (ap (λ (w : Session). w.own.player.todo) kept);
         fit = fit_same x.own.player (own_of new.own) alone (ap (λ (w : Session). w.own.player.todo) kept);
@@ -151,20 +151,20 @@ module _ (d : Directory) (ks : List MarkedBuffer) (y new : Session) (name : List
       }
 
   sought_on : (k : SearchStep) → (k ≡ step.Ends → ⊥) → (k ≡ step.Quits → ⊥) → (k ≡ step.Leaves → ⊥) → sought_turn own byte g k ≡ Do (record own { mode = Searching g.direction g.failing; input = g.pattern }) (Run (Move (SearchOn g.direction k)) None g.pattern)
-  sought_on step.Ends a b c = absurd (a refl)
-  sought_on step.Quits a b c = absurd (b refl)
-  sought_on step.Leaves a b c = absurd (c refl)
-  sought_on _ a b c = refl
+  sought_on step.Ends ends quits leaves = absurd (ends refl)
+  sought_on step.Quits ends quits leaves = absurd (quits refl)
+  sought_on step.Leaves ends quits leaves = absurd (leaves refl)
+  sought_on _ ends quits leaves = refl
 
   -- or does a step
-  pub search_on : (k : SearchStep) → (k ≡ step.Ends → ⊥) → (k ≡ step.Quits → ⊥) → (k ≡ step.Leaves → ⊥) → read_byte y.own.pattern f byte ≡ (g, k) → new ≡ searching r (told Silent (unsearched y)) → IsByteStep d ks (searching s (unsearched y)) new byte (Acts (deeds.Seek k))
-  search_on k a b c read is = record {
+  pub search_on : (k : SearchStep) → (k ≡ step.Ends → ⊥) → (k ≡ step.Quits → ⊥) → (k ≡ step.Leaves → ⊥) → read_byte y.own.pattern f byte ≡ (g, k) → new ≡ searching r (told Silent (unsearched y)) → IsByteStep d ks (searching s (unsearched y)) new byte b (Acts (deeds.Seek k))
+  search_on k ends quits leaves read is = record {
     own = is ∙ sym (ap (λ (w : Session). record x { own = w.own }) is);
     stays = on_stays is;
     ready = ap (λ (w : Session). is_finding w.own.search) is;
     here = tt;
-    turn = λ v sees. comes v k read ∙ sought_on k a b c ∙ sym (ap (λ (w : Session). Do (own_of w.own) (deed_act (own_of w.own) (deeds.Seek k))) is);
-    playing = λ e. ap (λ (b : Bool). is_quiet b (deed_act (own_of new.own) (deeds.Seek k))) (ap (λ (w : Session). w.own.player.playing) is ∙ e);
+    turn = λ v sees. comes v k read ∙ sought_on k ends quits leaves ∙ sym (ap (λ (w : Session). Do (own_of w.own) (deed_act (own_of w.own) b (deeds.Seek k))) is);
+    playing = λ e. ap (λ (p : Bool). is_quiet p (deed_act (own_of new.own) b (deeds.Seek k))) (ap (λ (w : Session). w.own.player.playing) is ∙ e);
     typed = λ e. ap (λ (w : Session). w.own.player.todo) is ∙ alone.typed e;
     left = left_same x.own.player new.own.player.todo alone (ap (λ (w : Session). w.own.player.todo) is);
     fit = fit_same x.own.player (own_of new.own) alone (ap (λ (w : Session). w.own.player.todo) is);
@@ -205,7 +205,7 @@ module _ (d : Directory) (ks : List MarkedBuffer) (y new : Session) (name : List
   left_stays : SearchStays left_one.own new.own → SearchStays w.own new.own
   left_stays stays = none_stays w.own new.own (stays_none left_one.own new.own refl stays)
 
-  key_left : (k : ByteStep) → is_keyed k ≡ true → IsByteStep d ks left_one new byte k → IsByteStep d ks w new byte (step_from (befores.Search was last) k)
+  key_left : (k : ByteStep) → is_keyed k ≡ true → IsByteStep d ks left_one new byte befores.Plain k → IsByteStep d ks w new byte (befores.Search was last) k
   key_left Kept keyed t = record { own = t.own; stays = left_stays t.stays; turn = λ v sees. key_comes v ∙ t.turn v sees; left = t.left; fit = t.fit }
   key_left Failed keyed t = record {
     own = t.own;
@@ -229,7 +229,7 @@ module _ (d : Directory) (ks : List MarkedBuffer) (y new : Session) (name : List
     quiet = t.quiet;
     typed = t.typed;
   }
-  key_left (Acts (deeds.Act a b)) keyed t = record {
+  key_left (Acts (deeds.Act a)) keyed t = record {
     own = t.own;
     stays = left_stays t.stays;
     ready = t.ready;
@@ -248,8 +248,8 @@ module _ (d : Directory) (ks : List MarkedBuffer) (y new : Session) (name : List
   }
   key_left (Acts _) keyed t = cc
 
-pub search_leaves : (d : Directory) (ks : List MarkedBuffer) (y left new : Session) (name : List ℕ) (origin anchor : ℕ) (f : Sought) (last : List ℕ) (byte : ℕ) (k : ByteStep) → last ≡ y.own.pattern → read_byte y.own.pattern f byte ≡ (f, step.Leaves) → left ≡ search_left f.pattern (unsearched y) → is_keyed k ≡ true → IsByteStep d ks left new byte k → IsByteStep d ks (searching (finding name origin anchor f) (unsearched y)) new byte (step_from (befores.Search (finding name origin anchor f) last) k)
-search_leaves d ks y left new name origin anchor f last byte k same read is keyed t = key_left d ks y new name origin anchor f last byte same read k keyed (subst (λ (g : Session). IsByteStep d ks g new byte k) is t)
+pub search_leaves : (d : Directory) (ks : List MarkedBuffer) (y left new : Session) (name : List ℕ) (origin anchor : ℕ) (f : Sought) (last : List ℕ) (byte : ℕ) (k : ByteStep) → last ≡ y.own.pattern → read_byte y.own.pattern f byte ≡ (f, step.Leaves) → left ≡ search_left f.pattern (unsearched y) → is_keyed k ≡ true → IsByteStep d ks left new byte befores.Plain k → IsByteStep d ks (searching (finding name origin anchor f) (unsearched y)) new byte (befores.Search (finding name origin anchor f) last) k
+search_leaves d ks y left new name origin anchor f last byte k same read is keyed t = key_left d ks y new name origin anchor f last byte same read k keyed (subst (λ (g : Session). IsByteStep d ks g new byte befores.Plain k) is t)
 
 -- what was read with the search string, as the session has it
 pub read_at : (pattern last : List ℕ) (s r : Sought) (byte : ℕ) (k e : SearchStep) → last ≡ pattern → read_byte last s byte ≡ (r, k) → k ≡ e → read_byte pattern s byte ≡ (r, e)
@@ -262,14 +262,14 @@ read_again pattern s r byte read =
     ap (λ (q : Sought). read_byte pattern q byte) same ∙ read
 
 -- such a byte leaves the search as it was
-pub foreign_step : (d : Directory) (ks : List MarkedBuffer) (y new : Session) (name : List ℕ) (origin anchor : ℕ) (f g : Sought) (byte : ℕ) (k : ByteStep) → read_byte y.own.pattern f byte ≡ (g, step.Leaves) → IsByteStep d ks (searching (finding name origin anchor g) y) new byte k → IsByteStep d ks (searching (finding name origin anchor f) y) new byte k
-foreign_step d ks y new name origin anchor f g byte k read t =
-    subst (λ (h : Sought). IsByteStep d ks (searching (finding name origin anchor h) y) new byte k) (sought_over y.own.pattern f g byte step.Leaves read tt) t
+pub foreign_step : (d : Directory) (ks : List MarkedBuffer) (y new : Session) (name : List ℕ) (origin anchor : ℕ) (f g : Sought) (byte : ℕ) (b : Before) (k : ByteStep) → read_byte y.own.pattern f byte ≡ (g, step.Leaves) → IsByteStep d ks (searching (finding name origin anchor g) y) new byte b k → IsByteStep d ks (searching (finding name origin anchor f) y) new byte b k
+foreign_step d ks y new name origin anchor f g byte b k read t =
+    subst (λ (h : Sought). IsByteStep d ks (searching (finding name origin anchor h) y) new byte b k) (sought_over y.own.pattern f g byte step.Leaves read tt) t
 
 -- a session that does not search
-pub still_search : (d : Directory) (ks : List MarkedBuffer) (y new : Session) (s : Search) (byte : ℕ) (k : ByteStep) → y ≡ unsearched y → IsByteStep d ks (searching s (unsearched y)) new byte k → IsByteStep d ks (searching s y) new byte k
-still_search d ks y new s byte k still t = subst (λ (z : Session). IsByteStep d ks (searching s z) new byte k) (sym still) t
+pub still_search : (d : Directory) (ks : List MarkedBuffer) (y new : Session) (s : Search) (byte : ℕ) (b : Before) (k : ByteStep) → y ≡ unsearched y → IsByteStep d ks (searching s (unsearched y)) new byte b k → IsByteStep d ks (searching s y) new byte b k
+still_search d ks y new s byte b k still t = subst (λ (z : Session). IsByteStep d ks (searching s z) new byte b k) (sym still) t
 
 -- a search by its parts
-pub aimed : (d : Directory) (ks : List MarkedBuffer) (y new : Session) (s : Search) (a : Aim) (byte : ℕ) (k : ByteStep) → s.aim ≡ a → IsByteStep d ks (searching (record s { aim = a }) y) new byte k → IsByteStep d ks (searching s y) new byte k
-aimed d ks y new s a byte k is t = subst (λ (b : Aim). IsByteStep d ks (searching (record s { aim = b }) y) new byte k) (sym is) t
+pub aimed : (d : Directory) (ks : List MarkedBuffer) (y new : Session) (s : Search) (a : Aim) (byte : ℕ) (b : Before) (k : ByteStep) → s.aim ≡ a → IsByteStep d ks (searching (record s { aim = a }) y) new byte b k → IsByteStep d ks (searching s y) new byte b k
+aimed d ks y new s a byte b k is t = subst (λ (c : Aim). IsByteStep d ks (searching (record s { aim = c }) y) new byte b k) (sym is) t

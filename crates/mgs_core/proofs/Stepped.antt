@@ -26,6 +26,7 @@ use Rattle.mgs_model.proofs.Ends.{call_fails, exit_fails}
 use Rattle.mgs_model.proofs.Saves.{act_saves_none}
 use Rattle.mgs_buffers.specs.MarkedBuffer.{MarkedBuffer}
 use Rattle.mgs_act.specs.Actions.{act_of}
+use Rattle.mgs_act.specs.declared.acts.KeyAct.{KeyAct}
 use Rattle.mgs_act.specs.declared.acts.KeyAct.TheVariants.{Unbound as unbound}
 use Rattle.mgs_maps.specs.Held.{Held, FedBy, is_bound}
 use Rattle.mgs_maps.specs.declared.maps.Fed.TheVariants as fed
@@ -36,7 +37,6 @@ use Rattle.mgs_session.specs.declared.search.Search.{Search}
 use Rattle.mgs_session.specs.Playing.{Playing, are_behind, are_played, rounds}
 use Rattle.mgs_session.specs.Sessions.{failed, holding, resting}
 use Rattle.mgs_world.specs.Worlds.{idle, mode_in, own_of, search_of}
-use Rattle.mgs_core.specs.declared.deeds.Deed.{Deed}
 use Rattle.mgs_core.specs.declared.deeds.Deed.TheVariants as deeds
 use Rattle.mgs_core.specs.declared.deeds.Before.{Before}
 use Rattle.mgs_core.specs.declared.deeds.Before.TheVariants as befores
@@ -44,7 +44,7 @@ use Rattle.mgs_core.specs.declared.keying.ByteStep.{ByteStep}
 use Rattle.mgs_core.specs.declared.keying.ByteStep.TheVariants.{Kept, Failed, Ends, Acts}
 use Rattle.mgs_core.specs.Prompted.{own_turn}
 use Rattle.mgs_core.specs.Steps.{command_act, started_by, started_own}
-use Rattle.mgs_core.specs.Stepped.{IsAlone, IsByteStep, IsCommandStep, IsLeft, IsStep, MacroPlayed, SearchStays, SeesNames, StepActs, StepEnds, StepFailed, StepKept, call_fault, fault_of, is_call, is_exit, refused_again, search_before, step_from}
+use Rattle.mgs_core.specs.Stepped.{IsAlone, IsByteStep, IsCommandStep, IsLeft, IsStep, MacroPlayed, SearchStays, SeesNames, StepActs, StepEnds, StepFailed, StepKept, call_fault, fault_of, is_call, is_exit, refused_again, search_before}
 use Rattle.mgs_core.specs.Turned.{IsFit, IsWithin, has_all, is_played, is_quiet, weight}
 use Rattle.mgs_core.proofs.Keyed.{command_done, command_here, turn_command, turn_kept, turn_unbound}
 
@@ -271,7 +271,7 @@ module _ (Sees : View → Type 0) (comes : View → Turn) (x new : Session) (c :
   acts_step : (b : Before) → is_bound c ≡ true → is_exit c ≡ false → is_call c ≡ false → IsAlone x.own.player → new ≡ resting x
       → refused_again b x.own.kind x.own.player.playing (own_of (resting x).own) ≡ refused_own (own_of x.own)
       → ((s : Option Search) → search_before b s ≡ x.own.search)
-      → StepActs Sees comes x.own.player.playing (IsLeft x.own.player) x new (deeds.Act (command_act c n) b)
+      → StepActs Sees comes x.own.player.playing (IsLeft x.own.player) x new b (deeds.Act (command_act c n))
   acts_step b bound goes_on calls alone same again search = record {
     own = same ∙ sym (ap (λ (s : Session). record x { own = s.own }) same);
     stays = none_stays x.own new.own (ap (λ (s : Session). s.own.search) same);
@@ -303,8 +303,8 @@ is_call_of _ h = cc
 pub command_step : (Sees : View → Type 0) (comes : View → Turn) (x new : Session) (c : Command) (n : Option ℕ) (b : Before) (step : ByteStep) → ((v : View) → Sees v → comes v ≡ command_turn (own_of (resting x).own) n c) → is_bound c ≡ true → IsAlone x.own.player
     → refused_again b x.own.kind x.own.player.playing (own_of (resting x).own) ≡ refused_own (own_of x.own)
     → ((s : Option Search) → search_before b s ≡ x.own.search)
-    → IsCommandStep (resting x) new c n b step
-    → IsStep Sees comes x.own.player.playing (IsLeft x.own.player) x new step
+    → IsCommandStep (resting x) new c n step
+    → IsStep Sees comes x.own.player.playing (IsLeft x.own.player) x new b step
 command_step Sees comes x new c n b Kept turn bound alone again search s = call_kept Sees comes x new c n turn (is_call_of c s.0) alone s.1
 command_step Sees comes x new c n b Failed turn bound alone again search s = by c refl s.fault
   where
@@ -321,18 +321,9 @@ command_step Sees comes x new c n b Failed turn bound alone again search s = by 
     by (Set _) is fault = cc
     by _ is fault = cc
 command_step Sees comes x new c n b Ends turn bound alone again search s = ended_step Sees comes x new c n turn (is_exit_of c s.0) s.1 s.2
-command_step Sees comes x new c n b (Acts (deeds.Act a q)) turn bound alone again search s =
-    let same : deeds.Act a q ≡ deeds.Act (command_act c n) b = ap (λ (k : _). deeds.Act k q) s.2 ∙ ap (deeds.Act (command_act c n)) s.3 in
-    subst (λ (d : Deed). StepActs Sees comes x.own.player.playing (IsLeft x.own.player) x new d) (sym same) (acts_step Sees comes x new c n turn b bound s.0 s.1 alone s.4 again search)
+command_step Sees comes x new c n b (Acts (deeds.Act a)) turn bound alone again search s =
+    subst (λ (k : KeyAct). StepActs Sees comes x.own.player.playing (IsLeft x.own.player) x new b (deeds.Act k)) (sym s.2) (acts_step Sees comes x new c n turn b bound s.0 s.1 alone s.3 again search)
 command_step Sees comes x new c n b (Acts _) turn bound alone again search s = absurd s
-
--- the same, where this was there before
-pub command_from : (x new : Session) (c : Command) (n : Option ℕ) (b : Before) (step : ByteStep) → IsCommandStep x new c n befores.Plain step → IsCommandStep x new c n b (step_from b step)
-command_from x new c n b Kept s = s
-command_from x new c n b Failed s = s
-command_from x new c n b Ends s = s
-command_from x new c n b (Acts (deeds.Act a e)) s = (s.0, s.1, s.2, refl, s.4)
-command_from x new c n b (Acts _) s = absurd s
 
 -- A KEY
 
@@ -346,7 +337,7 @@ plain_same x still none = λ i. record x { own = record x.own { search = still i
 again_plain : (x : Session) → x.own.search ≡ None → x.own.prompt ≡ None → refused_again befores.Plain x.own.kind x.own.player.playing (own_of (resting x).own) ≡ refused_own (own_of x.own)
 again_plain x still none = sym (ap (λ (y : Session). refused_own (own_of y.own)) (plain_same x still none))
 
-pub key_kept : (d : Directory) (ks : List MarkedBuffer) (x new : Session) (byte : ℕ) (k : Held) → x.own.search ≡ None → x.own.prompt ≡ None → IsAlone x.own.player → FedBy fed.Pending (key_read x.own.keyboard.argument x.own.keyboard.keys byte) k → new ≡ holding k x → IsByteStep d ks x new byte Kept
+pub key_kept : (d : Directory) (ks : List MarkedBuffer) (x new : Session) (byte : ℕ) (k : Held) → x.own.search ≡ None → x.own.prompt ≡ None → IsAlone x.own.player → FedBy fed.Pending (key_read x.own.keyboard.argument x.own.keyboard.keys byte) k → new ≡ holding k x → IsByteStep d ks x new byte befores.Plain Kept
 key_kept d ks x new byte k still none alone read held = record {
   own = held ∙ sym (ap (λ (s : Session). record x { own = s.own }) held);
   stays = none_stays x.own new.own (ap (λ (s : Session). s.own.search) held);
@@ -355,7 +346,7 @@ key_kept d ks x new byte k still none alone read held = record {
   fit = fit_same x.own.player (own_of new.own) alone (ap (λ (s : Session). s.own.player.todo) held);
 }
 
-pub key_unbound : (d : Directory) (ks : List MarkedBuffer) (x new : Session) (byte : ℕ) (k : Held) → x.own.search ≡ None → x.own.prompt ≡ None → IsAlone x.own.player → FedBy fed.Unbound (key_read x.own.keyboard.argument x.own.keyboard.keys byte) k → new ≡ resting x → IsByteStep d ks x new byte (Acts (deeds.Act unbound befores.Plain))
+pub key_unbound : (d : Directory) (ks : List MarkedBuffer) (x new : Session) (byte : ℕ) (k : Held) → x.own.search ≡ None → x.own.prompt ≡ None → IsAlone x.own.player → FedBy fed.Unbound (key_read x.own.keyboard.argument x.own.keyboard.keys byte) k → new ≡ resting x → IsByteStep d ks x new byte befores.Plain (Acts (deeds.Act unbound))
 key_unbound d ks x new byte k still none alone read same = record {
   own = same ∙ sym (ap (λ (s : Session). record x { own = s.own }) same);
   stays = none_stays x.own new.own (ap (λ (s : Session). s.own.search) same);
@@ -372,7 +363,7 @@ key_unbound d ks x new byte k still none alone read same = record {
   begins = λ h. cc;
 }
 
-pub key_command : (d : Directory) (ks : List MarkedBuffer) (x y new : Session) (byte : ℕ) (k : Held) (c : Command) (n : Option ℕ) (step : ByteStep) → x.own.search ≡ None → x.own.prompt ≡ None → IsAlone x.own.player → FedBy (fed.Run c n) (key_read x.own.keyboard.argument x.own.keyboard.keys byte) k → is_bound c ≡ true → y ≡ resting x → IsCommandStep y new c n befores.Plain step → IsByteStep d ks x new byte step
+pub key_command : (d : Directory) (ks : List MarkedBuffer) (x y new : Session) (byte : ℕ) (k : Held) (c : Command) (n : Option ℕ) (step : ByteStep) → x.own.search ≡ None → x.own.prompt ≡ None → IsAlone x.own.player → FedBy (fed.Run c n) (key_read x.own.keyboard.argument x.own.keyboard.keys byte) k → is_bound c ≡ true → y ≡ resting x → IsCommandStep y new c n step → IsByteStep d ks x new byte befores.Plain step
 key_command d ks x y new byte k c n step still none alone read bound rests s =
     command_step (SeesNames d ks x.user) (λ v. own_turn v x.own byte) x new c n befores.Plain step (λ v sees. turn_command v x.own byte k c n still none read) bound alone (again_plain x still none) (λ r. sym still)
-    (subst (λ (z : Session). IsCommandStep z new c n befores.Plain step) rests s)
+    (subst (λ (z : Session). IsCommandStep z new c n step) rests s)

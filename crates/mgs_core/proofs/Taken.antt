@@ -54,7 +54,7 @@ use Rattle.mgs_core.specs.declared.deeds.Before.{Before}
 use Rattle.mgs_core.specs.declared.deeds.Before.TheVariants as befores
 use Rattle.mgs_core.specs.declared.keying.ByteStep.TheVariants.{Kept, Failed, Ends, Acts}
 use Rattle.mgs_core.specs.Steps.{ActedBy, closed, started_by, started_own}
-use Rattle.mgs_core.specs.Stepped.{CanDo, IsReady, IsTurnStep, SearchStays, SeesNames, TurnLeft, before_of, deed_act, deed_own, deed_world, finds, is_finding, is_replacement, is_replacing, keys_left, may_want_memory, put_back, refused, search_again, search_before, seek_act, starts_replacing}
+use Rattle.mgs_core.specs.Stepped.{CanDo, IsReady, IsTurnStep, SearchStays, SeesNames, TurnLeft, asked_of, before_of, deed_act, deed_own, deed_world, finds, is_finding, is_replacement, is_replacing, keys_left, may_want_memory, put_back, refused, search_again, search_before, seek_act, starts_replacing}
 use Rattle.mgs_core.specs.Turned.{DeedBy, DeedRefused, IsLess, IsWithin, TurnDone, TurnEnds, TurnRefused, TurnedBy, IsFit, has_all, is_played, is_quiet, weight}
 use Rattle.mgs_core.proofs.Begun.{closed_own, search_still}
 use Rattle.mgs_core.proofs.Keyed.{acted_single}
@@ -162,38 +162,44 @@ quietly old new t id c h world = record {
   saves = told_none t.accepted (flat_map saved_by (act_effects old id c true)) (act_saves_none old id c true h);
 }
 
-pub skipped_quietly : (old new : World) (t : StoreTold) (id : ℕ) (xs : List Session) (at : ℕ) (deed : Deed) → deed ≡ deeds.Skip → IsReady deed (search_held at xs) (own_at at xs)
-    → ((s : Search) (r : Replacing) → search_held at xs ≡ Some s → s.aim ≡ Replace r → new ≡ act old id (Run (Move SkipMatch) None r.put) true) → ActedBy (deed_world deed id old) new t t id (deed_act (own_at at xs) deed)
-skipped_quietly old new t id xs at deed is ready world =
+pub skipped_quietly : (old new : World) (t : StoreTold) (id : ℕ) (xs : List Session) (at : ℕ) (b : Before) (deed : Deed) → deed ≡ deeds.Skip → IsReady deed (search_held at xs) (own_at at xs)
+    → ((s : Search) (r : Replacing) → search_held at xs ≡ Some s → s.aim ≡ Replace r → new ≡ act old id (Run (Move SkipMatch) None r.put) true) → ActedBy (deed_world b deed id old) new t t id (deed_act (own_at at xs) b deed)
+skipped_quietly old new t id xs at b deed is ready world =
     let there = replace_there xs at (subst (λ (e : Deed). IsReady e (search_held at xs) (own_at at xs)) is ready) in
     let did : ActedBy old new t t id (Run (Move SkipMatch) None (own_at at xs).input) = quietly old new t id (Run (Move SkipMatch) None (own_at at xs).input) refl
     (world there.0 there.1 there.2 there.3 ∙ sym (ap (λ (put : List ℕ). act old id (Run (Move SkipMatch) None put) true) there.4)) in
-    subst (λ (e : Deed). ActedBy (deed_world e id old) new t t id (deed_act (own_at at xs) e)) (sym is) did
+    subst (λ (e : Deed). ActedBy (deed_world b e id old) new t t id (deed_act (own_at at xs) b e)) (sym is) did
 
-pub replaced_quietly : (old new : World) (t : StoreTold) (id : ℕ) (xs : List Session) (at : ℕ) (deed : Deed) (last : Bool) → deed ≡ deeds.Replace last → IsReady deed (search_held at xs) (own_at at xs)
-    → ((s : Search) (r : Replacing) → search_held at xs ≡ Some s → s.aim ≡ Replace r → new ≡ act old id (Run (Alter (replacement last)) None r.put) true) → ActedBy (deed_world deed id old) new t t id (deed_act (own_at at xs) deed)
-replaced_quietly old new t id xs at deed last is ready world =
+pub replaced_quietly : (old new : World) (t : StoreTold) (id : ℕ) (xs : List Session) (at : ℕ) (b : Before) (deed : Deed) (last : Bool) → deed ≡ deeds.Replace last → IsReady deed (search_held at xs) (own_at at xs)
+    → ((s : Search) (r : Replacing) → search_held at xs ≡ Some s → s.aim ≡ Replace r → new ≡ act old id (Run (Alter (replacement last)) None r.put) true) → ActedBy (deed_world b deed id old) new t t id (deed_act (own_at at xs) b deed)
+replaced_quietly old new t id xs at b deed last is ready world =
     let there = replace_there xs at (subst (λ (e : Deed). IsReady e (search_held at xs) (own_at at xs)) is ready) in
     let did : ActedBy old new t t id (Run (Alter (replacement last)) None (own_at at xs).input) = quietly old new t id (Run (Alter (replacement last)) None (own_at at xs).input) refl
     (world there.0 there.1 there.2 there.3 ∙ sym (ap (λ (put : List ℕ). act old id (Run (Alter (replacement last)) None put) true) there.4)) in
-    subst (λ (e : Deed). ActedBy (deed_world e id old) new t t id (deed_act (own_at at xs) e)) (sym is) did
+    subst (λ (e : Deed). ActedBy (deed_world b e id old) new t t id (deed_act (own_at at xs) b e)) (sym is) did
 
-pub replaced_may : (w : World) (id : ℕ) (xs : List Session) (at : ℕ) (deed : Deed) (last : Bool) → deed ≡ deeds.Replace last → IsReady deed (search_held at xs) (own_at at xs)
-    → ((s : Search) (r : Replacing) → search_held at xs ≡ Some s → s.aim ≡ Replace r → may_be_refused (outcome_in w id (Run (Alter (replacement last)) None r.put) true) ≡ true) → may_be_refused (outcome_in w id (deed_act (own_at at xs) deed) true) ≡ true
-replaced_may w id xs at deed last is ready may =
+pub replaced_may : (w : World) (id : ℕ) (xs : List Session) (at : ℕ) (b : Before) (deed : Deed) (last : Bool) → deed ≡ deeds.Replace last → IsReady deed (search_held at xs) (own_at at xs)
+    → ((s : Search) (r : Replacing) → search_held at xs ≡ Some s → s.aim ≡ Replace r → may_be_refused (outcome_in w id (Run (Alter (replacement last)) None r.put) true) ≡ true) → may_be_refused (outcome_in w id (deed_act (own_at at xs) b deed) true) ≡ true
+replaced_may w id xs at b deed last is ready may =
     let there = replace_there xs at (subst (λ (e : Deed). IsReady e (search_held at xs) (own_at at xs)) is ready) in
-    ap (λ (e : Deed). may_be_refused (outcome_in w id (deed_act (own_at at xs) e) true)) is
+    ap (λ (e : Deed). may_be_refused (outcome_in w id (deed_act (own_at at xs) b e) true)) is
     ∙ ap (λ (put : List ℕ). may_be_refused (outcome_in w id (Run (Alter (replacement last)) None put) true)) there.4
     ∙ may there.0 there.1 there.2 there.3
 
-pub started_replacing : (old new : World) (t : StoreTold) (id : ℕ) (own : model.Own) (deed : Deed) (pattern put : List ℕ) → deed ≡ deeds.StartReplacing pattern put → new ≡ act (with_own id (replacing_own pattern put) old) id (Run (Move StartReplace) None put) true → ActedBy (deed_world deed id old) new t t id (deed_act own deed)
-started_replacing old new t id own deed pattern put is world =
-    subst (λ (e : Deed). ActedBy (deed_world e id old) new t t id (deed_act own e)) (sym is) (quietly (with_own id (replacing_own pattern put) old) new t id (Run (Move StartReplace) None put) refl world)
+pub started_replacing : (old new : World) (t : StoreTold) (id : ℕ) (own : model.Own) (b : Before) (deed : Deed) (p : PromptInput) (pattern put : List ℕ) → deed ≡ deeds.StartReplacing → p ≡ asked_of b → pattern ≡ p.first → put ≡ p.input → new ≡ act (with_own id (replacing_own pattern put) old) id (Run (Move StartReplace) None put) true → ActedBy (deed_world b deed id old) new t t id (deed_act own b deed)
+started_replacing old new t id own b deed p pattern put is asked first input world =
+    let f : List ℕ = (asked_of b).first in
+    let i : List ℕ = (asked_of b).input in
+    subst (λ (e : Deed). ActedBy (deed_world b e id old) new t t id (deed_act own b e)) (sym is)
+    (quietly (with_own id (replacing_own f i) old) new t id (Run (Move StartReplace) None i) refl
+    (world
+    ∙ ap (λ (xs : List ℕ). act (with_own id (replacing_own xs put) old) id (Run (Move StartReplace) None put) true) (first ∙ ap (λ (q : PromptInput). q.first) asked)
+    ∙ ap (λ (xs : List ℕ). act (with_own id (replacing_own f xs) old) id (Run (Move StartReplace) None xs) true) (input ∙ ap (λ (q : PromptInput). q.input) asked)))
 
 -- what is done leaves the store
-pub sought_quietly : (old new : World) (t : StoreTold) (id : ℕ) (xs : List Session) (at : ℕ) (deed : Deed) (step : SearchStep) → deed ≡ deeds.Seek step → IsReady deed (search_held at xs) (own_at at xs)
-    → ((s : Search) (f : Sought) → search_held at xs ≡ Some s → s.aim ≡ Find f → new ≡ act old id (Run (Move (SearchOn f.direction step)) None f.pattern) true) → ActedBy (deed_world deed id old) new t t id (deed_act (own_at at xs) deed)
-sought_quietly old new t id xs at deed step is ready world =
+pub sought_quietly : (old new : World) (t : StoreTold) (id : ℕ) (xs : List Session) (at : ℕ) (b : Before) (deed : Deed) (step : SearchStep) → deed ≡ deeds.Seek step → IsReady deed (search_held at xs) (own_at at xs)
+    → ((s : Search) (f : Sought) → search_held at xs ≡ Some s → s.aim ≡ Find f → new ≡ act old id (Run (Move (SearchOn f.direction step)) None f.pattern) true) → ActedBy (deed_world b deed id old) new t t id (deed_act (own_at at xs) b deed)
+sought_quietly old new t id xs at b deed step is ready world =
     let there = seek_there xs at step (subst (λ (e : Deed). IsReady e (search_held at xs) (own_at at xs)) is ready) in
     let c : Act = Run (Move (SearchOn there.1.direction step)) None there.1.pattern in
     let did : ActedBy old new t t id c = record {
@@ -202,17 +208,17 @@ sought_quietly old new t id xs at deed step is ready world =
       fault = λ e. cc;
       saves = told_none t.accepted (flat_map saved_by (act_effects old id c true)) (act_saves_none old id c true refl);
     }
-    in subst (λ (e : Deed). ActedBy (deed_world e id old) new t t id (deed_act (own_at at xs) e)) (sym is) (subst (ActedBy old new t t id) (sym there.4) did)
+    in subst (λ (e : Deed). ActedBy (deed_world b e id old) new t t id (deed_act (own_at at xs) b e)) (sym is) (subst (ActedBy old new t t id) (sym there.4) did)
 
-pub quit_quietly : (old new : World) (t : StoreTold) (id : ℕ) (own : model.Own) (deed : Deed) → deed ≡ deeds.QuitSearch → new ≡ act old id (Run LeaveSearch None []) true → ActedBy (deed_world deed id old) new t t id (deed_act own deed)
-quit_quietly old new t id own deed is world =
+pub quit_quietly : (old new : World) (t : StoreTold) (id : ℕ) (own : model.Own) (b : Before) (deed : Deed) → deed ≡ deeds.QuitSearch → new ≡ act old id (Run LeaveSearch None []) true → ActedBy (deed_world b deed id old) new t t id (deed_act own b deed)
+quit_quietly old new t id own b deed is world =
     let did : ActedBy old new t t id (Run LeaveSearch None []) = record {
       stored = true;
       world = world;
       fault = λ e. cc;
       saves = told_none t.accepted (flat_map saved_by (act_effects old id (Run LeaveSearch None []) true)) (act_saves_none old id (Run LeaveSearch None []) true refl);
     }
-    in subst (λ (e : Deed). ActedBy (deed_world e id old) new t t id (deed_act own e)) (sym is) did
+    in subst (λ (e : Deed). ActedBy (deed_world b e id old) new t t id (deed_act own b e)) (sym is) did
 
 -- A DEED THAT IS REFUSED
 
@@ -286,47 +292,47 @@ replacing_ready : (deed : Deed) (s : Option Search) (own : model.Own) → is_rep
 replacing_ready (deeds.Replace last) s own is ready = ready
 replacing_ready _ s own is ready = cc
 
-replacing_same : (deed : Deed) (s old : Option Search) → is_replacement deed ≡ true → (may_want_memory deed ≡ true → search_before (before_of deed) s ≡ old) → s ≡ old
-replacing_same (deeds.Replace last) s old is same = same refl
-replacing_same _ s old is same = cc
+replacing_same : (b : Before) (deed : Deed) (s old : Option Search) → is_replacement deed ≡ true → (may_want_memory deed ≡ true → search_before (before_of b deed) s ≡ old) → s ≡ old
+replacing_same b (deeds.Replace last) s old is same = same refl
+replacing_same b _ s old is same = cc
 
 seek_single : (mode : Mode) (step : SearchStep) (input : List ℕ) → is_single (seek_act mode step input) ≡ true
 seek_single (Searching d failing) step input = refl
 seek_single _ step input = refl
 
-deed_single : (own : model.Own) (deed : Deed) → CanDo deed → is_single (deed_act own deed) ≡ true
-deed_single own (deeds.Act a b) here = acted_single a here
-deed_single own (deeds.Answer p n) here = answered_single p.question n (meant p.question own.pattern p.input)
-deed_single own (deeds.Seek step) here = seek_single own.mode step own.input
-deed_single own _ here = refl
+deed_single : (own : model.Own) (b : Before) (deed : Deed) → CanDo b deed → is_single (deed_act own b deed) ≡ true
+deed_single own b (deeds.Act a) here = acted_single a here
+deed_single own b (deeds.Answer n) here = answered_single (asked_of b).question n (meant (asked_of b).question own.pattern (asked_of b).input)
+deed_single own b (deeds.Seek step) here = seek_single own.mode step own.input
+deed_single own b _ here = refl
 
 -- the record with which a deed is decided plays as much, and has as much to do
 started_playing : (d : Option Direction) (own : model.Own) → (started_own d own).playing ≡ own.playing
 started_playing None own = refl
 started_playing (Some d) own = refl
 
-deed_todo : (deed : Deed) (own : model.Own) → (deed_own deed own).todo ≡ own.todo
-deed_todo (deeds.Act a b) own = by (started_by a)
+deed_todo : (b : Before) (deed : Deed) (own : model.Own) → (deed_own b deed own).todo ≡ own.todo
+deed_todo b (deeds.Act a) own = by (started_by a)
   where
     by : (d : Option Direction) → (started_own d own).todo ≡ own.todo
     by None = refl
     by (Some d) = refl
-deed_todo _ own = refl
+deed_todo b _ own = refl
 
-deed_playing : (deed : Deed) (own : model.Own) → (deed_own deed own).playing ≡ own.playing
-deed_playing (deeds.Act a b) own = started_playing (started_by a) own
-deed_playing _ own = refl
+deed_playing : (b : Before) (deed : Deed) (own : model.Own) → (deed_own b deed own).playing ≡ own.playing
+deed_playing b (deeds.Act a) own = started_playing (started_by a) own
+deed_playing b _ own = refl
 
 -- one that takes memory starts nothing
-unstarted : (deed : Deed) (own : model.Own) → may_want_memory deed ≡ true → deed_own deed own ≡ own
-unstarted (deeds.Act a b) own wants = by (started_by a) wants
+unstarted : (b : Before) (deed : Deed) (own : model.Own) → may_want_memory deed ≡ true → deed_own b deed own ≡ own
+unstarted b (deeds.Act a) own wants = by (started_by a) wants
   where
     by : (d : Option Direction) → not (is_some d) ≡ true → started_own d own ≡ own
     by None h = refl
     by (Some d) h = cc
-unstarted (deeds.Answer p n) own wants = refl
-unstarted (deeds.Replace last) own wants = refl
-unstarted _ own wants = cc
+unstarted b (deeds.Answer n) own wants = refl
+unstarted b (deeds.Replace last) own wants = refl
+unstarted b _ own wants = cc
 
 -- a query-replace begins in a session that does not search
 begun_replacing : (w : World) (id : ℕ) (o : model.Own) (pattern put : List ℕ) (x : model.Session) → find_session id w.sessions ≡ Some x → x.search ≡ None → with_own id (replacing_own pattern put) (with_own id (λ was. o) w) ≡ with_own id (λ was. replacing_own pattern put o) w
@@ -343,12 +349,12 @@ begun_replacing w id o pattern put x found none =
         by true = refl
         by false = refl
 
-begun_deed : (w : World) (id : ℕ) (o : model.Own) (deed : Deed) (own : model.Own) (x : model.Session) (new : World) (before after : StoreTold) → find_session id w.sessions ≡ Some x → (starts_replacing deed ≡ true → x.search ≡ None)
-    → ActedBy (deed_world deed id (with_own id (λ was. o) w)) new before after id (deed_act own deed) → ActedBy (with_own id (λ was. deed_own deed o) w) new before after id (deed_act own deed)
-begun_deed w id o (deeds.Act a b) own x new before after found none did = begun_act w id o a x new before after found did
-begun_deed w id o (deeds.StartReplacing pattern put) own x new before after found none did =
-    subst (λ (v : World). ActedBy v new before after id (Run (Move StartReplace) None put)) (begun_replacing w id o pattern put x found (none refl)) did
-begun_deed w id o _ own x new before after found none did = did
+begun_deed : (w : World) (id : ℕ) (o : model.Own) (b : Before) (deed : Deed) (own : model.Own) (x : model.Session) (new : World) (before after : StoreTold) → find_session id w.sessions ≡ Some x → (starts_replacing deed ≡ true → x.search ≡ None)
+    → ActedBy (deed_world b deed id (with_own id (λ was. o) w)) new before after id (deed_act own b deed) → ActedBy (with_own id (λ was. deed_own b deed o) w) new before after id (deed_act own b deed)
+begun_deed w id o b (deeds.Act a) own x new before after found none did = begun_act w id o a x new before after found did
+begun_deed w id o b deeds.StartReplacing own x new before after found none did =
+    subst (λ (v : World). ActedBy v new before after id (Run (Move StartReplace) None (asked_of b).input)) (begun_replacing w id o (asked_of b).first (asked_of b).input x found (none refl)) did
+begun_deed w id o b _ own x new before after found none did = did
 
 -- of the session h at the place, which the turn makes y, before a deed
 module _ (d : Directory) (ks : List MarkedBuffer) (xs : List Session) (next : Option ℕ) (id at : ℕ) (h y : Session) (place : at ≡ position_or_len (session_id id) xs) (within : at < length xs) (is_h : h ≡ get_or xs at h) where
@@ -383,32 +389,32 @@ module _ (d : Directory) (ks : List MarkedBuffer) (xs : List Session) (next : Op
   turn_less m n replaces left within s none =
       omega (arith, s.less none, more_weight n 1048576 left within, none_weight m 1048576 h.own.player.todo none)
 
-  pub kept_less : (m n : ℕ) → n ≤ 1048576 → IsTurnStep d ks h y Kept → IsLess m n (own_at at xs).todo (own_at at (slice_set xs at y)).todo
-  kept_less m n within s =
+  pub kept_less : (b : Before) (m n : ℕ) → n ≤ 1048576 → IsTurnStep d ks h y b Kept → IsLess m n (own_at at xs).todo (own_at at (slice_set xs at y)).todo
+  kept_less b m n within s =
       subst (λ (todo : List Todo). IsLess m n todo (own_at at (slice_set xs at y)).todo) (sym todo_there)
       (subst (IsLess m n h.own.player.todo) (sym todo_put) (turn_less m n false y.own.player.todo within s.left (by (has_all h.own.player.todo) refl), s.left.played))
     where
-      by : (b : Bool) → has_all h.own.player.todo ≡ b → has_all h.own.player.todo ≡ false
+      by : (all : Bool) → has_all h.own.player.todo ≡ all → has_all h.own.player.todo ≡ false
       by true e = (let replaces = (s.left.same e).0 in cc)
       by false e = e
 
-  pub kept_fit : IsTurnStep d ks h y Kept → IsFit (own_at at (slice_set xs at y))
-  kept_fit s = subst IsFit (sym (own_put xs at y within)) s.fit
+  pub kept_fit : (b : Before) → IsTurnStep d ks h y b Kept → IsFit (own_at at (slice_set xs at y))
+  kept_fit b s = subst IsFit (sym (own_put xs at y within)) s.fit
 
-  pub kept_turn : (t : StoreTold) → IsTurnStep d ks h y Kept → TurnDone (is_played (own_at at xs).todo) (own_at at (slice_set xs at y)).todo (world_of d ks xs next) (world_of d ks (slice_set xs at y) next) t t id
-  kept_turn t s = record { own = own_of y.own; act = None; turn = next_turn (Keep (own_of y.own)) s.turn; done = (changed s.own s.stays, refl) }
+  pub kept_turn : (b : Before) (t : StoreTold) → IsTurnStep d ks h y b Kept → TurnDone (is_played (own_at at xs).todo) (own_at at (slice_set xs at y)).todo (world_of d ks xs next) (world_of d ks (slice_set xs at y) next) t t id
+  kept_turn b t s = record { own = own_of y.own; act = None; turn = next_turn (Keep (own_of y.own)) s.turn; done = (changed s.own s.stays, refl) }
 
-  failed_none : IsTurnStep d ks h y Failed → (own_at at (slice_set xs at y)).todo ≡ []
-  failed_none s = todo_put ∙ ap (λ (o : model.Own). o.todo) s.told
+  failed_none : (b : Before) → IsTurnStep d ks h y b Failed → (own_at at (slice_set xs at y)).todo ≡ []
+  failed_none b s = todo_put ∙ ap (λ (o : model.Own). o.todo) s.told
 
-  pub failed_less : (m n : ℕ) → IsTurnStep d ks h y Failed → ((own_at at xs).todo ≡ [] → ⊥) → IsLess m n (own_at at xs).todo (own_at at (slice_set xs at y)).todo
-  failed_less m n s some = subst (IsLess m n (own_at at xs).todo) (sym (failed_none s)) (some_left m (own_at at xs).todo some, refl)
+  pub failed_less : (b : Before) (m n : ℕ) → IsTurnStep d ks h y b Failed → ((own_at at xs).todo ≡ [] → ⊥) → IsLess m n (own_at at xs).todo (own_at at (slice_set xs at y)).todo
+  failed_less b m n s some = subst (IsLess m n (own_at at xs).todo) (sym (failed_none b s)) (some_left m (own_at at xs).todo some, refl)
 
-  pub failed_fit : IsTurnStep d ks h y Failed → IsFit (own_at at (slice_set xs at y))
-  failed_fit s = fit_empty (own_at at (slice_set xs at y)) (failed_none s)
+  pub failed_fit : (b : Before) → IsTurnStep d ks h y b Failed → IsFit (own_at at (slice_set xs at y))
+  failed_fit b s = fit_empty (own_at at (slice_set xs at y)) (failed_none b s)
 
-  pub failed_turn : (t : StoreTold) → IsTurnStep d ks h y Failed → TurnDone (is_played (own_at at xs).todo) (own_at at (slice_set xs at y)).todo (world_of d ks xs next) (world_of d ks (slice_set xs at y) next) t t id
-  failed_turn t s =
+  pub failed_turn : (b : Before) (t : StoreTold) → IsTurnStep d ks h y b Failed → TurnDone (is_played (own_at at xs).todo) (own_at at (slice_set xs at y)).todo (world_of d ks xs next) (world_of d ks (slice_set xs at y) next) t t id
+  failed_turn b t s =
       let w : World = world_of d ks xs next in
       let v : World = with_own id (λ was. s.before) w in
       record {
@@ -416,8 +422,8 @@ module _ (d : Directory) (ks : List MarkedBuffer) (xs : List Session) (next : Op
         act = Some s.act;
         turn = next_turn (Do s.before s.act) s.turn;
         done = (
-          λ plays. ap (λ (b : Bool). is_quiet b s.act) (s.playing ∙ sym (ap is_played todo_there) ∙ plays),
-          λ typed. failed_none s,
+          λ plays. ap (λ (p : Bool). is_quiet p s.act) (s.playing ∙ sym (ap is_played todo_there) ∙ plays),
+          λ typed. failed_none b s,
           record {
             stored = true;
             world =
@@ -430,8 +436,8 @@ module _ (d : Directory) (ks : List MarkedBuffer) (xs : List Session) (next : Op
         );
       }
 
-  pub ends_turn : (t : StoreTold) → IsTurnStep d ks h y Ends → TurnEnds (is_played (own_at at xs).todo) (world_of d ks xs next) (world_of d ks (slice_set xs at y) next) t t id
-  ends_turn t s = record {
+  pub ends_turn : (b : Before) (t : StoreTold) → IsTurnStep d ks h y b Ends → TurnEnds (is_played (own_at at xs).todo) (world_of d ks xs next) (world_of d ks (slice_set xs at y) next) t t id
+  ends_turn b t s = record {
     own = s.before;
     argument = s.argument;
     turn = next_turn (Do s.before (Run Exit s.argument [])) s.turn;
@@ -442,13 +448,13 @@ module _ (d : Directory) (ks : List MarkedBuffer) (xs : List Session) (next : Op
   }
 
   -- and where there is a deed
-  module _ (deed : Deed) (s : IsTurnStep d ks h y (Acts deed)) where
+  module _ (b : Before) (deed : Deed) (s : IsTurnStep d ks h y b (Acts deed)) where
     -- with this record it is decided
     abbrev own : model.Own
-    own = deed_own deed (own_of y.own)
+    own = deed_own b deed (own_of y.own)
 
     abbrev act_done : Act
-    act_done = deed_act (own_of y.own) deed
+    act_done = deed_act (own_of y.own) b deed
 
     deed_turn : turn_in old id ≡ Do own act_done
     deed_turn = next_turn (Do own act_done) s.turn
@@ -457,11 +463,11 @@ module _ (d : Directory) (ks : List MarkedBuffer) (xs : List Session) (next : Op
     put = own_put xs at y within
 
     -- it is done in the world that the turn leaves
-    done_from : (new : World) (before after : StoreTold) → ActedBy (deed_world deed id begun) new before after id (deed_act (own_at at (slice_set xs at y)) deed) → ActedBy (with_own id (λ was. own) old) new before after id act_done
+    done_from : (new : World) (before after : StoreTold) → ActedBy (deed_world b deed id begun) new before after id (deed_act (own_at at (slice_set xs at y)) b deed) → ActedBy (with_own id (λ was. own) old) new before after id act_done
     done_from new before after did =
-        begun_deed old id (own_of y.own) deed (own_of y.own) (session_of ks h) new before after (session_some d ks xs next id at h place within is_h) (λ starts. ap (search_of (buffers_of ks)) (s.begins starts))
-        (subst (λ (v : World). ActedBy (deed_world deed id v) new before after id act_done) (changed s.own s.stays)
-        (subst (λ (o : model.Own). ActedBy (deed_world deed id begun) new before after id (deed_act o deed)) put did))
+        begun_deed old id (own_of y.own) b deed (own_of y.own) (session_of ks h) new before after (session_some d ks xs next id at h place within is_h) (λ starts. ap (search_of (buffers_of ks)) (s.begins starts))
+        (subst (λ (v : World). ActedBy (deed_world b deed id v) new before after id act_done) (changed s.own s.stays)
+        (subst (λ (o : model.Own). ActedBy (deed_world b deed id begun) new before after id (deed_act o b deed)) put did))
 
     -- what holds of what is to be done, and of nothing, holds of what the deed leaves
     deed_leaves : (P : List Todo → Type 0) → P [] → ((todo : List Todo) → P todo → P (without_all todo)) → P y.own.player.todo → (K : List MarkedBuffer) (ys : List Session) (before after : StoreTold) → sizes_in ys ≡ sizes_in xs
@@ -470,17 +476,17 @@ module _ (d : Directory) (ks : List MarkedBuffer) (xs : List Session) (next : Op
         let w : World = world_of d ks xs next in
         let z = open_at d K ys next id at (place_same id at xs ys place same) (within_still at xs ys within same) in
         subst P z.2
-        (todo_acted P none rest w id own act_done did.stored (session_of ks h) z.0 (session_some d ks xs next id at h place within is_h) (single_brief own act_done (deed_single (own_of y.own) deed s.here)) (subst P (sym (deed_todo deed (own_of y.own))) holds)
+        (todo_acted P none rest w id own act_done did.stored (session_of ks h) z.0 (session_some d ks xs next id at h place within is_h) (single_brief own act_done (deed_single (own_of y.own) b deed s.here)) (subst P (sym (deed_todo b deed (own_of y.own))) holds)
         (ap (λ (v : World). find_session id v.sessions) (sym did.world) ∙ z.1))
 
     -- what further replacements leave: all that was to be done, or none of them
     pub acted_less : (m n : ℕ) (K : List MarkedBuffer) (ys : List Session) (before after : StoreTold) (kind : Kind) (playing : Bool) (k : Keyed) → n ≤ 1048576 → k ≡ keyed.Done → sizes_in ys ≡ sizes_in xs
-        → DeedBy (world_of d ks (slice_set xs at y) next) (deed_world deed id (world_of d ks (slice_set xs at y) next)) (world_of d K ys next) before after id (may_want_memory deed) (deed_act (own_at at (slice_set xs at y)) deed) (put_back (buffers_of ks) (before_of deed) kind playing) k
+        → DeedBy (world_of d ks (slice_set xs at y) next) (deed_world b deed id (world_of d ks (slice_set xs at y) next)) (world_of d K ys next) before after id (may_want_memory deed) (deed_act (own_at at (slice_set xs at y)) b deed) (put_back (buffers_of ks) (before_of b deed) kind playing) k
         → has_all h.own.player.todo ≡ false
         → IsLess m n (own_at at xs).todo (own_at at ys).todo
     acted_less m n K ys before after kind playing k small is same by none =
         let new : World = world_of d K ys next in
-        let did = deed_done begun (deed_world deed id begun) new before after id (may_want_memory deed) (deed_act (own_at at (slice_set xs at y)) deed) (put_back (buffers_of ks) (before_of deed) kind playing) k is by in
+        let did = deed_done begun (deed_world b deed id begun) new before after id (may_want_memory deed) (deed_act (own_at at (slice_set xs at y)) b deed) (put_back (buffers_of ks) (before_of b deed) kind playing) k is by in
         let left = deed_leaves (IsWithin (weight 1048576 y.own.player.todo)) (omega arith, refl) (without_within (weight 1048576 y.own.player.todo)) (omega arith, s.left.played) K ys before after same (done_from new before after did) in
         let most = more_weight n 1048576 (own_at at ys).todo small in
         let first = s.left.less none in
@@ -489,32 +495,32 @@ module _ (d : Directory) (ks : List MarkedBuffer) (xs : List Session) (next : Op
 
     -- or by one of all further replacements
     pub replaced_less : (m n : ℕ) (K : List MarkedBuffer) (ys : List Session) (before after : StoreTold) (kind : Kind) (playing : Bool) (k : Keyed) → k ≡ keyed.Done → sizes_in ys ≡ sizes_in xs
-        → DeedBy (world_of d ks (slice_set xs at y) next) (deed_world deed id (world_of d ks (slice_set xs at y) next)) (world_of d K ys next) before after id (may_want_memory deed) (deed_act (own_at at (slice_set xs at y)) deed) (put_back (buffers_of ks) (before_of deed) kind playing) k
+        → DeedBy (world_of d ks (slice_set xs at y) next) (deed_world b deed id (world_of d ks (slice_set xs at y) next)) (world_of d K ys next) before after id (may_want_memory deed) (deed_act (own_at at (slice_set xs at y)) b deed) (put_back (buffers_of ks) (before_of b deed) kind playing) k
         → has_all h.own.player.todo ≡ true → (has_all (own_at at ys).todo ≡ true → n < m)
         → IsLess m n (own_at at xs).todo (own_at at ys).todo
     replaced_less m n K ys before after kind playing k is same by all further =
         let new : World = world_of d K ys next in
         let todo : List Todo = h.own.player.todo in
-        let did = deed_done begun (deed_world deed id begun) new before after id (may_want_memory deed) (deed_act (own_at at (slice_set xs at y)) deed) (put_back (buffers_of ks) (before_of deed) kind playing) k is by in
+        let did = deed_done begun (deed_world b deed id begun) new before after id (may_want_memory deed) (deed_act (own_at at (slice_set xs at y)) b deed) (put_back (buffers_of ks) (before_of b deed) kind playing) k is by in
         let stays = s.left.same all in
         let left = deed_leaves (AllLeft m todo) (all_none m todo all) (all_without m todo all stays.2) (subst (AllLeft m todo) (sym stays.1) (all_same m todo all (ap is_played (sym stays.1) ∙ s.left.played))) K ys before after same (done_from new before after did) in
         subst (λ (ts : List Todo). IsLess m n ts (own_at at ys).todo) (sym todo_there) (all_less m n todo (own_at at ys).todo all left further)
 
     -- further replacements are left only where the session goes on to replace
     pub acted_fit : (K : List MarkedBuffer) (ys : List Session) (before after : StoreTold) (kind : Kind) (playing : Bool) (k : Keyed) → k ≡ keyed.Done → sizes_in ys ≡ sizes_in xs
-        → DeedBy (world_of d ks (slice_set xs at y) next) (deed_world deed id (world_of d ks (slice_set xs at y) next)) (world_of d K ys next) before after id (may_want_memory deed) (deed_act (own_at at (slice_set xs at y)) deed) (put_back (buffers_of ks) (before_of deed) kind playing) k
+        → DeedBy (world_of d ks (slice_set xs at y) next) (deed_world b deed id (world_of d ks (slice_set xs at y) next)) (world_of d K ys next) before after id (may_want_memory deed) (deed_act (own_at at (slice_set xs at y)) b deed) (put_back (buffers_of ks) (before_of b deed) kind playing) k
         → IsFit (own_at at ys)
     acted_fit K ys before after kind playing k is same by =
         let new : World = world_of d K ys next in
         either (has_all y.own.player.todo) refl
-        (done_from new before after (deed_done begun (deed_world deed id begun) new before after id (may_want_memory deed) (deed_act (own_at at (slice_set xs at y)) deed) (put_back (buffers_of ks) (before_of deed) kind playing) k is by))
+        (done_from new before after (deed_done begun (deed_world b deed id begun) new before after id (may_want_memory deed) (deed_act (own_at at (slice_set xs at y)) b deed) (put_back (buffers_of ks) (before_of b deed) kind playing) k is by))
       where
-        either : (b : Bool) → has_all y.own.player.todo ≡ b → ActedBy (with_own id (λ was. own) old) (world_of d K ys next) before after id act_done → IsFit (own_at at ys)
+        either : (all : Bool) → has_all y.own.player.todo ≡ all → ActedBy (with_own id (λ was. own) old) (world_of d K ys next) before after id act_done → IsFit (own_at at ys)
         either true e did =
             let r = s.further e in
             let z = open_own d K ys next id at (place_same id at xs ys place same) (within_still at xs ys within same) in
             subst IsFit z.2
-            (replaced_fits (world_of d ks xs next) id (own_of y.own) deed did.stored (session_of ks h) z.0 (session_some d ks xs next id at h place within is_h) r.0 s.fit e r.1
+            (replaced_fits (world_of d ks xs next) id (own_of y.own) b deed did.stored (session_of ks h) z.0 (session_some d ks xs next id at h place within is_h) r.0 s.fit e r.1
             (ap (λ (v : World). find_session id v.sessions) (sym did.world) ∙ z.1))
         either false e did =
             fit_none (own_at at ys)
@@ -522,7 +528,7 @@ module _ (d : Directory) (ks : List MarkedBuffer) (xs : List Session) (next : Op
 
     -- less is left in any case
     pub acts_less : (K : List MarkedBuffer) (ys : List Session) (before after : StoreTold) (kind : Kind) (playing : Bool) (k : Keyed) → AreWithinLimit K → k ≡ keyed.Done → sizes_in ys ≡ sizes_in xs
-        → DeedBy (world_of d ks (slice_set xs at y) next) (deed_world deed id (world_of d ks (slice_set xs at y) next)) (world_of d K ys next) before after id (may_want_memory deed) (deed_act (own_at at (slice_set xs at y)) deed) (put_back (buffers_of ks) (before_of deed) kind playing) k
+        → DeedBy (world_of d ks (slice_set xs at y) next) (deed_world b deed id (world_of d ks (slice_set xs at y) next)) (world_of d K ys next) before after id (may_want_memory deed) (deed_act (own_at at (slice_set xs at y)) b deed) (put_back (buffers_of ks) (before_of b deed) kind playing) k
         → ((s t : Search) → is_replacement deed ≡ true → search_held at (slice_set xs at y) ≡ Some s → search_held at ys ≡ Some t → 0 < length (aim_old s.aim) → remaining_at at K ys < remaining_at at ks (slice_set xs at y))
         → IsLess (remaining_at at ks xs) (remaining_at at K ys) (own_at at xs).todo (own_at at ys).todo
     acts_less K ys before after kind playing k limits is same by further = either (has_all h.own.player.todo) refl
@@ -534,10 +540,10 @@ module _ (d : Directory) (ks : List MarkedBuffer) (xs : List Session) (next : Op
             let then = search_is (search_held at ys) (replacing_held (slice_get ys at) (acted_fit K ys before after kind playing k is same by all).0) in
             let some = subst (λ (o : Option Search). 0 < length (old_in o y.own.prompt)) now.1 (s.fit (ap has_all stays.1 ∙ e)).1 in
             let less = further now.0 then.0 stays.0 (search_put xs at y within ∙ now.1) then.1 some in
-            let alike : remaining_at at ks (slice_set xs at y) ≡ remaining_at at ks xs = ap (remaining_in ks) (search_put xs at y within ∙ replacing_same deed y.own.search h.own.search stays.0 s.search ∙ sym (ap search_or_none (session_there xs at h within is_h))) in
+            let alike : remaining_at at ks (slice_set xs at y) ≡ remaining_at at ks xs = ap (remaining_in ks) (search_put xs at y within ∙ replacing_same b deed y.own.search h.own.search stays.0 s.search ∙ sym (ap search_or_none (session_there xs at h within is_h))) in
             omega (arith, less, alike)
 
-        either : (b : Bool) → has_all h.own.player.todo ≡ b → IsLess (remaining_at at ks xs) (remaining_at at K ys) (own_at at xs).todo (own_at at ys).todo
+        either : (all : Bool) → has_all h.own.player.todo ≡ all → IsLess (remaining_at at ks xs) (remaining_at at K ys) (own_at at xs).todo (own_at at ys).todo
         either true e = replaced_less (remaining_at at ks xs) (remaining_at at K ys) K ys before after kind playing k is same by e (fewer e)
         either false e = acted_less (remaining_at at ks xs) (remaining_at at K ys) K ys before after kind playing k (left_within at K ys limits) is same by e
 
@@ -547,23 +553,23 @@ module _ (d : Directory) (ks : List MarkedBuffer) (xs : List Session) (next : Op
       act = Some act_done;
       turn = deed_turn;
       done = (
-        λ plays. ap (λ (b : Bool). is_quiet b act_done) (deed_playing deed (own_of y.own)) ∙ s.playing (sym (ap is_played todo_there) ∙ plays),
+        λ plays. ap (λ (p : Bool). is_quiet p act_done) (deed_playing b deed (own_of y.own)) ∙ s.playing (sym (ap is_played todo_there) ∙ plays),
         λ typed. deed_leaves (λ (todo : List Todo). todo ≡ []) refl (λ todo e. ap without_all e) (s.typed (sym (ap is_played todo_there) ∙ typed)) K ys before after same did,
         did,
       );
     }
 
     -- what was there before is there again in the session as it was before the turn
-    back : may_want_memory deed ≡ true → (let f : model.Session → model.Session = put_back (buffers_of ks) (before_of deed) h.own.kind h.own.player.playing in f (own_set (λ was. own_of y.own) (session_of ks h)) ≡ own_set refused_own (session_of ks h))
+    back : may_want_memory deed ≡ true → (let f : model.Session → model.Session = put_back (buffers_of ks) (before_of b deed) h.own.kind h.own.player.playing in f (own_set (λ was. own_of y.own) (session_of ks h)) ≡ own_set refused_own (session_of ks h))
     back wants =
-        let found : search_again (buffers_of ks) (before_of deed) (cond (searches (own_of y.own).mode) (search_of (buffers_of ks) h.own.search) None) ≡ cond (searches (own_of h.own).mode) (search_of (buffers_of ks) h.own.search) None =
-        ap (search_again (buffers_of ks) (before_of deed)) (sym (s.stays (buffers_of ks))) ∙ search_back (buffers_of ks) (before_of deed) y.own.search ∙ ap (search_of (buffers_of ks)) (s.search wants) ∙ search_still (buffers_of ks) h.own.search h.own.prompt in
+        let found : search_again (buffers_of ks) (before_of b deed) (cond (searches (own_of y.own).mode) (search_of (buffers_of ks) h.own.search) None) ≡ cond (searches (own_of h.own).mode) (search_of (buffers_of ks) h.own.search) None =
+        ap (search_again (buffers_of ks) (before_of b deed)) (sym (s.stays (buffers_of ks))) ∙ search_back (buffers_of ks) (before_of b deed) y.own.search ∙ ap (search_of (buffers_of ks)) (s.search wants) ∙ search_still (buffers_of ks) h.own.search h.own.prompt in
         λ i. record (session_of ks h) { search = found i; own = s.again wants i }
 
-    refused_turn : (new : World) (before after : StoreTold) → DeedRefused begun new before after id (may_want_memory deed) act_done (put_back (buffers_of ks) (before_of deed) h.own.kind h.own.player.playing) → TurnRefused old new before after id
+    refused_turn : (new : World) (before after : StoreTold) → DeedRefused begun new before after id (may_want_memory deed) act_done (put_back (buffers_of ks) (before_of b deed) h.own.kind h.own.player.playing) → TurnRefused old new before after id
     refused_turn new before after r =
         let w : World = world_of d ks xs next in
-        let f : model.Session → model.Session = put_back (buffers_of ks) (before_of deed) h.own.kind h.own.player.playing in
+        let f : model.Session → model.Session = put_back (buffers_of ks) (before_of b deed) h.own.kind h.own.player.playing in
         let g : model.Session → model.Session = own_set (λ was. own_of y.own) in
         record {
           own = own;
@@ -571,19 +577,19 @@ module _ (d : Directory) (ks : List MarkedBuffer) (xs : List Session) (next : Op
           turn = deed_turn;
           told =
               r.told
-              ∙ ap (world_back (buffers_of ks) (before_of deed) h.own.kind h.own.player.playing id) (changed s.own s.stays)
+              ∙ ap (world_back (buffers_of ks) (before_of b deed) h.own.kind h.own.player.playing id) (changed s.own s.stays)
               ∙ ap (λ (zs : List model.Session). record w { sessions = zs })
               (change_twice (has_id id) f g (λ (x : model.Session). f (g x)) (λ x. refl) (λ x. refl) w.sessions
               ∙ change_first_found (has_id id) (λ (x : model.Session). f (g x)) (own_set refused_own) (session_of ks h) w.sessions (session_some d ks xs next id at h place within is_h) (back r.wants));
           may =
-              ap (λ (o : model.Own). may_be_refused (outcome_in (with_own id (λ was. o) w) id act_done true)) (unstarted deed (own_of y.own) r.wants)
+              ap (λ (o : model.Own). may_be_refused (outcome_in (with_own id (λ was. o) w) id act_done true)) (unstarted b deed (own_of y.own) r.wants)
               ∙ sym (ap (λ (v : World). may_be_refused (outcome_in v id act_done true)) (changed s.own s.stays))
               ∙ r.may;
           accepted = r.accepted;
         }
 
     pub deed_turned : (K : List MarkedBuffer) (ys : List Session) (before after : StoreTold) (kind : Kind) (playing : Bool) (k : Keyed) → kind ≡ h.own.kind → playing ≡ h.own.player.playing → sizes_in ys ≡ sizes_in xs
-        → DeedBy (world_of d ks (slice_set xs at y) next) (deed_world deed id (world_of d ks (slice_set xs at y) next)) (world_of d K ys next) before after id (may_want_memory deed) (deed_act (own_at at (slice_set xs at y)) deed) (put_back (buffers_of ks) (before_of deed) kind playing) k
+        → DeedBy (world_of d ks (slice_set xs at y) next) (deed_world b deed id (world_of d ks (slice_set xs at y) next)) (world_of d K ys next) before after id (may_want_memory deed) (deed_act (own_at at (slice_set xs at y)) b deed) (put_back (buffers_of ks) (before_of b deed) kind playing) k
         → TurnedBy (is_played (own_at at xs).todo) (own_at at ys).todo (world_of d ks xs next) (world_of d K ys next) before after id k
     deed_turned K ys before after kind playing keyed.Done of_kind of_play same did =
         acted_turn K ys before after same (done_from (world_of d K ys next) before after did)
@@ -591,8 +597,8 @@ module _ (d : Directory) (ks : List MarkedBuffer) (xs : List Session) (next : Op
         let begin : World = world_of d ks (slice_set xs at y) next in
         let new : World = world_of d K ys next in
         refused_turn new before after
-        (subst (λ (b : Bool). DeedRefused begin new before after id (may_want_memory deed) act_done (put_back (buffers_of ks) (before_of deed) h.own.kind b)) of_play
-        (subst (λ (c : Kind). DeedRefused begin new before after id (may_want_memory deed) act_done (put_back (buffers_of ks) (before_of deed) c playing)) of_kind
-        (subst (λ (o : model.Own). DeedRefused begin new before after id (may_want_memory deed) (deed_act o deed) (put_back (buffers_of ks) (before_of deed) kind playing)) put r)))
+        (subst (λ (p : Bool). DeedRefused begin new before after id (may_want_memory deed) act_done (put_back (buffers_of ks) (before_of b deed) h.own.kind p)) of_play
+        (subst (λ (c : Kind). DeedRefused begin new before after id (may_want_memory deed) act_done (put_back (buffers_of ks) (before_of b deed) c playing)) of_kind
+        (subst (λ (o : model.Own). DeedRefused begin new before after id (may_want_memory deed) (deed_act o b deed) (put_back (buffers_of ks) (before_of b deed) kind playing)) put r)))
     deed_turned K ys before after kind playing keyed.Quit of_kind of_play same e = absurd e
     deed_turned K ys before after kind playing keyed.NoSession of_kind of_play same e = absurd e

@@ -65,21 +65,21 @@ mode_replacing (Some s) p e = by s.aim e
 
 -- THE KIND OF THE LAST COMMAND is no part of what a deed is
 ready_other : (deed : Deed) (s : Option Search) (o : model.Own) → IsReady deed s o → IsReady deed s (record o { kind = Other })
-ready_other (deeds.Act a b) s o h = ap (λ (p : model.Own). record p { kind = Other }) h
-ready_other (deeds.Answer p n) s o h = ap (λ (p : model.Own). record p { kind = Other }) h
-ready_other (deeds.StartReplacing pattern put) s o h = ap (λ (p : model.Own). record p { kind = Other }) h
+ready_other (deeds.Act a) s o h = ap (λ (p : model.Own). record p { kind = Other }) h
+ready_other (deeds.Answer n) s o h = ap (λ (p : model.Own). record p { kind = Other }) h
+ready_other deeds.StartReplacing s o h = ap (λ (p : model.Own). record p { kind = Other }) h
 ready_other _ s o h = h
 
-act_other : (deed : Deed) (o : model.Own) → deed_act o deed ≡ deed_act (record o { kind = Other }) deed
-act_other _ o = refl
+act_other : (b : Before) (deed : Deed) (o : model.Own) → deed_act o b deed ≡ deed_act (record o { kind = Other }) b deed
+act_other b _ o = refl
 
 started_other : (d : Option Direction) (o : model.Own) → record (started_own d o) { kind = Other } ≡ started_own d (record o { kind = Other })
 started_other None o = refl
 started_other (Some d) o = refl
 
-deed_other : (deed : Deed) (o : model.Own) → record (deed_own deed o) { kind = Other } ≡ deed_own deed (record o { kind = Other })
-deed_other (deeds.Act a b) o = started_other (started_by a) o
-deed_other _ o = refl
+deed_other : (b : Before) (deed : Deed) (o : model.Own) → record (deed_own b deed o) { kind = Other } ≡ deed_own b deed (record o { kind = Other })
+deed_other b (deeds.Act a) o = started_other (started_by a) o
+deed_other b _ o = refl
 
 again_other : (b : Before) (k : Kind) (p : Bool) (o : model.Own) → refused_again b k p (record o { kind = Other }) ≡ refused_again b k p o
 again_other befores.Plain k p o = refl
@@ -89,11 +89,11 @@ again_other befores.Held k p o = refl
 
 -- THE FIRST BYTE of a play
 
-module _ (d : Directory) (ks : List MarkedBuffer) (own : model.Own) (x y new : Session) (byte : ℕ) (plays : x.own.player.playing ≡ true) (all : are_played x.own.player.todo ≡ true) where
+module _ (d : Directory) (ks : List MarkedBuffer) (own : model.Own) (x y new : Session) (byte : ℕ) (b : Before) (plays : x.own.player.playing ≡ true) (all : are_played x.own.player.todo ≡ true) where
   at_most : (todo : List Todo) → IsLeft x.own.player todo → IsWithin (1048577 + weight 1048576 x.own.player.todo) todo
   at_most todo left = left.played plays (weight 1048576 x.own.player.todo) (omega arith, played_of x.own.player.todo all)
 
-  pub first_kept : (p : Playing) → IsByteStep d ks x y byte Kept → p ≡ record y.own.player { todo = Play ∷ y.own.player.todo } → new ≡ playing_as p y → IsFirstStep d ks own x new byte Kept
+  pub first_kept : (p : Playing) → IsByteStep d ks x y byte b Kept → p ≡ record y.own.player { todo = Play ∷ y.own.player.todo } → new ≡ playing_as p y → IsFirstStep d ks own x new byte b Kept
   first_kept p s begins is =
       let within = at_most y.own.player.todo s.left in
       record {
@@ -111,7 +111,7 @@ module _ (d : Directory) (ks : List MarkedBuffer) (own : model.Own) (x y new : S
             (s.fit (sym (ap (λ (z : Session). has_all z.own.player.todo) is ∙ ap (λ (q : Playing). has_all q.todo) begins) ∙ h));
       }
 
-  pub first_acts : (deed : Deed) → IsByteStep d ks x y byte (Acts deed) → new ≡ acted Other y → IsFirstStep d ks own x new byte (Acts deed)
+  pub first_acts : (deed : Deed) → IsByteStep d ks x y byte b (Acts deed) → new ≡ acted Other y → IsFirstStep d ks own x new byte b (Acts deed)
   first_acts deed s is =
       let within = at_most y.own.player.todo s.left in
       record {
@@ -124,23 +124,23 @@ module _ (d : Directory) (ks : List MarkedBuffer) (own : model.Own) (x y new : S
         here = s.here;
         turn = λ v sees.
             ap (first_played own) (s.turn v sees)
-            ∙ ap (λ (o : model.Own). Do o (deed_act (own_of y.own) deed)) (deed_other deed (own_of y.own))
-            ∙ ap (λ (a : Act). Do (deed_own deed (record (own_of y.own) { kind = Other })) a) (act_other deed (own_of y.own))
-            ∙ sym (ap (λ (z : Session). Do (deed_own deed (own_of z.own)) (deed_act (own_of z.own) deed)) is);
+            ∙ ap (λ (o : model.Own). Do o (deed_act (own_of y.own) b deed)) (deed_other b deed (own_of y.own))
+            ∙ ap (λ (a : Act). Do (deed_own b deed (record (own_of y.own) { kind = Other })) a) (act_other b deed (own_of y.own))
+            ∙ sym (ap (λ (z : Session). Do (deed_own b deed (own_of z.own)) (deed_act (own_of z.own) b deed)) is);
         playing = λ e.
-            ap (λ (z : Session). is_quiet z.own.player.playing (deed_act (own_of z.own) deed)) is
-            ∙ sym (ap (is_quiet y.own.player.playing) (act_other deed (own_of y.own)))
+            ap (λ (z : Session). is_quiet z.own.player.playing (deed_act (own_of z.own) b deed)) is
+            ∙ sym (ap (is_quiet y.own.player.playing) (act_other b deed (own_of y.own)))
             ∙ s.playing plays;
         typed = λ e. cc;
         left = subst (IsWithin (1048578 + weight 1048576 x.own.player.todo)) (sym (ap (λ (z : Session). z.own.player.todo) is)) (omega (arith, within.0), within.1);
-        again = λ wants. ap (λ (z : Session). refused_again (before_of deed) x.own.kind x.own.player.playing (own_of z.own)) is ∙ again_other (before_of deed) x.own.kind x.own.player.playing (own_of y.own) ∙ s.again wants;
-        search = λ wants. ap (λ (z : Session). search_before (before_of deed) z.own.search) is ∙ s.search wants;
+        again = λ wants. ap (λ (z : Session). refused_again (before_of b deed) x.own.kind x.own.player.playing (own_of z.own)) is ∙ again_other (before_of b deed) x.own.kind x.own.player.playing (own_of y.own) ∙ s.again wants;
+        search = λ wants. ap (λ (z : Session). search_before (before_of b deed) z.own.search) is ∙ s.search wants;
         fit = subst (λ (z : Session). IsFit (own_of z.own)) (sym is) s.fit;
         begins = s.begins;
         further = subst (λ (z : Session). IsFurther deed z.own.player.todo) (sym is) s.further;
       }
 
-  first_failed : IsByteStep d ks x new byte Failed → IsFirstStep d ks own x new byte Failed
+  first_failed : IsByteStep d ks x new byte b Failed → IsFirstStep d ks own x new byte b Failed
   first_failed s = record {
     own = s.own;
     stays = s.stays;
@@ -156,7 +156,7 @@ module _ (d : Directory) (ks : List MarkedBuffer) (own : model.Own) (x y new : S
   }
 
   -- what is neither kept nor an act
-  pub first_other : (step : ByteStep) → (step ≡ Kept → ⊥) → ((deed : Deed) → step ≡ Acts deed → ⊥) → IsByteStep d ks x new byte step → IsFirstStep d ks own x new byte step
+  pub first_other : (step : ByteStep) → (step ≡ Kept → ⊥) → ((deed : Deed) → step ≡ Acts deed → ⊥) → IsByteStep d ks x new byte b step → IsFirstStep d ks own x new byte b step
   first_other Kept none acts s = absurd (none refl)
   first_other Failed none acts s = first_failed s
   first_other Ends none acts s = never x.own.player.playing plays s.typed
@@ -164,9 +164,9 @@ module _ (d : Directory) (ks : List MarkedBuffer) (own : model.Own) (x y new : S
 
 -- A TURN
 
-step_from : (Sees : View → Type 0) (comes mine : View → Turn) (a b : Bool) (Left Mine : List Todo → Type 0) (q : Playing) (x new : Session) → ((v : View) → mine v ≡ comes v) → b ≡ a → ((todo : List Todo) → Left todo → Mine todo) → (step : ByteStep) → IsStep Sees comes a Left (playing_as q x) new step → IsStep Sees mine b Mine x new step
-step_from Sees comes mine a b Left Mine q x new same is less Kept s = record { own = s.own; stays = s.stays; turn = λ v sees. same v ∙ s.turn v sees; left = less new.own.player.todo s.left; fit = s.fit }
-step_from Sees comes mine a b Left Mine q x new same is less Failed s = record {
+step_from : (Sees : View → Type 0) (comes mine : View → Turn) (a p : Bool) (Left Mine : List Todo → Type 0) (q : Playing) (x new : Session) (b : Before) → ((v : View) → mine v ≡ comes v) → p ≡ a → ((todo : List Todo) → Left todo → Mine todo) → (step : ByteStep) → IsStep Sees comes a Left (playing_as q x) new b step → IsStep Sees mine p Mine x new b step
+step_from Sees comes mine a p Left Mine q x new b same is less Kept s = record { own = s.own; stays = s.stays; turn = λ v sees. same v ∙ s.turn v sees; left = less new.own.player.todo s.left; fit = s.fit }
+step_from Sees comes mine a p Left Mine q x new b same is less Failed s = record {
   own = s.own;
   stays = s.stays;
   before = s.before;
@@ -179,7 +179,7 @@ step_from Sees comes mine a b Left Mine q x new same is less Failed s = record {
   quiet = s.quiet;
   told = s.told;
 }
-step_from Sees comes mine a b Left Mine q x new same is less Ends s = record {
+step_from Sees comes mine a p Left Mine q x new b same is less Ends s = record {
   own = s.own;
   stays = s.stays;
   before = s.before;
@@ -188,7 +188,7 @@ step_from Sees comes mine a b Left Mine q x new same is less Ends s = record {
   quiet = s.quiet;
   typed = is ∙ s.typed;
 }
-step_from Sees comes mine a b Left Mine q x new same is less (Acts deed) s = record {
+step_from Sees comes mine a p Left Mine q x new b same is less (Acts deed) s = record {
   own = s.own;
   stays = s.stays;
   ready = s.ready;
@@ -219,36 +219,36 @@ module _ (d : Directory) (ks : List MarkedBuffer) (x y new : Session) (taken : y
   byte_comes : (byte : ℕ) (playing : Bool) (v : View) → y.own.player.playing ≡ playing → byte_turn v (record (own_of x.own) { echo = Silent; playing = playing; todo = y.own.player.todo }) byte (mode_in x.own.search x.own.prompt) ≡ comes_of byte v
   byte_comes byte playing v is = sym (ap (λ (b : Bool). byte_turn v (record (own_of x.own) { echo = Silent; playing = b; todo = y.own.player.todo }) byte (mode_in x.own.search x.own.prompt)) is)
 
-  pub typed_turn : (byte : ℕ) (step : ByteStep) → IsNext (tasks.Typed byte) x.own.player y.own.player → IsByteStep d ks y new byte step → IsTurnStep d ks x new step
-  typed_turn byte step next s =
-      step_from (SeesNames d ks x.user) (comes_of byte) mine y.own.player.playing (is_played x.own.player.todo) (IsLeft y.own.player) (TurnLeft (replaces step) x.own.player.todo) y.own.player x new
+  pub typed_turn : (byte : ℕ) (b : Before) (step : ByteStep) → IsNext (tasks.Typed byte) x.own.player y.own.player → IsByteStep d ks y new byte b step → IsTurnStep d ks x new b step
+  typed_turn byte b step next s =
+      step_from (SeesNames d ks x.user) (comes_of byte) mine y.own.player.playing (is_played x.own.player.todo) (IsLeft y.own.player) (TurnLeft (replaces step) x.own.player.todo) y.own.player x new b
       (λ v. ap (todo_turn v (own_of x.own)) next.todo ∙ byte_comes byte false v next.playing)
       (ap is_played next.todo ∙ sym next.playing)
       (λ todo left. let within = left.typed next.playing in let is = ap (weight 1048576) next.todo in below (replaces step) x.own.player.todo todo (ap has_all next.todo ∙ ap has_all next.taken) within.1 (omega (arith, within.0, is)))
       step
-      (subst (λ (z : Session). IsByteStep d ks z new byte step) taken s)
+      (subst (λ (z : Session). IsByteStep d ks z new byte b step) taken s)
 
-  pub played_turn : (byte : ℕ) (step : ByteStep) → IsNext (tasks.Played byte) x.own.player y.own.player → IsByteStep d ks y new byte step → IsTurnStep d ks x new step
-  played_turn byte step next s =
+  pub played_turn : (byte : ℕ) (b : Before) (step : ByteStep) → IsNext (tasks.Played byte) x.own.player y.own.player → IsByteStep d ks y new byte b step → IsTurnStep d ks x new b step
+  played_turn byte b step next s =
       let all : is_played y.own.player.todo ≡ true = played_of y.own.player.todo next.taken in
-      step_from (SeesNames d ks x.user) (comes_of byte) mine y.own.player.playing (is_played x.own.player.todo) (IsLeft y.own.player) (TurnLeft (replaces step) x.own.player.todo) y.own.player x new
+      step_from (SeesNames d ks x.user) (comes_of byte) mine y.own.player.playing (is_played x.own.player.todo) (IsLeft y.own.player) (TurnLeft (replaces step) x.own.player.todo) y.own.player x new b
       (λ v. ap (todo_turn v (own_of x.own)) next.todo ∙ byte_comes byte true v next.playing)
       (ap is_played next.todo ∙ all ∙ sym next.playing)
       (λ todo left. let within = left.played next.playing (weight 1048576 y.own.player.todo) (omega arith, all) in let is = ap (weight 1048576) next.todo in below (replaces step) x.own.player.todo todo (ap has_all next.todo ∙ none_all y.own.player.todo next.taken) within.1 (omega (arith, within.0, is)))
       step
-      (subst (λ (z : Session). IsByteStep d ks z new byte step) taken s)
+      (subst (λ (z : Session). IsByteStep d ks z new byte b step) taken s)
 
-  pub first_turn : (byte : ℕ) (step : ByteStep) → IsNext (tasks.First byte) x.own.player y.own.player → IsFirstStep d ks (own_of x.own) y new byte step → IsTurnStep d ks x new step
-  first_turn byte step next s =
+  pub first_turn : (byte : ℕ) (b : Before) (step : ByteStep) → IsNext (tasks.First byte) x.own.player y.own.player → IsFirstStep d ks (own_of x.own) y new byte b step → IsTurnStep d ks x new b step
+  first_turn byte b step next s =
       let all : is_played y.own.player.todo ≡ true = played_of y.own.player.todo next.taken in
-      step_from (SeesNames d ks x.user) (λ v. first_played (own_of x.own) (comes_of byte v)) mine true (is_played x.own.player.todo) (IsWithin (1048578 + weight 1048576 y.own.player.todo)) (TurnLeft (replaces step) x.own.player.todo) y.own.player x new
+      step_from (SeesNames d ks x.user) (λ v. first_played (own_of x.own) (comes_of byte v)) mine true (is_played x.own.player.todo) (IsWithin (1048578 + weight 1048576 y.own.player.todo)) (TurnLeft (replaces step) x.own.player.todo) y.own.player x new b
       (λ v. ap (todo_turn v (own_of x.own)) next.todo ∙ ap (first_played (own_of x.own)) (byte_comes byte true v next.playing))
       (ap is_played next.todo ∙ all)
       (λ todo within. let is = ap (weight 1048576) next.todo in below (replaces step) x.own.player.todo todo (ap has_all next.todo ∙ none_all y.own.player.todo next.taken) within.1 (omega (arith, within.0, is)))
       step
-      (subst (λ (z : Session). IsFirstStep d ks (own_of x.own) z new byte step) taken s)
+      (subst (λ (z : Session). IsFirstStep d ks (own_of x.own) z new byte b step) taken s)
 
-  pub end_turn : IsNext tasks.End x.own.player y.own.player → new ≡ acted Other y → IsTurnStep d ks x new Kept
+  pub end_turn : IsNext tasks.End x.own.player y.own.player → new ≡ acted Other y → IsTurnStep d ks x new befores.Plain Kept
   end_turn next is =
       let done : new ≡ acted Other (playing_as y.own.player x) = is ∙ ap (acted Other) taken in
       let all : x.own.player.todo ≡ Play ∷ [] = next.todo ∙ ap (λ (todo : List Todo). Play ∷ todo) next.taken in
@@ -265,9 +265,9 @@ module _ (d : Directory) (ks : List MarkedBuffer) (x y new : Session) (taken : y
       }
 
   -- a further replacement, whose session is as it was but for the last command's kind
-  replacement_turn : (k : Kind) (task : List Todo) (more : List Todo) → x.own.player.todo ≡ task → has_all task ≡ true → is_played task ≡ true → has_all (without_all task) ≡ false → new ≡ acted k x
-      → ((v : View) → mine v ≡ Do (record (own_of x.own) { kind = k }) (deed_act (own_of x.own) (deeds.Replace false))) → IsFit (own_of x.own) → is_replacing x.own.search ≡ true → IsTurnStep d ks x new (Acts (deeds.Replace false))
-  replacement_turn k task more todo all played rest is turn fit replaces =
+  replacement_turn : (b : Before) (k : Kind) (task : List Todo) (more : List Todo) → x.own.player.todo ≡ task → has_all task ≡ true → is_played task ≡ true → has_all (without_all task) ≡ false → new ≡ acted k x
+      → ((v : View) → mine v ≡ Do (record (own_of x.own) { kind = k }) (deed_act (own_of x.own) b (deeds.Replace false))) → IsFit (own_of x.own) → is_replacing x.own.search ≡ true → IsTurnStep d ks x new b (Acts (deeds.Replace false))
+  replacement_turn b k task more todo all played rest is turn fit replaces =
       let left : new.own.player.todo ≡ x.own.player.todo = ap (λ (z : Session). z.own.player.todo) is in
       let typed : is_played x.own.player.todo ≡ true = ap is_played todo ∙ played in
       record {
@@ -275,7 +275,7 @@ module _ (d : Directory) (ks : List MarkedBuffer) (x y new : Session) (taken : y
         stays = λ bs. ap (λ (z : Session). search_of bs z.own.search) is ∙ search_still bs x.own.search x.own.prompt ∙ sym (ap (λ (z : Session). cond (searches (own_of z.own).mode) (search_of bs x.own.search) None) is);
         ready = ap (λ (z : Session). is_replacing z.own.search) is ∙ replaces;
         here = tt;
-        turn = λ v sees. turn v ∙ sym (ap (λ (z : Session). Do (own_of z.own) (deed_act (own_of z.own) (deeds.Replace false))) is);
+        turn = λ v sees. turn v ∙ sym (ap (λ (z : Session). Do (own_of z.own) (deed_act (own_of z.own) b (deeds.Replace false))) is);
         playing = λ e. or_true new.own.player.playing;
         typed = λ e. never (is_played x.own.player.todo) typed e;
         left = record { played = ap is_played left ∙ typed; less = λ e. never (has_all x.own.player.todo) (ap has_all todo ∙ all) e; same = λ e. (refl, left, ap (λ (ts : List Todo). has_all (without_all ts)) todo ∙ rest) };
@@ -286,7 +286,7 @@ module _ (d : Directory) (ks : List MarkedBuffer) (x y new : Session) (taken : y
         further = λ e. (refl, ap (λ (ts : List Todo). has_all (without_all ts)) (left ∙ todo) ∙ rest);
       }
     where
-      or_true : (b : Bool) → is_quiet b (Run (Alter ReplaceMatch) None (own_of new.own).input) ≡ true
+      or_true : (plays : Bool) → is_quiet plays (Run (Alter ReplaceMatch) None (own_of new.own).input) ≡ true
       or_true true = refl
       or_true false = refl
 
@@ -305,21 +305,21 @@ module _ (d : Directory) (ks : List MarkedBuffer) (x y new : Session) (taken : y
   fit_replacing : IsFit (own_of x.own) → has_all x.own.player.todo ≡ true → is_replacing x.own.search ≡ true
   fit_replacing fit all = mode_replacing x.own.search x.own.prompt (fit all).0
 
-  pub replace_turn : IsFit (own_of x.own) → IsNext tasks.Replacement x.own.player y.own.player → new ≡ y → IsTurnStep d ks x new (Acts (deeds.Replace false))
-  replace_turn fit next is =
+  pub replace_turn : (b : Before) → IsFit (own_of x.own) → IsNext tasks.Replacement x.own.player y.own.player → new ≡ y → IsTurnStep d ks x new b (Acts (deeds.Replace false))
+  replace_turn b fit next is =
       let more = next.taken.0 in
       let todo : x.own.player.todo ≡ Replace_all ∷ more = next.todo ∙ next.taken.1 in
       let played : is_played more ≡ true = played_of more next.taken.2 in
       let same : y.own.player ≡ x.own.player = (λ i. record { playing = next.playing i; todo = sym next.todo i }) in
-      replacement_turn x.own.kind (Replace_all ∷ more) more todo refl played (none_all more next.taken.2) (is ∙ taken ∙ ap (λ (q : Playing). playing_as q x) same) (λ v. ap (todo_turn v (own_of x.own)) todo) fit (fit_replacing fit (ap has_all todo))
+      replacement_turn b x.own.kind (Replace_all ∷ more) more todo refl played (none_all more next.taken.2) (is ∙ taken ∙ ap (λ (q : Playing). playing_as q x) same) (λ v. ap (todo_turn v (own_of x.own)) todo) fit (fit_replacing fit (ap has_all todo))
 
-  pub first_replace_turn : IsFit (own_of x.own) → IsNext tasks.FirstReplacement x.own.player y.own.player → new ≡ acted Other y → IsTurnStep d ks x new (Acts (deeds.Replace false))
-  first_replace_turn fit next is =
+  pub first_replace_turn : (b : Before) → IsFit (own_of x.own) → IsNext tasks.FirstReplacement x.own.player y.own.player → new ≡ acted Other y → IsTurnStep d ks x new b (Acts (deeds.Replace false))
+  first_replace_turn b fit next is =
       let more = next.taken.0 in
       let todo : x.own.player.todo ≡ Play ∷ Replace_all ∷ more = next.todo ∙ next.taken.1 in
       let played : is_played more ≡ true = played_of more next.taken.2 in
       let same : y.own.player ≡ x.own.player = (λ i. record { playing = next.playing i; todo = sym next.todo i }) in
-      replacement_turn Other (Play ∷ Replace_all ∷ more) more todo refl played (none_all more next.taken.2) (is ∙ ap (acted Other) (taken ∙ ap (λ (q : Playing). playing_as q x) same)) (λ v. ap (todo_turn v (own_of x.own)) todo) fit (fit_replacing fit (ap has_all todo))
+      replacement_turn b Other (Play ∷ Replace_all ∷ more) more todo refl played (none_all more next.taken.2) (is ∙ ap (acted Other) (taken ∙ ap (λ (q : Playing). playing_as q x) same)) (λ v. ap (todo_turn v (own_of x.own)) todo) fit (fit_replacing fit (ap has_all todo))
 
-  pub nothing_turn : (step : ByteStep) → (x.own.player.todo ≡ [] → ⊥) → IsNext tasks.Nothing x.own.player y.own.player → IsTurnStep d ks x new step
-  nothing_turn step some next = absurd (some (next.todo ∙ next.taken))
+  pub nothing_turn : (b : Before) (step : ByteStep) → (x.own.player.todo ≡ [] → ⊥) → IsNext tasks.Nothing x.own.player y.own.player → IsTurnStep d ks x new b step
+  nothing_turn b step some next = absurd (some (next.todo ∙ next.taken))

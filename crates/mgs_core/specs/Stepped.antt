@@ -57,6 +57,17 @@ use Rattle.mgs_core.specs.Prompted.{own_turn}
 use Rattle.mgs_core.specs.Steps.{command_act, is_acted, started_by, started_own, started_world}
 use Rattle.mgs_core.specs.Turned.{IsFit, IsWithin, has_all, is_played, is_quiet, weight}
 
+-- WHAT WAS THERE BEFORE A DEED
+
+-- the prompt that was answered, if one was
+abbrev pub is_asked : Before → Bool
+is_asked (befores.Prompt p) = true
+is_asked _ = false
+
+abbrev pub asked_of : Before → PromptInput
+asked_of (befores.Prompt p) = p
+asked_of _ = record { question = RunWhich; first = []; input = []; waiting = NoKey }
+
 -- A DEED
 
 -- a step of the search that goes on in a mode
@@ -64,38 +75,38 @@ abbrev pub seek_act : Mode → SearchStep → List ℕ → Act
 seek_act (Searching d failing) step input = Run (Move (SearchOn d step)) None input
 seek_act _ step input = Unbound
 
--- its act, by a session that holds this
-abbrev pub deed_act : model.Own → Deed → Act
-deed_act own (deeds.Act a b) = act_of a
-deed_act own (deeds.Answer p n) = Run (answered p.question) n (meant p.question own.pattern p.input)
-deed_act own (deeds.Seek step) = seek_act own.mode step own.input
-deed_act own deeds.QuitSearch = Run LeaveSearch None []
-deed_act own (deeds.StartReplacing pattern put) = Run (Move StartReplace) None put
-deed_act own (deeds.Replace last) = Run (Alter (replacement last)) None own.input
-deed_act own deeds.Skip = Run (Move SkipMatch) None own.input
+-- its act, by a session that holds this, where this was there before
+abbrev pub deed_act : model.Own → Before → Deed → Act
+deed_act own b (deeds.Act a) = act_of a
+deed_act own b (deeds.Answer n) = Run (answered (asked_of b).question) n (meant (asked_of b).question own.pattern (asked_of b).input)
+deed_act own b (deeds.Seek step) = seek_act own.mode step own.input
+deed_act own b deeds.QuitSearch = Run LeaveSearch None []
+deed_act own b deeds.StartReplacing = Run (Move StartReplace) None (asked_of b).input
+deed_act own b (deeds.Replace last) = Run (Alter (replacement last)) None own.input
+deed_act own b deeds.Skip = Run (Move SkipMatch) None own.input
 
 -- the record with which it is decided, and the world in which it is: what begins has its mode
-abbrev pub deed_own : Deed → model.Own → model.Own
-deed_own (deeds.Act a b) own = started_own (started_by a) own
-deed_own (deeds.Answer p n) own = own
-deed_own (deeds.Seek step) own = own
-deed_own deeds.QuitSearch own = own
-deed_own (deeds.StartReplacing pattern put) own = replacing_own pattern put own
-deed_own (deeds.Replace last) own = own
-deed_own deeds.Skip own = own
+abbrev pub deed_own : Before → Deed → model.Own → model.Own
+deed_own b (deeds.Act a) own = started_own (started_by a) own
+deed_own b (deeds.Answer n) own = own
+deed_own b (deeds.Seek step) own = own
+deed_own b deeds.QuitSearch own = own
+deed_own b deeds.StartReplacing own = replacing_own (asked_of b).first (asked_of b).input own
+deed_own b (deeds.Replace last) own = own
+deed_own b deeds.Skip own = own
 
-abbrev pub deed_world : Deed → ℕ → World → World
-deed_world (deeds.Act a b) id w = started_world (started_by a) id w
-deed_world (deeds.Answer p n) id w = w
-deed_world (deeds.Seek step) id w = w
-deed_world deeds.QuitSearch id w = w
-deed_world (deeds.StartReplacing pattern put) id w = with_own id (replacing_own pattern put) w
-deed_world (deeds.Replace last) id w = w
-deed_world deeds.Skip id w = w
+abbrev pub deed_world : Before → Deed → ℕ → World → World
+deed_world b (deeds.Act a) id w = started_world (started_by a) id w
+deed_world b (deeds.Answer n) id w = w
+deed_world b (deeds.Seek step) id w = w
+deed_world b deeds.QuitSearch id w = w
+deed_world b deeds.StartReplacing id w = with_own id (replacing_own (asked_of b).first (asked_of b).input) w
+deed_world b (deeds.Replace last) id w = w
+deed_world b deeds.Skip id w = w
 
 -- a query-replace begins, or replaces a match
 abbrev pub starts_replacing : Deed → Bool
-starts_replacing (deeds.StartReplacing pattern put) = true
+starts_replacing deeds.StartReplacing = true
 starts_replacing _ = false
 
 abbrev pub is_replacement : Deed → Bool
@@ -117,37 +128,37 @@ is_replacing (Some s) = not (finds s.aim)
 
 -- a session with this search that holds this can begin with it: it is at rest, or searches
 abbrev pub IsReady : Deed → Option Search → model.Own → Type 0
-IsReady (deeds.Act a b) s own = own ≡ idle own
-IsReady (deeds.Answer p n) s own = own ≡ idle own
+IsReady (deeds.Act a) s own = own ≡ idle own
+IsReady (deeds.Answer n) s own = own ≡ idle own
 IsReady (deeds.Seek step) s own = is_finding s ≡ true
 IsReady deeds.QuitSearch s own = Unit {0}
-IsReady (deeds.StartReplacing pattern put) s own = own ≡ idle own
+IsReady deeds.StartReplacing s own = own ≡ idle own
 IsReady (deeds.Replace last) s own = is_replacing s ≡ true
 IsReady deeds.Skip s own = is_replacing s ≡ true
 
--- the server does it: an answer is for a command of its own
-abbrev pub CanDo : Deed → Type 0
-CanDo (deeds.Act a b) = is_acted a ≡ true
-CanDo (deeds.Answer p n) = is_answered p.question ≡ true
-CanDo _ = Unit {0}
+-- the server does it: an answer is for a command of its own, and what is answered was there before
+abbrev pub CanDo : Before → Deed → Type 0
+CanDo b (deeds.Act a) = is_acted a ≡ true
+CanDo b (deeds.Answer n) = (is_asked b ≡ true) × (is_answered (asked_of b).question ≡ true)
+CanDo b deeds.StartReplacing = is_asked b ≡ true
+CanDo b _ = Unit {0}
 
 -- no step of a search takes memory but a replacement
 abbrev pub may_want_memory : Deed → Bool
-may_want_memory (deeds.Act a b) = not (is_some (started_by a))
-may_want_memory (deeds.Answer p n) = true
+may_want_memory (deeds.Act a) = not (is_some (started_by a))
+may_want_memory (deeds.Answer n) = true
 may_want_memory (deeds.Seek step) = false
 may_want_memory deeds.QuitSearch = false
-may_want_memory (deeds.StartReplacing pattern put) = false
+may_want_memory deeds.StartReplacing = false
 may_want_memory (deeds.Replace last) = true
 may_want_memory deeds.Skip = false
 
--- WHAT WAS THERE BEFORE IT
+-- WHERE MEMORY IS REFUSED TO IT
 
-abbrev pub before_of : Deed → Before
-before_of (deeds.Act a b) = b
-before_of (deeds.Answer p n) = befores.Prompt p
-before_of (deeds.Replace last) = befores.Held
-before_of _ = befores.Plain
+-- what is there again: a session that replaces holds its search
+abbrev pub before_of : Before → Deed → Before
+before_of b (deeds.Replace last) = befores.Held
+before_of b _ = b
 
 -- what a session has of it that holds this
 abbrev pub prompt_before : Before → Option PromptInput → Option PromptInput
@@ -177,8 +188,8 @@ own_before b own =
       pattern = pattern_before b own.pattern;
     }
 
--- MEMORY IS REFUSED to a deed: the session is told so, has nothing more to do, and what was there before is there again, with the last
--- command's kind and the macro's play as they were
+-- the session is told so, has nothing more to do, and what was there before is there again, with the last command's kind and the macro's
+-- play as they were
 
 abbrev pub refused : Before → Kind → Bool → Session → Session
 refused b k playing x =
@@ -298,36 +309,36 @@ pub record StepEnds (Sees : View → Type 0) (comes : View → Turn) (plays : Bo
 abbrev pub IsFurther : Deed → List Todo → Type 0
 IsFurther deed todo = has_all todo ≡ true → (is_replacement deed ≡ true) × (has_all (without_all todo) ≡ false)
 
--- or this deed, for which the session is ready; where memory is refused to it, it leaves what the model says
-pub record StepActs (Sees : View → Type 0) (comes : View → Turn) (plays : Bool) (Left : List Todo → Type 0) (old new : Session) (deed : Deed) : Type 0 where
+-- or this deed, before which this was there, and for which the session is ready; where memory is refused to it, it leaves what the model says
+pub record StepActs (Sees : View → Type 0) (comes : View → Turn) (plays : Bool) (Left : List Todo → Type 0) (old new : Session) (b : Before) (deed : Deed) : Type 0 where
   pub own : new ≡ record old { own = new.own }
   pub stays : SearchStays old.own new.own
   pub ready : IsReady deed new.own.search (own_of new.own)
-  pub here : CanDo deed
-  pub turn : (v : View) → Sees v → comes v ≡ Do (deed_own deed (own_of new.own)) (deed_act (own_of new.own) deed)
-  pub playing : plays ≡ true → is_quiet new.own.player.playing (deed_act (own_of new.own) deed) ≡ true
+  pub here : CanDo b deed
+  pub turn : (v : View) → Sees v → comes v ≡ Do (deed_own b deed (own_of new.own)) (deed_act (own_of new.own) b deed)
+  pub playing : plays ≡ true → is_quiet new.own.player.playing (deed_act (own_of new.own) b deed) ≡ true
   pub typed : plays ≡ false → new.own.player.todo ≡ []
   pub left : Left new.own.player.todo
-  pub again : may_want_memory deed ≡ true → refused_again (before_of deed) old.own.kind old.own.player.playing (own_of new.own) ≡ refused_own (own_of old.own)
-  pub search : may_want_memory deed ≡ true → search_before (before_of deed) new.own.search ≡ old.own.search
+  pub again : may_want_memory deed ≡ true → refused_again (before_of b deed) old.own.kind old.own.player.playing (own_of new.own) ≡ refused_own (own_of old.own)
+  pub search : may_want_memory deed ≡ true → search_before (before_of b deed) new.own.search ≡ old.own.search
   pub fit : IsFit (own_of new.own)
   pub begins : starts_replacing deed ≡ true → old.own.search ≡ None
   pub further : IsFurther deed new.own.player.todo
 
-abbrev pub IsStep : (View → Type 0) → (View → Turn) → Bool → (List Todo → Type 0) → Session → Session → ByteStep → Type 0
-IsStep Sees comes playing Left old new Kept = StepKept Sees comes Left old new
-IsStep Sees comes playing Left old new Failed = StepFailed Sees comes playing old new
-IsStep Sees comes playing Left old new Ends = StepEnds Sees comes playing old new
-IsStep Sees comes playing Left old new (Acts deed) = StepActs Sees comes playing Left old new deed
+abbrev pub IsStep : (View → Type 0) → (View → Turn) → Bool → (List Todo → Type 0) → Session → Session → Before → ByteStep → Type 0
+IsStep Sees comes playing Left old new b Kept = StepKept Sees comes Left old new
+IsStep Sees comes playing Left old new b Failed = StepFailed Sees comes playing old new
+IsStep Sees comes playing Left old new b Ends = StepEnds Sees comes playing old new
+IsStep Sees comes playing Left old new b (Acts deed) = StepActs Sees comes playing Left old new b deed
 
 -- what a user sees of the names of these buffers
 abbrev pub SeesNames : Directory → List MarkedBuffer → List ℕ → View → Type 0
 SeesNames directory ks user v = shown_names v ≡ granted_names directory user (buffers_of ks)
 
 -- A BYTE
-abbrev pub IsByteStep : Directory → List MarkedBuffer → Session → Session → ℕ → ByteStep → Type 0
-IsByteStep directory ks old new byte step =
-    IsStep (SeesNames directory ks old.user) (λ v. own_turn v old.own byte) old.own.player.playing (IsLeft old.own.player) old new step
+abbrev pub IsByteStep : Directory → List MarkedBuffer → Session → Session → ℕ → Before → ByteStep → Type 0
+IsByteStep directory ks old new byte b step =
+    IsStep (SeesNames directory ks old.user) (λ v. own_turn v old.own byte) old.own.player.playing (IsLeft old.own.player) old new b step
 
 -- A TURN
 abbrev pub replaces : ByteStep → Bool
@@ -340,14 +351,14 @@ pub record TurnLeft (replaces : Bool) (old new : List Todo) : Type 0 where
   pub less : has_all old ≡ false → weight 1048576 new < weight 1048576 old
   pub same : has_all old ≡ true → (replaces ≡ true) × (new ≡ old) × (has_all (without_all old) ≡ false)
 
-abbrev pub IsTurnStep : Directory → List MarkedBuffer → Session → Session → ByteStep → Type 0
-IsTurnStep directory ks old new step =
-    IsStep (SeesNames directory ks old.user) (λ v. todo_turn v (own_of old.own) old.own.player.todo) (is_played old.own.player.todo) (TurnLeft (replaces step) old.own.player.todo) old new step
+abbrev pub IsTurnStep : Directory → List MarkedBuffer → Session → Session → Before → ByteStep → Type 0
+IsTurnStep directory ks old new b step =
+    IsStep (SeesNames directory ks old.user) (λ v. todo_turn v (own_of old.own) old.own.player.todo) (is_played old.own.player.todo) (TurnLeft (replaces step) old.own.player.todo) old new b step
 
 -- the first act of a play, or none of it
-abbrev pub IsFirstStep : Directory → List MarkedBuffer → model.Own → Session → Session → ℕ → ByteStep → Type 0
-IsFirstStep directory ks own old new byte step =
-    IsStep (SeesNames directory ks old.user) (λ v. first_played own (own_turn v old.own byte)) true (IsWithin (1048578 + weight 1048576 old.own.player.todo)) old new step
+abbrev pub IsFirstStep : Directory → List MarkedBuffer → model.Own → Session → Session → ℕ → Before → ByteStep → Type 0
+IsFirstStep directory ks own old new byte b step =
+    IsStep (SeesNames directory ks old.user) (λ v. first_played own (own_turn v old.own byte)) true (IsWithin (1048578 + weight 1048576 old.own.player.todo)) old new b step
 
 -- A COMMAND of a session at rest
 
@@ -383,17 +394,16 @@ pub record MacroPlayed (old new : Session) (n : Option ℕ) : Type 0 where
   pub within : length old.own.recorder.macro ≤ 512
   pub called : new ≡ macro_called (count_of n) old
 
--- what it comes to, where this was there before
-abbrev pub IsCommandStep : Session → Session → Command → Option ℕ → Before → ByteStep → Type 0
-IsCommandStep old new c n b Kept = (is_call c ≡ true) × MacroPlayed old new n
-IsCommandStep old new c n b Failed = CommandFailed old new c n
-IsCommandStep old new c n b Ends = (is_exit c ≡ true) × (old.own.player.playing ≡ false) × (new ≡ old)
-IsCommandStep old new c n b (Acts (deeds.Act a e)) = (is_exit c ≡ false) × (is_call c ≡ false) × (a ≡ command_act c n) × (e ≡ b) × (new ≡ old)
-IsCommandStep old new c n b (Acts _) = ⊥
+abbrev pub IsCommandStep : Session → Session → Command → Option ℕ → ByteStep → Type 0
+IsCommandStep old new c n Kept = (is_call c ≡ true) × MacroPlayed old new n
+IsCommandStep old new c n Failed = CommandFailed old new c n
+IsCommandStep old new c n Ends = (is_exit c ≡ true) × (old.own.player.playing ≡ false) × (new ≡ old)
+IsCommandStep old new c n (Acts (deeds.Act a)) = (is_exit c ≡ false) × (is_call c ≡ false) × (a ≡ command_act c n) × (new ≡ old)
+IsCommandStep old new c n (Acts _) = ⊥
 
--- a step of a key asks for no deed but an act
+-- a key asks for an act alone, and for no other deed
 abbrev pub is_act : Deed → Bool
-is_act (deeds.Act a b) = true
+is_act (deeds.Act a) = true
 is_act _ = false
 
 abbrev pub is_keyed : ByteStep → Bool
@@ -402,38 +412,28 @@ is_keyed Failed = true
 is_keyed Ends = true
 is_keyed (Acts deed) = is_act deed
 
--- such a step, before which this was there
-abbrev pub deed_from : Before → Deed → Deed
-deed_from b (deeds.Act a e) = deeds.Act a b
-deed_from b deed = deed
+-- AN ANSWER, whose prompt was taken out of the session: it names a command, or is what the question is for. Where a deed comes of it, this
+-- prompt is what was there before
 
-abbrev pub step_from : Before → ByteStep → ByteStep
-step_from b Kept = Kept
-step_from b Failed = Failed
-step_from b Ends = Ends
-step_from b (Acts deed) = Acts (deed_from b deed)
-
--- AN ANSWER, whose prompt was taken out: it names a command, or is what the question is for
-
-abbrev pub IsNamedStep : Session → Session → PromptInput → Option Command → ByteStep → Type 0
-IsNamedStep old new p None step = (step ≡ Kept) × (new ≡ failed NoSuchCommand old)
-IsNamedStep old new p (Some c) step = (is_bound c ≡ true) × IsCommandStep (resting old) new c (value_of old.own.keyboard.argument) (befores.Prompt p) step
+abbrev pub IsNamedStep : Session → Session → PromptInput → Before → Option Command → ByteStep → Type 0
+IsNamedStep old new p b None step = (step ≡ Kept) × (new ≡ failed NoSuchCommand old)
+IsNamedStep old new p b (Some c) step = (is_bound c ≡ true) × (b ≡ befores.Prompt p) × IsCommandStep (resting old) new c (value_of old.own.keyboard.argument) step
 
 -- the second question is asked, where the first was answered so
 abbrev pub second_input : List ℕ → PromptInput
 second_input first = record { question = ReplaceWith; first = first; input = []; waiting = NoKey }
 
-abbrev pub IsAskedStep : Session → Session → PromptInput → ByteStep → Type 0
-IsAskedStep old new p step = (step ≡ Acts (deeds.Answer p (value_of old.own.keyboard.argument))) × (new ≡ resting old)
+abbrev pub IsAskedStep : Session → Session → PromptInput → Before → Deed → ByteStep → Type 0
+IsAskedStep old new p b deed step = (step ≡ Acts deed) × (b ≡ befores.Prompt p) × (new ≡ resting old)
 
-abbrev pub IsReplyStep : Question → Session → Session → PromptInput → ByteStep → Type 0
-IsReplyStep RunWhich old new p step = IsNamedStep old new p (find_command p.input) step
-IsReplyStep ReplaceWhat old new p step = (step ≡ Kept) × (new ≡ prompting (second_input p.input) old)
-IsReplyStep ReplaceWith old new p step = (step ≡ Acts (deeds.StartReplacing p.first p.input)) × (new ≡ resting old)
-IsReplyStep _ old new p step = IsAskedStep old new p step
+abbrev pub IsReplyStep : Question → Session → Session → PromptInput → Before → ByteStep → Type 0
+IsReplyStep RunWhich old new p b step = IsNamedStep old new p b (find_command p.input) step
+IsReplyStep ReplaceWhat old new p b step = (step ≡ Kept) × (new ≡ prompting (second_input p.input) old)
+IsReplyStep ReplaceWith old new p b step = IsAskedStep old new p b deeds.StartReplacing step
+IsReplyStep _ old new p b step = IsAskedStep old new p b (deeds.Answer (value_of old.own.keyboard.argument)) step
 
-abbrev pub IsAnswerStep : Session → Session → PromptInput → ByteStep → Type 0
-IsAnswerStep old new p step = IsReplyStep p.question old new p step
+abbrev pub IsAnswerStep : Session → Session → PromptInput → Before → ByteStep → Type 0
+IsAnswerStep old new p b step = IsReplyStep p.question old new p b step
 
 -- A BYTE OF A QUERY-REPLACE
 

@@ -12,7 +12,7 @@ ghost use Rattle.mgs_store.specs.Stores.{store_told};
 ghost use Rattle.mgs_world.specs.Sound.{IsSound};
 ghost use Rattle.mgs_world.specs.Worlds.{aim_old, idle, own_at, session_id, sizes_in, world_of};
 ghost use Rattle.mgs_core.specs.Steps.{ActedBy, asks_store, is_acted, is_plain_act, started_by, started_in_motion, started_world};
-ghost use Rattle.mgs_core.specs.Stepped.{CanDo, IsReady, before_of, deed_act, deed_world, is_replacement, may_want_memory};
+ghost use Rattle.mgs_core.specs.Stepped.{CanDo, IsReady, asked_of, before_of, deed_act, deed_world, is_asked, is_replacement, may_want_memory};
 
 use mgs_act::{
     KeyAct, act, answer, quit_search, replace, save, search_on, skip, start_replacing, start_search,
@@ -27,12 +27,12 @@ use mgs_store::Store;
 use std::alloc::Global;
 use std::mem;
 
-/// What was there before an act. Where memory is refused to the act, it is there again.
+/// What was there before a deed. Where memory is refused to the deed, it is there again.
 #[derive(Drop)]
 pub enum Before {
     /// No mode.
     Plain,
-    /// The prompt at which a command was named.
+    /// The prompt that was answered.
     Prompt(Prompt),
     /// The search that a byte ended, and what had been searched for last.
     Search(Search, SearchString),
@@ -40,34 +40,45 @@ pub enum Before {
     Held,
 }
 
-/// What is to be done for a byte by its session.
-#[derive(Drop)]
+/// What is to be done for a byte by its session. What was there before is large, and stands elsewhere.
+#[derive(Clone, Copy)]
 pub enum Deed {
     /// The act of a key, or of a command that was named. The session is at rest.
-    Act(KeyAct, Before),
-    /// What the question of this prompt is for, with this argument. The input is the answer, and names no command. The session is at rest.
-    Answer(Prompt, Option<usize>),
+    Act(KeyAct),
+    /// What the question of the prompt is for that was there before, with this argument. Its input is the answer, and names no command. The
+    /// session is at rest.
+    Answer(Option<usize>),
     /// A step of the session's search, which has read the byte.
     Seek(SearchStep),
     /// The session's search is quit.
     QuitSearch,
-    /// The first text is to be replaced by the second one. The session is at rest.
-    StartReplacing(SearchString, SearchString),
+    /// What the prompt that was there before has of the first question is to be replaced by its input. The session is at rest.
+    StartReplacing,
     /// The match at which the session's query-replace stands is replaced. `true`: it is the last one.
     Replace(bool),
     /// That match stays as it is.
     Skip,
 }
 
-/// What was there before a deed, which is taken out of it.
-pub fn take_before(deed: &mut Deed) -> Before
-    ensures { result ≡ before_of deed.old }
+/// What is there again where memory was refused to a deed. It is taken out of its place, in which `Plain` is left. A replacement leaves the
+/// place as it is: its session holds the search.
+pub fn take_before(before: &mut Before, deed: Deed) -> Before
+    ensures { result ≡ before_of before.old deed }
 {
-    match mem::replace(deed, Deed::Skip) {
-        Deed::Act(_, before) => before,
-        Deed::Answer(prompt, _) => Before::Prompt(prompt),
+    match deed {
         Deed::Replace(_) => Before::Held,
-        _ => Before::Plain,
+        _ => mem::replace(before, Before::Plain),
+    }
+}
+
+/// The prompt that was answered.
+fn asked(before: &Before) -> &Prompt
+    requires { is_asked before.now ≡ true }
+    ensures { result.now ≡ asked_of before.now }
+{
+    match before {
+        Before::Prompt(prompt) => prompt,
+        _ => unreachable!(),
     }
 }
 
@@ -170,14 +181,7 @@ fn do_act<T: Marked + Drop, S: Store>(
     }
 }
 
-/// A text once more, where its deed is only lent.
-fn copied(text: &SearchString) -> SearchString
-    ensures { result ≡ text.now }
-{
-    SearchString::of(text.as_slice())
-}
-
-/// Does what is to be done, by the session at `at`. The error: memory was refused, and nothing of it was done.
+/// Does what is to be done, by the session at `at`, where this was there before. The error: memory was refused, and nothing of it was done.
 pub fn do_deed<T: Marked + Drop, S: Store>(
     alloc: Global,
     buffers: &mut Buffers<T>,
@@ -185,52 +189,52 @@ pub fn do_deed<T: Marked + Drop, S: Store>(
     sessions: &mut [Session],
     at: usize,
     store: &mut S,
-    deed: &Deed,
+    deed: Deed,
+    before: &Before,
 ) -> Result<Touched, Short>
     requires sound { IsSound buffers.old sessions.old }
     requires within { at < length sessions.old }
-    requires ready { IsReady deed.now (search_held at sessions.old) (own_at at sessions.old) }
-    requires here { CanDo deed.now }
+    requires ready { IsReady deed (search_held at sessions.old) (own_at at sessions.old) }
+    requires here { CanDo before.now deed }
     ensures sound { IsSound buffers.new sessions.new }
     ensures sizes { sizes_in sessions.new ≡ sizes_in sessions.old }
-    ensures ok { OnOk result ((id : ℕ) (next : Option ℕ) → at ≡ position_or_len (session_id id) sessions.old → ActedBy (deed_world deed.now id (world_of directory.now buffers.old sessions.old next)) (world_of directory.now buffers.new sessions.new next) (store_told S.failed S.accepted store.old) (store_told S.failed S.accepted store.new) id (deed_act (own_at at sessions.old) deed.now)) }
+    ensures ok { OnOk result ((id : ℕ) (next : Option ℕ) → at ≡ position_or_len (session_id id) sessions.old → ActedBy (deed_world before.now deed id (world_of directory.now buffers.old sessions.old next)) (world_of directory.now buffers.new sessions.new next) (store_told S.failed S.accepted store.old) (store_told S.failed S.accepted store.new) id (deed_act (own_at at sessions.old) before.now deed)) }
     ensures touched { IfOk result (λ touched. (id : ℕ) (next : Option ℕ) → at ≡ position_or_len (session_id id) sessions.old → Apart touched id (world_of directory.now buffers.old sessions.old next) (world_of directory.now buffers.new sessions.new next)) }
-    ensures wants { OnErr result (may_want_memory deed.now ≡ true) }
+    ensures wants { OnErr result (may_want_memory deed ≡ true) }
     ensures err { OnErr result ((next : Option ℕ) → world_of directory.now buffers.new sessions.new next ≡ world_of directory.now buffers.old sessions.old next) }
     ensures accepted { OnErr result (S.accepted store.new ≡ S.accepted store.old) }
-    ensures may { OnErr result ((id : ℕ) (next : Option ℕ) → at ≡ position_or_len (session_id id) sessions.old → may_be_refused (outcome_in (world_of directory.now buffers.old sessions.old next) id (deed_act (own_at at sessions.old) deed.now) true) ≡ true) }
-    ensures further { OnOk result ((s t : Search) → is_replacement deed.now ≡ true → search_held at sessions.old ≡ Some s → search_held at sessions.new ≡ Some t → 0 < length (aim_old s.aim) → remaining_at at buffers.new sessions.new < remaining_at at buffers.old sessions.old) }
+    ensures may { OnErr result ((id : ℕ) (next : Option ℕ) → at ≡ position_or_len (session_id id) sessions.old → may_be_refused (outcome_in (world_of directory.now buffers.old sessions.old next) id (deed_act (own_at at sessions.old) before.now deed) true) ≡ true) }
+    ensures further { OnOk result ((s t : Search) → is_replacement deed ≡ true → search_held at sessions.old ≡ Some s → search_held at sessions.new ≡ Some t → 0 < length (aim_old s.aim) → remaining_at at buffers.new sessions.new < remaining_at at buffers.old sessions.old) }
 {
     match deed {
-        Deed::Act(done, _) => match do_act(alloc, buffers, directory, sessions, at, store, *done) {
-            Ok(touched) => Ok(touched),
-            Err(Short) => Err(Short),
-        },
-        Deed::Answer(prompt, argument) => {
+        Deed::Act(done) => do_act(alloc, buffers, directory, sessions, at, store, done),
+        Deed::Answer(argument) => {
+            let prompt = asked(before);
             let question = prompt.question();
             let input = prompt.input();
             match answer(
-                alloc, buffers, directory, sessions, at, question, *argument, input,
+                alloc, buffers, directory, sessions, at, question, argument, input,
             ) {
                 Ok(touched) => Ok(touched),
                 Err(Short) => Err(Short),
             }
         }
         Deed::Seek(step) => {
-            search_on(buffers, directory, sessions, at, *step);
+            search_on(buffers, directory, sessions, at, step);
             Ok(Touched::Nowhere)
         }
         Deed::QuitSearch => {
             quit_search(buffers, sessions, at);
             Ok(Touched::Nowhere)
         }
-        Deed::StartReplacing(pattern, put) => {
-            let pattern = copied(pattern);
-            let put = copied(put);
+        Deed::StartReplacing => {
+            let prompt = asked(before);
+            let pattern = SearchString::typed(prompt.first());
+            let put = SearchString::typed(prompt.input());
             start_replacing(buffers, directory, sessions, at, pattern, put);
             Ok(Touched::Nowhere)
         }
-        Deed::Replace(last) => match replace(buffers, directory, sessions, at, *last) {
+        Deed::Replace(last) => match replace(buffers, directory, sessions, at, last) {
             Ok(touched) => Ok(touched),
             Err(Short) => Err(Short),
         },

@@ -7,14 +7,14 @@ ghost use Rattle.mgs_core.specs.Steps.{command_act, line_act, motion_act};
 ghost use Rattle.mgs_core.specs.declared.deeds.Before.TheVariants.{Plain};
 ghost use Rattle.mgs_core.specs.Stepped.{IsAlone, IsByteStep, IsCommandStep, call_fault, is_call, is_exit, is_keyed};
 
-use crate::deeds::{Before, Deed};
+use crate::deeds::Deed;
 use mgs_act::KeyAct;
 use mgs_maps::Fed;
 use mgs_model::{Command, Message, Motion, Question, REPETITION_LIMIT, Setting};
 use mgs_session::{Session, call_macro, fail, hold, rest};
 
 /// What a byte comes to in its session.
-#[derive(Drop)]
+#[derive(Clone, Copy)]
 pub enum ByteStep {
     /// The session alone changed.
     Kept,
@@ -104,7 +104,7 @@ fn call_fault(session: &Session, argument: Option<usize>) -> Option<Message>
 /// The session's macro is to be played, or it is told why not.
 fn step_call(session: &mut Session, command: Command, argument: Option<usize>) -> ByteStep
     requires { is_call command ≡ true }
-    ensures step { IsCommandStep session.old session.new command argument Plain result }
+    ensures step { IsCommandStep session.old session.new command argument result }
     ensures keyed { is_keyed result ≡ true }
 {
     if let Some(message) = call_fault(session, argument) {
@@ -115,16 +115,16 @@ fn step_call(session: &mut Session, command: Command, argument: Option<usize>) -
     ByteStep::Kept
 }
 
-/// What a command comes to in a session at rest, in which nothing was there before. None ends its session while a macro plays.
+/// What a command comes to in a session at rest. None ends its session while a macro plays.
 pub fn step_command(session: &mut Session, command: Command, argument: Option<usize>) -> ByteStep
-    ensures step { IsCommandStep session.old session.new command argument Plain result }
+    ensures step { IsCommandStep session.old session.new command argument result }
     ensures keyed { is_keyed result ≡ true }
 {
     if is_call(command) {
         return step_call(session, command, argument);
     }
     if !is_exit(command) {
-        return ByteStep::Acts(Deed::Act(command_act(command, argument), Before::Plain));
+        return ByteStep::Acts(Deed::Act(command_act(command, argument)));
     }
     if session.own.player.is_playing() {
         fail(session, Message::InMacro);
@@ -138,7 +138,7 @@ pub fn step_key(session: &mut Session, byte: u8) -> ByteStep
     requires still { session.old.own.search ≡ None }
     requires plain { session.old.own.prompt ≡ None }
     requires alone { IsAlone session.old.own.player }
-    ensures step { (directory : Directory) (ks : List MarkedBuffer) → IsByteStep directory ks session.old session.new byte result }
+    ensures step { (directory : Directory) (ks : List MarkedBuffer) → IsByteStep directory ks session.old session.new byte Plain result }
     ensures keyed { is_keyed result ≡ true }
 {
     let mut keyboard = session.own.keyboard;
@@ -149,7 +149,7 @@ pub fn step_key(session: &mut Session, byte: u8) -> ByteStep
         }
         Fed::Unbound => {
             rest(session);
-            ByteStep::Acts(Deed::Act(KeyAct::Unbound, Before::Plain))
+            ByteStep::Acts(Deed::Act(KeyAct::Unbound))
         }
         Fed::Run(command, argument) => {
             rest(session);

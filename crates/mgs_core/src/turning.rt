@@ -12,6 +12,7 @@ ghost use Rattle.mgs_act.specs.Replacing.{remaining_at};
 ghost use Rattle.mgs_session.specs.declared.search.Search.{Search};
 ghost use Rattle.mgs_world.specs.Sound.{IsSound};
 ghost use Rattle.mgs_world.specs.Worlds.{IsUnique, aim_old, buffers_of, own_at, own_of, session_id, sizes_in, world_of};
+ghost use Rattle.mgs_core.specs.declared.deeds.Before.TheVariants.{Plain};
 ghost use Rattle.mgs_core.specs.Held.{AreSettled};
 ghost use Rattle.mgs_core.specs.Judged.{judged_touched};
 ghost use Rattle.mgs_core.specs.Stepped.{CanDo, IsFirstStep, IsReady, IsTurnStep, before_of, deed_act, deed_world, is_replacement, may_want_memory, own_before, put_back, refused};
@@ -61,14 +62,16 @@ fn step_first<T: Marked + Drop>(
     directory: &Directory,
     session: &mut Session,
     byte: u8,
+    before: &mut Before,
 ) -> ByteStep
     requires judged { AreJudged directory.now (rules_kept buffers.now) judge.old }
     requires plays { session.old.own.player.playing ≡ true }
     requires all { are_played session.old.own.player.todo ≡ true }
-    ensures step { (own : model.Own) → IsFirstStep directory.now buffers.now own session.old session.new byte result }
+    requires plain { before.old ≡ Plain }
+    ensures step { (own : model.Own) → IsFirstStep directory.now buffers.now own session.old session.new byte before.new result }
     ensures judged { AreJudged directory.now (rules_kept buffers.now) judge.new }
 {
-    let step = step_byte(buffers, judge, directory, session, byte);
+    let step = step_byte(buffers, judge, directory, session, byte, before);
     match step {
         ByteStep::Kept => {
             session.own.player.begin_again();
@@ -82,23 +85,25 @@ fn step_first<T: Marked + Drop>(
     }
 }
 
-/// Takes what the session has to do next.
+/// Takes what the session has to do next. Where that is a deed, what was there before stands in its place then, where nothing was.
 fn next_step<T: Marked + Drop>(
     buffers: &Buffers<T>,
     judge: &mut Judge,
     directory: &Directory,
     session: &mut Session,
+    before: &mut Before,
 ) -> ByteStep
     requires judged { AreJudged directory.now (rules_kept buffers.now) judge.old }
     requires some { session.old.own.player.todo ≡ [] → ⊥ }
     requires fit { IsFit (own_of session.old.own) }
-    ensures step { IsTurnStep directory.now buffers.now session.old session.new result }
+    requires plain { before.old ≡ Plain }
+    ensures step { IsTurnStep directory.now buffers.now session.old session.new before.new result }
     ensures judged { AreJudged directory.now (rules_kept buffers.now) judge.new }
 {
     match next_task(session) {
-        Task::Typed(byte) => step_byte(buffers, judge, directory, session, byte),
-        Task::Played(byte) => step_byte(buffers, judge, directory, session, byte),
-        Task::First(byte) => step_first(buffers, judge, directory, session, byte),
+        Task::Typed(byte) => step_byte(buffers, judge, directory, session, byte, before),
+        Task::Played(byte) => step_byte(buffers, judge, directory, session, byte, before),
+        Task::First(byte) => step_first(buffers, judge, directory, session, byte, before),
         Task::End => {
             set_kind(session, Kind::Other);
             ByteStep::Kept
@@ -155,7 +160,8 @@ fn forget_touched(judge: &mut Judge, touched: &Touched)
     }
 }
 
-/// Does what a turn asks for by the session at `at`, whose last command was of this kind, and in which a macro was played or not.
+/// Does what a turn asks for by the session at `at`, where this was there before: the last command was of this kind, and a macro was played or
+/// not.
 fn act_turn<T: Marked + Drop, S: Store>(
     alloc: Global,
     buffers: &mut Buffers<T>,
@@ -165,30 +171,36 @@ fn act_turn<T: Marked + Drop, S: Store>(
     at: usize,
     store: &mut S,
     id: SessionId,
-    deed: &mut Deed,
+    deed: Deed,
+    before: &mut Before,
     kind: Kind,
     is_playing: bool,
 ) -> (Keyed, Touched)
     requires sound { IsSound buffers.old sessions.old }
     requires place { at ≡ position_or_len (session_id id) sessions.old }
     requires within { at < length sessions.old }
-    requires ready { IsReady deed.old (search_held at sessions.old) (own_at at sessions.old) }
-    requires here { CanDo deed.old }
+    requires ready { IsReady deed (search_held at sessions.old) (own_at at sessions.old) }
+    requires here { CanDo before.old deed }
     requires judged { AreJudged directory.now (rules_kept buffers.old) judge.old }
     ensures judged { AreJudged directory.now (rules_kept buffers.new) judge.new }
     ensures sound { IsSound buffers.new sessions.new }
     ensures sizes { sizes_in sessions.new ≡ sizes_in sessions.old }
-    ensures acted { (next : Option ℕ) → DeedBy (world_of directory.now buffers.old sessions.old next) (deed_world deed.old id (world_of directory.now buffers.old sessions.old next)) (world_of directory.now buffers.new sessions.new next) (store_told S.failed S.accepted store.old) (store_told S.failed S.accepted store.new) id (may_want_memory deed.old) (deed_act (own_at at sessions.old) deed.old) (put_back (buffers_of buffers.old) (before_of deed.old) kind is_playing) result.0 }
-    ensures further { result.0 ≡ Done → (s t : Search) → is_replacement deed.old ≡ true → search_held at sessions.old ≡ Some s → search_held at sessions.new ≡ Some t → 0 < length (aim_old s.aim) → remaining_at at buffers.new sessions.new < remaining_at at buffers.old sessions.old }
+    ensures acted { (next : Option ℕ) → DeedBy (world_of directory.now buffers.old sessions.old next) (deed_world before.old deed id (world_of directory.now buffers.old sessions.old next)) (world_of directory.now buffers.new sessions.new next) (store_told S.failed S.accepted store.old) (store_told S.failed S.accepted store.new) id (may_want_memory deed) (deed_act (own_at at sessions.old) before.old deed) (put_back (buffers_of buffers.old) (before_of before.old deed) kind is_playing) result.0 }
+    ensures further { result.0 ≡ Done → (s t : Search) → is_replacement deed ≡ true → search_held at sessions.old ≡ Some s → search_held at sessions.new ≡ Some t → 0 < length (aim_old s.aim) → remaining_at at buffers.new sessions.new < remaining_at at buffers.old sessions.old }
     ensures touched { (next : Option ℕ) → Apart result.1 id (world_of directory.now buffers.old sessions.old next) (world_of directory.now buffers.new sessions.new next) }
 {
-    match do_deed(alloc, buffers, directory, sessions, at, store, deed) {
+    match do_deed(alloc, buffers, directory, sessions, at, store, deed, before) {
         Ok(touched) => {
             forget_touched(judge, &touched);
             (Keyed::Done, touched)
         }
         Err(Short) => {
-            refuse(&mut sessions[at], take_before(deed), kind, is_playing);
+            refuse(
+                &mut sessions[at],
+                take_before(before, deed),
+                kind,
+                is_playing,
+            );
             (Keyed::Short, Touched::Nowhere)
         }
     }
@@ -224,14 +236,25 @@ fn take_turn<T: Marked + Drop, S: Store>(
     let _count = buffers.len();
     let kind = sessions[at].own.kind;
     let is_playing = sessions[at].own.player.is_playing();
-    let mut step = next_step(buffers, judge, directory, &mut sessions[at]);
-    match &mut step {
+    let mut before = Before::Plain;
+    match next_step(buffers, judge, directory, &mut sessions[at], &mut before) {
         ByteStep::Kept => (Keyed::Done, Touched::Nowhere),
         ByteStep::Failed => (Keyed::Done, Touched::Nowhere),
         ByteStep::Ends => (Keyed::Quit, Touched::Anywhere),
         ByteStep::Acts(deed) => {
             let done = act_turn(
-                alloc, buffers, judge, directory, sessions, at, store, id, deed, kind, is_playing,
+                alloc,
+                buffers,
+                judge,
+                directory,
+                sessions,
+                at,
+                store,
+                id,
+                deed,
+                &mut before,
+                kind,
+                is_playing,
             );
             let _later = buffers.len();
             done

@@ -1,5 +1,5 @@
 // A byte of a session: in a search and at a prompt it is typed, and else it is a key.
-ghost use Rattle.std.specs.Prelude.{◌≡◌, ◌≤◌, ◌<◌, List, Option, IfSome, length, true};
+ghost use Rattle.std.specs.Prelude.{◌≡◌, ◌≤◌, ◌<◌, List, Option, IfSome, is_some, length, true};
 ghost use Rattle.std.specs.Option.{option_map};
 ghost use Rattle.mgs_model.specs.Access.{Directory};
 ghost use Rattle.mgs_model.specs.Searching.{read_byte};
@@ -17,8 +17,9 @@ ghost use Rattle.mgs_model.specs.declared.message.Message.TheVariants.{Replaced,
 ghost use Rattle.mgs_session.specs.Sessions.{playing_as, prompting, told, unprompted};
 ghost use Rattle.mgs_world.specs.Worlds.{own_of};
 ghost use Rattle.mgs_core.specs.Prompted.{names_for};
-ghost use Rattle.mgs_core.specs.declared.deeds.Before.TheVariants as befores;
-ghost use Rattle.mgs_core.specs.Stepped.{IsAlone, IsAnswerStep, IsByteStep, IsCommandStep, IsNamedStep, deed_from, finding, replace_key, replacing_at, step_from};
+ghost use Rattle.mgs_core.specs.declared.deeds.Before.{Before};
+ghost use Rattle.mgs_core.specs.declared.deeds.Before.TheVariants.{Plain};
+ghost use Rattle.mgs_core.specs.Stepped.{IsAlone, IsAnswerStep, IsByteStep, IsNamedStep, finding, replace_key, replacing_at};
 
 use crate::deeds::{Before, Deed};
 use crate::keying::{ByteStep, step_command, step_key};
@@ -27,7 +28,7 @@ use mgs_cache::Judge;
 use mgs_maps::{command_named, name_completion};
 use mgs_marks::Marked;
 use mgs_mini::{Prompt, Step};
-use mgs_model::{Command, Message, Name, Question, SearchStep};
+use mgs_model::{Message, Name, Question, SearchStep};
 use mgs_policy::Directory;
 use mgs_search::IncrementalSearch;
 use mgs_session::{
@@ -94,44 +95,9 @@ fn complete<T: Marked + Drop>(
     hold_completed(session, prompt, completes);
 }
 
-/// The deed of a command, with what was there before it.
-fn deed_from(deed: Deed, before: Before) -> Deed
-    ensures { result ≡ deed_from before deed }
-{
-    match deed {
-        Deed::Act(done, _) => Deed::Act(done, before),
-        _ => deed,
-    }
-}
-
-/// The step of a command, with what was there before it.
-fn step_from(step: ByteStep, before: Before) -> ByteStep
-    ensures { result ≡ step_from before step }
-{
-    match step {
-        ByteStep::Kept => ByteStep::Kept,
-        ByteStep::Failed => ByteStep::Failed,
-        ByteStep::Ends => ByteStep::Ends,
-        ByteStep::Acts(deed) => ByteStep::Acts(deed_from(deed, before)),
-    }
-}
-
-/// What a command comes to that was named at this prompt, in a session at rest.
-fn step_named(
-    session: &mut Session,
-    command: Command,
-    argument: Option<usize>,
-    prompt: Prompt,
-) -> ByteStep
-    ensures { IsCommandStep session.old session.new command argument (befores.Prompt prompt) result }
-{
-    let step = step_command(session, command, argument);
-    step_from(step, Before::Prompt(prompt))
-}
-
 /// What the name of a command comes to, whose prompt was taken out of the session.
-fn step_name(session: &mut Session, prompt: Prompt) -> ByteStep
-    ensures { IsNamedStep session.old session.new prompt (find_command prompt.input) result }
+fn step_name(session: &mut Session, prompt: Prompt, before: &mut Before) -> ByteStep
+    ensures { IsNamedStep session.old session.new prompt before.new (find_command prompt.input) result }
 {
     let argument = session.own.keyboard.argument();
     let Some(command) = command_named(prompt.input()) else {
@@ -139,64 +105,55 @@ fn step_name(session: &mut Session, prompt: Prompt) -> ByteStep
         return ByteStep::Kept;
     };
     rest(session);
-    step_named(session, command, argument, prompt)
+    *before = Before::Prompt(prompt);
+    step_command(session, command, argument)
 }
 
 /// What an answer comes to, whose prompt was taken out of the session.
-fn step_answer(session: &mut Session, prompt: Prompt) -> ByteStep
+fn step_answer(session: &mut Session, prompt: Prompt, before: &mut Before) -> ByteStep
     ensures first { IsFirst prompt.question prompt.first }
-    ensures step { IsAnswerStep session.old session.new prompt result }
+    ensures step { IsAnswerStep session.old session.new prompt before.new result }
 {
     // Tells the prover that there is a first answer beside the second question alone.
     let _first = prompt.first();
     match prompt.question() {
-        Question::RunWhich => step_name(session, prompt),
+        Question::RunWhich => step_name(session, prompt, before),
         Question::ReplaceWhat => {
             hold_prompt(session, Prompt::second(prompt.input()));
             ByteStep::Kept
         }
         Question::ReplaceWith => {
             rest(session);
-            ByteStep::Acts(Deed::StartReplacing(
-                SearchString::typed(prompt.first()),
-                SearchString::typed(prompt.input()),
-            ))
+            *before = Before::Prompt(prompt);
+            ByteStep::Acts(Deed::StartReplacing)
         }
         _ => {
             let argument = session.own.keyboard.argument();
             rest(session);
-            ByteStep::Acts(Deed::Answer(prompt, argument))
+            *before = Before::Prompt(prompt);
+            ByteStep::Acts(Deed::Answer(argument))
         }
     }
 }
 
-/// The prompt, if there is one, is taken out. Where there is none, nothing of its size is moved.
-fn prompt_out(session: &mut Session) -> Option<Prompt>
-    ensures prompt { result ≡ session.old.own.prompt }
-    ensures rest { session.new ≡ unprompted session.old }
-{
-    match &session.own.prompt {
-        None => None,
-        Some(_) => take_prompt(session),
-    }
-}
-
-/// What a byte comes to in a session that does not search.
-fn step_still<T: Marked + Drop>(
+/// What a byte comes to in a session that is at a prompt, and does not search.
+fn step_prompt<T: Marked + Drop>(
     buffers: &Buffers<T>,
     judge: &mut Judge,
     directory: &Directory,
     session: &mut Session,
     byte: u8,
+    before: &mut Before,
 ) -> ByteStep
     requires judged { AreJudged directory.now (rules_kept buffers.now) judge.old }
     requires still { session.old ≡ unsearched session.old }
     requires alone { IsAlone session.old.own.player }
-    ensures step { IsByteStep directory.now buffers.now session.old session.new byte result }
+    requires asked { is_some session.old.own.prompt ≡ true }
+    ensures step { IsByteStep directory.now buffers.now session.old session.new byte before.new result }
     ensures judged { AreJudged directory.now (rules_kept buffers.now) judge.new }
 {
-    let Some(prompt) = prompt_out(session) else {
-        return step_key(session, byte);
+    let Some(prompt) = take_prompt(session) else {
+        unreachable!();
     };
     let mut prompt = prompt;
     match prompt.feed(byte) {
@@ -212,7 +169,29 @@ fn step_still<T: Marked + Drop>(
             fail(session, Message::Quitting);
             ByteStep::Kept
         }
-        Step::Answered => step_answer(session, prompt),
+        Step::Answered => step_answer(session, prompt, before),
+    }
+}
+
+/// What a byte comes to in a session that does not search. Where it is a key, nothing of a prompt's size is moved.
+fn step_still<T: Marked + Drop>(
+    buffers: &Buffers<T>,
+    judge: &mut Judge,
+    directory: &Directory,
+    session: &mut Session,
+    byte: u8,
+    before: &mut Before,
+) -> ByteStep
+    requires judged { AreJudged directory.now (rules_kept buffers.now) judge.old }
+    requires still { session.old ≡ unsearched session.old }
+    requires alone { IsAlone session.old.own.player }
+    requires plain { before.old ≡ Plain }
+    ensures step { IsByteStep directory.now buffers.now session.old session.new byte before.new result }
+    ensures judged { AreJudged directory.now (rules_kept buffers.now) judge.new }
+{
+    match &session.own.prompt {
+        None => step_key(session, byte),
+        Some(_) => step_prompt(buffers, judge, directory, session, byte, before),
     }
 }
 
@@ -225,11 +204,12 @@ fn step_foreign(
     anchor: usize,
     sought: IncrementalSearch,
     byte: u8,
+    before: &mut Before,
 ) -> ByteStep
     requires still { session.old ≡ unsearched session.old }
     requires alone { IsAlone session.old.own.player }
     requires leaves { read_byte session.old.own.pattern sought byte ≡ (sought, Leaves) }
-    ensures { (directory : Directory) (ks : List MarkedBuffer) → IsByteStep directory ks (searching (finding name origin anchor sought) session.old) session.new byte result }
+    ensures { (directory : Directory) (ks : List MarkedBuffer) → IsByteStep directory ks (searching (finding name origin anchor sought) session.old) session.new byte before.new result }
 {
     let last = SearchString::of(session.own.pattern.as_slice());
     leave_search(session, &sought);
@@ -239,7 +219,8 @@ fn step_foreign(
         anchor,
         aim: Aim::Find(sought),
     };
-    step_from(step_key(session, byte), Before::Search(search, last))
+    *before = Before::Search(search, last);
+    step_key(session, byte)
 }
 
 /// What a byte comes to in an incremental search, which was taken out of the session.
@@ -250,10 +231,11 @@ fn step_find(
     anchor: usize,
     sought: IncrementalSearch,
     byte: u8,
+    before: &mut Before,
 ) -> ByteStep
     requires still { session.old ≡ unsearched session.old }
     requires alone { IsAlone session.old.own.player }
-    ensures { (directory : Directory) (ks : List MarkedBuffer) → IsByteStep directory ks (searching (finding name origin anchor sought) session.old) session.new byte result }
+    ensures { (directory : Directory) (ks : List MarkedBuffer) → IsByteStep directory ks (searching (finding name origin anchor sought) session.old) session.new byte before.new result }
 {
     let mut sought = sought;
     match sought.feed(session.own.pattern.as_slice(), byte) {
@@ -261,7 +243,7 @@ fn step_find(
             leave_search(session, &sought);
             ByteStep::Kept
         }
-        SearchStep::Leaves => step_foreign(session, name, origin, anchor, sought, byte),
+        SearchStep::Leaves => step_foreign(session, name, origin, anchor, sought, byte, before),
         SearchStep::Quits => {
             hold_sought(session, name, origin, anchor, sought);
             ByteStep::Acts(Deed::QuitSearch)
@@ -380,7 +362,7 @@ fn step_replace(
 ) -> ByteStep
     requires still { session.old ≡ unsearched session.old }
     requires alone { IsAlone session.old.own.player }
-    ensures { (directory : Directory) (ks : List MarkedBuffer) → IsByteStep directory ks (searching (replacing_at name origin anchor replacing) session.old) session.new byte result }
+    ensures { (directory : Directory) (ks : List MarkedBuffer) (before : Before) → IsByteStep directory ks (searching (replacing_at name origin anchor replacing) session.old) session.new byte before result }
 {
     // Tells the prover that something is replaced.
     let _pattern = replacing.pattern();
@@ -418,10 +400,10 @@ fn step_replace(
 }
 
 /// What a byte comes to in a search, which was taken out of the session.
-fn step_search(session: &mut Session, search: Search, byte: u8) -> ByteStep
+fn step_taken(session: &mut Session, search: Search, byte: u8, before: &mut Before) -> ByteStep
     requires still { session.old ≡ unsearched session.old }
     requires alone { IsAlone session.old.own.player }
-    ensures { (directory : Directory) (ks : List MarkedBuffer) → IsByteStep directory ks (searching search session.old) session.new byte result }
+    ensures { (directory : Directory) (ks : List MarkedBuffer) → IsByteStep directory ks (searching search session.old) session.new byte before.new result }
 {
     let Search {
         name,
@@ -430,37 +412,41 @@ fn step_search(session: &mut Session, search: Search, byte: u8) -> ByteStep
         aim,
     } = search;
     match aim {
-        Aim::Find(sought) => step_find(session, name, origin, anchor, sought, byte),
+        Aim::Find(sought) => step_find(session, name, origin, anchor, sought, byte, before),
         Aim::Replace(replacing) => step_replace(session, name, origin, anchor, replacing, byte),
     }
 }
 
-/// The search, if one goes on, is taken out. Where there is none, nothing of its size is moved.
-fn search_out(session: &mut Session) -> Option<Search>
-    ensures search { result ≡ session.old.own.search }
-    ensures rest { session.new ≡ unsearched session.old }
+/// What a byte comes to in a session that searches.
+fn step_search(session: &mut Session, byte: u8, before: &mut Before) -> ByteStep
+    requires searches { is_some session.old.own.search ≡ true }
+    requires alone { IsAlone session.old.own.player }
+    ensures { (directory : Directory) (ks : List MarkedBuffer) → IsByteStep directory ks session.old session.new byte before.new result }
 {
-    match &session.own.search {
-        None => None,
-        Some(_) => take_search(session),
-    }
+    let Some(search) = take_search(session) else {
+        unreachable!();
+    };
+    step_taken(session, search, byte, before)
 }
 
-/// What a byte comes to in its session.
+/// What a byte comes to in its session. In one that does not search nothing of a search's size is moved. A deed's `before` stands in its place
+/// then, where nothing was.
 pub fn step_byte<T: Marked + Drop>(
     buffers: &Buffers<T>,
     judge: &mut Judge,
     directory: &Directory,
     session: &mut Session,
     byte: u8,
+    before: &mut Before,
 ) -> ByteStep
     requires judged { AreJudged directory.now (rules_kept buffers.now) judge.old }
     requires alone { IsAlone session.old.own.player }
-    ensures step { IsByteStep directory.now buffers.now session.old session.new byte result }
+    requires plain { before.old ≡ Plain }
+    ensures step { IsByteStep directory.now buffers.now session.old session.new byte before.new result }
     ensures judged { AreJudged directory.now (rules_kept buffers.now) judge.new }
 {
-    match search_out(session) {
-        Some(search) => step_search(session, search, byte),
-        None => step_still(buffers, judge, directory, session, byte),
+    match &session.own.search {
+        None => step_still(buffers, judge, directory, session, byte, before),
+        Some(_) => step_search(session, byte, before),
     }
 }

@@ -1,53 +1,56 @@
-use Rattle.std.proofs.Common.{◌∙◌, true, ap, sym}
+use Rattle.std.proofs.Common.{◌∙◌, true, ap}
+use Rattle.std.proofs.lemmas.Result.{on_err_weaker}
 use Rattle.mgs_model.specs.Apply.{outcome_in}
 use Rattle.mgs_model.specs.Events.{may_be_refused}
 use Rattle.mgs_world.specs.Worlds.{own_at, world_of}
 use Rattle.mgs_core.specs.declared.deeds.Deed.{Deed}
-use Rattle.mgs_core.specs.declared.deeds.Deed.TheVariants as deeds
 use Rattle.mgs_core.specs.Stepped.{deed_act}
 use Rattle.mgs_core.proofs.Prompted.{answer_may, answer_quietly}
 use Rattle.mgs_core.proofs.Taken.{quit_quietly, replaced_may, replaced_quietly, skipped_quietly, sought_quietly, started_replacing}
 use Rattle.mgs_core.proofs.deeds.do_deed.Goals as goal
 
+pub returns-in-Act-clause-may : goal.returns-in-Act-clause-may
+returns-in-Act-clause-may g c =
+    on_err_weaker c.do_act.result
+    (λ may id next place.
+    ap (λ (d : Deed). may_be_refused (outcome_in (world_of c.args.directory.now c.args.buffers.now c.args.sessions.now next) id (deed_act (own_at c.args.at c.args.sessions.now) c.args.before.now d) true)) c.in-Act.is
+    ∙ may id next place)
+    c.do_act.ensures.may
+
+pub returns-in-Ok-clause-ok : goal.returns-in-Ok-clause-ok
+returns-in-Ok-clause-ok g c id next place =
+    answer_quietly _ _ _ id (own_at c.args.at c.args.sessions.now) c.args.before.now c.args.deed c.asked-prompt.result.now c.in-Answer.argument c.question-question.result c.input-input.result.now
+    c.in-Answer.is c.asked-prompt.ensures c.question-question.ensures c.input-input.ensures.value (c.in-Ok.ensures.ok id next place)
+
 pub returns-in-Err-clause-may : goal.returns-in-Err-clause-may
 returns-in-Err-clause-may g c id next place =
-    ap (λ (d : Deed). may_be_refused (outcome_in (world_of c.args.directory.now c.args.buffers.now c.args.sessions.now next) id (deed_act (own_at c.args.at c.args.sessions.now) d) true)) c.in-Act.is
-    ∙ c.in-Err.ensures.may id next place
-
-pub returns-in-Ok-answer-clause-ok : goal.returns-in-Ok-answer-clause-ok
-returns-in-Ok-answer-clause-ok g c id next place =
-    answer_quietly _ _ _ id (own_at c.args.at c.args.sessions.now) c.args.deed.now c.in-Answer.prompt c.in-Answer.argument c.question-question.result c.input-input.result.now
-    c.in-Answer.is c.question-question.ensures c.input-input.ensures.value (c.in-Ok-answer.ensures.ok id next place)
-
-pub returns-in-Err-answer-clause-may : goal.returns-in-Err-answer-clause-may
-returns-in-Err-answer-clause-may g c id next place =
-    answer_may (world_of c.args.directory.now c.args.buffers.now c.args.sessions.now next) id (own_at c.args.at c.args.sessions.now) c.args.deed.now c.in-Answer.prompt c.in-Answer.argument c.question-question.result c.input-input.result.now
-    c.in-Answer.is c.question-question.ensures c.input-input.ensures.value (c.in-Err-answer.ensures.may id next place)
+    answer_may (world_of c.args.directory.now c.args.buffers.now c.args.sessions.now next) id (own_at c.args.at c.args.sessions.now) c.args.before.now c.args.deed c.asked-prompt.result.now c.in-Answer.argument c.question-question.result c.input-input.result.now
+    c.in-Answer.is c.asked-prompt.ensures c.question-question.ensures c.input-input.ensures.value (c.in-Err.ensures.may id next place)
 
 pub returns-in-Seek-clause-ok : goal.returns-in-Seek-clause-ok
 returns-in-Seek-clause-ok g c id next place =
-    sought_quietly _ _ _ id c.args.sessions.now c.args.at c.args.deed.now c.in-Seek.step c.in-Seek.is c.requires.ready (λ s f held aim. c.search_on.ensures.world id next s f place held aim)
+    sought_quietly _ _ _ id c.args.sessions.now c.args.at c.args.before.now c.args.deed c.in-Seek.step c.in-Seek.is c.requires.ready (λ s f held aim. c.search_on.ensures.world id next s f place held aim)
 
 pub returns-in-QuitSearch-clause-ok : goal.returns-in-QuitSearch-clause-ok
 returns-in-QuitSearch-clause-ok g c id next place =
-    quit_quietly _ _ _ id (own_at c.args.at c.args.sessions.now) c.args.deed.now c.in-QuitSearch.is (c.quit_search.ensures.world c.args.directory.now id next place)
+    quit_quietly _ _ _ id (own_at c.args.at c.args.sessions.now) c.args.before.now c.args.deed c.in-QuitSearch.is (c.quit_search.ensures.world c.args.directory.now id next place)
 
 pub returns-in-StartReplacing-clause-ok : goal.returns-in-StartReplacing-clause-ok
 returns-in-StartReplacing-clause-ok g c id next place =
-    started_replacing _ _ _ id (own_at c.args.at c.args.sessions.now) c.args.deed.now c.copied-pattern.result c.copied-put.result
-    (c.in-StartReplacing.is ∙ (λ i. deeds.StartReplacing (sym c.copied-pattern.ensures i) (sym c.copied-put.ensures i))) (c.start_replacing.ensures.world id next place)
+    started_replacing _ _ _ id (own_at c.args.at c.args.sessions.now) c.args.before.now c.args.deed c.asked-prompt-in-StartReplacing.result.now c.typed-pattern.result c.typed-put.result c.in-StartReplacing.is c.asked-prompt-in-StartReplacing.ensures
+    (c.typed-pattern.ensures ∙ c.first.ensures.value) (c.typed-put.ensures ∙ c.input.ensures.value) (c.start_replacing.ensures.world id next place)
 
 pub returns-in-Ok-replace-clause-ok : goal.returns-in-Ok-replace-clause-ok
 returns-in-Ok-replace-clause-ok g c id next place =
-    replaced_quietly _ _ _ id c.args.sessions.now c.args.at c.args.deed.now c.in-Replace.last c.in-Replace.is c.requires.ready (λ s r held aim. c.in-Ok-replace.ensures.ok id next s r place held aim)
+    replaced_quietly _ _ _ id c.args.sessions.now c.args.at c.args.before.now c.args.deed c.in-Replace.last c.in-Replace.is c.requires.ready (λ s r held aim. c.in-Ok-replace.ensures.ok id next s r place held aim)
 
 pub returns-in-Err-replace-clause-may : goal.returns-in-Err-replace-clause-may
 returns-in-Err-replace-clause-may g c id next place =
-    replaced_may (world_of c.args.directory.now c.args.buffers.now c.args.sessions.now next) id c.args.sessions.now c.args.at c.args.deed.now c.in-Replace.last c.in-Replace.is c.requires.ready (λ s r held aim. c.in-Err-replace.ensures.may id next s r place held aim)
+    replaced_may (world_of c.args.directory.now c.args.buffers.now c.args.sessions.now next) id c.args.sessions.now c.args.at c.args.before.now c.args.deed c.in-Replace.last c.in-Replace.is c.requires.ready (λ s r held aim. c.in-Err-replace.ensures.may id next s r place held aim)
 
 pub returns-in-Skip-clause-ok : goal.returns-in-Skip-clause-ok
 returns-in-Skip-clause-ok g c id next place =
-    skipped_quietly _ _ _ id c.args.sessions.now c.args.at c.args.deed.now c.in-Skip.is c.requires.ready (λ s r held aim. c.skip.ensures.world id next s r place held aim)
+    skipped_quietly _ _ _ id c.args.sessions.now c.args.at c.args.before.now c.args.deed c.in-Skip.is c.requires.ready (λ s r held aim. c.skip.ensures.world id next s r place held aim)
 
 pub returns-in-Ok-replace-clause-further : goal.returns-in-Ok-replace-clause-further
 returns-in-Ok-replace-clause-further g c s t is old new some = c.in-Ok-replace.ensures.further s t old new some

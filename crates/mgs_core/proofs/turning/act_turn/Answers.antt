@@ -45,7 +45,7 @@ returns-in-Err-clause-acted g c next =
     let ys = c.do_deed.new.sessions in
     record {
       wants = c.in-Err.ensures.wants;
-      told = refused_in_world c.args.directory.now c.args.buffers.now c.do_deed.new.buffers c.args.sessions.now ys next c.args.id c.args.at (get_or ys c.args.at c.index-sessions-at.result) c.refuse.new.session (before_of c.args.deed.now) c.take_before.result c.args.kind c.args.is_playing
+      told = refused_in_world c.args.directory.now c.args.buffers.now c.do_deed.new.buffers c.args.sessions.now ys next c.args.id c.args.at (get_or ys c.args.at c.index-sessions-at.result) c.refuse.new.session (before_of c.args.before.now c.args.deed) c.take_before.result c.args.kind c.args.is_playing
           c.requires.place c.requires.within c.do_deed.ensures.sizes (ap (get_or ys c.args.at) c.index-sessions-at.is) c.take_before.ensures c.refuse.ensures (c.in-Err.ensures.err next);
       may = c.in-Err.ensures.may c.args.id next c.requires.place;
       accepted = c.in-Err.ensures.accepted;
@@ -54,4 +54,4 @@ returns-in-Err-clause-acted g c next =
 pub returns-in-Err-clause-touched : goal.returns-in-Err-clause-touched
 returns-in-Err-clause-touched g c next =
     let w = world_of c.args.directory.now c.args.buffers.now c.args.sessions.now next in
-    refused_apart (buffers_of c.args.buffers.now) (before_of c.args.deed.now) c.args.kind c.args.is_playing c.args.id w _ (returns-in-Err-clause-acted g c next).told
+    refused_apart (buffers_of c.args.buffers.now) (before_of c.args.before.now c.args.deed) c.args.kind c.args.is_playing c.args.id w _ (returns-in-Err-clause-acted g c next).told

@@ -1,4 +1,4 @@
-use Rattle.std.proofs.Common.{◌∙◌, None, get_or, ap, subst}
+use Rattle.std.proofs.Common.{◌∙◌, None, get_or, ap}
 use Rattle.std.specs.Prelude.{slice_set}
 use Rattle.std.proofs.lemmas.List.{get_or_default}
 use Rattle.mgs_model.specs.declared.touched.Touched.TheVariants.{Anywhere, Nowhere}
@@ -7,13 +7,12 @@ use Rattle.mgs_session.specs.declared.Session.{Session}
 use Rattle.mgs_world.specs.Sound.{session_uses}
 use Rattle.mgs_world.specs.Worlds.{size_in, world_of}
 use Rattle.mgs_world.proofs.Soundness.{sound_set, sizes_set}
-use Rattle.mgs_core.specs.Stepped.{IsTurnStep}
 use Rattle.mgs_core.proofs.Sizes.{place_same}
 use Rattle.mgs_core.proofs.Taken.{acted_fit, acts_less, deed_turned, ends_turn, failed_fit, failed_less, failed_turn, kept_fit, kept_less, kept_turn, left_within, ready_put, some_there, step_apart}
 use Rattle.mgs_core.proofs.turning.take_turn.Goals as goal
 
-pub next_step-step-requires-clause-some : goal.next_step-step-requires-clause-some
-next_step-step-requires-clause-some g c none =
+pub next_step-requires-clause-some : goal.next_step-requires-clause-some
+next_step-requires-clause-some g c none =
     let xs = c.args.sessions.now in
     let h = get_or xs c.args.at c.index-sessions-at-3.result in
     let is_h = ap (get_or xs c.args.at) c.index-sessions-at-3.is in
@@ -26,9 +25,8 @@ returns-in-Kept-clause-sound g c =
     let xs = c.args.sessions.now in
     let h = get_or xs c.args.at c.index-sessions-at-3.result in
     let is_h = ap (get_or xs c.args.at) c.index-sessions-at-3.is in
-    let y = c.next_step-step.new.session in
-    let t = subst (IsTurnStep d ks h y) c.in-Kept.is c.next_step-step.ensures.step in
-    sound_set ks xs c.args.at h y is_h (λ n i. ap (session_uses n i) t.own) c.requires.sound
+    let y = c.next_step.new.session in
+    sound_set ks xs c.args.at h y is_h (λ n i. ap (session_uses n i) c.in-Kept.ensures.step.own) c.requires.sound
 
 pub returns-in-Kept-clause-sizes : goal.returns-in-Kept-clause-sizes
 returns-in-Kept-clause-sizes g c =
@@ -37,9 +35,8 @@ returns-in-Kept-clause-sizes g c =
     let xs = c.args.sessions.now in
     let h = get_or xs c.args.at c.index-sessions-at-3.result in
     let is_h = ap (get_or xs c.args.at) c.index-sessions-at-3.is in
-    let y = c.next_step-step.new.session in
-    let t = subst (IsTurnStep d ks h y) c.in-Kept.is c.next_step-step.ensures.step in
-    sizes_set xs c.args.at h y is_h (ap size_in t.own)
+    let y = c.next_step.new.session in
+    sizes_set xs c.args.at h y is_h (ap size_in c.in-Kept.ensures.step.own)
 
 pub returns-in-Kept-clause-touched : goal.returns-in-Kept-clause-touched
 returns-in-Kept-clause-touched g c next =
@@ -48,9 +45,8 @@ returns-in-Kept-clause-touched g c next =
     let xs = c.args.sessions.now in
     let h = get_or xs c.args.at c.index-sessions-at-3.result in
     let is_h = ap (get_or xs c.args.at) c.index-sessions-at-3.is in
-    let y = c.next_step-step.new.session in
-    let t = subst (IsTurnStep d ks h y) c.in-Kept.is c.next_step-step.ensures.step in
-    step_apart d ks xs next c.args.id c.args.at h y c.requires.place c.requires.within is_h Nowhere t.own t.stays
+    let y = c.next_step.new.session in
+    step_apart d ks xs next c.args.id c.args.at h y c.requires.place c.requires.within is_h Nowhere c.in-Kept.ensures.step.own c.in-Kept.ensures.step.stays
 
 pub returns-in-Failed-clause-sound : goal.returns-in-Failed-clause-sound
 returns-in-Failed-clause-sound g c =
@@ -59,9 +55,8 @@ returns-in-Failed-clause-sound g c =
     let xs = c.args.sessions.now in
     let h = get_or xs c.args.at c.index-sessions-at-3.result in
     let is_h = ap (get_or xs c.args.at) c.index-sessions-at-3.is in
-    let y = c.next_step-step.new.session in
-    let t = subst (IsTurnStep d ks h y) c.in-Failed.is c.next_step-step.ensures.step in
-    sound_set ks xs c.args.at h y is_h (λ n i. ap (session_uses n i) t.own) c.requires.sound
+    let y = c.next_step.new.session in
+    sound_set ks xs c.args.at h y is_h (λ n i. ap (session_uses n i) c.in-Failed.ensures.step.own) c.requires.sound
 
 pub returns-in-Failed-clause-sizes : goal.returns-in-Failed-clause-sizes
 returns-in-Failed-clause-sizes g c =
@@ -70,9 +65,8 @@ returns-in-Failed-clause-sizes g c =
     let xs = c.args.sessions.now in
     let h = get_or xs c.args.at c.index-sessions-at-3.result in
     let is_h = ap (get_or xs c.args.at) c.index-sessions-at-3.is in
-    let y = c.next_step-step.new.session in
-    let t = subst (IsTurnStep d ks h y) c.in-Failed.is c.next_step-step.ensures.step in
-    sizes_set xs c.args.at h y is_h (ap size_in t.own)
+    let y = c.next_step.new.session in
+    sizes_set xs c.args.at h y is_h (ap size_in c.in-Failed.ensures.step.own)
 
 pub returns-in-Failed-clause-touched : goal.returns-in-Failed-clause-touched
 returns-in-Failed-clause-touched g c next =
@@ -81,9 +75,8 @@ returns-in-Failed-clause-touched g c next =
     let xs = c.args.sessions.now in
     let h = get_or xs c.args.at c.index-sessions-at-3.result in
     let is_h = ap (get_or xs c.args.at) c.index-sessions-at-3.is in
-    let y = c.next_step-step.new.session in
-    let t = subst (IsTurnStep d ks h y) c.in-Failed.is c.next_step-step.ensures.step in
-    step_apart d ks xs next c.args.id c.args.at h y c.requires.place c.requires.within is_h Nowhere t.own t.stays
+    let y = c.next_step.new.session in
+    step_apart d ks xs next c.args.id c.args.at h y c.requires.place c.requires.within is_h Nowhere c.in-Failed.ensures.step.own c.in-Failed.ensures.step.stays
 
 pub returns-in-Ends-clause-sound : goal.returns-in-Ends-clause-sound
 returns-in-Ends-clause-sound g c =
@@ -92,9 +85,8 @@ returns-in-Ends-clause-sound g c =
     let xs = c.args.sessions.now in
     let h = get_or xs c.args.at c.index-sessions-at-3.result in
     let is_h = ap (get_or xs c.args.at) c.index-sessions-at-3.is in
-    let y = c.next_step-step.new.session in
-    let t = subst (IsTurnStep d ks h y) c.in-Ends.is c.next_step-step.ensures.step in
-    sound_set ks xs c.args.at h y is_h (λ n i. ap (session_uses n i) t.own) c.requires.sound
+    let y = c.next_step.new.session in
+    sound_set ks xs c.args.at h y is_h (λ n i. ap (session_uses n i) c.in-Ends.ensures.step.own) c.requires.sound
 
 pub returns-in-Ends-clause-sizes : goal.returns-in-Ends-clause-sizes
 returns-in-Ends-clause-sizes g c =
@@ -103,9 +95,8 @@ returns-in-Ends-clause-sizes g c =
     let xs = c.args.sessions.now in
     let h = get_or xs c.args.at c.index-sessions-at-3.result in
     let is_h = ap (get_or xs c.args.at) c.index-sessions-at-3.is in
-    let y = c.next_step-step.new.session in
-    let t = subst (IsTurnStep d ks h y) c.in-Ends.is c.next_step-step.ensures.step in
-    sizes_set xs c.args.at h y is_h (ap size_in t.own)
+    let y = c.next_step.new.session in
+    sizes_set xs c.args.at h y is_h (ap size_in c.in-Ends.ensures.step.own)
 
 pub returns-in-Ends-clause-touched : goal.returns-in-Ends-clause-touched
 returns-in-Ends-clause-touched g c next =
@@ -114,9 +105,8 @@ returns-in-Ends-clause-touched g c next =
     let xs = c.args.sessions.now in
     let h = get_or xs c.args.at c.index-sessions-at-3.result in
     let is_h = ap (get_or xs c.args.at) c.index-sessions-at-3.is in
-    let y = c.next_step-step.new.session in
-    let t = subst (IsTurnStep d ks h y) c.in-Ends.is c.next_step-step.ensures.step in
-    step_apart d ks xs next c.args.id c.args.at h y c.requires.place c.requires.within is_h Anywhere t.own t.stays
+    let y = c.next_step.new.session in
+    step_apart d ks xs next c.args.id c.args.at h y c.requires.place c.requires.within is_h Anywhere c.in-Ends.ensures.step.own c.in-Ends.ensures.step.stays
 
 pub returns-in-Kept-clause-less : goal.returns-in-Kept-clause-less
 returns-in-Kept-clause-less g c e =
@@ -125,9 +115,8 @@ returns-in-Kept-clause-less g c e =
     let xs = c.args.sessions.now in
     let h = get_or xs c.args.at c.index-sessions-at-3.result in
     let is_h = ap (get_or xs c.args.at) c.index-sessions-at-3.is in
-    let y = c.next_step-step.new.session in
-    let t = subst (IsTurnStep d ks h y) c.in-Kept.is c.next_step-step.ensures.step in
-    kept_less d ks xs None c.args.id c.args.at h y c.requires.place c.requires.within is_h _ _ (left_within c.args.at ks (slice_set xs c.args.at y) c.len-count.ensures.limits) t
+    let y = c.next_step.new.session in
+    kept_less d ks xs None c.args.id c.args.at h y c.requires.place c.requires.within is_h c.next_step.new.before _ _ (left_within c.args.at ks (slice_set xs c.args.at y) c.len-count.ensures.limits) c.in-Kept.ensures.step
 
 pub returns-in-Kept-clause-turned : goal.returns-in-Kept-clause-turned
 returns-in-Kept-clause-turned g c next =
@@ -136,9 +125,8 @@ returns-in-Kept-clause-turned g c next =
     let xs = c.args.sessions.now in
     let h = get_or xs c.args.at c.index-sessions-at-3.result in
     let is_h = ap (get_or xs c.args.at) c.index-sessions-at-3.is in
-    let y = c.next_step-step.new.session in
-    let t = subst (IsTurnStep d ks h y) c.in-Kept.is c.next_step-step.ensures.step in
-    kept_turn d ks xs next c.args.id c.args.at h y c.requires.place c.requires.within is_h _ t
+    let y = c.next_step.new.session in
+    kept_turn d ks xs next c.args.id c.args.at h y c.requires.place c.requires.within is_h c.next_step.new.before _ c.in-Kept.ensures.step
 
 pub returns-in-Failed-clause-less : goal.returns-in-Failed-clause-less
 returns-in-Failed-clause-less g c e =
@@ -147,9 +135,8 @@ returns-in-Failed-clause-less g c e =
     let xs = c.args.sessions.now in
     let h = get_or xs c.args.at c.index-sessions-at-3.result in
     let is_h = ap (get_or xs c.args.at) c.index-sessions-at-3.is in
-    let y = c.next_step-step.new.session in
-    let t = subst (IsTurnStep d ks h y) c.in-Failed.is c.next_step-step.ensures.step in
-    failed_less d ks xs None c.args.id c.args.at h y c.requires.place c.requires.within is_h _ _ t c.requires.some
+    let y = c.next_step.new.session in
+    failed_less d ks xs None c.args.id c.args.at h y c.requires.place c.requires.within is_h c.next_step.new.before _ _ c.in-Failed.ensures.step c.requires.some
 
 pub returns-in-Failed-clause-turned : goal.returns-in-Failed-clause-turned
 returns-in-Failed-clause-turned g c next =
@@ -158,9 +145,8 @@ returns-in-Failed-clause-turned g c next =
     let xs = c.args.sessions.now in
     let h = get_or xs c.args.at c.index-sessions-at-3.result in
     let is_h = ap (get_or xs c.args.at) c.index-sessions-at-3.is in
-    let y = c.next_step-step.new.session in
-    let t = subst (IsTurnStep d ks h y) c.in-Failed.is c.next_step-step.ensures.step in
-    failed_turn d ks xs next c.args.id c.args.at h y c.requires.place c.requires.within is_h _ t
+    let y = c.next_step.new.session in
+    failed_turn d ks xs next c.args.id c.args.at h y c.requires.place c.requires.within is_h c.next_step.new.before _ c.in-Failed.ensures.step
 
 pub returns-in-Ends-clause-turned : goal.returns-in-Ends-clause-turned
 returns-in-Ends-clause-turned g c next =
@@ -169,9 +155,8 @@ returns-in-Ends-clause-turned g c next =
     let xs = c.args.sessions.now in
     let h = get_or xs c.args.at c.index-sessions-at-3.result in
     let is_h = ap (get_or xs c.args.at) c.index-sessions-at-3.is in
-    let y = c.next_step-step.new.session in
-    let t = subst (IsTurnStep d ks h y) c.in-Ends.is c.next_step-step.ensures.step in
-    ends_turn d ks xs next c.args.id c.args.at h y c.requires.place c.requires.within is_h _ t
+    let y = c.next_step.new.session in
+    ends_turn d ks xs next c.args.id c.args.at h y c.requires.place c.requires.within is_h c.next_step.new.before _ c.in-Ends.ensures.step
 
 pub act_turn-done-requires-clause-sound : goal.act_turn-done-requires-clause-sound
 act_turn-done-requires-clause-sound g c =
@@ -180,9 +165,8 @@ act_turn-done-requires-clause-sound g c =
     let xs = c.args.sessions.now in
     let h = get_or xs c.args.at c.index-sessions-at-3.result in
     let is_h = ap (get_or xs c.args.at) c.index-sessions-at-3.is in
-    let y = c.next_step-step.new.session in
-    let t = subst (IsTurnStep d ks h y) c.in-Acts.is c.next_step-step.ensures.step in
-    sound_set ks xs c.args.at h y is_h (λ n i. ap (session_uses n i) t.own) c.requires.sound
+    let y = c.next_step.new.session in
+    sound_set ks xs c.args.at h y is_h (λ n i. ap (session_uses n i) c.in-Acts.ensures.step.own) c.requires.sound
 
 pub act_turn-done-requires-clause-place : goal.act_turn-done-requires-clause-place
 act_turn-done-requires-clause-place g c =
@@ -191,9 +175,8 @@ act_turn-done-requires-clause-place g c =
     let xs = c.args.sessions.now in
     let h = get_or xs c.args.at c.index-sessions-at-3.result in
     let is_h = ap (get_or xs c.args.at) c.index-sessions-at-3.is in
-    let y = c.next_step-step.new.session in
-    let t = subst (IsTurnStep d ks h y) c.in-Acts.is c.next_step-step.ensures.step in
-    place_same c.args.id c.args.at xs (slice_set xs c.args.at y) c.requires.place (sizes_set xs c.args.at h y is_h (ap size_in t.own))
+    let y = c.next_step.new.session in
+    place_same c.args.id c.args.at xs (slice_set xs c.args.at y) c.requires.place (sizes_set xs c.args.at h y is_h (ap size_in c.in-Acts.ensures.step.own))
 
 pub act_turn-done-requires-clause-ready : goal.act_turn-done-requires-clause-ready
 act_turn-done-requires-clause-ready g c =
@@ -202,9 +185,8 @@ act_turn-done-requires-clause-ready g c =
     let xs = c.args.sessions.now in
     let h = get_or xs c.args.at c.index-sessions-at-3.result in
     let is_h = ap (get_or xs c.args.at) c.index-sessions-at-3.is in
-    let y = c.next_step-step.new.session in
-    let t = subst (IsTurnStep d ks h y) c.in-Acts.is c.next_step-step.ensures.step in
-    ready_put xs c.args.at y c.in-Acts.deed c.requires.within t.ready
+    let y = c.next_step.new.session in
+    ready_put xs c.args.at y c.in-Acts.deed c.requires.within c.in-Acts.ensures.step.ready
 
 pub act_turn-done-requires-clause-here : goal.act_turn-done-requires-clause-here
 act_turn-done-requires-clause-here g c =
@@ -213,9 +195,8 @@ act_turn-done-requires-clause-here g c =
     let xs = c.args.sessions.now in
     let h = get_or xs c.args.at c.index-sessions-at-3.result in
     let is_h = ap (get_or xs c.args.at) c.index-sessions-at-3.is in
-    let y = c.next_step-step.new.session in
-    let t = subst (IsTurnStep d ks h y) c.in-Acts.is c.next_step-step.ensures.step in
-    t.here
+    let y = c.next_step.new.session in
+    c.in-Acts.ensures.step.here
 
 pub returns-in-Acts-clause-sizes : goal.returns-in-Acts-clause-sizes
 returns-in-Acts-clause-sizes g c =
@@ -224,9 +205,8 @@ returns-in-Acts-clause-sizes g c =
     let xs = c.args.sessions.now in
     let h = get_or xs c.args.at c.index-sessions-at-3.result in
     let is_h = ap (get_or xs c.args.at) c.index-sessions-at-3.is in
-    let y = c.next_step-step.new.session in
-    let t = subst (IsTurnStep d ks h y) c.in-Acts.is c.next_step-step.ensures.step in
-    c.act_turn-done.ensures.sizes ∙ sizes_set xs c.args.at h y is_h (ap size_in t.own)
+    let y = c.next_step.new.session in
+    c.act_turn-done.ensures.sizes ∙ sizes_set xs c.args.at h y is_h (ap size_in c.in-Acts.ensures.step.own)
 
 pub returns-in-Acts-clause-turned : goal.returns-in-Acts-clause-turned
 returns-in-Acts-clause-turned g c next =
@@ -235,9 +215,8 @@ returns-in-Acts-clause-turned g c next =
     let xs = c.args.sessions.now in
     let h = get_or xs c.args.at c.index-sessions-at-3.result in
     let is_h = ap (get_or xs c.args.at) c.index-sessions-at-3.is in
-    let y = c.next_step-step.new.session in
-    let t = subst (IsTurnStep d ks h y) c.in-Acts.is c.next_step-step.ensures.step in
-    deed_turned d ks xs next c.args.id c.args.at h y c.requires.place c.requires.within is_h c.in-Acts.deed t
+    let y = c.next_step.new.session in
+    deed_turned d ks xs next c.args.id c.args.at h y c.requires.place c.requires.within is_h c.next_step.new.before c.in-Acts.deed c.in-Acts.ensures.step
     c.act_turn-done.new.buffers c.act_turn-done.new.sessions _ _ _ _ c.act_turn-done.result.0
     (ap (λ (s : Session). s.own.kind) (get_or_default xs c.args.at c.index-sessions-at.result c.index-sessions-at-3.result c.requires.within))
     (c.is_playing-is_playing.ensures ∙ ap (λ (s : Session). s.own.player.playing) (get_or_default xs c.args.at c.index-sessions-at-2.result c.index-sessions-at-3.result c.requires.within))
@@ -250,10 +229,9 @@ returns-in-Acts-clause-touched g c next =
     let xs = c.args.sessions.now in
     let h = get_or xs c.args.at c.index-sessions-at-3.result in
     let is_h = ap (get_or xs c.args.at) c.index-sessions-at-3.is in
-    let y = c.next_step-step.new.session in
-    let t = subst (IsTurnStep d ks h y) c.in-Acts.is c.next_step-step.ensures.step in
+    let y = c.next_step.new.session in
     apart_then c.act_turn-done.result.1 c.args.id (world_of d ks xs next) (world_of d ks (slice_set xs c.args.at y) next) (world_of d c.act_turn-done.new.buffers c.act_turn-done.new.sessions next)
-    (step_apart d ks xs next c.args.id c.args.at h y c.requires.place c.requires.within is_h c.act_turn-done.result.1 t.own t.stays) (c.act_turn-done.ensures.touched next)
+    (step_apart d ks xs next c.args.id c.args.at h y c.requires.place c.requires.within is_h c.act_turn-done.result.1 c.in-Acts.ensures.step.own c.in-Acts.ensures.step.stays) (c.act_turn-done.ensures.touched next)
 
 pub returns-in-Kept-clause-fit : goal.returns-in-Kept-clause-fit
 returns-in-Kept-clause-fit g c e =
@@ -262,9 +240,8 @@ returns-in-Kept-clause-fit g c e =
     let xs = c.args.sessions.now in
     let h = get_or xs c.args.at c.index-sessions-at-3.result in
     let is_h = ap (get_or xs c.args.at) c.index-sessions-at-3.is in
-    let y = c.next_step-step.new.session in
-    let t = subst (IsTurnStep d ks h y) c.in-Kept.is c.next_step-step.ensures.step in
-    kept_fit d ks xs None c.args.id c.args.at h y c.requires.place c.requires.within is_h t
+    let y = c.next_step.new.session in
+    kept_fit d ks xs None c.args.id c.args.at h y c.requires.place c.requires.within is_h c.next_step.new.before c.in-Kept.ensures.step
 
 pub returns-in-Failed-clause-fit : goal.returns-in-Failed-clause-fit
 returns-in-Failed-clause-fit g c e =
@@ -273,9 +250,8 @@ returns-in-Failed-clause-fit g c e =
     let xs = c.args.sessions.now in
     let h = get_or xs c.args.at c.index-sessions-at-3.result in
     let is_h = ap (get_or xs c.args.at) c.index-sessions-at-3.is in
-    let y = c.next_step-step.new.session in
-    let t = subst (IsTurnStep d ks h y) c.in-Failed.is c.next_step-step.ensures.step in
-    failed_fit d ks xs None c.args.id c.args.at h y c.requires.place c.requires.within is_h t
+    let y = c.next_step.new.session in
+    failed_fit d ks xs None c.args.id c.args.at h y c.requires.place c.requires.within is_h c.next_step.new.before c.in-Failed.ensures.step
 
 pub returns-in-Acts-clause-fit : goal.returns-in-Acts-clause-fit
 returns-in-Acts-clause-fit g c e =
@@ -284,9 +260,8 @@ returns-in-Acts-clause-fit g c e =
     let xs = c.args.sessions.now in
     let h = get_or xs c.args.at c.index-sessions-at-3.result in
     let is_h = ap (get_or xs c.args.at) c.index-sessions-at-3.is in
-    let y = c.next_step-step.new.session in
-    let t = subst (IsTurnStep d ks h y) c.in-Acts.is c.next_step-step.ensures.step in
-    acted_fit d ks xs None c.args.id c.args.at h y c.requires.place c.requires.within is_h c.in-Acts.deed t
+    let y = c.next_step.new.session in
+    acted_fit d ks xs None c.args.id c.args.at h y c.requires.place c.requires.within is_h c.next_step.new.before c.in-Acts.deed c.in-Acts.ensures.step
     c.act_turn-done.new.buffers c.act_turn-done.new.sessions _ _ _ _ c.act_turn-done.result.0 e
     (returns-in-Acts-clause-sizes g c) (c.act_turn-done.ensures.acted None)
 
@@ -297,8 +272,7 @@ returns-in-Acts-clause-less g c e =
     let xs = c.args.sessions.now in
     let h = get_or xs c.args.at c.index-sessions-at-3.result in
     let is_h = ap (get_or xs c.args.at) c.index-sessions-at-3.is in
-    let y = c.next_step-step.new.session in
-    let t = subst (IsTurnStep d ks h y) c.in-Acts.is c.next_step-step.ensures.step in
-    acts_less d ks xs None c.args.id c.args.at h y c.requires.place c.requires.within is_h c.in-Acts.deed t
+    let y = c.next_step.new.session in
+    acts_less d ks xs None c.args.id c.args.at h y c.requires.place c.requires.within is_h c.next_step.new.before c.in-Acts.deed c.in-Acts.ensures.step
     c.act_turn-done.new.buffers c.act_turn-done.new.sessions _ _ _ _ c.act_turn-done.result.0 c.len-later.ensures.limits e
     (returns-in-Acts-clause-sizes g c) (c.act_turn-done.ensures.acted None) (c.act_turn-done.ensures.further e)

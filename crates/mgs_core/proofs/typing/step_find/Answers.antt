@@ -19,14 +19,14 @@ returns-in-Ends c directory ks =
     let y = c.args.session.now in
     let f = c.args.sought in
     let g = c.feed.new.self in
-    still_search directory ks y c.leave_search.new.session (finding c.args.name c.args.origin c.args.anchor f) c.args.byte Kept c.requires.still
-    (search_ends directory ks y c.leave_search.new.session c.args.name c.args.origin c.args.anchor f g c.args.byte c.requires.alone
+    still_search directory ks y c.leave_search.new.session (finding c.args.name c.args.origin c.args.anchor f) c.args.byte c.args.before.now Kept c.requires.still
+    (search_ends directory ks y c.leave_search.new.session c.args.name c.args.origin c.args.anchor f g c.args.byte c.args.before.now c.requires.alone
     (read_at y.own.pattern _ f g c.args.byte _ _ c.as_slice.ensures.value c.feed.ensures c.in-Ends.is)
     (c.leave_search.ensures ∙ ap (search_left g.pattern) c.requires.still))
 
 pub returns-in-Leaves : goal.returns-in-Leaves
 returns-in-Leaves c directory ks =
-    foreign_step directory ks c.args.session.now c.step_foreign.new.session c.args.name c.args.origin c.args.anchor c.args.sought c.feed.new.self c.args.byte c.step_foreign.result
+    foreign_step directory ks c.args.session.now c.step_foreign.new.session c.args.name c.args.origin c.args.anchor c.args.sought c.feed.new.self c.args.byte c.step_foreign.new.before c.step_foreign.result
     (read_at c.args.session.now.own.pattern _ c.args.sought c.feed.new.self c.args.byte _ _ c.as_slice.ensures.value c.feed.ensures c.in-Leaves.is)
     (c.step_foreign.ensures directory ks)
 
@@ -35,8 +35,8 @@ returns-in-Quits c directory ks =
     let y = c.args.session.now in
     let f = c.args.sought in
     let g = c.feed.new.self in
-    still_search directory ks y c.hold_sought.new.session (finding c.args.name c.args.origin c.args.anchor f) c.args.byte (Acts deeds.QuitSearch) c.requires.still
-    (search_quits directory ks y c.hold_sought.new.session c.args.name c.args.origin c.args.anchor f g c.args.byte c.requires.alone
+    still_search directory ks y c.hold_sought.new.session (finding c.args.name c.args.origin c.args.anchor f) c.args.byte c.args.before.now (Acts deeds.QuitSearch) c.requires.still
+    (search_quits directory ks y c.hold_sought.new.session c.args.name c.args.origin c.args.anchor f g c.args.byte c.args.before.now c.requires.alone
     (read_at y.own.pattern _ f g c.args.byte _ _ c.as_slice.ensures.value c.feed.ensures c.in-Quits.is)
     (c.hold_sought.ensures ∙ ap (λ (z : Session). searching (finding c.args.name c.args.origin c.args.anchor g) (told Silent z)) c.requires.still))
 
@@ -45,7 +45,7 @@ returns-in_default c directory ks =
     let y = c.args.session.now in
     let f = c.args.sought in
     let g = c.feed.new.self in
-    still_search directory ks y c.hold_sought-in_default.new.session (finding c.args.name c.args.origin c.args.anchor f) c.args.byte (Acts (deeds.Seek c.feed.result)) c.requires.still
-    (search_on directory ks y c.hold_sought-in_default.new.session c.args.name c.args.origin c.args.anchor f g c.args.byte c.requires.alone c.feed.result c.in_default.not-Ends c.in_default.not-Quits c.in_default.not-Leaves
+    still_search directory ks y c.hold_sought-in_default.new.session (finding c.args.name c.args.origin c.args.anchor f) c.args.byte c.args.before.now (Acts (deeds.Seek c.feed.result)) c.requires.still
+    (search_on directory ks y c.hold_sought-in_default.new.session c.args.name c.args.origin c.args.anchor f g c.args.byte c.args.before.now c.requires.alone c.feed.result c.in_default.not-Ends c.in_default.not-Quits c.in_default.not-Leaves
     (read_at y.own.pattern _ f g c.args.byte _ _ c.as_slice.ensures.value c.feed.ensures refl)
     (c.hold_sought-in_default.ensures ∙ ap (λ (z : Session). searching (finding c.args.name c.args.origin c.args.anchor g) (told Silent z)) c.requires.still))

@@ -1,7 +1,6 @@
-use Rattle.std.proofs.Common.{◌∙◌, ap, subst, sym}
-use Rattle.mgs_session.specs.Seeking.{search_left, searching}
-use Rattle.mgs_core.specs.declared.keying.ByteStep.{ByteStep}
-use Rattle.mgs_core.specs.Stepped.{IsByteStep, finding}
+use Rattle.std.proofs.Common.{◌∙◌, ap}
+use Rattle.mgs_session.specs.Seeking.{search_left}
+use Rattle.mgs_core.specs.Stepped.{finding}
 use Rattle.mgs_core.proofs.Sought.{search_leaves, still_search}
 use Rattle.mgs_core.proofs.typing.step_foreign.Goals as goal
 
@@ -9,7 +8,6 @@ pub returns : goal.returns
 returns c directory ks =
     let y = c.args.session.now in
     let s = finding c.args.name c.args.origin c.args.anchor c.args.sought in
-    subst (λ (k : ByteStep). IsByteStep directory ks (searching s y) c.step_key.new.session c.args.byte k) (sym c.step_from.ensures)
-    (still_search directory ks y c.step_key.new.session s c.args.byte _ c.requires.still
+    still_search directory ks y c.step_key.new.session s c.args.byte _ c.step_key.result c.requires.still
     (search_leaves directory ks y c.leave_search.new.session c.step_key.new.session c.args.name c.args.origin c.args.anchor c.args.sought c.of-last.result c.args.byte c.step_key.result
-    (c.of-last.ensures ∙ c.as_slice.ensures.value) c.requires.leaves (c.leave_search.ensures ∙ ap (search_left c.args.sought.pattern) c.requires.still) c.step_key.ensures.keyed (c.step_key.ensures.step directory ks)))
+    (c.of-last.ensures ∙ c.as_slice.ensures.value) c.requires.leaves (c.leave_search.ensures ∙ ap (search_left c.args.sought.pattern) c.requires.still) c.step_key.ensures.keyed (c.step_key.ensures.step directory ks))

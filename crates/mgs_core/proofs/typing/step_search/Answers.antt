@@ -1,11 +1,8 @@
-use Rattle.mgs_session.specs.declared.search.Aim.TheVariants.{Find, Replace}
-use Rattle.mgs_core.proofs.Sought.{aimed}
+use Rattle.std.proofs.Common.{◌∙◌, sym}
+use Rattle.mgs_core.proofs.Sought.{searched_step}
 use Rattle.mgs_core.proofs.typing.step_search.Goals as goal
 
-pub returns-in-Find : goal.returns-in-Find
-returns-in-Find c directory ks =
-    aimed directory ks c.args.session.now c.step_find.new.session c.args.search (Find c.in-Find.sought) c.args.byte c.step_find.result c.in-Find.is (c.step_find.ensures directory ks)
-
-pub returns-in-Replace : goal.returns-in-Replace
-returns-in-Replace c directory ks =
-    aimed directory ks c.args.session.now c.step_replace.new.session c.args.search (Replace c.in-Replace.replacing) c.args.byte c.step_replace.result c.in-Replace.is (c.step_replace.ensures directory ks)
+pub returns : goal.returns
+returns c directory ks =
+    searched_step directory ks c.args.session.now c.take_search.new.session c.step_taken.new.session c.in-Some.search c.args.byte c.step_taken.new.before c.step_taken.result
+    (sym c.take_search.ensures.search ∙ c.in-Some.is) c.take_search.ensures.rest (c.step_taken.ensures directory ks)

@@ -1,35 +1,9 @@
-use Rattle.std.proofs.Common.{◌∙◌, ap, sym}
-use Rattle.mgs_session.specs.Sessions.{unprompted}
-use Rattle.mgs_core.specs.declared.keying.ByteStep.TheVariants.{Kept}
-use Rattle.mgs_core.proofs.Prompted.{answers, completes, goes_on, quits, still_step, unasked}
+use Rattle.std.proofs.Common.{subst, sym}
+use Rattle.mgs_core.specs.declared.deeds.Before.{Before}
+use Rattle.mgs_core.specs.Stepped.{IsByteStep}
 use Rattle.mgs_core.proofs.typing.step_still.Goals as goal
 
-pub returns-in-GoesOn-clause-step : goal.returns-in-GoesOn-clause-step
-returns-in-GoesOn-clause-step g c =
-    still_step c.args.directory.now c.args.buffers.now c.args.session.now c.hold_prompt.new.session c.args.byte Kept c.requires.still
-    (goes_on c.args.directory.now c.args.buffers.now c.args.session.now c.prompt_out.new.session c.hold_prompt.new.session c.in-Some.prompt c.feed.new.self c.args.byte c.requires.alone
-    (sym c.prompt_out.ensures.prompt ∙ c.in-Some.is) c.feed.ensures.question c.feed.ensures.first c.in-GoesOn.ensures.turn (c.prompt_out.ensures.rest ∙ ap unprompted c.requires.still) c.hold_prompt.ensures)
-
-pub returns-in-Completes-clause-step : goal.returns-in-Completes-clause-step
-returns-in-Completes-clause-step g c =
-    still_step c.args.directory.now c.args.buffers.now c.args.session.now c.complete.new.session c.args.byte Kept c.requires.still
-    (completes c.args.directory.now c.args.buffers.now c.args.session.now c.prompt_out.new.session c.complete.new.session c.in-Some.prompt c.feed.new.self c.args.byte c.requires.alone
-    (sym c.prompt_out.ensures.prompt ∙ c.in-Some.is) c.feed.ensures.question c.feed.ensures.first c.in-Completes.ensures.turn (c.prompt_out.ensures.rest ∙ ap unprompted c.requires.still) c.complete.ensures.own c.complete.ensures.rest)
-
-pub returns-in-Quit-clause-step : goal.returns-in-Quit-clause-step
-returns-in-Quit-clause-step g c =
-    still_step c.args.directory.now c.args.buffers.now c.args.session.now c.fail.new.session c.args.byte Kept c.requires.still
-    (quits c.args.directory.now c.args.buffers.now c.args.session.now c.prompt_out.new.session c.fail.new.session c.in-Some.prompt c.feed.new.self c.args.byte
-    (sym c.prompt_out.ensures.prompt ∙ c.in-Some.is) c.feed.ensures.question c.feed.ensures.first c.in-Quit.ensures.turn (c.prompt_out.ensures.rest ∙ ap unprompted c.requires.still) c.fail.ensures)
-
-pub returns-in-Answered-clause-step : goal.returns-in-Answered-clause-step
-returns-in-Answered-clause-step g c =
-    still_step c.args.directory.now c.args.buffers.now c.args.session.now c.step_answer.new.session c.args.byte c.step_answer.result c.requires.still
-    (answers c.args.directory.now c.args.buffers.now c.args.session.now c.prompt_out.new.session c.step_answer.new.session c.in-Some.prompt c.feed.new.self c.args.byte c.step_answer.result c.requires.alone
-    (sym c.prompt_out.ensures.prompt ∙ c.in-Some.is) (c.feed.ensures.answered c.in-Answered.is) c.in-Answered.ensures.turn (c.prompt_out.ensures.rest ∙ ap unprompted c.requires.still) c.step_answer.ensures.first c.step_answer.ensures.step)
-
-pub returns-in_default-clause-step : goal.returns-in_default-clause-step
-returns-in_default-clause-step g c =
-    still_step c.args.directory.now c.args.buffers.now c.args.session.now c.step_key.new.session c.args.byte c.step_key.result c.requires.still
-    (unasked c.args.directory.now c.args.buffers.now c.args.session.now c.prompt_out.new.session c.step_key.new.session c.args.byte c.step_key.result
-    (sym c.prompt_out.ensures.prompt ∙ c.in_default.is) (c.prompt_out.ensures.rest ∙ ap unprompted c.requires.still) (c.step_key.ensures.step c.args.directory.now c.args.buffers.now))
+pub returns-in-None-clause-step : goal.returns-in-None-clause-step
+returns-in-None-clause-step g c =
+    subst (λ (b : Before). IsByteStep c.args.directory.now c.args.buffers.now c.args.session.now c.step_key.new.session c.args.byte b c.step_key.result) (sym c.requires.plain)
+    (c.step_key.ensures.step c.args.directory.now c.args.buffers.now)
