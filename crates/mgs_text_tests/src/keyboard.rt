@@ -72,10 +72,11 @@ const PREFIXES: [&[u8]; 7] = [
 fn every_byte_has_an_answer(rt: HostRuntime) {
     for (typed, argument) in HELD {
         for prefix in PREFIXES {
+            let mut held = Keyboard::new();
+            let _argument = last_fed(&mut held, typed);
+            let _prefix = last_fed(&mut held, prefix);
             for byte in 0..=255u8 {
-                let mut keyboard = Keyboard::new();
-                let _argument = last_fed(&mut keyboard, typed);
-                let _prefix = last_fed(&mut keyboard, prefix);
+                let mut keyboard = held;
                 let fed = keyboard.feed(byte);
                 assert_eq!(rt;
                     fed,
