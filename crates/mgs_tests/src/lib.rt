@@ -4,26 +4,18 @@
 #[cfg(test)]
 mod buffers;
 #[cfg(test)]
-mod cases;
-#[cfg(test)]
-mod filling;
-#[cfg(test)]
-mod fills;
-#[cfg(test)]
 mod grid;
-#[cfg(test)]
-mod lines;
 #[cfg(test)]
 mod names;
 #[cfg(test)]
 mod paint;
+#[cfg(test)]
+mod people;
 #[cfg(test)]
 mod plans;
 #[cfg(test)]
 mod taking_back;
 #[cfg(test)]
 mod terminal;
-#[cfg(test)]
-mod whites;
 #[cfg(test)]
 mod windows;

@@ -1,9 +1,9 @@
-// Plans of commands over small texts.
-ghost use Rattle.std.specs.Prelude.{◌≡◌, ◌≤◌, length, None};
+// Plans of commands over small texts, and what they put in.
+ghost use Rattle.std.specs.Prelude.{◌≡◌, None};
 
 use mgs_edit::{
-    Around, Change, Finish, Goes, Joins, Piece, Put, alteration, insertion, motion,
-    reading_insertion, scroll, scrolled_row,
+    Around, Case, Change, Goes, Put, alteration, insertion, is_edit, motion, put_chars,
+    reading_insertion, refill, scroll, scrolled_row,
 };
 use mgs_model::{
     Alteration, CursorPosition, Insertion, Kind, Message, Motion, ReadingInsertion, Scrolling,
@@ -12,230 +12,134 @@ use mgs_text::{PlainText, Text};
 use std::process::Abort;
 use std::test::Fail;
 
-// At a place of a window with four rows, after no kill and without a mark.
-fn at(place: usize) -> Around
+// At a place of a window with four rows, with a fill column of 4, after no kill and without a mark.
+fn at(place: usize, argument: Option<usize>) -> Around
     ensures place { result.place ≡ place }
     ensures mark { result.mark ≡ None }
 {
     Around {
         place,
         mark: None,
-        argument: None,
+        argument,
         killed: 0,
         kind: Kind::Other,
         height: 4,
-        fill: 72,
+        fill: 4,
     }
 }
 
-fn with_argument(place: usize, argument: usize) -> Around
-    ensures place { result.place ≡ place }
-    ensures mark { result.mark ≡ None }
-{
-    Around {
-        argument: Some(argument),
-        ..at(place)
-    }
-}
-
-fn after(place: usize, kind: Kind) -> Around
-    ensures place { result.place ≡ place }
-    ensures mark { result.mark ≡ None }
-{
-    Around { kind, ..at(place) }
-}
-
-// Where the point goes, or what is told.
-fn point(planned: Result<Finish, Message>) -> Result<Goes, Message> {
+// What is taken out, what comes in and where the point goes, or what is told.
+fn shown(planned: Result<Change, Message>) -> Result<(usize, usize, Put, Goes), Message> {
     match planned {
-        Ok(finish) => Ok(finish.point),
+        Ok(change) => Ok((change.from, change.to, change.put, change.finish.point)),
         Err(message) => Err(message),
     }
 }
 
-// The same of an edit.
-fn landed(planned: Result<Change, Message>) -> Result<Goes, Message> {
-    match planned {
-        Ok(change) => Ok(change.finish.point),
-        Err(message) => Err(message),
-    }
-}
-
-// What is taken out, or what is told.
-fn taken(planned: Result<Change, Message>) -> Result<(usize, usize), Message> {
-    match planned {
-        Ok(change) => Ok((change.from, change.to)),
-        Err(message) => Err(message),
-    }
-}
-
-fn put(planned: Result<Change, Message>) -> Option<Put> {
-    match planned {
-        Ok(change) => Some(change.put),
-        Err(_) => None,
-    }
-}
-
-fn joined(planned: Result<Change, Message>) -> Option<Piece> {
-    match planned {
-        Ok(change) => change.finish.kill,
-        Err(_) => None,
-    }
-}
-
-fn told(planned: Result<Finish, Message>) -> Message {
-    match planned {
-        Ok(finish) => finish.told,
-        Err(message) => message,
-    }
-}
-
-fn kill_line(text: &PlainText, around: &Around) -> Result<Change, Message>
-    requires place { around.now.place ≤ length text.now }
-    requires mark { around.now.mark ≡ None }
-{
-    alteration(text, around, Alteration::KillLine)
-}
-
-// `ab` and `cd`, in two lines.
+// `ab cD`, and `e` behind a line feed and a tab.
 #[test]
-fn kills_lines(rt: HostRuntime) -> Result<(), Fail> {
-    let text = PlainText::of(rt.alloc(), &['a', 'b', '\n', 'c', 'd'])?;
+fn edits_are_planned(rt: HostRuntime) -> Result<(), Fail> {
+    let text = PlainText::of(rt.alloc(), &['a', 'b', ' ', 'c', 'D', '\n', '\t', 'e'])?;
+    assert_eq!(rt; text.len(), 8);
+    let killed = alteration(&text, &at(1, None), Alteration::KillLine);
+    assert_eq!(rt; shown(killed), Ok((1, 5, Put::Nothing, Goes::To(1))));
+    let cased = alteration(&text, &at(1, Some(9999)), Alteration::CapitalizeWord);
+    let put = Put::Cased {
+        from: 1,
+        to: 8,
+        case: Case::Capitalized,
+    };
+    assert_eq!(rt; shown(cased), Ok((1, 8, put, Goes::Behind)));
+    let joined = alteration(&text, &at(7, None), Alteration::JoinLine);
+    let space = Put::Character { put: ' ', times: 1 };
+    assert_eq!(rt; shown(joined), Ok((5, 7, space, Goes::To(5))));
+    let filled = alteration(&text, &at(3, None), Alteration::FillParagraph);
+    let put = Put::Filled {
+        from: 0,
+        to: 8,
+        fill: 4,
+        len: 7,
+    };
+    assert_eq!(rt; shown(filled), Ok((0, 8, put, Goes::Behind)));
+    let indented = reading_insertion(&text, &at(8, None), ReadingInsertion::NewlineAndIndent);
+    assert!(rt; is_edit(&indented, 0));
+    let put = Put::Indented {
+        feeds: 1,
+        from: 6,
+        to: 7,
+    };
+    assert_eq!(rt; shown(Ok(indented)), Ok((8, 8, put, Goes::Behind)));
+    let yanked = insertion(8, &at(1, None), Insertion::Yank);
+    assert_eq!(rt; shown(yanked), Err(Message::NothingToYank));
+    Ok(())
+}
+
+#[test]
+fn motions_are_planned(rt: HostRuntime) -> Result<(), Fail> {
+    let text = PlainText::of(rt.alloc(), &['h', '\n', '\n', '\n', 'i'])?;
     assert_eq!(rt; text.len(), 5);
-    assert_eq!(rt; taken(kill_line(&text, &at(0))), Ok((0, 2)));
-    assert_eq!(rt; taken(kill_line(&text, &at(2))), Ok((2, 3)));
-    assert_eq!(rt; taken(kill_line(&text, &with_argument(0, 1))), Ok((0, 3)));
-    assert_eq!(rt;
-        taken(kill_line(&text, &with_argument(0, 9999))),
-        Ok((0, 5))
-    );
-    assert_eq!(rt; taken(kill_line(&text, &with_argument(5, 0))), Ok((3, 5)));
-    assert_eq!(rt; taken(kill_line(&text, &at(5))), Err(Message::EndOfBuffer));
-    Ok(())
-}
-
-// A kill goes behind the one before, one back goes in front of it, and after another command it begins anew.
-#[test]
-fn joins_kills(rt: HostRuntime) -> Result<(), Fail> {
-    let text = PlainText::of(rt.alloc(), &['a', 'b'])?;
-    assert_eq!(rt; text.len(), 2);
-    let word = alteration(&text, &after(1, Kind::Kill), Alteration::KillWord);
-    assert_eq!(rt;
-        joined(word),
-        Some(Piece {
-            from: 1,
-            to: 2,
-            joins: Joins::Behind
-        })
-    );
-    let word = alteration(&text, &after(1, Kind::Kill), Alteration::BackwardKillWord);
-    assert_eq!(rt;
-        joined(word),
-        Some(Piece {
-            from: 0,
-            to: 1,
-            joins: Joins::InFront
-        })
-    );
-    let word = alteration(&text, &at(1), Alteration::BackwardKillWord);
-    assert_eq!(rt;
-        joined(word),
-        Some(Piece {
-            from: 0,
-            to: 1,
-            joins: Joins::New
-        })
-    );
-    Ok(())
-}
-
-// `abc`, an empty line and `abcd`.
-#[test]
-fn keeps_the_goal_column(rt: HostRuntime) -> Result<(), Fail> {
-    let text = PlainText::of(rt.alloc(), &['a', 'b', 'c', '\n', '\n', 'a', 'b', 'c', 'd'])?;
-    assert_eq!(rt; text.len(), 9);
-    let down = motion(&text, &at(3), Motion::NextLine);
-    assert_eq!(rt; point(down), Ok(Goes::To(4)));
-    let down = motion(&text, &after(4, Kind::Line { goal: 3 }), Motion::NextLine);
-    assert_eq!(rt; point(down), Ok(Goes::To(8)));
-    let down = motion(&text, &at(4), Motion::NextLine);
-    assert_eq!(rt; point(down), Ok(Goes::To(5)));
-    assert_eq!(rt;
-        point(motion(&text, &at(9), Motion::NextLine)),
-        Err(Message::EndOfBuffer)
-    );
-    let stays = motion(&text, &with_argument(9, 0), Motion::NextLine);
-    assert_eq!(rt; point(stays), Ok(Goes::To(9)));
-    Ok(())
-}
-
-#[test]
-fn exchanges_characters(rt: HostRuntime) -> Result<(), Fail> {
-    let text = PlainText::of(rt.alloc(), &['a', 'b', 'c', '\n'])?;
-    assert_eq!(rt; text.len(), 4);
-    let last = alteration(&text, &at(3), Alteration::TransposeChars);
-    assert_eq!(rt; put(last), Some(Put::Exchanged { at: 2 }));
-    let last = alteration(&text, &at(3), Alteration::TransposeChars);
-    assert_eq!(rt; landed(last), Ok(Goes::To(3)));
-    let first = alteration(&text, &at(0), Alteration::TransposeChars);
-    assert_eq!(rt; taken(first), Err(Message::BeginningOfBuffer));
-    Ok(())
-}
-
-#[test]
-fn tells_the_position(rt: HostRuntime) -> Result<(), Fail> {
-    let text = PlainText::of(rt.alloc(), &['h', 'i'])?;
-    assert_eq!(rt; text.len(), 2);
-    let here = CursorPosition {
+    let position = CursorPosition {
         point: 0,
-        size: 2,
+        size: 5,
         line: 1,
         column: 0,
     };
-    let position = motion(&text, &at(0), Motion::WhatCursorPosition);
-    assert_eq!(rt; told(position), Message::CharacterAt('h', here));
-    Ok(())
-}
-
-#[test]
-fn puts_in(rt: HostRuntime) -> Result<(), Fail> {
-    assert_eq!(rt;
-        taken(insertion(3, &at(1), Insertion::Yank)),
-        Err(Message::NothingToYank)
-    );
-    let opened = insertion(3, &at(1), Insertion::OpenLine);
-    assert_eq!(rt; landed(opened), Ok(Goes::To(1)));
-    let text = PlainText::of(rt.alloc(), &[' ', '\t', 'a'])?;
-    assert_eq!(rt; text.len(), 3);
-    let indented = reading_insertion(&text, &at(3), ReadingInsertion::NewlineAndIndent);
-    assert_eq!(rt;
-        indented.put,
-        Put::Indented {
-            feeds: 1,
-            from: 0,
-            to: 2
-        }
-    );
-    Ok(())
-}
-
-#[test]
-fn scrolls(rt: HostRuntime) -> Result<(), Fail> {
-    let text = PlainText::of(rt.alloc(), &['\n', '\n', '\n', '\n'])?;
-    assert_eq!(rt; text.len(), 4);
-    assert_eq!(rt;
-        point(scroll(&text, &at(0), Scrolling::ScrollUp)),
-        Ok(Goes::To(2))
-    );
-    assert_eq!(rt;
-        point(scroll(&text, &with_argument(4, 1), Scrolling::ScrollDown)),
-        Ok(Goes::To(3))
-    );
-    assert_eq!(rt;
-        point(scroll(&text, &at(4), Scrolling::ScrollUp)),
-        Err(Message::EndOfBuffer)
-    );
+    match motion(&text, &at(0, None), Motion::WhatCursorPosition) {
+        Ok(finish) => assert_eq!(rt; finish.told, Message::CharacterAt('h', position)),
+        Err(_) => panic!(rt; "refused"),
+    }
+    match scroll(&text, &at(0, None), Scrolling::ScrollUp) {
+        Ok(finish) => assert_eq!(rt; finish.point, Goes::To(3)),
+        Err(_) => panic!(rt; "refused"),
+    }
     assert_eq!(rt; scrolled_row(510, 4, Scrolling::ScrollUp), 512);
     assert_eq!(rt; scrolled_row(3, 4, Scrolling::ScrollDown), 0);
+    Ok(())
+}
+
+// `aB 1cD`, whose words are put in another case.
+#[test]
+fn letters_are_written(rt: HostRuntime) -> Result<(), Fail> {
+    let text = PlainText::of(rt.alloc(), &['a', 'B', ' ', '1', 'c', 'D'])?;
+    assert_eq!(rt; text.len(), 6);
+    for (case, expected) in [
+        (Case::Upper, ['B', ' ', '1', 'C', 'D']),
+        (Case::Lower, ['b', ' ', '1', 'c', 'd']),
+        (Case::Capitalized, ['B', ' ', '1', 'C', 'd']),
+    ] {
+        let put = Put::Cased {
+            from: 1,
+            to: 6,
+            case,
+        };
+        let chars = put_chars(rt.alloc(), &text, &[], &put)?;
+        assert!(rt; chars.as_slice() == expected.as_slice(), "{case:?}");
+    }
+    Ok(())
+}
+
+// A word may end in the fill column, one that is longer than a line stands alone, and a control character takes two cells.
+const FILLED: [(&[char], usize, &[char]); 5] = [
+    (
+        &[' ', 'a', '\t', ' ', 'b', 'c', '\n', 'd'],
+        4,
+        &['a', ' ', 'b', 'c', '\n', 'd'],
+    ),
+    (
+        &['a', 'b', 'c', ' ', 'd', '\n', 'e'],
+        2,
+        &['a', 'b', 'c', '\n', 'd', '\n', 'e'],
+    ),
+    (&[' ', '\n'], 4, &[]),
+    (&['a', ' ', '\x01', '\x01'], 6, &['a', ' ', '\x01', '\x01']),
+    (&['a', ' ', '\x01', '\x01'], 5, &['a', '\n', '\x01', '\x01']),
+];
+
+#[test]
+fn words_are_filled(rt: HostRuntime) -> Result<(), Fail> {
+    for (chars, fill, expected) in FILLED {
+        let filled = refill(rt.alloc(), chars, fill)?;
+        assert!(rt; filled.as_slice() == expected, "{chars:?} up to {fill}");
+    }
     Ok(())
 }

@@ -1,142 +1,85 @@
-// Decisions on all rights of a mask.
-use mgs_acl::{Entry, List, read_entry};
-use mgs_model::{Decision, Mask, Name, Right};
-use mgs_policy::{Directory, decide};
+// Decisions on all rights of a mask, and on one right.
+use crate::people::{list_of, named, staff};
+use mgs_model::{Decision, Mask, Right};
+use mgs_policy::{decide, decide_right, is_granted};
 use std::process::Abort;
 
-fn named(rt: &impl Abort, text: &str) -> Name {
-    match Name::read(text) {
-        Some(name) => name,
-        None => panic!(rt; "no name"),
-    }
-}
+const FIRST: &str = "ALLOW ann r\nDENY ann rw\nALLOW EVERYONE@ w";
 
-fn put(rt: &impl Abort, list: &mut List, text: &str) {
-    match read_entry(text) {
-        Ok(entry) => assert_eq!(rt; list.insert(list.len(), entry), Ok(())),
-        Err(_) => panic!(rt; "no entry"),
-    }
-}
+const STAFF: &str = "ALLOW OWNER@ rwa\nDENY group:staff w";
 
-#[test]
-fn decides_by_the_first_entry(rt: HostRuntime) {
-    let directory = Directory::new(rt.alloc());
-    let (ann, bob, cat) = (named(&rt, "ann"), named(&rt, "bob"), named(&rt, "cat"));
-    let mut list = List::new();
-    put(&rt, &mut list, "ALLOW ann r");
-    put(&rt, &mut list, "DENY ann rw");
-    put(&rt, &mut list, "ALLOW EVERYONE@ w");
-    let read = Mask::from_bits(0x1);
-    let both = Mask::from_bits(0x3);
-    assert_eq!(rt;
-        decide(&list, &cat, &ann, &directory, both),
-        Decision::DeniedBy {
-            entry: 2,
-            bit: Right::WriteData
-        }
-    );
-    assert_eq!(rt;
-        decide(&list, &cat, &bob, &directory, both),
-        Decision::NotGranted {
-            bit: Right::ReadData
-        }
-    );
-    assert_eq!(rt;
-        decide(&list, &cat, &ann, &directory, read),
-        Decision::Granted
-    );
-    assert_eq!(rt;
-        decide(&list, &cat, &bob, &directory, read),
-        Decision::NotGranted {
-            bit: Right::ReadData
-        }
-    );
-}
+const APART: &str = "DENY ann w\nDENY ann r";
 
-#[test]
-fn decides_on_one_right_and_on_none(rt: HostRuntime) {
-    let directory = Directory::new(rt.alloc());
-    let (ann, bob, cat) = (named(&rt, "ann"), named(&rt, "bob"), named(&rt, "cat"));
-    let mut list = List::new();
-    put(&rt, &mut list, "ALLOW ann r");
-    put(&rt, &mut list, "DENY ann rw");
-    put(&rt, &mut list, "ALLOW EVERYONE@ w");
-    let write = Mask::from_bits(0x2);
-    assert_eq!(rt;
-        decide(&list, &cat, &ann, &directory, write),
-        Decision::DeniedBy {
-            entry: 2,
-            bit: Right::WriteData
-        }
-    );
-    assert_eq!(rt;
-        decide(&list, &cat, &bob, &directory, write),
-        Decision::Granted
-    );
-    assert_eq!(rt;
-        decide(&list, &cat, &bob, &directory, Mask::none()),
-        Decision::Granted
-    );
-}
+const TOGETHER: &str = "DENY ann wr";
 
-#[test]
-fn names_the_least_denier_and_its_lowest_right(rt: HostRuntime) {
-    let directory = Directory::new(rt.alloc());
-    let (ann, cat) = (named(&rt, "ann"), named(&rt, "cat"));
-    let both = Mask::from_bits(0x3);
-    let mut apart = List::new();
-    put(&rt, &mut apart, "DENY ann w");
-    put(&rt, &mut apart, "DENY ann r");
-    assert_eq!(rt;
-        decide(&apart, &cat, &ann, &directory, both),
+const NO_READING: Decision = Decision::NotGranted {
+    bit: Right::ReadData,
+};
+
+const NO_WRITING: Decision = Decision::NotGranted {
+    bit: Right::WriteData,
+};
+
+const DENIED_BY_1: Decision = Decision::DeniedBy {
+    entry: 1,
+    bit: Right::WriteData,
+};
+
+const DENIED_BY_2: Decision = Decision::DeniedBy {
+    entry: 2,
+    bit: Right::WriteData,
+};
+
+// The entries, the owner, the user, and the bits that are asked for: 1 to read, 2 to write, 4 to append (RFC 8881, section 6.2.1.3.1).
+const DECISIONS: [(&str, &str, &str, u32, Decision); 13] = [
+    (FIRST, "cat", "ann", 0x3, DENIED_BY_2),
+    (FIRST, "cat", "bob", 0x3, NO_READING),
+    (FIRST, "cat", "ann", 0x1, Decision::Granted),
+    (FIRST, "cat", "bob", 0x1, NO_READING),
+    (FIRST, "cat", "ann", 0x2, DENIED_BY_2),
+    (FIRST, "cat", "bob", 0x2, Decision::Granted),
+    (FIRST, "cat", "bob", 0x0, Decision::Granted),
+    (APART, "cat", "ann", 0x3, DENIED_BY_1),
+    (
+        TOGETHER,
+        "cat",
+        "ann",
+        0x3,
         Decision::DeniedBy {
             entry: 1,
-            bit: Right::WriteData
-        }
-    );
-    let mut together = List::new();
-    put(&rt, &mut together, "DENY ann wr");
-    assert_eq!(rt;
-        decide(&together, &cat, &ann, &directory, both),
-        Decision::DeniedBy {
-            entry: 1,
-            bit: Right::ReadData
-        }
-    );
-}
+            bit: Right::ReadData,
+        },
+    ),
+    (STAFF, "ann", "ann", 0x7, Decision::Granted),
+    (STAFF, "ann", "bob", 0x2, DENIED_BY_2),
+    (STAFF, "ann", "bob", 0x1, NO_READING),
+    (STAFF, "ann", "cat", 0x2, NO_WRITING),
+];
 
 #[test]
-fn knows_groups(rt: HostRuntime) {
-    let mut directory = Directory::new(rt.alloc());
-    let (ann, bob, cat) = (named(&rt, "ann"), named(&rt, "bob"), named(&rt, "cat"));
-    for name in ["ann", "bob", "cat"] {
-        assert_eq!(rt; directory.add_user(name), Ok(()));
+fn lists_decide(rt: HostRuntime) {
+    let directory = staff(&rt, rt.alloc());
+    for (entries, owner, user, bits, decision) in DECISIONS {
+        let list = list_of(&rt, entries);
+        let owner = named(&rt, owner);
+        let user = named(&rt, user);
+        let mask = Mask::from_bits(bits);
+        assert_eq!(rt;
+            decide(&list, &owner, &user, &directory, mask),
+            decision,
+            "{user:?} {bits}"
+        );
+        for right in [Right::ReadData, Right::WriteData] {
+            if bits == right.bit() {
+                assert_eq!(rt;
+                    decide_right(&list, &owner, &user, &directory, right),
+                    decision
+                );
+                assert_eq!(rt;
+                    is_granted(&list, &owner, &user, &directory, right),
+                    decision == Decision::Granted
+                );
+            }
+        }
     }
-    assert_eq!(rt; directory.add_group("staff", &["ann", "bob"]), Ok(()));
-    let mut list = List::new();
-    put(&rt, &mut list, "ALLOW OWNER@ rwa");
-    put(&rt, &mut list, "DENY group:staff w");
-    assert_eq!(rt;
-        decide(&list, &ann, &ann, &directory, Mask::from_bits(0x7)),
-        Decision::Granted
-    );
-    assert_eq!(rt;
-        decide(&list, &ann, &bob, &directory, Mask::from_bits(0x2)),
-        Decision::DeniedBy {
-            entry: 2,
-            bit: Right::WriteData
-        }
-    );
-    assert_eq!(rt;
-        decide(&list, &ann, &bob, &directory, Mask::from_bits(0x1)),
-        Decision::NotGranted {
-            bit: Right::ReadData
-        }
-    );
-    assert_eq!(rt;
-        decide(&list, &ann, &cat, &directory, Mask::from_bits(0x2)),
-        Decision::NotGranted {
-            bit: Right::WriteData
-        }
-    );
 }

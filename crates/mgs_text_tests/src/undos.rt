@@ -30,19 +30,24 @@ fn undo<T: Text>(
     Ok(true)
 }
 
+// 1,001 insertions, of which the first is forgotten, and 501 undos, of which the last finds no edit.
 #[test]
 fn five_hundred_undos_in_a_row(rt: HostRuntime) -> Result<(), Fail> {
     let mut record = Record::new(rt.alloc())?;
     let mut text = PlainText::of(rt.alloc(), &[])?;
+    assert!(rt; record.serial() == 0 && record.item(0).is_none());
     for at in 0..1001usize {
         assert!(rt; at == text.len() && record.serial() < 5000);
         text.replace(at, at, &['x'])?;
-        let _oldest = record.push(Edit {
+        let oldest = record.push(Edit {
             at,
             removed: Vec::new(rt.alloc()),
             added: 1,
         });
+        assert_eq!(rt; oldest.is_some(), at == 1000);
     }
+    assert!(rt; record.item(1).is_none() && record.item(2).is_some());
+    assert!(rt; record.item(1001).is_some() && record.item(1002).is_none());
     for behind in 0..500u64 {
         assert!(rt; undo(&rt, &mut record, &mut text, 1001 - behind)?);
     }
