@@ -1,16 +1,8 @@
 // Decisions on all rights of a mask, and on one right.
 use crate::people::{list_of, named, staff};
 use mgs_model::{Decision, Mask, Right};
-use mgs_policy::{decide, decide_right, is_granted};
+use mgs_policy::{Directory, decide, decide_right, is_granted};
 use std::process::Abort;
-
-const FIRST: &str = "ALLOW ann r\nDENY ann rw\nALLOW EVERYONE@ w";
-
-const STAFF: &str = "ALLOW OWNER@ rwa\nDENY group:staff w";
-
-const APART: &str = "DENY ann w\nDENY ann r";
-
-const TOGETHER: &str = "DENY ann wr";
 
 const NO_READING: Decision = Decision::NotGranted {
     bit: Right::ReadData,
@@ -20,66 +12,72 @@ const NO_WRITING: Decision = Decision::NotGranted {
     bit: Right::WriteData,
 };
 
-const DENIED_BY_1: Decision = Decision::DeniedBy {
-    entry: 1,
-    bit: Right::WriteData,
-};
-
 const DENIED_BY_2: Decision = Decision::DeniedBy {
     entry: 2,
     bit: Right::WriteData,
 };
 
-// The entries, the owner, the user, and the bits that are asked for: 1 to read, 2 to write, 4 to append (RFC 8881, section 6.2.1.3.1).
-const DECISIONS: [(&str, &str, &str, u32, Decision); 13] = [
-    (FIRST, "cat", "ann", 0x3, DENIED_BY_2),
-    (FIRST, "cat", "bob", 0x3, NO_READING),
-    (FIRST, "cat", "ann", 0x1, Decision::Granted),
-    (FIRST, "cat", "bob", 0x1, NO_READING),
-    (FIRST, "cat", "ann", 0x2, DENIED_BY_2),
-    (FIRST, "cat", "bob", 0x2, Decision::Granted),
-    (FIRST, "cat", "bob", 0x0, Decision::Granted),
-    (APART, "cat", "ann", 0x3, DENIED_BY_1),
-    (
-        TOGETHER,
-        "cat",
-        "ann",
-        0x3,
-        Decision::DeniedBy {
-            entry: 1,
-            bit: Right::ReadData,
-        },
-    ),
-    (STAFF, "ann", "ann", 0x7, Decision::Granted),
-    (STAFF, "ann", "bob", 0x2, DENIED_BY_2),
-    (STAFF, "ann", "bob", 0x1, NO_READING),
-    (STAFF, "ann", "cat", 0x2, NO_WRITING),
-];
-
+// The bits that are asked for: 1 to read, 2 to write, 4 to append (RFC 8881, section 6.2.1.3.1).
 #[test]
 fn lists_decide(rt: HostRuntime) {
-    let directory = staff(&rt, rt.alloc());
-    for (entries, owner, user, bits, decision) in DECISIONS {
-        let list = list_of(&rt, entries);
-        let owner = named(&rt, owner);
-        let user = named(&rt, user);
+    let directory = Directory::new(rt.alloc());
+    let (ann, bob, cat) = (named(&rt, "ann"), named(&rt, "bob"), named(&rt, "cat"));
+    let list = list_of(&rt, "ALLOW ann r\nDENY ann rw\nALLOW EVERYONE@ w");
+    for (user, bits, decision) in [
+        (ann, 0x3, DENIED_BY_2),
+        (bob, 0x3, NO_READING),
+        (ann, 0x1, Decision::Granted),
+        (bob, 0x1, NO_READING),
+        (ann, 0x2, DENIED_BY_2),
+        (bob, 0x2, Decision::Granted),
+        (bob, 0x0, Decision::Granted),
+    ] {
         let mask = Mask::from_bits(bits);
+        assert_eq!(rt; decide(&list, &cat, &user, &directory, mask), decision);
+    }
+    for (entries, bit) in [
+        ("DENY ann w\nDENY ann r", Right::WriteData),
+        ("DENY ann wr", Right::ReadData),
+    ] {
+        let list = list_of(&rt, entries);
         assert_eq!(rt;
-            decide(&list, &owner, &user, &directory, mask),
-            decision,
-            "{user:?} {bits}"
+            decide(&list, &cat, &ann, &directory, Mask::from_bits(0x3)),
+            Decision::DeniedBy { entry: 1, bit }
         );
-        for right in [Right::ReadData, Right::WriteData] {
-            if bits == right.bit() {
-                assert_eq!(rt;
-                    decide_right(&list, &owner, &user, &directory, right),
-                    decision
-                );
-                assert_eq!(rt;
-                    is_granted(&list, &owner, &user, &directory, right),
-                    decision == Decision::Granted
-                );
-            }
+    }
+    let directory = staff(&rt, rt.alloc());
+    let list = list_of(&rt, "ALLOW OWNER@ rwa\nDENY group:staff w");
+    for (user, bits, decision) in [
+        (ann, 0x7, Decision::Granted),
+        (bob, 0x2, DENIED_BY_2),
+        (bob, 0x1, NO_READING),
+        (cat, 0x2, NO_WRITING),
+    ] {
+        let mask = Mask::from_bits(bits);
+        assert_eq!(rt; decide(&list, &ann, &user, &directory, mask), decision);
+    }
+}
+
+#[test]
+fn lists_decide_on_one_right(rt: HostRuntime) {
+    let directory = Directory::new(rt.alloc());
+    let (ann, bob, cat) = (named(&rt, "ann"), named(&rt, "bob"), named(&rt, "cat"));
+    let list = list_of(&rt, "ALLOW ann r\nDENY ann rw\nALLOW EVERYONE@ w");
+    assert!(rt; is_granted(&list, &cat, &bob, &directory, Right::WriteData));
+    assert!(rt; !is_granted(&list, &cat, &bob, &directory, Right::ReadData));
+    let list = list_of(&rt, "DENY ann w\nDENY ann r");
+    assert_eq!(rt;
+        decide_right(&list, &cat, &ann, &directory, Right::WriteData),
+        Decision::DeniedBy {
+            entry: 1,
+            bit: Right::WriteData
         }
+    );
+    let list = list_of(&rt, "ALLOW OWNER@ r");
+    for (user, decision) in [(ann, Decision::Granted), (bob, NO_READING)] {
+        assert_eq!(rt;
+            decide_right(&list, &ann, &user, &directory, Right::ReadData),
+            decision
+        );
     }
 }

@@ -1,5 +1,5 @@
 // Users and groups of a directory, up to 256 and 64.
-use crate::people::{named, staff};
+use crate::people::named;
 use mgs_policy::{Directory, DirectoryFault};
 use std::process::Abort;
 use std::test::Fail;
@@ -13,6 +13,7 @@ fn a_directory_takes_256_users(rt: HostRuntime) -> Result<(), Fail> {
     assert!(rt; directory.has_user(&ann));
     assert!(rt; directory.user("ann") == Some(ann) && directory.user("bob") == None);
     assert_eq!(rt; directory.add_user("Ann"), Err(DirectoryFault::Name));
+    assert_eq!(rt; directory.add_user("ann"), Err(DirectoryFault::Twice));
     for i in 1..256u16 {
         let name = format!(in rt.alloc(); "u{i}")?;
         assert_eq!(rt; directory.add_user(name.as_str()), Ok(()));
@@ -23,29 +24,44 @@ fn a_directory_takes_256_users(rt: HostRuntime) -> Result<(), Fail> {
 }
 
 // The faults are told in their order: a name, one that is taken, a member who is no user, and one group too many.
-const FAULTS: [(&str, [&str; 2], DirectoryFault); 6] = [
-    ("Staff", ["ann", "eve"], DirectoryFault::Name),
-    ("staff", ["ann", "eve"], DirectoryFault::Twice),
-    ("staff", ["ann", "bob"], DirectoryFault::Twice),
-    ("guests", ["ann", "eve"], DirectoryFault::Unknown),
-    ("guests", ["ann", "Ann"], DirectoryFault::Unknown),
-    ("guests", ["ann", "bob"], DirectoryFault::Full),
+const FIRST: [(&str, &[&str], Result<(), DirectoryFault>); 7] = [
+    ("Staff", &["eve"], Err(DirectoryFault::Name)),
+    ("staff", &["ann", "eve"], Err(DirectoryFault::Unknown)),
+    ("staff", &["ann", "Ann"], Err(DirectoryFault::Unknown)),
+    ("staff", &["ann", "bob"], Ok(())),
+    ("staff", &["eve"], Err(DirectoryFault::Twice)),
+    ("twice", &["ann", "ann"], Ok(())),
+    ("ann", &[], Ok(())),
+];
+
+const LAST: [(&str, &[&str], DirectoryFault); 4] = [
+    ("Staff", &["ann"], DirectoryFault::Name),
+    ("staff", &["ann"], DirectoryFault::Twice),
+    ("guests", &["eve"], DirectoryFault::Unknown),
+    ("guests", &["ann"], DirectoryFault::Full),
 ];
 
 #[test]
 fn a_directory_takes_64_groups(rt: HostRuntime) -> Result<(), Fail> {
-    let mut directory = staff(&rt, rt.alloc());
-    let (staff, bob, cat) = (named(&rt, "staff"), named(&rt, "bob"), named(&rt, "cat"));
-    assert!(rt; directory.has_group(&staff) && !directory.has_group(&bob));
-    assert!(rt; directory.is_member(&staff, &bob) && !directory.is_member(&staff, &cat));
-    assert_eq!(rt; directory.add_group("twice", &["ann", "ann"]), Ok(()));
-    assert_eq!(rt; directory.add_group("ann", &[]), Ok(()));
+    let mut directory = Directory::new(rt.alloc());
+    for name in ["ann", "bob", "cat"] {
+        assert_eq!(rt; directory.add_user(name), Ok(()));
+    }
+    let (staff, guests) = (named(&rt, "staff"), named(&rt, "guests"));
+    let (ann, bob, cat) = (named(&rt, "ann"), named(&rt, "bob"), named(&rt, "cat"));
+    assert!(rt; !directory.has_group(&staff));
+    for (name, members, answer) in FIRST {
+        assert!(rt; !directory.has_group(&ann));
+        assert_eq!(rt; directory.add_group(name, members), answer, "{name}");
+    }
+    assert!(rt; directory.has_group(&staff) && directory.is_member(&staff, &bob));
+    assert!(rt; !directory.is_member(&staff, &cat) && !directory.is_member(&guests, &bob));
     for i in 3..64u16 {
         let name = format!(in rt.alloc(); "g{i}")?;
         assert_eq!(rt; directory.add_group(name.as_str(), &["ann"]), Ok(()));
     }
-    for (name, members, fault) in FAULTS {
-        assert_eq!(rt; directory.add_group(name, &members), Err(fault), "{name}");
+    for (name, members, fault) in LAST {
+        assert_eq!(rt; directory.add_group(name, members), Err(fault), "{name}");
     }
     Ok(())
 }

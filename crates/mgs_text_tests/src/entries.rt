@@ -1,5 +1,7 @@
 // Entries of access lists, as they are read and printed.
+use crate::people::named;
 use mgs_acl::{EntryFault, print_entry, read_entry, user_named};
+use mgs_model::{Entry, EntryType, Mask, Who};
 use std::process::Abort;
 
 // The bits of a mask are those of RFC 8881, section 6.2.1.3.1.
@@ -44,5 +46,34 @@ fn entries_are_read_and_printed(rt: HostRuntime) {
     for (text, fault) in FAULTS {
         assert_eq!(rt; read_entry(text), Err(fault), "{text}");
     }
-    assert!(rt; user_named("ann").is_some() && user_named("Ann").is_none());
+}
+
+#[test]
+fn entries_are_what_they_spell(rt: HostRuntime) {
+    let (ann, staff) = (named(&rt, "ann"), named(&rt, "staff"));
+    for (text, entry_type, who, bits) in [
+        (
+            "ALLOW OWNER@ rwatdcCo",
+            EntryType::Allow,
+            Who::Owner,
+            0xf_0087,
+        ),
+        (
+            " DENY  group:staff  awr ",
+            EntryType::Deny,
+            Who::Group(staff),
+            0x7,
+        ),
+        (" DENY  ann  awr ", EntryType::Deny, Who::User(ann), 0x7),
+        ("ALLOW EVERYONE@ rrr", EntryType::Allow, Who::Everyone, 0x1),
+    ] {
+        let entry = Entry {
+            entry_type,
+            who,
+            mask: Mask::from_bits(bits),
+        };
+        assert_eq!(rt; read_entry(text), Ok(entry));
+    }
+    assert_eq!(rt; user_named("ann"), Some(ann));
+    assert_eq!(rt; user_named("Ann"), None);
 }

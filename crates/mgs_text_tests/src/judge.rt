@@ -38,6 +38,8 @@ fn a_judge_answers_the_same_twice(rt: HostRuntime) {
     let (ann, bob, cat) = (named(&rt, "ann"), named(&rt, "bob"), named(&rt, "cat"));
     let first = list_of(&rt, "ALLOW ann r\nDENY ann rw\nALLOW EVERYONE@ w");
     let shared = list_of(&rt, "ALLOW OWNER@ rwa\nDENY group:staff w");
+    let apart = list_of(&rt, "DENY ann w\nDENY ann r");
+    let together = list_of(&rt, "DENY ann wr");
     let denied = Decision::DeniedBy {
         entry: 2,
         bit: Right::WriteData,
@@ -49,23 +51,57 @@ fn a_judge_answers_the_same_twice(rt: HostRuntime) {
         (ann, 0x3, denied),
         (ann, 0x1, Decision::Granted),
         (bob, 0x3, unread),
-        (bob, 0x2, Decision::Granted),
     ];
     let of_shared = [
-        (ann, 0x3, Decision::Granted),
+        (ann, 0x7, Decision::Granted),
         (bob, 0x2, denied),
         (bob, 0x1, unread),
-        (cat, 0x1, unread),
     ];
+    let of_apart = [(
+        ann,
+        0x3,
+        Decision::DeniedBy {
+            entry: 1,
+            bit: Right::WriteData,
+        },
+    )];
+    let of_together = [(
+        ann,
+        0x3,
+        Decision::DeniedBy {
+            entry: 1,
+            bit: Right::ReadData,
+        },
+    )];
     let mut judge = match Judge::new(rt.alloc()) {
         Ok(judge) => judge,
         Err(_) => panic!(rt; "no memory"),
     };
     ask(&rt, &mut judge, &directory, 0, &first, &cat, &of_first);
     ask(&rt, &mut judge, &directory, 1, &shared, &ann, &of_shared);
+    ask(&rt, &mut judge, &directory, 2, &apart, &cat, &of_apart);
+    ask(
+        &rt,
+        &mut judge,
+        &directory,
+        3,
+        &together,
+        &cat,
+        &of_together,
+    );
     assert_eq!(rt; judge.kept(), 8);
     ask(&rt, &mut judge, &directory, 0, &first, &cat, &of_first);
     ask(&rt, &mut judge, &directory, 1, &shared, &ann, &of_shared);
+    ask(&rt, &mut judge, &directory, 2, &apart, &cat, &of_apart);
+    ask(
+        &rt,
+        &mut judge,
+        &directory,
+        3,
+        &together,
+        &cat,
+        &of_together,
+    );
     assert_eq!(rt; judge.kept(), 8);
     judge.forget();
     assert_eq!(rt; judge.kept(), 0);

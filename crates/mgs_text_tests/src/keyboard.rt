@@ -91,7 +91,7 @@ fn every_byte_has_an_answer(rt: HostRuntime) {
     }
 }
 
-const ARGUMENTS: [(&[u8], usize); 16] = [
+const ARGUMENTS: [(&[u8], usize); 15] = [
     (b"\x15x", 4),
     (b"\x15\x15x", 16),
     (b"\x153\x15x", 12),
@@ -107,14 +107,13 @@ const ARGUMENTS: [(&[u8], usize); 16] = [
     (b"\x159999x", 9999),
     (b"\x1599999x", 9999),
     (b"\x15\x15\x15\x15\x15\x15\x15x", 9999),
-    (b"\x15\x11x", 4),
 ];
 
 const QUIT: Command = Command::Set(Setting::KeyboardQuit);
 
 // A word that goes on keeps the argument, and an argument is typed before its word alone. C-g, ESC, C-u and digits are no keys
 // after C-q, which begins a word alone.
-const WORDS: [(&[u8], Fed); 22] = [
+const WORDS: [(&[u8], Fed); 23] = [
     (b"\x18\x1Bx", Fed::Unbound),
     (b"\x1B\x07", Fed::Run(QUIT, None)),
     (b"\x153\x18\x07", Fed::Run(QUIT, Some(3))),
@@ -138,6 +137,10 @@ const WORDS: [(&[u8], Fed); 22] = [
     (b"\x18\x11", Fed::Unbound),
     (b"\x1B\x11", Fed::Unbound),
     (b"\x153\x11\x80", Fed::Unbound),
+    (
+        b"\x15\x11x",
+        Fed::Run(Command::Insert(Insertion::SelfInsert('x')), Some(4)),
+    ),
     (
         b"\x11\x01",
         Fed::Run(Command::Insert(Insertion::SelfInsert('\x01')), None),

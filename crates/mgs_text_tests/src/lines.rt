@@ -4,38 +4,21 @@ use mgs_text::{PlainText, Text};
 use std::process::Abort;
 use std::test::Fail;
 
-// A line `ab`, a line of a space, a tab, `^A` and e acute, and a line `d`.
-const LINES: [char; 9] = ['a', 'b', '\n', ' ', '\t', '\x01', '\u{e9}', '\n', 'd'];
+// Lines `ab`, a tab and `c` and e acute, and `d`.
+const LINES: [char; 8] = ['a', 'b', '\n', '\t', 'c', '\u{e9}', '\n', 'd'];
 
-// At a place: start and end of its line, its column, and the end of the indent before it.
-const PLACES: [(usize, usize, usize, usize, usize); 9] = [
-    (0, 0, 2, 0, 0),
-    (2, 0, 2, 2, 0),
-    (3, 3, 7, 0, 3),
-    (4, 3, 7, 1, 4),
-    (5, 3, 7, 8, 5),
-    (6, 3, 7, 10, 5),
-    (7, 3, 7, 16, 5),
-    (8, 8, 9, 0, 8),
-    (9, 8, 9, 1, 8),
-];
-
-// The place in a line that is nearest to a goal column.
-const GOALS: [(usize, usize, usize); 10] = [
-    (3, 0, 3),
-    (3, 1, 4),
-    (3, 7, 4),
-    (3, 8, 5),
-    (3, 9, 5),
-    (3, 10, 6),
-    (3, 15, 6),
-    (3, 16, 7),
-    (3, 99, 7),
-    (8, 99, 9),
+// At a place: start and end of its line, and its column.
+const PLACES: [(usize, usize, usize, usize); 6] = [
+    (0, 0, 2, 0),
+    (2, 0, 2, 2),
+    (3, 3, 6, 0),
+    (5, 3, 6, 9),
+    (6, 3, 6, 15),
+    (7, 7, 8, 0),
 ];
 
 // The top of a window of two rows, for the top that it had and a point.
-const TOPS: [(usize, usize, usize); 3] = [(0, 5, 0), (0, 8, 3), (8, 0, 0)];
+const TOPS: [(usize, usize, usize); 3] = [(0, 4, 0), (0, 7, 3), (7, 0, 0)];
 
 const WIDTHS: [(usize, char, usize); 7] = [
     (3, '\t', 5),
@@ -50,21 +33,15 @@ const WIDTHS: [(usize, char, usize); 7] = [
 #[test]
 fn parts_lines_and_counts_cells(rt: HostRuntime) -> Result<(), Fail> {
     let text = PlainText::of(rt.alloc(), &LINES)?;
-    let len = text.len();
-    assert_eq!(rt; len, 9);
-    for (p, start, end, cells, indent) in PLACES {
-        assert!(rt; p <= len);
+    assert_eq!(rt; text.len(), 8);
+    for (p, start, end, cells) in PLACES {
+        assert!(rt; p <= 8);
         assert_eq!(rt; line_start(&text, p), start, "start at {p}");
         assert_eq!(rt; line_end(&text, p), end, "end at {p}");
         assert_eq!(rt; column(&text, p), cells, "column at {p}");
-        assert_eq!(rt; indent_end(&text, p), indent, "indent at {p}");
-    }
-    for (start, goal, place) in GOALS {
-        assert!(rt; start <= len);
-        assert_eq!(rt; column_place(&text, start, goal), place, "goal {goal}");
     }
     for (top, point, settled) in TOPS {
-        assert!(rt; top <= len && point <= len);
+        assert!(rt; top <= 8 && point <= 8);
         assert_eq!(rt;
             settled_top(&text, 2, top, point),
             settled,
@@ -73,6 +50,40 @@ fn parts_lines_and_counts_cells(rt: HostRuntime) -> Result<(), Fail> {
     }
     for (at, c, cells) in WIDTHS {
         assert_eq!(rt; width(at, c), cells, "{c} at {at}");
+    }
+    Ok(())
+}
+
+// In `a`, a tab, `^A`, e acute, and a line `b`: the place in a line that is nearest to a goal column.
+const GOALS: [(usize, usize, usize); 10] = [
+    (0, 0, 0),
+    (0, 1, 1),
+    (0, 7, 1),
+    (0, 8, 2),
+    (0, 9, 2),
+    (0, 10, 3),
+    (0, 15, 3),
+    (0, 16, 4),
+    (0, 99, 4),
+    (5, 99, 6),
+];
+
+// In a space, a tab, `a`, and a line of a tab and `b`: the end of the indent before a place.
+const INDENTS: [(usize, usize); 7] = [(0, 0), (1, 1), (2, 2), (3, 2), (4, 4), (5, 5), (6, 5)];
+
+#[test]
+fn goal_columns_and_indents(rt: HostRuntime) -> Result<(), Fail> {
+    let text = PlainText::of(rt.alloc(), &['a', '\t', '\x01', '\u{e9}', '\n', 'b'])?;
+    assert_eq!(rt; text.len(), 6);
+    for (start, goal, place) in GOALS {
+        assert!(rt; start <= 6);
+        assert_eq!(rt; column_place(&text, start, goal), place, "goal {goal}");
+    }
+    let text = PlainText::of(rt.alloc(), &[' ', '\t', 'a', '\n', '\t', 'b'])?;
+    assert_eq!(rt; text.len(), 6);
+    for (p, end) in INDENTS {
+        assert!(rt; p <= 6);
+        assert_eq!(rt; indent_end(&text, p), end, "from {p}");
     }
     Ok(())
 }

@@ -14,16 +14,27 @@ fn a_list_takes_64_entries(rt: HostRuntime) {
     assert_eq!(rt; list.insert(1, read), Err(ListFault::NoSuchEntry));
     assert_eq!(rt; list.delete(0), Err(ListFault::NoSuchEntry));
     assert_eq!(rt; list.replace(0, read), Err(ListFault::NoSuchEntry));
-    for _ in 0..64 {
+    for (at, entry) in [(0, read), (0, write), (2, write)] {
+        assert_eq!(rt; list.insert(at, entry), Ok(()));
+    }
+    assert_eq!(rt; list.as_slice(), [write, read, write].as_slice());
+    for _ in 3..64 {
         assert_eq!(rt; list.insert(0, read), Ok(()));
     }
+    assert_eq!(rt; list.insert(0, read), Err(ListFault::Full));
     assert_eq!(rt; list.insert(64, write), Err(ListFault::Full));
-    assert_eq!(rt; list.insert(65, write), Err(ListFault::NoSuchEntry));
-    assert_eq!(rt; list.replace(64, write), Err(ListFault::NoSuchEntry));
-    assert_eq!(rt; list.replace(63, write), Ok(()));
-    assert_eq!(rt; list.delete(64), Err(ListFault::NoSuchEntry));
+    assert_eq!(rt; list.insert(65, read), Err(ListFault::NoSuchEntry));
+    let copy = list.copy();
+    assert!(rt; copy.len() == 64 && copy.as_slice() == list.as_slice());
+    assert!(rt; copy.as_slice()[63] == write);
+    for at in [64, 65] {
+        assert_eq!(rt; list.replace(at, write), Err(ListFault::NoSuchEntry));
+        assert_eq!(rt; list.delete(at), Err(ListFault::NoSuchEntry));
+    }
+    assert_eq!(rt; list.replace(1, write), Ok(()));
+    assert!(rt; list.len() == 64 && list.as_slice()[0] == read);
+    assert!(rt; list.as_slice()[1] == write && list.as_slice()[2] == read);
     assert_eq!(rt; list.delete(0), Ok(()));
     assert_eq!(rt; list.len(), 63);
-    assert_eq!(rt; list.copy().as_slice(), list.as_slice());
-    assert!(rt; list.as_slice()[61] == read && list.as_slice()[62] == write);
+    assert!(rt; list.as_slice()[0] == write && list.as_slice()[1] == read);
 }

@@ -55,9 +55,14 @@ fn a_prompt_takes_in_what_names_have_in_common(rt: HostRuntime) {
     for (input, wanted) in COMPLETED {
         assert!(rt; completion(input, &NAMES) == wanted, "{input:?}");
     }
+    assert!(rt; completion(b"", &[]) == None);
     let mut prompt = Prompt::new(Question::KillWhich);
+    assert!(rt; prompt.names_buffer());
     prompt.feed(b'n');
-    assert!(rt; prompt.complete(completion(b"notes", &NAMES)));
+    assert!(rt; prompt.complete(Some(b"notes".as_slice())));
+    assert!(rt; prompt.input() == b"notes".as_slice());
     assert!(rt; !prompt.complete(None));
-    assert_eq!(rt; prompt.input(), b"notes.txt".as_slice());
+    assert!(rt; prompt.input() == b"notes".as_slice());
+    assert_eq!(rt; prompt.feed(0x7F), Step::GoesOn);
+    assert!(rt; prompt.input() == b"note".as_slice());
 }

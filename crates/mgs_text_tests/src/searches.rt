@@ -54,6 +54,7 @@ fn finds_and_replaces(rt: HostRuntime) -> Result<(), Fail> {
     let text = PlainText::of(rt.alloc(), &THRICE)?;
     assert_eq!(rt; text.len(), 8);
     let ab = ['A', 'B'];
+    let lower = ['a', 'b'];
     for (p, here, first, last) in MATCHES {
         assert!(rt; p <= 8);
         assert_eq!(rt; matches_at(&text, p, &ab), here, "at {p}");
@@ -63,12 +64,12 @@ fn finds_and_replaces(rt: HostRuntime) -> Result<(), Fail> {
     for (p, behind, before, on, back) in FOUND {
         assert!(rt; p <= 8);
         assert_eq!(rt;
-            find_past(&text, Direction::Forward, p, &ab),
+            find_past(&text, Direction::Forward, p, &lower),
             behind,
             "behind {p}"
         );
         assert_eq!(rt;
-            find_past(&text, Direction::Backward, p, &ab),
+            find_past(&text, Direction::Backward, p, &lower),
             before,
             "before {p}"
         );
@@ -87,7 +88,12 @@ fn finds_and_replaces(rt: HostRuntime) -> Result<(), Fail> {
         search_for(&text, 8, Direction::Forward, &ab),
         Err(Message::NotFound)
     );
+    assert_eq!(rt;
+        search_for(&text, 0, Direction::Backward, &[]),
+        Err(Message::NoPattern)
+    );
     assert_eq!(rt; begin_replacing(&text, 1, &ab), Ok(Some(3)));
+    assert_eq!(rt; begin_replacing(&text, 7, &ab), Ok(None));
     assert_eq!(rt; begin_replacing(&text, 1, &[]), Err(Message::NoPattern));
     for (anchor, replaces, next, skipped) in REPLACED {
         assert!(rt; anchor <= 8);

@@ -7,48 +7,89 @@ use std::process::Abort;
 use std::test::Fail;
 
 fn edit<T: Text + Drop>(alloc: Global, rt: &impl Abort) -> Result<(), Fail> {
-    let mut text = T::of(alloc, &['a', '\n', 'c', '\n'])?;
-    text.replace(2, 3, &['\n', 'X'])?;
-    assert_eq!(rt; text.len(), 5);
-    assert_eq!(rt; text.at(3), 'X');
-    assert!(rt; text.copy(1, 4)?.as_slice() == ['\n', '\n', 'X'].as_slice());
-    for (line, start) in [(0, 0), (1, 2), (2, 3), (3, 5)] {
-        assert!(rt; start <= text.len());
+    let mut text = T::of(alloc, &['a', 'b', 'c'])?;
+    assert_eq!(rt; text.len(), 3);
+    assert_eq!(rt; text.copy(1, 3)?.as_slice(), ['b', 'c'].as_slice());
+    text.replace(1, 2, &['X', 'Y'])?;
+    assert!(rt; text.copy(0, text.len())?.as_slice() == ['a', 'X', 'Y', 'c'].as_slice());
+    assert_eq!(rt; text.at(3), 'c');
+    Ok(())
+}
+
+fn count_lines<T: Text + Drop>(alloc: Global, rt: &impl Abort) -> Result<(), Fail> {
+    let text = T::of(alloc, &['a', '\n', '\n', 'b'])?;
+    assert_eq!(rt; text.line_of(1), 0);
+    assert_eq!(rt; text.line_of(2), 1);
+    assert_eq!(rt; text.line_of(4), 2);
+    for (line, start) in [(0, 0), (1, 2), (2, 3), (3, 4)] {
         assert_eq!(rt; text.start_of(line), start, "line {line}");
-        assert_eq!(rt; text.line_of(start), line, "line at {start}");
     }
     Ok(())
 }
 
-// Marks at 1, 2 and 3 of a text of which the characters at 1 and 2 become one.
 fn follow<T: Marked + Drop>(alloc: Global, rt: &impl Abort) -> Result<(), Fail> {
     let mut text = T::of(alloc, &['a', 'b', 'c', 'd'])?;
     let first = text.add_mark(1)?;
     let second = text.add_mark(2)?;
     let third = text.add_mark(3)?;
     text.replace(1, 3, &['x'])?;
-    assert_eq!(rt; text.len(), 3);
+    assert_eq!(rt; text.copy(0, 3)?.as_slice(), ['a', 'x', 'd'].as_slice());
     assert_eq!(rt; text.pos(first), 1);
     assert_eq!(rt; text.pos(second), 1);
     assert_eq!(rt; text.pos(third), 2);
-    text.place(first, 3);
-    text.drop_mark(second);
+    let fourth = text.add_mark(2)?;
+    for other in [first, second, third] {
+        assert_ne!(rt; fourth.slot(), other.slot());
+    }
+    assert_eq!(rt; text.pos(fourth), 2);
+    Ok(())
+}
+
+fn move_and_drop<T: Marked + Drop>(alloc: Global, rt: &impl Abort) -> Result<(), Fail> {
+    let mut text = T::of(alloc, &['a', 'b'])?;
+    let first = text.add_mark(0)?;
+    let second = text.add_mark(1)?;
+    text.place(first, 2);
+    assert_eq!(rt; text.pos(first), 2);
     assert_eq!(rt; text.mark_count(), 2);
-    assert_eq!(rt; text.pos(first), 3);
-    assert_eq!(rt; text.pos(third), 2);
+    text.drop_mark(second);
+    assert_eq!(rt; text.mark_count(), 1);
+    assert_eq!(rt; text.pos(first), 2);
+    assert_eq!(rt; text.len(), 2);
+    assert_eq!(rt; text.at(1), 'b');
     Ok(())
 }
 
 #[test]
 fn plain_text_is_edited(rt: HostRuntime) -> Result<(), Fail> {
     edit::<PlainText>(rt.alloc(), &rt)?;
-    follow::<PlainMarked>(rt.alloc(), &rt)
+    count_lines::<PlainText>(rt.alloc(), &rt)?;
+    follow::<PlainMarked>(rt.alloc(), &rt)?;
+    move_and_drop::<PlainMarked>(rt.alloc(), &rt)
 }
 
 #[test]
 fn gap_text_is_edited(rt: HostRuntime) -> Result<(), Fail> {
     edit::<GapText>(rt.alloc(), &rt)?;
-    follow::<GapText>(rt.alloc(), &rt)
+    count_lines::<GapText>(rt.alloc(), &rt)?;
+    follow::<GapText>(rt.alloc(), &rt)?;
+    move_and_drop::<GapText>(rt.alloc(), &rt)
+}
+
+#[test]
+fn gap_text_is_edited_at_both_ends(rt: HostRuntime) -> Result<(), Fail> {
+    let mut text = GapText::of(rt.alloc(), &['b', 'c'])?;
+    text.replace(2, 2, &['d'])?;
+    text.replace(0, 0, &['a'])?;
+    assert!(rt; text.copy(0, 4)?.as_slice() == ['a', 'b', 'c', 'd'].as_slice());
+    assert_eq!(rt; text.copy(1, 3)?.as_slice(), ['b', 'c'].as_slice());
+    text.replace(0, 1, &[])?;
+    text.replace(2, 3, &[])?;
+    assert!(rt; text.copy(0, 2)?.as_slice() == ['b', 'c'].as_slice());
+    text.replace(0, 2, &[])?;
+    assert_eq!(rt; text.len(), 0);
+    assert!(rt; text.copy(0, 0)?.is_empty());
+    Ok(())
 }
 
 // Its block grows again and again, and its gap goes to both ends: what stands there is in memory that no clause shows.
@@ -70,5 +111,18 @@ fn gap_text_grows(rt: HostRuntime) -> Result<(), Fail> {
         text.replace(0, 0, &['a'])?;
     }
     assert_eq!(rt; text.len(), 1890);
+    Ok(())
+}
+
+#[test]
+fn characters_are_typed_in_a_row(rt: HostRuntime) -> Result<(), Fail> {
+    let mut text = GapText::of(rt.alloc(), &['<', '>'])?;
+    for i in 0..100 {
+        assert_eq!(rt; text.len(), i + 2);
+        text.replace(i + 1, i + 1, &['a'])?;
+    }
+    assert_eq!(rt; text.len(), 102);
+    assert_eq!(rt; text.at(100), 'a');
+    assert_eq!(rt; text.at(101), '>');
     Ok(())
 }

@@ -8,16 +8,21 @@ use std::process::Abort;
 use std::test::Fail;
 
 // In `  ab1 -c.`: from a place, so many words on and so many back.
-const WORDS: [(usize, usize, usize, usize); 11] = [
+const WORDS: [(usize, usize, usize, usize); 16] = [
     (0, 0, 0, 0),
     (9, 0, 9, 9),
     (0, 1, 5, 0),
     (2, 1, 5, 0),
     (3, 1, 5, 2),
+    (4, 1, 5, 2),
     (5, 1, 8, 2),
+    (7, 1, 8, 2),
     (8, 1, 9, 7),
+    (9, 1, 9, 7),
     (0, 2, 8, 0),
     (9, 2, 9, 2),
+    (0, 3, 9, 0),
+    (9, 3, 9, 0),
     (0, 9999, 9, 0),
     (9, 9999, 9, 0),
 ];
@@ -44,8 +49,9 @@ const PAGE: [char; 14] = [
 ];
 
 // From a place, so many paragraphs on and back, so many lines down and up, and the end of a kill of so many lines.
-const WALKS: [(usize, usize, usize, usize, usize, usize, usize); 14] = [
+const WALKS: [(usize, usize, usize, usize, usize, usize, usize); 17] = [
     (2, 0, 2, 2, 1, 1, 1),
+    (14, 0, 14, 14, 14, 14, 14),
     (0, 1, 6, 0, 1, 0, 1),
     (1, 1, 6, 0, 4, 0, 4),
     (2, 1, 6, 1, 4, 0, 4),
@@ -55,9 +61,11 @@ const WALKS: [(usize, usize, usize, usize, usize, usize, usize); 14] = [
     (11, 1, 14, 1, 14, 9, 14),
     (12, 1, 14, 11, 14, 9, 14),
     (14, 1, 14, 11, 14, 11, 14),
+    (0, 2, 14, 0, 4, 0, 4),
     (2, 2, 14, 0, 6, 0, 6),
     (14, 2, 14, 1, 14, 9, 14),
     (0, 9999, 14, 0, 14, 0, 14),
+    (2, 9999, 14, 0, 14, 0, 14),
     (14, 9999, 14, 0, 14, 0, 14),
 ];
 
@@ -99,20 +107,19 @@ fn walks_paragraphs_and_lines(rt: HostRuntime) -> Result<(), Fail> {
 
 #[test]
 fn walks_no_text_and_a_word_of_all_there_may_be(rt: HostRuntime) -> Result<(), Fail> {
-    for size in [0, 1_048_576usize] {
-        let chars = vec![in rt.alloc(); 'a'; size]?;
-        let text = PlainText::of(rt.alloc(), &chars)?;
-        assert_eq!(rt; text.len(), size);
-        assert_eq!(rt; forward_word(&text, 0, 9999), size, "words of {size}");
-        assert_eq!(rt; backward_word(&text, size, 9999), 0, "words back of {size}");
-        assert_eq!(rt; forward_paragraph(&text, 0, 1), size, "paragraph of {size}");
-        assert_eq!(rt;
-            backward_paragraph(&text, size, 9999),
-            0,
-            "paragraphs of {size}"
-        );
-        assert_eq!(rt; lines_down(&text, 0, 9999), 0, "lines of {size}");
-        assert_eq!(rt; kill_line_end(&text, 0, None), size, "line of {size}");
+    let none = PlainText::of(rt.alloc(), &[])?;
+    for times in [0, 1, 9999] {
+        assert_eq!(rt; forward_word(&none, 0, times), 0);
+        assert_eq!(rt; forward_paragraph(&none, 0, times), 0);
+        assert_eq!(rt; lines_down(&none, 0, times), 0);
+        assert_eq!(rt; kill_line_end(&none, 0, Some(times)), 0);
     }
+    assert_eq!(rt; kill_line_end(&none, 0, None), 0);
+    let chars = vec![in rt.alloc(); 'a'; 1_048_576]?;
+    let text = PlainText::of(rt.alloc(), &chars)?;
+    let end = forward_word(&text, 0, 9999);
+    assert_eq!(rt; end, text.len());
+    assert_eq!(rt; backward_word(&text, end, 9999), 0);
+    assert_eq!(rt; backward_paragraph(&text, end, 9999), 0);
     Ok(())
 }
