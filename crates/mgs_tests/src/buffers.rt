@@ -16,6 +16,7 @@ use std::test::Fail;
 // Two buffers of ann: `first`, which she alone may see, and `second`, which everyone may.
 fn two(alloc: Global, rt: &impl Abort) -> Buffers<PlainMarked> {
     let mut all = Buffers::new(alloc);
+    assert_eq!(rt; all.len(), 0);
     let list = list_of(rt, "ALLOW OWNER@ rt");
     assert_eq!(rt; all.add("first", "ann", list, &['a', 'b'], false), Ok(()));
     let list = list_of(rt, "ALLOW EVERYONE@ rwt");
@@ -66,22 +67,25 @@ fn placed<T: Marked + Drop>(
 fn buffers_are_refused(rt: HostRuntime) -> Result<(), Fail> {
     let mut all = two(rt.alloc(), &rt);
     let long = vec![in rt.alloc(); 'x'; 1_048_577]?;
-    for (name, owner, fault) in [
-        ("", "ann", AddFault::Name),
-        ("first", "Ann", AddFault::Name),
-        ("first", "bob", AddFault::Twice),
-        ("third", "ann", AddFault::Long),
+    for (name, owner, text, fault) in [
+        ("", "ann", &long[..0], AddFault::Name),
+        ("first", "Ann", &long[..0], AddFault::Name),
+        ("first", "bob", &long[..0], AddFault::Twice),
+        ("first", "ann", &long, AddFault::Twice),
+        ("third", "ann", &long, AddFault::Long),
     ] {
         assert_eq!(rt;
-            all.add(name, owner, List::new(), &long, false),
+            all.add(name, owner, List::new(), text, false),
             Err(fault),
             "{name} of {owner}"
         );
+        assert_eq!(rt; all.len(), 2);
     }
     assert_eq!(rt;
         all.add("third", "ann", List::new(), &long[1..], false),
         Ok(())
     );
+    assert_eq!(rt; all.len(), 3);
     for i in all.len()..256 {
         let name = format!(in rt.alloc(); "b{i}")?;
         assert_eq!(rt; all.add(&name, "ann", List::new(), &[], false), Ok(()));
@@ -102,18 +106,31 @@ fn buffers_are_refused(rt: HostRuntime) -> Result<(), Fail> {
 fn the_buffer_of_the_name_is_edited(rt: HostRuntime) -> Result<(), Fail> {
     let mut all = two(rt.alloc(), &rt);
     let (first, second) = (named(&rt, "first"), named(&rt, "second"));
-    assert!(rt; all.has(&second) && !all.has(&named(&rt, "third")));
+    assert!(rt; !all.has(&named(&rt, "third")));
+    assert!(rt; all.has(&second));
+    assert!(rt; !all.is_modified(&second));
+    assert!(rt; all.text_len(&second) == 3 && all.serial(&second) == 0);
+    all.edit(&second, 1, 2, &['x', 'y'])?;
+    assert!(rt; all.has(&second));
+    assert!(rt; all.is_modified(&second) && all.serial(&second) == 1);
+    assert!(rt; all.text_len(&second) == 4 && all.text(&second).len() == 4);
+    assert!(rt; all.text(&second).copy(0, 4)?.as_slice() == ['c', 'x', 'y', 'e'].as_slice());
+    assert!(rt; all.has(&first));
+    assert!(rt; !all.is_modified(&first) && all.serial(&first) == 0);
+    assert_eq!(rt; all.text_len(&first), 2);
+    Ok(())
+}
+
+#[test]
+fn marks_follow_edits(rt: HostRuntime) -> Result<(), Fail> {
+    let mut all = two(rt.alloc(), &rt);
+    let second = named(&rt, "second");
+    assert!(rt; all.has(&second));
     assert!(rt; all.text_len(&second) == 3 && all.serial(&second) == 0);
     assert_eq!(rt; placed(&mut all, &second, 0, 3)?, 3);
     assert!(rt; all.has(&second));
     assert!(rt; all.text_len(&second) == 3 && all.serial(&second) == 0);
     assert_eq!(rt; moved(&mut all, &second, 2, &['u', 'v'])?, 4);
-    assert!(rt; all.has(&second));
-    assert!(rt; all.is_modified(&second) && all.serial(&second) == 1);
-    assert_eq!(rt; all.text(&second).len(), 5);
-    assert!(rt; all.text(&second).copy(0, 3)?.as_slice() == ['u', 'v', 'c'].as_slice());
-    assert!(rt; all.has(&first));
-    assert!(rt; !all.is_modified(&first) && all.serial(&first) == 0);
     Ok(())
 }
 

@@ -28,6 +28,9 @@ fn rows_of_a_text(rt: HostRuntime) -> Result<(), Fail> {
     let mut grid = Grid::new(rt.alloc(), 6, 20)?;
     assert_eq!(rt; (grid.rows(), grid.cols(), grid.lines().len()), (6, 20, 6));
     assert_eq!(rt; grid.cursor(), (0, 0));
+    for row in 0..6 {
+        shows(&rt, &grid, row, BLANK, false);
+    }
     grid.draw_text(1, 2, &text, 0, 0, 0);
     for (row, expected) in [
         (0, BLANK),
@@ -41,6 +44,10 @@ fn rows_of_a_text(rt: HostRuntime) -> Result<(), Fail> {
     grid.draw_blank(1, 1);
     shows(&rt, &grid, 1, BLANK, false);
     shows(&rt, &grid, 2, "c                   ", false);
+    assert_eq!(rt; grid.rows(), 6);
+    grid.draw_blank(1, 2);
+    shows(&rt, &grid, 1, BLANK, false);
+    shows(&rt, &grid, 2, BLANK, false);
     Ok(())
 }
 
@@ -76,6 +83,10 @@ const DENIED_BY_1: Decision = Decision::DeniedBy {
     bit: Right::ReadData,
 };
 
+const UNREAD: Decision = Decision::NotGranted {
+    bit: Right::ReadData,
+};
+
 const NOT_GRANTED: Decision = Decision::NotGranted {
     bit: Right::WriteData,
 };
@@ -84,26 +95,27 @@ const NOT_GRANTED: Decision = Decision::NotGranted {
 fn mode_lines_and_masks(rt: HostRuntime) -> Result<(), Fail> {
     let notes = Name::read("notes").ok_or("no name")?;
     let mut grid = Grid::new(rt.alloc(), 6, 20)?;
-    assert_eq!(rt; grid.rows(), 6);
-    grid.draw_mode(0, Some((notes, true)), Some((6, 0)));
-    grid.draw_mode(1, None, None);
-    grid.draw_none_mode(2);
-    grid.draw_unread(3, 2, DENIED_BY_1);
-    grid.draw_unread(5, 1, NOT_GRANTED);
+    grid.draw_mode(4, Some((notes, true)), Some((6, 0)));
+    shows(&rt, &grid, 4, "-**-notes-L6-C0-----", true);
+    grid.draw_none_mode(4);
+    shows(&rt, &grid, 4, "-None---------------", true);
+    grid.draw_unread(1, 2, DENIED_BY_1);
+    shows(&rt, &grid, 1, "[no read: entry 1]  ", false);
+    shows(&rt, &grid, 2, BLANK, false);
+    grid.draw_unread(1, 1, UNREAD);
+    shows(&rt, &grid, 1, "[no read: no entry] ", false);
     grid.set_cursor(5, 19);
     assert_eq!(rt; grid.cursor(), (5, 19));
-    shows(&rt, &grid, 0, "-**-notes-L6-C0-----", true);
-    shows(&rt, &grid, 1, "-??-?-(no read)-----", true);
-    shows(&rt, &grid, 2, "-None---------------", true);
-    shows(&rt, &grid, 3, "[no read: entry 1]  ", false);
-    shows(&rt, &grid, 4, BLANK, false);
-    shows(&rt, &grid, 5, "[no read: no entry] ", false);
+    let mut grid = Grid::new(rt.alloc(), 6, 40)?;
+    grid.draw_mode(4, None, None);
+    let masked = "-??-?-(no read)-------------------------";
+    shows(&rt, &grid, 4, masked, true);
     Ok(())
 }
 
 // What is asked and typed, the echo row, and the column behind it. 19 cells leave one for the cursor, and of more the end is
 // shown. Nothing is left of the line before.
-const PROMPTS: [(Question, &[u8], &str, usize); 12] = [
+const PROMPTS: [(Question, &[u8], &str, usize); 13] = [
     (Question::SwitchTo, b"", "Switch to buffer:   ", 18),
     (Question::SwitchTo, b"n", "Switch to buffer: n ", 19),
     (Question::SwitchTo, b"no", "$itch to buffer: no ", 19),
@@ -120,6 +132,7 @@ const PROMPTS: [(Question, &[u8], &str, usize); 12] = [
     (Question::WhichOwner, b"ann", "Owner: ann          ", 10),
     (Question::ReplaceWhat, b"", "Query replace:      ", 15),
     (Question::ReplaceWith, b"", "With:               ", 6),
+    (Question::SwitchTo, b"notes", "$h to buffer: notes ", 19),
     (Question::ReplaceWith, b"x", "With: x             ", 7),
 ];
 

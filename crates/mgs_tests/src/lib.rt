@@ -4,6 +4,10 @@
 #[cfg(test)]
 mod buffers;
 #[cfg(test)]
+mod cases;
+#[cfg(test)]
+mod filling;
+#[cfg(test)]
 mod grid;
 #[cfg(test)]
 mod names;
@@ -17,5 +21,7 @@ mod plans;
 mod taking_back;
 #[cfg(test)]
 mod terminal;
+#[cfg(test)]
+mod whites;
 #[cfg(test)]
 mod windows;

@@ -94,20 +94,26 @@ fn changes_of_a_line_are_painted(rt: HostRuntime) -> Result<(), Fail> {
     Ok(())
 }
 
-// The echo row is erased, then the cursor alone moves, and then the first row is reversed alone, and no longer.
+// The echo row is erased, and then the cursor alone moves.
 #[test]
-fn other_changes_are_painted(rt: HostRuntime) -> Result<(), Fail> {
+fn the_echo_row_and_the_cursor_are_painted(rt: HostRuntime) -> Result<(), Fail> {
+    let plain = screen_of(rt.alloc(), &['h', 'i'], 2)?;
+    let mut told = screen_of(rt.alloc(), &['h', 'i'], 2)?;
+    told.draw_echo(5, &Message::KeyNotBound);
+    paints(&rt, rt.alloc(), &told, &plain, b"\x1b[6;1H\x1b[K\x1b[1;3H")?;
+    let mut moved = screen_of(rt.alloc(), &['h', 'i'], 2)?;
+    moved.set_cursor(5, 19);
+    paints(&rt, rt.alloc(), &plain, &moved, b"\x1b[6;20H")
+}
+
+// The first row is reversed alone, and no longer.
+#[test]
+fn the_reverse_of_a_row_is_painted(rt: HostRuntime) -> Result<(), Fail> {
     let mode = [
         '-', 'N', 'o', 'n', 'e', '-', '-', '-', '-', '-', '-', '-', '-', '-', '-', '-', '-', '-',
         '-', '-',
     ];
     let plain = screen_of(rt.alloc(), &mode, 0)?;
-    let mut told = screen_of(rt.alloc(), &mode, 0)?;
-    told.draw_echo(5, &Message::KeyNotBound);
-    paints(&rt, rt.alloc(), &told, &plain, b"\x1b[6;1H\x1b[K\x1b[1;1H")?;
-    let mut moved = screen_of(rt.alloc(), &mode, 0)?;
-    moved.set_cursor(5, 19);
-    paints(&rt, rt.alloc(), &plain, &moved, b"\x1b[6;20H")?;
     let mut reversed = screen_of(rt.alloc(), &mode, 0)?;
     reversed.draw_none_mode(0);
     paints(
@@ -135,6 +141,7 @@ fn a_new_grid_is_blank(rt: HostRuntime) -> Result<(), Fail> {
     assert!(rt; out.len() <= 592);
     assert_eq!(rt; term.feed_all(&out), Ok(()));
     assert_eq!(rt; term.cursor(), (1, 1));
+    assert_eq!(rt; term.grid().len(), 120);
     for cell in term.grid() {
         assert!(rt; *cell == Cell::BLANK);
     }

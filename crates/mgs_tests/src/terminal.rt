@@ -8,7 +8,9 @@ fn a_terminal_keeps_to_its_profile(rt: HostRuntime) -> Result<(), Fail> {
     let mut term = Term::new(rt.alloc(), 6, 20)?;
     assert_eq!(rt; term.feed(b'a'), Err(OutOfProfile), "wrap is on");
     let mut term = Term::new(rt.alloc(), 6, 20)?;
-    assert_eq!(rt; term.feed_all(b"\x1b[?7l\x1b[1;19Habc"), Ok(()));
+    for bytes in [b"\x1b[?7l".as_slice(), b"\x1b[1;19H", b"abc"] {
+        assert_eq!(rt; term.feed_all(bytes), Ok(()));
+    }
     assert_eq!(rt; (term.rows(), term.cols()), (6, 20));
     assert_eq!(rt; term.grid().len(), 120);
     assert!(rt; term.grid()[18].character == 'a' && term.grid()[19].character == 'c');
