@@ -1,8 +1,9 @@
-// Buffers by their names, over any text.
+// Buffers by their names.
 ghost use Rattle.std.specs.Prelude.{◌+◌, ◌<◌, ◌≤◌, ◌^◌, ℕ, length};
 ghost use Rattle.mgs_buffers.specs.MarkedBuffer.{HasBuffer, marked_at};
 
-use mgs_acl::{List, read_entry};
+use crate::people::{list_of, named};
+use mgs_acl::List;
 use mgs_buffers::{AddFault, Buffers};
 use mgs_marks::{Marked, PlainMarked};
 use mgs_model::{Decision, Name, Right, Short};
@@ -12,30 +13,13 @@ use std::alloc::Global;
 use std::process::Abort;
 use std::test::Fail;
 
-fn named(rt: &impl Abort, text: &str) -> Name {
-    match Name::read(text) {
-        Some(name) => name,
-        None => panic!(rt; "no name"),
-    }
-}
-
-// A list of this entry.
-fn list_of(text: &str, rt: &impl Abort) -> List {
-    let mut list = List::new();
-    match read_entry(text) {
-        Ok(entry) => assert!(rt; list.insert(0, entry).is_ok()),
-        Err(_) => panic!(rt; "no entry"),
-    }
-    list
-}
-
 // Two buffers of ann: `first`, which she alone may see, and `second`, which everyone may.
-fn two<T: Marked + Drop>(alloc: Global, rt: &impl Abort) -> Buffers<T> {
+fn two(alloc: Global, rt: &impl Abort) -> Buffers<PlainMarked> {
     let mut all = Buffers::new(alloc);
     assert_eq!(rt; all.len(), 0);
-    let list = list_of("ALLOW OWNER@ rt", rt);
+    let list = list_of(rt, "ALLOW OWNER@ rt");
     assert_eq!(rt; all.add("first", "ann", list, &['a', 'b'], false), Ok(()));
-    let list = list_of("ALLOW EVERYONE@ rwt", rt);
+    let list = list_of(rt, "ALLOW EVERYONE@ rwt");
     assert_eq!(rt;
         all.add("second", "ann", list, &['c', 'd', 'e'], true),
         Ok(())
@@ -78,61 +62,34 @@ fn placed<T: Marked + Drop>(
     Ok(all.pos(name, id))
 }
 
-fn refuse_names<T: Marked + Drop>(alloc: Global, rt: &impl Abort) {
-    let mut all = two::<T>(alloc, rt);
+// The faults are told in their order: the names, a name that is taken, one buffer too many, and a text that is too long.
+#[test]
+fn buffers_are_refused(rt: HostRuntime) -> Result<(), Fail> {
+    let mut all = two(rt.alloc(), &rt);
+    let long = vec![in rt.alloc(); 'x'; 1_048_577]?;
+    for (name, owner, text, fault) in [
+        ("", "ann", &long[..0], AddFault::Name),
+        ("first", "Ann", &long[..0], AddFault::Name),
+        ("first", "bob", &long[..0], AddFault::Twice),
+        ("first", "ann", &long, AddFault::Twice),
+        ("third", "ann", &long, AddFault::Long),
+    ] {
+        assert_eq!(rt;
+            all.add(name, owner, List::new(), text, false),
+            Err(fault),
+            "{name} of {owner}"
+        );
+        assert_eq!(rt; all.len(), 2);
+    }
     assert_eq!(rt;
-        all.add("", "ann", List::new(), &[], false),
-        Err(AddFault::Name)
-    );
-    assert_eq!(rt;
-        all.add("first", "Ann", List::new(), &[], false),
-        Err(AddFault::Name)
-    );
-    assert_eq!(rt;
-        all.add("first", "bob", List::new(), &[], false),
-        Err(AddFault::Twice)
-    );
-    assert_eq!(rt; all.len(), 2);
-}
-
-fn refuse_texts<T: Marked + Drop>(alloc: Global, rt: &impl Abort) -> Result<(), Fail> {
-    let mut all = two::<T>(alloc, rt);
-    let long = vec![in alloc; 'x'; 1_048_577]?;
-    assert_eq!(rt;
-        all.add("first", "ann", List::new(), &long, false),
-        Err(AddFault::Twice)
-    );
-    assert_eq!(rt;
-        all.add("third", "ann", List::new(), &long, false),
-        Err(AddFault::Long)
-    );
-    assert_eq!(rt; all.len(), 2);
-    let longest = &long[1..];
-    assert_eq!(rt;
-        all.add("third", "ann", List::new(), longest, false),
+        all.add("third", "ann", List::new(), &long[1..], false),
         Ok(())
     );
     assert_eq!(rt; all.len(), 3);
-    Ok(())
-}
-
-// Buffers until there are 256.
-fn fill<T: Marked + Drop>(
-    alloc: Global,
-    all: &mut Buffers<T>,
-    rt: &impl Abort,
-) -> Result<(), Fail> {
     for i in all.len()..256 {
-        let name = format!(in alloc; "b{i}")?;
+        let name = format!(in rt.alloc(); "b{i}")?;
         assert_eq!(rt; all.add(&name, "ann", List::new(), &[], false), Ok(()));
     }
-    Ok(())
-}
-
-fn refuse_more<T: Marked + Drop>(alloc: Global, rt: &impl Abort) -> Result<(), Fail> {
-    let mut all = two::<T>(alloc, rt);
-    fill(alloc, &mut all, rt)?;
-    let long = vec![in alloc; 'x'; 1_048_577]?;
     assert_eq!(rt;
         all.add("second", "ann", List::new(), &[], false),
         Err(AddFault::Twice)
@@ -145,49 +102,45 @@ fn refuse_more<T: Marked + Drop>(alloc: Global, rt: &impl Abort) -> Result<(), F
     Ok(())
 }
 
-fn edit<T: Marked + Drop>(alloc: Global, rt: &impl Abort) -> Result<(), Fail> {
-    let mut all = two::<T>(alloc, rt);
-    let (first, second) = (named(rt, "first"), named(rt, "second"));
-    assert!(rt; !all.has(&named(rt, "third")));
+#[test]
+fn the_buffer_of_the_name_is_edited(rt: HostRuntime) -> Result<(), Fail> {
+    let mut all = two(rt.alloc(), &rt);
+    let (first, second) = (named(&rt, "first"), named(&rt, "second"));
+    assert!(rt; !all.has(&named(&rt, "third")));
     assert!(rt; all.has(&second));
     assert!(rt; !all.is_modified(&second));
-    assert_eq!(rt; all.serial(&second), 0);
-    assert_eq!(rt; all.text_len(&second), 3);
+    assert!(rt; all.text_len(&second) == 3 && all.serial(&second) == 0);
     all.edit(&second, 1, 2, &['x', 'y'])?;
     assert!(rt; all.has(&second));
-    assert!(rt; all.is_modified(&second));
-    assert_eq!(rt; all.serial(&second), 1);
-    assert_eq!(rt; all.text_len(&second), 4);
-    assert!(rt; all.text(&second).len() == 4);
+    assert!(rt; all.is_modified(&second) && all.serial(&second) == 1);
+    assert!(rt; all.text_len(&second) == 4 && all.text(&second).len() == 4);
     assert!(rt; all.text(&second).copy(0, 4)?.as_slice() == ['c', 'x', 'y', 'e'].as_slice());
     assert!(rt; all.has(&first));
-    assert!(rt; !all.is_modified(&first));
-    assert_eq!(rt; all.serial(&first), 0);
+    assert!(rt; !all.is_modified(&first) && all.serial(&first) == 0);
     assert_eq!(rt; all.text_len(&first), 2);
     Ok(())
 }
 
-fn follow<T: Marked + Drop>(alloc: Global, rt: &impl Abort) -> Result<(), Fail> {
-    let mut all = two::<T>(alloc, rt);
-    let second = named(rt, "second");
+#[test]
+fn marks_follow_edits(rt: HostRuntime) -> Result<(), Fail> {
+    let mut all = two(rt.alloc(), &rt);
+    let second = named(&rt, "second");
     assert!(rt; all.has(&second));
-    assert_eq!(rt; all.text_len(&second), 3);
-    assert_eq!(rt; all.serial(&second), 0);
+    assert!(rt; all.text_len(&second) == 3 && all.serial(&second) == 0);
     assert_eq!(rt; placed(&mut all, &second, 0, 3)?, 3);
     assert!(rt; all.has(&second));
-    assert_eq!(rt; all.text_len(&second), 3);
-    assert_eq!(rt; all.serial(&second), 0);
+    assert!(rt; all.text_len(&second) == 3 && all.serial(&second) == 0);
     assert_eq!(rt; moved(&mut all, &second, 2, &['u', 'v'])?, 4);
     Ok(())
 }
 
-fn judge<T: Marked + Drop>(alloc: Global, rt: &impl Abort) {
-    let all = two::<T>(alloc, rt);
-    let directory = Directory::new(alloc);
-    let (ann, bob) = (named(rt, "ann"), named(rt, "bob"));
-    let (first, second) = (named(rt, "first"), named(rt, "second"));
-    assert!(rt; all.has(&first));
-    assert!(rt; all.has(&second));
+#[test]
+fn lists_and_owners_decide(rt: HostRuntime) {
+    let all = two(rt.alloc(), &rt);
+    let directory = Directory::new(rt.alloc());
+    let (ann, bob) = (named(&rt, "ann"), named(&rt, "bob"));
+    let (first, second) = (named(&rt, "first"), named(&rt, "second"));
+    assert!(rt; all.has(&first) && all.has(&second));
     assert!(rt; all.grants(&directory, &first, &ann, Right::ReadData));
     assert!(rt; !all.grants(&directory, &first, &bob, Right::ReadData));
     assert!(rt; all.grants(&directory, &second, &bob, Right::WriteData));
@@ -197,44 +150,6 @@ fn judge<T: Marked + Drop>(alloc: Global, rt: &impl Abort) {
             bit: Right::WriteData
         }
     );
-}
-
-fn show<T: Marked + Drop>(alloc: Global, rt: &impl Abort) {
-    let all = two::<T>(alloc, rt);
-    let directory = Directory::new(alloc);
-    let (ann, bob) = (named(rt, "ann"), named(rt, "bob"));
-    let (first, second) = (named(rt, "first"), named(rt, "second"));
     assert_eq!(rt; all.first_shown(&directory, &ann), Some(first));
     assert_eq!(rt; all.first_shown(&directory, &bob), Some(second));
-}
-
-#[test]
-fn refuses_names_and_doubles(rt: HostRuntime) {
-    refuse_names::<PlainMarked>(rt.alloc(), &rt)
-}
-
-#[test]
-fn refuses_texts_past_the_limit(rt: HostRuntime) -> Result<(), Fail> {
-    refuse_texts::<PlainMarked>(rt.alloc(), &rt)
-}
-
-#[test]
-fn refuses_more_than_256(rt: HostRuntime) -> Result<(), Fail> {
-    refuse_more::<PlainMarked>(rt.alloc(), &rt)
-}
-
-#[test]
-fn edits_the_buffer_of_the_name(rt: HostRuntime) -> Result<(), Fail> {
-    edit::<PlainMarked>(rt.alloc(), &rt)
-}
-
-#[test]
-fn marks_follow_edits(rt: HostRuntime) -> Result<(), Fail> {
-    follow::<PlainMarked>(rt.alloc(), &rt)
-}
-
-#[test]
-fn lists_and_owners_decide(rt: HostRuntime) {
-    judge::<PlainMarked>(rt.alloc(), &rt);
-    show::<PlainMarked>(rt.alloc(), &rt)
 }

@@ -1,26 +1,10 @@
 // Commands on the case of letters, as plans over small texts and as what they put in.
-ghost use Rattle.std.specs.Prelude.{◌≡◌, ◌≤◌, length, None};
-
+use crate::plans::at;
 use mgs_edit::{Around, Case, Change, Goes, Put, alteration, put_chars};
-use mgs_model::{Alteration, Kind, Message};
+use mgs_model::{Alteration, Message};
 use mgs_text::{PlainText, Text};
 use std::process::Abort;
 use std::test::Fail;
-
-fn at(place: usize, argument: Option<usize>) -> Around
-    ensures place { result.place ≡ place }
-    ensures mark { result.mark ≡ None }
-{
-    Around {
-        place,
-        mark: None,
-        argument,
-        killed: 0,
-        kind: Kind::Other,
-        height: 4,
-        fill: 72,
-    }
-}
 
 // What comes in another case, and where the point goes, or what is told.
 fn cased(planned: Result<Change, Message>) -> Result<(Put, Goes), Message> {

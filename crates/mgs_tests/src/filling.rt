@@ -1,35 +1,10 @@
 // Paragraphs that are filled, as plans over small texts and as what they put in.
-ghost use Rattle.std.specs.Prelude.{◌≡◌, ◌≤◌, length, None};
-
-use mgs_edit::{Around, Change, Goes, Put, alteration, is_edit, put_chars};
-use mgs_model::{Alteration, Kind, Message};
+use crate::plans::{at, shown};
+use mgs_edit::{Goes, Put, alteration, is_edit, put_chars, refill};
+use mgs_model::Alteration;
 use mgs_text::{PlainText, Text};
 use std::process::Abort;
 use std::test::Fail;
-
-// At a place, with a fill column of 4.
-fn at(place: usize) -> Around
-    ensures place { result.place ≡ place }
-    ensures mark { result.mark ≡ None }
-{
-    Around {
-        place,
-        mark: None,
-        argument: None,
-        killed: 0,
-        kind: Kind::Other,
-        height: 4,
-        fill: 4,
-    }
-}
-
-// What is taken out, what comes in and where the point goes, or what is told.
-fn shown(planned: Result<Change, Message>) -> Result<(usize, usize, Put, Goes), Message> {
-    match planned {
-        Ok(change) => Ok((change.from, change.to, change.put, change.finish.point)),
-        Err(message) => Err(message),
-    }
-}
 
 // `a`, an empty line, `bb c` and `d`, a line with a tab, and `e`: the paragraph is the two lines in the middle.
 #[test]
@@ -49,7 +24,7 @@ fn fills_the_lines_around(rt: HostRuntime) -> Result<(), Fail> {
     };
     for place in [3, 6, 9] {
         assert_eq!(rt;
-            shown(alteration(&text, &at(place), Alteration::FillParagraph)),
+            shown(alteration(&text, &at(place, None), Alteration::FillParagraph)),
             Ok((3, 9, filled, Goes::Behind))
         );
     }
@@ -61,13 +36,13 @@ fn fills_the_lines_around(rt: HostRuntime) -> Result<(), Fail> {
 fn leaves_blank_lines(rt: HostRuntime) -> Result<(), Fail> {
     let text = PlainText::of(rt.alloc(), &['a', '\n', ' ', '\n', 'b'])?;
     assert_eq!(rt; text.len(), 5);
-    assert_eq!(rt;
-        shown(alteration(&text, &at(3), Alteration::FillParagraph)),
-        Ok((3, 3, Put::Nothing, Goes::Stays))
-    );
-    match alteration(&text, &at(3), Alteration::FillParagraph) {
-        Ok(change) => assert!(rt; !is_edit(&change, 0)),
-        Err(_) => assert!(rt; false),
+    match alteration(&text, &at(3, None), Alteration::FillParagraph) {
+        Ok(change) => {
+            assert!(rt; !is_edit(&change, 0));
+            let nothing = Ok((3, 3, Put::Nothing, Goes::Stays));
+            assert_eq!(rt; shown(Ok(change)), nothing);
+        }
+        Err(_) => panic!(rt; "refused"),
     }
     Ok(())
 }
@@ -88,8 +63,8 @@ fn counts_what_is_written(rt: HostRuntime) -> Result<(), Fail> {
         fill: 4,
         len: 10,
     };
-    match alteration(&text, &at(2), Alteration::FillParagraph) {
-        Err(_) => assert!(rt; false),
+    match alteration(&text, &at(2, None), Alteration::FillParagraph) {
+        Err(_) => panic!(rt; "refused"),
         Ok(change) => {
             assert_eq!(rt; change.put, filled);
             assert!(rt; is_edit(&change, 0));
@@ -98,6 +73,32 @@ fn counts_what_is_written(rt: HostRuntime) -> Result<(), Fail> {
                 chars.as_slice() == ['a', ' ', 'b', 'c', '\n', 'd', 'd', 'd', 'd', 'd'].as_slice()
             );
         }
+    }
+    Ok(())
+}
+
+// A word may end in the fill column, one that is longer than a line stands alone, and a control character takes two cells.
+const FILLED: [(&[char], usize, &[char]); 5] = [
+    (
+        &[' ', 'a', '\t', ' ', 'b', 'c', '\n', 'd'],
+        4,
+        &['a', ' ', 'b', 'c', '\n', 'd'],
+    ),
+    (
+        &['a', 'b', 'c', ' ', 'd', '\n', 'e'],
+        2,
+        &['a', 'b', 'c', '\n', 'd', '\n', 'e'],
+    ),
+    (&[' ', '\n'], 4, &[]),
+    (&['a', ' ', '\x01', '\x01'], 6, &['a', ' ', '\x01', '\x01']),
+    (&['a', ' ', '\x01', '\x01'], 5, &['a', '\n', '\x01', '\x01']),
+];
+
+#[test]
+fn words_are_filled(rt: HostRuntime) -> Result<(), Fail> {
+    for (chars, fill, expected) in FILLED {
+        let filled = refill(rt.alloc(), chars, fill)?;
+        assert!(rt; filled.as_slice() == expected, "{chars:?} up to {fill}");
     }
     Ok(())
 }

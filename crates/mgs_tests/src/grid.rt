@@ -1,196 +1,183 @@
 // Rows as they are seen.
-ghost use Rattle.std.specs.Prelude.{◌≡◌, ◌≤◌, ◌<◌, ◌^◌, length};
-
-use mgs_grid::{Grid, Line, shift_for};
-use mgs_model::{Decision, Direction, Message, Name, Right};
+use mgs_grid::{Grid, shift_for};
+use mgs_model::{Decision, Direction, Message, Name, Question, Right};
 use mgs_text::{PlainText, Text};
 use std::process::Abort;
 use std::test::Fail;
 
-fn reads(line: &Line, expected: &str) -> bool {
-    let text = line.text();
-    let bytes = expected.as_bytes();
-    text.len() == bytes.len() && text.iter().zip(bytes).all(|(c, b)| *c == *b as char)
-}
-
 fn shows(rt: &impl Abort, grid: &Grid, row: usize, expected: &str, reversed: bool) {
     let lines = grid.lines();
     assert!(rt; row < lines.len());
-    assert!(rt; reads(&lines[row], expected), "row {row} is not {expected}");
-    assert_eq!(rt; lines[row].is_reversed(), reversed);
-}
-
-fn draws<T: Text>(rt: &impl Abort, grid: &mut Grid, text: &T, shift: usize)
-    requires text { length (T.text text.now) < 2 ^ 32 }
-    requires shift { shift < 2 ^ 62 }
-{
-    assert!(rt; grid.rows() >= 3);
-    grid.draw_text(1, 2, text, 0, 0, shift);
-}
-
-#[test]
-fn starts_blank(rt: HostRuntime) -> Result<(), Fail> {
-    let mut grid = Grid::new(rt.alloc(), 6, 20)?;
-    assert_eq!(rt; grid.rows(), 6);
-    assert_eq!(rt; grid.cols(), 20);
-    assert_eq!(rt; grid.lines().len(), 6);
-    for row in 0..6 {
-        shows(&rt, &grid, row, "                    ", false);
+    let text = lines[row].text();
+    let bytes = expected.as_bytes();
+    assert_eq!(rt; text.len(), bytes.len(), "row {row} is not {expected}");
+    for (c, byte) in text.iter().zip(bytes) {
+        assert_eq!(rt; *c, char::from(*byte), "row {row} is not {expected}");
     }
-    assert!(rt; grid.cursor() == (0, 0));
-    grid.set_cursor(5, 19);
-    assert!(rt; grid.cursor() == (5, 19));
-    Ok(())
+    assert_eq!(rt; lines[row].is_reversed(), reversed, "row {row}");
 }
 
+const BLANK: &str = "                    ";
+
 #[test]
-fn shows_cells(rt: HostRuntime) -> Result<(), Fail> {
+fn rows_of_a_text(rt: HostRuntime) -> Result<(), Fail> {
     let text = PlainText::of(
         rt.alloc(),
         &['a', '\t', 'b', '\x01', '\x7f', '\u{e9}', '\n', 'c'],
     )?;
     let mut grid = Grid::new(rt.alloc(), 6, 20)?;
-    draws(&rt, &mut grid, &text, 0);
-    shows(&rt, &grid, 0, "                    ", false);
-    shows(&rt, &grid, 1, "a       b^A^?\\u{e9} ", false);
+    assert_eq!(rt; (grid.rows(), grid.cols(), grid.lines().len()), (6, 20, 6));
+    assert_eq!(rt; grid.cursor(), (0, 0));
+    for row in 0..6 {
+        shows(&rt, &grid, row, BLANK, false);
+    }
+    grid.draw_text(1, 2, &text, 0, 0, 0);
+    for (row, expected) in [
+        (0, BLANK),
+        (1, "a       b^A^?\\u{e9} "),
+        (2, "c                   "),
+        (3, BLANK),
+    ] {
+        shows(&rt, &grid, row, expected, false);
+    }
+    assert_eq!(rt; grid.rows(), 6);
+    grid.draw_blank(1, 1);
+    shows(&rt, &grid, 1, BLANK, false);
     shows(&rt, &grid, 2, "c                   ", false);
-    shows(&rt, &grid, 3, "                    ", false);
-    assert!(rt; grid.rows() >= 3);
+    assert_eq!(rt; grid.rows(), 6);
     grid.draw_blank(1, 2);
-    shows(&rt, &grid, 1, "                    ", false);
+    shows(&rt, &grid, 1, BLANK, false);
+    shows(&rt, &grid, 2, BLANK, false);
     Ok(())
 }
 
+// The cursor's column, where the cursor is in the row from 1 on, and the row.
+const SHIFTED: [(usize, usize, &str); 4] = [
+    (0, 1, "abcdefghijklmnopqrs$"),
+    (18, 19, "abcdefghijklmnopqrs$"),
+    (19, 11, "$klmnopqrstuvwxyzab$"),
+    (299, 12, "$defghijklmn        "),
+];
+
 // A line of 300 characters: the alphabet, again and again.
-fn alphabets() -> [char; 300] {
+#[test]
+fn rows_of_a_long_line(rt: HostRuntime) -> Result<(), Fail> {
     let mut chars = ['a'; 300];
     for i in 0..300 {
         chars[i] = (b'a' + (i % 26) as u8) as char;
     }
-    chars
-}
-
-#[test]
-fn shows_part_of_line(rt: HostRuntime) -> Result<(), Fail> {
-    let text = PlainText::of(rt.alloc(), &alphabets())?;
+    let text = PlainText::of(rt.alloc(), &chars)?;
     let mut grid = Grid::new(rt.alloc(), 6, 20)?;
-    for (column, cursor, row) in [
-        (0, 1, "abcdefghijklmnopqrs$"),
-        (18, 19, "abcdefghijklmnopqrs$"),
-        (19, 11, "$klmnopqrstuvwxyzab$"),
-        (299, 12, "$defghijklmn        "),
-    ] {
+    for (column, cursor, row) in SHIFTED {
+        assert!(rt; column < 300 && grid.rows() == 6);
         let shift = shift_for(20, column);
         assert_eq!(rt; column - shift + 1, cursor, "column {column}");
-        draws(&rt, &mut grid, &text, shift);
+        grid.draw_text(1, 2, &text, 0, 0, shift);
         shows(&rt, &grid, 1, row, false);
     }
     Ok(())
 }
 
+const DENIED_BY_1: Decision = Decision::DeniedBy {
+    entry: 1,
+    bit: Right::ReadData,
+};
+
+const UNREAD: Decision = Decision::NotGranted {
+    bit: Right::ReadData,
+};
+
+const NOT_GRANTED: Decision = Decision::NotGranted {
+    bit: Right::WriteData,
+};
+
 #[test]
-fn shows_mode_lines(rt: HostRuntime) -> Result<(), Fail> {
-    let notes = Name::read("notes").expect(&rt, "a name");
+fn mode_lines_and_masks(rt: HostRuntime) -> Result<(), Fail> {
+    let notes = Name::read("notes").ok_or("no name")?;
     let mut grid = Grid::new(rt.alloc(), 6, 20)?;
     grid.draw_mode(4, Some((notes, true)), Some((6, 0)));
     shows(&rt, &grid, 4, "-**-notes-L6-C0-----", true);
-    Ok(())
-}
-
-#[test]
-fn masks_mode_lines(rt: HostRuntime) -> Result<(), Fail> {
-    let mut grid = Grid::new(rt.alloc(), 6, 40)?;
-    grid.draw_mode(4, None, None);
-    shows(
-        &rt,
-        &grid,
-        4,
-        "-??-?-(no read)-------------------------",
-        true,
-    );
-    Ok(())
-}
-
-#[test]
-fn shows_mode_of_no_buffer(rt: HostRuntime) -> Result<(), Fail> {
-    let mut grid = Grid::new(rt.alloc(), 6, 20)?;
     grid.draw_none_mode(4);
     shows(&rt, &grid, 4, "-None---------------", true);
-    Ok(())
-}
-
-#[test]
-fn shows_echo(rt: HostRuntime) -> Result<(), Fail> {
-    let mut grid = Grid::new(rt.alloc(), 6, 20)?;
-    grid.draw_echo(
-        5,
-        &Message::Denied(Decision::NotGranted {
-            bit: Right::WriteData,
-        }),
-    );
-    shows(&rt, &grid, 5, "Denied: no entry gr$", false);
-    Ok(())
-}
-
-// Of a line that leaves no cell behind it the end is shown.
-#[test]
-fn shows_the_line_of_a_search(rt: HostRuntime) -> Result<(), Fail> {
-    let mut grid = Grid::new(rt.alloc(), 6, 20)?;
-    let column = grid.draw_search(5, Direction::Forward, false, &['b', 'B']);
-    assert_eq!(rt; column, 12);
-    shows(&rt, &grid, 5, "I-search: bB        ", false);
-    let column = grid.draw_search(5, Direction::Forward, true, &['x']);
-    assert_eq!(rt; column, 19);
-    shows(&rt, &grid, 5, "Failing I-search: x ", false);
-    let column = grid.draw_search(5, Direction::Backward, false, &['x']);
-    assert_eq!(rt; column, 19);
-    shows(&rt, &grid, 5, "$search backward: x ", false);
-    let column = grid.draw_search(5, Direction::Backward, false, &[]);
-    assert_eq!(rt; column, 19);
-    shows(&rt, &grid, 5, "I-search backward:  ", false);
-    Ok(())
-}
-
-#[test]
-fn shows_echo_of_entry(rt: HostRuntime) -> Result<(), Fail> {
-    let mut grid = Grid::new(rt.alloc(), 6, 20)?;
-    grid.draw_echo(
-        5,
-        &Message::Denied(Decision::DeniedBy {
-            entry: 1,
-            bit: Right::ReadData,
-        }),
-    );
-    shows(&rt, &grid, 5, "Denied: entry 1 den$", false);
-    Ok(())
-}
-
-#[test]
-fn shows_unread(rt: HostRuntime) -> Result<(), Fail> {
-    let mut grid = Grid::new(rt.alloc(), 6, 20)?;
-    grid.draw_unread(
-        1,
-        2,
-        Decision::DeniedBy {
-            entry: 1,
-            bit: Right::ReadData,
-        },
-    );
+    grid.draw_unread(1, 2, DENIED_BY_1);
     shows(&rt, &grid, 1, "[no read: entry 1]  ", false);
-    shows(&rt, &grid, 2, "                    ", false);
+    shows(&rt, &grid, 2, BLANK, false);
+    grid.draw_unread(1, 1, UNREAD);
+    shows(&rt, &grid, 1, "[no read: no entry] ", false);
+    grid.set_cursor(5, 19);
+    assert_eq!(rt; grid.cursor(), (5, 19));
+    let mut grid = Grid::new(rt.alloc(), 6, 40)?;
+    grid.draw_mode(4, None, None);
+    let masked = "-??-?-(no read)-------------------------";
+    shows(&rt, &grid, 4, masked, true);
     Ok(())
 }
 
+// What is asked and typed, the echo row, and the column behind it. 19 cells leave one for the cursor, and of more the end is
+// shown. Nothing is left of the line before.
+const PROMPTS: [(Question, &[u8], &str, usize); 13] = [
+    (Question::SwitchTo, b"", "Switch to buffer:   ", 18),
+    (Question::SwitchTo, b"n", "Switch to buffer: n ", 19),
+    (Question::SwitchTo, b"no", "$itch to buffer: no ", 19),
+    (Question::FindWhich, b"", "Find file:          ", 11),
+    (
+        Question::FindWhich,
+        b"0123456789012345678901234567",
+        "$012345678901234567 ",
+        19,
+    ),
+    (Question::KillWhich, b"", "Kill buffer:        ", 13),
+    (Question::InsertWhich, b"", "Insert buffer:      ", 15),
+    (Question::WhichOwner, b"", "Owner:              ", 7),
+    (Question::WhichOwner, b"ann", "Owner: ann          ", 10),
+    (Question::ReplaceWhat, b"", "Query replace:      ", 15),
+    (Question::ReplaceWith, b"", "With:               ", 6),
+    (Question::SwitchTo, b"notes", "$h to buffer: notes ", 19),
+    (Question::ReplaceWith, b"x", "With: x             ", 7),
+];
+
+// The way of a search, whether it fails, its pattern, the echo row, and the column behind it.
+const SEARCHES: [(Direction, bool, &[char], &str, usize); 4] = [
+    (
+        Direction::Forward,
+        false,
+        &['b', 'B'],
+        "I-search: bB        ",
+        12,
+    ),
+    (Direction::Forward, true, &['x'], "Failing I-search: x ", 19),
+    (
+        Direction::Backward,
+        false,
+        &['x'],
+        "$search backward: x ",
+        19,
+    ),
+    (Direction::Backward, false, &[], "I-search backward:  ", 19),
+];
+
 #[test]
-fn shows_unread_without_entry(rt: HostRuntime) -> Result<(), Fail> {
+fn echo_rows(rt: HostRuntime) -> Result<(), Fail> {
     let mut grid = Grid::new(rt.alloc(), 6, 20)?;
-    grid.draw_unread(
-        1,
-        1,
-        Decision::NotGranted {
-            bit: Right::ReadData,
-        },
-    );
-    shows(&rt, &grid, 1, "[no read: no entry] ", false);
+    for (question, input, expected, column) in PROMPTS {
+        assert!(rt; grid.rows() == 6 && input.len() <= 120);
+        assert_eq!(rt; grid.draw_prompt(5, question, input), column, "{expected}");
+        shows(&rt, &grid, 5, expected, false);
+    }
+    for (direction, failing, pattern, expected, column) in SEARCHES {
+        assert!(rt; grid.rows() == 6 && pattern.len() <= 120);
+        assert_eq!(rt;
+            grid.draw_search(5, direction, failing, pattern),
+            column,
+            "{expected}"
+        );
+        shows(&rt, &grid, 5, expected, false);
+    }
+    assert_eq!(rt; grid.rows(), 6);
+    grid.draw_echo(5, &Message::Denied(NOT_GRANTED));
+    shows(&rt, &grid, 5, "Denied: no entry gr$", false);
+    assert_eq!(rt; grid.rows(), 6);
+    grid.draw_echo(5, &Message::Denied(DENIED_BY_1));
+    shows(&rt, &grid, 5, "Denied: entry 1 den$", false);
     Ok(())
 }

@@ -8,15 +8,13 @@ mod cases;
 #[cfg(test)]
 mod filling;
 #[cfg(test)]
-mod fills;
-#[cfg(test)]
 mod grid;
-#[cfg(test)]
-mod lines;
 #[cfg(test)]
 mod names;
 #[cfg(test)]
 mod paint;
+#[cfg(test)]
+mod people;
 #[cfg(test)]
 mod plans;
 #[cfg(test)]

@@ -10,21 +10,6 @@ use std::alloc::Global;
 use std::process::Abort;
 use std::test::Fail;
 
-#[test]
-fn a_new_grid_is_blank(rt: HostRuntime) -> Result<(), Fail> {
-    let alloc = rt.alloc();
-    let grid = Grid::new(alloc, 6, 20).map_err(|_| "no memory")?;
-    let mut term = Term::new(alloc, 6, 20).map_err(|_| "no memory")?;
-    let mut out = Vec::with_capacity(alloc, bound(6, 20))?;
-    first(&grid, &mut out);
-    assert!(rt; out.len() <= 592);
-    assert_eq!(rt; term.feed_all(&out), Ok(()));
-    assert_eq!(rt; term.cursor(), (1, 1));
-    assert_eq!(rt; term.grid().len(), 120);
-    assert!(rt; term.grid().iter().all(|cell| *cell == Cell::BLANK));
-    Ok(())
-}
-
 // A screen of 6 rows of 20 columns: a line of the buffer `notes` in row 1, its mode line in row 5, and the cursor in row 1
 // at a column from 0.
 fn screen_of(alloc: Global, line: &[char], column: usize) -> Result<Grid, Fail>
@@ -62,94 +47,103 @@ fn paints(
     first(old, &mut before);
     let mut after = Vec::with_capacity(alloc, bound(6, 20))?;
     first(new, &mut after);
-    let mut term = Term::new(alloc, 6, 20).map_err(|_| "no memory")?;
+    let mut term = Term::new(alloc, 6, 20)?;
     assert_eq!(rt; term.feed_all(&before), Ok(()));
     assert_eq!(rt; term.feed_all(&out), Ok(()));
-    let mut fresh = Term::new(alloc, 6, 20).map_err(|_| "no memory")?;
+    let mut fresh = Term::new(alloc, 6, 20)?;
     assert_eq!(rt; fresh.feed_all(&after), Ok(()));
     assert!(rt; term.grid() == fresh.grid());
     assert_eq!(rt; term.cursor(), fresh.cursor());
     Ok(())
 }
 
-// The cursor is where the character goes; of the mode line one digit changes.
-#[test]
-fn a_character_at_the_end_of_a_line(rt: HostRuntime) -> Result<(), Fail> {
-    let old = screen_of(rt.alloc(), &['h'], 1)?;
-    let new = screen_of(rt.alloc(), &['h', 'i'], 2)?;
-    paints(
-        &rt,
-        rt.alloc(),
-        &old,
-        &new,
+// A line and the cursor's column, what becomes of both, and the bytes: of the mode line one digit changes.
+const PAINTED: [(&[char], usize, &[char], usize, &[u8]); 4] = [
+    (
+        &['h'],
+        1,
+        &['h', 'i'],
+        2,
         b"i\x1b[5;15H\x1b[7m2\x1b[m\x1b[1;3H",
-    )
-}
-
-#[test]
-fn a_character_within_a_line(rt: HostRuntime) -> Result<(), Fail> {
-    let old = screen_of(rt.alloc(), &['a', 'c', 'd'], 1)?;
-    let new = screen_of(rt.alloc(), &['a', 'b', 'c', 'd'], 2)?;
-    paints(
-        &rt,
-        rt.alloc(),
-        &old,
-        &new,
+    ),
+    (
+        &['a', 'c', 'd'],
+        1,
+        &['a', 'b', 'c', 'd'],
+        2,
         b"bcd\x1b[5;15H\x1b[7m2\x1b[m\x1b[1;3H",
-    )
-}
+    ),
+    (&['h', 'i'], 2, &['h', 'i'], 2, b""),
+    (
+        &['h', 'a', 'l', 'f'],
+        2,
+        &['h'],
+        2,
+        b"\x1b[1;2H   \x1b[1;3H",
+    ),
+];
 
 #[test]
-fn nothing_changed(rt: HostRuntime) -> Result<(), Fail> {
-    let old = screen_of(rt.alloc(), &['h', 'i'], 2)?;
-    let new = screen_of(rt.alloc(), &['h', 'i'], 2)?;
-    paints(&rt, rt.alloc(), &old, &new, b"")
+fn changes_of_a_line_are_painted(rt: HostRuntime) -> Result<(), Fail> {
+    for (old, from, new, to, bytes) in PAINTED {
+        assert!(rt; old.len() < 20 && from < 20 && new.len() < 20 && to < 20);
+        let old = screen_of(rt.alloc(), old, from)?;
+        let new = screen_of(rt.alloc(), new, to)?;
+        paints(&rt, rt.alloc(), &old, &new, bytes)?;
+    }
+    Ok(())
 }
 
+// The echo row is erased, and then the cursor alone moves.
 #[test]
-fn the_cursor_alone(rt: HostRuntime) -> Result<(), Fail> {
-    let old = screen_of(rt.alloc(), &['h', 'i'], 2)?;
-    let mut new = screen_of(rt.alloc(), &['h', 'i'], 2)?;
-    new.set_cursor(5, 19);
-    paints(&rt, rt.alloc(), &old, &new, b"\x1b[6;20H")
+fn the_echo_row_and_the_cursor_are_painted(rt: HostRuntime) -> Result<(), Fail> {
+    let plain = screen_of(rt.alloc(), &['h', 'i'], 2)?;
+    let mut told = screen_of(rt.alloc(), &['h', 'i'], 2)?;
+    told.draw_echo(5, &Message::KeyNotBound);
+    paints(&rt, rt.alloc(), &told, &plain, b"\x1b[6;1H\x1b[K\x1b[1;3H")?;
+    let mut moved = screen_of(rt.alloc(), &['h', 'i'], 2)?;
+    moved.set_cursor(5, 19);
+    paints(&rt, rt.alloc(), &plain, &moved, b"\x1b[6;20H")
 }
 
+// The first row is reversed alone, and no longer.
 #[test]
-fn the_end_of_a_row_is_erased(rt: HostRuntime) -> Result<(), Fail> {
-    let mut old = screen_of(rt.alloc(), &['h', 'i'], 2)?;
-    old.draw_echo(5, &Message::KeyNotBound);
-    let new = screen_of(rt.alloc(), &['h', 'i'], 2)?;
-    paints(&rt, rt.alloc(), &old, &new, b"\x1b[6;1H\x1b[K\x1b[1;3H")
-}
-
-#[test]
-fn three_blanks_are_written(rt: HostRuntime) -> Result<(), Fail> {
-    let old = screen_of(rt.alloc(), &['h', 'a', 'l', 'f'], 2)?;
-    let new = screen_of(rt.alloc(), &['h'], 2)?;
-    paints(&rt, rt.alloc(), &old, &new, b"\x1b[1;2H   \x1b[1;3H")
-}
-
-#[test]
-fn the_reverse_of_a_row_alone(rt: HostRuntime) -> Result<(), Fail> {
-    let mode: [char; 20] = [
+fn the_reverse_of_a_row_is_painted(rt: HostRuntime) -> Result<(), Fail> {
+    let mode = [
         '-', 'N', 'o', 'n', 'e', '-', '-', '-', '-', '-', '-', '-', '-', '-', '-', '-', '-', '-',
         '-', '-',
     ];
-    let old = screen_of(rt.alloc(), &mode, 0)?;
-    let mut new = screen_of(rt.alloc(), &mode, 0)?;
-    new.draw_none_mode(0);
+    let plain = screen_of(rt.alloc(), &mode, 0)?;
+    let mut reversed = screen_of(rt.alloc(), &mode, 0)?;
+    reversed.draw_none_mode(0);
     paints(
         &rt,
         rt.alloc(),
-        &old,
-        &new,
+        &plain,
+        &reversed,
         b"\x1b[7m-None---------------\x1b[m\x1b[1;1H",
     )?;
     paints(
         &rt,
         rt.alloc(),
-        &new,
-        &old,
+        &reversed,
+        &plain,
         b"-None---------------\x1b[1;1H",
     )
+}
+
+#[test]
+fn a_new_grid_is_blank(rt: HostRuntime) -> Result<(), Fail> {
+    let grid = Grid::new(rt.alloc(), 6, 20)?;
+    let mut term = Term::new(rt.alloc(), 6, 20)?;
+    let mut out = Vec::with_capacity(rt.alloc(), bound(6, 20))?;
+    first(&grid, &mut out);
+    assert!(rt; out.len() <= 592);
+    assert_eq!(rt; term.feed_all(&out), Ok(()));
+    assert_eq!(rt; term.cursor(), (1, 1));
+    assert_eq!(rt; term.grid().len(), 120);
+    for cell in term.grid() {
+        assert!(rt; *cell == Cell::BLANK);
+    }
+    Ok(())
 }

@@ -1,5 +1,5 @@
 // Plans of commands over small texts.
-ghost use Rattle.std.specs.Prelude.{◌≡◌, ◌≤◌, length, None};
+ghost use Rattle.std.specs.Prelude.{◌≡◌, None};
 
 use mgs_edit::{
     Around, Change, Finish, Goes, Joins, Piece, Put, alteration, insertion, motion,
@@ -12,67 +12,36 @@ use mgs_text::{PlainText, Text};
 use std::process::Abort;
 use std::test::Fail;
 
-// At a place of a window with four rows, after no kill and without a mark.
-fn at(place: usize) -> Around
+// At a place of a window with four rows, with a fill column of 4, after a command of that kind and without a mark.
+pub(crate) fn after(kind: Kind, place: usize, argument: Option<usize>) -> Around
     ensures place { result.place ≡ place }
     ensures mark { result.mark ≡ None }
 {
     Around {
         place,
         mark: None,
-        argument: None,
+        argument,
         killed: 0,
-        kind: Kind::Other,
+        kind,
         height: 4,
-        fill: 72,
+        fill: 4,
     }
 }
 
-fn with_argument(place: usize, argument: usize) -> Around
+pub(crate) fn at(place: usize, argument: Option<usize>) -> Around
     ensures place { result.place ≡ place }
     ensures mark { result.mark ≡ None }
 {
-    Around {
-        argument: Some(argument),
-        ..at(place)
-    }
+    after(Kind::Other, place, argument)
 }
 
-fn after(place: usize, kind: Kind) -> Around
-    ensures place { result.place ≡ place }
-    ensures mark { result.mark ≡ None }
-{
-    Around { kind, ..at(place) }
-}
-
-// Where the point goes, or what is told.
-fn point(planned: Result<Finish, Message>) -> Result<Goes, Message> {
+// What is taken out, what comes in and where the point goes, or what is told.
+pub(crate) fn shown(
+    planned: Result<Change, Message>,
+) -> Result<(usize, usize, Put, Goes), Message> {
     match planned {
-        Ok(finish) => Ok(finish.point),
+        Ok(change) => Ok((change.from, change.to, change.put, change.finish.point)),
         Err(message) => Err(message),
-    }
-}
-
-// The same of an edit.
-fn landed(planned: Result<Change, Message>) -> Result<Goes, Message> {
-    match planned {
-        Ok(change) => Ok(change.finish.point),
-        Err(message) => Err(message),
-    }
-}
-
-// What is taken out, or what is told.
-fn taken(planned: Result<Change, Message>) -> Result<(usize, usize), Message> {
-    match planned {
-        Ok(change) => Ok((change.from, change.to)),
-        Err(message) => Err(message),
-    }
-}
-
-fn put(planned: Result<Change, Message>) -> Option<Put> {
-    match planned {
-        Ok(change) => Some(change.put),
-        Err(_) => None,
     }
 }
 
@@ -83,43 +52,47 @@ fn joined(planned: Result<Change, Message>) -> Option<Piece> {
     }
 }
 
-fn told(planned: Result<Finish, Message>) -> Message {
+// Where the point goes, or what is told.
+fn point(planned: Result<Finish, Message>) -> Result<Goes, Message> {
     match planned {
-        Ok(finish) => finish.told,
-        Err(message) => message,
+        Ok(finish) => Ok(finish.point),
+        Err(message) => Err(message),
     }
 }
 
-fn kill_line(text: &PlainText, around: &Around) -> Result<Change, Message>
-    requires place { around.now.place ≤ length text.now }
-    requires mark { around.now.mark ≡ None }
-{
-    alteration(text, around, Alteration::KillLine)
-}
+// In `ab` and `cd`, in two lines: from a place with an argument, what a kill takes out.
+const KILLS: [(usize, Option<usize>, Option<(usize, usize)>); 6] = [
+    (0, None, Some((0, 2))),
+    (2, None, Some((2, 3))),
+    (0, Some(1), Some((0, 3))),
+    (0, Some(9999), Some((0, 5))),
+    (5, Some(0), Some((3, 5))),
+    (5, None, None),
+];
 
-// `ab` and `cd`, in two lines.
 #[test]
-fn kills_lines(rt: HostRuntime) -> Result<(), Fail> {
+fn lines_are_killed(rt: HostRuntime) -> Result<(), Fail> {
     let text = PlainText::of(rt.alloc(), &['a', 'b', '\n', 'c', 'd'])?;
     assert_eq!(rt; text.len(), 5);
-    assert_eq!(rt; taken(kill_line(&text, &at(0))), Ok((0, 2)));
-    assert_eq!(rt; taken(kill_line(&text, &at(2))), Ok((2, 3)));
-    assert_eq!(rt; taken(kill_line(&text, &with_argument(0, 1))), Ok((0, 3)));
-    assert_eq!(rt;
-        taken(kill_line(&text, &with_argument(0, 9999))),
-        Ok((0, 5))
-    );
-    assert_eq!(rt; taken(kill_line(&text, &with_argument(5, 0))), Ok((3, 5)));
-    assert_eq!(rt; taken(kill_line(&text, &at(5))), Err(Message::EndOfBuffer));
+    for (place, argument, killed) in KILLS {
+        assert!(rt; place <= 5);
+        match alteration(&text, &at(place, argument), Alteration::KillLine) {
+            Ok(change) => assert_eq!(rt; Some((change.from, change.to)), killed),
+            Err(message) => {
+                assert_eq!(rt; message, Message::EndOfBuffer);
+                assert_eq!(rt; killed, None);
+            }
+        }
+    }
     Ok(())
 }
 
 // A kill goes behind the one before, one back goes in front of it, and after another command it begins anew.
 #[test]
-fn joins_kills(rt: HostRuntime) -> Result<(), Fail> {
+fn kills_are_joined(rt: HostRuntime) -> Result<(), Fail> {
     let text = PlainText::of(rt.alloc(), &['a', 'b'])?;
     assert_eq!(rt; text.len(), 2);
-    let word = alteration(&text, &after(1, Kind::Kill), Alteration::KillWord);
+    let word = alteration(&text, &after(Kind::Kill, 1, None), Alteration::KillWord);
     assert_eq!(rt;
         joined(word),
         Some(Piece {
@@ -128,62 +101,41 @@ fn joins_kills(rt: HostRuntime) -> Result<(), Fail> {
             joins: Joins::Behind
         })
     );
-    let word = alteration(&text, &after(1, Kind::Kill), Alteration::BackwardKillWord);
-    assert_eq!(rt;
-        joined(word),
-        Some(Piece {
-            from: 0,
-            to: 1,
-            joins: Joins::InFront
-        })
-    );
-    let word = alteration(&text, &at(1), Alteration::BackwardKillWord);
-    assert_eq!(rt;
-        joined(word),
-        Some(Piece {
-            from: 0,
-            to: 1,
-            joins: Joins::New
-        })
-    );
+    for (kind, joins) in [(Kind::Kill, Joins::InFront), (Kind::Other, Joins::New)] {
+        let around = after(kind, 1, None);
+        let word = alteration(&text, &around, Alteration::BackwardKillWord);
+        assert_eq!(rt;
+            joined(word),
+            Some(Piece {
+                from: 0,
+                to: 1,
+                joins
+            })
+        );
+    }
     Ok(())
 }
 
-// `abc`, an empty line and `abcd`.
+const GOAL_3: Kind = Kind::Line { goal: 3 };
+
+// In `abc`, an empty line and `abcd`: after a command, from a place with an argument, where a line down is.
+const DOWN: [(Kind, usize, Option<usize>, Result<Goes, Message>); 5] = [
+    (Kind::Other, 3, None, Ok(Goes::To(4))),
+    (GOAL_3, 4, None, Ok(Goes::To(8))),
+    (Kind::Other, 4, None, Ok(Goes::To(5))),
+    (Kind::Other, 9, None, Err(Message::EndOfBuffer)),
+    (Kind::Other, 9, Some(0), Ok(Goes::To(9))),
+];
+
 #[test]
-fn keeps_the_goal_column(rt: HostRuntime) -> Result<(), Fail> {
+fn motions_are_planned(rt: HostRuntime) -> Result<(), Fail> {
     let text = PlainText::of(rt.alloc(), &['a', 'b', 'c', '\n', '\n', 'a', 'b', 'c', 'd'])?;
     assert_eq!(rt; text.len(), 9);
-    let down = motion(&text, &at(3), Motion::NextLine);
-    assert_eq!(rt; point(down), Ok(Goes::To(4)));
-    let down = motion(&text, &after(4, Kind::Line { goal: 3 }), Motion::NextLine);
-    assert_eq!(rt; point(down), Ok(Goes::To(8)));
-    let down = motion(&text, &at(4), Motion::NextLine);
-    assert_eq!(rt; point(down), Ok(Goes::To(5)));
-    assert_eq!(rt;
-        point(motion(&text, &at(9), Motion::NextLine)),
-        Err(Message::EndOfBuffer)
-    );
-    let stays = motion(&text, &with_argument(9, 0), Motion::NextLine);
-    assert_eq!(rt; point(stays), Ok(Goes::To(9)));
-    Ok(())
-}
-
-#[test]
-fn exchanges_characters(rt: HostRuntime) -> Result<(), Fail> {
-    let text = PlainText::of(rt.alloc(), &['a', 'b', 'c', '\n'])?;
-    assert_eq!(rt; text.len(), 4);
-    let last = alteration(&text, &at(3), Alteration::TransposeChars);
-    assert_eq!(rt; put(last), Some(Put::Exchanged { at: 2 }));
-    let last = alteration(&text, &at(3), Alteration::TransposeChars);
-    assert_eq!(rt; landed(last), Ok(Goes::To(3)));
-    let first = alteration(&text, &at(0), Alteration::TransposeChars);
-    assert_eq!(rt; taken(first), Err(Message::BeginningOfBuffer));
-    Ok(())
-}
-
-#[test]
-fn tells_the_position(rt: HostRuntime) -> Result<(), Fail> {
+    for (kind, place, argument, wanted) in DOWN {
+        assert!(rt; place <= 9);
+        let down = motion(&text, &after(kind, place, argument), Motion::NextLine);
+        assert_eq!(rt; point(down), wanted, "from {place}");
+    }
     let text = PlainText::of(rt.alloc(), &['h', 'i'])?;
     assert_eq!(rt; text.len(), 2);
     let here = CursorPosition {
@@ -192,22 +144,39 @@ fn tells_the_position(rt: HostRuntime) -> Result<(), Fail> {
         line: 1,
         column: 0,
     };
-    let position = motion(&text, &at(0), Motion::WhatCursorPosition);
-    assert_eq!(rt; told(position), Message::CharacterAt('h', here));
+    match motion(&text, &at(0, None), Motion::WhatCursorPosition) {
+        Ok(finish) => assert_eq!(rt; finish.told, Message::CharacterAt('h', here)),
+        Err(_) => panic!(rt; "refused"),
+    }
     Ok(())
 }
 
 #[test]
-fn puts_in(rt: HostRuntime) -> Result<(), Fail> {
-    assert_eq!(rt;
-        taken(insertion(3, &at(1), Insertion::Yank)),
-        Err(Message::NothingToYank)
-    );
-    let opened = insertion(3, &at(1), Insertion::OpenLine);
-    assert_eq!(rt; landed(opened), Ok(Goes::To(1)));
+fn scrolls_are_planned(rt: HostRuntime) -> Result<(), Fail> {
+    let text = PlainText::of(rt.alloc(), &['\n', '\n', '\n', '\n'])?;
+    assert_eq!(rt; text.len(), 4);
+    let up = scroll(&text, &at(0, None), Scrolling::ScrollUp);
+    assert_eq!(rt; point(up), Ok(Goes::To(2)));
+    let down = scroll(&text, &at(4, Some(1)), Scrolling::ScrollDown);
+    assert_eq!(rt; point(down), Ok(Goes::To(3)));
+    let up = scroll(&text, &at(4, None), Scrolling::ScrollUp);
+    assert_eq!(rt; point(up), Err(Message::EndOfBuffer));
+    assert_eq!(rt; scrolled_row(510, 4, Scrolling::ScrollUp), 512);
+    assert_eq!(rt; scrolled_row(3, 4, Scrolling::ScrollDown), 0);
+    Ok(())
+}
+
+#[test]
+fn insertions_and_exchanges_are_planned(rt: HostRuntime) -> Result<(), Fail> {
+    let yanked = insertion(3, &at(1, None), Insertion::Yank);
+    assert_eq!(rt; shown(yanked), Err(Message::NothingToYank));
+    match insertion(3, &at(1, None), Insertion::OpenLine) {
+        Ok(change) => assert_eq!(rt; change.finish.point, Goes::To(1)),
+        Err(_) => panic!(rt; "refused"),
+    }
     let text = PlainText::of(rt.alloc(), &[' ', '\t', 'a'])?;
     assert_eq!(rt; text.len(), 3);
-    let indented = reading_insertion(&text, &at(3), ReadingInsertion::NewlineAndIndent);
+    let indented = reading_insertion(&text, &at(3, None), ReadingInsertion::NewlineAndIndent);
     assert_eq!(rt;
         indented.put,
         Put::Indented {
@@ -216,26 +185,16 @@ fn puts_in(rt: HostRuntime) -> Result<(), Fail> {
             to: 2
         }
     );
-    Ok(())
-}
-
-#[test]
-fn scrolls(rt: HostRuntime) -> Result<(), Fail> {
-    let text = PlainText::of(rt.alloc(), &['\n', '\n', '\n', '\n'])?;
+    let text = PlainText::of(rt.alloc(), &['a', 'b', 'c', '\n'])?;
     assert_eq!(rt; text.len(), 4);
-    assert_eq!(rt;
-        point(scroll(&text, &at(0), Scrolling::ScrollUp)),
-        Ok(Goes::To(2))
-    );
-    assert_eq!(rt;
-        point(scroll(&text, &with_argument(4, 1), Scrolling::ScrollDown)),
-        Ok(Goes::To(3))
-    );
-    assert_eq!(rt;
-        point(scroll(&text, &at(4), Scrolling::ScrollUp)),
-        Err(Message::EndOfBuffer)
-    );
-    assert_eq!(rt; scrolled_row(510, 4, Scrolling::ScrollUp), 512);
-    assert_eq!(rt; scrolled_row(3, 4, Scrolling::ScrollDown), 0);
+    match alteration(&text, &at(3, None), Alteration::TransposeChars) {
+        Ok(change) => {
+            assert_eq!(rt; change.put, Put::Exchanged { at: 2 });
+            assert_eq!(rt; change.finish.point, Goes::To(3));
+        }
+        Err(_) => panic!(rt; "refused"),
+    }
+    let first = alteration(&text, &at(0, None), Alteration::TransposeChars);
+    assert_eq!(rt; shown(first), Err(Message::BeginningOfBuffer));
     Ok(())
 }

@@ -1,25 +1,18 @@
 // An edit of a buffer is taken back by the plan of its undo.
+use crate::people::named;
 use mgs_acl::List;
 use mgs_buffers::Buffers;
 use mgs_edit::{Goes, is_undo_an_edit, is_undo_too_long, undo, undo_target};
-use mgs_marks::{Marked, PlainMarked};
+use mgs_marks::PlainMarked;
 use mgs_model::{Kind, Name};
 use mgs_text::Text;
-use std::alloc::Global;
 use std::process::Abort;
 use std::test::Fail;
 
-fn named(rt: &impl Abort, text: &str) -> Name {
-    match Name::read(text) {
-        Some(name) => name,
-        None => panic!(rt; "no name"),
-    }
-}
-
 // Takes back the last edit of a buffer after a command of that kind. The kind that is left.
-fn take_back<T: Marked + Drop>(
+fn take_back(
     rt: &impl Abort,
-    all: &mut Buffers<T>,
+    all: &mut Buffers<PlainMarked>,
     name: &Name,
     kind: Kind,
 ) -> Result<Kind, Fail> {
@@ -43,9 +36,10 @@ fn take_back<T: Marked + Drop>(
     Ok(undone.finish.kind)
 }
 
-fn go_back<T: Marked + Drop>(alloc: Global, rt: &impl Abort) -> Result<(), Fail> {
-    let mut all = Buffers::<T>::new(alloc);
-    let name = named(rt, "notes");
+#[test]
+fn two_undos_in_a_row(rt: HostRuntime) -> Result<(), Fail> {
+    let mut all = Buffers::<PlainMarked>::new(rt.alloc());
+    let name = named(&rt, "notes");
     assert_eq!(rt;
         all.add("notes", "ann", List::new(), &['a', 'b', 'c'], false),
         Ok(())
@@ -60,7 +54,7 @@ fn go_back<T: Marked + Drop>(alloc: Global, rt: &impl Abort) -> Result<(), Fail>
     all.unmodify(&name);
     assert!(rt; all.has(&name));
     assert!(rt; !all.is_modified(&name));
-    let first = take_back(rt, &mut all, &name, Kind::Other)?;
+    let first = take_back(&rt, &mut all, &name, Kind::Other)?;
     assert_eq!(rt;
         first,
         Kind::Undo {
@@ -69,7 +63,7 @@ fn go_back<T: Marked + Drop>(alloc: Global, rt: &impl Abort) -> Result<(), Fail>
             last: 3
         }
     );
-    let second = take_back(rt, &mut all, &name, first)?;
+    let second = take_back(&rt, &mut all, &name, first)?;
     assert_eq!(rt;
         second,
         Kind::Undo {
@@ -84,9 +78,4 @@ fn go_back<T: Marked + Drop>(alloc: Global, rt: &impl Abort) -> Result<(), Fail>
     assert!(rt; all.text(&name).copy(0, 3)?.as_slice() == ['a', 'b', 'c'].as_slice());
     assert!(rt; all.item(&name, 0).is_none());
     Ok(())
-}
-
-#[test]
-fn two_undos_in_a_row(rt: HostRuntime) -> Result<(), Fail> {
-    go_back::<PlainMarked>(rt.alloc(), &rt)
 }

@@ -1,35 +1,12 @@
 // Commands on white space and blank lines, as plans over small texts.
-ghost use Rattle.std.specs.Prelude.{◌≡◌, ◌≤◌, length, None};
-
-use mgs_edit::{Around, Change, Goes, Put, alteration};
-use mgs_model::{Alteration, Kind, Message};
+use crate::plans::{at, shown};
+use mgs_edit::{Goes, Put, alteration};
+use mgs_model::{Alteration, Message};
 use mgs_text::{PlainText, Text};
+use std::process::Abort;
 use std::test::Fail;
 
-fn at(place: usize) -> Around
-    ensures place { result.place ≡ place }
-    ensures mark { result.mark ≡ None }
-{
-    Around {
-        place,
-        mark: None,
-        argument: None,
-        killed: 0,
-        kind: Kind::Other,
-        height: 4,
-        fill: 72,
-    }
-}
-
 const SPACE: Put = Put::Character { put: ' ', times: 1 };
-
-// What is taken out, what comes in and where the point goes, or what is told.
-fn shown(planned: Result<Change, Message>) -> Result<(usize, usize, Put, Goes), Message> {
-    match planned {
-        Ok(change) => Ok((change.from, change.to, change.put, change.finish.point)),
-        Err(message) => Err(message),
-    }
-}
 
 // `a`, a space, a tab, a space and `b`; with no white one space comes in.
 #[test]
@@ -37,15 +14,15 @@ fn takes_out_white(rt: HostRuntime) -> Result<(), Fail> {
     let text = PlainText::of(rt.alloc(), &['a', ' ', '\t', ' ', 'b', 'c'])?;
     assert_eq!(rt; text.len(), 6);
     assert_eq!(rt;
-        shown(alteration(&text, &at(2), Alteration::JustOneSpace)),
+        shown(alteration(&text, &at(2, None), Alteration::JustOneSpace)),
         Ok((1, 4, SPACE, Goes::Behind))
     );
     assert_eq!(rt;
-        shown(alteration(&text, &at(5), Alteration::JustOneSpace)),
+        shown(alteration(&text, &at(5, None), Alteration::JustOneSpace)),
         Ok((5, 5, SPACE, Goes::Behind))
     );
     assert_eq!(rt;
-        shown(alteration(&text, &at(4), Alteration::DeleteHorizontalSpace)),
+        shown(alteration(&text, &at(4, None), Alteration::DeleteHorizontalSpace)),
         Ok((1, 4, Put::Nothing, Goes::To(1)))
     );
     Ok(())
@@ -56,18 +33,16 @@ fn takes_out_white(rt: HostRuntime) -> Result<(), Fail> {
 fn takes_out_blank_lines(rt: HostRuntime) -> Result<(), Fail> {
     let text = PlainText::of(rt.alloc(), &['a', '\n', ' ', '\n', '\n', 'b'])?;
     assert_eq!(rt; text.len(), 6);
-    assert_eq!(rt;
-        shown(alteration(&text, &at(0), Alteration::DeleteBlankLines)),
-        Ok((1, 4, Put::Nothing, Goes::Stays))
-    );
-    assert_eq!(rt;
-        shown(alteration(&text, &at(3), Alteration::DeleteBlankLines)),
-        Ok((2, 4, Put::Nothing, Goes::To(2)))
-    );
-    assert_eq!(rt;
-        shown(alteration(&text, &at(5), Alteration::DeleteBlankLines)),
-        Ok((6, 6, Put::Nothing, Goes::Stays))
-    );
+    for (place, from, to, goes) in [
+        (0, 1, 4, Goes::Stays),
+        (3, 2, 4, Goes::To(2)),
+        (5, 6, 6, Goes::Stays),
+    ] {
+        assert_eq!(rt;
+            shown(alteration(&text, &at(place, None), Alteration::DeleteBlankLines)),
+            Ok((from, to, Put::Nothing, goes))
+        );
+    }
     Ok(())
 }
 
@@ -77,11 +52,11 @@ fn joins_lines(rt: HostRuntime) -> Result<(), Fail> {
     let text = PlainText::of(rt.alloc(), &['a', ' ', '\n', ' ', ' ', 'b'])?;
     assert_eq!(rt; text.len(), 6);
     assert_eq!(rt;
-        shown(alteration(&text, &at(6), Alteration::JoinLine)),
+        shown(alteration(&text, &at(6, None), Alteration::JoinLine)),
         Ok((1, 5, SPACE, Goes::To(1)))
     );
     assert_eq!(rt;
-        shown(alteration(&text, &at(2), Alteration::JoinLine)),
+        shown(alteration(&text, &at(2, None), Alteration::JoinLine)),
         Err(Message::BeginningOfBuffer)
     );
     Ok(())

@@ -1,142 +1,83 @@
-// Decisions on all rights of a mask.
-use mgs_acl::{Entry, List, read_entry};
-use mgs_model::{Decision, Mask, Name, Right};
-use mgs_policy::{Directory, decide};
+// Decisions on all rights of a mask, and on one right.
+use crate::people::{list_of, named, staff};
+use mgs_model::{Decision, Mask, Right};
+use mgs_policy::{Directory, decide, decide_right, is_granted};
 use std::process::Abort;
 
-fn named(rt: &impl Abort, text: &str) -> Name {
-    match Name::read(text) {
-        Some(name) => name,
-        None => panic!(rt; "no name"),
+const NO_READING: Decision = Decision::NotGranted {
+    bit: Right::ReadData,
+};
+
+const NO_WRITING: Decision = Decision::NotGranted {
+    bit: Right::WriteData,
+};
+
+const DENIED_BY_2: Decision = Decision::DeniedBy {
+    entry: 2,
+    bit: Right::WriteData,
+};
+
+// The bits that are asked for: 1 to read, 2 to write, 4 to append (RFC 8881, section 6.2.1.3.1).
+#[test]
+fn lists_decide(rt: HostRuntime) {
+    let directory = Directory::new(rt.alloc());
+    let (ann, bob, cat) = (named(&rt, "ann"), named(&rt, "bob"), named(&rt, "cat"));
+    let list = list_of(&rt, "ALLOW ann r\nDENY ann rw\nALLOW EVERYONE@ w");
+    for (user, bits, decision) in [
+        (ann, 0x3, DENIED_BY_2),
+        (bob, 0x3, NO_READING),
+        (ann, 0x1, Decision::Granted),
+        (bob, 0x1, NO_READING),
+        (ann, 0x2, DENIED_BY_2),
+        (bob, 0x2, Decision::Granted),
+        (bob, 0x0, Decision::Granted),
+    ] {
+        let mask = Mask::from_bits(bits);
+        assert_eq!(rt; decide(&list, &cat, &user, &directory, mask), decision);
+    }
+    for (entries, bit) in [
+        ("DENY ann w\nDENY ann r", Right::WriteData),
+        ("DENY ann wr", Right::ReadData),
+    ] {
+        let list = list_of(&rt, entries);
+        assert_eq!(rt;
+            decide(&list, &cat, &ann, &directory, Mask::from_bits(0x3)),
+            Decision::DeniedBy { entry: 1, bit }
+        );
+    }
+    let directory = staff(&rt, rt.alloc());
+    let list = list_of(&rt, "ALLOW OWNER@ rwa\nDENY group:staff w");
+    for (user, bits, decision) in [
+        (ann, 0x7, Decision::Granted),
+        (bob, 0x2, DENIED_BY_2),
+        (bob, 0x1, NO_READING),
+        (cat, 0x2, NO_WRITING),
+    ] {
+        let mask = Mask::from_bits(bits);
+        assert_eq!(rt; decide(&list, &ann, &user, &directory, mask), decision);
     }
 }
 
-fn put(rt: &impl Abort, list: &mut List, text: &str) {
-    match read_entry(text) {
-        Ok(entry) => assert_eq!(rt; list.insert(list.len(), entry), Ok(())),
-        Err(_) => panic!(rt; "no entry"),
-    }
-}
-
 #[test]
-fn decides_by_the_first_entry(rt: HostRuntime) {
+fn lists_decide_on_one_right(rt: HostRuntime) {
     let directory = Directory::new(rt.alloc());
     let (ann, bob, cat) = (named(&rt, "ann"), named(&rt, "bob"), named(&rt, "cat"));
-    let mut list = List::new();
-    put(&rt, &mut list, "ALLOW ann r");
-    put(&rt, &mut list, "DENY ann rw");
-    put(&rt, &mut list, "ALLOW EVERYONE@ w");
-    let read = Mask::from_bits(0x1);
-    let both = Mask::from_bits(0x3);
+    let list = list_of(&rt, "ALLOW ann r\nDENY ann rw\nALLOW EVERYONE@ w");
+    assert!(rt; is_granted(&list, &cat, &bob, &directory, Right::WriteData));
+    assert!(rt; !is_granted(&list, &cat, &bob, &directory, Right::ReadData));
+    let list = list_of(&rt, "DENY ann w\nDENY ann r");
     assert_eq!(rt;
-        decide(&list, &cat, &ann, &directory, both),
-        Decision::DeniedBy {
-            entry: 2,
-            bit: Right::WriteData
-        }
-    );
-    assert_eq!(rt;
-        decide(&list, &cat, &bob, &directory, both),
-        Decision::NotGranted {
-            bit: Right::ReadData
-        }
-    );
-    assert_eq!(rt;
-        decide(&list, &cat, &ann, &directory, read),
-        Decision::Granted
-    );
-    assert_eq!(rt;
-        decide(&list, &cat, &bob, &directory, read),
-        Decision::NotGranted {
-            bit: Right::ReadData
-        }
-    );
-}
-
-#[test]
-fn decides_on_one_right_and_on_none(rt: HostRuntime) {
-    let directory = Directory::new(rt.alloc());
-    let (ann, bob, cat) = (named(&rt, "ann"), named(&rt, "bob"), named(&rt, "cat"));
-    let mut list = List::new();
-    put(&rt, &mut list, "ALLOW ann r");
-    put(&rt, &mut list, "DENY ann rw");
-    put(&rt, &mut list, "ALLOW EVERYONE@ w");
-    let write = Mask::from_bits(0x2);
-    assert_eq!(rt;
-        decide(&list, &cat, &ann, &directory, write),
-        Decision::DeniedBy {
-            entry: 2,
-            bit: Right::WriteData
-        }
-    );
-    assert_eq!(rt;
-        decide(&list, &cat, &bob, &directory, write),
-        Decision::Granted
-    );
-    assert_eq!(rt;
-        decide(&list, &cat, &bob, &directory, Mask::none()),
-        Decision::Granted
-    );
-}
-
-#[test]
-fn names_the_least_denier_and_its_lowest_right(rt: HostRuntime) {
-    let directory = Directory::new(rt.alloc());
-    let (ann, cat) = (named(&rt, "ann"), named(&rt, "cat"));
-    let both = Mask::from_bits(0x3);
-    let mut apart = List::new();
-    put(&rt, &mut apart, "DENY ann w");
-    put(&rt, &mut apart, "DENY ann r");
-    assert_eq!(rt;
-        decide(&apart, &cat, &ann, &directory, both),
+        decide_right(&list, &cat, &ann, &directory, Right::WriteData),
         Decision::DeniedBy {
             entry: 1,
             bit: Right::WriteData
         }
     );
-    let mut together = List::new();
-    put(&rt, &mut together, "DENY ann wr");
-    assert_eq!(rt;
-        decide(&together, &cat, &ann, &directory, both),
-        Decision::DeniedBy {
-            entry: 1,
-            bit: Right::ReadData
-        }
-    );
-}
-
-#[test]
-fn knows_groups(rt: HostRuntime) {
-    let mut directory = Directory::new(rt.alloc());
-    let (ann, bob, cat) = (named(&rt, "ann"), named(&rt, "bob"), named(&rt, "cat"));
-    for name in ["ann", "bob", "cat"] {
-        assert_eq!(rt; directory.add_user(name), Ok(()));
+    let list = list_of(&rt, "ALLOW OWNER@ r");
+    for (user, decision) in [(ann, Decision::Granted), (bob, NO_READING)] {
+        assert_eq!(rt;
+            decide_right(&list, &ann, &user, &directory, Right::ReadData),
+            decision
+        );
     }
-    assert_eq!(rt; directory.add_group("staff", &["ann", "bob"]), Ok(()));
-    let mut list = List::new();
-    put(&rt, &mut list, "ALLOW OWNER@ rwa");
-    put(&rt, &mut list, "DENY group:staff w");
-    assert_eq!(rt;
-        decide(&list, &ann, &ann, &directory, Mask::from_bits(0x7)),
-        Decision::Granted
-    );
-    assert_eq!(rt;
-        decide(&list, &ann, &bob, &directory, Mask::from_bits(0x2)),
-        Decision::DeniedBy {
-            entry: 2,
-            bit: Right::WriteData
-        }
-    );
-    assert_eq!(rt;
-        decide(&list, &ann, &bob, &directory, Mask::from_bits(0x1)),
-        Decision::NotGranted {
-            bit: Right::ReadData
-        }
-    );
-    assert_eq!(rt;
-        decide(&list, &ann, &cat, &directory, Mask::from_bits(0x2)),
-        Decision::NotGranted {
-            bit: Right::WriteData
-        }
-    );
 }

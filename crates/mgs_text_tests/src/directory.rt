@@ -1,83 +1,17 @@
-// Users and groups of a directory.
-use mgs_model::Name;
+// Users and groups of a directory, up to 256 and 64.
+use crate::people::named;
 use mgs_policy::{Directory, DirectoryFault};
 use std::process::Abort;
 use std::test::Fail;
 
-fn named(rt: &impl Abort, text: &str) -> Name {
-    match Name::read(text) {
-        Some(name) => name,
-        None => panic!(rt; "no name"),
-    }
-}
-
 #[test]
-fn knows_members(rt: HostRuntime) {
-    let mut directory = Directory::new(rt.alloc());
-    let (ann, bob, cat) = (named(&rt, "ann"), named(&rt, "bob"), named(&rt, "cat"));
-    let (staff, guests) = (named(&rt, "staff"), named(&rt, "guests"));
-    for name in ["ann", "bob", "cat"] {
-        assert_eq!(rt; directory.add_user(name), Ok(()));
-    }
-    assert!(rt; !directory.has_group(&staff));
-    assert_eq!(rt; directory.add_group("staff", &["ann", "bob"]), Ok(()));
-    assert!(rt; directory.has_group(&staff));
-    assert!(rt; !directory.has_group(&ann));
-    assert!(rt; directory.is_member(&staff, &bob));
-    assert!(rt; !directory.is_member(&staff, &cat));
-    assert!(rt; !directory.is_member(&guests, &bob));
-}
-
-#[test]
-fn adds_groups(rt: HostRuntime) -> Result<(), Fail> {
-    let mut directory = Directory::new(rt.alloc());
-    assert_eq!(rt; directory.add_user("ann"), Ok(()));
-    assert_eq!(rt;
-        directory.add_group("Staff", &["eve"]),
-        Err(DirectoryFault::Name)
-    );
-    assert_eq!(rt;
-        directory.add_group("staff", &["ann", "eve"]),
-        Err(DirectoryFault::Unknown)
-    );
-    assert_eq!(rt;
-        directory.add_group("staff", &["ann", "Ann"]),
-        Err(DirectoryFault::Unknown)
-    );
-    assert_eq!(rt; directory.add_group("staff", &["ann", "ann"]), Ok(()));
-    assert_eq!(rt;
-        directory.add_group("staff", &["eve"]),
-        Err(DirectoryFault::Twice)
-    );
-    assert_eq!(rt; directory.add_group("ann", &[]), Ok(()));
-    for i in 2..64u16 {
-        let name = format!(in rt.alloc(); "g{i}")?;
-        assert_eq!(rt; directory.add_group(name.as_str(), &["ann"]), Ok(()));
-    }
-    assert_eq!(rt;
-        directory.add_group("staff", &["ann"]),
-        Err(DirectoryFault::Twice)
-    );
-    assert_eq!(rt;
-        directory.add_group("guests", &["eve"]),
-        Err(DirectoryFault::Unknown)
-    );
-    assert_eq!(rt;
-        directory.add_group("guests", &["ann"]),
-        Err(DirectoryFault::Full)
-    );
-    Ok(())
-}
-
-#[test]
-fn adds_users(rt: HostRuntime) -> Result<(), Fail> {
+fn a_directory_takes_256_users(rt: HostRuntime) -> Result<(), Fail> {
     let mut directory = Directory::new(rt.alloc());
     let ann = named(&rt, "ann");
     assert!(rt; !directory.has_user(&ann));
     assert_eq!(rt; directory.add_user("ann"), Ok(()));
     assert!(rt; directory.has_user(&ann));
-    assert_eq!(rt; directory.user("ann"), Some(ann));
-    assert_eq!(rt; directory.user("bob"), None);
+    assert!(rt; directory.user("ann") == Some(ann) && directory.user("bob") == None);
     assert_eq!(rt; directory.add_user("Ann"), Err(DirectoryFault::Name));
     assert_eq!(rt; directory.add_user("ann"), Err(DirectoryFault::Twice));
     for i in 1..256u16 {
@@ -86,5 +20,48 @@ fn adds_users(rt: HostRuntime) -> Result<(), Fail> {
     }
     assert_eq!(rt; directory.add_user("ann"), Err(DirectoryFault::Twice));
     assert_eq!(rt; directory.add_user("bob"), Err(DirectoryFault::Full));
+    Ok(())
+}
+
+// The faults are told in their order: a name, one that is taken, a member who is no user, and one group too many.
+const FIRST: [(&str, &[&str], Result<(), DirectoryFault>); 7] = [
+    ("Staff", &["eve"], Err(DirectoryFault::Name)),
+    ("staff", &["ann", "eve"], Err(DirectoryFault::Unknown)),
+    ("staff", &["ann", "Ann"], Err(DirectoryFault::Unknown)),
+    ("staff", &["ann", "bob"], Ok(())),
+    ("staff", &["eve"], Err(DirectoryFault::Twice)),
+    ("twice", &["ann", "ann"], Ok(())),
+    ("ann", &[], Ok(())),
+];
+
+const LAST: [(&str, &[&str], DirectoryFault); 4] = [
+    ("Staff", &["ann"], DirectoryFault::Name),
+    ("staff", &["ann"], DirectoryFault::Twice),
+    ("guests", &["eve"], DirectoryFault::Unknown),
+    ("guests", &["ann"], DirectoryFault::Full),
+];
+
+#[test]
+fn a_directory_takes_64_groups(rt: HostRuntime) -> Result<(), Fail> {
+    let mut directory = Directory::new(rt.alloc());
+    for name in ["ann", "bob", "cat"] {
+        assert_eq!(rt; directory.add_user(name), Ok(()));
+    }
+    let (staff, guests) = (named(&rt, "staff"), named(&rt, "guests"));
+    let (ann, bob, cat) = (named(&rt, "ann"), named(&rt, "bob"), named(&rt, "cat"));
+    assert!(rt; !directory.has_group(&staff));
+    for (name, members, answer) in FIRST {
+        assert!(rt; !directory.has_group(&ann));
+        assert_eq!(rt; directory.add_group(name, members), answer, "{name}");
+    }
+    assert!(rt; directory.has_group(&staff) && directory.is_member(&staff, &bob));
+    assert!(rt; !directory.is_member(&staff, &cat) && !directory.is_member(&guests, &bob));
+    for i in 3..64u16 {
+        let name = format!(in rt.alloc(); "g{i}")?;
+        assert_eq!(rt; directory.add_group(name.as_str(), &["ann"]), Ok(()));
+    }
+    for (name, members, fault) in LAST {
+        assert_eq!(rt; directory.add_group(name, members), Err(fault), "{name}");
+    }
     Ok(())
 }

@@ -1,55 +1,79 @@
-// Entries as they are read.
-use mgs_acl::{EntryFault, read_entry, user_named};
-use mgs_model::{Entry, EntryType, Mask, Name, Who};
-use std::test::Fail;
+// Entries of access lists, as they are read and printed.
+use crate::people::named;
+use mgs_acl::{EntryFault, print_entry, read_entry, user_named};
+use mgs_model::{Entry, EntryType, Mask, Who};
+use std::process::Abort;
 
-fn entry(entry_type: EntryType, who: Who, bits: u32) -> Entry {
-    Entry {
-        entry_type,
-        who,
-        mask: Mask::from_bits(bits),
+// The bits of a mask are those of RFC 8881, section 6.2.1.3.1.
+const READ: [(&str, &str, u32); 7] = [
+    ("ALLOW OWNER@ rwatdcCo", "ALLOW OWNER@ rwatdcCo", 0xf_0087),
+    ("ALLOW OWNER@ oCcdtawr", "ALLOW OWNER@ rwatdcCo", 0xf_0087),
+    (" DENY  group:staff  awr ", "DENY group:staff rwa", 0x7),
+    (" DENY  ann  awr ", "DENY ann rwa", 0x7),
+    ("ALLOW EVERYONE@ trt", "ALLOW EVERYONE@ rt", 0x81),
+    ("DENY ann C", "DENY ann C", 0x4_0000),
+    (
+        "ALLOW group:abcdefghijklmnopqrstuvwxyz-_0123 rwatdcCo",
+        "ALLOW group:abcdefghijklmnopqrstuvwxyz-_0123 rwatdcCo",
+        0xf_0087,
+    ),
+];
+
+const FAULTS: [(&str, EntryFault); 10] = [
+    ("deny ann r", EntryFault::Kind),
+    ("", EntryFault::Kind),
+    ("ALLOW Ann r", EntryFault::Who),
+    ("DENY group: r", EntryFault::Who),
+    ("DENY group:Staff r", EntryFault::Who),
+    ("DENY groups:staff r", EntryFault::Who),
+    ("ALLOW GROUP@ r", EntryFault::Who),
+    ("ALLOW ann", EntryFault::Letters),
+    ("ALLOW ann x", EntryFault::Letters),
+    ("ALLOW ann r w", EntryFault::Trailing),
+];
+
+#[test]
+fn entries_are_read_and_printed(rt: HostRuntime) {
+    for (text, printed, bits) in READ {
+        match read_entry(text) {
+            Ok(entry) => {
+                assert_eq!(rt; print_entry(&entry).as_str(), printed, "{text}");
+                assert_eq!(rt; entry.mask.bits(), bits, "{text}");
+            }
+            Err(_) => panic!(rt; "{text} is refused"),
+        }
+    }
+    for (text, fault) in FAULTS {
+        assert_eq!(rt; read_entry(text), Err(fault), "{text}");
     }
 }
 
 #[test]
-fn reads_all_letters(rt: HostRuntime) {
-    assert_eq!(rt;
-        read_entry("ALLOW OWNER@ rwatdcCo"),
-        Ok(entry(EntryType::Allow, Who::Owner, 0xf_0087))
-    );
-}
-
-#[test]
-fn reads_names_and_spaces(rt: HostRuntime) -> Result<(), Fail> {
-    let ann = Name::read("ann").ok_or("no name")?;
-    let staff = Name::read("staff").ok_or("no name")?;
-    assert_eq!(rt;
-        read_entry(" DENY  group:staff  awr "),
-        Ok(entry(EntryType::Deny, Who::Group(staff), 0x7))
-    );
-    assert_eq!(rt;
-        read_entry(" DENY  ann  awr "),
-        Ok(entry(EntryType::Deny, Who::User(ann), 0x7))
-    );
-    assert_eq!(rt;
-        read_entry("ALLOW EVERYONE@ rrr"),
-        Ok(entry(EntryType::Allow, Who::Everyone, 0x1))
-    );
+fn entries_are_what_they_spell(rt: HostRuntime) {
+    let (ann, staff) = (named(&rt, "ann"), named(&rt, "staff"));
+    for (text, entry_type, who, bits) in [
+        (
+            "ALLOW OWNER@ rwatdcCo",
+            EntryType::Allow,
+            Who::Owner,
+            0xf_0087,
+        ),
+        (
+            " DENY  group:staff  awr ",
+            EntryType::Deny,
+            Who::Group(staff),
+            0x7,
+        ),
+        (" DENY  ann  awr ", EntryType::Deny, Who::User(ann), 0x7),
+        ("ALLOW EVERYONE@ rrr", EntryType::Allow, Who::Everyone, 0x1),
+    ] {
+        let entry = Entry {
+            entry_type,
+            who,
+            mask: Mask::from_bits(bits),
+        };
+        assert_eq!(rt; read_entry(text), Ok(entry));
+    }
     assert_eq!(rt; user_named("ann"), Some(ann));
     assert_eq!(rt; user_named("Ann"), None);
-    Ok(())
-}
-
-#[test]
-fn names_the_first_fault(rt: HostRuntime) {
-    assert_eq!(rt; read_entry("deny ann r"), Err(EntryFault::Kind));
-    assert_eq!(rt; read_entry(""), Err(EntryFault::Kind));
-    assert_eq!(rt; read_entry("ALLOW Ann r"), Err(EntryFault::Who));
-    assert_eq!(rt; read_entry("DENY group: r"), Err(EntryFault::Who));
-    assert_eq!(rt; read_entry("DENY group:Staff r"), Err(EntryFault::Who));
-    assert_eq!(rt; read_entry("DENY groups:staff r"), Err(EntryFault::Who));
-    assert_eq!(rt; read_entry("ALLOW GROUP@ r"), Err(EntryFault::Who));
-    assert_eq!(rt; read_entry("ALLOW ann"), Err(EntryFault::Letters));
-    assert_eq!(rt; read_entry("ALLOW ann x"), Err(EntryFault::Letters));
-    assert_eq!(rt; read_entry("ALLOW ann r w"), Err(EntryFault::Trailing));
 }

@@ -1,45 +1,58 @@
-// Keys that are written as tokens.
-use mgs_keys::{KeysFault, cut_at, quoted, read_keys};
-use std::test::Fail;
+// Keys that are written as tokens, quotes, and numbers that are written in digits.
+use mgs_keys::{KeysFault, cut_at, quoted, read_keys, read_number};
+use std::process::Abort;
+
+const TOKENS: [(&str, &[u8]); 3] = [
+    ("C-x '2 M-f RET", b"\x182\x1Bf\r"),
+    ("C-i M-SPC M-DEL C-SPC C-_", b"\t\x1B \x1B\x7F\x00\x1F"),
+    ("SPC ESC DEL TAB 'ab' M-~", b" \x1B\x7F\tab'\x1B~"),
+];
+
+const NO_TOKENS: [&str; 11] = [
+    "", "C-1", "'", "Tab", " RET", "RET ", "RET  RET", "C-A", "M-", "M-ab", "ret",
+];
 
 #[test]
-fn keys_are_read(rt: HostRuntime) -> Result<(), Fail> {
-    let keys = read_keys(rt.alloc(), "C-x '2 M-f RET")?;
-    assert_eq!(rt; keys.as_slice(), [0x18, 0x32, 0x1B, 0x66, 0x0D].as_slice());
-    let keys = read_keys(rt.alloc(), "C-i M-SPC M-DEL C-SPC C-_")?;
-    assert_eq!(rt;
-        keys.as_slice(),
-        [0x09, 0x1B, 0x20, 0x1B, 0x7F, 0x00, 0x1F].as_slice()
-    );
-    let keys = read_keys(rt.alloc(), "SPC ESC DEL TAB 'ab' M-~")?;
-    assert_eq!(rt;
-        keys.as_slice(),
-        [0x20, 0x1B, 0x7F, 0x09, 0x61, 0x62, 0x27, 0x1B, 0x7E].as_slice()
-    );
-    Ok(())
-}
-
-#[test]
-fn other_words_are_refused(rt: HostRuntime) {
-    for text in [
-        "", "C-1", "'", "Tab", " RET", "RET ", "RET  RET", "C-A", "M-", "M-ab", "ret",
-    ] {
-        assert!(rt; matches!(&read_keys(rt.alloc(), text), Err(KeysFault::BadToken)));
+fn keys_are_read(rt: HostRuntime) {
+    for (text, keys) in TOKENS {
+        match read_keys(rt.alloc(), text) {
+            Ok(read) => assert_eq!(rt; read.as_slice(), keys, "{text}"),
+            Err(_) => panic!(rt; "{text} is refused"),
+        }
+    }
+    for text in NO_TOKENS {
+        assert!(rt;
+            matches!(&read_keys(rt.alloc(), text), Err(KeysFault::BadToken)),
+            "{text}"
+        );
     }
 }
 
-#[test]
-fn texts_are_cut_at_a_byte(rt: HostRuntime) {
-    assert_eq!(rt;
-        cut_at(b"show a b", b' '),
-        (b"show".as_slice(), Some(b"a b".as_slice()))
-    );
-    assert_eq!(rt; cut_at(b"show", b' '), (b"show".as_slice(), None));
-}
+const QUOTES: [(&[u8], Option<&[u8]>); 3] = [(b"'a'", Some(b"a'")), (b"'", None), (b"a", None)];
+
+const NUMBERS: [(&[u8], Option<usize>); 12] = [
+    (b"0", Some(0)),
+    (b"7", Some(7)),
+    (b"40", Some(40)),
+    (b"999", Some(999)),
+    (b"", None),
+    (b"00", None),
+    (b"07", None),
+    (b"007", None),
+    (b"1000", None),
+    (b"+1", None),
+    (b"1a", None),
+    (b"1 ", None),
+];
 
 #[test]
-fn quotes_are_read(rt: HostRuntime) {
-    assert_eq!(rt; quoted(b"'a'"), Some(b"a'".as_slice()));
-    assert_eq!(rt; quoted(b"'"), None);
-    assert_eq!(rt; quoted(b"a"), None);
+fn words_are_read(rt: HostRuntime) {
+    for (word, text) in QUOTES {
+        assert!(rt; quoted(word) == text, "{word:?}");
+    }
+    for (word, number) in NUMBERS {
+        assert_eq!(rt; read_number(word), number, "{word:?}");
+    }
+    assert!(rt; cut_at(b"show a b", b' ') == (b"show".as_slice(), Some(b"a b".as_slice())));
+    assert!(rt; cut_at(b"show", b' ') == (b"show".as_slice(), None));
 }

@@ -8,8 +8,6 @@ mod directory;
 #[cfg(test)]
 mod entries;
 #[cfg(test)]
-mod gap;
-#[cfg(test)]
 mod judge;
 #[cfg(test)]
 mod keyboard;
@@ -20,21 +18,13 @@ mod lines;
 #[cfg(test)]
 mod lists;
 #[cfg(test)]
-mod marks;
-#[cfg(test)]
-mod numbers;
-#[cfg(test)]
-mod printing;
+mod people;
 #[cfg(test)]
 mod prompts;
-#[cfg(test)]
-mod rights;
 #[cfg(test)]
 mod searches;
 #[cfg(test)]
 mod text;
-#[cfg(test)]
-mod undo;
 #[cfg(test)]
 mod undos;
 #[cfg(test)]

@@ -1,62 +1,89 @@
 // Lines and columns of a text.
-ghost use Rattle.std.specs.Prelude.{◌≡◌, length};
-
-use mgs_lines::{column, line_end, line_start, settled_top, width};
+use mgs_lines::{column, column_place, indent_end, line_end, line_start, settled_top, width};
 use mgs_text::{PlainText, Text};
 use std::process::Abort;
 use std::test::Fail;
 
 // Lines `ab`, a tab and `c` and e acute, and `d`.
-fn parted<T: Text + Drop>(rt: &impl Abort, text: T) -> Result<(), Fail>
-    requires { length (T.text text) ≡ 8 }
-{
-    assert_eq!(rt; line_start(&text, 2), 0);
-    assert_eq!(rt; line_start(&text, 3), 3);
-    assert_eq!(rt; line_start(&text, 5), 3);
-    assert_eq!(rt; line_end(&text, 0), 2);
-    assert_eq!(rt; line_end(&text, 3), 6);
-    assert_eq!(rt; line_end(&text, 7), 8);
-    assert_eq!(rt; column(&text, 3), 0);
-    assert_eq!(rt; column(&text, 5), 9);
-    assert_eq!(rt; column(&text, 6), 15);
+const LINES: [char; 8] = ['a', 'b', '\n', '\t', 'c', '\u{e9}', '\n', 'd'];
+
+// At a place: start and end of its line, and its column.
+const PLACES: [(usize, usize, usize, usize); 6] = [
+    (0, 0, 2, 0),
+    (2, 0, 2, 2),
+    (3, 3, 6, 0),
+    (5, 3, 6, 9),
+    (6, 3, 6, 15),
+    (7, 7, 8, 0),
+];
+
+// The top of a window of two rows, for the top that it had and a point.
+const TOPS: [(usize, usize, usize); 3] = [(0, 4, 0), (0, 7, 3), (7, 0, 0)];
+
+const WIDTHS: [(usize, char, usize); 7] = [
+    (3, '\t', 5),
+    (8, '\t', 8),
+    (0, '\x01', 2),
+    (0, '~', 1),
+    (0, '\x7f', 2),
+    (0, '\u{e9}', 6),
+    (0, '\u{1f600}', 9),
+];
+
+#[test]
+fn parts_lines_and_counts_cells(rt: HostRuntime) -> Result<(), Fail> {
+    let text = PlainText::of(rt.alloc(), &LINES)?;
+    assert_eq!(rt; text.len(), 8);
+    for (p, start, end, cells) in PLACES {
+        assert!(rt; p <= 8);
+        assert_eq!(rt; line_start(&text, p), start, "start at {p}");
+        assert_eq!(rt; line_end(&text, p), end, "end at {p}");
+        assert_eq!(rt; column(&text, p), cells, "column at {p}");
+    }
+    for (top, point, settled) in TOPS {
+        assert!(rt; top <= 8 && point <= 8);
+        assert_eq!(rt;
+            settled_top(&text, 2, top, point),
+            settled,
+            "{top} for {point}"
+        );
+    }
+    for (at, c, cells) in WIDTHS {
+        assert_eq!(rt; width(at, c), cells, "{c} at {at}");
+    }
     Ok(())
 }
 
-fn settled<T: Text + Drop>(rt: &impl Abort, text: T) -> Result<(), Fail>
-    requires { length (T.text text) ≡ 8 }
-{
-    assert_eq!(rt; settled_top(&text, 2, 0, 4), 0);
-    assert_eq!(rt; settled_top(&text, 2, 0, 7), 3);
-    assert_eq!(rt; settled_top(&text, 2, 7, 0), 0);
-    Ok(())
-}
+// In `a`, a tab, `^A`, e acute, and a line `b`: the place in a line that is nearest to a goal column.
+const GOALS: [(usize, usize, usize); 10] = [
+    (0, 0, 0),
+    (0, 1, 1),
+    (0, 7, 1),
+    (0, 8, 2),
+    (0, 9, 2),
+    (0, 10, 3),
+    (0, 15, 3),
+    (0, 16, 4),
+    (0, 99, 4),
+    (5, 99, 6),
+];
+
+// In a space, a tab, `a`, and a line of a tab and `b`: the end of the indent before a place.
+const INDENTS: [(usize, usize); 7] = [(0, 0), (1, 1), (2, 2), (3, 2), (4, 4), (5, 5), (6, 5)];
 
 #[test]
-fn parts_lines(rt: HostRuntime) -> Result<(), Fail> {
-    let text = PlainText::of(
-        rt.alloc(),
-        &['a', 'b', '\n', '\t', 'c', '\u{e9}', '\n', 'd'],
-    )?;
-    parted(&rt, text)
-}
-
-#[test]
-fn settles_tops(rt: HostRuntime) -> Result<(), Fail> {
-    let text = PlainText::of(
-        rt.alloc(),
-        &['a', 'b', '\n', '\t', 'c', '\u{e9}', '\n', 'd'],
-    )?;
-    settled(&rt, text)
-}
-
-#[test]
-fn counts_cells(rt: HostRuntime) -> Result<(), Fail> {
-    assert_eq!(rt; width(3, '\t'), 5);
-    assert_eq!(rt; width(8, '\t'), 8);
-    assert_eq!(rt; width(0, '\x01'), 2);
-    assert_eq!(rt; width(0, '~'), 1);
-    assert_eq!(rt; width(0, '\x7f'), 2);
-    assert_eq!(rt; width(0, '\u{e9}'), 6);
-    assert_eq!(rt; width(0, '\u{1f600}'), 9);
+fn goal_columns_and_indents(rt: HostRuntime) -> Result<(), Fail> {
+    let text = PlainText::of(rt.alloc(), &['a', '\t', '\x01', '\u{e9}', '\n', 'b'])?;
+    assert_eq!(rt; text.len(), 6);
+    for (start, goal, place) in GOALS {
+        assert!(rt; start <= 6);
+        assert_eq!(rt; column_place(&text, start, goal), place, "goal {goal}");
+    }
+    let text = PlainText::of(rt.alloc(), &[' ', '\t', 'a', '\n', '\t', 'b'])?;
+    assert_eq!(rt; text.len(), 6);
+    for (p, end) in INDENTS {
+        assert!(rt; p <= 6);
+        assert_eq!(rt; indent_end(&text, p), end, "from {p}");
+    }
     Ok(())
 }

@@ -1,69 +1,40 @@
-// Access lists.
-use mgs_acl::{Entry, EntryType, List, ListFault, Who};
-use mgs_model::Mask;
+// Access lists of no entry and of 64.
+use crate::people::list_of;
+use mgs_acl::{List, ListFault};
 use std::process::Abort;
 
-fn entry(entry_type: EntryType, who: Who, bits: u32) -> Entry {
-    Entry {
-        entry_type,
-        who,
-        mask: Mask::from_bits(bits),
-    }
-}
-
-fn has_at(rt: &impl Abort, list: &List, i: usize, wanted: &Entry) {
-    match list.as_slice().get(i) {
-        Some(entry) => assert_eq!(rt; *entry, *wanted),
-        None => panic!(rt; "no entry"),
-    }
-}
-
 #[test]
-fn takes_out_and_replaces(rt: HostRuntime) {
-    let mut list = List::new();
-    let read = entry(EntryType::Allow, Who::Everyone, 0x1);
-    let write = entry(EntryType::Deny, Who::Owner, 0x2);
-    assert_eq!(rt; list.delete(0), Err(ListFault::NoSuchEntry));
-    assert_eq!(rt; list.replace(0, read), Err(ListFault::NoSuchEntry));
-    for _ in 0..64 {
-        assert_eq!(rt; list.insert(0, read), Ok(()));
-    }
-    assert_eq!(rt; list.replace(64, write), Err(ListFault::NoSuchEntry));
-    assert_eq!(rt; list.replace(65, write), Err(ListFault::NoSuchEntry));
-    assert_eq!(rt; list.replace(1, write), Ok(()));
-    has_at(&rt, &list, 0, &read);
-    has_at(&rt, &list, 1, &write);
-    has_at(&rt, &list, 2, &read);
-    assert_eq!(rt; list.delete(64), Err(ListFault::NoSuchEntry));
-    assert_eq!(rt; list.delete(65), Err(ListFault::NoSuchEntry));
-    assert_eq!(rt; list.delete(0), Ok(()));
-    assert_eq!(rt; list.len(), 63);
-    has_at(&rt, &list, 0, &write);
-    has_at(&rt, &list, 1, &read);
-}
-
-#[test]
-fn keeps_order_and_limit(rt: HostRuntime) {
+fn a_list_takes_64_entries(rt: HostRuntime) {
+    let pair = list_of(&rt, "ALLOW EVERYONE@ r\nDENY OWNER@ w");
+    assert_eq!(rt; pair.len(), 2);
+    let read = pair.as_slice()[0];
+    let write = pair.as_slice()[1];
     let mut list = List::new();
     assert!(rt; list.is_empty());
-    let read = entry(EntryType::Allow, Who::Everyone, 0x1);
-    let write = entry(EntryType::Deny, Who::Owner, 0x2);
     assert_eq!(rt; list.insert(1, read), Err(ListFault::NoSuchEntry));
-    assert_eq!(rt; list.insert(0, read), Ok(()));
-    assert_eq!(rt; list.insert(0, write), Ok(()));
-    assert_eq!(rt; list.insert(2, write), Ok(()));
-    assert_eq!(rt; list.len(), 3);
-    assert_eq!(rt; list.as_slice()[0], write);
-    assert_eq!(rt; list.as_slice()[1], read);
-    assert_eq!(rt; list.as_slice()[2], write);
+    assert_eq!(rt; list.delete(0), Err(ListFault::NoSuchEntry));
+    assert_eq!(rt; list.replace(0, read), Err(ListFault::NoSuchEntry));
+    for (at, entry) in [(0, read), (0, write), (2, write)] {
+        assert_eq!(rt; list.insert(at, entry), Ok(()));
+    }
+    assert_eq!(rt; list.as_slice(), [write, read, write].as_slice());
     for _ in 3..64 {
         assert_eq!(rt; list.insert(0, read), Ok(()));
     }
     assert_eq!(rt; list.insert(0, read), Err(ListFault::Full));
     assert_eq!(rt; list.insert(64, write), Err(ListFault::Full));
     assert_eq!(rt; list.insert(65, read), Err(ListFault::NoSuchEntry));
-    assert_eq!(rt; list.as_slice()[63], write);
     let copy = list.copy();
-    assert_eq!(rt; copy.len(), 64);
-    assert_eq!(rt; copy.as_slice(), list.as_slice());
+    assert!(rt; copy.len() == 64 && copy.as_slice() == list.as_slice());
+    assert!(rt; copy.as_slice()[63] == write);
+    for at in [64, 65] {
+        assert_eq!(rt; list.replace(at, write), Err(ListFault::NoSuchEntry));
+        assert_eq!(rt; list.delete(at), Err(ListFault::NoSuchEntry));
+    }
+    assert_eq!(rt; list.replace(1, write), Ok(()));
+    assert!(rt; list.len() == 64 && list.as_slice()[0] == read);
+    assert!(rt; list.as_slice()[1] == write && list.as_slice()[2] == read);
+    assert_eq!(rt; list.delete(0), Ok(()));
+    assert_eq!(rt; list.len(), 63);
+    assert!(rt; list.as_slice()[0] == write && list.as_slice()[1] == read);
 }

@@ -1,5 +1,5 @@
 // Matches in a text, and incremental search byte by byte.
-ghost use Rattle.std.specs.Prelude.{◌≡◌, ◌≤◌, length};
+ghost use Rattle.std.specs.Prelude.{◌≤◌, length};
 
 use mgs_model::{Direction, Message, SearchPlaces, SearchStep};
 use mgs_search::{
@@ -13,143 +13,123 @@ use std::test::Fail;
 // `ab` stands at 0, 3 and 6.
 const THRICE: [char; 8] = ['a', 'b', ' ', 'a', 'B', ' ', 'A', 'b'];
 
-fn finds<T: Text + Drop>(rt: &impl Abort, text: T) -> Result<(), Fail>
-    requires { length (T.text text) ≡ 8 }
-{
-    let pattern = ['A', 'B'];
-    for (from, here, first, last) in [
-        (0, true, Some(0), Some(0)),
-        (1, false, Some(3), Some(0)),
-        (3, true, Some(3), Some(3)),
-        (6, true, Some(6), Some(6)),
-        (7, false, None, Some(6)),
-        (8, false, None, Some(6)),
-    ] {
-        assert_eq!(rt; matches_at(&text, from, &pattern), here, "at {from}");
-        assert_eq!(rt; find_forward(&text, from, &pattern), first, "from {from}");
-        assert_eq!(rt; find_backward(&text, from, &pattern), last, "up to {from}");
-    }
-    Ok(())
-}
+// At a place: whether a match stands there, the first from there on, and the last up to there.
+const MATCHES: [(usize, bool, Option<usize>, Option<usize>); 6] = [
+    (0, true, Some(0), Some(0)),
+    (1, false, Some(3), Some(0)),
+    (3, true, Some(3), Some(3)),
+    (6, true, Some(6), Some(6)),
+    (7, false, None, Some(6)),
+    (8, false, None, Some(6)),
+];
 
-fn finds_past<T: Text + Drop>(rt: &impl Abort, text: T) -> Result<(), Fail>
-    requires { length (T.text text) ≡ 8 }
-{
-    let pattern = ['a', 'b'];
-    for (p, first, last) in [
-        (0, Some(3), None),
-        (1, Some(3), Some(0)),
-        (6, None, Some(3)),
-        (8, None, Some(6)),
-    ] {
+// From a place: the next match behind it and before it, and where a search on and one back take the point.
+type Found = (
+    usize,
+    Option<usize>,
+    Option<usize>,
+    Option<usize>,
+    Option<usize>,
+);
+
+const FOUND: [Found; 4] = [
+    (0, Some(3), None, Some(2), None),
+    (1, Some(3), Some(0), Some(5), Some(0)),
+    (6, None, Some(3), Some(8), Some(3)),
+    (8, None, Some(6), None, Some(6)),
+];
+
+// At an anchor, where `ab` is replaced by three characters: whether it stands there, and the next match after a replacement and
+// after none.
+const REPLACED: [(usize, bool, Option<usize>, Option<usize>); 5] = [
+    (0, true, Some(4), Some(3)),
+    (1, false, Some(3), Some(3)),
+    (3, true, Some(7), Some(6)),
+    (6, true, None, None),
+    (7, false, None, None),
+];
+
+#[test]
+fn finds_and_replaces(rt: HostRuntime) -> Result<(), Fail> {
+    let text = PlainText::of(rt.alloc(), &THRICE)?;
+    assert_eq!(rt; text.len(), 8);
+    let ab = ['A', 'B'];
+    let lower = ['a', 'b'];
+    for (p, here, first, last) in MATCHES {
+        assert!(rt; p <= 8);
+        assert_eq!(rt; matches_at(&text, p, &ab), here, "at {p}");
+        assert_eq!(rt; find_forward(&text, p, &ab), first, "from {p}");
+        assert_eq!(rt; find_backward(&text, p, &ab), last, "up to {p}");
+    }
+    for (p, behind, before, on, back) in FOUND {
+        assert!(rt; p <= 8);
         assert_eq!(rt;
-            find_past(&text, Direction::Forward, p, &pattern),
-            first,
-            "past {p}"
+            find_past(&text, Direction::Forward, p, &lower),
+            behind,
+            "behind {p}"
         );
         assert_eq!(rt;
-            find_past(&text, Direction::Backward, p, &pattern),
-            last,
+            find_past(&text, Direction::Backward, p, &lower),
+            before,
             "before {p}"
         );
-    }
-    Ok(())
-}
-
-#[test]
-fn matches_both_ways(rt: HostRuntime) -> Result<(), Fail> {
-    finds(&rt, PlainText::of(rt.alloc(), &THRICE)?)?;
-    finds_past(&rt, PlainText::of(rt.alloc(), &THRICE)?)
-}
-
-// `[` and `{` lie as far apart as `A` and `a`.
-#[test]
-fn the_case_of_ascii_letters_alone_is_ignored(rt: HostRuntime) -> Result<(), Fail> {
-    for (c, sought, found) in [
-        ('z', 'Z', true),
-        ('Z', 'z', true),
-        ('[', '{', false),
-        ('@', '`', false),
-        ('\u{e9}', '\u{c9}', false),
-        ('1', '1', true),
-    ] {
-        let text = PlainText::of(rt.alloc(), &[c])?;
-        assert_eq!(rt; matches_at(&text, 0, &[sought]), found, "{sought} at {c}");
-    }
-    Ok(())
-}
-
-fn goes_to<T: Text + Drop>(rt: &impl Abort, text: T) -> Result<(), Fail>
-    requires { length (T.text text) ≡ 8 }
-{
-    let pattern = ['A', 'B'];
-    for (p, forward, back) in [
-        (0, Some(2), None),
-        (1, Some(5), Some(0)),
-        (6, Some(8), Some(3)),
-        (8, None, Some(6)),
-    ] {
         assert_eq!(rt;
-            search_for(&text, p, Direction::Forward, &pattern).ok(),
-            forward,
-            "from {p}"
+            search_for(&text, p, Direction::Forward, &ab).ok(),
+            on,
+            "on from {p}"
         );
         assert_eq!(rt;
-            search_for(&text, p, Direction::Backward, &pattern).ok(),
+            search_for(&text, p, Direction::Backward, &ab).ok(),
             back,
-            "before {p}"
+            "back from {p}"
         );
     }
     assert_eq!(rt;
-        search_for(&text, 8, Direction::Forward, &pattern),
+        search_for(&text, 8, Direction::Forward, &ab),
         Err(Message::NotFound)
     );
     assert_eq!(rt;
         search_for(&text, 0, Direction::Backward, &[]),
         Err(Message::NoPattern)
     );
-    Ok(())
-}
-
-// `ab` is replaced by three characters.
-fn replaces<T: Text + Drop>(rt: &impl Abort, text: T) -> Result<(), Fail>
-    requires { length (T.text text) ≡ 8 }
-{
-    let old = ['A', 'B'];
-    let put = ['x', 'y', 'z'];
-    assert_eq!(rt; begin_replacing(&text, 1, &old), Ok(Some(3)));
-    assert_eq!(rt; begin_replacing(&text, 7, &old), Ok(None));
+    assert_eq!(rt; begin_replacing(&text, 1, &ab), Ok(Some(3)));
+    assert_eq!(rt; begin_replacing(&text, 7, &ab), Ok(None));
     assert_eq!(rt; begin_replacing(&text, 1, &[]), Err(Message::NoPattern));
-    for (anchor, is_there, then, skipped) in [
-        (0, true, Some(4), Some(3)),
-        (1, false, Some(3), Some(3)),
-        (3, true, Some(7), Some(6)),
-        (6, true, None, None),
-        (7, false, None, None),
-    ] {
-        let replacement = Replacement {
-            replaces: is_there,
-            next: then,
-        };
+    for (anchor, replaces, next, skipped) in REPLACED {
+        assert!(rt; anchor <= 8);
+        let replacement = Replacement { replaces, next };
         assert_eq!(rt;
-            replace_match(&text, anchor, &old, &put),
+            replace_match(&text, anchor, &ab, &['x', 'y', 'z']),
             replacement,
             "at {anchor}"
         );
         assert_eq!(rt;
-            replace_last(&text, anchor, &old).replaces,
-            is_there,
+            replace_last(&text, anchor, &ab).replaces,
+            replaces,
             "last at {anchor}"
         );
-        assert_eq!(rt; skip_match(&text, anchor, &old), skipped, "past {anchor}");
+        assert_eq!(rt; skip_match(&text, anchor, &ab), skipped, "past {anchor}");
     }
     Ok(())
 }
 
+// `[` and `{` lie as far apart as `A` and `a`.
+const CASES: [(char, char, bool); 6] = [
+    ('z', 'Z', true),
+    ('Z', 'z', true),
+    ('[', '{', false),
+    ('@', '`', false),
+    ('\u{e9}', '\u{c9}', false),
+    ('1', '1', true),
+];
+
 #[test]
-fn searches_by_a_prompt_and_replacements(rt: HostRuntime) -> Result<(), Fail> {
-    goes_to(&rt, PlainText::of(rt.alloc(), &THRICE)?)?;
-    replaces(&rt, PlainText::of(rt.alloc(), &THRICE)?)
+fn the_case_of_ascii_letters_alone_is_ignored(rt: HostRuntime) -> Result<(), Fail> {
+    for (c, sought, found) in CASES {
+        let text = PlainText::of(rt.alloc(), &[c])?;
+        assert_eq!(rt; matches_at(&text, 0, &[sought]), found, "{sought} at {c}");
+    }
+    Ok(())
 }
 
 // What bytes make of a search from `start` on: what the last one comes to, how many characters the pattern has, and
@@ -184,109 +164,124 @@ fn comes_to<T: Text + Drop>(
     )
 }
 
+// A search for characters that are typed, from a start: where there are any, `last` are those of the search before.
+type Typed = (
+    Direction,
+    usize,
+    &'static [char],
+    &'static [u8],
+    (SearchStep, usize, bool, usize, usize),
+);
+
+const SEARCHES: [Typed; 21] = [
+    (F, 1, &[], b"aB", (SearchStep::FromAnchor, 2, false, 3, 5)),
+    (F, 1, &[], b"abx", (SearchStep::FromAnchor, 3, true, 3, 5)),
+    (
+        F,
+        0,
+        &[],
+        b"ab\x13\x13",
+        (SearchStep::PastAnchor, 2, false, 6, 8),
+    ),
+    (
+        F,
+        3,
+        &[],
+        b"ab\x13\x13",
+        (SearchStep::PastAnchor, 2, true, 6, 8),
+    ),
+    (
+        F,
+        1,
+        &[],
+        b"ab\x12",
+        (SearchStep::PastAnchor, 2, false, 0, 0),
+    ),
+    (F, 3, &[], b"\x13", (SearchStep::Stays, 0, false, 3, 3)),
+    (
+        F,
+        1,
+        &[],
+        b"ab\x13\x7F",
+        (SearchStep::FromOrigin, 1, false, 3, 4),
+    ),
+    (
+        F,
+        4,
+        &[],
+        b"abxyz\x7F",
+        (SearchStep::FromOrigin, 4, true, 4, 8),
+    ),
+    (F, 1, &[], b"a\x7F", (SearchStep::ToOrigin, 0, false, 1, 1)),
+    (B, 8, &[], b"ab", (SearchStep::FromAnchor, 2, false, 6, 6)),
+    (
+        B,
+        8,
+        &[],
+        b"ab\x12",
+        (SearchStep::PastAnchor, 2, false, 3, 3),
+    ),
+    (
+        B,
+        8,
+        &[],
+        b"ab\x12\x12\x12",
+        (SearchStep::PastAnchor, 2, true, 0, 0),
+    ),
+    (B, 8, &[], b"ab\r", (SearchStep::Ends, 2, false, 6, 6)),
+    (B, 8, &[], b"ab\x07", (SearchStep::Quits, 2, false, 6, 8)),
+    (B, 8, &[], b"ab\x06", (SearchStep::Leaves, 2, false, 6, 6)),
+    (B, 8, &[], b"ab\x1B", (SearchStep::Leaves, 2, false, 6, 6)),
+    (B, 8, &[], b"ab\x80", (SearchStep::Leaves, 2, false, 6, 6)),
+    (
+        F,
+        3,
+        &['A', 'B'],
+        b"\x13",
+        (SearchStep::FromAnchor, 2, false, 3, 5),
+    ),
+    (
+        F,
+        3,
+        &['A', 'B'],
+        b"\x12",
+        (SearchStep::FromAnchor, 2, false, 3, 3),
+    ),
+    (
+        F,
+        3,
+        &['A', 'B'],
+        b"\x13\x13",
+        (SearchStep::PastAnchor, 2, false, 6, 8),
+    ),
+    (
+        F,
+        3,
+        &['A', 'B'],
+        b"b\x13",
+        (SearchStep::PastAnchor, 1, false, 7, 8),
+    ),
+];
+
+const F: Direction = Direction::Forward;
+
+const B: Direction = Direction::Backward;
+
 #[test]
-fn a_search_forward(rt: HostRuntime) -> Result<(), Fail> {
-    for (start, bytes, end) in [
-        (
-            1,
-            b"aB".as_slice(),
-            (SearchStep::FromAnchor, 2, false, 3, 5),
-        ),
-        (
-            1,
-            b"abx".as_slice(),
-            (SearchStep::FromAnchor, 3, true, 3, 5),
-        ),
-        (
-            0,
-            b"ab\x13\x13".as_slice(),
-            (SearchStep::PastAnchor, 2, false, 6, 8),
-        ),
-        (
-            3,
-            b"ab\x13\x13".as_slice(),
-            (SearchStep::PastAnchor, 2, true, 6, 8),
-        ),
-        (
-            1,
-            b"ab\x12".as_slice(),
-            (SearchStep::PastAnchor, 2, false, 0, 0),
-        ),
-        (3, b"\x13".as_slice(), (SearchStep::Stays, 0, false, 3, 3)),
-        (
-            1,
-            b"ab\x13\x7F".as_slice(),
-            (SearchStep::FromOrigin, 1, false, 3, 4),
-        ),
-        (
-            4,
-            b"abxyz\x7F".as_slice(),
-            (SearchStep::FromOrigin, 4, true, 4, 8),
-        ),
-        (
-            1,
-            b"a\x7F".as_slice(),
-            (SearchStep::ToOrigin, 0, false, 1, 1),
-        ),
-    ] {
+fn searches_by_bytes(rt: HostRuntime) -> Result<(), Fail> {
+    for (way, start, last, bytes, end) in SEARCHES {
         let text = PlainText::of(rt.alloc(), &THRICE)?;
+        assert!(rt; start <= 8 && text.len() == 8 && last.len() <= 120);
         assert!(rt;
-            comes_to(text, Direction::Forward, start, &[], bytes) == end,
-            "{start}"
+            comes_to(text, way, start, last, bytes) == end,
+            "{bytes:?} from {start}"
         );
     }
-    Ok(())
-}
-
-#[test]
-fn a_search_backward(rt: HostRuntime) -> Result<(), Fail> {
-    for (bytes, end) in [
-        (b"ab".as_slice(), (SearchStep::FromAnchor, 2, false, 6, 6)),
-        (
-            b"ab\x12".as_slice(),
-            (SearchStep::PastAnchor, 2, false, 3, 3),
-        ),
-        (
-            b"ab\x12\x12\x12".as_slice(),
-            (SearchStep::PastAnchor, 2, true, 0, 0),
-        ),
-        (b"ab\r".as_slice(), (SearchStep::Ends, 2, false, 6, 6)),
-        (b"ab\x07".as_slice(), (SearchStep::Quits, 2, false, 6, 8)),
-        (b"ab\x06".as_slice(), (SearchStep::Leaves, 2, false, 6, 6)),
-        (b"ab\x1B".as_slice(), (SearchStep::Leaves, 2, false, 6, 6)),
-        (b"ab\x80".as_slice(), (SearchStep::Leaves, 2, false, 6, 6)),
-    ] {
-        let text = PlainText::of(rt.alloc(), &THRICE)?;
-        assert!(rt; comes_to(text, Direction::Backward, 8, &[], bytes) == end);
-    }
-    Ok(())
-}
-
-// An empty pattern becomes it, and the anchor counts.
-#[test]
-fn the_search_string_is_taken(rt: HostRuntime) -> Result<(), Fail> {
-    for (bytes, end) in [
-        (b"\x13".as_slice(), (SearchStep::FromAnchor, 2, false, 3, 5)),
-        (b"\x12".as_slice(), (SearchStep::FromAnchor, 2, false, 3, 3)),
-        (
-            b"\x13\x13".as_slice(),
-            (SearchStep::PastAnchor, 2, false, 6, 8),
-        ),
-        (
-            b"b\x13".as_slice(),
-            (SearchStep::PastAnchor, 1, false, 7, 8),
-        ),
-    ] {
-        let text = PlainText::of(rt.alloc(), &THRICE)?;
-        assert!(rt; comes_to(text, Direction::Forward, 3, &['A', 'B'], bytes) == end);
-    }
-    Ok(())
-}
-
-#[test]
-fn the_pattern_ends_at_120(rt: HostRuntime) -> Result<(), Fail> {
     let text = PlainText::of(rt.alloc(), &['a'; 120])?;
     let end = (SearchStep::FromAnchor, 120, false, 0, 120);
-    assert!(rt; comes_to(text, Direction::Forward, 0, &[], &[b'a'; 121]) == end);
+    assert!(rt;
+        comes_to(text, F, 0, &[], &[b'a'; 121]) == end,
+        "the pattern ends at 120"
+    );
     Ok(())
 }

@@ -1,0 +1,18 @@
+// Names and lists of the tests on buffers.
+use mgs_acl::{List, read_entry};
+use mgs_model::Name;
+use std::process::Abort;
+
+pub(crate) fn named(rt: &impl Abort, text: &str) -> Name {
+    Name::read(text).expect(rt, "a name")
+}
+
+// A list of this entry.
+pub(crate) fn list_of(rt: &impl Abort, text: &str) -> List {
+    let mut list = List::new();
+    match read_entry(text) {
+        Ok(entry) => assert!(rt; list.insert(0, entry).is_ok()),
+        Err(_) => panic!(rt; "{text} is refused"),
+    }
+    list
+}
