@@ -1,7 +1,6 @@
 // The mark, and what was killed or copied put back, each with what the terminal then shows.
 use super::replay::NOTES;
 use super::steps::scripts_show;
-use std::process::Abort;
 use std::test::Fail;
 
 #[test]
