@@ -3,27 +3,19 @@
 #![tactic(auto)]
 
 #[cfg(test)]
-mod calls;
-#[cfg(test)]
 mod config;
 #[cfg(test)]
 mod drive;
 #[cfg(test)]
 mod fixtures;
 #[cfg(test)]
-mod ids;
-#[cfg(test)]
-mod judged;
-#[cfg(test)]
-mod listing;
+mod foreign;
 #[cfg(test)]
 mod lockstep;
 #[cfg(test)]
 mod marks;
 #[cfg(test)]
 mod queues;
-#[cfg(test)]
-mod rows;
 #[cfg(test)]
 mod saves;
 #[cfg(test)]

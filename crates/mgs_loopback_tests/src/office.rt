@@ -17,21 +17,14 @@ use std::test::Fail;
 /// A server whose buffers have no files.
 pub(crate) type Office = Server<RefusingStore>;
 
-// A list of these entries.
-fn list_of(entries: &[&str], rt: &impl Abort) -> List {
+// Everyone may read and write the notes.
+fn notes_list(rt: &impl Abort) -> List {
     let mut list = List::new();
-    for entry in entries {
-        match read_entry(entry) {
-            Ok(entry) => assert!(rt; list.insert(list.len(), entry).is_ok()),
-            Err(_) => panic!(rt; "no entry"),
-        }
+    match read_entry("ALLOW EVERYONE@ rwat") {
+        Ok(entry) => assert!(rt; list.insert(list.len(), entry).is_ok()),
+        Err(_) => panic!(rt; "no entry"),
     }
     list
-}
-
-/// Ann may do everything with the notes, and bob read and write them.
-pub(crate) fn notes_list(rt: &impl Abort) -> List {
-    list_of(&["ALLOW OWNER@ rwatdcCo", "ALLOW bob rwat"], rt)
 }
 
 // Adds a buffer of ann without a text.
@@ -82,9 +75,9 @@ fn office_config(alloc: Global, list: List) -> Result<Config, Fail>
     })
 }
 
-/// A server of the notes with this list, on a port that the system chose.
-pub(crate) fn open_office(rt: &HostRuntime, list: List) -> Result<Office, Fail> {
-    let config = office_config(rt.alloc(), list)?;
+/// A server of the notes, on a port that the system chose.
+pub(crate) fn open_office(rt: &HostRuntime) -> Result<Office, Fail> {
+    let config = office_config(rt.alloc(), notes_list(rt))?;
     let office = Server::listen(rt, rt.alloc(), 0, config, RefusingStore::new())?;
     Ok(office)
 }
