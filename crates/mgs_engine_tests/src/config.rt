@@ -50,9 +50,15 @@ fn read(alloc: Global, text: &str, readable: bool) -> Result<Config, ConfigFault
     read_config(alloc, text, &mut files)
 }
 
-// The printed fault of a text whose files cannot be read.
-fn refused(alloc: Global, text: &str, wanted: &str, rt: &impl Abort) -> Result<(), Fail> {
-    match read(alloc, text, false) {
+// The printed fault of a text.
+fn refused(
+    alloc: Global,
+    text: &str,
+    readable: bool,
+    wanted: &str,
+    rt: &impl Abort,
+) -> Result<(), Fail> {
+    match read(alloc, text, readable) {
         Ok(_) => panic!(rt; "no fault: {wanted}"),
         Err(fault) => {
             let printed = format!(in alloc; "{fault}")?;
@@ -98,15 +104,21 @@ fn the_first_fault_is_named_by_its_table(rt: HostRuntime) -> Result<(), Fail> {
     ];
     for (tables, wanted) in rows {
         let text = format!(in rt.alloc(); "{ANN}{tables}")?;
-        refused(rt.alloc(), text.as_str(), wanted, &rt)?;
+        refused(
+            rt.alloc(),
+            text.as_str(),
+            wanted != "buffer 1: File",
+            wanted,
+            &rt,
+        )?;
     }
     Ok(())
 }
 
 #[test]
 fn a_document_has_no_other_keys(rt: HostRuntime) -> Result<(), Fail> {
-    refused(rt.alloc(), "color = 1\n", "top 0: Key", &rt)?;
-    refused(rt.alloc(), "= 1", "top 0: Toml", &rt)
+    refused(rt.alloc(), "color = 1\n", true, "top 0: Key", &rt)?;
+    refused(rt.alloc(), "= 1", true, "top 0: Toml", &rt)
 }
 
 // The text of a buffer.
@@ -121,22 +133,37 @@ fn text_of(config: &Config, name: &str, rt: &impl Abort) -> Result<Vec<char>, Fa
 }
 
 const TABLES: &str =
-    "[[user]]\nname = \"ann\"\nticket = \"t1\"\n[[user]]\nname = \"bob\"\nticket = \"t2\"\n[[buffer]]\nname = \"notes\"\nowner = \"ann\"\nlist = [\"ALLOW bob r\"]\ntext = \"ab\\nc\"\n[[buffer]]\nname = \"plan\"\nowner = \"ann\"\nlist = []\nfile = \"f\"\n";
+    "[[user]]\nname = \"ann\"\nticket = \"t1\"\n[[user]]\nname = \"bob\"\nticket = \"t2\"\n[[buffer]]\nname = \"notes\"\nowner = \"ann\"\nlist = [\"ALLOW bob r\"]\ntext = \"ab\\nc\"\n";
 
 #[test]
 fn a_document_gives_the_world_of_its_tables(rt: HostRuntime) -> Result<(), Fail> {
     let Ok(config) = read(rt.alloc(), TABLES, true) else {
         panic!(rt; "not read");
     };
+    assert!(rt; config.directory.user("ann").is_some());
     assert!(rt; config.directory.user("bob").is_some());
     assert!(rt; config.directory.user("eve").is_none());
     assert!(rt; config.tickets.ticket(b"bob") == Some(b"t2".as_slice()));
+    assert!(rt; config.tickets.ticket(b"eve").is_none());
+    assert_eq!(rt; config.buffers.len(), 1);
+    assert!(rt; config.files.is_empty());
     let notes = text_of(&config, "notes", &rt)?;
     assert!(rt; notes.as_slice() == ['a', 'b', '\n', 'c'].as_slice());
-    let plan = text_of(&config, "plan", &rt)?;
-    assert!(rt; plan.as_slice() == ['h', 'i'].as_slice());
+    Ok(())
+}
+
+const FILED: &str =
+    "[[user]]\nname = \"ann\"\nticket = \"t1\"\n[[buffer]]\nname = \"notes\"\nowner = \"ann\"\nlist = []\nfile = \"f\"\n";
+
+#[test]
+fn the_file_of_a_buffer_is_read(rt: HostRuntime) -> Result<(), Fail> {
+    let Ok(config) = read(rt.alloc(), FILED, true) else {
+        panic!(rt; "not read");
+    };
+    let notes = text_of(&config, "notes", &rt)?;
+    assert!(rt; notes.as_slice() == ['h', 'i'].as_slice());
     let file = config.files.first().ok_or("no file")?;
-    assert_eq!(rt; file.name.as_str(), "plan");
+    assert_eq!(rt; file.name.as_str(), "notes");
     assert_eq!(rt; file.path.as_str(), "f");
     Ok(())
 }

@@ -1,8 +1,10 @@
 // Lists of calls, and their tape.
 use super::fixtures::{fed, serve, show, waiting};
-use mgs_engine::{Answer, Call, Engine, Tape, drive};
+use mgs_engine::{Answer, Call, Cause, Engine, Tape, drive};
 use mgs_marks::PlainMarked;
+use mgs_model::{Keyed, SessionId};
 use mgs_store::RefusingStore;
+use std::alloc::Global;
 use std::process::Abort;
 use std::test::Fail;
 
@@ -16,9 +18,60 @@ fn make(
     assert!(rt; drive(engine, calls, tape).is_ok());
 }
 
-// What was taken of the first session.
-fn taken(tape: &Tape) -> &[u8] {
-    tape.bytes(1)
+// What was taken of a session.
+fn taken(tape: &Tape, id: SessionId) -> &[u8] {
+    tape.bytes(id)
+}
+
+// Whether an answer on the tape is the one of this place in the list of calls below.
+fn is_answer(i: usize, answer: &Answer) -> bool {
+    match i {
+        0 => matches!(answer, Answer::Open(Ok(1))),
+        1 => matches!(answer, Answer::Took(5)),
+        2 => matches!(answer, Answer::Byte(Keyed::Done)),
+        3 => matches!(answer, Answer::Took(0)),
+        4 => matches!(answer, Answer::Close),
+        5 => matches!(answer, Answer::Ended(Some((1, Cause::Closed)))),
+        _ => matches!(answer, Answer::Ended(None)),
+    }
+}
+
+#[test]
+fn each_call_is_answered_on_the_tape(rt: HostRuntime) {
+    let alloc = rt.alloc();
+    let mut engine = serve(alloc, &["ALLOW OWNER@ rwat"], &[], &rt);
+    let mut tape = Tape::new(alloc);
+    let calls = [
+        Call::Open("ann", 6, 20),
+        Call::Took(1, 5),
+        Call::Byte(1, b'h'),
+        Call::Took(2, 5),
+        Call::Close(1),
+        Call::Ended,
+        Call::Ended,
+    ];
+    make(&mut engine, &calls, &mut tape, &rt);
+    assert!(rt; tape.answers().len() == 7);
+    for (i, answer) in tape.answers().iter().enumerate() {
+        assert!(rt; is_answer(i, answer));
+    }
+    assert!(rt; taken(&tape, 1).len() == 5);
+    assert!(rt; taken(&tape, 2).is_empty());
+}
+
+// Whether a terminal that takes the tape of the first session, of so many bytes, and then what waits for it shows this screen.
+fn leads_to(
+    alloc: Global,
+    engine: &Engine<PlainMarked, RefusingStore>,
+    tape: &Tape,
+    count: usize,
+    screen: &str,
+    cursor: (usize, usize),
+) -> Result<bool, Fail> {
+    let mut bytes = Vec::from_slice(alloc, taken(tape, 1))?;
+    let is_so_long = bytes.len() == count;
+    bytes.extend_from_slice(waiting(engine, 1))?;
+    Ok(is_so_long && show(alloc, &bytes, screen, cursor))
 }
 
 #[test]
@@ -26,21 +79,15 @@ fn the_tape_and_what_waits_give_the_screen(rt: HostRuntime) -> Result<(), Fail> 
     let alloc = rt.alloc();
     let mut engine = serve(alloc, &["ALLOW OWNER@ rwat"], &[], &rt);
     let mut tape = Tape::new(alloc);
-    let calls = [
-        Call::Open("ann", 6, 20),
-        Call::Byte(1, b'h'),
-        Call::Took(1, 5),
-        Call::Byte(1, b'i'),
-        Call::Took(1, 5),
-        Call::Ended,
-    ];
+    make(&mut engine, &[Call::Open("ann", 6, 20)], &mut tape, &rt);
+    let calls = [Call::Byte(1, b'h'), Call::Took(1, 5)];
     make(&mut engine, &calls, &mut tape, &rt);
-    assert!(rt; matches!(tape.answers().first(), Some(Answer::Open(Ok(1)))));
-    assert!(rt; matches!(tape.answers().last(), Some(Answer::Ended(None))));
-    let mut bytes = Vec::from_slice(alloc, taken(&tape))?;
-    assert_eq!(rt; bytes.len(), 10);
-    bytes.extend_from_slice(waiting(&engine, 1))?;
-    assert!(rt; show(alloc, &bytes, "hi | -**-notes-L1-C2-----", (1, 3)));
+    let screen = "h | -**-notes-L1-C1-----";
+    assert!(rt; leads_to(alloc, &engine, &tape, 5, screen, (1, 2))?);
+    let calls = [Call::Byte(1, b'i'), Call::Took(1, 5)];
+    make(&mut engine, &calls, &mut tape, &rt);
+    let screen = "hi | -**-notes-L1-C2-----";
+    assert!(rt; leads_to(alloc, &engine, &tape, 10, screen, (1, 3))?);
     Ok(())
 }
 
@@ -72,8 +119,8 @@ fn a_character_is_painted_in_two_rows(rt: HostRuntime) -> Result<(), Fail> {
     let calls = [Call::Byte(1, b'i'), Call::Took(1, 100_000)];
     make(&mut engine, &calls, &mut tape, &rt);
     let mut bytes = Vec::from_slice(alloc, FULL_ROWS)?;
-    bytes.extend_from_slice(taken(&tape))?;
-    let term = fed(alloc, 6, 20, &bytes).ok_or("refused")?;
+    bytes.extend_from_slice(taken(&tape, 1))?;
+    let term = fed(alloc, &bytes).ok_or("refused")?;
     for (i, cell) in term.grid().iter().enumerate() {
         assert_eq!(rt; cell.character, expected(i));
     }

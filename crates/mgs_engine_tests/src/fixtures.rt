@@ -28,7 +28,7 @@ fn users(alloc: Global, rt: &impl Abort) -> Directory {
     directory
 }
 
-fn list_of(entries: &[&str], rt: &impl Abort) -> List {
+pub(crate) fn list_of(entries: &[&str], rt: &impl Abort) -> List {
     let mut list = List::new();
     for entry in entries {
         match read_entry(entry) {
@@ -39,7 +39,8 @@ fn list_of(entries: &[&str], rt: &impl Abort) -> List {
     list
 }
 
-// A core of the buffer `notes` of ann, which has a file, this list and this text. The users are ann, bob and cyn.
+// A core of the buffer `notes` of ann, which has a file, this list and this text, and of the empty `plan` of cyn, which cyn may read and
+// write. The users are ann, bob and cyn.
 pub(crate) fn core_of<S: Store + Drop>(
     alloc: Global,
     entries: &[&str],
@@ -47,9 +48,11 @@ pub(crate) fn core_of<S: Store + Drop>(
     store: S,
     rt: &impl Abort,
 ) -> Core<PlainMarked, S> {
-    let list = list_of(entries, rt);
+    let notes = list_of(entries, rt);
+    let plan = list_of(&["ALLOW OWNER@ rwat"], rt);
     let mut buffers = Buffers::new(alloc);
-    assert!(rt; buffers.add("notes", "ann", list, text, true).is_ok());
+    assert!(rt; buffers.add("notes", "ann", notes, text, true).is_ok());
+    assert!(rt; buffers.add("plan", "cyn", plan, &[], false).is_ok());
     match Core::new(alloc, users(alloc, rt), buffers, store) {
         Ok(core) => core,
         Err(_) => panic!(rt; "no memory"),
@@ -107,17 +110,19 @@ pub(crate) fn sit<S: Store + Drop>(
     }
 }
 
-// The answer to the last of these keys of a session.
+// The answer to the last of these keys of a session, or to the first that is not done.
 pub(crate) fn press<S: Store + Drop>(
     engine: &mut Engine<PlainMarked, S>,
     id: SessionId,
     keys: &[u8],
 ) -> Keyed {
-    let mut answer = Keyed::Done;
     for key in keys {
-        answer = engine.byte(id, *key);
+        let answer = engine.byte(id, *key);
+        if answer != Keyed::Done {
+            return answer;
+        }
     }
-    answer
+    Keyed::Done
 }
 
 // What waits for the terminal of a session.
@@ -125,11 +130,34 @@ pub(crate) fn waiting<S: Store + Drop>(engine: &Engine<PlainMarked, S>, id: Sess
     engine.pending(id)
 }
 
-// A terminal that took these bytes, if it refused none.
-pub(crate) fn fed(alloc: Global, rows: usize, cols: usize, bytes: &[u8]) -> Option<Term> {
-    let mut term = Term::new(alloc, rows, cols).ok()?;
-    term.feed_all(bytes).ok()?;
-    Some(term)
+pub(crate) fn is_open<S: Store + Drop>(engine: &Engine<PlainMarked, S>, id: SessionId) -> bool {
+    engine.is_open(id)
+}
+
+// The first bytes that wait for the terminal of a session are taken, up to so many.
+pub(crate) fn take<S: Store + Drop>(
+    engine: &mut Engine<PlainMarked, S>,
+    id: SessionId,
+    most: usize,
+    taken: &mut Vec<u8>,
+) {
+    let pending = engine.pending(id);
+    let count = pending.len().min(most);
+    let _ = taken.extend_from_slice(&pending[..count]);
+    engine.took(id, count);
+}
+
+// A terminal of 6 rows and 20 columns that took these bytes, if it refused none.
+pub(crate) fn fed(alloc: Global, bytes: &[u8]) -> Option<Term> {
+    match Term::new(alloc, ROWS, COLS) {
+        Ok(mut term) => {
+            if term.feed_all(bytes).is_err() {
+                return None;
+            }
+            Some(term)
+        }
+        Err(_) => None,
+    }
 }
 
 // A row of a screen that is told as
@@ -168,7 +196,7 @@ fn is_screen(term: &Term, screen: &str) -> bool {
 // Whether a terminal of 6 rows and 20 columns that takes these bytes shows this screen and this cursor. The screen is told in one
 // text, since a proof of a test goes over each literal.
 pub(crate) fn show(alloc: Global, bytes: &[u8], screen: &str, cursor: (usize, usize)) -> bool {
-    match fed(alloc, ROWS, COLS, bytes) {
+    match fed(alloc, bytes) {
         Some(term) => is_screen(&term, screen) && term.cursor() == cursor,
         None => false,
     }

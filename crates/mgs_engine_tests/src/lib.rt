@@ -11,6 +11,8 @@ mod fixtures;
 #[cfg(test)]
 mod foreign;
 #[cfg(test)]
+mod listing;
+#[cfg(test)]
 mod lockstep;
 #[cfg(test)]
 mod marks;

@@ -1,8 +1,8 @@
-// The marks of a buffer, counted while sessions split windows, delete them and end.
+// The marks of a buffer, counted while sessions split windows, delete them and end, and the ids of sessions.
 use super::fixtures::{core_of, press_in_core, sit_in_core};
 use mgs_core::Core;
 use mgs_marks::PlainMarked;
-use mgs_model::Name;
+use mgs_model::{Keyed, Name};
 use mgs_store::RefusingStore;
 use std::test::Fail;
 
@@ -57,4 +57,25 @@ fn sessions_leave_no_marks(rt: HostRuntime) -> Result<(), Fail> {
         assert_eq!(rt; count(&core, &notes), left);
     }
     Ok(())
+}
+
+#[test]
+fn the_id_of_an_ended_session_is_not_used_again(rt: HostRuntime) {
+    let mut core = core_of(
+        rt.alloc(),
+        &["ALLOW OWNER@ rwat"],
+        &[],
+        RefusingStore::new(),
+        &rt,
+    );
+    let first = sit_in_core(&mut core, "ann", 6, 20, &rt);
+    let second = sit_in_core(&mut core, "ann", 6, 20, &rt);
+    assert!(rt; press_in_core(&mut core, first, 0x18) == Keyed::Done);
+    assert!(rt; press_in_core(&mut core, second, 0x03) == Keyed::Done);
+    assert!(rt; press_in_core(&mut core, first, 0x03) == Keyed::Quit);
+    assert!(rt; press_in_core(&mut core, first, b'x') == Keyed::NoSession);
+    assert!(rt; press_in_core(&mut core, second, b'x') == Keyed::Done);
+    let third = sit_in_core(&mut core, "ann", 6, 20, &rt);
+    assert!(rt; third != first && third != second);
+    assert!(rt; press_in_core(&mut core, first, b'x') == Keyed::NoSession);
 }

@@ -176,10 +176,11 @@ fn answer(
     let mut client = Client::new(alloc, fault)?;
     let mut reader = input;
     let read = client.read_all(&mut reader);
-    let mut written = Vec::new(alloc);
-    client.write(&mut written);
-    client.write(&mut written);
     assert!(rt; read == PumpedIn::Finished && client.session().is_none());
+    let mut written = Vec::new(alloc);
+    let first = client.write(&mut written);
+    let second = client.write(&mut written);
+    assert!(rt; first == PumpedOut::Drained && second == PumpedOut::Drained);
     Ok(written)
 }
 
@@ -253,15 +254,21 @@ fn bytes_after_a_login_are_keys(rt: HostRuntime) -> Result<(), Fail> {
     Ok(())
 }
 
+// A piece of a line is read in one turn, and then all that waits is written.
+fn hears(client: &mut Client, piece: &[u8], written: &mut Vec<u8>) -> bool {
+    let mut reader = piece;
+    let read = client.read(&mut reader);
+    let wrote = client.write(written);
+    read == PumpedIn::Took(piece.len()) && wrote == PumpedOut::Drained
+}
+
 #[test]
 fn a_line_has_at_most_128_bytes(rt: HostRuntime) -> Result<(), Fail> {
-    let (mut client, answer) = heard(rt.alloc(), &[b'x'; 128], 200, ErrorKind::WouldBlock)?;
+    let mut client = Client::new(rt.alloc(), None)?;
     let mut written = Vec::new(rt.alloc());
-    client.write(&mut written);
-    assert!(rt; answer == PumpedIn::Idle && written.is_empty());
-    let mut reader = b"xlogin ann t1 6 20\n".as_slice();
-    client.read(&mut reader);
-    client.write(&mut written);
+    assert!(rt; hears(&mut client, &[b'x'; 128], &mut written));
+    assert!(rt; written.is_empty());
+    assert!(rt; hears(&mut client, b"xlogin ann t1 6 20\n", &mut written));
     assert!(rt; written.as_slice() == b"refused 1 Line\n".as_slice());
     Ok(())
 }
@@ -271,8 +278,9 @@ fn is_over(alloc: Global, client: &mut Client) -> bool {
     let mut more = LOGIN;
     let read = client.read(&mut more);
     let mut written = Vec::new(alloc);
-    client.write(&mut written);
+    let wrote = client.write(&mut written);
     read == PumpedIn::Finished
+        && wrote == PumpedOut::Drained
         && more.len() == LOGIN.len()
         && written.is_empty()
         && !client.desk.is_open
@@ -296,7 +304,7 @@ fn served(alloc: Global) -> Result<Client, Fail> {
 }
 
 // A writer that takes five bytes.
-fn narrow(alloc: Global, fault: Option<ErrorKind>) -> Narrow {
+fn five_taker(alloc: Global, fault: Option<ErrorKind>) -> Narrow {
     Narrow {
         taken: Vec::new(alloc),
         room: 5,
@@ -307,7 +315,7 @@ fn narrow(alloc: Global, fault: Option<ErrorKind>) -> Narrow {
 #[test]
 fn the_rest_of_a_partial_write_comes_next(rt: HostRuntime) -> Result<(), Fail> {
     let mut client = served(rt.alloc())?;
-    let mut writer = narrow(rt.alloc(), Some(ErrorKind::WouldBlock));
+    let mut writer = five_taker(rt.alloc(), Some(ErrorKind::WouldBlock));
     let first = client.write(&mut writer);
     assert!(rt; first == PumpedOut::Blocked && client.desk.is_open);
     assert!(rt; client.desk.waiting.as_slice() == b"fgh".as_slice());
@@ -325,7 +333,7 @@ fn writers_that_fail_end_the_connection(rt: HostRuntime) -> Result<(), Fail> {
         None,
     ] {
         let mut client = served(rt.alloc())?;
-        let mut writer = narrow(rt.alloc(), fault);
+        let mut writer = five_taker(rt.alloc(), fault);
         let answer = client.write(&mut writer);
         assert!(rt; answer == PumpedOut::Failed && writer.taken.as_slice() == b"abcde".as_slice());
         assert!(rt; is_over(rt.alloc(), &mut client));

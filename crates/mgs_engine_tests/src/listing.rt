@@ -1,0 +1,136 @@
+// The listing of all buffers and an access list, as they are drawn.
+use super::fixtures::list_of;
+use mgs_buffers::Buffers;
+use mgs_grid::{Grid, Line};
+use mgs_marks::PlainMarked;
+use mgs_model::Name;
+use mgs_policy::Directory;
+use mgs_screen::{draw_entries, draw_listing};
+use std::alloc::Global;
+use std::process::Abort;
+use std::test::Fail;
+
+fn named(rt: &impl Abort, text: &str) -> Name {
+    match Name::read(text) {
+        Some(name) => name,
+        None => panic!(rt; "no name"),
+    }
+}
+
+// `notes` of ann, which was edited, and `secret` of cat.
+fn two(alloc: Global, rt: &impl Abort) -> Buffers<PlainMarked> {
+    let mut all = Buffers::new(alloc);
+    let list = list_of(&["ALLOW OWNER@ rwatdcCo"], rt);
+    assert!(rt; all.add("notes", "ann", list, &['a'], false).is_ok());
+    let list = list_of(&["ALLOW OWNER@ rwatdcCo"], rt);
+    assert!(rt; all.add("secret", "cat", list, &['b'], false).is_ok());
+    let notes = named(rt, "notes");
+    assert!(rt; all.has(&notes));
+    assert_eq!(rt; all.text_len(&notes), 1);
+    assert_eq!(rt; all.serial(&notes), 0);
+    assert!(rt; all.edit(&notes, 1, 1, &['c']).is_ok());
+    all
+}
+
+// Whether a row of 30 columns shows this text and blanks.
+fn reads(line: &Line, text: &str, is_reversed: bool) -> bool {
+    for i in 0..30 {
+        let byte = match text.as_bytes().get(i) {
+            Some(byte) => *byte,
+            None => b' ',
+        };
+        if line.text().get(i) != Some(&(byte as char)) {
+            return false;
+        }
+    }
+    line.text().len() == 30 && line.is_reversed() == is_reversed
+}
+
+// Whether a window of three rows shows this text in the first, and blanks in the others, and this is its mode line.
+fn shows(grid: &Grid, text: &str, mode: &str) -> bool {
+    match grid.lines() {
+        [first, second, third, last, ..] => {
+            reads(first, text, false)
+                && reads(second, "", false)
+                && reads(third, "", false)
+                && reads(last, mode, true)
+        }
+        _ => false,
+    }
+}
+
+// Whether a user is shown this first row of the listing from a row on.
+fn lists(rt: &impl Abort, alloc: Global, user: &str, row: usize, text: &str) -> Result<bool, Fail> {
+    let mut grid = Grid::new(alloc, 6, 30)?;
+    let all = two(alloc, rt);
+    let user = named(rt, user);
+    assert!(rt; grid.rows() > 3);
+    let mut judge = all.judge()?;
+    draw_listing(
+        &all,
+        &mut judge,
+        &Directory::new(alloc),
+        &user,
+        0,
+        3,
+        row,
+        &mut grid,
+    );
+    Ok(shows(&grid, text, "-Buffers----------------------"))
+}
+
+#[test]
+fn the_listing_shows_what_may_be_seen(rt: HostRuntime) -> Result<(), Fail> {
+    let alloc = rt.alloc();
+    assert!(rt; lists(&rt, alloc, "ann", 0, "*       2 notes ann")?);
+    assert!(rt; lists(&rt, alloc, "cat", 0, "        1 secret cat")?);
+    assert!(rt; lists(&rt, alloc, "cat", 1, "")?);
+    Ok(())
+}
+
+// Whether a user is shown this first row and this mode line for the access list of `notes`.
+fn acl_shows(
+    rt: &impl Abort,
+    alloc: Global,
+    user: &str,
+    text: &str,
+    mode: &str,
+) -> Result<bool, Fail> {
+    let mut grid = Grid::new(alloc, 6, 30)?;
+    let all = two(alloc, rt);
+    let user = named(rt, user);
+    let notes = named(rt, "notes");
+    assert!(rt; all.has(&notes));
+    assert!(rt; grid.rows() > 3);
+    let mut judge = all.judge()?;
+    draw_entries(
+        &all,
+        &mut judge,
+        &Directory::new(alloc),
+        &user,
+        &notes,
+        0,
+        3,
+        0,
+        &mut grid,
+    );
+    Ok(shows(&grid, text, mode))
+}
+
+#[test]
+fn an_access_list_is_shown_or_masked(rt: HostRuntime) -> Result<(), Fail> {
+    let alloc = rt.alloc();
+    let entry = "1 ALLOW OWNER@ rwatdcCo";
+    assert!(rt; acl_shows(&rt, alloc, "ann", entry, "-Acl-notes--------------------")?);
+    let unlisted = "[no acl: no entry]";
+    assert!(rt;
+        acl_shows(
+            &rt,
+            alloc,
+            "bob",
+            unlisted,
+            "-Acl-?------------------------"
+        )?
+    );
+    Ok(())
+}
