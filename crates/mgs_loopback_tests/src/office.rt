@@ -17,12 +17,14 @@ use std::test::Fail;
 /// A server whose buffers have no files.
 pub(crate) type Office = Server<RefusingStore>;
 
-// Everyone may read and write the notes.
-fn notes_list(rt: &impl Abort) -> List {
+/// Ann may do everything with the notes, and bob read and write them.
+pub(crate) fn notes_list(rt: &impl Abort) -> List {
     let mut list = List::new();
-    match read_entry("ALLOW EVERYONE@ rwat") {
-        Ok(entry) => assert!(rt; list.insert(list.len(), entry).is_ok()),
-        Err(_) => panic!(rt; "no entry"),
+    for entry in ["ALLOW OWNER@ rwatdcCo", "ALLOW bob rwat"] {
+        match read_entry(entry) {
+            Ok(entry) => assert!(rt; list.insert(list.len(), entry).is_ok()),
+            Err(_) => panic!(rt; "no entry"),
+        }
     }
     list
 }
@@ -75,9 +77,9 @@ fn office_config(alloc: Global, list: List) -> Result<Config, Fail>
     })
 }
 
-/// A server of the notes, on a port that the system chose.
-pub(crate) fn open_office(rt: &HostRuntime) -> Result<Office, Fail> {
-    let config = office_config(rt.alloc(), notes_list(rt))?;
+/// A server of the notes with this list, on a port that the system chose.
+pub(crate) fn open_office(rt: &HostRuntime, list: List) -> Result<Office, Fail> {
+    let config = office_config(rt.alloc(), list)?;
     let office = Server::listen(rt, rt.alloc(), 0, config, RefusingStore::new())?;
     Ok(office)
 }
