@@ -1,7 +1,6 @@
 // Whole scripts, over readers and writers in memory.
 use super::steps::scripts_show;
-use mgs_gap::GapText;
-use mgs_marks::{Marked, PlainMarked};
+use mgs_marks::PlainMarked;
 use mgs_model::SCRIPT_LIMIT;
 use mgs_replay::{ReplayFault, replay, replay_over};
 use std::alloc::Global;
@@ -11,27 +10,19 @@ use std::test::Fail;
 
 pub(crate) const NOTES: &str = "user ann\nbuffer notes ann\nentry notes ALLOW OWNER@ rwatdcCo\n";
 
-// A script gives this output and this end over texts of one type. A message calls both by these names.
-fn gives_over<T: Marked + Drop>(
-    rt: &impl Abort,
-    alloc: Global,
-    name: &str,
-    texts: &str,
-    script: &[u8],
-    output: &str,
-    end: Result<(), ReplayFault>,
-) {
+// The end of a script over the texts of the programs.
+fn end_of(alloc: Global, script: &[u8], written: &mut Vec<u8>) -> Result<(), ReplayFault> {
     let mut reader = script;
-    let mut written = Vec::new(alloc);
-    let outcome = replay_over::<T, _, _>(alloc, &mut reader, &mut written);
-    assert_eq!(rt; outcome, end, "{name}, over {texts}");
-    assert!(rt;
-        written.as_slice() == output.as_bytes(),
-        "{name}, over {texts}"
-    );
+    replay(alloc, &mut reader, written)
 }
 
-// A script gives this output and this end, over the texts of the programs and over plain ones.
+// The end of a script over plain texts.
+fn plain_end_of(alloc: Global, script: &[u8], written: &mut Vec<u8>) -> Result<(), ReplayFault> {
+    let mut reader = script;
+    replay_over::<PlainMarked, _, _>(alloc, &mut reader, written)
+}
+
+// A script gives this output and this end, over the texts of the programs and over plain ones. A message calls it by this name.
 pub(crate) fn gives(
     rt: &impl Abort,
     alloc: Global,
@@ -40,8 +31,17 @@ pub(crate) fn gives(
     output: &str,
     end: Result<(), ReplayFault>,
 ) {
-    gives_over::<GapText>(rt, alloc, name, "texts with a gap", script, output, end);
-    gives_over::<PlainMarked>(rt, alloc, name, "plain texts", script, output, end);
+    let mut written = Vec::new(alloc);
+    let outcome = end_of(alloc, script, &mut written);
+    assert_eq!(rt; outcome, end, "{name}");
+    assert!(rt; written.as_slice() == output.as_bytes(), "{name}");
+    let mut plain = Vec::new(alloc);
+    let outcome = plain_end_of(alloc, script, &mut plain);
+    assert_eq!(rt; outcome, end, "{name}, over plain texts");
+    assert!(rt;
+        plain.as_slice() == output.as_bytes(),
+        "{name}, over plain texts"
+    );
 }
 
 // The same of lines after the user, the buffer and the entry of `NOTES`.
@@ -108,16 +108,30 @@ fn screens_are_printed(rt: HostRuntime) -> Result<(), Fail> {
         !-**-notes-L1-C1-----!
         |                    |
         cursor 1 2
-        == other keys are not bound
+        == C-c is not bound
         open a ann 6 60
-        a C-a C-c     |  | --L1-C0 | 1 1 | Key not bound
-        a C-a C-h     |  | --L1-C0 | 1 1 | Key not bound
-        a C-a C-z     |  | --L1-C0 | 1 1 | Key not bound
-        a C-a C-x C-d |  | --L1-C0 | 1 1 | Key not bound
-        a C-a C-x C-q |  | --L1-C0 | 1 1 | Key not bound
-        a C-a C-x C-z |  | --L1-C0 | 1 1 | Key not bound
-        a C-a M-a     |  | --L1-C0 | 1 1 | Key not bound
-        a C-a M-z     |  | --L1-C0 | 1 1 | Key not bound
+        a C-c |  | --L1-C0 | 1 1 | Key not bound
+        == C-h is not bound
+        open a ann 6 60
+        a C-h |  | --L1-C0 | 1 1 | Key not bound
+        == C-z is not bound
+        open a ann 6 60
+        a C-z |  | --L1-C0 | 1 1 | Key not bound
+        == C-x C-d is not bound
+        open a ann 6 60
+        a C-x C-d |  | --L1-C0 | 1 1 | Key not bound
+        == C-x C-q is not bound
+        open a ann 6 60
+        a C-x C-q |  | --L1-C0 | 1 1 | Key not bound
+        == C-x C-z is not bound
+        open a ann 6 60
+        a C-x C-z |  | --L1-C0 | 1 1 | Key not bound
+        == M-a is not bound
+        open a ann 6 60
+        a M-a |  | --L1-C0 | 1 1 | Key not bound
+        == M-z is not bound
+        open a ann 6 60
+        a M-z |  | --L1-C0 | 1 1 | Key not bound
         == arguments repeat and words are ended
         open a ann 6 20
         keys a C-u C-u 'x RET C-u '3 C-u 'y M-2 'z C-u '9 ESC C-g
@@ -189,6 +203,18 @@ fn screens_are_printed(rt: HostRuntime) -> Result<(), Fail> {
         !-**-notes-L1-C3-----!
         |                    |
         cursor 1 4
+        == a tab reaches the next multiple of eight
+        open a ann 6 20
+        keys a TAB 'x
+        show a
+        screen a
+        |        x           |
+        |                    |
+        |                    |
+        |                    |
+        !-**-notes-L1-C9-----!
+        |                    |
+        cursor 1 10
         == tabs insert themselves
         open a ann 6 20
         keys a TAB 'x C-i
@@ -201,10 +227,10 @@ fn screens_are_printed(rt: HostRuntime) -> Result<(), Fail> {
         !-**-notes-L1-C16----!
         |                    |
         cursor 1 17
-        == long lines are shown around the point
+        == a long line is not shifted
         text notes 'xxxxxxxxxxxxxxxxxxxxxxxxxxxxxxxxxxxxxxxxxxxxxxxxxxxxxxxxxxxxxxxxxxxxxxxxxxxxxxxxxxxxxxxxxxxxxxxxxxxxxxxxxxxxxxxxxxxxxxxxxxxxxxxxxxxxxxxxxxxxxxxxxxxxxxxxxxxxxxxxxxxxxxxxxxxxxxxxxxxxxxxxxxxxxxxxxxxxxxxxxxxxxxxxxxxxxxxxxxxxxxxxxxxxxxxxxxxxxxxxxxxxxxxxxxxxxxxxxxxxxxxxxxxxxxxxxxxxxxxxxxxxxxxxxxxxxxxxxxxx
         open a ann 6 20
-        keys a C-u '18 C-f
+        keys a C-f C-f C-f C-f C-f C-f C-f C-f C-f C-f C-f C-f C-f C-f C-f C-f C-f C-f
         show a
         screen a
         |xxxxxxxxxxxxxxxxxxx$|
@@ -214,7 +240,10 @@ fn screens_are_printed(rt: HostRuntime) -> Result<(), Fail> {
         !----notes-L1-C18----!
         |                    |
         cursor 1 19
-        keys a C-f
+        == a long line is shifted
+        text notes 'xxxxxxxxxxxxxxxxxxxxxxxxxxxxxxxxxxxxxxxxxxxxxxxxxxxxxxxxxxxxxxxxxxxxxxxxxxxxxxxxxxxxxxxxxxxxxxxxxxxxxxxxxxxxxxxxxxxxxxxxxxxxxxxxxxxxxxxxxxxxxxxxxxxxxxxxxxxxxxxxxxxxxxxxxxxxxxxxxxxxxxxxxxxxxxxxxxxxxxxxxxxxxxxxxxxxxxxxxxxxxxxxxxxxxxxxxxxxxxxxxxxxxxxxxxxxxxxxxxxxxxxxxxxxxxxxxxxxxxxxxxxxxxxxxxxxxxxxxxxx
+        open a ann 6 20
+        keys a C-f C-f C-f C-f C-f C-f C-f C-f C-f C-f C-f C-f C-f C-f C-f C-f C-f C-f C-f
         show a
         screen a
         |$xxxxxxxxxxxxxxxxxx$|
@@ -224,7 +253,10 @@ fn screens_are_printed(rt: HostRuntime) -> Result<(), Fail> {
         !----notes-L1-C19----!
         |                    |
         cursor 1 11
-        keys a C-u '280 C-f
+        == a long line is shown to its end
+        text notes 'xxxxxxxxxxxxxxxxxxxxxxxxxxxxxxxxxxxxxxxxxxxxxxxxxxxxxxxxxxxxxxxxxxxxxxxxxxxxxxxxxxxxxxxxxxxxxxxxxxxxxxxxxxxxxxxxxxxxxxxxxxxxxxxxxxxxxxxxxxxxxxxxxxxxxxxxxxxxxxxxxxxxxxxxxxxxxxxxxxxxxxxxxxxxxxxxxxxxxxxxxxxxxxxxxxxxxxxxxxxxxxxxxxxxxxxxxxxxxxxxxxxxxxxxxxxxxxxxxxxxxxxxxxxxxxxxxxxxxxxxxxxxxxxxxxxxxxxxxxxx
+        open a ann 6 20
+        keys a C-u '299 C-f
         show a
         screen a
         |$xxxxxxxxxxx        |
@@ -294,6 +326,42 @@ fn rights_are_told(rt: HostRuntime) -> Result<(), Fail> {
         !-**-notes-(no read)-!
         |Denied: no entry gr$|
         cursor 1 1
+        show a
+        screen a
+        |abcx                |
+        |                    |
+        |                    |
+        |                    |
+        !-**-notes-L1-C0-----!
+        |                    |
+        cursor 1 1
+        == the mask names its entry
+        user ann
+        user bob
+        buffer notes ann
+        entry notes DENY bob r
+        entry notes ALLOW bob at
+        text notes 'abc
+        open b bob 6 20
+        show b
+        screen b
+        |[no read: entry 1]  |
+        |                    |
+        |                    |
+        |                    |
+        !----notes-(no read)-!
+        |                    |
+        cursor 1 1
+        keys b C-f
+        show b
+        screen b
+        |[no read: entry 1]  |
+        |                    |
+        |                    |
+        |                    |
+        !----notes-(no read)-!
+        |Denied: entry 1 den$|
+        cursor 1 1
         == denials name their entry
         user ann
         user bob
@@ -339,6 +407,20 @@ fn rights_are_told(rt: HostRuntime) -> Result<(), Fail> {
         !-None---------------!
         |                    |
         cursor 1 1
+        == others have no buffer beside a group
+        user ann
+        user bob
+        user cat
+        group staff ann bob
+        buffer notes ann
+        entry notes ALLOW group:staff rt
+        text notes 'abc
+        open b bob 6 60
+        open c cat 6 60
+        b    | abc | --L1-C0 | 1 1
+        c    |     | :-None  | 1 1
+        c 'x |     | :-None  | 1 1 | No buffer
+        b    | abc | --L1-C0 | 1 1
         == who may see nothing has no buffer
         user ann
         buffer notes ann
@@ -446,7 +528,7 @@ fn lists_are_full_at_64_entries(rt: HostRuntime) -> Result<(), Fail> {
     )
 }
 
-// Reads nothing, and takes all or nothing, but cannot flush.
+// Reads nothing, and takes all, which it cannot flush, or takes nothing.
 #[derive(Drop)]
 struct Broken {
     takes: bool,
@@ -467,7 +549,10 @@ impl Write for Broken {
     }
 
     fn flush(&mut self) -> io::Result<()> {
-        Err(io::Error::from(ErrorKind::Other))
+        if self.takes {
+            return Err(io::Error::from(ErrorKind::Other));
+        }
+        Ok(())
     }
 }
 

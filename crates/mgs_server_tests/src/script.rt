@@ -10,7 +10,9 @@ fn scripts_are_cut_at_the_first_line_feed(rt: HostRuntime) {
     let (line, rest) = cut_line(b"user ann\n# end\n");
     assert!(rt; line == b"user ann".as_slice());
     assert!(rt; rest == Some(b"# end\n".as_slice()));
-    assert!(rt; cut_line(b"# end").1.is_none());
+    let (line, rest) = cut_line(b"# end");
+    assert!(rt; line == b"# end".as_slice());
+    assert!(rt; rest.is_none());
 }
 
 // A line that is read so.
@@ -20,9 +22,10 @@ fn is_read(rt: &impl Abort, alloc: Global, line: &str, wanted: &Line<'_>) -> Res
 }
 
 #[test]
-fn lines_are_read(rt: HostRuntime) -> Result<(), Fail> {
+fn lines_before_the_first_open_are_read(rt: HostRuntime) -> Result<(), Fail> {
     let alloc = rt.alloc();
-    let label = Name::read("*notes*").ok_or("no name")?;
+    let notes = Name::read("notes").ok_or("no name")?;
+    assert!(rt; read_line(alloc, b"# any \xFF bytes")? == Line::Nothing);
     is_read(&rt, alloc, "", &Line::Nothing)?;
     is_read(&rt, alloc, "user ann", &Line::User { name: "ann" })?;
     let group = Line::Group {
@@ -36,29 +39,58 @@ fn lines_are_read(rt: HostRuntime) -> Result<(), Fail> {
     };
     is_read(&rt, alloc, "buffer notes ann", &buffer)?;
     let entry = Line::Entry {
-        buffer: label,
+        buffer: notes,
         entry: "ALLOW  EVERYONE@ rw",
     };
-    is_read(&rt, alloc, "entry *notes* ALLOW  EVERYONE@ rw", &entry)?;
+    is_read(&rt, alloc, "entry notes ALLOW  EVERYONE@ rw", &entry)
+}
+
+// The text `notes` of a line has these characters.
+fn text_is(rt: &impl Abort, alloc: Global, line: &str, wanted: &str) -> Result<(), Fail> {
     let text = Line::Text {
-        buffer: label,
-        text: vec![in alloc; 'h', 'i', ' ', '\n', '\'', '\t']?,
+        buffer: Name::read("notes").ok_or("no name")?,
+        text: wanted.chars().collect(alloc)?,
     };
-    is_read(&rt, alloc, "text *notes* 'hi SPC RET '' TAB", &text)?;
+    is_read(rt, alloc, line, &text)
+}
+
+// A session of this label and this user opens on so many rows and columns.
+fn opens(
+    rt: &impl Abort,
+    alloc: Global,
+    label: &str,
+    user: &str,
+    rows: usize,
+    cols: usize,
+) -> Result<(), Fail> {
+    let line = format!(in alloc; "open {label} {user} {rows} {cols}")?;
+    let label = Name::read(label).ok_or("no name")?;
     let open = Line::Open {
         label,
-        user: "Ann",
-        rows: 24,
-        cols: 80,
+        user,
+        rows,
+        cols,
     };
-    is_read(&rt, alloc, "open *notes* Ann 24 80", &open)?;
+    is_read(rt, alloc, line.as_str(), &open)
+}
+
+#[test]
+fn lines_of_texts_and_sessions_are_read(rt: HostRuntime) -> Result<(), Fail> {
+    let alloc = rt.alloc();
+    text_is(&rt, alloc, "text notes 'a RET TAB SPC", "a\n\t ")?;
+    text_is(&rt, alloc, "text notes 'hi SPC RET ''", "hi \n'")?;
+    opens(&rt, alloc, "*notes*", "Ann", 24, 80)?;
+    opens(&rt, alloc, "a", "ann", 6, 20)?;
+    opens(&rt, alloc, "a", "ann", 0, 20)?;
+    opens(&rt, alloc, "a", "ann", 64, 160)?;
+    let label = Name::read("a").ok_or("no name")?;
     let keys = Line::Keys {
         label,
         keys: vec![in alloc; 0x18, 0x32]?,
     };
-    is_read(&rt, alloc, "keys *notes* C-x '2", &keys)?;
-    is_read(&rt, alloc, "show *notes*", &Line::Show { label })?;
-    is_read(&rt, alloc, "close *notes*", &Line::Close { label })
+    is_read(&rt, alloc, "keys a C-x '2", &keys)?;
+    is_read(&rt, alloc, "show a", &Line::Show { label })?;
+    is_read(&rt, alloc, "close a", &Line::Close { label })
 }
 
 const OTHERS: &str = "open a ann 06 20\n\
