@@ -1,5 +1,5 @@
 // Configurations: the world of a document, and the faults of its tables.
-use mgs_config::{Config, Files, FilesFault, read_config};
+use mgs_config::{Config, ConfigFault, Files, FilesFault, read_config};
 use mgs_marks::Marked;
 use mgs_model::Name;
 use mgs_text::Text;
@@ -40,21 +40,25 @@ impl Files for Alike {
     }
 }
 
-// The printed fault of the users' table and these tables.
-fn refused(
-    alloc: Global,
-    tables: &str,
-    readable: bool,
-    wanted: &str,
-    rt: &impl Abort,
-) -> Result<(), Fail> {
-    let text = format!(in alloc; "{ANN}{tables}")?;
+// The configuration of a text. What it is made of tells proofs nothing.
+fn read(alloc: Global, text: &str, readable: bool) -> Result<Config, ConfigFault> {
     let mut files = Alike {
         alloc,
         readable,
         faults: 0,
     };
-    match read_config(alloc, text.as_str(), &mut files) {
+    read_config(alloc, text, &mut files)
+}
+
+// The printed fault of a text.
+fn refused(
+    alloc: Global,
+    text: &str,
+    readable: bool,
+    wanted: &str,
+    rt: &impl Abort,
+) -> Result<(), Fail> {
+    match read(alloc, text, readable) {
         Ok(_) => panic!(rt; "no fault: {wanted}"),
         Err(fault) => {
             let printed = format!(in alloc; "{fault}")?;
@@ -64,33 +68,9 @@ fn refused(
     Ok(())
 }
 
-// The text of a buffer.
-fn text_of(config: &Config, name: &str, rt: &impl Abort) -> Result<Vec<char>, Fail> {
-    match Name::read(name) {
-        Some(name) if config.buffers.has(&name) => {
-            let text = config.buffers.text(&name);
-            Ok(text.copy(0, text.len())?)
-        }
-        _ => panic!(rt; "no buffer {name}"),
-    }
-}
-
-// The configuration of a text.
-fn taken(alloc: Global, text: &str, rt: &impl Abort) -> Config {
-    let mut files = Alike {
-        alloc,
-        readable: true,
-        faults: 0,
-    };
-    match read_config(alloc, text, &mut files) {
-        Ok(config) => config,
-        Err(fault) => panic!(rt; "{fault}"),
-    }
-}
-
+// Of tables behind that of ann.
 #[test]
-fn names_the_first_fault(rt: HostRuntime) -> Result<(), Fail> {
-    let alloc = rt.alloc();
+fn the_first_fault_is_named_by_its_table(rt: HostRuntime) -> Result<(), Fail> {
     let rows = [
         (
             "[[buffer]]\nname = \"notes\"\nowner = \"bob\"\nlist = []\n",
@@ -117,65 +97,73 @@ fn names_the_first_fault(rt: HostRuntime) -> Result<(), Fail> {
             "[[buffer]]\nname = \"a\"\nowner = \"ann\"\nlist = []\ntext = \"\"\nfile = \"f\"\n",
             "buffer 1: Key",
         ),
+        (
+            "[[buffer]]\nname = \"a\"\nowner = \"ann\"\nlist = []\nfile = \"f\"\n",
+            "buffer 1: File",
+        ),
     ];
     for (tables, wanted) in rows {
-        refused(alloc, tables, true, wanted, &rt)?;
+        let text = format!(in rt.alloc(); "{ANN}{tables}")?;
+        refused(
+            rt.alloc(),
+            text.as_str(),
+            wanted != "buffer 1: File",
+            wanted,
+            &rt,
+        )?;
     }
     Ok(())
 }
 
 #[test]
-fn names_the_document(rt: HostRuntime) -> Result<(), Fail> {
-    let alloc = rt.alloc();
-    let mut files = Alike {
-        alloc,
-        readable: true,
-        faults: 0,
-    };
-    for (text, wanted) in [("color = 1\n", "top 0: Key"), ("= 1", "top 0: Toml")] {
-        match read_config(alloc, text, &mut files) {
-            Ok(_) => panic!(rt; "no fault: {wanted}"),
-            Err(fault) => {
-                let printed = format!(in alloc; "{fault}")?;
-                assert_eq!(rt; printed.as_str(), wanted);
-            }
+fn a_document_has_no_other_keys(rt: HostRuntime) -> Result<(), Fail> {
+    refused(rt.alloc(), "color = 1\n", true, "top 0: Key", &rt)?;
+    refused(rt.alloc(), "= 1", true, "top 0: Toml", &rt)
+}
+
+// The text of a buffer.
+fn text_of(config: &Config, name: &str, rt: &impl Abort) -> Result<Vec<char>, Fail> {
+    match Name::read(name) {
+        Some(name) if config.buffers.has(&name) => {
+            let text = config.buffers.text(&name);
+            Ok(text.copy(0, text.len())?)
         }
+        _ => panic!(rt; "no buffer {name}"),
     }
-    Ok(())
 }
 
+const TABLES: &str =
+    "[[user]]\nname = \"ann\"\nticket = \"t1\"\n[[user]]\nname = \"bob\"\nticket = \"t2\"\n[[buffer]]\nname = \"notes\"\nowner = \"ann\"\nlist = [\"ALLOW bob r\"]\ntext = \"ab\\nc\"\n";
+
 #[test]
-fn gives_the_world_of_its_tables(rt: HostRuntime) -> Result<(), Fail> {
-    let text =
-        "[[user]]\nname = \"ann\"\nticket = \"t1\"\n[[user]]\nname = \"bob\"\nticket = \"t2\"\n[[buffer]]\nname = \"notes\"\nowner = \"ann\"\nlist = [\"ALLOW bob r\"]\ntext = \"ab\\nc\"\n";
-    let config = taken(rt.alloc(), text, &rt);
+fn a_document_gives_the_world_of_its_tables(rt: HostRuntime) -> Result<(), Fail> {
+    let Ok(config) = read(rt.alloc(), TABLES, true) else {
+        panic!(rt; "not read");
+    };
     assert!(rt; config.directory.user("ann").is_some());
     assert!(rt; config.directory.user("bob").is_some());
     assert!(rt; config.directory.user("eve").is_none());
     assert!(rt; config.tickets.ticket(b"bob") == Some(b"t2".as_slice()));
     assert!(rt; config.tickets.ticket(b"eve").is_none());
     assert_eq!(rt; config.buffers.len(), 1);
-    let text = text_of(&config, "notes", &rt)?;
-    assert!(rt; text.as_slice() == ['a', 'b', '\n', 'c'].as_slice());
     assert!(rt; config.files.is_empty());
+    let notes = text_of(&config, "notes", &rt)?;
+    assert!(rt; notes.as_slice() == ['a', 'b', '\n', 'c'].as_slice());
     Ok(())
 }
 
+const FILED: &str =
+    "[[user]]\nname = \"ann\"\nticket = \"t1\"\n[[buffer]]\nname = \"notes\"\nowner = \"ann\"\nlist = []\nfile = \"f\"\n";
+
 #[test]
-fn reads_the_file_of_a_buffer(rt: HostRuntime) -> Result<(), Fail> {
-    let alloc = rt.alloc();
-    let tables = "[[buffer]]\nname = \"notes\"\nowner = \"ann\"\nlist = []\nfile = \"f\"\n";
-    refused(alloc, tables, false, "buffer 1: File", &rt)?;
-    let text = format!(in alloc; "{ANN}{tables}")?;
-    let config = taken(alloc, text.as_str(), &rt);
-    let read = text_of(&config, "notes", &rt)?;
-    assert!(rt; read.as_slice() == ['h', 'i'].as_slice());
-    match config.files.first() {
-        Some(file) => {
-            assert_eq!(rt; file.name.as_str(), "notes");
-            assert_eq!(rt; file.path.as_str(), "f");
-        }
-        None => panic!(rt; "no file"),
-    }
+fn the_file_of_a_buffer_is_read(rt: HostRuntime) -> Result<(), Fail> {
+    let Ok(config) = read(rt.alloc(), FILED, true) else {
+        panic!(rt; "not read");
+    };
+    let notes = text_of(&config, "notes", &rt)?;
+    assert!(rt; notes.as_slice() == ['h', 'i'].as_slice());
+    let file = config.files.first().ok_or("no file")?;
+    assert_eq!(rt; file.name.as_str(), "notes");
+    assert_eq!(rt; file.path.as_str(), "f");
     Ok(())
 }

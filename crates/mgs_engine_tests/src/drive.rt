@@ -1,43 +1,45 @@
 // Lists of calls, and their tape.
-use super::fixtures::{directory_of, list_of};
-use mgs_buffers::Buffers;
-use mgs_core::Core;
+use super::fixtures::{fed, serve, show, waiting};
 use mgs_engine::{Answer, Call, Cause, Engine, Tape, drive};
 use mgs_marks::PlainMarked;
-use mgs_model::Keyed;
+use mgs_model::{Keyed, SessionId};
 use mgs_store::RefusingStore;
-use mgs_term::Term;
 use std::alloc::Global;
 use std::process::Abort;
 use std::test::Fail;
 
-// The empty buffer `notes` of ann.
-fn serve(alloc: Global, rt: &impl Abort) -> Engine<PlainMarked, RefusingStore> {
-    let directory = directory_of(alloc, &["ann"], rt);
-    let list = list_of(&["ALLOW OWNER@ rwat"], rt);
-    let mut buffers = Buffers::new(alloc);
-    assert!(rt; buffers.add("notes", "ann", list, &[], false).is_ok());
-    let Ok(core) = Core::new(alloc, directory, buffers, RefusingStore::new()) else {
-        panic!(rt; "no memory");
-    };
-    match Engine::new(alloc, core) {
-        Ok(engine) => engine,
-        Err(_) => panic!(rt; "no memory"),
-    }
+// Makes these calls.
+fn make(
+    engine: &mut Engine<PlainMarked, RefusingStore>,
+    calls: &[Call<'_>],
+    tape: &mut Tape,
+    rt: &impl Abort,
+) {
+    assert!(rt; drive(engine, calls, tape).is_ok());
 }
 
-// How many bytes a call took, if it is one that takes.
-fn count(answer: &Answer) -> Option<usize> {
-    match answer {
-        Answer::Took(n) => Some(*n),
-        _ => None,
+// What was taken of a session.
+fn taken(tape: &Tape, id: SessionId) -> &[u8] {
+    tape.bytes(id)
+}
+
+// Whether an answer on the tape is the one of this place in the list of calls below.
+fn is_answer(i: usize, answer: &Answer) -> bool {
+    match i {
+        0 => matches!(answer, Answer::Open(Ok(1))),
+        1 => matches!(answer, Answer::Took(5)),
+        2 => matches!(answer, Answer::Byte(Keyed::Done)),
+        3 => matches!(answer, Answer::Took(0)),
+        4 => matches!(answer, Answer::Close),
+        5 => matches!(answer, Answer::Ended(Some((1, Cause::Closed)))),
+        _ => matches!(answer, Answer::Ended(None)),
     }
 }
 
 #[test]
-fn each_call_is_answered_on_the_tape(rt: HostRuntime) -> Result<(), Fail> {
+fn each_call_is_answered_on_the_tape(rt: HostRuntime) {
     let alloc = rt.alloc();
-    let mut engine = serve(alloc, &rt);
+    let mut engine = serve(alloc, &["ALLOW OWNER@ rwat"], &[], &rt);
     let mut tape = Tape::new(alloc);
     let calls = [
         Call::Open("ann", 6, 20),
@@ -48,37 +50,44 @@ fn each_call_is_answered_on_the_tape(rt: HostRuntime) -> Result<(), Fail> {
         Call::Ended,
         Call::Ended,
     ];
-    assert!(rt; drive(&mut engine, &calls, &mut tape).is_ok());
-    let answers = tape.answers();
-    assert_eq!(rt; answers.len(), 7);
-    assert!(rt; matches!(answers[0], Answer::Open(Ok(1))));
-    assert!(rt; count(&answers[1]) == Some(5));
-    assert!(rt; matches!(answers[2], Answer::Byte(Keyed::Done)));
-    assert!(rt; count(&answers[3]) == Some(0));
-    assert!(rt; matches!(answers[4], Answer::Close));
-    assert!(rt; matches!(answers[5], Answer::Ended(Some((1, Cause::Closed)))));
-    assert!(rt; matches!(answers[6], Answer::Ended(None)));
-    assert_eq!(rt; tape.bytes(1).len(), 5);
-    assert!(rt; tape.bytes(2).is_empty());
-    Ok(())
+    make(&mut engine, &calls, &mut tape, &rt);
+    assert!(rt; tape.answers().len() == 7);
+    for (i, answer) in tape.answers().iter().enumerate() {
+        assert!(rt; is_answer(i, answer));
+    }
+    assert!(rt; taken(&tape, 1).len() == 5);
+    assert!(rt; taken(&tape, 2).is_empty());
+}
+
+// Whether a terminal that takes the tape of the first session, of so many bytes, and then what waits for it shows this screen.
+fn leads_to(
+    alloc: Global,
+    engine: &Engine<PlainMarked, RefusingStore>,
+    tape: &Tape,
+    count: usize,
+    screen: &str,
+    cursor: (usize, usize),
+) -> Result<bool, Fail> {
+    let mut bytes = Vec::from_slice(alloc, taken(tape, 1))?;
+    let is_so_long = bytes.len() == count;
+    bytes.extend_from_slice(waiting(engine, 1))?;
+    Ok(is_so_long && show(alloc, &bytes, screen, cursor))
 }
 
 #[test]
 fn the_tape_and_what_waits_give_the_screen(rt: HostRuntime) -> Result<(), Fail> {
     let alloc = rt.alloc();
-    let mut engine = serve(alloc, &rt);
+    let mut engine = serve(alloc, &["ALLOW OWNER@ rwat"], &[], &rt);
     let mut tape = Tape::new(alloc);
-    assert!(rt; drive(&mut engine, &[Call::Open("ann", 6, 20)], &mut tape).is_ok());
-    for (i, byte) in b"hi".iter().enumerate() {
-        let calls = [Call::Byte(1, *byte), Call::Took(1, 5)];
-        assert!(rt; drive(&mut engine, &calls, &mut tape).is_ok());
-        let mut term = Term::new(alloc, 6, 20).map_err(|_| "no memory")?;
-        assert!(rt; term.feed_all(tape.bytes(1)).is_ok());
-        assert!(rt; term.feed_all(engine.pending(1)).is_ok());
-        assert_eq!(rt; tape.bytes(1).len(), 5 * (i + 1));
-        assert_eq!(rt; term.cursor(), (1, i + 2));
-        assert_eq!(rt; term.grid()[0].character, 'h');
-    }
+    make(&mut engine, &[Call::Open("ann", 6, 20)], &mut tape, &rt);
+    let calls = [Call::Byte(1, b'h'), Call::Took(1, 5)];
+    make(&mut engine, &calls, &mut tape, &rt);
+    let screen = "h | -**-notes-L1-C1-----";
+    assert!(rt; leads_to(alloc, &engine, &tape, 5, screen, (1, 2))?);
+    let calls = [Call::Byte(1, b'i'), Call::Took(1, 5)];
+    make(&mut engine, &calls, &mut tape, &rt);
+    let screen = "hi | -**-notes-L1-C2-----";
+    assert!(rt; leads_to(alloc, &engine, &tape, 10, screen, (1, 3))?);
     Ok(())
 }
 
@@ -86,28 +95,34 @@ fn the_tape_and_what_waits_give_the_screen(rt: HostRuntime) -> Result<(), Fail> 
 const FULL_ROWS: &[u8] =
     b"\x1b[?7l\x1b[2;1Hzzzzzzzzzzzzzzzzzzzz\x1b[3;1Hzzzzzzzzzzzzzzzzzzzz\x1b[4;1Hzzzzzzzzzzzzzzzzzzzz\x1b[6;1Hzzzzzzzzzzzzzzzzzzzz\x1b[1;2H";
 
+// The character that a cell then has where only the two cells that changed were written.
+fn expected(i: usize) -> char {
+    match i {
+        1 => 'i',
+        94 => '2',
+        20..=79 | 100..=119 => 'z',
+        _ => ' ',
+    }
+}
+
 #[test]
 fn a_character_is_painted_in_two_rows(rt: HostRuntime) -> Result<(), Fail> {
     let alloc = rt.alloc();
-    let mut engine = serve(alloc, &rt);
-    let mut before = Tape::new(alloc);
+    let mut engine = serve(alloc, &["ALLOW OWNER@ rwat"], &[], &rt);
     let calls = [
         Call::Open("ann", 6, 20),
         Call::Byte(1, b'h'),
         Call::Took(1, 100_000),
     ];
-    assert!(rt; drive(&mut engine, &calls, &mut before).is_ok());
+    make(&mut engine, &calls, &mut Tape::new(alloc), &rt);
     let mut tape = Tape::new(alloc);
     let calls = [Call::Byte(1, b'i'), Call::Took(1, 100_000)];
-    assert!(rt; drive(&mut engine, &calls, &mut tape).is_ok());
-    let mut term = Term::new(alloc, 6, 20).map_err(|_| "no memory")?;
-    assert!(rt; term.feed_all(FULL_ROWS).is_ok());
-    assert!(rt; term.feed_all(tape.bytes(1)).is_ok());
+    make(&mut engine, &calls, &mut tape, &rt);
+    let mut bytes = Vec::from_slice(alloc, FULL_ROWS)?;
+    bytes.extend_from_slice(taken(&tape, 1))?;
+    let term = fed(alloc, &bytes).ok_or("refused")?;
     for (i, cell) in term.grid().iter().enumerate() {
-        let row = i / 20;
-        assert!(rt; row == 0 || row == 4 || cell.character == 'z');
-        assert!(rt; i != 1 || cell.character == 'i');
-        assert!(rt; i != 94 || cell.character == '2');
+        assert_eq!(rt; cell.character, expected(i));
     }
     Ok(())
 }

@@ -3,17 +3,13 @@
 #![tactic(auto)]
 
 #[cfg(test)]
-mod calls;
-#[cfg(test)]
 mod config;
 #[cfg(test)]
 mod drive;
 #[cfg(test)]
 mod fixtures;
 #[cfg(test)]
-mod ids;
-#[cfg(test)]
-mod judged;
+mod foreign;
 #[cfg(test)]
 mod listing;
 #[cfg(test)]
@@ -22,8 +18,6 @@ mod lockstep;
 mod marks;
 #[cfg(test)]
 mod queues;
-#[cfg(test)]
-mod rows;
 #[cfg(test)]
 mod saves;
 #[cfg(test)]

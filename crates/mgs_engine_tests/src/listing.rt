@@ -32,25 +32,35 @@ fn two(alloc: Global, rt: &impl Abort) -> Buffers<PlainMarked> {
     all
 }
 
-fn reads(line: &Line, expected: &str) -> bool {
-    let text = line.text();
-    let bytes = expected.as_bytes();
-    text.len() == bytes.len() && text.iter().zip(bytes).all(|(c, b)| *c == *b as char)
+// Whether a row of 30 columns shows this text and blanks.
+fn reads(line: &Line, text: &str, is_reversed: bool) -> bool {
+    for i in 0..30 {
+        let byte = match text.as_bytes().get(i) {
+            Some(byte) => *byte,
+            None => b' ',
+        };
+        if line.text().get(i) != Some(&(byte as char)) {
+            return false;
+        }
+    }
+    line.text().len() == 30 && line.is_reversed() == is_reversed
 }
 
-// The rows of a window of three rows, and its mode line.
-fn shows(rt: &impl Abort, grid: &Grid, expected: [&str; 4]) {
-    let lines = grid.lines();
-    assert!(rt; lines.len() >= 4);
-    for (row, text) in expected.iter().enumerate() {
-        assert!(rt; reads(&lines[row], text), "row {row} is not {text}");
-        assert_eq!(rt; lines[row].is_reversed(), row == 3);
+// Whether a window of three rows shows this text in the first, and blanks in the others, and this is its mode line.
+fn shows(grid: &Grid, text: &str, mode: &str) -> bool {
+    match grid.lines() {
+        [first, second, third, last, ..] => {
+            reads(first, text, false)
+                && reads(second, "", false)
+                && reads(third, "", false)
+                && reads(last, mode, true)
+        }
+        _ => false,
     }
 }
 
-const BLANK: &str = "                              ";
-
-fn list_from(rt: &impl Abort, alloc: Global, user: &str, row: usize) -> Result<Grid, Fail> {
+// Whether a user is shown this first row of the listing from a row on.
+fn lists(rt: &impl Abort, alloc: Global, user: &str, row: usize, text: &str) -> Result<bool, Fail> {
     let mut grid = Grid::new(alloc, 6, 30)?;
     let all = two(alloc, rt);
     let user = named(rt, user);
@@ -66,40 +76,26 @@ fn list_from(rt: &impl Abort, alloc: Global, user: &str, row: usize) -> Result<G
         row,
         &mut grid,
     );
-    Ok(grid)
+    Ok(shows(&grid, text, "-Buffers----------------------"))
 }
 
 #[test]
-fn lists_what_may_be_seen(rt: HostRuntime) -> Result<(), Fail> {
-    let grid = list_from(&rt, rt.alloc(), "ann", 0)?;
-    let notes = "*       2 notes ann           ";
-    shows(
-        &rt,
-        &grid,
-        [notes, BLANK, BLANK, "-Buffers----------------------"],
-    );
+fn the_listing_shows_what_may_be_seen(rt: HostRuntime) -> Result<(), Fail> {
+    let alloc = rt.alloc();
+    assert!(rt; lists(&rt, alloc, "ann", 0, "*       2 notes ann")?);
+    assert!(rt; lists(&rt, alloc, "cat", 0, "        1 secret cat")?);
+    assert!(rt; lists(&rt, alloc, "cat", 1, "")?);
     Ok(())
 }
 
-#[test]
-fn lists_from_a_row_on(rt: HostRuntime) -> Result<(), Fail> {
-    let grid = list_from(&rt, rt.alloc(), "cat", 0)?;
-    let secret = "        1 secret cat          ";
-    shows(
-        &rt,
-        &grid,
-        [secret, BLANK, BLANK, "-Buffers----------------------"],
-    );
-    let grid = list_from(&rt, rt.alloc(), "cat", 1)?;
-    shows(
-        &rt,
-        &grid,
-        [BLANK, BLANK, BLANK, "-Buffers----------------------"],
-    );
-    Ok(())
-}
-
-fn acl_of_notes(rt: &impl Abort, alloc: Global, user: &str) -> Result<Grid, Fail> {
+// Whether a user is shown this first row and this mode line for the access list of `notes`.
+fn acl_shows(
+    rt: &impl Abort,
+    alloc: Global,
+    user: &str,
+    text: &str,
+    mode: &str,
+) -> Result<bool, Fail> {
     let mut grid = Grid::new(alloc, 6, 30)?;
     let all = two(alloc, rt);
     let user = named(rt, user);
@@ -118,29 +114,23 @@ fn acl_of_notes(rt: &impl Abort, alloc: Global, user: &str) -> Result<Grid, Fail
         0,
         &mut grid,
     );
-    Ok(grid)
+    Ok(shows(&grid, text, mode))
 }
 
 #[test]
-fn shows_access_list(rt: HostRuntime) -> Result<(), Fail> {
-    let grid = acl_of_notes(&rt, rt.alloc(), "ann")?;
-    let entry = "1 ALLOW OWNER@ rwatdcCo       ";
-    shows(
-        &rt,
-        &grid,
-        [entry, BLANK, BLANK, "-Acl-notes--------------------"],
-    );
-    Ok(())
-}
-
-#[test]
-fn masks_access_list(rt: HostRuntime) -> Result<(), Fail> {
-    let grid = acl_of_notes(&rt, rt.alloc(), "bob")?;
-    let unlisted = "[no acl: no entry]            ";
-    shows(
-        &rt,
-        &grid,
-        [unlisted, BLANK, BLANK, "-Acl-?------------------------"],
+fn an_access_list_is_shown_or_masked(rt: HostRuntime) -> Result<(), Fail> {
+    let alloc = rt.alloc();
+    let entry = "1 ALLOW OWNER@ rwatdcCo";
+    assert!(rt; acl_shows(&rt, alloc, "ann", entry, "-Acl-notes--------------------")?);
+    let unlisted = "[no acl: no entry]";
+    assert!(rt;
+        acl_shows(
+            &rt,
+            alloc,
+            "bob",
+            unlisted,
+            "-Acl-?------------------------"
+        )?
     );
     Ok(())
 }

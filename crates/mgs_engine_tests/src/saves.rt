@@ -1,14 +1,9 @@
 // Texts that have a file are saved, where the store takes them.
-use super::fixtures::{Clients, directory_of, list_of};
-use super::rows::{press, shows, sit};
-use mgs_buffers::Buffers;
-use mgs_core::Core;
+use super::fixtures::{core_of, press, show, sit, waiting};
 use mgs_engine::Engine;
-use mgs_marks::PlainMarked;
 use mgs_store::{Store, StoreFault};
 use std::alloc::Global;
 use std::process::Abort;
-use std::test::Fail;
 
 // A store that takes all texts, or none.
 #[derive(Clone, Copy)]
@@ -38,35 +33,25 @@ impl Store for Stand {
 }
 
 // ann types a character into a text that has a file, saves it, and is shown this screen.
-fn saving_shows(rt: &impl Abort, alloc: Global, takes: bool, screen: &str) -> Result<(), Fail> {
-    let directory = directory_of(alloc, &["ann"], rt);
-    let mut buffers = Buffers::new(alloc);
-    let list = list_of(&["ALLOW ann rwat"], rt);
-    assert!(rt; buffers.add("notes", "ann", list, &['a', 'b'], true).is_ok());
-    let Ok(core) = Core::new(alloc, directory, buffers, Stand { takes, faults: 0 }) else {
+fn saving_shows(rt: &impl Abort, alloc: Global, takes: bool, screen: &str) {
+    let store = Stand { takes, faults: 0 };
+    let core = core_of::<Stand>(alloc, &["ALLOW ann rwat"], &['a', 'b'], store, rt);
+    let Ok(mut engine) = Engine::new(alloc, core) else {
         panic!(rt; "no memory");
     };
-    let mut engine = match Engine::new(alloc, core) {
-        Ok(engine) => engine,
-        Err(_) => panic!(rt; "no memory"),
-    };
-    let mut clients = Clients {
-        all: Vec::new(alloc),
-    };
-    let ann = sit::<Stand>(alloc, &mut engine, &mut clients, "ann", rt);
-    press::<Stand>(&mut engine, &mut clients, ann, b"x\x18\x13", rt);
-    assert!(rt; shows(&clients, ann, screen, (1, 2)));
-    Ok(())
+    let ann = sit::<Stand>(&mut engine, "ann", 6, 20, rt);
+    press::<Stand>(&mut engine, ann, b"x\x18\x13");
+    assert!(rt; show(alloc, waiting::<Stand>(&engine, ann), screen, (1, 2)));
 }
 
 #[test]
-fn a_saved_text_is_not_modified(rt: HostRuntime) -> Result<(), Fail> {
+fn a_saved_text_is_not_modified(rt: HostRuntime) {
     let screen = "xab | ----notes-L1-C1----- | Wrote notes";
-    saving_shows(&rt, rt.alloc(), true, screen)
+    saving_shows(&rt, rt.alloc(), true, screen);
 }
 
 #[test]
-fn a_store_may_refuse(rt: HostRuntime) -> Result<(), Fail> {
+fn a_store_may_refuse(rt: HostRuntime) {
     let screen = "xab | -**-notes-L1-C1----- | Save failed";
-    saving_shows(&rt, rt.alloc(), false, screen)
+    saving_shows(&rt, rt.alloc(), false, screen);
 }

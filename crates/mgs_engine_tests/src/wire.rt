@@ -112,33 +112,25 @@ impl Client {
     fn write<W: Write>(&mut self, writer: &mut W) -> PumpedOut {
         pump_out(&mut self.conn, &mut self.desk, writer)
     }
+
+    fn session(&self) -> Option<SessionId> {
+        self.conn.session()
+    }
 }
 
-// One whose session is open, with these bytes for its terminal.
-fn served(alloc: Global, waiting: &[u8]) -> Result<Client, Fail> {
-    let mut client = Client::new(alloc, None)?;
-    let mut reader = LOGIN;
-    client.read(&mut reader);
-    client.desk.waiting.extend_from_slice(waiting)?;
-    Ok(client)
-}
-
-// Gives its bytes so many at a time, and is then at its end, or fails so.
+// Gives its bytes so many at a time, and then fails so.
 #[derive(Drop)]
 struct Pieces<'a> {
     rest: &'a [u8],
     size: usize,
-    fault: Option<ErrorKind>,
+    fault: ErrorKind,
 }
 
 impl Read for Pieces<'_> {
     fn read(&mut self, buf: &mut [u8]) -> io::Result<usize> {
         let n = self.rest.len().min(self.size).min(buf.len());
         if n == 0 {
-            return match self.fault {
-                None => Ok(0),
-                Some(kind) => Err(io::Error::from(kind)),
-            };
+            return Err(io::Error::from(self.fault));
         }
         let (now, later) = self.rest.split_at(n);
         buf[..n].copy_from_slice(now);
@@ -174,31 +166,22 @@ impl Write for Narrow {
     }
 }
 
-fn narrow_writer(alloc: Global, room: usize, fault: Option<ErrorKind>) -> Narrow {
-    Narrow {
-        taken: Vec::new(alloc),
-        room,
-        fault,
-    }
-}
-
-// A connection is answered so, where sessions are opened or not opened for this reason.
-fn answers(
+// What a connection writes that reads this to its end and opens no session, where the server opens them or has this reason not to.
+fn answer(
     alloc: Global,
     input: &[u8],
     fault: Option<OpenFault>,
-    wanted: &[u8],
     rt: &impl Abort,
-) -> Result<(), Fail> {
+) -> Result<Vec<u8>, Fail> {
     let mut client = Client::new(alloc, fault)?;
     let mut reader = input;
-    assert_eq!(rt; client.read_all(&mut reader), PumpedIn::Finished);
-    assert_eq!(rt; client.conn.session(), None);
+    let read = client.read_all(&mut reader);
+    assert!(rt; read == PumpedIn::Finished && client.session().is_none());
     let mut written = Vec::new(alloc);
-    assert_eq!(rt; client.write(&mut written), PumpedOut::Drained);
-    assert_eq!(rt; client.write(&mut written), PumpedOut::Drained);
-    assert_eq!(rt; written.as_slice(), wanted);
-    Ok(())
+    let first = client.write(&mut written);
+    let second = client.write(&mut written);
+    assert!(rt; first == PumpedOut::Drained && second == PumpedOut::Drained);
+    Ok(written)
 }
 
 #[test]
@@ -218,7 +201,8 @@ fn lines_that_are_no_login_are_refused(rt: HostRuntime) -> Result<(), Fail> {
         b"",
     ];
     for line in lines {
-        answers(rt.alloc(), line, None, b"refused 1 Line\n", &rt)?;
+        let written = answer(rt.alloc(), line, None, &rt)?;
+        assert!(rt; written.as_slice() == b"refused 1 Line\n".as_slice());
     }
     Ok(())
 }
@@ -236,79 +220,108 @@ fn refusals_come_in_their_order(rt: HostRuntime) -> Result<(), Fail> {
         (LOGIN, Some(OpenFault::NoUser), b"refused 2 NoUser\n"),
     ];
     for (line, fault, wanted) in rows {
-        answers(rt.alloc(), line, fault, wanted, &rt)?;
+        let written = answer(rt.alloc(), line, fault, &rt)?;
+        assert!(rt; written.as_slice() == wanted);
     }
     Ok(())
+}
+
+// A connection that read this so many bytes at a time, until its reader failed so, and what it answered then.
+fn heard(
+    alloc: Global,
+    input: &[u8],
+    size: usize,
+    fault: ErrorKind,
+) -> Result<(Client, PumpedIn), Fail> {
+    let mut client = Client::new(alloc, None)?;
+    let mut reader = Pieces {
+        rest: input,
+        size,
+        fault,
+    };
+    let answer = client.read_all(&mut reader);
+    Ok((client, answer))
 }
 
 #[test]
 fn bytes_after_a_login_are_keys(rt: HostRuntime) -> Result<(), Fail> {
     for size in [1, 2, 17, 18, 19, 5000] {
-        let mut client = Client::new(rt.alloc(), None)?;
-        let mut reader = Pieces {
-            rest: b"login ann t1 6 20\r\nh\ni",
-            size,
-            fault: Some(ErrorKind::WouldBlock),
-        };
-        assert_eq!(rt; client.read_all(&mut reader), PumpedIn::Idle);
-        assert_eq!(rt; client.conn.session(), Some(7));
-        assert_eq!(rt; client.desk.typed.as_slice(), b"h\ni".as_slice());
+        let input = b"login ann t1 6 20\r\nh\ni";
+        let (client, answer) = heard(rt.alloc(), input, size, ErrorKind::WouldBlock)?;
+        assert!(rt; answer == PumpedIn::Idle && client.session() == Some(7));
+        assert!(rt; client.desk.typed.as_slice() == b"h\ni".as_slice());
     }
     Ok(())
+}
+
+// A piece of a line is read in one turn, and then all that waits is written.
+fn hears(client: &mut Client, piece: &[u8], written: &mut Vec<u8>) -> bool {
+    let mut reader = piece;
+    let read = client.read(&mut reader);
+    let wrote = client.write(written);
+    read == PumpedIn::Took(piece.len()) && wrote == PumpedOut::Drained
 }
 
 #[test]
 fn a_line_has_at_most_128_bytes(rt: HostRuntime) -> Result<(), Fail> {
     let mut client = Client::new(rt.alloc(), None)?;
     let mut written = Vec::new(rt.alloc());
-    let mut reader = [b'x'; 128].as_slice();
-    assert_eq!(rt; client.read(&mut reader), PumpedIn::Took(128));
-    assert_eq!(rt; client.write(&mut written), PumpedOut::Drained);
+    assert!(rt; hears(&mut client, &[b'x'; 128], &mut written));
     assert!(rt; written.is_empty());
-    let mut reader = b"xlogin ann t1 6 20\n".as_slice();
-    assert_eq!(rt; client.read(&mut reader), PumpedIn::Took(19));
-    assert_eq!(rt; client.write(&mut written), PumpedOut::Drained);
-    assert_eq!(rt; written.as_slice(), b"refused 1 Line\n".as_slice());
+    assert!(rt; hears(&mut client, b"xlogin ann t1 6 20\n", &mut written));
+    assert!(rt; written.as_slice() == b"refused 1 Line\n".as_slice());
     Ok(())
 }
 
-// Nothing more is read of a connection or written to it, and its session is closed.
-fn is_over(client: &mut Client, alloc: Global, rt: &impl Abort) {
-    assert!(rt; !client.desk.is_open);
+// Whether nothing more is read of a connection or written to it, and its session is closed.
+fn is_over(alloc: Global, client: &mut Client) -> bool {
     let mut more = LOGIN;
-    assert_eq!(rt; client.read(&mut more), PumpedIn::Finished);
-    assert_eq!(rt; more.len(), LOGIN.len());
+    let read = client.read(&mut more);
     let mut written = Vec::new(alloc);
-    assert_eq!(rt; client.write(&mut written), PumpedOut::Drained);
-    assert!(rt; written.is_empty());
+    let wrote = client.write(&mut written);
+    read == PumpedIn::Finished
+        && wrote == PumpedOut::Drained
+        && more.len() == LOGIN.len()
+        && written.is_empty()
+        && !client.desk.is_open
 }
 
 #[test]
 fn readers_that_fail_end_the_connection(rt: HostRuntime) -> Result<(), Fail> {
     for (input, session) in [(b"login ann".as_slice(), None), (LOGIN, Some(7))] {
-        let mut client = Client::new(rt.alloc(), None)?;
-        let mut reader = Pieces {
-            rest: input,
-            size: 100,
-            fault: Some(ErrorKind::ConnectionReset),
-        };
-        assert_eq!(rt; client.read_all(&mut reader), PumpedIn::Failed);
-        assert_eq!(rt; client.conn.session(), session);
-        is_over(&mut client, rt.alloc(), &rt);
+        let (mut client, answer) = heard(rt.alloc(), input, 100, ErrorKind::ConnectionReset)?;
+        assert!(rt; answer == PumpedIn::Failed && client.session() == session);
+        assert!(rt; is_over(rt.alloc(), &mut client));
     }
     Ok(())
 }
 
+// A connection whose session is open, and whose terminal eight bytes wait for.
+fn served(alloc: Global) -> Result<Client, Fail> {
+    let (mut client, _) = heard(alloc, LOGIN, 100, ErrorKind::WouldBlock)?;
+    client.desk.waiting.extend_from_slice(b"abcdefgh")?;
+    Ok(client)
+}
+
+// A writer that takes five bytes.
+fn five_taker(alloc: Global, fault: Option<ErrorKind>) -> Narrow {
+    Narrow {
+        taken: Vec::new(alloc),
+        room: 5,
+        fault,
+    }
+}
+
 #[test]
 fn the_rest_of_a_partial_write_comes_next(rt: HostRuntime) -> Result<(), Fail> {
-    let mut client = served(rt.alloc(), b"abcdefgh")?;
-    let mut writer = narrow_writer(rt.alloc(), 5, Some(ErrorKind::WouldBlock));
-    assert_eq!(rt; client.write(&mut writer), PumpedOut::Blocked);
-    assert_eq!(rt; client.desk.waiting.as_slice(), b"fgh".as_slice());
-    assert!(rt; client.desk.is_open);
+    let mut client = served(rt.alloc())?;
+    let mut writer = five_taker(rt.alloc(), Some(ErrorKind::WouldBlock));
+    let first = client.write(&mut writer);
+    assert!(rt; first == PumpedOut::Blocked && client.desk.is_open);
+    assert!(rt; client.desk.waiting.as_slice() == b"fgh".as_slice());
     writer.room = 5;
-    assert_eq!(rt; client.write(&mut writer), PumpedOut::Drained);
-    assert_eq!(rt; writer.taken.as_slice(), b"abcdefgh".as_slice());
+    let second = client.write(&mut writer);
+    assert!(rt; second == PumpedOut::Drained && writer.taken.as_slice() == b"abcdefgh".as_slice());
     Ok(())
 }
 
@@ -319,11 +332,11 @@ fn writers_that_fail_end_the_connection(rt: HostRuntime) -> Result<(), Fail> {
         Some(ErrorKind::Interrupted),
         None,
     ] {
-        let mut client = served(rt.alloc(), b"abcdefgh")?;
-        let mut writer = narrow_writer(rt.alloc(), 5, fault);
-        assert_eq!(rt; client.write(&mut writer), PumpedOut::Failed);
-        assert_eq!(rt; writer.taken.as_slice(), b"abcde".as_slice());
-        is_over(&mut client, rt.alloc(), &rt);
+        let mut client = served(rt.alloc())?;
+        let mut writer = five_taker(rt.alloc(), fault);
+        let answer = client.write(&mut writer);
+        assert!(rt; answer == PumpedOut::Failed && writer.taken.as_slice() == b"abcde".as_slice());
+        assert!(rt; is_over(rt.alloc(), &mut client));
     }
     Ok(())
 }

@@ -17,21 +17,16 @@ use std::test::Fail;
 /// A server whose buffers have no files.
 pub(crate) type Office = Server<RefusingStore>;
 
-// A list of these entries.
-fn list_of(entries: &[&str], rt: &impl Abort) -> List {
+/// Ann may do everything with the notes, and bob read and write them.
+pub(crate) fn notes_list(rt: &impl Abort) -> List {
     let mut list = List::new();
-    for entry in entries {
+    for entry in ["ALLOW OWNER@ rwatdcCo", "ALLOW bob rwat"] {
         match read_entry(entry) {
             Ok(entry) => assert!(rt; list.insert(list.len(), entry).is_ok()),
             Err(_) => panic!(rt; "no entry"),
         }
     }
     list
-}
-
-/// Ann may do everything with the notes, and bob read and write them.
-pub(crate) fn notes_list(rt: &impl Abort) -> List {
-    list_of(&["ALLOW OWNER@ rwatdcCo", "ALLOW bob rwat"], rt)
 }
 
 // Adds a buffer of ann without a text.

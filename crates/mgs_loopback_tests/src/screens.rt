@@ -12,31 +12,17 @@ const COLS: usize = 20;
 // The most turns until all screens are as they are to be.
 const TURNS: usize = 200;
 
-// What stands at both ends of a row: `!` where all of it is shown in reverse.
-fn edge(row: &[Cell]) -> char {
-    if row.iter().all(|cell| cell.reversed) {
-        '!'
-    } else {
-        '|'
-    }
-}
-
-// A row as a line.
+// A row as a line. Behind it stands `!` where all of it is shown in reverse.
 fn push_row(screen: &mut String, row: &[Cell]) -> Result<(), Fail> {
-    screen.push(edge(row))?;
+    let mut end = "!\n";
+    screen.push('|')?;
     for cell in row {
         screen.push(cell.character)?;
+        if !cell.reversed {
+            end = "|\n";
+        }
     }
-    screen.push(edge(row))?;
-    screen.push('\n')?;
-    Ok(())
-}
-
-// All rows as lines.
-fn push_rows(screen: &mut String, cells: &[Cell]) -> Result<(), Fail> {
-    for row in cells.chunks(COLS) {
-        push_row(screen, row)?;
-    }
+    screen.push_str(end)?;
     Ok(())
 }
 
@@ -51,23 +37,20 @@ fn fed(alloc: Global, bytes: &[u8]) -> Result<Term, Fail> {
 fn screen_of(alloc: Global, bytes: &[u8]) -> Result<String, Fail> {
     let term = fed(alloc, bytes)?;
     let mut screen = String::new(alloc);
-    push_rows(&mut screen, term.grid())?;
+    for row in term.grid().chunks(COLS) {
+        push_row(&mut screen, row)?;
+    }
     let (row, col) = term.cursor();
     let cursor = format!(in alloc; "cursor {row} {col}\n")?;
     screen.push_str(cursor.as_str())?;
     Ok(screen)
 }
 
-// Whether a terminal shows this screen.
-fn shows(alloc: Global, terminal: &Terminal, wanted: &str) -> Result<bool, Fail> {
-    let screen = screen_of(alloc, terminal.got.as_slice())?;
-    Ok(screen.as_str() == wanted)
-}
-
 // Takes what came to a terminal, and whether it then shows this screen.
 fn takes(alloc: Global, terminal: &mut Terminal, wanted: &str) -> Result<bool, Fail> {
     take(terminal)?;
-    shows(alloc, terminal, wanted)
+    let screen = screen_of(alloc, terminal.got.as_slice())?;
+    Ok(screen.as_str() == wanted)
 }
 
 /// Whether two terminals come to show these screens at once, while the server turns.

@@ -1,6 +1,5 @@
 // Access lists and owners are changed while others look, each step with what the terminal then shows.
-use super::replay::gives;
-use super::steps::steps_show;
+use super::steps::scripts_show;
 use std::alloc::Global;
 use std::test::Fail;
 
@@ -16,28 +15,11 @@ const BOTH: &str = "user ann\n\
     open a ann 6 60\n\
     open b bob 6 60\n";
 
-// Who shuts himself out sees it at once.
 #[test]
-fn a_list_is_emptied(rt: HostRuntime) -> Result<(), Fail> {
-    let setting = "user ann\n\
-        buffer notes ann\n\
-        entry notes ALLOW OWNER@ rwatdcCo\n\
-        open a ann 6 60\n";
-    let steps = "
-        a M-x 'acl-delete RET     | [no read: no entry] | :-??-?-(no read) | 1 1
-        a C-f                     | [no read: no entry] | :-??-?-(no read) | 1 1 | Denied: no entry grants READ_DATA
-        a 'x                      | [no read: no entry] | :-??-?-(no read) | 1 1 | Denied: no entry grants APPEND_DATA
-        a C-x 'b 'notes RET       | [no read: no entry] | :-??-?-(no read) | 1 1 | Denied: no entry grants READ_ATTRIBUTES
-        a M-x 'acl-list RET       | [no read: no entry] | :-??-?-(no read) | 1 1 | Denied: no entry grants READ_ACL
-        a M-x 'set-owner RET RET  | [no read: no entry] | :-??-?-(no read) | 1 1 | Denied: no entry grants WRITE_OWNER
-    ";
-    steps_show(&rt, rt.alloc(), setting, steps)
-}
-
-// What is revoked is gone from another's screen in that event, and a kill that was made stays its holder's.
-#[test]
-fn rights_are_revoked_under_another(rt: HostRuntime) -> Result<(), Fail> {
-    let steps = "
+fn rights_are_taken_and_given(rt: HostRuntime) -> Result<(), Fail> {
+    let shared = "
+        == rights are revoked under another
+        # What is revoked is gone from another's screen in that event, and a kill that was made stays its holder's.
         b M-d                          |  two                | **L1-C0          | 1 1
         b M-x 'acl-delete RET          |  two                | **L1-C0          | 1 1 | Denied: no entry grants WRITE_ACL
         a C-u '2 M-x 'acl-delete RET   |  two                | **L1-C0          | 1 1
@@ -47,14 +29,8 @@ fn rights_are_revoked_under_another(rt: HostRuntime) -> Result<(), Fail> {
         b C-x 'b 'mine RET C-y         | one                 | :-**-mine-L1-C3  | 1 4
         a M-x 'acl-insert RET 'ALLOW SPC 'bob SPC 'rt RET |  two | **L1-C0        | 1 1
         b C-x 'b 'notes RET            |  two                | **L1-C0          | 1 1
-    ";
-    steps_show(&rt, rt.alloc(), BOTH, steps)
-}
-
-// A buffer that is given away is its new owner's in that event.
-#[test]
-fn a_buffer_gets_another_owner(rt: HostRuntime) -> Result<(), Fail> {
-    let steps = "
+        == a buffer gets another owner
+        # A buffer that is given away is its new owner's in that event.
         a M-x 'set-owner RET           | one two | --L1-C0 | 6 8 | Owner:
         a 'eve TAB                     | one two | --L1-C0 | 1 1 | No match
         a RET                          | one two | --L1-C0 | 1 1 | No such user
@@ -66,14 +42,8 @@ fn a_buffer_gets_another_owner(rt: HostRuntime) -> Result<(), Fail> {
         b                              | one twox | **L1-C0 | 1 1 | Denied: no entry grants WRITE_OWNER
         c C-x C-b                      | *       8 notes cat/        0 secret cat | :-Buffers | 1 1
         a C-x C-b                      |         | :-Buffers | 1 1
-    ";
-    steps_show(&rt, rt.alloc(), BOTH, steps)
-}
-
-// The list of a buffer is changed from where it is shown, and follows what others do.
-#[test]
-fn access_lists_are_shown(rt: HostRuntime) -> Result<(), Fail> {
-    let steps = "
+        == access lists are shown
+        # The list of a buffer is changed from where it is shown, and follows what others do.
         a M-x 'acl-list RET            | 1 ALLOW OWNER@ rwatdcCo/2 ALLOW bob rwat | :-Acl-notes | 1 1
         b M-x 'acl-list RET            | one two | --L1-C0 | 1 1 | Denied: no entry grants READ_ACL
         a 'x                           | 1 ALLOW OWNER@ rwatdcCo/2 ALLOW bob rwat | :-Acl-notes | 1 1 | No buffer
@@ -99,7 +69,103 @@ fn access_lists_are_shown(rt: HostRuntime) -> Result<(), Fail> {
         a M-x 'acl-list RET            |         | :-None | 1 1 | No buffer
         a M-x 'acl-delete RET          |         | :-None | 1 1 | No buffer
     ";
-    steps_show(&rt, rt.alloc(), BOTH, steps)
+    scripts_show(&rt, rt.alloc(), BOTH, shared)?;
+    let others = "
+        == a list is emptied
+        # Who shuts himself out sees it at once.
+        user ann
+        buffer notes ann
+        entry notes ALLOW OWNER@ rwatdcCo
+        open a ann 6 60
+        a M-x 'acl-delete RET     | [no read: no entry] | :-??-?-(no read) | 1 1
+        a C-f                     | [no read: no entry] | :-??-?-(no read) | 1 1 | Denied: no entry grants READ_DATA
+        a 'x                      | [no read: no entry] | :-??-?-(no read) | 1 1 | Denied: no entry grants APPEND_DATA
+        a C-x 'b 'notes RET       | [no read: no entry] | :-??-?-(no read) | 1 1 | Denied: no entry grants READ_ATTRIBUTES
+        a M-x 'acl-list RET       | [no read: no entry] | :-??-?-(no read) | 1 1 | Denied: no entry grants READ_ACL
+        a M-x 'set-owner RET RET  | [no read: no entry] | :-??-?-(no read) | 1 1 | Denied: no entry grants WRITE_OWNER
+        == a new owner sees the buffer and the old one does not
+        user ann
+        user bob
+        buffer notes ann
+        entry notes ALLOW OWNER@ rwatdcCo
+        buffer other ann
+        entry other ALLOW OWNER@ rwatdcCo
+        text notes 'ab
+        text other 'x
+        open a ann 6 60
+        open b bob 6 60
+        b C-x C-b                     |                     | :-Buffers        | 1 1
+        a M-x 'set-owner RET 'bob RET | [no read: no entry] | :-??-?-(no read) | 1 1
+        b                             |         2 notes bob | :-Buffers        | 1 1
+        b C-x 'b 'notes RET           | ab                  | --L1-C0          | 1 1
+        == a place is decided by the list of who stands there
+        user ann
+        user bob
+        buffer notes ann
+        entry notes ALLOW EVERYONE@ rt
+        entry notes ALLOW OWNER@ d
+        buffer other ann
+        entry other ALLOW EVERYONE@ t
+        text notes 'ab
+        text other 'x
+        open a ann 6 60
+        open b bob 6 60
+        b                   | ab                  | --L1-C0              | 1 1
+        keys a C-x 'k RET
+        b                   |                     | :-None               | 1 1
+        b C-x 'b 'other RET | [no read: no entry] | :----other-(no read) | 1 1
+        == a buffer is killed under three sessions
+        # Three sessions show the buffer that is killed, one of them twice.
+        user ann
+        user bob
+        user cat
+        buffer notes ann
+        entry notes ALLOW OWNER@ rwatdcCo
+        entry notes ALLOW EVERYONE@ rtc
+        text notes 'abc
+        open a ann 6 20
+        open b bob 6 20
+        open c cat 6 20
+        keys b C-x '2 C-x 'o M-x 'acl-list RET
+        show b
+        screen b
+        |abc                 |
+        |                    |
+        !----notes-L1-C0-----!
+        |1 ALLOW OWNER@ rwat$|
+        !-Acl-notes----------!
+        |                    |
+        cursor 4 1
+        keys a C-x 'k 'notes RET
+        show a
+        screen a
+        |                    |
+        |                    |
+        |                    |
+        |                    |
+        !-None---------------!
+        |                    |
+        cursor 1 1
+        show b
+        screen b
+        |                    |
+        |                    |
+        !-None---------------!
+        |                    |
+        !-None---------------!
+        |                    |
+        cursor 4 1
+        show c
+        screen c
+        |                    |
+        |                    |
+        |                    |
+        |                    |
+        !-None---------------!
+        |                    |
+        cursor 1 1
+    ";
+    scripts_show(&rt, rt.alloc(), "", others)
 }
 
 // A list of 64 entries.
@@ -120,6 +186,7 @@ fn full_list(alloc: Global) -> Result<String, Fail> {
 fn entries_are_refused(rt: HostRuntime) -> Result<(), Fail> {
     let setting = full_list(rt.alloc())?;
     let steps = "
+        == entries are refused
         a C-u '65 M-x 'acl-insert RET 'ALLOW SPC 'ann SPC 'r RET  |  | --L1-C0 | 1 1 | List full
         a M-x 'acl-insert RET 'ALLOW SPC 'ann SPC 'r RET          |  | --L1-C0 | 1 1 | List full
         a C-u '66 M-x 'acl-insert RET 'ALLOW SPC 'ann SPC 'r RET  |  | --L1-C0 | 1 1 | No such entry
@@ -136,61 +203,7 @@ fn entries_are_refused(rt: HostRuntime) -> Result<(), Fail> {
         b 'x                                                      |  | --L1-C0 | 1 1 | Denied: no entry grants APPEND_DATA
         a M-x 'acl-insert RET 'DENY SPC 'bob SPC 'w RET           |  | --L1-C0 | 1 1 | List full
     ";
-    steps_show(&rt, rt.alloc(), setting.as_str(), steps)
-}
-
-// Three sessions show the buffer that is killed, one of them twice.
-#[test]
-fn a_buffer_is_killed_under_three_sessions(rt: HostRuntime) {
-    let script = b"user ann\n\
-        user bob\n\
-        user cat\n\
-        buffer notes ann\n\
-        entry notes ALLOW OWNER@ rwatdcCo\n\
-        entry notes ALLOW EVERYONE@ rtc\n\
-        text notes 'abc\n\
-        open a ann 6 20\n\
-        open b bob 6 20\n\
-        open c cat 6 20\n\
-        keys b C-x '2 C-x 'o M-x 'acl-list RET\n\
-        show b\n\
-        keys a C-x 'k 'notes RET\n\
-        show a\n\
-        show b\n\
-        show c\n";
-    let output = "screen b\n\
-        |abc                 |\n\
-        |                    |\n\
-        !----notes-L1-C0-----!\n\
-        |1 ALLOW OWNER@ rwat$|\n\
-        !-Acl-notes----------!\n\
-        |                    |\n\
-        cursor 4 1\n\
-        screen a\n\
-        |                    |\n\
-        |                    |\n\
-        |                    |\n\
-        |                    |\n\
-        !-None---------------!\n\
-        |                    |\n\
-        cursor 1 1\n\
-        screen b\n\
-        |                    |\n\
-        |                    |\n\
-        !-None---------------!\n\
-        |                    |\n\
-        !-None---------------!\n\
-        |                    |\n\
-        cursor 4 1\n\
-        screen c\n\
-        |                    |\n\
-        |                    |\n\
-        |                    |\n\
-        |                    |\n\
-        !-None---------------!\n\
-        |                    |\n\
-        cursor 1 1\n";
-    gives(&rt, rt.alloc(), script, output, Ok(()));
+    scripts_show(&rt, rt.alloc(), setting.as_str(), steps)
 }
 
 // As many buffers as there may be: the last is made in the run.
@@ -208,6 +221,7 @@ fn all_buffers_but_one(alloc: Global) -> Result<String, Fail> {
 fn there_are_256_buffers(rt: HostRuntime) -> Result<(), Fail> {
     let setting = all_buffers_but_one(rt.alloc())?;
     let steps = "
+        == there are 256 buffers
         a C-f                     |             | :-None         | 1 1 | No buffer
         a C-x C-f 'new RET        |             | :----new-L1-C0 | 1 1
         a C-x C-f 'newer RET      |             | :----new-L1-C0 | 1 1 | Too many buffers
@@ -216,5 +230,5 @@ fn there_are_256_buffers(rt: HostRuntime) -> Result<(), Fail> {
         a M-x 'acl-list RET       | 1 ALLOW OWNER@ rwatdcCo | :-Acl-new | 1 1
         a C-x C-b                 |         0 new ann | :-Buffers | 1 1
     ";
-    steps_show(&rt, rt.alloc(), setting.as_str(), steps)
+    scripts_show(&rt, rt.alloc(), setting.as_str(), steps)
 }

@@ -1,11 +1,12 @@
 // The case of letters, white space and blank lines, each with what the terminal then shows.
 use super::replay::NOTES;
-use super::steps::steps_show;
+use super::steps::scripts_show;
 use std::test::Fail;
 
 #[test]
-fn words_and_regions_change_their_case(rt: HostRuntime) -> Result<(), Fail> {
-    let steps = "
+fn case_and_white_are_changed(rt: HostRuntime) -> Result<(), Fail> {
+    let shared = "
+        == words and regions change their case
         text notes 'one SPC 'tWO SPC '3dEf
         open a ann 6 60
         a M-u                   | ONE tWO 3dEf | **L1-C3  | 1 4
@@ -17,13 +18,7 @@ fn words_and_regions_change_their_case(rt: HostRuntime) -> Result<(), Fail> {
         a M-< C-SPC M-f C-x C-u | ONE two 3def | **L1-C3  | 1 4
         a C-x C-x C-x C-l       | one two 3def | **L1-C0  | 1 1
         a C-_                   | ONE two 3def | **L1-C3  | 1 4
-    ";
-    steps_show(&rt, rt.alloc(), NOTES, steps)
-}
-
-#[test]
-fn white_and_blank_lines_go(rt: HostRuntime) -> Result<(), Fail> {
-    let steps = "
+        == white and blank lines go
         text notes 'a SPC SPC TAB 'b RET RET RET 'c RET SPC 'd
         open a ann 6 60
         a C-f M-SPC                   | a b///c | **L1-C2 | 1 3
@@ -33,12 +28,9 @@ fn white_and_blank_lines_go(rt: HostRuntime) -> Result<(), Fail> {
         a M-< M-^                     | ab/c d  | **L1-C0 | 1 1 | Beginning of buffer
         a C-e RET RET RET C-p C-x C-o | ab//c d | **L2-C0 | 2 1
     ";
-    steps_show(&rt, rt.alloc(), NOTES, steps)
-}
-
-#[test]
-fn case_and_white_need_reading_and_writing(rt: HostRuntime) -> Result<(), Fail> {
-    let steps = "
+    scripts_show(&rt, rt.alloc(), NOTES, shared)?;
+    let others = "
+        == case and white need reading and writing
         user ann
         user bob
         user cat
@@ -53,5 +45,5 @@ fn case_and_white_need_reading_and_writing(rt: HostRuntime) -> Result<(), Fail> 
         c C-x C-l | [no read: no entry] | --(no read) | 1 1 | Denied: no entry grants READ_DATA
         c M-^     | [no read: no entry] | --(no read) | 1 1 | Denied: no entry grants READ_DATA
     ";
-    steps_show(&rt, rt.alloc(), "", steps)
+    scripts_show(&rt, rt.alloc(), "", others)
 }

@@ -1,6 +1,5 @@
 // Commands that are run by their names (M-x), each step with what the terminal then shows.
-use super::replay::gives;
-use super::steps::steps_show;
+use super::steps::scripts_show;
 use std::test::Fail;
 
 const TWO: &str = "user ann\n\
@@ -10,33 +9,22 @@ const TWO: &str = "user ann\n\
     open a ann 6 60\n";
 
 #[test]
-fn a_command_of_a_name_takes_the_argument(rt: HostRuntime) -> Result<(), Fail> {
-    let steps = "
+fn commands_are_run_by_name(rt: HostRuntime) -> Result<(), Fail> {
+    let shared = "
+        == a command of a name takes the argument
         a M-x                            | abcd/efg | --L1-C0 | 6 5 | M-x
         a 'forward-char                  | abcd/efg | --L1-C0 | 6 17 | M-x forward-char
         a RET                            | abcd/efg | --L1-C1 | 1 2
         a C-u '3 M-x 'backward-char RET  | abcd/efg | --L1-C0 | 1 1
         a C-u '3 M-x 'forward-char RET   | abcd/efg | --L1-C3 | 1 4
         a M-2 M-x 'newline RET           | abc//d/efg | **L3-C0 | 3 1
-    ";
-    steps_show(&rt, rt.alloc(), TWO, steps)
-}
-
-// A question is a command, so a kill behind it begins anew.
-#[test]
-fn kills_by_name_are_not_joined(rt: HostRuntime) -> Result<(), Fail> {
-    let steps = "
+        == kills by name are not joined
+        # A question is a command, so a kill behind it begins anew.
         a M-x 'kill-line RET | /efg     | **L1-C0 | 1 1
         a M-x 'kill-line RET | efg      | **L1-C0 | 1 1
         a C-y                | /efg     | **L2-C0 | 2 1
         a C-k C-y C-y        | /efgefg  | **L2-C6 | 2 7
-    ";
-    steps_show(&rt, rt.alloc(), TWO, steps)
-}
-
-#[test]
-fn names_of_commands_are_completed(rt: HostRuntime) -> Result<(), Fail> {
-    let steps = "
+        == names of commands are completed
         a M-x 'forw TAB      | abcd/efg | --L1-C0 | 6 13 | M-x forward-
         a 'c TAB             | abcd/efg | --L1-C0 | 6 17 | M-x forward-char
         a TAB RET            | abcd/efg | --L1-C1 | 1 2
@@ -48,13 +36,7 @@ fn names_of_commands_are_completed(rt: HostRuntime) -> Result<(), Fail> {
         a M-x RET            | abcd/efg | --L1-C1 | 1 2  | No such command
         a C-u M-x 'forward RET | abcd/efg | --L1-C1 | 1 2 | No such command
         a C-f                | abcd/efg | --L1-C2 | 1 3
-    ";
-    steps_show(&rt, rt.alloc(), TWO, steps)
-}
-
-#[test]
-fn a_command_of_a_name_asks_in_its_turn(rt: HostRuntime) -> Result<(), Fail> {
-    let steps = "
+        == a command of a name asks in its turn
         a M-x 'switch-to-buffer RET   | abcd/efg | --L1-C0       | 6 19 | Switch to buffer:
         a 'new RET                    |          | :----new-L1-C0 | 1 1
         a 'hi M-x 'kill-buffer RET RET |         | :-None        | 1 1
@@ -62,36 +44,32 @@ fn a_command_of_a_name_asks_in_its_turn(rt: HostRuntime) -> Result<(), Fail> {
         a M-x 'save-buffer RET        |          | :-None        | 1 1 | No buffer
         a M-x 'keyboard-quit RET      |          | :-None        | 1 1 | Quit
     ";
-    steps_show(&rt, rt.alloc(), TWO, steps)
-}
-
-// No word of keys makes a window smaller.
-#[test]
-fn a_window_is_made_smaller(rt: HostRuntime) {
-    let script = b"user ann\n\
-        buffer notes ann\n\
-        entry notes ALLOW OWNER@ rwatdcCo\n\
-        open a ann 8 20\n\
-        keys a C-x '2 M-x 'shrink-window RET\n\
-        show a\n";
-    let output = "screen a\n\
-        |                    |\n\
-        |                    |\n\
-        !----notes-L1-C0-----!\n\
-        |                    |\n\
-        |                    |\n\
-        |                    |\n\
-        !----notes-L1-C0-----!\n\
-        |                    |\n\
-        cursor 1 1\n";
-    gives(&rt, rt.alloc(), script, output, Ok(()));
-}
-
-#[test]
-fn a_session_ends_by_name(rt: HostRuntime) {
-    let script = b"user ann\n\
-        open a ann 6 20\n\
-        keys a M-x 'save-buffers-kill-emacs RET 'x\n\
-        show a\n";
-    gives(&rt, rt.alloc(), script, "ended a Quit\n", Ok(()));
+    scripts_show(&rt, rt.alloc(), TWO, shared)?;
+    let others = "
+        == a window is made smaller
+        # No word of keys makes a window smaller.
+        user ann
+        buffer notes ann
+        entry notes ALLOW OWNER@ rwatdcCo
+        open a ann 8 20
+        keys a C-x '2 M-x 'shrink-window RET
+        show a
+        screen a
+        |                    |
+        |                    |
+        !----notes-L1-C0-----!
+        |                    |
+        |                    |
+        |                    |
+        !----notes-L1-C0-----!
+        |                    |
+        cursor 1 1
+        == a session ends by name
+        user ann
+        open a ann 6 20
+        keys a M-x 'save-buffers-kill-emacs RET 'x
+        show a
+        ended a Quit
+    ";
+    scripts_show(&rt, rt.alloc(), "", others)
 }

@@ -1,11 +1,12 @@
 // Paragraphs that are filled, each with what the terminal then shows.
 use super::replay::NOTES;
-use super::steps::steps_show;
+use super::steps::scripts_show;
 use std::test::Fail;
 
 #[test]
-fn words_are_filled_up_to_the_column(rt: HostRuntime) -> Result<(), Fail> {
-    let steps = "
+fn paragraphs_are_filled(rt: HostRuntime) -> Result<(), Fail> {
+    let shared = "
+        == words are filled up to the column
         text notes 'aa SPC 'bb SPC 'cc SPC 'dd SPC 'ee
         open a ann 6 60
         a C-x 'f             | aa bb cc dd ee   | --L1-C0  | 1 1  | No argument
@@ -17,14 +18,8 @@ fn words_are_filled_up_to_the_column(rt: HostRuntime) -> Result<(), Fail> {
         a C-u '4 C-x 'f      | aa bb/cc dd/ee   | **L3-C2  | 3 3
         a 'eee C-u '8 C-x 'f | aa bb/cc dd/eeeee | **L3-C5 | 3 6
         a M-q                | aa bb cc/dd eeeee | **L2-C8 | 2 9
-    ";
-    steps_show(&rt, rt.alloc(), NOTES, steps)
-}
-
-// The paragraph around the point alone is filled. A word that passes the column stands alone.
-#[test]
-fn paragraphs_stay_apart(rt: HostRuntime) -> Result<(), Fail> {
-    let steps = "
+        == paragraphs stay apart
+        # The paragraph around the point alone is filled. A word that passes the column stands alone.
         text notes RET 'a TAB 'b RET 'c SPC SPC 'd
         open a ann 6 60
         a M-q                    | /a       b/c  d | --L1-C0 | 1 1
@@ -32,13 +27,7 @@ fn paragraphs_stay_apart(rt: HostRuntime) -> Result<(), Fail> {
         a C-m 'long C-u '3 C-x 'f | /a b c d/long  | **L3-C4 | 3 5
         a M-q                    | /a b/c d/long   | **L4-C4 | 4 5
         a M-< M-q                | /a b/c d/long   | **L1-C0 | 1 1
-    ";
-    steps_show(&rt, rt.alloc(), NOTES, steps)
-}
-
-#[test]
-fn each_session_has_its_column(rt: HostRuntime) -> Result<(), Fail> {
-    let steps = "
+        == each session has its column
         text notes 'aa SPC SPC 'bb
         open a ann 6 60
         open b ann 6 60
@@ -46,12 +35,9 @@ fn each_session_has_its_column(rt: HostRuntime) -> Result<(), Fail> {
         b M-q           | aa bb  | **L1-C5 | 1 6
         a M-q           | aa/bb  | **L2-C2 | 2 3
     ";
-    steps_show(&rt, rt.alloc(), NOTES, steps)
-}
-
-#[test]
-fn filling_needs_reading_and_writing(rt: HostRuntime) -> Result<(), Fail> {
-    let steps = "
+    scripts_show(&rt, rt.alloc(), NOTES, shared)?;
+    let others = "
+        == filling needs reading and writing
         user ann
         user bob
         user cat
@@ -65,5 +51,5 @@ fn filling_needs_reading_and_writing(rt: HostRuntime) -> Result<(), Fail> {
         c M-q    | [no read: no entry] | --(no read) | 1 1 | Denied: no entry grants READ_DATA
         c C-x 'f | [no read: no entry] | --(no read) | 1 1 | No argument
     ";
-    steps_show(&rt, rt.alloc(), "", steps)
+    scripts_show(&rt, rt.alloc(), "", others)
 }

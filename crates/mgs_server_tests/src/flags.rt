@@ -1,10 +1,11 @@
 // Whether a buffer was edited since it was made or saved, as its mode line tells, and who may take that back or save.
-use super::steps::steps_show;
+use super::steps::scripts_show;
 use std::test::Fail;
 
 #[test]
-fn who_may_edit_takes_the_flag_back(rt: HostRuntime) -> Result<(), Fail> {
-    let steps = "
+fn the_flag_tells_of_edits(rt: HostRuntime) -> Result<(), Fail> {
+    let scripts = "
+        == who may edit takes the flag back
         user ann
         user bob
         user cat
@@ -24,14 +25,8 @@ fn who_may_edit_takes_the_flag_back(rt: HostRuntime) -> Result<(), Fail> {
         b         | xabc                | --L1-C0     | 1 1 | Denied: no entry grants WRITE_DATA
         a C-b C-d | abc                 | **L1-C0     | 1 1
         a M-~     | abc                 | --L1-C0     | 1 1
-    ";
-    steps_show(&rt, rt.alloc(), "", steps)
-}
-
-// A script's buffers have no files. Rights come first.
-#[test]
-fn a_text_without_a_file_is_not_saved(rt: HostRuntime) -> Result<(), Fail> {
-    let steps = "
+        == a text without a file is not saved
+        # A script's buffers have no files. Rights come first.
         user ann
         user bob
         user cat
@@ -48,5 +43,5 @@ fn a_text_without_a_file_is_not_saved(rt: HostRuntime) -> Result<(), Fail> {
         b C-x C-s    | xabc                | **L1-C0     | 1 1 | Denied: no entry grants WRITE_DATA
         c C-x C-s    | [no read: no entry] | **(no read) | 1 1 | Denied: no entry grants READ_DATA
     ";
-    steps_show(&rt, rt.alloc(), "", steps)
+    scripts_show(&rt, rt.alloc(), "", scripts)
 }

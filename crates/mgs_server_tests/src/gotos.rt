@@ -1,5 +1,5 @@
 // Lines by their numbers (C-x g), each step with what the terminal then shows.
-use super::steps::steps_show;
+use super::steps::scripts_show;
 use std::test::Fail;
 
 const LINES: &str = "user ann\n\
@@ -12,8 +12,9 @@ const LINES: &str = "user ann\n\
     open a ann 6 60\n";
 
 #[test]
-fn a_line_is_asked_for(rt: HostRuntime) -> Result<(), Fail> {
-    let steps = "
+fn lines_are_gone_to(rt: HostRuntime) -> Result<(), Fail> {
+    let scripts = "
+        == a line is asked for
         a M-> C-x 'g             | ab/cd/ef | --L3-C2 | 6 12 | Goto line:
         a 'x RET                 | ab/cd/ef | --L3-C2 | 3 3  | Not a number
         a C-x 'g '0 RET          | ab/cd/ef | --L1-C0 | 1 1
@@ -21,14 +22,8 @@ fn a_line_is_asked_for(rt: HostRuntime) -> Result<(), Fail> {
         a C-x 'g '00000001 RET   | ab/cd/ef | --L2-C0 | 2 1  | Not a number
         a C-x 'g RET             | ab/cd/ef | --L2-C0 | 2 1  | Not a number
         a C-x 'g '9999999 RET    | ab/cd/ef | --L3-C0 | 3 1
-    ";
-    steps_show(&rt, rt.alloc(), LINES, steps)
-}
-
-// With an argument nothing is asked. M-x hands its own on.
-#[test]
-fn a_line_is_told_by_the_argument(rt: HostRuntime) -> Result<(), Fail> {
-    let steps = "
+        == a line is told by the argument
+        # With an argument nothing is asked. M-x hands its own on.
         a C-u '3 C-x 'g             | ab/cd/ef | --L3-C0 | 3 1
         a M-0 C-x 'g                | ab/cd/ef | --L1-C0 | 1 1
         a C-u '2 M-x 'goto-line RET | ab/cd/ef | --L2-C0 | 2 1
@@ -41,5 +36,5 @@ fn a_line_is_told_by_the_argument(rt: HostRuntime) -> Result<(), Fail> {
         open c cat 6 60
         c C-x 'g '1 RET             |  | :-None | 1 1 | No buffer
     ";
-    steps_show(&rt, rt.alloc(), LINES, steps)
+    scripts_show(&rt, rt.alloc(), LINES, scripts)
 }

@@ -1,5 +1,5 @@
 // The text of a buffer that comes into another (M-x insert-buffer), each step with what the terminal then shows.
-use super::steps::steps_show;
+use super::steps::scripts_show;
 use std::test::Fail;
 
 const THREE: &str = "user ann\n\
@@ -22,10 +22,11 @@ const THREE: &str = "user ann\n\
     text secret 'shh\n\
     open a ann 6 60\n";
 
-// The mark is set before what comes in, and the point goes behind it. The argument is no number of times.
 #[test]
-fn a_text_comes_into_another(rt: HostRuntime) -> Result<(), Fail> {
-    let steps = "
+fn texts_come_into_others(rt: HostRuntime) -> Result<(), Fail> {
+    let scripts = "
+        == a text comes into another
+        # The mark is set before what comes in, and the point goes behind it. The argument is no number of times.
         a C-f M-x 'ins TAB RET                    | ab/cd       | --L1-C1 | 6 16 | Insert buffer:
         a 'na TAB                                 | ab/cd       | --L1-C1 | 6 21 | Insert buffer: names
         a RET                                     | axy/zb/cd   | **L2-C1 | 2 2
@@ -35,28 +36,16 @@ fn a_text_comes_into_another(rt: HostRuntime) -> Result<(), Fail> {
         a C-x C-x                                 | aab/cdb/cd  | **L1-C1 | 1 2
         a M-x 'insert-buffer RET 's TAB           | aab/cdb/cd  | **L1-C1 | 1 2 | No match
         a C-g                                     | aab/cdb/cd  | **L1-C1 | 1 2 | Quit
-    ";
-    steps_show(&rt, rt.alloc(), THREE, steps)
-}
-
-// What takes out nothing and puts in nothing is no edit, but the mark is set.
-#[test]
-fn an_empty_text_is_no_edit(rt: HostRuntime) -> Result<(), Fail> {
-    let steps = "
+        == an empty text is no edit
+        # What takes out nothing and puts in nothing is no edit, but the mark is set.
         a C-f M-x 'insert-buffer RET 'blank RET | ab/cd | --L1-C1 | 1 2
         a C-f C-x C-x                           | ab/cd | --L1-C1 | 1 2
         a C-_                                   | ab/cd | --L1-C1 | 1 2 | No further undo information
         a M-x 'insert-buffer RET 'secret RET    | ab/cd | --L1-C1 | 1 2 | Denied: no entry grants READ_DATA
         a M-x 'insert-buffer RET 'none RET      | ab/cd | --L1-C1 | 1 2 | No such buffer
         a M-x 'insert-buffer RET RET            | ab/cd | --L1-C1 | 1 2 | No such buffer
-    ";
-    steps_show(&rt, rt.alloc(), THREE, steps)
-}
-
-// A source that is not there is told first, then the right on it, and then the one on the buffer that is shown.
-#[test]
-fn rights_on_both_are_judged(rt: HostRuntime) -> Result<(), Fail> {
-    let steps = "
+        == rights on both are judged
+        # A source that is not there is told first, then the right on it, and then the one on the buffer that is shown.
         open b bob 6 60
         b M-x 'insert-buffer RET 'none RET     | ab/cd | --L1-C0 | 1 1 | No such buffer
         b M-x 'insert-buffer RET 'secret RET   | ab/cd | --L1-C0 | 1 1 | Denied: no entry grants READ_DATA
@@ -68,5 +57,5 @@ fn rights_on_both_are_judged(rt: HostRuntime) -> Result<(), Fail> {
         open d dan 6 60
         d M-x 'insert-buffer RET 'none RET     |       | :-None  | 1 1 | No buffer
     ";
-    steps_show(&rt, rt.alloc(), THREE, steps)
+    scripts_show(&rt, rt.alloc(), THREE, scripts)
 }

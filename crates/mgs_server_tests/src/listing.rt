@@ -1,5 +1,5 @@
 // The list of all buffers in a window: it follows what others do, is scrolled, and leaves the text as it was.
-use super::replay::gives;
+use super::steps::scripts_show;
 use std::test::Fail;
 
 const BEFORE: &str = "user ann\n\
@@ -14,72 +14,70 @@ const BEFORE: &str = "user ann\n\
 
 #[test]
 fn the_list_of_buffers_is_shown(rt: HostRuntime) -> Result<(), Fail> {
-    let mut script = Vec::from_slice(rt.alloc(), BEFORE.as_bytes())?;
-    script.extend_from_slice(b"show a\nkeys b 'x\nshow a\n")?;
-    let output = "screen a\n\
-        |*       2 notes ann           |\n\
-        |                              |\n\
-        |                              |\n\
-        |                              |\n\
-        !-Buffers----------------------!\n\
-        |                              |\n\
-        cursor 1 1\n\
-        screen a\n\
-        |*       3 notes ann           |\n\
-        |                              |\n\
-        |                              |\n\
-        |                              |\n\
-        !-Buffers----------------------!\n\
-        |                              |\n\
-        cursor 1 1\n";
-    gives(&rt, rt.alloc(), &script, output, Ok(()));
-    Ok(())
-}
-
-#[test]
-fn the_list_of_buffers_is_scrolled(rt: HostRuntime) -> Result<(), Fail> {
-    let mut script = Vec::from_slice(rt.alloc(), BEFORE.as_bytes())?;
-    script.extend_from_slice(b"keys a C-v\nshow a\nkeys a M-v\nshow a\n")?;
-    let output = "screen a\n\
-        |                              |\n\
-        |                              |\n\
-        |                              |\n\
-        |                              |\n\
-        !-Buffers----------------------!\n\
-        |                              |\n\
-        cursor 1 1\n\
-        screen a\n\
-        |*       2 notes ann           |\n\
-        |                              |\n\
-        |                              |\n\
-        |                              |\n\
-        !-Buffers----------------------!\n\
-        |                              |\n\
-        cursor 1 1\n";
-    gives(&rt, rt.alloc(), &script, output, Ok(()));
-    Ok(())
-}
-
-#[test]
-fn a_text_comes_back_at_its_point(rt: HostRuntime) -> Result<(), Fail> {
-    let mut script = Vec::from_slice(rt.alloc(), BEFORE.as_bytes())?;
-    script.extend_from_slice(b"keys a C-f\nshow a\nkeys b 'x\nkeys a C-x 'b 'notes RET\nshow a\n")?;
-    let output = "screen a\n\
-        |*       2 notes ann           |\n\
-        |                              |\n\
-        |                              |\n\
-        |                              |\n\
-        !-Buffers----------------------!\n\
-        |No buffer                     |\n\
-        cursor 1 1\n\
-        screen a\n\
-        |xhi                           |\n\
-        |                              |\n\
-        |                              |\n\
-        |                              |\n\
-        !-**-notes-L1-C3---------------!\n\
-        |                              |\n\
-        cursor 1 4\n";
-    gives(&rt, rt.alloc(), &script, output, Ok(()));
-    Ok(())
+    let scripts = "
+        == the list of buffers is shown
+        show a
+        screen a
+        |*       2 notes ann           |
+        |                              |
+        |                              |
+        |                              |
+        !-Buffers----------------------!
+        |                              |
+        cursor 1 1
+        keys b 'x
+        show a
+        screen a
+        |*       3 notes ann           |
+        |                              |
+        |                              |
+        |                              |
+        !-Buffers----------------------!
+        |                              |
+        cursor 1 1
+        == the list of buffers is scrolled
+        keys a C-v
+        show a
+        screen a
+        |                              |
+        |                              |
+        |                              |
+        |                              |
+        !-Buffers----------------------!
+        |                              |
+        cursor 1 1
+        keys a M-v
+        show a
+        screen a
+        |*       2 notes ann           |
+        |                              |
+        |                              |
+        |                              |
+        !-Buffers----------------------!
+        |                              |
+        cursor 1 1
+        == a text comes back at its point
+        keys a C-f
+        show a
+        screen a
+        |*       2 notes ann           |
+        |                              |
+        |                              |
+        |                              |
+        !-Buffers----------------------!
+        |No buffer                     |
+        cursor 1 1
+        keys b 'x
+        keys a C-x 'b 'notes RET
+        show a
+        screen a
+        |xhi                           |
+        |                              |
+        |                              |
+        |                              |
+        !-**-notes-L1-C3---------------!
+        |                              |
+        cursor 1 4
+    ";
+    scripts_show(&rt, rt.alloc(), BEFORE, scripts)
 }

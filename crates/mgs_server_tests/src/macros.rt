@@ -1,5 +1,5 @@
 // Keyboard macros: what is recorded and played, and what stops it.
-use super::steps::steps_show;
+use super::steps::scripts_show;
 use std::test::Fail;
 
 const NOTES: &str = "user ann\n\
@@ -8,8 +8,9 @@ const NOTES: &str = "user ann\n\
     open a ann 6 60\n";
 
 #[test]
-fn a_macro_is_recorded(rt: HostRuntime) -> Result<(), Fail> {
-    let steps = "
+fn macros_are_recorded_and_played(rt: HostRuntime) -> Result<(), Fail> {
+    let shared = "
+        == a macro is recorded
         a C-x ')         |      | --L1-C0 | 1 1 | Not in macro
         a C-x '(         |      | --L1-C0 | 1 1
         a 'ab            | ab   | **L1-C2 | 1 3
@@ -20,29 +21,7 @@ fn a_macro_is_recorded(rt: HostRuntime) -> Result<(), Fail> {
         a C-x ')         | abc  | **L1-C3 | 1 4 | Not in macro
         a C-x '( C-x 'b C-g | abc | **L1-C3 | 1 4 | Quit
         a C-x ') 'd      | abcd | **L1-C4 | 1 5
-    ";
-    steps_show(&rt, rt.alloc(), NOTES, steps)
-}
-
-// The byte that is one too many is not handled, and the recording is over.
-#[test]
-fn a_macro_has_512_bytes(rt: HostRuntime) -> Result<(), Fail> {
-    let mut steps = String::from_str(rt.alloc(), "a C-x '(")?;
-    for _ in 0..511 {
-        steps.push_str(" C-a")?;
-    }
-    let rest = " 'x     | x  | **L1-C1 | 1 2
-        a 'y            | x  | **L1-C1 | 1 2 | Macro too long
-        a 'z            | xz | **L1-C2 | 1 3
-        a C-x ')        | xz | **L1-C2 | 1 3 | Not in macro
-    ";
-    steps.push_str(rest)?;
-    steps_show(&rt, rt.alloc(), NOTES, steps.as_str())
-}
-
-#[test]
-fn a_macro_is_played(rt: HostRuntime) -> Result<(), Fail> {
-    let steps = "
+        == a macro is played
         a C-x 'e              |            | --L1-C0  | 1 1 | No macro
         a C-x '( 'ab C-x ')   | ab         | **L1-C2  | 1 3
         a C-x 'e              | abab       | **L1-C4  | 1 5
@@ -53,14 +32,8 @@ fn a_macro_is_played(rt: HostRuntime) -> Result<(), Fail> {
         a C-x ') C-x 'e       | ababababab | **L1-C10 | 1 11 | In macro
         a C-x '( 'y C-u '3 C-x ') | abababababy | **L1-C11 | 1 12
         a C-x 'e 'z           | abababababyyzzz | **L1-C15 | 1 16
-    ";
-    steps_show(&rt, rt.alloc(), NOTES, steps)
-}
-
-// The first failure ends the play, and what was done stays.
-#[test]
-fn a_failure_ends_a_play(rt: HostRuntime) -> Result<(), Fail> {
-    let steps = "
+        == a failure ends a play
+        # The first failure ends the play, and what was done stays.
         a C-x '( C-f 'x C-x ')   | x    | **L1-C1 | 1 2
         a C-x 'e                 | x    | **L1-C1 | 1 2 | End of buffer
         a C-a C-x 'e             | xx   | **L1-C2 | 1 3
@@ -69,22 +42,34 @@ fn a_failure_ends_a_play(rt: HostRuntime) -> Result<(), Fail> {
         a C-x '( 'y C-x C-s C-x ') | xxxxxxxxy | **L1-C9 | 1 10
         a C-x 'e                 | xxxxxxxxyy | **L1-C10 | 1 11 | In macro
     ";
-    steps_show(&rt, rt.alloc(), NOTES, steps)
-}
-
-const TWICE: &str = "user ann\n\
-    buffer notes ann\n\
-    entry notes ALLOW OWNER@ rwatdcCo\n\
-    entry notes ALLOW OWNER@ rwatdcCo\n\
-    open a ann 6 60\n";
-
-// Each act is judged in the world that the acts before it left: a macro may take its own right away.
-#[test]
-fn a_macro_revokes_its_own_right(rt: HostRuntime) -> Result<(), Fail> {
-    let steps = "
+    scripts_show(&rt, rt.alloc(), NOTES, shared)?;
+    let others = "
+        == a macro revokes its own right
+        # Each act is judged in the world that the acts before it left: a macro may take its own right away.
+        user ann
+        buffer notes ann
+        entry notes ALLOW OWNER@ rwatdcCo
+        entry notes ALLOW OWNER@ rwatdcCo
+        open a ann 6 60
         a C-x '( 'x M-x 'acl-delete RET 'y C-x ') | xy | **L1-C2 | 1 3
         a C-u '9 C-x 'e | [no read: no entry] | :-??-?-(no read) | 1 1 | Denied: no entry grants APPEND_DATA
         a C-x 'e        | [no read: no entry] | :-??-?-(no read) | 1 1 | Denied: no entry grants APPEND_DATA
     ";
-    steps_show(&rt, rt.alloc(), TWICE, steps)
+    scripts_show(&rt, rt.alloc(), "", others)
+}
+
+// The byte that is one too many is not handled, and the recording is over.
+#[test]
+fn a_macro_has_512_bytes(rt: HostRuntime) -> Result<(), Fail> {
+    let mut steps = String::from_str(rt.alloc(), "== a macro has 512 bytes\na C-x '(")?;
+    for _ in 0..511 {
+        steps.push_str(" C-a")?;
+    }
+    let rest = " 'x     | x  | **L1-C1 | 1 2
+        a 'y            | x  | **L1-C1 | 1 2 | Macro too long
+        a 'z            | xz | **L1-C2 | 1 3
+        a C-x ')        | xz | **L1-C2 | 1 3 | Not in macro
+    ";
+    steps.push_str(rest)?;
+    scripts_show(&rt, rt.alloc(), NOTES, steps.as_str())
 }

@@ -1,12 +1,13 @@
 // Motions, deletions and kills, each with what the terminal then shows: at both ends of a text, with arguments of 0 and of more
 // than there is, on an empty text, and with TABs.
 use super::replay::NOTES;
-use super::steps::steps_show;
+use super::steps::scripts_show;
 use std::test::Fail;
 
 #[test]
-fn motions_stop_at_both_ends(rt: HostRuntime) -> Result<(), Fail> {
-    let steps = "
+fn points_move(rt: HostRuntime) -> Result<(), Fail> {
+    let scripts = "
+        == motions stop at both ends
         text notes 'hi RET TAB 'x SPC 'yz RET RET 'end
         open a ann 6 60
         a C-x '=          | hi/        x yz//end | --L1-C0  | 1 1  | char 104 point 0 of 13 line 1 column 0
@@ -46,13 +47,7 @@ fn motions_stop_at_both_ends(rt: HostRuntime) -> Result<(), Fail> {
         a M-{             | hi/        x yz//end | --L1-C0  | 1 1
         a C-u C-n         | hi/        x yz//end | --L4-C0  | 4 1
         a C-u '9 C-p      | hi/        x yz//end | --L1-C0  | 1 1
-    ";
-    steps_show(&rt, rt.alloc(), NOTES, steps)
-}
-
-#[test]
-fn goals_are_kept_over_lines(rt: HostRuntime) -> Result<(), Fail> {
-    let steps = "
+        == goals are kept over lines
         text notes 'abcdefghij RET 'ab RET TAB 'x RET 'abcdefghijkl RET RET 'q
         open a ann 6 60
         a C-e C-n            | abcdefghij/ab/        x/abcdefghijkl | --L2-C2  | 2 3
@@ -76,13 +71,7 @@ fn goals_are_kept_over_lines(rt: HostRuntime) -> Result<(), Fail> {
         a C-u '0 C-v         | abcdefghij/ab/        x/abcdefghijkl | --L1-C0  | 1 1
         a M-> C-u '2 M-v C-l | ab/        x/abcdefghijkl            | --L4-C0  | 3 1
         a C-u '0 C-n         | ab/        x/abcdefghijkl            | --L4-C0  | 3 1
-    ";
-    steps_show(&rt, rt.alloc(), NOTES, steps)
-}
-
-#[test]
-fn an_empty_text_has_no_way(rt: HostRuntime) -> Result<(), Fail> {
-    let steps = "
+        == an empty text has no way
         open a ann 6 60
         a C-x '=              |              | --L1-C0 | 1 1 | end point 0 of 0 line 1 column 0
         a C-f                 |              | --L1-C0 | 1 1 | End of buffer
@@ -114,13 +103,26 @@ fn an_empty_text_has_no_way(rt: HostRuntime) -> Result<(), Fail> {
         a SPC TAB 'a C-j      |         a/   | **L2-C8 | 2 9
         a C-a C-u '2 C-j      |         a/// | **L4-C0 | 4 1
         a M-< C-u '2 C-o      | //        a  | **L1-C0 | 1 1
+        == a terminals arrows are motions
+        text notes 'ab RET 'cd
+        open a ann 6 60
+        a C-e ESC '[D | ab/cd  | --L1-C1 | 1 2
+        a ESC '[z     | ab/cd  | --L1-C1 | 1 2 | Key not bound
+        a ESC '[B     | ab/cd  | --L2-C1 | 2 2
+        a ESC '[C     | ab/cd  | --L2-C2 | 2 3
+        a ESC '[C     | ab/cd  | --L2-C2 | 2 3 | End of buffer
+        a ESC '[A     | ab/cd  | --L1-C2 | 1 3
+        a M-2 ESC '[D | ab/cd  | --L1-C0 | 1 1
+        a ESC '[ C-g  | ab/cd  | --L1-C0 | 1 1 | Quit
+        a 'A          | Aab/cd | **L1-C1 | 1 2
     ";
-    steps_show(&rt, rt.alloc(), NOTES, steps)
+    scripts_show(&rt, rt.alloc(), NOTES, scripts)
 }
 
 #[test]
-fn characters_go_and_change_places(rt: HostRuntime) -> Result<(), Fail> {
-    let steps = "
+fn texts_are_edited_at_the_point(rt: HostRuntime) -> Result<(), Fail> {
+    let shared = "
+        == characters go and change places
         text notes 'abcdef RET 'g
         open a ann 6 60
         a DEL             | abcdef/g | --L1-C0 | 1 1 | Beginning of buffer
@@ -139,13 +141,7 @@ fn characters_go_and_change_places(rt: HostRuntime) -> Result<(), Fail> {
         a M-< C-u '99 C-d |          | **L1-C0 | 1 1 | End of buffer
         a 'a C-t          | a        | **L1-C1 | 1 2 | Beginning of buffer
         a 'bc C-b C-t     | acb      | **L1-C3 | 1 4
-    ";
-    steps_show(&rt, rt.alloc(), NOTES, steps)
-}
-
-#[test]
-fn stretches_are_killed(rt: HostRuntime) -> Result<(), Fail> {
-    let steps = "
+        == stretches are killed
         text notes 'one SPC 'two RET RET TAB '3,4 RET 'end
         open a ann 6 60
         a M-DEL                       | one two//        3,4/end | --L1-C0 | 1 1 | Beginning of buffer
@@ -167,13 +163,18 @@ fn stretches_are_killed(rt: HostRuntime) -> Result<(), Fail> {
         a M-9 M-DEL                   |                          | **L1-C0 | 1 1
         a M-DEL                       |                          | **L1-C0 | 1 1 | Beginning of buffer
         a 'x,y M-< M-9 M-d            |                          | **L1-C0 | 1 1
+        == c q puts the next byte in
+        text notes 'ab
+        open a ann 6 60
+        a C-q C-a                | ^Aab        | **L1-C2 | 1 3
+        a C-q                    | ^Aab        | **L1-C2 | 1 3
+        a ESC                    | ^A^[ab      | **L1-C4 | 1 5
+        a C-q C-q C-q C-g C-q '5 | ^A^[^Q^G5ab | **L1-C9 | 1 10
+        a C-u '0 C-q C-x C-g     | ^A^[^Q^G5ab | **L1-C9 | 1 10 | Quit
     ";
-    steps_show(&rt, rt.alloc(), NOTES, steps)
-}
-
-#[test]
-fn others_follow_and_rights_come_first(rt: HostRuntime) -> Result<(), Fail> {
-    let steps = "
+    scripts_show(&rt, rt.alloc(), NOTES, shared)?;
+    let others = "
+        == others follow and rights come first
         user ann
         user bob
         user cat
@@ -219,37 +220,5 @@ fn others_follow_and_rights_come_first(rt: HostRuntime) -> Result<(), Fail> {
         a                       | abf                 | **L2-C0     | 2 1
         d                       | abf                 | **L2-C0     | 2 1
     ";
-    steps_show(&rt, rt.alloc(), "", steps)
-}
-
-#[test]
-fn a_terminals_arrows_are_motions(rt: HostRuntime) -> Result<(), Fail> {
-    let steps = "
-        text notes 'ab RET 'cd
-        open a ann 6 60
-        a C-e ESC '[D | ab/cd  | --L1-C1 | 1 2
-        a ESC '[z     | ab/cd  | --L1-C1 | 1 2 | Key not bound
-        a ESC '[B     | ab/cd  | --L2-C1 | 2 2
-        a ESC '[C     | ab/cd  | --L2-C2 | 2 3
-        a ESC '[C     | ab/cd  | --L2-C2 | 2 3 | End of buffer
-        a ESC '[A     | ab/cd  | --L1-C2 | 1 3
-        a M-2 ESC '[D | ab/cd  | --L1-C0 | 1 1
-        a ESC '[ C-g  | ab/cd  | --L1-C0 | 1 1 | Quit
-        a 'A          | Aab/cd | **L1-C1 | 1 2
-    ";
-    steps_show(&rt, rt.alloc(), NOTES, steps)
-}
-
-#[test]
-fn c_q_puts_the_next_byte_in(rt: HostRuntime) -> Result<(), Fail> {
-    let steps = "
-        text notes 'ab
-        open a ann 6 60
-        a C-q C-a                | ^Aab        | **L1-C2 | 1 3
-        a C-q                    | ^Aab        | **L1-C2 | 1 3
-        a ESC                    | ^A^[ab      | **L1-C4 | 1 5
-        a C-q C-q C-q C-g C-q '5 | ^A^[^Q^G5ab | **L1-C9 | 1 10
-        a C-u '0 C-q C-x C-g     | ^A^[^Q^G5ab | **L1-C9 | 1 10 | Quit
-    ";
-    steps_show(&rt, rt.alloc(), NOTES, steps)
+    scripts_show(&rt, rt.alloc(), "", others)
 }

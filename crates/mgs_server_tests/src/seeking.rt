@@ -1,6 +1,5 @@
 // Incremental searches (C-s, C-r), each step with what the terminal then shows.
-use super::replay::{gives, plays};
-use super::steps::steps_show;
+use super::steps::scripts_show;
 use std::test::Fail;
 
 const NOTES: &str = "user ann\n\
@@ -12,10 +11,11 @@ const NOTES: &str = "user ann\n\
     text notes 'abcabc\n\
     open a ann 6 60\n";
 
-// With an empty pattern the anchor itself counts, and with one it does not. C-g goes back, and sets no search string.
 #[test]
-fn a_text_is_found_as_it_is_typed(rt: HostRuntime) -> Result<(), Fail> {
-    let steps = "
+fn texts_are_found_as_they_are_typed(rt: HostRuntime) -> Result<(), Fail> {
+    let shared = "
+        == a text is found as it is typed
+        # With an empty pattern the anchor itself counts, and with one it does not. C-g goes back, and sets no search string.
         a C-s            | abcabc | --L1-C0 | 1 1 | I-search:
         a 'c             | abcabc | --L1-C3 | 1 4 | I-search: c
         a C-s            | abcabc | --L1-C6 | 1 7 | I-search: c
@@ -26,14 +26,9 @@ fn a_text_is_found_as_it_is_typed(rt: HostRuntime) -> Result<(), Fail> {
         a C-r            | abcabc | --L1-C0 | 1 1 | I-search backward:
         a RET            | abcabc | --L1-C0 | 1 1
         a M-s RET        | abcabc | --L1-C0 | 1 1 | No pattern
-    ";
-    steps_show(&rt, rt.alloc(), NOTES, steps)
-}
-
-// Backward the point is at a match's start. A match may end behind the origin, and the other way it does not count where it is.
-#[test]
-fn a_text_is_found_backward(rt: HostRuntime) -> Result<(), Fail> {
-    let steps = "
+        == a text is found backward
+        # Backward the point is at a match's start. A match may end behind the origin, and the other way it does not count
+        # where it is.
         a M-> C-r        | abcabc | --L1-C6 | 1 7 | I-search backward:
         a 'c             | abcabc | --L1-C5 | 1 6 | I-search backward: c
         a C-r            | abcabc | --L1-C2 | 1 3 | I-search backward: c
@@ -48,19 +43,40 @@ fn a_text_is_found_backward(rt: HostRuntime) -> Result<(), Fail> {
         a DEL C-s        | abcabc | --L1-C5 | 1 6 | I-search: ab
         a RET C-b C-r 'b | abcabc | --L1-C4 | 1 5 | I-search backward: b
         a 'c             | abcabc | --L1-C4 | 1 5 | I-search backward: bc
+        == what was looked for is looked for again
+        # RET ends it, and what it looked for is the search string. An empty pattern leaves that as it was.
+        a C-s 'c RET     | abcabc | --L1-C3 | 1 4
+        a C-s            | abcabc | --L1-C3 | 1 4 | I-search:
+        a C-s            | abcabc | --L1-C6 | 1 7 | I-search: c
+        a RET            | abcabc | --L1-C6 | 1 7
+        a M-< M-s RET    | abcabc | --L1-C3 | 1 4
+        a M-r RET        | abcabc | --L1-C2 | 1 3
+        a C-s RET M-s RET | abcabc | --L1-C3 | 1 4
+        a C-r C-r        | abcabc | --L1-C2 | 1 3 | I-search backward: c
+        a C-g C-r C-s    | abcabc | --L1-C6 | 1 7 | I-search: c
+        a C-g M-s 'a RET | abcabc | --L1-C4 | 1 5
+        a M-< C-s C-s    | abcabc | --L1-C3 | 1 4 | I-search: c
+        a 'x RET M-s RET | abcabc | --L1-C3 | 1 4 | Not found
+        == a search is begun by name
+        # The argument means nothing to it, and digits are looked for.
+        a C-u '3 C-s     | abcabc | --L1-C0 | 1 1  | I-search:
+        a '3             | abcabc | --L1-C0 | 1 1  | Failing I-search: 3
+        a C-g            | abcabc | --L1-C0 | 1 1  | Quit
+        a M-x 'is TAB    | abcabc | --L1-C0 | 6 13 | M-x isearch-
+        a 'f TAB RET     | abcabc | --L1-C0 | 1 1  | I-search:
+        a 'ca            | abcabc | --L1-C4 | 1 5  | I-search: ca
+        a M-x 'isearch-backward RET 'b | abcabc | --L1-C4 | 1 5 | I-search backward: b
+        a C-r            | abcabc | --L1-C1 | 1 2  | I-search backward: b
     ";
-    steps_show(&rt, rt.alloc(), NOTES, steps)
-}
-
-// DEL looks again from the origin, and with an empty pattern goes there.
-#[test]
-fn what_was_typed_is_taken_back(rt: HostRuntime) -> Result<(), Fail> {
-    let setting = "user ann\n\
-        buffer notes ann\n\
-        entry notes ALLOW OWNER@ rwatdcCo\n\
-        text notes 'xabxac\n\
-        open a ann 6 60\n";
-    let steps = "
+    scripts_show(&rt, rt.alloc(), NOTES, shared)?;
+    let others = "
+        == what was typed is taken back
+        # DEL looks again from the origin, and with an empty pattern goes there.
+        user ann
+        buffer notes ann
+        entry notes ALLOW OWNER@ rwatdcCo
+        text notes 'xabxac
+        open a ann 6 60
         a C-f C-s 'a     | xabxac | --L1-C2 | 1 3 | I-search: a
         a 'c             | xabxac | --L1-C6 | 1 7 | I-search: ac
         a 'z             | xabxac | --L1-C6 | 1 7 | Failing I-search: acz
@@ -74,40 +90,56 @@ fn what_was_typed_is_taken_back(rt: HostRuntime) -> Result<(), Fail> {
         a 'a             | xabxac | --L1-C0 | 1 1 | I-search backward: xa
         a DEL            | xabxac | --L1-C0 | 1 1 | I-search backward: x
         a DEL            | xabxac | --L1-C1 | 1 2 | I-search backward:
+        == case is ignored
+        # Letters of ASCII match in either case, and no other characters do.
+        user ann
+        buffer notes ann
+        entry notes ALLOW OWNER@ rwatdcCo
+        text notes 'aBc{AbC[
+        open a ann 6 60
+        a C-s 'b         | aBc{AbC[ | --L1-C2 | 1 3 | I-search: b
+        a 'C             | aBc{AbC[ | --L1-C3 | 1 4 | I-search: bC
+        a C-s            | aBc{AbC[ | --L1-C7 | 1 8 | I-search: bC
+        a '[             | aBc{AbC[ | --L1-C8 | 1 9 | I-search: bC[
+        a RET C-r C-r    | aBc{AbC[ | --L1-C5 | 1 6 | I-search backward: bC[
+        a DEL C-r        | aBc{AbC[ | --L1-C1 | 1 2 | I-search backward: bC
+        a '[             | aBc{AbC[ | --L1-C1 | 1 2 | Failing I-search backward: bC[
+        == a window follows a search
+        # A window follows the point, and C-g brings it back.
+        user ann
+        buffer notes ann
+        entry notes ALLOW OWNER@ rwatdcCo
+        text notes 'a RET 'b RET 'c RET 'd RET 'e RET 'f RET 'g RET 'h RET 'i RET 'j
+        open a ann 6 60
+        a C-s 'h         | f/g/h/i | --L8-C1 | 3 2 | I-search: h
+        a C-g            | a/b/c/d | --L1-C0 | 1 1 | Quit
+        == an empty text is searched
+        user ann
+        buffer notes ann
+        entry notes ALLOW OWNER@ rwatdcCo
+        open a ann 6 60
+        a C-s            |   | --L1-C0 | 1 1 | I-search:
+        a 'a             |   | --L1-C0 | 1 1 | Failing I-search: a
+        a C-s            |   | --L1-C0 | 1 1 | Failing I-search: a
+        a C-r            |   | --L1-C0 | 1 1 | Failing I-search backward: a
+        a DEL            |   | --L1-C0 | 1 1 | I-search backward:
+        a C-k            |   | --L1-C0 | 1 1 | End of buffer
+        a C-r 'b RET     |   | --L1-C0 | 1 1
+        a 'b C-r C-r     | b | **L1-C0 | 1 1 | I-search backward: b
     ";
-    steps_show(&rt, rt.alloc(), setting, steps)
+    scripts_show(&rt, rt.alloc(), "", others)
 }
 
-// RET ends it, and what it looked for is the search string. An empty pattern leaves that as it was.
 #[test]
-fn what_was_looked_for_is_looked_for_again(rt: HostRuntime) -> Result<(), Fail> {
-    let steps = "
-        a C-s 'c RET     | abcabc | --L1-C3 | 1 4
-        a C-s            | abcabc | --L1-C3 | 1 4 | I-search:
-        a C-s            | abcabc | --L1-C6 | 1 7 | I-search: c
-        a RET            | abcabc | --L1-C6 | 1 7
-        a M-< M-s RET    | abcabc | --L1-C3 | 1 4
-        a M-r RET        | abcabc | --L1-C2 | 1 3
-        a C-s RET M-s RET | abcabc | --L1-C3 | 1 4
-        a C-r C-r        | abcabc | --L1-C2 | 1 3 | I-search backward: c
-        a C-g C-r C-s    | abcabc | --L1-C6 | 1 7 | I-search: c
-        a C-g M-s 'a RET | abcabc | --L1-C4 | 1 5
-        a M-< C-s C-s    | abcabc | --L1-C3 | 1 4 | I-search: c
-        a 'x RET M-s RET | abcabc | --L1-C3 | 1 4 | Not found
-    ";
-    steps_show(&rt, rt.alloc(), NOTES, steps)
-}
-
-const LINES: &str = "user ann\n\
-    buffer notes ann\n\
-    entry notes ALLOW OWNER@ rwatdcCo\n\
-    text notes 'ab SPC 'cd RET 'ab\n\
-    open a ann 6 60\n";
-
-// A byte that is none of its own ends it as RET does, and is handled.
-#[test]
-fn another_byte_ends_it(rt: HostRuntime) -> Result<(), Fail> {
-    let steps = "
+fn other_bytes_end_a_search(rt: HostRuntime) -> Result<(), Fail> {
+    let scripts = "
+        == another byte ends it
+        # A byte that is none of its own ends it as RET does, and is handled.
+        user ann
+        buffer notes ann
+        entry notes ALLOW OWNER@ rwatdcCo
+        text notes 'ab SPC 'cd RET 'ab
+        open a ann 6 60
         a C-s 'b C-a         | ab cd/ab      | --L1-C0 | 1 1
         a C-s C-s            | ab cd/ab      | --L1-C2 | 1 3 | I-search: b
         a C-n                | ab cd/ab      | --L2-C2 | 2 3
@@ -122,134 +154,41 @@ fn another_byte_ends_it(rt: HostRuntime) -> Result<(), Fail> {
         a C-s C-s            | ab^S c/ab     | **L2-C2 | 2 3 | I-search: b
         a C-f                | ab^S c/ab     | **L2-C2 | 2 3 | End of buffer
         a 'x                 | ab^S c/abx    | **L2-C3 | 2 4
-    ";
-    steps_show(&rt, rt.alloc(), LINES, steps)
-}
-
-// Also a byte that begins a word of keys: both windows that come of it stand where the search was.
-#[test]
-fn a_prefix_ends_it(rt: HostRuntime) -> Result<(), Fail> {
-    let lines =
-        "text notes 'ab RET 'cd\nopen a ann 6 20\nkeys a C-s 'c C-x\nshow a\nkeys a '2\nshow a\n";
-    let output = "screen a\n\
-        |ab                  |\n\
-        |cd                  |\n\
-        |                    |\n\
-        |                    |\n\
-        !----notes-L2-C1-----!\n\
-        |                    |\n\
-        cursor 2 2\n\
-        screen a\n\
-        |ab                  |\n\
-        |cd                  |\n\
-        !----notes-L2-C1-----!\n\
-        |cd                  |\n\
-        !----notes-L2-C1-----!\n\
-        |                    |\n\
-        cursor 2 2\n";
-    plays(&rt, rt.alloc(), lines, output, Ok(()))
-}
-
-// The 120th character is put behind the pattern, and the 121st is not. Of a long line the end is shown. Where DEL finds nothing from
-// the origin on, the point stays.
-#[test]
-fn a_pattern_has_120_characters(rt: HostRuntime) -> Result<(), Fail> {
-    let mut steps = String::from_str(rt.alloc(), "a C-s 'cab")?;
-    for _ in 0..4 {
-        steps.push_str(" 'aaaaaaaaaaaaaaaaaaaaaaaaaaaaa")?;
-    }
-    let rest =
-        " | abcabc | --L1-C5 | 1 6 | $aaaaaaaaaaaaaaaaaaaaaaaaaaaaaaaaaaaaaaaaaaaaaaaaaaaaaaaaaa
-        a 'b   | abcabc | --L1-C5 | 1 6 | $aaaaaaaaaaaaaaaaaaaaaaaaaaaaaaaaaaaaaaaaaaaaaaaaaaaaaaaaab
-        a 'c   | abcabc | --L1-C5 | 1 6 | $aaaaaaaaaaaaaaaaaaaaaaaaaaaaaaaaaaaaaaaaaaaaaaaaaaaaaaaaab
-        a DEL  | abcabc | --L1-C5 | 1 6 | $aaaaaaaaaaaaaaaaaaaaaaaaaaaaaaaaaaaaaaaaaaaaaaaaaaaaaaaaaa
-        a 'c   | abcabc | --L1-C5 | 1 6 | $aaaaaaaaaaaaaaaaaaaaaaaaaaaaaaaaaaaaaaaaaaaaaaaaaaaaaaaaac
-        a C-g  | abcabc | --L1-C0 | 1 1 | Quit
-    ";
-    steps.push_str(rest)?;
-    steps_show(&rt, rt.alloc(), NOTES, steps.as_str())
-}
-
-// Letters of ASCII match in either case, and no other characters do.
-#[test]
-fn case_is_ignored(rt: HostRuntime) -> Result<(), Fail> {
-    let setting = "user ann\n\
-        buffer notes ann\n\
-        entry notes ALLOW OWNER@ rwatdcCo\n\
-        text notes 'aBc{AbC[\n\
-        open a ann 6 60\n";
-    let steps = "
-        a C-s 'b         | aBc{AbC[ | --L1-C2 | 1 3 | I-search: b
-        a 'C             | aBc{AbC[ | --L1-C3 | 1 4 | I-search: bC
-        a C-s            | aBc{AbC[ | --L1-C7 | 1 8 | I-search: bC
-        a '[             | aBc{AbC[ | --L1-C8 | 1 9 | I-search: bC[
-        a RET C-r C-r    | aBc{AbC[ | --L1-C5 | 1 6 | I-search backward: bC[
-        a DEL C-r        | aBc{AbC[ | --L1-C1 | 1 2 | I-search backward: bC
-        a '[             | aBc{AbC[ | --L1-C1 | 1 2 | Failing I-search backward: bC[
-    ";
-    steps_show(&rt, rt.alloc(), setting, steps)
-}
-
-// The argument means nothing to it, and digits are looked for.
-#[test]
-fn a_search_is_begun_by_name(rt: HostRuntime) -> Result<(), Fail> {
-    let steps = "
-        a C-u '3 C-s     | abcabc | --L1-C0 | 1 1  | I-search:
-        a '3             | abcabc | --L1-C0 | 1 1  | Failing I-search: 3
-        a C-g            | abcabc | --L1-C0 | 1 1  | Quit
-        a M-x 'is TAB    | abcabc | --L1-C0 | 6 13 | M-x isearch-
-        a 'f TAB RET     | abcabc | --L1-C0 | 1 1  | I-search:
-        a 'ca            | abcabc | --L1-C4 | 1 5  | I-search: ca
-        a M-x 'isearch-backward RET 'b | abcabc | --L1-C4 | 1 5 | I-search backward: b
-        a C-r            | abcabc | --L1-C1 | 1 2  | I-search backward: b
-    ";
-    steps_show(&rt, rt.alloc(), NOTES, steps)
-}
-
-// A window follows the point, and C-g brings it back.
-#[test]
-fn a_window_follows_a_search(rt: HostRuntime) -> Result<(), Fail> {
-    let setting = "user ann\n\
-        buffer notes ann\n\
-        entry notes ALLOW OWNER@ rwatdcCo\n\
-        text notes 'a RET 'b RET 'c RET 'd RET 'e RET 'f RET 'g RET 'h RET 'i RET 'j\n\
-        open a ann 6 60\n";
-    let steps = "
-        a C-s 'h         | f/g/h/i | --L8-C1 | 3 2 | I-search: h
-        a C-g            | a/b/c/d | --L1-C0 | 1 1 | Quit
-    ";
-    steps_show(&rt, rt.alloc(), setting, steps)
-}
-
-#[test]
-fn an_empty_text_is_searched(rt: HostRuntime) -> Result<(), Fail> {
-    let setting = "user ann\n\
-        buffer notes ann\n\
-        entry notes ALLOW OWNER@ rwatdcCo\n\
-        open a ann 6 60\n";
-    let steps = "
-        a C-s            |   | --L1-C0 | 1 1 | I-search:
-        a 'a             |   | --L1-C0 | 1 1 | Failing I-search: a
-        a C-s            |   | --L1-C0 | 1 1 | Failing I-search: a
-        a C-r            |   | --L1-C0 | 1 1 | Failing I-search backward: a
-        a DEL            |   | --L1-C0 | 1 1 | I-search backward:
-        a C-k            |   | --L1-C0 | 1 1 | End of buffer
-        a C-r 'b RET     |   | --L1-C0 | 1 1
-        a 'b C-r C-r     | b | **L1-C0 | 1 1 | I-search backward: b
-    ";
-    steps_show(&rt, rt.alloc(), setting, steps)
-}
-
-const MANY: &str = "user ann\n\
-    buffer notes ann\n\
-    entry notes ALLOW OWNER@ rwatdcCo\n\
-    text notes 'abcabcabcabc\n\
-    open a ann 6 60\n";
-
-// A macro that ends in a search leaves it on, and a search that finds nothing ends no play. C-g in one does, and the recording goes on.
-#[test]
-fn a_macro_searches(rt: HostRuntime) -> Result<(), Fail> {
-    let steps = "
+        == a prefix ends it
+        # Also a byte that begins a word of keys: both windows that come of it stand where the search was.
+        user ann
+        buffer notes ann
+        entry notes ALLOW OWNER@ rwatdcCo
+        text notes 'ab RET 'cd
+        open a ann 6 20
+        keys a C-s 'c C-x
+        show a
+        screen a
+        |ab                  |
+        |cd                  |
+        |                    |
+        |                    |
+        !----notes-L2-C1-----!
+        |                    |
+        cursor 2 2
+        keys a '2
+        show a
+        screen a
+        |ab                  |
+        |cd                  |
+        !----notes-L2-C1-----!
+        |cd                  |
+        !----notes-L2-C1-----!
+        |                    |
+        cursor 2 2
+        == a macro searches
+        # A macro that ends in a search leaves it on, and a search that finds nothing ends no play. C-g in one does, and the
+        # recording goes on.
+        user ann
+        buffer notes ann
+        entry notes ALLOW OWNER@ rwatdcCo
+        text notes 'abcabcabcabc
+        open a ann 6 60
         a C-x '( C-s 'c C-x ')     | abcabcabcabc | --L1-C3 | 1 4
         a C-x 'e                   | abcabcabcabc | --L1-C6 | 1 7 | I-search: c
         a C-s                      | abcabcabcabc | --L1-C9 | 1 10 | I-search: c
@@ -263,13 +202,34 @@ fn a_macro_searches(rt: HostRuntime) -> Result<(), Fail> {
         a 'y C-x ')                | xxxyabcabcabcabc | **L1-C4 | 1 5
         a C-x 'e                   | xxxyabcabcabcabc | **L1-C4 | 1 5 | Quit
     ";
-    steps_show(&rt, rt.alloc(), MANY, steps)
+    scripts_show(&rt, rt.alloc(), "", scripts)
 }
 
-// Origin and anchor go with the text, also where another takes out what they stood in.
+// The 120th character is put behind the pattern, and the 121st is not. Of a long line the end is shown. Where DEL finds nothing from
+// the origin on, the point stays.
 #[test]
-fn a_search_goes_with_the_text(rt: HostRuntime) -> Result<(), Fail> {
-    let steps = "
+fn a_pattern_has_120_characters(rt: HostRuntime) -> Result<(), Fail> {
+    let mut steps = String::from_str(rt.alloc(), "== a pattern has 120 characters\na C-s 'cab")?;
+    for _ in 0..4 {
+        steps.push_str(" 'aaaaaaaaaaaaaaaaaaaaaaaaaaaaa")?;
+    }
+    let rest =
+        " | abcabc | --L1-C5 | 1 6 | $aaaaaaaaaaaaaaaaaaaaaaaaaaaaaaaaaaaaaaaaaaaaaaaaaaaaaaaaaa
+        a 'b   | abcabc | --L1-C5 | 1 6 | $aaaaaaaaaaaaaaaaaaaaaaaaaaaaaaaaaaaaaaaaaaaaaaaaaaaaaaaaab
+        a 'c   | abcabc | --L1-C5 | 1 6 | $aaaaaaaaaaaaaaaaaaaaaaaaaaaaaaaaaaaaaaaaaaaaaaaaaaaaaaaaab
+        a DEL  | abcabc | --L1-C5 | 1 6 | $aaaaaaaaaaaaaaaaaaaaaaaaaaaaaaaaaaaaaaaaaaaaaaaaaaaaaaaaaa
+        a 'c   | abcabc | --L1-C5 | 1 6 | $aaaaaaaaaaaaaaaaaaaaaaaaaaaaaaaaaaaaaaaaaaaaaaaaaaaaaaaaac
+        a C-g  | abcabc | --L1-C0 | 1 1 | Quit
+    ";
+    steps.push_str(rest)?;
+    scripts_show(&rt, rt.alloc(), NOTES, steps.as_str())
+}
+
+#[test]
+fn a_search_goes_with_the_text_and_its_right(rt: HostRuntime) -> Result<(), Fail> {
+    let shared = "
+        == a search goes with the text
+        # Origin and anchor go with the text, also where another takes out what they stood in.
         open b ann 6 60
         a C-f C-s 'c     | abcabc   | --L1-C3 | 1 4 | I-search: c
         b 'xx            | xxabcabc | **L1-C2 | 1 3
@@ -284,14 +244,8 @@ fn a_search_goes_with_the_text(rt: HostRuntime) -> Result<(), Fail> {
         b M-> 'z         | bcz      | **L1-C3 | 1 4
         a 'z             | bcz      | **L1-C3 | 1 4 | I-search: cz
         a C-g            | bcz      | **L1-C0 | 1 1 | Quit
-    ";
-    steps_show(&rt, rt.alloc(), NOTES, steps)
-}
-
-// A search is over without a word where its buffer is killed, and what it looked for is not kept.
-#[test]
-fn a_buffer_is_killed_under_a_search(rt: HostRuntime) -> Result<(), Fail> {
-    let steps = "
+        == a buffer is killed under a search
+        # A search is over without a word where its buffer is killed, and what it looked for is not kept.
         open b ann 6 60
         a C-s 'b             | abcabc | --L1-C2       | 1 3 | I-search: b
         b C-x 'k RET         |        | :-None        | 1 1
@@ -300,13 +254,7 @@ fn a_buffer_is_killed_under_a_search(rt: HostRuntime) -> Result<(), Fail> {
         a C-s                |        | :-None        | 1 1 | No buffer
         a C-x 'b 'new RET    |        | :----new-L1-C0 | 1 1
         a 'b M-< M-s RET     | b      | :-**-new-L1-C0 | 1 1 | No pattern
-    ";
-    steps_show(&rt, rt.alloc(), NOTES, steps)
-}
-
-#[test]
-fn a_search_is_begun_by_who_may_read(rt: HostRuntime) -> Result<(), Fail> {
-    let steps = "
+        == a search is begun by who may read
         open b bob 6 60
         b C-s            | [no read: no entry] | :----notes-(no read) | 1 1 | Denied: no entry grants READ_DATA
         b 'x             | [no read: no entry] | :-**-notes-(no read) | 1 1
@@ -314,61 +262,46 @@ fn a_search_is_begun_by_who_may_read(rt: HostRuntime) -> Result<(), Fail> {
         open c cat 6 60
         c C-s            |  | :-None | 1 1 | No buffer
     ";
-    steps_show(&rt, rt.alloc(), NOTES, steps)
-}
-
-const SHARED: &str = "user ann\n\
-    user bob\n\
-    buffer notes ann\n\
-    entry notes ALLOW OWNER@ rwatdcCo\n\
-    entry notes ALLOW bob rt\n\
-    text notes 'banana\n";
-
-// Who loses READ_DATA sees the mask in that event, and the line of the search stays. The next byte of the search is denied.
-#[test]
-fn a_right_is_revoked_under_a_search(rt: HostRuntime) -> Result<(), Fail> {
-    let lines = "open a ann 6 20\n\
-        open b bob 6 20\n\
-        keys b C-s 'a\n\
-        show b\n\
-        keys a C-u '2 M-x 'acl-delete RET\n\
-        show b\n\
-        keys b C-s\n\
-        show b\n";
-    let output = "screen b\n\
-        |banana              |\n\
-        |                    |\n\
-        |                    |\n\
-        |                    |\n\
-        !----notes-L1-C2-----!\n\
-        |I-search: a         |\n\
-        cursor 1 3\n\
-        screen b\n\
-        |[no read: no entry] |\n\
-        |                    |\n\
-        |                    |\n\
-        |                    |\n\
-        !-??-?-(no read)-----!\n\
-        |I-search: a         |\n\
-        cursor 1 1\n\
-        screen b\n\
-        |[no read: no entry] |\n\
-        |                    |\n\
-        |                    |\n\
-        |                    |\n\
-        !-??-?-(no read)-----!\n\
-        |Denied: no entry gr$|\n\
-        cursor 1 1\n";
-    let mut script = Vec::from_slice(rt.alloc(), SHARED.as_bytes())?;
-    script.extend_from_slice(lines.as_bytes())?;
-    gives(&rt, rt.alloc(), &script, output, Ok(()));
-    Ok(())
-}
-
-// A denial ends the search and sets no search string. A character that is inserted next is one of plain mode, and wants its own right.
-#[test]
-fn a_denied_search_is_over(rt: HostRuntime) -> Result<(), Fail> {
-    let steps = "
+    scripts_show(&rt, rt.alloc(), NOTES, shared)?;
+    let others = "
+        == a right is revoked under a search
+        # Who loses READ_DATA sees the mask in that event, and the line of the search stays. The next byte of the search is
+        # denied.
+        open a ann 6 20
+        open b bob 6 20
+        keys b C-s 'a
+        show b
+        screen b
+        |banana              |
+        |                    |
+        |                    |
+        |                    |
+        !----notes-L1-C2-----!
+        |I-search: a         |
+        cursor 1 3
+        keys a C-u '2 M-x 'acl-delete RET
+        show b
+        screen b
+        |[no read: no entry] |
+        |                    |
+        |                    |
+        |                    |
+        !-??-?-(no read)-----!
+        |I-search: a         |
+        cursor 1 1
+        keys b C-s
+        show b
+        screen b
+        |[no read: no entry] |
+        |                    |
+        |                    |
+        |                    |
+        !-??-?-(no read)-----!
+        |Denied: no entry gr$|
+        cursor 1 1
+        == a denied search is over
+        # A denial ends the search and sets no search string. A character that is inserted next is one of plain mode, and
+        # wants its own right.
         open a ann 6 60
         open b bob 6 60
         b C-f C-s 'a                  | banana              | --L1-C2          | 1 3 | I-search: a
@@ -383,5 +316,12 @@ fn a_denied_search_is_over(rt: HostRuntime) -> Result<(), Fail> {
         a M-x 'acl-insert RET 'ALLOW SPC 'bob SPC 'rt RET | banana | --L1-C0       | 1 1
         b                             | banana              | --L1-C2          | 1 3 | Quit
     ";
-    steps_show(&rt, rt.alloc(), SHARED, steps)
+    scripts_show(&rt, rt.alloc(), SHARED, others)
 }
+
+const SHARED: &str = "user ann\n\
+    user bob\n\
+    buffer notes ann\n\
+    entry notes ALLOW OWNER@ rwatdcCo\n\
+    entry notes ALLOW bob rt\n\
+    text notes 'banana\n";

@@ -9,7 +9,7 @@ const COLS: usize = 60;
 const HEIGHT: usize = 4;
 
 // What comes before the next `|` of a line, less the blanks before the mark, and what comes behind the mark and a blank.
-pub(crate) fn cut_field(line: &str) -> (&str, &str) {
+fn cut_field(line: &str) -> (&str, &str) {
     match line.split_once('|') {
         Some((field, rest)) => (field.trim_end(), rest.strip_prefix(' ').unwrap_or(rest)),
         None => (line.trim_end(), ""),
@@ -49,6 +49,17 @@ fn push_mode(alloc: Global, output: &mut String, mode: &str) -> Result<(), Fail>
     push_row(output, '!', mode_line.as_str(), '-')
 }
 
+// Windows of these heights that show an empty text.
+fn push_windows(output: &mut String, heights: &str) -> Result<(), Fail> {
+    for height in heights.split(' ') {
+        for _ in 0..height.parse::<usize>().ok().ok_or("no height")? {
+            push_row(output, '|', "", ' ')?;
+        }
+        push_row(output, '!', "----notes-L1-C0", '-')?;
+    }
+    Ok(())
+}
+
 // The screen of a step: its fields behind the keys.
 fn push_screen(alloc: Global, output: &mut String, label: &str, fields: &str) -> Result<(), Fail> {
     let (text, rest) = cut_field(fields);
@@ -56,8 +67,12 @@ fn push_screen(alloc: Global, output: &mut String, label: &str, fields: &str) ->
     let (cursor, echo) = cut_field(rest);
     let first = format!(in alloc; "screen {label}\n")?;
     output.push_str(first.as_str())?;
-    push_text(output, text)?;
-    push_mode(alloc, output, mode)?;
+    if mode == "=" {
+        push_windows(output, text)?;
+    } else {
+        push_text(output, text)?;
+        push_mode(alloc, output, mode)?;
+    }
     push_row(output, '|', echo, ' ')?;
     let last = format!(in alloc; "cursor {cursor}\n")?;
     output.push_str(last.as_str())?;
@@ -76,12 +91,28 @@ fn push_keys(alloc: Global, script: &mut String, step: &str) -> Result<(), Fail>
     Ok(())
 }
 
+// Whether a line is printed as it stands.
+fn is_printed(line: &str) -> bool {
+    let (word, _) = line.split_once(' ').unwrap_or((line, ""));
+    line.starts_with('|')
+        || line.starts_with('!')
+        || word == "screen"
+        || word == "cursor"
+        || word == "ended"
+        || word == "refused"
+}
+
 fn push_line(
     alloc: Global,
     script: &mut String,
     output: &mut String,
     line: &str,
 ) -> Result<(), Fail> {
+    if is_printed(line) {
+        output.push_str(line)?;
+        output.push('\n')?;
+        return Ok(());
+    }
     let (step, fields) = cut_field(line);
     if fields.is_empty() {
         script.push_str(line)?;
@@ -93,20 +124,31 @@ fn push_line(
     push_screen(alloc, output, label, fields)
 }
 
-// A script of these lines, where a line with marks is a step:
+// A script with its name as its first line is played behind a setting.
+fn script_shows(rt: &impl Abort, alloc: Global, setting: &str, named: &str) -> Result<(), Fail> {
+    let (name, lines) = named.split_once('\n').ok_or("no script")?;
+    let mut script = String::from_str(alloc, setting)?;
+    let mut output = String::new(alloc);
+    for line in lines.lines() {
+        push_line(alloc, &mut script, &mut output, line.trim_start())?;
+    }
+    gives(rt, alloc, name, script.as_bytes(), output.as_str(), Ok(()));
+    Ok(())
+}
+
+// Each script of a text is played behind this setting. It begins with a line of two `=` and its name, and its other lines are those of
+// a script, what is then printed, and steps:
 //     SESSION KEYS | ROW/ROW/.. | FLAG AND PLACE OF THE MODE LINE | CURSOR | ECHO LINE
-// A step without an echo line ends behind its cursor. All is told in one text, since a proof of a test goes over each literal.
-pub(crate) fn steps_show(
+// A step without an echo line ends behind its cursor. A mode line `=` says that there are windows of an empty text, whose heights stand in
+// the place of the rows. All is told in one text, since a proof of a test goes over each literal.
+pub(crate) fn scripts_show(
     rt: &impl Abort,
     alloc: Global,
     setting: &str,
-    steps: &str,
+    scripts: &str,
 ) -> Result<(), Fail> {
-    let mut script = String::from_str(alloc, setting)?;
-    let mut output = String::new(alloc);
-    for line in steps.lines() {
-        push_line(alloc, &mut script, &mut output, line.trim_start())?;
+    for named in scripts.split("== ").skip(1) {
+        script_shows(rt, alloc, setting, named)?;
     }
-    gives(rt, alloc, script.as_bytes(), output.as_str(), Ok(()));
     Ok(())
 }

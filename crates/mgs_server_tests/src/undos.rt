@@ -1,5 +1,5 @@
 // Edits that are taken back, by whom it may be, each with what the terminal then shows.
-use super::steps::steps_show;
+use super::steps::scripts_show;
 use std::test::Fail;
 
 const THREE: &str = "user ann\n\
@@ -14,10 +14,11 @@ const THREE: &str = "user ann\n\
     open b bob 6 60\n\
     open c cat 6 60\n";
 
-// A motion ends a run: the undo itself is then taken back.
 #[test]
-fn edits_are_taken_back_in_a_run(rt: HostRuntime) -> Result<(), Fail> {
-    let steps = "
+fn edits_are_taken_back(rt: HostRuntime) -> Result<(), Fail> {
+    let shared = "
+        == edits are taken back in a run
+        # A motion ends a run: the undo itself is then taken back.
         a C-_     | abc  | --L1-C0 | 1 1 | No further undo information
         a 'x      | xabc | **L1-C1 | 1 2
         a C-x 'u  | abc  | **L1-C0 | 1 1
@@ -30,25 +31,13 @@ fn edits_are_taken_back_in_a_run(rt: HostRuntime) -> Result<(), Fail> {
         a C-_     | xabc | **L1-C1 | 1 2
         a C-_     | abc  | **L1-C0 | 1 1
         a C-_     | abc  | **L1-C0 | 1 1 | No further undo information
-    ";
-    steps_show(&rt, rt.alloc(), THREE, steps)
-}
-
-#[test]
-fn who_may_edit_takes_back_what_another_did(rt: HostRuntime) -> Result<(), Fail> {
-    let steps = "
+        == who may edit takes back what another did
         a 'x 'y | xyabc | **L1-C2 | 1 3
         c C-_   | xyabc | **L1-C0 | 1 1 | Denied: no entry grants WRITE_DATA
         b C-_   | xabc  | **L1-C1 | 1 2
         a C-_   | xyabc | **L1-C2 | 1 3
         b C-_   | xabc  | **L1-C1 | 1 2
-    ";
-    steps_show(&rt, rt.alloc(), THREE, steps)
-}
-
-#[test]
-fn another_edit_ends_a_run(rt: HostRuntime) -> Result<(), Fail> {
-    let steps = "
+        == another edit ends a run
         a 'x 'y C-_ | xabc  | **L1-C1 | 1 2
         b M-> 'z    | xabcz | **L1-C5 | 1 6
         a C-_       | xabc  | **L1-C4 | 1 5
@@ -57,12 +46,9 @@ fn another_edit_ends_a_run(rt: HostRuntime) -> Result<(), Fail> {
         a C-_       | abc   | **L1-C0 | 1 1
         a C-_       | abc   | **L1-C0 | 1 1 | No further undo information
     ";
-    steps_show(&rt, rt.alloc(), THREE, steps)
-}
-
-#[test]
-fn two_people_undo_in_turn(rt: HostRuntime) -> Result<(), Fail> {
-    let steps = "
+    scripts_show(&rt, rt.alloc(), THREE, shared)?;
+    let others = "
+        == two people undo in turn
         user ann
         user bob
         buffer notes ann
@@ -75,14 +61,8 @@ fn two_people_undo_in_turn(rt: HostRuntime) -> Result<(), Fail> {
         a C-_     | a  | **L1-C1 | 1 2
         a C-_     |    | **L1-C0 | 1 1
         a C-a C-_ | a  | **L1-C1 | 1 2
-    ";
-    steps_show(&rt, rt.alloc(), "", steps)
-}
-
-// Who may not read a text may not take back what he put into it himself.
-#[test]
-fn an_undo_needs_reading(rt: HostRuntime) -> Result<(), Fail> {
-    let steps = "
+        == an undo needs reading
+        # Who may not read a text may not take back what he put into it himself.
         user ann
         user bob
         buffer notes ann
@@ -94,7 +74,7 @@ fn an_undo_needs_reading(rt: HostRuntime) -> Result<(), Fail> {
         b C-_ | [no read: no entry] | **(no read) | 1 1 | Denied: no entry grants READ_DATA
         a     | x                   | **L1-C0     | 1 1
     ";
-    steps_show(&rt, rt.alloc(), "", steps)
+    scripts_show(&rt, rt.alloc(), "", others)
 }
 
 // A hundred characters, and a hundred undos.
@@ -121,9 +101,10 @@ fn a_thousand_edits_are_kept(rt: HostRuntime) -> Result<(), Fail> {
         script.push_str(UNDONE)?;
     }
     let steps = "
+        == a thousand edits are kept
         a     | $xxxxxxxxxxxxxxxxxxxxxxxxxxxxxxxxxxxx | **L1-C501 | 1 38
         a C-_ | $xxxxxxxxxxxxxxxxxxxxxxxxxxxxxxxxxxxx | **L1-C501 | 1 38 | No further undo information
         a C-_ | $xxxxxxxxxxxxxxxxxxxxxxxxxxxxxxxxxxxx | **L1-C501 | 1 38 | No further undo information
     ";
-    steps_show(&rt, rt.alloc(), script.as_str(), steps)
+    scripts_show(&rt, rt.alloc(), script.as_str(), steps)
 }

@@ -1,12 +1,12 @@
 // The mark, and what was killed or copied put back, each with what the terminal then shows.
 use super::replay::NOTES;
-use super::steps::steps_show;
-use std::process::Abort;
+use super::steps::scripts_show;
 use std::test::Fail;
 
 #[test]
-fn what_was_killed_is_yanked(rt: HostRuntime) -> Result<(), Fail> {
-    let steps = "
+fn kills_are_put_back(rt: HostRuntime) -> Result<(), Fail> {
+    let shared = "
+        == what was killed is yanked
         text notes 'one SPC 'two RET 'ab RET 'cd
         open a ann 6 60
         a C-y                 | one two/ab/cd | --L1-C0 | 1 1 | Nothing to yank
@@ -19,13 +19,7 @@ fn what_was_killed_is_yanked(rt: HostRuntime) -> Result<(), Fail> {
         a C-y                 | one two/ab/cd | **L3-C2 | 3 3
         a C-u '0 C-y          | one two/ab/cd | **L3-C2 | 3 3
         a C-x C-x             | one two/ab/cd | **L3-C2 | 3 3
-    ";
-    steps_show(&rt, rt.alloc(), NOTES, steps)
-}
-
-#[test]
-fn the_mark_bounds_what_is_killed(rt: HostRuntime) -> Result<(), Fail> {
-    let steps = "
+        == the mark bounds what is killed
         text notes 'abc
         open a ann 6 60
         a C-x C-x         | abc        | --L1-C0  | 1 1  | No mark
@@ -39,12 +33,9 @@ fn the_mark_bounds_what_is_killed(rt: HostRuntime) -> Result<(), Fail> {
         a C-w             |            | **L1-C0  | 1 1
         a C-y C-y         | ababcababc | **L1-C10 | 1 11
     ";
-    steps_show(&rt, rt.alloc(), NOTES, steps)
-}
-
-#[test]
-fn a_mark_moves_with_the_text_and_a_kill_is_its_holders(rt: HostRuntime) -> Result<(), Fail> {
-    let steps = "
+    scripts_show(&rt, rt.alloc(), NOTES, shared)?;
+    let others = "
+        == a mark moves with the text and a kill is its holders
         user ann
         user bob
         user cat
@@ -68,5 +59,5 @@ fn a_mark_moves_with_the_text_and_a_kill_is_its_holders(rt: HostRuntime) -> Resu
         b             | x                   | **L1-C1     | 1 2 | Denied: no entry grants APPEND_DATA
         a C-y C-y     | xabcabc             | **L1-C7     | 1 8
     ";
-    steps_show(&rt, rt.alloc(), "", steps)
+    scripts_show(&rt, rt.alloc(), "", others)
 }
