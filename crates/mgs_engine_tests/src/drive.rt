@@ -1,20 +1,13 @@
 // Lists of calls, and their tape.
-use super::fixtures::{fed, serve, show, waiting};
-use mgs_engine::{Answer, Call, Cause, Engine, Tape, drive};
-use mgs_marks::PlainMarked;
+use super::fixtures::{Server, fed, serve, show, waiting};
+use mgs_engine::{Answer, Call, Cause, Tape, drive};
 use mgs_model::{Keyed, SessionId};
-use mgs_store::RefusingStore;
 use std::alloc::Global;
 use std::process::Abort;
 use std::test::Fail;
 
 // Makes these calls.
-fn make(
-    engine: &mut Engine<PlainMarked, RefusingStore>,
-    calls: &[Call<'_>],
-    tape: &mut Tape,
-    rt: &impl Abort,
-) {
+fn make(engine: &mut Server, calls: &[Call<'_>], tape: &mut Tape, rt: &impl Abort) {
     assert!(rt; drive(engine, calls, tape).is_ok());
 }
 
@@ -59,15 +52,19 @@ fn each_call_is_answered_on_the_tape(rt: HostRuntime) {
     assert!(rt; taken(&tape, 2).is_empty());
 }
 
-// Whether a terminal that takes the tape of the first session, of so many bytes, and then what waits for it shows this screen.
+// The first session types a byte, and five bytes of it are taken. Whether a terminal that takes its tape, of so many bytes, and then
+// what waits for it shows this screen.
 fn leads_to(
+    rt: &impl Abort,
     alloc: Global,
-    engine: &Engine<PlainMarked, RefusingStore>,
-    tape: &Tape,
+    engine: &mut Server,
+    tape: &mut Tape,
+    byte: u8,
     count: usize,
     screen: &str,
     cursor: (usize, usize),
 ) -> Result<bool, Fail> {
+    make(engine, &[Call::Byte(1, byte), Call::Took(1, 5)], tape, rt);
     let mut bytes = Vec::from_slice(alloc, taken(tape, 1))?;
     let is_so_long = bytes.len() == count;
     bytes.extend_from_slice(waiting(engine, 1))?;
@@ -80,14 +77,12 @@ fn the_tape_and_what_waits_give_the_screen(rt: HostRuntime) -> Result<(), Fail> 
     let mut engine = serve(alloc, &["ALLOW OWNER@ rwat"], &[], &rt);
     let mut tape = Tape::new(alloc);
     make(&mut engine, &[Call::Open("ann", 6, 20)], &mut tape, &rt);
-    let calls = [Call::Byte(1, b'h'), Call::Took(1, 5)];
-    make(&mut engine, &calls, &mut tape, &rt);
     let screen = "h | -**-notes-L1-C1-----";
-    assert!(rt; leads_to(alloc, &engine, &tape, 5, screen, (1, 2))?);
-    let calls = [Call::Byte(1, b'i'), Call::Took(1, 5)];
-    make(&mut engine, &calls, &mut tape, &rt);
+    let is_shown = leads_to(&rt, alloc, &mut engine, &mut tape, b'h', 5, screen, (1, 2))?;
+    assert!(rt; is_shown);
     let screen = "hi | -**-notes-L1-C2-----";
-    assert!(rt; leads_to(alloc, &engine, &tape, 10, screen, (1, 3))?);
+    let is_shown = leads_to(&rt, alloc, &mut engine, &mut tape, b'i', 10, screen, (1, 3))?;
+    assert!(rt; is_shown);
     Ok(())
 }
 
@@ -122,7 +117,7 @@ fn a_character_is_painted_in_two_rows(rt: HostRuntime) -> Result<(), Fail> {
     bytes.extend_from_slice(taken(&tape, 1))?;
     let term = fed(alloc, &bytes).ok_or("refused")?;
     for (i, cell) in term.grid().iter().enumerate() {
-        assert_eq!(rt; cell.character, expected(i));
+        assert!(rt; cell.character == expected(i));
     }
     Ok(())
 }

@@ -7,7 +7,7 @@ use mgs_engine::Engine;
 use mgs_marks::PlainMarked;
 use mgs_model::{Keyed, SessionId};
 use mgs_policy::Directory;
-use mgs_store::{RefusingStore, Store};
+use mgs_store::{Store, StoreFault};
 use mgs_term::{Cell, Term};
 use std::alloc::Global;
 use std::process::Abort;
@@ -20,9 +20,45 @@ const MODE_ROW: usize = 4;
 
 const ECHO_ROW: usize = 5;
 
+/// The engine of the tests.
+pub(crate) type Server = Engine<PlainMarked, Stand>;
+
+/// A store that takes all texts, or none.
+#[derive(Clone, Copy)]
+pub(crate) struct Stand {
+    takes: bool,
+    faults: u64,
+}
+
+impl Stand {
+    pub(crate) fn new(takes: bool) -> Stand {
+        Stand { takes, faults: 0 }
+    }
+}
+
+impl Store for Stand {
+    ghost use Rattle.std.specs.Prelude.{None};
+
+    ghost failed = { λ stand. stand.faults };
+
+    ghost accepted = { λ stand. None };
+
+    fn save(&mut self, _name: &str, _text: &[char]) -> Result<(), StoreFault> {
+        if self.takes {
+            return Ok(());
+        }
+        self.faults = self.faults.saturating_add(1);
+        Err(StoreFault)
+    }
+
+    fn faults(&self) -> u64 {
+        self.faults
+    }
+}
+
 fn users(alloc: Global, rt: &impl Abort) -> Directory {
     let mut directory = Directory::new(alloc);
-    for user in ["ann", "bob", "cyn"] {
+    for &user in &["ann", "bob", "cyn"] {
         assert!(rt; directory.add_user(user).is_ok());
     }
     directory
@@ -41,13 +77,13 @@ pub(crate) fn list_of(entries: &[&str], rt: &impl Abort) -> List {
 
 // A core of the buffer `notes` of ann, which has a file, this list and this text, and of the empty `plan` of cyn, which cyn may read and
 // write. The users are ann, bob and cyn.
-pub(crate) fn core_of<S: Store + Drop>(
+pub(crate) fn core_of(
     alloc: Global,
     entries: &[&str],
     text: &[char],
-    store: S,
+    store: Stand,
     rt: &impl Abort,
-) -> Core<PlainMarked, S> {
+) -> Core<PlainMarked, Stand> {
     let notes = list_of(entries, rt);
     let plan = list_of(&["ALLOW OWNER@ rwat"], rt);
     let mut buffers = Buffers::new(alloc);
@@ -60,13 +96,8 @@ pub(crate) fn core_of<S: Store + Drop>(
 }
 
 // The same in an engine, over a store that refuses.
-pub(crate) fn serve(
-    alloc: Global,
-    entries: &[&str],
-    text: &[char],
-    rt: &impl Abort,
-) -> Engine<PlainMarked, RefusingStore> {
-    let core = core_of(alloc, entries, text, RefusingStore::new(), rt);
+pub(crate) fn serve(alloc: Global, entries: &[&str], text: &[char], rt: &impl Abort) -> Server {
+    let core = core_of(alloc, entries, text, Stand::new(false), rt);
     match Engine::new(alloc, core) {
         Ok(engine) => engine,
         Err(_) => panic!(rt; "no memory"),
@@ -75,7 +106,7 @@ pub(crate) fn serve(
 
 // A session of a user in a core without an engine.
 pub(crate) fn sit_in_core(
-    core: &mut Core<PlainMarked, RefusingStore>,
+    core: &mut Core<PlainMarked, Stand>,
     user: &str,
     rows: usize,
     cols: usize,
@@ -88,17 +119,13 @@ pub(crate) fn sit_in_core(
 }
 
 // The answer of a core to a key of a session.
-pub(crate) fn press_in_core(
-    core: &mut Core<PlainMarked, RefusingStore>,
-    id: SessionId,
-    key: u8,
-) -> Keyed {
+pub(crate) fn press_in_core(core: &mut Core<PlainMarked, Stand>, id: SessionId, key: u8) -> Keyed {
     core.key(id, key).0
 }
 
 // A session of a user, on a terminal of so many rows and columns.
-pub(crate) fn sit<S: Store + Drop>(
-    engine: &mut Engine<PlainMarked, S>,
+pub(crate) fn sit(
+    engine: &mut Server,
     user: &str,
     rows: usize,
     cols: usize,
@@ -111,11 +138,7 @@ pub(crate) fn sit<S: Store + Drop>(
 }
 
 // The answer to the last of these keys of a session, or to the first that is not done.
-pub(crate) fn press<S: Store + Drop>(
-    engine: &mut Engine<PlainMarked, S>,
-    id: SessionId,
-    keys: &[u8],
-) -> Keyed {
+pub(crate) fn press(engine: &mut Server, id: SessionId, keys: &[u8]) -> Keyed {
     for key in keys {
         let answer = engine.byte(id, *key);
         if answer != Keyed::Done {
@@ -126,21 +149,16 @@ pub(crate) fn press<S: Store + Drop>(
 }
 
 // What waits for the terminal of a session.
-pub(crate) fn waiting<S: Store + Drop>(engine: &Engine<PlainMarked, S>, id: SessionId) -> &[u8] {
+pub(crate) fn waiting(engine: &Server, id: SessionId) -> &[u8] {
     engine.pending(id)
 }
 
-pub(crate) fn is_open<S: Store + Drop>(engine: &Engine<PlainMarked, S>, id: SessionId) -> bool {
+pub(crate) fn is_open(engine: &Server, id: SessionId) -> bool {
     engine.is_open(id)
 }
 
 // The first bytes that wait for the terminal of a session are taken, up to so many.
-pub(crate) fn take<S: Store + Drop>(
-    engine: &mut Engine<PlainMarked, S>,
-    id: SessionId,
-    most: usize,
-    taken: &mut Vec<u8>,
-) {
+pub(crate) fn take(engine: &mut Server, id: SessionId, most: usize, taken: &mut Vec<u8>) {
     let pending = engine.pending(id);
     let count = pending.len().min(most);
     let _ = taken.extend_from_slice(&pending[..count]);

@@ -26,8 +26,8 @@ fn two(alloc: Global, rt: &impl Abort) -> Buffers<PlainMarked> {
     assert!(rt; all.add("secret", "cat", list, &['b'], false).is_ok());
     let notes = named(rt, "notes");
     assert!(rt; all.has(&notes));
-    assert_eq!(rt; all.text_len(&notes), 1);
-    assert_eq!(rt; all.serial(&notes), 0);
+    assert!(rt; all.text_len(&notes) == 1);
+    assert!(rt; all.serial(&notes) == 0);
     assert!(rt; all.edit(&notes, 1, 1, &['c']).is_ok());
     all
 }

@@ -1,17 +1,17 @@
 // Bytes that wait, sessions that fall behind, and sessions that ended.
-use super::fixtures::{core_of, is_open, press, serve, show, sit, sit_in_core, take, waiting};
+use super::fixtures::{
+    Server, Stand, core_of, is_open, press, serve, show, sit, sit_in_core, take, waiting,
+};
 use mgs_engine::{Cause, Engine};
-use mgs_marks::PlainMarked;
 use mgs_model::{Keyed, OpenFault, SessionId};
-use mgs_store::RefusingStore;
 use std::alloc::Global;
 use std::process::Abort;
 
-fn close(engine: &mut Engine<PlainMarked, RefusingStore>, id: SessionId) {
+fn close(engine: &mut Server, id: SessionId) {
     engine.close(id);
 }
 
-fn ended(engine: &mut Engine<PlainMarked, RefusingStore>) -> Option<(SessionId, Cause)> {
+fn ended(engine: &mut Server) -> Option<(SessionId, Cause)> {
     engine.ended()
 }
 
@@ -73,7 +73,7 @@ fn a_session_that_takes_nothing_falls_behind(rt: HostRuntime) {
 }
 
 // What ann is told who wants one more session of so many rows.
-fn refusal(engine: &mut Engine<PlainMarked, RefusingStore>, rows: usize) -> Option<OpenFault> {
+fn refusal(engine: &mut Server, rows: usize) -> Option<OpenFault> {
     engine.open("ann", rows, 20).err()
 }
 
@@ -126,7 +126,7 @@ fn an_open_session_is_painted_by_a_new_engine(rt: HostRuntime) {
         alloc,
         &["ALLOW OWNER@ rwt"],
         &['a', 'b'],
-        RefusingStore::new(),
+        Stand::new(false),
         &rt,
     );
     let ann = sit_in_core(&mut core, "ann", 6, 20, &rt);

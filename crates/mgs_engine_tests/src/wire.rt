@@ -184,42 +184,46 @@ fn answer(
     Ok(written)
 }
 
+const NO_LOGINS: [&[u8]; 12] = [
+    b"login ann t1 6 2",
+    b"login ann t1 06 20\n",
+    b"login ann t1 6 1000\n",
+    b"login ann t1 6\n",
+    b"login ann t1 6 20 \n",
+    b"login  ann t1 6 20\n",
+    b"login ann  6 20\n",
+    b"login ann t1 6 20\r\r\n",
+    b"Login ann t1 6 20\n",
+    b"login ann t1 6 2x\nlogin ann t1 6 20\n",
+    b"\n",
+    b"",
+];
+
 #[test]
 fn lines_that_are_no_login_are_refused(rt: HostRuntime) -> Result<(), Fail> {
-    let lines: [&[u8]; 12] = [
-        b"login ann t1 6 2",
-        b"login ann t1 06 20\n",
-        b"login ann t1 6 1000\n",
-        b"login ann t1 6\n",
-        b"login ann t1 6 20 \n",
-        b"login  ann t1 6 20\n",
-        b"login ann  6 20\n",
-        b"login ann t1 6 20\r\r\n",
-        b"Login ann t1 6 20\n",
-        b"login ann t1 6 2x\nlogin ann t1 6 20\n",
-        b"\n",
-        b"",
-    ];
-    for line in lines {
+    for &line in &NO_LOGINS {
         let written = answer(rt.alloc(), line, None, &rt)?;
         assert!(rt; written.as_slice() == b"refused 1 Line\n".as_slice());
     }
     Ok(())
 }
 
+const FULL: Option<OpenFault> = Some(OpenFault::Full);
+
+// A line, why the server opens no session, and the answer.
+const REFUSALS: [(&[u8], Option<OpenFault>, &[u8]); 7] = [
+    (b"login eve t1 5 20\n", FULL, b"refused 2 NoUser\n"),
+    (b"login \xFF t1 5 20\n", FULL, b"refused 2 NoUser\n"),
+    (b"login ann zz 5 20\n", FULL, b"refused 3 Ticket\n"),
+    (b"login ann t1 5 20\n", None, b"refused 4 Size\n"),
+    (LOGIN, FULL, b"refused 5 Full\n"),
+    (LOGIN, Some(OpenFault::Short), b"refused 6 Short\n"),
+    (LOGIN, Some(OpenFault::NoUser), b"refused 2 NoUser\n"),
+];
+
 #[test]
 fn refusals_come_in_their_order(rt: HostRuntime) -> Result<(), Fail> {
-    let full = Some(OpenFault::Full);
-    let rows: [(&[u8], Option<OpenFault>, &[u8]); 7] = [
-        (b"login eve t1 5 20\n", full, b"refused 2 NoUser\n"),
-        (b"login \xFF t1 5 20\n", full, b"refused 2 NoUser\n"),
-        (b"login ann zz 5 20\n", full, b"refused 3 Ticket\n"),
-        (b"login ann t1 5 20\n", None, b"refused 4 Size\n"),
-        (LOGIN, full, b"refused 5 Full\n"),
-        (LOGIN, Some(OpenFault::Short), b"refused 6 Short\n"),
-        (LOGIN, Some(OpenFault::NoUser), b"refused 2 NoUser\n"),
-    ];
-    for (line, fault, wanted) in rows {
+    for &(line, fault, wanted) in &REFUSALS {
         let written = answer(rt.alloc(), line, fault, &rt)?;
         assert!(rt; written.as_slice() == wanted);
     }
@@ -245,7 +249,7 @@ fn heard(
 
 #[test]
 fn bytes_after_a_login_are_keys(rt: HostRuntime) -> Result<(), Fail> {
-    for size in [1, 2, 17, 18, 19, 5000] {
+    for &size in &[1, 2, 17, 18, 19, 5000] {
         let input = b"login ann t1 6 20\r\nh\ni";
         let (client, answer) = heard(rt.alloc(), input, size, ErrorKind::WouldBlock)?;
         assert!(rt; answer == PumpedIn::Idle && client.session() == Some(7));
@@ -288,7 +292,7 @@ fn is_over(alloc: Global, client: &mut Client) -> bool {
 
 #[test]
 fn readers_that_fail_end_the_connection(rt: HostRuntime) -> Result<(), Fail> {
-    for (input, session) in [(b"login ann".as_slice(), None), (LOGIN, Some(7))] {
+    for &(input, session) in &[(b"login ann".as_slice(), None), (LOGIN, Some(7))] {
         let (mut client, answer) = heard(rt.alloc(), input, 100, ErrorKind::ConnectionReset)?;
         assert!(rt; answer == PumpedIn::Failed && client.session() == session);
         assert!(rt; is_over(rt.alloc(), &mut client));
@@ -327,7 +331,7 @@ fn the_rest_of_a_partial_write_comes_next(rt: HostRuntime) -> Result<(), Fail> {
 
 #[test]
 fn writers_that_fail_end_the_connection(rt: HostRuntime) -> Result<(), Fail> {
-    for fault in [
+    for &fault in &[
         Some(ErrorKind::BrokenPipe),
         Some(ErrorKind::Interrupted),
         None,

@@ -1,4 +1,5 @@
-//! Tests of the whole server by scripts: how their lines are read, and what is printed of them.
+//! Tests of the whole server: by scripts, how their lines are read and what is printed of them, and over sockets, with terminals that
+//! connect to it on the loopback address in the same thread.
 #![tactic(auto)]
 
 #[cfg(test)]
@@ -24,11 +25,15 @@ mod macros;
 #[cfg(test)]
 mod motions;
 #[cfg(test)]
+mod office;
+#[cfg(test)]
 mod prompts;
 #[cfg(test)]
 mod replacing;
 #[cfg(test)]
 mod replay;
+#[cfg(test)]
+mod screens;
 #[cfg(test)]
 mod script;
 #[cfg(test)]
@@ -37,6 +42,10 @@ mod searches;
 mod seeking;
 #[cfg(test)]
 mod steps;
+#[cfg(test)]
+mod terminal;
+#[cfg(test)]
+mod together;
 #[cfg(test)]
 mod undos;
 #[cfg(test)]

@@ -16,14 +16,11 @@ use std::test::Fail;
 // Two buffers of ann: `first`, which she alone may see, and `second`, which everyone may.
 fn two(alloc: Global, rt: &impl Abort) -> Buffers<PlainMarked> {
     let mut all = Buffers::new(alloc);
-    assert_eq!(rt; all.len(), 0);
+    assert!(rt; all.len() == 0);
     let list = list_of(rt, "ALLOW OWNER@ rt");
-    assert_eq!(rt; all.add("first", "ann", list, &['a', 'b'], false), Ok(()));
+    assert!(rt; all.add("first", "ann", list, &['a', 'b'], false) == Ok(()));
     let list = list_of(rt, "ALLOW EVERYONE@ rwt");
-    assert_eq!(rt;
-        all.add("second", "ann", list, &['c', 'd', 'e'], true),
-        Ok(())
-    );
+    assert!(rt; all.add("second", "ann", list, &['c', 'd', 'e'], true) == Ok(()));
     all
 }
 
@@ -62,44 +59,54 @@ fn placed<T: Marked + Drop>(
     Ok(all.pos(name, id))
 }
 
-// The faults are told in their order: the names, a name that is taken, one buffer too many, and a text that is too long.
+// A name, an owner, whether the text is too long, and the fault. The faults are told in their order: the names, a name that is taken, one
+// buffer too many, and a text that is too long.
+const REFUSED: [(&str, &str, bool, AddFault); 5] = [
+    ("", "ann", false, AddFault::Name),
+    ("first", "Ann", false, AddFault::Name),
+    ("first", "bob", false, AddFault::Twice),
+    ("first", "ann", true, AddFault::Twice),
+    ("third", "ann", true, AddFault::Long),
+];
+
 #[test]
 fn buffers_are_refused(rt: HostRuntime) -> Result<(), Fail> {
     let mut all = two(rt.alloc(), &rt);
     let long = vec![in rt.alloc(); 'x'; 1_048_577]?;
-    for (name, owner, text, fault) in [
-        ("", "ann", &long[..0], AddFault::Name),
-        ("first", "Ann", &long[..0], AddFault::Name),
-        ("first", "bob", &long[..0], AddFault::Twice),
-        ("first", "ann", &long, AddFault::Twice),
-        ("third", "ann", &long, AddFault::Long),
-    ] {
-        assert_eq!(rt;
-            all.add(name, owner, List::new(), text, false),
-            Err(fault),
+    for &(name, owner, is_long, fault) in &REFUSED {
+        let text = if is_long { long.as_slice() } else { &[] };
+        assert!(rt;
+            all.add(name, owner, List::new(), text, false) == Err(fault),
             "{name} of {owner}"
         );
-        assert_eq!(rt; all.len(), 2);
+        assert!(rt; all.len() == 2);
     }
-    assert_eq!(rt;
-        all.add("third", "ann", List::new(), &long[1..], false),
-        Ok(())
-    );
-    assert_eq!(rt; all.len(), 3);
+    assert!(rt; all.add("third", "ann", List::new(), &long[1..], false) == Ok(()));
+    assert!(rt; all.len() == 3);
     for i in all.len()..256 {
         let name = format!(in rt.alloc(); "b{i}")?;
-        assert_eq!(rt; all.add(&name, "ann", List::new(), &[], false), Ok(()));
+        assert!(rt; all.add(&name, "ann", List::new(), &[], false) == Ok(()));
     }
-    assert_eq!(rt;
-        all.add("second", "ann", List::new(), &[], false),
-        Err(AddFault::Twice)
-    );
-    assert_eq!(rt;
-        all.add("more", "ann", List::new(), &long, false),
-        Err(AddFault::Full)
-    );
-    assert_eq!(rt; all.len(), 256);
+    assert!(rt; all.add("second", "ann", List::new(), &[], false) == Err(AddFault::Twice));
+    assert!(rt; all.add("more", "ann", List::new(), &long, false) == Err(AddFault::Full));
+    assert!(rt; all.len() == 256);
     Ok(())
+}
+
+// Whether there is a buffer of this name, with this text after so many edits.
+pub(crate) fn has_text<T: Marked + Drop>(
+    all: &Buffers<T>,
+    name: &Name,
+    text: &[char],
+    edits: u64,
+) -> Result<bool, Short> {
+    if !all.has(name) {
+        return Ok(false);
+    }
+    let len = all.text_len(name);
+    let now = all.text(name).copy(0, len)?;
+    let is_counted = all.serial(name) == edits && all.is_modified(name) == (edits > 0);
+    Ok(is_counted && now.as_slice() == text)
 }
 
 #[test]
@@ -107,17 +114,12 @@ fn the_buffer_of_the_name_is_edited(rt: HostRuntime) -> Result<(), Fail> {
     let mut all = two(rt.alloc(), &rt);
     let (first, second) = (named(&rt, "first"), named(&rt, "second"));
     assert!(rt; !all.has(&named(&rt, "third")));
+    assert!(rt; has_text(&all, &second, &['c', 'd', 'e'], 0)?);
     assert!(rt; all.has(&second));
-    assert!(rt; !all.is_modified(&second));
     assert!(rt; all.text_len(&second) == 3 && all.serial(&second) == 0);
     all.edit(&second, 1, 2, &['x', 'y'])?;
-    assert!(rt; all.has(&second));
-    assert!(rt; all.is_modified(&second) && all.serial(&second) == 1);
-    assert!(rt; all.text_len(&second) == 4 && all.text(&second).len() == 4);
-    assert!(rt; all.text(&second).copy(0, 4)?.as_slice() == ['c', 'x', 'y', 'e'].as_slice());
-    assert!(rt; all.has(&first));
-    assert!(rt; !all.is_modified(&first) && all.serial(&first) == 0);
-    assert_eq!(rt; all.text_len(&first), 2);
+    assert!(rt; has_text(&all, &second, &['c', 'x', 'y', 'e'], 1)?);
+    assert!(rt; has_text(&all, &first, &['a', 'b'], 0)?);
     Ok(())
 }
 
@@ -127,10 +129,10 @@ fn marks_follow_edits(rt: HostRuntime) -> Result<(), Fail> {
     let second = named(&rt, "second");
     assert!(rt; all.has(&second));
     assert!(rt; all.text_len(&second) == 3 && all.serial(&second) == 0);
-    assert_eq!(rt; placed(&mut all, &second, 0, 3)?, 3);
+    assert!(rt; placed(&mut all, &second, 0, 3)? == 3);
     assert!(rt; all.has(&second));
     assert!(rt; all.text_len(&second) == 3 && all.serial(&second) == 0);
-    assert_eq!(rt; moved(&mut all, &second, 2, &['u', 'v'])?, 4);
+    assert!(rt; moved(&mut all, &second, 2, &['u', 'v'])? == 4);
     Ok(())
 }
 
@@ -144,12 +146,12 @@ fn lists_and_owners_decide(rt: HostRuntime) {
     assert!(rt; all.grants(&directory, &first, &ann, Right::ReadData));
     assert!(rt; !all.grants(&directory, &first, &bob, Right::ReadData));
     assert!(rt; all.grants(&directory, &second, &bob, Right::WriteData));
-    assert_eq!(rt;
-        all.decide(&directory, &first, &ann, Right::WriteData),
-        Decision::NotGranted {
-            bit: Right::WriteData
-        }
+    assert!(rt;
+        all.decide(&directory, &first, &ann, Right::WriteData)
+            == Decision::NotGranted {
+                bit: Right::WriteData
+            }
     );
-    assert_eq!(rt; all.first_shown(&directory, &ann), Some(first));
-    assert_eq!(rt; all.first_shown(&directory, &bob), Some(second));
+    assert!(rt; all.first_shown(&directory, &ann) == Some(first));
+    assert!(rt; all.first_shown(&directory, &bob) == Some(second));
 }

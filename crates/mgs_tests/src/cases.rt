@@ -18,37 +18,36 @@ fn cased(planned: Result<Change, Message>) -> Result<(Put, Goes), Message> {
 #[test]
 fn goes_over_words(rt: HostRuntime) -> Result<(), Fail> {
     let text = PlainText::of(rt.alloc(), &['o', 'n', 'e', ' ', 't', 'w', 'o'])?;
-    assert_eq!(rt; text.len(), 7);
+    assert!(rt; text.len() == 7);
     let word = Put::Cased {
         from: 1,
         to: 3,
         case: Case::Upper,
     };
-    assert_eq!(rt;
-        cased(alteration(&text, &at(1, None), Alteration::UpcaseWord)),
-        Ok((word, Goes::Behind))
+    assert!(rt;
+        cased(alteration(&text, &at(1, None), Alteration::UpcaseWord)) == Ok((word, Goes::Behind))
     );
     let words = Put::Cased {
         from: 3,
         to: 7,
         case: Case::Lower,
     };
-    assert_eq!(rt;
-        cased(alteration(&text, &at(3, Some(9999)), Alteration::DowncaseWord)),
-        Ok((words, Goes::Behind))
+    assert!(rt;
+        cased(alteration(&text, &at(3, Some(9999)), Alteration::DowncaseWord))
+            == Ok((words, Goes::Behind))
     );
-    assert_eq!(rt;
-        cased(alteration(&text, &at(7, None), Alteration::CapitalizeWord)),
-        Err(Message::EndOfBuffer)
+    assert!(rt;
+        cased(alteration(&text, &at(7, None), Alteration::CapitalizeWord))
+            == Err(Message::EndOfBuffer)
     );
     let none = Put::Cased {
         from: 7,
         to: 7,
         case: Case::Capitalized,
     };
-    assert_eq!(rt;
-        cased(alteration(&text, &at(7, Some(0)), Alteration::CapitalizeWord)),
-        Ok((none, Goes::Behind))
+    assert!(rt;
+        cased(alteration(&text, &at(7, Some(0)), Alteration::CapitalizeWord))
+            == Ok((none, Goes::Behind))
     );
     Ok(())
 }
@@ -57,7 +56,7 @@ fn goes_over_words(rt: HostRuntime) -> Result<(), Fail> {
 #[test]
 fn goes_over_a_region(rt: HostRuntime) -> Result<(), Fail> {
     let text = PlainText::of(rt.alloc(), &['o', 'n', 'e', ' ', 't', 'w', 'o'])?;
-    assert_eq!(rt; text.len(), 7);
+    assert!(rt; text.len() == 7);
     let marked = Around {
         mark: Some(6),
         ..at(2, None)
@@ -67,13 +66,11 @@ fn goes_over_a_region(rt: HostRuntime) -> Result<(), Fail> {
         to: 6,
         case: Case::Upper,
     };
-    assert_eq!(rt;
-        cased(alteration(&text, &marked, Alteration::UpcaseRegion)),
-        Ok((region, Goes::To(2)))
+    assert!(rt;
+        cased(alteration(&text, &marked, Alteration::UpcaseRegion)) == Ok((region, Goes::To(2)))
     );
-    assert_eq!(rt;
-        cased(alteration(&text, &at(2, None), Alteration::DowncaseRegion)),
-        Err(Message::NoMark)
+    assert!(rt;
+        cased(alteration(&text, &at(2, None), Alteration::DowncaseRegion)) == Err(Message::NoMark)
     );
     Ok(())
 }
@@ -82,7 +79,7 @@ fn goes_over_a_region(rt: HostRuntime) -> Result<(), Fail> {
 #[test]
 fn writes_the_letters(rt: HostRuntime) -> Result<(), Fail> {
     let text = PlainText::of(rt.alloc(), &['a', 'B', ' ', '1', 'c', 'D'])?;
-    assert_eq!(rt; text.len(), 6);
+    assert!(rt; text.len() == 6);
     let upper = Put::Cased {
         from: 0,
         to: 6,

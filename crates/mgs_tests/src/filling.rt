@@ -15,17 +15,17 @@ fn fills_the_lines_around(rt: HostRuntime) -> Result<(), Fail> {
             'a', '\n', '\n', 'b', 'b', ' ', 'c', '\n', 'd', '\n', '\t', '\n', 'e',
         ],
     )?;
-    assert_eq!(rt; text.len(), 13);
+    assert!(rt; text.len() == 13);
     let filled = Put::Filled {
         from: 3,
         to: 9,
         fill: 4,
         len: 6,
     };
-    for place in [3, 6, 9] {
-        assert_eq!(rt;
-            shown(alteration(&text, &at(place, None), Alteration::FillParagraph)),
-            Ok((3, 9, filled, Goes::Behind))
+    for &place in &[3, 6, 9] {
+        assert!(rt;
+            shown(alteration(&text, &at(place, None), Alteration::FillParagraph))
+                == Ok((3, 9, filled, Goes::Behind))
         );
     }
     Ok(())
@@ -35,12 +35,12 @@ fn fills_the_lines_around(rt: HostRuntime) -> Result<(), Fail> {
 #[test]
 fn leaves_blank_lines(rt: HostRuntime) -> Result<(), Fail> {
     let text = PlainText::of(rt.alloc(), &['a', '\n', ' ', '\n', 'b'])?;
-    assert_eq!(rt; text.len(), 5);
+    assert!(rt; text.len() == 5);
     match alteration(&text, &at(3, None), Alteration::FillParagraph) {
         Ok(change) => {
             assert!(rt; !is_edit(&change, 0));
             let nothing = Ok((3, 3, Put::Nothing, Goes::Stays));
-            assert_eq!(rt; shown(Ok(change)), nothing);
+            assert!(rt; shown(Ok(change)) == nothing);
         }
         Err(_) => panic!(rt; "refused"),
     }
@@ -56,7 +56,7 @@ fn counts_what_is_written(rt: HostRuntime) -> Result<(), Fail> {
             ' ', 'a', '\t', ' ', 'b', 'c', '\n', ' ', 'd', 'd', 'd', 'd', 'd', ' ',
         ],
     )?;
-    assert_eq!(rt; text.len(), 14);
+    assert!(rt; text.len() == 14);
     let filled = Put::Filled {
         from: 0,
         to: 14,
@@ -66,7 +66,7 @@ fn counts_what_is_written(rt: HostRuntime) -> Result<(), Fail> {
     match alteration(&text, &at(2, None), Alteration::FillParagraph) {
         Err(_) => panic!(rt; "refused"),
         Ok(change) => {
-            assert_eq!(rt; change.put, filled);
+            assert!(rt; change.put == filled);
             assert!(rt; is_edit(&change, 0));
             let chars = put_chars(rt.alloc(), &text, &[], &change.put)?;
             assert!(rt;
@@ -96,7 +96,7 @@ const FILLED: [(&[char], usize, &[char]); 5] = [
 
 #[test]
 fn words_are_filled(rt: HostRuntime) -> Result<(), Fail> {
-    for (chars, fill, expected) in FILLED {
+    for &(chars, fill, expected) in &FILLED {
         let filled = refill(rt.alloc(), chars, fill)?;
         assert!(rt; filled.as_slice() == expected, "{chars:?} up to {fill}");
     }

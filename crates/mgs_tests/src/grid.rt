@@ -5,16 +5,29 @@ use mgs_text::{PlainText, Text};
 use std::process::Abort;
 use std::test::Fail;
 
-fn shows(rt: &impl Abort, grid: &Grid, row: usize, expected: &str, reversed: bool) {
-    let lines = grid.lines();
-    assert!(rt; row < lines.len());
-    let text = lines[row].text();
+// Whether a row has these characters, all of them in reverse or none.
+fn has_row(grid: &Grid, row: usize, expected: &str, reversed: bool) -> bool {
+    let Some(line) = grid.lines().get(row) else {
+        return false;
+    };
+    let text = line.text();
     let bytes = expected.as_bytes();
-    assert_eq!(rt; text.len(), bytes.len(), "row {row} is not {expected}");
-    for (c, byte) in text.iter().zip(bytes) {
-        assert_eq!(rt; *c, char::from(*byte), "row {row} is not {expected}");
+    if text.len() != bytes.len() || line.is_reversed() != reversed {
+        return false;
     }
-    assert_eq!(rt; lines[row].is_reversed(), reversed, "row {row}");
+    for (c, byte) in text.iter().zip(bytes) {
+        if *c != char::from(*byte) {
+            return false;
+        }
+    }
+    true
+}
+
+fn shows(rt: &impl Abort, grid: &Grid, row: usize, expected: &str, reversed: bool) {
+    assert!(rt;
+        has_row(grid, row, expected, reversed),
+        "row {row} is not {expected}"
+    );
 }
 
 const BLANK: &str = "                    ";
@@ -26,13 +39,13 @@ fn rows_of_a_text(rt: HostRuntime) -> Result<(), Fail> {
         &['a', '\t', 'b', '\x01', '\x7f', '\u{e9}', '\n', 'c'],
     )?;
     let mut grid = Grid::new(rt.alloc(), 6, 20)?;
-    assert_eq!(rt; (grid.rows(), grid.cols(), grid.lines().len()), (6, 20, 6));
-    assert_eq!(rt; grid.cursor(), (0, 0));
+    assert!(rt; (grid.rows(), grid.cols(), grid.lines().len()) == (6, 20, 6));
+    assert!(rt; grid.cursor() == (0, 0));
     for row in 0..6 {
         shows(&rt, &grid, row, BLANK, false);
     }
     grid.draw_text(1, 2, &text, 0, 0, 0);
-    for (row, expected) in [
+    for &(row, expected) in &[
         (0, BLANK),
         (1, "a       b^A^?\\u{e9} "),
         (2, "c                   "),
@@ -40,11 +53,11 @@ fn rows_of_a_text(rt: HostRuntime) -> Result<(), Fail> {
     ] {
         shows(&rt, &grid, row, expected, false);
     }
-    assert_eq!(rt; grid.rows(), 6);
+    assert!(rt; grid.rows() == 6);
     grid.draw_blank(1, 1);
     shows(&rt, &grid, 1, BLANK, false);
     shows(&rt, &grid, 2, "c                   ", false);
-    assert_eq!(rt; grid.rows(), 6);
+    assert!(rt; grid.rows() == 6);
     grid.draw_blank(1, 2);
     shows(&rt, &grid, 1, BLANK, false);
     shows(&rt, &grid, 2, BLANK, false);
@@ -68,10 +81,10 @@ fn rows_of_a_long_line(rt: HostRuntime) -> Result<(), Fail> {
     }
     let text = PlainText::of(rt.alloc(), &chars)?;
     let mut grid = Grid::new(rt.alloc(), 6, 20)?;
-    for (column, cursor, row) in SHIFTED {
+    for &(column, cursor, row) in &SHIFTED {
         assert!(rt; column < 300 && grid.rows() == 6);
         let shift = shift_for(20, column);
-        assert_eq!(rt; column - shift + 1, cursor, "column {column}");
+        assert!(rt; column - shift + 1 == cursor, "column {column}");
         grid.draw_text(1, 2, &text, 0, 0, shift);
         shows(&rt, &grid, 1, row, false);
     }
@@ -105,7 +118,7 @@ fn mode_lines_and_masks(rt: HostRuntime) -> Result<(), Fail> {
     grid.draw_unread(1, 1, UNREAD);
     shows(&rt, &grid, 1, "[no read: no entry] ", false);
     grid.set_cursor(5, 19);
-    assert_eq!(rt; grid.cursor(), (5, 19));
+    assert!(rt; grid.cursor() == (5, 19));
     let mut grid = Grid::new(rt.alloc(), 6, 40)?;
     grid.draw_mode(4, None, None);
     let masked = "-??-?-(no read)-------------------------";
@@ -159,24 +172,26 @@ const SEARCHES: [(Direction, bool, &[char], &str, usize); 4] = [
 #[test]
 fn echo_rows(rt: HostRuntime) -> Result<(), Fail> {
     let mut grid = Grid::new(rt.alloc(), 6, 20)?;
-    for (question, input, expected, column) in PROMPTS {
+    for &(question, input, expected, column) in &PROMPTS {
         assert!(rt; grid.rows() == 6 && input.len() <= 120);
-        assert_eq!(rt; grid.draw_prompt(5, question, input), column, "{expected}");
-        shows(&rt, &grid, 5, expected, false);
-    }
-    for (direction, failing, pattern, expected, column) in SEARCHES {
-        assert!(rt; grid.rows() == 6 && pattern.len() <= 120);
-        assert_eq!(rt;
-            grid.draw_search(5, direction, failing, pattern),
-            column,
+        assert!(rt;
+            grid.draw_prompt(5, question, input) == column,
             "{expected}"
         );
         shows(&rt, &grid, 5, expected, false);
     }
-    assert_eq!(rt; grid.rows(), 6);
+    for &(direction, failing, pattern, expected, column) in &SEARCHES {
+        assert!(rt; grid.rows() == 6 && pattern.len() <= 120);
+        assert!(rt;
+            grid.draw_search(5, direction, failing, pattern) == column,
+            "{expected}"
+        );
+        shows(&rt, &grid, 5, expected, false);
+    }
+    assert!(rt; grid.rows() == 6);
     grid.draw_echo(5, &Message::Denied(NOT_GRANTED));
     shows(&rt, &grid, 5, "Denied: no entry gr$", false);
-    assert_eq!(rt; grid.rows(), 6);
+    assert!(rt; grid.rows() == 6);
     grid.draw_echo(5, &Message::Denied(DENIED_BY_1));
     shows(&rt, &grid, 5, "Denied: entry 1 den$", false);
     Ok(())

@@ -2,8 +2,10 @@
 use crate::people::{list_of, named};
 use mgs_buffers::Buffers;
 use mgs_marks::PlainMarked;
+use mgs_model::{Name, Short};
 use mgs_policy::Directory;
 use std::process::Abort;
+use std::test::Fail;
 
 // Of ann's buffers others may see the last two.
 const BUFFERS: [(&str, &str); 3] = [
@@ -22,24 +24,31 @@ const COMPLETED: [(&str, &[u8], Option<&[u8]>); 7] = [
     ("bob", b"notes", None),
 ];
 
+// Whether what a user has typed is completed so.
+fn is_completed(
+    all: &Buffers<PlainMarked>,
+    directory: &Directory,
+    user: &Name,
+    input: &[u8],
+    wanted: Option<&[u8]>,
+) -> Result<bool, Short> {
+    let mut judge = all.judge()?;
+    Ok(all.completion(&mut judge, directory, user, input) == wanted)
+}
+
 #[test]
-fn names_that_a_user_may_see_are_completed(rt: HostRuntime) {
+fn names_that_a_user_may_see_are_completed(rt: HostRuntime) -> Result<(), Fail> {
     let mut all = Buffers::<PlainMarked>::new(rt.alloc());
-    for (name, entry) in BUFFERS {
-        assert_eq!(rt;
-            all.add(name, "ann", list_of(&rt, entry), &[], false),
-            Ok(())
-        );
+    for &(name, entry) in &BUFFERS {
+        assert!(rt; all.add(name, "ann", list_of(&rt, entry), &[], false) == Ok(()));
     }
     let directory = Directory::new(rt.alloc());
-    for (user, input, wanted) in COMPLETED {
+    for &(user, input, wanted) in &COMPLETED {
         let user = named(&rt, user);
-        match all.judge() {
-            Ok(mut judge) => {
-                let found = all.completion(&mut judge, &directory, &user, input);
-                assert!(rt; found == wanted, "{user:?} {input:?}");
-            }
-            Err(_) => panic!(rt; "no memory"),
-        }
+        assert!(rt;
+            is_completed(&all, &directory, &user, input, wanted)?,
+            "{user:?} {input:?}"
+        );
     }
+    Ok(())
 }

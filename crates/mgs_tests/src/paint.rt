@@ -27,6 +27,18 @@ fn screen_of(alloc: Global, line: &[char], column: usize) -> Result<Grid, Fail>
     Ok(grid)
 }
 
+// A terminal that a whole screen was painted on.
+fn terminal_of(alloc: Global, grid: &Grid) -> Result<Term, Fail>
+    requires rows { grid.now.rows ≡ 6 }
+    requires cols { grid.now.cols ≡ 20 }
+{
+    let mut out = Vec::with_capacity(alloc, bound(6, 20))?;
+    first(grid, &mut out);
+    let mut term = Term::new(alloc, 6, 20)?;
+    term.feed_all(&out)?;
+    Ok(term)
+}
+
 // Paints `new` over `old` on a terminal that shows `old`: these bytes, after which it shows `new`.
 fn paints(
     rt: &impl Abort,
@@ -43,17 +55,10 @@ fn paints(
     let mut out = Vec::with_capacity(alloc, bound(6, 20))?;
     paint(old, new, &mut out);
     assert!(rt; out.as_slice() == expected);
-    let mut before = Vec::with_capacity(alloc, bound(6, 20))?;
-    first(old, &mut before);
-    let mut after = Vec::with_capacity(alloc, bound(6, 20))?;
-    first(new, &mut after);
-    let mut term = Term::new(alloc, 6, 20)?;
-    assert_eq!(rt; term.feed_all(&before), Ok(()));
-    assert_eq!(rt; term.feed_all(&out), Ok(()));
-    let mut fresh = Term::new(alloc, 6, 20)?;
-    assert_eq!(rt; fresh.feed_all(&after), Ok(()));
-    assert!(rt; term.grid() == fresh.grid());
-    assert_eq!(rt; term.cursor(), fresh.cursor());
+    let mut term = terminal_of(alloc, old)?;
+    term.feed_all(&out)?;
+    let fresh = terminal_of(alloc, new)?;
+    assert!(rt; term.grid() == fresh.grid() && term.cursor() == fresh.cursor());
     Ok(())
 }
 
@@ -85,7 +90,7 @@ const PAINTED: [(&[char], usize, &[char], usize, &[u8]); 4] = [
 
 #[test]
 fn changes_of_a_line_are_painted(rt: HostRuntime) -> Result<(), Fail> {
-    for (old, from, new, to, bytes) in PAINTED {
+    for &(old, from, new, to, bytes) in &PAINTED {
         assert!(rt; old.len() < 20 && from < 20 && new.len() < 20 && to < 20);
         let old = screen_of(rt.alloc(), old, from)?;
         let new = screen_of(rt.alloc(), new, to)?;
@@ -139,9 +144,9 @@ fn a_new_grid_is_blank(rt: HostRuntime) -> Result<(), Fail> {
     let mut out = Vec::with_capacity(rt.alloc(), bound(6, 20))?;
     first(&grid, &mut out);
     assert!(rt; out.len() <= 592);
-    assert_eq!(rt; term.feed_all(&out), Ok(()));
-    assert_eq!(rt; term.cursor(), (1, 1));
-    assert_eq!(rt; term.grid().len(), 120);
+    assert!(rt; term.feed_all(&out) == Ok(()));
+    assert!(rt; term.cursor() == (1, 1));
+    assert!(rt; term.grid().len() == 120);
     for cell in term.grid() {
         assert!(rt; *cell == Cell::BLANK);
     }

@@ -4,7 +4,10 @@ use mgs_model::Name;
 use std::process::Abort;
 
 pub(crate) fn named(rt: &impl Abort, text: &str) -> Name {
-    Name::read(text).expect(rt, "a name")
+    match Name::read(text) {
+        Some(name) => name,
+        None => panic!(rt; "{text} is no name"),
+    }
 }
 
 // A list of this entry.

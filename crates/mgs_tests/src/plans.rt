@@ -73,14 +73,14 @@ const KILLS: [(usize, Option<usize>, Option<(usize, usize)>); 6] = [
 #[test]
 fn lines_are_killed(rt: HostRuntime) -> Result<(), Fail> {
     let text = PlainText::of(rt.alloc(), &['a', 'b', '\n', 'c', 'd'])?;
-    assert_eq!(rt; text.len(), 5);
-    for (place, argument, killed) in KILLS {
+    assert!(rt; text.len() == 5);
+    for &(place, argument, killed) in &KILLS {
         assert!(rt; place <= 5);
         match alteration(&text, &at(place, argument), Alteration::KillLine) {
-            Ok(change) => assert_eq!(rt; Some((change.from, change.to)), killed),
+            Ok(change) => assert!(rt; Some((change.from, change.to)) == killed),
             Err(message) => {
-                assert_eq!(rt; message, Message::EndOfBuffer);
-                assert_eq!(rt; killed, None);
+                assert!(rt; message == Message::EndOfBuffer);
+                assert!(rt; killed == None);
             }
         }
     }
@@ -91,26 +91,26 @@ fn lines_are_killed(rt: HostRuntime) -> Result<(), Fail> {
 #[test]
 fn kills_are_joined(rt: HostRuntime) -> Result<(), Fail> {
     let text = PlainText::of(rt.alloc(), &['a', 'b'])?;
-    assert_eq!(rt; text.len(), 2);
+    assert!(rt; text.len() == 2);
     let word = alteration(&text, &after(Kind::Kill, 1, None), Alteration::KillWord);
-    assert_eq!(rt;
-        joined(word),
-        Some(Piece {
-            from: 1,
-            to: 2,
-            joins: Joins::Behind
-        })
+    assert!(rt;
+        joined(word)
+            == Some(Piece {
+                from: 1,
+                to: 2,
+                joins: Joins::Behind
+            })
     );
-    for (kind, joins) in [(Kind::Kill, Joins::InFront), (Kind::Other, Joins::New)] {
+    for &(kind, joins) in &[(Kind::Kill, Joins::InFront), (Kind::Other, Joins::New)] {
         let around = after(kind, 1, None);
         let word = alteration(&text, &around, Alteration::BackwardKillWord);
-        assert_eq!(rt;
-            joined(word),
-            Some(Piece {
-                from: 0,
-                to: 1,
-                joins
-            })
+        assert!(rt;
+            joined(word)
+                == Some(Piece {
+                    from: 0,
+                    to: 1,
+                    joins
+                })
         );
     }
     Ok(())
@@ -130,14 +130,14 @@ const DOWN: [(Kind, usize, Option<usize>, Result<Goes, Message>); 5] = [
 #[test]
 fn motions_are_planned(rt: HostRuntime) -> Result<(), Fail> {
     let text = PlainText::of(rt.alloc(), &['a', 'b', 'c', '\n', '\n', 'a', 'b', 'c', 'd'])?;
-    assert_eq!(rt; text.len(), 9);
-    for (kind, place, argument, wanted) in DOWN {
+    assert!(rt; text.len() == 9);
+    for &(kind, place, argument, wanted) in &DOWN {
         assert!(rt; place <= 9);
         let down = motion(&text, &after(kind, place, argument), Motion::NextLine);
-        assert_eq!(rt; point(down), wanted, "from {place}");
+        assert!(rt; point(down) == wanted, "from {place}");
     }
     let text = PlainText::of(rt.alloc(), &['h', 'i'])?;
-    assert_eq!(rt; text.len(), 2);
+    assert!(rt; text.len() == 2);
     let here = CursorPosition {
         point: 0,
         size: 2,
@@ -145,7 +145,7 @@ fn motions_are_planned(rt: HostRuntime) -> Result<(), Fail> {
         column: 0,
     };
     match motion(&text, &at(0, None), Motion::WhatCursorPosition) {
-        Ok(finish) => assert_eq!(rt; finish.told, Message::CharacterAt('h', here)),
+        Ok(finish) => assert!(rt; finish.told == Message::CharacterAt('h', here)),
         Err(_) => panic!(rt; "refused"),
     }
     Ok(())
@@ -154,47 +154,47 @@ fn motions_are_planned(rt: HostRuntime) -> Result<(), Fail> {
 #[test]
 fn scrolls_are_planned(rt: HostRuntime) -> Result<(), Fail> {
     let text = PlainText::of(rt.alloc(), &['\n', '\n', '\n', '\n'])?;
-    assert_eq!(rt; text.len(), 4);
+    assert!(rt; text.len() == 4);
     let up = scroll(&text, &at(0, None), Scrolling::ScrollUp);
-    assert_eq!(rt; point(up), Ok(Goes::To(2)));
+    assert!(rt; point(up) == Ok(Goes::To(2)));
     let down = scroll(&text, &at(4, Some(1)), Scrolling::ScrollDown);
-    assert_eq!(rt; point(down), Ok(Goes::To(3)));
+    assert!(rt; point(down) == Ok(Goes::To(3)));
     let up = scroll(&text, &at(4, None), Scrolling::ScrollUp);
-    assert_eq!(rt; point(up), Err(Message::EndOfBuffer));
-    assert_eq!(rt; scrolled_row(510, 4, Scrolling::ScrollUp), 512);
-    assert_eq!(rt; scrolled_row(3, 4, Scrolling::ScrollDown), 0);
+    assert!(rt; point(up) == Err(Message::EndOfBuffer));
+    assert!(rt; scrolled_row(510, 4, Scrolling::ScrollUp) == 512);
+    assert!(rt; scrolled_row(3, 4, Scrolling::ScrollDown) == 0);
     Ok(())
 }
 
 #[test]
 fn insertions_and_exchanges_are_planned(rt: HostRuntime) -> Result<(), Fail> {
     let yanked = insertion(3, &at(1, None), Insertion::Yank);
-    assert_eq!(rt; shown(yanked), Err(Message::NothingToYank));
+    assert!(rt; shown(yanked) == Err(Message::NothingToYank));
     match insertion(3, &at(1, None), Insertion::OpenLine) {
-        Ok(change) => assert_eq!(rt; change.finish.point, Goes::To(1)),
+        Ok(change) => assert!(rt; change.finish.point == Goes::To(1)),
         Err(_) => panic!(rt; "refused"),
     }
     let text = PlainText::of(rt.alloc(), &[' ', '\t', 'a'])?;
-    assert_eq!(rt; text.len(), 3);
+    assert!(rt; text.len() == 3);
     let indented = reading_insertion(&text, &at(3, None), ReadingInsertion::NewlineAndIndent);
-    assert_eq!(rt;
-        indented.put,
-        Put::Indented {
-            feeds: 1,
-            from: 0,
-            to: 2
-        }
+    assert!(rt;
+        indented.put
+            == Put::Indented {
+                feeds: 1,
+                from: 0,
+                to: 2
+            }
     );
     let text = PlainText::of(rt.alloc(), &['a', 'b', 'c', '\n'])?;
-    assert_eq!(rt; text.len(), 4);
+    assert!(rt; text.len() == 4);
     match alteration(&text, &at(3, None), Alteration::TransposeChars) {
         Ok(change) => {
-            assert_eq!(rt; change.put, Put::Exchanged { at: 2 });
-            assert_eq!(rt; change.finish.point, Goes::To(3));
+            assert!(rt; change.put == Put::Exchanged { at: 2 });
+            assert!(rt; change.finish.point == Goes::To(3));
         }
         Err(_) => panic!(rt; "refused"),
     }
     let first = alteration(&text, &at(0, None), Alteration::TransposeChars);
-    assert_eq!(rt; shown(first), Err(Message::BeginningOfBuffer));
+    assert!(rt; shown(first) == Err(Message::BeginningOfBuffer));
     Ok(())
 }

@@ -1,13 +1,50 @@
 // An edit of a buffer is taken back by the plan of its undo.
+use crate::buffers::has_text;
 use crate::people::named;
 use mgs_acl::List;
 use mgs_buffers::Buffers;
 use mgs_edit::{Goes, is_undo_an_edit, is_undo_too_long, undo, undo_target};
 use mgs_marks::PlainMarked;
 use mgs_model::{Kind, Name};
-use mgs_text::Text;
 use std::process::Abort;
 use std::test::Fail;
+
+// Replaces what stands in a buffer from one place up to another.
+fn change(
+    rt: &impl Abort,
+    all: &mut Buffers<PlainMarked>,
+    name: &Name,
+    from: usize,
+    to: usize,
+    put: &[char],
+) -> Result<(), Fail> {
+    assert!(rt; all.has(name));
+    let size = all.text_len(name);
+    assert!(rt; from <= to && to <= size && size < 1000);
+    assert!(rt; all.serial(name) < 1000 && put.len() < 1000);
+    all.edit(name, from, to, put)?;
+    Ok(())
+}
+
+// What takes back the last edit of a buffer after a command of that kind: from where up to where it takes out, what it puts in, and the
+// kind that is left.
+fn plan_of(
+    rt: &impl Abort,
+    all: &Buffers<PlainMarked>,
+    name: &Name,
+    kind: Kind,
+) -> Result<(usize, usize, Vec<char>, Kind), Fail> {
+    assert!(rt; all.has(name));
+    let (size, serial) = (all.text_len(name), all.serial(name));
+    assert!(rt; serial < 1000);
+    let target = undo_target(kind, name, serial);
+    let edit = all.item(name, target).ok_or("not kept")?;
+    let undone = undo(edit, name, target, serial, size);
+    assert!(rt; undone.serial == target && undone.finish.point == Goes::Behind);
+    assert!(rt; is_undo_an_edit(&undone) && !is_undo_too_long(size, &undone));
+    let to = undone.from.saturating_add(undone.gone);
+    Ok((undone.from, to, edit.removed.clone()?, undone.finish.kind))
+}
 
 // Takes back the last edit of a buffer after a command of that kind. The kind that is left.
 fn take_back(
@@ -16,66 +53,37 @@ fn take_back(
     name: &Name,
     kind: Kind,
 ) -> Result<Kind, Fail> {
-    assert!(rt; all.has(name));
-    let serial = all.serial(name);
-    assert!(rt; serial < 1000);
-    let target = undo_target(kind, name, serial);
-    let Some(edit) = all.item(name, target) else {
-        panic!(rt; "not kept");
-    };
-    let size = all.text_len(name);
-    let undone = undo(edit, name, target, serial, size);
-    assert_eq!(rt; undone.serial, target);
-    assert!(rt; undone.finish.point == Goes::Behind);
-    assert!(rt; is_undo_an_edit(&undone));
-    let removed = edit.removed.clone()?;
-    assert!(rt; undone.from <= size && undone.gone <= size - undone.from);
-    assert!(rt; !is_undo_too_long(size, &undone));
-    assert!(rt; size < 1000 && removed.len() < 1000);
-    all.edit(name, undone.from, undone.from + undone.gone, &removed)?;
-    Ok(undone.finish.kind)
+    let (from, to, removed, left) = plan_of(rt, all, name, kind)?;
+    change(rt, all, name, from, to, &removed)?;
+    Ok(left)
+}
+
+fn undid(buffer: Name, target: u64, last: u64) -> Kind {
+    Kind::Undo {
+        buffer,
+        target,
+        last,
+    }
 }
 
 #[test]
 fn two_undos_in_a_row(rt: HostRuntime) -> Result<(), Fail> {
     let mut all = Buffers::<PlainMarked>::new(rt.alloc());
     let name = named(&rt, "notes");
-    assert_eq!(rt;
-        all.add("notes", "ann", List::new(), &['a', 'b', 'c'], false),
-        Ok(())
-    );
-    assert!(rt; all.has(&name));
-    assert!(rt; all.text_len(&name) == 3 && all.serial(&name) == 0);
-    all.edit(&name, 1, 2, &['x', 'y'])?;
-    assert!(rt; all.has(&name));
-    assert!(rt; all.text_len(&name) == 4 && all.serial(&name) == 1);
-    all.edit(&name, 3, 4, &[])?;
+    assert!(rt; all.add("notes", "ann", List::new(), &['a', 'b', 'c'], false) == Ok(()));
+    change(&rt, &mut all, &name, 1, 2, &['x', 'y'])?;
+    change(&rt, &mut all, &name, 3, 4, &[])?;
+    assert!(rt; has_text(&all, &name, &['a', 'x', 'y'], 2)?);
     assert!(rt; all.has(&name));
     all.unmodify(&name);
     assert!(rt; all.has(&name));
     assert!(rt; !all.is_modified(&name));
     let first = take_back(&rt, &mut all, &name, Kind::Other)?;
-    assert_eq!(rt;
-        first,
-        Kind::Undo {
-            buffer: name,
-            target: 2,
-            last: 3
-        }
-    );
+    assert!(rt; first == undid(name, 2, 3));
     let second = take_back(&rt, &mut all, &name, first)?;
-    assert_eq!(rt;
-        second,
-        Kind::Undo {
-            buffer: name,
-            target: 1,
-            last: 4
-        }
-    );
+    assert!(rt; second == undid(name, 1, 4));
+    assert!(rt; has_text(&all, &name, &['a', 'b', 'c'], 4)?);
     assert!(rt; all.has(&name));
-    assert!(rt; all.is_modified(&name));
-    assert_eq!(rt; all.text_len(&name), 3);
-    assert!(rt; all.text(&name).copy(0, 3)?.as_slice() == ['a', 'b', 'c'].as_slice());
     assert!(rt; all.item(&name, 0).is_none());
     Ok(())
 }

@@ -12,18 +12,18 @@ const SPACE: Put = Put::Character { put: ' ', times: 1 };
 #[test]
 fn takes_out_white(rt: HostRuntime) -> Result<(), Fail> {
     let text = PlainText::of(rt.alloc(), &['a', ' ', '\t', ' ', 'b', 'c'])?;
-    assert_eq!(rt; text.len(), 6);
-    assert_eq!(rt;
-        shown(alteration(&text, &at(2, None), Alteration::JustOneSpace)),
-        Ok((1, 4, SPACE, Goes::Behind))
+    assert!(rt; text.len() == 6);
+    assert!(rt;
+        shown(alteration(&text, &at(2, None), Alteration::JustOneSpace))
+            == Ok((1, 4, SPACE, Goes::Behind))
     );
-    assert_eq!(rt;
-        shown(alteration(&text, &at(5, None), Alteration::JustOneSpace)),
-        Ok((5, 5, SPACE, Goes::Behind))
+    assert!(rt;
+        shown(alteration(&text, &at(5, None), Alteration::JustOneSpace))
+            == Ok((5, 5, SPACE, Goes::Behind))
     );
-    assert_eq!(rt;
-        shown(alteration(&text, &at(4, None), Alteration::DeleteHorizontalSpace)),
-        Ok((1, 4, Put::Nothing, Goes::To(1)))
+    assert!(rt;
+        shown(alteration(&text, &at(4, None), Alteration::DeleteHorizontalSpace))
+            == Ok((1, 4, Put::Nothing, Goes::To(1)))
     );
     Ok(())
 }
@@ -32,15 +32,15 @@ fn takes_out_white(rt: HostRuntime) -> Result<(), Fail> {
 #[test]
 fn takes_out_blank_lines(rt: HostRuntime) -> Result<(), Fail> {
     let text = PlainText::of(rt.alloc(), &['a', '\n', ' ', '\n', '\n', 'b'])?;
-    assert_eq!(rt; text.len(), 6);
-    for (place, from, to, goes) in [
+    assert!(rt; text.len() == 6);
+    for &(place, from, to, goes) in &[
         (0, 1, 4, Goes::Stays),
         (3, 2, 4, Goes::To(2)),
         (5, 6, 6, Goes::Stays),
     ] {
-        assert_eq!(rt;
-            shown(alteration(&text, &at(place, None), Alteration::DeleteBlankLines)),
-            Ok((from, to, Put::Nothing, goes))
+        assert!(rt;
+            shown(alteration(&text, &at(place, None), Alteration::DeleteBlankLines))
+                == Ok((from, to, Put::Nothing, goes))
         );
     }
     Ok(())
@@ -50,14 +50,14 @@ fn takes_out_blank_lines(rt: HostRuntime) -> Result<(), Fail> {
 #[test]
 fn joins_lines(rt: HostRuntime) -> Result<(), Fail> {
     let text = PlainText::of(rt.alloc(), &['a', ' ', '\n', ' ', ' ', 'b'])?;
-    assert_eq!(rt; text.len(), 6);
-    assert_eq!(rt;
-        shown(alteration(&text, &at(6, None), Alteration::JoinLine)),
-        Ok((1, 5, SPACE, Goes::To(1)))
+    assert!(rt; text.len() == 6);
+    assert!(rt;
+        shown(alteration(&text, &at(6, None), Alteration::JoinLine))
+            == Ok((1, 5, SPACE, Goes::To(1)))
     );
-    assert_eq!(rt;
-        shown(alteration(&text, &at(2, None), Alteration::JoinLine)),
-        Err(Message::BeginningOfBuffer)
+    assert!(rt;
+        shown(alteration(&text, &at(2, None), Alteration::JoinLine))
+            == Err(Message::BeginningOfBuffer)
     );
     Ok(())
 }

@@ -22,16 +22,16 @@ fn one_window_fills_the_screen(rt: HostRuntime) -> Result<(), Fail> {
     let mut windows = Windows::one(6, Some(shows), Vec::with_capacity(rt.alloc(), 1)?);
     windows.set_mark(MarkId::of(7));
     let window = windows.selected_window();
-    assert_eq!(rt; window.height, 4);
+    assert!(rt; window.height == 4);
     let Some(marks) = window.shows else {
         panic!(rt; "nothing shown");
     };
-    assert_eq!(rt; marks.name, name);
-    assert_eq!(rt; marks.point.slot(), 4);
-    assert_eq!(rt; marks.top.slot(), 5);
+    assert!(rt; marks.name == name);
+    assert!(rt; marks.point.slot() == 4);
+    assert!(rt; marks.top.slot() == 5);
     let Some(mark) = marks.mark else {
         panic!(rt; "no mark");
     };
-    assert_eq!(rt; mark.slot(), 7);
+    assert!(rt; mark.slot() == 7);
     Ok(())
 }

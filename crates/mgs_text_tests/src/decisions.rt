@@ -23,7 +23,7 @@ fn lists_decide(rt: HostRuntime) {
     let directory = Directory::new(rt.alloc());
     let (ann, bob, cat) = (named(&rt, "ann"), named(&rt, "bob"), named(&rt, "cat"));
     let list = list_of(&rt, "ALLOW ann r\nDENY ann rw\nALLOW EVERYONE@ w");
-    for (user, bits, decision) in [
+    for &(user, bits, decision) in &[
         (ann, 0x3, DENIED_BY_2),
         (bob, 0x3, NO_READING),
         (ann, 0x1, Decision::Granted),
@@ -33,28 +33,28 @@ fn lists_decide(rt: HostRuntime) {
         (bob, 0x0, Decision::Granted),
     ] {
         let mask = Mask::from_bits(bits);
-        assert_eq!(rt; decide(&list, &cat, &user, &directory, mask), decision);
+        assert!(rt; decide(&list, &cat, &user, &directory, mask) == decision);
     }
-    for (entries, bit) in [
+    for &(entries, bit) in &[
         ("DENY ann w\nDENY ann r", Right::WriteData),
         ("DENY ann wr", Right::ReadData),
     ] {
         let list = list_of(&rt, entries);
-        assert_eq!(rt;
-            decide(&list, &cat, &ann, &directory, Mask::from_bits(0x3)),
-            Decision::DeniedBy { entry: 1, bit }
+        assert!(rt;
+            decide(&list, &cat, &ann, &directory, Mask::from_bits(0x3))
+                == Decision::DeniedBy { entry: 1, bit }
         );
     }
     let directory = staff(&rt, rt.alloc());
     let list = list_of(&rt, "ALLOW OWNER@ rwa\nDENY group:staff w");
-    for (user, bits, decision) in [
+    for &(user, bits, decision) in &[
         (ann, 0x7, Decision::Granted),
         (bob, 0x2, DENIED_BY_2),
         (bob, 0x1, NO_READING),
         (cat, 0x2, NO_WRITING),
     ] {
         let mask = Mask::from_bits(bits);
-        assert_eq!(rt; decide(&list, &ann, &user, &directory, mask), decision);
+        assert!(rt; decide(&list, &ann, &user, &directory, mask) == decision);
     }
 }
 
@@ -66,18 +66,15 @@ fn lists_decide_on_one_right(rt: HostRuntime) {
     assert!(rt; is_granted(&list, &cat, &bob, &directory, Right::WriteData));
     assert!(rt; !is_granted(&list, &cat, &bob, &directory, Right::ReadData));
     let list = list_of(&rt, "DENY ann w\nDENY ann r");
-    assert_eq!(rt;
-        decide_right(&list, &cat, &ann, &directory, Right::WriteData),
-        Decision::DeniedBy {
-            entry: 1,
-            bit: Right::WriteData
-        }
+    assert!(rt;
+        decide_right(&list, &cat, &ann, &directory, Right::WriteData)
+            == Decision::DeniedBy {
+                entry: 1,
+                bit: Right::WriteData
+            }
     );
     let list = list_of(&rt, "ALLOW OWNER@ r");
-    for (user, decision) in [(ann, Decision::Granted), (bob, NO_READING)] {
-        assert_eq!(rt;
-            decide_right(&list, &ann, &user, &directory, Right::ReadData),
-            decision
-        );
+    for &(user, decision) in &[(ann, Decision::Granted), (bob, NO_READING)] {
+        assert!(rt; decide_right(&list, &ann, &user, &directory, Right::ReadData) == decision);
     }
 }

@@ -9,17 +9,17 @@ fn a_directory_takes_256_users(rt: HostRuntime) -> Result<(), Fail> {
     let mut directory = Directory::new(rt.alloc());
     let ann = named(&rt, "ann");
     assert!(rt; !directory.has_user(&ann));
-    assert_eq!(rt; directory.add_user("ann"), Ok(()));
+    assert!(rt; directory.add_user("ann") == Ok(()));
     assert!(rt; directory.has_user(&ann));
     assert!(rt; directory.user("ann") == Some(ann) && directory.user("bob") == None);
-    assert_eq!(rt; directory.add_user("Ann"), Err(DirectoryFault::Name));
-    assert_eq!(rt; directory.add_user("ann"), Err(DirectoryFault::Twice));
+    assert!(rt; directory.add_user("Ann") == Err(DirectoryFault::Name));
+    assert!(rt; directory.add_user("ann") == Err(DirectoryFault::Twice));
     for i in 1..256u16 {
         let name = format!(in rt.alloc(); "u{i}")?;
-        assert_eq!(rt; directory.add_user(name.as_str()), Ok(()));
+        assert!(rt; directory.add_user(name.as_str()) == Ok(()));
     }
-    assert_eq!(rt; directory.add_user("ann"), Err(DirectoryFault::Twice));
-    assert_eq!(rt; directory.add_user("bob"), Err(DirectoryFault::Full));
+    assert!(rt; directory.add_user("ann") == Err(DirectoryFault::Twice));
+    assert!(rt; directory.add_user("bob") == Err(DirectoryFault::Full));
     Ok(())
 }
 
@@ -44,24 +44,24 @@ const LAST: [(&str, &[&str], DirectoryFault); 4] = [
 #[test]
 fn a_directory_takes_64_groups(rt: HostRuntime) -> Result<(), Fail> {
     let mut directory = Directory::new(rt.alloc());
-    for name in ["ann", "bob", "cat"] {
-        assert_eq!(rt; directory.add_user(name), Ok(()));
+    for &name in &["ann", "bob", "cat"] {
+        assert!(rt; directory.add_user(name) == Ok(()));
     }
     let (staff, guests) = (named(&rt, "staff"), named(&rt, "guests"));
     let (ann, bob, cat) = (named(&rt, "ann"), named(&rt, "bob"), named(&rt, "cat"));
     assert!(rt; !directory.has_group(&staff));
-    for (name, members, answer) in FIRST {
+    for &(name, members, answer) in &FIRST {
         assert!(rt; !directory.has_group(&ann));
-        assert_eq!(rt; directory.add_group(name, members), answer, "{name}");
+        assert!(rt; directory.add_group(name, members) == answer, "{name}");
     }
     assert!(rt; directory.has_group(&staff) && directory.is_member(&staff, &bob));
     assert!(rt; !directory.is_member(&staff, &cat) && !directory.is_member(&guests, &bob));
     for i in 3..64u16 {
         let name = format!(in rt.alloc(); "g{i}")?;
-        assert_eq!(rt; directory.add_group(name.as_str(), &["ann"]), Ok(()));
+        assert!(rt; directory.add_group(name.as_str(), &["ann"]) == Ok(()));
     }
-    for (name, members, fault) in LAST {
-        assert_eq!(rt; directory.add_group(name, members), Err(fault), "{name}");
+    for &(name, members, fault) in &LAST {
+        assert!(rt; directory.add_group(name, members) == Err(fault), "{name}");
     }
     Ok(())
 }

@@ -34,24 +34,24 @@ const FAULTS: [(&str, EntryFault); 10] = [
 
 #[test]
 fn entries_are_read_and_printed(rt: HostRuntime) {
-    for (text, printed, bits) in READ {
+    for &(text, printed, bits) in &READ {
         match read_entry(text) {
             Ok(entry) => {
-                assert_eq!(rt; print_entry(&entry).as_str(), printed, "{text}");
-                assert_eq!(rt; entry.mask.bits(), bits, "{text}");
+                assert!(rt; print_entry(&entry).as_str() == printed, "{text}");
+                assert!(rt; entry.mask.bits() == bits, "{text}");
             }
             Err(_) => panic!(rt; "{text} is refused"),
         }
     }
-    for (text, fault) in FAULTS {
-        assert_eq!(rt; read_entry(text), Err(fault), "{text}");
+    for &(text, fault) in &FAULTS {
+        assert!(rt; read_entry(text) == Err(fault), "{text}");
     }
 }
 
 #[test]
 fn entries_are_what_they_spell(rt: HostRuntime) {
     let (ann, staff) = (named(&rt, "ann"), named(&rt, "staff"));
-    for (text, entry_type, who, bits) in [
+    for &(text, entry_type, who, bits) in &[
         (
             "ALLOW OWNER@ rwatdcCo",
             EntryType::Allow,
@@ -72,8 +72,8 @@ fn entries_are_what_they_spell(rt: HostRuntime) {
             who,
             mask: Mask::from_bits(bits),
         };
-        assert_eq!(rt; read_entry(text), Ok(entry));
+        assert!(rt; read_entry(text) == Ok(entry));
     }
-    assert_eq!(rt; user_named("ann"), Some(ann));
-    assert_eq!(rt; user_named("Ann"), None);
+    assert!(rt; user_named("ann") == Some(ann));
+    assert!(rt; user_named("Ann") == None);
 }

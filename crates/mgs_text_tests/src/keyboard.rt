@@ -70,21 +70,20 @@ const PREFIXES: [&[u8]; 7] = [
 // Where a word ends, nothing of it is held.
 #[test]
 fn every_byte_has_an_answer(rt: HostRuntime) {
-    for (typed, argument) in HELD {
-        for prefix in PREFIXES {
+    for &(typed, argument) in &HELD {
+        for &prefix in &PREFIXES {
             let mut held = Keyboard::new();
             let _argument = last_fed(&mut held, typed);
             let _prefix = last_fed(&mut held, prefix);
             for byte in 0..=255u8 {
                 let mut keyboard = held;
                 let fed = keyboard.feed(byte);
-                assert_eq!(rt;
-                    fed,
-                    answer(prefix, byte, argument),
+                assert!(rt;
+                    fed == answer(prefix, byte, argument),
                     "{typed:?} {prefix:?} {byte}"
                 );
                 if fed != Fed::Pending {
-                    assert_eq!(rt; keyboard.feed(b'2'), character(b'2', None));
+                    assert!(rt; keyboard.feed(b'2') == character(b'2', None));
                 }
             }
         }
@@ -166,30 +165,27 @@ const WORDS: [(&[u8], Fed); 23] = [
 // The byte behind a word inserts itself, since nothing is held then.
 #[test]
 fn arguments_and_words_are_read(rt: HostRuntime) {
-    for (typed, argument) in ARGUMENTS {
+    for &(typed, argument) in &ARGUMENTS {
         let mut keyboard = Keyboard::new();
-        assert_eq!(rt;
-            last_fed(&mut keyboard, typed),
-            character(b'x', Some(argument)),
+        assert!(rt;
+            last_fed(&mut keyboard, typed) == character(b'x', Some(argument)),
             "{typed:?}"
         );
-        assert_eq!(rt;
-            keyboard.feed(b'y'),
-            character(b'y', None),
+        assert!(rt;
+            keyboard.feed(b'y') == character(b'y', None),
             "behind {typed:?}"
         );
     }
-    for (typed, fed) in WORDS {
+    for &(typed, fed) in &WORDS {
         let mut keyboard = Keyboard::new();
-        assert_eq!(rt; last_fed(&mut keyboard, typed), fed, "{typed:?}");
-        assert_eq!(rt;
-            keyboard.feed(b'2'),
-            character(b'2', None),
+        assert!(rt; last_fed(&mut keyboard, typed) == fed, "{typed:?}");
+        assert!(rt;
+            keyboard.feed(b'2') == character(b'2', None),
             "behind {typed:?}"
         );
     }
     for row in bindings() {
         let fed = last_fed(&mut Keyboard::new(), row.keys);
-        assert_eq!(rt; fed, Fed::Run(row.command, None), "{row:?}");
+        assert!(rt; fed == Fed::Run(row.command, None), "{row:?}");
     }
 }

@@ -14,13 +14,13 @@ const NO_TOKENS: [&str; 11] = [
 
 #[test]
 fn keys_are_read(rt: HostRuntime) {
-    for (text, keys) in TOKENS {
+    for &(text, keys) in &TOKENS {
         match read_keys(rt.alloc(), text) {
-            Ok(read) => assert_eq!(rt; read.as_slice(), keys, "{text}"),
+            Ok(read) => assert!(rt; read.as_slice() == keys, "{text}"),
             Err(_) => panic!(rt; "{text} is refused"),
         }
     }
-    for text in NO_TOKENS {
+    for &text in &NO_TOKENS {
         assert!(rt;
             matches!(&read_keys(rt.alloc(), text), Err(KeysFault::BadToken)),
             "{text}"
@@ -47,11 +47,11 @@ const NUMBERS: [(&[u8], Option<usize>); 12] = [
 
 #[test]
 fn words_are_read(rt: HostRuntime) {
-    for (word, text) in QUOTES {
+    for &(word, text) in &QUOTES {
         assert!(rt; quoted(word) == text, "{word:?}");
     }
-    for (word, number) in NUMBERS {
-        assert_eq!(rt; read_number(word), number, "{word:?}");
+    for &(word, number) in &NUMBERS {
+        assert!(rt; read_number(word) == number, "{word:?}");
     }
     assert!(rt; cut_at(b"show a b", b' ') == (b"show".as_slice(), Some(b"a b".as_slice())));
     assert!(rt; cut_at(b"show", b' ') == (b"show".as_slice(), None));

@@ -33,23 +33,22 @@ const WIDTHS: [(usize, char, usize); 7] = [
 #[test]
 fn parts_lines_and_counts_cells(rt: HostRuntime) -> Result<(), Fail> {
     let text = PlainText::of(rt.alloc(), &LINES)?;
-    assert_eq!(rt; text.len(), 8);
-    for (p, start, end, cells) in PLACES {
+    assert!(rt; text.len() == 8);
+    for &(p, start, end, cells) in &PLACES {
         assert!(rt; p <= 8);
-        assert_eq!(rt; line_start(&text, p), start, "start at {p}");
-        assert_eq!(rt; line_end(&text, p), end, "end at {p}");
-        assert_eq!(rt; column(&text, p), cells, "column at {p}");
+        assert!(rt; line_start(&text, p) == start, "start at {p}");
+        assert!(rt; line_end(&text, p) == end, "end at {p}");
+        assert!(rt; column(&text, p) == cells, "column at {p}");
     }
-    for (top, point, settled) in TOPS {
+    for &(top, point, settled) in &TOPS {
         assert!(rt; top <= 8 && point <= 8);
-        assert_eq!(rt;
-            settled_top(&text, 2, top, point),
-            settled,
+        assert!(rt;
+            settled_top(&text, 2, top, point) == settled,
             "{top} for {point}"
         );
     }
-    for (at, c, cells) in WIDTHS {
-        assert_eq!(rt; width(at, c), cells, "{c} at {at}");
+    for &(at, c, cells) in &WIDTHS {
+        assert!(rt; width(at, c) == cells, "{c} at {at}");
     }
     Ok(())
 }
@@ -74,16 +73,16 @@ const INDENTS: [(usize, usize); 7] = [(0, 0), (1, 1), (2, 2), (3, 2), (4, 4), (5
 #[test]
 fn goal_columns_and_indents(rt: HostRuntime) -> Result<(), Fail> {
     let text = PlainText::of(rt.alloc(), &['a', '\t', '\x01', '\u{e9}', '\n', 'b'])?;
-    assert_eq!(rt; text.len(), 6);
-    for (start, goal, place) in GOALS {
+    assert!(rt; text.len() == 6);
+    for &(start, goal, place) in &GOALS {
         assert!(rt; start <= 6);
-        assert_eq!(rt; column_place(&text, start, goal), place, "goal {goal}");
+        assert!(rt; column_place(&text, start, goal) == place, "goal {goal}");
     }
     let text = PlainText::of(rt.alloc(), &[' ', '\t', 'a', '\n', '\t', 'b'])?;
-    assert_eq!(rt; text.len(), 6);
-    for (p, end) in INDENTS {
+    assert!(rt; text.len() == 6);
+    for &(p, end) in &INDENTS {
         assert!(rt; p <= 6);
-        assert_eq!(rt; indent_end(&text, p), end, "from {p}");
+        assert!(rt; indent_end(&text, p) == end, "from {p}");
     }
     Ok(())
 }

@@ -27,14 +27,14 @@ const KEYS: [(&[u8], Step, &[u8]); 18] = [
 
 #[test]
 fn each_key_of_a_prompt(rt: HostRuntime) {
-    for (bytes, last, input) in KEYS {
+    for &(bytes, last, input) in &KEYS {
         let mut prompt = Prompt::new(Question::SwitchTo);
         let mut step = Step::GoesOn;
         for byte in bytes {
             step = prompt.feed(*byte);
         }
-        assert_eq!(rt; step, last, "{bytes:?}");
-        assert_eq!(rt; prompt.input(), input, "{bytes:?}");
+        assert!(rt; step == last, "{bytes:?}");
+        assert!(rt; prompt.input() == input, "{bytes:?}");
     }
 }
 
@@ -52,7 +52,7 @@ const COMPLETED: [(&[u8], Option<&[u8]>); 7] = [
 
 #[test]
 fn a_prompt_takes_in_what_names_have_in_common(rt: HostRuntime) {
-    for (input, wanted) in COMPLETED {
+    for &(input, wanted) in &COMPLETED {
         assert!(rt; completion(input, &NAMES) == wanted, "{input:?}");
     }
     assert!(rt; completion(b"", &[]) == None);
@@ -63,6 +63,6 @@ fn a_prompt_takes_in_what_names_have_in_common(rt: HostRuntime) {
     assert!(rt; prompt.input() == b"notes".as_slice());
     assert!(rt; !prompt.complete(None));
     assert!(rt; prompt.input() == b"notes".as_slice());
-    assert_eq!(rt; prompt.feed(0x7F), Step::GoesOn);
+    assert!(rt; prompt.feed(0x7F) == Step::GoesOn);
     assert!(rt; prompt.input() == b"note".as_slice());
 }

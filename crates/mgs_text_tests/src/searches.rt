@@ -50,65 +50,51 @@ const REPLACED: [(usize, bool, Option<usize>, Option<usize>); 5] = [
 ];
 
 #[test]
-fn finds_and_replaces(rt: HostRuntime) -> Result<(), Fail> {
+fn finds_matches(rt: HostRuntime) -> Result<(), Fail> {
     let text = PlainText::of(rt.alloc(), &THRICE)?;
-    assert_eq!(rt; text.len(), 8);
+    assert!(rt; text.len() == 8);
     let ab = ['A', 'B'];
-    let lower = ['a', 'b'];
-    for (p, here, first, last) in MATCHES {
+    for &(p, here, first, last) in &MATCHES {
         assert!(rt; p <= 8);
-        assert_eq!(rt; matches_at(&text, p, &ab), here, "at {p}");
-        assert_eq!(rt; find_forward(&text, p, &ab), first, "from {p}");
-        assert_eq!(rt; find_backward(&text, p, &ab), last, "up to {p}");
+        assert!(rt; matches_at(&text, p, &ab) == here, "at {p}");
+        assert!(rt; find_forward(&text, p, &ab) == first, "from {p}");
+        assert!(rt; find_backward(&text, p, &ab) == last, "up to {p}");
     }
-    for (p, behind, before, on, back) in FOUND {
+    Ok(())
+}
+
+#[test]
+fn searches_past_a_match(rt: HostRuntime) -> Result<(), Fail> {
+    let text = PlainText::of(rt.alloc(), &THRICE)?;
+    assert!(rt; text.len() == 8);
+    let ab = ['a', 'b'];
+    for &(p, behind, before, on, back) in &FOUND {
         assert!(rt; p <= 8);
-        assert_eq!(rt;
-            find_past(&text, Direction::Forward, p, &lower),
-            behind,
-            "behind {p}"
-        );
-        assert_eq!(rt;
-            find_past(&text, Direction::Backward, p, &lower),
-            before,
-            "before {p}"
-        );
-        assert_eq!(rt;
-            search_for(&text, p, Direction::Forward, &ab).ok(),
-            on,
-            "on from {p}"
-        );
-        assert_eq!(rt;
-            search_for(&text, p, Direction::Backward, &ab).ok(),
-            back,
-            "back from {p}"
-        );
+        assert!(rt; find_past(&text, F, p, &ab) == behind, "behind {p}");
+        assert!(rt; find_past(&text, B, p, &ab) == before, "before {p}");
+        assert!(rt; search_for(&text, p, F, &ab).ok() == on, "on from {p}");
+        assert!(rt; search_for(&text, p, B, &ab).ok() == back, "back from {p}");
     }
-    assert_eq!(rt;
-        search_for(&text, 8, Direction::Forward, &ab),
-        Err(Message::NotFound)
-    );
-    assert_eq!(rt;
-        search_for(&text, 0, Direction::Backward, &[]),
-        Err(Message::NoPattern)
-    );
-    assert_eq!(rt; begin_replacing(&text, 1, &ab), Ok(Some(3)));
-    assert_eq!(rt; begin_replacing(&text, 7, &ab), Ok(None));
-    assert_eq!(rt; begin_replacing(&text, 1, &[]), Err(Message::NoPattern));
-    for (anchor, replaces, next, skipped) in REPLACED {
+    assert!(rt; search_for(&text, 8, F, &ab) == Err(Message::NotFound));
+    assert!(rt; search_for(&text, 0, B, &[]) == Err(Message::NoPattern));
+    Ok(())
+}
+
+#[test]
+fn replaces_matches(rt: HostRuntime) -> Result<(), Fail> {
+    let text = PlainText::of(rt.alloc(), &THRICE)?;
+    assert!(rt; text.len() == 8);
+    let ab = ['A', 'B'];
+    assert!(rt; begin_replacing(&text, 1, &ab) == Ok(Some(3)));
+    assert!(rt; begin_replacing(&text, 7, &ab) == Ok(None));
+    assert!(rt; begin_replacing(&text, 1, &[]) == Err(Message::NoPattern));
+    for &(anchor, replaces, next, skipped) in &REPLACED {
         assert!(rt; anchor <= 8);
-        let replacement = Replacement { replaces, next };
-        assert_eq!(rt;
-            replace_match(&text, anchor, &ab, &['x', 'y', 'z']),
-            replacement,
-            "at {anchor}"
-        );
-        assert_eq!(rt;
-            replace_last(&text, anchor, &ab).replaces,
-            replaces,
-            "last at {anchor}"
-        );
-        assert_eq!(rt; skip_match(&text, anchor, &ab), skipped, "past {anchor}");
+        let replaced = replace_match(&text, anchor, &ab, &['x', 'y', 'z']);
+        assert!(rt; replaced == Replacement { replaces, next }, "at {anchor}");
+        let last = replace_last(&text, anchor, &ab);
+        assert!(rt; last.replaces == replaces, "last at {anchor}");
+        assert!(rt; skip_match(&text, anchor, &ab) == skipped, "past {anchor}");
     }
     Ok(())
 }
@@ -125,9 +111,12 @@ const CASES: [(char, char, bool); 6] = [
 
 #[test]
 fn the_case_of_ascii_letters_alone_is_ignored(rt: HostRuntime) -> Result<(), Fail> {
-    for (c, sought, found) in CASES {
+    for &(c, sought, found) in &CASES {
         let text = PlainText::of(rt.alloc(), &[c])?;
-        assert_eq!(rt; matches_at(&text, 0, &[sought]), found, "{sought} at {c}");
+        assert!(rt;
+            (matches_at(&text, 0, &[sought])) == found,
+            "{sought} at {c}"
+        );
     }
     Ok(())
 }
@@ -269,7 +258,7 @@ const B: Direction = Direction::Backward;
 
 #[test]
 fn searches_by_bytes(rt: HostRuntime) -> Result<(), Fail> {
-    for (way, start, last, bytes, end) in SEARCHES {
+    for &(way, start, last, bytes, end) in &SEARCHES {
         let text = PlainText::of(rt.alloc(), &THRICE)?;
         assert!(rt; start <= 8 && text.len() == 8 && last.len() <= 120);
         assert!(rt;

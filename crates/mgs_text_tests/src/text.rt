@@ -1,28 +1,34 @@
 // A text is a list of characters, and its marks follow its edits: both texts through the same calls.
 use mgs_gap::GapText;
 use mgs_marks::{Marked, PlainMarked};
+use mgs_model::Short;
 use mgs_text::{PlainText, Text};
 use std::alloc::Global;
 use std::process::Abort;
 use std::test::Fail;
 
+fn holds<T: Text>(text: &T, chars: &[char]) -> Result<bool, Short> {
+    let all = text.copy(0, text.len())?;
+    Ok(all.as_slice() == chars)
+}
+
 fn edit<T: Text + Drop>(alloc: Global, rt: &impl Abort) -> Result<(), Fail> {
     let mut text = T::of(alloc, &['a', 'b', 'c'])?;
-    assert_eq!(rt; text.len(), 3);
-    assert_eq!(rt; text.copy(1, 3)?.as_slice(), ['b', 'c'].as_slice());
+    assert!(rt; text.len() == 3);
+    assert!(rt; text.copy(1, 3)?.as_slice() == ['b', 'c'].as_slice());
     text.replace(1, 2, &['X', 'Y'])?;
-    assert!(rt; text.copy(0, text.len())?.as_slice() == ['a', 'X', 'Y', 'c'].as_slice());
-    assert_eq!(rt; text.at(3), 'c');
+    assert!(rt; holds(&text, &['a', 'X', 'Y', 'c'])?);
+    assert!(rt; text.at(3) == 'c');
     Ok(())
 }
 
 fn count_lines<T: Text + Drop>(alloc: Global, rt: &impl Abort) -> Result<(), Fail> {
     let text = T::of(alloc, &['a', '\n', '\n', 'b'])?;
-    assert_eq!(rt; text.line_of(1), 0);
-    assert_eq!(rt; text.line_of(2), 1);
-    assert_eq!(rt; text.line_of(4), 2);
-    for (line, start) in [(0, 0), (1, 2), (2, 3), (3, 4)] {
-        assert_eq!(rt; text.start_of(line), start, "line {line}");
+    assert!(rt; text.line_of(1) == 0);
+    assert!(rt; text.line_of(2) == 1);
+    assert!(rt; text.line_of(4) == 2);
+    for &(line, start) in &[(0, 0), (1, 2), (2, 3), (3, 4)] {
+        assert!(rt; text.start_of(line) == start, "line {line}");
     }
     Ok(())
 }
@@ -33,15 +39,19 @@ fn follow<T: Marked + Drop>(alloc: Global, rt: &impl Abort) -> Result<(), Fail> 
     let second = text.add_mark(2)?;
     let third = text.add_mark(3)?;
     text.replace(1, 3, &['x'])?;
-    assert_eq!(rt; text.copy(0, 3)?.as_slice(), ['a', 'x', 'd'].as_slice());
-    assert_eq!(rt; text.pos(first), 1);
-    assert_eq!(rt; text.pos(second), 1);
-    assert_eq!(rt; text.pos(third), 2);
-    let fourth = text.add_mark(2)?;
-    for other in [first, second, third] {
-        assert_ne!(rt; fourth.slot(), other.slot());
-    }
-    assert_eq!(rt; text.pos(fourth), 2);
+    assert!(rt; holds(&text, &['a', 'x', 'd'])?);
+    assert!(rt; text.pos(first) == 1);
+    assert!(rt; text.pos(second) == 1);
+    assert!(rt; text.pos(third) == 2);
+    Ok(())
+}
+
+fn mark_one_more<T: Marked + Drop>(alloc: Global, rt: &impl Abort) -> Result<(), Fail> {
+    let mut text = T::of(alloc, &['a', 'b'])?;
+    let first = text.add_mark(2)?;
+    let second = text.add_mark(2)?;
+    assert!(rt; first.slot() != second.slot());
+    assert!(rt; text.pos(first) == 2 && text.pos(second) == 2);
     Ok(())
 }
 
@@ -50,13 +60,13 @@ fn move_and_drop<T: Marked + Drop>(alloc: Global, rt: &impl Abort) -> Result<(),
     let first = text.add_mark(0)?;
     let second = text.add_mark(1)?;
     text.place(first, 2);
-    assert_eq!(rt; text.pos(first), 2);
-    assert_eq!(rt; text.mark_count(), 2);
+    assert!(rt; text.pos(first) == 2);
+    assert!(rt; text.mark_count() == 2);
     text.drop_mark(second);
-    assert_eq!(rt; text.mark_count(), 1);
-    assert_eq!(rt; text.pos(first), 2);
-    assert_eq!(rt; text.len(), 2);
-    assert_eq!(rt; text.at(1), 'b');
+    assert!(rt; text.mark_count() == 1);
+    assert!(rt; text.pos(first) == 2);
+    assert!(rt; text.len() == 2);
+    assert!(rt; text.at(1) == 'b');
     Ok(())
 }
 
@@ -65,6 +75,7 @@ fn plain_text_is_edited(rt: HostRuntime) -> Result<(), Fail> {
     edit::<PlainText>(rt.alloc(), &rt)?;
     count_lines::<PlainText>(rt.alloc(), &rt)?;
     follow::<PlainMarked>(rt.alloc(), &rt)?;
+    mark_one_more::<PlainMarked>(rt.alloc(), &rt)?;
     move_and_drop::<PlainMarked>(rt.alloc(), &rt)
 }
 
@@ -73,6 +84,7 @@ fn gap_text_is_edited(rt: HostRuntime) -> Result<(), Fail> {
     edit::<GapText>(rt.alloc(), &rt)?;
     count_lines::<GapText>(rt.alloc(), &rt)?;
     follow::<GapText>(rt.alloc(), &rt)?;
+    mark_one_more::<GapText>(rt.alloc(), &rt)?;
     move_and_drop::<GapText>(rt.alloc(), &rt)
 }
 
@@ -81,14 +93,13 @@ fn gap_text_is_edited_at_both_ends(rt: HostRuntime) -> Result<(), Fail> {
     let mut text = GapText::of(rt.alloc(), &['b', 'c'])?;
     text.replace(2, 2, &['d'])?;
     text.replace(0, 0, &['a'])?;
-    assert!(rt; text.copy(0, 4)?.as_slice() == ['a', 'b', 'c', 'd'].as_slice());
-    assert_eq!(rt; text.copy(1, 3)?.as_slice(), ['b', 'c'].as_slice());
+    assert!(rt; holds(&text, &['a', 'b', 'c', 'd'])?);
+    assert!(rt; text.copy(1, 3)?.as_slice() == ['b', 'c'].as_slice());
     text.replace(0, 1, &[])?;
     text.replace(2, 3, &[])?;
-    assert!(rt; text.copy(0, 2)?.as_slice() == ['b', 'c'].as_slice());
+    assert!(rt; holds(&text, &['b', 'c'])?);
     text.replace(0, 2, &[])?;
-    assert_eq!(rt; text.len(), 0);
-    assert!(rt; text.copy(0, 0)?.is_empty());
+    assert!(rt; text.len() == 0 && holds(&text, &[])?);
     Ok(())
 }
 
@@ -101,7 +112,7 @@ fn gap_text_grows(rt: HostRuntime) -> Result<(), Fail> {
         assert!(rt; 2 <= len && len < 4000);
         let put = vec![in rt.alloc(); 'q'; size]?;
         text.replace(1, 1, &put)?;
-        assert_eq!(rt; text.len(), len + size);
+        assert!(rt; text.len() == len + size);
         assert!(rt; text.at(0) == 'a' && text.at(1) == 'q', "front of {size}");
         assert!(rt;
             text.at(size) == 'q' && text.at(len + size - 1) == 'z',
@@ -110,7 +121,7 @@ fn gap_text_grows(rt: HostRuntime) -> Result<(), Fail> {
         text.replace(len + size, len + size, &['z'])?;
         text.replace(0, 0, &['a'])?;
     }
-    assert_eq!(rt; text.len(), 1890);
+    assert!(rt; text.len() == 1890);
     Ok(())
 }
 
@@ -118,11 +129,11 @@ fn gap_text_grows(rt: HostRuntime) -> Result<(), Fail> {
 fn characters_are_typed_in_a_row(rt: HostRuntime) -> Result<(), Fail> {
     let mut text = GapText::of(rt.alloc(), &['<', '>'])?;
     for i in 0..100 {
-        assert_eq!(rt; text.len(), i + 2);
+        assert!(rt; text.len() == i + 2);
         text.replace(i + 1, i + 1, &['a'])?;
     }
-    assert_eq!(rt; text.len(), 102);
-    assert_eq!(rt; text.at(100), 'a');
-    assert_eq!(rt; text.at(101), '>');
+    assert!(rt; text.len() == 102);
+    assert!(rt; text.at(100) == 'a');
+    assert!(rt; text.at(101) == '>');
     Ok(())
 }

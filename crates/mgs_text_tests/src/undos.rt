@@ -44,23 +44,23 @@ fn five_hundred_undos_in_a_row(rt: HostRuntime) -> Result<(), Fail> {
             removed: Vec::new(rt.alloc()),
             added: 1,
         });
-        assert_eq!(rt; oldest.is_some(), at == 1000);
+        assert!(rt; oldest.is_some() == (at == 1000));
     }
     assert!(rt; record.item(1).is_none() && record.item(2).is_some());
     assert!(rt; record.item(1001).is_some() && record.item(1002).is_none());
     for behind in 0..500u64 {
         assert!(rt; undo(&rt, &mut record, &mut text, 1001 - behind)?);
     }
-    assert_eq!(rt; text.len(), 501);
+    assert!(rt; text.len() == 501);
     assert!(rt; !undo(&rt, &mut record, &mut text, 501)?);
-    assert_eq!(rt; text.len(), 501);
+    assert!(rt; text.len() == 501);
     Ok(())
 }
 
 #[test]
 fn keeps_the_latest_thousand(rt: HostRuntime) -> Result<(), Fail> {
     let mut record = Record::new(rt.alloc())?;
-    assert_eq!(rt; record.serial(), 0);
+    assert!(rt; record.serial() == 0);
     assert!(rt; record.item(0).is_none());
     for at in 0..1001usize {
         assert!(rt; record.serial() < 2000);
@@ -70,15 +70,15 @@ fn keeps_the_latest_thousand(rt: HostRuntime) -> Result<(), Fail> {
             removed,
             added: 1,
         });
-        assert_eq!(rt; oldest.is_some(), at == 1000);
+        assert!(rt; oldest.is_some() == (at == 1000));
     }
-    assert_eq!(rt; record.serial(), 1001);
+    assert!(rt; record.serial() == 1001);
     assert!(rt; record.item(1).is_none());
     let (Some(first), Some(last)) = (record.item(2), record.item(1001)) else {
         panic!(rt; "not kept");
     };
     assert!(rt; first.at == 1 && last.at == 1000);
-    assert_eq!(rt; last.removed.len(), 2);
+    assert!(rt; last.removed.len() == 2);
     assert!(rt; record.item(1002).is_none());
     Ok(())
 }

@@ -31,12 +31,11 @@ const WORDS: [(usize, usize, usize, usize); 16] = [
 fn walks_words(rt: HostRuntime) -> Result<(), Fail> {
     let chars = [' ', ' ', 'a', 'b', '1', ' ', '-', 'c', '.'];
     let text = PlainText::of(rt.alloc(), &chars)?;
-    for (p, times, end, start) in WORDS {
+    for &(p, times, end, start) in &WORDS {
         assert!(rt; p <= text.len());
-        assert_eq!(rt; forward_word(&text, p, times), end, "{times} from {p}");
-        assert_eq!(rt;
-            backward_word(&text, p, times),
-            start,
+        assert!(rt; forward_word(&text, p, times) == end, "{times} from {p}");
+        assert!(rt;
+            backward_word(&text, p, times) == start,
             "{times} back from {p}"
         );
     }
@@ -80,27 +79,31 @@ const PLACES: [(usize, usize, bool, bool); 4] = [
 #[test]
 fn walks_paragraphs_and_lines(rt: HostRuntime) -> Result<(), Fail> {
     let text = PlainText::of(rt.alloc(), &PAGE)?;
-    for (p, times, end, start, below, above, killed) in WALKS {
+    for &(p, times, end, start, below, above, killed) in &WALKS {
         assert!(rt; p <= text.len());
-        assert_eq!(rt; forward_paragraph(&text, p, times), end, "{times} from {p}");
-        assert_eq!(rt;
-            backward_paragraph(&text, p, times),
-            start,
+        assert!(rt;
+            forward_paragraph(&text, p, times) == end,
+            "{times} from {p}"
+        );
+        assert!(rt;
+            backward_paragraph(&text, p, times) == start,
             "{times} back from {p}"
         );
-        assert_eq!(rt; lines_down(&text, p, times), below, "{times} down from {p}");
-        assert_eq!(rt; lines_up(&text, p, times), above, "{times} up from {p}");
-        assert_eq!(rt;
-            kill_line_end(&text, p, Some(times)),
-            killed,
+        assert!(rt;
+            lines_down(&text, p, times) == below,
+            "{times} down from {p}"
+        );
+        assert!(rt; lines_up(&text, p, times) == above, "{times} up from {p}");
+        assert!(rt;
+            kill_line_end(&text, p, Some(times)) == killed,
             "{times} killed from {p}"
         );
     }
-    for (p, killed, first, last) in PLACES {
+    for &(p, killed, first, last) in &PLACES {
         assert!(rt; p <= text.len());
-        assert_eq!(rt; kill_line_end(&text, p, None), killed, "killed from {p}");
-        assert_eq!(rt; is_first_line(&text, p), first, "first line at {p}");
-        assert_eq!(rt; is_last_line(&text, p), last, "last line at {p}");
+        assert!(rt; kill_line_end(&text, p, None) == killed, "killed from {p}");
+        assert!(rt; is_first_line(&text, p) == first, "first line at {p}");
+        assert!(rt; is_last_line(&text, p) == last, "last line at {p}");
     }
     Ok(())
 }
@@ -108,18 +111,18 @@ fn walks_paragraphs_and_lines(rt: HostRuntime) -> Result<(), Fail> {
 #[test]
 fn walks_no_text_and_a_word_of_all_there_may_be(rt: HostRuntime) -> Result<(), Fail> {
     let none = PlainText::of(rt.alloc(), &[])?;
-    for times in [0, 1, 9999] {
-        assert_eq!(rt; forward_word(&none, 0, times), 0);
-        assert_eq!(rt; forward_paragraph(&none, 0, times), 0);
-        assert_eq!(rt; lines_down(&none, 0, times), 0);
-        assert_eq!(rt; kill_line_end(&none, 0, Some(times)), 0);
+    for &times in &[0, 1, 9999] {
+        assert!(rt; forward_word(&none, 0, times) == 0);
+        assert!(rt; forward_paragraph(&none, 0, times) == 0);
+        assert!(rt; lines_down(&none, 0, times) == 0);
+        assert!(rt; kill_line_end(&none, 0, Some(times)) == 0);
     }
-    assert_eq!(rt; kill_line_end(&none, 0, None), 0);
+    assert!(rt; kill_line_end(&none, 0, None) == 0);
     let chars = vec![in rt.alloc(); 'a'; 1_048_576]?;
     let text = PlainText::of(rt.alloc(), &chars)?;
     let end = forward_word(&text, 0, 9999);
-    assert_eq!(rt; end, text.len());
-    assert_eq!(rt; backward_word(&text, end, 9999), 0);
-    assert_eq!(rt; backward_paragraph(&text, end, 9999), 0);
+    assert!(rt; end == text.len());
+    assert!(rt; backward_word(&text, end, 9999) == 0);
+    assert!(rt; backward_paragraph(&text, end, 9999) == 0);
     Ok(())
 }

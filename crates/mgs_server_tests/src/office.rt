@@ -20,7 +20,7 @@ pub(crate) type Office = Server<RefusingStore>;
 /// Ann may do everything with the notes, and bob read and write them.
 pub(crate) fn notes_list(rt: &impl Abort) -> List {
     let mut list = List::new();
-    for entry in ["ALLOW OWNER@ rwatdcCo", "ALLOW bob rwat"] {
+    for &entry in &["ALLOW OWNER@ rwatdcCo", "ALLOW bob rwat"] {
         match read_entry(entry) {
             Ok(entry) => assert!(rt; list.insert(list.len(), entry).is_ok()),
             Err(_) => panic!(rt; "no entry"),
