@@ -68,8 +68,11 @@ fn put_last<T: Marked + Drop>(
     ensures ok { OnOk result (all.new.entries ≡ all.old.entries ++ (name, buffer) ∷ []) }
     ensures err { OnErr result (all.new.entries ≡ all.old.entries) }
 {
-    match all.insert(name, buffer) {
-        Ok(_) => Ok(()),
+    match all.entry(name) {
+        Ok(entry) => {
+            entry.insert_entry(buffer);
+            Ok(())
+        }
         Err(_) => Err(Short),
     }
 }

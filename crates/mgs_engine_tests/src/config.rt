@@ -101,12 +101,15 @@ const FAULTS: [(&str, &str); 8] = [
     ),
 ];
 
+fn first_fault_is(alloc: Global, tables: &str, wanted: &str, rt: &impl Abort) -> Result<(), Fail> {
+    let text = format!(in alloc; "{ANN}{tables}")?;
+    refused(alloc, text.as_str(), wanted != "buffer 1: File", wanted, rt)
+}
+
 #[test]
 fn the_first_fault_is_named_by_its_table(rt: HostRuntime) -> Result<(), Fail> {
     for &(tables, wanted) in &FAULTS {
-        let text = format!(in rt.alloc(); "{ANN}{tables}")?;
-        let is_readable = wanted != "buffer 1: File";
-        refused(rt.alloc(), text.as_str(), is_readable, wanted, &rt)?;
+        first_fault_is(rt.alloc(), tables, wanted, &rt)?;
     }
     Ok(())
 }

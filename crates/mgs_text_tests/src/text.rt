@@ -47,11 +47,16 @@ fn follow<T: Marked + Drop>(alloc: Global, rt: &impl Abort) -> Result<(), Fail> 
 }
 
 fn mark_one_more<T: Marked + Drop>(alloc: Global, rt: &impl Abort) -> Result<(), Fail> {
-    let mut text = T::of(alloc, &['a', 'b'])?;
-    let first = text.add_mark(2)?;
+    let mut text = T::of(alloc, &['a', 'b', 'c', 'd'])?;
+    let first = text.add_mark(1)?;
     let second = text.add_mark(2)?;
-    assert!(rt; first.slot() != second.slot());
-    assert!(rt; text.pos(first) == 2 && text.pos(second) == 2);
+    let third = text.add_mark(3)?;
+    text.replace(1, 3, &['x'])?;
+    let fourth = text.add_mark(2)?;
+    for other in &[first, second, third] {
+        assert!(rt; fourth.slot() != other.slot());
+    }
+    assert!(rt; text.pos(fourth) == 2);
     Ok(())
 }
 
