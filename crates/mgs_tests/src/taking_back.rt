@@ -6,6 +6,7 @@ use mgs_buffers::Buffers;
 use mgs_edit::{Goes, is_undo_an_edit, is_undo_too_long, undo, undo_target};
 use mgs_marks::PlainMarked;
 use mgs_model::{Kind, Name};
+use std::alloc::Global;
 use std::process::Abort;
 use std::test::Fail;
 
@@ -66,24 +67,54 @@ fn undid(buffer: Name, target: u64, last: u64) -> Kind {
     }
 }
 
+// Takes back that a buffer was edited.
+fn unmodify(all: &mut Buffers<PlainMarked>, name: &Name) {
+    if all.has(name) {
+        all.unmodify(name);
+    }
+}
+
+// Whether there is a buffer of a name that was not edited.
+fn is_unmodified(all: &Buffers<PlainMarked>, name: &Name) -> bool {
+    all.has(name) && !all.is_modified(name)
+}
+
+// Whether a buffer keeps no edit of this serial.
+fn is_not_kept(all: &Buffers<PlainMarked>, name: &Name, serial: u64) -> bool {
+    all.has(name) && all.item(name, serial).is_none()
+}
+
+// A buffer of the name, edited twice.
+fn edited(rt: &impl Abort, alloc: Global, name: &Name) -> Result<Buffers<PlainMarked>, Fail> {
+    let mut all = Buffers::<PlainMarked>::new(alloc);
+    assert!(rt; all.add("notes", "ann", List::new(), &['a', 'b', 'c'], false) == Ok(()));
+    change(rt, &mut all, name, 1, 2, &['x', 'y'])?;
+    change(rt, &mut all, name, 3, 4, &[])?;
+    Ok(all)
+}
+
+// Two undos of the edits of a buffer, one right after the other.
+fn take_both_back(
+    rt: &impl Abort,
+    all: &mut Buffers<PlainMarked>,
+    name: &Name,
+) -> Result<(), Fail> {
+    let first = take_back(rt, all, name, Kind::Other)?;
+    assert!(rt; first == undid(*name, 2, 3));
+    let second = take_back(rt, all, name, first)?;
+    assert!(rt; second == undid(*name, 1, 4));
+    Ok(())
+}
+
 #[test]
 fn two_undos_in_a_row(rt: HostRuntime) -> Result<(), Fail> {
-    let mut all = Buffers::<PlainMarked>::new(rt.alloc());
     let name = named(&rt, "notes");
-    assert!(rt; all.add("notes", "ann", List::new(), &['a', 'b', 'c'], false) == Ok(()));
-    change(&rt, &mut all, &name, 1, 2, &['x', 'y'])?;
-    change(&rt, &mut all, &name, 3, 4, &[])?;
+    let mut all = edited(&rt, rt.alloc(), &name)?;
     assert!(rt; has_text(&all, &name, &['a', 'x', 'y'], 2)?);
-    assert!(rt; all.has(&name));
-    all.unmodify(&name);
-    assert!(rt; all.has(&name));
-    assert!(rt; !all.is_modified(&name));
-    let first = take_back(&rt, &mut all, &name, Kind::Other)?;
-    assert!(rt; first == undid(name, 2, 3));
-    let second = take_back(&rt, &mut all, &name, first)?;
-    assert!(rt; second == undid(name, 1, 4));
+    unmodify(&mut all, &name);
+    assert!(rt; is_unmodified(&all, &name));
+    take_both_back(&rt, &mut all, &name)?;
     assert!(rt; has_text(&all, &name, &['a', 'b', 'c'], 4)?);
-    assert!(rt; all.has(&name));
-    assert!(rt; all.item(&name, 0).is_none());
+    assert!(rt; is_not_kept(&all, &name, 0));
     Ok(())
 }
