@@ -58,7 +58,7 @@ impl<T: Marked + Drop> Model for Buffers<T> {
     ghost invariant = { λ b. AreWithinLimit (marked_all T.text T.marks b.all.entries) };
 }
 
-// Puts a buffer last, under a name that none has.
+// Puts a buffer last, under a name that none has. By an entry: `insert` gives a buffer back at two places, which costs LLVM minutes.
 fn put_last<T: Marked + Drop>(
     all: &mut IndexMap<Name, Buffer<T>>,
     name: Name,
