@@ -9,8 +9,8 @@ use Rattle.std.proofs.Math.Nat.{le-max_left, le-max_right}
 use Rattle.mgs_model.proofs.Firsts.{find-change_first, find-change_first_other}
 use Rattle.mgs_model.specs.Apply.{change_first, remove_first}
 use Rattle.mgs_model.specs.Draw.{screen}
-use Rattle.mgs_model.specs.Events.{Event, Open, Byte, Close, Saved, can_open, event_saves, is_open, opened, run, run_saves, settled, step}
-use Rattle.mgs_model.proofs.Saves.{closes_save_none, saves_behind, saves_next}
+use Rattle.mgs_model.specs.Events.{Event, Open, Byte, Close, Saved, can_open, is_open, opened, run, run_saves, settled}
+use Rattle.mgs_model.proofs.Saves.{saves_behind}
 use Rattle.mgs_store.specs.Stores.{StoreTold, told_more}
 use Rattle.mgs_store.proofs.Told.{told_none, told_twice}
 use Rattle.mgs_model.specs.Picture.{Picture}
@@ -43,19 +43,7 @@ use Rattle.mgs_engine.specs.Queues.{Queue, after_taking, find_queue, is_queue_of
 use Rattle.mgs_engine.specs.Serving.{Serving, all_ended_by, ended_by, pending_of}
 use Rattle.mgs_engine.specs.Slow.{slow_ids}
 use Rattle.mgs_engine.specs.Tapes.{Told, bytes_on}
-
-pub run-append : (w : World) (es fs : List Event) → run w (es ++ fs) ≡ run (run w es) fs
-run-append w [] fs = refl
-run-append w (e ∷ es) fs = run-append (step w e) es fs
-
--- ends leave the store
-pub store_left : (cause : Cause) (ids : List ℕ) (s : Serving) → (all_ended_by cause ids s).store ≡ s.store
-store_left cause [] s = refl
-store_left cause (id ∷ ids) s = store_left cause ids (ended_by cause id s)
-
--- and save nothing behind an event
-pub saves_first : (w : World) (e : Event) (ids : List ℕ) → run_saves w (e ∷ map (λ i. Close i) ids) ≡ event_saves w e
-saves_first w e ids = saves_next w e (map (λ i. Close i) ids) ∙ ap (λ (xs : List Saved). event_saves w e ++ xs) (closes_save_none (step w e) ids) ∙ append-nil (event_saves w e)
+use Rattle.mgs_engine.proofs.RunLemmas.{run-append, saves_first, store_left}
 
 -- THE EVENTS OF A CALL, AND OF ALL
 

@@ -1,22 +1,22 @@
 -- What the calls of a turn do to the world.
-use Rattle.std.proofs.Common.{◌≡◌, ℕ, ◌-◌, ◌<◌, List, [], ◌∷◌, ◌++◌, drop, length, map, Option, Some, None, Result, Ok, Err, refl, sym, ap, subst, ◌∙◌, append-nil, arith}
+use Rattle.std.proofs.Common.{◌≡◌, ℕ, ◌-◌, ◌<◌, List, [], ◌∷◌, ◌++◌, drop, length, map, Option, Some, None, Result, Ok, Err, refl, sym, ap, subst, ◌∙◌, arith}
 use Rattle.std.specs.Prelude.{slice_get}
 use Rattle.slab.specs.Slab.{Slab}
-use Rattle.mgs_model.specs.Events.{Event, Saved, event_saves, run, run_saves, step}
+use Rattle.mgs_model.specs.Events.{Event, Saved, run, run_saves}
 use Rattle.mgs_model.specs.Events as model
 use Rattle.mgs_model.specs.World.{World}
 use Rattle.mgs_model.specs.declared.errors.OpenFault.{OpenFault}
-use Rattle.mgs_model.proofs.Saves.{closes_save_none, saves_behind, saves_next}
+use Rattle.mgs_model.proofs.Saves.{saves_behind}
 use Rattle.mgs_store.specs.Stores.{StoreTold, told_more}
 use Rattle.mgs_store.proofs.Told.{told_none, told_twice}
 use Rattle.mgs_wire.specs.Calls.{Call, Open, Byte, Close, Took}
-use Rattle.mgs_engine.specs.declared.ending.Cause.{Cause}
 use Rattle.mgs_engine.specs.declared.ending.Cause.TheVariants.{Slow}
 use Rattle.mgs_engine.specs.Does.{Does}
 use Rattle.mgs_engine.specs.Driven.{AreOf, AreAllOf}
 use Rattle.mgs_engine.specs.Handled.{Handles}
-use Rattle.mgs_engine.specs.Serving.{Serving, all_ended_by, ended_by, pending_of}
+use Rattle.mgs_engine.specs.Serving.{Serving, pending_of}
 use Rattle.mgs_engine.specs.Slow.{slow_ids}
+use Rattle.mgs_engine.proofs.RunLemmas.{run-append, saves_first, store_left}
 use Rattle.mgs_server.specs.declared.peer.Peer.{Peer}
 use Rattle.mgs_server.specs.Calls.{AreMade, Calls}
 use Rattle.mgs_server.specs.Listening.{Listening}
@@ -25,19 +25,6 @@ use Rattle.mgs_server.specs.Turns.{Ran, Turns, answer_of, asked_by, live_in}
 use Rattle.mgs_server.proofs.Moving.{moved_calls}
 
 -- RUNS
-
-run-append : (w : World) (es fs : List Event) → run w (es ++ fs) ≡ run (run w es) fs
-run-append w [] fs = refl
-run-append w (e ∷ es) fs = run-append (step w e) es fs
-
--- ends leave the store
-store_left : (cause : Cause) (ids : List ℕ) (s : Serving) → (all_ended_by cause ids s).store ≡ s.store
-store_left cause [] s = refl
-store_left cause (id ∷ ids) s = store_left cause ids (ended_by cause id s)
-
--- and save nothing behind an event
-saves_first : (w : World) (e : Event) (ids : List ℕ) → run_saves w (e ∷ map (λ i. model.Close i) ids) ≡ event_saves w e
-saves_first w e ids = saves_next w e (map (λ i. model.Close i) ids) ∙ ap (λ (xs : List Saved). event_saves w e ++ xs) (closes_save_none (step w e) ids) ∙ append-nil (event_saves w e)
 
 -- the events of one call
 record Came (old : Serving) (c : Call) (new : Serving) : Type 0 where
