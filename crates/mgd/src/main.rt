@@ -2,9 +2,7 @@
 #![tactic(auto)]
 
 mod arguments;
-mod disk;
 mod serve;
-mod store;
 mod tell;
 
 use arguments::{Task, read_task};

@@ -2,10 +2,9 @@
 ghost use Rattle.std.specs.Prelude.{IfOk};
 ghost use Rattle.mgs_buffers.specs.MarkedBuffer.{AreUnmarked};
 
-use crate::disk::{Disk, read_bytes};
-use crate::store::FileStore;
 use crate::tell::tell;
 use mgs_config::{Config, ConfigFault, ConfigTable, FilesFault, TableFault, read_config};
+use mgs_disk::{Disk, FileStore, read_bytes};
 use mgs_server::Server;
 use mgs_store::Store;
 use std::net::Net;

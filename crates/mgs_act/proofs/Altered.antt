@@ -22,7 +22,7 @@ use Rattle.mgs_model.specs.declared.search.SearchPlaces.{SearchPlaces}
 use Rattle.mgs_model.specs.declared.session.Command.TheVariants.{Alter}
 use Rattle.mgs_model.specs.declared.touched.Touched.{Touched}
 use Rattle.mgs_model.specs.declared.touched.Touched.TheVariants.{Nowhere}
-use Rattle.mgs_model.proofs.Apart.{apart_apply}
+use Rattle.mgs_laws.proofs.Apart.{apart_apply}
 use Rattle.mgs_buffers.specs.MarkedBuffer.{HasBuffer, IsMark, MarkedBuffer, mark_at, marked_at}
 use Rattle.mgs_windows.specs.declared.WindowMarks.{WindowMarks}
 use Rattle.mgs_session.specs.Seeking.{searching, unsearched}

@@ -25,7 +25,7 @@ use Rattle.mgs_model.specs.declared.session.Kind.TheVariants.{Other}
 use Rattle.mgs_model.specs.declared.session.Mode.TheVariants.{Plain, Searching}
 use Rattle.mgs_model.specs.declared.session.Motion.TheVariants.{StartSearch}
 use Rattle.mgs_model.specs.declared.touched.Touched.TheVariants.{Nowhere}
-use Rattle.mgs_model.proofs.Apart.{apart_apply}
+use Rattle.mgs_laws.proofs.Apart.{apart_apply}
 use Rattle.mgs_model.proofs.Firsts.{find-change_first, position_or_len-map, written_first}
 use Rattle.mgs_mini.specs.Typing.{PromptInput}
 use Rattle.mgs_buffers.specs.MarkedBuffer.{HasBuffer, MarkedBuffer, mark_at, marked_at}

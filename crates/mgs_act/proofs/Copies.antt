@@ -16,7 +16,7 @@ use Rattle.mgs_model.specs.declared.right.Right.{Right}
 use Rattle.mgs_model.specs.declared.right.Right.TheVariants.{AppendData, ReadData}
 use Rattle.mgs_model.specs.declared.session.ByName.TheVariants.{InsertBuffer}
 use Rattle.mgs_model.specs.declared.session.Command.TheVariants.{Named}
-use Rattle.mgs_model.proofs.Outcomes.{granted_each}
+use Rattle.mgs_laws.proofs.Outcomes.{granted_each}
 use Rattle.mgs_buffers.specs.MarkedBuffer.{HasBuffer, MarkedBuffer, has_buffer, mark_at, marked_at}
 use Rattle.mgs_windows.specs.declared.WindowMarks.{WindowMarks}
 use Rattle.mgs_session.specs.Sessions.{window_marks_of}

@@ -24,9 +24,9 @@ use Rattle.mgs_model.specs.declared.right.Right.TheVariants.{ReadData, WriteAcl}
 use Rattle.mgs_model.specs.declared.session.EntryChange.{EntryChange}
 use Rattle.mgs_model.specs.declared.session.Kind.TheVariants.{Other}
 use Rattle.mgs_model.specs.declared.touched.Touched.{Touched}
-use Rattle.mgs_model.proofs.Apart.{apart_apply}
+use Rattle.mgs_laws.proofs.Apart.{apart_apply}
 use Rattle.mgs_model.proofs.Firsts.{position_or_len-map, written_first}
-use Rattle.mgs_model.proofs.Outcomes.{granted_each}
+use Rattle.mgs_laws.proofs.Outcomes.{granted_each}
 use Rattle.mgs_buffers.specs.MarkedBuffer.{HasBuffer, MarkedBuffer, has_buffer, marked_at, marked_named, marked_relisted, marked_reowned}
 use Rattle.mgs_session.specs.Sessions.{acted, subject_of}
 use Rattle.mgs_session.specs.declared.Own as held

@@ -24,7 +24,7 @@ use Rattle.mgs_model.specs.declared.message.Message.{Message}
 use Rattle.mgs_model.specs.declared.message.Message.TheVariants.{InMacro, NoBuffer, NoFile, SaveFailed, Wrote}
 use Rattle.mgs_model.specs.declared.session.Command.TheVariants.{SaveBuffer}
 use Rattle.mgs_model.specs.declared.session.Kind.TheVariants.{Other}
-use Rattle.mgs_model.proofs.Apart.{apart_apply}
+use Rattle.mgs_laws.proofs.Apart.{apart_apply}
 use Rattle.mgs_model.proofs.Firsts.{position_or_len-map, written_first}
 use Rattle.mgs_store.specs.Stores.{IsCounted, StoreTold, told_more}
 use Rattle.mgs_store.proofs.Told.{told_none}

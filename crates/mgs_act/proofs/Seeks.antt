@@ -26,7 +26,7 @@ use Rattle.mgs_model.specs.declared.session.Command.TheVariants.{LeaveSearch, Mo
 use Rattle.mgs_model.specs.declared.session.Kind.TheVariants.{Other}
 use Rattle.mgs_model.specs.declared.session.Motion.TheVariants.{SearchOn}
 use Rattle.mgs_model.specs.declared.touched.Touched.TheVariants.{Nowhere}
-use Rattle.mgs_model.proofs.Apart.{apart_apply}
+use Rattle.mgs_laws.proofs.Apart.{apart_apply}
 use Rattle.mgs_model.proofs.Firsts.{change_first_found, find-map, position_or_len-map, written_first}
 use Rattle.mgs_buffers.specs.MarkedBuffer.{HasBuffer, IsMark, MarkedBuffer, mark_at, marked_at, marked_named, marked_placed}
 use Rattle.mgs_windows.specs.declared.WindowMarks.{WindowMarks}

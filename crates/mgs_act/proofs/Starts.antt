@@ -23,7 +23,7 @@ use Rattle.mgs_model.specs.declared.message.Message.TheVariants.{NoBuffer}
 use Rattle.mgs_model.specs.declared.session.Command.TheVariants.{Move}
 use Rattle.mgs_model.specs.declared.session.Motion.TheVariants.{StartReplace}
 use Rattle.mgs_model.specs.declared.touched.Touched.TheVariants.{Nowhere}
-use Rattle.mgs_model.proofs.Apart.{apart_apply}
+use Rattle.mgs_laws.proofs.Apart.{apart_apply}
 use Rattle.mgs_model.proofs.Firsts.{find-change_first}
 use Rattle.mgs_buffers.specs.MarkedBuffer.{HasBuffer, IsMark, MarkedBuffer, mark_at, marked_at}
 use Rattle.mgs_windows.specs.declared.WindowMarks.{WindowMarks}

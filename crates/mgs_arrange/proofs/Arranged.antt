@@ -19,7 +19,7 @@ use Rattle.mgs_model.specs.declared.session.Command.TheVariants.{Rearrange}
 use Rattle.mgs_model.specs.declared.session.Kind.{Kind}
 use Rattle.mgs_model.specs.declared.session.Kind.TheVariants.{Other}
 use Rattle.mgs_model.specs.declared.touched.Touched.TheVariants.{Nowhere}
-use Rattle.mgs_model.proofs.Apart.{apart_apply}
+use Rattle.mgs_laws.proofs.Apart.{apart_apply}
 use Rattle.mgs_model.proofs.Basics.{or_true}
 use Rattle.mgs_model.proofs.Firsts.{change_first_found}
 use Rattle.mgs_windows.specs.Panes.{closer}

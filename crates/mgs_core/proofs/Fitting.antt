@@ -16,9 +16,9 @@ use Rattle.mgs_model.specs.declared.session.Command.TheVariants.{Alter}
 use Rattle.mgs_model.specs.declared.session.Mode.TheVariants.{Replacing}
 use Rattle.mgs_model.specs.Apply.{act, after_quit, applied, apply, change_first, session_after, session_arranged}
 use Rattle.mgs_model.specs.Events.{with_own}
-use Rattle.mgs_model.proofs.After.{find_after, find_without}
-use Rattle.mgs_model.proofs.LeftToDo.{seen_begun}
-use Rattle.mgs_model.proofs.Turning.{begun_view}
+use Rattle.mgs_laws.proofs.After.{find_after, find_without}
+use Rattle.mgs_laws.proofs.LeftToDo.{seen_begun}
+use Rattle.mgs_laws.proofs.Turning.{begun_view}
 use Rattle.mgs_act.specs.Replacing.{replacement}
 use Rattle.mgs_core.specs.declared.deeds.Before.{Before}
 use Rattle.mgs_core.specs.declared.deeds.Deed.{Deed}

@@ -8,7 +8,7 @@ use Rattle.mgs_model.specs.World.{World, Session, Window, find_buffer, has_id}
 use Rattle.mgs_model.specs.Apart.{Apart, bare, may_show, spared}
 use Rattle.mgs_model.specs.declared.touched.Touched.{Touched}
 use Rattle.mgs_model.specs.declared.touched.Touched.TheVariants.{Nowhere, In, Anywhere}
-use Rattle.mgs_model.proofs.Apart.{apart_then}
+use Rattle.mgs_laws.proofs.Apart.{apart_then}
 use Rattle.mgs_model.proofs.Blind.{same_names}
 use Rattle.mgs_core.specs.Turned.{touched_both}
 

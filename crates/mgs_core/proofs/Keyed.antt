@@ -18,7 +18,7 @@ use Rattle.mgs_model.specs.declared.session.Alteration.{Alteration}
 use Rattle.mgs_model.specs.declared.session.Alteration.TheVariants.{ReplaceMatch, ReplaceLast}
 use Rattle.mgs_model.specs.declared.session.Setting.{Setting}
 use Rattle.mgs_model.specs.declared.session.Setting.TheVariants.{CallMacro}
-use Rattle.mgs_model.proofs.LeftToDo.{is_single}
+use Rattle.mgs_laws.proofs.LeftToDo.{is_single}
 use Rattle.mgs_maps.specs.Held.{Held, FedBy, is_bound, is_bound_alteration, is_bound_change, is_bound_motion}
 use Rattle.mgs_maps.specs.declared.maps.Fed.TheVariants as fed
 use Rattle.mgs_mini.specs.Typing.{PromptInput}

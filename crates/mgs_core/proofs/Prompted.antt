@@ -17,8 +17,8 @@ use Rattle.mgs_model.specs.declared.session.Command.{Command}
 use Rattle.mgs_model.specs.declared.session.Mode.TheVariants.{Prompt}
 use Rattle.mgs_model.specs.declared.session.Question.{Question}
 use Rattle.mgs_model.specs.declared.session.Question.TheVariants.{SwitchTo, FindWhich, KillWhich, InsertWhich, RunWhich, GoToWhich, EntryToInsert, EntryToReplace, WhichOwner, SearchWhat, ReplaceWhat, ReplaceWith}
-use Rattle.mgs_model.proofs.LeftToDo.{is_single}
-use Rattle.mgs_model.proofs.Saves.{is_save, act_saves_none}
+use Rattle.mgs_laws.proofs.LeftToDo.{is_single}
+use Rattle.mgs_laws.proofs.Saves.{is_save, act_saves_none}
 use Rattle.mgs_mini.specs.Typing.{PromptInput, keys_of, stepped, typed_own}
 use Rattle.mgs_mini.specs.Typing as prompts
 use Rattle.mgs_mini.specs.declared.Step.{Step}

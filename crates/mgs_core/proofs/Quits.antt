@@ -11,12 +11,12 @@ use Rattle.mgs_model.specs.declared.touched.Touched.TheVariants.{Anywhere}
 use Rattle.mgs_model.specs.declared.errors.Keyed.{Keyed}
 use Rattle.mgs_model.specs.declared.errors.Keyed.TheVariants as keyed
 use Rattle.mgs_model.specs.declared.session.Command.TheVariants.{Exit}
-use Rattle.mgs_model.proofs.After.{find_without}
-use Rattle.mgs_model.proofs.Ends.{act_ends}
-use Rattle.mgs_model.proofs.Led.{Leads, leads_acted}
-use Rattle.mgs_model.proofs.LeftToDo.{found_own, rests_found}
-use Rattle.mgs_model.proofs.Saves.{act_saves_none}
-use Rattle.mgs_model.proofs.Turned.{saves_done, step_done}
+use Rattle.mgs_laws.proofs.After.{find_without}
+use Rattle.mgs_laws.proofs.Ends.{act_ends}
+use Rattle.mgs_laws.proofs.Led.{Leads, leads_acted}
+use Rattle.mgs_laws.proofs.LeftToDo.{found_own, rests_found}
+use Rattle.mgs_laws.proofs.Saves.{act_saves_none}
+use Rattle.mgs_laws.proofs.Turned.{saves_done, step_done}
 use Rattle.mgs_store.specs.Stores.{StoreTold, told_more}
 use Rattle.mgs_store.proofs.Told.{told_none}
 use Rattle.mgs_world.specs.declared.size.Size.{Size}

@@ -22,8 +22,8 @@ use Rattle.mgs_model.specs.declared.session.Setting.TheVariants.{CallMacro}
 use Rattle.mgs_model.specs.declared.session.Kind.{Kind}
 use Rattle.mgs_model.specs.declared.session.Kind.TheVariants.{Other}
 use Rattle.mgs_model.specs.declared.limits.TheConstants.{REPETITION_LIMIT}
-use Rattle.mgs_model.proofs.Ends.{call_fails, exit_fails}
-use Rattle.mgs_model.proofs.Saves.{act_saves_none}
+use Rattle.mgs_laws.proofs.Ends.{call_fails, exit_fails}
+use Rattle.mgs_laws.proofs.Saves.{act_saves_none}
 use Rattle.mgs_buffers.specs.MarkedBuffer.{MarkedBuffer}
 use Rattle.mgs_act.specs.Actions.{act_of}
 use Rattle.mgs_act.specs.declared.acts.KeyAct.{KeyAct}

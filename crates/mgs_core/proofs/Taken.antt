@@ -30,15 +30,15 @@ use Rattle.mgs_act.specs.Replacing.{remaining_at, remaining_in, replacement, rep
 use Rattle.mgs_model.specs.declared.session.Kind.{Kind}
 use Rattle.mgs_model.specs.declared.touched.Touched.{Touched}
 use Rattle.mgs_model.specs.declared.touched.Touched.TheVariants.{Nowhere}
-use Rattle.mgs_model.proofs.Apart.{apart_own}
+use Rattle.mgs_laws.proofs.Apart.{apart_own}
 use Rattle.mgs_model.proofs.Blind.{change_inside}
 use Rattle.mgs_model.proofs.Completing.{shown_names_of}
-use Rattle.mgs_model.proofs.Ends.{act_fails}
+use Rattle.mgs_laws.proofs.Ends.{act_fails}
 use Rattle.mgs_model.proofs.Firsts.{change_first_found}
-use Rattle.mgs_model.proofs.Follow.{followed_same}
-use Rattle.mgs_model.proofs.LeftToDo.{is_single, single_brief, todo_acted}
-use Rattle.mgs_model.proofs.Saves.{act_saves_none, is_save}
-use Rattle.mgs_model.proofs.Turned.{turn_todo}
+use Rattle.mgs_laws.proofs.Follow.{followed_same}
+use Rattle.mgs_laws.proofs.LeftToDo.{is_single, single_brief, todo_acted}
+use Rattle.mgs_laws.proofs.Saves.{act_saves_none, is_save}
+use Rattle.mgs_laws.proofs.Turned.{turn_todo}
 use Rattle.mgs_act.specs.Beginning.{search_held, search_or_none}
 use Rattle.mgs_act.specs.Searching.{meant}
 use Rattle.mgs_buffers.specs.MarkedBuffer.{AreWithinLimit, MarkedBuffer}

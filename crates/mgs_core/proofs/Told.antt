@@ -11,7 +11,7 @@ use Rattle.mgs_model.specs.declared.search.Direction.{Direction}
 use Rattle.mgs_model.specs.declared.session.Command.TheVariants.{Move, SaveBuffer}
 use Rattle.mgs_model.specs.declared.session.Motion.{Motion}
 use Rattle.mgs_model.specs.declared.session.Motion.TheVariants.{StartSearch}
-use Rattle.mgs_model.proofs.Saves.{is_save, act_saves_none}
+use Rattle.mgs_laws.proofs.Saves.{is_save, act_saves_none}
 use Rattle.mgs_store.specs.Stores.{StoreTold}
 use Rattle.mgs_store.proofs.Told.{told_none}
 use Rattle.mgs_act.specs.declared.acts.KeyAct.{KeyAct}

@@ -8,7 +8,7 @@ use Rattle.mgs_model.specs.Outcome.{Act, Outcome, Run, Unbound}
 use Rattle.mgs_model.specs.Apply.{act, applied}
 use Rattle.mgs_model.specs.declared.session.Command.{Command}
 use Rattle.mgs_model.specs.declared.session.Command.TheVariants.{SaveBuffer}
-use Rattle.mgs_model.proofs.Saves.{act_saves_none, is_save}
+use Rattle.mgs_laws.proofs.Saves.{act_saves_none, is_save}
 use Rattle.mgs_model.specs.Acts.{allowed, judged, needs, outcome, permitted, without_all}
 use Rattle.mgs_model.specs.Turns.{Keep, Do, todo_turn}
 use Rattle.mgs_model.specs.View.{View, view, view_of}
@@ -16,9 +16,9 @@ use Rattle.mgs_model.specs.Events.{Saved, act_effects, begun_own, may_be_refused
 use Rattle.mgs_model.specs.declared.errors.Keyed.{Keyed}
 use Rattle.mgs_model.specs.declared.errors.Keyed.TheVariants.{Done, Short}
 use Rattle.mgs_model.specs.declared.errors.Keyed.TheVariants as keyed
-use Rattle.mgs_model.proofs.Led.{Leads, leads_acted, leads_kept, leads_nowhere, leads_on, memory_behind}
-use Rattle.mgs_model.proofs.Plays.{act_saves_nothing}
-use Rattle.mgs_model.proofs.Turned.{act_short, leads_played, saves_done, saves_short, step_done, step_short, turn_todo}
+use Rattle.mgs_laws.proofs.Led.{Leads, leads_acted, leads_kept, leads_nowhere, leads_on, memory_behind}
+use Rattle.mgs_laws.proofs.Plays.{act_saves_nothing}
+use Rattle.mgs_laws.proofs.Turned.{act_short, leads_played, saves_done, saves_short, step_done, step_short, turn_todo}
 use Rattle.mgs_store.specs.Stores.{StoreTold, IsCounted, told_more}
 use Rattle.mgs_store.proofs.Told.{told_none, told_twice}
 use Rattle.mgs_core.specs.Steps.{ActedBy, KeyedBy}

@@ -10,7 +10,7 @@ use Rattle.mgs_model.proofs.Firsts.{find-change_first, find-change_first_other}
 use Rattle.mgs_model.specs.Apply.{change_first, remove_first}
 use Rattle.mgs_model.specs.Draw.{screen}
 use Rattle.mgs_model.specs.Events.{Event, Open, Byte, Close, Saved, can_open, is_open, opened, run, run_saves, settled}
-use Rattle.mgs_model.proofs.Saves.{saves_behind}
+use Rattle.mgs_laws.proofs.Saves.{saves_behind}
 use Rattle.mgs_store.specs.Stores.{StoreTold, told_more}
 use Rattle.mgs_store.proofs.Told.{told_none, told_twice}
 use Rattle.mgs_model.specs.Picture.{Picture}

@@ -1,6 +1,6 @@
 -- What events come to, one after another: of any list of calls (Driven), and of a server's turn.
 use Rattle.std.proofs.Common.{◌≡◌, ℕ, List, [], ◌∷◌, ◌++◌, map, refl, ap, ◌∙◌, append-nil}
-use Rattle.mgs_model.proofs.Saves.{closes_save_none, saves_next}
+use Rattle.mgs_laws.proofs.Saves.{closes_save_none, saves_next}
 use Rattle.mgs_model.specs.Events.{Event, Close, Saved, event_saves, run, run_saves, step}
 use Rattle.mgs_model.specs.World.{World}
 use Rattle.mgs_engine.specs.declared.ending.Cause.{Cause}

@@ -5,7 +5,7 @@ use Rattle.std.specs.Option.{option_map, option_or}
 use Rattle.std.proofs.lemmas.List.Folds.{find-append}
 use Rattle.mgs_model.proofs.Firsts.{find-map}
 use Rattle.mgs_model.proofs.Blind.{change_inside, map_inside, is_some_map}
-use Rattle.mgs_model.proofs.After.{find_without, id_after}
+use Rattle.mgs_laws.proofs.After.{find_without, id_after}
 use Rattle.mgs_model.specs.World.{World, Session, Own, has_id, find_session}
 use Rattle.mgs_model.specs.View.{view}
 use Rattle.mgs_model.specs.Outcome.{Act, Outcome, Effect, No_effect, Edit, Unmodified, Relist, Reown, Create, Kill, Save, Quit}
@@ -14,7 +14,7 @@ use Rattle.mgs_model.specs.Apply.{act, applied, change_first, outcome_in, sessio
 use Rattle.mgs_model.specs.Turns.{Turn, Rest, Keep, Do}
 use Rattle.mgs_model.specs.Events.{Doing, act_done, is_used_up, own_set, rests, turn_in, refused_own, with_own, turn_done, turn, turns, most_turns, begun, byte_done, settled, session_settled, new_session, opened, is_open, can_open, step, refused_of, refused_in, refused_act, may_be_refused}
 use Rattle.mgs_model.specs.Events as events
-use Rattle.mgs_model.proofs.Holder.{find_others}
+use Rattle.mgs_laws.proofs.Holder.{find_others}
 
 -- the other sessions stay, and so does the next id
 pub record Beside (id : ℕ) (w v : World) : Type 0 where

@@ -9,7 +9,7 @@ use Rattle.std.proofs.lemmas.Option.{same_Some}
 use Rattle.mgs_model.specs.Apart.{IsEditedOnce}
 use Rattle.mgs_model.specs.Lines.{is_feed, line_of, start_of}
 use Rattle.mgs_model.specs.World.{Buffer, Item}
-use Rattle.mgs_model.proofs.Follow.{edit_parts}
+use Rattle.mgs_laws.proofs.Follow.{edit_parts}
 use Rattle.mgs_undo.specs.declared.Edit.{Edit}
 use Rattle.mgs_undo.specs.History.{has_serial}
 use Rattle.mgs_undo.specs.Numbered.{item_of}

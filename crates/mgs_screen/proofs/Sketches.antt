@@ -8,7 +8,7 @@ use Rattle.mgs_model.specs.Apart.{AreFollowed}
 use Rattle.mgs_model.specs.Picture.{Picture}
 use Rattle.mgs_model.specs.Rows.{Row, rows_put, text_rows, shift_at}
 use Rattle.mgs_model.specs.World.{Buffer, find_buffer}
-use Rattle.mgs_model.proofs.Follow.{follows_then, follows_same}
+use Rattle.mgs_laws.proofs.Follow.{follows_then, follows_same}
 use Rattle.mgs_grid.proofs.Panes.{above_put, below_put}
 use Rattle.mgs_grid.proofs.Pictures.{length-rows_put, length-text_rows}
 use Rattle.mgs_screen.specs.declared.sketch.DrawnText.{DrawnText}

@@ -6,7 +6,7 @@ use Rattle.mgs_model.specs.Events.{Event, Saved, run, run_saves}
 use Rattle.mgs_model.specs.Events as model
 use Rattle.mgs_model.specs.World.{World}
 use Rattle.mgs_model.specs.declared.errors.OpenFault.{OpenFault}
-use Rattle.mgs_model.proofs.Saves.{saves_behind}
+use Rattle.mgs_laws.proofs.Saves.{saves_behind}
 use Rattle.mgs_store.specs.Stores.{StoreTold, told_more}
 use Rattle.mgs_store.proofs.Told.{told_none, told_twice}
 use Rattle.mgs_wire.specs.Calls.{Call, Open, Byte, Close, Took}

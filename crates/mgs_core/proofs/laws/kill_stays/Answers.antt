@@ -1,4 +1,4 @@
-use Rattle.mgs_model.proofs.Holder as holder
+use Rattle.mgs_laws.proofs.Holder as holder
 use Rattle.mgs_core.proofs.laws.kill_stays.Goals as goal
 
 pub returns-clause-others : goal.returns-clause-others

@@ -1,4 +1,4 @@
-use Rattle.mgs_model.proofs.Stepping.{hidden_act}
+use Rattle.mgs_laws.proofs.Stepping.{hidden_act}
 use Rattle.mgs_core.proofs.secrecy.hidden_act.Goals as goal
 
 pub returns : goal.returns

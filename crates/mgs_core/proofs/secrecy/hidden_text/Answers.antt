@@ -1,4 +1,4 @@
-use Rattle.mgs_model.proofs.Stepping.{hidden_text}
+use Rattle.mgs_laws.proofs.Stepping.{hidden_text}
 use Rattle.mgs_core.proofs.secrecy.hidden_text.Goals as goal
 
 pub returns : goal.returns

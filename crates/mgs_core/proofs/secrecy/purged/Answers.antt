@@ -1,4 +1,4 @@
-use Rattle.mgs_model.proofs.Purge.{purged}
+use Rattle.mgs_laws.proofs.Purge.{purged}
 use Rattle.mgs_core.proofs.secrecy.purged.Goals as goal
 
 pub returns : goal.returns

@@ -3,7 +3,7 @@ use Rattle.mgs_cache.specs.Kept.{Kept}
 use Rattle.mgs_buffers.specs.Judging.{AreJudged, rules_kept}
 use Rattle.mgs_model.specs.Apart.{Apart}
 use Rattle.mgs_model.specs.declared.touched.Touched.TheVariants.{Nowhere}
-use Rattle.mgs_model.proofs.Apart.{apart_same}
+use Rattle.mgs_laws.proofs.Apart.{apart_same}
 use Rattle.mgs_world.specs.Worlds.{buffers_of, world_of}
 use Rattle.mgs_world.proofs.Soundness.{sound_set, sizes_set}
 use Rattle.mgs_core.specs.Stepped.{before_of}

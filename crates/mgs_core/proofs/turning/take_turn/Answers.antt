@@ -2,7 +2,7 @@ use Rattle.std.proofs.Common.{◌∙◌, None, get_or, ap}
 use Rattle.std.specs.Prelude.{slice_set}
 use Rattle.std.proofs.lemmas.List.{get_or_default}
 use Rattle.mgs_model.specs.declared.touched.Touched.TheVariants.{Anywhere, Nowhere}
-use Rattle.mgs_model.proofs.Apart.{apart_then}
+use Rattle.mgs_laws.proofs.Apart.{apart_then}
 use Rattle.mgs_session.specs.declared.Session.{Session}
 use Rattle.mgs_world.specs.Sound.{session_uses}
 use Rattle.mgs_world.specs.Worlds.{size_in, world_of}

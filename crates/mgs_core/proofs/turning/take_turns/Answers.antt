@@ -2,7 +2,7 @@ use Rattle.std.proofs.Common.{◌∙◌, ℕ, ◌≤◌, ◌<◌, length, refl, 
 use Rattle.mgs_model.specs.declared.touched.Touched.{Touched}
 use Rattle.mgs_model.specs.declared.touched.Touched.TheVariants.{Nowhere}
 use Rattle.mgs_model.specs.Apart.{Apart}
-use Rattle.mgs_model.proofs.Apart.{apart_same}
+use Rattle.mgs_laws.proofs.Apart.{apart_same}
 use Rattle.mgs_world.specs.Worlds.{own_at, world_of}
 use Rattle.mgs_core.proofs.Joined.{apart_both}
 use Rattle.mgs_core.proofs.Sizes.{place_same}

@@ -4,7 +4,7 @@ use Rattle.mgs_buffers.specs.Judging.{AreJudged}
 use Rattle.mgs_model.specs.Apart.{Apart, Rules, rules_in}
 use Rattle.mgs_model.specs.Events.{begun_own}
 use Rattle.mgs_model.specs.World.{World}
-use Rattle.mgs_model.proofs.Apart.{apart_own, apart_then}
+use Rattle.mgs_laws.proofs.Apart.{apart_own, apart_then}
 use Rattle.mgs_world.specs.Sound.{session_uses}
 use Rattle.mgs_world.specs.Worlds.{IsUnique, session_of, size_in, world_of}
 use Rattle.mgs_world.proofs.Sessions.{session_some}

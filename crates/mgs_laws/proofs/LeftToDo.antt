@@ -22,8 +22,8 @@ use Rattle.mgs_model.specs.declared.session.Command.TheVariants.{Insert, InsertR
 use Rattle.mgs_model.specs.declared.entry.Decision.{Decision}
 use Rattle.mgs_model.specs.declared.entry.Decision.TheVariants.{Granted, DeniedBy, NotGranted}
 use Rattle.mgs_model.proofs.Firsts.{find-change_first}
-use Rattle.mgs_model.proofs.After.{find_after, find_without}
-use Rattle.mgs_model.proofs.Turning.{begun_view, view_with_own}
+use Rattle.mgs_laws.proofs.After.{find_after, find_without}
+use Rattle.mgs_laws.proofs.Turning.{begun_view, view_with_own}
 
 -- THE OWN RECORD
 

@@ -23,7 +23,7 @@ use Rattle.mgs_model.specs.Turns.{Turn, Rest, Keep, Do}
 use Rattle.mgs_model.specs.Events.{Event, Open, Byte, Close, own_set, with_own, begun_own, refused_own, Doing, rests, turn_in, turn, turn_done, turns, most_turns, begun, session_settled, settled, new_session, opened, can_open, is_open, step, effect_in}
 use Rattle.mgs_model.specs.Holder.{kill_of, kill_in, session_in, KillStays, is_rule, RulesKeepKills}
 use Rattle.mgs_model.proofs.Firsts.{find-change_first_other, find-map}
-use Rattle.mgs_model.proofs.After.{find_moved}
+use Rattle.mgs_laws.proofs.After.{find_moved}
 
 apart : (id other : ℕ) → (id == other) ≡ false → (x : Session) → has_id id x ≡ true → has_id other x ≡ false
 apart id other e x h = ap (λ n. n == other) (eqb-true x.id id h) ∙ e

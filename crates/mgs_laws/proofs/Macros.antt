@@ -21,7 +21,7 @@ use Rattle.mgs_model.specs.declared.entry.Entry.{Entry}
 use Rattle.mgs_model.specs.declared.entry.EntryType.TheVariants.{Allow}
 use Rattle.mgs_model.specs.declared.entry.Who.TheVariants.{User}
 use Rattle.mgs_model.specs.declared.entry.Decision.TheVariants.{NotGranted}
-use Rattle.mgs_model.proofs.Runs.{buffer_of, Doing, B, C, R, X, M, notes, doing, all_done, texts, of_one, echo, kill, modes, recorded}
+use Rattle.mgs_laws.proofs.Runs.{buffer_of, Doing, B, C, R, X, M, notes, doing, all_done, texts, of_one, echo, kill, modes, recorded}
 
 abbrev typed : List ℕ → List Doing
 typed text = map B text

@@ -13,8 +13,8 @@ use Rattle.mgs_model.specs.declared.message.Message.{Message}
 use Rattle.mgs_model.specs.declared.message.Message.TheVariants.{InMacro}
 use Rattle.mgs_model.specs.declared.session.Command.TheVariants.{Set, Exit}
 use Rattle.mgs_model.specs.declared.session.Setting.TheVariants.{CallMacro}
-use Rattle.mgs_model.proofs.LeftToDo.{own_twice, seen_begun}
-use Rattle.mgs_model.proofs.Turning.{begun_view}
+use Rattle.mgs_laws.proofs.LeftToDo.{own_twice, seen_begun}
+use Rattle.mgs_laws.proofs.Turning.{begun_view}
 use Rattle.std.specs.Prelude.{Err}
 
 -- AN ACT THAT FAILS

@@ -15,9 +15,9 @@ use Rattle.mgs_model.specs.declared.session.Command.{Command}
 use Rattle.mgs_model.specs.declared.session.Command.TheVariants.{SaveBuffer}
 use Rattle.mgs_model.specs.declared.entry.Decision.{Decision}
 use Rattle.mgs_model.specs.declared.entry.Decision.TheVariants.{Granted, DeniedBy, NotGranted}
-use Rattle.mgs_model.proofs.LeftToDo.{seen_begun}
-use Rattle.mgs_model.proofs.Saves.{act_saves_none}
-use Rattle.mgs_model.proofs.Turning.{begun_view}
+use Rattle.mgs_laws.proofs.LeftToDo.{seen_begun}
+use Rattle.mgs_laws.proofs.Saves.{act_saves_none}
+use Rattle.mgs_laws.proofs.Turning.{begun_view}
 
 -- a save is refused
 saves_refused : (own : Own) (t : Target) (stored : Bool) → own.playing ≡ true → saves own (Some t) stored ≡ fails own InMacro

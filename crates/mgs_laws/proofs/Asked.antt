@@ -22,7 +22,7 @@ use Rattle.mgs_model.specs.declared.entry.Entry.{Entry}
 use Rattle.mgs_model.specs.declared.entry.EntryFault.TheVariants.{Kind, Letters}
 use Rattle.mgs_model.specs.declared.entry.EntryType.TheVariants.{Allow}
 use Rattle.mgs_model.specs.declared.entry.Who.TheVariants.{Owner, User}
-use Rattle.mgs_model.proofs.Runs.{Doing, B, C, buffer_of, notes, doing, doing_bob, texts, echo, kill, points, heights, shown}
+use Rattle.mgs_laws.proofs.Runs.{Doing, B, C, buffer_of, notes, doing, doing_bob, texts, echo, kill, points, heights, shown}
 
 abbrev typed : List ℕ → List Doing
 typed text = map B text

@@ -21,10 +21,10 @@ use Rattle.mgs_model.specs.Secrecy.{screen_of, hide, hide_if, blank_if, veil, ve
 use Rattle.mgs_model.specs.declared.right.Right.TheVariants.{ReadData, ReadAttributes}
 use Rattle.mgs_model.proofs.Blind.{Blind-change, Blind-filter, Blind-append, map_fixed, is_some_map, same_names, is_name}
 use Rattle.mgs_model.proofs.Firsts.{find-map}
-use Rattle.mgs_model.proofs.Hide.{hide_same}
-use Rattle.mgs_model.proofs.Veil.{veil_same}
-use Rattle.mgs_model.proofs.Acting.{blur_apply, view_of_blur, find_hide, find_veil}
-use Rattle.mgs_model.proofs.Turning.{Erasure, own_same, act_same, turn_same, effects_seen, effects_same, of_with_own, of_turn}
+use Rattle.mgs_laws.proofs.Hide.{hide_same}
+use Rattle.mgs_laws.proofs.Veil.{veil_same}
+use Rattle.mgs_laws.proofs.Acting.{blur_apply, view_of_blur, find_hide, find_veil}
+use Rattle.mgs_laws.proofs.Turning.{Erasure, own_same, act_same, turn_same, effects_seen, effects_same, of_with_own, of_turn}
 
 -- what is blind to the blur keeps worlds alike
 alike_by : (users shut : List ℕ → Bool) (f : World → World) (w v : World) → Alike users shut w v → blur users shut (f w) ≡ blur users shut (f (blur users shut w)) → blur users shut (f v) ≡ blur users shut (f (blur users shut v)) → Alike users shut (f w) (f v)

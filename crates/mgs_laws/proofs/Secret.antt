@@ -14,8 +14,8 @@ use Rattle.mgs_model.specs.declared.entry.Entry.{Entry}
 use Rattle.mgs_model.specs.declared.entry.EntryType.TheVariants.{Allow}
 use Rattle.mgs_model.specs.declared.entry.Who.TheVariants.{Owner, User}
 use Rattle.mgs_model.proofs.Blind.{same_names}
-use Rattle.mgs_model.proofs.Stepping.{hidden_text}
-use Rattle.mgs_model.proofs.Purge.{purged}
+use Rattle.mgs_laws.proofs.Stepping.{hidden_text}
+use Rattle.mgs_laws.proofs.Purge.{purged}
 
 abbrev directory : Directory
 directory = record { users = codes "ann" ∷ codes "bob" ∷ []; groups = [] }

@@ -11,10 +11,10 @@ use Rattle.mgs_model.specs.Events.{Doing, turn_in, refused_own, own_set, with_ow
 use Rattle.mgs_model.specs.Purging.{is_other, InsideEffect, InsideAll}
 use Rattle.mgs_model.proofs.Blind.{change_inside, change_found, map_inside, same_names}
 use Rattle.mgs_model.proofs.Firsts.{find-change_first}
-use Rattle.mgs_model.proofs.Outline.{erase_if, erase, shows_shut, forget_window_if, forget_window, forget_place_if, forget_place, forget_search_if, forget_search, forget_if, forget, outline, place_moved_if, search_moved_if}
-use Rattle.mgs_model.proofs.Stepping.{the_world, at_rest}
-use Rattle.mgs_model.proofs.After.{user_after, find_moved, find_after}
-use Rattle.mgs_model.proofs.Unseen.{Like}
+use Rattle.mgs_laws.proofs.Outline.{erase_if, erase, shows_shut, forget_window_if, forget_window, forget_place_if, forget_place, forget_search_if, forget_search, forget_if, forget, outline, place_moved_if, search_moved_if}
+use Rattle.mgs_laws.proofs.Stepping.{the_world, at_rest}
+use Rattle.mgs_laws.proofs.After.{user_after, find_moved, find_after}
+use Rattle.mgs_laws.proofs.Unseen.{Like}
 
 -- WHAT STAYS INSIDE LEAVES THE OUTLINE
 

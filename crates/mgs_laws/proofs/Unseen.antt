@@ -13,7 +13,7 @@ use Rattle.mgs_model.proofs.Basics.{or_left, or_right}
 use Rattle.mgs_model.proofs.Blind.{is_some_map, same_names}
 use Rattle.mgs_model.proofs.Firsts.{find-map}
 use Rattle.mgs_model.specs.Lawful.{granted_found}
-use Rattle.mgs_model.proofs.Outline.{erase_if, erase, shows_shut, forget_window, forget_place, forget_search, forget_if, forget, outline}
+use Rattle.mgs_laws.proofs.Outline.{erase_if, erase, shows_shut, forget_window, forget_place, forget_search, forget_if, forget, outline}
 
 -- two worlds are the same to the users
 abbrev pub Like : (List ℕ → Bool) → (List ℕ → Bool) → World → World → Type 0

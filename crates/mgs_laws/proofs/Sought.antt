@@ -22,7 +22,7 @@ use Rattle.mgs_model.specs.declared.right.Right.TheVariants.{ReadData}
 use Rattle.mgs_model.specs.declared.entry.Decision.TheVariants.{NotGranted}
 use Rattle.mgs_model.specs.declared.entry.EntryType.TheVariants.{Allow}
 use Rattle.mgs_model.specs.declared.entry.Who.TheVariants.{User}
-use Rattle.mgs_model.proofs.Runs.{Doing, B, C, R, other_types, buffer_of, full, notes, doing, doing_bob, all_done, texts, of_one, echo, points, modes, lines}
+use Rattle.mgs_laws.proofs.Runs.{Doing, B, C, R, other_types, buffer_of, full, notes, doing, doing_bob, all_done, texts, of_one, echo, points, modes, lines}
 
 abbrev typed : List ℕ → List Doing
 typed text = map B text

@@ -9,8 +9,8 @@ use Rattle.mgs_model.specs.Outcome.{Act}
 use Rattle.mgs_model.specs.Apply.{act, outcome_in}
 use Rattle.mgs_model.specs.Turns.{Do, next, todo_turn}
 use Rattle.mgs_model.specs.Events.{Byte, Doing, Saved, begun, begun_own, byte_done, event_saves, most_turns, refused_act, refused_own, rests, saved_by, settled, step, turn_in, turn_seen, turns_effects, with_own}
-use Rattle.mgs_model.proofs.Led.{Leads, leads_acted, led_refused, led_saves, led_short, led_short_saves, led_world, memory_behind}
-use Rattle.mgs_model.proofs.Plays.{act_alike, act_saves_nothing}
+use Rattle.mgs_laws.proofs.Led.{Leads, leads_acted, led_refused, led_saves, led_short, led_short_saves, led_world, memory_behind}
+use Rattle.mgs_laws.proofs.Plays.{act_alike, act_saves_nothing}
 
 -- WHAT COMES NEXT, by what the session has still to do
 pub turn_todo : (w : World) (id : ℕ) (x : Session) → find_session id w.sessions ≡ Some x → turn_in w id ≡ todo_turn (view w x) x.own x.own.todo

@@ -16,13 +16,13 @@ use Rattle.mgs_model.specs.Purging.{InsideAll, Closed, is_other, is_outside, pur
 use Rattle.mgs_model.specs.declared.right.Right.TheVariants.{ReadAttributes}
 use Rattle.mgs_model.proofs.Blind.{Blind-change, Blind-filter, Blind-append, map_fixed, is_some_map}
 use Rattle.mgs_model.proofs.Firsts.{find-map}
-use Rattle.mgs_model.proofs.Outline.{erase, forget_if, forget, outline, erase_same, forget_windows, forget_places, forget_search, forget_search_same, search_if_forget, forget_same, outline_apply}
-use Rattle.mgs_model.proofs.Turning.{Erasure, own_same, SameDoings, turn_same}
-use Rattle.mgs_model.proofs.Stepping.{the_world, at_rest, of_next, of_begun, closed, screens_seen}
-use Rattle.mgs_model.proofs.Unseen.{Like, closed_like, find_forget, view_of_like, like_by}
-use Rattle.mgs_model.proofs.Closing.{closed_with_own, closed_turn}
-use Rattle.mgs_model.proofs.Inside.{other_with_own, with_own_inside, turns_inside}
-use Rattle.mgs_model.proofs.Settling.{find_not_shut, settled_like, settled_step}
+use Rattle.mgs_laws.proofs.Outline.{erase, forget_if, forget, outline, erase_same, forget_windows, forget_places, forget_search, forget_search_same, search_if_forget, forget_same, outline_apply}
+use Rattle.mgs_laws.proofs.Turning.{Erasure, own_same, SameDoings, turn_same}
+use Rattle.mgs_laws.proofs.Stepping.{the_world, at_rest, of_next, of_begun, closed, screens_seen}
+use Rattle.mgs_laws.proofs.Unseen.{Like, closed_like, find_forget, view_of_like, like_by}
+use Rattle.mgs_laws.proofs.Closing.{closed_with_own, closed_turn}
+use Rattle.mgs_laws.proofs.Inside.{other_with_own, with_own_inside, turns_inside}
+use Rattle.mgs_laws.proofs.Settling.{find_not_shut, settled_like, settled_step}
 
 -- THE TURNS OF THE USERS
 

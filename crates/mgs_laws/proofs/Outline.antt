@@ -8,7 +8,7 @@ use Rattle.mgs_model.specs.World.{World, Buffer, Session, Window, Place, Search,
 use Rattle.mgs_model.specs.Outcome.{Outcome, PointPlan, Keep, At, At_origin, MarkPlan, Keep_mark, Mark_at, SearchPlan, Keep_search, No_search, Begin, Anchor_at, Source, Old, Come, Slot, is_old, Arrange, Stay, Adjust, Slots, Effect, No_effect, Edit, Unmodified, Relist, Reown, Create, Kill, Save, Quit}
 use Rattle.mgs_model.specs.Apply.{change_first, buffers_after, buffer_edited_if, buffer_edited, buffer_unmodified, new_buffer, is_in, is_of, window_moved_if, window_moved, place_moved, search_moved, session_moved, window_bereft_if, window_bereft, is_searched, bereft_own, session_bereft, session_after, set_place, left_places, places_left, place_in, place_point, place_mark, comer, window_at, source_window, has_positions, origin_or, point_after, mark_after, row_after, window_adjusted, window_put, windows_arranged, places_arranged, selected_arranged, search_after, search_arranged, searches, kill_after, session_arranged, after_quit, sessions_after, apply}
 use Rattle.mgs_model.specs.declared.entry.Entry.{Entry}
-use Rattle.mgs_model.proofs.After.{user_after}
+use Rattle.mgs_laws.proofs.After.{user_after}
 use Rattle.mgs_model.proofs.Blind.{Blind-map, Blind-change, Blind-change_at, Blind-append, Blind-remove, Blind-filter, map_both, map_fixed, same_names}
 
 -- THE OUTLINE

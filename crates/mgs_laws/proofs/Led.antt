@@ -8,7 +8,7 @@ use Rattle.mgs_model.specs.Outcome.{Act, Outcome, Effect}
 use Rattle.mgs_model.specs.Apply.{act, outcome_in}
 use Rattle.mgs_model.specs.Turns.{Turn, Keep, Do}
 use Rattle.mgs_model.specs.Events.{Doing, with_own, turn_in, rests, turn, turn_done, turns, most_turns, refused_own, act_effects, turn_effects, turns_effects, is_used_up, refused_of, refused_in, Saved, saved_by}
-use Rattle.mgs_model.proofs.LeftToDo.{over, one_turn, one_effects, no_effects, rests_with_own}
+use Rattle.mgs_laws.proofs.LeftToDo.{over, one_turn, one_effects, no_effects, rests_with_own}
 
 -- ONE TURN MORE
 

@@ -17,9 +17,9 @@ use Rattle.mgs_model.specs.declared.right.Right.TheVariants.{Delete, WriteAcl, W
 use Rattle.mgs_model.proofs.Blind.{is_some_map, same_names}
 use Rattle.mgs_model.proofs.Firsts.{find-map}
 use Rattle.mgs_model.specs.Lawful.{granted_found, granted_on, lawful}
-use Rattle.mgs_model.proofs.Outcomes.{outcome_lawful}
-use Rattle.mgs_model.proofs.Unseen.{found_none}
-use Rattle.mgs_model.proofs.Turning.{of_with_own}
+use Rattle.mgs_laws.proofs.Outcomes.{outcome_lawful}
+use Rattle.mgs_laws.proofs.Unseen.{found_none}
+use Rattle.mgs_laws.proofs.Turning.{of_with_own}
 
 -- THE USERS LEAVE CLOSED BUFFERS CLOSED
 

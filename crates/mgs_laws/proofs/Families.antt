@@ -26,7 +26,7 @@ use Rattle.mgs_model.specs.declared.right.Right.TheVariants.{ReadData, AppendDat
 use Rattle.mgs_model.specs.declared.entry.Decision.TheVariants.{NotGranted}
 use Rattle.mgs_model.specs.declared.entry.EntryType.TheVariants.{Allow}
 use Rattle.mgs_model.specs.declared.entry.Who.TheVariants.{User}
-use Rattle.mgs_model.proofs.Runs.{B, S, C, R, M, buffer_of, full, notes, doing, doing_bob, texts, of_one, echo, kill, points, heights, shown}
+use Rattle.mgs_laws.proofs.Runs.{B, S, C, R, M, buffer_of, full, notes, doing, doing_bob, texts, of_one, echo, kill, points, heights, shown}
 
 -- INSERT: C-u 1 2 x
 twelve : texts (doing (notes []) (B 21 ∷ B 49 ∷ B 50 ∷ B 120 ∷ [])) ≡ replicate 12 120 ∷ []

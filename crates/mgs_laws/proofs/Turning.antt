@@ -10,7 +10,7 @@ use Rattle.mgs_model.specs.Turns.{Turn, Rest, Keep, Do}
 use Rattle.mgs_model.specs.Events.{own_set, with_own, Doing, turn_seen, turn_in, refused_own, turn_done, turn, effect_in, act_effects, is_used_up, turn_effects}
 use Rattle.mgs_model.specs.Secrecy.{IsOf}
 use Rattle.mgs_model.proofs.Firsts.{find-change_first}
-use Rattle.mgs_model.proofs.After.{user_after, find_after, find_without}
+use Rattle.mgs_laws.proofs.After.{user_after, find_after, find_without}
 
 abbrev pub begun_view : (Own → Own) → View → View
 begun_view f v = record v { session = record v.session { search = cond (searches (f v.session.own).mode) v.session.search None; own = f v.session.own } }

@@ -18,7 +18,7 @@ use Rattle.mgs_model.specs.declared.entry.Decision.TheVariants.{NotGranted}
 use Rattle.mgs_model.specs.declared.entry.Entry.{Entry}
 use Rattle.mgs_model.specs.declared.entry.EntryType.TheVariants.{Allow}
 use Rattle.mgs_model.specs.declared.entry.Who.TheVariants.{User}
-use Rattle.mgs_model.proofs.Runs.{Doing, B, S, C, other_types, buffer_of, notes, doing, doing_bob, all_done, texts, echo, points, modes, lines}
+use Rattle.mgs_laws.proofs.Runs.{Doing, B, S, C, other_types, buffer_of, notes, doing, doing_bob, all_done, texts, echo, points, modes, lines}
 
 abbrev typed : List ℕ → List Doing
 typed text = map B text
