@@ -69,6 +69,40 @@ const REFUSED: [(&str, &str, bool, AddFault); 5] = [
     ("third", "ann", true, AddFault::Long),
 ];
 
+// Whether a buffer is refused with this fault, and the two stay alone.
+fn is_refused(
+    all: &mut Buffers<PlainMarked>,
+    name: &str,
+    owner: &str,
+    text: &[char],
+    fault: AddFault,
+) -> bool {
+    all.add(name, owner, List::new(), text, false) == Err(fault) && all.len() == 2
+}
+
+// Adds a third buffer with a text, and empty ones up to the most there may be.
+fn fill(
+    rt: &impl Abort,
+    alloc: Global,
+    all: &mut Buffers<PlainMarked>,
+    text: &[char],
+) -> Result<(), Fail> {
+    assert!(rt; all.add("third", "ann", List::new(), text, false) == Ok(()));
+    assert!(rt; all.len() == 3);
+    for i in all.len()..256 {
+        let name = format!(in alloc; "b{i}")?;
+        assert!(rt; all.add(&name, "ann", List::new(), &[], false) == Ok(()));
+    }
+    Ok(())
+}
+
+// Whether no buffer is added any more.
+fn is_full(all: &mut Buffers<PlainMarked>, long: &[char]) -> bool {
+    all.add("second", "ann", List::new(), &[], false) == Err(AddFault::Twice)
+        && all.add("more", "ann", List::new(), long, false) == Err(AddFault::Full)
+        && all.len() == 256
+}
+
 #[test]
 fn buffers_are_refused(rt: HostRuntime) -> Result<(), Fail> {
     let mut all = two(rt.alloc(), &rt);
@@ -76,20 +110,12 @@ fn buffers_are_refused(rt: HostRuntime) -> Result<(), Fail> {
     for &(name, owner, is_long, fault) in &REFUSED {
         let text = if is_long { long.as_slice() } else { &[] };
         assert!(rt;
-            all.add(name, owner, List::new(), text, false) == Err(fault),
+            is_refused(&mut all, name, owner, text, fault),
             "{name} of {owner}"
         );
-        assert!(rt; all.len() == 2);
     }
-    assert!(rt; all.add("third", "ann", List::new(), &long[1..], false) == Ok(()));
-    assert!(rt; all.len() == 3);
-    for i in all.len()..256 {
-        let name = format!(in rt.alloc(); "b{i}")?;
-        assert!(rt; all.add(&name, "ann", List::new(), &[], false) == Ok(()));
-    }
-    assert!(rt; all.add("second", "ann", List::new(), &[], false) == Err(AddFault::Twice));
-    assert!(rt; all.add("more", "ann", List::new(), &long, false) == Err(AddFault::Full));
-    assert!(rt; all.len() == 256);
+    fill(&rt, rt.alloc(), &mut all, &long[1..])?;
+    assert!(rt; is_full(&mut all, &long));
     Ok(())
 }
 
@@ -109,49 +135,75 @@ pub(crate) fn has_text<T: Marked + Drop>(
     Ok(is_counted && now.as_slice() == text)
 }
 
-#[test]
-fn the_buffer_of_the_name_is_edited(rt: HostRuntime) -> Result<(), Fail> {
-    let mut all = two(rt.alloc(), &rt);
-    let (first, second) = (named(&rt, "first"), named(&rt, "second"));
-    assert!(rt; !all.has(&named(&rt, "third")));
-    assert!(rt; has_text(&all, &second, &['c', 'd', 'e'], 0)?);
-    assert!(rt; all.has(&second));
-    assert!(rt; all.text_len(&second) == 3 && all.serial(&second) == 0);
-    all.edit(&second, 1, 2, &['x', 'y'])?;
-    assert!(rt; has_text(&all, &second, &['c', 'x', 'y', 'e'], 1)?);
-    assert!(rt; has_text(&all, &first, &['a', 'b'], 0)?);
+// Replaces what stands in a buffer from one place up to another.
+pub(crate) fn change(
+    rt: &impl Abort,
+    all: &mut Buffers<PlainMarked>,
+    name: &Name,
+    from: usize,
+    to: usize,
+    put: &[char],
+) -> Result<(), Short> {
+    assert!(rt; all.has(name));
+    let size = all.text_len(name);
+    assert!(rt; from <= to && to <= size && size < 1000);
+    assert!(rt; all.serial(name) < 1000 && put.len() < 1000);
+    all.edit(name, from, to, put)
+}
+
+fn edit_second(rt: &impl Abort, all: &mut Buffers<PlainMarked>) -> Result<(), Short> {
+    let (first, second) = (named(rt, "first"), named(rt, "second"));
+    assert!(rt; !all.has(&named(rt, "third")));
+    assert!(rt; has_text(all, &second, &['c', 'd', 'e'], 0)?);
+    change(rt, all, &second, 1, 2, &['x', 'y'])?;
+    assert!(rt; has_text(all, &second, &['c', 'x', 'y', 'e'], 1)?);
+    assert!(rt; has_text(all, &first, &['a', 'b'], 0)?);
     Ok(())
 }
 
 #[test]
-fn marks_follow_edits(rt: HostRuntime) -> Result<(), Fail> {
+fn the_buffer_of_the_name_is_edited(rt: HostRuntime) -> Result<(), Short> {
     let mut all = two(rt.alloc(), &rt);
-    let second = named(&rt, "second");
+    edit_second(&rt, &mut all)
+}
+
+fn mark_second(rt: &impl Abort, all: &mut Buffers<PlainMarked>) -> Result<(), Short> {
+    let second = named(rt, "second");
     assert!(rt; all.has(&second));
     assert!(rt; all.text_len(&second) == 3 && all.serial(&second) == 0);
-    assert!(rt; placed(&mut all, &second, 0, 3)? == 3);
+    assert!(rt; placed(all, &second, 0, 3)? == 3);
     assert!(rt; all.has(&second));
     assert!(rt; all.text_len(&second) == 3 && all.serial(&second) == 0);
-    assert!(rt; moved(&mut all, &second, 2, &['u', 'v'])? == 4);
+    assert!(rt; moved(all, &second, 2, &['u', 'v'])? == 4);
     Ok(())
+}
+
+#[test]
+fn marks_follow_edits(rt: HostRuntime) -> Result<(), Short> {
+    let mut all = two(rt.alloc(), &rt);
+    mark_second(&rt, &mut all)
+}
+
+const NO_WRITING: Decision = Decision::NotGranted {
+    bit: Right::WriteData,
+};
+
+// Who may do what with the two buffers.
+fn decide(rt: &impl Abort, all: &Buffers<PlainMarked>, directory: &Directory) {
+    let (ann, bob) = (named(rt, "ann"), named(rt, "bob"));
+    let (first, second) = (named(rt, "first"), named(rt, "second"));
+    assert!(rt; all.has(&first) && all.has(&second));
+    assert!(rt; all.grants(directory, &first, &ann, Right::ReadData));
+    assert!(rt; !all.grants(directory, &first, &bob, Right::ReadData));
+    assert!(rt; all.grants(directory, &second, &bob, Right::WriteData));
+    assert!(rt; all.decide(directory, &first, &ann, Right::WriteData) == NO_WRITING);
+    assert!(rt; all.first_shown(directory, &ann) == Some(first));
+    assert!(rt; all.first_shown(directory, &bob) == Some(second));
 }
 
 #[test]
 fn lists_and_owners_decide(rt: HostRuntime) {
     let all = two(rt.alloc(), &rt);
     let directory = Directory::new(rt.alloc());
-    let (ann, bob) = (named(&rt, "ann"), named(&rt, "bob"));
-    let (first, second) = (named(&rt, "first"), named(&rt, "second"));
-    assert!(rt; all.has(&first) && all.has(&second));
-    assert!(rt; all.grants(&directory, &first, &ann, Right::ReadData));
-    assert!(rt; !all.grants(&directory, &first, &bob, Right::ReadData));
-    assert!(rt; all.grants(&directory, &second, &bob, Right::WriteData));
-    assert!(rt;
-        all.decide(&directory, &first, &ann, Right::WriteData)
-            == Decision::NotGranted {
-                bit: Right::WriteData
-            }
-    );
-    assert!(rt; all.first_shown(&directory, &ann) == Some(first));
-    assert!(rt; all.first_shown(&directory, &bob) == Some(second));
+    decide(&rt, &all, &directory);
 }

@@ -1,15 +1,27 @@
 // Commands on the case of letters, as plans over small texts and as what they put in.
-use crate::plans::at;
-use mgs_edit::{Around, Case, Change, Goes, Put, alteration, put_chars};
-use mgs_model::{Alteration, Message};
+ghost use Rattle.std.specs.Prelude.{◌≡◌, true};
+ghost use Rattle.mgs_edit.specs.Reading.{is_alteration_planned};
+
+use crate::plans::{altered, at};
+use mgs_edit::{Around, Case, Goes, Put, alteration, put_chars};
+use mgs_model::{Alteration, Message, Short};
 use mgs_text::{PlainText, Text};
+use std::alloc::Global;
 use std::process::Abort;
 use std::test::Fail;
 
-// What comes in another case, and where the point goes, or what is told.
-fn cased(planned: Result<Change, Message>) -> Result<(Put, Goes), Message> {
-    match planned {
-        Ok(change) => Ok((change.put, change.finish.point)),
+// What comes in another case, and where the point goes, or what is told, at a place of a text with an argument.
+fn cased(
+    rt: &impl Abort,
+    text: &PlainText,
+    place: usize,
+    argument: Option<usize>,
+    command: Alteration,
+) -> Result<(Put, Goes), Message>
+    requires { is_alteration_planned command ≡ true }
+{
+    match altered(rt, text, place, argument, command) {
+        Ok((_, _, put, point)) => Ok((put, point)),
         Err(message) => Err(message),
     }
 }
@@ -18,27 +30,22 @@ fn cased(planned: Result<Change, Message>) -> Result<(Put, Goes), Message> {
 #[test]
 fn goes_over_words(rt: HostRuntime) -> Result<(), Fail> {
     let text = PlainText::of(rt.alloc(), &['o', 'n', 'e', ' ', 't', 'w', 'o'])?;
-    assert!(rt; text.len() == 7);
     let word = Put::Cased {
         from: 1,
         to: 3,
         case: Case::Upper,
     };
-    assert!(rt;
-        cased(alteration(&text, &at(1, None), Alteration::UpcaseWord)) == Ok((word, Goes::Behind))
-    );
+    assert!(rt; cased(&rt, &text, 1, None, Alteration::UpcaseWord) == Ok((word, Goes::Behind)));
     let words = Put::Cased {
         from: 3,
         to: 7,
         case: Case::Lower,
     };
     assert!(rt;
-        cased(alteration(&text, &at(3, Some(9999)), Alteration::DowncaseWord))
-            == Ok((words, Goes::Behind))
+        cased(&rt, &text, 3, Some(9999), Alteration::DowncaseWord) == Ok((words, Goes::Behind))
     );
     assert!(rt;
-        cased(alteration(&text, &at(7, None), Alteration::CapitalizeWord))
-            == Err(Message::EndOfBuffer)
+        cased(&rt, &text, 7, None, Alteration::CapitalizeWord) == Err(Message::EndOfBuffer)
     );
     let none = Put::Cased {
         from: 7,
@@ -46,60 +53,68 @@ fn goes_over_words(rt: HostRuntime) -> Result<(), Fail> {
         case: Case::Capitalized,
     };
     assert!(rt;
-        cased(alteration(&text, &at(7, Some(0)), Alteration::CapitalizeWord))
-            == Ok((none, Goes::Behind))
+        cased(&rt, &text, 7, Some(0), Alteration::CapitalizeWord) == Ok((none, Goes::Behind))
     );
     Ok(())
+}
+
+// What comes in another case from place 2 of a text with a mark at 6, and where the point goes.
+fn region_cased(rt: &impl Abort, text: &PlainText) -> Option<(Put, Goes)> {
+    assert!(rt; text.len() == 7);
+    let marked = Around {
+        mark: Some(6),
+        ..at(2, None)
+    };
+    match alteration(text, &marked, Alteration::UpcaseRegion) {
+        Ok(change) => Some((change.put, change.finish.point)),
+        Err(_) => None,
+    }
 }
 
 // A region goes from the mark to the point, or back, and the point stays.
 #[test]
 fn goes_over_a_region(rt: HostRuntime) -> Result<(), Fail> {
     let text = PlainText::of(rt.alloc(), &['o', 'n', 'e', ' ', 't', 'w', 'o'])?;
-    assert!(rt; text.len() == 7);
-    let marked = Around {
-        mark: Some(6),
-        ..at(2, None)
-    };
     let region = Put::Cased {
         from: 2,
         to: 6,
         case: Case::Upper,
     };
-    assert!(rt;
-        cased(alteration(&text, &marked, Alteration::UpcaseRegion)) == Ok((region, Goes::To(2)))
-    );
-    assert!(rt;
-        cased(alteration(&text, &at(2, None), Alteration::DowncaseRegion)) == Err(Message::NoMark)
-    );
+    assert!(rt; region_cased(&rt, &text) == Some((region, Goes::To(2))));
+    assert!(rt; cased(&rt, &text, 2, None, Alteration::DowncaseRegion) == Err(Message::NoMark));
     Ok(())
 }
 
-// `aB 1cD`
+// Whether the letters from one place of a text up to another are written so in that case.
+fn is_written(
+    rt: &impl Abort,
+    alloc: Global,
+    text: &PlainText,
+    from: usize,
+    to: usize,
+    case: Case,
+    expected: &[char],
+) -> Result<bool, Short> {
+    assert!(rt; from <= to && to <= text.len());
+    let chars = put_chars(alloc, text, &[], &Put::Cased { from, to, case })?;
+    Ok(chars.as_slice() == expected)
+}
+
+// What is written of `aB 1cD`.
+const WRITTEN: [(usize, usize, Case, &[char]); 3] = [
+    (0, 6, Case::Upper, &['A', 'B', ' ', '1', 'C', 'D']),
+    (1, 5, Case::Lower, &['b', ' ', '1', 'c']),
+    (1, 6, Case::Capitalized, &['B', ' ', '1', 'C', 'd']),
+];
+
 #[test]
 fn writes_the_letters(rt: HostRuntime) -> Result<(), Fail> {
     let text = PlainText::of(rt.alloc(), &['a', 'B', ' ', '1', 'c', 'D'])?;
-    assert!(rt; text.len() == 6);
-    let upper = Put::Cased {
-        from: 0,
-        to: 6,
-        case: Case::Upper,
-    };
-    let lower = Put::Cased {
-        from: 1,
-        to: 5,
-        case: Case::Lower,
-    };
-    let capitalized = Put::Cased {
-        from: 1,
-        to: 6,
-        case: Case::Capitalized,
-    };
-    let chars = put_chars(rt.alloc(), &text, &[], &upper)?;
-    assert!(rt; chars.as_slice() == ['A', 'B', ' ', '1', 'C', 'D'].as_slice());
-    let chars = put_chars(rt.alloc(), &text, &[], &lower)?;
-    assert!(rt; chars.as_slice() == ['b', ' ', '1', 'c'].as_slice());
-    let chars = put_chars(rt.alloc(), &text, &[], &capitalized)?;
-    assert!(rt; chars.as_slice() == ['B', ' ', '1', 'C', 'd'].as_slice());
+    for &(from, to, case, expected) in &WRITTEN {
+        assert!(rt;
+            is_written(&rt, rt.alloc(), &text, from, to, case, expected)?,
+            "{from} to {to}"
+        );
+    }
     Ok(())
 }

@@ -1,8 +1,9 @@
 // Paragraphs that are filled, as plans over small texts and as what they put in.
-use crate::plans::{at, shown};
+use crate::plans::{altered, at};
 use mgs_edit::{Goes, Put, alteration, is_edit, put_chars, refill};
-use mgs_model::Alteration;
+use mgs_model::{Alteration, Short};
 use mgs_text::{PlainText, Text};
+use std::alloc::Global;
 use std::process::Abort;
 use std::test::Fail;
 
@@ -15,7 +16,6 @@ fn fills_the_lines_around(rt: HostRuntime) -> Result<(), Fail> {
             'a', '\n', '\n', 'b', 'b', ' ', 'c', '\n', 'd', '\n', '\t', '\n', 'e',
         ],
     )?;
-    assert!(rt; text.len() == 13);
     let filled = Put::Filled {
         from: 3,
         to: 9,
@@ -24,26 +24,29 @@ fn fills_the_lines_around(rt: HostRuntime) -> Result<(), Fail> {
     };
     for &place in &[3, 6, 9] {
         assert!(rt;
-            shown(alteration(&text, &at(place, None), Alteration::FillParagraph))
+            altered(&rt, &text, place, None, Alteration::FillParagraph)
                 == Ok((3, 9, filled, Goes::Behind))
         );
     }
     Ok(())
 }
 
+// Whether filling from a place of a text is an edit.
+fn is_filled(rt: &impl Abort, text: &PlainText, place: usize) -> bool {
+    assert!(rt; place <= text.len());
+    match alteration(text, &at(place, None), Alteration::FillParagraph) {
+        Ok(change) => is_edit(&change, 0),
+        Err(_) => panic!(rt; "refused"),
+    }
+}
+
 // From a blank line nothing is filled.
 #[test]
 fn leaves_blank_lines(rt: HostRuntime) -> Result<(), Fail> {
     let text = PlainText::of(rt.alloc(), &['a', '\n', ' ', '\n', 'b'])?;
-    assert!(rt; text.len() == 5);
-    match alteration(&text, &at(3, None), Alteration::FillParagraph) {
-        Ok(change) => {
-            assert!(rt; !is_edit(&change, 0));
-            let nothing = Ok((3, 3, Put::Nothing, Goes::Stays));
-            assert!(rt; shown(Ok(change)) == nothing);
-        }
-        Err(_) => panic!(rt; "refused"),
-    }
+    assert!(rt; !is_filled(&rt, &text, 3));
+    let nothing = Ok((3, 3, Put::Nothing, Goes::Stays));
+    assert!(rt; altered(&rt, &text, 3, None, Alteration::FillParagraph) == nothing);
     Ok(())
 }
 
@@ -94,11 +97,19 @@ const FILLED: [(&[char], usize, &[char]); 5] = [
     (&['a', ' ', '\x01', '\x01'], 5, &['a', '\n', '\x01', '\x01']),
 ];
 
+// Whether characters are filled so.
+fn refills(alloc: Global, chars: &[char], fill: usize, expected: &[char]) -> Result<bool, Short> {
+    let filled = refill(alloc, chars, fill)?;
+    Ok(filled.as_slice() == expected)
+}
+
 #[test]
 fn words_are_filled(rt: HostRuntime) -> Result<(), Fail> {
     for &(chars, fill, expected) in &FILLED {
-        let filled = refill(rt.alloc(), chars, fill)?;
-        assert!(rt; filled.as_slice() == expected, "{chars:?} up to {fill}");
+        assert!(rt;
+            refills(rt.alloc(), chars, fill, expected)?,
+            "{chars:?} up to {fill}"
+        );
     }
     Ok(())
 }

@@ -4,6 +4,7 @@ use mgs_buffers::Buffers;
 use mgs_marks::PlainMarked;
 use mgs_model::{Name, Short};
 use mgs_policy::Directory;
+use std::alloc::Global;
 use std::process::Abort;
 use std::test::Fail;
 
@@ -24,6 +25,14 @@ const COMPLETED: [(&str, &[u8], Option<&[u8]>); 7] = [
     ("bob", b"notes", None),
 ];
 
+fn buffers_of_ann(rt: &impl Abort, alloc: Global) -> Buffers<PlainMarked> {
+    let mut all = Buffers::new(alloc);
+    for &(name, entry) in &BUFFERS {
+        assert!(rt; all.add(name, "ann", list_of(rt, entry), &[], false) == Ok(()));
+    }
+    all
+}
+
 // Whether what a user has typed is completed so.
 fn is_completed(
     all: &Buffers<PlainMarked>,
@@ -36,19 +45,24 @@ fn is_completed(
     Ok(all.completion(&mut judge, directory, user, input) == wanted)
 }
 
-#[test]
-fn names_that_a_user_may_see_are_completed(rt: HostRuntime) -> Result<(), Fail> {
-    let mut all = Buffers::<PlainMarked>::new(rt.alloc());
-    for &(name, entry) in &BUFFERS {
-        assert!(rt; all.add(name, "ann", list_of(&rt, entry), &[], false) == Ok(()));
-    }
-    let directory = Directory::new(rt.alloc());
+fn are_completed(
+    rt: &impl Abort,
+    all: &Buffers<PlainMarked>,
+    directory: &Directory,
+) -> Result<(), Fail> {
     for &(user, input, wanted) in &COMPLETED {
-        let user = named(&rt, user);
+        let name = named(rt, user);
         assert!(rt;
-            is_completed(&all, &directory, &user, input, wanted)?,
-            "{user:?} {input:?}"
+            is_completed(all, directory, &name, input, wanted)?,
+            "{user} {input:?}"
         );
     }
     Ok(())
+}
+
+#[test]
+fn names_that_a_user_may_see_are_completed(rt: HostRuntime) -> Result<(), Fail> {
+    let all = buffers_of_ann(&rt, rt.alloc());
+    let directory = Directory::new(rt.alloc());
+    are_completed(&rt, &all, &directory)
 }

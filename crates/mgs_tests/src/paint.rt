@@ -18,9 +18,9 @@ fn screen_of(alloc: Global, line: &[char], column: usize) -> Result<Grid, Fail>
     ensures rows { IfOk result (λ g. g.rows ≡ 6) }
     ensures cols { IfOk result (λ g. g.cols ≡ 20) }
 {
-    let text = PlainText::of(alloc, line)?;
     let notes = Name::read("notes").ok_or("no name")?;
     let mut grid = Grid::new(alloc, 6, 20)?;
+    let text = PlainText::of(alloc, line)?;
     grid.draw_text(0, 4, &text, 0, 0, 0);
     grid.draw_mode(4, Some((notes, true)), Some((1, column)));
     grid.set_cursor(0, column);
@@ -28,15 +28,33 @@ fn screen_of(alloc: Global, line: &[char], column: usize) -> Result<Grid, Fail>
 }
 
 // A terminal that a whole screen was painted on.
-fn terminal_of(alloc: Global, grid: &Grid) -> Result<Term, Fail>
+fn terminal_of(rt: &impl Abort, alloc: Global, grid: &Grid) -> Result<Term, Fail>
     requires rows { grid.now.rows ≡ 6 }
     requires cols { grid.now.cols ≡ 20 }
 {
+    let mut term = Term::new(alloc, 6, 20)?;
     let mut out = Vec::with_capacity(alloc, bound(6, 20))?;
     first(grid, &mut out);
-    let mut term = Term::new(alloc, 6, 20)?;
-    term.feed_all(&out)?;
+    assert!(rt; out.len() <= 592);
+    assert!(rt; term.feed_all(&out) == Ok(()));
     Ok(term)
+}
+
+// Whether these bytes paint `new` over `old`.
+fn is_painted(alloc: Global, old: &Grid, new: &Grid, expected: &[u8]) -> Result<bool, Fail>
+    requires rows { new.now.rows ≡ old.now.rows }
+    requires cols { new.now.cols ≡ old.now.cols }
+    requires height { new.now.rows ≡ 6 }
+    requires width { new.now.cols ≡ 20 }
+{
+    let mut out = Vec::with_capacity(alloc, bound(6, 20))?;
+    paint(old, new, &mut out);
+    Ok(out.as_slice() == expected)
+}
+
+// Whether two terminals show the same.
+fn are_alike(one: &Term, other: &Term) -> bool {
+    one.grid() == other.grid() && one.cursor() == other.cursor()
 }
 
 // Paints `new` over `old` on a terminal that shows `old`: these bytes, after which it shows `new`.
@@ -52,13 +70,11 @@ fn paints(
     requires new_rows { new.now.rows ≡ 6 }
     requires new_cols { new.now.cols ≡ 20 }
 {
-    let mut out = Vec::with_capacity(alloc, bound(6, 20))?;
-    paint(old, new, &mut out);
-    assert!(rt; out.as_slice() == expected);
-    let mut term = terminal_of(alloc, old)?;
-    term.feed_all(&out)?;
-    let fresh = terminal_of(alloc, new)?;
-    assert!(rt; term.grid() == fresh.grid() && term.cursor() == fresh.cursor());
+    assert!(rt; is_painted(alloc, old, new, expected)?);
+    let mut term = terminal_of(rt, alloc, old)?;
+    term.feed_all(expected)?;
+    let fresh = terminal_of(rt, alloc, new)?;
+    assert!(rt; are_alike(&term, &fresh));
     Ok(())
 }
 
@@ -140,11 +156,7 @@ fn the_reverse_of_a_row_is_painted(rt: HostRuntime) -> Result<(), Fail> {
 #[test]
 fn a_new_grid_is_blank(rt: HostRuntime) -> Result<(), Fail> {
     let grid = Grid::new(rt.alloc(), 6, 20)?;
-    let mut term = Term::new(rt.alloc(), 6, 20)?;
-    let mut out = Vec::with_capacity(rt.alloc(), bound(6, 20))?;
-    first(&grid, &mut out);
-    assert!(rt; out.len() <= 592);
-    assert!(rt; term.feed_all(&out) == Ok(()));
+    let term = terminal_of(&rt, rt.alloc(), &grid)?;
     assert!(rt; term.cursor() == (1, 1));
     assert!(rt; term.grid().len() == 120);
     for cell in term.grid() {

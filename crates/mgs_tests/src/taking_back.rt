@@ -1,31 +1,13 @@
 // An edit of a buffer is taken back by the plan of its undo.
-use crate::buffers::has_text;
+use crate::buffers::{change, has_text};
 use crate::people::named;
 use mgs_acl::List;
 use mgs_buffers::Buffers;
 use mgs_edit::{Goes, is_undo_an_edit, is_undo_too_long, undo, undo_target};
 use mgs_marks::PlainMarked;
-use mgs_model::{Kind, Name};
-use std::alloc::Global;
+use mgs_model::{Kind, Name, Short};
 use std::process::Abort;
 use std::test::Fail;
-
-// Replaces what stands in a buffer from one place up to another.
-fn change(
-    rt: &impl Abort,
-    all: &mut Buffers<PlainMarked>,
-    name: &Name,
-    from: usize,
-    to: usize,
-    put: &[char],
-) -> Result<(), Fail> {
-    assert!(rt; all.has(name));
-    let size = all.text_len(name);
-    assert!(rt; from <= to && to <= size && size < 1000);
-    assert!(rt; all.serial(name) < 1000 && put.len() < 1000);
-    all.edit(name, from, to, put)?;
-    Ok(())
-}
 
 // What takes back the last edit of a buffer after a command of that kind: from where up to where it takes out, what it puts in, and the
 // kind that is left.
@@ -84,37 +66,35 @@ fn is_not_kept(all: &Buffers<PlainMarked>, name: &Name, serial: u64) -> bool {
     all.has(name) && all.item(name, serial).is_none()
 }
 
-// A buffer of the name, edited twice.
-fn edited(rt: &impl Abort, alloc: Global, name: &Name) -> Result<Buffers<PlainMarked>, Fail> {
-    let mut all = Buffers::<PlainMarked>::new(alloc);
-    assert!(rt; all.add("notes", "ann", List::new(), &['a', 'b', 'c'], false) == Ok(()));
-    change(rt, &mut all, name, 1, 2, &['x', 'y'])?;
-    change(rt, &mut all, name, 3, 4, &[])?;
-    Ok(all)
+// Two edits of a buffer.
+fn edit_twice(rt: &impl Abort, all: &mut Buffers<PlainMarked>, name: &Name) -> Result<(), Short> {
+    change(rt, all, name, 1, 2, &['x', 'y'])?;
+    change(rt, all, name, 3, 4, &[])?;
+    assert!(rt; has_text(all, name, &['a', 'x', 'y'], 2)?);
+    unmodify(all, name);
+    assert!(rt; is_unmodified(all, name));
+    Ok(())
 }
 
-// Two undos of the edits of a buffer, one right after the other.
+// Two undos of these edits, one right after the other.
 fn take_both_back(
     rt: &impl Abort,
     all: &mut Buffers<PlainMarked>,
     name: &Name,
 ) -> Result<(), Fail> {
+    edit_twice(rt, all, name)?;
     let first = take_back(rt, all, name, Kind::Other)?;
     assert!(rt; first == undid(*name, 2, 3));
     let second = take_back(rt, all, name, first)?;
     assert!(rt; second == undid(*name, 1, 4));
+    assert!(rt; has_text(all, name, &['a', 'b', 'c'], 4)?);
+    assert!(rt; is_not_kept(all, name, 0));
     Ok(())
 }
 
 #[test]
 fn two_undos_in_a_row(rt: HostRuntime) -> Result<(), Fail> {
-    let name = named(&rt, "notes");
-    let mut all = edited(&rt, rt.alloc(), &name)?;
-    assert!(rt; has_text(&all, &name, &['a', 'x', 'y'], 2)?);
-    unmodify(&mut all, &name);
-    assert!(rt; is_unmodified(&all, &name));
-    take_both_back(&rt, &mut all, &name)?;
-    assert!(rt; has_text(&all, &name, &['a', 'b', 'c'], 4)?);
-    assert!(rt; is_not_kept(&all, &name, 0));
-    Ok(())
+    let mut all = Buffers::<PlainMarked>::new(rt.alloc());
+    assert!(rt; all.add("notes", "ann", List::new(), &['a', 'b', 'c'], false) == Ok(()));
+    take_both_back(&rt, &mut all, &named(&rt, "notes"))
 }

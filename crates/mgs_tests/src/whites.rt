@@ -1,6 +1,6 @@
 // Commands on white space and blank lines, as plans over small texts.
-use crate::plans::{at, shown};
-use mgs_edit::{Goes, Put, alteration};
+use crate::plans::altered;
+use mgs_edit::{Goes, Put};
 use mgs_model::{Alteration, Message};
 use mgs_text::{PlainText, Text};
 use std::process::Abort;
@@ -12,17 +12,14 @@ const SPACE: Put = Put::Character { put: ' ', times: 1 };
 #[test]
 fn takes_out_white(rt: HostRuntime) -> Result<(), Fail> {
     let text = PlainText::of(rt.alloc(), &['a', ' ', '\t', ' ', 'b', 'c'])?;
-    assert!(rt; text.len() == 6);
     assert!(rt;
-        shown(alteration(&text, &at(2, None), Alteration::JustOneSpace))
-            == Ok((1, 4, SPACE, Goes::Behind))
+        altered(&rt, &text, 2, None, Alteration::JustOneSpace) == Ok((1, 4, SPACE, Goes::Behind))
     );
     assert!(rt;
-        shown(alteration(&text, &at(5, None), Alteration::JustOneSpace))
-            == Ok((5, 5, SPACE, Goes::Behind))
+        altered(&rt, &text, 5, None, Alteration::JustOneSpace) == Ok((5, 5, SPACE, Goes::Behind))
     );
     assert!(rt;
-        shown(alteration(&text, &at(4, None), Alteration::DeleteHorizontalSpace))
+        altered(&rt, &text, 4, None, Alteration::DeleteHorizontalSpace)
             == Ok((1, 4, Put::Nothing, Goes::To(1)))
     );
     Ok(())
@@ -32,14 +29,13 @@ fn takes_out_white(rt: HostRuntime) -> Result<(), Fail> {
 #[test]
 fn takes_out_blank_lines(rt: HostRuntime) -> Result<(), Fail> {
     let text = PlainText::of(rt.alloc(), &['a', '\n', ' ', '\n', '\n', 'b'])?;
-    assert!(rt; text.len() == 6);
     for &(place, from, to, goes) in &[
         (0, 1, 4, Goes::Stays),
         (3, 2, 4, Goes::To(2)),
         (5, 6, 6, Goes::Stays),
     ] {
         assert!(rt;
-            shown(alteration(&text, &at(place, None), Alteration::DeleteBlankLines))
+            altered(&rt, &text, place, None, Alteration::DeleteBlankLines)
                 == Ok((from, to, Put::Nothing, goes))
         );
     }
@@ -50,14 +46,11 @@ fn takes_out_blank_lines(rt: HostRuntime) -> Result<(), Fail> {
 #[test]
 fn joins_lines(rt: HostRuntime) -> Result<(), Fail> {
     let text = PlainText::of(rt.alloc(), &['a', ' ', '\n', ' ', ' ', 'b'])?;
-    assert!(rt; text.len() == 6);
     assert!(rt;
-        shown(alteration(&text, &at(6, None), Alteration::JoinLine))
-            == Ok((1, 5, SPACE, Goes::To(1)))
+        altered(&rt, &text, 6, None, Alteration::JoinLine) == Ok((1, 5, SPACE, Goes::To(1)))
     );
     assert!(rt;
-        shown(alteration(&text, &at(2, None), Alteration::JoinLine))
-            == Err(Message::BeginningOfBuffer)
+        altered(&rt, &text, 2, None, Alteration::JoinLine) == Err(Message::BeginningOfBuffer)
     );
     Ok(())
 }
