@@ -1,6 +1,6 @@
 // Access lists and owners are changed while others look, each step with what the terminal then shows.
-use super::steps::scripts_show;
-use std::alloc::Global;
+use super::steps::{scripts_show, text_of};
+use std::alloc::{AllocError, Global};
 use std::test::Fail;
 
 const BOTH: &str = "user ann\n\
@@ -169,22 +169,19 @@ fn rights_are_taken_and_given(rt: HostRuntime) -> Result<(), Fail> {
 }
 
 // A list of 64 entries.
-fn full_list(alloc: Global) -> Result<String, Fail> {
-    let mut setting = String::from_str(
-        alloc,
+const FULL_LIST: [(&str, usize); 3] = [
+    (
         "user ann\nuser bob\nbuffer notes ann\nentry notes ALLOW OWNER@ rwatdcCo\n",
-    )?;
-    for _ in 0..63 {
-        setting.push_str("entry notes ALLOW bob rt\n")?;
-    }
-    setting.push_str("open a ann 6 60\nopen b bob 6 60\n")?;
-    Ok(setting)
-}
+        1,
+    ),
+    ("entry notes ALLOW bob rt\n", 63),
+    ("open a ann 6 60\nopen b bob 6 60\n", 1),
+];
 
 // A refused change tells why: the right comes first, then the text, then the number, then the room.
 #[test]
 fn entries_are_refused(rt: HostRuntime) -> Result<(), Fail> {
-    let setting = full_list(rt.alloc())?;
+    let setting = text_of(rt.alloc(), &FULL_LIST)?;
     let steps = "
         == entries are refused
         a C-u '65 M-x 'acl-insert RET 'ALLOW SPC 'ann SPC 'r RET  |  | --L1-C0 | 1 1 | List full
@@ -206,14 +203,18 @@ fn entries_are_refused(rt: HostRuntime) -> Result<(), Fail> {
     scripts_show(&rt, rt.alloc(), setting.as_str(), steps)
 }
 
-// As many buffers as there may be: the last is made in the run.
-fn all_buffers_but_one(alloc: Global) -> Result<String, Fail> {
-    let mut setting = String::from_str(alloc, "user ann\n")?;
+fn push_buffers(setting: &mut String) -> Result<(), AllocError> {
+    setting.push_str("user ann\n")?;
     for i in 0..255usize {
-        let line = format!(in alloc; "buffer b{i} ann\n")?;
-        setting.push_str(line.as_str())?;
+        writeln!(setting, "buffer b{i} ann")?;
     }
-    setting.push_str("open a ann 6 60\n")?;
+    setting.push_str("open a ann 6 60\n")
+}
+
+// As many buffers as there may be: the last is made in the run.
+fn all_buffers_but_one(alloc: Global) -> Result<String, AllocError> {
+    let mut setting = String::new(alloc);
+    push_buffers(&mut setting)?;
     Ok(setting)
 }
 

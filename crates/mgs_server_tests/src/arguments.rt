@@ -1,17 +1,19 @@
 // Arguments and words of keys: what terminals show.
 use super::replay::NOTES;
-use super::steps::scripts_show;
+use super::steps::{scripts_show, text_of};
 use std::alloc::Global;
 use std::process::Abort;
 use std::test::Fail;
 
 // The scripts behind a text of so many characters.
 fn on_a_text_of(rt: &impl Abort, alloc: Global, count: usize, scripts: &str) -> Result<(), Fail> {
-    let mut setting = format!(in alloc; "{NOTES}text notes '")?;
-    for _ in 0..count {
-        setting.push('a')?;
-    }
-    setting.push_str("\nopen a ann 6 20\n")?;
+    let pieces = [
+        (NOTES, 1),
+        ("text notes '", 1),
+        ("a", count),
+        ("\nopen a ann 6 20\n", 1),
+    ];
+    let setting = text_of(alloc, &pieces)?;
     scripts_show(rt, alloc, setting.as_str(), scripts)
 }
 

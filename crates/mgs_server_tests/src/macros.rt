@@ -1,5 +1,5 @@
 // Keyboard macros: what is recorded and played, and what stops it.
-use super::steps::scripts_show;
+use super::steps::{scripts_show, text_of};
 use std::test::Fail;
 
 const NOTES: &str = "user ann\n\
@@ -58,18 +58,17 @@ fn macros_are_recorded_and_played(rt: HostRuntime) -> Result<(), Fail> {
     scripts_show(&rt, rt.alloc(), "", others)
 }
 
-// The byte that is one too many is not handled, and the recording is over.
-#[test]
-fn a_macro_has_512_bytes(rt: HostRuntime) -> Result<(), Fail> {
-    let mut steps = String::from_str(rt.alloc(), "== a macro has 512 bytes\na C-x '(")?;
-    for _ in 0..511 {
-        steps.push_str(" C-a")?;
-    }
-    let rest = " 'x     | x  | **L1-C1 | 1 2
+const RECORDED: &str = "== a macro has 512 bytes\na C-x '(";
+
+const SHOWN: &str = " 'x     | x  | **L1-C1 | 1 2
         a 'y            | x  | **L1-C1 | 1 2 | Macro too long
         a 'z            | xz | **L1-C2 | 1 3
         a C-x ')        | xz | **L1-C2 | 1 3 | Not in macro
     ";
-    steps.push_str(rest)?;
+
+// The byte that is one too many is not handled, and the recording is over.
+#[test]
+fn a_macro_has_512_bytes(rt: HostRuntime) -> Result<(), Fail> {
+    let steps = text_of(rt.alloc(), &[(RECORDED, 1), (" C-a", 511), (SHOWN, 1)])?;
     scripts_show(&rt, rt.alloc(), NOTES, steps.as_str())
 }

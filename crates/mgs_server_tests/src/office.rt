@@ -37,44 +37,40 @@ fn add_buffer(buffers: &mut Buffers<GapText>, name: &str, list: List) -> Result<
     Ok(())
 }
 
-// The notes, which are empty.
-fn notes(alloc: Global, list: List) -> Result<Buffers<GapText>, Fail>
-    ensures { IfOk result (λ buffers. AreUnmarked buffers) }
-{
-    let mut buffers = Buffers::new(alloc);
-    add_buffer(&mut buffers, "notes", list)?;
-    Ok(buffers)
-}
-
 // The users, and nobody more.
-fn users(alloc: Global) -> Result<Directory, Fail> {
-    let mut directory = Directory::new(alloc);
+fn add_users(directory: &mut Directory) -> Result<(), Fail> {
     directory.add_user("ann")?;
     directory.add_user("bob")?;
-    Ok(directory)
+    Ok(())
 }
 
-// Their tickets.
-fn tickets_of_users(alloc: Global) -> Result<Tickets, Fail> {
-    let mut tickets = Tickets::new(alloc);
+fn add_tickets(tickets: &mut Tickets) -> Result<(), Fail> {
     tickets.add("ann", "t1")?;
     tickets.add("bob", "t2")?;
-    Ok(tickets)
+    Ok(())
+}
+
+// The users with their tickets, and the notes, which are empty.
+fn furnish(config: &mut Config, list: List) -> Result<(), Fail>
+    ensures { AreUnmarked config.old.buffers → AreUnmarked config.new.buffers }
+{
+    add_users(&mut config.directory)?;
+    add_tickets(&mut config.tickets)?;
+    add_buffer(&mut config.buffers, "notes", list)
 }
 
 // What the office starts with.
 fn office_config(alloc: Global, list: List) -> Result<Config, Fail>
     ensures { IfOk result (λ config. AreUnmarked config.buffers) }
 {
-    let directory = users(alloc)?;
-    let tickets = tickets_of_users(alloc)?;
-    let buffers = notes(alloc, list)?;
-    Ok(Config {
-        directory,
-        tickets,
-        buffers,
+    let mut config = Config {
+        directory: Directory::new(alloc),
+        tickets: Tickets::new(alloc),
+        buffers: Buffers::new(alloc),
         files: Vec::new(alloc),
-    })
+    };
+    furnish(&mut config, list)?;
+    Ok(config)
 }
 
 /// A server of the notes with this list, on a port that the system chose.

@@ -1,5 +1,5 @@
 // Whole scripts, over readers and writers in memory.
-use super::steps::scripts_show;
+use super::steps::{scripts_show, text_of};
 use mgs_marks::PlainMarked;
 use mgs_model::SCRIPT_LIMIT;
 use mgs_replay::{ReplayFault, replay, replay_over};
@@ -10,16 +10,25 @@ use std::test::Fail;
 
 pub(crate) const NOTES: &str = "user ann\nbuffer notes ann\nentry notes ALLOW OWNER@ rwatdcCo\n";
 
-// The end of a script over the texts of the programs.
-fn end_of(alloc: Global, script: &[u8], written: &mut Vec<u8>) -> Result<(), ReplayFault> {
+// Whether a script gives this output and this end over the texts of the programs.
+fn is_given(alloc: Global, script: &[u8], output: &str, end: Result<(), ReplayFault>) -> bool {
     let mut reader = script;
-    replay(alloc, &mut reader, written)
+    let mut written = Vec::new(alloc);
+    let outcome = replay(alloc, &mut reader, &mut written);
+    outcome == end && written.as_slice() == output.as_bytes()
 }
 
-// The end of a script over plain texts.
-fn plain_end_of(alloc: Global, script: &[u8], written: &mut Vec<u8>) -> Result<(), ReplayFault> {
+// Whether it gives them over plain texts.
+fn is_given_plainly(
+    alloc: Global,
+    script: &[u8],
+    output: &str,
+    end: Result<(), ReplayFault>,
+) -> bool {
     let mut reader = script;
-    replay_over::<PlainMarked, _, _>(alloc, &mut reader, written)
+    let mut written = Vec::new(alloc);
+    let outcome = replay_over::<PlainMarked, _, _>(alloc, &mut reader, &mut written);
+    outcome == end && written.as_slice() == output.as_bytes()
 }
 
 // A script gives this output and this end, over the texts of the programs and over plain ones. A message calls it by this name.
@@ -31,15 +40,9 @@ pub(crate) fn gives(
     output: &str,
     end: Result<(), ReplayFault>,
 ) {
-    let mut written = Vec::new(alloc);
-    let outcome = end_of(alloc, script, &mut written);
-    assert!(rt; outcome == end, "{name}");
-    assert!(rt; written.as_slice() == output.as_bytes(), "{name}");
-    let mut plain = Vec::new(alloc);
-    let outcome = plain_end_of(alloc, script, &mut plain);
-    assert!(rt; outcome == end, "{name}, over plain texts");
+    assert!(rt; is_given(alloc, script, output, end), "{name}");
     assert!(rt;
-        plain.as_slice() == output.as_bytes(),
+        is_given_plainly(alloc, script, output, end),
         "{name}, over plain texts"
     );
 }
@@ -439,7 +442,22 @@ fn rights_are_told(rt: HostRuntime) -> Result<(), Fail> {
     scripts_show(&rt, rt.alloc(), "", scripts)
 }
 
-// Each of these lines is refused behind the ones before, as the line of this number, and what those print is printed.
+// A line is refused behind the ones before, as the line of this number, and what those print is printed.
+fn is_refused(
+    rt: &impl Abort,
+    alloc: Global,
+    before: &str,
+    output: &str,
+    number: usize,
+    line: &str,
+) -> Result<(), Fail> {
+    let script = format!(in alloc; "{NOTES}{before}{line}")?;
+    let end = Err(ReplayFault::Line(number));
+    gives(rt, alloc, line, script.as_bytes(), output, end);
+    Ok(())
+}
+
+// So is each of these lines.
 fn are_refused(
     rt: &impl Abort,
     alloc: Global,
@@ -449,9 +467,7 @@ fn are_refused(
     lines: &str,
 ) -> Result<(), Fail> {
     for line in lines.split('\n') {
-        let script = format!(in alloc; "{before}{line}")?;
-        let end = Err(ReplayFault::Line(number));
-        plays(rt, alloc, line, script.as_str(), output, end)?;
+        is_refused(rt, alloc, before, output, number, line)?;
     }
     Ok(())
 }
@@ -494,38 +510,39 @@ fn a_refused_line_ends_a_script(rt: HostRuntime) -> Result<(), Fail> {
     let alloc = rt.alloc();
     let script = b"user ann\nfrob\nopen a ann 6 20\n";
     gives(&rt, alloc, "frob", script, "", Err(ReplayFault::Line(2)));
-    let lines = "open a ann 0 20\nopen b bob 6 20\n# a remark\n\nfrob\nshow a\n";
+    let opened = "open a ann 0 20\nopen b bob 6 20\n# a remark\n\n";
     let printed = "refused a 2 Size\nrefused b 1 NoUser\n";
-    plays(
-        &rt,
-        alloc,
-        "an open before",
-        lines,
-        printed,
-        Err(ReplayFault::Line(8)),
-    )?;
-    are_refused(&rt, alloc, "", "", 4, FIRST)?;
-    let refused = "refused a 1 NoUser\n";
-    are_refused(&rt, alloc, "open a bob 6 20\n", refused, 5, BEHIND_AN_OPEN)?;
-    let closed = "open a ann 6 20\nclose a\n";
-    are_refused(&rt, alloc, closed, "", 6, "keys a Tab\nopen a ann 6 20")
+    is_refused(&rt, alloc, opened, printed, 8, "frob\nshow a\n")?;
+    for &(before, output, number, lines) in &[
+        ("", "", 4, FIRST),
+        (
+            "open a bob 6 20\n",
+            "refused a 1 NoUser\n",
+            5,
+            BEHIND_AN_OPEN,
+        ),
+        (
+            "open a ann 6 20\nclose a\n",
+            "",
+            6,
+            "keys a Tab\nopen a ann 6 20",
+        ),
+    ] {
+        are_refused(&rt, alloc, before, output, number, lines)?;
+    }
+    Ok(())
+}
+
+// With the entry of `NOTES` these are 64, and the next one is refused.
+fn are_full(rt: &impl Abort, alloc: Global, entries: &str) -> Result<(), Fail> {
+    plays(rt, alloc, "64 entries", entries, "", Ok(()))?;
+    is_refused(rt, alloc, entries, "", 67, "entry notes ALLOW ann r")
 }
 
 #[test]
 fn lists_are_full_at_64_entries(rt: HostRuntime) -> Result<(), Fail> {
-    let mut lines = String::new(rt.alloc());
-    for _ in 0..63 {
-        lines.push_str("entry notes ALLOW ann r\n")?;
-    }
-    plays(&rt, rt.alloc(), "64 entries", lines.as_str(), "", Ok(()))?;
-    are_refused(
-        &rt,
-        rt.alloc(),
-        lines.as_str(),
-        "",
-        67,
-        "entry notes ALLOW ann r",
-    )
+    let entries = text_of(rt.alloc(), &[("entry notes ALLOW ann r\n", 63)])?;
+    are_full(&rt, rt.alloc(), entries.as_str())
 }
 
 // Reads nothing, and takes all, which it cannot flush, or takes nothing.
@@ -556,33 +573,47 @@ impl Write for Broken {
     }
 }
 
+// The end of a script for such a writer.
+fn end_at(alloc: Global, script: &[u8], takes: bool) -> Result<(), ReplayFault> {
+    let mut reader = script;
+    replay(alloc, &mut reader, &mut Broken { takes })
+}
+
+// The end of what is not read.
+fn unread_end(alloc: Global) -> Result<(), ReplayFault> {
+    let mut written = Vec::new(alloc);
+    replay(alloc, &mut Broken { takes: false }, &mut written)
+}
+
 #[test]
 fn faults_of_readers_and_writers_are_told(rt: HostRuntime) {
-    let mut written = Vec::new(rt.alloc());
-    let read = replay(rt.alloc(), &mut Broken { takes: false }, &mut written);
-    assert!(rt; read == Err(ReplayFault::Read));
-    for &(script, takes) in &[
-        (b"open a bob 6 20".as_slice(), false),
-        (b"frob".as_slice(), true),
-    ] {
-        let mut reader = script;
-        let end = replay(rt.alloc(), &mut reader, &mut Broken { takes });
-        assert!(rt; end == Err(ReplayFault::Write));
-    }
+    assert!(rt; unread_end(rt.alloc()) == Err(ReplayFault::Read));
+    assert!(rt; end_at(rt.alloc(), b"open a bob 6 20", false) == Err(ReplayFault::Write));
+    assert!(rt; end_at(rt.alloc(), b"frob", true) == Err(ReplayFault::Write));
+}
+
+// A remark of so many bytes gives no output and this end.
+fn remark_ends(
+    rt: &impl Abort,
+    alloc: Global,
+    name: &str,
+    length: usize,
+    end: Result<(), ReplayFault>,
+) -> Result<(), Fail> {
+    let remark = vec![in alloc; b'#'; length]?;
+    gives(rt, alloc, name, &remark, "", end);
+    Ok(())
 }
 
 #[test]
 fn long_scripts_are_not_read(rt: HostRuntime) -> Result<(), Fail> {
-    let long = vec![in rt.alloc(); b'#'; SCRIPT_LIMIT + 1]?;
-    gives(
+    let alloc = rt.alloc();
+    remark_ends(
         &rt,
-        rt.alloc(),
+        alloc,
         "too long",
-        &long,
-        "",
+        SCRIPT_LIMIT + 1,
         Err(ReplayFault::Read),
-    );
-    let longest = vec![in rt.alloc(); b'#'; SCRIPT_LIMIT]?;
-    gives(&rt, rt.alloc(), "the longest", &longest, "", Ok(()));
-    Ok(())
+    )?;
+    remark_ends(&rt, alloc, "the longest", SCRIPT_LIMIT, Ok(()))
 }

@@ -2,7 +2,7 @@
 use crate::office::{Office, turn};
 use crate::terminal::{Terminal, take};
 use mgs_term::{Cell, Term};
-use std::alloc::Global;
+use std::alloc::{AllocError, Global};
 use std::test::Fail;
 
 const ROWS: usize = 6;
@@ -12,45 +12,53 @@ const COLS: usize = 20;
 // The most turns until all screens are as they are to be.
 const TURNS: usize = 200;
 
-// A row as a line. Behind it stands `!` where all of it is shown in reverse.
-fn push_row(screen: &mut String, row: &[Cell]) -> Result<(), Fail> {
-    let mut end = "!\n";
+// How a row ends: with `!` where all of it is shown in reverse.
+fn end_of(row: &[Cell]) -> &'static str {
+    for cell in row {
+        if !cell.reversed {
+            return "|\n";
+        }
+    }
+    "!\n"
+}
+
+// A row as a line.
+fn push_row(screen: &mut String, row: &[Cell]) -> Result<(), AllocError> {
     screen.push('|')?;
     for cell in row {
         screen.push(cell.character)?;
-        if !cell.reversed {
-            end = "|\n";
-        }
     }
-    screen.push_str(end)?;
-    Ok(())
+    screen.push_str(end_of(row))
 }
 
-// A terminal that took these bytes.
-fn fed(alloc: Global, bytes: &[u8]) -> Result<Term, Fail> {
-    let mut term = Term::new(alloc, ROWS, COLS)?;
-    term.feed_all(bytes)?;
-    Ok(term)
-}
-
-// The whole screen to which bytes lead, and behind it the cursor.
-fn screen_of(alloc: Global, bytes: &[u8]) -> Result<String, Fail> {
-    let term = fed(alloc, bytes)?;
-    let mut screen = String::new(alloc);
+// All rows of a terminal, and behind them the cursor.
+fn push_screen(screen: &mut String, term: &Term) -> Result<(), AllocError> {
     for row in term.grid().chunks(COLS) {
-        push_row(&mut screen, row)?;
+        push_row(screen, row)?;
     }
     let (row, col) = term.cursor();
-    let cursor = format!(in alloc; "cursor {row} {col}\n")?;
-    screen.push_str(cursor.as_str())?;
+    writeln!(screen, "cursor {row} {col}")
+}
+
+// The whole screen of a terminal, and behind it the cursor.
+fn screen_of(alloc: Global, term: &Term) -> Result<String, Fail> {
+    let mut screen = String::new(alloc);
+    push_screen(&mut screen, term)?;
     Ok(screen)
+}
+
+// Whether a terminal that takes these bytes shows this screen.
+fn shows(alloc: Global, term: &mut Term, bytes: &[u8], wanted: &str) -> Result<bool, Fail> {
+    term.feed_all(bytes)?;
+    let screen = screen_of(alloc, term)?;
+    Ok(screen.as_str() == wanted)
 }
 
 // Takes what came to a terminal, and whether it then shows this screen.
 fn takes(alloc: Global, terminal: &mut Terminal, wanted: &str) -> Result<bool, Fail> {
     take(terminal)?;
-    let screen = screen_of(alloc, terminal.got.as_slice())?;
-    Ok(screen.as_str() == wanted)
+    let mut term = Term::new(alloc, ROWS, COLS)?;
+    shows(alloc, &mut term, terminal.got.as_slice(), wanted)
 }
 
 /// Whether two terminals come to show these screens at once, while the server turns.

@@ -2,95 +2,108 @@
 use mgs_model::Name;
 use mgs_script::{Line, LineFault, cut_line, read_line};
 use std::alloc::Global;
-use std::process::Abort;
 use std::test::Fail;
+
+// Whether this is the first line of a script, and what stands behind that.
+fn is_cut(script: &[u8], line: &[u8], rest: Option<&[u8]>) -> bool {
+    cut_line(script) == (line, rest)
+}
 
 #[test]
 fn scripts_are_cut_at_the_first_line_feed(rt: HostRuntime) {
-    let (line, rest) = cut_line(b"user ann\n# end\n");
-    assert!(rt; line == b"user ann".as_slice());
-    assert!(rt; rest == Some(b"# end\n".as_slice()));
-    let (line, rest) = cut_line(b"# end");
-    assert!(rt; line == b"# end".as_slice());
-    assert!(rt; rest.is_none());
+    assert!(rt; is_cut(b"user ann\n# end\n", b"user ann", Some(b"# end\n")));
+    assert!(rt; is_cut(b"# end", b"# end", None));
 }
 
-// A line that is read so.
-fn is_read(rt: &impl Abort, alloc: Global, line: &str, wanted: &Line<'_>) -> Result<(), Fail> {
-    assert!(rt; read_line(alloc, line.as_bytes())? == *wanted, "{line}");
-    Ok(())
+// Whether a line is read so.
+fn is_read(alloc: Global, line: &[u8], wanted: Line<'_>) -> bool {
+    read_line(alloc, line) == Ok(wanted)
+}
+
+fn named(name: &str) -> Result<Name, Fail> {
+    let name = Name::read(name).ok_or("no name")?;
+    Ok(name)
+}
+
+// Whether a line says the group `staff` of two.
+fn group_is_read(alloc: Global, line: &[u8]) -> Result<bool, Fail> {
+    let members = vec![in alloc; "ann", "bob"]?;
+    let name = "staff";
+    Ok(is_read(alloc, line, Line::Group { name, members }))
 }
 
 #[test]
 fn lines_before_the_first_open_are_read(rt: HostRuntime) -> Result<(), Fail> {
     let alloc = rt.alloc();
-    let notes = Name::read("notes").ok_or("no name")?;
-    assert!(rt; read_line(alloc, b"# any \xFF bytes")? == Line::Nothing);
-    is_read(&rt, alloc, "", &Line::Nothing)?;
-    is_read(&rt, alloc, "user ann", &Line::User { name: "ann" })?;
-    let group = Line::Group {
-        name: "staff",
-        members: vec![in alloc; "ann", "bob"]?,
-    };
-    is_read(&rt, alloc, "group staff ann bob", &group)?;
-    let buffer = Line::Buffer {
-        name: "notes",
-        owner: "ann",
-    };
-    is_read(&rt, alloc, "buffer notes ann", &buffer)?;
-    let entry = Line::Entry {
-        buffer: notes,
-        entry: "ALLOW  EVERYONE@ rw",
-    };
-    is_read(&rt, alloc, "entry notes ALLOW  EVERYONE@ rw", &entry)
+    assert!(rt; is_read(alloc, b"# any \xFF bytes", Line::Nothing));
+    assert!(rt; is_read(alloc, b"", Line::Nothing));
+    assert!(rt; is_read(alloc, b"user ann", Line::User { name: "ann" }));
+    assert!(rt; group_is_read(alloc, b"group staff ann bob")?);
+    let name = "notes";
+    let owner = "ann";
+    assert!(rt; is_read(alloc, b"buffer notes ann", Line::Buffer { name, owner }));
+    let buffer = named("notes")?;
+    let entry = "ALLOW  EVERYONE@ rw";
+    assert!(rt;
+        is_read(
+            alloc,
+            b"entry notes ALLOW  EVERYONE@ rw",
+            Line::Entry { buffer, entry }
+        )
+    );
+    Ok(())
 }
 
-// The text `notes` of a line has these characters.
-fn text_is(rt: &impl Abort, alloc: Global, line: &str, wanted: &str) -> Result<(), Fail> {
-    let text = Line::Text {
-        buffer: Name::read("notes").ok_or("no name")?,
-        text: wanted.chars().collect(alloc)?,
-    };
-    is_read(rt, alloc, line, &text)
+// Whether a line says these characters for the text `notes`.
+fn text_is(alloc: Global, line: &[u8], characters: &[char]) -> Result<bool, Fail> {
+    let buffer = named("notes")?;
+    let text = Vec::from_slice(alloc, characters)?;
+    Ok(is_read(alloc, line, Line::Text { buffer, text }))
 }
 
-// A session of this label and this user opens on so many rows and columns.
-fn opens(
-    rt: &impl Abort,
-    alloc: Global,
-    label: &str,
-    user: &str,
-    rows: usize,
-    cols: usize,
-) -> Result<(), Fail> {
+// Whether a session of this label and this user opens on so many rows and columns.
+fn opens(alloc: Global, label: &str, user: &str, rows: usize, cols: usize) -> Result<bool, Fail> {
     let line = format!(in alloc; "open {label} {user} {rows} {cols}")?;
-    let label = Name::read(label).ok_or("no name")?;
+    let label = named(label)?;
     let open = Line::Open {
         label,
         user,
         rows,
         cols,
     };
-    is_read(rt, alloc, line.as_str(), &open)
+    Ok(is_read(alloc, line.as_bytes(), open))
+}
+
+// Whether a line says these bytes for a session.
+fn keys_are(alloc: Global, line: &[u8], label: Name, bytes: &[u8]) -> Result<bool, Fail> {
+    let keys = Vec::from_slice(alloc, bytes)?;
+    Ok(is_read(alloc, line, Line::Keys { label, keys }))
 }
 
 #[test]
 fn lines_of_texts_and_sessions_are_read(rt: HostRuntime) -> Result<(), Fail> {
     let alloc = rt.alloc();
-    text_is(&rt, alloc, "text notes 'a RET TAB SPC", "a\n\t ")?;
-    text_is(&rt, alloc, "text notes 'hi SPC RET ''", "hi \n'")?;
-    opens(&rt, alloc, "*notes*", "Ann", 24, 80)?;
-    opens(&rt, alloc, "a", "ann", 6, 20)?;
-    opens(&rt, alloc, "a", "ann", 0, 20)?;
-    opens(&rt, alloc, "a", "ann", 64, 160)?;
-    let label = Name::read("a").ok_or("no name")?;
-    let keys = Line::Keys {
-        label,
-        keys: vec![in alloc; 0x18, 0x32]?,
-    };
-    is_read(&rt, alloc, "keys a C-x '2", &keys)?;
-    is_read(&rt, alloc, "show a", &Line::Show { label })?;
-    is_read(&rt, alloc, "close a", &Line::Close { label })
+    assert!(rt; text_is(alloc, b"text notes 'a RET TAB SPC", &['a', '\n', '\t', ' '])?);
+    assert!(rt;
+        text_is(
+            alloc,
+            b"text notes 'hi SPC RET ''",
+            &['h', 'i', ' ', '\n', '\'']
+        )?
+    );
+    for &(label, user, rows, cols) in &[
+        ("*notes*", "Ann", 24, 80),
+        ("a", "ann", 6, 20),
+        ("a", "ann", 0, 20),
+        ("a", "ann", 64, 160),
+    ] {
+        assert!(rt; opens(alloc, label, user, rows, cols)?, "{rows} {cols}");
+    }
+    let label = named("a")?;
+    assert!(rt; keys_are(alloc, b"keys a C-x '2", label, &[0x18, 0x32])?);
+    assert!(rt; is_read(alloc, b"show a", Line::Show { label }));
+    assert!(rt; is_read(alloc, b"close a", Line::Close { label }));
+    Ok(())
 }
 
 const OTHERS: &str = "open a ann 06 20\n\
@@ -118,11 +131,15 @@ const OTHERS: &str = "open a ann 06 20\n\
     groups all ann\n\
     frob x\n show a";
 
+// Whether a line is refused.
+fn is_bad(alloc: Global, line: &[u8]) -> bool {
+    read_line(alloc, line) == Err(LineFault::Bad)
+}
+
 #[test]
 fn other_lines_are_refused(rt: HostRuntime) {
     for line in OTHERS.split('\n') {
-        let read = read_line(rt.alloc(), line.as_bytes());
-        assert!(rt; read == Err(LineFault::Bad), "{line}");
+        assert!(rt; is_bad(rt.alloc(), line.as_bytes()), "{line}");
     }
-    assert!(rt; read_line(rt.alloc(), b"entry notes \xFF") == Err(LineFault::Bad));
+    assert!(rt; is_bad(rt.alloc(), b"entry notes \xFF"));
 }

@@ -1,5 +1,5 @@
 // Incremental searches (C-s, C-r), each step with what the terminal then shows.
-use super::steps::scripts_show;
+use super::steps::{scripts_show, text_of};
 use std::test::Fail;
 
 const NOTES: &str = "user ann\n\
@@ -205,23 +205,27 @@ fn other_bytes_end_a_search(rt: HostRuntime) -> Result<(), Fail> {
     scripts_show(&rt, rt.alloc(), "", scripts)
 }
 
-// The 120th character is put behind the pattern, and the 121st is not. Of a long line the end is shown. Where DEL finds nothing from
-// the origin on, the point stays.
-#[test]
-fn a_pattern_has_120_characters(rt: HostRuntime) -> Result<(), Fail> {
-    let mut steps = String::from_str(rt.alloc(), "== a pattern has 120 characters\na C-s 'cab")?;
-    for _ in 0..4 {
-        steps.push_str(" 'aaaaaaaaaaaaaaaaaaaaaaaaaaaaa")?;
-    }
-    let rest =
-        " | abcabc | --L1-C5 | 1 6 | $aaaaaaaaaaaaaaaaaaaaaaaaaaaaaaaaaaaaaaaaaaaaaaaaaaaaaaaaaa
+const TYPED: &str = "== a pattern has 120 characters\na C-s 'cab";
+
+const SHOWN: &str =
+    " | abcabc | --L1-C5 | 1 6 | $aaaaaaaaaaaaaaaaaaaaaaaaaaaaaaaaaaaaaaaaaaaaaaaaaaaaaaaaaa
         a 'b   | abcabc | --L1-C5 | 1 6 | $aaaaaaaaaaaaaaaaaaaaaaaaaaaaaaaaaaaaaaaaaaaaaaaaaaaaaaaaab
         a 'c   | abcabc | --L1-C5 | 1 6 | $aaaaaaaaaaaaaaaaaaaaaaaaaaaaaaaaaaaaaaaaaaaaaaaaaaaaaaaaab
         a DEL  | abcabc | --L1-C5 | 1 6 | $aaaaaaaaaaaaaaaaaaaaaaaaaaaaaaaaaaaaaaaaaaaaaaaaaaaaaaaaaa
         a 'c   | abcabc | --L1-C5 | 1 6 | $aaaaaaaaaaaaaaaaaaaaaaaaaaaaaaaaaaaaaaaaaaaaaaaaaaaaaaaaac
         a C-g  | abcabc | --L1-C0 | 1 1 | Quit
     ";
-    steps.push_str(rest)?;
+
+// The 120th character is put behind the pattern, and the 121st is not. Of a long line the end is shown. Where DEL finds nothing from
+// the origin on, the point stays.
+#[test]
+fn a_pattern_has_120_characters(rt: HostRuntime) -> Result<(), Fail> {
+    let pieces = [
+        (TYPED, 1),
+        (" 'aaaaaaaaaaaaaaaaaaaaaaaaaaaaa", 4),
+        (SHOWN, 1),
+    ];
+    let steps = text_of(rt.alloc(), &pieces)?;
     scripts_show(&rt, rt.alloc(), NOTES, steps.as_str())
 }
 

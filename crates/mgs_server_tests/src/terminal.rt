@@ -17,13 +17,6 @@ pub(crate) struct Terminal {
     pub is_ended: bool,
 }
 
-// A connection to a port of the loopback address.
-fn connect(rt: &HostRuntime, port: u16) -> Result<TcpStream, Fail> {
-    let stream = TcpStream::connect(rt, SocketAddr::from((Ipv4Addr::LOCALHOST, port)))?;
-    stream.set_nonblocking(true)?;
-    Ok(stream)
-}
-
 // How many bytes a stream has now, and none where it has ended.
 fn read_now(stream: &mut TcpStream, buf: &mut [u8]) -> Result<Option<usize>, Fail> {
     match stream.read(buf) {
@@ -34,10 +27,17 @@ fn read_now(stream: &mut TcpStream, buf: &mut [u8]) -> Result<Option<usize>, Fai
     }
 }
 
-/// A terminal that is connected and has sent these bytes in one write.
-pub(crate) fn enter(rt: &HostRuntime, port: u16, bytes: &[u8]) -> Result<Terminal, Fail> {
-    let mut stream = connect(rt, port)?;
+// A stream that never waits from now on sends these bytes in one write.
+fn send(stream: &mut TcpStream, bytes: &[u8]) -> Result<(), Fail> {
+    stream.set_nonblocking(true)?;
     stream.write_all(bytes)?;
+    Ok(())
+}
+
+/// A terminal that is connected to a port of the loopback address and has sent these bytes in one write.
+pub(crate) fn enter(rt: &HostRuntime, port: u16, bytes: &[u8]) -> Result<Terminal, Fail> {
+    let mut stream = TcpStream::connect(rt, SocketAddr::from((Ipv4Addr::LOCALHOST, port)))?;
+    send(&mut stream, bytes)?;
     Ok(Terminal {
         stream,
         got: Vec::new(rt.alloc()),

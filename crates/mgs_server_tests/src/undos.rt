@@ -1,5 +1,5 @@
 // Edits that are taken back, by whom it may be, each with what the terminal then shows.
-use super::steps::scripts_show;
+use super::steps::{scripts_show, text_of};
 use std::test::Fail;
 
 const THREE: &str = "user ann\n\
@@ -84,27 +84,22 @@ const TYPED: &str =
 const UNDONE: &str =
     "keys a C-_ C-_ C-_ C-_ C-_ C-_ C-_ C-_ C-_ C-_ C-_ C-_ C-_ C-_ C-_ C-_ C-_ C-_ C-_ C-_ C-_ C-_ C-_ C-_ C-_ C-_ C-_ C-_ C-_ C-_ C-_ C-_ C-_ C-_ C-_ C-_ C-_ C-_ C-_ C-_ C-_ C-_ C-_ C-_ C-_ C-_ C-_ C-_ C-_ C-_ C-_ C-_ C-_ C-_ C-_ C-_ C-_ C-_ C-_ C-_ C-_ C-_ C-_ C-_ C-_ C-_ C-_ C-_ C-_ C-_ C-_ C-_ C-_ C-_ C-_ C-_ C-_ C-_ C-_ C-_ C-_ C-_ C-_ C-_ C-_ C-_ C-_ C-_ C-_ C-_ C-_ C-_ C-_ C-_ C-_ C-_ C-_ C-_ C-_ C-_\n";
 
+const SETTING: &str = "user ann\n\
+    buffer notes ann\n\
+    entry notes ALLOW ann rwat\n\
+    open a ann 6 60\n";
+
 // 1,001 characters are typed. Of these edits and those that undo them the record keeps the last 1,000: after 500 undos in a row
 // the next one to take back is gone.
 #[test]
 fn a_thousand_edits_are_kept(rt: HostRuntime) -> Result<(), Fail> {
-    let setting = "user ann\n\
-        buffer notes ann\n\
-        entry notes ALLOW ann rwat\n\
-        open a ann 6 60\n";
-    let mut script = String::from_str(rt.alloc(), setting)?;
-    for _ in 0..10 {
-        script.push_str(TYPED)?;
-    }
-    script.push_str("keys a 'x\n")?;
-    for _ in 0..5 {
-        script.push_str(UNDONE)?;
-    }
+    let pieces = [(SETTING, 1), (TYPED, 10), ("keys a 'x\n", 1), (UNDONE, 5)];
+    let setting = text_of(rt.alloc(), &pieces)?;
     let steps = "
         == a thousand edits are kept
         a     | $xxxxxxxxxxxxxxxxxxxxxxxxxxxxxxxxxxxx | **L1-C501 | 1 38
         a C-_ | $xxxxxxxxxxxxxxxxxxxxxxxxxxxxxxxxxxxx | **L1-C501 | 1 38 | No further undo information
         a C-_ | $xxxxxxxxxxxxxxxxxxxxxxxxxxxxxxxxxxxx | **L1-C501 | 1 38 | No further undo information
     ";
-    scripts_show(&rt, rt.alloc(), script.as_str(), steps)
+    scripts_show(&rt, rt.alloc(), setting.as_str(), steps)
 }

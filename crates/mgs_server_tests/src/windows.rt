@@ -1,6 +1,7 @@
 // Windows of a session: how they share its rows, and what they show.
 use super::replay::{NOTES, plays};
 use super::steps::scripts_show;
+use std::alloc::{AllocError, Global};
 use std::test::Fail;
 
 // Heights of windows on an empty text, and the row of the cursor.
@@ -211,37 +212,60 @@ fn windows_follow_their_points(rt: HostRuntime) -> Result<(), Fail> {
     scripts_show(&rt, rt.alloc(), "", others)
 }
 
-// Sessions with two windows end in another order than they opened, by a byte or a close.
-#[test]
-fn sessions_end_in_any_order(rt: HostRuntime) -> Result<(), Fail> {
-    let alloc = rt.alloc();
-    let mut lines = String::new(alloc);
+const ENDED: &str = "refused more 3 Full\n\
+    ended s0 Quit\n\
+    ended s1 Quit\n\
+    ended s2 Closed\n\
+    screen last\n\
+    |xxxxxxxxxxxxxxxxxxx$|\n\
+    |                    |\n\
+    |                    |\n\
+    |                    |\n\
+    !-**-notes-L1-C0-----!\n\
+    |                    |\n\
+    cursor 1 1\n";
+
+// A session with two windows.
+fn push_opened(lines: &mut String, n: usize) -> Result<(), AllocError> {
+    writeln!(lines, "open s{n} ann 6 20\nkeys s{n} C-x '2")
+}
+
+// The end of a session, by a byte or a close.
+fn push_ended(lines: &mut String, n: usize) -> Result<(), AllocError> {
+    match n % 3 {
+        0 => writeln!(lines, "keys s{n} 'x C-x C-c"),
+        1 => writeln!(lines, "keys s{n} C-x '0 C-x '2 C-x C-c"),
+        _ => writeln!(lines, "close s{n}"),
+    }
+}
+
+fn push_sessions(lines: &mut String) -> Result<(), AllocError> {
     for i in 0..64usize {
-        let opened = format!(in alloc; "open s{i} ann 6 20\nkeys s{i} C-x '2\n")?;
-        lines.push_str(opened.as_str())?;
+        push_opened(lines, i)?;
     }
     lines.push_str("open more ann 6 20\n")?;
     for i in 0..64usize {
-        let n = i * 27 % 64;
-        let line = match n % 3 {
-            0 => format!(in alloc; "keys s{n} 'x C-x C-c\n")?,
-            1 => format!(in alloc; "keys s{n} C-x '0 C-x '2 C-x C-c\n")?,
-            _ => format!(in alloc; "close s{n}\n")?,
-        };
-        lines.push_str(line.as_str())?;
+        push_ended(lines, i * 27 % 64)?;
     }
-    lines.push_str("show s0\nshow s1\nshow s2\nopen last ann 6 20\nshow last\n")?;
-    let output = "refused more 3 Full\n\
-        ended s0 Quit\n\
-        ended s1 Quit\n\
-        ended s2 Closed\n\
-        screen last\n\
-        |xxxxxxxxxxxxxxxxxxx$|\n\
-        |                    |\n\
-        |                    |\n\
-        |                    |\n\
-        !-**-notes-L1-C0-----!\n\
-        |                    |\n\
-        cursor 1 1\n";
-    plays(&rt, alloc, "64 sessions", lines.as_str(), output, Ok(()))
+    lines.push_str("show s0\nshow s1\nshow s2\nopen last ann 6 20\nshow last\n")
+}
+
+fn sessions(alloc: Global) -> Result<String, AllocError> {
+    let mut lines = String::new(alloc);
+    push_sessions(&mut lines)?;
+    Ok(lines)
+}
+
+// Sessions with two windows end in another order than they opened, by a byte or a close.
+#[test]
+fn sessions_end_in_any_order(rt: HostRuntime) -> Result<(), Fail> {
+    let lines = sessions(rt.alloc())?;
+    plays(
+        &rt,
+        rt.alloc(),
+        "64 sessions",
+        lines.as_str(),
+        ENDED,
+        Ok(()),
+    )
 }
