@@ -1,5 +1,5 @@
 // Decisions that are kept.
-ghost use Rattle.std.specs.Prelude.{ℕ, List as Items, ◌≡◌};
+ghost use Rattle.std.specs.Prelude.{ℕ, List as Items, ◌≡◌, []};
 ghost use Rattle.mgs_model.specs.Access.{Directory as Users};
 ghost use Rattle.mgs_model.specs.declared.entry.Entry.{Entry};
 ghost use Rattle.mgs_cache.specs.Kept.{AreRight};
@@ -10,6 +10,20 @@ use mgs_cache::Judge;
 use mgs_model::{Decision, Mask, Name, Right};
 use mgs_policy::Directory;
 use std::process::Abort;
+use std::test::Fail;
+
+const NO_READING: Decision = Decision::NotGranted {
+    bit: Right::ReadData,
+};
+
+const DENIED_BY_2: Decision = Decision::DeniedBy {
+    entry: 2,
+    bit: Right::WriteData,
+};
+
+fn denied_by_1(bit: Right) -> Decision {
+    Decision::DeniedBy { entry: 1, bit }
+}
 
 // Asks a judge for these rights, and sees that each answer is the one that is wanted.
 fn ask(
@@ -31,78 +45,56 @@ fn ask(
     }
 }
 
+// Asks a judge that keeps nothing for rights on four buffers, each with its list, and then for all of them once more.
 // What is asked a second time is told from what is kept: nothing more is kept then.
+fn ask_twice(
+    rt: &impl Abort,
+    judge: &mut Judge,
+    directory: &Directory,
+    first: &List,
+    shared: &List,
+    apart: &List,
+    together: &List,
+)
+    requires { judge.old ≡ [] }
+{
+    let (ann, bob, cat) = (named(rt, "ann"), named(rt, "bob"), named(rt, "cat"));
+    let of_first = [
+        (ann, 0x3, DENIED_BY_2),
+        (ann, 0x1, Decision::Granted),
+        (bob, 0x3, NO_READING),
+    ];
+    let of_shared = [
+        (ann, 0x7, Decision::Granted),
+        (bob, 0x2, DENIED_BY_2),
+        (bob, 0x1, NO_READING),
+    ];
+    let of_apart = [(ann, 0x3, denied_by_1(Right::WriteData))];
+    let of_together = [(ann, 0x3, denied_by_1(Right::ReadData))];
+    ask(rt, judge, directory, 0, first, &cat, &of_first);
+    ask(rt, judge, directory, 1, shared, &ann, &of_shared);
+    ask(rt, judge, directory, 2, apart, &cat, &of_apart);
+    ask(rt, judge, directory, 3, together, &cat, &of_together);
+    assert!(rt; judge.kept() == 8);
+    ask(rt, judge, directory, 0, first, &cat, &of_first);
+    ask(rt, judge, directory, 1, shared, &ann, &of_shared);
+    ask(rt, judge, directory, 2, apart, &cat, &of_apart);
+    ask(rt, judge, directory, 3, together, &cat, &of_together);
+    assert!(rt; judge.kept() == 8);
+}
+
 #[test]
-fn a_judge_answers_the_same_twice(rt: HostRuntime) {
+fn a_judge_answers_the_same_twice(rt: HostRuntime) -> Result<(), Fail> {
+    let mut judge = Judge::new(rt.alloc())?;
     let directory = staff(&rt, rt.alloc());
-    let (ann, bob, cat) = (named(&rt, "ann"), named(&rt, "bob"), named(&rt, "cat"));
     let first = list_of(&rt, "ALLOW ann r\nDENY ann rw\nALLOW EVERYONE@ w");
     let shared = list_of(&rt, "ALLOW OWNER@ rwa\nDENY group:staff w");
     let apart = list_of(&rt, "DENY ann w\nDENY ann r");
     let together = list_of(&rt, "DENY ann wr");
-    let denied = Decision::DeniedBy {
-        entry: 2,
-        bit: Right::WriteData,
-    };
-    let unread = Decision::NotGranted {
-        bit: Right::ReadData,
-    };
-    let of_first = [
-        (ann, 0x3, denied),
-        (ann, 0x1, Decision::Granted),
-        (bob, 0x3, unread),
-    ];
-    let of_shared = [
-        (ann, 0x7, Decision::Granted),
-        (bob, 0x2, denied),
-        (bob, 0x1, unread),
-    ];
-    let of_apart = [(
-        ann,
-        0x3,
-        Decision::DeniedBy {
-            entry: 1,
-            bit: Right::WriteData,
-        },
-    )];
-    let of_together = [(
-        ann,
-        0x3,
-        Decision::DeniedBy {
-            entry: 1,
-            bit: Right::ReadData,
-        },
-    )];
-    let mut judge = match Judge::new(rt.alloc()) {
-        Ok(judge) => judge,
-        Err(_) => panic!(rt; "no memory"),
-    };
-    ask(&rt, &mut judge, &directory, 0, &first, &cat, &of_first);
-    ask(&rt, &mut judge, &directory, 1, &shared, &ann, &of_shared);
-    ask(&rt, &mut judge, &directory, 2, &apart, &cat, &of_apart);
-    ask(
-        &rt,
-        &mut judge,
-        &directory,
-        3,
-        &together,
-        &cat,
-        &of_together,
+    ask_twice(
+        &rt, &mut judge, &directory, &first, &shared, &apart, &together,
     );
-    assert!(rt; judge.kept() == 8);
-    ask(&rt, &mut judge, &directory, 0, &first, &cat, &of_first);
-    ask(&rt, &mut judge, &directory, 1, &shared, &ann, &of_shared);
-    ask(&rt, &mut judge, &directory, 2, &apart, &cat, &of_apart);
-    ask(
-        &rt,
-        &mut judge,
-        &directory,
-        3,
-        &together,
-        &cat,
-        &of_together,
-    );
-    assert!(rt; judge.kept() == 8);
     judge.forget();
     assert!(rt; judge.kept() == 0);
+    Ok(())
 }

@@ -67,7 +67,14 @@ const PREFIXES: [&[u8]; 7] = [
     b"\x11",
 ];
 
-// Where a word ends, nothing of it is held.
+// Whether a byte has its answer behind what is held. Where a word ends, nothing of it is held.
+fn has_answer(held: &Keyboard, prefix: &[u8], byte: u8, argument: Option<usize>) -> bool {
+    let mut keyboard = *held;
+    let fed = keyboard.feed(byte);
+    fed == answer(prefix, byte, argument)
+        && (fed == Fed::Pending || keyboard.feed(b'2') == character(b'2', None))
+}
+
 #[test]
 fn every_byte_has_an_answer(rt: HostRuntime) {
     for &(typed, argument) in &HELD {
@@ -76,15 +83,10 @@ fn every_byte_has_an_answer(rt: HostRuntime) {
             let _argument = last_fed(&mut held, typed);
             let _prefix = last_fed(&mut held, prefix);
             for byte in 0..=255u8 {
-                let mut keyboard = held;
-                let fed = keyboard.feed(byte);
                 assert!(rt;
-                    fed == answer(prefix, byte, argument),
+                    has_answer(&held, prefix, byte, argument),
                     "{typed:?} {prefix:?} {byte}"
                 );
-                if fed != Fed::Pending {
-                    assert!(rt; keyboard.feed(b'2') == character(b'2', None));
-                }
             }
         }
     }
@@ -162,27 +164,20 @@ const WORDS: [(&[u8], Fed); 23] = [
     ),
 ];
 
-// The byte behind a word inserts itself, since nothing is held then.
+// Whether a word comes to this, and the byte behind it inserts itself, since nothing is held then.
+fn comes_to(word: &[u8], fed: Fed, next: u8) -> bool {
+    let mut keyboard = Keyboard::new();
+    last_fed(&mut keyboard, word) == fed && keyboard.feed(next) == character(next, None)
+}
+
 #[test]
 fn arguments_and_words_are_read(rt: HostRuntime) {
     for &(typed, argument) in &ARGUMENTS {
-        let mut keyboard = Keyboard::new();
-        assert!(rt;
-            last_fed(&mut keyboard, typed) == character(b'x', Some(argument)),
-            "{typed:?}"
-        );
-        assert!(rt;
-            keyboard.feed(b'y') == character(b'y', None),
-            "behind {typed:?}"
-        );
+        let fed = character(b'x', Some(argument));
+        assert!(rt; comes_to(typed, fed, b'y'), "{typed:?}");
     }
     for &(typed, fed) in &WORDS {
-        let mut keyboard = Keyboard::new();
-        assert!(rt; last_fed(&mut keyboard, typed) == fed, "{typed:?}");
-        assert!(rt;
-            keyboard.feed(b'2') == character(b'2', None),
-            "behind {typed:?}"
-        );
+        assert!(rt; comes_to(typed, fed, b'2'), "{typed:?}");
     }
     for row in bindings() {
         let fed = last_fed(&mut Keyboard::new(), row.keys);

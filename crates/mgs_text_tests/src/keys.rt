@@ -1,5 +1,6 @@
 // Keys that are written as tokens, quotes, and numbers that are written in digits.
 use mgs_keys::{KeysFault, cut_at, quoted, read_keys, read_number};
+use std::alloc::Global;
 use std::process::Abort;
 
 const TOKENS: [(&str, &[u8]); 3] = [
@@ -12,19 +13,26 @@ const NO_TOKENS: [&str; 11] = [
     "", "C-1", "'", "Tab", " RET", "RET ", "RET  RET", "C-A", "M-", "M-ab", "ret",
 ];
 
+// Whether a text is read as these keys.
+fn reads(alloc: Global, text: &str, keys: &[u8]) -> bool {
+    match read_keys(alloc, text) {
+        Ok(read) => read.as_slice() == keys,
+        Err(_) => false,
+    }
+}
+
+// Whether a text is refused for a token that is none.
+fn is_refused(alloc: Global, text: &str) -> bool {
+    matches!(&read_keys(alloc, text), Err(KeysFault::BadToken))
+}
+
 #[test]
 fn keys_are_read(rt: HostRuntime) {
     for &(text, keys) in &TOKENS {
-        match read_keys(rt.alloc(), text) {
-            Ok(read) => assert!(rt; read.as_slice() == keys, "{text}"),
-            Err(_) => panic!(rt; "{text} is refused"),
-        }
+        assert!(rt; reads(rt.alloc(), text, keys), "{text}");
     }
     for &text in &NO_TOKENS {
-        assert!(rt;
-            matches!(&read_keys(rt.alloc(), text), Err(KeysFault::BadToken)),
-            "{text}"
-        );
+        assert!(rt; is_refused(rt.alloc(), text), "{text}");
     }
 }
 

@@ -30,22 +30,28 @@ const WIDTHS: [(usize, char, usize); 7] = [
     (0, '\u{1f600}', 9),
 ];
 
+// Whether a place has this start and end of its line, and this column.
+fn lies_in_line(text: &impl Text, p: usize, start: usize, end: usize, cells: usize) -> bool {
+    text.len() == 8
+        && p <= 8
+        && line_start(text, p) == start
+        && line_end(text, p) == end
+        && column(text, p) == cells
+}
+
+// Whether the top of a window of two rows settles there.
+fn settles(text: &impl Text, top: usize, point: usize, settled: usize) -> bool {
+    top <= text.len() && point <= text.len() && settled_top(text, 2, top, point) == settled
+}
+
 #[test]
 fn parts_lines_and_counts_cells(rt: HostRuntime) -> Result<(), Fail> {
     let text = PlainText::of(rt.alloc(), &LINES)?;
-    assert!(rt; text.len() == 8);
     for &(p, start, end, cells) in &PLACES {
-        assert!(rt; p <= 8);
-        assert!(rt; line_start(&text, p) == start, "start at {p}");
-        assert!(rt; line_end(&text, p) == end, "end at {p}");
-        assert!(rt; column(&text, p) == cells, "column at {p}");
+        assert!(rt; lies_in_line(&text, p, start, end, cells), "at {p}");
     }
     for &(top, point, settled) in &TOPS {
-        assert!(rt; top <= 8 && point <= 8);
-        assert!(rt;
-            settled_top(&text, 2, top, point) == settled,
-            "{top} for {point}"
-        );
+        assert!(rt; settles(&text, top, point, settled), "{top} for {point}");
     }
     for &(at, c, cells) in &WIDTHS {
         assert!(rt; width(at, c) == cells, "{c} at {at}");
@@ -70,19 +76,25 @@ const GOALS: [(usize, usize, usize); 10] = [
 // In a space, a tab, `a`, and a line of a tab and `b`: the end of the indent before a place.
 const INDENTS: [(usize, usize); 7] = [(0, 0), (1, 1), (2, 2), (3, 2), (4, 4), (5, 5), (6, 5)];
 
+// Whether the place in the line of a start that is nearest to a goal column is this one.
+fn is_nearest(text: &impl Text, start: usize, goal: usize, place: usize) -> bool {
+    text.len() == 6 && start <= 6 && column_place(text, start, goal) == place
+}
+
+// Whether the indent before a place ends there.
+fn indents_to(text: &impl Text, p: usize, end: usize) -> bool {
+    text.len() == 6 && p <= 6 && indent_end(text, p) == end
+}
+
 #[test]
 fn goal_columns_and_indents(rt: HostRuntime) -> Result<(), Fail> {
     let text = PlainText::of(rt.alloc(), &['a', '\t', '\x01', '\u{e9}', '\n', 'b'])?;
-    assert!(rt; text.len() == 6);
     for &(start, goal, place) in &GOALS {
-        assert!(rt; start <= 6);
-        assert!(rt; column_place(&text, start, goal) == place, "goal {goal}");
+        assert!(rt; is_nearest(&text, start, goal, place), "goal {goal}");
     }
     let text = PlainText::of(rt.alloc(), &[' ', '\t', 'a', '\n', '\t', 'b'])?;
-    assert!(rt; text.len() == 6);
     for &(p, end) in &INDENTS {
-        assert!(rt; p <= 6);
-        assert!(rt; indent_end(&text, p) == end, "from {p}");
+        assert!(rt; indents_to(&text, p, end), "from {p}");
     }
     Ok(())
 }

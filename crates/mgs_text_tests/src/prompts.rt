@@ -25,16 +25,25 @@ const KEYS: [(&[u8], Step, &[u8]); 18] = [
     (&[b'a'; 121], Step::GoesOn, &[b'a'; 120]),
 ];
 
+// What the last of these bytes comes to.
+fn last_fed(prompt: &mut Prompt, bytes: &[u8]) -> Step {
+    let mut step = Step::GoesOn;
+    for byte in bytes {
+        step = prompt.feed(*byte);
+    }
+    step
+}
+
+// Whether the last of these bytes comes to this, and so much stands in the prompt then.
+fn comes_to(prompt: &mut Prompt, bytes: &[u8], last: Step, input: &[u8]) -> bool {
+    last_fed(prompt, bytes) == last && prompt.input() == input
+}
+
 #[test]
 fn each_key_of_a_prompt(rt: HostRuntime) {
     for &(bytes, last, input) in &KEYS {
         let mut prompt = Prompt::new(Question::SwitchTo);
-        let mut step = Step::GoesOn;
-        for byte in bytes {
-            step = prompt.feed(*byte);
-        }
-        assert!(rt; step == last, "{bytes:?}");
-        assert!(rt; prompt.input() == input, "{bytes:?}");
+        assert!(rt; comes_to(&mut prompt, bytes, last, input), "{bytes:?}");
     }
 }
 
@@ -50,13 +59,8 @@ const COMPLETED: [(&[u8], Option<&[u8]>); 7] = [
     (b"N", None),
 ];
 
-#[test]
-fn a_prompt_takes_in_what_names_have_in_common(rt: HostRuntime) {
-    for &(input, wanted) in &COMPLETED {
-        assert!(rt; completion(input, &NAMES) == wanted, "{input:?}");
-    }
-    assert!(rt; completion(b"", &[]) == None);
-    let mut prompt = Prompt::new(Question::KillWhich);
+// A new prompt for a buffer takes a completion in, and stays as it is where there is none.
+fn complete(rt: &impl Abort, prompt: &mut Prompt) {
     assert!(rt; prompt.names_buffer());
     prompt.feed(b'n');
     assert!(rt; prompt.complete(Some(b"notes".as_slice())));
@@ -65,4 +69,13 @@ fn a_prompt_takes_in_what_names_have_in_common(rt: HostRuntime) {
     assert!(rt; prompt.input() == b"notes".as_slice());
     assert!(rt; prompt.feed(0x7F) == Step::GoesOn);
     assert!(rt; prompt.input() == b"note".as_slice());
+}
+
+#[test]
+fn a_prompt_takes_in_what_names_have_in_common(rt: HostRuntime) {
+    for &(input, wanted) in &COMPLETED {
+        assert!(rt; completion(input, &NAMES) == wanted, "{input:?}");
+    }
+    assert!(rt; completion(b"", &[]) == None);
+    complete(&rt, &mut Prompt::new(Question::KillWhich));
 }

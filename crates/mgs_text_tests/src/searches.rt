@@ -1,12 +1,13 @@
 // Matches in a text, and incremental search byte by byte.
 ghost use Rattle.std.specs.Prelude.{◌≤◌, length};
 
-use mgs_model::{Direction, Message, SearchPlaces, SearchStep};
+use mgs_model::{Direction, Message, SearchPlaces, SearchStep, Short};
 use mgs_search::{
     IncrementalSearch, Replacement, begin_replacing, find_backward, find_forward, find_past,
     matches_at, replace_last, replace_match, search_for, skip_match,
 };
 use mgs_text::{PlainText, Text};
+use std::alloc::Global;
 use std::process::Abort;
 use std::test::Fail;
 
@@ -49,52 +50,101 @@ const REPLACED: [(usize, bool, Option<usize>, Option<usize>); 5] = [
     (7, false, None, None),
 ];
 
+// Whether a match stands at a place, the first from there on is this one, and the last up to there that one.
+fn finds(
+    text: &impl Text,
+    p: usize,
+    here: bool,
+    first: Option<usize>,
+    last: Option<usize>,
+) -> bool {
+    let ab = ['A', 'B'];
+    text.len() == 8
+        && p <= 8
+        && matches_at(text, p, &ab) == here
+        && find_forward(text, p, &ab) == first
+        && find_backward(text, p, &ab) == last
+}
+
 #[test]
 fn finds_matches(rt: HostRuntime) -> Result<(), Fail> {
     let text = PlainText::of(rt.alloc(), &THRICE)?;
-    assert!(rt; text.len() == 8);
-    let ab = ['A', 'B'];
     for &(p, here, first, last) in &MATCHES {
-        assert!(rt; p <= 8);
-        assert!(rt; matches_at(&text, p, &ab) == here, "at {p}");
-        assert!(rt; find_forward(&text, p, &ab) == first, "from {p}");
-        assert!(rt; find_backward(&text, p, &ab) == last, "up to {p}");
+        assert!(rt; finds(&text, p, here, first, last), "at {p}");
     }
     Ok(())
+}
+
+// Whether the next match from a place is this one, and a search takes the point there.
+fn finds_past(
+    text: &impl Text,
+    p: usize,
+    way: Direction,
+    next: Option<usize>,
+    point: Option<usize>,
+) -> bool {
+    let ab = ['a', 'b'];
+    text.len() == 8
+        && p <= 8
+        && find_past(text, way, p, &ab) == next
+        && search_for(text, p, way, &ab).ok() == point
+}
+
+// Whether a search finds nothing at the end, and one for nothing is refused.
+fn is_refused(text: &impl Text) -> bool {
+    text.len() == 8
+        && search_for(text, 8, F, &['a', 'b']) == Err(Message::NotFound)
+        && search_for(text, 0, B, &[]) == Err(Message::NoPattern)
 }
 
 #[test]
 fn searches_past_a_match(rt: HostRuntime) -> Result<(), Fail> {
     let text = PlainText::of(rt.alloc(), &THRICE)?;
-    assert!(rt; text.len() == 8);
-    let ab = ['a', 'b'];
     for &(p, behind, before, on, back) in &FOUND {
-        assert!(rt; p <= 8);
-        assert!(rt; find_past(&text, F, p, &ab) == behind, "behind {p}");
-        assert!(rt; find_past(&text, B, p, &ab) == before, "before {p}");
-        assert!(rt; search_for(&text, p, F, &ab).ok() == on, "on from {p}");
-        assert!(rt; search_for(&text, p, B, &ab).ok() == back, "back from {p}");
+        assert!(rt; finds_past(&text, p, F, behind, on), "on from {p}");
+        assert!(rt; finds_past(&text, p, B, before, back), "back from {p}");
     }
-    assert!(rt; search_for(&text, 8, F, &ab) == Err(Message::NotFound));
-    assert!(rt; search_for(&text, 0, B, &[]) == Err(Message::NoPattern));
+    assert!(rt; is_refused(&text));
     Ok(())
+}
+
+// Whether a query-replace begins at the first match from a place on, and one of nothing is refused.
+fn begins(text: &impl Text) -> bool {
+    let ab = ['A', 'B'];
+    text.len() == 8
+        && begin_replacing(text, 1, &ab) == Ok(Some(3))
+        && begin_replacing(text, 7, &ab) == Ok(None)
+        && begin_replacing(text, 1, &[]) == Err(Message::NoPattern)
+}
+
+// Whether a match at an anchor is replaced or not, and passed over.
+fn replaces(
+    text: &impl Text,
+    anchor: usize,
+    replacement: Replacement,
+    skipped: Option<usize>,
+) -> bool {
+    let ab = ['A', 'B'];
+    text.len() == 8
+        && anchor <= 8
+        && replace_match(text, anchor, &ab, &['x', 'y', 'z']) == replacement
+        && replace_last(text, anchor, &ab).replaces == replacement.replaces
+        && skip_match(text, anchor, &ab) == skipped
 }
 
 #[test]
 fn replaces_matches(rt: HostRuntime) -> Result<(), Fail> {
     let text = PlainText::of(rt.alloc(), &THRICE)?;
-    assert!(rt; text.len() == 8);
-    let ab = ['A', 'B'];
-    assert!(rt; begin_replacing(&text, 1, &ab) == Ok(Some(3)));
-    assert!(rt; begin_replacing(&text, 7, &ab) == Ok(None));
-    assert!(rt; begin_replacing(&text, 1, &[]) == Err(Message::NoPattern));
-    for &(anchor, replaces, next, skipped) in &REPLACED {
-        assert!(rt; anchor <= 8);
-        let replaced = replace_match(&text, anchor, &ab, &['x', 'y', 'z']);
-        assert!(rt; replaced == Replacement { replaces, next }, "at {anchor}");
-        let last = replace_last(&text, anchor, &ab);
-        assert!(rt; last.replaces == replaces, "last at {anchor}");
-        assert!(rt; skip_match(&text, anchor, &ab) == skipped, "past {anchor}");
+    assert!(rt; begins(&text));
+    for &(anchor, here, next, skipped) in &REPLACED {
+        let replacement = Replacement {
+            replaces: here,
+            next,
+        };
+        assert!(rt;
+            replaces(&text, anchor, replacement, skipped),
+            "at {anchor}"
+        );
     }
     Ok(())
 }
@@ -109,12 +159,17 @@ const CASES: [(char, char, bool); 6] = [
     ('1', '1', true),
 ];
 
+// Whether a character is found in a text of another one.
+fn is_found_in(alloc: Global, c: char, sought: char) -> Result<bool, Short> {
+    let text = PlainText::of(alloc, &[c])?;
+    Ok(matches_at(&text, 0, &[sought]))
+}
+
 #[test]
 fn the_case_of_ascii_letters_alone_is_ignored(rt: HostRuntime) -> Result<(), Fail> {
     for &(c, sought, found) in &CASES {
-        let text = PlainText::of(rt.alloc(), &[c])?;
         assert!(rt;
-            (matches_at(&text, 0, &[sought])) == found,
+            is_found_in(rt.alloc(), c, sought)? == found,
             "{sought} at {c}"
         );
     }
@@ -123,14 +178,14 @@ fn the_case_of_ascii_letters_alone_is_ignored(rt: HostRuntime) -> Result<(), Fai
 
 // What bytes make of a search from `start` on: what the last one comes to, how many characters the pattern has, and
 // whether the search is failing, its anchor and the point.
-fn comes_to<T: Text + Drop>(
-    text: T,
+fn comes_to<T: Text>(
+    text: &T,
     way: Direction,
     start: usize,
     last: &[char],
     bytes: &[u8],
 ) -> (SearchStep, usize, bool, usize, usize)
-    requires start { start ≤ length (T.text text) }
+    requires start { start ≤ length (T.text text.now) }
     requires last { length last.now ≤ 120 }
 {
     let mut search = IncrementalSearch::new(way);
@@ -142,7 +197,7 @@ fn comes_to<T: Text + Drop>(
     let mut step = SearchStep::Stays;
     for byte in bytes {
         step = search.feed(last, *byte);
-        places = search.look(&text, step, places);
+        places = search.look(text, step, places);
     }
     (
         step,
@@ -256,20 +311,26 @@ const F: Direction = Direction::Forward;
 
 const B: Direction = Direction::Backward;
 
+// Whether characters that are typed come to what a row says.
+fn comes_out(text: &impl Text, typed: &Typed) -> bool {
+    let &(way, start, last, bytes, end) = typed;
+    text.len() == 8
+        && start <= 8
+        && last.len() <= 120
+        && comes_to(text, way, start, last, bytes) == end
+}
+
 #[test]
 fn searches_by_bytes(rt: HostRuntime) -> Result<(), Fail> {
-    for &(way, start, last, bytes, end) in &SEARCHES {
-        let text = PlainText::of(rt.alloc(), &THRICE)?;
-        assert!(rt; start <= 8 && text.len() == 8 && last.len() <= 120);
-        assert!(rt;
-            comes_to(text, way, start, last, bytes) == end,
-            "{bytes:?} from {start}"
-        );
+    let text = PlainText::of(rt.alloc(), &THRICE)?;
+    for typed in &SEARCHES {
+        let (start, bytes) = (typed.1, typed.3);
+        assert!(rt; comes_out(&text, typed), "{bytes:?} from {start}");
     }
     let text = PlainText::of(rt.alloc(), &['a'; 120])?;
     let end = (SearchStep::FromAnchor, 120, false, 0, 120);
     assert!(rt;
-        comes_to(text, F, 0, &[], &[b'a'; 121]) == end,
+        comes_to(&text, F, 0, &[], &[b'a'; 121]) == end,
         "the pattern ends at 120"
     );
     Ok(())

@@ -7,51 +7,61 @@ use std::alloc::Global;
 use std::process::Abort;
 use std::test::Fail;
 
-fn holds<T: Text>(text: &T, chars: &[char]) -> Result<bool, Short> {
+// Whether these characters stand in a text from one place up to another.
+fn reads(text: &impl Text, from: usize, to: usize, chars: &[char]) -> Result<bool, Short> {
+    if from > to || to > text.len() {
+        return Ok(false);
+    }
+    let copy = text.copy(from, to)?;
+    Ok(copy.as_slice() == chars)
+}
+
+fn holds(text: &impl Text, chars: &[char]) -> Result<bool, Short> {
     let all = text.copy(0, text.len())?;
     Ok(all.as_slice() == chars)
 }
 
-fn edit<T: Text + Drop>(alloc: Global, rt: &impl Abort) -> Result<(), Fail> {
-    let mut text = T::of(alloc, &['a', 'b', 'c'])?;
+// Puts two characters in the place of one, in a text `abc`.
+fn edit(rt: &impl Abort, text: &mut impl Text) -> Result<(), Short> {
     assert!(rt; text.len() == 3);
-    assert!(rt; text.copy(1, 3)?.as_slice() == ['b', 'c'].as_slice());
+    assert!(rt; reads(text, 1, 3, &['b', 'c'])?);
     text.replace(1, 2, &['X', 'Y'])?;
-    assert!(rt; holds(&text, &['a', 'X', 'Y', 'c'])?);
-    assert!(rt; text.at(3) == 'c');
+    assert!(rt; holds(text, &['a', 'X', 'Y', 'c'])?);
+    assert!(rt; text.len() == 4 && text.at(3) == 'c');
     Ok(())
 }
 
-fn count_lines<T: Text + Drop>(alloc: Global, rt: &impl Abort) -> Result<(), Fail> {
-    let text = T::of(alloc, &['a', '\n', '\n', 'b'])?;
+// Counts the lines of a text of `a`, an empty line, and `b`.
+fn count_lines(rt: &impl Abort, text: &impl Text) {
+    assert!(rt; text.len() == 4);
     assert!(rt; text.line_of(1) == 0);
     assert!(rt; text.line_of(2) == 1);
     assert!(rt; text.line_of(4) == 2);
     for &(line, start) in &[(0, 0), (1, 2), (2, 3), (3, 4)] {
         assert!(rt; text.start_of(line) == start, "line {line}");
     }
-    Ok(())
 }
 
-fn follow<T: Marked + Drop>(alloc: Global, rt: &impl Abort) -> Result<(), Fail> {
-    let mut text = T::of(alloc, &['a', 'b', 'c', 'd'])?;
+fn follow(rt: &impl Abort, text: &mut impl Marked) -> Result<(), Short> {
+    assert!(rt; text.len() == 4);
     let first = text.add_mark(1)?;
     let second = text.add_mark(2)?;
     let third = text.add_mark(3)?;
     text.replace(1, 3, &['x'])?;
-    assert!(rt; holds(&text, &['a', 'x', 'd'])?);
+    assert!(rt; holds(text, &['a', 'x', 'd'])?);
     assert!(rt; text.pos(first) == 1);
     assert!(rt; text.pos(second) == 1);
     assert!(rt; text.pos(third) == 2);
     Ok(())
 }
 
-fn mark_one_more<T: Marked + Drop>(alloc: Global, rt: &impl Abort) -> Result<(), Fail> {
-    let mut text = T::of(alloc, &['a', 'b', 'c', 'd'])?;
+fn mark_one_more(rt: &impl Abort, text: &mut impl Marked) -> Result<(), Short> {
+    assert!(rt; text.len() == 4);
     let first = text.add_mark(1)?;
     let second = text.add_mark(2)?;
     let third = text.add_mark(3)?;
     text.replace(1, 3, &['x'])?;
+    assert!(rt; text.len() == 3);
     let fourth = text.add_mark(2)?;
     for other in &[first, second, third] {
         assert!(rt; fourth.slot() != other.slot());
@@ -60,8 +70,8 @@ fn mark_one_more<T: Marked + Drop>(alloc: Global, rt: &impl Abort) -> Result<(),
     Ok(())
 }
 
-fn move_and_drop<T: Marked + Drop>(alloc: Global, rt: &impl Abort) -> Result<(), Fail> {
-    let mut text = T::of(alloc, &['a', 'b'])?;
+fn move_and_drop(rt: &impl Abort, text: &mut impl Marked) -> Result<(), Short> {
+    assert!(rt; text.len() == 2);
     let first = text.add_mark(0)?;
     let second = text.add_mark(1)?;
     text.place(first, 2);
@@ -75,37 +85,75 @@ fn move_and_drop<T: Marked + Drop>(alloc: Global, rt: &impl Abort) -> Result<(),
     Ok(())
 }
 
+fn try_text<T: Text + Drop>(rt: &impl Abort, alloc: Global) -> Result<(), Short> {
+    edit(rt, &mut T::of(alloc, &['a', 'b', 'c'])?)?;
+    count_lines(rt, &T::of(alloc, &['a', '\n', '\n', 'b'])?);
+    Ok(())
+}
+
+fn try_marks<T: Marked + Drop>(rt: &impl Abort, alloc: Global) -> Result<(), Short> {
+    follow(rt, &mut T::of(alloc, &['a', 'b', 'c', 'd'])?)?;
+    mark_one_more(rt, &mut T::of(alloc, &['a', 'b', 'c', 'd'])?)?;
+    move_and_drop(rt, &mut T::of(alloc, &['a', 'b'])?)
+}
+
 #[test]
 fn plain_text_is_edited(rt: HostRuntime) -> Result<(), Fail> {
-    edit::<PlainText>(rt.alloc(), &rt)?;
-    count_lines::<PlainText>(rt.alloc(), &rt)?;
-    follow::<PlainMarked>(rt.alloc(), &rt)?;
-    mark_one_more::<PlainMarked>(rt.alloc(), &rt)?;
-    move_and_drop::<PlainMarked>(rt.alloc(), &rt)
+    try_text::<PlainText>(&rt, rt.alloc())?;
+    try_marks::<PlainMarked>(&rt, rt.alloc())?;
+    Ok(())
 }
 
 #[test]
 fn gap_text_is_edited(rt: HostRuntime) -> Result<(), Fail> {
-    edit::<GapText>(rt.alloc(), &rt)?;
-    count_lines::<GapText>(rt.alloc(), &rt)?;
-    follow::<GapText>(rt.alloc(), &rt)?;
-    mark_one_more::<GapText>(rt.alloc(), &rt)?;
-    move_and_drop::<GapText>(rt.alloc(), &rt)
+    try_text::<GapText>(&rt, rt.alloc())?;
+    try_marks::<GapText>(&rt, rt.alloc())?;
+    Ok(())
+}
+
+// Edits a text `bc` at its end and its start, and empties it.
+fn edit_at_both_ends(rt: &impl Abort, text: &mut impl Text) -> Result<(), Short> {
+    assert!(rt; text.len() == 2);
+    text.replace(2, 2, &['d'])?;
+    text.replace(0, 0, &['a'])?;
+    assert!(rt; holds(text, &['a', 'b', 'c', 'd'])?);
+    assert!(rt; reads(text, 1, 3, &['b', 'c'])?);
+    assert!(rt; text.len() == 4);
+    text.replace(0, 1, &[])?;
+    text.replace(2, 3, &[])?;
+    assert!(rt; text.len() == 2 && holds(text, &['b', 'c'])?);
+    text.replace(0, 2, &[])?;
+    assert!(rt; text.len() == 0 && holds(text, &[])?);
+    Ok(())
 }
 
 #[test]
 fn gap_text_is_edited_at_both_ends(rt: HostRuntime) -> Result<(), Fail> {
     let mut text = GapText::of(rt.alloc(), &['b', 'c'])?;
-    text.replace(2, 2, &['d'])?;
-    text.replace(0, 0, &['a'])?;
-    assert!(rt; holds(&text, &['a', 'b', 'c', 'd'])?);
-    assert!(rt; text.copy(1, 3)?.as_slice() == ['b', 'c'].as_slice());
-    text.replace(0, 1, &[])?;
-    text.replace(2, 3, &[])?;
-    assert!(rt; holds(&text, &['b', 'c'])?);
-    text.replace(0, 2, &[])?;
-    assert!(rt; text.len() == 0 && holds(&text, &[])?);
+    edit_at_both_ends(&rt, &mut text)?;
     Ok(())
+}
+
+// Whether so many `q` stand behind the first character of a text that they make longer, and a `z` at its end.
+fn is_grown(text: &impl Text, len: usize, size: usize) -> bool {
+    text.len() == len.saturating_add(size)
+        && 0 < size
+        && size < text.len()
+        && text.at(0) == 'a'
+        && text.at(1) == 'q'
+        && text.at(size) == 'q'
+        && text.at(text.len() - 1) == 'z'
+}
+
+// Puts so many characters behind the first one of a text, and then one at each end.
+fn grow(rt: &impl Abort, text: &mut impl Text, put: &[char]) -> Result<(), Short> {
+    let len = text.len();
+    let size = put.len();
+    assert!(rt; 2 <= len && len < 4000 && size < 60);
+    text.replace(1, 1, put)?;
+    assert!(rt; is_grown(text, len, size), "by {size}");
+    text.replace(len + size, len + size, &['z'])?;
+    text.replace(0, 0, &['a'])
 }
 
 // Its block grows again and again, and its gap goes to both ends: what stands there is in memory that no clause shows.
@@ -113,32 +161,28 @@ fn gap_text_is_edited_at_both_ends(rt: HostRuntime) -> Result<(), Fail> {
 fn gap_text_grows(rt: HostRuntime) -> Result<(), Fail> {
     let mut text = GapText::of(rt.alloc(), &['a', 'z'])?;
     for size in 1..60usize {
-        let len = text.len();
-        assert!(rt; 2 <= len && len < 4000);
         let put = vec![in rt.alloc(); 'q'; size]?;
-        text.replace(1, 1, &put)?;
-        assert!(rt; text.len() == len + size);
-        assert!(rt; text.at(0) == 'a' && text.at(1) == 'q', "front of {size}");
-        assert!(rt;
-            text.at(size) == 'q' && text.at(len + size - 1) == 'z',
-            "end of {size}"
-        );
-        text.replace(len + size, len + size, &['z'])?;
-        text.replace(0, 0, &['a'])?;
+        grow(&rt, &mut text, &put)?;
     }
     assert!(rt; text.len() == 1890);
     Ok(())
 }
 
-#[test]
-fn characters_are_typed_in_a_row(rt: HostRuntime) -> Result<(), Fail> {
-    let mut text = GapText::of(rt.alloc(), &['<', '>'])?;
-    for i in 0..100 {
+// Puts a hundred characters between the two of a text `<>`.
+fn type_in_a_row(rt: &impl Abort, text: &mut impl Text) -> Result<(), Short> {
+    for i in 0..100usize {
         assert!(rt; text.len() == i + 2);
         text.replace(i + 1, i + 1, &['a'])?;
     }
     assert!(rt; text.len() == 102);
     assert!(rt; text.at(100) == 'a');
     assert!(rt; text.at(101) == '>');
+    Ok(())
+}
+
+#[test]
+fn characters_are_typed_in_a_row(rt: HostRuntime) -> Result<(), Fail> {
+    let mut text = GapText::of(rt.alloc(), &['<', '>'])?;
+    type_in_a_row(&rt, &mut text)?;
     Ok(())
 }

@@ -2,32 +2,74 @@
 use mgs_model::Short;
 use mgs_text::{PlainText, Text};
 use mgs_undo::{Edit, Record};
+use std::alloc::Global;
 use std::process::Abort;
 use std::test::Fail;
 
-// Takes out what the edit of a serial put in, and puts back what it took out. Whether the edit is kept.
-fn undo<T: Text>(
-    rt: &impl Abort,
-    record: &mut Record,
-    text: &mut T,
-    target: u64,
-) -> Result<bool, Short> {
-    let Some(edit) = record.item(target) else {
-        return Ok(false);
-    };
-    let at = edit.at;
-    let added = edit.added;
-    let back = edit.removed.len();
+// Takes out of a text what an edit put in, and puts back what it took out. What is taken out now.
+fn take_back(rt: &impl Abort, text: &mut impl Text, edit: &Edit) -> Result<Vec<char>, Short> {
+    let (at, added) = (edit.at, edit.added);
     assert!(rt; at <= text.len() && added <= text.len() - at);
     let removed = text.copy(at, at + added)?;
     text.replace(at, at + added, &edit.removed)?;
-    assert!(rt; record.serial() < 5000);
-    let _oldest = record.push(Edit {
+    Ok(removed)
+}
+
+// Takes the edit of a serial back, which is an edit of its own. Whether that edit was kept.
+fn undo(
+    rt: &impl Abort,
+    record: &mut Record,
+    text: &mut impl Text,
+    target: u64,
+) -> Result<bool, Short> {
+    assert!(rt; record.serial() < 2000);
+    let Some(edit) = record.item(target) else {
+        return Ok(false);
+    };
+    let (at, added) = (edit.at, edit.removed.len());
+    let removed = take_back(rt, text, edit)?;
+    let _oldest = record.push(Edit { at, removed, added });
+    Ok(true)
+}
+
+// Keeps an edit that put one character in the place of others. Whether the oldest edit is forgotten.
+fn keep(rt: &impl Abort, record: &mut Record, at: usize, removed: Vec<char>) -> bool {
+    assert!(rt; record.serial() < 2000);
+    let oldest = record.push(Edit {
         at,
         removed,
-        added: back,
+        added: 1,
     });
-    Ok(true)
+    oldest.is_some()
+}
+
+// Puts 1,001 characters into an empty text, one after another. The first of these edits is forgotten.
+fn insert_in_a_row(
+    rt: &impl Abort,
+    alloc: Global,
+    record: &mut Record,
+    text: &mut impl Text,
+) -> Result<(), Short> {
+    assert!(rt; record.serial() == 0 && record.item(0).is_none());
+    for at in 0..1001usize {
+        assert!(rt; at == text.len());
+        text.replace(at, at, &['x'])?;
+        assert!(rt; keep(rt, record, at, Vec::new(alloc)) == (at == 1000));
+    }
+    assert!(rt; record.item(1).is_none() && record.item(2).is_some());
+    assert!(rt; record.item(1001).is_some() && record.item(1002).is_none());
+    Ok(())
+}
+
+// Takes the last 500 edits of 1,001 back, and tries one more, which is kept no longer.
+fn undo_in_a_row(rt: &impl Abort, record: &mut Record, text: &mut impl Text) -> Result<(), Short> {
+    for behind in 0..500u64 {
+        assert!(rt; undo(rt, record, text, 1001 - behind)?);
+    }
+    assert!(rt; text.len() == 501);
+    assert!(rt; !undo(rt, record, text, 501)?);
+    assert!(rt; text.len() == 501);
+    Ok(())
 }
 
 // 1,001 insertions, of which the first is forgotten, and 501 undos, of which the last finds no edit.
@@ -35,50 +77,39 @@ fn undo<T: Text>(
 fn five_hundred_undos_in_a_row(rt: HostRuntime) -> Result<(), Fail> {
     let mut record = Record::new(rt.alloc())?;
     let mut text = PlainText::of(rt.alloc(), &[])?;
-    assert!(rt; record.serial() == 0 && record.item(0).is_none());
-    for at in 0..1001usize {
-        assert!(rt; at == text.len() && record.serial() < 5000);
-        text.replace(at, at, &['x'])?;
-        let oldest = record.push(Edit {
-            at,
-            removed: Vec::new(rt.alloc()),
-            added: 1,
-        });
-        assert!(rt; oldest.is_some() == (at == 1000));
-    }
-    assert!(rt; record.item(1).is_none() && record.item(2).is_some());
-    assert!(rt; record.item(1001).is_some() && record.item(1002).is_none());
-    for behind in 0..500u64 {
-        assert!(rt; undo(&rt, &mut record, &mut text, 1001 - behind)?);
-    }
-    assert!(rt; text.len() == 501);
-    assert!(rt; !undo(&rt, &mut record, &mut text, 501)?);
-    assert!(rt; text.len() == 501);
+    insert_in_a_row(&rt, rt.alloc(), &mut record, &mut text)?;
+    undo_in_a_row(&rt, &mut record, &mut text)?;
     Ok(())
+}
+
+// Keeps 1,001 edits, each of which took two characters out.
+fn keep_in_a_row(rt: &impl Abort, alloc: Global, record: &mut Record) -> Result<(), Fail> {
+    assert!(rt; record.serial() == 0);
+    assert!(rt; record.item(0).is_none());
+    for at in 0..1001usize {
+        let removed = vec![in alloc; 'a', 'é']?;
+        assert!(rt; keep(rt, record, at, removed) == (at == 1000));
+    }
+    Ok(())
+}
+
+// Whether the latest 1,000 of those edits are kept.
+fn are_latest_kept(record: &Record) -> bool {
+    let (Some(first), Some(last)) = (record.item(2), record.item(1001)) else {
+        return false;
+    };
+    record.serial() == 1001
+        && record.item(1).is_none()
+        && first.at == 1
+        && last.at == 1000
+        && last.removed.len() == 2
+        && record.item(1002).is_none()
 }
 
 #[test]
 fn keeps_the_latest_thousand(rt: HostRuntime) -> Result<(), Fail> {
     let mut record = Record::new(rt.alloc())?;
-    assert!(rt; record.serial() == 0);
-    assert!(rt; record.item(0).is_none());
-    for at in 0..1001usize {
-        assert!(rt; record.serial() < 2000);
-        let removed = vec![in rt.alloc(); 'a', 'é']?;
-        let oldest = record.push(Edit {
-            at,
-            removed,
-            added: 1,
-        });
-        assert!(rt; oldest.is_some() == (at == 1000));
-    }
-    assert!(rt; record.serial() == 1001);
-    assert!(rt; record.item(1).is_none());
-    let (Some(first), Some(last)) = (record.item(2), record.item(1001)) else {
-        panic!(rt; "not kept");
-    };
-    assert!(rt; first.at == 1 && last.at == 1000);
-    assert!(rt; last.removed.len() == 2);
-    assert!(rt; record.item(1002).is_none());
+    keep_in_a_row(&rt, rt.alloc(), &mut record)?;
+    assert!(rt; are_latest_kept(&record));
     Ok(())
 }

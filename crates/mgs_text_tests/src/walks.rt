@@ -27,16 +27,19 @@ const WORDS: [(usize, usize, usize, usize); 16] = [
     (9, 9999, 9, 0),
 ];
 
+// Whether a walk of so many words from a place ends there, and one back here.
+fn walks_words_to(text: &impl Text, p: usize, times: usize, end: usize, start: usize) -> bool {
+    p <= text.len() && forward_word(text, p, times) == end && backward_word(text, p, times) == start
+}
+
 #[test]
 fn walks_words(rt: HostRuntime) -> Result<(), Fail> {
     let chars = [' ', ' ', 'a', 'b', '1', ' ', '-', 'c', '.'];
     let text = PlainText::of(rt.alloc(), &chars)?;
     for &(p, times, end, start) in &WORDS {
-        assert!(rt; p <= text.len());
-        assert!(rt; forward_word(&text, p, times) == end, "{times} from {p}");
         assert!(rt;
-            backward_word(&text, p, times) == start,
-            "{times} back from {p}"
+            walks_words_to(&text, p, times, end, start),
+            "{times} from {p}"
         );
     }
     Ok(())
@@ -76,53 +79,80 @@ const PLACES: [(usize, usize, bool, bool); 4] = [
     (14, 14, false, true),
 ];
 
+// Whether a walk of so many paragraphs from a place ends there, and one back here.
+fn walks_paragraphs_to(text: &impl Text, p: usize, times: usize, end: usize, start: usize) -> bool {
+    p <= text.len()
+        && forward_paragraph(text, p, times) == end
+        && backward_paragraph(text, p, times) == start
+}
+
+// Whether so many lines down and up from a place, and a kill of so many, end at these three.
+fn walks_lines_to(
+    text: &impl Text,
+    p: usize,
+    times: usize,
+    below: usize,
+    above: usize,
+    killed: usize,
+) -> bool {
+    p <= text.len()
+        && lines_down(text, p, times) == below
+        && lines_up(text, p, times) == above
+        && kill_line_end(text, p, Some(times)) == killed
+}
+
+// Whether a kill without an argument ends there, and whether a place is in the first line and in the last as it is said.
+fn lies_so(text: &impl Text, p: usize, killed: usize, first: bool, last: bool) -> bool {
+    p <= text.len()
+        && kill_line_end(text, p, None) == killed
+        && is_first_line(text, p) == first
+        && is_last_line(text, p) == last
+}
+
 #[test]
 fn walks_paragraphs_and_lines(rt: HostRuntime) -> Result<(), Fail> {
     let text = PlainText::of(rt.alloc(), &PAGE)?;
     for &(p, times, end, start, below, above, killed) in &WALKS {
-        assert!(rt; p <= text.len());
         assert!(rt;
-            forward_paragraph(&text, p, times) == end,
-            "{times} from {p}"
+            walks_paragraphs_to(&text, p, times, end, start),
+            "{times} paragraphs from {p}"
         );
         assert!(rt;
-            backward_paragraph(&text, p, times) == start,
-            "{times} back from {p}"
-        );
-        assert!(rt;
-            lines_down(&text, p, times) == below,
-            "{times} down from {p}"
-        );
-        assert!(rt; lines_up(&text, p, times) == above, "{times} up from {p}");
-        assert!(rt;
-            kill_line_end(&text, p, Some(times)) == killed,
-            "{times} killed from {p}"
+            walks_lines_to(&text, p, times, below, above, killed),
+            "{times} lines from {p}"
         );
     }
     for &(p, killed, first, last) in &PLACES {
-        assert!(rt; p <= text.len());
-        assert!(rt; kill_line_end(&text, p, None) == killed, "killed from {p}");
-        assert!(rt; is_first_line(&text, p) == first, "first line at {p}");
-        assert!(rt; is_last_line(&text, p) == last, "last line at {p}");
+        assert!(rt; lies_so(&text, p, killed, first, last), "at {p}");
     }
     Ok(())
+}
+
+// Whether so many words, paragraphs and lines of no text end where they begin.
+fn stays(none: &impl Text, times: usize) -> bool {
+    forward_word(none, 0, times) == 0
+        && forward_paragraph(none, 0, times) == 0
+        && lines_down(none, 0, times) == 0
+        && kill_line_end(none, 0, Some(times)) == 0
+}
+
+// Whether all of a text is one word.
+fn is_one_word(text: &impl Text) -> bool {
+    let end = forward_word(text, 0, 9999);
+    end == text.len()
+        && backward_word(text, end, 9999) == 0
+        && backward_paragraph(text, end, 9999) == 0
 }
 
 #[test]
 fn walks_no_text_and_a_word_of_all_there_may_be(rt: HostRuntime) -> Result<(), Fail> {
     let none = PlainText::of(rt.alloc(), &[])?;
     for &times in &[0, 1, 9999] {
-        assert!(rt; forward_word(&none, 0, times) == 0);
-        assert!(rt; forward_paragraph(&none, 0, times) == 0);
-        assert!(rt; lines_down(&none, 0, times) == 0);
-        assert!(rt; kill_line_end(&none, 0, Some(times)) == 0);
+        assert!(rt; stays(&none, times), "{times}");
     }
     assert!(rt; kill_line_end(&none, 0, None) == 0);
     let chars = vec![in rt.alloc(); 'a'; 1_048_576]?;
     let text = PlainText::of(rt.alloc(), &chars)?;
-    let end = forward_word(&text, 0, 9999);
-    assert!(rt; end == text.len());
-    assert!(rt; backward_word(&text, end, 9999) == 0);
-    assert!(rt; backward_paragraph(&text, end, 9999) == 0);
+    assert!(rt; is_one_word(&text));
     Ok(())
 }
