@@ -5,21 +5,32 @@ use std::alloc::{AllocError, Global};
 use std::process::Abort;
 use std::test::Fail;
 
+type Answer = Result<(), DirectoryFault>;
+
+// Whether this is the answer where a user is added.
+fn adds_user(directory: &mut Directory, name: &str, answer: Answer) -> bool {
+    directory.add_user(name) == answer
+}
+
+// Whether this is the answer where a group is added.
+fn adds_group(directory: &mut Directory, name: &str, members: &[&str], answer: Answer) -> bool {
+    directory.add_group(name, members) == answer
+}
+
 // Adds the first user, and tries names that are none and one that is taken.
 fn add_first_user(rt: &impl Abort, directory: &mut Directory) {
     let ann = named(rt, "ann");
     assert!(rt; !directory.has_user(&ann));
-    assert!(rt; directory.add_user("ann") == Ok(()));
+    assert!(rt; adds_user(directory, "ann", Ok(())));
     assert!(rt; directory.has_user(&ann));
     assert!(rt; directory.user("ann") == Some(ann) && directory.user("bob") == None);
-    assert!(rt; directory.add_user("Ann") == Err(DirectoryFault::Name));
-    assert!(rt; directory.add_user("ann") == Err(DirectoryFault::Twice));
+    assert!(rt; adds_user(directory, "Ann", Err(DirectoryFault::Name)));
+    assert!(rt; adds_user(directory, "ann", Err(DirectoryFault::Twice)));
 }
 
-// Adds a user whose name has this number.
-fn add_user(alloc: Global, directory: &mut Directory, i: u16) -> Result<bool, AllocError> {
-    let name = format!(in alloc; "u{i}")?;
-    Ok(directory.add_user(name.as_str()) == Ok(()))
+// A name of a letter and a number.
+fn numbered(alloc: Global, letter: char, i: u16) -> Result<String, AllocError> {
+    format!(in alloc; "{letter}{i}")
 }
 
 // Adds as many users as there may be beside the first, and tries one more.
@@ -29,10 +40,11 @@ fn add_other_users(
     directory: &mut Directory,
 ) -> Result<(), AllocError> {
     for i in 1..256u16 {
-        assert!(rt; add_user(alloc, directory, i)?, "user {i}");
+        let name = numbered(alloc, 'u', i)?;
+        assert!(rt; adds_user(directory, name.as_str(), Ok(())), "user {i}");
     }
-    assert!(rt; directory.add_user("ann") == Err(DirectoryFault::Twice));
-    assert!(rt; directory.add_user("bob") == Err(DirectoryFault::Full));
+    assert!(rt; adds_user(directory, "ann", Err(DirectoryFault::Twice)));
+    assert!(rt; adds_user(directory, "bob", Err(DirectoryFault::Full)));
     Ok(())
 }
 
@@ -65,13 +77,13 @@ const LAST: [(&str, &[&str], DirectoryFault); 4] = [
 // Adds three users and the first groups. No user's name is a group's before.
 fn add_first_groups(rt: &impl Abort, directory: &mut Directory) {
     for &name in &["ann", "bob", "cat"] {
-        assert!(rt; directory.add_user(name) == Ok(()));
+        assert!(rt; adds_user(directory, name, Ok(())));
     }
     let (staff, ann) = (named(rt, "staff"), named(rt, "ann"));
     assert!(rt; !directory.has_group(&staff));
     for &(name, members, answer) in &FIRST {
         assert!(rt; !directory.has_group(&ann));
-        assert!(rt; directory.add_group(name, members) == answer, "{name}");
+        assert!(rt; adds_group(directory, name, members, answer), "{name}");
     }
 }
 
@@ -85,12 +97,6 @@ fn has_staff(rt: &impl Abort, directory: &Directory) -> bool {
         && !directory.is_member(&guests, &bob)
 }
 
-// Adds a group whose name has this number.
-fn add_group(alloc: Global, directory: &mut Directory, i: u16) -> Result<bool, AllocError> {
-    let name = format!(in alloc; "g{i}")?;
-    Ok(directory.add_group(name.as_str(), &["ann"]) == Ok(()))
-}
-
 // Adds as many groups as there may be beside the first, and tries one more.
 fn add_other_groups(
     rt: &impl Abort,
@@ -98,10 +104,14 @@ fn add_other_groups(
     directory: &mut Directory,
 ) -> Result<(), AllocError> {
     for i in 3..64u16 {
-        assert!(rt; add_group(alloc, directory, i)?, "group {i}");
+        let name = numbered(alloc, 'g', i)?;
+        assert!(rt;
+            adds_group(directory, name.as_str(), &["ann"], Ok(())),
+            "group {i}"
+        );
     }
     for &(name, members, fault) in &LAST {
-        assert!(rt; directory.add_group(name, members) == Err(fault), "{name}");
+        assert!(rt; adds_group(directory, name, members, Err(fault)), "{name}");
     }
     Ok(())
 }

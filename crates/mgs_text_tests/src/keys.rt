@@ -53,6 +53,11 @@ const NUMBERS: [(&[u8], Option<usize>); 12] = [
     (b"1 ", None),
 ];
 
+// Whether a text is cut at its first space into these two.
+fn is_cut(text: &[u8], first: &[u8], rest: Option<&[u8]>) -> bool {
+    cut_at(text, b' ') == (first, rest)
+}
+
 #[test]
 fn words_are_read(rt: HostRuntime) {
     for &(word, text) in &QUOTES {
@@ -61,6 +66,6 @@ fn words_are_read(rt: HostRuntime) {
     for &(word, number) in &NUMBERS {
         assert!(rt; read_number(word) == number, "{word:?}");
     }
-    assert!(rt; cut_at(b"show a b", b' ') == (b"show".as_slice(), Some(b"a b".as_slice())));
-    assert!(rt; cut_at(b"show", b' ') == (b"show".as_slice(), None));
+    assert!(rt; is_cut(b"show a b", b"show", Some(b"a b")));
+    assert!(rt; is_cut(b"show", b"show", None));
 }

@@ -1,7 +1,10 @@
 // A text is a list of characters, and its marks follow its edits: both texts through the same calls.
+ghost use Rattle.std.specs.Prelude.{◌≡◌, ◌≤◌, length, IfOk, IsSome};
+ghost use Rattle.mgs_marks.specs.Marks.{mark_in};
+
 use mgs_gap::GapText;
 use mgs_marks::{Marked, PlainMarked};
-use mgs_model::Short;
+use mgs_model::{MarkId, Short};
 use mgs_text::{PlainText, Text};
 use std::alloc::Global;
 use std::process::Abort;
@@ -42,30 +45,48 @@ fn count_lines(rt: &impl Abort, text: &impl Text) {
     }
 }
 
-fn follow(rt: &impl Abort, text: &mut impl Marked) -> Result<(), Short> {
-    assert!(rt; text.len() == 4);
+// Marks at 1, 2 and 3 of a text.
+fn mark_thrice<T: Marked>(text: &mut T) -> Result<(MarkId, MarkId, MarkId), Short>
+    requires { 3 ≤ length (T.text text.old) }
+    ensures text { T.text text.new ≡ T.text text.old }
+    ensures first { IfOk result (λ ids. IsSome (mark_in (T.marks text.new) ids.0)) }
+    ensures second { IfOk result (λ ids. IsSome (mark_in (T.marks text.new) ids.1)) }
+    ensures third { IfOk result (λ ids. IsSome (mark_in (T.marks text.new) ids.2)) }
+{
     let first = text.add_mark(1)?;
     let second = text.add_mark(2)?;
     let third = text.add_mark(3)?;
+    Ok((first, second, third))
+}
+
+fn follow(rt: &impl Abort, text: &mut impl Marked) -> Result<(), Short> {
+    assert!(rt; text.len() == 4);
+    let (first, second, third) = mark_thrice(text)?;
     text.replace(1, 3, &['x'])?;
-    assert!(rt; holds(text, &['a', 'x', 'd'])?);
     assert!(rt; text.pos(first) == 1);
     assert!(rt; text.pos(second) == 1);
     assert!(rt; text.pos(third) == 2);
+    assert!(rt; holds(text, &['a', 'x', 'd'])?);
     Ok(())
+}
+
+// Whether a mark has a slot of its own.
+fn is_apart(mark: MarkId, others: &[MarkId]) -> bool {
+    for other in others {
+        if mark.slot() == other.slot() {
+            return false;
+        }
+    }
+    true
 }
 
 fn mark_one_more(rt: &impl Abort, text: &mut impl Marked) -> Result<(), Short> {
     assert!(rt; text.len() == 4);
-    let first = text.add_mark(1)?;
-    let second = text.add_mark(2)?;
-    let third = text.add_mark(3)?;
+    let (first, second, third) = mark_thrice(text)?;
     text.replace(1, 3, &['x'])?;
     assert!(rt; text.len() == 3);
     let fourth = text.add_mark(2)?;
-    for other in &[first, second, third] {
-        assert!(rt; fourth.slot() != other.slot());
-    }
+    assert!(rt; is_apart(fourth, &[first, second, third]));
     assert!(rt; text.pos(fourth) == 2);
     Ok(())
 }
@@ -111,17 +132,24 @@ fn gap_text_is_edited(rt: HostRuntime) -> Result<(), Fail> {
     Ok(())
 }
 
-// Edits a text `bc` at its end and its start, and empties it.
-fn edit_at_both_ends(rt: &impl Abort, text: &mut impl Text) -> Result<(), Short> {
+// Puts a character at the end of a text `bc`, and one at its start.
+fn put_at_both_ends(rt: &impl Abort, text: &mut impl Text) -> Result<(), Short> {
     assert!(rt; text.len() == 2);
     text.replace(2, 2, &['d'])?;
     text.replace(0, 0, &['a'])?;
     assert!(rt; holds(text, &['a', 'b', 'c', 'd'])?);
     assert!(rt; reads(text, 1, 3, &['b', 'c'])?);
+    Ok(())
+}
+
+// Takes the characters at both ends of a text `abcd`, and then the others.
+fn take_from_both_ends(rt: &impl Abort, text: &mut impl Text) -> Result<(), Short> {
     assert!(rt; text.len() == 4);
     text.replace(0, 1, &[])?;
+    assert!(rt; text.len() == 3);
     text.replace(2, 3, &[])?;
-    assert!(rt; text.len() == 2 && holds(text, &['b', 'c'])?);
+    assert!(rt; holds(text, &['b', 'c'])?);
+    assert!(rt; text.len() == 2);
     text.replace(0, 2, &[])?;
     assert!(rt; text.len() == 0 && holds(text, &[])?);
     Ok(())
@@ -130,28 +158,29 @@ fn edit_at_both_ends(rt: &impl Abort, text: &mut impl Text) -> Result<(), Short>
 #[test]
 fn gap_text_is_edited_at_both_ends(rt: HostRuntime) -> Result<(), Fail> {
     let mut text = GapText::of(rt.alloc(), &['b', 'c'])?;
-    edit_at_both_ends(&rt, &mut text)?;
+    put_at_both_ends(&rt, &mut text)?;
+    take_from_both_ends(&rt, &mut text)?;
     Ok(())
 }
 
-// Whether so many `q` stand behind the first character of a text that they make longer, and a `z` at its end.
-fn is_grown(text: &impl Text, len: usize, size: usize) -> bool {
-    text.len() == len.saturating_add(size)
-        && 0 < size
-        && size < text.len()
+// Whether an `a` stands at the start of a text, so many `q` behind it, and a `z` at its end.
+fn is_grown(text: &impl Text, size: usize) -> bool {
+    let len = text.len();
+    0 < size
+        && size < len
         && text.at(0) == 'a'
         && text.at(1) == 'q'
         && text.at(size) == 'q'
-        && text.at(text.len() - 1) == 'z'
+        && text.at(len - 1) == 'z'
 }
 
 // Puts so many characters behind the first one of a text, and then one at each end.
 fn grow(rt: &impl Abort, text: &mut impl Text, put: &[char]) -> Result<(), Short> {
-    let len = text.len();
-    let size = put.len();
+    let (len, size) = (text.len(), put.len());
     assert!(rt; 2 <= len && len < 4000 && size < 60);
     text.replace(1, 1, put)?;
-    assert!(rt; is_grown(text, len, size), "by {size}");
+    assert!(rt; text.len() == len + size);
+    assert!(rt; is_grown(text, size), "by {size}");
     text.replace(len + size, len + size, &['z'])?;
     text.replace(0, 0, &['a'])
 }

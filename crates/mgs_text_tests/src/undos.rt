@@ -32,6 +32,11 @@ fn undo(
     Ok(true)
 }
 
+// Whether the edit of a serial is kept.
+fn is_kept(record: &Record, serial: u64) -> bool {
+    record.item(serial).is_some()
+}
+
 // Keeps an edit that put one character in the place of others. Whether the oldest edit is forgotten.
 fn keep(rt: &impl Abort, record: &mut Record, at: usize, removed: Vec<char>) -> bool {
     assert!(rt; record.serial() < 2000);
@@ -50,14 +55,14 @@ fn insert_in_a_row(
     record: &mut Record,
     text: &mut impl Text,
 ) -> Result<(), Short> {
-    assert!(rt; record.serial() == 0 && record.item(0).is_none());
+    assert!(rt; record.serial() == 0 && !is_kept(record, 0));
     for at in 0..1001usize {
         assert!(rt; at == text.len());
         text.replace(at, at, &['x'])?;
         assert!(rt; keep(rt, record, at, Vec::new(alloc)) == (at == 1000));
     }
-    assert!(rt; record.item(1).is_none() && record.item(2).is_some());
-    assert!(rt; record.item(1001).is_some() && record.item(1002).is_none());
+    assert!(rt; !is_kept(record, 1) && is_kept(record, 2));
+    assert!(rt; is_kept(record, 1001) && !is_kept(record, 1002));
     Ok(())
 }
 
@@ -84,8 +89,7 @@ fn five_hundred_undos_in_a_row(rt: HostRuntime) -> Result<(), Fail> {
 
 // Keeps 1,001 edits, each of which took two characters out.
 fn keep_in_a_row(rt: &impl Abort, alloc: Global, record: &mut Record) -> Result<(), Fail> {
-    assert!(rt; record.serial() == 0);
-    assert!(rt; record.item(0).is_none());
+    assert!(rt; record.serial() == 0 && !is_kept(record, 0));
     for at in 0..1001usize {
         let removed = vec![in alloc; 'a', 'é']?;
         assert!(rt; keep(rt, record, at, removed) == (at == 1000));
@@ -99,11 +103,11 @@ fn are_latest_kept(record: &Record) -> bool {
         return false;
     };
     record.serial() == 1001
-        && record.item(1).is_none()
+        && !is_kept(record, 1)
         && first.at == 1
         && last.at == 1000
         && last.removed.len() == 2
-        && record.item(1002).is_none()
+        && !is_kept(record, 1002)
 }
 
 #[test]
