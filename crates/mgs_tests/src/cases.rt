@@ -30,6 +30,7 @@ fn cased(
 #[test]
 fn goes_over_words(rt: HostRuntime) -> Result<(), Fail> {
     let text = PlainText::of(rt.alloc(), &['o', 'n', 'e', ' ', 't', 'w', 'o'])?;
+    assert!(rt; text.len() == 7);
     let word = Put::Cased {
         from: 1,
         to: 3,
@@ -110,6 +111,7 @@ const WRITTEN: [(usize, usize, Case, &[char]); 3] = [
 #[test]
 fn writes_the_letters(rt: HostRuntime) -> Result<(), Fail> {
     let text = PlainText::of(rt.alloc(), &['a', 'B', ' ', '1', 'c', 'D'])?;
+    assert!(rt; text.len() == 6);
     for &(from, to, case, expected) in &WRITTEN {
         assert!(rt;
             is_written(&rt, rt.alloc(), &text, from, to, case, expected)?,

@@ -16,6 +16,7 @@ fn fills_the_lines_around(rt: HostRuntime) -> Result<(), Fail> {
             'a', '\n', '\n', 'b', 'b', ' ', 'c', '\n', 'd', '\n', '\t', '\n', 'e',
         ],
     )?;
+    assert!(rt; text.len() == 13);
     let filled = Put::Filled {
         from: 3,
         to: 9,
@@ -44,6 +45,7 @@ fn is_filled(rt: &impl Abort, text: &PlainText, place: usize) -> bool {
 #[test]
 fn leaves_blank_lines(rt: HostRuntime) -> Result<(), Fail> {
     let text = PlainText::of(rt.alloc(), &['a', '\n', ' ', '\n', 'b'])?;
+    assert!(rt; text.len() == 5);
     assert!(rt; !is_filled(&rt, &text, 3));
     let nothing = Ok((3, 3, Put::Nothing, Goes::Stays));
     assert!(rt; altered(&rt, &text, 3, None, Alteration::FillParagraph) == nothing);

@@ -81,6 +81,7 @@ fn killed(
 #[test]
 fn lines_are_killed(rt: HostRuntime) -> Result<(), Fail> {
     let text = PlainText::of(rt.alloc(), &['a', 'b', '\n', 'c', 'd'])?;
+    assert!(rt; text.len() == 5);
     for &(place, argument, wanted) in &KILLS {
         assert!(rt;
             killed(&rt, &text, place, argument) == wanted,
@@ -105,6 +106,7 @@ fn piece(rt: &impl Abort, text: &PlainText, kind: Kind, command: Alteration) -> 
 #[test]
 fn kills_are_joined(rt: HostRuntime) -> Result<(), Fail> {
     let text = PlainText::of(rt.alloc(), &['a', 'b'])?;
+    assert!(rt; text.len() == 2);
     let behind = Piece {
         from: 1,
         to: 2,
@@ -151,6 +153,7 @@ fn down(
 // What is told of the start of `hi`.
 fn told(rt: &impl Abort, alloc: Global) -> Result<Message, Short> {
     let text = PlainText::of(alloc, &['h', 'i'])?;
+    assert!(rt; text.len() == 2);
     match motion(&text, &at(0, None), Motion::WhatCursorPosition) {
         Ok(finish) => Ok(finish.told),
         Err(_) => panic!(rt; "refused"),
@@ -167,6 +170,7 @@ fn motions_are_planned(rt: HostRuntime) -> Result<(), Short> {
     };
     assert!(rt; told(&rt, rt.alloc())? == Message::CharacterAt('h', here));
     let text = PlainText::of(rt.alloc(), &['a', 'b', 'c', '\n', '\n', 'a', 'b', 'c', 'd'])?;
+    assert!(rt; text.len() == 9);
     for &(kind, place, argument, wanted) in &DOWN {
         assert!(rt;
             down(&rt, &text, kind, place, argument) == wanted,
@@ -201,6 +205,7 @@ const SCROLLED: [(usize, Option<usize>, Scrolling, Result<Goes, Message>); 3] = 
 #[test]
 fn scrolls_are_planned(rt: HostRuntime) -> Result<(), Fail> {
     let text = PlainText::of(rt.alloc(), &['\n', '\n', '\n', '\n'])?;
+    assert!(rt; text.len() == 4);
     for &(place, argument, command, wanted) in &SCROLLED {
         assert!(rt;
             scrolled(&rt, &text, place, argument, command) == wanted,
@@ -221,8 +226,9 @@ fn inserted(command: Insertion) -> Result<Goes, Message> {
 }
 
 // What a new line with the white of the one before puts in, at the end of a space, a tab and `a`.
-fn indented(alloc: Global) -> Result<Put, Short> {
+fn indented(rt: &impl Abort, alloc: Global) -> Result<Put, Short> {
     let text = PlainText::of(alloc, &[' ', '\t', 'a'])?;
+    assert!(rt; text.len() == 3);
     Ok(reading_insertion(&text, &at(3, None), ReadingInsertion::NewlineAndIndent).put)
 }
 
@@ -235,8 +241,9 @@ fn insertions_and_exchanges_are_planned(rt: HostRuntime) -> Result<(), Short> {
         from: 0,
         to: 2,
     };
-    assert!(rt; indented(rt.alloc())? == put);
+    assert!(rt; indented(&rt, rt.alloc())? == put);
     let text = PlainText::of(rt.alloc(), &['a', 'b', 'c', '\n'])?;
+    assert!(rt; text.len() == 4);
     let exchanged = Ok((1, 3, Put::Exchanged { at: 2 }, Goes::To(3)));
     assert!(rt; altered(&rt, &text, 3, None, Alteration::TransposeChars) == exchanged);
     let refused = Err(Message::BeginningOfBuffer);

@@ -12,6 +12,7 @@ const SPACE: Put = Put::Character { put: ' ', times: 1 };
 #[test]
 fn takes_out_white(rt: HostRuntime) -> Result<(), Fail> {
     let text = PlainText::of(rt.alloc(), &['a', ' ', '\t', ' ', 'b', 'c'])?;
+    assert!(rt; text.len() == 6);
     assert!(rt;
         altered(&rt, &text, 2, None, Alteration::JustOneSpace) == Ok((1, 4, SPACE, Goes::Behind))
     );
@@ -29,6 +30,7 @@ fn takes_out_white(rt: HostRuntime) -> Result<(), Fail> {
 #[test]
 fn takes_out_blank_lines(rt: HostRuntime) -> Result<(), Fail> {
     let text = PlainText::of(rt.alloc(), &['a', '\n', ' ', '\n', '\n', 'b'])?;
+    assert!(rt; text.len() == 6);
     for &(place, from, to, goes) in &[
         (0, 1, 4, Goes::Stays),
         (3, 2, 4, Goes::To(2)),
@@ -46,6 +48,7 @@ fn takes_out_blank_lines(rt: HostRuntime) -> Result<(), Fail> {
 #[test]
 fn joins_lines(rt: HostRuntime) -> Result<(), Fail> {
     let text = PlainText::of(rt.alloc(), &['a', ' ', '\n', ' ', ' ', 'b'])?;
+    assert!(rt; text.len() == 6);
     assert!(rt;
         altered(&rt, &text, 6, None, Alteration::JoinLine) == Ok((1, 5, SPACE, Goes::To(1)))
     );
