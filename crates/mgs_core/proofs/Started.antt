@@ -1,5 +1,5 @@
 -- An act that starts a search: it goes by no search that was there before.
-use Rattle.std.proofs.Common.{◌≡◌, ℕ, Bool, true, false, cond, List, [], ◌∷◌, map, map-id, Option, Some, None, refl, sym, ap, ◌∙◌}
+use Rattle.std.proofs.Common.{◌≡◌, ℕ, Bool, cond, List, [], ◌∷◌, map, map-id, Option, Some, None, refl, sym, ap, ◌∙◌}
 use Rattle.std.specs.List.{flat_map}
 use Rattle.std.specs.Option.{option_map}
 use Rattle.mgs_model.specs.World.{World, Own, Search, Session, find_session, has_id}
@@ -16,21 +16,13 @@ use Rattle.mgs_model.specs.declared.search.Direction.{Direction}
 use Rattle.mgs_model.specs.declared.session.Command.TheVariants.{Move}
 use Rattle.mgs_model.specs.declared.session.Motion.{Motion}
 use Rattle.mgs_model.specs.declared.session.Motion.TheVariants.{StartSearch}
-use Rattle.mgs_model.proofs.Firsts.{change_first_found, find-change_first}
+use Rattle.mgs_model.proofs.Firsts.{change_first_found, change_twice, find-change_first}
 use Rattle.mgs_store.specs.Stores.{StoreTold, told_more}
 use Rattle.mgs_act.specs.declared.acts.KeyAct.{KeyAct}
 use Rattle.mgs_act.specs.declared.acts.KeyAct.TheVariants as acts
 use Rattle.mgs_act.specs.Actions.{act_of}
 use Rattle.mgs_act.specs.Beginning.{searching_own}
 use Rattle.mgs_core.specs.Steps.{ActedBy, started_by, started_own, started_world}
-
-pub change_twice : {A : Type 0} (p : A → Bool) (f g h : A → A) → ((x : A) → p (g x) ≡ p x) → ((x : A) → f (g x) ≡ h x) → (xs : List A) → change_first p f (change_first p g xs) ≡ change_first p h xs
-change_twice p f g h stays same [] = refl
-change_twice {A = A} p f g h stays same (x ∷ xs) = by (change_twice p f g h stays same xs) (p x) refl
-  where
-    by : change_first p f (change_first p g xs) ≡ change_first p h xs → (c : Bool) → p x ≡ c → change_first p f (cond c (g x ∷ xs) (x ∷ change_first p g xs)) ≡ cond c (h x ∷ xs) (x ∷ change_first p h xs)
-    by later true e = ap (λ (b : Bool). cond b (f (g x) ∷ xs) (g x ∷ change_first p f xs)) (stays x ∙ e) ∙ ap (λ y. y ∷ xs) (same x)
-    by later false e = ap (λ (b : Bool). cond b (f x ∷ change_first p g xs) (x ∷ change_first p f (change_first p g xs))) e ∙ ap (λ ys. x ∷ ys) later
 
 -- THE ACT, by a session that holds this and has these positions of a search
 module _ (w : World) (id : ℕ) (o : Own) (d : Direction) (n : Option ℕ) (x : Session) (found : find_session id w.sessions ≡ Some x) (stored : Bool) where

@@ -34,7 +34,7 @@ use Rattle.mgs_laws.proofs.Apart.{apart_own}
 use Rattle.mgs_model.proofs.Blind.{change_inside}
 use Rattle.mgs_model.proofs.Completing.{shown_names_of}
 use Rattle.mgs_laws.proofs.Ends.{act_fails}
-use Rattle.mgs_model.proofs.Firsts.{change_first_found}
+use Rattle.mgs_model.proofs.Firsts.{change_first_found, change_twice}
 use Rattle.mgs_laws.proofs.Follow.{followed_same}
 use Rattle.mgs_laws.proofs.LeftToDo.{is_single, single_brief, todo_acted}
 use Rattle.mgs_laws.proofs.Saves.{act_saves_none, is_save}
@@ -60,7 +60,7 @@ use Rattle.mgs_core.proofs.Begun.{closed_own, search_still}
 use Rattle.mgs_core.proofs.Keyed.{acted_single}
 use Rattle.mgs_core.proofs.Prompted.{answered_single}
 use Rattle.mgs_core.proofs.Sizes.{place_same}
-use Rattle.mgs_core.proofs.Started.{begun_act, change_twice}
+use Rattle.mgs_core.proofs.Started.{begun_act}
 use Rattle.mgs_core.proofs.Steps.{session_changed, session_there, set_there, world_changed}
 use Rattle.mgs_core.proofs.Turned.{AllLeft, all_less, all_none, all_same, all_without, more_weight, none_weight, some_left, without_same, without_within}
 use Rattle.mgs_core.proofs.Fitting.{replaced_fits}

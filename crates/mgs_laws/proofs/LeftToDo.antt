@@ -21,19 +21,11 @@ use Rattle.mgs_model.specs.declared.session.Setting.TheVariants.{SetFillColumn, 
 use Rattle.mgs_model.specs.declared.session.Command.TheVariants.{Insert, InsertReading, Move, Alter, Scroll, Set, Rearrange, Ask, Named, Entries, ListEntries, SetOwner, UndoEdit, NotModified, SaveBuffer, LeaveSearch, Exit}
 use Rattle.mgs_model.specs.declared.entry.Decision.{Decision}
 use Rattle.mgs_model.specs.declared.entry.Decision.TheVariants.{Granted, DeniedBy, NotGranted}
-use Rattle.mgs_model.proofs.Firsts.{find-change_first}
+use Rattle.mgs_model.proofs.Firsts.{change_twice, find-change_first}
 use Rattle.mgs_laws.proofs.After.{find_after, find_without}
 use Rattle.mgs_laws.proofs.Turning.{begun_view, view_with_own}
 
 -- THE OWN RECORD
-
-change_twice : {A : Type 0} (p : A → Bool) (f g h : A → A) → ((x : A) → p (g x) ≡ p x) → ((x : A) → f (g x) ≡ h x) → (xs : List A) → change_first p f (change_first p g xs) ≡ change_first p h xs
-change_twice p f g h stays same [] = refl
-change_twice {A = A} p f g h stays same (x ∷ xs) = by (change_twice p f g h stays same xs) (p x) refl
-  where
-    by : change_first p f (change_first p g xs) ≡ change_first p h xs → (c : Bool) → p x ≡ c → change_first p f (cond c (g x ∷ xs) (x ∷ change_first p g xs)) ≡ cond c (h x ∷ xs) (x ∷ change_first p h xs)
-    by later true e = ap (λ (b : Bool). cond b (f (g x) ∷ xs) (g x ∷ change_first p f xs)) (stays x ∙ e) ∙ ap (λ y. y ∷ xs) (same x)
-    by later false e = ap (λ (b : Bool). cond b (f x ∷ change_first p g xs) (x ∷ change_first p f (change_first p g xs))) e ∙ ap (λ ys. x ∷ ys) later
 
 -- a record that is set twice
 pub own_twice : (id : ℕ) (own : Own) (g : Own → Own) (w : World) → searches own.mode ≡ false → with_own id (λ old. own) (with_own id g w) ≡ with_own id (λ old. own) w
