@@ -180,7 +180,8 @@ pub(crate) fn fed(alloc: Global, bytes: &[u8]) -> Option<Term> {
 
 // A row of a screen that is told as
 //     FIRST ROW | MODE LINE | ECHO LINE
-// The rows from the first to the mode line are blank, and an echo line that is blank too may be left out.
+// The rows from the first to the mode line are blank, and an echo line that is blank too may be left out. Behind a wide character
+// stands a NUL, for its right half.
 fn row_of(screen: &str, row: usize) -> &str {
     let (text, rest) = screen.split_once(" | ").unwrap_or((screen, ""));
     let (mode, echo) = rest.split_once(" | ").unwrap_or((rest, ""));
@@ -195,10 +196,7 @@ fn row_of(screen: &str, row: usize) -> &str {
 // Whether a cell is that of this screen. Behind the text of a row there are blanks.
 fn is_cell(screen: &str, i: usize, cell: &Cell) -> bool {
     let row = i / COLS;
-    let character = match row_of(screen, row).as_bytes().get(i % COLS) {
-        Some(byte) => *byte as char,
-        None => ' ',
-    };
+    let character = row_of(screen, row).chars().nth(i % COLS).unwrap_or(' ');
     cell.character == character && cell.reversed == (row == MODE_ROW)
 }
 

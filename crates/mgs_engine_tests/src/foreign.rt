@@ -8,7 +8,7 @@ fn control_characters_take_more_cells(rt: HostRuntime) {
     let text = ['\t', 'x', '\u{1}', '\u{7f}', '\u{e9}'];
     let mut engine = serve(alloc, &["ALLOW ann rt"], &text, &rt);
     let ann = sit(&mut engine, "ann", 6, 20, &rt);
-    let plain = "        x^A^?\\u{e9} | ----notes-L1-C0-----";
+    let plain = "        x^A^?é      | ----notes-L1-C0-----";
     assert!(rt; show(alloc, waiting(&engine, ann), plain, (1, 1)));
 }
 

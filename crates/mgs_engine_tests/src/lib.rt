@@ -3,6 +3,8 @@
 #![tactic(auto)]
 
 #[cfg(test)]
+mod characters;
+#[cfg(test)]
 mod config;
 #[cfg(test)]
 mod drive;

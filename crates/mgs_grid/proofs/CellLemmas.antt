@@ -9,7 +9,9 @@ use Rattle.std.proofs.lemmas.Grind.{rows}
 use Rattle.std.proofs.lemmas.List.Elements.{All-append, All-nil}
 use Rattle.mgs_model.specs.Picture.{IsPrintable}
 use Rattle.mgs_model.specs.Cells.{escape}
-use Rattle.mgs_grid.specs.Cells.{put, over, Wrote}
+use Rattle.mgs_grid.specs.Cells.{put, over, first_signed, last_signed, finished, Wrote}
+use Rattle.std.specs.Prelude.{◌==◌, if◌then◌else◌}
+use Rattle.std.proofs.lemmas.Bool.{lt-ltb, le-ltb}
 
 pub length-put : (row : List ℕ) (s n x : ℕ) → length (put row s n x) ≡ length row
 unfolding put
@@ -94,3 +96,12 @@ wrote_none row n = record { row_is = refl; next_is = omega arith; printable = Al
 
 pub part_smaller : (b n : ℕ) → 2 ≤ b → 0 < n → n / b < n
 part_smaller b n base some = grind (arith, rows)
+
+-- a row that was cut, or was short enough
+pub cut_long : (row mid : List ℕ) (s n : ℕ) → s + length row < n → mid ≡ last_signed row → (if s == 0 then mid else first_signed mid) ≡ finished row s n
+unfolding finished
+cut_long row mid s n long is = rw (lt-ltb (s + length row) n long) (ap (λ r. if s == 0 then r else first_signed r) is)
+
+pub cut_short : (row mid : List ℕ) (s n : ℕ) → n ≤ s + length row → mid ≡ row → (if s == 0 then mid else first_signed mid) ≡ finished row s n
+unfolding finished
+cut_short row mid s n short is = rw (le-ltb (s + length row) n short) (ap (λ r. if s == 0 then r else first_signed r) is)

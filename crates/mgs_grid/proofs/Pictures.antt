@@ -1,5 +1,5 @@
 -- Rows that are put into a picture leave a picture.
-use Rattle.std.proofs.Common.{◌≡◌, ℕ, zero, suc, ◌+◌, ◌<◌, ◌≤◌, List, [], ◌∷◌, ◌++◌, length, get_or, take, drop, set, ◌-◌, refl, sym, ap, ◌∙◌, arith, All, append_assoc, length-append, length-take, length-drop, add-one}
+use Rattle.std.proofs.Common.{◌≡◌, ℕ, zero, suc, ◌+◌, ◌<◌, ◌≤◌, List, [], ◌∷◌, ◌++◌, length, get_or, take, drop, set, ◌-◌, refl, sym, ap, ◌∙◌, arith, false, All, append_assoc, length-append, length-take, length-drop, add-one}
 use Rattle.std.proofs.lemmas.List.{set_split, length-replicate, length-set, length-take-le}
 use Rattle.std.proofs.Math.Seq.{take-append_seam, set-append_seam}
 use borrow.Rule.Slice.PartMut.{post_of, Post-is}
@@ -8,26 +8,31 @@ use Rattle.mgs_model.specs.declared.entry.Decision.{Decision}
 use Rattle.mgs_model.specs.Lines.{is_feed}
 use Rattle.std.specs.List.{after_first}
 use Rattle.mgs_model.specs.Rows.{Row, plain_row, mode_row, blank_rows, rows_put, text_rows, unread_rows, unread_text}
-use Rattle.mgs_model.specs.Picture.{IsPrintable, IsRow, IsSize, Picture, IsPicture, blank_picture}
+use Rattle.mgs_model.specs.Picture.{IsRow, IsSize, Picture, IsPicture, blank_picture}
 use Rattle.mgs_grid.proofs.Fits.{length-fitted, fitted_none}
-use Rattle.mgs_grid.proofs.Printable.{fitted_printable}
+use Rattle.mgs_grid.proofs.Printable.{fitted_whole}
+use Rattle.mgs_model.specs.Cells.{AreCells, IsPrintable}
+use Rattle.mgs_model.proofs.WholeCells.{printable_whole}
 
 pub blank_width : (cols : ℕ) → length (plain_row cols []).text ≡ cols
 blank_width cols = ap length (fitted_none 32 cols) ∙ length-replicate {A = ℕ} cols 32
 
-pub plain_is : (cols : ℕ) (xs : List ℕ) → 0 < cols → All IsPrintable xs → IsRow cols (plain_row cols xs)
-plain_is cols xs some all = record { width = length-fitted 32 cols xs some; printable = fitted_printable 32 cols xs (omega arith, omega arith) all }
+pub whole_is : (cols : ℕ) (xs : List ℕ) → 2 ≤ cols → AreCells false xs → IsRow cols (plain_row cols xs)
+whole_is cols xs some all = record { width = length-fitted 32 cols xs some; whole = fitted_whole 32 cols xs (omega arith, omega arith) all }
 
-pub mode_is : (cols : ℕ) (xs : List ℕ) → 0 < cols → All IsPrintable xs → IsRow cols (mode_row cols xs)
-mode_is cols xs some all = record { width = length-fitted 45 cols xs some; printable = fitted_printable 45 cols xs (omega arith, omega arith) all }
+pub plain_is : (cols : ℕ) (xs : List ℕ) → 2 ≤ cols → All IsPrintable xs → IsRow cols (plain_row cols xs)
+plain_is cols xs some all = whole_is cols xs some (printable_whole xs all)
 
-pub blanks_are : (cols n : ℕ) → 0 < cols → All (IsRow cols) (blank_rows cols n)
-blanks_are cols n some = All-replicate (IsRow cols) n (plain_row cols []) (plain_is cols [] some (All-nil IsPrintable))
+pub mode_is : (cols : ℕ) (xs : List ℕ) → 2 ≤ cols → All IsPrintable xs → IsRow cols (mode_row cols xs)
+mode_is cols xs some all = record { width = length-fitted 45 cols xs some; whole = fitted_whole 45 cols xs (omega arith, omega arith) (printable_whole xs all) }
+
+pub blanks_are : (cols n : ℕ) → 2 ≤ cols → All (IsRow cols) (blank_rows cols n)
+blanks_are cols n some = All-replicate (IsRow cols) n (plain_row cols []) (whole_is cols [] some tt)
 
 pub one_is : (cols : ℕ) (r : Row) → IsRow cols r → All (IsRow cols) (r ∷ [])
 one_is cols r h = All-cons (IsRow cols) r [] h (All-nil (IsRow cols))
 
-pub unread_are : (cols n : ℕ) (d : Decision) → 0 < cols → All IsPrintable (unread_text d) → All (IsRow cols) (unread_rows cols n d)
+pub unread_are : (cols n : ℕ) (d : Decision) → 2 ≤ cols → All IsPrintable (unread_text d) → All (IsRow cols) (unread_rows cols n d)
 unread_are cols zero d some all = All-nil (IsRow cols)
 unread_are cols (suc n) d some all = All-cons (IsRow cols) (plain_row cols (unread_text d)) (blank_rows cols n) (plain_is cols (unread_text d) some all) (blanks_are cols n some)
 

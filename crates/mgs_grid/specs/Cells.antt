@@ -1,5 +1,6 @@
 -- Cells written into a row one after another.
-use Rattle.std.specs.Prelude.{◌≡◌, ℕ, ◌+◌, ◌-◌, nat_lt, nat_le, ◌==◌, Bool, ◌&&◌, All, length, List, [], ◌∷◌, slice_set, if◌then◌else◌}
+use Rattle.std.specs.Prelude.{◌≡◌, ℕ, ◌+◌, ◌-◌, nat_lt, nat_le, ◌==◌, Bool, ◌&&◌, All, length, List, [], ◌∷◌, slice_set, slice_index_or, if◌then◌else◌}
+use Rattle.mgs_model.specs.Cells.{right_half}
 use Rattle.mgs_model.specs.Rows.{Row}
 use Rattle.mgs_model.specs.Picture.{IsPrintable}
 
@@ -12,11 +13,20 @@ abbrev pub over : List ℕ → ℕ → ℕ → List ℕ → List ℕ
 over row shift column [] = row
 over row shift column (x ∷ xs) = over (put row shift column x) shift (column + 1) xs
 
+-- a `$` in the last cell, and in the first; where that is one half of a wide character, the other becomes a blank
+abbrev pub last_signed : List ℕ → List ℕ
+last_signed row =
+    let last = length row - 1 in
+    slice_set (if slice_index_or row last 32 == right_half then slice_set row (last - 1) 32 else row) last 36
+
+abbrev pub first_signed : List ℕ → List ℕ
+first_signed row = slice_set (if slice_index_or row 1 32 == right_half then slice_set row 1 32 else row) 0 36
+
 -- with the signs that more cells stand after and before
 unfoldable pub finished : List ℕ → ℕ → ℕ → List ℕ
 finished row shift column =
-    let cut = if nat_lt (shift + length row) column then slice_set row (length row - 1) 36 else row in
-    if shift == 0 then cut else slice_set cut 0 36
+    let cut = if nat_lt (shift + length row) column then last_signed row else row in
+    if shift == 0 then cut else first_signed cut
 
 abbrev pub is_plain : ℕ → Bool
 is_plain c = nat_le 32 c && nat_le c 126

@@ -3,10 +3,11 @@ ghost use Rattle.std.specs.Prelude.{◌≡◌, ℕ, ◌+◌, ◌-◌, ◌*◌, �
 ghost use Rattle.std.specs.List.{list_all};
 ghost use Rattle.std.specs.Int.Digits.{digits_of};
 ghost use Rattle.std.specs.Char.{digit_char};
-ghost use Rattle.mgs_model.specs.Cells.{glyph, escape, cells, cells_from};
-ghost use Rattle.mgs_grid.specs.Cells.{put, over, finished, is_plain, Wrote};
+ghost use Rattle.mgs_model.specs.Cells.{glyph, escape, own_cells, cells, cells_from};
+ghost use Rattle.mgs_grid.specs.Cells.{put, over, first_signed, last_signed, finished, is_plain, Wrote};
 
 use itoa::Buffer;
+use mgs_model::{RIGHT_HALF, own_columns};
 use mgs_text::Text;
 
 /// Writes one character into each cell of a row.
@@ -18,20 +19,43 @@ pub(crate) fn fill(row: &mut [char], c: char)
     }
 }
 
-/// Writes the signs that more cells stand after a row and before it. The row has a cell and shows a line from column
+// A `$` in the last cell. Where that is a right half, its left half becomes a blank.
+fn sign_last(row: &mut [char])
+    requires { 2 ≤ length row.old }
+    ensures { row.new ≡ last_signed row.old }
+{
+    let last = row.len() - 1;
+    if row[last] == RIGHT_HALF {
+        row[last - 1] = ' ';
+    }
+    row[last] = '$';
+}
+
+// A `$` in the first cell. Where that is a left half, its right half becomes a blank.
+fn sign_first(row: &mut [char])
+    requires { 2 ≤ length row.old }
+    ensures { row.new ≡ first_signed row.old }
+{
+    if row[1] == RIGHT_HALF {
+        row[1] = ' ';
+    }
+    row[0] = '$';
+}
+
+/// Writes the signs that more cells stand after a row and before it. The row has two cells and shows a line from column
 /// `shift` on, and `column` is the one after the line's last cell. The row's last cell becomes a `$` where `column`
-/// is greater than `shift` plus the row's length, and its first cell where `shift` is not 0.
+/// is greater than `shift` plus the row's length, and its first cell where `shift` is not 0. A half that loses its other half
+/// by that becomes a blank.
 pub(crate) fn finish(row: &mut [char], shift: usize, column: usize)
-    requires some { 0 < length row.old }
+    requires some { 2 ≤ length row.old }
     requires fits { shift + length row.old < 2 ^ 64 }
     ensures { row.new ≡ finished row.old shift column }
 {
     if column > shift + row.len() {
-        let last = row.len() - 1;
-        row[last] = '$';
+        sign_last(row);
     }
     if shift > 0 {
-        row[0] = '$';
+        sign_first(row);
     }
 }
 
@@ -121,9 +145,26 @@ pub(crate) fn put_glyph(row: &mut [char], shift: usize, column: usize, c: char) 
         put(row, shift, column, '^');
         put(row, shift, column + 1, '?');
         column + 2
-    } else {
+    } else if own_columns(c) == 0 {
         put_escape(row, shift, column, c)
+    } else {
+        put_own(row, shift, column, c)
     }
+}
+
+// The cells of a character that is shown as itself.
+fn put_own(row: &mut [char], shift: usize, column: usize, c: char) -> usize
+    requires { column < 2 ^ 62 }
+    ensures row { row.new ≡ over row.old shift column (own_cells c) }
+    ensures next { result ≡ column + length (own_cells c) }
+    ensures few { result ≤ column + 12 }
+{
+    put(row, shift, column, c);
+    if own_columns(c) == 2 {
+        put(row, shift, column + 1, RIGHT_HALF);
+        return column + 2;
+    }
+    column + 1
 }
 
 fn put_escape(row: &mut [char], shift: usize, column: usize, c: char) -> usize

@@ -107,7 +107,7 @@ impl Line {
     /// Draws the line of a text that starts at `start`, plain, and tells where it ends. A line that is too long is cut
     /// with a `$`. It is shown from column `shift`, below 2^62, after a `$` unless that is 0.
     pub(crate) fn draw_text<T: Text>(&mut self, text: &T, start: usize, shift: usize) -> usize
-        requires some { 0 < length self.old.text }
+        requires some { 4 ≤ length self.old.text }
         requires width { length self.old.text < 2 ^ 62 }
         requires within { start ≤ length (T.text text.now) }
         requires short { length (T.text text.now) < 2 ^ 32 }
@@ -128,7 +128,7 @@ impl Line {
 
     /// Draws why a text may not be read, plain.
     pub(crate) fn draw_unread(&mut self, decision: Decision)
-        requires some { 0 < length self.old.text }
+        requires some { 4 ≤ length self.old.text }
         requires width { length self.old.text < 2 ^ 62 }
         ensures row { self.new ≡ plain_row (length self.old.text) (unread_text decision) }
         ensures printable { All IsPrintable (unread_text decision) }
@@ -143,7 +143,7 @@ impl Line {
     /// Draws the mode line of a window that shows a buffer, in reverse: the buffer's name and whether it is modified,
     /// and the point's line, from 1, and column, from 0. `None` stands for what may not be told.
     pub(crate) fn draw_mode(&mut self, heading: Option<(Name, bool)>, place: Option<(usize, usize)>)
-        requires some { 0 < length self.old.text }
+        requires some { 4 ≤ length self.old.text }
         requires width { length self.old.text < 2 ^ 62 }
         ensures row { self.new ≡ mode_row (length self.old.text) (buffer_mode heading place) }
         ensures printable { All IsPrintable (buffer_mode heading place) }
@@ -158,7 +158,7 @@ impl Line {
 
     /// Draws the mode line of a window that shows no buffer, in reverse.
     pub(crate) fn draw_none_mode(&mut self)
-        requires some { 0 < length self.old.text }
+        requires some { 4 ≤ length self.old.text }
         requires width { length self.old.text < 2 ^ 62 }
         ensures { self.new ≡ mode_row (length self.old.text) none_mode }
     {
@@ -171,7 +171,7 @@ impl Line {
 
     /// Draws an echo text, plain.
     pub(crate) fn draw_echo(&mut self, message: &Message)
-        requires some { 0 < length self.old.text }
+        requires some { 4 ≤ length self.old.text }
         requires width { length self.old.text < 2 ^ 62 }
         ensures row { self.new ≡ plain_row (length self.old.text) (message_text message.now) }
         ensures printable { All IsPrintable (message_text message.now) }
@@ -186,7 +186,7 @@ impl Line {
     /// Draws the line of a prompt, plain: the prompt and, behind it, what was typed. A line that leaves no cell behind it is
     /// shown as a `$` and its end. Tells the column behind it.
     pub(crate) fn draw_prompt(&mut self, question: Question, input: &[u8]) -> usize
-        requires some { 2 ≤ length self.old.text }
+        requires some { 4 ≤ length self.old.text }
         requires width { length self.old.text < 2 ^ 62 }
         requires short { length input.now < 2 ^ 32 }
         ensures row { self.new ≡ line_row (length self.old.text) (prompt_line question input.now) }
@@ -209,7 +209,7 @@ impl Line {
         failing: bool,
         pattern: &[char],
     ) -> usize
-        requires some { 2 ≤ length self.old.text }
+        requires some { 4 ≤ length self.old.text }
         requires width { length self.old.text < 2 ^ 62 }
         requires short { length pattern.now < 2 ^ 32 }
         ensures row { self.new ≡ line_row (length self.old.text) (search_text direction failing ++ pattern.now) }
@@ -227,7 +227,7 @@ impl Line {
     /// Draws the line of a query-replace, plain. A line that leaves no cell behind it is shown as a `$` and its end. Tells the
     /// column behind it.
     pub(crate) fn draw_replacing(&mut self) -> usize
-        requires some { 2 ≤ length self.old.text }
+        requires some { 4 ≤ length self.old.text }
         requires width { length self.old.text < 2 ^ 62 }
         ensures row { self.new ≡ line_row (length self.old.text) (codes "Replace? ") }
         ensures column { result ≡ line_end_column (length self.old.text) (codes "Replace? ") }
@@ -243,7 +243,7 @@ impl Line {
 
     /// Draws a row of the listing of all buffers, plain: whether the buffer is modified, its size, its name and its owner.
     pub(crate) fn draw_listed(&mut self, modified: bool, size: usize, name: &Name, owner: &Name)
-        requires some { 0 < length self.old.text }
+        requires some { 4 ≤ length self.old.text }
         requires width { length self.old.text < 2 ^ 62 }
         ensures row { self.new ≡ plain_row (length self.old.text) (listing_text (record { name = name.now; modified = modified; size = size; owner = owner.now })) }
         ensures printable { All IsPrintable (listing_text (record { name = name.now; modified = modified; size = size; owner = owner.now })) }
@@ -257,7 +257,7 @@ impl Line {
 
     /// Draws a row of an access list, plain: the entry's number and the entry as it is printed.
     pub(crate) fn draw_entry(&mut self, number: usize, entry: &[u8])
-        requires some { 0 < length self.old.text }
+        requires some { 4 ≤ length self.old.text }
         requires width { length self.old.text < 2 ^ 62 }
         requires short { length entry.now < 2 ^ 32 }
         requires printable { All IsPrintable entry.now }
@@ -273,7 +273,7 @@ impl Line {
 
     /// Draws why an access list may not be read, plain.
     pub(crate) fn draw_unlisted(&mut self, decision: Decision)
-        requires some { 0 < length self.old.text }
+        requires some { 4 ≤ length self.old.text }
         requires width { length self.old.text < 2 ^ 62 }
         ensures row { self.new ≡ plain_row (length self.old.text) (codes "[no acl: " ++ cause_text decision ++ codes "]") }
         ensures printable { All IsPrintable (codes "[no acl: " ++ cause_text decision ++ codes "]") }
@@ -287,7 +287,7 @@ impl Line {
 
     /// Draws the mode line of the listing of all buffers, in reverse.
     pub(crate) fn draw_buffers_mode(&mut self)
-        requires some { 0 < length self.old.text }
+        requires some { 4 ≤ length self.old.text }
         requires width { length self.old.text < 2 ^ 62 }
         ensures { self.new ≡ mode_row (length self.old.text) (codes "-Buffers") }
     {
@@ -300,7 +300,7 @@ impl Line {
 
     /// Draws the mode line of an access list, in reverse: the buffer's name. `None` stands for what may not be told.
     pub(crate) fn draw_acl_mode(&mut self, name: Option<Name>)
-        requires some { 0 < length self.old.text }
+        requires some { 4 ≤ length self.old.text }
         requires width { length self.old.text < 2 ^ 62 }
         ensures row { self.new ≡ mode_row (length self.old.text) (acl_mode name) }
         ensures printable { All IsPrintable (acl_mode name) }

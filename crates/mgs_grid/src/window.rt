@@ -18,7 +18,7 @@ pub(crate) fn draw_rows<T: Text>(
     row: usize,
     shift: usize,
 )
-    requires some { 0 < cols }
+    requires some { 4 ≤ cols }
     requires width { cols < 2 ^ 62 }
     requires each { All (HasWidth cols) lines.old }
     requires within { top ≤ length (T.text text.now) }

@@ -1,9 +1,9 @@
 -- The words of a text, parted by single spaces.
-use Rattle.std.specs.Prelude.{ℕ, ◌+◌, nat_le, Bool, ◌&&◌, List, [], length, drop, position, Option, Some, None, if◌then◌else◌}
+use Rattle.std.specs.Prelude.{ℕ, ◌+◌, nat_le, nat_lt, ◌==◌, Bool, not, ◌&&◌, List, [], length, drop, position, Option, Some, None, if◌then◌else◌}
 use Rattle.std.specs.Option.{option_map, option_and_then}
 use Rattle.std.specs.List.{slice_split, before_first, list_all}
 use Rattle.std.specs.Str.{is_utf8}
-use Rattle.mgs_model.specs.Names.{is_space, is_visible}
+use Rattle.mgs_model.specs.Names.{is_space}
 
 -- what stands after the first byte that passes, if there is one
 abbrev pub rest_after : (ℕ → Bool) → List ℕ → Option (List ℕ)
@@ -26,9 +26,13 @@ word_of t = before_first is_space t
 abbrev pub words_after : List ℕ → Option (List ℕ)
 words_after t = rest_after is_space t
 
--- one or more characters, each of them visible
+-- a byte of a character above the space but DEL, in UTF-8
+abbrev pub is_quoted : ℕ → Bool
+is_quoted b = nat_lt 32 b && not (b == 127)
+
+-- one or more of those characters
 abbrev pub is_quotable : List ℕ → Bool
-is_quotable bs = nat_le 1 (length bs) && list_all is_visible bs
+is_quotable bs = nat_le 1 (length bs) && list_all is_quoted bs
 
 -- the text that bytes are, where they are UTF-8
 abbrev pub utf8_of : List ℕ → Option (List ℕ)

@@ -2,8 +2,7 @@
 ghost use Rattle.std.specs.Prelude.{◌≡◌, ◌==◌, ◌<◌, length, position, IfSome};
 ghost use Rattle.std.specs.Option.{option_map};
 ghost use Rattle.std.specs.List.{before_first, list_all};
-ghost use Rattle.mgs_model.specs.Names.{is_visible};
-ghost use Rattle.mgs_keys.specs.Words.{is_quotable, rest_after, utf8_of};
+ghost use Rattle.mgs_keys.specs.Words.{is_quotable, is_quoted, rest_after, utf8_of};
 
 use std::str;
 
@@ -27,17 +26,17 @@ pub fn cut_at(text: &[u8], separator: u8) -> (&[u8], Option<&[u8]>)
     }
 }
 
-fn all_visible(bytes: &[u8]) -> bool
-    ensures { result ≡ list_all is_visible bytes.now }
+fn all_quoted(bytes: &[u8]) -> bool
+    ensures { result ≡ list_all is_quoted bytes.now }
 {
-    bytes.iter().all(|b| b'!' <= *b && *b <= b'~')
+    bytes.iter().all(|b| b' ' < *b && *b != 0x7f)
 }
 
-// Whether there are bytes, each of them visible.
+// Whether there are bytes, each of a character above the space but DEL.
 pub(crate) fn is_quotable(bytes: &[u8]) -> bool
     ensures { result ≡ is_quotable bytes.now }
 {
-    !bytes.is_empty() && all_visible(bytes)
+    !bytes.is_empty() && all_quoted(bytes)
 }
 
 /// The bytes as a text. None where they are not UTF-8.

@@ -1,5 +1,5 @@
 -- What an act leaves to do, and turns that end at once.
-use Rattle.std.proofs.Common.{◌≡◌, ℕ, zero, suc, ◌+◌, ◌≤◌, List, [], ◌∷◌, ◌++◌, map, refl, sym, ap, subst, ◌∙◌, Bool, true, false, cond, Option, Some, None, arith, append-nil}
+use Rattle.std.proofs.Common.{◌≡◌, ℕ, zero, suc, ◌≤◌, List, [], ◌∷◌, ◌++◌, map, refl, sym, ap, subst, ◌∙◌, Bool, true, false, cond, Option, Some, None, arith, append-nil}
 use Rattle.std.specs.Prelude.{Result, Ok, Err, not, ◌||◌, ◌==◌, ◌-◌, nat_le, length, take}
 use Rattle.std.specs.Option.{option_map}
 use Rattle.mgs_model.specs.Access.{is_among}

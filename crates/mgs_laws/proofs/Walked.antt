@@ -1,7 +1,8 @@
 -- Walks over small texts, computed by the definitions.
 use Rattle.std.proofs.Common.{◌≡◌, ℕ, true, false, List, [], ◌∷◌, ◌++◌, Some, None, refl}
 use Rattle.std.specs.Prelude.{codes}
-use Rattle.mgs_model.specs.Cells.{glyph}
+use Rattle.mgs_model.specs.Cells.{glyph, own_columns}
+use Rattle.mgs_model.proofs.Worked.{unicode_width}
 use Rattle.mgs_model.specs.Walks.{forward_words, backward_words, lines_down, lines_up, is_first_line, is_last_line, forward_paragraphs, backward_paragraphs, column_place, indent_end, kill_line_end}
 
 -- two words and what stands around them
@@ -30,12 +31,12 @@ lines_there = refl
 ends_there : (is_first_line page 0 ∷ is_first_line page 1 ∷ is_last_line page 13 ∷ is_last_line page 14 ∷ is_first_line [] 0 ∷ is_last_line [] 0 ∷ []) ≡ true ∷ false ∷ false ∷ true ∷ true ∷ true ∷ []
 ends_there = refl
 
--- `a`, a tab, `^A`, `\u{e9}`, and a next line
+-- `a`, a tab, `^A`, U+00E9, and a next line
 abbrev wide : List ℕ
 wide = 97 ∷ 9 ∷ 1 ∷ 233 ∷ 10 ∷ 98 ∷ []
 
-columns_there : (column_place wide 0 0 ∷ column_place wide 0 7 ∷ column_place wide 0 8 ∷ column_place wide 0 9 ∷ column_place wide 0 10 ∷ column_place wide 0 15 ∷ column_place wide 0 16 ∷ column_place wide 0 99 ∷ column_place wide 5 99 ∷ []) ≡ 0 ∷ 1 ∷ 2 ∷ 2 ∷ 3 ∷ 3 ∷ 4 ∷ 4 ∷ 6 ∷ []
-unfolding glyph
+columns_there : (column_place wide 0 0 ∷ column_place wide 0 7 ∷ column_place wide 0 8 ∷ column_place wide 0 9 ∷ column_place wide 0 10 ∷ column_place wide 0 15 ∷ column_place wide 0 16 ∷ column_place wide 0 99 ∷ column_place wide 5 99 ∷ []) ≡ 0 ∷ 1 ∷ 2 ∷ 2 ∷ 3 ∷ 4 ∷ 4 ∷ 4 ∷ 6 ∷ []
+unfolding glyph own_columns unicode_width
 columns_there = refl
 
 -- white that begins a line ends before the place or at it

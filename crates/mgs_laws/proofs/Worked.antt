@@ -5,7 +5,8 @@ use Rattle.mgs_model.specs.Access.{Directory, decision}
 use Rattle.mgs_model.specs.Keys.{key_read}
 use Rattle.mgs_model.specs.Turns.{next}
 use Rattle.mgs_model.specs.Rows.{Row, fitted, shown_row, shift_for}
-use Rattle.mgs_model.specs.Cells.{glyph}
+use Rattle.mgs_model.specs.Cells.{glyph, own_columns}
+use Rattle.mgs_model.proofs.Worked.{unicode_width}
 use Rattle.mgs_model.specs.Picture.{Picture}
 use Rattle.mgs_model.specs.World.{World, Buffer, find_session}
 use Rattle.mgs_model.specs.Acts.{outcome}
@@ -104,8 +105,8 @@ no_buffer = refl
 
 -- a control character, DEL and a character past ASCII, and a TAB that is typed before them
 tab_and_controls : screen_after (world_with (buffer_with (120 ∷ 1 ∷ 127 ∷ 233 ∷ []) full ∷ [])) (Open 1 (codes "ann") 6 20 ∷ Byte 1 9 true None ∷ []) 1 ≡
-    Some (record { rows = 6; cols = 20; lines = row (codes "        x^A^?" ++ 92 ∷ codes "u{e9} ") ∷ blank ∷ blank ∷ blank ∷ reversed (codes "-**-notes-L1-C8-----") ∷ blank ∷ []; row = 0; col = 8 })
-unfolding digits draw outcome turns most_turns next key_read glyph fitted shown_row
+    Some (record { rows = 6; cols = 20; lines = row (codes "        x^A^?" ++ 233 ∷ codes "      ") ∷ blank ∷ blank ∷ blank ∷ reversed (codes "-**-notes-L1-C8-----") ∷ blank ∷ []; row = 0; col = 8 })
+unfolding digits draw outcome turns most_turns next key_read glyph own_columns unicode_width fitted shown_row
 tab_and_controls = refl
 
 -- DECISIONS

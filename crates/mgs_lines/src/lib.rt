@@ -17,6 +17,7 @@ mod words;
 
 pub use filling::{paragraph_end, paragraph_start};
 pub use kills::kill_line_end;
+use mgs_model::own_columns;
 use mgs_text::Text;
 pub use paragraphs::{backward_paragraph, forward_paragraph};
 pub use vertical::{column_place, indent_end, is_first_line, is_last_line, lines_down, lines_up};
@@ -63,7 +64,8 @@ fn hex_len(n: u32) -> usize
 }
 
 /// How many cells a character takes in a column, 1 to 12: a tab goes to the next multiple of eight,
-/// other control characters take two (`^A`), visible ASCII one, and all else is written `\u{hex}`.
+/// other control characters take two (`^A`), visible ASCII one, characters past it their own one or two columns, and all
+/// else is written `\u{hex}`.
 pub fn width(column: usize, c: char) -> usize
     ensures value { result ≡ length (glyph column c) }
     ensures some { 0 < result }
@@ -78,7 +80,12 @@ pub fn width(column: usize, c: char) -> usize
     } else if c == '\x7f' {
         2
     } else {
-        4 + hex_len(c as u32)
+        let columns = own_columns(c);
+        if columns == 0 {
+            4 + hex_len(c as u32)
+        } else {
+            columns
+        }
     }
 }
 

@@ -5,10 +5,9 @@ use Rattle.std.specs.Option.{option_map}
 use Rattle.std.specs.List.{list_all}
 use Rattle.std.proofs.lemmas.Bool.{eqb-true}
 use Rattle.std.proofs.Math.Bool.{and-false}
-use Rattle.std.proofs.lemmas.Option.{none-some}
 use Rattle.mgs_keys.specs.declared.decoder.Key.{Key}
-use Rattle.mgs_keys.specs.declared.decoder.Key.TheVariants.{Plain, Meta}
-use Rattle.mgs_model.specs.Keys.{KeyRow, KeyRead, Half, Bound, Not_bound, is_graphic, is_prefix, inserts_itself, found_read, find_row, word_read, key_read, value_of, key_rows, ends_in_escape, takes_digit, is_digit, digit_added, four_times, quotes, quoted_read}
+use Rattle.mgs_keys.specs.declared.decoder.Key.TheVariants as key
+use Rattle.mgs_model.specs.Keys.{KeyRow, KeyRead, Half, Bound, Not_bound, is_graphic, is_prefix, inserts_itself, found_read, find_row, word_read, ascii_read, value_of, key_rows, ends_in_escape, takes_digit, is_digit, digit_added, four_times, quotes, quoted_read}
 use Rattle.mgs_model.specs.Names.{same_name}
 use Rattle.mgs_model.specs.declared.session.Argument.{Argument}
 use Rattle.mgs_model.specs.declared.session.Insertion.TheVariants.{SelfInsert}
@@ -17,12 +16,13 @@ use Rattle.mgs_model.specs.declared.session.Command.TheVariants.{Insert, Set}
 use Rattle.mgs_model.specs.declared.session.Setting.TheVariants.{KeyboardQuit}
 use Rattle.mgs_maps.specs.declared.maps.Prefix.{Prefix}
 use Rattle.mgs_maps.specs.declared.maps.Prefix.TheVariants.{Empty, ControlX, MetaBracket, Quote}
-use Rattle.mgs_maps.specs.Held.{prefix_bytes, escape_bytes, key_reads, is_bound, Held, FedBy, IsBoundRun}
+use Rattle.mgs_maps.specs.declared.maps.Stroke.{Stroke}
+use Rattle.mgs_maps.specs.declared.maps.Stroke.TheVariants.{Plain, Meta}
+use Rattle.mgs_maps.specs.Held.{prefix_bytes, key_reads, is_bound, Held, FedBy, IsBoundRun}
 use Rattle.mgs_maps.specs.declared.maps.Fed.{Fed}
 use Rattle.mgs_maps.specs.declared.maps.Fed.TheVariants.{Pending, Run, Unbound}
-use Rattle.mgs_keys.specs.Decoded.{decoded, waits_after}
 use Rattle.mgs_maps.specs.Table.{command_of}
-use Rattle.mgs_maps.specs.Words.{last_byte, word_of, prefix_after, inserted, chosen, no_row, is_quote, word_reads, plain_reads, meta_reads}
+use Rattle.mgs_maps.specs.Words.{last_byte, word_of, prefix_after, inserted, chosen, no_row, word_reads, plain_reads, meta_reads, wide_reads}
 use Rattle.mgs_maps.proofs.Rows.{is_half, prefix_is}
 
 -- what is read where no row is found
@@ -45,7 +45,7 @@ if_character true a byte = refl
 if_character false a byte = refl
 
 -- a key that is no ESC alone
-abbrev IsKey : Key → Type 0
+abbrev IsKey : Stroke → Type 0
 IsKey (Plain byte) = (byte == 27) ≡ false
 IsKey (Meta byte) = Unit {0}
 
@@ -67,7 +67,7 @@ meta_word a byte =
     ]
     in go (byte == 91) refl
 
-chosen_is : (a : Option Argument) (prefix : Prefix) (key : Key) (o : Option Command) → IsKey key → by_command a (last_byte key) (word_of prefix key) o ≡ chosen a o (prefix_after prefix key) (inserted prefix key)
+chosen_is : (a : Option Argument) (prefix : Prefix) (key : Stroke) (o : Option Command) → IsKey key → by_command a (last_byte key) (word_of prefix key) o ≡ chosen a o (prefix_after prefix key) (inserted prefix key)
 chosen_is a prefix key (Some c) k = refl
 chosen_is a Empty (Plain byte) None k = plain_word a byte k
 chosen_is a Empty (Meta byte) None k = meta_word a byte
@@ -78,14 +78,13 @@ chosen_is a MetaBracket (Meta byte) None k = refl
 chosen_is a Quote (Plain byte) None k = rw (and-false (byte == 91)) refl
 chosen_is a Quote (Meta byte) None k = refl
 
-word_is_read : (a : Option Argument) (prefix : Prefix) (key : Key) → IsKey key → word_read a (last_byte key) (word_of prefix key) ≡ word_reads a prefix key
+word_is_read : (a : Option Argument) (prefix : Prefix) (key : Stroke) → IsKey key → word_read a (last_byte key) (word_of prefix key) ≡ word_reads a prefix key
 word_is_read a prefix key k =
     found_by a (last_byte key) (word_of prefix key) (find_row (word_of prefix key)) (prefix_is (word_of prefix key))
     ∙ chosen_is a prefix key (command_of (word_of prefix key)) k
 
 -- a byte that is no ESC
-other_byte : (a : Option Argument) (prefix : Prefix) (byte : ℕ) → (byte == 27) ≡ false → key_read a (prefix_bytes prefix) byte ≡ plain_reads a prefix byte
-unfolding key_read
+other_byte : (a : Option Argument) (prefix : Prefix) (byte : ℕ) → (byte == 27) ≡ false → ascii_read a (prefix_bytes prefix) byte ≡ plain_reads a prefix byte
 other_byte None Empty byte e =
     ap (λ t. if byte == 7 then Bound (Set KeyboardQuit) None else if t && true then Half None (27 ∷ []) else if byte == 21 then Half (Some (four_times None)) [] else if is_digit byte && false then Half (Some (digit_added (byte - 48) None)) [] else if byte == 17 then Half None (17 ∷ []) else word_read None byte (byte ∷ [])) e
     ∙ ap (λ r. if byte == 7 then Bound (Set KeyboardQuit) None else if byte == 21 then Half (Some (four_times None)) [] else if is_digit byte && false then Half (Some (digit_added (byte - 48) None)) [] else if byte == 17 then Half None (17 ∷ []) else r) (word_is_read None Empty (Plain byte) e)
@@ -101,56 +100,32 @@ other_byte a MetaBracket byte e =
     ∙ ap (λ r. if byte == 7 then Bound (Set KeyboardQuit) (value_of a) else if is_digit byte && false then Half (Some (digit_added (byte - 48) a)) [] else r) (word_is_read a MetaBracket (Plain byte) e)
 other_byte a Quote byte e = refl
 
-plain_escape : (a : Option Argument) (prefix : Prefix) → key_reads a (prefix_bytes prefix) (Plain 27) ≡ plain_reads a prefix 27
-unfolding key_read
+plain_escape : (a : Option Argument) (prefix : Prefix) → key_reads a (prefix_bytes prefix) (key.Plain 27) ≡ plain_reads a prefix 27
 plain_escape a Empty = refl
 plain_escape a ControlX = refl
 plain_escape a MetaBracket = refl
 plain_escape a Quote = refl
 
-pub plain_is_read : (a : Option Argument) (prefix : Prefix) (byte : ℕ) → key_reads a (prefix_bytes prefix) (Plain byte) ≡ plain_reads a prefix byte
+pub plain_is_read : (a : Option Argument) (prefix : Prefix) (byte : ℕ) → key_reads a (prefix_bytes prefix) (key.Plain byte) ≡ plain_reads a prefix byte
 plain_is_read a prefix byte =
-    let goal : ℕ → Type 0 = λ n. key_reads a (prefix_bytes prefix) (Plain n) ≡ plain_reads a prefix n in
+    let goal : ℕ → Type 0 = λ n. key_reads a (prefix_bytes prefix) (key.Plain n) ≡ plain_reads a prefix n in
     let go : (t : Bool) → (byte == 27) ≡ t → goal byte = λ t. elim t as (λ t. (byte == 27) ≡ t → goal byte) [
       | true ↦ λ e. subst goal (sym (eqb-true byte 27 e)) (plain_escape a prefix)
-      | false ↦ λ e. ap (λ t. if t && not (quotes (prefix_bytes prefix)) then Not_bound else key_read a (prefix_bytes prefix) byte) e ∙ other_byte a prefix byte e
+      | false ↦ λ e. ap (λ t. if t && not (quotes (prefix_bytes prefix)) then Not_bound else ascii_read a (prefix_bytes prefix) byte) e ∙ other_byte a prefix byte e
     ]
     in go (byte == 27) refl
 
-pub meta_is_read : (a : Option Argument) (prefix : Prefix) (byte : ℕ) → key_reads a (prefix_bytes prefix) (Meta byte) ≡ meta_reads a prefix byte
-unfolding key_read
+pub meta_is_read : (a : Option Argument) (prefix : Prefix) (byte : ℕ) → key_reads a (prefix_bytes prefix) (key.Meta byte) ≡ meta_reads a prefix byte
 meta_is_read a Empty byte = rw (and-false (byte == 27), word_is_read a Empty (Meta byte) tt) refl
 meta_is_read a ControlX byte = rw (and-false (byte == 27), word_is_read a ControlX (Meta byte) tt) refl
 meta_is_read a MetaBracket byte = rw (and-false (byte == 27), word_is_read a MetaBracket (Meta byte) tt) refl
 meta_is_read a Quote byte = refl
 
--- A BYTE, AFTER THE DECODER
-
--- the byte after C-q is that of a plain key
-pub quoted_is_read : (a : Option Argument) (prefix : Prefix) (escape : Bool) (byte : ℕ) → is_quote prefix ≡ true → key_read a (prefix_bytes prefix ++ escape_bytes escape) byte ≡ key_reads a (prefix_bytes prefix) (Plain byte)
-unfolding key_read
-quoted_is_read a Empty escape byte q = absurd (true≢false (sym q))
-quoted_is_read a ControlX escape byte q = absurd (true≢false (sym q))
-quoted_is_read a MetaBracket escape byte q = absurd (true≢false (sym q))
-quoted_is_read a Quote escape byte q = rw (and-false (byte == 27)) refl
-
-escape_goes_on : (a : Option Argument) (prefix : Prefix) → is_quote prefix ≡ false → key_read a (prefix_bytes prefix ++ []) 27 ≡ Half a (prefix_bytes prefix ++ 27 ∷ [])
-unfolding key_read
-escape_goes_on a Empty q = refl
-escape_goes_on a ControlX q = refl
-escape_goes_on a MetaBracket q = refl
-escape_goes_on a Quote q = absurd (true≢false q)
-
--- an ESC that begins a key
-pub escape_waits : (a : Option Argument) (prefix : Prefix) (escape : Bool) (byte : ℕ) → is_quote prefix ≡ false → decoded escape byte ≡ None → key_read a (prefix_bytes prefix ++ escape_bytes escape) byte ≡ Half a (prefix_bytes prefix ++ escape_bytes (waits_after escape byte))
-escape_waits a prefix true byte q h = absurd (none-some (Meta byte) (sym h))
-escape_waits a prefix false byte q h =
-    let goal : ℕ → Type 0 = λ n. key_read a (prefix_bytes prefix ++ []) n ≡ Half a (prefix_bytes prefix ++ escape_bytes (n == 27)) in
-    let go : (t : Bool) → (byte == 27) ≡ t → (if t then None else Some (Plain byte)) ≡ None → goal byte = λ t. elim t as (λ t. (byte == 27) ≡ t → (if t then None else Some (Plain byte)) ≡ None → goal byte) [
-      | true ↦ λ e n. subst goal (sym (eqb-true byte 27 e)) (escape_goes_on a prefix q)
-      | false ↦ λ e n. absurd (none-some (Plain byte) (sym n))
-    ]
-    in go (byte == 27) refl h
+pub wide_is_read : (a : Option Argument) (prefix : Prefix) (c : ℕ) → key_reads a (prefix_bytes prefix) (key.Wide c) ≡ wide_reads a prefix c
+wide_is_read a Empty c = refl
+wide_is_read a ControlX c = refl
+wide_is_read a MetaBracket c = refl
+wide_is_read a Quote c = refl
 
 -- COMMANDS
 
@@ -184,8 +159,7 @@ word_is_bound : (a : Option Argument) (byte : ℕ) (word : List ℕ) (o : Option
 word_is_bound a byte word (Some r) h = h
 word_is_bound a byte word None h = either (is_prefix word) (Half a word) (if inserts_itself byte word then Bound (Insert (SelfInsert byte)) (value_of a) else Not_bound) tt (either (inserts_itself byte word) (Bound (Insert (SelfInsert byte)) (value_of a)) Not_bound refl tt)
 
-read_is_bound : (a : Option Argument) (keys : List ℕ) (byte : ℕ) → IsBoundRead (key_read a keys byte)
-unfolding key_read
+read_is_bound : (a : Option Argument) (keys : List ℕ) (byte : ℕ) → IsBoundRead (ascii_read a keys byte)
 read_is_bound a keys byte =
     let word : List ℕ = keys ++ byte ∷ [] in
     let found : KeyRead = word_read a byte word in
@@ -207,10 +181,11 @@ run_is_bound Pending read new h b = tt
 run_is_bound (Run c n) read new h b = subst IsBoundRead h.0 b
 run_is_bound Unbound read new h b = tt
 
-key_is_bound : (a : Option Argument) (keys : List ℕ) (key : Key) → IsBoundRead (key_reads a keys key)
-key_is_bound a keys (Plain byte) = either ((byte == 27) && not (quotes keys)) Not_bound (key_read a keys byte) tt (read_is_bound a keys byte)
-key_is_bound a keys (Meta byte) = read_is_bound a (keys ++ 27 ∷ []) byte
+key_is_bound : (a : Option Argument) (keys : List ℕ) (k : Key) → IsBoundRead (key_reads a keys k)
+key_is_bound a keys (key.Plain byte) = either ((byte == 27) && not (quotes keys)) Not_bound (ascii_read a keys byte) tt (read_is_bound a keys byte)
+key_is_bound a keys (key.Meta byte) = read_is_bound a (keys ++ 27 ∷ []) byte
+key_is_bound a keys (key.Wide c) = either ((length keys == 0) || quotes keys) (Bound (Insert (SelfInsert c)) (value_of a)) Not_bound refl tt
 
 -- what a key makes run is bound
-pub fed_is_bound : (fed : Fed) (a : Option Argument) (keys : List ℕ) (key : Key) (new : Held) → FedBy fed (key_reads a keys key) new → IsBoundRun fed
-fed_is_bound fed a keys key new h = run_is_bound fed (key_reads a keys key) new h (key_is_bound a keys key)
+pub fed_is_bound : (fed : Fed) (a : Option Argument) (keys : List ℕ) (k : Key) (new : Held) → FedBy fed (key_reads a keys k) new → IsBoundRun fed
+fed_is_bound fed a keys k new h = run_is_bound fed (key_reads a keys k) new h (key_is_bound a keys k)

@@ -1,3 +1,4 @@
 pub mod Rows
 pub mod KeyRules
+pub mod Sequenced
 pub mod Named

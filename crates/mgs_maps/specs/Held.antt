@@ -1,10 +1,13 @@
 -- What a session has half read, and what a key comes to.
-use Rattle.std.specs.Prelude.{◌≡◌, ℕ, ◌==◌, Bool, true, false, not, ◌&&◌, List, [], ◌∷◌, ◌++◌, Option, None, ⊤, if◌then◌else◌}
+use Rattle.std.specs.Prelude.{◌≡◌, ◌≤◌, ℕ, ◌==◌, length, ◌||◌, Bool, true, false, not, ◌&&◌, List, [], ◌∷◌, ◌++◌, Option, None, ⊤, if◌then◌else◌}
 use Rattle.std.specs.Option.{option_map}
 use Rattle.mgs_keys.specs.declared.decoder.Key.{Key}
-use Rattle.mgs_keys.specs.declared.decoder.Key.TheVariants.{Plain, Meta}
-use Rattle.mgs_model.specs.Keys.{KeyRead, Half, Bound, Not_bound, quotes, key_read}
+use Rattle.mgs_keys.specs.declared.decoder.Key.TheVariants.{Plain, Meta, Wide}
+use Rattle.mgs_model.specs.Keys.{KeyRead, Half, Bound, Not_bound, quotes, value_of, ascii_read}
+use Rattle.mgs_model.specs.Sequences.{sequence_read}
+use Rattle.mgs_model.specs.declared.sequence.Sequence.TheVariants.{Begun}
 use Rattle.mgs_model.specs.declared.session.Argument.{Argument}
+use Rattle.mgs_model.specs.declared.session.Insertion.TheVariants.{SelfInsert}
 use Rattle.mgs_model.specs.declared.session.Motion.{Motion}
 use Rattle.mgs_model.specs.declared.session.Motion.TheVariants.{SearchOn, SearchFor, StartReplace, SkipMatch}
 use Rattle.mgs_model.specs.declared.session.Alteration.{Alteration}
@@ -13,6 +16,8 @@ use Rattle.mgs_model.specs.declared.session.Command.{Command}
 use Rattle.mgs_model.specs.declared.session.EntryChange.{EntryChange}
 use Rattle.mgs_model.specs.declared.session.EntryChange.TheVariants.{DeleteEntry}
 use Rattle.mgs_model.specs.declared.session.Command.TheVariants.{Insert, InsertReading, Move, Alter, Scroll, Set, Rearrange, Ask, Entries, ListEntries, UndoEdit, NotModified, SaveBuffer, Exit}
+use Rattle.mgs_keys.specs.declared.decoder.Held.{Held as Decoding}
+use Rattle.mgs_keys.specs.declared.decoder.Held.TheVariants.{Nothing, Escape, One, Two, Three}
 use Rattle.mgs_maps.specs.declared.maps.Fed.{Fed}
 use Rattle.mgs_maps.specs.declared.maps.Fed.TheVariants.{Pending, Run, Unbound}
 use Rattle.mgs_maps.specs.declared.maps.Prefix.{Prefix}
@@ -90,17 +95,48 @@ prefix_bytes Quote = 17 ∷ []
 abbrev pub held_by : Maps → Held
 held_by m = record { argument = m.argument; keys = prefix_bytes m.prefix }
 
--- what a key comes to: what its last byte does. An ESC that is no Meta is no key but after C-q
+-- What a key comes to: what its last byte does. An ESC that is no Meta is no key but after C-q. A character past ASCII inserts
+-- itself where a word begins, and behind C-q
 abbrev pub key_reads : Option Argument → List ℕ → Key → KeyRead
-key_reads argument keys (Plain byte) = if (byte == 27) && not (quotes keys) then Not_bound else key_read argument keys byte
-key_reads argument keys (Meta byte) = key_read argument (keys ++ 27 ∷ []) byte
+key_reads argument keys (Plain byte) = if (byte == 27) && not (quotes keys) then Not_bound else ascii_read argument keys byte
+key_reads argument keys (Meta byte) = ascii_read argument (keys ++ 27 ∷ []) byte
+key_reads argument keys (Wide c) = if (length keys == 0) || quotes keys then Bound (Insert (SelfInsert c)) (value_of argument) else Not_bound
 
 -- BY BYTES
 
--- an ESC that waits for its byte
-abbrev pub escape_bytes : Bool → List ℕ
-escape_bytes true = 27 ∷ []
-escape_bytes false = []
+-- the bytes of a key that is not complete
+abbrev pub decoder_bytes : Decoding → List ℕ
+decoder_bytes Nothing = []
+decoder_bytes Escape = 27 ∷ []
+decoder_bytes (One a) = a ∷ []
+decoder_bytes (Two a b) = a ∷ b ∷ []
+decoder_bytes (Three a b c) = a ∷ b ∷ c ∷ []
 
-abbrev pub held_at : Bool → Maps → Held
-held_at escape m = record { argument = m.argument; keys = prefix_bytes m.prefix ++ escape_bytes escape }
+abbrev pub held_at : Decoding → Maps → Held
+held_at d m = record { argument = m.argument; keys = prefix_bytes m.prefix ++ decoder_bytes d }
+
+-- a sequence stands where a word begins, or behind C-q
+abbrev pub takes_sequence : Prefix → Bool
+takes_sequence Empty = true
+takes_sequence ControlX = false
+takes_sequence MetaBracket = false
+takes_sequence Quote = true
+
+-- behind C-q ESC is a key by itself
+abbrev pub takes_escape : Prefix → Bool
+takes_escape Empty = true
+takes_escape ControlX = true
+takes_escape MetaBracket = true
+takes_escape Quote = false
+
+-- the first bytes of a character, and not all
+abbrev pub IsBegun : List ℕ → Type 0
+IsBegun bytes = sequence_read bytes ≡ Begun
+
+-- What the decoder may hold behind a prefix. None of the bytes that came of a character completed one.
+abbrev pub Fits : Prefix → Decoding → Type 0
+Fits prefix Nothing = ⊤
+Fits prefix Escape = takes_escape prefix ≡ true
+Fits prefix (One a) = (takes_sequence prefix ≡ true) × ((128 ≤ a) × IsBegun (a ∷ []))
+Fits prefix (Two a b) = (takes_sequence prefix ≡ true) × ((128 ≤ a) × (IsBegun (a ∷ []) × IsBegun (a ∷ b ∷ [])))
+Fits prefix (Three a b c) = (takes_sequence prefix ≡ true) × ((128 ≤ a) × (IsBegun (a ∷ []) × (IsBegun (a ∷ b ∷ []) × IsBegun (a ∷ b ∷ c ∷ []))))

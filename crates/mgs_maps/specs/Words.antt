@@ -1,37 +1,37 @@
 -- Words of keys, as the maps tell them from each other.
-use Rattle.std.specs.Prelude.{ℕ, ◌==◌, ◌-◌, Bool, true, false, ◌&&◌, ◌||◌, List, [], ◌∷◌, ◌++◌, is_some, Option, Some, None, if◌then◌else◌}
-use Rattle.mgs_keys.specs.declared.decoder.Key.{Key}
-use Rattle.mgs_keys.specs.declared.decoder.Key.TheVariants.{Plain, Meta}
+use Rattle.std.specs.Prelude.{ℕ, nat_le, nat_lt, ◌==◌, ◌-◌, Bool, true, false, ◌&&◌, ◌||◌, List, [], ◌∷◌, ◌++◌, is_some, Option, Some, None, if◌then◌else◌}
 use Rattle.mgs_model.specs.Keys.{KeyRead, Half, Bound, Not_bound, is_graphic, is_digit, digit_added, four_times, value_of, quoted_read}
 use Rattle.mgs_model.specs.declared.session.Argument.{Argument}
 use Rattle.mgs_model.specs.declared.session.Insertion.TheVariants.{SelfInsert}
 use Rattle.mgs_model.specs.declared.session.Setting.TheVariants.{KeyboardQuit}
 use Rattle.mgs_model.specs.declared.session.Command.{Command}
 use Rattle.mgs_model.specs.declared.session.Command.TheVariants.{Insert, Set}
+use Rattle.mgs_maps.specs.declared.maps.Stroke.{Stroke}
+use Rattle.mgs_maps.specs.declared.maps.Stroke.TheVariants.{Plain, Meta}
 use Rattle.mgs_maps.specs.declared.maps.Prefix.{Prefix}
 use Rattle.mgs_maps.specs.declared.maps.Prefix.TheVariants.{Empty, ControlX, MetaBracket, Quote}
 use Rattle.mgs_maps.specs.Held.{prefix_bytes}
 use Rattle.mgs_maps.specs.Table.{command_of}
 
-abbrev pub last_byte : Key → ℕ
+abbrev pub last_byte : Stroke → ℕ
 last_byte (Plain byte) = byte
 last_byte (Meta byte) = byte
 
-abbrev pub key_bytes : Key → List ℕ
-key_bytes (Plain byte) = byte ∷ []
-key_bytes (Meta byte) = 27 ∷ byte ∷ []
+abbrev pub stroke_bytes : Stroke → List ℕ
+stroke_bytes (Plain byte) = byte ∷ []
+stroke_bytes (Meta byte) = 27 ∷ byte ∷ []
 
-abbrev pub word_of : Prefix → Key → List ℕ
-word_of prefix key = prefix_bytes prefix ++ key_bytes key
+abbrev pub word_of : Prefix → Stroke → List ℕ
+word_of prefix stroke = prefix_bytes prefix ++ stroke_bytes stroke
 
 -- the prefix that a key makes of another
-abbrev pub prefix_after : Prefix → Key → Option Prefix
+abbrev pub prefix_after : Prefix → Stroke → Option Prefix
 prefix_after Empty (Plain byte) = if byte == 24 then Some ControlX else None
 prefix_after Empty (Meta byte) = if byte == 91 then Some MetaBracket else None
 prefix_after _ _ = None
 
 -- the character that a word of one key inserts
-abbrev pub inserted : Prefix → Key → Option ℕ
+abbrev pub inserted : Prefix → Stroke → Option ℕ
 inserted Empty (Plain byte) = if is_graphic byte || (byte == 9) then Some byte else None
 inserted _ _ = None
 
@@ -46,8 +46,8 @@ abbrev pub chosen : Option Argument → Option Command → Option Prefix → Opt
 chosen argument (Some c) prefix character = Bound c (value_of argument)
 chosen argument None prefix character = no_row argument prefix character
 
-abbrev pub word_reads : Option Argument → Prefix → Key → KeyRead
-word_reads argument prefix key = chosen argument (command_of (word_of prefix key)) (prefix_after prefix key) (inserted prefix key)
+abbrev pub word_reads : Option Argument → Prefix → Stroke → KeyRead
+word_reads argument prefix stroke = chosen argument (command_of (word_of prefix stroke)) (prefix_after prefix stroke) (inserted prefix stroke)
 
 abbrev pub is_empty : Prefix → Bool
 is_empty Empty = true
@@ -58,6 +58,20 @@ is_empty Quote = false
 abbrev pub is_quote : Prefix → Bool
 is_quote Quote = true
 is_quote _ = false
+
+-- a byte that is a key by itself: all of ASCII behind C-q, and a byte past it behind C-x and M-[
+abbrev pub is_raw : Prefix → ℕ → Bool
+is_raw Empty byte = false
+is_raw ControlX byte = nat_lt 127 byte
+is_raw MetaBracket byte = nat_lt 127 byte
+is_raw Quote byte = nat_le byte 127
+
+-- without C-q
+abbrev pub unquoted : Prefix → Prefix
+unquoted Empty = Empty
+unquoted ControlX = ControlX
+unquoted MetaBracket = MetaBracket
+unquoted Quote = Empty
 
 abbrev pub plain_reads : Option Argument → Prefix → ℕ → KeyRead
 plain_reads argument prefix byte =
@@ -74,3 +88,6 @@ meta_reads argument prefix byte =
     else if byte == 7 then Bound (Set KeyboardQuit) (value_of argument)
     else if is_digit byte && is_empty prefix then Half (Some (digit_added (byte - 48) argument)) []
     else word_reads argument prefix (Meta byte)
+
+abbrev pub wide_reads : Option Argument → Prefix → ℕ → KeyRead
+wide_reads argument prefix c = if is_empty prefix || is_quote prefix then Bound (Insert (SelfInsert c)) (value_of argument) else Not_bound

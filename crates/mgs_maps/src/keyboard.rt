@@ -16,17 +16,18 @@ pub struct Keyboard {
 }
 
 impl Model for Keyboard {
-    ghost use Rattle.mgs_maps.specs.Held.{Held, held_at};
-    ghost use Rattle.mgs_maps.specs.Back.{prefix_back, escape_back, prefix_told};
-    ghost use Rattle.mgs_model.specs.Keys.{ends_in_escape};
+    ghost use Rattle.mgs_maps.specs.Held.{Held, Fits, held_at};
+    ghost use Rattle.mgs_maps.specs.Back.{decoder_back, prefix_back, decoder_told, prefix_told};
 
     ghost Value = { Held };
 
     ghost view = { λ k. held_at k.decoder k.maps };
 
-    ghost inverse = { λ h. record { decoder = ends_in_escape h.keys; maps = record { argument = h.argument; prefix = prefix_back h.keys } } };
+    ghost invariant = { λ k. Fits k.maps.prefix k.decoder };
 
-    ghost inverse_ok = { λ k h i. record { decoder = escape_back k.decoder k.maps.prefix i; maps = record { argument = k.maps.argument; prefix = prefix_told k.decoder k.maps.prefix i } } };
+    ghost inverse = { λ h. record { decoder = decoder_back h.keys; maps = record { argument = h.argument; prefix = prefix_back h.keys } } };
+
+    ghost inverse_ok = { λ k h i. record { decoder = decoder_told k.decoder k.maps.prefix h i; maps = record { argument = k.maps.argument; prefix = prefix_told k.decoder k.maps.prefix h i } } };
 }
 
 impl Keyboard {
@@ -58,21 +59,22 @@ impl Keyboard {
     }
 
     /// What a byte comes to, after what is held: a word of keys that goes on, a command and its argument, or a word that
-    /// runs no command. A command is one of the table, or inserts the character that was typed. The byte after C-q is no
-    /// key: 0x00 to 0x7F inserts itself, and a greater one runs no command.
-    #[tactic(auto, using(crate::proofs::KeyRules::escape_waits, crate::proofs::KeyRules::quoted_is_read))]
+    /// runs no command. A command is one of the table, or inserts the character that was typed.
+    ///
+    /// The bytes of a character past ASCII are its UTF-8. A byte that cannot go on with them runs no command, and is used up
+    /// with them; C-g there is keyboard-quit. After C-q a byte from 0x00 to 0x7F inserts itself, and such a character
+    /// too; after ESC, C-x and M-[ a byte from 0x80 on runs no command.
+    #[tactic(auto, using(crate::proofs::Sequenced::raw_is_fed, crate::proofs::Sequenced::key_is_fed, crate::proofs::Sequenced::key_fits, crate::proofs::Sequenced::rest_is_read, crate::proofs::Sequenced::rest_fits))]
     pub fn feed(&mut self, byte: u8) -> Fed
         ensures read { FedBy result (key_read self.old.argument self.old.keys byte) self.new }
         ensures bound { IsBoundRun result }
     {
-        // The decoder is not asked: it waits for a first byte after this one.
-        if self.maps.quotes() {
-            self.decoder = Decoder::new();
+        if self.decoder.is_idle() && self.maps.takes(byte) {
             return self.maps.feed(Key::Plain(byte));
         }
         match self.decoder.feed(byte) {
             None => Fed::Pending,
-            Some(key) => self.maps.feed(key),
+            Some(key) => self.maps.feed_decoded(key),
         }
     }
 }

@@ -2,7 +2,7 @@
 ghost use Rattle.std.specs.Prelude.{◌≡◌};
 ghost use Rattle.mgs_model.specs.Keys.{Half, Bound, quoted_read, digit_added as extended, four_times as multiplied, value_of, is_digit as tells_digit};
 ghost use Rattle.mgs_maps.specs.Held.{FedBy, IsBoundRun, argument_held, held_by, key_reads, nothing_held, prefix_bytes};
-ghost use Rattle.mgs_maps.specs.Words.{prefix_after, inserted as inserts, is_empty as begins, is_quote as quotes, word_reads, plain_reads, meta_reads};
+ghost use Rattle.mgs_maps.specs.Words.{prefix_after, inserted as inserts, is_empty as begins, is_quote as quotes, is_raw as tells_raw, unquoted, word_reads, plain_reads, meta_reads, wide_reads};
 
 use crate::table::{BRACKET, CONTROL_X, QUOTE, find_command};
 use mgs_keys::Key;
@@ -34,6 +34,13 @@ pub(crate) enum Prefix {
     ControlX,
     MetaBracket,
     Quote,
+}
+
+// A key that is one byte, with Meta or without.
+#[derive(Clone, Copy, Debug, PartialEq, Eq)]
+pub(crate) enum Stroke {
+    Plain(u8),
+    Meta(u8),
 }
 
 /// Makes commands of keys. It holds the argument that was typed, and the word that goes on.
@@ -92,23 +99,47 @@ fn is_quote(prefix: Prefix) -> bool
     matches!(prefix, Prefix::Quote)
 }
 
-// The prefix that a key makes of another.
-fn prefix_with(prefix: Prefix, key: Key) -> Option<Prefix>
-    ensures { result ≡ prefix_after prefix key }
+// Whether a byte is a key by itself: no ESC and no C-g behind C-q, and no character behind C-x and M-[.
+fn is_raw(prefix: Prefix, byte: u8) -> bool
+    ensures { result ≡ tells_raw prefix byte }
 {
-    match (prefix, key) {
-        (Prefix::Empty, Key::Plain(byte)) if byte == CONTROL_X => Some(Prefix::ControlX),
-        (Prefix::Empty, Key::Meta(byte)) if byte == BRACKET => Some(Prefix::MetaBracket),
+    match prefix {
+        Prefix::Empty => false,
+        Prefix::Quote => byte <= ASCII_LIMIT,
+        Prefix::ControlX => byte > ASCII_LIMIT,
+        Prefix::MetaBracket => byte > ASCII_LIMIT,
+    }
+}
+
+// The prefix without C-q.
+fn without_quote(prefix: Prefix) -> Prefix
+    ensures { result ≡ unquoted prefix }
+{
+    match prefix {
+        Prefix::Quote => Prefix::Empty,
+        Prefix::Empty => Prefix::Empty,
+        Prefix::ControlX => Prefix::ControlX,
+        Prefix::MetaBracket => Prefix::MetaBracket,
+    }
+}
+
+// The prefix that a key makes of another.
+fn prefix_with(prefix: Prefix, stroke: Stroke) -> Option<Prefix>
+    ensures { result ≡ prefix_after prefix stroke }
+{
+    match (prefix, stroke) {
+        (Prefix::Empty, Stroke::Plain(byte)) if byte == CONTROL_X => Some(Prefix::ControlX),
+        (Prefix::Empty, Stroke::Meta(byte)) if byte == BRACKET => Some(Prefix::MetaBracket),
         _ => None,
     }
 }
 
 // The character that a word of one key inserts.
-fn inserted(prefix: Prefix, key: Key) -> Option<char>
-    ensures { result ≡ inserts prefix key }
+fn inserted(prefix: Prefix, stroke: Stroke) -> Option<char>
+    ensures { result ≡ inserts prefix stroke }
 {
-    match (prefix, key) {
-        (Prefix::Empty, Key::Plain(byte)) if (b' ' <= byte && byte <= b'~') || byte == b'\t' => {
+    match (prefix, stroke) {
+        (Prefix::Empty, Stroke::Plain(byte)) if (b' ' <= byte && byte <= b'~') || byte == b'\t' => {
             Some(char::from(byte))
         }
         _ => None,
@@ -153,11 +184,11 @@ impl Maps {
         }
     }
 
-    // Whether the next byte is no key.
-    pub(crate) fn quotes(&self) -> bool
-        ensures { result ≡ quotes self.now.prefix }
+    // Whether the next byte is a key by itself, which the decoder must not see.
+    pub(crate) fn takes(&self, byte: u8) -> bool
+        ensures { result ≡ tells_raw self.now.prefix byte }
     {
-        is_quote(self.prefix)
+        is_raw(self.prefix, byte)
     }
 
     // The word goes on.
@@ -191,16 +222,16 @@ impl Maps {
     }
 
     // What a word is that is no part of an argument.
-    fn look_up(self, key: Key) -> (Fed, Maps)
-        ensures { FedBy result.0 (word_reads self.argument self.prefix key) (held_by result.1) }
+    fn look_up(self, stroke: Stroke) -> (Fed, Maps)
+        ensures { FedBy result.0 (word_reads self.argument self.prefix stroke) (held_by result.1) }
     {
-        if let Some(command) = find_command(self.prefix, key) {
+        if let Some(command) = find_command(self.prefix, stroke) {
             return Maps::run(command, self.argument);
         }
-        if let Some(prefix) = prefix_with(self.prefix, key) {
+        if let Some(prefix) = prefix_with(self.prefix, stroke) {
             return Maps::wait(self.argument, prefix);
         }
-        if let Some(character) = inserted(self.prefix, key) {
+        if let Some(character) = inserted(self.prefix, stroke) {
             return Maps::run(
                 Command::Insert(Insertion::SelfInsert(character)),
                 self.argument,
@@ -229,7 +260,7 @@ impl Maps {
         if begins && byte == QUOTE {
             return Maps::wait(self.argument, Prefix::Quote);
         }
-        self.look_up(Key::Plain(byte))
+        self.look_up(Stroke::Plain(byte))
     }
 
     // A key with Meta: a digit begins an argument, or goes on with one.
@@ -245,24 +276,51 @@ impl Maps {
         if is_digit(byte) && is_empty(self.prefix) {
             return Maps::wait(Some(digit_added(byte - b'0', self.argument)), Prefix::Empty);
         }
-        self.look_up(Key::Meta(byte))
+        self.look_up(Stroke::Meta(byte))
+    }
+
+    // A character past ASCII inserts itself where a word begins, and behind C-q.
+    fn feed_wide(self, c: char) -> (Fed, Maps)
+        ensures { FedBy result.0 (wide_reads self.argument self.prefix c) (held_by result.1) }
+    {
+        if is_empty(self.prefix) || is_quote(self.prefix) {
+            return Maps::run(Command::Insert(Insertion::SelfInsert(c)), self.argument);
+        }
+        (Fed::Unbound, Maps::new())
     }
 
     // What a key comes to, and what is held after it.
-    #[tactic(auto, using(crate::proofs::KeyRules::plain_is_read, crate::proofs::KeyRules::meta_is_read))]
+    #[tactic(auto, using(crate::proofs::KeyRules::plain_is_read, crate::proofs::KeyRules::meta_is_read, crate::proofs::KeyRules::wide_is_read))]
     fn read_key(self, key: Key) -> (Fed, Maps)
         ensures { FedBy result.0 (key_reads self.argument (prefix_bytes self.prefix) key) (held_by result.1) }
     {
         match key {
             Key::Plain(byte) => self.feed_plain(byte),
             Key::Meta(byte) => self.feed_meta(byte),
+            Key::Wide(c) => self.feed_wide(c),
         }
     }
 
+    // A key that the decoder gave. Behind C-q that is one of a sequence, which C-q does not change.
+    #[tactic(auto, using(crate::proofs::KeyRules::fed_is_bound))]
+    pub(crate) fn feed_decoded(&mut self, key: Key) -> Fed
+        ensures read { FedBy result (key_reads self.old.argument (prefix_bytes (unquoted self.old.prefix)) key) (held_by self.new) }
+        ensures bound { IsBoundRun result }
+    {
+        let before = Maps {
+            argument: self.argument,
+            prefix: without_quote(self.prefix),
+        };
+        let (fed, held) = before.read_key(key);
+        *self = held;
+        fed
+    }
+
     /// What a key comes to, after what is held. C-u and digits make an argument, C-g ends every word, and all else goes
-    /// by the table. A plain ESC is no key and is unbound. A command is one of the table, or inserts a character.
+    /// by the table. A plain ESC is no key and is unbound, as is a plain byte from 0x80 on. A command is one of the table, or
+    /// inserts a character; one past ASCII inserts itself where a word begins, and is unbound after any key but C-q.
     ///
-    /// After C-q a key inserts its byte, also C-g and ESC; a byte from 0x80 on is unbound.
+    /// After C-q a key inserts its byte, also C-g and ESC, or its character; a byte from 0x80 on is unbound.
     #[tactic(auto, using(crate::proofs::KeyRules::fed_is_bound))]
     pub fn feed(&mut self, key: Key) -> Fed
         ensures read { FedBy result (key_reads (held_by self.old).argument (held_by self.old).keys key) (held_by self.new) }

@@ -8,8 +8,7 @@ ghost use Rattle.mgs_maps.specs.Words.{word_of};
 ghost use Rattle.mgs_maps.specs.declared.table.Binding.{Binding};
 ghost use Rattle.mgs_maps.specs.Table.{rows_of, command_of};
 
-use crate::maps::Prefix;
-use mgs_keys::Key;
+use crate::maps::{Prefix, Stroke};
 use mgs_model::{
     Alteration, Arrangement, Command, Direction, EntryChange, Insertion, Motion, Question,
     ReadingInsertion, Scrolling, Setting,
@@ -443,7 +442,7 @@ static KEYLESS: [Binding; 7] = [
 ];
 
 /// The words of keys that run a command, with their names and commands: the rows by which keys are read. Beside them one
-/// visible ASCII character, the space and TAB insert themselves.
+/// visible ASCII character, the space, TAB and each character past ASCII insert themselves.
 pub fn bindings() -> &'static [Binding]
     ensures { rows_of result.now ≡ key_rows }
 {
@@ -458,35 +457,35 @@ pub(crate) fn keyless() -> &'static [Binding]
 }
 
 // Whether these bytes are those of the word.
-fn spells(keys: &[u8], prefix: Prefix, key: Key) -> bool
-    ensures { result ≡ same_name (word_of prefix key) keys.now }
+fn spells(keys: &[u8], prefix: Prefix, stroke: Stroke) -> bool
+    ensures { result ≡ same_name (word_of prefix stroke) keys.now }
 {
-    match (prefix, key) {
-        (Prefix::Empty, Key::Plain(byte)) => [byte].as_slice() == keys,
-        (Prefix::Empty, Key::Meta(byte)) => [ESCAPE, byte].as_slice() == keys,
-        (Prefix::ControlX, Key::Plain(byte)) => [CONTROL_X, byte].as_slice() == keys,
-        (Prefix::ControlX, Key::Meta(byte)) => [CONTROL_X, ESCAPE, byte].as_slice() == keys,
-        (Prefix::Quote, Key::Plain(byte)) => [QUOTE, byte].as_slice() == keys,
-        (Prefix::Quote, Key::Meta(byte)) => [QUOTE, ESCAPE, byte].as_slice() == keys,
-        (Prefix::MetaBracket, Key::Plain(byte)) => [ESCAPE, BRACKET, byte].as_slice() == keys,
-        (Prefix::MetaBracket, Key::Meta(byte)) => [ESCAPE, BRACKET, ESCAPE, byte].as_slice()
+    match (prefix, stroke) {
+        (Prefix::Empty, Stroke::Plain(byte)) => [byte].as_slice() == keys,
+        (Prefix::Empty, Stroke::Meta(byte)) => [ESCAPE, byte].as_slice() == keys,
+        (Prefix::ControlX, Stroke::Plain(byte)) => [CONTROL_X, byte].as_slice() == keys,
+        (Prefix::ControlX, Stroke::Meta(byte)) => [CONTROL_X, ESCAPE, byte].as_slice() == keys,
+        (Prefix::Quote, Stroke::Plain(byte)) => [QUOTE, byte].as_slice() == keys,
+        (Prefix::Quote, Stroke::Meta(byte)) => [QUOTE, ESCAPE, byte].as_slice() == keys,
+        (Prefix::MetaBracket, Stroke::Plain(byte)) => [ESCAPE, BRACKET, byte].as_slice() == keys,
+        (Prefix::MetaBracket, Stroke::Meta(byte)) => [ESCAPE, BRACKET, ESCAPE, byte].as_slice()
             == keys,
     }
 }
 
 // The command of a word in a table.
-fn command_in(bindings: &[Binding], prefix: Prefix, key: Key) -> Option<Command>
-    ensures { result ≡ option_map (λ (b : Binding). b.command) (find (λ (b : Binding). same_name (word_of prefix key) b.keys.now) bindings.now) }
+fn command_in(bindings: &[Binding], prefix: Prefix, stroke: Stroke) -> Option<Command>
+    ensures { result ≡ option_map (λ (b : Binding). b.command) (find (λ (b : Binding). same_name (word_of prefix stroke) b.keys.now) bindings.now) }
 {
     bindings
         .iter()
-        .find(|binding| spells(binding.keys, prefix, key))
+        .find(|binding| spells(binding.keys, prefix, stroke))
         .map(|binding| binding.command)
 }
 
 /// The command of a word of keys: a key after a prefix.
-pub(crate) fn find_command(prefix: Prefix, key: Key) -> Option<Command>
-    ensures { result ≡ command_of (word_of prefix key) }
+pub(crate) fn find_command(prefix: Prefix, stroke: Stroke) -> Option<Command>
+    ensures { result ≡ command_of (word_of prefix stroke) }
 {
-    command_in(bindings(), prefix, key)
+    command_in(bindings(), prefix, stroke)
 }

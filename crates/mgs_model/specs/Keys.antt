@@ -2,6 +2,9 @@
 use Rattle.std.specs.Prelude.{ℕ, ◌+◌, ◌-◌, ◌*◌, min, nat_le, ◌==◌, Bool, true, false, not, ◌&&◌, ◌||◌, List, [], ◌∷◌, ◌++◌, find, length, codes, Option, Some, None, is_some, cond, if◌then◌else◌}
 use Rattle.std.specs.Option.{option_map}
 use Rattle.std.specs.List.{list_any, starts_with}
+use Rattle.mgs_model.specs.declared.sequence.Sequence.{Sequence}
+use Rattle.mgs_model.specs.declared.sequence.Sequence.TheVariants.{Whole, Begun, Broken}
+use Rattle.mgs_model.specs.Sequences.{sequence_read}
 use Rattle.mgs_model.specs.Names.{same_name}
 use Rattle.mgs_model.specs.declared.search.Direction.TheVariants.{Forward, Backward}
 use Rattle.mgs_model.specs.declared.session.Argument.{Argument}
@@ -184,8 +187,8 @@ abbrev pub quoted_read : Option Argument → ℕ → KeyRead
 quoted_read argument byte = if nat_le byte 127 then Bound (Insert (SelfInsert byte)) (value_of argument) else Not_bound
 
 -- C-g ends every other word
-unfoldable pub key_read : Option Argument → List ℕ → ℕ → KeyRead
-key_read argument keys byte =
+abbrev pub ascii_read : Option Argument → List ℕ → ℕ → KeyRead
+ascii_read argument keys byte =
     if quotes keys then quoted_read argument byte
     else if byte == 7 then Bound (Set KeyboardQuit) (value_of argument)
     else if (byte == 27) && not (ends_in_escape keys) then Half argument (keys ++ 27 ∷ [])
@@ -193,3 +196,34 @@ key_read argument keys byte =
     else if is_digit byte && takes_digit argument keys then Half (Some (digit_added (byte - 48) argument)) []
     else if (length keys == 0) && (byte == 17) then Half argument (17 ∷ [])
     else word_read argument byte (keys ++ byte ∷ [])
+
+-- SEQUENCES: the bytes of a character past ASCII are a word of keys
+
+-- the bytes of the sequence that a word ends in, behind C-q or not
+abbrev pub sequence_of : List ℕ → List ℕ
+sequence_of [] = []
+sequence_of (byte ∷ bytes) = if byte == 17 then bytes else byte ∷ bytes
+
+abbrev pub begins_past_ascii : List ℕ → Bool
+begins_past_ascii [] = false
+begins_past_ascii (byte ∷ bytes) = nat_le 128 byte
+
+-- a sequence has begun
+abbrev pub in_sequence : List ℕ → Bool
+in_sequence keys = begins_past_ascii (sequence_of keys)
+
+-- a byte past ASCII is one of a sequence where a word begins, and behind C-q
+abbrev pub begins_sequence : List ℕ → ℕ → Bool
+begins_sequence keys byte = nat_le 128 byte && ((length keys == 0) || quotes keys)
+
+abbrev pub sequence_step : Option Argument → List ℕ → Sequence → KeyRead
+sequence_step argument keys (Whole c) = Bound (Insert (SelfInsert c)) (value_of argument)
+sequence_step argument keys Begun = Half argument keys
+sequence_step argument keys Broken = Not_bound
+
+-- what a byte makes of what is half read; C-g ends a sequence too, also behind C-q
+unfoldable pub key_read : Option Argument → List ℕ → ℕ → KeyRead
+key_read argument keys byte =
+    if in_sequence keys && (byte == 7) then Bound (Set KeyboardQuit) (value_of argument)
+    else if in_sequence keys || begins_sequence keys byte then sequence_step argument (keys ++ byte ∷ []) (sequence_read (sequence_of keys ++ byte ∷ []))
+    else ascii_read argument keys byte

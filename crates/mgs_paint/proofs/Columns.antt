@@ -3,12 +3,14 @@ use Rattle.std.proofs.Common.{◌≡◌, ℕ, zero, suc, ◌+◌, ◌-◌, ◌<�
 use Rattle.std.specs.Prelude.{nat_eq, ◌&&◌}
 use Rattle.std.proofs.lemmas.Bool.{eq-eqb, ne_eqb, cases_Bool, eqb-true, eqb-false, and_parts, and_right}
 use Rattle.std.proofs.Math.Dec.{eqb-suc-zero}
-use Rattle.std.proofs.lemmas.List.{length-replicate, drop-replicate, get_or-replicate, get_or_read, take_all, drop_more, drop_all, length-map, take-map, drop-map}
+use Rattle.std.proofs.lemmas.List.{length-replicate, drop-replicate, get_or-replicate, get_or_read, take_all, drop_more, drop_all, drop-drop, length-map, take-map, drop-map}
 use Rattle.std.specs.Bool.{beq}
 use Rattle.std.specs.Cmp.{booleans_Decides}
+use Rattle.mgs_model.specs.Cells.{AreCells, starts_half}
+use Rattle.mgs_paint.proofs.WholeCells.{whole_starts, start_whole, start_whole_old, end_whole, end_cases, end_within, end_zero, end_none as end_none_whole}
 use Rattle.mgs_model.specs.Rows.{Row}
 use Rattle.mgs_paint.specs.Painting.{cell_of, row_cells}
-use Rattle.mgs_paint.specs.Changes.{change_start, change_end, ink_end, start_column, end_column}
+use Rattle.mgs_paint.specs.Changes.{change_start, change_end, whole_end, ink_end, start_column, end_column}
 
 -- WHERE A WALK STOPS
 
@@ -78,12 +80,17 @@ ink_stays ys =
     let both = end_stays (replicate (length ys) 32) ys (length-replicate (length ys) 32) in
     (sym both.0 ∙ drop-replicate (ink_end ys) (length ys) 32, both.1)
 
+-- the end of a change is behind it, with a right half or without
+end_past : (text : List ℕ) (n e : ℕ) → n < e → n < whole_end text e
+end_past text n e l = elim (end_cases text e) [ inl p ↦ rw p.0 (omega arith) | inr p ↦ rw p.0 l ]
+
 -- the first column that changes comes before the end of those
 pub start_first : (old new : Row) → 0 < end_column old new → start_column old new < end_column old new
 start_first old new some = elim (cases_Bool (beq old.reversed new.reversed)) [
   | inl e ↦
-      let more : 0 < change_end old.text new.text = rw e at some in
-      rw e (start_before_end old.text new.text (λ none. omega (arith, more, none)))
+      let more : 0 < whole_end new.text (change_end old.text new.text) = rw e at some in
+      let other : change_end old.text new.text ≡ 0 → ⊥ = λ none. omega (arith, more, ap (whole_end new.text) none, end_zero new.text) in
+      rw e (end_past new.text (change_start old.text new.text) (change_end old.text new.text) (start_before_end old.text new.text other))
   | inr e ↦ let more : 0 < length new.text = rw e at some in rw e more
 ]
 
@@ -139,7 +146,8 @@ pub same_row : (old new : Row) → length old.text ≡ length new.text → 0 < l
 same_row old new n some none = elim (cases_Bool (beq old.reversed new.reversed)) [
   | inl e ↦
       let marks : old.reversed ≡ new.reversed = (booleans_Decides old.reversed new.reversed).0 e in
-      let last : change_end old.text new.text ≡ 0 = rw e at none in
+      let wide : whole_end new.text (change_end old.text new.text) ≡ 0 = rw e at none in
+      let last : change_end old.text new.text ≡ 0 = end_none_whole new.text (change_end old.text new.text) wide in
       let texts : old.text ≡ new.text = rw last at (end_stays old.text new.text n).0 in
       let row : List ℕ → Bool → Row = λ t r. record { text = t; reversed = r } in
       ap (λ t. row t old.reversed) texts ∙ ap (λ r. row new.text r) marks
@@ -147,10 +155,15 @@ same_row old new n some none = elim (cases_Bool (beq old.reversed new.reversed))
 ]
 
 pub same_columns : (old new : Row) → old ≡ new → end_column old new ≡ 0
-same_columns old new same = rw (same, (booleans_Decides new.reversed new.reversed).1 refl) (change_end-same new.text)
+same_columns old new same = rw (same, (booleans_Decides new.reversed new.reversed).1 refl) (ap (whole_end new.text) (change_end-same new.text) ∙ end_zero new.text)
 
 pub no_columns : (old new : Row) → old ≡ new → 0 ≡ end_column old new
 no_columns old new same = sym (same_columns old new same)
+
+drop_later : {A : Type 0} (n m : ℕ) (xs ys : List A) → n ≤ m → drop n xs ≡ drop n ys → drop m xs ≡ drop m ys
+drop_later n m xs ys l e =
+    let sum : n + (m - n) ≡ m = omega arith in
+    ap (λ k. drop k xs) (sym sum) ∙ sym (drop-drop (m - n) n xs) ∙ ap (drop (m - n)) e ∙ drop-drop (m - n) n ys ∙ ap (λ k. drop k ys) sum
 
 -- what stays of the cells of a row
 pub cells_stay : (old new : Row) → length old.text ≡ length new.text → (take (start_column old new) (row_cells old) ≡ take (start_column old new) (row_cells new)) × (drop (end_column old new) (row_cells old) ≡ drop (end_column old new) (row_cells new)) × (end_column old new ≤ length new.text)
@@ -159,12 +172,15 @@ cells_stay old new n = elim (cases_Bool (beq old.reversed new.reversed)) [
       let marks : old.reversed ≡ new.reversed = (booleans_Decides old.reversed new.reversed).0 e in
       let start : ℕ = change_start old.text new.text in
       let end : ℕ = change_end old.text new.text in
+      let last : ℕ = whole_end new.text end in
       let back = end_stays old.text new.text n in
+      let within = end_within new.text end back.1 in
       let heads : take start (map (cell_of new.reversed) old.text) ≡ take start (row_cells new) =
       take-map (cell_of new.reversed) start old.text ∙ ap (map (cell_of new.reversed)) (start_stays old.text new.text) ∙ sym (take-map (cell_of new.reversed) start new.text) in
-      let tails : drop end (map (cell_of new.reversed) old.text) ≡ drop end (row_cells new) =
-      drop-map (cell_of new.reversed) end old.text ∙ ap (map (cell_of new.reversed)) back.0 ∙ sym (drop-map (cell_of new.reversed) end new.text) in
-      rw e (rw marks heads, rw marks tails, back.1)
+      let texts : drop last old.text ≡ drop last new.text = drop_later end last old.text new.text within.0 back.0 in
+      let tails : drop last (map (cell_of new.reversed) old.text) ≡ drop last (row_cells new) =
+      drop-map (cell_of new.reversed) last old.text ∙ ap (map (cell_of new.reversed)) texts ∙ sym (drop-map (cell_of new.reversed) last new.text) in
+      rw e (rw marks heads, rw marks tails, within.1)
   | inr e ↦
       rw e (
         refl,
@@ -172,3 +188,34 @@ cells_stay old new n = elim (cases_Bool (beq old.reversed new.reversed)) [
         omega arith,
       )
 ]
+
+-- WHERE ROWS ARE PARTED
+
+blank_apart : (n : ℕ) → starts_half (replicate n 32) ≡ false
+blank_apart zero = refl
+blank_apart (suc n) = refl
+
+-- no right half stands where a change begins, in the new row and in the old one
+pub start_apart : (old new : Row) → AreCells false old.text → AreCells false new.text → length old.text ≡ length new.text
+    → (starts_half (drop (start_column old new) new.text) ≡ false) × (starts_half (drop (start_column old new) old.text) ≡ false)
+start_apart old new was is n = elim (cases_Bool (beq old.reversed new.reversed)) [
+  | inl e ↦ rw e (start_whole false old.text new.text was is n, start_whole_old false old.text new.text was is n)
+  | inr e ↦ rw e (whole_starts new.text is, whole_starts old.text was)
+]
+
+pub start_apart_new : (old new : Row) → AreCells false old.text → AreCells false new.text → length old.text ≡ length new.text → starts_half (drop (start_column old new) new.text) ≡ false
+start_apart_new old new was is n = (start_apart old new was is n).0
+
+-- and none where it ends
+pub end_apart : (old new : Row) → AreCells false new.text → starts_half (drop (end_column old new) new.text) ≡ false
+end_apart old new is = elim (cases_Bool (beq old.reversed new.reversed)) [
+  | inl e ↦ rw e (end_whole new.text (change_end old.text new.text) is)
+  | inr e ↦ rw e (ap starts_half (drop_all (length new.text) new.text (omega arith)))
+]
+
+-- blanks behind the ink are no halves
+pub ink_apart : (text : List ℕ) (k : ℕ) → ink_end text ≤ k → starts_half (drop k text) ≡ false
+ink_apart text k l =
+    let n : ℕ = length text in
+    let blank : drop k text ≡ replicate (n - k) 32 = sym (drop_later (ink_end text) k (replicate n 32) text l (end_stays (replicate n 32) text (length-replicate n 32)).0) ∙ drop-replicate k n 32 in
+    ap starts_half blank ∙ blank_apart (n - k)

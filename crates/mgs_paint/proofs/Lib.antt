@@ -1,3 +1,5 @@
+pub mod WholeCells
+pub mod Written
 pub mod Runs
 pub mod Rows
 pub mod Columns

@@ -39,3 +39,6 @@ number_in_decimal n small =
 
 pub number_short : (n : ℕ) → n < 1000 → length (decimal n) ≤ 3
 number_short n small = length-decimal-le 3 n (omega arith) small (omega arith)
+
+pub number_shorter : (n : ℕ) → n < 100 → length (decimal n) ≤ 2
+number_shorter n small = length-decimal-le 2 n (omega arith) small (omega arith)

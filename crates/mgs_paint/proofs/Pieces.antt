@@ -1,16 +1,18 @@
 -- The bytes of what changes in a row, and where they leave the cursor.
-use Rattle.std.proofs.Common.{◌≡◌, ℕ, ◌+◌, ◌-◌, ◌<◌, ◌≤◌, true, inl, inr, List, [], ◌∷◌, ◌++◌, map, length, min, max, drop, get_or, refl, sym, ap, ◌∙◌, append_assoc, arith}
+use Rattle.std.proofs.Common.{◌≡◌, ℕ, ◌+◌, ◌-◌, ◌<◌, ◌≤◌, Bool, true, false, subst, inl, inr, List, [], ◌∷◌, ◌++◌, length, min, max, drop, get_or, refl, sym, ap, ◌∙◌, append_assoc, arith}
 use Rattle.std.specs.Prelude.{slice_range, nat_eq, ◌&&◌}
-use Rattle.std.proofs.lemmas.Bool.{lt-ltb, le-ltb, cases_Bool, and_parts, eqb-true}
+use Rattle.std.proofs.lemmas.Bool.{lt-ltb, le-ltb, cases_Bool, and_parts, eqb-true, ne_eqb}
 use Rattle.std.proofs.lemmas.Grind.{flat_map-append}
 use Rattle.std.proofs.lemmas.List.{length-take-le, length-drop, drop_more}
 use Rattle.mgs_model.specs.Rows.{Row}
 use Rattle.mgs_term.specs.Sequences.{spelling}
 use Rattle.mgs_term.specs.declared.operation.Operation.{Operation}
-use Rattle.mgs_term.specs.declared.operation.Operation.TheVariants.{Erase, Reverse, Plain, Print}
-use Rattle.mgs_paint.specs.Operations.{bytes_of}
-use Rattle.mgs_paint.specs.Changes.{ink_end, cursor_after, moved, way, plain_piece, piece, row_changes, rows_changes}
-use Rattle.mgs_paint.proofs.Runs.{bytes_of-map-Print}
+use Rattle.mgs_term.specs.declared.operation.Operation.TheVariants.{Erase, Reverse, Plain}
+use Rattle.mgs_paint.specs.Operations.{bytes_of, prints}
+use Rattle.mgs_paint.specs.Changes.{ink_end, cursor_after, moved, way, plain_piece, piece, start_column, end_column, row_changes, rows_changes}
+use Rattle.mgs_paint.proofs.WholeCells.{shown_no_half}
+use Rattle.mgs_paint.proofs.Rows.{narrow_cells, wide_cells}
+use Rattle.mgs_model.specs.Cells.{AreCells, own_cells, is_wide}
 
 -- THE CURSOR
 
@@ -18,10 +20,28 @@ pub moved-append : (cols : ℕ) (at : ℕ × ℕ) (xs ys : List Operation) → m
 moved-append cols at [] ys = refl
 moved-append cols at (o ∷ os) ys = moved-append cols (cursor_after cols at o) os ys
 
-pub moved_prints : (cols r k : ℕ) (text : List ℕ) → k < cols → moved cols (r, k) (map Print text) ≡ (r, min (k + length text) (cols - 1))
-moved_prints cols r k [] l = ap (λ n. (r, n)) (omega arith)
-moved_prints cols r k (c ∷ cs) l =
-    moved_prints cols r (min (k + 1) (cols - 1)) cs (omega arith) ∙ ap (λ n. (r, n)) (omega arith)
+-- a right half that is due was passed already
+abbrev ahead : Bool → ℕ
+ahead false = 0
+ahead true = 1
+
+due_some : (cs : List ℕ) → AreCells true cs → 1 ≤ length cs
+due_some [] h = absurd h
+due_some (c ∷ cs) h = omega arith
+
+pub moved_prints : (cols r k : ℕ) (b : Bool) (text : List ℕ) → AreCells b text → k < cols → moved cols (r, k) (prints text) ≡ (r, min (k + (length text - ahead b)) (cols - 1))
+moved_prints cols r k false [] h l = ap (λ n. (r, n)) (omega arith)
+moved_prints cols r k true [] h l = absurd h
+moved_prints cols r k true (c ∷ cs) h l = rw h.0 (moved_prints cols r k false cs h.1 l ∙ ap (λ n. (r, n)) (omega arith))
+moved_prints cols r k false (c ∷ cs) h l = elim (cases_Bool (is_wide c)) [
+  | inl e ↦
+      let w : length (own_cells c) ≡ 2 = ap length (wide_cells c e) in
+      let due : AreCells true cs = subst (λ b. AreCells b cs) e h.1 in
+      rw (shown_no_half c h.0) (moved_prints cols r (min (k + length (own_cells c)) (cols - 1)) true cs due (omega arith) ∙ ap (λ n. (r, n)) (omega (arith, w, due_some cs due)))
+  | inr e ↦
+      let w : length (own_cells c) ≡ 1 = ap length (narrow_cells c e) in
+      rw (shown_no_half c h.0) (moved_prints cols r (min (k + length (own_cells c)) (cols - 1)) false cs (subst (λ b. AreCells b cs) e h.1) (omega arith) ∙ ap (λ n. (r, n)) (omega (arith, w)))
+]
 
 pub moved_way : (cols : ℕ) (at to : ℕ × ℕ) → moved cols at (way at to) ≡ to
 moved_way cols at to = elim (cases_Bool (nat_eq at.0 to.0 && nat_eq at.1 to.1)) [
@@ -34,51 +54,51 @@ moved_way cols at to = elim (cases_Bool (nat_eq at.0 to.0 && nat_eq at.1 to.1)) 
 length_between : (text : List ℕ) (start end : ℕ) → start ≤ end → end ≤ length text → length (slice_range text start end) ≡ end - start
 length_between text start end o l = length-take-le (end - start) (drop start text) (omega (arith, length-drop start text))
 
-between_moves : (text : List ℕ) (r start end : ℕ) → start < end → end ≤ length text → moved (length text) (r, start) (map Print (slice_range text start end)) ≡ (r, min end (length text - 1))
-between_moves text r start end o l =
-    moved_prints (length text) r start (slice_range text start end) (omega arith) ∙ ap (λ n. (r, n)) (omega (arith, length_between text start end (omega arith) l))
+between_moves : (text : List ℕ) (r start end : ℕ) → start < end → end ≤ length text → AreCells false (slice_range text start end) → moved (length text) (r, start) (prints (slice_range text start end)) ≡ (r, min end (length text - 1))
+between_moves text r start end o l whole =
+    moved_prints (length text) r start false (slice_range text start end) whole (omega arith) ∙ ap (λ n. (r, n)) (omega (arith, length_between text start end (omega arith) l))
 
 -- A PIECE
 
-erased_is : (text : List ℕ) (start end ink : ℕ) → ink ≡ max (ink_end text) start → ink + 3 < end → plain_piece text start end ≡ map Print (slice_range text start ink) ++ Erase ∷ []
+erased_is : (text : List ℕ) (start end ink : ℕ) → ink ≡ max (ink_end text) start → ink + 3 < end → plain_piece text start end ≡ prints (slice_range text start ink) ++ Erase ∷ []
 erased_is text start end ink e l = rw (← e, lt-ltb (ink + 3) end l) refl
 
-written_is : (text : List ℕ) (start end ink : ℕ) → ink ≡ max (ink_end text) start → end ≤ ink + 3 → plain_piece text start end ≡ map Print (slice_range text start end)
+written_is : (text : List ℕ) (start end ink : ℕ) → ink ≡ max (ink_end text) start → end ≤ ink + 3 → plain_piece text start end ≡ prints (slice_range text start end)
 written_is text start end ink e l = rw (← e, le-ltb (ink + 3) end l) refl
 
-pub erased_bytes : (text : List ℕ) (start end ink : ℕ) (a b c : List ℕ) → ink ≡ max (ink_end text) start → ink + 3 < end → b ≡ a ++ slice_range text start ink → c ≡ b ++ spelling Erase → c ≡ a ++ bytes_of (plain_piece text start end)
+pub erased_bytes : (text : List ℕ) (start end ink : ℕ) (a b c : List ℕ) → ink ≡ max (ink_end text) start → ink + 3 < end → b ≡ a ++ bytes_of (prints (slice_range text start ink)) → c ≡ b ++ spelling Erase → c ≡ a ++ bytes_of (plain_piece text start end)
 erased_bytes text start end ink a b c e l p q =
-    let is : bytes_of (plain_piece text start end) ≡ slice_range text start ink ++ spelling Erase =
-    ap bytes_of (erased_is text start end ink e l) ∙ flat_map-append spelling (map Print (slice_range text start ink)) (Erase ∷ []) ∙ ap (λ xs. xs ++ spelling Erase) (bytes_of-map-Print (slice_range text start ink)) in
-    q ∙ ap (λ xs. xs ++ spelling Erase) p ∙ append_assoc a (slice_range text start ink) (spelling Erase) ∙ ap (λ xs. a ++ xs) (sym is)
+    let text_bytes : List ℕ = bytes_of (prints (slice_range text start ink)) in
+    let is : bytes_of (plain_piece text start end) ≡ text_bytes ++ spelling Erase =
+    ap bytes_of (erased_is text start end ink e l) ∙ flat_map-append spelling (prints (slice_range text start ink)) (Erase ∷ []) in
+    q ∙ ap (λ xs. xs ++ spelling Erase) p ∙ append_assoc a text_bytes (spelling Erase) ∙ ap (λ xs. a ++ xs) (sym is)
 
-pub written_bytes : (text : List ℕ) (start end ink : ℕ) (a b : List ℕ) → ink ≡ max (ink_end text) start → end ≤ ink + 3 → b ≡ a ++ slice_range text start end → b ≡ a ++ bytes_of (plain_piece text start end)
+pub written_bytes : (text : List ℕ) (start end ink : ℕ) (a b : List ℕ) → ink ≡ max (ink_end text) start → end ≤ ink + 3 → b ≡ a ++ bytes_of (prints (slice_range text start end)) → b ≡ a ++ bytes_of (plain_piece text start end)
 written_bytes text start end ink a b e l p =
-    p ∙ ap (λ xs. a ++ xs) (sym (ap bytes_of (written_is text start end ink e l) ∙ bytes_of-map-Print (slice_range text start end)))
+    p ∙ ap (λ xs. a ++ xs) (sym (ap bytes_of (written_is text start end ink e l)))
 
-pub erased_moves : (text : List ℕ) (r start end ink : ℕ) → start < end → end ≤ length text → ink ≡ max (ink_end text) start → ink + 3 < end → (r, ink) ≡ moved (length text) (r, start) (plain_piece text start end)
-erased_moves text r start end ink o w e l =
+pub erased_moves : (text : List ℕ) (r start end ink : ℕ) → start < end → end ≤ length text → ink ≡ max (ink_end text) start → ink + 3 < end → AreCells false (slice_range text start ink) → (r, ink) ≡ moved (length text) (r, start) (plain_piece text start end)
+erased_moves text r start end ink o w e l whole =
     sym (ap (moved (length text) (r, start)) (erased_is text start end ink e l)
-    ∙ moved-append (length text) (r, start) (map Print (slice_range text start ink)) (Erase ∷ [])
-    ∙ moved_prints (length text) r start (slice_range text start ink) (omega arith)
+    ∙ moved-append (length text) (r, start) (prints (slice_range text start ink)) (Erase ∷ [])
+    ∙ moved_prints (length text) r start false (slice_range text start ink) whole (omega arith)
     ∙ ap (λ n. (r, n)) (omega (arith, length_between text start ink (omega arith) (omega arith))))
 
-pub written_moves : (text : List ℕ) (r start end ink : ℕ) → start < end → end ≤ length text → ink ≡ max (ink_end text) start → end ≤ ink + 3 → (r, min end (length text - 1)) ≡ moved (length text) (r, start) (plain_piece text start end)
-written_moves text r start end ink o w e l =
-    sym (ap (moved (length text) (r, start)) (written_is text start end ink e l) ∙ between_moves text r start end o w)
+pub written_moves : (text : List ℕ) (r start end ink : ℕ) → start < end → end ≤ length text → ink ≡ max (ink_end text) start → end ≤ ink + 3 → AreCells false (slice_range text start end) → (r, min end (length text - 1)) ≡ moved (length text) (r, start) (plain_piece text start end)
+written_moves text r start end ink o w e l whole =
+    sym (ap (moved (length text) (r, start)) (written_is text start end ink e l) ∙ between_moves text r start end o w whole)
 
 -- a piece of a row in reverse
-pub reversed_bytes : (r : Row) (start end : ℕ) (a b c d : List ℕ) → r.reversed ≡ true → b ≡ a ++ spelling Reverse → c ≡ b ++ slice_range r.text start end → d ≡ c ++ spelling Plain → d ≡ a ++ bytes_of (piece r start end)
+pub reversed_bytes : (r : Row) (start end : ℕ) (a b c d : List ℕ) → r.reversed ≡ true → b ≡ a ++ spelling Reverse → c ≡ b ++ bytes_of (prints (slice_range r.text start end)) → d ≡ c ++ spelling Plain → d ≡ a ++ bytes_of (piece r start end)
 reversed_bytes r start end a b c d e p q s =
-    let text : List ℕ = slice_range r.text start end in
-    let is : bytes_of (map Print text ++ Plain ∷ []) ≡ text ++ spelling Plain =
-    flat_map-append spelling (map Print text) (Plain ∷ []) ∙ ap (λ xs. xs ++ spelling Plain) (bytes_of-map-Print text) in
-    rw e (rw is (s ∙ ap (λ xs. xs ++ spelling Plain) (q ∙ ap (λ xs. xs ++ text) p) ∙ append_assoc (a ++ spelling Reverse) text (spelling Plain) ∙ append_assoc a (spelling Reverse) (text ++ spelling Plain)))
+    let os : List Operation = prints (slice_range r.text start end) in
+    let is : bytes_of (os ++ Plain ∷ []) ≡ bytes_of os ++ spelling Plain = flat_map-append spelling os (Plain ∷ []) in
+    rw e (rw is (s ∙ ap (λ xs. xs ++ spelling Plain) (q ∙ ap (λ xs. xs ++ bytes_of os) p) ∙ append_assoc (a ++ spelling Reverse) (bytes_of os) (spelling Plain) ∙ append_assoc a (spelling Reverse) (bytes_of os ++ spelling Plain)))
 
-pub reversed_moves : (r : Row) (row start end : ℕ) → r.reversed ≡ true → start < end → end ≤ length r.text → (row, min end (length r.text - 1)) ≡ moved (length r.text) (row, start) (piece r start end)
-reversed_moves r row start end e o w =
+pub reversed_moves : (r : Row) (row start end : ℕ) → r.reversed ≡ true → start < end → end ≤ length r.text → AreCells false (slice_range r.text start end) → (row, min end (length r.text - 1)) ≡ moved (length r.text) (row, start) (piece r start end)
+reversed_moves r row start end e o w whole =
     let text : List ℕ = slice_range r.text start end in
-    rw e (sym (moved-append (length r.text) (row, start) (map Print text) (Plain ∷ []) ∙ between_moves r.text row start end o w))
+    rw e (sym (moved-append (length r.text) (row, start) (prints text) (Plain ∷ []) ∙ between_moves r.text row start end o w whole))
 
 -- ROWS
 
@@ -97,3 +117,11 @@ bytes_next out more all os rest now e p h =
 
 pub moved_next : (cols : ℕ) (at to : ℕ × ℕ) (os rest now : List Operation) → now ≡ os ++ rest → moved cols at now ≡ to → moved cols (moved cols at os) rest ≡ to
 moved_next cols at to os rest now e h = sym (ap (moved cols at) e ∙ moved-append cols at os rest) ∙ h
+
+-- a row that changes
+pub row_moves : (cols : ℕ) (at to : ℕ × ℕ) (i start end : ℕ) (old new : Row) → (end ≡ 0 → ⊥) → end ≡ end_column old new → start ≡ start_column old new → to ≡ moved cols (i, start) (piece new start end)
+    → to ≡ moved cols at (row_changes at i old new)
+row_moves cols at to i start end old new some e s p =
+    let other : nat_eq (end_column old new) 0 ≡ false = ne_eqb (end_column old new) 0 (λ z. some (e ∙ z)) in
+    rw other (p ∙ ap (λ n. moved cols (i, n) (piece new n end)) s ∙ ap (λ n. moved cols (i, start_column old new) (piece new (start_column old new) n)) e
+    ∙ sym (moved-append cols at (way at (i, start_column old new)) (piece new (start_column old new) (end_column old new)) ∙ ap (λ z. moved cols z (piece new (start_column old new) (end_column old new))) (moved_way cols at (i, start_column old new))))

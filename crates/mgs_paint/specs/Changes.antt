@@ -1,6 +1,8 @@
 -- The operations that turn a picture into another one: only where rows differ.
-use Rattle.std.specs.Prelude.{ℕ, suc, ◌+◌, ◌-◌, min, max, nat_lt, ◌==◌, ◌&&◌, List, [], ◌∷◌, ◌++◌, map, length, replicate, slice_range, if◌then◌else◌}
+use Rattle.std.specs.Prelude.{ℕ, suc, ◌+◌, ◌-◌, min, max, nat_lt, ◌==◌, ◌&&◌, List, [], ◌∷◌, ◌++◌, length, replicate, slice_range, slice_index_or, if◌then◌else◌}
 use Rattle.std.specs.Bool.{beq}
+use Rattle.mgs_model.specs.Cells.{right_half, own_cells}
+use Rattle.mgs_paint.specs.Operations.{prints}
 use Rattle.mgs_model.specs.Rows.{Row}
 use Rattle.mgs_model.specs.Picture.{Picture}
 use Rattle.mgs_term.specs.declared.operation.Operation.{Operation}
@@ -24,12 +26,16 @@ change_end (x ∷ xs) (y ∷ ys) = if change_end xs ys == 0 && x == y then 0 els
 abbrev pub ink_end : List ℕ → ℕ
 ink_end text = change_end (replicate (length text) 32) text
 
+-- the end of a change, behind the right half that stands there
+abbrev pub whole_end : List ℕ → ℕ → ℕ
+whole_end text end = if nat_lt 0 end && (slice_index_or text end 32 == right_half) then end + 1 else end
+
 -- the columns of a row that change, from the first to the one after the last: all of them where its reverse changes
 abbrev pub start_column : Row → Row → ℕ
 start_column old new = if beq old.reversed new.reversed then change_start old.text new.text else 0
 
 abbrev pub end_column : Row → Row → ℕ
-end_column old new = if beq old.reversed new.reversed then change_end old.text new.text else length new.text
+end_column old new = if beq old.reversed new.reversed then whole_end new.text (change_end old.text new.text) else length new.text
 
 -- THE CURSOR
 
@@ -41,7 +47,7 @@ cursor_after cols at Erase = at
 cursor_after cols at Reverse = at
 cursor_after cols at Plain = at
 cursor_after cols at Unwrap = at
-cursor_after cols at (Print b) = (at.0, min (at.1 + 1) (cols - 1))
+cursor_after cols at (Print c) = (at.0, min (at.1 + length (own_cells c)) (cols - 1))
 
 -- and where several leave it
 abbrev pub moved : ℕ → ℕ × ℕ → List Operation → ℕ × ℕ
@@ -58,11 +64,11 @@ way from to = if from.0 == to.0 && from.1 == to.1 then [] else Goto to.0 to.1 �
 abbrev pub plain_piece : List ℕ → ℕ → ℕ → List Operation
 plain_piece text start end =
     let ink = max (ink_end text) start in
-    if nat_lt (ink + 3) end then map Print (slice_range text start ink) ++ Erase ∷ [] else map Print (slice_range text start end)
+    if nat_lt (ink + 3) end then prints (slice_range text start ink) ++ Erase ∷ [] else prints (slice_range text start end)
 
 -- the characters of a row from a column to another, with reverse on around those of a reversed one
 abbrev pub piece : Row → ℕ → ℕ → List Operation
-piece r start end = if r.reversed then Reverse ∷ (map Print (slice_range r.text start end) ++ Plain ∷ []) else plain_piece r.text start end
+piece r start end = if r.reversed then Reverse ∷ (prints (slice_range r.text start end) ++ Plain ∷ []) else plain_piece r.text start end
 
 -- one row: nothing where it stays the same, else the cursor's way to its first column that differs, and what changes
 abbrev pub row_changes : ℕ × ℕ → ℕ → Row → Row → List Operation

@@ -1,13 +1,11 @@
 -- Pictures as screens, and bytes that paint them.
-use Rattle.std.specs.Prelude.{◌≡◌, ℕ, ◌+◌, ◌*◌, ◌≤◌, Bool, false, List, length, map, flat_map}
+use Rattle.std.specs.Prelude.{◌≡◌, ℕ, ◌+◌, ◌*◌, ◌≤◌, false, List, length, map, flat_map}
 use Rattle.mgs_model.specs.Rows.{Row}
 use Rattle.mgs_model.specs.Picture.{Picture}
 use Rattle.mgs_term.specs.declared.cell.Cell.{Cell}
+pub use Rattle.mgs_term.specs.Screen.{cell_of}
 use Rattle.mgs_term.specs.Screen.{Screen, IsScreen}
 use Rattle.mgs_term.specs.Drawing.{Draws, IsFaithful}
-
-abbrev pub cell_of : Bool → ℕ → Cell
-cell_of reversed c = record { character = c; reversed = reversed }
 
 -- the cells of a row
 abbrev pub row_cells : Row → List Cell
@@ -26,7 +24,7 @@ abbrev pub bound_of : ℕ → ℕ → ℕ
 bound_of rows cols = rows * (16 + 4 * cols) + 16
 
 -- The bytes turn any terminal of the picture's size, whatever it shows and however its cursor and flags stand, into one
--- that shows the picture. On the way each character that is printed in a cell is the picture's character of that cell.
+-- that shows the picture. On the way each character that is printed is the picture's at its cells.
 pub record Paints (p : Picture) (bytes : List ℕ) : Type 0 where
   pub bounded : length bytes ≤ bound_of p.rows p.cols
   pub draws : (s : Screen) → IsScreen s → s.rows ≡ p.rows → s.cols ≡ p.cols → Draws (IsFaithful (cells_of p)) bytes s (shown p)

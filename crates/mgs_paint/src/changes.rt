@@ -1,15 +1,17 @@
 // The bytes of what changes from a shown picture to a new one.
-ghost use Rattle.std.specs.Prelude.{◌≡◌, ℕ, ◌+◌, ◌-◌, ◌*◌, ◌<◌, ◌≤◌, ◌++◌, length, vec_len, vec_capacity, false, All};
-ghost use Rattle.mgs_model.specs.Picture.{IsRow, IsPrintable};
+ghost use Rattle.std.specs.Prelude.{◌≡◌, ℕ, ◌+◌, ◌-◌, ◌*◌, ◌<◌, ◌≤◌, ◌++◌, length, drop, vec_len, vec_capacity, false, All};
+ghost use Rattle.mgs_model.specs.Cells.{AreCells, starts_half};
+ghost use Rattle.mgs_model.specs.Picture.{IsRow};
 ghost use Rattle.mgs_model.specs.declared.limits.TheConstants.{COLS_MAX, ROWS_MAX};
 ghost use Rattle.mgs_grid.specs.RowSets.{AreSameApart};
 ghost use Rattle.mgs_paint.specs.Painting.{bound_of};
 ghost use Rattle.mgs_paint.specs.Repainting.{Repaints};
 ghost use Rattle.mgs_paint.specs.Operations.{bytes_of};
-ghost use Rattle.mgs_paint.specs.Changes.{change_start, change_end, ink_end, start_column, end_column, moved, way, plain_piece, piece, row_changes, rows_changes, changes};
+ghost use Rattle.mgs_paint.specs.Changes.{change_start, change_end, whole_end, ink_end, start_column, end_column, moved, way, plain_piece, piece, row_changes, rows_changes, changes};
 
-use crate::put::{put_erase, put_goto, put_reverse, put_text};
+use crate::put::{put_erase, put_goto, put_plain_on, put_reverse, put_text};
 use mgs_grid::{Grid, Line, RowSet};
+use mgs_model::RIGHT_HALF;
 
 // The first place at which two texts differ, or their length.
 fn change_start(old: &[char], new: &[char]) -> usize
@@ -39,6 +41,23 @@ fn change_end(old: &[char], new: &[char]) -> usize
         end -= 1;
     }
     end
+}
+
+// The end of a change, behind the right half that stands there.
+#[tactic(auto, using(crate::proofs::WholeCells::half_here, crate::proofs::WholeCells::half_none))]
+fn whole_end(text: &[char], end: usize) -> usize
+    requires { end ≤ length text.now }
+    ensures value { result ≡ whole_end text.now end }
+    ensures within { result ≤ length text.now }
+{
+    if end == 0 || end == text.len() {
+        return end;
+    }
+    if text[end] == RIGHT_HALF {
+        end + 1
+    } else {
+        end
+    }
 }
 
 // The place after the last character that is no blank, or 0.
@@ -77,7 +96,7 @@ fn end_column(old: &Line, new: &Line, may_differ: bool) -> usize
         return 0;
     }
     if old.is_reversed() == new.is_reversed() {
-        change_end(old.text(), new.text())
+        whole_end(new.text(), change_end(old.text(), new.text()))
     } else {
         new.text().len()
     }
@@ -85,12 +104,12 @@ fn end_column(old: &Line, new: &Line, may_differ: bool) -> usize
 
 // Moves the cursor, unless it is there.
 fn put_way(out: &mut Vec<u8>, from: (usize, usize), to: (usize, usize))
-    requires row { to.0 < 999 }
+    requires row { to.0 < 99 }
     requires col { to.1 < 999 }
-    requires room { vec_len out.old + 10 ≤ vec_capacity out.old }
+    requires room { vec_len out.old + 9 ≤ vec_capacity out.old }
     ensures items { out.new.items ≡ out.old.items ++ bytes_of (way from to) }
     ensures capacity { vec_capacity out.new ≡ vec_capacity out.old }
-    ensures len { vec_len out.new ≤ vec_len out.old + 10 }
+    ensures len { vec_len out.new ≤ vec_len out.old + 9 }
 {
     if from.0 != to.0 || from.1 != to.1 {
         put_goto(out, to.0, to.1);
@@ -109,11 +128,13 @@ fn put_plain(
     requires order { start < end }
     requires within { end ≤ length text.now }
     requires width { length text.now ≤ COLS_MAX }
-    requires printable { All IsPrintable text.now }
-    requires room { vec_len out.old + (end - start) ≤ vec_capacity out.old }
+    requires whole { AreCells false text.now }
+    requires first { starts_half (drop start text.now) ≡ false }
+    requires last { starts_half (drop end text.now) ≡ false }
+    requires room { vec_len out.old + 4 * (end - start) ≤ vec_capacity out.old }
     ensures items { out.new.items ≡ out.old.items ++ bytes_of (plain_piece text.now start end) }
     ensures capacity { vec_capacity out.new ≡ vec_capacity out.old }
-    ensures len { vec_len out.new ≤ vec_len out.old + (end - start) }
+    ensures len { vec_len out.new ≤ vec_len out.old + 4 * (end - start) }
     ensures cursor { result ≡ moved (length text.now) (row, start) (plain_piece text.now start end) }
 {
     let ink = ink_end(text).max(start);
@@ -132,18 +153,20 @@ fn put_piece(out: &mut Vec<u8>, row: usize, new: &Line, start: usize, end: usize
     requires order { start < end }
     requires within { end ≤ length new.now.text }
     requires width { length new.now.text ≤ COLS_MAX }
-    requires printable { All IsPrintable new.now.text }
-    requires room { vec_len out.old + (8 + (end - start)) ≤ vec_capacity out.old }
+    requires whole { AreCells false new.now.text }
+    requires first { starts_half (drop start new.now.text) ≡ false }
+    requires last { starts_half (drop end new.now.text) ≡ false }
+    requires room { vec_len out.old + (7 + 4 * (end - start)) ≤ vec_capacity out.old }
     ensures items { out.new.items ≡ out.old.items ++ bytes_of (piece new.now start end) }
     ensures capacity { vec_capacity out.new ≡ vec_capacity out.old }
-    ensures len { vec_len out.new ≤ vec_len out.old + (8 + (end - start)) }
+    ensures len { vec_len out.new ≤ vec_len out.old + (7 + 4 * (end - start)) }
     ensures cursor { result ≡ moved (length new.now.text) (row, start) (piece new.now start end) }
 {
     let text = new.text();
     if new.is_reversed() {
         put_reverse(out, true);
         put_text(out, &text[start..end]);
-        put_reverse(out, false);
+        put_plain_on(out);
         (row, end.min(text.len() - 1))
     } else {
         put_plain(out, row, text, start, end)
@@ -151,7 +174,7 @@ fn put_piece(out: &mut Vec<u8>, row: usize, new: &Line, start: usize, end: usize
 }
 
 // One row, which may differ or stays the same, and where its bytes leave the cursor.
-#[tactic(auto, using(crate::proofs::Columns::start_first))]
+#[tactic(auto, using(crate::proofs::Columns::start_first, crate::proofs::Columns::start_apart_new, crate::proofs::Columns::end_apart))]
 fn put_row_changes(
     out: &mut Vec<u8>,
     at: (usize, usize),
@@ -164,11 +187,12 @@ fn put_row_changes(
     requires lengths { length old.now.text ≡ length new.now.text }
     requires same { may_differ ≡ false → old.now ≡ new.now }
     requires width { length new.now.text ≤ COLS_MAX }
-    requires printable { All IsPrintable new.now.text }
-    requires room { vec_len out.old + (18 + length new.now.text) ≤ vec_capacity out.old }
+    requires whole_old { AreCells false old.now.text }
+    requires whole_new { AreCells false new.now.text }
+    requires room { vec_len out.old + (16 + 4 * length new.now.text) ≤ vec_capacity out.old }
     ensures items { out.new.items ≡ out.old.items ++ bytes_of (row_changes at row old.now new.now) }
     ensures capacity { vec_capacity out.new ≡ vec_capacity out.old }
-    ensures len { vec_len out.new ≤ vec_len out.old + (18 + length new.now.text) }
+    ensures len { vec_len out.new ≤ vec_len out.old + (16 + 4 * length new.now.text) }
     ensures cursor { result ≡ moved (length new.now.text) at (row_changes at row old.now new.now) }
 {
     let end = end_column(old, new, may_differ);
@@ -195,10 +219,10 @@ fn put_rows_changes(
     requires each_old { All (IsRow cols) old.now }
     requires each_new { All (IsRow cols) new.now }
     requires same { AreSameApart rows.now old.now new.now }
-    requires room { vec_len out.old + length new.now * (18 + cols) ≤ vec_capacity out.old }
+    requires room { vec_len out.old + length new.now * (16 + 4 * cols) ≤ vec_capacity out.old }
     ensures items { out.new.items ≡ out.old.items ++ bytes_of (rows_changes cols at 0 old.now new.now) }
     ensures capacity { vec_capacity out.new ≡ vec_capacity out.old }
-    ensures len { vec_len out.new ≤ vec_len out.old + length new.now * (18 + cols) }
+    ensures len { vec_len out.new ≤ vec_len out.old + length new.now * (16 + 4 * cols) }
     ensures cursor { result ≡ moved cols at (rows_changes cols at 0 old.now new.now) }
 {
     let mut cursor = at;

@@ -19,10 +19,10 @@ fn put_rows(out: &mut Vec<u8>, cols: usize, lines: &[Line])
     requires rows { length lines.now ≤ ROWS_MAX }
     requires cols { cols ≤ COLS_MAX }
     requires each { All (IsRow cols) lines.now }
-    requires room { vec_len out.old + length lines.now * (14 + cols) ≤ vec_capacity out.old }
+    requires room { vec_len out.old + length lines.now * (13 + 4 * cols) ≤ vec_capacity out.old }
     ensures items { out.new.items ≡ out.old.items ++ bytes_of (rows_operations 0 lines.now) }
     ensures capacity { vec_capacity out.new ≡ vec_capacity out.old }
-    ensures len { vec_len out.new ≤ vec_len out.old + length lines.now * (14 + cols) }
+    ensures len { vec_len out.new ≤ vec_len out.old + length lines.now * (13 + 4 * cols) }
 {
     for (i, line) in lines.iter().enumerate() {
         put_row(out, i, line);

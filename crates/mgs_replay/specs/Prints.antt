@@ -1,5 +1,7 @@
 -- What the lines of a script print.
-use Rattle.std.specs.Prelude.{ℕ, zero, suc, ◌+◌, List, [], ◌∷◌, ◌++◌, map, take, drop, codes, decimal, if◌then◌else◌}
+use Rattle.std.specs.Prelude.{ℕ, zero, suc, ◌+◌, List, [], ◌∷◌, ◌++◌, ◌==◌, take, drop, codes, decimal, encode_utf8, if◌then◌else◌}
+use Rattle.std.specs.List.{flat_map}
+use Rattle.mgs_model.specs.Cells.{right_half}
 use Rattle.mgs_model.specs.declared.errors.OpenFault.{OpenFault}
 use Rattle.mgs_model.specs.declared.errors.OpenFault.TheVariants.{NoUser, Size, Full, Short}
 use Rattle.mgs_term.specs.declared.cell.Cell.{Cell}
@@ -32,9 +34,13 @@ abbrev pub edge_of : List Cell → ℕ
 edge_of [] = 124
 edge_of (c ∷ cells) = if c.reversed then 33 else 124
 
+-- the bytes of what a cell shows; a wide character stands in its left half
+abbrev pub cell_bytes : Cell → List ℕ
+cell_bytes c = if c.character == right_half then [] else encode_utf8 c.character
+
 -- what the cells show
 abbrev pub characters : List Cell → List ℕ
-characters cells = map (λ c. c.character) cells
+characters cells = flat_map cell_bytes cells
 
 -- a row between its edges
 abbrev pub row_text : List Cell → List ℕ

@@ -1,11 +1,10 @@
 // Prints the screens of sessions, refused opens and ended sessions.
-ghost use Rattle.std.specs.Prelude.{◌≡◌, ◌++◌, ◌∷◌, [], All, OnOk, codes, decimal};
-ghost use Rattle.mgs_term.specs.Screen.{IsPrintableCell};
-ghost use Rattle.mgs_replay.specs.Prints.{edge_of, characters, row_text, rows_text, screen_text, refusal_text, ended_text, fault_text, ended_by_text};
+ghost use Rattle.std.specs.Prelude.{◌≡◌, ◌++◌, ◌∷◌, [], OnOk, codes, decimal};
+ghost use Rattle.mgs_replay.specs.Prints.{edge_of, cell_bytes, characters, row_text, rows_text, screen_text, refusal_text, ended_text, fault_text, ended_by_text};
 
 use crate::client::Cause;
 use itoa::Buffer;
-use mgs_model::{Name, OpenFault};
+use mgs_model::{Name, OpenFault, RIGHT_HALF};
 use mgs_term::{Cell, Term};
 use std::alloc::AllocError;
 
@@ -76,18 +75,27 @@ fn edge(cells: &[Cell]) -> u8
     }
 }
 
+// The character of a cell. A wide one was pushed with its left half.
+fn push_cell(out: &mut Vec<u8>, cell: &Cell) -> Result<(), AllocError>
+    ensures { OnOk result (out.new.items ≡ out.old.items ++ cell_bytes cell.now) }
+{
+    if cell.character == RIGHT_HALF {
+        return Ok(());
+    }
+    let mut bytes = [0; 4];
+    out.extend_from_slice(cell.character.encode_utf8(&mut bytes).as_bytes())
+}
+
 fn push_cells(out: &mut Vec<u8>, cells: &[Cell]) -> Result<(), AllocError>
-    requires { All IsPrintableCell cells.now }
     ensures { OnOk result (out.new.items ≡ out.old.items ++ characters cells.now) }
 {
     for cell in cells {
-        out.push(cell.character as u8)?;
+        push_cell(out, cell)?;
     }
     Ok(())
 }
 
 fn print_row(out: &mut Vec<u8>, cells: &[Cell]) -> Result<(), AllocError>
-    requires { All IsPrintableCell cells.now }
     ensures { OnOk result (out.new.items ≡ out.old.items ++ row_text cells.now) }
 {
     let edge = edge(cells);
@@ -99,7 +107,6 @@ fn print_row(out: &mut Vec<u8>, cells: &[Cell]) -> Result<(), AllocError>
 }
 
 fn print_rows(out: &mut Vec<u8>, rows: usize, cols: usize, cells: &[Cell]) -> Result<(), AllocError>
-    requires { All IsPrintableCell cells.now }
     ensures { OnOk result (out.new.items ≡ out.old.items ++ rows_text rows cols cells.now) }
 {
     let mut left = cells;

@@ -9,6 +9,8 @@ mod arguments;
 #[cfg(test)]
 mod cases;
 #[cfg(test)]
+mod characters;
+#[cfg(test)]
 mod extended;
 #[cfg(test)]
 mod fills;

@@ -1,5 +1,6 @@
 // Keys, step by step, each with what the terminal then shows.
 use super::replay::gives;
+use mgs_model::own_columns;
 use std::alloc::{AllocError, Global};
 use std::process::Abort;
 use std::test::Fail;
@@ -41,9 +42,20 @@ fn cut_label(step: &str) -> (&str, &str) {
     step.split_once(' ').unwrap_or((step, ""))
 }
 
+// The columns of a row: a wide character has two.
+fn columns_of(row: &str) -> usize {
+    let wide = row.chars().filter(|c| own_columns(*c) == 2).count();
+    row.chars().count().saturating_add(wide)
+}
+
 // A row of a text or an echo line, filled up to the 60th column.
 fn push_row(output: &mut String, row: &str) -> Result<(), AllocError> {
-    writeln!(output, "|{row:<60}|")
+    output.push('|')?;
+    output.push_str(row)?;
+    for _ in columns_of(row)..60 {
+        output.push(' ')?;
+    }
+    output.push_str("|\n")
 }
 
 // A mode line, filled up to the 60th column.

@@ -14,7 +14,7 @@ use Rattle.mgs_term.proofs.Screens.{after_keeps}
 -- Bytes that draw leave a terminal as they say, between two sequences.
 pub fed-leads : (may : Screen → Operation → Type 0) (os : List Operation) (s t : Screen) → IsScreen s → Leads may os s t → fed (at s Ground) (flat_map spelling os) ≡ at t Ground
 fed-leads may [] s t ok leads = ap (λ x. at x Ground) leads
-fed-leads may (o ∷ os) s t ok leads = fed-spelling s o (flat_map spelling os) ok leads.0 ∙ fed-leads may os (after o s) t (after_keeps s o ok leads.0) leads.2
+fed-leads may (o ∷ os) s t ok leads = fed-spelling s o (flat_map spelling os) ok leads.0.0 leads.0.1 ∙ fed-leads may os (after o s) t (after_keeps s o ok leads.0.0) leads.2
 
 pub fed-draws : (may : Screen → Operation → Type 0) (bytes : List ℕ) (s t : Screen) → IsScreen s → Draws may bytes s t → fed (at s Ground) bytes ≡ at t Ground
 fed-draws may bytes s t ok draws = ap (fed (at s Ground)) draws.1 ∙ fed-leads may draws.0 s t ok draws.2

@@ -1,3 +1,4 @@
+pub mod Wide
 pub mod Digits
 pub mod Steps
 pub mod Drawing
@@ -5,3 +6,5 @@ pub mod Grammar
 pub mod Screens
 pub mod Feeding
 pub mod Taking
+pub mod Resting
+pub mod Worked

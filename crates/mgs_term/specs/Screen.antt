@@ -1,6 +1,7 @@
 -- What a terminal shows.
-use Rattle.std.specs.Prelude.{◌≡◌, ℕ, ◌+◌, ◌*◌, ◌<◌, Bool, true, false, List, length, replicate}
-use Rattle.mgs_model.specs.Picture.{IsSize, IsPrintable}
+use Rattle.std.specs.Prelude.{◌≡◌, ℕ, ◌+◌, ◌-◌, ◌*◌, ◌<◌, ◌==◌, ◌&&◌, nat_lt, Bool, true, false, List, [], ◌∷◌, length, map, replicate, slice_index_or, slice_set, if◌then◌else◌}
+use Rattle.mgs_model.specs.Cells.{right_half, own_cells}
+use Rattle.mgs_model.specs.Picture.{IsSize}
 use Rattle.mgs_term.specs.declared.cell.Cell.{Cell}
 
 -- rows and columns; the cells row by row; the cursor's row and column, from 0;
@@ -21,10 +22,6 @@ pub record IsScreen (s : Screen) : Type 0 where
   pub row_in : s.row < s.rows
   pub col_in : s.col < s.cols
 
--- a cell shows visible ASCII or a blank
-abbrev pub IsPrintableCell : Cell → Type 0
-IsPrintableCell c = IsPrintable c.character
-
 abbrev pub blank_cell : Cell
 blank_cell = record { character = 32; reversed = false }
 
@@ -35,3 +32,31 @@ cursor_cell s = s.row * s.cols + s.col
 -- blanks, the cursor in the first cell, reverse off and wrap on
 abbrev pub blank_screen : ℕ → ℕ → Screen
 blank_screen rows cols = record { rows = rows; cols = cols; cells = replicate (rows * cols) blank_cell; row = 0; col = 0; reversing = false; wrapping = true }
+
+-- WIDE CHARACTERS
+
+abbrev pub cell_of : Bool → ℕ → Cell
+cell_of reversed c = record { character = c; reversed = reversed }
+
+-- the cells that a character fills
+abbrev pub own_shown : Bool → ℕ → List Cell
+own_shown reversed c = map (cell_of reversed) (own_cells c)
+
+abbrev pub is_half : Cell → Bool
+is_half c = c.character == right_half
+
+-- a cell becomes a blank, and keeps its reverse
+abbrev pub blanked : ℕ → List Cell → List Cell
+blanked i cells = slice_set cells i (cell_of (slice_index_or cells i blank_cell).reversed 32)
+
+-- A row parted before a column, of which the first cell is the given one: where a wide character stands across, each of its
+-- halves becomes a blank.
+unfoldable pub parted : ℕ → ℕ → ℕ → List Cell → List Cell
+parted start cols col cells =
+    if nat_lt 0 col && (nat_lt col cols && is_half (slice_index_or cells (start + col) blank_cell)) then blanked (start + col - 1) (blanked (start + col) cells)
+    else cells
+
+-- cells in place of as many, from one on
+abbrev pub written : ℕ → List Cell → List Cell → List Cell
+written i [] cells = cells
+written i (x ∷ xs) cells = written (i + 1) xs (slice_set cells i x)

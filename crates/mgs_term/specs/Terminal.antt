@@ -2,7 +2,7 @@
 use Rattle.std.specs.Prelude.{◌≡◌, ℕ, Bool, true, false, List, [], ◌∷◌, ◌++◌}
 use Rattle.mgs_term.specs.declared.operation.Operation.{Operation}
 use Rattle.mgs_term.specs.Screen.{Screen}
-use Rattle.mgs_term.specs.Sequences.{Accepts, after, spelling}
+use Rattle.mgs_term.specs.Sequences.{Accepts, has_room, after, spelling}
 
 -- its screen, the bytes so far of the sequence that has begun, and whether it refuses everything from now on
 pub record Terminal : Type 0 where
@@ -18,9 +18,11 @@ resting s = record { screen = s; begun = []; refused = false }
 abbrev pub refusing : Screen → Terminal
 refusing s = record { screen = s; begun = []; refused = true }
 
--- an accepted sequence has the byte after those that have begun it, and then the rest
+-- An accepted sequence has the byte after those that have begun it, and then the rest. Only its last byte asks for room.
 abbrev pub Continues : Terminal → ℕ → List ℕ → Operation → Type 0
-Continues t byte rest o = (t.refused ≡ false) × Accepts t.screen.rows t.screen.cols t.screen.wrapping o × (spelling o ≡ t.begun ++ byte ∷ rest)
+Continues t byte rest o =
+    (t.refused ≡ false) × Accepts t.screen.rows t.screen.cols t.screen.wrapping o × (spelling o ≡ t.begun ++ byte ∷ rest)
+    × (rest ≡ [] → has_room t.screen o ≡ true)
 
 -- A byte is taken. The last of a sequence does what the sequence does, and any other changes no more than what has begun.
 pub record Takes (old : Terminal) (byte : ℕ) (new : Terminal) : Type 0 where

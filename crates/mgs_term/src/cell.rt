@@ -1,4 +1,5 @@
-/// One cell of a terminal's screen: a character of 0x20 to 0x7E, and whether it is shown in reverse.
+/// One cell of a terminal's screen: a character that is shown as itself, and whether that is in reverse. Behind a character of
+/// two columns stands `RIGHT_HALF`.
 #[derive(Clone, Copy, Debug, PartialEq, Eq)]
 pub struct Cell {
     pub character: char,

@@ -1,7 +1,7 @@
 //! A terminal that accepts exactly what a painter of screens needs, and refuses everything else for good.
 //!
 //! The sequences are those of a VT100: `ESC [ r ; c H`, `ESC [ 2 J`, `ESC [ K`, `ESC [ 7 m`, `ESC [ m`, `ESC [ ? 7 l`, and
-//! the bytes 0x20 to 0x7E with wrap off.
+//! with wrap off the bytes 0x20 to 0x7E and, in UTF-8, characters past ASCII that take one column or two.
 #![tactic(auto)]
 
 mod cell;

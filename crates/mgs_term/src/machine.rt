@@ -1,8 +1,10 @@
-ghost use Rattle.std.specs.Prelude.{◌≡◌, ℕ, ◌+◌, ◌-◌, ◌*◌, ◌<◌, ◌≤◌, ◌++◌, ◌↔◌, length, take, drop, replicate, true, false, IsTrue, IsOk, IsErr, IfOk, OnOk, OnErr, List, [], ◌∷◌, All};
+ghost use Rattle.std.specs.Prelude.{◌≡◌, ℕ, ◌+◌, ◌-◌, ◌*◌, ◌<◌, ◌≤◌, ◌++◌, ◌↔◌, length, take, drop, replicate, true, false, IsTrue, IsOk, IsErr, IfOk, OnOk, OnErr, List, [], ◌∷◌};
 ghost use Rattle.mgs_model.specs.Picture.{IsSize};
-ghost use Rattle.mgs_term.specs.Screen.{Screen, IsScreen, IsPrintableCell, blank_cell, cursor_cell};
-ghost use Rattle.mgs_term.specs.Sequences.{Accepts, after};
-ghost use Rattle.mgs_term.specs.Terminal.{Continues, Takes, Refuses, TakesAll, RefusesSome};
+ghost use Rattle.mgs_model.specs.Cells.{own_cells};
+ghost use Rattle.mgs_term.specs.declared.operation.Operation.TheVariants.{Print};
+ghost use Rattle.mgs_term.specs.Screen.{Screen, IsScreen, blank_cell, cursor_cell, own_shown, parted, written};
+ghost use Rattle.mgs_term.specs.Sequences.{Accepts, has_room, after};
+ghost use Rattle.mgs_term.specs.Terminal.{Continues, Takes, Refuses, TakesAll, RefusesSome, resting};
 ghost use Rattle.mgs_term.specs.Drawing.{Draws, Anything};
 ghost use Rattle.mgs_term.specs.Automaton.{Automaton, IsPlace, stepped, fed, new_automaton, terminal_of};
 ghost use Rattle.mgs_term.specs.declared.place.Place.TheVariants.{Ground, Refused};
@@ -11,7 +13,7 @@ ghost use Rattle.mgs_term.specs.declared.operation.Operation.{Operation};
 use crate::cell::Cell;
 use crate::operation::Operation;
 use crate::place::{Next, Place, next_of};
-use mgs_model::Short;
+use mgs_model::{RIGHT_HALF, Short, own_columns};
 use std::alloc::Global;
 use std::marker::Model;
 
@@ -37,7 +39,7 @@ impl Model for Machine {
 
     ghost view = { λ t. record { screen = record { rows = t.rows; cols = t.cols; cells = t.cells.items; row = t.row; col = t.col; reversing = t.reversing; wrapping = t.wrapping }; place = t.place } };
 
-    ghost invariant = { λ t. IsScreen (record { rows = t.rows; cols = t.cols; cells = t.cells.items; row = t.row; col = t.col; reversing = t.reversing; wrapping = t.wrapping }) × IsPlace t.rows t.cols t.place × All IsPrintableCell t.cells.items };
+    ghost invariant = { λ t. IsScreen (record { rows = t.rows; cols = t.cols; cells = t.cells.items; row = t.row; col = t.col; reversing = t.reversing; wrapping = t.wrapping }) × IsPlace t.rows t.cols t.wrapping t.place };
 }
 
 fn blank_between(cells: &mut [Cell], from: usize, to: usize)
@@ -46,6 +48,43 @@ fn blank_between(cells: &mut [Cell], from: usize, to: usize)
     ensures { cells.new ≡ take from cells.old ++ (replicate (to - from) blank_cell ++ drop to cells.old) }
 {
     cells[from..to].fill(Cell::BLANK);
+}
+
+/// The columns that a character fills.
+fn columns(c: char) -> usize
+    ensures value { result ≡ length (own_cells c) }
+    ensures few { result ≤ 2 }
+{
+    if own_columns(c) == 2 { 2 } else { 1 }
+}
+
+/// Blanks a wide character that stands across a column of a row.
+#[tactic(auto, unfolding(crate::specs::Screen::parted))]
+fn part(cells: &mut [Cell], start: usize, cols: usize, col: usize)
+    requires within { start + cols ≤ length cells.old }
+    ensures { cells.new ≡ parted start cols col cells.old }
+{
+    if 0 < col && col < cols && cells[start + col].character == RIGHT_HALF {
+        cells[start + col].character = ' ';
+        cells[start + col - 1].character = ' ';
+    }
+}
+
+/// Puts a character into its cells.
+fn put(cells: &mut [Cell], at: usize, c: char, reversed: bool)
+    requires within { at + length (own_cells c) ≤ length cells.old }
+    ensures { cells.new ≡ written at (own_shown reversed c) cells.old }
+{
+    cells[at] = Cell {
+        character: c,
+        reversed,
+    };
+    if own_columns(c) == 2 {
+        cells[at + 1] = Cell {
+            character: RIGHT_HALF,
+            reversed,
+        };
+    }
 }
 
 impl Machine {
@@ -69,8 +108,23 @@ impl Machine {
         })
     }
 
+    fn has_room(&self, operation: Operation) -> bool
+        ensures { result ≡ has_room self.now.screen operation }
+    {
+        match operation {
+            Operation::Print(c) => self.col + columns(c) <= self.cols,
+            Operation::Goto(_, _) => true,
+            Operation::Clear => true,
+            Operation::Erase => true,
+            Operation::Reverse => true,
+            Operation::Plain => true,
+            Operation::Unwrap => true,
+        }
+    }
+
     fn perform(&mut self, operation: Operation)
-        requires { Accepts self.old.screen.rows self.old.screen.cols self.old.screen.wrapping operation }
+        requires accepted { Accepts self.old.screen.rows self.old.screen.cols self.old.screen.wrapping operation }
+        requires room { has_room self.old.screen operation ≡ true }
         ensures screen { self.new.screen ≡ after operation self.old.screen }
         ensures place { self.new.place ≡ Ground }
     {
@@ -86,22 +140,26 @@ impl Machine {
             }
             Operation::Erase => {
                 let start = self.row * self.cols;
+                part(&mut self.cells, start, self.cols, self.col);
                 blank_between(&mut self.cells, start + self.col, start + self.cols);
             }
             Operation::Reverse => self.reversing = true,
             Operation::Plain => self.reversing = false,
             Operation::Unwrap => self.wrapping = false,
-            Operation::Print(byte) => {
-                let cell = Cell {
-                    character: byte as char,
-                    reversed: self.reversing,
-                };
-                self.cells[self.row * self.cols + self.col] = cell;
-                if self.col + 1 < self.cols {
-                    self.col += 1;
-                }
-            }
+            Operation::Print(c) => self.print(c),
         }
+    }
+
+    fn print(&mut self, c: char)
+        requires { has_room self.old.screen (Print c) ≡ true }
+        ensures { self.new ≡ record { screen = after (Print c) self.old.screen; place = self.old.place } }
+    {
+        let start = self.row * self.cols;
+        let end = self.col + columns(c);
+        part(&mut self.cells, start, self.cols, self.col);
+        part(&mut self.cells, start, self.cols, end);
+        put(&mut self.cells, start + self.col, c, self.reversing);
+        self.col = end.min(self.cols - 1);
     }
 
     /// Takes one byte, or refuses it and each one after it.
@@ -122,6 +180,10 @@ impl Machine {
                 Ok(())
             }
             Next::Perform(operation) => {
+                if !self.has_room(operation) {
+                    self.place = Place::Refused;
+                    return Err(OutOfProfile);
+                }
                 self.perform(operation);
                 Ok(())
             }
@@ -130,7 +192,7 @@ impl Machine {
 
     /// Takes bytes up to the first that is refused.
     pub(crate) fn feed_all(&mut self, bytes: &[u8]) -> Result<(), OutOfProfile>
-        ensures drawn { (t : Screen) → self.old.place ≡ Ground → Draws Anything bytes.now self.old.screen t → IsOk result × (self.new ≡ record { screen = t; place = Ground }) }
+        ensures drawn { (s t : Screen) → terminal_of self.old ≡ resting s → Draws Anything bytes.now s t → IsOk result × (terminal_of self.new ≡ resting t) }
         ensures ok { OnOk result (TakesAll (terminal_of self.old) bytes.now (terminal_of self.new)) }
         ensures err { OnErr result (RefusesSome (terminal_of self.old) bytes.now (terminal_of self.new)) }
     {
@@ -160,7 +222,6 @@ impl Machine {
     pub(crate) fn grid(&self) -> &[Cell]
         ensures cells { result.now ≡ self.now.screen.cells }
         ensures screen { IsScreen self.now.screen }
-        ensures printable { All IsPrintableCell self.now.screen.cells }
     {
         &self.cells
     }

@@ -13,6 +13,7 @@ pub enum Operation {
     Plain,
     /// `ESC [ ? 7 l`: the cursor stays in the last column.
     Unwrap,
-    /// A byte of 0x20 to 0x7E, once wrap is off: it is put into the cursor's cell, and the cursor goes one column on.
-    Print(u8),
+    /// A character of 0x20 to 0x7E, or one past ASCII of one column or two, once wrap is off: it fills as many cells from the
+    /// cursor's on, and the cursor goes as many columns on.
+    Print(char),
 }

@@ -1,9 +1,11 @@
-ghost use Rattle.std.specs.Prelude.{◌≡◌, ℕ, ◌-◌, ◌≤◌};
+ghost use Rattle.std.specs.Prelude.{◌≡◌, ℕ, ◌+◌, ◌-◌, ◌*◌, ◌^◌, ◌<◌, ◌≤◌, false, [], ◌∷◌, ◌++◌};
 ghost use Rattle.mgs_model.specs.Picture.{IsSize};
-ghost use Rattle.mgs_term.specs.Automaton.{next_step, IsPlace, IsNext, IsSpelled};
-ghost use Rattle.mgs_term.specs.declared.place.Place.TheVariants.{Bracket, Number, Column};
+ghost use Rattle.mgs_term.specs.Automaton.{span, lead, least, is_of_size, some_shown, reached, first_read, bytes_read, next_step, begun_at, IsPlace, IsNext, IsSpelled};
+ghost use Rattle.mgs_term.specs.declared.place.Place.{Place};
+ghost use Rattle.mgs_term.specs.declared.place.Place.TheVariants.{Ground, Bracket, Number, Column, Inside};
 
 use crate::operation::Operation;
+use mgs_model::own_columns;
 
 /// Where in a sequence a terminal is. Numbers are those read so far, rows and columns counted from 1.
 #[derive(Clone, Copy, Debug)]
@@ -24,6 +26,8 @@ pub(crate) enum Place {
     Question,
     /// After `ESC [ ? 7`.
     Seven,
+    /// In the bytes of a character past ASCII: how many they are, how many were read, and the value of the bits in those.
+    Inside(usize, usize, u32),
     /// After a byte that was refused.
     Refused,
 }
@@ -51,7 +55,7 @@ fn digit_of(byte: u8) -> usize
 /// The effect of a byte at a place, on a terminal of a size and with its wrap flag.
 pub(crate) fn next_of(rows: usize, cols: usize, wrapping: bool, place: Place, byte: u8) -> Next
     requires size { IsSize rows cols }
-    requires place { IsPlace rows cols place }
+    requires place { IsPlace rows cols wrapping place }
     ensures next { result ≡ next_step rows cols wrapping place byte }
     ensures fits { IsNext rows cols wrapping result }
     ensures spelled { IsSpelled place byte result }
@@ -60,12 +64,17 @@ pub(crate) fn next_of(rows: usize, cols: usize, wrapping: bool, place: Place, by
         Place::Ground => {
             if byte == ESCAPE {
                 Next::Wait(Place::Escape)
-            } else if (b' '..=b'~').contains(&byte) && !wrapping {
-                Next::Perform(Operation::Print(byte))
-            } else {
+            } else if wrapping {
                 Next::Stuck
+            } else if (b' '..=b'~').contains(&byte) {
+                Next::Perform(Operation::Print(byte as char))
+            } else {
+                first_read(byte)
             }
         }
+        Place::Inside(size, read, value) => next_inside(
+            rows, cols, wrapping, size, read, value, byte,
+        ),
         Place::Escape => {
             if byte == b'[' {
                 Next::Wait(Place::Bracket)
@@ -101,6 +110,135 @@ pub(crate) fn next_of(rows: usize, cols: usize, wrapping: bool, place: Place, by
     }
 }
 
+/// How many characters have the same first bytes, where so many are left.
+fn span(left: usize) -> u32
+    ensures value { result ≡ span left }
+    ensures few { result ≤ 262144 }
+{
+    match left {
+        0 => 1,
+        1 => 64,
+        2 => 4096,
+        _ => 262_144,
+    }
+}
+
+/// Whether the code is that of a character that is shown as itself, and has so many bytes in UTF-8.
+#[tactic(auto, using(crate::proofs::Wide::no_scalar))]
+fn is_of_size(size: usize, code: u32) -> bool
+    ensures { result ≡ is_of_size size code }
+{
+    match char::from_u32(code) {
+        Some(c) => c.len_utf8() == size && own_columns(c) > 0,
+        None => false,
+    }
+}
+
+/// The first character of so many bytes.
+fn least(size: usize) -> u32
+    ensures { result ≡ least size }
+{
+    match size {
+        2 => 0x80,
+        3 => 0x800,
+        _ => 0x1_0000,
+    }
+}
+
+/// Whether some of so many characters is one, from a character on.
+fn some_found(size: usize, from: u32, count: u32) -> bool
+    requires { from + count < 2 ^ 32 }
+    ensures { result ≡ some_shown size from count }
+{
+    for code in from..from + count {
+        if is_of_size(size, code) {
+            return true;
+        }
+    }
+    false
+}
+
+/// The same, without a look at those that have fewer bytes.
+fn some_shown(size: usize, from: u32, count: u32) -> bool
+    requires few { size ≤ 4 }
+    requires some { 2 ≤ size }
+    requires fits { from + count < 2 ^ 32 }
+    ensures { result ≡ some_shown size from count }
+{
+    let end = from + count;
+    let start = from.max(least(size)).min(end);
+    some_found(size, start, end - start)
+}
+
+/// So many of the bytes are read, and this is the value of the bits in them.
+fn reached(size: usize, read: usize, value: u32) -> Next
+    requires some { 1 ≤ read }
+    requires order { read ≤ size }
+    requires few { size ≤ 4 }
+    requires small { (value + 1) * span (size - read) ≤ 2097152 }
+    ensures next { result ≡ reached size read value }
+    ensures fits { (rows cols : ℕ) → IsNext rows cols false result }
+    ensures spelled { (place : Place) (byte : ℕ) → bytes_read (lead size) read value ≡ begun_at place ++ byte ∷ [] → IsSpelled place byte result }
+{
+    if size == read {
+        return if is_of_size(size, value) {
+            match char::from_u32(value) {
+                Some(c) => Next::Perform(Operation::Print(c)),
+                None => Next::Stuck,
+            }
+        } else {
+            Next::Stuck
+        };
+    }
+    let count = span(size - read);
+    if some_shown(size, value * count, count) {
+        Next::Wait(Place::Inside(size, read, value))
+    } else {
+        Next::Stuck
+    }
+}
+
+/// The first byte of a character past ASCII.
+fn first_read(byte: u8) -> Next
+    ensures next { result ≡ first_read byte }
+    ensures fits { (rows cols : ℕ) → IsNext rows cols false result }
+    ensures spelled { IsSpelled Ground byte result }
+{
+    if byte < 0xc0 {
+        Next::Stuck
+    } else if byte < 0xe0 {
+        reached(2, 1, u32::from(byte - 0xc0))
+    } else if byte < 0xf0 {
+        reached(3, 1, u32::from(byte - 0xe0))
+    } else if byte < 0xf8 {
+        reached(4, 1, u32::from(byte - 0xf0))
+    } else {
+        Next::Stuck
+    }
+}
+
+/// A further byte of a character past ASCII.
+fn next_inside(
+    rows: usize,
+    cols: usize,
+    wrapping: bool,
+    size: usize,
+    read: usize,
+    value: u32,
+    byte: u8,
+) -> Next
+    requires place { IsPlace rows cols wrapping (Inside size read value) }
+    ensures next { result ≡ next_step rows cols wrapping (Inside size read value) byte }
+    ensures fits { IsNext rows cols wrapping result }
+    ensures spelled { IsSpelled (Inside size read value) byte result }
+{
+    if (0x80..0xc0).contains(&byte) {
+        reached(size, read + 1, value * 64 + u32::from(byte - 0x80))
+    } else {
+        Next::Stuck
+    }
+}
+
 fn next_bracket(rows: usize, cols: usize, wrapping: bool, byte: u8) -> Next
     requires size { IsSize rows cols }
     ensures next { result ≡ next_step rows cols wrapping Bracket byte }
@@ -122,7 +260,7 @@ fn next_bracket(rows: usize, cols: usize, wrapping: bool, byte: u8) -> Next
 
 fn next_number(rows: usize, cols: usize, wrapping: bool, number: usize, byte: u8) -> Next
     requires size { IsSize rows cols }
-    requires number { IsPlace rows cols (Number number) }
+    requires number { IsPlace rows cols wrapping (Number number) }
     ensures next { result ≡ next_step rows cols wrapping (Number number) byte }
     ensures fits { IsNext rows cols wrapping result }
     ensures spelled { IsSpelled (Number number) byte result }
@@ -149,7 +287,7 @@ fn next_column(
     byte: u8,
 ) -> Next
     requires size { IsSize rows cols }
-    requires place { IsPlace rows cols (Column row column) }
+    requires place { IsPlace rows cols wrapping (Column row column) }
     ensures next { result ≡ next_step rows cols wrapping (Column row column) byte }
     ensures fits { IsNext rows cols wrapping result }
     ensures spelled { IsSpelled (Column row column) byte result }

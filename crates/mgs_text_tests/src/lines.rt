@@ -13,21 +13,23 @@ const PLACES: [(usize, usize, usize, usize); 6] = [
     (2, 0, 2, 2),
     (3, 3, 6, 0),
     (5, 3, 6, 9),
-    (6, 3, 6, 15),
+    (6, 3, 6, 10),
     (7, 7, 8, 0),
 ];
 
 // The top of a window of two rows, for the top that it had and a point.
 const TOPS: [(usize, usize, usize); 3] = [(0, 4, 0), (0, 7, 3), (7, 0, 0)];
 
-const WIDTHS: [(usize, char, usize); 7] = [
+const WIDTHS: [(usize, char, usize); 9] = [
     (3, '\t', 5),
     (8, '\t', 8),
     (0, '\x01', 2),
     (0, '~', 1),
     (0, '\x7f', 2),
-    (0, '\u{e9}', 6),
-    (0, '\u{1f600}', 9),
+    (0, '\u{e9}', 1),
+    (0, '\u{6f22}', 2),
+    (0, '\u{301}', 7),
+    (0, '\u{1f600}', 2),
 ];
 
 // Whether a place has this start and end of its line, and this column.
@@ -67,7 +69,7 @@ const GOALS: [(usize, usize, usize); 10] = [
     (0, 8, 2),
     (0, 9, 2),
     (0, 10, 3),
-    (0, 15, 3),
+    (0, 15, 4),
     (0, 16, 4),
     (0, 99, 4),
     (5, 99, 6),

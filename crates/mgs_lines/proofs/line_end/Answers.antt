@@ -1,4 +1,4 @@
-use Rattle.std.proofs.Common.{◌≡◌, ◌+◌, ◌<◌, ℕ, List, length, sym, ap, ◌∙◌, arith}
+use Rattle.std.proofs.Common.{◌+◌, ◌<◌, ℕ, List, length, sym, ap, ◌∙◌, arith}
 use Rattle.mgs_lines.proofs.Feeds.{next_after, next_feed, next_other}
 use Rattle.mgs_lines.proofs.line_end.Goals as goal
 use Rattle.mgs_model.specs.Lines.{start_of}

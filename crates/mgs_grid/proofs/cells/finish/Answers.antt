@@ -1,23 +1,25 @@
-use Rattle.std.proofs.Common.{◌≡◌, ◌+◌, length, arith, refl, ◌∙◌}
-use Rattle.std.proofs.lemmas.Bool.{ne_eqb, lt-ltb, le-ltb}
-use Rattle.mgs_grid.specs.Cells.{finished}
+use Rattle.std.proofs.Common.{◌≡◌, arith, ◌∙◌}
+use Rattle.std.specs.Prelude.{◌==◌, if◌then◌else◌}
+use Rattle.std.proofs.lemmas.Bool.{ne_eqb, eq-eqb}
+use Rattle.mgs_grid.specs.Cells.{first_signed, finished}
+use Rattle.mgs_grid.proofs.CellLemmas.{cut_long, cut_short}
 use Rattle.mgs_grid.proofs.cells.finish.Goals as goal
 use Rattle.mgs_grid.proofs.cells.finish.Goals.{then-column-shift, else-column-shift}
 
 pub returns-then-shift-gt0 : goal.returns-then-shift-gt0
-unfolding finished
 returns-then-shift-gt0 c =
-    let some = ne_eqb c.args.shift 0 (λ e. omega arith) in
+    let cut : (if c.args.shift == 0 then c.if-column-shift.row else first_signed c.if-column-shift.row) ≡ finished c.args.row.now c.args.shift c.args.column =
     elim c.if-column-shift.branch [
-      | then-column-shift w ↦ rw (some, lt-ltb (c.args.shift + length c.args.row.now) c.args.column (omega arith), w.row-is) refl
-      | else-column-shift w ↦ rw (some, le-ltb (c.args.shift + length c.args.row.now) c.args.column (omega arith), w.row-is) refl
-    ]
+      | then-column-shift w ↦ cut_long c.args.row.now c.if-column-shift.row c.args.shift c.args.column (omega arith) (w.row-is ∙ w.sign_last.ensures)
+      | else-column-shift w ↦ cut_short c.args.row.now c.if-column-shift.row c.args.shift c.args.column (omega arith) w.row-is
+    ] in
+    c.sign_first.ensures ∙ (rw (ne_eqb c.args.shift 0 (λ e. omega arith)) at cut)
 
 pub returns-else-shift-gt0 : goal.returns-else-shift-gt0
-unfolding finished
 returns-else-shift-gt0 c =
-    let none : c.args.shift ≡ 0 = omega arith in
+    let cut : (if c.args.shift == 0 then c.if-column-shift.row else first_signed c.if-column-shift.row) ≡ finished c.args.row.now c.args.shift c.args.column =
     elim c.if-column-shift.branch [
-      | then-column-shift w ↦ w.row-is ∙ rw (lt-ltb (c.args.shift + length c.args.row.now) c.args.column (omega arith), none) refl
-      | else-column-shift w ↦ w.row-is ∙ rw (le-ltb (c.args.shift + length c.args.row.now) c.args.column (omega arith), none) refl
-    ]
+      | then-column-shift w ↦ cut_long c.args.row.now c.if-column-shift.row c.args.shift c.args.column (omega arith) (w.row-is ∙ w.sign_last.ensures)
+      | else-column-shift w ↦ cut_short c.args.row.now c.if-column-shift.row c.args.shift c.args.column (omega arith) w.row-is
+    ] in
+    rw (eq-eqb c.args.shift 0 (omega arith)) at cut

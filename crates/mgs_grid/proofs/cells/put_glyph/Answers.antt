@@ -1,6 +1,6 @@
-use Rattle.std.proofs.Common.{ℕ, ◌-◌, ◌%◌, ◌∙◌, refl}
+use Rattle.std.proofs.Common.{ℕ, ◌-◌, ◌%◌, ◌∙◌, refl, sym}
 use Rattle.std.proofs.lemmas.List.{length-replicate}
-use Rattle.mgs_lines.proofs.Glyphs.{glyph-tab, glyph-control, glyph-plain, glyph-delete, glyph-escape}
+use Rattle.mgs_lines.proofs.Glyphs.{glyph-tab, glyph-control, glyph-plain, glyph-delete, glyph-escape, glyph-own}
 use Rattle.mgs_grid.proofs.cells.put_glyph.Goals as goal
 
 pub returns-then-c-eq9-clause-row : goal.returns-then-c-eq9-clause-row
@@ -27,8 +27,14 @@ returns-then-c-eq127-clause-row c = rw (glyph-delete c.args.column c.args.c c.if
 pub returns-then-c-eq127-clause-next : goal.returns-then-c-eq127-clause-next
 returns-then-c-eq127-clause-next c = rw (glyph-delete c.args.column c.args.c c.if-c-eq127.true) refl
 
-pub returns-else-c-eq127-clause-row : goal.returns-else-c-eq127-clause-row
-returns-else-c-eq127-clause-row c = rw (glyph-escape c.args.column c.args.c c.if-c-lt127.false c.if-c-eq127.false) c.put_escape.ensures.row
+pub returns-then-own_columns-eq0-clause-row : goal.returns-then-own_columns-eq0-clause-row
+returns-then-own_columns-eq0-clause-row c = rw (glyph-escape c.args.column c.args.c c.if-c-lt127.false c.if-c-eq127.false (sym c.own_columns.ensures.value ∙ c.if-own_columns-eq0.true)) c.put_escape.ensures.row
 
-pub returns-else-c-eq127-clause-next : goal.returns-else-c-eq127-clause-next
-returns-else-c-eq127-clause-next c = rw (glyph-escape c.args.column c.args.c c.if-c-lt127.false c.if-c-eq127.false) c.put_escape.ensures.next
+pub returns-then-own_columns-eq0-clause-next : goal.returns-then-own_columns-eq0-clause-next
+returns-then-own_columns-eq0-clause-next c = rw (glyph-escape c.args.column c.args.c c.if-c-lt127.false c.if-c-eq127.false (sym c.own_columns.ensures.value ∙ c.if-own_columns-eq0.true)) c.put_escape.ensures.next
+
+pub returns-else-own_columns-eq0-clause-row : goal.returns-else-own_columns-eq0-clause-row
+returns-else-own_columns-eq0-clause-row c = rw (glyph-own c.args.column c.args.c c.if-c-lt127.false c.if-c-eq127.false (λ e. c.if-own_columns-eq0.false (c.own_columns.ensures.value ∙ e))) c.put_own.ensures.row
+
+pub returns-else-own_columns-eq0-clause-next : goal.returns-else-own_columns-eq0-clause-next
+returns-else-own_columns-eq0-clause-next c = rw (glyph-own c.args.column c.args.c c.if-c-lt127.false c.if-c-eq127.false (λ e. c.if-own_columns-eq0.false (c.own_columns.ensures.value ∙ e))) c.put_own.ensures.next

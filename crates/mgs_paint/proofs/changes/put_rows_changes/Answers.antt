@@ -1,4 +1,4 @@
-use Rattle.std.proofs.Common.{◌≡◌, ◌+◌, ◌≤◌, List, length, get_or, drop, ap, ◌∙◌, arith, mul-le-mul_right}
+use Rattle.std.proofs.Common.{◌≡◌, ◌+◌, ◌*◌, ◌≤◌, List, length, get_or, drop, ap, ◌∙◌, arith, mul-le-mul_right}
 use Rattle.mgs_model.specs.Picture.{IsRow}
 use Rattle.mgs_term.specs.declared.operation.Operation.{Operation}
 use Rattle.mgs_paint.specs.Changes.{moved, row_changes, rows_changes}
@@ -33,4 +33,4 @@ put_row_changes-cursor-requires-clause-room c =
     let of_row : IsRow c.args.cols (get_or news i b) = c.requires.each_new i b (omega arith) in
     let wide : length b.text ≡ c.args.cols = rw c.index-new-i.is of_row.width in
     let more : i + 1 ≤ length news = omega arith in
-    omega (arith, wide, mul-le-mul_right (18 + c.args.cols) more)
+    omega (arith, wide, mul-le-mul_right (16 + 4 * c.args.cols) more)

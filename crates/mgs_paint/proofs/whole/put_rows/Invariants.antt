@@ -6,5 +6,5 @@ abbrev pub invariant-loop-i : goal.invariant-loop-i
 invariant-loop-i l = record {
   items : l.out.items ≡ l.fn.out.items ++ bytes_of (rows_operations 0 (take l.i l.lines));
   capacity : vec_capacity l.out ≡ vec_capacity l.fn.out;
-  len : vec_len l.out ≤ vec_len l.fn.out + l.i * (14 + l.cols);
+  len : vec_len l.out ≤ vec_len l.fn.out + l.i * (13 + 4 * l.cols);
 }

@@ -1,4 +1,4 @@
-use Rattle.std.proofs.Common.{◌≡◌, ℕ, ◌+◌, ◌<◌, ◌≤◌, List, length, arith, ap, All, rules}
+use Rattle.std.proofs.Common.{◌≡◌, ℕ, ◌+◌, ◌≤◌, List, length, arith, ap, All, rules}
 use Rattle.mgs_model.specs.Rows.{Row, blank_rows}
 use Rattle.mgs_model.specs.Picture.{Picture, IsRow}
 use Rattle.mgs_grid.proofs.Pictures.{put_picture, window_put, blanks_are, length-blank_rows}
@@ -9,7 +9,7 @@ invariant_of-self c =
     let old : Picture = record { rows = c.self.inside.rows; cols = c.self.inside.cols; lines = c.self.inside.lines.items; row = c.self.inside.row; col = c.self.inside.col } in
     let rows_is : c.self.inside.rows ≡ c.args.self.now.rows = ap (λ (p : Picture). p.rows) c.self.view_is in
     let cols : ℕ = c.self.inside.cols in
-    let some : 0 < cols = omega (arith, c.self.invariant.size.some_cols) in
+    let some : 2 ≤ cols = omega (arith, c.self.invariant.size.some_cols) in
     let more : List Row = blank_rows cols c.args.height in
     let size : length more ≡ c.args.height = length-blank_rows cols c.args.height in
     let each : All (IsRow cols) more = blanks_are cols c.args.height some in

@@ -1,4 +1,4 @@
-use Rattle.std.proofs.Common.{◌≡◌, ℕ, ◌+◌, ◌<◌, ◌≤◌, List, length, drop, arith, ap, All, rules}
+use Rattle.std.proofs.Common.{◌≡◌, ℕ, ◌+◌, ◌≤◌, List, length, drop, arith, ap, All, rules}
 use Rattle.mgs_model.specs.Rows.{Row, text_rows, shift_at}
 use Rattle.mgs_model.specs.Picture.{Picture, IsRow}
 use Rattle.mgs_grid.proofs.Printable.{rows_are}
@@ -10,7 +10,7 @@ invariant_of-self g c =
     let old : Picture = record { rows = c.self.inside.rows; cols = c.self.inside.cols; lines = c.self.inside.lines.items; row = c.self.inside.row; col = c.self.inside.col } in
     let rows_is : c.self.inside.rows ≡ c.args.self.now.rows = ap (λ (p : Picture). p.rows) c.self.view_is in
     let cols : ℕ = c.self.inside.cols in
-    let some : 0 < cols = omega (arith, c.self.invariant.size.some_cols) in
+    let some : 2 ≤ cols = omega (arith, c.self.invariant.size.some_cols) in
     let more : List Row = text_rows cols (shift_at c.args.row c.args.shift) 0 c.args.height (drop c.args.top (g.T.Text.text c.args.text.now)) in
     let size : length more ≡ c.args.height = length-text_rows cols (shift_at c.args.row c.args.shift) 0 c.args.height (drop c.args.top (g.T.Text.text c.args.text.now)) in
     let each : All (IsRow cols) more = rows_are cols (shift_at c.args.row c.args.shift) 0 c.args.height (drop c.args.top (g.T.Text.text c.args.text.now)) some in

@@ -1,0 +1,29 @@
+ghost use Rattle.std.specs.Prelude.{◌≡◌};
+ghost use Rattle.mgs_model.specs.Sequences.{sequence_read};
+
+/// What bytes are that were typed one after another, of which the first is past ASCII.
+#[derive(Clone, Copy, Debug, PartialEq, Eq)]
+pub enum Sequence {
+    /// The UTF-8 of a character.
+    Whole(char),
+    /// Some first bytes of one.
+    Begun,
+    /// No character begins with them.
+    Broken,
+}
+
+/// What typed bytes are.
+pub fn read_sequence(bytes: &[u8]) -> Sequence
+    ensures { result ≡ sequence_read bytes.now }
+{
+    match str::from_utf8(bytes) {
+        Ok(text) => match text.chars().next() {
+            Some(c) => Sequence::Whole(c),
+            None => Sequence::Broken,
+        },
+        Err(fault) => match fault.error_len() {
+            Some(_) => Sequence::Broken,
+            None => Sequence::Begun,
+        },
+    }
+}
