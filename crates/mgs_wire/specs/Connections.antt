@@ -62,6 +62,13 @@ Receives does live tickets bytes (Serving id) old next new = (next ≡ Serving i
 Receives does live tickets bytes (Refused left) old next new = (next ≡ Refused left) × (new ≡ old)
 Receives does live tickets bytes (Over session) old next new = (next ≡ Over session) × (new ≡ old)
 
+-- its login line has not ended
+abbrev pub is_logging_in : Connection → Bool
+is_logging_in (Logging_in line) = true
+is_logging_in (Serving id) = false
+is_logging_in (Refused left) = false
+is_logging_in (Over session) = false
+
 -- whether anything is read of a connection: a login line, or keys of a session that is open
 abbrev pub is_reading : {E : Type 0} → (ℕ → E → Bool) → Connection → E → Bool
 is_reading live (Logging_in line) s = true

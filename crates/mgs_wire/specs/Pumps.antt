@@ -1,6 +1,10 @@
 -- PUMPS: what one read of a connection, and one writing to it, do.
-use Rattle.std.specs.Prelude.{◌≡◌, ℕ, ◌<◌, ◌≤◌, Bool, true, false, List, [], take, length, Option}
+use Rattle.std.specs.Prelude.{◌≡◌, ◌≢◌, ℕ, zero, suc, ◌<◌, ◌≤◌, Bool, true, false, List, [], take, length, Option, Result, Ok, Err}
 use Rattle.std.specs.Io.KnownBytes.{Appends, Consumes, IsAtEnd, Keeps}
+use Rattle.std.specs.IoError.{error_kind}
+use Rattle.std.specs.declared.io.Error.{Error}
+use Rattle.std.specs.declared.io.ErrorKind.{ErrorKind}
+use Rattle.std.specs.declared.io.ErrorKind.TheVariants.{WouldBlock}
 use Rattle.mgs_wire.specs.declared.limits.TheConstants.{READ_LIMIT}
 use Rattle.mgs_wire.specs.declared.pump.PumpedIn.{PumpedIn}
 use Rattle.mgs_wire.specs.declared.pump.PumpedIn.TheVariants.{Took, Idle, Finished, Failed}
@@ -8,6 +12,17 @@ use Rattle.mgs_wire.specs.declared.pump.PumpedOut.{PumpedOut}
 use Rattle.mgs_wire.specs.declared.pump.PumpedOut.TheVariants as out
 use Rattle.mgs_wire.specs.Calls.{Call}
 use Rattle.mgs_wire.specs.Connections.{Connection, is_reading, stopped, Receives, Ends, Breaks, Writes}
+
+-- what a read comes to by the error that it gave: where the reader would block nothing has changed, and any other error is a failure
+pub record HearsOf {E : Type 0} (does : E → Call → E → Type 0) (kind : ErrorKind) (answer : PumpedIn) (conn : Connection) (old : E) (next : Connection) (new : E) : Type 0 where
+  pub blocked : kind ≡ WouldBlock → (answer ≡ Idle) × (next ≡ conn) × (new ≡ old)
+  pub failed : kind ≢ WouldBlock → (answer ≡ Failed) × Breaks does conn old next new
+
+-- what one read of a connection comes to, by what the reader answered: no byte is its end, and n bytes are the first n of `buf`
+abbrev pub Hears : {E : Type 0} → (E → Call → E → Type 0) → (ℕ → E → Bool) → List (List ℕ × List ℕ) → Result ℕ Error → List ℕ → PumpedIn → Connection → E → Connection → E → Type 0
+Hears does live tickets (Ok zero) buf answer conn old next new = (answer ≡ Finished) × Ends does conn old next new
+Hears does live tickets (Ok (suc n)) buf answer conn old next new = (answer ≡ Took (suc n)) × Receives does live tickets (take (suc n) buf) conn old next new
+Hears does live tickets (Err e) buf answer conn old next new = HearsOf does (error_kind e) answer conn old next new
 
 -- one read of a connection that is read: what the reader has left goes from `left` to `rest`, the connection from `conn` to
 -- `next`, and the server from `old` to `new`
@@ -31,6 +46,11 @@ abbrev pub IsCount : PumpedOut → ℕ → ℕ → Type 0
 IsCount out.Drained n all = n ≡ all
 IsCount out.Blocked n all = n < all
 IsCount out.Failed n all = n < all
+
+-- how a writing ends by an error of the writer: it would block, or it failed
+pub record StopsBy (kind : ErrorKind) (outcome : PumpedOut) : Type 0 where
+  pub blocked : kind ≡ WouldBlock → outcome ≡ out.Blocked
+  pub failed : kind ≢ WouldBlock → outcome ≡ out.Failed
 
 -- what becomes of a connection of which n bytes were written; where writing failed it is over
 abbrev pub Leaves : {E : Type 0} → (E → Call → E → Type 0) → PumpedOut → ℕ → Connection → E → Connection → E → Type 0

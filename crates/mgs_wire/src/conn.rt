@@ -1,8 +1,8 @@
 // Connections.
-ghost use Rattle.std.specs.Prelude.{◌≡◌, ◌++◌, ◌≤◌, [], length, vec_capacity, IfOk};
+ghost use Rattle.std.specs.Prelude.{◌≡◌, ◌++◌, ◌≤◌, true, false, not, [], length, vec_capacity, IfOk};
 ghost use Rattle.mgs_wire.specs.Login.{admission};
 ghost use Rattle.mgs_wire.specs.Calls.{Typed};
-ghost use Rattle.mgs_wire.specs.Connections.{Connection, Logging_in, refused, Enters, ReadsLogin, Receives, is_reading, session_of, stopped, Ends, Breaks, waiting, Writes};
+ghost use Rattle.mgs_wire.specs.Connections.{Connection, Logging_in, refused, Enters, ReadsLogin, Receives, is_logging_in, is_reading, session_of, stopped, Ends, Breaks, waiting, Writes};
 ghost use Rattle.mgs_wire.specs.Stages.{connection, IsStage, LogsIn};
 ghost use Rattle.mgs_wire.specs.LinesRead.{IsLoginLine};
 
@@ -149,8 +149,18 @@ impl Conn {
         }
     }
 
+    /// Whether its login line has not ended yet.
+    pub fn is_logging_in(&self) -> bool
+        ensures { result ≡ is_logging_in self.now }
+    {
+        match self.stage {
+            Stage::Login => true,
+            Stage::Session(_) | Stage::Refused | Stage::Over(_) => false,
+        }
+    }
+
     // Whether anything is to be read.
-    pub(crate) fn is_reading<E: Sessions>(&self, engine: &E) -> bool
+    fn is_reading<E: Sessions>(&self, engine: &E) -> bool
         ensures { result ≡ is_reading E.live self.now engine.now }
     {
         match self.stage {
@@ -172,7 +182,7 @@ impl Conn {
     }
 
     // Nothing more is read, since the session is not open.
-    pub(crate) fn stop(&mut self)
+    fn stop(&mut self)
         ensures { self.new ≡ stopped self.old }
     {
         match self.stage {
@@ -180,6 +190,20 @@ impl Conn {
             Stage::Session(id) => self.stage = Stage::Over(Some(id)),
             Stage::Refused | Stage::Over(_) => {}
         }
+    }
+
+    /// Whether nothing more is read of it: its login was refused, or its session is not open. Of one whose session is not open
+    /// nothing is written from then on either.
+    pub fn is_finished<E: Sessions>(&mut self, engine: &E) -> bool
+        ensures answer { result ≡ not (is_reading E.live self.old engine.now) }
+        ensures reading { is_reading E.live self.old engine.now ≡ true → self.new ≡ self.old }
+        ensures stopped { is_reading E.live self.old engine.now ≡ false → self.new ≡ stopped self.old }
+    {
+        if self.is_reading(engine) {
+            return false;
+        }
+        self.stop();
+        true
     }
 
     // The reader is at its end.
@@ -196,8 +220,8 @@ impl Conn {
         }
     }
 
-    // Reading or writing failed.
-    pub(crate) fn break_off<E: Sessions>(&mut self, engine: &mut E)
+    /// Ends it as where reading or writing failed: its session is closed, and nothing more is read or written.
+    pub fn break_off<E: Sessions>(&mut self, engine: &mut E)
         ensures { Breaks E.does self.old engine.old self.new engine.new }
     {
         match self.stage {

@@ -1,14 +1,16 @@
 // Reads and writes connections.
 ghost use Rattle.std.specs.Prelude.{◌≡◌, ◌≤◌, ◌<◌, length, take, false};
+ghost use Rattle.std.specs.Io.{ReadsAtMost};
 ghost use Rattle.std.specs.Io.KnownBytes.{Appends};
+ghost use Rattle.std.specs.IoError.{error_kind};
 ghost use Rattle.mgs_wire.specs.Connections.{is_reading, waiting};
-ghost use Rattle.mgs_wire.specs.Pumps.{PumpsIn, Finishes, IsCount, WritesFirst};
+ghost use Rattle.mgs_wire.specs.Pumps.{PumpsIn, Finishes, Hears, IsCount, StopsBy, WritesFirst};
 
 use crate::conn::Conn;
 use crate::limits::READ_LIMIT;
 use crate::sessions::Sessions;
 use mgs_model::Tickets;
-use std::io::{ErrorKind, Read, Write};
+use std::io::{self, Error, ErrorKind, Read, Write};
 
 /// What a call of `pump_in` did.
 #[derive(Clone, Copy, Debug, PartialEq, Eq)]
@@ -34,6 +36,34 @@ pub enum PumpedOut {
     Failed,
 }
 
+// What one read of a connection came to: the bytes that it gave are handed on, and its end or a failure ends the connection.
+fn hear<E: Sessions>(
+    conn: &mut Conn,
+    engine: &mut E,
+    tickets: &Tickets,
+    read: io::Result<usize>,
+    buf: &[u8],
+) -> PumpedIn
+    requires { ReadsAtMost read buf.now }
+    ensures { Hears E.does E.live tickets.now read buf.now result conn.old engine.old conn.new engine.new }
+{
+    match read {
+        Ok(0) => {
+            conn.end(engine);
+            PumpedIn::Finished
+        }
+        Ok(n) => {
+            conn.receive(engine, tickets, &buf[..n]);
+            PumpedIn::Took(n)
+        }
+        Err(e) if e.kind() == ErrorKind::WouldBlock => PumpedIn::Idle,
+        Err(_) => {
+            conn.break_off(engine);
+            PumpedIn::Failed
+        }
+    }
+}
+
 /// Reads once from a connection, at most 4,096 bytes, and hands them on: a login line, then each byte to the session that it
 /// opened.
 ///
@@ -57,25 +87,22 @@ pub fn pump_in<E: Sessions, R: Read>(
     ensures finished { Finishes E.live result conn.old engine.old conn.new engine.new }
     ensures unread { is_reading E.live conn.old engine.old ≡ false → reader.new ≡ reader.old }
 {
-    if !conn.is_reading(engine) {
-        conn.stop();
+    if conn.is_finished(engine) {
         return PumpedIn::Finished;
     }
     let mut buf = [0u8; READ_LIMIT];
-    match reader.read(&mut buf) {
-        Ok(0) => {
-            conn.end(engine);
-            PumpedIn::Finished
-        }
-        Ok(n) => {
-            conn.receive(engine, tickets, &buf[..n]);
-            PumpedIn::Took(n)
-        }
-        Err(e) if e.kind() == ErrorKind::WouldBlock => PumpedIn::Idle,
-        Err(_) => {
-            conn.break_off(engine);
-            PumpedIn::Failed
-        }
+    let read = reader.read(&mut buf);
+    hear(conn, engine, tickets, read, &buf)
+}
+
+// How a writing ends by an error of the writer.
+fn stop_of(error: &Error) -> PumpedOut
+    ensures { StopsBy (error_kind error.now) result }
+{
+    if error.kind() == ErrorKind::WouldBlock {
+        PumpedOut::Blocked
+    } else {
+        PumpedOut::Failed
     }
 }
 
@@ -89,8 +116,7 @@ fn write_some<W: Write>(writer: &mut W, bytes: &[u8]) -> (usize, PumpedOut)
         match writer.write(&bytes[count..]) {
             Ok(0) => return (count, PumpedOut::Failed),
             Ok(n) => count += n,
-            Err(e) if e.kind() == ErrorKind::WouldBlock => return (count, PumpedOut::Blocked),
-            Err(_) => return (count, PumpedOut::Failed),
+            Err(e) => return (count, stop_of(&e)),
         }
     }
     (count, PumpedOut::Drained)
