@@ -7,6 +7,8 @@ mod characters;
 #[cfg(test)]
 mod config;
 #[cfg(test)]
+mod connections;
+#[cfg(test)]
 mod drive;
 #[cfg(test)]
 mod fixtures;

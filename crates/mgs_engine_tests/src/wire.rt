@@ -8,6 +8,8 @@ use std::test::Fail;
 
 const LOGIN: &[u8] = b"login ann t1 6 20\n";
 
+const REFUSED_LINE: &[u8] = b"refused 1 Line\n";
+
 // A server with one session, 7, which the byte 3 ends.
 #[derive(Drop)]
 struct Desk {
@@ -203,7 +205,7 @@ const NO_LOGINS: [&[u8]; 12] = [
 fn lines_that_are_no_login_are_refused(rt: HostRuntime) -> Result<(), Fail> {
     for &line in &NO_LOGINS {
         let written = answer(rt.alloc(), line, None, &rt)?;
-        assert!(rt; written.as_slice() == b"refused 1 Line\n".as_slice());
+        assert!(rt; written.as_slice() == REFUSED_LINE);
     }
     Ok(())
 }
@@ -258,6 +260,51 @@ fn bytes_after_a_login_are_keys(rt: HostRuntime) -> Result<(), Fail> {
     Ok(())
 }
 
+// Whether a login line and keys that come in two pieces, cut there, are a session and its keys.
+fn is_read_in_two(alloc: Global, cut: usize) -> Result<bool, Fail> {
+    let input = b"login ann t1 6 20\r\nh\ni".as_slice();
+    let (mut first, mut second) = input.split_at(cut);
+    let mut client = Client::new(alloc, None)?;
+    let took_first = client.read(&mut first);
+    let took_second = client.read(&mut second);
+    Ok(
+        took_first == PumpedIn::Took(cut)
+            && took_second == PumpedIn::Took(input.len() - cut)
+            && client.session() == Some(7)
+            && client.desk.typed.as_slice() == b"h\ni".as_slice(),
+    )
+}
+
+#[test]
+fn a_login_may_be_cut_at_every_byte(rt: HostRuntime) -> Result<(), Fail> {
+    for cut in 1..22 {
+        assert!(rt; is_read_in_two(rt.alloc(), cut)?);
+    }
+    Ok(())
+}
+
+#[test]
+fn an_end_at_every_byte_of_a_login_is_told(rt: HostRuntime) -> Result<(), Fail> {
+    for &end in &[0, 1, 2, 3, 4, 5, 6, 7, 8, 9, 10, 11, 12, 13, 14, 15, 16, 17] {
+        let (line, _) = LOGIN.split_at(end);
+        let written = answer(rt.alloc(), line, None, &rt)?;
+        assert!(rt; written.as_slice() == REFUSED_LINE);
+    }
+    Ok(())
+}
+
+#[test]
+fn bytes_behind_the_end_are_dropped(rt: HostRuntime) -> Result<(), Fail> {
+    let input = b"login ann t1 6 20\nh\x03ij";
+    let mut client = Client::new(rt.alloc(), None)?;
+    let mut reader = input.as_slice();
+    let took = client.read(&mut reader);
+    assert!(rt; took == PumpedIn::Took(input.len()) && client.session() == Some(7));
+    assert!(rt; client.desk.typed.as_slice() == b"h".as_slice());
+    assert!(rt; is_over(rt.alloc(), &mut client));
+    Ok(())
+}
+
 // A piece of a line is read in one turn, and then all that waits is written.
 fn hears(client: &mut Client, piece: &[u8], written: &mut Vec<u8>) -> bool {
     let mut reader = piece;
@@ -267,13 +314,24 @@ fn hears(client: &mut Client, piece: &[u8], written: &mut Vec<u8>) -> bool {
 }
 
 #[test]
-fn a_line_has_at_most_128_bytes(rt: HostRuntime) -> Result<(), Fail> {
+fn a_line_of_128_bytes_is_read_to_its_end(rt: HostRuntime) -> Result<(), Fail> {
+    let mut client = Client::new(rt.alloc(), None)?;
+    let mut written = Vec::new(rt.alloc());
+    assert!(rt; hears(&mut client, &[b'x'; 128], &mut written));
+    assert!(rt; written.is_empty());
+    assert!(rt; hears(&mut client, b"\n", &mut written));
+    assert!(rt; written.as_slice() == REFUSED_LINE);
+    Ok(())
+}
+
+#[test]
+fn a_129th_byte_is_refused_at_once(rt: HostRuntime) -> Result<(), Fail> {
     let mut client = Client::new(rt.alloc(), None)?;
     let mut written = Vec::new(rt.alloc());
     assert!(rt; hears(&mut client, &[b'x'; 128], &mut written));
     assert!(rt; written.is_empty());
     assert!(rt; hears(&mut client, b"xlogin ann t1 6 20\n", &mut written));
-    assert!(rt; written.as_slice() == b"refused 1 Line\n".as_slice());
+    assert!(rt; written.as_slice() == REFUSED_LINE);
     Ok(())
 }
 
@@ -292,8 +350,13 @@ fn is_over(alloc: Global, client: &mut Client) -> bool {
 
 #[test]
 fn readers_that_fail_end_the_connection(rt: HostRuntime) -> Result<(), Fail> {
-    for &(input, session) in &[(b"login ann".as_slice(), None), (LOGIN, Some(7))] {
-        let (mut client, answer) = heard(rt.alloc(), input, 100, ErrorKind::ConnectionReset)?;
+    for &(input, fault, session) in &[
+        (b"login ann".as_slice(), ErrorKind::ConnectionReset, None),
+        (b"login ann".as_slice(), ErrorKind::Interrupted, None),
+        (LOGIN, ErrorKind::ConnectionReset, Some(7)),
+        (LOGIN, ErrorKind::Interrupted, Some(7)),
+    ] {
+        let (mut client, answer) = heard(rt.alloc(), input, 100, fault)?;
         assert!(rt; answer == PumpedIn::Failed && client.session() == session);
         assert!(rt; is_over(rt.alloc(), &mut client));
     }
