@@ -201,6 +201,36 @@ def try_full(port):
     last.close()
 
 
+def try_silence():
+    """Those who do not log in keep nobody out for longer than a minute."""
+    server, port = start(OFFICE)
+    ann = Terminal(port, "ann apple").read_some()
+    begin = time.time()
+    late = [Terminal(port) for _ in range(63)]
+    for one in late[::2]:
+        one.send(b"login ann apple")
+    time.sleep(0.5)
+    got = answer(port, b"")
+    expect("63 silent connections and a session are 64", got == (b"refused 5 Full\n", True), got)
+    time.sleep(max(0, begin + 55 - time.time()))
+    for one in late:
+        one.read(quiet=0.01)
+    expect("they are there after 55 seconds", not any(one.ended for one in late))
+    time.sleep(max(0, begin + 65 - time.time()))
+    for one in late:
+        one.read(quiet=0.01)
+    expect("they are closed after 65 seconds, and told nothing", all(one.ended and not one.got for one in late), [one.got for one in late if one.got])
+    again = Terminal(port, "bob birch").read_some()
+    expect("another is let in then", b"\x1b[" in again.got, again.got)
+    ann.send(b"here ")
+    ann.read()
+    expect("a session that was silent as long goes on", ann.shows(1).startswith("here "), ann.shows(1))
+    for one in late + [ann, again]:
+        one.close()
+    server.kill()
+    server.wait()
+
+
 def try_words():
     usage = "usage: mgd replay | mgd serve CONFIG PORT\n"
     for words in [(), ("serve",), ("serve", OFFICE), ("serve", OFFICE, "65536"), ("serve", OFFICE, "+80"), ("serve", OFFICE, ""),
@@ -280,6 +310,7 @@ def main():
     try_configurations()
     try_file()
     try_slow()
+    try_silence()
     server, port = start(OFFICE)
     try:
         got = run("serve", OFFICE, str(port))

@@ -10,6 +10,7 @@ use mgs_store::Store;
 use std::net::Net;
 use std::process::ExitCode;
 use std::sync::Wait;
+use std::time::Clock;
 use std::{fs, mem, str};
 
 /// The program's status where it cannot listen, or not learn who is ready.
@@ -41,11 +42,14 @@ fn read_file<R: fs::Files + AllocGlobal>(rt: &R, path: &str) -> Result<Config, C
 }
 
 // Serves without end. It returns where the system does not tell who is ready.
-fn serve<R: Print + Eprint + Wait, S: Store + Drop>(rt: &R, mut server: Server<S>) -> ExitCode {
+fn serve<R: Clock + Print + Eprint + Wait, S: Store + Drop>(
+    rt: &R,
+    mut server: Server<S>,
+) -> ExitCode {
     let port = server.port();
     let _ = println!(rt; "listening 127.0.0.1:{port}");
     for _ in rt.forever() {
-        if let Err(fault) = server.turn() {
+        if let Err(fault) = server.turn(rt) {
             tell(rt, fault);
             return ExitCode::from(NO_SOCKETS);
         }
@@ -55,7 +59,7 @@ fn serve<R: Print + Eprint + Wait, S: Store + Drop>(rt: &R, mut server: Server<S
 
 /// Serves the configuration of a file on a port of the loopback address. It returns where that cannot be begun, or not gone on
 /// with, and tells why on standard error.
-pub fn run_serve<R: AllocGlobal + fs::Files + Net + Print + Eprint + Wait>(
+pub fn run_serve<R: AllocGlobal + fs::Files + Net + Clock + Print + Eprint + Wait>(
     rt: &R,
     path: &str,
     port: u16,

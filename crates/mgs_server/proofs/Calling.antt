@@ -1,5 +1,5 @@
 -- What connections do to a server is nothing but calls.
-use Rattle.std.proofs.Common.{◌≡◌, ℕ, Bool, true, false, nat_le, MatchBool, List, [], ◌∷◌, ◌++◌, length, Option, Some, None, Result, Ok, Err, refl, sym, ap, subst, ◌∙◌}
+use Rattle.std.proofs.Common.{◌≡◌, ℕ, Bool, true, false, nat_le, MatchBool, List, [], ◌∷◌, ◌++◌, length, Option, Some, None, Result, Ok, Err, refl, subst}
 use Rattle.mgs_model.specs.declared.errors.OpenFault.{OpenFault}
 use Rattle.mgs_model.specs.declared.errors.Keyed.{Keyed}
 use Rattle.mgs_wire.specs.declared.limits.TheConstants.{LOGIN_LIMIT}
@@ -12,7 +12,7 @@ use Rattle.mgs_wire.specs.declared.pump.PumpedOut.TheVariants as out
 use Rattle.mgs_wire.specs.Login.{Opening, line_in, after_line, admission}
 use Rattle.mgs_wire.specs.Calls.{Call, Open, Byte, Close, Typed}
 use Rattle.mgs_wire.specs.Calls as wire
-use Rattle.mgs_wire.specs.Connections.{Connection, Logging_in, Serving, Refused, Over, Answered, Enters, Continues, ReadsLogin, Receives, Ends, Breaks, Writes, is_reading, refused}
+use Rattle.mgs_wire.specs.Connections.{Connection, Logging_in, Serving, Refused, Over, Answered, Enters, Continues, Receives, Ends, Breaks, Writes, is_reading, refused}
 use Rattle.mgs_wire.specs.Pumps.{PumpsIn, Finishes, Reads, Leaves, WritesFirst}
 use Rattle.mgs_server.specs.Calls.{AreMade, Calls}
 
@@ -72,7 +72,7 @@ module _ {E : Type 0} (does : E → Call → E → Type 0) where
   calls_ends (Refused left) next old new p = none_made old new p.1
   calls_ends (Over session) next old new p = none_made old new p.1
 
-  calls_breaks : (conn next : Connection) (old new : E) → Breaks does conn old next new → Calls does old new
+  pub calls_breaks : (conn next : Connection) (old new : E) → Breaks does conn old next new → Calls does old new
   calls_breaks (Logging_in line) next old new p = none_made old new p.1
   calls_breaks (Serving id) next old new p = one_made old new (Close id) p.1
   calls_breaks (Refused left) next old new p = none_made old new p.1

@@ -1,20 +1,18 @@
 -- What is done with connections, one thing after another.
-use Rattle.std.proofs.Common.{◌≡◌, ◌≢◌, ℕ, zero, suc, map, Bool, true, false, List, [], ◌∷◌, ◌++◌, length, drop, Option, Some, None, refl, sym, ap, subst, ◌∙◌}
-use Rattle.std.specs.Prelude.{option_map, slice_index_or, Result, Ok, Err, IfOk, OnErr, IsSome, is_some}
-use Rattle.std.proofs.Math.Seq.{drop-length}
+use Rattle.std.proofs.Common.{◌≡◌, ℕ, zero, suc, map, Bool, true, false, List, [], ◌∷◌, ◌++◌, Option, Some, None, refl, sym, ap, subst, ◌∙◌}
+use Rattle.std.specs.Prelude.{option_map, slice_index_or, Result, Ok, Err, IfOk, OnErr, IsSome}
 use Rattle.slab.specs.Slab.{Slab, get, Updates, with_value}
 use Rattle.slab.proofs.SlabLemmas.{Updates-with_value}
 use Rattle.mgs_wire.specs.declared.pump.PumpedIn.{PumpedIn}
-use Rattle.mgs_wire.specs.declared.pump.PumpedIn.TheVariants.{Took, Idle, Finished, Failed}
 use Rattle.mgs_wire.specs.declared.pump.PumpedOut.{PumpedOut}
 use Rattle.mgs_wire.specs.declared.pump.PumpedOut.TheVariants as out
 use Rattle.mgs_wire.specs.Calls.{Call}
-use Rattle.mgs_wire.specs.Connections.{Connection, Logging_in, Serving, Refused, Over, waiting, is_reading, Ends, Breaks, Writes}
+use Rattle.mgs_wire.specs.Connections.{Connection, Logging_in, Serving, Refused, Over, waiting, is_logging_in, is_reading, stopped, Breaks, Writes}
 use Rattle.mgs_wire.specs.Pumps.{PumpsIn, Finishes, Leaves, WritesFirst}
 use Rattle.mgs_server.specs.declared.peer.Peer.{Peer}
 use Rattle.mgs_server.specs.Calls.{Calls}
-use Rattle.mgs_server.specs.Peers.{Desk, desk, peers_of, under, IsChanged, AreTaken, Taken, Step, Reads, Writes as Writing, Move, Comes, Serves, Goes, IsStep, AreSteps, Stepped, IsMove, AreMoves, Moved, IsOverAt, is_over, is_closing}
-use Rattle.mgs_server.proofs.Calling.{calls_pumped, calls_then, calls_written, none_made}
+use Rattle.mgs_server.specs.Peers.{Desk, desk, peers_of, under, IsChanged, AreTaken, Taken, Step, Reads, Writes as Writing, Stops, GivesUp, Expires, Move, Comes, Serves, Goes, IsStep, AreSteps, Stepped, IsMove, AreMoves, Moved, IsOverAt, is_closing}
+use Rattle.mgs_server.proofs.Calling.{calls_breaks, calls_pumped, calls_then, calls_written, none_made}
 
 -- SLABS
 
@@ -60,47 +58,32 @@ placed (Err e) old new p first free u same = none_taken (peers_of old) (peers_of
 
 -- WHEN ONE IS OVER
 
-closing_ends : {E : Type 0} (does : E → Call → E → Type 0) (live : ℕ → E → Bool) (conn next : Connection) (old new : E) → Ends does conn old next new → is_closing next ≡ true
-closing_ends does live (Logging_in line) next old new p = ap is_closing p.0
-closing_ends does live (Serving id) next old new p = ap is_closing p.0
-closing_ends does live (Refused left) next old new p = ap is_closing p.0
-closing_ends does live (Over session) next old new p = ap is_closing p.0
+closing_stopped : (conn : Connection) → is_closing (stopped conn) ≡ true
+closing_stopped (Logging_in line) = refl
+closing_stopped (Serving id) = refl
+closing_stopped (Refused left) = refl
+closing_stopped (Over session) = refl
 
-closing_stopped : {E : Type 0} (live : ℕ → E → Bool) (conn next : Connection) (old new : E) → is_reading live conn old ≡ false → Finishes live Finished conn old next new → is_closing next ≡ true
-closing_stopped live (Logging_in line) next old new e p = absurd cc
-closing_stopped live (Serving id) next old new e p = ap is_closing (p e).1
-closing_stopped live (Refused left) next old new e p = ap is_closing (p e).1
-closing_stopped live (Over session) next old new e p = ap is_closing (p e).1
+closing_written : {E : Type 0} (does : E → Call → E → Type 0) (n : ℕ) (conn next : Connection) (old new : E) → is_closing conn ≡ true → Writes does n conn old next new → is_closing next ≡ true
+closing_written does n (Logging_in line) next old new c p = absurd cc
+closing_written does n (Serving id) next old new c p = absurd cc
+closing_written does n (Refused left) next old new c p = ap is_closing p.0
+closing_written does n (Over session) next old new c p = ap is_closing p.0
 
-closing_by : {E : Type 0} (does : E → Call → E → Type 0) (live : ℕ → E → Bool) (tickets : List (List ℕ × List ℕ)) (left rest : Option (List ℕ)) (conn next : Connection) (old new : E) (v : Bool) → is_reading live conn old ≡ v
-    → PumpsIn does live tickets Finished left rest conn old next new → Finishes live Finished conn old next new → is_closing next ≡ true
-closing_by does live tickets left rest conn next old new true e p q = closing_ends does live conn next old new (p e).2
-closing_by does live tickets left rest conn next old new false e p q = closing_stopped live conn next old new e q
+closing_broken : {E : Type 0} (does : E → Call → E → Type 0) (conn next : Connection) (old new : E) → Breaks does conn old next new → is_closing next ≡ true
+closing_broken does (Logging_in line) next old new p = ap is_closing p.0
+closing_broken does (Serving id) next old new p = ap is_closing p.0
+closing_broken does (Refused left) next old new p = ap is_closing p.0
+closing_broken does (Over session) next old new p = ap is_closing p.0
 
-pub closing_read : {E : Type 0} (does : E → Call → E → Type 0) (live : ℕ → E → Bool) (tickets : List (List ℕ × List ℕ)) (answer : PumpedIn) (left rest : Option (List ℕ)) (conn next : Connection) (old new : E) → answer ≡ Finished
-    → PumpsIn does live tickets answer left rest conn old next new → Finishes live answer conn old next new → is_closing next ≡ true
-closing_read does live tickets answer left rest conn next old new is p q =
-    closing_by does live tickets left rest conn next old new (is_reading live conn old) refl
-    (subst (λ a. PumpsIn does live tickets a left rest conn old next new) is p) (subst (λ a. Finishes live a conn old next new) is q)
+closing_leaves : {E : Type 0} (does : E → Call → E → Type 0) (outcome : PumpedOut) (n : ℕ) (conn next : Connection) (old new : E) → is_closing conn ≡ true → Leaves does outcome n conn old next new → is_closing next ≡ true
+closing_leaves does out.Drained n conn next old new c p = closing_written does n conn next old new c p
+closing_leaves does out.Blocked n conn next old new c p = closing_written does n conn next old new c p
+closing_leaves does out.Failed n conn next old new c p = closing_broken does p.0 next p.1 new p.3
 
-over_broken : {E : Type 0} (does : E → Call → E → Type 0) (conn next : Connection) (old new : E) → Breaks does conn old next new → is_over next ≡ true
-over_broken does (Logging_in line) next old new p = ap is_over p.0
-over_broken does (Serving id) next old new p = ap is_over p.0
-over_broken does (Refused left) next old new p = ap is_over p.0
-over_broken does (Over session) next old new p = ap is_over p.0
-
-over_all : {E : Type 0} (does : E → Call → E → Type 0) (pending : ℕ → E → List ℕ) (n : ℕ) (conn next : Connection) (old new : E) → is_closing conn ≡ true → n ≡ length (waiting pending conn old) → Writes does n conn old next new → is_over next ≡ true
-over_all does pending n (Logging_in line) next old new c e p = absurd cc
-over_all does pending n (Serving id) next old new c e p = absurd cc
-over_all does pending n (Refused left) next old new c e p = ap is_over (p.0 ∙ ap Refused (ap (λ k. drop k left) e ∙ drop-length left))
-over_all does pending n (Over session) next old new c e p = ap is_over p.0
-
--- all was written to one of which nothing is read any more, or it could not be written
-pub over_drained : {E : Type 0} (does : E → Call → E → Type 0) (pending : ℕ → E → List ℕ) (held holds : Option (List ℕ)) (conn next : Connection) (old new : E) → is_closing conn ≡ true → WritesFirst does out.Drained (waiting pending conn old) held holds conn old next new → is_over next ≡ true
-over_drained does pending held holds conn next old new c p = over_all does pending p.count conn next old new c p.counted p.leaves
-
-pub over_failed : {E : Type 0} (does : E → Call → E → Type 0) (pending : ℕ → E → List ℕ) (held holds : Option (List ℕ)) (conn next : Connection) (old new : E) → WritesFirst does out.Failed (waiting pending conn old) held holds conn old next new → is_over next ≡ true
-over_failed does pending held holds conn next old new p = over_broken does p.leaves.0 next p.leaves.1 new p.leaves.3
+-- nothing more is read of one that was stopped, whatever is written to it
+pub closing_stays : {E : Type 0} (does : E → Call → E → Type 0) (outcome : PumpedOut) (bytes : List ℕ) (held holds : Option (List ℕ)) (conn mid next : Connection) (old new : E) → mid ≡ stopped conn → WritesFirst does outcome bytes held holds mid old next new → is_closing next ≡ true
+closing_stays does outcome bytes held holds conn mid next old new e p = closing_leaves does outcome p.count mid next old new (ap is_closing e ∙ closing_stopped conn) p.leaves
 
 module _ {E : Type 0} (does : E → Call → E → Type 0) (live : ℕ → E → Bool) (pending : ℕ → E → List ℕ) (tickets : List (List ℕ × List ℕ)) where
   -- ONE
@@ -114,8 +97,22 @@ module _ {E : Type 0} (does : E → Call → E → Type 0) (live : ℕ → E →
   pub read_stepped : (answer : PumpedIn) (left rest : Option (List ℕ)) (conn next : Connection) (old new : E) → PumpsIn does live tickets answer left rest conn old next new → Finishes live answer conn old next new → Steps conn old next new
   read_stepped answer left rest conn next old new p q = record { steps = Reads answer ∷ []; made = (next, new, (left, rest, p, q), (refl, refl)) }
 
-  pub written_stepped : (answer : PumpedOut) (held holds : Option (List ℕ)) (conn next : Connection) (old new : E) → WritesFirst does answer (waiting pending conn old) held holds conn old next new → Steps conn old next new
+  written_stepped : (answer : PumpedOut) (held holds : Option (List ℕ)) (conn next : Connection) (old new : E) → WritesFirst does answer (waiting pending conn old) held holds conn old next new → Steps conn old next new
   written_stepped answer held holds conn next old new p = record { steps = Writing answer ∷ []; made = (next, new, (held, holds, p), (refl, refl)) }
+
+  stopped_by : (conn mid : Connection) (old : E) (v : Bool) → is_reading live conn old ≡ v → (v ≡ true → mid ≡ conn) → (v ≡ false → mid ≡ stopped conn) → Steps conn old mid old
+  stopped_by conn mid old true e same stop = none_stepped conn mid old old (same refl) refl
+  stopped_by conn mid old false e same stop = record { steps = Stops ∷ []; made = (mid, old, (e, stop refl, refl), (refl, refl)) }
+
+  pub given_up_stepped : (conn next : Connection) (old new : E) → Breaks does conn old next new → Steps conn old next new
+  given_up_stepped conn next old new p = record { steps = GivesUp ∷ []; made = (next, new, p, (refl, refl)) }
+
+  -- a login line that has not ended is given up
+  pub expired_stepped : (conn next : Connection) (old new : E) → is_logging_in conn ≡ true → Breaks does conn old next new → Steps conn old next new
+  expired_stepped (Logging_in line) next old new e p = record { steps = Expires ∷ []; made = (next, new, (refl, p.0, p.1), (refl, refl)) }
+  expired_stepped (Serving id) next old new e p = absurd cc
+  expired_stepped (Refused left) next old new e p = absurd cc
+  expired_stepped (Over session) next old new e p = absurd cc
 
   steps_next : (conn between next : Connection) (old mid new : E) (xs ys : List Step) → AreSteps does live pending tickets conn old xs between mid → AreSteps does live pending tickets between mid ys next new → AreSteps does live pending tickets conn old (xs ++ ys) next new
   steps_next conn between next old mid new [] ys p q =
@@ -124,6 +121,12 @@ module _ {E : Type 0} (does : E → Call → E → Type 0) (live : ℕ → E →
 
   pub stepped_then : (conn between next : Connection) (old mid new : E) → Steps conn old between mid → Steps between mid next new → Steps conn old next new
   stepped_then conn between next old mid new p q = record { steps = p.steps ++ q.steps; made = steps_next conn between next old mid new p.steps q.steps p.made q.made }
+
+  -- one whose session is not open is stopped, and then what waits is written
+  pub write_stepped : (answer : PumpedOut) (held holds : Option (List ℕ)) (conn mid next : Connection) (old new : E) → (is_reading live conn old ≡ true → mid ≡ conn) → (is_reading live conn old ≡ false → mid ≡ stopped conn)
+      → WritesFirst does answer (waiting pending mid old) held holds mid old next new → Steps conn old next new
+  write_stepped answer held holds conn mid next old new same stop p =
+      stepped_then conn mid next old old new (stopped_by conn mid old (is_reading live conn old) refl same stop) (written_stepped answer held holds mid next old new p)
 
   -- ALL
 
@@ -165,6 +168,9 @@ module _ {E : Type 0} (does : E → Call → E → Type 0) (live : ℕ → E →
   calls_step : (step : Step) (conn next : Connection) (old new : E) → IsStep does live pending tickets conn old step next new → Calls does old new
   calls_step (Reads answer) conn next old new p = calls_pumped does live tickets answer p.0 p.1 conn next old new p.2 p.3
   calls_step (Writing answer) conn next old new p = calls_written does answer (waiting pending conn old) p.0 p.1 conn next old new p.2
+  calls_step Stops conn next old new p = none_made does old new p.2
+  calls_step GivesUp conn next old new p = calls_breaks does conn next old new p
+  calls_step Expires conn next old new p = none_made does old new p.2
 
   calls_steps : (steps : List Step) (conn next : Connection) (old new : E) → AreSteps does live pending tickets conn old steps next new → Calls does old new
   calls_steps [] conn next old new p = none_made does old new p.1

@@ -22,7 +22,7 @@ use Rattle.mgs_server.specs.Calls.{AreMade, Calls}
 use Rattle.mgs_server.specs.Listening.{Listening}
 use Rattle.mgs_server.specs.Peers.{Moved, desk, peers_of, slots_of, under}
 use Rattle.mgs_server.specs.Turns.{Ran, Turns, answer_of, asked_by, live_in}
-use Rattle.mgs_server.proofs.Moving.{moved_calls}
+use Rattle.mgs_server.proofs.Moving.{moved_calls, moved_then}
 
 -- RUNS
 
@@ -120,12 +120,15 @@ turned old new served moved told tickets port =
       port = port;
     }
 
--- the same of a slab of connections, and of the view of a server
-pub turned_in : {S : Type 0} (serving served told : Serving) (peers before now : Slab (Peer S)) (tickets : List (List ℕ × List ℕ)) (port : ℕ) (old : Listening) → before ≡ peers → Moved Does live_in pending_of tickets (desk serving (peers_of before)) (desk served (peers_of now))
+-- the same of a slab of connections, and of the view of a server: those that are ready were served, and those that came too late closed
+pub turned_in : {S : Type 0} (serving between served told : Serving) (peers before mid now : Slab (Peer S)) (tickets : List (List ℕ × List ℕ)) (port : ℕ) (old : Listening) → before ≡ peers
+    → Moved Does live_in pending_of tickets (desk serving (peers_of before)) (desk between (peers_of mid)) → Moved Does live_in pending_of tickets (desk between (peers_of mid)) (desk served (peers_of now))
     → told ≡ record served { ended = [] } → record { serving = serving; peers = slots_of peers; tickets = tickets; port = port } ≡ old → Turns old (record { serving = told; peers = slots_of now; tickets = tickets; port = port })
-turned_in {S} serving served told peers before now tickets port old waited moved heard seen =
+turned_in {S} serving between served told peers before mid now tickets port old waited ready late heard seen =
     let first : Listening = record { serving = serving; peers = slots_of peers; tickets = tickets; port = port } in
     let last : Listening = record { serving = told; peers = slots_of now; tickets = tickets; port = port } in
+    let moved : Moved Does live_in pending_of tickets (desk serving (peers_of before)) (desk served (peers_of now)) =
+    moved_then Does live_in pending_of tickets (desk serving (peers_of before)) (desk between (peers_of mid)) (desk served (peers_of now)) ready late in
     subst (λ (l : Listening). Turns l last) seen
     (turned first last served (subst (λ (slab : Slab (Peer S)). Moved Does live_in pending_of tickets (desk serving (peers_of slab)) (desk served (peers_of now))) waited moved) heard refl refl)
 

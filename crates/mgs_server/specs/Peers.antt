@@ -4,7 +4,7 @@ use Rattle.slab.specs.Slab.{Slab}
 use Rattle.mgs_wire.specs.declared.pump.PumpedIn.{PumpedIn}
 use Rattle.mgs_wire.specs.declared.pump.PumpedOut.{PumpedOut}
 use Rattle.mgs_wire.specs.Calls.{Call}
-use Rattle.mgs_wire.specs.Connections.{Connection, Logging_in, Serving, Refused, Over, waiting}
+use Rattle.mgs_wire.specs.Connections.{Connection, Logging_in, Serving, Refused, Over, Breaks, is_logging_in, is_over, is_reading, stopped, waiting}
 use Rattle.mgs_wire.specs.Pumps.{PumpsIn, Finishes, WritesFirst}
 use Rattle.mgs_server.specs.declared.peer.Peer.{Peer}
 
@@ -30,14 +30,6 @@ peers_of slab = under (slots_of slab)
 pub record IsChanged (key : ℕ) (slot : Option Connection) (old new : ℕ → Option Connection) : Type 0 where
   pub changed : new key ≡ slot
   pub others : (other : ℕ) → other ≢ key → new other ≡ old other
-
--- nothing is read of a connection any more, and nothing waits for it: its refusal was written, or its session is over
-abbrev pub is_over : Connection → Bool
-is_over (Logging_in line) = false
-is_over (Serving id) = false
-is_over (Refused []) = true
-is_over (Refused (byte ∷ left)) = false
-is_over (Over session) = true
 
 -- the connection under a key is over
 pub record IsOverAt (key : ℕ) (peers : ℕ → Option Connection) : Type 0 where
@@ -67,6 +59,12 @@ pub data Step : Type 0 where
   Reads : (answer : PumpedIn) → Step
   -- what waits for it is written, as far as its stream takes that
   Writes : (answer : PumpedOut) → Step
+  -- its session is not open, so that nothing more is read or written
+  Stops : Step
+  -- it is given up, as where reading fails
+  GivesUp : Step
+  -- its login line has not ended in time
+  Expires : Step
 
 -- WHAT IS DONE WITH ALL
 pub data Move : Type 0 where
@@ -78,10 +76,13 @@ pub data Move : Type 0 where
   Goes : (key : ℕ) → Move
 
 module _ {E : Type 0} (does : E → Call → E → Type 0) (live : ℕ → E → Bool) (pending : ℕ → E → List ℕ) (tickets : List (List ℕ × List ℕ)) where
-  -- from whatever its stream has, and to whatever its stream holds
+  -- what is read is from whatever its stream has, and what is written to whatever its stream holds
   abbrev pub IsStep : Connection → E → Step → Connection → E → Type 0
   IsStep conn old (Reads answer) next new = (left rest : Option (List ℕ)) × PumpsIn does live tickets answer left rest conn old next new × Finishes live answer conn old next new
   IsStep conn old (Writes answer) next new = (held holds : Option (List ℕ)) × WritesFirst does answer (waiting pending conn old) held holds conn old next new
+  IsStep conn old Stops next new = (is_reading live conn old ≡ false) × (next ≡ stopped conn) × (new ≡ old)
+  IsStep conn old GivesUp next new = Breaks does conn old next new
+  IsStep conn old Expires next new = (is_logging_in conn ≡ true) × (next ≡ Over None) × (new ≡ old)
 
   abbrev pub AreSteps : Connection → E → List Step → Connection → E → Type 0
   AreSteps conn old [] next new = (next ≡ conn) × (new ≡ old)

@@ -9,7 +9,6 @@ mod peer;
 mod server;
 mod sips;
 mod sockets;
-mod stand_in;
 
 pub use fault::{ListenFault, PollFailed};
 pub use server::Server;

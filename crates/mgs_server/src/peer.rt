@@ -1,24 +1,29 @@
 // Connections with their streams.
-ghost use Rattle.std.specs.Prelude.{◌≡◌, [], true, IfOk};
-ghost use Rattle.mgs_wire.specs.Connections.{Logging_in};
+ghost use Rattle.std.specs.Prelude.{◌≡◌, ℕ, [], true, false, List, IfOk};
+ghost use Rattle.mgs_wire.specs.Connections.{Breaks, Logging_in, is_over, is_reading};
 ghost use Rattle.mgs_wire.specs.Pumps.{PumpsIn, Finishes};
-ghost use Rattle.mgs_server.specs.Peers.{Stepped, is_closing, is_over};
+ghost use Rattle.mgs_server.specs.Peers.{Stepped, is_closing};
 
 use crate::accept::both_ways;
 use crate::sips::Sips;
-use crate::stand_in::StandIn;
 use mgs_model::{Short, Tickets};
-use mgs_wire::{Conn, PumpedIn, PumpedOut, Sessions, pump_in, pump_out};
+use mgs_wire::{Conn, PumpedIn, Sessions, pump_in, pump_out};
 use mio::event::Source;
 use mio::{Registry, Token};
 use std::alloc::Global;
-use std::io::{ErrorKind, Read, Write};
+use std::io::{Read, Write};
+use std::time::{Duration, Instant};
+
+// The seconds in which a connection's login line has to end.
+const LOGIN_SECS: u64 = 60;
 
 /// A connection and its stream.
 #[derive(Drop)]
 pub(crate) struct Peer<S: Drop> {
     conn: Conn,
     stream: Sips<S>,
+    // When it came. None: no clock has been read since.
+    came: Option<Instant>,
 }
 
 impl<S: Read + Write + Drop> Peer<S> {
@@ -28,7 +33,11 @@ impl<S: Read + Write + Drop> Peer<S> {
     {
         let conn = Conn::new(alloc)?;
         let stream = Sips::new(stream);
-        Ok(Peer { conn, stream })
+        Ok(Peer {
+            conn,
+            stream,
+            came: None,
+        })
     }
 
     /// Reads its stream once, at most `BYTES_AT_ONCE` bytes, and hands them on, as `pump_in` does.
@@ -40,39 +49,53 @@ impl<S: Read + Write + Drop> Peer<S> {
         pump_in(&mut self.conn, engine, tickets, &mut self.stream)
     }
 
-    /// Gives the connection up, as if reading had failed: its session is closed, and nothing more is read or written.
-    pub(crate) fn give_up<E: Sessions>(&mut self, engine: &mut E, tickets: &Tickets)
-        ensures { Stepped E.does E.live E.pending tickets.now self.old.conn engine.old self.new.conn engine.new }
+    /// Writes what waits for its stream, as far as that takes it. True: the connection is over, and its stream can be closed. That is
+    /// so where its session is not open, where the line of its refusal was written, and where writing failed.
+    pub(crate) fn write<E: Sessions>(&mut self, engine: &mut E) -> bool
+        ensures steps { (tickets : List (List ℕ × List ℕ)) → Stepped E.does E.live E.pending tickets self.old.conn engine.old self.new.conn engine.new }
+        ensures over { result ≡ is_over self.new.conn }
+        ensures closing { is_reading E.live self.old.conn engine.old ≡ false → is_closing self.new.conn ≡ true }
     {
-        let mut broken = StandIn {
-            error: ErrorKind::ConnectionReset,
-        };
-        let _ = pump_in(&mut self.conn, engine, tickets, &mut broken);
+        let _ = self.conn.is_finished(engine);
+        let _ = pump_out(&mut self.conn, engine, &mut self.stream);
+        self.conn.is_over()
+    }
+}
+
+impl<S: Drop> Peer<S> {
+    /// Gives the connection up, as where reading fails: its session is closed, and nothing more is read or written.
+    pub(crate) fn give_up<E: Sessions>(&mut self, engine: &mut E)
+        ensures { Breaks E.does self.old.conn engine.old self.new.conn engine.new }
+    {
+        self.conn.break_off(engine);
     }
 
-    // Whether nothing more is read: its login was refused, or its session is over.
-    fn is_finished<E: Sessions>(&mut self, engine: &mut E, tickets: &Tickets) -> bool
-        ensures steps { Stepped E.does E.live E.pending tickets.now self.old.conn engine.old self.new.conn engine.new }
-        ensures closing { result ≡ true → is_closing self.new.conn ≡ true }
+    // When it came, which is now where no clock has been read since.
+    fn came(&mut self, now: Instant) -> Instant
+        ensures { self.new.conn ≡ self.old.conn }
     {
-        let mut silent = StandIn {
-            error: ErrorKind::WouldBlock,
-        };
-        pump_in(&mut self.conn, engine, tickets, &mut silent) == PumpedIn::Finished
+        match self.came {
+            Some(came) => came,
+            None => {
+                self.came = Some(now);
+                now
+            }
+        }
     }
 
-    /// Writes what waits for its stream, as far as that takes it. True: the connection is done with, and its stream can be
-    /// closed. That is so where nothing more is read and nothing waits any more, and where writing failed.
-    pub(crate) fn write<E: Sessions>(&mut self, engine: &mut E, tickets: &Tickets) -> bool
-        ensures steps { Stepped E.does E.live E.pending tickets.now self.old.conn engine.old self.new.conn engine.new }
+    /// Gives the connection up where its login line has not ended, and it came 60 seconds ago or earlier. True: that is so, and
+    /// it is over.
+    pub(crate) fn expire<E: Sessions>(&mut self, engine: &mut E, now: Instant) -> bool
+        ensures steps { (tickets : List (List ℕ × List ℕ)) → Stepped E.does E.live E.pending tickets self.old.conn engine.old self.new.conn engine.new }
         ensures over { result ≡ true → is_over self.new.conn ≡ true }
     {
-        let is_finished = self.is_finished(engine, tickets);
-        match pump_out(&mut self.conn, engine, &mut self.stream) {
-            PumpedOut::Drained => is_finished,
-            PumpedOut::Blocked => false,
-            PumpedOut::Failed => true,
+        let came = self.came(now);
+        let is_late = now.duration_since(came) >= Duration::from_secs(LOGIN_SECS);
+        if is_late && self.conn.is_logging_in() {
+            self.give_up(engine);
+            return true;
         }
+        false
     }
 }
 

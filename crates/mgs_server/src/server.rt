@@ -1,5 +1,5 @@
 // The server.
-ghost use Rattle.std.specs.Prelude.{◌≡◌, [], IfOk, OnOk, OnErr};
+ghost use Rattle.std.specs.Prelude.{◌≡◌, ◌≢◌, [], IfOk, OnOk, OnErr};
 ghost use Rattle.mgs_buffers.specs.MarkedBuffer.{AreUnmarked};
 ghost use Rattle.mgs_store.specs.Stores.{store_told};
 ghost use Rattle.mgs_server.specs.Listening.{at_first, first_world};
@@ -18,6 +18,7 @@ use mgs_store::Store;
 use std::alloc::Global;
 use std::marker::Model;
 use std::net::Net;
+use std::time::{Clock, Instant};
 
 /// A server of terminals: its world with the store where buffers are saved, and its connections on the loopback address.
 #[derive(Drop)]
@@ -77,6 +78,7 @@ impl<S: Store + Drop> Server<S> {
         ensures serving { IfOk result (λ s. s.serving ≡ at_first (first_world config.directory config.buffers) (store_told S.failed S.accepted store)) }
         ensures tickets { IfOk result (λ s. s.tickets ≡ config.tickets) }
         ensures peers { IfOk result (λ s. s.peers ≡ []) }
+        ensures port { IfOk result (λ s. port ≢ 0 → s.port ≡ port) }
     {
         let (sockets, port) = Sockets::listen(net, alloc, port)?;
         match engine_of(alloc, config.directory, config.buffers, store) {
@@ -99,16 +101,18 @@ impl<S: Store + Drop> Server<S> {
 
     /// Waits at most 50 ms until something is ready, and does it: takes the connections that wait, reads each ready one once,
     /// and writes what waits for each as far as it is taken. A connection past the 64th is answered `refused 5 Full` and closed;
-    /// one whose login was refused is closed when that was written, and one whose session is over at once. It then hears of
-    /// the sessions that ended.
+    /// one whose login was refused is closed when that was written, and one whose session is over at once. One whose login line has
+    /// not ended 60 seconds after it came, by the clock, is closed as well. It then hears of the sessions that ended.
     ///
-    /// `PollFailed`: the wait failed, and nothing was done.
-    pub fn turn(&mut self) -> Result<(), PollFailed>
+    /// A clock that cannot be read closes nobody. `PollFailed`: the wait failed, and nothing was done.
+    pub fn turn<C: Clock>(&mut self, clock: &C) -> Result<(), PollFailed>
         ensures ok { OnOk result (Turns self.old self.new) }
         ensures err { OnErr result (self.new ≡ self.old) }
     {
         self.sockets.wait()?;
         self.sockets.serve(&mut self.engine, &self.tickets);
+        let now = Instant::now(clock).ok();
+        self.sockets.expire(&mut self.engine, now);
         hear_ended(&mut self.engine);
         Ok(())
     }

@@ -1,5 +1,5 @@
 // The sockets of a server.
-ghost use Rattle.std.specs.Prelude.{◌≡◌, [], true, IfOk};
+ghost use Rattle.std.specs.Prelude.{◌≡◌, ◌≢◌, ℕ, [], true, List, IfOk};
 ghost use Rattle.mgs_server.specs.Peers.{IsOverAt, Moved, Stepped, desk, peers_of, slots_of};
 
 use crate::accept::accept_all;
@@ -13,7 +13,7 @@ use slab::Slab;
 use std::alloc::Global;
 use std::io::{self, ErrorKind};
 use std::net::{Ipv4Addr, Net, SocketAddr};
-use std::time::Duration;
+use std::time::{Duration, Instant};
 
 // The longest wait of one turn.
 const WAIT_MILLIS: u64 = 50;
@@ -41,10 +41,22 @@ fn listen_fault(error: io::Error) -> ListenFault {
     }
 }
 
+// The port of a listener for which this one was asked. The system chose it where that is 0.
+fn port_of(listener: &TcpListener, port: u16) -> io::Result<u16>
+    ensures { IfOk result (λ p. port ≢ 0 → p ≡ port) }
+{
+    if port != 0 {
+        return Ok(port);
+    }
+    Ok(listener.local_addr()?.port())
+}
+
 // A listener on the loopback address, and its port.
-fn bind(net: &impl Net, port: u16) -> io::Result<(TcpListener, u16)> {
+fn bind(net: &impl Net, port: u16) -> io::Result<(TcpListener, u16)>
+    ensures { IfOk result (λ b. port ≢ 0 → b.1 ≡ port) }
+{
     let listener = TcpListener::bind(net, SocketAddr::from((Ipv4Addr::LOCALHOST, port)))?;
-    let port = listener.local_addr()?.port();
+    let port = port_of(&listener, port)?;
     Ok((listener, port))
 }
 
@@ -69,7 +81,7 @@ fn read_peer<E: Sessions>(
     match peer.read(engine, tickets) {
         PumpedIn::Took(_) => {
             if !peer.report_again(registry, token) {
-                peer.give_up(engine, tickets);
+                peer.give_up(engine);
             }
         }
         PumpedIn::Idle | PumpedIn::Finished | PumpedIn::Failed => {}
@@ -77,41 +89,31 @@ fn read_peer<E: Sessions>(
 }
 
 // Whether a connection is there that is done with, once what waits for its stream was written.
-fn is_done<E: Sessions>(
-    engine: &mut E,
-    tickets: &Tickets,
-    peers: &mut Slab<Peer<TcpStream>>,
-    key: usize,
-) -> bool
-    ensures moved { Moved E.does E.live E.pending tickets.now (desk engine.old (peers_of peers.old)) (desk engine.new (peers_of peers.new)) }
+fn is_done<E: Sessions>(engine: &mut E, peers: &mut Slab<Peer<TcpStream>>, key: usize) -> bool
+    ensures moved { (tickets : List (List ℕ × List ℕ)) → Moved E.does E.live E.pending tickets (desk engine.old (peers_of peers.old)) (desk engine.new (peers_of peers.new)) }
     ensures over { result ≡ true → IsOverAt key (peers_of peers.new) }
 {
     match peers.get_mut(key) {
-        Some(peer) => peer.write(engine, tickets),
+        Some(peer) => peer.write(engine),
         None => false,
     }
 }
 
 // Writes what waits for a connection, and closes it where it is done with.
-fn write_one<E: Sessions>(
-    engine: &mut E,
-    tickets: &Tickets,
-    peers: &mut Slab<Peer<TcpStream>>,
-    key: usize,
-)
-    ensures { Moved E.does E.live E.pending tickets.now (desk engine.old (peers_of peers.old)) (desk engine.new (peers_of peers.new)) }
+fn write_one<E: Sessions>(engine: &mut E, peers: &mut Slab<Peer<TcpStream>>, key: usize)
+    ensures { (tickets : List (List ℕ × List ℕ)) → Moved E.does E.live E.pending tickets (desk engine.old (peers_of peers.old)) (desk engine.new (peers_of peers.new)) }
 {
-    if is_done(engine, tickets, peers, key) {
+    if is_done(engine, peers, key) {
         let _ = peers.try_remove(key);
     }
 }
 
 // Writes what waits for each connection, and closes those that are done with.
-fn write_all<E: Sessions>(engine: &mut E, tickets: &Tickets, peers: &mut Slab<Peer<TcpStream>>)
-    ensures { Moved E.does E.live E.pending tickets.now (desk engine.old (peers_of peers.old)) (desk engine.new (peers_of peers.new)) }
+fn write_all<E: Sessions>(engine: &mut E, peers: &mut Slab<Peer<TcpStream>>)
+    ensures { (tickets : List (List ℕ × List ℕ)) → Moved E.does E.live E.pending tickets (desk engine.old (peers_of peers.old)) (desk engine.new (peers_of peers.new)) }
 {
     for key in 0..peers.capacity() {
-        write_one(engine, tickets, peers, key);
+        write_one(engine, peers, key);
     }
 }
 
@@ -141,7 +143,7 @@ fn serve_one<E: Sessions>(
     ensures { Moved E.does E.live E.pending tickets.now (desk engine.old (peers_of peers.old)) (desk engine.new (peers_of peers.new)) }
 {
     read_one(registry, engine, tickets, peers, token);
-    write_all(engine, tickets, peers);
+    write_all(engine, peers);
 }
 
 // Serves each connection that is ready.
@@ -159,6 +161,45 @@ fn serve_ready<E: Sessions>(
     }
 }
 
+// Whether a connection is there whose login line has not ended in time. It is over then.
+fn is_expired<E: Sessions>(
+    engine: &mut E,
+    peers: &mut Slab<Peer<TcpStream>>,
+    key: usize,
+    now: Instant,
+) -> bool
+    ensures moved { (tickets : List (List ℕ × List ℕ)) → Moved E.does E.live E.pending tickets (desk engine.old (peers_of peers.old)) (desk engine.new (peers_of peers.new)) }
+    ensures over { result ≡ true → IsOverAt key (peers_of peers.new) }
+{
+    match peers.get_mut(key) {
+        Some(peer) => peer.expire(engine, now),
+        None => false,
+    }
+}
+
+// Closes a connection whose login line has not ended in time.
+fn expire_one<E: Sessions>(
+    engine: &mut E,
+    peers: &mut Slab<Peer<TcpStream>>,
+    key: usize,
+    now: Instant,
+)
+    ensures { (tickets : List (List ℕ × List ℕ)) → Moved E.does E.live E.pending tickets (desk engine.old (peers_of peers.old)) (desk engine.new (peers_of peers.new)) }
+{
+    if is_expired(engine, peers, key, now) {
+        let _ = peers.try_remove(key);
+    }
+}
+
+// Closes each connection whose login line has not ended in time.
+fn expire_all<E: Sessions>(engine: &mut E, peers: &mut Slab<Peer<TcpStream>>, now: Instant)
+    ensures { (tickets : List (List ℕ × List ℕ)) → Moved E.does E.live E.pending tickets (desk engine.old (peers_of peers.old)) (desk engine.new (peers_of peers.new)) }
+{
+    for key in 0..peers.capacity() {
+        expire_one(engine, peers, key, now);
+    }
+}
+
 impl Sockets {
     /// Listens on a port of the loopback address, on one that the system chooses where it is 0: that port beside the sockets. `Port`:
     /// it cannot be had. `Short`: memory was refused.
@@ -167,7 +208,8 @@ impl Sockets {
         alloc: Global,
         port: u16,
     ) -> Result<(Sockets, u16), ListenFault>
-        ensures { IfOk result (λ s. slots_of s.0.peers ≡ []) }
+        ensures peers { IfOk result (λ s. slots_of s.0.peers ≡ []) }
+        ensures port { IfOk result (λ s. port ≢ 0 → s.1 ≡ port) }
     {
         let (mut listener, port) = bind(net, port).map_err(listen_fault)?;
         let poll = watch(net, &mut listener).map_err(listen_fault)?;
@@ -205,5 +247,15 @@ impl Sockets {
         let registry = self.poll.registry();
         accept_all(self.alloc, registry, &self.listener, &mut self.peers);
         serve_ready(registry, engine, tickets, &mut self.peers, &self.events);
+    }
+
+    /// Closes each connection whose login line has not ended 60 seconds after it came, if the clock was read.
+    pub(crate) fn expire<E: Sessions>(&mut self, engine: &mut E, now: Option<Instant>)
+        ensures { (tickets : List (List ℕ × List ℕ)) → Moved E.does E.live E.pending tickets (desk engine.old (peers_of self.old.peers)) (desk engine.new (peers_of self.new.peers)) }
+    {
+        match now {
+            Some(now) => expire_all(engine, &mut self.peers, now),
+            None => {}
+        }
     }
 }

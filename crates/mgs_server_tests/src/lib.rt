@@ -11,6 +11,8 @@ mod cases;
 #[cfg(test)]
 mod characters;
 #[cfg(test)]
+mod connections;
+#[cfg(test)]
 mod extended;
 #[cfg(test)]
 mod fills;

@@ -11,8 +11,10 @@ use mgs_policy::Directory;
 use mgs_server::Server;
 use mgs_store::RefusingStore;
 use std::alloc::Global;
+use std::io;
 use std::process::Abort;
 use std::test::Fail;
+use std::time::{Clock, Duration};
 
 /// A server whose buffers have no files.
 pub(crate) type Office = Server<RefusingStore>;
@@ -73,15 +75,41 @@ fn office_config(alloc: Global, list: List) -> Result<Config, Fail>
     Ok(config)
 }
 
-/// A server of the notes with this list, on a port that the system chose.
-pub(crate) fn open_office(rt: &HostRuntime, list: List) -> Result<Office, Fail> {
+/// A server of the notes with this list, on this port; 0 is one that the system chooses.
+pub(crate) fn open_office_at(rt: &HostRuntime, port: u16, list: List) -> Result<Office, Fail> {
     let config = office_config(rt.alloc(), list)?;
-    let office = Server::listen(rt, rt.alloc(), 0, config, RefusingStore::new())?;
+    let office = Server::listen(rt, rt.alloc(), port, config, RefusingStore::new())?;
     Ok(office)
 }
 
-/// One turn of the server.
-pub(crate) fn turn(office: &mut Office) -> Result<(), Fail> {
-    office.turn()?;
+/// A server of the notes with this list, on a port that the system chose.
+pub(crate) fn open_office(rt: &HostRuntime, list: List) -> Result<Office, Fail> {
+    open_office_at(rt, 0, list)
+}
+
+// A clock that stands still, so many milliseconds after its start.
+#[derive(Clone, Copy)]
+struct StoppedClock {
+    millis: u64,
+}
+
+impl Clock for StoppedClock {
+    fn monotonic(&self) -> io::Result<Duration> {
+        Ok(Duration::from_millis(self.millis))
+    }
+
+    fn since_1970(&self) -> io::Result<Duration> {
+        Ok(Duration::from_millis(self.millis))
+    }
+}
+
+/// One turn of the server, so many milliseconds after the clock's start.
+pub(crate) fn turn_at(office: &mut Office, millis: u64) -> Result<(), Fail> {
+    office.turn(&StoppedClock { millis })?;
     Ok(())
+}
+
+/// One turn of the server, at the clock's start.
+pub(crate) fn turn(office: &mut Office) -> Result<(), Fail> {
+    turn_at(office, 0)
 }

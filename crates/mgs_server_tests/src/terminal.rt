@@ -7,6 +7,9 @@ use std::test::Fail;
 // The most turns that a terminal waits for its connection's end.
 const TURNS: usize = 200;
 
+// What each sequence of a terminal begins with, and so each paint.
+const ESCAPE: u8 = 0x1B;
+
 /// The end of a connection that never waits.
 #[derive(Drop)]
 pub(crate) struct Terminal {
@@ -56,6 +59,23 @@ pub(crate) fn take(terminal: &mut Terminal) -> Result<(), Fail> {
         None => terminal.is_ended = true,
     }
     Ok(())
+}
+
+/// Sends more bytes in one write.
+pub(crate) fn press(terminal: &mut Terminal, bytes: &[u8]) -> Result<(), Fail> {
+    send(&mut terminal.stream, bytes)
+}
+
+/// Whether the server paints the terminal's screen, while it turns.
+pub(crate) fn is_served(office: &mut Office, terminal: &mut Terminal) -> Result<bool, Fail> {
+    for _ in 0..TURNS {
+        turn(office)?;
+        take(terminal)?;
+        if terminal.got.first() == Some(&ESCAPE) {
+            return Ok(true);
+        }
+    }
+    Ok(false)
 }
 
 /// Whether the server closes the connection, while it turns.

@@ -1,7 +1,7 @@
 // Users at one text, and one who is not let in.
 use crate::office::{Office, notes_list, open_office};
 use crate::screens::both_show;
-use crate::terminal::{Terminal, enter, is_closed};
+use crate::terminal::{Terminal, enter, is_closed, press};
 use mgs_acl::List;
 use std::test::Fail;
 
@@ -20,6 +20,23 @@ const BOBS: &str = "|hi                  |\n\
     |-**-notes-L1-C2-----!\n\
     |                    |\n\
     cursor 1 3\n";
+
+// What both show when ann has typed in front of the text and bob behind it, one after the other.
+const ANNS_THEN: &str = "|Ahi!                |\n\
+    |                    |\n\
+    |                    |\n\
+    |                    |\n\
+    |-**-notes-L1-C1-----!\n\
+    |                    |\n\
+    cursor 1 2\n";
+
+const BOBS_THEN: &str = "|Ahi!                |\n\
+    |                    |\n\
+    |                    |\n\
+    |                    |\n\
+    |-**-notes-L1-C4-----!\n\
+    |                    |\n\
+    cursor 1 5\n";
 
 // Whether one is told that the ticket is another's, and the connection is closed.
 fn is_told(office: &mut Office, eve: &mut Terminal) -> Result<bool, Fail> {
@@ -45,12 +62,26 @@ fn both_share(
     Ok(is_shared && is_kept_out && !ann.is_ended && !bob.is_ended)
 }
 
+// Whether both see what they type then, ann first.
+fn both_type(
+    rt: &HostRuntime,
+    office: &mut Office,
+    ann: &mut Terminal,
+    bob: &mut Terminal,
+) -> Result<bool, Fail> {
+    press(ann, b"A")?;
+    press(bob, b"!")?;
+    both_show(rt.alloc(), office, ann, ANNS_THEN, bob, BOBS_THEN)
+}
+
 // Whether two share a text, and a third is not let in meanwhile.
 fn only_users_share(rt: &HostRuntime, office: &mut Office) -> Result<bool, Fail> {
     let port = office.port();
     let mut ann = enter(rt, port, b"login ann t1 6 20\n")?;
     let mut bob = enter(rt, port, b"login bob t2 6 20\nhi")?;
-    both_share(rt, office, &mut ann, &mut bob)
+    let is_shared = both_share(rt, office, &mut ann, &mut bob)?;
+    let is_typed = both_type(rt, office, &mut ann, &mut bob)?;
+    Ok(is_shared && is_typed)
 }
 
 // Whether an office with this list serves them so. It is dropped at one way out: a proof goes over all that is owned at each.

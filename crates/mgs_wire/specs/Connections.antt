@@ -1,5 +1,5 @@
 -- CONNECTIONS: what becomes of one by the bytes that are read of it, and by how reading and writing end.
-use Rattle.std.specs.Prelude.{◌≡◌, ℕ, nat_le, Bool, true, false, MatchBool, List, [], ◌++◌, drop, length, Option, Some, None, Result, Ok, Err}
+use Rattle.std.specs.Prelude.{◌≡◌, ◌==◌, ℕ, nat_le, Bool, true, false, MatchBool, List, [], ◌++◌, drop, length, Option, Some, None, Result, Ok, Err}
 use Rattle.mgs_model.specs.declared.errors.OpenFault.{OpenFault}
 use Rattle.mgs_wire.specs.declared.limits.TheConstants.{LOGIN_LIMIT}
 use Rattle.mgs_wire.specs.declared.refusal.Refusal.{Refusal}
@@ -84,6 +84,13 @@ stopped (Logging_in line) = Over None
 stopped (Serving id) = Over (Some id)
 stopped (Refused left) = Refused left
 stopped (Over session) = Over session
+
+-- nothing is read of it any more, and nothing waits for it: its refusal was written, or its session is over
+abbrev pub is_over : Connection → Bool
+is_over (Logging_in line) = false
+is_over (Serving id) = false
+is_over (Refused left) = length left == 0
+is_over (Over session) = true
 
 -- the reader ended: within the login line that is a refusal, and a session is closed
 abbrev pub Ends : {E : Type 0} → (E → Call → E → Type 0) → Connection → E → Connection → E → Type 0

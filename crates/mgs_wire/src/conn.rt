@@ -2,7 +2,7 @@
 ghost use Rattle.std.specs.Prelude.{◌≡◌, ◌++◌, ◌≤◌, true, false, not, [], length, vec_capacity, IfOk};
 ghost use Rattle.mgs_wire.specs.Login.{admission};
 ghost use Rattle.mgs_wire.specs.Calls.{Typed};
-ghost use Rattle.mgs_wire.specs.Connections.{Connection, Logging_in, refused, Enters, ReadsLogin, Receives, is_logging_in, is_reading, session_of, stopped, Ends, Breaks, waiting, Writes};
+ghost use Rattle.mgs_wire.specs.Connections.{Connection, Logging_in, refused, Enters, ReadsLogin, Receives, is_logging_in, is_over, is_reading, session_of, stopped, Ends, Breaks, waiting, Writes};
 ghost use Rattle.mgs_wire.specs.Stages.{connection, IsStage, LogsIn};
 ghost use Rattle.mgs_wire.specs.LinesRead.{IsLoginLine};
 
@@ -204,6 +204,18 @@ impl Conn {
         }
         self.stop();
         true
+    }
+
+    /// Whether it is done with: nothing more is read of it, and nothing waits to be written to it. So it is once the line of a
+    /// refused login was written, once reading or writing failed, and once it was found that its session is not open.
+    pub fn is_over(&self) -> bool
+        ensures { result ≡ is_over self.now }
+    {
+        match self.stage {
+            Stage::Login | Stage::Session(_) => false,
+            Stage::Refused => self.line.is_empty(),
+            Stage::Over(_) => true,
+        }
     }
 
     // The reader is at its end.

@@ -1,5 +1,0 @@
-use Rattle.mgs_server.proofs.Moving.{read_stepped}
-use Rattle.mgs_server.proofs.peer.Peer.give_up.Goals as goal
-
-pub returns : goal.returns
-returns g c = read_stepped g.E.Sessions.does g.E.Sessions.live g.E.Sessions.pending c.args.tickets.now c.pump_in.result _ _ _ _ _ _ c.pump_in.ensures.read c.pump_in.ensures.finished
