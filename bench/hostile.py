@@ -30,8 +30,9 @@ ROWS, COLS = 10, 40
 # How long a screen of the honest person may take to come, in seconds.
 PATIENCE = 60
 
-# The most keys that are prepared for each second.
+# The most keys that are prepared for each second, and for a try of the sources, whose output is limited.
 KEYS_A_SECOND = 200
+UNPROVED_KEYS = 1800
 
 CONFIG = """
 [[user]]
@@ -376,7 +377,8 @@ def main():
     given = parser.parse_args()
     program = Program(None if given.unproved else os.path.abspath(given.program))
     resource.setrlimit(resource.RLIMIT_NOFILE, (4096, max(4096, resource.getrlimit(resource.RLIMIT_NOFILE)[1])))
-    keys = typed(given.seed, int(given.seconds * KEYS_A_SECOND))
+    count = int(given.seconds * KEYS_A_SECOND)
+    keys = typed(given.seed, min(count, UNPROVED_KEYS) if given.unproved else count)
     screens = screens_of(program, keys)
     with tempfile.NamedTemporaryFile("w", suffix=".toml") as config:
         config.write(CONFIG)
