@@ -1,35 +1,69 @@
-// Configurations: the world of a document, and the faults of its tables.
+// Configurations: the world of a document, and which files are read for it.
+use mgs_acl::print_entry;
 use mgs_config::{Config, ConfigFault, Files, FilesFault, read_config};
 use mgs_marks::Marked;
-use mgs_model::Name;
+use mgs_model::{Name, Right};
 use mgs_text::Text;
-use std::alloc::Global;
+use std::alloc::{AllocError, Global};
 use std::process::Abort;
 use std::test::Fail;
 
-const ANN: &str = "[[user]]\nname = \"ann\"\nticket = \"t1\"\n";
-
-// Files that all hold `hi`, or of which none can be read.
+// Files that are told apart by their paths: `gone` cannot be read, for `full` no memory is left, `long` has 1,048,577 characters, and
+// each other holds `hi`.
 #[derive(Drop)]
-struct Alike {
+pub(crate) struct Folder {
     alloc: Global,
-    readable: bool,
+    // The paths that were asked for, each with a space behind it.
+    asked: String,
     faults: u64,
 }
 
-impl Files for Alike {
+impl Folder {
+    pub(crate) fn new(alloc: Global) -> Folder {
+        Folder {
+            alloc,
+            asked: String::new(alloc),
+            faults: 0,
+        }
+    }
+
+    fn ask(&mut self, path: &str) -> Result<(), AllocError> {
+        self.asked.push_str(path)?;
+        self.asked.push_str(" ")
+    }
+}
+
+pub(crate) fn repeated(alloc: Global, piece: &str, count: usize) -> Result<String, AllocError> {
+    let mut text = String::new(alloc);
+    for _ in 0..count {
+        text.push_str(piece)?;
+    }
+    Ok(text)
+}
+
+fn held(alloc: Global, path: &str) -> Result<Vec<char>, AllocError> {
+    if path == "long" {
+        return repeated(alloc, "é", 1_048_577)?.chars().collect(alloc);
+    }
+    "hi".chars().collect(alloc)
+}
+
+impl Files for Folder {
     ghost use Rattle.std.specs.Prelude.{None};
 
-    ghost tells = { λ files path. None };
+    ghost tells = { λ folder path. None };
 
-    ghost count = { λ files. files.faults };
+    ghost count = { λ folder. folder.faults };
 
-    fn read(&mut self, _path: &str) -> Result<Vec<char>, FilesFault> {
-        if !self.readable {
+    fn read(&mut self, path: &str) -> Result<Vec<char>, FilesFault> {
+        if self.ask(path).is_err() || path == "full" {
+            return Err(FilesFault::Short);
+        }
+        if path == "gone" {
             self.faults = self.faults.saturating_add(1);
             return Err(FilesFault::Unreadable);
         }
-        match "hi".chars().collect(self.alloc) {
+        match held(self.alloc, path) {
             Ok(text) => Ok(text),
             Err(_) => Err(FilesFault::Short),
         }
@@ -41,128 +75,168 @@ impl Files for Alike {
 }
 
 // The configuration of a text. What it is made of tells proofs nothing.
-fn read(alloc: Global, text: &str, readable: bool) -> Result<Config, ConfigFault> {
-    let mut files = Alike {
-        alloc,
-        readable,
-        faults: 0,
-    };
-    read_config(alloc, text, &mut files)
+pub(crate) fn read(text: &str, files: &mut Folder) -> Result<Config, ConfigFault> {
+    read_config(files.alloc, text, files)
 }
 
-// The printed fault of a text.
-fn refused(
-    alloc: Global,
-    text: &str,
-    readable: bool,
-    wanted: &str,
-    rt: &impl Abort,
-) -> Result<(), Fail> {
-    match read(alloc, text, readable) {
-        Ok(_) => panic!(rt; "no fault: {wanted}"),
-        Err(fault) => {
-            let printed = format!(in alloc; "{fault}")?;
-            assert!(rt; printed.as_str() == wanted);
-        }
+fn named(name: &str, rt: &impl Abort) -> Name {
+    match Name::read(name) {
+        Some(name) => name,
+        None => panic!(rt; "no name: {name}"),
     }
-    Ok(())
-}
-
-// Tables behind that of ann, and the fault that is told.
-const FAULTS: [(&str, &str); 8] = [
-    (
-        "[[buffer]]\nname = \"notes\"\nowner = \"bob\"\nlist = []\n",
-        "buffer 1: Unknown",
-    ),
-    (
-        "[[buffer]]\nname = \"notes\"\nowner = \"ann\"\nlist = [\"ALLOW ann x\"]\n",
-        "buffer 1: Entry",
-    ),
-    (
-        "[[user]]\nname = \"ann\"\nticket = \"t2\"\n",
-        "user 2: Twice",
-    ),
-    ("[[user]]\nname = \"bob\"\n", "user 2: Key"),
-    (
-        "[[user]]\nname = \"Bob\"\nticket = \"t2\"\n",
-        "user 2: Name",
-    ),
-    (
-        "[[group]]\nname = \"team\"\nmembers = [\"bob\"]\n",
-        "group 1: Unknown",
-    ),
-    (
-        "[[buffer]]\nname = \"a\"\nowner = \"ann\"\nlist = []\ntext = \"\"\nfile = \"f\"\n",
-        "buffer 1: Key",
-    ),
-    (
-        "[[buffer]]\nname = \"a\"\nowner = \"ann\"\nlist = []\nfile = \"f\"\n",
-        "buffer 1: File",
-    ),
-];
-
-fn first_fault_is(alloc: Global, tables: &str, wanted: &str, rt: &impl Abort) -> Result<(), Fail> {
-    let text = format!(in alloc; "{ANN}{tables}")?;
-    refused(alloc, text.as_str(), wanted != "buffer 1: File", wanted, rt)
-}
-
-#[test]
-fn the_first_fault_is_named_by_its_table(rt: HostRuntime) -> Result<(), Fail> {
-    for &(tables, wanted) in &FAULTS {
-        first_fault_is(rt.alloc(), tables, wanted, &rt)?;
-    }
-    Ok(())
-}
-
-#[test]
-fn a_document_has_no_other_keys(rt: HostRuntime) -> Result<(), Fail> {
-    refused(rt.alloc(), "color = 1\n", true, "top 0: Key", &rt)?;
-    refused(rt.alloc(), "= 1", true, "top 0: Toml", &rt)
 }
 
 // The text of a buffer.
-fn text_of(config: &Config, name: &str, rt: &impl Abort) -> Result<Vec<char>, Fail> {
-    match Name::read(name) {
-        Some(name) if config.buffers.has(&name) => {
-            let text = config.buffers.text(&name);
-            Ok(text.copy(0, text.len())?)
-        }
-        _ => panic!(rt; "no buffer {name}"),
+fn text_of(alloc: Global, config: &Config, name: &str, rt: &impl Abort) -> Result<String, Fail> {
+    let name = named(name, rt);
+    assert!(rt; config.buffers.has(&name));
+    let text = config.buffers.text(&name);
+    let mut copied = String::new(alloc);
+    for character in &text.copy(0, text.len())? {
+        copied.push(*character)?;
     }
+    Ok(copied)
 }
 
-const TABLES: &str =
-    "[[user]]\nname = \"ann\"\nticket = \"t1\"\n[[user]]\nname = \"bob\"\nticket = \"t2\"\n[[buffer]]\nname = \"notes\"\nowner = \"ann\"\nlist = [\"ALLOW bob r\"]\ntext = \"ab\\nc\"\n";
+// The list of a buffer, each entry as it is printed, with `;` behind it.
+fn list_of(alloc: Global, config: &Config, name: &str, rt: &impl Abort) -> Result<String, Fail> {
+    let name = named(name, rt);
+    assert!(rt; config.buffers.has(&name));
+    let list = config.buffers.copy_list(&name);
+    let mut printed = String::new(alloc);
+    for entry in list.as_slice() {
+        printed.push_str(print_entry(entry).as_str())?;
+        printed.push_str(";")?;
+    }
+    Ok(printed)
+}
+
+// Whether a user may read the text of a buffer.
+fn may_read(config: &Config, name: &str, user: &str, rt: &impl Abort) -> bool {
+    let (name, user) = (named(name, rt), named(user, rt));
+    config.buffers.has(&name)
+        && config
+            .buffers
+            .grants(&config.directory, &name, &user, Right::ReadData)
+}
+
+fn is_member(config: &Config, group: &str, user: &str, rt: &impl Abort) -> bool {
+    config
+        .directory
+        .is_member(&named(group, rt), &named(user, rt))
+}
+
+// The files of a configuration: each name and path.
+fn files_of(alloc: Global, config: &Config) -> Result<String, AllocError> {
+    let mut printed = String::new(alloc);
+    for file in &config.files {
+        printed.push_str(file.name.as_str())?;
+        printed.push_str("=")?;
+        printed.push_str(file.path.as_str())?;
+        printed.push_str(";")?;
+    }
+    Ok(printed)
+}
+
+const OFFICE: &str =
+    "[[user]]\nname = \"ann\"\nticket = \"t1\"\n\n[[user]]\nname = \"bob\"\nticket = \"t2\"\n
+[[group]]\nname = \"team\"\nmembers = [\"bob\"]\n\n[[group]]\nname = \"ann\"\nmembers = []\n
+[[buffer]]\nname = \"notes\"\nowner = \"ann\"\nlist = [\"ALLOW OWNER@ rw\", \"DENY  group:team wr\"]\ntext = \"ab\\nc\"\n
+[[buffer]]\nname = \"Plan!\"\nowner = \"bob\"\nlist = [\"ALLOW OWNER@ r\"]\n
+[[buffer]]\nname = \"log\"\nowner = \"ann\"\nlist = []\nfile = \"log.txt\"\n";
 
 #[test]
 fn a_document_gives_the_world_of_its_tables(rt: HostRuntime) -> Result<(), Fail> {
-    let Ok(config) = read(rt.alloc(), TABLES, true) else {
+    let alloc = rt.alloc();
+    let mut files = Folder::new(alloc);
+    let Ok(config) = read(OFFICE, &mut files) else {
         panic!(rt; "not read");
     };
     assert!(rt; config.directory.user("ann").is_some());
     assert!(rt; config.directory.user("bob").is_some());
-    assert!(rt; config.directory.user("eve").is_none());
+    assert!(rt; config.directory.user("team").is_none());
+    assert!(rt; config.tickets.ticket(b"ann") == Some(b"t1".as_slice()));
     assert!(rt; config.tickets.ticket(b"bob") == Some(b"t2".as_slice()));
-    assert!(rt; config.tickets.ticket(b"eve").is_none());
-    assert!(rt; config.buffers.len() == 1);
-    assert!(rt; config.files.is_empty());
-    let notes = text_of(&config, "notes", &rt)?;
-    assert!(rt; notes.as_slice() == ['a', 'b', '\n', 'c'].as_slice());
+    assert!(rt; config.tickets.ticket(b"team").is_none());
+    assert!(rt; is_member(&config, "team", "bob", &rt));
+    assert!(rt; !is_member(&config, "team", "ann", &rt));
+    assert!(rt; config.directory.has_group(&named("ann", &rt)));
+    assert!(rt; !is_member(&config, "ann", "ann", &rt));
+    assert!(rt; config.buffers.len() == 3);
+    assert!(rt; text_of(alloc, &config, "notes", &rt)?.as_str() == "ab\nc");
+    assert!(rt;
+        list_of(alloc, &config, "notes", &rt)?.as_str() == "ALLOW OWNER@ rw;DENY group:team rw;"
+    );
+    assert!(rt; text_of(alloc, &config, "Plan!", &rt)?.is_empty());
+    assert!(rt; may_read(&config, "Plan!", "bob", &rt));
+    assert!(rt; !may_read(&config, "Plan!", "ann", &rt));
+    assert!(rt; text_of(alloc, &config, "log", &rt)?.as_str() == "hi");
+    assert!(rt; list_of(alloc, &config, "log", &rt)?.is_empty());
+    assert!(rt; files_of(alloc, &config)?.as_str() == "log=log.txt;");
+    assert!(rt; files.asked.as_str() == "log.txt ");
+    assert!(rt; files.faults() == 0);
     Ok(())
 }
 
-const FILED: &str =
-    "[[user]]\nname = \"ann\"\nticket = \"t1\"\n[[buffer]]\nname = \"notes\"\nowner = \"ann\"\nlist = []\nfile = \"f\"\n";
+const FOREIGN: &str =
+    "user = [{name = 'ann', ticket = 't1'}]\nbuffer = [{name = 'notes', owner = 'ann', list = [], text = \"é\\u00e9中\\t\\u0001\\r\\n😀e\\u0301\"}]";
 
 #[test]
-fn the_file_of_a_buffer_is_read(rt: HostRuntime) -> Result<(), Fail> {
-    let Ok(config) = read(rt.alloc(), FILED, true) else {
+fn characters_of_a_text_stay_as_they_are(rt: HostRuntime) -> Result<(), Fail> {
+    let alloc = rt.alloc();
+    let Ok(config) = read(FOREIGN, &mut Folder::new(alloc)) else {
         panic!(rt; "not read");
     };
-    let notes = text_of(&config, "notes", &rt)?;
-    assert!(rt; notes.as_slice() == ['h', 'i'].as_slice());
-    let file = config.files.first().ok_or("no file")?;
-    assert!(rt; file.name.as_str() == "notes");
-    assert!(rt; file.path.as_str() == "f");
+    let text = text_of(alloc, &config, "notes", &rt)?;
+    assert!(rt; text.as_str() == "\u{e9}\u{e9}\u{4e2d}\t\u{1}\r\n\u{1f600}e\u{301}");
     Ok(())
+}
+
+// Buffers of ann, the files that are read for them, and how many of these cannot be.
+const READINGS: [(&str, &str, u64); 4] = [
+    (
+        "file = 'f'}, {name = 'b', owner = 'ann', list = [], file = 'g'}, {name = 'c', owner = 'ann', list = [], file = 'f'}",
+        "f g f ",
+        0,
+    ),
+    (
+        "file = 'f'}, {name = 'b', owner = 'ann', list = [], file = 'gone'}, {name = 'c', owner = 'ann', list = [], file = 'g'}",
+        "f gone ",
+        1,
+    ),
+    (
+        "file = 'f'}, {name = 'a', owner = 'ann', list = [], file = 'gone'}, {name = 'c', owner = 'ann', list = [], file = 'g'}",
+        "f ",
+        0,
+    ),
+    (
+        "text = 'f'}, {name = 'b', owner = 'ann', list = [], file = 'long'}, {name = 'c', owner = 'ann', list = [], file = 'gone'}",
+        "long ",
+        0,
+    ),
+];
+
+#[test]
+fn files_are_read_in_their_turn(rt: HostRuntime) -> Result<(), Fail> {
+    let alloc = rt.alloc();
+    for &(tables, asked, faults) in &READINGS {
+        let text = format!(in alloc;
+            "user = [{{name = 'ann', ticket = 't1'}}]\nbuffer = [{{name = 'a', owner = 'ann', list = [], {tables}]"
+        )?;
+        let mut files = Folder::new(alloc);
+        let _ = read(text.as_str(), &mut files);
+        assert!(rt; files.asked.as_str() == asked, "{tables}");
+        assert!(rt; files.faults() == faults, "{tables}");
+    }
+    Ok(())
+}
+
+#[test]
+fn no_file_is_read_where_users_are_at_fault(rt: HostRuntime) {
+    let mut files = Folder::new(rt.alloc());
+    let text =
+        "user = [{name = 'ann'}]\nbuffer = [{name = 'a', owner = 'ann', list = [], file = 'gone'}]";
+    assert!(rt; read(text, &mut files).is_err());
+    assert!(rt; files.asked.is_empty());
+    assert!(rt; files.faults() == 0);
 }

@@ -9,6 +9,8 @@ mod config;
 #[cfg(test)]
 mod connections;
 #[cfg(test)]
+mod config_faults;
+#[cfg(test)]
 mod drive;
 #[cfg(test)]
 mod fixtures;
