@@ -11,11 +11,10 @@ use Rattle.mgs_model.specs.Names.{same_name}
 use Rattle.mgs_model.specs.Access.{is_among}
 use Rattle.mgs_buffers.specs.MarkedBuffer.{MarkedBuffer, has_buffer, marked_named}
 use Rattle.mgs_config.specs.declared.fault.TableFault.{TableFault}
-use Rattle.mgs_config.specs.declared.fault.TableFault.TheVariants.{Toml, Key, Name, Twice, Unknown, Entry, Long, File, Short}
 use Rattle.mgs_config.specs.Faults.{first_fault}
-use Rattle.mgs_config.specs.Buffers.{name_of, owner_of, listed, path_of, is_entry, refused_where, names_refused, contents_refused, buffer_refused}
-use Rattle.mgs_config.specs.Files.{IsAdded, AreBuffers, IsTextOf, buffer_of, IsRefusal, IsFaultOf, IsBufferFault}
-use Rattle.mgs_config.proofs.Firsts.{rows_before, rows_from, rows_more, rows_less, rows_count, passed, found}
+use Rattle.mgs_config.specs.Buffers.{name_of, owner_of, listed, path_of, is_entry, refused_where, names_refused, contents_refused, or_else, buffer_refused}
+use Rattle.mgs_config.specs.Files.{Tells, file_fault, table_refused, IsTableFault, IsAdded, AreBuffers, IsTextOf, buffer_of, IsBufferFault}
+use Rattle.mgs_config.proofs.Firsts.{rows_before, rows_from, rows_more, rows_less, rows_count, none_more}
 
 few_if : {A : Type 0} (listed : Bool) (n : ℕ) (x y : A) (rest : Option A) → cond (not listed) (Some x) (cond (nat_lt 64 n) (Some y) rest) ≡ None → n ≤ 64
 few_if true n x y rest h = grind (arith, nat_tests)
@@ -35,9 +34,6 @@ listed_few taken known count row h = few_after (names_refused taken known row) t
 
 -- WHAT STANDS SO FAR
 
-abbrev pub Tells : Type 0
-Tells = List ℕ → Option (List ℕ)
-
 last_added : (tells : Tells) (rows : List Data) (row : Data) (text : List ℕ) (ks : List MarkedBuffer) → AreBuffers tells rows ks → IsTextOf tells row text → AreBuffers tells (rows ++ row ∷ []) (ks ++ buffer_of row text ∷ [])
 last_added tells [] row text [] h told = (record { text = text; same = refl; told = told }, tt)
 last_added tells [] row text (k ∷ ks) h told = absurd h
@@ -48,7 +44,7 @@ added_to : (tells : Tells) (rows : List Data) (row : Data) (ks new : List Marked
 added_to tells rows row ks new h a = rw a.last (last_added tells rows row a.text ks h a.told)
 
 -- one buffer more
-pub more_buffers : (tells now : Tells) (rows : List Value) (i : ℕ) (d : Value) (ks new : List MarkedBuffer) → i < length rows → now ≡ tells → AreBuffers tells (rows_before rows i) ks → IsAdded now (view (get_or rows i d)) ks new → AreBuffers tells (rows_before rows (i + 1)) new
+more_buffers : (tells now : Tells) (rows : List Value) (i : ℕ) (d : Value) (ks new : List MarkedBuffer) → i < length rows → now ≡ tells → AreBuffers tells (rows_before rows i) ks → IsAdded now (view (get_or rows i d)) ks new → AreBuffers tells (rows_before rows (i + 1)) new
 more_buffers tells now rows i d ks new within same h a =
     rw (rows_more rows i d within) (added_to tells (rows_before rows i) (view (get_or rows i d)) ks new h (rw same at a))
 
@@ -75,80 +71,43 @@ refused_same : (tells : Tells) (users : List (List ℕ)) (before : List Data) (r
     → buffer_refused users before row ≡ refused_where (has_buffer (name_of row) ks) (is_among (owner_of row) users) (length ks) row
 refused_same tells users before row ks h = rw (has_same tells (name_of row) before ks h, count_same tells before ks h)
 
--- a table without fault
-pub left_more : (tells : Tells) (users : List (List ℕ)) (rows : List Value) (i : ℕ) (d : Value) (ks : List MarkedBuffer) (all : Option (ℕ × TableFault)) → i < length rows → AreBuffers tells (rows_before rows i) ks
-    → refused_where (has_buffer (name_of (view (get_or rows i d))) ks) (is_among (owner_of (view (get_or rows i d))) users) (length ks) (view (get_or rows i d)) ≡ None
-    → first_fault (buffer_refused users) (rows_before rows i) (rows_from rows i) ≡ all → first_fault (buffer_refused users) (rows_before rows (i + 1)) (rows_from rows (i + 1)) ≡ all
-left_more tells users rows i d ks all within h none left =
-    passed (buffer_refused users) rows i d all within (refused_same tells users (rows_before rows i) (view (get_or rows i d)) ks h ∙ none) left
+-- a table without a fault, and a file that has none
+none_at : (own : Option TableFault) (of_file : Option TableFault) → own ≡ None → of_file ≡ None → or_else own of_file ≡ None
+none_at None of_file own none = none
+none_at (Some fault) of_file own none = absurd (cc)
 
--- WHERE IT ENDS
+-- AS THE LOOP HAS THEM
 
-risen : (old mid new : ℕ) → old ≤ mid → mid ≤ new → (mid < 18446744073709551615 → mid < new) → old < 18446744073709551615 → old < new
-risen old mid new a b h small = grind arith
+-- one buffer more
+pub loop_buffers : (tells now : Tells) (rows : List Value) (i : ℕ) (v : Value) (ks new : List MarkedBuffer) → i < length rows → v ≡ get_or rows i v → now ≡ tells → AreBuffers tells (rows_before rows i) ks → IsAdded now (view v) ks new → AreBuffers tells (rows_before rows (i + 1)) new
+loop_buffers tells now rows i v ks new within is same h a = more_buffers tells now rows i v ks new within same h (subst (λ (x : Value). IsAdded now (view x) ks new) is a)
 
-earlier_count : (tells : Tells) (path : Option (List ℕ)) (old mid new : ℕ) (fault : TableFault) → old ≤ mid → mid ≤ new → IsFaultOf tells path mid new fault → IsFaultOf tells path old new fault
-earlier_count tells None old mid new fault a b h = h
-earlier_count tells (Some path) old mid new File a b h = risen old mid new a b h
-earlier_count tells (Some path) old mid new Long a b h = h
-earlier_count tells (Some path) old mid new Short a b h = h
-earlier_count tells (Some path) old mid new Toml a b h = h
-earlier_count tells (Some path) old mid new Key a b h = h
-earlier_count tells (Some path) old mid new Name a b h = h
-earlier_count tells (Some path) old mid new Twice a b h = h
-earlier_count tells (Some path) old mid new Unknown a b h = h
-earlier_count tells (Some path) old mid new Entry a b h = h
+-- one table more without a fault
+pub loop_none : (tells now : Tells) (users : List (List ℕ)) (rows : List Value) (i : ℕ) (v : Value) (ks : List MarkedBuffer) → i < length rows → v ≡ get_or rows i v → now ≡ tells → AreBuffers tells (rows_before rows i) ks
+    → refused_where (has_buffer (name_of (view v)) ks) (is_among (owner_of (view v)) users) (length ks) (view v) ≡ None
+    → file_fault now (path_of (view v)) ≡ None
+    → first_fault (table_refused tells users) [] (rows_before rows i) ≡ None → first_fault (table_refused tells users) [] (rows_before rows (i + 1)) ≡ None
+loop_none tells now users rows i v ks within is same h own of_file none =
+    let refused : table_refused tells users (rows_before rows i) (view v) ≡ None = none_at _ _ (refused_same tells users (rows_before rows i) (view v) ks h ∙ own) (rw same at of_file) in
+    none_more (table_refused tells users) rows i v within none (subst (λ (x : Value). table_refused tells users (rows_before rows i) (view x) ≡ None) is refused)
 
 split_at : (rows : List Value) (i : ℕ) (d : Value) → i < length rows → map view rows ≡ rows_before rows i ++ view (get_or rows i d) ∷ rows_from rows (i + 1)
 split_at rows i d within =
     ap (map view) (sym (take-append-drop i rows)) ∙ map-append view (take i rows) (drop i rows) ∙ ap (λ rest. rows_before rows i ++ rest) (rows_less rows i d within)
 
-by_due : (tells : Tells) (old mid new : ℕ) (users : List (List ℕ)) (rows : List Value) (i : ℕ) (d : Value) (ks : List MarkedBuffer) (fault : TableFault) (due : Option TableFault) → i < length rows
-    → buffer_refused users (rows_before rows i) (view (get_or rows i d)) ≡ due
-    → first_fault (buffer_refused users) (rows_before rows i) (rows_from rows i) ≡ first_fault (buffer_refused users) [] (map view rows)
-    → IsRefusal due (IsFaultOf tells (path_of (view (get_or rows i d))) mid new) fault → old ≤ mid → mid ≤ new → fault ≢ Short
-    → IsBufferFault tells old new users (map view rows) (i + 1, fault)
-by_due tells old mid new users rows i d ks fault (Some due) within e left is a b long =
-    inl (found (buffer_refused users) rows i d (first_fault (buffer_refused users) [] (map view rows)) fault within (λ _. e ∙ ap Some is) left long)
-by_due tells old mid new users rows i d ks fault None within e left file a b long =
-    inr (record {
-      before = rows_before rows i;
-      row = view (get_or rows i d);
-      after = rows_from rows (i + 1);
-      split = split_at rows i d within;
-      number = ap (λ n. n + 1) (sym (rows_count rows i (omega arith)));
-      first = sym (passed (buffer_refused users) rows i d (first_fault (buffer_refused users) [] (map view rows)) within e left) ∙ ap (λ before. first_fault (buffer_refused users) before (rows_from rows (i + 1))) (rows_more rows i d within);
-      file = earlier_count tells (path_of (view (get_or rows i d))) old mid new fault a b (file long);
-    })
-
 -- a table that is refused
-pub refused_at : (tells now : Tells) (old mid new : ℕ) (users : List (List ℕ)) (rows : List Value) (i : ℕ) (d : Value) (ks : List MarkedBuffer) (fault : TableFault) → i < length rows → now ≡ tells
-    → AreBuffers tells (rows_before rows i) ks
-    → first_fault (buffer_refused users) (rows_before rows i) (rows_from rows i) ≡ first_fault (buffer_refused users) [] (map view rows)
-    → IsRefusal (refused_where (has_buffer (name_of (view (get_or rows i d))) ks) (is_among (owner_of (view (get_or rows i d))) users) (length ks) (view (get_or rows i d))) (IsFaultOf now (path_of (view (get_or rows i d))) mid new) fault
-    → old ≤ mid → mid ≤ new → fault ≢ Short
-    → IsBufferFault tells old new users (map view rows) (i + 1, fault)
-refused_at tells now old mid new users rows i d ks fault within same h left refusal a b long =
-    by_due tells old mid new users rows i d ks fault (refused_where (has_buffer (name_of (view (get_or rows i d))) ks) (is_among (owner_of (view (get_or rows i d))) users) (length ks) (view (get_or rows i d))) within
-    (refused_same tells users (rows_before rows i) (view (get_or rows i d)) ks h) left (rw same at refusal) a b long
-
--- THE SAME, AS THE LOOP HAS THEM
-
-pub loop_buffers : (tells now : Tells) (rows : List Value) (i : ℕ) (v : Value) (ks new : List MarkedBuffer) → i < length rows → v ≡ get_or rows i v → now ≡ tells → AreBuffers tells (rows_before rows i) ks → IsAdded now (view v) ks new → AreBuffers tells (rows_before rows (i + 1)) new
-loop_buffers tells now rows i v ks new within is same h a = more_buffers tells now rows i v ks new within same h (subst (λ (x : Value). IsAdded now (view x) ks new) is a)
-
-pub loop_left : (tells : Tells) (users : List (List ℕ)) (rows : List Value) (i : ℕ) (v : Value) (ks : List MarkedBuffer) (all : Option (ℕ × TableFault)) → i < length rows → v ≡ get_or rows i v → AreBuffers tells (rows_before rows i) ks
-    → refused_where (has_buffer (name_of (view v)) ks) (is_among (owner_of (view v)) users) (length ks) (view v) ≡ None
-    → first_fault (buffer_refused users) (rows_before rows i) (rows_from rows i) ≡ all → first_fault (buffer_refused users) (rows_before rows (i + 1)) (rows_from rows (i + 1)) ≡ all
-loop_left tells users rows i v ks all within is h none left =
-    left_more tells users rows i v ks all within h (subst (λ (x : Value). refused_where (has_buffer (name_of (view x)) ks) (is_among (owner_of (view x)) users) (length ks) (view x) ≡ None) is none) left
-
-pub loop_refused : (tells now : Tells) (old mid new : ℕ) (users : List (List ℕ)) (rows : List Value) (i : ℕ) (v : Value) (ks : List MarkedBuffer) (fault : TableFault) → i < length rows → v ≡ get_or rows i v → now ≡ tells
-    → AreBuffers tells (rows_before rows i) ks
-    → first_fault (buffer_refused users) (rows_before rows i) (rows_from rows i) ≡ first_fault (buffer_refused users) [] (map view rows)
-    → IsRefusal (refused_where (has_buffer (name_of (view v)) ks) (is_among (owner_of (view v)) users) (length ks) (view v)) (IsFaultOf now (path_of (view v)) mid new) fault
-    → old ≤ mid → mid ≤ new → fault ≢ Short
-    → IsBufferFault tells old new users (map view rows) (i + 1, fault)
-loop_refused tells now old mid new users rows i v ks fault within is same h left refusal a b long =
-    refused_at tells now old mid new users rows i v ks fault within same h left
-    (subst (λ (x : Value). IsRefusal (refused_where (has_buffer (name_of (view x)) ks) (is_among (owner_of (view x)) users) (length ks) (view x)) (IsFaultOf now (path_of (view x)) mid new) fault) is refusal) a b long
+pub loop_refused : (tells now : Tells) (users : List (List ℕ)) (rows : List Value) (i : ℕ) (v : Value) (ks : List MarkedBuffer) (fault : TableFault) → i < length rows → v ≡ get_or rows i v → now ≡ tells → AreBuffers tells (rows_before rows i) ks
+    → first_fault (table_refused tells users) [] (rows_before rows i) ≡ None
+    → IsTableFault (refused_where (has_buffer (name_of (view v)) ks) (is_among (owner_of (view v)) users) (length ks) (view v)) now (path_of (view v)) fault
+    → IsBufferFault tells users (map view rows) (i + 1, fault)
+loop_refused tells now users rows i v ks fault within is same h none due =
+    let here : IsTableFault (refused_where (has_buffer (name_of (view v)) ks) (is_among (owner_of (view v)) users) (length ks) (view v)) tells (path_of (view v)) fault = rw same at due in
+    record {
+      before = rows_before rows i;
+      row = view v;
+      after = rows_from rows (i + 1);
+      split = split_at rows i v within ∙ ap (λ x. rows_before rows i ++ view x ∷ rows_from rows (i + 1)) (sym is);
+      number = ap (λ n. n + 1) (sym (rows_count rows i (omega arith)));
+      none = none;
+      due = subst (λ (own : Option TableFault). IsTableFault own tells (path_of (view v)) fault) (sym (refused_same tells users (rows_before rows i) (view v) ks h)) here;
+    }

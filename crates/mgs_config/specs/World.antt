@@ -5,7 +5,7 @@ use Rattle.toml.specs.Data.{Data}
 use Rattle.mgs_model.specs.Access.{Directory}
 use Rattle.mgs_config.specs.Faults.{first_fault, user_of, user_refused, names_of, group_of, group_refused}
 use Rattle.mgs_config.specs.Buffers.{name_of, path_of}
-use Rattle.mgs_config.specs.Files.{IsBufferFault}
+use Rattle.mgs_config.specs.Files.{Tells, IsBufferFault}
 use Rattle.mgs_config.specs.Document.{is_configuration, rows_at}
 use Rattle.mgs_config.specs.declared.fault.TableFault.{TableFault}
 use Rattle.mgs_config.specs.declared.fault.TableFault.TheVariants.{Toml, Key}
@@ -47,12 +47,12 @@ abbrev pub paths_in : List Data → List (List ℕ × List ℕ)
 paths_in [] = []
 paths_in (row ∷ rows) = with_path (path_of row) (name_of row) (paths_in rows)
 
--- a buffer's fault, where nothing before the buffers is refused
-abbrev pub IsLaterFault : Option ConfigFault → (List ℕ → Option (List ℕ)) → ℕ → ℕ → Data → ConfigFault → Type 0
-IsLaterFault (Some due) tells old new d e = due ≡ e
-IsLaterFault None tells old new d e = (e.table ≡ Buffer) × IsBufferFault tells old new (names_of (users_in d)) (rows_at (codes "buffer") d) (e.index, e.fault)
+-- the fault that is due before the buffers, or else the first of theirs
+abbrev pub IsLaterFault : Option ConfigFault → Tells → Data → ConfigFault → Type 0
+IsLaterFault (Some due) tells d e = due ≡ e
+IsLaterFault None tells d e = (e.table ≡ Buffer) × IsBufferFault tells (names_of (users_in d)) (rows_at (codes "buffer") d) (e.index, e.fault)
 
 -- why a document, or what is none, is refused
-abbrev pub IsConfigFault : Option Data → (List ℕ → Option (List ℕ)) → ℕ → ℕ → ConfigFault → Type 0
-IsConfigFault None tells old new e = e ≡ fault_of Top (0, Toml)
-IsConfigFault (Some d) tells old new e = IsLaterFault (people_refused d) tells old new d e
+abbrev pub IsConfigFault : Option Data → Tells → ConfigFault → Type 0
+IsConfigFault None tells e = e ≡ fault_of Top (0, Toml)
+IsConfigFault (Some d) tells e = IsLaterFault (people_refused d) tells d e

@@ -98,7 +98,7 @@ fn is_entry(value: &Value) -> bool
 fn are_entries(values: &[Value]) -> bool
     ensures { result ≡ list_all (λ v. is_entry (view v)) values.now }
 {
-    values.iter().all(|value| is_entry(value))
+    values.iter().all(is_entry)
 }
 
 #[tactic(auto, using(std::proofs::lemmas::Str::chars_from_encodes))]

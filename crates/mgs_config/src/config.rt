@@ -2,10 +2,9 @@
 ghost use Rattle.std.specs.Prelude.{◌≡◌, ◌≢◌, [], ◌∷◌, ◌++◌, codes, map, IfOk, IfErr, OnOk, IfSome, Some, None, option_map, string_bytes};
 ghost use Rattle.toml.specs.View.{view};
 ghost use Rattle.mgs_config.specs.Document.{document_in, rows_at};
-ghost use Rattle.mgs_config.specs.Buffers.{buffer_refused};
 ghost use Rattle.mgs_config.specs.Faults.{first_fault, names_of};
 ghost use Rattle.mgs_buffers.specs.MarkedBuffer.{AreUnmarked};
-ghost use Rattle.mgs_config.specs.Files.{AreBuffers};
+ghost use Rattle.mgs_config.specs.Files.{AreBuffers, IsCounted, table_refused};
 ghost use Rattle.mgs_config.specs.World.{fault_of, users_in, directory_in, people_refused, paths_in, IsLaterFault, IsConfigFault};
 ghost use Rattle.mgs_config.specs.declared.fault.TableFault.TheVariants.{Short};
 ghost use Rattle.mgs_config.specs.declared.fault.ConfigTable.TheVariants.{Top};
@@ -46,35 +45,41 @@ pub struct Config {
     pub files: Vec<BufferFile>,
 }
 
+// A fault of one of these tables. Out of memory is one of the document, whichever table was read.
+fn fault_in(table: ConfigTable, index: usize, fault: TableFault) -> ConfigFault
+    ensures kind { result.fault ≡ fault }
+    ensures long { fault ≢ Short → result ≡ fault_of table (index, fault) }
+    ensures short { fault ≡ Short → result ≡ fault_of Top (0, Short) }
+{
+    let (table, index) = match fault {
+        TableFault::Short => (ConfigTable::Top, 0),
+        _ => (table, index),
+    };
+    ConfigFault {
+        table,
+        index,
+        fault,
+    }
+}
+
 // The users, tickets and groups of a document.
 fn read_people(alloc: Global, document: &Value) -> Result<(Directory, Tickets), ConfigFault>
     ensures due { OnOk result (people_refused (view document.now) ≡ None) }
     ensures directory { IfOk result (λ people. people.0 ≡ directory_in (view document.now)) }
     ensures tickets { IfOk result (λ people. people.1 ≡ users_in (view document.now)) }
     ensures err { IfErr result (λ e. e.fault ≢ Short → people_refused (view document.now) ≡ Some e) }
+    ensures short { IfErr result (λ e. e.fault ≡ Short → e ≡ fault_of Top (0, Short)) }
 {
     if !is_configuration(document) {
-        return Err(ConfigFault {
-            table: ConfigTable::Top,
-            index: 0,
-            fault: TableFault::Key,
-        });
+        return Err(fault_in(ConfigTable::Top, 0, TableFault::Key));
     }
     let (mut directory, tickets) = match read_users(alloc, rows_at(document, "user")) {
         Ok(people) => people,
-        Err((index, fault)) => return Err(ConfigFault {
-            table: ConfigTable::User,
-            index,
-            fault,
-        }),
+        Err((index, fault)) => return Err(fault_in(ConfigTable::User, index, fault)),
     };
     match read_groups(alloc, &mut directory, rows_at(document, "group")) {
         Ok(()) => Ok((directory, tickets)),
-        Err((index, fault)) => Err(ConfigFault {
-            table: ConfigTable::Group,
-            index,
-            fault,
-        }),
+        Err((index, fault)) => Err(fault_in(ConfigTable::Group, index, fault)),
     }
 }
 
@@ -102,27 +107,6 @@ fn read_paths(alloc: Global, rows: &[Value]) -> Result<Vec<BufferFile>, AllocErr
     Ok(files)
 }
 
-fn short() -> ConfigFault
-    ensures { result ≡ fault_of Top (0, Short) }
-{
-    ConfigFault {
-        table: ConfigTable::Top,
-        index: 0,
-        fault: TableFault::Short,
-    }
-}
-
-// Out of memory is a fault of the document, whichever table was read.
-fn settled(fault: ConfigFault) -> ConfigFault
-    ensures long { result.fault ≢ Short → result ≡ fault }
-    ensures short { result.fault ≡ Short → result ≡ fault_of Top (0, Short) }
-{
-    match fault.fault {
-        TableFault::Short => short(),
-        _ => fault,
-    }
-}
-
 // The configuration of a document.
 fn configure<F: Files>(
     alloc: Global,
@@ -130,13 +114,17 @@ fn configure<F: Files>(
     files: &mut F,
 ) -> Result<Config, ConfigFault>
     ensures due { OnOk result (people_refused (view document.now) ≡ None) }
-    ensures none { OnOk result (first_fault (buffer_refused (names_of (users_in (view document.now)))) [] (rows_at (codes "buffer") (view document.now)) ≡ None) }
+    ensures none { OnOk result (first_fault (table_refused (F.tells files.old) (names_of (users_in (view document.now)))) [] (rows_at (codes "buffer") (view document.now)) ≡ None) }
     ensures directory { IfOk result (λ c. c.directory ≡ directory_in (view document.now)) }
     ensures tickets { IfOk result (λ c. c.tickets ≡ users_in (view document.now)) }
     ensures buffers { IfOk result (λ c. AreBuffers (F.tells files.old) (rows_at (codes "buffer") (view document.now)) c.buffers) }
     ensures unmarked { IfOk result (λ c. AreUnmarked c.buffers) }
     ensures files { IfOk result (λ c. map (λ f. (string_bytes f.name, string_bytes f.path)) c.files.items ≡ paths_in (rows_at (codes "buffer") (view document.now))) }
-    ensures err { IfErr result (λ e. e.fault ≢ Short → IsLaterFault (people_refused (view document.now)) (F.tells files.old) (F.count files.old) (F.count files.new) (view document.now) e) }
+    ensures err { IfErr result (λ e. e.fault ≢ Short → IsLaterFault (people_refused (view document.now)) (F.tells files.old) (view document.now) e) }
+    ensures short { IfErr result (λ e. e.fault ≡ Short → e ≡ fault_of Top (0, Short)) }
+    ensures same { F.tells files.new ≡ F.tells files.old }
+    ensures read { OnOk result (F.count files.new ≡ F.count files.old) }
+    ensures count { IfErr result (λ e. IsCounted e.fault (F.count files.old) (F.count files.new)) }
 {
     let (directory, tickets) = match read_people(alloc, document) {
         Ok(people) => people,
@@ -145,11 +133,7 @@ fn configure<F: Files>(
     let rows = rows_at(document, "buffer");
     let buffers = match read_buffers(alloc, &directory, files, rows) {
         Ok(buffers) => buffers,
-        Err((index, fault)) => return Err(ConfigFault {
-            table: ConfigTable::Buffer,
-            index,
-            fault,
-        }),
+        Err((index, fault)) => return Err(fault_in(ConfigTable::Buffer, index, fault)),
     };
     match read_paths(alloc, rows) {
         Ok(files) => Ok(Config {
@@ -158,55 +142,39 @@ fn configure<F: Files>(
             buffers,
             files,
         }),
-        Err(_) => Err(short()),
-    }
-}
-
-// The same, where `Short` may name any table.
-fn read_parts<F: Files>(alloc: Global, text: &str, files: &mut F) -> Result<Config, ConfigFault>
-    ensures directory { IfOk result (λ c. Some c.directory ≡ option_map directory_in (document_in text.now)) }
-    ensures tickets { IfOk result (λ c. Some c.tickets ≡ option_map users_in (document_in text.now)) }
-    ensures buffers { IfOk result (λ c. IfSome (document_in text.now) (λ d. AreBuffers (F.tells files.old) (rows_at (codes "buffer") d) c.buffers)) }
-    ensures unmarked { IfOk result (λ c. AreUnmarked c.buffers) }
-    ensures files { IfOk result (λ c. Some (map (λ f. (string_bytes f.name, string_bytes f.path)) c.files.items) ≡ option_map (λ d. paths_in (rows_at (codes "buffer") d)) (document_in text.now)) }
-    ensures due { OnOk result (IfSome (document_in text.now) (λ d. people_refused d ≡ None)) }
-    ensures none { OnOk result (IfSome (document_in text.now) (λ d. first_fault (buffer_refused (names_of (users_in d))) [] (rows_at (codes "buffer") d) ≡ None)) }
-    ensures err { IfErr result (λ e. e.fault ≢ Short → IsConfigFault (document_in text.now) (F.tells files.old) (F.count files.old) (F.count files.new) e) }
-{
-    match read_document(alloc, text) {
-        Ok(document) => configure(alloc, &document, files),
-        Err(fault) => Err(ConfigFault {
-            table: ConfigTable::Top,
-            index: 0,
-            fault,
-        }),
+        Err(_) => Err(fault_in(ConfigTable::Top, 0, TableFault::Short)),
     }
 }
 
 /// Reads a configuration: a TOML document with lists of tables `[[user]]` (`name`, `ticket`), `[[group]]` (`name`, `members`) and
 /// `[[buffer]]` (`name`, `owner`, `list`, and `text` or `file`; neither is an empty text). Members and owners are users; files are
-/// read by `files`.
+/// read by `files`, each in its turn.
 ///
 /// The faults are those of the document (`top 0`: `Toml` where it is none, `Key` where it has another key, or one that is no list of
-/// tables), and then that of the first table that has one, users before groups before buffers. `Short` (`top 0`) is for
-/// out of memory, and may come at any point.
+/// tables), and then the first of the first table that has one, by the order of [`TableFault`]; users come before groups, and groups
+/// before buffers. `File` comes only where the count of faults of `files` rose, or stood at the last u64, and elsewhere the count is as
+/// before. `Short` (`top 0`) is for out of memory, and may come at any point, also where another fault is due.
 pub fn read_config<F: Files>(
     alloc: Global,
     text: &str,
     files: &mut F,
 ) -> Result<Config, ConfigFault>
+    ensures due { OnOk result (IfSome (document_in text.now) (λ d. people_refused d ≡ None)) }
+    ensures none { OnOk result (IfSome (document_in text.now) (λ d. first_fault (table_refused (F.tells files.old) (names_of (users_in d))) [] (rows_at (codes "buffer") d) ≡ None)) }
     ensures directory { IfOk result (λ c. Some c.directory ≡ option_map directory_in (document_in text.now)) }
     ensures tickets { IfOk result (λ c. Some c.tickets ≡ option_map users_in (document_in text.now)) }
     ensures buffers { IfOk result (λ c. IfSome (document_in text.now) (λ d. AreBuffers (F.tells files.old) (rows_at (codes "buffer") d) c.buffers)) }
     ensures unmarked { IfOk result (λ c. AreUnmarked c.buffers) }
     ensures files { IfOk result (λ c. Some (map (λ f. (string_bytes f.name, string_bytes f.path)) c.files.items) ≡ option_map (λ d. paths_in (rows_at (codes "buffer") d)) (document_in text.now)) }
-    ensures due { OnOk result (IfSome (document_in text.now) (λ d. people_refused d ≡ None)) }
-    ensures none { OnOk result (IfSome (document_in text.now) (λ d. first_fault (buffer_refused (names_of (users_in d))) [] (rows_at (codes "buffer") d) ≡ None)) }
-    ensures err { IfErr result (λ e. e.fault ≢ Short → IsConfigFault (document_in text.now) (F.tells files.old) (F.count files.old) (F.count files.new) e) }
+    ensures err { IfErr result (λ e. e.fault ≢ Short → IsConfigFault (document_in text.now) (F.tells files.old) e) }
     ensures short { IfErr result (λ e. e.fault ≡ Short → e ≡ fault_of Top (0, Short)) }
+    ensures same { F.tells files.new ≡ F.tells files.old }
+    ensures read { OnOk result (F.count files.new ≡ F.count files.old) }
+    ensures count { IfErr result (λ e. IsCounted e.fault (F.count files.old) (F.count files.new)) }
 {
-    match read_parts(alloc, text, files) {
-        Ok(config) => Ok(config),
-        Err(fault) => Err(settled(fault)),
+    match read_document(alloc, text) {
+        Ok(Some(document)) => configure(alloc, &document, files),
+        Ok(None) => Err(fault_in(ConfigTable::Top, 0, TableFault::Toml)),
+        Err(_) => Err(fault_in(ConfigTable::Top, 0, TableFault::Short)),
     }
 }

@@ -1,27 +1,23 @@
 // The document of a configuration.
-ghost use Rattle.std.specs.Prelude.{◌≡◌, ◌≢◌, [], map, IfOk, IfErr, Some, None};
+ghost use Rattle.std.specs.Prelude.{◌≡◌, [], map, IfOk, option_map};
 ghost use Rattle.std.specs.List.{list_all};
 ghost use Rattle.toml.specs.View.{view};
 ghost use Rattle.mgs_config.specs.Document.{document_in, is_table, are_tables_at, is_configuration, rows_at};
-ghost use Rattle.mgs_config.specs.declared.fault.TableFault.TheVariants.{Toml, Short};
 
-use crate::fault::TableFault;
 use crate::row::{has_only, values_at};
-use std::alloc::Global;
+use std::alloc::{AllocError, Global};
 use toml::Value;
 
-/// The document that a text writes.
-pub fn read_document(alloc: Global, text: &str) -> Result<Value, TableFault>
-    ensures ok { IfOk result (λ d. document_in text.now ≡ Some (view d)) }
-    ensures kind { IfErr result (λ f. f ≢ Short → f ≡ Toml) }
-    ensures err { IfErr result (λ f. f ≢ Short → document_in text.now ≡ None) }
+/// The document that a text writes. `None`: it is no TOML.
+pub fn read_document(alloc: Global, text: &str) -> Result<Option<Value>, AllocError>
+    ensures { IfOk result (λ found. option_map view found ≡ document_in text.now) }
 {
     match toml::table_from_str(alloc, text) {
-        Ok(table) => Ok(Value::Table(table)),
+        Ok(table) => Ok(Some(Value::Table(table))),
         Err(error) => if error.is_memory() {
-            Err(TableFault::Short)
+            Err(AllocError)
         } else {
-            Err(TableFault::Toml)
+            Ok(None)
         },
     }
 }

@@ -2,7 +2,7 @@
 use thiserror::Error;
 
 /// Which tables of a configuration a fault names. Printed in lower case.
-#[derive(Clone, Copy, Debug, PartialEq, Eq, Error)]
+#[derive(Clone, Copy, Debug, Error)]
 pub enum ConfigTable {
     /// The document as a whole.
     #[error("top")]
@@ -19,7 +19,7 @@ pub enum ConfigTable {
 }
 
 /// Why a table was refused, in the order in which the faults are checked. Printed by their names.
-#[derive(Clone, Copy, Debug, PartialEq, Eq, Error)]
+#[derive(Clone, Copy, Debug, Error)]
 pub enum TableFault {
     /// The text is no TOML document.
     #[error("Toml")]
@@ -51,7 +51,7 @@ pub enum TableFault {
 }
 
 /// Why a configuration was refused: the table at fault, and its fault. Printed as `TABLE INDEX: FAULT`, such as `user 2: Twice`.
-#[derive(Clone, Copy, Debug, PartialEq, Eq, Error)]
+#[derive(Clone, Copy, Debug, Error)]
 #[error("{table} {index}: {fault}")]
 pub struct ConfigFault {
     /// Which tables.

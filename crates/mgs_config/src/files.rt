@@ -6,7 +6,7 @@ ghost use Rattle.mgs_config.specs.declared.files.FilesFault.TheVariants.{Unreada
 use thiserror::Error;
 
 /// Why a file was not read.
-#[derive(Clone, Copy, Debug, PartialEq, Eq, Error)]
+#[derive(Clone, Copy, Debug, Error)]
 pub enum FilesFault {
     /// It cannot be read, or it is no UTF-8.
     #[error("the file cannot be read")]

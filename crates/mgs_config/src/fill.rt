@@ -1,11 +1,11 @@
 // The buffers of a configuration, with their texts.
-ghost use Rattle.std.specs.Prelude.{◌≡◌, ◌≢◌, ◌≤◌, [], ◌∷◌, ◌++◌, length, map, IfOk, IfErr, OnOk, None};
+ghost use Rattle.std.specs.Prelude.{◌≡◌, ◌≢◌, ◌≤◌, [], ◌∷◌, ◌++◌, length, map, IfOk, IfErr, OnOk, None, Some};
 ghost use Rattle.toml.specs.View.{view};
 ghost use Rattle.mgs_model.specs.Access.{is_among};
 ghost use Rattle.mgs_buffers.specs.MarkedBuffer.{AreUnmarked, has_buffer};
-ghost use Rattle.mgs_config.specs.Buffers.{name_of, owner_of, listed, path_of, has_file, refused_where, buffer_refused};
+ghost use Rattle.mgs_config.specs.Buffers.{name_of, owner_of, listed, path_of, has_file, refused_where};
 ghost use Rattle.mgs_config.specs.Faults.{first_fault};
-ghost use Rattle.mgs_config.specs.Files.{IsTold, IsFileFault, IsTextOf, IsFaultOf, IsRefusal, buffer_of, IsAdded, AreBuffers, IsBufferFault};
+ghost use Rattle.mgs_config.specs.Files.{IsTold, told_fault, file_fault, table_refused, IsFileFault, IsFaultAt, IsTableFault, IsTextOf, IsCounted, buffer_of, IsAdded, AreBuffers, IsBufferFault};
 ghost use Rattle.mgs_config.specs.declared.fault.TableFault.TheVariants.{Short};
 
 use crate::buffers::{chars_of, listed, read_list, refusal, string_at};
@@ -21,10 +21,12 @@ use toml::Value;
 
 // The text of the file at a path, where a server keeps it.
 fn file_text<F: Files>(files: &mut F, path: &str) -> Result<Vec<char>, TableFault>
-    ensures text { IfOk result (λ text. IsTold (F.tells files.old path.now) text.items) }
+    ensures text { IfOk result (λ text. IsTold (F.tells files.old path.now) (Some text.items)) }
+    ensures none { OnOk result (told_fault (F.tells files.old path.now) ≡ None) }
+    ensures err { IfErr result (λ f. f ≢ Short → IsFileFault (F.tells files.old path.now) f) }
     ensures same { F.tells files.new ≡ F.tells files.old }
-    ensures count { F.count files.old ≤ F.count files.new }
-    ensures err { IfErr result (IsFileFault (F.tells files.old path.now) (F.count files.old) (F.count files.new)) }
+    ensures read { OnOk result (F.count files.new ≡ F.count files.old) }
+    ensures count { IfErr result (λ f. IsCounted f (F.count files.old) (F.count files.new)) }
 {
     match files.read(path) {
         Ok(text) => if text.len() > TEXT_LIMIT {
@@ -40,9 +42,11 @@ fn file_text<F: Files>(files: &mut F, path: &str) -> Result<Vec<char>, TableFaul
 // The text of a table: that of its file, where it has one.
 fn row_text<F: Files>(alloc: Global, files: &mut F, row: &Value) -> Result<Vec<char>, TableFault>
     ensures text { IfOk result (λ text. IsTextOf (F.tells files.old) (view row.now) text.items) }
+    ensures none { OnOk result (file_fault (F.tells files.old) (path_of (view row.now)) ≡ None) }
+    ensures err { IfErr result (λ f. f ≢ Short → IsFaultAt (F.tells files.old) (path_of (view row.now)) f) }
     ensures same { F.tells files.new ≡ F.tells files.old }
-    ensures count { F.count files.old ≤ F.count files.new }
-    ensures err { IfErr result (IsFaultOf (F.tells files.old) (path_of (view row.now)) (F.count files.old) (F.count files.new)) }
+    ensures read { OnOk result (F.count files.new ≡ F.count files.old) }
+    ensures count { IfErr result (λ f. IsCounted f (F.count files.old) (F.count files.new)) }
 {
     match text_at(row, "file") {
         Some(path) => file_text(files, path),
@@ -85,11 +89,13 @@ fn add_buffer<F: Files>(
     row: &Value,
 ) -> Result<(), TableFault>
     ensures due { OnOk result (refused_where (has_buffer (name_of (view row.now)) buffers.old) (is_among (owner_of (view row.now)) directory.now.users) (length buffers.old) (view row.now) ≡ None) }
+    ensures none { OnOk result (file_fault (F.tells files.old) (path_of (view row.now)) ≡ None) }
     ensures added { OnOk result (IsAdded (F.tells files.old) (view row.now) buffers.old buffers.new) }
     ensures unmarked { AreUnmarked buffers.old → AreUnmarked buffers.new }
+    ensures err { IfErr result (λ f. f ≢ Short → IsTableFault (refused_where (has_buffer (name_of (view row.now)) buffers.old) (is_among (owner_of (view row.now)) directory.now.users) (length buffers.old) (view row.now)) (F.tells files.old) (path_of (view row.now)) f) }
     ensures same { F.tells files.new ≡ F.tells files.old }
-    ensures count { F.count files.old ≤ F.count files.new }
-    ensures err { IfErr result (IsRefusal (refused_where (has_buffer (name_of (view row.now)) buffers.old) (is_among (owner_of (view row.now)) directory.now.users) (length buffers.old) (view row.now)) (IsFaultOf (F.tells files.old) (path_of (view row.now)) (F.count files.old) (F.count files.new))) }
+    ensures read { OnOk result (F.count files.new ≡ F.count files.old) }
+    ensures count { IfErr result (λ f. IsCounted f (F.count files.old) (F.count files.new)) }
 {
     match refusal(directory, buffers, row) {
         Some(fault) => return Err(fault),
@@ -101,17 +107,20 @@ fn add_buffer<F: Files>(
     }
 }
 
-/// The buffers of these tables, or the fault of one and its number, counted from 1.
+/// The buffers of these tables, or the fault of the first that has one, and its number, counted from 1.
 pub fn read_buffers<F: Files>(
     alloc: Global,
     directory: &Directory,
     files: &mut F,
     rows: &[Value],
 ) -> Result<Buffers<GapText>, (usize, TableFault)>
-    ensures due { OnOk result (first_fault (buffer_refused directory.now.users) [] (map view rows.now) ≡ None) }
+    ensures none { OnOk result (first_fault (table_refused (F.tells files.old) directory.now.users) [] (map view rows.now) ≡ None) }
     ensures buffers { IfOk result (λ buffers. AreBuffers (F.tells files.old) (map view rows.now) buffers) }
     ensures unmarked { IfOk result (λ buffers. AreUnmarked buffers) }
-    ensures err { IfErr result (λ f. f.1 ≢ Short → IsBufferFault (F.tells files.old) (F.count files.old) (F.count files.new) directory.now.users (map view rows.now) f) }
+    ensures err { IfErr result (λ f. f.1 ≢ Short → IsBufferFault (F.tells files.old) directory.now.users (map view rows.now) f) }
+    ensures same { F.tells files.new ≡ F.tells files.old }
+    ensures read { OnOk result (F.count files.new ≡ F.count files.old) }
+    ensures count { IfErr result (λ f. IsCounted f.1 (F.count files.old) (F.count files.new)) }
 {
     let mut buffers = Buffers::new(alloc);
     for (before, row) in rows.iter().enumerate() {
