@@ -13,7 +13,7 @@ use Rattle.mgs_policy.specs.declared.directory.DirectoryFault.TheVariants as dir
 use Rattle.mgs_policy.specs.Directories.{group_fault}
 use Rattle.mgs_config.specs.declared.fault.TableFault.{TableFault}
 use Rattle.mgs_config.specs.declared.fault.TableFault.TheVariants.{Toml, Key, Name, Twice, Unknown, Entry, Long, File, Short}
-use Rattle.mgs_config.specs.declared.fault.ConfigTable.TheVariants.{Top, User, Group}
+use Rattle.mgs_config.specs.declared.fault.ConfigTable.TheVariants.{Top}
 use Rattle.mgs_config.specs.declared.fault.ConfigFault.{ConfigFault}
 use Rattle.mgs_config.specs.Rows.{user_row, group_row}
 use Rattle.mgs_config.specs.Document.{is_configuration, rows_at}

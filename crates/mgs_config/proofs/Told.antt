@@ -1,6 +1,5 @@
 -- A file that was read, or was not, against what is told of it.
 use Rattle.std.proofs.Common.{◌≡◌, ℕ, ◌<◌, ◌≤◌, refl, ap, arith, List, length, Option, Some, None}
-use Rattle.std.specs.Prelude.{nat_lt, cond}
 use Rattle.std.proofs.lemmas.Bool.Decides.{nat_tests}
 use Rattle.mgs_config.specs.declared.fault.TableFault.TheVariants.{Long, File}
 use Rattle.mgs_config.specs.Files.{IsTold, told_fault, IsFileFault}

@@ -25,7 +25,7 @@ pub fn read_document(alloc: Global, text: &str) -> Result<Option<Value>, AllocEr
 fn are_tables(values: &[Value]) -> bool
     ensures { result ≡ list_all (λ v. is_table (view v)) values.now }
 {
-    values.iter().all(|value| value.is_table())
+    values.iter().all(Value::is_table)
 }
 
 // Whether a key is absent, or holds a list of tables.

@@ -49,7 +49,7 @@ pub fn text_at<'a>(row: &'a Value, key: &str) -> Option<&'a str>
 pub fn are_texts(values: &[Value]) -> bool
     ensures { result ≡ list_all (λ v. is_text (view v)) values.now }
 {
-    values.iter().all(|value| value.is_str())
+    values.iter().all(Value::is_str)
 }
 
 // The strings of a list; for what is no string, an empty one.

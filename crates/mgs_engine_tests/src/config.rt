@@ -33,17 +33,22 @@ impl Folder {
     }
 }
 
-pub(crate) fn repeated(alloc: Global, piece: &str, count: usize) -> Result<String, AllocError> {
+// 64 characters.
+const LINE: &str = "abcdefghijklmnopqrstuvwxyzabcdefghijklmnopqrstuvwxyzabcdefghijk\n";
+
+// 1,048,576 characters and the rest.
+pub(crate) fn full_text(alloc: Global, rest: &str) -> Result<String, AllocError> {
     let mut text = String::new(alloc);
-    for _ in 0..count {
-        text.push_str(piece)?;
+    for _ in 0..16_384 {
+        text.push_str(LINE)?;
     }
+    text.push_str(rest)?;
     Ok(text)
 }
 
 fn held(alloc: Global, path: &str) -> Result<Vec<char>, AllocError> {
     if path == "long" {
-        return repeated(alloc, "é", 1_048_577)?.chars().collect(alloc);
+        return full_text(alloc, "a")?.chars().collect(alloc);
     }
     "hi".chars().collect(alloc)
 }

@@ -1,5 +1,5 @@
 // Configurations that are refused: each fault of each table, and which of several is told.
-use super::config::{Folder, read, repeated};
+use super::config::{Folder, full_text, read};
 use std::alloc::{AllocError, Global};
 use std::process::Abort;
 use std::test::Fail;
@@ -420,26 +420,33 @@ fn one_more_than_a_limit_is_long(rt: HostRuntime) -> Result<(), Fail> {
     Ok(())
 }
 
-// A buffer whose text has so many characters, each of two bytes, and what stands behind it.
-fn worded(alloc: Global, count: usize, end: &str) -> Result<String, AllocError> {
-    let text = repeated(alloc, "é", count)?;
-    format!(in alloc; "{LISTED}], text = '{text}'{end}]")
+// What a buffer with this text says. A newline may stand in three quotes.
+fn text_says(alloc: Global, text: &str, wanted: &str, rt: &impl Abort) -> Result<(), Fail> {
+    let document = format!(in alloc; "{LISTED}], text = '''{text}'''}}]")?;
+    let said = told(alloc, document.as_str())?;
+    assert!(rt; said.as_str() == wanted, "{said}, and not {wanted}");
+    Ok(())
 }
 
 #[test]
 fn a_text_has_1048576_characters_at_most(rt: HostRuntime) -> Result<(), Fail> {
     let alloc = rt.alloc();
-    says(alloc, worded(alloc, 1_048_576, "}")?.as_str(), "read", &rt)?;
-    says(
+    text_says(alloc, full_text(alloc, "")?.as_str(), "read", &rt)?;
+    text_says(
         alloc,
-        worded(alloc, 1_048_577, "}")?.as_str(),
-        "buffer 1: Long",
-        &rt,
-    )?;
-    says(
-        alloc,
-        worded(alloc, 1_048_577, "}, {}")?.as_str(),
+        full_text(alloc, "a")?.as_str(),
         "buffer 1: Long",
         &rt,
     )
+}
+
+#[test]
+fn characters_of_a_text_count_and_not_its_bytes(rt: HostRuntime) -> Result<(), Fail> {
+    let alloc = rt.alloc();
+    let mut text = String::new(alloc);
+    for _ in 0..32_769 {
+        text.push_str("éééééééééééééééé")?;
+    }
+    assert!(rt; text.len() > 1_048_576);
+    text_says(alloc, text.as_str(), "read", &rt)
 }
