@@ -1,36 +1,65 @@
-// The files of the disk.
+// The files that a configuration names.
+ghost use Rattle.std.specs.Prelude.{◌≡◌, ◌<◌, ◌≤◌, ◌↔◌, length, IsSome, IfSome, IfOk, IsErrOf, false, true};
+ghost use Rattle.std.specs.Str.{chars, IsUtf8};
+ghost use Rattle.mgs_config.specs.declared.files.FilesFault.TheVariants.{Unreadable};
+
+use crate::reading::read_bytes;
 use mgs_config::{Files, FilesFault};
+use mgs_model::TEXT_LIMIT;
 use std::alloc::Global;
-use std::io::ErrorKind;
 use std::{fs, str};
 
-/// The bytes of the file at a path. `Unreadable`: it cannot be read. `Short`: memory was refused.
-pub fn read_bytes<R: fs::Files + AllocGlobal>(rt: &R, path: &str) -> Result<Vec<u8>, FilesFault> {
-    match fs::read(rt, path) {
-        Ok(bytes) => Ok(bytes),
-        Err(error) => match error.kind() {
-            ErrorKind::OutOfMemory => Err(FilesFault::Short),
-            _ => Err(FilesFault::Unreadable),
-        },
-    }
-}
+// How much of a file is read: more than four bytes, the most that a character takes, for each character of the longest text. Where the
+// last one is cut, more than a text may have stand before it.
+const READ_LIMIT: usize = 4 * TEXT_LIMIT + 4;
 
-// The characters of bytes that are UTF-8.
-fn chars_of(alloc: Global, bytes: &[u8]) -> Result<Vec<char>, FilesFault> {
+// Bytes that are UTF-8, or whose first part is, where the last character may be cut.
+fn utf8_of(bytes: &[u8], may_be_cut: bool) -> Option<&str>
+    ensures whole { may_be_cut ≡ false → IfSome result (λ text. text.now ≡ bytes.now) }
+    ensures cut { IfSome result (λ text. length bytes.now < length text.now + 4) }
+    ensures due { IsUtf8 bytes.now → IsSome result }
+{
     match str::from_utf8(bytes) {
-        Ok(text) => text.chars().collect(alloc).map_err(|_| FilesFault::Short),
-        Err(_) => Err(FilesFault::Unreadable),
+        Ok(text) => Some(text),
+        Err(error) if may_be_cut && error.error_len().is_none() => {
+            str::from_utf8(&bytes[..error.valid_up_to()]).ok()
+        }
+        Err(_) => None,
     }
 }
 
-fn read_chars<R: fs::Files + AllocGlobal>(rt: &R, path: &str) -> Result<Vec<char>, FilesFault> {
-    match read_bytes(rt, path) {
-        Ok(bytes) => chars_of(rt.alloc(), &bytes),
+#[tactic(auto, using(std::proofs::lemmas::Str::chars_from_encodes))]
+fn chars_of(alloc: Global, text: &str) -> Result<Vec<char>, FilesFault>
+    ensures ok { IfOk result (λ cs. cs.items ≡ chars text.now) }
+    ensures err { IsErrOf result Unreadable → ⊥ }
+{
+    match text.chars().collect(alloc) {
+        Ok(text) => Ok(text),
+        Err(_) => Err(FilesFault::Short),
+    }
+}
+
+// The characters of what was read of a file: all of them, or more than a text may have.
+fn text_of(alloc: Global, bytes: &[u8]) -> Result<Vec<char>, FilesFault>
+    ensures whole { length bytes.now < READ_LIMIT → IfOk result (λ cs. cs.items ≡ chars bytes.now) }
+    ensures long { READ_LIMIT ≤ length bytes.now → IfOk result (λ cs. TEXT_LIMIT < length cs.items) }
+    ensures err { IsErrOf result Unreadable → ¬ (IsUtf8 bytes.now) }
+{
+    match utf8_of(bytes, bytes.len() >= READ_LIMIT) {
+        Some(text) => chars_of(alloc, text),
+        None => Err(FilesFault::Unreadable),
+    }
+}
+
+fn read_text<R: fs::Files + AllocGlobal>(rt: &R, path: &str) -> Result<Vec<char>, FilesFault> {
+    match read_bytes(rt, path, READ_LIMIT as u64) {
+        Ok(bytes) => text_of(rt.alloc(), &bytes),
         Err(fault) => Err(fault),
     }
 }
 
-/// Files that are read from the disk. What they hold is not known to proofs.
+/// Files that are read from the disk: regular files alone, each up to what shows that it is too long for a text. What they hold is not
+/// known to proofs.
 #[derive(Drop)]
 pub struct Disk<'a, R> {
     rt: &'a R,
@@ -39,7 +68,9 @@ pub struct Disk<'a, R> {
 
 impl<'a, R> Disk<'a, R> {
     /// The disk, without a fault so far.
-    pub fn new(rt: &'a R) -> Disk<'a, R> {
+    pub fn new(rt: &'a R) -> Disk<'a, R>
+        ensures { result.faults ≡ 0 }
+    {
         Disk { rt, faults: 0 }
     }
 }
@@ -52,7 +83,7 @@ impl<'a, R: fs::Files + AllocGlobal> Files for Disk<'a, R> {
     ghost count = { λ disk. disk.faults };
 
     fn read(&mut self, path: &str) -> Result<Vec<char>, FilesFault> {
-        match read_chars(self.rt, path) {
+        match read_text(self.rt, path) {
             Ok(text) => Ok(text),
             Err(FilesFault::Unreadable) => {
                 self.faults = self.faults.saturating_add(1);

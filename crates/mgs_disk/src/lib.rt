@@ -1,8 +1,15 @@
-//! The files of the disk: what a configuration has read there, and the store that saves each buffer in its own file.
+//! The files of the disk: the configuration that is served and what it has read there, and the store that saves each buffer in its
+//! own file.
 #![tactic(auto)]
 
 mod disk;
+mod folder;
+mod kept;
+mod load;
+mod reading;
+mod replacing;
 mod store;
 
-pub use disk::{Disk, read_bytes};
+pub use disk::Disk;
+pub use load::load_config;
 pub use store::FileStore;

@@ -1,92 +1,86 @@
 // Where the buffers of a served configuration are saved: each in its own file.
+ghost use Rattle.std.specs.Prelude.{◌≡◌};
+ghost use Rattle.std.specs.Path.{path_bytes};
+ghost use Rattle.core.specs.Option.{option_map};
+ghost use Rattle.mgs_disk.specs.Places.{saved_at};
+
+use crate::replacing::replace_file;
 use mgs_config::BufferFile;
 use mgs_store::{Store, StoreFault};
-use std::alloc::Global;
-use std::fs::{self, File, OpenFile};
-use std::io::{self, Write};
+use std::alloc::AllocError;
+use std::fs::{self, File};
+use std::io::ErrorKind;
+use std::path::{Path, PathBuf};
+use std::random::RandomSource;
 
-// What a file is called until it takes the place of the one that it is to replace.
-const NEW: &str = ".mgd-new";
+// A buffer, and the file that it is saved in, where that was found.
+#[derive(Drop)]
+struct Place {
+    name: String,
+    path: Option<PathBuf>,
+}
 
-// The bytes of a text.
-fn encoded(alloc: Global, text: &[char]) -> Result<String, StoreFault> {
-    let mut bytes = String::new(alloc);
-    for c in text {
-        if bytes.push(*c).is_err() {
-            return Err(StoreFault);
+// Where a buffer is saved. Links are followed here, once: one that comes to stand there later leads to no other file.
+fn place_of<R: fs::Files + AllocGlobal>(rt: &R, file: BufferFile) -> Result<Place, AllocError> {
+    let BufferFile { name, path } = file;
+    match fs::canonicalize(rt, path.as_str()) {
+        Ok(path) => Ok(Place {
+            name,
+            path: Some(path),
+        }),
+        Err(error) if error.kind() == ErrorKind::OutOfMemory => Err(AllocError),
+        Err(_) => Ok(Place { name, path: None }),
+    }
+}
+
+// The file of the buffer of this name.
+fn path_of<'a>(places: &'a [Place], name: &str) -> Option<Path<'a>>
+    ensures { option_map path_bytes result ≡ saved_at name.now places.now }
+{
+    for place in places {
+        if place.name.as_str() == name {
+            return match &place.path {
+                Some(path) => Some(path.as_path()),
+                None => None,
+            };
         }
     }
-    Ok(bytes)
-}
-
-// The path of the new file, beside the one that it is to replace.
-fn beside(alloc: Global, path: &str) -> Result<String, StoreFault> {
-    let mut name = String::new(alloc);
-    if name.push_str(path).is_err() || name.push_str(NEW).is_err() {
-        return Err(StoreFault);
-    }
-    Ok(name)
-}
-
-// Writes a new file, and waits until the disk has it.
-fn write_new<R: fs::Files>(rt: &R, path: &str, bytes: &[u8]) -> io::Result<()> {
-    let mut file = File::create(rt, path)?;
-    file.write_all(bytes)?;
-    file.sync_all()
-}
-
-// Puts a text in the place of a file. A crash or a full disk leaves the old text or the new one.
-fn replace_file<R: fs::Files + AllocGlobal>(
-    rt: &R,
-    path: &str,
-    text: &[char],
-) -> Result<(), StoreFault> {
-    let bytes = encoded(rt.alloc(), text)?;
-    let new = beside(rt.alloc(), path)?;
-    if write_new(rt, new.as_str(), bytes.as_bytes()).is_ok()
-        && fs::rename(rt, new.as_str(), path).is_ok()
-    {
-        return Ok(());
-    }
-    let _ = fs::remove_file(rt, new.as_str());
-    Err(StoreFault)
-}
-
-// Saves the text of the buffer of this name in its file.
-fn save_in<R: fs::Files + AllocGlobal>(
-    rt: &R,
-    files: &[BufferFile],
-    name: &str,
-    text: &[char],
-) -> Result<(), StoreFault> {
-    for file in files {
-        if file.name.as_str() == name {
-            return replace_file(rt, file.path.as_str(), text);
-        }
-    }
-    Err(StoreFault)
+    None
 }
 
 /// The files of buffers. What they hold is not known to proofs.
 #[derive(Drop)]
 pub struct FileStore<'a, R> {
     rt: &'a R,
-    files: Vec<BufferFile>,
+    places: Vec<Place>,
     faults: u64,
 }
 
-impl<'a, R> FileStore<'a, R> {
-    /// A store that saved nothing yet.
-    pub fn new(rt: &'a R, files: Vec<BufferFile>) -> FileStore<'a, R> {
-        FileStore {
-            rt,
-            files,
-            faults: 0,
+impl<'a, R: fs::Files<File = File> + RandomSource + AllocGlobal> FileStore<'a, R> {
+    /// A store that saved nothing yet. Each path is followed to its file now: where a link leads to another one later, nothing is saved
+    /// through it. A file that is not there now is never saved.
+    pub fn new(rt: &'a R, files: Vec<BufferFile>) -> Result<FileStore<'a, R>, AllocError> {
+        let mut places = Vec::new(rt.alloc());
+        for file in files {
+            places.push(place_of(rt, file)?)?;
         }
+        Ok(FileStore {
+            rt,
+            places,
+            faults: 0,
+        })
+    }
+
+    // Saves the text of the buffer of this name in its file.
+    fn save_in_file(&self, name: &str, text: &[char]) -> Result<(), StoreFault> {
+        let Some(path) = path_of(&self.places, name) else {
+            return Err(StoreFault);
+        };
+        replace_file(self.rt, path, text).map_err(|_| StoreFault)
     }
 }
 
-impl<'a, R: fs::Files + AllocGlobal> Store for FileStore<'a, R> {
+impl<'a, R: fs::Files<File = File> + RandomSource + AllocGlobal> Store for FileStore<'a, R> {
     ghost use Rattle.std.specs.Prelude.{None};
 
     ghost failed = { λ store. store.faults };
@@ -94,7 +88,7 @@ impl<'a, R: fs::Files + AllocGlobal> Store for FileStore<'a, R> {
     ghost accepted = { λ store. None };
 
     fn save(&mut self, name: &str, text: &[char]) -> Result<(), StoreFault> {
-        let saved = save_in(self.rt, self.files.as_slice(), name, text);
+        let saved = self.save_in_file(name, text);
         if saved.is_err() {
             self.faults = self.faults.saturating_add(1);
         }

@@ -1,0 +1,47 @@
+// What is kept of a file whose text is replaced.
+ghost use Rattle.std.specs.Prelude.{◌≡◌, ◌≢◌, ◌↔◌, IsTrue, bit_and, Option};
+ghost use Rattle.core.specs.Option.{option_map, unwrap_or};
+ghost use Rattle.std.specs.Fs.{IsFile, file_type, metadata_mode};
+
+use std::fs::{File, Metadata, Permissions};
+use std::io;
+use std::os::unix::fs::{MetadataExt, PermissionsExt, fchown};
+
+// The bit that lets a file's owner write it.
+const OWNER_WRITES: u32 = 0o200;
+
+// The bits that say who may read, write and run a file.
+const PERMISSIONS: u32 = 0o777;
+
+/// The mode of a file that replaces none: its owner's alone.
+pub const PRIVATE: u32 = 0o600;
+
+/// Whether a file may be replaced: a regular one that its owner may write. A link, a folder, a pipe and a device are none.
+pub fn may_be_replaced(old: &Metadata) -> bool
+    ensures { IsTrue result ↔ (IsFile (file_type old.now)) × (bit_and (metadata_mode old.now) OWNER_WRITES ≢ 0) }
+{
+    old.is_file() && old.mode() & OWNER_WRITES != 0
+}
+
+// The mode of the file that comes in a file's place, if there was one.
+fn mode_after(old: Option<&Metadata>) -> u32
+    ensures { result ≡ unwrap_or (option_map (λ o. bit_and (metadata_mode o.now) PERMISSIONS) old) PRIVATE }
+{
+    match old {
+        Some(old) => old.mode() & PERMISSIONS,
+        None => PRIVATE,
+    }
+}
+
+/// Gives a new file the mode of the one in whose place it comes, and its owner and group as far as this process may. Nobody else can
+/// open it before: so the group stands before the mode, and the owner, who may be another, comes last.
+pub fn keep(new: &File, old: Option<&Metadata>) -> io::Result<()> {
+    if let Some(old) = old {
+        let _ = fchown(new, None, Some(old.gid()));
+    }
+    new.set_permissions(Permissions::from_mode(mode_after(old)))?;
+    if let Some(old) = old {
+        let _ = fchown(new, Some(old.uid()), None);
+    }
+    Ok(())
+}

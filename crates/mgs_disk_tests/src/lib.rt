@@ -1,0 +1,16 @@
+//! Tests of the disk, each in a folder of its own: what is read of a configuration and of the files that it names, and what a save keeps
+//! of the file that it replaces.
+#![tactic(auto)]
+
+#[cfg(test)]
+mod faulty;
+#[cfg(test)]
+mod folder;
+#[cfg(test)]
+mod loading;
+#[cfg(test)]
+mod reading;
+#[cfg(test)]
+mod refused;
+#[cfg(test)]
+mod saving;
