@@ -1,5 +1,5 @@
 // The files that a configuration names.
-ghost use Rattle.std.specs.Prelude.{◌≡◌, ◌<◌, ◌≤◌, ◌↔◌, length, IsSome, IfSome, IfOk, IsErrOf, false, true};
+ghost use Rattle.std.specs.Prelude.{◌≡◌, ◌<◌, ◌≤◌, ◌+◌, ◌*◌, length, false, IsSome, IfSome, IfOk, IsErrOf};
 ghost use Rattle.std.specs.Str.{chars, IsUtf8};
 ghost use Rattle.mgs_config.specs.declared.files.FilesFault.TheVariants.{Unreadable};
 
@@ -28,9 +28,10 @@ fn utf8_of(bytes: &[u8], may_be_cut: bool) -> Option<&str>
     }
 }
 
-#[tactic(auto, using(std::proofs::lemmas::Str::chars_from_encodes))]
+#[tactic(auto, using(std::proofs::lemmas::Str::chars_from_encodes, crate::proofs::Lengths::chars_of_bytes))]
 fn chars_of(alloc: Global, text: &str) -> Result<Vec<char>, FilesFault>
     ensures ok { IfOk result (λ cs. cs.items ≡ chars text.now) }
+    ensures len { IfOk result (λ cs. length text.now ≤ 4 * length cs.items) }
     ensures err { IsErrOf result Unreadable → ⊥ }
 {
     match text.chars().collect(alloc) {
@@ -66,10 +67,10 @@ pub struct Disk<'a, R> {
     faults: u64,
 }
 
-impl<'a, R> Disk<'a, R> {
+impl<'a, R: fs::Files + AllocGlobal> Disk<'a, R> {
     /// The disk, without a fault so far.
     pub fn new(rt: &'a R) -> Disk<'a, R>
-        ensures { result.faults ≡ 0 }
+        ensures { ⟦<Disk<'a, R> as Files>⟧.count result ≡ 0 }
     {
         Disk { rt, faults: 0 }
     }

@@ -1,12 +1,11 @@
 // The folder of a file that is replaced.
+use crate::kept::PRIVATE;
 use std::alloc::Global;
 use std::fs::{self, File, OpenFile, OpenOptions};
 use std::io::{self, ErrorKind};
 use std::os::unix::fs::OpenOptionsExt;
 use std::path::{Path, PathBuf};
 use std::random::RandomSource;
-
-use crate::kept::PRIVATE;
 
 // How many names are tried for a new file. That one of so many is taken means that something is wrong.
 const TRIES: usize = 16;

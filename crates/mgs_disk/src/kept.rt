@@ -1,6 +1,6 @@
 // What is kept of a file whose text is replaced.
-ghost use Rattle.std.specs.Prelude.{◌≡◌, ◌≢◌, ◌↔◌, IsTrue, bit_and, Option};
-ghost use Rattle.core.specs.Option.{option_map, unwrap_or};
+ghost use Rattle.std.specs.Prelude.{◌≡◌, ◌≢◌, ◌↔◌, IsTrue, bit_and};
+ghost use Rattle.std.specs.Option.{option_map, unwrap_or};
 ghost use Rattle.std.specs.Fs.{IsFile, file_type, metadata_mode};
 
 use std::fs::{File, Metadata, Permissions};
@@ -25,7 +25,7 @@ pub fn may_be_replaced(old: &Metadata) -> bool
 
 // The mode of the file that comes in a file's place, if there was one.
 fn mode_after(old: Option<&Metadata>) -> u32
-    ensures { result ≡ unwrap_or (option_map (λ o. bit_and (metadata_mode o.now) PERMISSIONS) old) PRIVATE }
+    ensures { result ≡ unwrap_or (option_map (λ o. bit_and (metadata_mode o.now) PERMISSIONS) old.entry) PRIVATE }
 {
     match old {
         Some(old) => old.mode() & PERMISSIONS,

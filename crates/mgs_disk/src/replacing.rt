@@ -1,6 +1,6 @@
 // How a text comes in the place of a file.
 ghost use Rattle.std.specs.Prelude.{◌≡◌, IfOk, string_bytes};
-ghost use Rattle.core.specs.Str.{encode_utf8_all};
+ghost use Rattle.std.specs.Str.{encode_utf8_all};
 
 use crate::folder::{NewFile, create_beside, sync_folder};
 use crate::kept::{keep, may_be_replaced};
@@ -18,11 +18,7 @@ const RLIMIT_FSIZE: i32 = 1;
 fn encoded(alloc: Global, text: &[char]) -> Result<String, AllocError>
     ensures { IfOk result (λ bytes. string_bytes bytes ≡ encode_utf8_all text.now) }
 {
-    let mut bytes = String::new(alloc);
-    for c in text {
-        bytes.push(*c)?;
-    }
-    Ok(bytes)
+    text.iter().copied().collect(alloc)
 }
 
 // The file that is to be replaced. None: there is none. It is an error where something else stands there, or a file that its owner may

@@ -1,7 +1,9 @@
 // Where the buffers of a served configuration are saved: each in its own file.
-ghost use Rattle.std.specs.Prelude.{◌≡◌};
+ghost use Rattle.std.specs.Prelude.{◌≡◌, IfOk, string_bytes};
+ghost use Rattle.std.specs.List.{find};
 ghost use Rattle.std.specs.Path.{path_bytes};
-ghost use Rattle.core.specs.Option.{option_map};
+ghost use Rattle.std.specs.Option.{option_map};
+ghost use Rattle.mgs_model.specs.Names.{same_name};
 ghost use Rattle.mgs_disk.specs.Places.{saved_at};
 
 use crate::replacing::replace_file;
@@ -33,19 +35,23 @@ fn place_of<R: fs::Files + AllocGlobal>(rt: &R, file: BufferFile) -> Result<Plac
     }
 }
 
+fn place_named<'a>(places: &'a [Place], name: &str) -> Option<&'a Place>
+    ensures { option_map (λ place. place.now) result ≡ find (λ place. same_name (string_bytes place.name) name.now) places.now }
+{
+    places.iter().find(|place| place.name.as_str() == name)
+}
+
 // The file of the buffer of this name.
 fn path_of<'a>(places: &'a [Place], name: &str) -> Option<Path<'a>>
     ensures { option_map path_bytes result ≡ saved_at name.now places.now }
 {
-    for place in places {
-        if place.name.as_str() == name {
-            return match &place.path {
-                Some(path) => Some(path.as_path()),
-                None => None,
-            };
-        }
+    match place_named(places, name) {
+        Some(place) => match &place.path {
+            Some(path) => Some(path.as_path()),
+            None => None,
+        },
+        None => None,
     }
-    None
 }
 
 /// The files of buffers. What they hold is not known to proofs.
@@ -59,7 +65,9 @@ pub struct FileStore<'a, R> {
 impl<'a, R: fs::Files<File = File> + RandomSource + AllocGlobal> FileStore<'a, R> {
     /// A store that saved nothing yet. Each path is followed to its file now: where a link leads to another one later, nothing is saved
     /// through it. A file that is not there now is never saved.
-    pub fn new(rt: &'a R, files: Vec<BufferFile>) -> Result<FileStore<'a, R>, AllocError> {
+    pub fn new(rt: &'a R, files: Vec<BufferFile>) -> Result<FileStore<'a, R>, AllocError>
+        ensures { IfOk result (λ store. ⟦<FileStore<'a, R> as Store>⟧.failed store ≡ 0) }
+    {
         let mut places = Vec::new(rt.alloc());
         for file in files {
             places.push(place_of(rt, file)?)?;

@@ -1,6 +1,8 @@
-// A runtime whose files are those of the system, but for what it is told to get wrong.
+// A runtime whose files are those of the system, but for what it is told to get wrong, and whose arguments and standard error are a test's.
 use std::alloc::{Allocator, Global};
 use std::cell::Cell;
+use std::env::{Env, FillError};
+use std::fmt::Display;
 use std::fs::{File, Files, Metadata, OpenOptions};
 use std::io::{self, ErrorKind};
 use std::path::PathBuf;
@@ -12,6 +14,9 @@ pub struct Faulty<'a, R> {
     rt: &'a R,
     zeros: Cell<u32>,
     keeps_names: bool,
+    words: &'a [&'a str],
+    line: &'a str,
+    is_told: Cell<bool>,
 }
 
 impl<'a, R> Faulty<'a, R> {
@@ -21,7 +26,61 @@ impl<'a, R> Faulty<'a, R> {
             rt,
             zeros: Cell::new(zeros),
             keeps_names,
+            words: &[],
+            line: "",
+            is_told: Cell::new(false),
         }
+    }
+
+    /// Nothing goes wrong. The program was started with these words, its own name first, and this line is waited for.
+    pub fn asked(rt: &'a R, words: &'a [&'a str], line: &'a str) -> Faulty<'a, R> {
+        Faulty {
+            rt,
+            zeros: Cell::new(0),
+            keeps_names: false,
+            words,
+            line,
+            is_told: Cell::new(false),
+        }
+    }
+
+    /// Whether the line that is waited for was the last that was told.
+    pub fn is_told(&self) -> bool {
+        self.is_told.get()
+    }
+}
+
+impl<'a, R> Env for Faulty<'a, R> {
+    fn arg(&self, i: usize, buf: &mut [u8]) -> Result<usize, FillError> {
+        let Some(word) = self.words.get(i) else {
+            return Err(FillError::NotPresent);
+        };
+        let bytes = word.as_bytes();
+        let Some(room) = buf.get_mut(..bytes.len()) else {
+            return Err(FillError::TooLong);
+        };
+        room.copy_from_slice(bytes);
+        Ok(bytes.len())
+    }
+
+    fn var(&self, _name: &str, _buf: &mut [u8]) -> Result<usize, FillError> {
+        Err(FillError::NotPresent)
+    }
+
+    fn var_at(&self, _i: usize, _buf: &mut [u8]) -> Result<usize, FillError> {
+        Err(FillError::NotPresent)
+    }
+}
+
+impl<'a, R: AllocGlobal> Eprint for Faulty<'a, R> {
+    fn eprint<D: Display + Drop>(&self, value: D) -> io::Result<()> {
+        let text = format!(in self.rt.alloc(); "{value}")?;
+        self.is_told.set(text.as_str() == self.line);
+        Ok(())
+    }
+
+    fn eprintln<D: Display + Drop>(&self, value: D) -> io::Result<()> {
+        self.eprint(value)
     }
 }
 

@@ -1,7 +1,9 @@
 //! Tests of the disk, each in a folder of its own: what is read of a configuration and of the files that it names, and what a save keeps
-//! of the file that it replaces.
+//! of the file that it replaces. And tests of the program's arguments.
 #![tactic(auto)]
 
+#[cfg(test)]
+mod command;
 #[cfg(test)]
 mod faulty;
 #[cfg(test)]

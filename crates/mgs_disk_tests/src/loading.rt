@@ -15,11 +15,17 @@ const ANN: &str = "[[user]]\nname = \"ann\"\nticket = \"t1\"\n";
 fn table<R: AllocGlobal>(rt: &R, folder: &PathBuf, file: &str) -> Result<String, Fail> {
     let path = within(rt, folder, file)?;
     let path = path.as_path().as_str();
-    Ok(format!(in rt.alloc(); "{ANN}[[buffer]]\nname = \"notes\"\nowner = \"ann\"\nlist = []\nfile = \"{path}\"\n")?)
+    Ok(format!(in rt.alloc();
+        "{ANN}[[buffer]]\nname = \"notes\"\nowner = \"ann\"\nlist = []\nfile = \"{path}\"\n"
+    )?)
 }
 
 // The configuration at a path is refused with this fault.
-fn expect_fault<R: fs::Files + AllocGlobal + Abort>(rt: &R, path: &str, wanted: &str) -> Result<(), Fail> {
+fn expect_fault<R: fs::Files + AllocGlobal + Abort>(
+    rt: &R,
+    path: &str,
+    wanted: &str,
+) -> Result<(), Fail> {
     match load_config(rt, path) {
         Ok(_) => panic!(rt; "no fault: {wanted}"),
         Err(fault) => {
@@ -33,7 +39,10 @@ fn expect_fault<R: fs::Files + AllocGlobal + Abort>(rt: &R, path: &str, wanted: 
 #[test]
 fn a_configuration_with_a_file(rt: HostRuntime) -> Result<(), Fail> {
     let folder = make_folder(&rt, "mgs_disk_served")?;
-    let (path, file) = (within(&rt, &folder, "a.toml")?, within(&rt, &folder, "a.txt")?);
+    let (path, file) = (
+        within(&rt, &folder, "a.toml")?,
+        within(&rt, &folder, "a.txt")?,
+    );
     fs::write(&rt, path.as_path(), table(&rt, &folder, "a.txt")?.as_str())?;
     fs::write(&rt, file.as_path(), "hi")?;
     let Ok(config) = load_config(&rt, path.as_path().as_str()) else {
@@ -53,7 +62,10 @@ fn a_configuration_with_a_file(rt: HostRuntime) -> Result<(), Fail> {
 #[test]
 fn a_configuration_that_is_refused(rt: HostRuntime) -> Result<(), Fail> {
     let folder = make_folder(&rt, "mgs_disk_refused")?;
-    let (path, file) = (within(&rt, &folder, "a.toml")?, within(&rt, &folder, "a.txt")?);
+    let (path, file) = (
+        within(&rt, &folder, "a.toml")?,
+        within(&rt, &folder, "a.txt")?,
+    );
     expect_fault(&rt, path.as_path().as_str(), "top 0: File")?;
     expect_fault(&rt, folder.as_path().as_str(), "top 0: File")?;
     expect_fault(&rt, "/dev/zero", "top 0: File")?;
@@ -67,7 +79,11 @@ fn a_configuration_that_is_refused(rt: HostRuntime) -> Result<(), Fail> {
         expect_fault(&rt, path.as_path().as_str(), wanted)?;
     }
     fs::write(&rt, path.as_path(), table(&rt, &folder, "a.txt")?.as_str())?;
-    fs::write(&rt, file.as_path(), "x".repeat(rt.alloc(), TEXT_LIMIT + 1)?.as_str())?;
+    fs::write(
+        &rt,
+        file.as_path(),
+        "x".repeat(rt.alloc(), TEXT_LIMIT + 1)?.as_str(),
+    )?;
     expect_fault(&rt, path.as_path().as_str(), "buffer 1: Long")?;
     fs::remove_dir_all(&rt, folder.as_path())?;
     Ok(())

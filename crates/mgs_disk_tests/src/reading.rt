@@ -19,7 +19,10 @@ fn reads<F: Files>(disk: &mut F, path: &str, text: &str) -> bool {
 #[test]
 fn a_file_and_a_link_to_one(rt: HostRuntime) -> Result<(), Fail> {
     let folder = make_folder(&rt, "mgs_disk_read")?;
-    let (path, link) = (within(&rt, &folder, "a.txt")?, within(&rt, &folder, "link")?);
+    let (path, link) = (
+        within(&rt, &folder, "a.txt")?,
+        within(&rt, &folder, "link")?,
+    );
     symlink(&rt, "a.txt", link.as_path())?;
     let mut disk = Disk::new(&rt);
     for text in ["a\n\u{e9}\u{20ac}\u{1f600}", ""] {
@@ -50,7 +53,10 @@ fn what_is_no_regular_file(rt: HostRuntime) -> Result<(), Fail> {
         "/dev/null",
         "",
     ] {
-        assert!(rt; matches!(disk.read(path), Err(FilesFault::Unreadable)), "{path}");
+        assert!(rt;
+            matches!(disk.read(path), Err(FilesFault::Unreadable)),
+            "{path}"
+        );
     }
     assert_eq!(rt; disk.faults(), 6);
     fs::remove_dir_all(&rt, folder.as_path())?;
@@ -62,9 +68,18 @@ fn bytes_that_are_no_text(rt: HostRuntime) -> Result<(), Fail> {
     let folder = make_folder(&rt, "mgs_disk_bytes")?;
     let path = within(&rt, &folder, "a.txt")?;
     let mut disk = Disk::new(&rt);
-    for bytes in [b"ab\xff".as_slice(), b"\xe2\x82".as_slice(), b"\xc0\x80a".as_slice()] {
+    for bytes in [
+        b"ab\xff".as_slice(),
+        b"\xe2\x82".as_slice(),
+        b"\xc0\x80a".as_slice(),
+    ] {
         fs::write(&rt, path.as_path(), bytes)?;
-        assert!(rt; matches!(disk.read(path.as_path().as_str()), Err(FilesFault::Unreadable)));
+        assert!(rt;
+            matches!(
+                disk.read(path.as_path().as_str()),
+                Err(FilesFault::Unreadable)
+            )
+        );
     }
     assert_eq!(rt; disk.faults(), 3);
     fs::remove_dir_all(&rt, folder.as_path())?;
@@ -83,7 +98,11 @@ fn long_files(rt: HostRuntime) -> Result<(), Fail> {
         ("\u{20ac}a", TEXT_LIMIT + 6, false),
         ("x", TEXT_LIMIT, true),
     ] {
-        fs::write(&rt, path.as_path(), piece.repeat(rt.alloc(), times)?.as_str())?;
+        fs::write(
+            &rt,
+            path.as_path(),
+            piece.repeat(rt.alloc(), times)?.as_str(),
+        )?;
         match disk.read(path.as_path().as_str()) {
             Ok(text) => assert_eq!(rt; text.len() <= TEXT_LIMIT, is_text, "{times} of {piece}"),
             Err(_) => panic!(rt; "{times} of {piece}"),

@@ -24,7 +24,10 @@ fn a_file_that_its_owner_may_not_write(rt: HostRuntime) -> Result<(), Fail> {
 #[test]
 fn what_is_no_file_any_more(rt: HostRuntime) -> Result<(), Fail> {
     let folder = make_folder(&rt, "mgs_disk_planted")?;
-    let (path, other) = (within(&rt, &folder, "a.txt")?, within(&rt, &folder, "other.txt")?);
+    let (path, other) = (
+        within(&rt, &folder, "a.txt")?,
+        within(&rt, &folder, "other.txt")?,
+    );
     write_file(&rt, path.as_path(), "old", 0o644)?;
     write_file(&rt, other.as_path(), "other", 0o644)?;
     let mut store = store_at(&rt, path.as_path())?;
@@ -76,7 +79,10 @@ fn a_rename_that_fails(rt: HostRuntime) -> Result<(), Fail> {
 #[test]
 fn a_link_in_the_way_of_the_new_file(rt: HostRuntime) -> Result<(), Fail> {
     let folder = make_folder(&rt, "mgs_disk_way")?;
-    let (path, other) = (within(&rt, &folder, "a.txt")?, within(&rt, &folder, "other.txt")?);
+    let (path, other) = (
+        within(&rt, &folder, "a.txt")?,
+        within(&rt, &folder, "other.txt")?,
+    );
     write_file(&rt, path.as_path(), "old", 0o644)?;
     write_file(&rt, other.as_path(), "other", 0o644)?;
     let planted = within(&rt, &folder, ".mgd-0000000000000000")?;

@@ -57,10 +57,16 @@ fn a_file_that_is_made_is_private(rt: HostRuntime) -> Result<(), Fail> {
 #[test]
 fn a_link_stays_a_link(rt: HostRuntime) -> Result<(), Fail> {
     let folder = make_folder(&rt, "mgs_disk_link")?;
-    let (inner, target) = (within(&rt, &folder, "inner")?, within(&rt, &folder, "inner/a.txt")?);
+    let (inner, target) = (
+        within(&rt, &folder, "inner")?,
+        within(&rt, &folder, "inner/a.txt")?,
+    );
     fs::create_dir(&rt, inner.as_path())?;
     write_file(&rt, target.as_path(), "old", 0o640)?;
-    let (outer, link) = (within(&rt, &folder, "outer")?, within(&rt, &folder, "outer/b.txt")?);
+    let (outer, link) = (
+        within(&rt, &folder, "outer")?,
+        within(&rt, &folder, "outer/b.txt")?,
+    );
     symlink(&rt, "inner", outer.as_path())?;
     symlink(&rt, "a.txt", link.as_path())?;
     let mut store = store_at(&rt, link.as_path())?;

@@ -1,4 +1,6 @@
 // The store of a server whose buffers have no files.
+ghost use Rattle.std.specs.Prelude.{◌≡◌};
+
 use crate::{Store, StoreFault};
 
 /// A store that accepts nothing.
@@ -9,7 +11,9 @@ pub struct RefusingStore {
 
 impl RefusingStore {
     /// A store that was asked for nothing yet.
-    pub fn new() -> RefusingStore {
+    pub fn new() -> RefusingStore
+        ensures { ⟦<RefusingStore as Store>⟧.failed result ≡ 0 }
+    {
         RefusingStore { faults: 0 }
     }
 }
