@@ -2,9 +2,9 @@
 #![tactic(auto)]
 
 mod arguments;
-mod prepare;
+mod preparing;
 mod streams;
-mod tell;
+mod telling;
 
-pub use prepare::{FAILED, NO_MEMORY, NO_SOCKETS, WRONG_ARGUMENTS, Work, prepare};
-pub use tell::tell;
+pub use preparing::{FAILED, NO_MEMORY, NO_SOCKETS, WRONG_ARGUMENTS, Work, prepare};
+pub use telling::tell;

@@ -1,10 +1,10 @@
 // What is done before the program does its work.
-ghost use Rattle.std.specs.Prelude.{IfOk};
+ghost use Rattle.std.specs.Prelude.{◌≡◌, ◌≢◌, IfOk, IfErr};
 ghost use Rattle.mgs_command.specs.Works.{IsReady};
 
 use crate::arguments::{Task, read_task};
 use crate::streams::open_closed_streams;
-use crate::tell::tell;
+use crate::telling::tell;
 use mgs_config::Config;
 use mgs_disk::load_config;
 use std::env::Env;
@@ -35,7 +35,9 @@ pub enum Work {
 }
 
 // Tells a cause on standard error.
-fn refuse<R: Eprint>(rt: &R, line: &str, status: u8) -> Result<Work, u8> {
+fn refuse<R: Eprint>(rt: &R, line: &str, status: u8) -> Result<Work, u8>
+    ensures { result ≡ Err status }
+{
     tell(rt, line);
     Err(status)
 }
@@ -46,7 +48,8 @@ fn prepare_serving<R: fs::Files<File = File> + AllocGlobal + Eprint>(
     path: &str,
     port: u16,
 ) -> Result<Work, u8>
-    ensures { IfOk result IsReady }
+    ensures ok { IfOk result IsReady }
+    ensures err { IfErr result (λ status. status ≢ 0) }
 {
     if open_closed_streams(rt).is_err() {
         return refuse(rt, "listening failed", NO_SOCKETS);
@@ -66,7 +69,8 @@ fn prepare_serving<R: fs::Files<File = File> + AllocGlobal + Eprint>(
 /// Where that is refused the cause is told on standard error, and `Err` has the program's status. Before a configuration is read, the
 /// null device is opened as each standard stream that is closed; where it cannot be, nothing is served.
 pub fn prepare<R: Env + fs::Files<File = File> + AllocGlobal + Eprint>(rt: &R) -> Result<Work, u8>
-    ensures { IfOk result IsReady }
+    ensures ok { IfOk result IsReady }
+    ensures err { IfErr result (λ status. status ≢ 0) }
 {
     match read_task(rt) {
         Ok(Task::Replay) => Ok(Work::Replay),
