@@ -1,14 +1,14 @@
 #!/usr/bin/env python3
 """Tries a server over sockets: python3 bench/try_server.py [PROGRAM]
 
-It starts the server that stands in crates/mgd/out/mgd (or PROGRAM) on a port of its own, over examples/office.toml, logs in as
+It starts the server that stands in crates/mgd/out/mgd (or PROGRAM) on a port of its own, over bench/office.toml, logs in as
 terminals do, and looks at what they show. It is started by hand and ends with status 0 if all is as it should be.
 """
 import os, re, signal, socket, subprocess, sys, tempfile, time
 
 TOP = os.path.dirname(os.path.dirname(os.path.abspath(__file__)))
 PROGRAM = sys.argv[1] if len(sys.argv) > 1 else os.path.join(TOP, "crates", "mgd", "out", "mgd")
-OFFICE = os.path.join(TOP, "examples", "office.toml")
+OFFICE = os.path.join(TOP, "bench", "office.toml")
 failures = []
 
 
