@@ -42,7 +42,7 @@ put() {
 # The same of a text, in which join is mgd-join, since every system has another join, and the program lies in PREFIX.
 put_text() {
     text=$(mktemp)
-    sed -e 's/^\.Dt JOIN 1/.Dt MGD-JOIN 1/' -e 's/^\(\.Nm\) join$/\1 mgd-join/' -e 's/^\(\.Xr\) join 1/\1 mgd-join 1/' \
+    sed -e 's/^\.Dt JOIN 1/.Dt MGD-JOIN 1/' -e 's/^\.Nm join\( .*\)\{0,1\}$/.Nm mgd-join\1/' -e 's/^\(\.Xr\) join 1/\1 mgd-join 1/' \
         -e "s|/usr/local/bin/mgd|$prefix/bin/mgd|g" "$1" > "$text"
     put 0644 "$text" "$2"
     rm "$text"
