@@ -1,173 +1,747 @@
 #!/usr/bin/env python3
 """Tries ./join behind pseudo terminals: python3 bench/try_join.py [PROGRAM]
 
-It starts the server that stands in crates/mgd/out/mgd (or PROGRAM) over examples/office.toml, and joins it with each kind of nc and
-with socat, and in each shell, as far as they are there. It is started by hand and ends with status 0 if all is as it should be.
+Most of it joins a server that is played here, so that each byte is known that is sent and taken. Where crates/mgd/out/mgd (or PROGRAM)
+is there, some cases join that, over a configuration like examples/office.toml. It is started by hand and ends with status 0 if all is as
+it should be.
 """
-import fcntl, os, pty, select, shutil, signal, struct, subprocess, sys, tempfile, termios, time
+import fcntl, os, pty, random, re, select, shutil, signal, socket, stat, struct, subprocess, sys, tempfile, termios, time, unicodedata
 
 TOP = os.path.dirname(os.path.dirname(os.path.abspath(__file__)))
 PROGRAM = sys.argv[1] if len(sys.argv) > 1 else os.path.join(TOP, "crates", "mgd", "out", "mgd")
-OFFICE = os.path.join(TOP, "examples", "office.toml")
 JOIN = os.path.join(TOP, "join")
-NEEDED = ["sh", "stty", "cat", "dd", "mktemp", "mkfifo", "rm", "sleep", "ls", "sed", "grep", "printf", "kill"]
-USAGE = "usage: join NAME TICKET [HOST PORT]\r\n"
+USAGE = "usage: join [--raw] [--host HOST] [--port PORT] [--ticket-file FILE] NAME [TICKET [HOST PORT]]\r\n"
 FOLDER = tempfile.TemporaryDirectory()
-failures = []
+FIRST = b"\x1b[?7l\x1b[m\x1b[2J\x1b[1;1Hhello\x1b[1;3H"
+QUIT = b"\x18\x03"
+PAUSE = 0.25  # longer than join waits for the rest of a sequence
+results = []
 
 
 def expect(what, is_so, seen=""):
-    print(("ok    " if is_so else "FAILED ") + what + ("" if is_so else f": {seen!r}"))
-    if not is_so:
-        failures.append(what)
+    print(("ok    " if is_so else "FAILED ") + what + ("" if is_so else f": {seen!r}"), flush=True)
+    results.append(is_so)
+
+
+def columns(character):
+    return 2 if unicodedata.east_asian_width(character) in "WF" else 1
+
+
+class Screen:
+    """A terminal: its cells, each a character and whether it is in reverse, where "" is a right half. What it is not made for, and each
+    place outside of it, is noted in faults."""
+
+    SEQUENCE = re.compile(r"\x1b\[([?\d;]*)([A-Za-z])|[\r\n]|[^\x00-\x1f]", re.S)
+
+    def __init__(self, rows, cols):
+        self.faults, self.unread = [], b""
+        self.is_wrapping, self.is_reversed, self.is_past = True, False, False
+        self.resize(rows, cols)
+
+    def resize(self, rows, cols, fill=" "):
+        self.rows, self.cols, self.row, self.col = rows, cols, 0, 0
+        self.cells = [[(fill, False)] * cols for _ in range(rows)]
+
+    def feed(self, data):
+        self.unread += data
+        text = self.unread.decode(errors="ignore")  # a character that is cut at the end waits
+        done = 0
+        for found in self.SEQUENCE.finditer(text):
+            if found.start() != done:
+                break
+            done = found.end()
+            if found[2]:
+                self.control(found[1], found[2])
+            else:
+                self.put(found[0])
+        if not re.fullmatch(r"(\x1b(\[[?\d;]*)?)?", text[done:]):
+            self.faults.append(text[done:])
+        self.unread = self.unread[len(text[:done].encode()):]
+
+    def control(self, given, letter):
+        self.is_past = False
+        if letter == "H":
+            row, col = (int(word or 1) for word in (given + ";1").split(";")[:2])
+            if not (1 <= row <= self.rows and 1 <= col <= self.cols):
+                self.faults.append((row, col))
+            self.row, self.col = min(row, self.rows) - 1, min(col, self.cols) - 1
+        elif letter == "K":
+            self.fill(self.row, self.col)
+        elif letter == "J":
+            self.fill(self.row, self.col) if given != "2" else None
+            for row in range(0 if given == "2" else self.row + 1, self.rows):
+                self.fill(row, 0)
+        elif letter == "m":
+            self.is_reversed = given == "7"
+        elif given == "?7" and letter in "hl":
+            self.is_wrapping = letter == "h"
+        else:
+            self.faults.append(given + letter)
+
+    def fill(self, row, col):
+        self.part(row, col)
+        self.cells[row][col:] = [(" ", False)] * (self.cols - col)
+
+    def part(self, row, col):
+        if 0 < col < self.cols and self.cells[row][col][0] == "":
+            for half in (col - 1, col):
+                self.cells[row][half] = (" ", self.cells[row][half][1])
+
+    def put(self, character):
+        if character == "\r":
+            self.col, self.is_past = 0, False
+            return
+        if character == "\n" or self.is_wrapping and self.is_past:
+            self.is_past = False
+            if self.row + 1 == self.rows:
+                self.cells = self.cells[1:] + [[(" ", False)] * self.cols]
+            else:
+                self.row += 1
+            if character == "\n":
+                return
+            self.col = 0
+        wide = columns(character)
+        if self.col + wide > self.cols:
+            self.faults.append(character)
+            return
+        self.part(self.row, self.col)
+        self.part(self.row, self.col + wide)
+        self.cells[self.row][self.col:self.col + wide] = [(character, self.is_reversed), ("", self.is_reversed)][:wide]
+        self.is_past = self.col + wide == self.cols
+        self.col = min(self.col + wide, self.cols - 1)
+
+    def lines(self):
+        return ["".join(cell[0] for cell in row).rstrip() for row in self.cells]
+
+    def cut(self, rows, cols):
+        """What a terminal of another size shows of this one."""
+        cells = [[(" ", False)] * cols for _ in range(rows)]
+        for row in range(min(rows, self.rows)):
+            for col in range(min(cols, self.cols)):
+                cells[row][col] = self.cells[row][col]
+            if cols < self.cols and self.cells[row][cols][0] == "":
+                cells[row][cols - 1] = (" ", self.cells[row][cols - 1][1])
+        return cells, (min(self.row, rows - 1), min(self.col, cols - 1))
 
 
 class Server:
-    """A server on a port of its own."""
+    """A server that is played: it takes one connection after the other, and knows the bytes of the last one."""
 
     def __init__(self):
-        self.process = subprocess.Popen([PROGRAM, "serve", OFFICE, "0"], stdout=subprocess.PIPE)
-        self.port = self.process.stdout.readline().decode().strip().rpartition(":")[2]
+        self.socket = socket.create_server(("127.0.0.1", 0))
+        self.port = str(self.socket.getsockname()[1])
+        self.to = ["127.0.0.1", self.port]
+        self.got = b""
 
-    def kill(self):
-        self.process.kill()
-        self.process.wait()
+    def accept(self, answer=FIRST):
+        self.socket.settimeout(20)
+        self.peer, _ = self.socket.accept()
+        self.peer.settimeout(20)
+        login = b""
+        while not login.endswith(b"\n"):
+            login += self.peer.recv(1) or b"end\n"
+        self.got = b""
+        self.peer.sendall(answer)
+        return login
+
+    def take(self, wanted, most=8.0, terminal=None):
+        """What is typed until it is so much as is wanted."""
+        end = time.time() + most
+        while len(self.got) < len(wanted) and time.time() < end:
+            if terminal:
+                terminal.pump(0)
+            if select.select([self.peer], [], [], 0.02)[0]:
+                more = self.peer.recv(65536)
+                if not more:
+                    break
+                self.got += more
+        got, self.got = self.got, b""
+        return got
+
+    def close(self, is_reset=False):
+        if is_reset:
+            self.peer.setsockopt(socket.SOL_SOCKET, socket.SO_LINGER, struct.pack("ii", 1, 0))
+        self.peer.close()
+
+
+# Stands for a shell: it gives the terminal to a job, and takes it back where the job stops, until SIGUSR1.
+LEADER = """
+import os, signal, sys
+signal.signal(signal.SIGTTOU, signal.SIG_IGN)
+job = os.fork()
+if job == 0:
+    os.setpgid(0, 0)
+    os.tcsetpgrp(0, os.getpid())
+    signal.signal(signal.SIGTTOU, signal.SIG_DFL)
+    os.execv(sys.argv[1], sys.argv[1:])
+def go_on(number, frame):
+    os.tcsetpgrp(0, job)
+    os.kill(job, signal.SIGCONT)
+signal.signal(signal.SIGUSR1, go_on)
+while True:
+    _, status = os.waitpid(job, os.WUNTRACED)
+    if not os.WIFSTOPPED(status):
+        sys.exit(os.waitstatus_to_exitcode(status) % 256)
+    os.tcsetpgrp(0, os.getpgrp())
+    os.write(1, b"[stopped %d]" % job)
+"""
 
 
 class Joined:
     """A join whose terminal is a pseudo terminal."""
 
-    def __init__(self, words, path, shell=None, rows=24, cols=80, program=JOIN):
+    def __init__(self, words, rows=24, cols=80, program=JOIN, leader=(), **variables):
         self.terminal, self.slave = pty.openpty()
-        fcntl.ioctl(self.slave, termios.TIOCSWINSZ, struct.pack("HHHH", rows, cols, 0, 0))
-        self.before = termios.tcgetattr(self.slave)
-        self.process = subprocess.Popen((shell or []) + [program, *words], env={"PATH": path}, stdin=self.slave, stdout=self.slave,
-                                        stderr=self.slave, start_new_session=True,
+        self.resize(rows, cols)
+        self.screen, self.raw = Screen(rows, cols), b""
+        self.before = self.state()
+        self.process = subprocess.Popen([*leader, program, *words], env={"PATH": os.environ["PATH"], "LC_ALL": "C.UTF-8", **variables},
+                                        stdin=self.slave, stdout=self.slave, stderr=self.slave, start_new_session=True,
                                         preexec_fn=lambda: fcntl.ioctl(0, termios.TIOCSCTTY, 0))
-        self.got = ""
+
+    def state(self):
+        """All that is to be as it was: the terminal's attributes, what stty tells of them, and who may write to it."""
+        told = subprocess.run(["stty", "-a"], stdin=self.slave, capture_output=True).stdout
+        return termios.tcgetattr(self.slave), told, stat.S_IMODE(os.fstat(self.slave).st_mode)
+
+    def resize(self, rows, cols):
+        fcntl.ioctl(self.slave, termios.TIOCSWINSZ, struct.pack("HHHH", rows, cols, 0, 0))
 
     def type(self, keys):
         os.write(self.terminal, keys)
         return self
 
+    def pump(self, most):
+        if select.select([self.terminal], [], [], most)[0]:
+            data = os.read(self.terminal, 65536)
+            self.raw += data
+            self.screen.feed(data)
+
+    @property
+    def got(self):
+        return self.raw.decode(errors="replace")
+
+    def wait_until(self, is_so, most=8.0):
+        end = time.time() + most
+        while not is_so() and time.time() < end:
+            self.pump(0.02)
+        return is_so()
+
     def wait_for(self, text, most=8.0):
-        end = time.time() + most
-        while text not in self.got and time.time() < end:
-            if select.select([self.terminal], [], [], 0.1)[0]:
-                self.got += os.read(self.terminal, 65536).decode()
-        return text in self.got
+        return self.wait_until(lambda: text in self.got, most)
 
-    def end(self, most=8.0):
-        """Waits for its end: its status, whether the terminal is as it was, and whether all that it started has ended."""
-        end = time.time() + most
-        while self.process.poll() is None and time.time() < end:
-            self.wait_for("\0", most=0.1)
-        self.wait_for("\0", most=0.2)
-        is_restored = termios.tcgetattr(self.slave) == self.before
-        while self.is_there() and time.time() < end:
-            time.sleep(0.1)
-        return self.process.returncode, is_restored, not self.is_there()
+    def shows(self, text, most=8.0):
+        return self.wait_until(lambda: any(text in line for line in self.screen.lines()), most)
 
-    def is_there(self):
-        try:
-            os.killpg(self.process.pid, 0)
-            return True
-        except ProcessLookupError:
-            return False
+    def end(self, most=10.0):
+        """Waits for its end: its status, and whether the terminal is as it was."""
+        self.wait_until(lambda: self.process.poll() is not None, most)
+        self.pump(0.1)
+        self.pump(0)
+        if self.process.poll() is None:
+            self.process.kill()
+            return "it goes on", False
+        return self.process.returncode, self.state()[:2] + (self.before[2],) == self.before and self.state() == self.before
 
 
-def path_of(tools):
-    """A path with the programs that join needs, and with these tools: pairs of a name and a path."""
-    folder = tempfile.mkdtemp(dir=FOLDER.name)
-    for name, path in [(name, shutil.which(name)) for name in NEEDED] + tools:
-        os.symlink(path, os.path.join(folder, name))
-    return folder
+def joined(server, words=(), answer=FIRST, **more):
+    """One that has begun."""
+    one = Joined([*words, "ann", "apple", *server.to], **more)
+    one.login = server.accept(answer)
+    if answer == FIRST:
+        one.wait_until(lambda: one.screen.lines()[0] == "hello" and one.screen.col == 2)
+    return one
 
 
-def try_tool(tool, path, shell=None):
-    server = Server()
-    ann = ["ann", "apple", "127.0.0.1", server.port]
-    one = Joined(ann, path, shell)
-    expect(f"{tool}: the screen is shown", one.wait_for("office."), one.got)
-    one.type(b"\x11\x13\x11\x11\x11\x03\x11\x1c\x11\x1a.").wait_for(".")
-    other = Joined(ann, path, shell)
-    expect(f"{tool}: C-s, C-q, C-c, C-\\ and C-z are keys", other.wait_for("^S^Q^C^\\^Z."), other.got)
-    other.process.terminate()
-    other.end()
-    ended = one.type(b"\x18\x03").end()
-    expect(f"{tool}: C-x C-c ends it", ended == (0, True, True), ended)
-    tail = "\x1b[?7h\x1b[m\x1b[24;1H\r\n\x1b[Jjoin: the session is over\r\n"
-    expect(f"{tool}: the cursor is left below the screen", one.got.endswith(tail), one.got[-80:])
-    for number in [signal.SIGINT, signal.SIGTERM, signal.SIGHUP, signal.SIGQUIT]:
-        one = Joined(ann, path, shell)
-        one.wait_for("office.")
-        one.process.send_signal(number)
-        ended = one.end()
-        expect(f"{tool}: {number.name} ends it", ended == (128 + number, True, True), ended)
-    one = Joined(["ann", "pear"] + ann[2:], path, shell)
-    seen = one.end(), one.got
-    wanted = "join: refused: this is not the ticket of ann (3 Ticket)\r\n"
-    expect(f"{tool}: a refused login is told in words", seen == ((1, True, True), wanted), seen)
-    done = subprocess.run((shell or []) + [JOIN, *ann], env={"PATH": path}, input=b"end ", capture_output=True, timeout=20)
-    expect(f"{tool}: the end of its input ends it", done.returncode == 0, done)
-    one = Joined(ann, path, shell)
-    expect(f"{tool}: what came before that end was typed", one.wait_for("end "), one.got)
-    server.kill()
-    ended = one.end()
-    expect(f"{tool}: the server's end ends it", ended == (0, True, True), ended)
-    one = Joined(ann, path, shell)
-    seen = one.end(), one.got
-    wanted = f"join: nothing answers at 127.0.0.1 port {server.port}; is mgd serve running there?\r\n"
-    expect(f"{tool}: no server is told in words", seen == ((1, True, True), wanted), seen)
+# What the keys of xterm, tmux, screen, the Linux console and VT220 send, and what is to reach the server.
+ARROWS = [(f"{lead}{letter}", f"\x1b[{letter}") for lead in ["\x1b[", "\x1bO"] for letter in "ABCD"]
+MOVES = [("\x1b[H", "\x01"), ("\x1bOH", "\x01"), ("\x1b[1~", "\x01"), ("\x1b[7~", "\x01"), ("\x1b[F", "\x05"), ("\x1bOF", "\x05"),
+         ("\x1b[4~", "\x05"), ("\x1b[8~", "\x05"), ("\x1b[3~", "\x04"), ("\x1b[5~", "\x1bv"), ("\x1b[6~", "\x16"), ("\x08", "\x7f"),
+         ("\x1b\x08", "\x1b\x7f"), ("\x7f", "\x7f")]
+SILENT = ["\x1b[2~"] + [f"\x1bO{letter}" for letter in "PQRSMXjklmnopqrstuvwxy"] + [f"\x1b[{number}~" for number in range(11, 35)]
+SILENT += [f"\x1b[[{letter}" for letter in "ABCDE"] + [f"\x1b[1;{bits}{letter}" for bits in range(2, 9) for letter in "ABCDHFPQRS"]
+SILENT += [f"\x1b[{number};{bits}~" for number in [2, 3, 5, 6, 15, 24] for bits in [2, 5, 8]] + ["\x1b[Z", "\x1b[E", "\x1b[G", "\x1bO5A"]
+SILENT += ["\x1b\x1b[A", "\x1b\x1bOA", "\x1b\x1b[5~", "\x1b[I", "\x1b[O", "\x1b[200~", "\x1b[201~", "\x1b[27;5;97~", "\x1b[97;5u"]
+SILENT += ["\x1b[<0;10;20M", "\x1b[<0;10;20m", "\x1b[M !!", "\x1b[M#\x7f~", "\x1b[32;10;10M", "\x1b[?64;1;2c", "\x1b[24;80R", "\x1b[?1;2$y"]
+SILENT += ["\x1b[7$", "\x1b[>1;95;0c", "\x1b]11;rgb:1e1e/1e1e/1e1e\x1b\\", "\x1b]10;rgb:0/0/0\x07", "\x1bP>|xterm(390)\x1b\\", "\x1b[1 q"]
+PLAIN = [bytes([byte]).decode() for byte in range(0x20) if byte not in (0x08, 0x1b, 0x1d)] + [chr(byte) for byte in range(0x20, 0x7f)]
+METAS = ["\x1b" + key for key in PLAIN if key not in "[O]P"] + ["\x1b\x1d"]
+BY_HAND = ["\x1b[", "\x1bO", "\x1b]", "\x1bP", "\x1b\x1b"]
+WIDER = ["\u00e9", "\u6f22", "\U0001f600", "\u07ff\u0800\uffff\U0010ffff", "\u4e1b", "\ud7ff\ue000", "\x1b\u00e9"]
+PASTE = [("\x1b[200~two\rlines \u6f22\x1b[201~", "two\rlines \u6f22")]
+CASES = ARROWS + MOVES + PASTE + [(keys, "") for keys in SILENT] + [(keys, keys) for keys in PLAIN + METAS + BY_HAND + WIDER]
 
 
-def try_words(path):
-    for words in [[], ["--help"], ["ann"], ["ann", "apple", "localhost"], ["ann", "apple", "localhost", "70000"], ["ann", "apple", "-l", "1"],
-                  ["ann", "ap ple"], ["", "apple"], ["ann", "apple", "localhost", "80", "more"]]:
-        one = Joined(words, path)
-        seen = one.end(), one.got
-        expect(f"{words} is answered by the usage line", seen == ((2, True, True), USAGE), seen)
-
-
-def try_sizes(path):
-    server = Server()
-    ann = ["ann", "apple", "127.0.0.1", server.port]
-    for rows, cols, is_room in [(5, 80, False), (24, 19, False), (6, 20, True), (64, 160, True), (100, 300, True)]:
-        one = Joined(ann, path, rows=rows, cols=cols)
-        if is_room:
-            seen = one.wait_for(f"\x1b[{min(rows, 64) - 1};1H"), one.got
-            expect(f"{rows} by {cols} is served", seen[0], seen)
-            one.process.terminate()
-            one.end()
-        else:
-            seen = one.end(), one.got
-            wanted = f"join: a terminal of {rows} rows and {cols} columns is too small; 6 and 20 are needed\r\n"
-            expect(f"{rows} by {cols} is too small", seen == ((1, True, True), wanted), seen)
-    link = os.path.join(path, "other-name")
-    os.symlink(JOIN, link)
-    one = Joined(ann, path, program=link)
-    expect("a link to it does the same", one.wait_for("office."), one.got)
-    server.kill()
+def try_keys(server):
+    one = joined(server)
+    expect("the login line has the size", one.login == b"login ann apple 24 80\n", one.login)
+    for keys, wanted in CASES:
+        given, wanted = keys.encode("utf-8", "surrogatepass"), wanted.encode("utf-8", "surrogatepass") + b"."
+        wrong = []
+        for cut in range(len(given)) if len(given) < 9 else [0, 3]:  # whole, and in two reads
+            if cut:
+                one.type(given[:cut])
+                time.sleep(0.015)
+            one.type(given[cut:])
+            if keys in BY_HAND or keys == "\x1b[7$":
+                time.sleep(PAUSE)
+            one.type(b".")
+            got = server.take(wanted, terminal=one)
+            if got != wanted:
+                wrong.append((cut, got))
+        expect(f"{keys!r} is {wanted[:-1]!r}", not wrong, wrong)
+    server.close()
     one.end()
 
 
-def main():
-    tools = [("socat", "socat")] + [("nc", name) for name in ["nc.openbsd", "nc.traditional", "ncat", "nc"]]
-    tools = [(name, os.path.realpath(shutil.which(kind))) for name, kind in tools if shutil.which(kind)]
-    for tool in dict.fromkeys(tools):
-        try_tool(tool[1], path_of([tool]))
-    for shell in ["dash", "bash", "mksh", "ksh93", "posh"]:
-        if shutil.which(shell):
-            try_tool(shell, path_of(tools[-1:]), [shutil.which(shell)])
-    path = path_of(tools[:1])
-    try_words(path)
-    try_sizes(path)
-    one = Joined(["ann", "apple"], path_of([]))
+def typed(server, one, *keys):
+    """What arrives of keys between which time goes by."""
+    for some in keys:
+        one.type(some)
+        time.sleep(PAUSE)
+    one.type(b".")
+    return server.take(b"." * 4096, most=0.4, terminal=one)
+
+
+def try_slow_keys(server):
+    one = joined(server)
+    for what, keys, wanted in [
+        ("ESC and a key typed slowly", [b"\x1b", b"x"], b"\x1bx"),
+        ("ESC, [ and A typed slowly", [b"\x1b", b"[", b"A"], b"\x1b[A"),
+        ("ESC [ and A, of which [ came with ESC", [b"\x1b[", b"A"], b"\x1b[A"),
+        ("ESC and C-g", [b"\x1b", b"\x07"], b"\x1b\x07"),
+        ("ESC [ and C-g", [b"\x1b[", b"\x07"], b"\x1b[\x07"),
+        ("ESC [ C-g at once", [b"\x1b[\x07"], b"\x1b[\x07"),
+        ("an arrow cut behind its ESC", [b"\x1b", b"[A"], b"\x1b[A"),
+        ("Home cut behind its ESC types no more than M-ESC", [b"\x1b", b"[1~"], b"\x1b\x1b\x01"),
+        ("ESC, and F5 a while later", [b"\x1b", b"\x1b[15~", b"x"], b"\x1b\x1bx"),
+        ("a sequence that does not end", [b"\x1b[1;5", b"x"], b"x"),
+        ("a sequence that a control character ends", [b"\x1b[1;5\x07"], b"\x07"),
+        ("a mouse report that does not end", [b"\x1b[M!", b"x"], b"x"),
+        ("C-q and ESC", [b"\x11\x1b", b"\x1b[A"], b"\x11\x1b\x1b[A"),
+        ("C-q and Home", [b"\x11\x1b[H", b"x"], b"\x11x"),
+        ("C-q and ^H", [b"\x11\x08"], b"\x11\x08"),
+        ("C-q C-q and ^H", [b"\x11\x11\x08"], b"\x11\x11\x7f"),
+        ("C-x and an arrow: the word is no key, and no letter is typed", [b"\x18", b"\x1b[A", b"\x1b[A"], b"\x18\x1b[\x1b[A"),
+        ("M-[ and an arrow, the same", [b"\x1b[", b"\x1b[A", b"x"], b"\x1b[\x1b[x"),
+        ("half a character waits", [b"\xe6\xbc", b"\xa2"], "漢".encode()),
+        ("a byte that is no character stays one", [b"\xe6a", b"\xff"], b"\xe6a\xff"),
+        ("8-bit CSI and SS3", [b"\x9b3~\x8fA\x9bH"], b"\x04\x1b[A\x01"),
+        ("C-] C-] is one", [b"\x1d\x1d"], b"\x1d"),
+        ("C-] and another key sends nothing", [b"\x1dx", b"\x1d\x1b[A", b"\x1d\x1b"], b""),
+    ]:
+        got = typed(server, one, *keys)
+        expect(what, got == wanted + b".", got)
+    server.close()
+    one.end()
+
+    one = joined(server, LC_ALL="C")
+    for what, keys, wanted in [
+        ("C: a byte with the eighth bit is a letter with Meta", [b"\xf8", b"\xe6\xe6", b"\xbc", b"\x88"], b"\x1bx\x1bf\x1bf\x1b<\x1b\x7f"),
+        ("C: UTF-8 is UTF-8", ["é漢😀".encode(), b"\xe6\xbc\xa2"], "é漢😀漢".encode()),
+        ("C: 8-bit sequences", [b"\x9b3~\x8fA"], b"\x04\x1b[A"),
+        ("C: M-[ by hand", [b"\x9b", b"A"], b"\x1b[A"),
+        ("C: ESC and a letter with Meta", [b"\x1b\xf8"], b"\x1bx"),
+    ]:
+        got = typed(server, one, *keys)
+        expect(what, got == wanted + b".", got)
+    server.close()
+    one.end()
+
+    one = joined(server, ["--raw"])
+    keys = b"\x1b[1~\x08\x1d\x1d\xff\x1b[200~\x1bOA"
+    got = typed(server, one, keys)
+    expect("--raw sends all bytes as they are", got == keys + b".", got)
+    server.close()
+    one.end()
+
+
+def try_terminfo(server):
+    """The keys as the system's database of terminals has them."""
+    same = {"\x1b[H": "\x01", "\x1b[F": "\x05", "\x1b\t": "\x1b\t", **{f"\x1bO{letter}": f"\x1b[{letter}" for letter in "ABCD"}}
+    meant = {"kcuu1": "\x1b[A", "kcud1": "\x1b[B", "kcuf1": "\x1b[C", "kcub1": "\x1b[D", "khome": "\x01", "kend": "\x05", "kdch1": "\x04",
+             "kpp": "\x1bv", "knp": "\x16", "kbs": "\x7f", "kfnd": "\x01", "kslt": "\x05"}
+    if not shutil.which("infocmp"):
+        return
+    one = joined(server)
+    for kind in ["xterm", "xterm-256color", "tmux", "tmux-256color", "screen", "screen-256color", "linux", "vt220", "rxvt"]:
+        told = subprocess.run(["infocmp", "-1", "-x", kind], capture_output=True, text=True)
+        wrong, count = [], 0
+        for name, value in re.findall(r"^\t(k\w+)=(.*),$", told.stdout, re.M):
+            keys = value.replace("\\E", "\x1b").replace("^I", "\t").replace("^H", "\b").replace("^?", "\x7f").replace("\\", "")
+            if not keys.startswith("\x1b") and name not in meant or name == "kmous":  # the beginning of a report
+                continue
+            one.type(keys.encode())
+            if keys.endswith(("$",)):
+                time.sleep(PAUSE)
+            one.type(b".")
+            wanted = meant.get(name, same.get(keys, "")).encode() + b"."
+            got = server.take(wanted, terminal=one)
+            count += 1
+            if got != wanted:
+                wrong.append((name, keys, got))
+        if count:
+            expect(f"the {count} keys of {kind}", not wrong, wrong)
+    server.close()
+    one.end()
+
+
+def random_paint(chance, model):
+    """Some sequences and characters, which the model has then taken."""
+    paint = ""
+    for _ in range(chance.randrange(1, 12)):
+        kind = chance.randrange(8)
+        if kind == 0:
+            piece = "\x1b[K"
+        elif kind == 1:
+            piece = chance.choice(["\x1b[7m", "\x1b[m", "\x1b[7m"])
+        elif kind == 2 and chance.randrange(12) == 0:
+            piece = "\x1b[2J"
+        elif kind < 5:
+            piece = f"\x1b[{chance.randrange(model.rows) + 1};{chance.randrange(model.cols) + 1}H"
+        else:
+            piece = ""
+            for _ in range(chance.randrange(1, 30)):
+                character = chance.choice("abc  é漢字🙂~")
+                if model.col + columns(character) <= model.cols:
+                    model.feed(character.encode())
+                    paint += character
+        model.feed(piece.encode())
+        paint += piece
+    return paint.encode()
+
+
+def differences(one, model):
+    cells, cursor = model.cut(one.screen.rows, one.screen.cols)
+    wrong = [(row, one.screen.cells[row], cells[row]) for row in range(one.screen.rows) if one.screen.cells[row] != cells[row]]
+    return wrong + ([] if (one.screen.row, one.screen.col) == cursor else [((one.screen.row, one.screen.col), cursor)])
+
+
+def try_pictures(server):
+    for rows, cols in [(6, 20), (24, 80), (70, 170)]:
+        chance = random.Random(rows)
+        model = Screen(min(rows, 64), min(cols, 160))
+        one = Joined(["ann", "apple", *server.to], rows=rows, cols=cols)
+        one.screen.resize(rows, cols, "X")
+        first = b"\x1b[?7l\x1b[m\x1b[2J\x1b[1;1H"
+        login = server.accept(first)
+        model.feed(first)
+        expect(f"{rows} by {cols}: the size that is asked for", login == f"login ann apple {min(rows, 64)} {min(cols, 160)}\n".encode(), login)
+        wrong = []
+        for turn in range(60):
+            if turn % 5 == 4:
+                while select.select([one.terminal], [], [], 0.1)[0]:
+                    one.pump(0)
+                size = chance.randrange(2, rows + 9), chance.randrange(2, cols + 9)
+                one.screen.resize(*size, "X")
+                one.resize(*size)
+            paint = random_paint(chance, model)
+            cut = chance.randrange(len(paint) + 1)
+            server.peer.sendall(paint[:cut])
+            if turn % 3 == 0:
+                time.sleep(0.01)
+            server.peer.sendall(paint[cut:])
+            if not one.wait_until(lambda: not differences(one, model), 6.0):
+                wrong.append((turn, one.screen.rows, one.screen.cols, differences(one, model)[:2]))
+        expect(f"{rows} by {cols}: the picture after 60 paints and 12 resizes", not wrong, wrong[:2])
+        expect(f"{rows} by {cols}: nothing is written outside of the terminal", not one.screen.faults, one.screen.faults[:5])
+        one.screen.resize(one.screen.rows, one.screen.cols, "W")
+        one.type(b"\x1dr")
+        expect(f"{rows} by {cols}: C-] r paints over what others wrote", one.wait_until(lambda: not differences(one, model)), one.screen.lines())
+        one.type(QUIT)
+        server.take(QUIT, terminal=one)
+        server.close()
+        one.resize(rows, cols)
+        ended = one.end()
+        expect(f"{rows} by {cols}: its end", ended == (0, True), ended)
+
+
+def try_own_keys(server):
+    one = joined(server)
+    one.type(b"\x1d?")
+    expect("C-] ? says what there is", one.shows("r repaints, q leaves, C-] sends C-]"), one.screen.lines())
+    expect("the cursor is where it was", (one.screen.row, one.screen.col) == (0, 2), one.screen.col)
+    one.type(b"x")
+    server.take(b"x", terminal=one)
+    expect("the next key takes it away", one.wait_until(lambda: one.screen.lines()[23] == ""), one.screen.lines())
+    one.type(b"\x1dz").shows("r repaints")
+    server.peer.sendall(b"\x1b[2;1Hmore")
+    expect("so does the next paint", one.wait_until(lambda: one.screen.lines()[23] == "" and one.screen.lines()[1] == "more"), one.screen.lines())
+    one.type(b"\x1dq")
+    seen = one.end(), server.take(b"?", most=0.5), one.got[-60:]
+    tail = "\x1b[?7h\x1b[m\x1b[24;1H\r\n\x1b[Jjoin: the session is over\r\n"
+    expect("C-] q leaves", seen[0] == (0, True) and seen[1] == b"" and one.got.endswith(tail), seen)
+
+    one = joined(server, rows=6, cols=20)
+    one.type(b"\x1d?")
+    expect("in 20 columns it has room", one.wait_until(lambda: one.screen.lines()[5] == "r repaints, q leaves") and not one.screen.faults,
+           one.screen.lines())
+    server.close()
+    one.end()
+
+
+def try_ends(server):
+    one = joined(server)
+    one.type(QUIT)
+    got = server.take(QUIT, terminal=one)
+    one.type(b"ls\n")  # for the shell: the server is not sent it
+    more = server.take(b"ls\n", most=0.4, terminal=one)
+    server.close()
+    seen = got, more, one.end(), one.got[-60:]
+    expect("C-x C-c ends it, and what is typed behind it is not sent", seen[:3] == (QUIT, b"", (0, True)), seen)
+    expect("what is typed behind it stays for the next reader", select.select([one.slave], [], [], 1)[0] != [], "")
+    tail = "\x1b[?7h\x1b[m\x1b[24;1H\r\n\x1b[Jjoin: the session is over\r\n"
+    expect("the cursor is left below the screen", one.got.endswith(tail), one.got[-80:])
+
+    for what, keys, paint, is_end in [
+        ("M-x save-buffers-kill-emacs", b"\x1bxsave-buffers-kill-emacs\r", b"", True),
+        ("the same by TAB", b"\x1bxsave-buffers-k\t\r", b"\x1b[24;1HM-x save-buffers-kill-emacs", True),
+        ("C-x C-x C-x C-c", b"\x18\x18\x18\x03", b"", True),
+        ("C-x C-x C-c", b"\x18\x18\x03", b"", False),
+        ("C-q C-x C-c", b"\x11\x18\x03", b"", False),
+        ("C-x C-c and then, a while later, another key", b"\x18\x03x", b"", False),
+        ("RET in a text about save-buffers-kill-emacs", b"\r", b"\x1b[1;1HM-x save-buffers-kill-emacs", False),
+        ("nothing typed", b"", b"", False),
+    ]:
+        one = joined(server)
+        server.peer.sendall(paint)
+        if paint:
+            one.shows("save-buffers")
+        one.type(keys)
+        server.take(keys, most=3, terminal=one)
+        server.close()
+        ended = one.end()
+        words = "join: the session is over\r\n" if is_end else "join: the connection was lost: the server closed it\r\n"
+        expect(f"{what}: {'left' if is_end else 'lost'}", ended == (0 if is_end else 3, True) and one.got.endswith(words), (ended, one.got[-70:]))
+
+    one = joined(server)
+    server.close(is_reset=True)
     seen = one.end(), one.got
-    wanted = "join: it needs nc or socat, and neither is on the PATH\r\n"
-    expect("neither nc nor socat is told in words", seen == ((1, True, True), wanted), seen)
-    print(f"{len(failures)} failed")
-    sys.exit(1 if failures else 0)
+    expect("a connection that is reset is lost", seen[0] == (3, True) and seen[1].endswith("join: the connection was lost: Connection reset by peer\r\n"),
+           seen)
+
+    one = joined(server)
+    os.kill(one.process.pid, signal.SIGSTOP)
+    server.peer.settimeout(1)
+    try:
+        for _ in range(4000):
+            server.peer.sendall(b"\x1b[1;1H" + b"x" * 70 + b"\x1b[2;1H" + b"y" * 70)
+    except TimeoutError:
+        pass
+    server.close()
+    os.kill(one.process.pid, signal.SIGCONT)
+    seen = one.end(30), one.got[-100:]
+    wanted = "join: the session was ended as slow: more was painted for it than this terminal took\r\n"
+    expect("one that was ended as slow is told so", seen[0] == (3, True) and one.got.endswith(wanted), seen)
+
+    done = subprocess.Popen([JOIN, "ann", "apple", *server.to], stdin=subprocess.PIPE, stdout=subprocess.PIPE, stderr=subprocess.PIPE)
+    login = server.accept()
+    done.stdin.write(b"end \x1b")
+    done.stdin.close()
+    got = server.take(b"end \x1b")
+    is_closed = server.peer.recv(1) == b""
+    server.close()
+    seen = login, got, is_closed, done.wait(10), done.stderr.read()
+    expect("the end of its input ends it", seen == (b"login ann apple 24 80\n", b"end \x1b", True, 0, b"join: the session is over\n"), seen)
+
+
+def try_refusals(server):
+    for number, word, told in [
+        (1, "Line", "this is no login line"), (2, "NoUser", "no user is called ann"), (3, "Ticket", "this is not the ticket of ann"),
+        (4, "Size", "the server paints no screen of 24 rows and 80 columns"), (5, "Full", "all sessions are taken; try again later"),
+        (6, "Short", "the server has no memory for a session")]:
+        one = Joined(["ann", "apple", *server.to])
+        server.accept(f"refused {number} {word}\n".encode())
+        server.close()
+        seen = one.end(), one.got
+        expect(f"refused {number} is told in words", seen == ((1, True), f"join: refused: {told} ({number} {word})\r\n"), seen)
+    one = Joined(["ann", "apple", *server.to])
+    peer, _ = server.socket.accept()
+    peer.sendall(b"refused 5 Full\n")
+    peer.close()  # before the login line is read, as a full server does
+    seen = one.end(), one.got
+    expect("a full server's answer is not lost", seen == ((1, True), "join: refused: all sessions are taken; try again later (5 Full)\r\n"), seen)
+    for answer, told in [(b"SSH-2.0-x\r\n", "what answers at {} port {} is not mgd"), (b"refused 7 What\n", "what answers at {} port {} is not mgd"),
+                         (b"", "nothing answers at {} port {}; is mgd serve running there?"), (b"refu", "what answers at {} port {} is not mgd")]:
+        one = Joined(["ann", "apple", *server.to])
+        server.accept(answer)
+        server.close()
+        seen = one.end(), one.got
+        expect(f"the answer {answer!r}", seen == ((1, True), f"join: {told.format(*server.to)}\r\n"), seen)
+    free = socket.create_server(("127.0.0.1", 0))
+    port = str(free.getsockname()[1])
+    free.close()
+    for words in [["ann", "apple", "127.0.0.1", port], ["--port", port, "ann", "apple"]]:
+        one = Joined(words)
+        seen = one.end(), one.got
+        expect("no server is told in words", seen == ((1, True), f"join: nothing answers at 127.0.0.1 port {port}; is mgd serve running there?\r\n"), seen)
+    one = Joined(["ann", "apple", *server.to])
+    peer, _ = server.socket.accept()
+    one.wait_for("?", most=0.5)
+    one.type(b"\x03")
+    seen = one.end(), one.got
+    expect("C-c gives up until there is a screen", seen == ((130, True), ""), seen)
+    peer.close()
+
+
+def try_words():
+    for words in [[], ["--raw"], ["-x", "ann"], ["--port"], ["ann", "apple", "localhost"], ["ann", "apple", "localhost", "70000"],
+                  ["ann", "apple", "-l", "1"], ["ann", "ap ple"], ["", "apple"], ["ann", "apple", "localhost", "80", "more"],
+                  ["--host", "a b", "ann", "apple"], ["--port", "x", "ann"]]:
+        one = Joined(words)
+        seen = one.end(), one.got
+        expect(f"{words} is answered by the usage line", seen == ((2, True), USAGE), seen)
+    one = Joined(["--help"])
+    seen = one.end(), one.got
+    expect("--help says more", seen[0] == (0, True) and seen[1].startswith(USAGE) and "C-] q leaves" in seen[1], seen)
+    for rows, cols in [(5, 80), (24, 19)]:
+        one = Joined(["ann", "apple"], rows=rows, cols=cols)
+        seen = one.end(), one.got
+        wanted = f"join: a terminal of {rows} rows and {cols} columns is too small; 6 and 20 are needed\r\n"
+        expect(f"{rows} by {cols} is too small", seen == ((1, True), wanted), seen)
+    one = Joined(["ann", "apple"], TERM="dumb")
+    seen = one.end(), one.got
+    expect("TERM=dumb is told in words", seen == ((1, True), "join: a dumb terminal shows no screen\r\n"), seen)
+
+
+def try_tickets(server):
+    place = ["--host", "127.0.0.1", "--port", server.port]
+    path = os.path.join(FOLDER.name, "ticket")
+
+    def logged_in(what, one):
+        login = server.accept()
+        expect(what, login == b"login ann apple 24 80\n", login)
+        one.shows("hello")
+        listed = open(f"/proc/{one.process.pid}/cmdline", "rb").read() if os.path.exists("/proc/self/cmdline") else b""
+        expect(f"{what}: it is not in the list of processes", b"apple" not in listed, listed)
+        one.type(b"\x1dq")
+        ended = one.end()
+        expect(f"{what}: its end", ended == (0, True), ended)
+
+    one = Joined([*place, "ann"])
+    one.wait_for("Ticket of ann: ")
+    one.type(b"app")
+    one.type(b"le\r")
+    logged_in("a ticket that is asked for", one)
+    expect("it is not echoed", "apple" not in one.got and one.got.startswith("Ticket of ann: \r\n"), one.got[:60])
+    logged_in("a ticket in MGD_TICKET", Joined([*place, "ann"], MGD_TICKET="apple"))
+    logged_in("a ticket as an argument goes before it", Joined(["ann", "apple", *server.to], MGD_TICKET="pear"))
+    for text in ["apple", "apple\n", "apple\r\nand more\n"]:
+        with open(path, "w") as file:
+            file.write(text)
+        logged_in(f"a ticket in a file, {text!r}", Joined([*place, "--ticket-file", path, "ann"], MGD_TICKET="pear"))
+    with open(path, "w") as file:
+        file.write("\napple\n")
+    one = Joined([*place, "--ticket-file", path, "ann"])
+    seen = one.end(), one.got
+    expect("a file without one", seen == ((1, True), f"join: the first line of {path} is no ticket\r\n"), seen)
+    one = Joined([*place, "--ticket-file", path + "s", "ann"])
+    seen = one.end(), one.got
+    expect("no file", seen == ((1, True), f"join: {path}s cannot be read: No such file or directory\r\n"), seen)
+    one = Joined([*place, "ann"], MGD_TICKET="")
+    seen = one.end(), one.got
+    expect("an empty MGD_TICKET", seen == ((1, True), "join: MGD_TICKET is no ticket\r\n"), seen)
+    one = Joined([*place, "ann"])
+    one.wait_for("Ticket of ann: ")
+    one.type(b"\r")
+    seen = one.end(), one.got
+    expect("an empty answer", seen == ((1, True), "Ticket of ann: \r\njoin: that is no ticket\r\n"), seen)
+    one = Joined([*place, "ann"])
+    one.wait_for("Ticket of ann: ")
+    one.type(b"app\x03")
+    seen = one.end(), one.got
+    expect("C-c at the question", seen == ((130, True), "Ticket of ann: \r\n"), seen)
+
+
+def try_signals(server):
+    for number in [signal.SIGHUP, signal.SIGINT, signal.SIGQUIT, signal.SIGTERM]:
+        one = joined(server)
+        during = one.state()
+        one.process.send_signal(number)
+        ended = one.end()
+        expect(f"{number.name} ends it", ended == (128 + number, True), ended)
+        expect(f"{number.name}: the screen is given back", one.got.endswith("\x1b[?7h\x1b[m\x1b[24;1H\r\n\x1b[J"), one.got[-60:])
+        expect(f"{number.name}: the terminal was its own", during[0] != one.before[0] and during[2] & 0o022 == 0, during)
+
+    one = joined(server, leader=[sys.executable, "-c", LEADER])
+    raw = termios.tcgetattr(one.slave)
+    job = os.tcgetpgrp(one.terminal)
+    os.kill(job, signal.SIGTSTP)
+    stopped = one.wait_for(f"[stopped {job}]")
+    expect("SIGTSTP stops it, and gives the terminal back", stopped and one.state() == one.before, one.state())
+    server.peer.sendall(b"\x1b[2;1Hmore")
+    one.screen.resize(10, 40, "X")
+    one.resize(10, 40)
+    os.kill(one.process.pid, signal.SIGUSR1)
+    expect("SIGCONT paints anew, in the size of then",
+           one.wait_until(lambda: one.screen.lines() == ["hello", "more"] + [""] * 8) and (one.screen.row, one.screen.col) == (1, 4), one.screen.lines())
+    expect("it has the terminal again", one.wait_until(lambda: termios.tcgetattr(one.slave) == raw), termios.tcgetattr(one.slave))
+    os.kill(job, signal.SIGSTOP)
+    one.wait_until(lambda: one.got.count("[stopped") == 2)
+    termios.tcsetattr(one.slave, termios.TCSANOW, one.before[0])
+    one.screen.resize(10, 40, "X")
+    os.kill(one.process.pid, signal.SIGUSR1)
+    expect("so does SIGCONT after SIGSTOP", one.wait_until(lambda: one.screen.lines() == ["hello", "more"] + [""] * 8), one.screen.lines())
+    one.type(QUIT)
+    got = server.take(QUIT, terminal=one)
+    server.close()
+    one.resize(24, 80)
+    seen = got, one.end()
+    expect("and the keys come as before", seen == (QUIT, (0, True)), seen)
+
+
+def try_program():
+    """The same over the program itself, as far as it is there."""
+    if not os.path.exists(PROGRAM):
+        print(f"      {PROGRAM} is not there: not tried over the program")
+        return
+    config = os.path.join(FOLDER.name, "office.toml")
+    shutil.copy(os.path.join(TOP, "examples", "office.toml"), config)
+    process = subprocess.Popen([PROGRAM, "serve", config, "0"], stdout=subprocess.PIPE, cwd=FOLDER.name)
+    place = ["127.0.0.1", process.stdout.readline().decode().strip().rpartition(":")[2]]
+    one = Joined(["ann", "apple", *place])
+    expect("mgd: the screen is shown", one.shows("-notes-L1-C0-"), one.screen.lines())
+    one.type(b"\x1b[F\x11\x13\x11\x11\x11\x03\x11\x1c\x11\x1a.\x1b[1~")
+    expect("mgd: C-s, C-q, C-c, C-\\ and C-z are keys, and Home and End", one.shows("^S^Q^C^\\^Z.") and one.shows("-L1-C0-"), one.screen.lines())
+    other = Joined(["ann", "apple", *place], rows=6, cols=20)
+    expect("mgd: another sees it", other.shows("Notes of the office$"), other.screen.lines())
+    other.type(b"\x1bxsave-buffers-k\t").shows("$buffers-kill-emacs")
+    other.type(b"\r")
+    ended = other.end()
+    expect("mgd: M-x save-buffers-kill-emacs ends it", ended == (0, True) and other.got.endswith("join: the session is over\r\n"), (ended, other.got[-60:]))
+    one.type(QUIT)
+    ended = one.end()
+    expect("mgd: C-x C-c ends it", ended == (0, True), ended)
+    one = Joined(["ann", "pear", *place])
+    seen = one.end(), one.got
+    expect("mgd: a refused login is told in words", seen == ((1, True), "join: refused: this is not the ticket of ann (3 Ticket)\r\n"), seen)
+    one = Joined(["ann", "apple", *place])
+    one.shows("-notes-")
+    process.kill()
+    process.wait()
+    seen = one.end(), one.got[-70:]
+    expect("mgd: a server that is killed is told", seen[0] == (3, True) and "join: the connection was lost: " in seen[1], seen)
+    one = Joined(["ann", "apple", *place])
+    seen = one.end(), one.got
+    expect("mgd: no server is told in words", seen[0] == (1, True) and "nothing answers" in seen[1], seen)
+
+
+def main():
+    server = Server()
+    try_words()
+    try_refusals(server)
+    try_tickets(server)
+    try_ends(server)
+    try_signals(server)
+    try_own_keys(server)
+    try_slow_keys(server)
+    try_keys(server)
+    try_terminfo(server)
+    try_pictures(server)
+    try_program()
+    failed = results.count(False)
+    print(f"{results.count(True)} passed, {failed} failed")
+    sys.exit(1 if failed else 0)
 
 
 main()
