@@ -194,6 +194,7 @@ class Joined:
         self.terminal, self.slave = pty.openpty()
         self.resize(rows, cols)
         self.screen, self.raw = Screen(rows, cols), b""
+        os.chmod(os.ttyname(self.slave), 0o622)
         self.before = self.state()
         self.process = subprocess.Popen([*leader, program, *words], env={"PATH": os.environ["PATH"], "LC_ALL": "C.UTF-8", **variables},
                                         stdin=self.slave, stdout=self.slave, stderr=self.slave, start_new_session=True,
