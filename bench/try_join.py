@@ -146,8 +146,8 @@ class Server:
 
     def take(self, wanted, most=8.0, terminal=None):
         """What is typed until it is so much as is wanted."""
-        end = time.time() + most
-        while len(self.got) < len(wanted) and time.time() < end:
+        end = time.monotonic() + most
+        while len(self.got) < len(wanted) and time.monotonic() < end:
             if terminal:
                 terminal.pump(0)
             if select.select([self.peer], [], [], 0.02)[0]:
@@ -223,8 +223,8 @@ class Joined:
         return self.raw.decode(errors="replace")
 
     def wait_until(self, is_so, most=8.0):
-        end = time.time() + most
-        while not is_so() and time.time() < end:
+        end = time.monotonic() + most
+        while not is_so() and time.monotonic() < end:
             self.pump(0.02)
         return is_so()
 
@@ -457,6 +457,19 @@ def try_pictures(server):
         expect(f"{rows} by {cols}: its end", ended == (0, True), ended)
 
 
+def try_strangers(server):
+    """A server that sends what is no paint: nothing of it comes to the terminal."""
+    one = joined(server)
+    before = len(one.raw)
+    server.peer.sendall(b"\x1b]0;title\x07\x1b[5;9r\x07\x9b\xc2\x9b31m\x1bc\x1b[?1049h\x1b[31m\xe2\x80\x1b[999;999H\x1b[0;0H\xff\x1b[2;1Hend")
+    expect("what is no paint is not shown", one.shows("end") and not one.screen.faults, one.screen.faults)
+    raw = one.raw[before:]
+    found = re.findall(rb"[\x00-\x1a\x1c-\x1f\x7f-\xff]|\x1b(?!\[(?:\d+;\d+H|K|2J|7m|m|\?7[lh]))", raw)
+    expect("nor is any byte of it sent to the terminal", not found, (found, raw))
+    server.close()
+    one.end()
+
+
 def try_own_keys(server):
     one = joined(server)
     one.type(b"\x1d?")
@@ -534,6 +547,15 @@ def try_ends(server):
     seen = one.end(30), one.got[-100:]
     wanted = "join: the session was ended as slow: more was painted for it than this terminal took\r\n"
     expect("one that was ended as slow is told so", seen[0] == (3, True) and one.got.endswith(wanted), seen)
+
+    one = joined(server)
+    os.kill(one.process.pid, signal.SIGSTOP)
+    one.type(b"for the text\r")
+    server.close()
+    os.kill(one.process.pid, signal.SIGCONT)
+    ended = one.end()
+    is_left = select.select([one.slave], [], [], 0)[0] != []
+    expect("what was typed on into a lost connection is dropped", ended == (3, True) and not is_left, (ended, is_left))
 
     done = subprocess.Popen([JOIN, "ann", "apple", *server.to], stdin=subprocess.PIPE, stdout=subprocess.PIPE, stderr=subprocess.PIPE)
     login = server.accept()
@@ -734,6 +756,7 @@ def main():
     try_tickets(server)
     try_ends(server)
     try_signals(server)
+    try_strangers(server)
     try_own_keys(server)
     try_slow_keys(server)
     try_keys(server)
