@@ -266,7 +266,7 @@ SILENT += ["\x1b\x1b[A", "\x1b\x1bOA", "\x1b\x1b[5~", "\x1b[I", "\x1b[O", "\x1b[
 SILENT += ["\x1b[<0;10;20M", "\x1b[<0;10;20m", "\x1b[M !!", "\x1b[M#\x7f~", "\x1b[32;10;10M", "\x1b[?64;1;2c", "\x1b[24;80R", "\x1b[?1;2$y"]
 SILENT += ["\x1b[7$", "\x1b[>1;95;0c", "\x1b]11;rgb:1e1e/1e1e/1e1e\x1b\\", "\x1b]10;rgb:0/0/0\x07", "\x1bP>|xterm(390)\x1b\\", "\x1b[1 q"]
 PLAIN = [bytes([byte]).decode() for byte in range(0x20) if byte not in (0x08, 0x1b, 0x1d)] + [chr(byte) for byte in range(0x20, 0x7f)]
-METAS = ["\x1b" + key for key in PLAIN if key not in "[O]P"] + ["\x1b\x1d"]
+METAS = ["\x1b" + key for key in PLAIN if key not in "[O]P"]
 BY_HAND = ["\x1b[", "\x1bO", "\x1b]", "\x1bP", "\x1b\x1b"]
 WIDER = ["\u00e9", "\u6f22", "\U0001f600", "\u07ff\u0800\uffff\U0010ffff", "\u4e1b", "\ud7ff\ue000", "\x1b\u00e9"]
 PASTE = [("\x1b[200~two\rlines \u6f22\x1b[201~", "two\rlines \u6f22")]
@@ -329,6 +329,10 @@ def try_slow_keys(server):
         ("a byte that is no character stays one", [b"\xe6a", b"\xff"], b"\xe6a\xff"),
         ("8-bit CSI and SS3", [b"\x9b3~\x8fA\x9bH"], b"\x04\x1b[A\x01"),
         ("C-] C-] is one", [b"\x1d\x1d"], b"\x1d"),
+        ("C-q C-] is one too", [b"\x11\x1d"], b"\x11\x1d"),
+        ("ESC, C-] r and a key", [b"\x1b", b"\x1dr", b"x"], b"\x1bx"),
+        ("ESC, and C-] r and a key at once", [b"\x1b", b"\x1drx"], b"\x1bx"),
+        ("C-] with Meta", [b"\x1b\x1dr", b"x"], b"x"),
         ("C-] and another key sends nothing", [b"\x1dx", b"\x1d\x1b[A", b"\x1d\x1b"], b""),
     ]:
         got = typed(server, one, *keys)
@@ -711,6 +715,15 @@ def try_signals(server):
     one.resize(24, 80)
     seen = got, one.end()
     expect("and the keys come as before", seen == (QUIT, (0, True)), seen)
+
+    one = joined(server, leader=[sys.executable, "-c", LEADER])
+    job = os.tcgetpgrp(one.terminal)
+    os.kill(job, signal.SIGSTOP)
+    one.wait_for("[stopped")
+    os.kill(job, signal.SIGTERM)
+    os.kill(job, signal.SIGCONT)
+    ended = one.end()
+    expect("SIGTERM ends one that is stopped and has no terminal", ended == (128 + signal.SIGTERM, True), ended)
 
 
 def try_program():
