@@ -657,6 +657,11 @@ def try_tickets(server):
         with open(path, "w") as file:
             file.write(text)
         logged_in(f"a ticket in a file, {text!r}", Joined([*place, "--ticket-file", path, "ann"], MGD_TICKET="pear"))
+    one = Joined(["--raw", "--", "-x", "apple", *server.to])
+    login = server.accept()
+    one.shows("hello")
+    server.close()
+    expect("a name that begins with - stands behind --", login == b"login -x apple 24 80\n" and one.end() == (3, True), login)
     with open(path, "w") as file:
         file.write("\napple\n")
     one = Joined([*place, "--ticket-file", path, "ann"])
