@@ -1,38 +1,15 @@
 // Connections of an engine: how they end, and what the others see then.
 use crate::fixtures::{Server, is_open, press, serve, show, sit, take};
+use crate::wire::{Narrow, five_taker};
 use mgs_engine::Cause;
 use mgs_model::{Keyed, SessionId, Tickets};
 use mgs_wire::{Conn, PumpedIn, PumpedOut, pump_in, pump_out};
 use std::alloc::Global;
-use std::io::{self, ErrorKind, Write};
+use std::io::{ErrorKind, Write};
 use std::process::Abort;
 use std::test::Fail;
 
 const LOGIN: &[u8] = b"login ann t1 6 20\n";
-
-// Takes so many bytes, and then fails so.
-#[derive(Drop)]
-struct Short {
-    taken: Vec<u8>,
-    room: usize,
-    fault: ErrorKind,
-}
-
-impl Write for Short {
-    fn write(&mut self, buf: &[u8]) -> io::Result<usize> {
-        let n = buf.len().min(self.room);
-        if n == 0 {
-            return Err(io::Error::from(self.fault));
-        }
-        self.taken.extend_from_slice(&buf[..n])?;
-        self.room -= n;
-        Ok(n)
-    }
-
-    fn flush(&mut self) -> io::Result<()> {
-        Ok(())
-    }
-}
 
 // A connection of ann, and the session of bob, who shares her buffer.
 #[derive(Drop)]
@@ -59,8 +36,9 @@ impl Shared {
     }
 
     // Reads once.
-    fn read(&mut self, mut bytes: &[u8]) -> PumpedIn {
-        pump_in(&mut self.conn, &mut self.server, &self.tickets, &mut bytes)
+    fn read(&mut self, bytes: &[u8]) -> PumpedIn {
+        let mut reader = bytes;
+        pump_in(&mut self.conn, &mut self.server, &self.tickets, &mut reader)
     }
 
     fn write<W: Write>(&mut self, writer: &mut W) -> PumpedOut {
@@ -113,11 +91,7 @@ fn readers_end_behind_half_read_keys_and_in_prompts(rt: HostRuntime) -> Result<(
 fn a_failing_writer_closes_its_session_alone(rt: HostRuntime) -> Result<(), Fail> {
     let mut shared = Shared::new(rt.alloc(), &rt)?;
     let _ = shared.read(LOGIN);
-    let mut writer = Short {
-        taken: Vec::new(rt.alloc()),
-        room: 5,
-        fault: ErrorKind::BrokenPipe,
-    };
+    let mut writer = five_taker(rt.alloc(), Some(ErrorKind::BrokenPipe));
     let answer = shared.write(&mut writer);
     assert!(rt; answer == PumpedOut::Failed && writer.taken.len() == 5);
     assert!(rt; shared.cause() == Some(Cause::Closed));
@@ -127,27 +101,30 @@ fn a_failing_writer_closes_its_session_alone(rt: HostRuntime) -> Result<(), Fail
     Ok(())
 }
 
-// What is written five bytes at a time, while the writer would block behind each five.
-fn written_in_fives(shared: &mut Shared, alloc: Global) -> Vec<u8> {
-    let mut writer = Short {
-        taken: Vec::new(alloc),
-        room: 5,
-        fault: ErrorKind::WouldBlock,
-    };
+// A writer that took what is written five bytes at a time, and would block behind each five.
+fn written_in_fives(alloc: Global, shared: &mut Shared) -> Narrow {
+    let mut writer = five_taker(alloc, Some(ErrorKind::WouldBlock));
     for _ in 0..100 {
         if shared.write(&mut writer) == PumpedOut::Blocked {
             writer.room = 5;
         }
     }
-    writer.taken
+    writer
 }
 
 #[test]
 fn five_bytes_at_a_time_paint_the_screen(rt: HostRuntime) -> Result<(), Fail> {
     let mut shared = Shared::new(rt.alloc(), &rt)?;
     let _ = shared.read(b"login ann t1 6 20\nhi");
-    let written = written_in_fives(&mut shared, rt.alloc());
-    assert!(rt; show(rt.alloc(), &written, "hi | -**-notes-L1-C2-----", (1, 3)));
+    let writer = written_in_fives(rt.alloc(), &mut shared);
+    assert!(rt;
+        show(
+            rt.alloc(),
+            &writer.taken,
+            "hi | -**-notes-L1-C2-----",
+            (1, 3)
+        )
+    );
     Ok(())
 }
 

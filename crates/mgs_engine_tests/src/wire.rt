@@ -141,12 +141,12 @@ impl Read for Pieces<'_> {
     }
 }
 
-// Takes so many bytes, and then none, or fails so.
+/// Takes so many bytes, and then none, or fails so.
 #[derive(Drop)]
-struct Narrow {
-    taken: Vec<u8>,
-    room: usize,
-    fault: Option<ErrorKind>,
+pub(crate) struct Narrow {
+    pub(crate) taken: Vec<u8>,
+    pub(crate) room: usize,
+    pub(crate) fault: Option<ErrorKind>,
 }
 
 impl Write for Narrow {
@@ -263,13 +263,14 @@ fn bytes_after_a_login_are_keys(rt: HostRuntime) -> Result<(), Fail> {
 // Whether a login line and keys that come in two pieces, cut there, are a session and its keys.
 fn is_read_in_two(alloc: Global, cut: usize) -> Result<bool, Fail> {
     let input = b"login ann t1 6 20\r\nh\ni".as_slice();
-    let (mut first, mut second) = input.split_at(cut);
+    let (first, second) = input.split_at(input.len().min(cut));
+    let (mut head, mut rest) = (first, second);
     let mut client = Client::new(alloc, None)?;
-    let took_first = client.read(&mut first);
-    let took_second = client.read(&mut second);
+    let took_first = client.read(&mut head);
+    let took_second = client.read(&mut rest);
     Ok(
-        took_first == PumpedIn::Took(cut)
-            && took_second == PumpedIn::Took(input.len() - cut)
+        took_first == PumpedIn::Took(first.len())
+            && took_second == PumpedIn::Took(second.len())
             && client.session() == Some(7)
             && client.desk.typed.as_slice() == b"h\ni".as_slice(),
     )
@@ -285,8 +286,8 @@ fn a_login_may_be_cut_at_every_byte(rt: HostRuntime) -> Result<(), Fail> {
 
 #[test]
 fn an_end_at_every_byte_of_a_login_is_told(rt: HostRuntime) -> Result<(), Fail> {
-    for &end in &[0, 1, 2, 3, 4, 5, 6, 7, 8, 9, 10, 11, 12, 13, 14, 15, 16, 17] {
-        let (line, _) = LOGIN.split_at(end);
+    for end in 0..18 {
+        let (line, _) = LOGIN.split_at(LOGIN.len().min(end));
         let written = answer(rt.alloc(), line, None, &rt)?;
         assert!(rt; written.as_slice() == REFUSED_LINE);
     }
@@ -370,8 +371,8 @@ fn served(alloc: Global) -> Result<Client, Fail> {
     Ok(client)
 }
 
-// A writer that takes five bytes.
-fn five_taker(alloc: Global, fault: Option<ErrorKind>) -> Narrow {
+/// A writer that takes five bytes.
+pub(crate) fn five_taker(alloc: Global, fault: Option<ErrorKind>) -> Narrow {
     Narrow {
         taken: Vec::new(alloc),
         room: 5,

@@ -66,12 +66,20 @@ pub(crate) fn press(terminal: &mut Terminal, bytes: &[u8]) -> Result<(), Fail> {
     send(&mut terminal.stream, bytes)
 }
 
+// Whether these bytes begin with a paint.
+fn is_painted(bytes: &[u8]) -> bool {
+    match bytes.first() {
+        Some(byte) => *byte == ESCAPE,
+        None => false,
+    }
+}
+
 /// Whether the server paints the terminal's screen, while it turns.
 pub(crate) fn is_served(office: &mut Office, terminal: &mut Terminal) -> Result<bool, Fail> {
     for _ in 0..TURNS {
         turn(office)?;
         take(terminal)?;
-        if terminal.got.first() == Some(&ESCAPE) {
+        if is_painted(&terminal.got) {
             return Ok(true);
         }
     }
