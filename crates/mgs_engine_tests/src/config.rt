@@ -8,8 +8,8 @@ use std::alloc::{AllocError, Global};
 use std::process::Abort;
 use std::test::Fail;
 
-// Files that are told apart by their paths: `gone` cannot be read, for `full` no memory is left, `long` has 1,048,577 characters, and
-// each other holds `hi`.
+// Files that are told apart by their paths: `gone` cannot be read, for `full` no memory is left, `most` has 1,048,576 characters, `long`
+// has one more, and each other holds `hi`.
 #[derive(Drop)]
 pub(crate) struct Folder {
     alloc: Global,
@@ -47,10 +47,11 @@ pub(crate) fn full_text(alloc: Global, rest: &str) -> Result<String, AllocError>
 }
 
 fn held(alloc: Global, path: &str) -> Result<Vec<char>, AllocError> {
-    if path == "long" {
-        return full_text(alloc, "a")?.chars().collect(alloc);
+    match path {
+        "most" => full_text(alloc, "")?.chars().collect(alloc),
+        "long" => full_text(alloc, "a")?.chars().collect(alloc),
+        _ => "hi".chars().collect(alloc),
     }
-    "hi".chars().collect(alloc)
 }
 
 impl Files for Folder {

@@ -32,7 +32,7 @@ fn rows_say(
     Ok(())
 }
 
-const DOCUMENTS: [(&str, &str); 15] = [
+const DOCUMENTS: [(&str, &str); 16] = [
     ("", "read"),
     ("user = []", "read"),
     ("= 1", "top 0: Toml"),
@@ -46,6 +46,10 @@ const DOCUMENTS: [(&str, &str); 15] = [
     ),
     ("color = 1\n= 1", "top 0: Toml"),
     ("color = 1", "top 0: Key"),
+    (
+        "color = 1\n[[user]]\nname = 'ann'\nticket = 't1'",
+        "top 0: Key",
+    ),
     ("users = []", "top 0: Key"),
     ("user = 'ann'", "top 0: Key"),
     ("group = [1]", "top 0: Key"),
@@ -60,6 +64,27 @@ const DOCUMENTS: [(&str, &str); 15] = [
 fn a_document_has_lists_of_tables_and_no_other_keys(rt: HostRuntime) -> Result<(), Fail> {
     rows_say(rt.alloc(), ("", ""), &DOCUMENTS, &rt)
 }
+
+// Tables behind that of ann. A key behind the head of a table is that table's.
+const TABLES: [(&str, &str); 5] = [
+    (
+        "[[buffer]]\nname = \"notes\"\nowner = \"bob\"\nlist = []\n",
+        "buffer 1: Unknown",
+    ),
+    (
+        "[[buffer]]\nname = \"notes\"\nowner = \"ann\"\nlist = [\"ALLOW ann x\"]\n",
+        "buffer 1: Entry",
+    ),
+    (
+        "[[user]]\nname = \"ann\"\nticket = \"t2\"\n",
+        "user 2: Twice",
+    ),
+    (
+        "[[buffer]]\nname = \"notes\"\nowner = \"ann\"\nlist = []\nfile = \"gone\"\n",
+        "buffer 1: File",
+    ),
+    ("color = 1\n", "user 1: Key"),
+];
 
 const ANN: &str = "user = [{name = 'ann', ticket = 't1'}";
 
@@ -126,7 +151,7 @@ const GROUPS: [(&str, &str); 15] = [
 ];
 
 // Behind the buffer `notes`.
-const BUFFERS: [(&str, &str); 41] = [
+const BUFFERS: [(&str, &str); 42] = [
     ("", "read"),
     (
         ", {name = '!aA~', owner = 'ann', list = ['ALLOW eve r'], text = ''}",
@@ -198,6 +223,10 @@ const BUFFERS: [(&str, &str); 41] = [
         "buffer 2: Entry",
     ),
     (
+        ", {name = 'a', owner = 'ann', list = [], file = 'most'}",
+        "read",
+    ),
+    (
         ", {name = 'a', owner = 'ann', list = [], file = 'long'}",
         "buffer 2: Long",
     ),
@@ -265,6 +294,8 @@ const BUFFERS: [(&str, &str); 41] = [
 #[test]
 fn the_first_fault_is_named_by_its_table(rt: HostRuntime) -> Result<(), Fail> {
     let alloc = rt.alloc();
+    let ann = "[[user]]\nname = \"ann\"\nticket = \"t1\"\n";
+    rows_say(alloc, (ann, ""), &TABLES, &rt)?;
     rows_say(alloc, (ANN, "]"), &USERS, &rt)?;
     let head = format!(in alloc; "{ANN}]\ngroup = [{{name = 'team', members = ['ann']}}")?;
     rows_say(alloc, (head.as_str(), "]"), &GROUPS, &rt)?;
@@ -420,33 +451,13 @@ fn one_more_than_a_limit_is_long(rt: HostRuntime) -> Result<(), Fail> {
     Ok(())
 }
 
-// What a buffer with this text says. A newline may stand in three quotes.
-fn text_says(alloc: Global, text: &str, wanted: &str, rt: &impl Abort) -> Result<(), Fail> {
+#[test]
+fn a_text_of_1048577_characters_is_long(rt: HostRuntime) -> Result<(), Fail> {
+    let alloc = rt.alloc();
+    let text = full_text(alloc, "a")?;
+    // Three quotes, since newlines stand in it.
     let document = format!(in alloc; "{LISTED}], text = '''{text}'''}}]")?;
     let said = told(alloc, document.as_str())?;
-    assert!(rt; said.as_str() == wanted, "{said}, and not {wanted}");
+    assert!(rt; said.as_str() == "buffer 1: Long", "{said}");
     Ok(())
-}
-
-#[test]
-fn a_text_has_1048576_characters_at_most(rt: HostRuntime) -> Result<(), Fail> {
-    let alloc = rt.alloc();
-    text_says(alloc, full_text(alloc, "")?.as_str(), "read", &rt)?;
-    text_says(
-        alloc,
-        full_text(alloc, "a")?.as_str(),
-        "buffer 1: Long",
-        &rt,
-    )
-}
-
-#[test]
-fn characters_of_a_text_count_and_not_its_bytes(rt: HostRuntime) -> Result<(), Fail> {
-    let alloc = rt.alloc();
-    let mut text = String::new(alloc);
-    for _ in 0..32_769 {
-        text.push_str("éééééééééééééééé")?;
-    }
-    assert!(rt; text.len() > 1_048_576);
-    text_says(alloc, text.as_str(), "read", &rt)
 }
