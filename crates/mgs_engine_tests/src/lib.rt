@@ -7,9 +7,9 @@ mod characters;
 #[cfg(test)]
 mod config;
 #[cfg(test)]
-mod connections;
-#[cfg(test)]
 mod config_faults;
+#[cfg(test)]
+mod connections;
 #[cfg(test)]
 mod drive;
 #[cfg(test)]
