@@ -1,0 +1,121 @@
+// Keys of any bytes, and sessions that end in the middle of a word, a prompt or a search.
+use super::fixtures::{Stage, close, is_open, plays, press, serve, sit, told, visit};
+use mgs_engine::Cause;
+use mgs_keys::read_keys;
+use mgs_marks::PlainMarked;
+use mgs_model::Keyed;
+use mgs_store::RefusingStore;
+use std::alloc::Global;
+use std::process::Abort;
+use std::test::Fail;
+
+type Plain = Stage<PlainMarked, RefusingStore>;
+
+const NOTES: &str = "notes ann | ALLOW OWNER@ rwatdcCo; ALLOW bob rwat | a b a";
+
+fn served(rt: &impl Abort, alloc: Global) -> Result<Plain, Fail> {
+    serve::<PlainMarked, RefusingStore>(rt, alloc, NOTES, RefusingStore::new())
+}
+
+// The keys that lead to each mode: to none, a half-read word, an argument, a prompt, an incremental search, a query-replace, a recording, and a
+// window that shows the list of buffers or an access list.
+const MODES: &str = "C-g
+    ESC
+    C-x
+    ESC '[
+    C-x ESC
+    ESC '[ ESC
+    C-q
+    C-u
+    C-u '1
+    M-5
+    C-u C-q
+    M-x
+    M-x 'acl-insert RET 'ALLOW
+    C-x 'b 'n
+    C-x 'b ESC
+    C-x 'b ESC '[
+    C-x 'k
+    C-s
+    C-s 'a
+    C-s 'z
+    C-r 'a DEL
+    M-s
+    M-%
+    M-% 'a RET
+    M-% 'a RET 'a RET
+    C-x '(
+    C-x '( C-x 'b
+    C-x C-b
+    M-x 'acl-list RET
+    C-x '2";
+
+// A session comes to a mode, types a byte, and is closed if that did not end it. Whether the answer was one of an open session that has
+// memory.
+fn takes_byte(rt: &impl Abort, stage: &mut Plain, keys: &[u8], byte: u8) -> bool {
+    let id = visit(rt, stage, "bob");
+    assert!(rt; press(stage, id, keys) == Keyed::Done);
+    let answer = press(stage, id, &[byte]);
+    let (is_handled, cause) = match answer {
+        Keyed::Done => (is_open(stage, id), Cause::Closed),
+        Keyed::Quit => (!is_open(stage, id), Cause::Quit),
+        Keyed::Short | Keyed::NoSession => (false, Cause::Closed),
+    };
+    close(stage, id);
+    is_handled && told(stage) == Some((id, cause)) && told(stage).is_none()
+}
+
+// A session types each byte in one mode.
+fn takes_each_byte(rt: &impl Abort, alloc: Global, mode: &str) -> Result<(), Fail> {
+    let keys = read_keys(alloc, mode)?;
+    let mut stage = served(rt, alloc)?;
+    for byte in 0..=255u8 {
+        assert!(rt; takes_byte(rt, &mut stage, &keys, byte), "{mode} {byte}");
+    }
+    Ok(())
+}
+
+#[test]
+fn each_byte_is_handled_in_each_mode(rt: HostRuntime) -> Result<(), Fail> {
+    for mode in MODES.lines() {
+        takes_each_byte(&rt, rt.alloc(), mode.trim())?;
+    }
+    Ok(())
+}
+
+// The keys after which a session ends: in a word, an argument, a quoted insertion, a prompt, a search, a query-replace, a recording.
+const ENDS: &str = "ESC
+    C-x
+    ESC '[
+    C-q
+    C-u '3
+    C-x 'b 'no
+    C-s 'b
+    M-% 'b RET 'c RET
+    C-x '(";
+
+// ann types a character and ends behind these keys. What she did before stands, and bob goes on.
+fn ends_behind(rt: &impl Abort, alloc: Global, keys: &str) -> Result<(), Fail> {
+    let mut stage = served(rt, alloc)?;
+    sit(rt, &mut stage, &["ann", "bob"])?;
+    plays(rt, &mut stage, "1 'x | Done | xa b a | -**-notes-L1-C1 |")?;
+    let keys = read_keys(alloc, keys)?;
+    assert!(rt; press(&mut stage, 1, &keys) == Keyed::Done);
+    close(&mut stage, 1);
+    assert!(rt; told(&mut stage) == Some((1, Cause::Closed)));
+    assert!(rt; told(&mut stage).is_none());
+    assert!(rt; press(&mut stage, 1, b"y") == Keyed::NoSession);
+    let alone = "
+        2    |      | xa b a  | -**-notes-L1-C0 |
+        2 'z | Done | zxa b a | -**-notes-L1-C1 |
+    ";
+    plays(rt, &mut stage, alone)
+}
+
+#[test]
+fn a_session_ends_in_the_middle_of_anything(rt: HostRuntime) -> Result<(), Fail> {
+    for keys in ENDS.lines() {
+        ends_behind(&rt, rt.alloc(), keys.trim())?;
+    }
+    Ok(())
+}
