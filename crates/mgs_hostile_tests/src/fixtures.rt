@@ -130,16 +130,16 @@ pub(crate) fn over<T: Marked + Drop, S: Store + Drop>(
 }
 
 // The terminal of a session takes what waits for it.
-fn take<T: Marked + Drop, S: Store + Drop>(engine: &mut Engine<T, S>, seat: &mut Seat) {
+fn feed<T: Marked + Drop, S: Store + Drop>(engine: &mut Engine<T, S>, seat: &mut Seat) {
     let pending = engine.pending(seat.id);
     let count = pending.len();
     let _ = seat.term.feed_all(pending);
     engine.took(seat.id, count);
 }
 
-fn take_all<T: Marked + Drop, S: Store + Drop>(stage: &mut Stage<T, S>) {
+fn feed_all<T: Marked + Drop, S: Store + Drop>(stage: &mut Stage<T, S>) {
     for seat in stage.seats.iter_mut() {
-        take(&mut stage.engine, seat);
+        feed(&mut stage.engine, seat);
     }
 }
 
@@ -152,7 +152,7 @@ pub(crate) fn open<T: Marked + Drop, S: Store + Drop>(
     match stage.engine.open(user, ROWS, COLS) {
         Ok(id) => {
             stage.seats.push(Seat { id, term })?;
-            take_all(stage);
+            feed_all(stage);
             Ok(Ok(id))
         }
         Err(fault) => Ok(Err(fault)),
@@ -171,7 +171,13 @@ pub(crate) fn sit<T: Marked + Drop, S: Store + Drop>(
     Ok(())
 }
 
-/// A session without a terminal: what waits for it stays.
+/// What waits for a session without a terminal is taken.
+pub(crate) fn take<T: Marked + Drop, S: Store + Drop>(stage: &mut Stage<T, S>, id: SessionId) {
+    let count = stage.engine.pending(id).len();
+    stage.engine.took(id, count);
+}
+
+/// A session without a terminal: what waits for it stays until it is taken.
 pub(crate) fn visit<T: Marked + Drop, S: Store + Drop>(
     rt: &impl Abort,
     stage: &mut Stage<T, S>,
@@ -186,7 +192,7 @@ pub(crate) fn visit<T: Marked + Drop, S: Store + Drop>(
 /// A session is closed.
 pub(crate) fn close<T: Marked + Drop, S: Store + Drop>(stage: &mut Stage<T, S>, id: SessionId) {
     stage.engine.close(id);
-    take_all(stage);
+    feed_all(stage);
 }
 
 /// The answer to the last of these bytes of a session, or to the first that is not done.
@@ -197,7 +203,7 @@ pub(crate) fn press<T: Marked + Drop, S: Store + Drop>(
 ) -> Keyed {
     for byte in bytes {
         let answer = stage.engine.byte(id, *byte);
-        take_all(stage);
+        feed_all(stage);
         if answer != Keyed::Done {
             return answer;
         }
