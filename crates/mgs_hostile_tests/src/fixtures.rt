@@ -1,9 +1,12 @@
 // What the tests share: a server over any texts and any store, the terminals of its sessions, and steps that are told in lines. These
-// calls tell proofs nothing: what is looked at is what runs.
+// calls tell proofs nothing but what `Core::new` asks for: what is looked at is what runs.
+ghost use Rattle.std.specs.Prelude.{IfOk};
+ghost use Rattle.mgs_buffers.specs.MarkedBuffer.{AreUnmarked};
+
 use mgs_acl::{List, read_entry};
 use mgs_buffers::Buffers;
 use mgs_core::Core;
-use mgs_engine::Engine;
+use mgs_engine::{Cause, Engine};
 use mgs_keys::read_keys;
 use mgs_marks::Marked;
 use mgs_model::{Keyed, OpenFault, SessionId};
@@ -45,8 +48,8 @@ fn users(alloc: Global, rt: &impl Abort) -> Directory {
     directory
 }
 
-/// The list of these entries, which `; ` parts.
-pub(crate) fn list_of(rt: &impl Abort, entries: &str) -> List {
+// The list of these entries, which `; ` parts.
+fn list_of(rt: &impl Abort, entries: &str) -> List {
     let mut list = List::new();
     for entry in entries.split("; ") {
         match read_entry(entry) {
@@ -83,20 +86,49 @@ fn add<T: Marked + Drop>(
     alloc: Global,
     buffers: &mut Buffers<T>,
     line: &str,
-) -> Result<(), AllocError> {
+) -> Result<(), Fail>
+    ensures { AreUnmarked buffers.old → AreUnmarked buffers.new }
+{
     let (buffer, rest) = cut_field(line);
     let (entries, text) = cut_field(rest);
     let (name, owner) = cut_word(buffer);
     let text = characters(alloc, text)?;
     let list = list_of(rt, entries);
-    assert!(rt;
-        buffers.add(name, owner, list, &text, true).is_ok(),
-        "{line}"
-    );
+    buffers.add(name, owner, list, &text, true)?;
     Ok(())
 }
 
-/// A server of the users ann, bob and cat, and of the buffers of which the lines tell:
+// The same, where the line tells of one.
+fn add_if<T: Marked + Drop>(
+    rt: &impl Abort,
+    alloc: Global,
+    buffers: &mut Buffers<T>,
+    line: &str,
+) -> Result<(), Fail>
+    ensures { AreUnmarked buffers.old → AreUnmarked buffers.new }
+{
+    if line.is_empty() {
+        return Ok(());
+    }
+    add(rt, alloc, buffers, line)
+}
+
+// The buffers of which one or two lines tell.
+fn buffers_of<T: Marked + Drop>(
+    rt: &impl Abort,
+    alloc: Global,
+    lines: &str,
+) -> Result<Buffers<T>, Fail>
+    ensures { IfOk result (λ buffers. AreUnmarked buffers) }
+{
+    let (first, second) = lines.split_once('\n').unwrap_or((lines, ""));
+    let mut buffers = Buffers::new(alloc);
+    add(rt, alloc, &mut buffers, first)?;
+    add_if(rt, alloc, &mut buffers, second.trim_start())?;
+    Ok(buffers)
+}
+
+/// A server of the users ann, bob and cat, and of the buffers of which one or two lines tell:
 ///     NAME OWNER | ENTRY; ENTRY; .. | TEXT
 pub(crate) fn serve<T: Marked + Drop, S: Store + Drop>(
     rt: &impl Abort,
@@ -104,22 +136,7 @@ pub(crate) fn serve<T: Marked + Drop, S: Store + Drop>(
     lines: &str,
     store: S,
 ) -> Result<Stage<T, S>, Fail> {
-    let mut buffers = Buffers::new(alloc);
-    for line in lines.lines() {
-        if !line.trim().is_empty() {
-            add(rt, alloc, &mut buffers, line.trim_start())?;
-        }
-    }
-    over(rt, alloc, buffers, store)
-}
-
-/// A server of the users ann, bob and cat over these buffers.
-pub(crate) fn over<T: Marked + Drop, S: Store + Drop>(
-    rt: &impl Abort,
-    alloc: Global,
-    buffers: Buffers<T>,
-    store: S,
-) -> Result<Stage<T, S>, Fail> {
+    let buffers = buffers_of(rt, alloc, lines)?;
     let core = Core::new(alloc, users(alloc, rt), buffers, store)?;
     let engine = Engine::new(alloc, core)?;
     Ok(Stage {
@@ -214,7 +231,7 @@ pub(crate) fn press<T: Marked + Drop, S: Store + Drop>(
 /// How the session ended that is told next, and its id.
 pub(crate) fn told<T: Marked + Drop, S: Store + Drop>(
     stage: &mut Stage<T, S>,
-) -> Option<(SessionId, mgs_engine::Cause)> {
+) -> Option<(SessionId, Cause)> {
     stage.engine.ended()
 }
 

@@ -1,19 +1,25 @@
 // A kill that would be longer than a kill buffer may be.
-use super::fixtures::{list_of, over, plays, sit};
-use mgs_buffers::Buffers;
+use super::fixtures::{plays, serve, sit};
 use mgs_marks::PlainMarked;
 use mgs_store::RefusingStore;
+use std::alloc::{AllocError, Global};
 use std::test::Fail;
+
+// A buffer of ann with a text of so many characters.
+fn long(alloc: Global, count: usize) -> Result<String, AllocError> {
+    let mut line = String::from_str(alloc, "notes ann | ALLOW ann rwat | ")?;
+    for _ in 0..count {
+        line.push('a')?;
+    }
+    Ok(line)
+}
 
 // Two copies of this text are one character more than a kill buffer holds. Kills that follow each other are put together.
 #[test]
 fn a_kill_has_a_limit(rt: HostRuntime) -> Result<(), Fail> {
-    let alloc = rt.alloc();
-    let text = vec![in alloc; 'a'; 524_289]?;
-    let mut buffers = Buffers::<PlainMarked>::new(alloc);
-    let list = list_of(&rt, "ALLOW ann rwat");
-    assert!(rt; buffers.add("notes", "ann", list, &text, false).is_ok());
-    let mut stage = over(&rt, alloc, buffers, RefusingStore::new())?;
+    let line = long(rt.alloc(), 524_289)?;
+    let store = RefusingStore::new();
+    let mut stage = serve::<PlainMarked, RefusingStore>(&rt, rt.alloc(), line.as_str(), store)?;
     sit(&rt, &mut stage, &["ann"])?;
     let steps = "
         1 C-x 'h  | Done | aaaaaaaaaaaaaaaaaaaaaaaaaaaaaaaaaaaaaaa$ | ----notes-L1-C0 |

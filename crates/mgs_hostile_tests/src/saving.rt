@@ -8,11 +8,12 @@ use std::test::Fail;
 
 const NOTES: &str = "notes ann | ALLOW ann rwat |";
 
-// A store that takes every text but that of its `fails`-th save, from 1.
+// A store that takes every text but that of one save.
 #[derive(Clone, Copy)]
 struct FailsOnce {
-    fails: u64,
-    saves: u64,
+    // How many saves come before that one, and how many came so far.
+    before: usize,
+    saves: usize,
     faults: u64,
 }
 
@@ -24,8 +25,9 @@ impl Store for FailsOnce {
     ghost accepted = { λ store. None };
 
     fn save(&mut self, _name: &str, _text: &[char]) -> Result<(), StoreFault> {
-        self.saves = self.saves.saturating_add(1);
-        if self.saves != self.fails {
+        let before = self.saves;
+        self.saves = before.saturating_add(1);
+        if before != self.before {
             return Ok(());
         }
         self.faults = self.faults.saturating_add(1);
@@ -56,9 +58,9 @@ const FAILING: [&str; 3] = [
     ",
 ];
 
-fn fails_at(rt: &impl Abort, alloc: Global, fails: u64, steps: &str) -> Result<(), Fail> {
+fn fails_behind(rt: &impl Abort, alloc: Global, before: usize, steps: &str) -> Result<(), Fail> {
     let store = FailsOnce {
-        fails,
+        before,
         saves: 0,
         faults: 0,
     };
@@ -69,10 +71,8 @@ fn fails_at(rt: &impl Abort, alloc: Global, fails: u64, steps: &str) -> Result<(
 
 #[test]
 fn the_save_that_fails_is_told_alone(rt: HostRuntime) -> Result<(), Fail> {
-    let mut fails = 1;
-    for steps in &FAILING {
-        fails_at(&rt, rt.alloc(), fails, steps)?;
-        fails += 1;
+    for (before, steps) in FAILING.iter().enumerate() {
+        fails_behind(&rt, rt.alloc(), before, steps)?;
     }
     Ok(())
 }

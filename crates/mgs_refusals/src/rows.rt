@@ -1,7 +1,7 @@
 // The rows that are played, all in one text.
 
-/// Rows, each with its name behind two `=`. First come its buffers and the users that sit down, each with the next number from 1:
-///     buffer NAME OWNER | ENTRY; ENTRY; .. | TEXT
+/// Rows, each with its name behind two `=`. First come its buffer and the users that sit down, each with the next number from 1:
+///     NAME OWNER | ENTRY; ENTRY; .. | TEXT
 ///     sit USER
 /// Then its steps: the keys of a session, and what its terminal of 6 rows and 40 columns then shows. A session without keys is looked at.
 ///     SESSION KEYS | ROW/ROW/.. | MODE LINE | ECHO LINE | REFUSED
@@ -10,7 +10,7 @@
 /// anew.
 pub(crate) const ROWS: &str = "
 == who may not read adds at the end
-buffer notes cat | ALLOW ann rwat; ALLOW bob at | abc
+notes cat | ALLOW ann rwat; ALLOW bob at | abc
 sit ann
 sit bob
 1 C-x '2 | abc//----notes-L1-C0/abc | ----notes-L1-C0 |
@@ -20,7 +20,7 @@ sit bob
 1 | abcx//-**-notes-L1-C3/abcx | -**-notes-L1-C1 |
 2 C-f | [no read: no entry] | -**-notes-(no read) | Denied: no entry grants READ_DATA
 == a search under a revocation
-buffer notes ann | ALLOW OWNER@ rwatdcCo; ALLOW bob rt | banana
+notes ann | ALLOW OWNER@ rwatdcCo; ALLOW bob rt | banana
 sit ann
 sit bob
 2 C-s 'a | banana | ----notes-L1-C2 | I-search: a
@@ -28,14 +28,14 @@ sit bob
 2 | [no read: no entry] | -??-?-(no read) | I-search: a
 2 C-s | [no read: no entry] | -??-?-(no read) | Denied: no entry grants READ_DATA
 == a macro that takes rights away
-buffer notes cat | ALLOW bob r; ALLOW bob r; ALLOW ann a; ALLOW ann rwtcC |
+notes cat | ALLOW bob r; ALLOW bob r; ALLOW ann a; ALLOW ann rwtcC |
 sit ann
 1 C-x '( 'z | z | -**-notes-L1-C1 | | BLANK
 1 M-x 'acl-delete RET C-x ') | z | -**-notes-L1-C1 |
 1 C-u '5 C-x 'e | zzz | -**-notes-L1-C3 | Denied: no entry grants APPEND_DATA | z; zz
 1 M-x 'acl-list RET | 1 ALLOW ann rwtcC | -Acl-notes |
 == a kill stays its holder's
-buffer notes ann | ALLOW OWNER@ rwatdcCo; ALLOW bob rwat | one two
+notes ann | ALLOW OWNER@ rwatdcCo; ALLOW bob rwat | one two
 sit ann
 sit bob
 2 M-d |  two | -**-notes-L1-C0 |
@@ -44,7 +44,7 @@ sit bob
 2 RET | | ----mine-L1-C0 |
 2 C-y | one | -**-mine-L1-C3 |
 == undos of two users
-buffer notes cat | ALLOW ann rwat; ALLOW bob rwat |
+notes cat | ALLOW ann rwat; ALLOW bob rwat |
 sit ann
 sit bob
 1 'a | a | -**-notes-L1-C1 |
@@ -56,17 +56,17 @@ sit bob
 1 C-a | | -**-notes-L1-C0 |
 1 C-_ | a | -**-notes-L1-C1 |
 == a paragraph is filled
-buffer notes ann | ALLOW OWNER@ rwatdcCo | aa bb cc dd ee
+notes ann | ALLOW OWNER@ rwatdcCo | aa bb cc dd ee
 sit ann
 1 C-u '10 C-x 'f | aa bb cc dd ee | ----notes-L1-C0 |
 1 M-q | aa bb cc/dd ee | -**-notes-L2-C5 |
 == what matches is taken out
-buffer notes ann | ALLOW OWNER@ rwatdcCo | aXa
+notes ann | ALLOW OWNER@ rwatdcCo | aXa
 sit ann
 1 M-% 'A RET RET | aXa | ----notes-L1-C1 | Replace?
 1 '! | X | -**-notes-L1-C1 | Replaced 2 | aXa; Xa
 == a buffer is made and shown beside another
-buffer notes ann | ALLOW OWNER@ rwatdcCo | one
+notes ann | ALLOW OWNER@ rwatdcCo | one
 sit ann
 1 C-SPC | one | ----notes-L1-C0 | Mark set
 1 C-e | one | ----notes-L1-C3 |

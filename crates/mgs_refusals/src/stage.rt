@@ -1,4 +1,6 @@
 // A server, its terminals, and the rows that are played there. `None` is everywhere: memory was refused to what is not the server's.
+ghost use Rattle.mgs_buffers.specs.MarkedBuffer.{AreUnmarked};
+
 use crate::screen::{
     HEIGHT, WIDTH, are_same_above, cut_field, is_first_row_of, is_screen, tells_no_memory,
 };
@@ -69,7 +71,9 @@ fn characters(alloc: Global, text: &str) -> Option<Vec<char>> {
 }
 
 // Adds a buffer of which this line tells: NAME OWNER | ENTRY; ENTRY; .. | TEXT.
-fn add(alloc: Global, buffers: &mut Buffers<GapText>, line: &str) -> Option<()> {
+fn add(alloc: Global, buffers: &mut Buffers<GapText>, line: &str) -> Option<()>
+    ensures { AreUnmarked buffers.old → AreUnmarked buffers.new }
+{
     let (buffer, rest) = cut_field(line);
     let (entries, text) = cut_field(rest);
     let (name, owner) = buffer.split_once(' ').unwrap_or((buffer, ""));
@@ -79,14 +83,10 @@ fn add(alloc: Global, buffers: &mut Buffers<GapText>, line: &str) -> Option<()> 
         .ok()
 }
 
-// A server of the buffers of a row.
-fn served(alloc: Global, lines: &str) -> Option<Stage> {
+// A server of one buffer.
+fn served(alloc: Global, buffer: &str) -> Option<Stage> {
     let mut buffers = Buffers::new(alloc);
-    for line in lines.lines() {
-        if let Some(buffer) = line.strip_prefix("buffer ") {
-            add(alloc, &mut buffers, buffer)?;
-        }
-    }
+    add(alloc, &mut buffers, buffer)?;
     let core = Core::new(alloc, users(alloc)?, buffers, RefusingStore::new()).ok()?;
     let server = Engine::new(alloc, core).ok()?;
     Some(Stage {
@@ -211,7 +211,7 @@ fn step(stage: &mut Stage, line: &str) -> Option<Outcome> {
 }
 
 fn play_line(stage: &mut Stage, line: &str) -> Option<Outcome> {
-    if line.is_empty() || line.starts_with("buffer ") {
+    if line.is_empty() {
         return Some(Outcome::Met);
     }
     match line.strip_prefix("sit ") {
@@ -221,7 +221,8 @@ fn play_line(stage: &mut Stage, line: &str) -> Option<Outcome> {
 }
 
 fn play_once(alloc: Global, lines: &str) -> Option<Outcome> {
-    let mut stage = served(alloc, lines)?;
+    let (buffer, lines) = lines.split_once('\n').unwrap_or((lines, ""));
+    let mut stage = served(alloc, buffer)?;
     for line in lines.lines() {
         match play_line(&mut stage, line)? {
             Outcome::Met => {}
