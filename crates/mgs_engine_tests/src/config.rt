@@ -26,11 +26,11 @@ impl Folder {
             faults: 0,
         }
     }
+}
 
-    fn ask(&mut self, path: &str) -> Result<(), AllocError> {
-        self.asked.push_str(path)?;
-        self.asked.push_str(" ")
-    }
+fn ask(asked: &mut String, path: &str) -> Result<(), AllocError> {
+    asked.push_str(path)?;
+    asked.push_str(" ")
 }
 
 // 64 characters.
@@ -62,7 +62,7 @@ impl Files for Folder {
     ghost count = { λ folder. folder.faults };
 
     fn read(&mut self, path: &str) -> Result<Vec<char>, FilesFault> {
-        if self.ask(path).is_err() || path == "full" {
+        if ask(&mut self.asked, path).is_err() || path == "full" {
             return Err(FilesFault::Short);
         }
         if path == "gone" {
@@ -97,8 +97,9 @@ fn text_of(alloc: Global, config: &Config, name: &str, rt: &impl Abort) -> Resul
     let name = named(name, rt);
     assert!(rt; config.buffers.has(&name));
     let text = config.buffers.text(&name);
+    let characters = text.copy(0, text.len())?;
     let mut copied = String::new(alloc);
-    for character in &text.copy(0, text.len())? {
+    for character in &characters {
         copied.push(*character)?;
     }
     Ok(copied)

@@ -443,7 +443,7 @@ fn one_more_than_a_limit_is_long(rt: HostRuntime) -> Result<(), Fail> {
         )?;
         says(
             alloc,
-            document(alloc, counted, counted.limit + 1)?.as_str(),
+            document(alloc, counted, counted.limit.saturating_add(1))?.as_str(),
             counted.past,
             &rt,
         )?;
