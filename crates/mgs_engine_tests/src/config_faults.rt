@@ -151,7 +151,7 @@ const GROUPS: [(&str, &str); 15] = [
 ];
 
 // Behind the buffer `notes`.
-const BUFFERS: [(&str, &str); 42] = [
+const BUFFERS: [(&str, &str); 29] = [
     ("", "read"),
     (
         ", {name = '!aA~', owner = 'ann', list = ['ALLOW eve r'], text = ''}",
@@ -238,6 +238,10 @@ const BUFFERS: [(&str, &str); 42] = [
         ", {name = 'a', owner = 'ann', list = [], file = 'full'}",
         "top 0: Short",
     ),
+];
+
+// Behind the same, of several faults the one that is told.
+const SEVERAL: [(&str, &str); 13] = [
     // The least of several in one table.
     (", {name = '', owner = 'ann', list = 1}", "buffer 2: Key"),
     (
@@ -302,7 +306,8 @@ fn the_first_fault_is_named_by_its_table(rt: HostRuntime) -> Result<(), Fail> {
     let head = format!(in alloc;
         "{head}]\nbuffer = [{{name = 'notes', owner = 'ann', list = []}}"
     )?;
-    rows_say(alloc, (head.as_str(), "]"), &BUFFERS, &rt)
+    rows_say(alloc, (head.as_str(), "]"), &BUFFERS, &rt)?;
+    rows_say(alloc, (head.as_str(), "]"), &SEVERAL, &rt)
 }
 
 // A document with so many pieces, each with its number in the middle: what it says at a limit, and with one piece more.
