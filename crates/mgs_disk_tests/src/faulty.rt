@@ -56,10 +56,10 @@ impl<'a, R> Env for Faulty<'a, R> {
             return Err(FillError::NotPresent);
         };
         let bytes = word.as_bytes();
-        let Some(room) = buf.get_mut(..bytes.len()) else {
+        if bytes.len() > buf.len() {
             return Err(FillError::TooLong);
-        };
-        room.copy_from_slice(bytes);
+        }
+        buf[..bytes.len()].copy_from_slice(bytes);
         Ok(bytes.len())
     }
 

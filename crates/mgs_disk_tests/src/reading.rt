@@ -3,16 +3,23 @@ use crate::folder::{make_folder, within, write_file};
 use mgs_config::{Files, FilesFault};
 use mgs_disk::Disk;
 use mgs_model::TEXT_LIMIT;
+use std::alloc::{AllocError, Global};
 use std::fs;
 use std::os::fd::AsRawFd;
 use std::os::unix::fs::symlink;
 use std::test::Fail;
 
 // Whether a file is read as this text.
-fn reads<F: Files>(disk: &mut F, path: &str, text: &str) -> bool {
+fn reads<F: Files>(
+    alloc: Global,
+    disk: &mut F,
+    path: &str,
+    text: &str,
+) -> Result<bool, AllocError> {
+    let wanted: Vec<char> = text.chars().collect(alloc)?;
     match disk.read(path) {
-        Ok(chars) => chars.iter().copied().eq(text.chars()),
-        Err(_) => false,
+        Ok(chars) => Ok(chars.as_slice() == wanted.as_slice()),
+        Err(_) => Ok(false),
     }
 }
 
@@ -27,8 +34,8 @@ fn a_file_and_a_link_to_one(rt: HostRuntime) -> Result<(), Fail> {
     let mut disk = Disk::new(&rt);
     for text in ["a\n\u{e9}\u{20ac}\u{1f600}", ""] {
         write_file(&rt, path.as_path(), text, 0o400)?;
-        assert!(rt; reads(&mut disk, path.as_path().as_str(), text));
-        assert!(rt; reads(&mut disk, link.as_path().as_str(), text));
+        assert!(rt; reads(rt.alloc(), &mut disk, path.as_path().as_str(), text)?);
+        assert!(rt; reads(rt.alloc(), &mut disk, link.as_path().as_str(), text)?);
         fs::remove_file(&rt, path.as_path())?;
     }
     assert_eq!(rt; disk.faults(), 0);
