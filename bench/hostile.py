@@ -348,10 +348,13 @@ def held_by(server):
 def is_served(port):
     """Whether the places of those who left are free again."""
     for _ in range(50):
-        with connect(port) as stream:
-            stream.sendall(b"login eve elder 6 20\n")
-            if stream.recv(4096).startswith(b"\x1b"):
-                return True
+        try:
+            with connect(port) as stream:
+                stream.sendall(b"login eve elder 6 20\n")
+                if stream.recv(4096).startswith(b"\x1b"):
+                    return True
+        except OSError:
+            pass
         time.sleep(0.1)
     return False
 
