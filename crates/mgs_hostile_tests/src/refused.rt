@@ -89,7 +89,7 @@ fn a_search_outlives_a_refused_key(rt: HostRuntime) -> Result<(), Fail> {
 // No text grows once two sessions sit there.
 const SHARED: &str = "notes ann | ALLOW OWNER@ rwatdcCo; ALLOW bob rt | banana";
 
-type Full = Refusing<5, { usize::MAX }>;
+type Full = Refusing<5, 1_000_000>;
 
 #[test]
 fn a_revocation_takes_no_memory(rt: HostRuntime) -> Result<(), Fail> {
