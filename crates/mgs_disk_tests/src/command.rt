@@ -47,18 +47,16 @@ fn to_serve(rt: HostRuntime) -> Result<(), Fail> {
         path.as_path(),
         "[[user]]\nname = \"ann\"\nticket = \"t1\"\n",
     )?;
-    for (port, wanted) in [("0", 0), ("7000", 7000), ("65535", 65535)] {
-        let words = ["mgd", "serve", path.as_path().as_str(), port];
-        match prepare(&Faulty::asked(&rt, &words, "")) {
-            Ok(Work::Serve { config, port }) => {
-                assert_eq!(rt; port, wanted);
-                assert!(rt; config.directory.user("ann").is_some());
-            }
-            _ => panic!(rt; "refused"),
+    let words = ["mgd", "serve", path.as_path().as_str(), "7000"];
+    let asked = Faulty::asked(&rt, &words, "");
+    match prepare(&asked) {
+        Ok(Work::Serve { config, port }) => {
+            assert_eq!(rt; port, 7000);
+            assert!(rt; config.directory.user("ann").is_some());
         }
+        _ => panic!(rt; "refused"),
     }
     fs::write(&rt, path.as_path(), "[[user]]\nname = \"ann\"\n")?;
-    let words = ["mgd", "serve", path.as_path().as_str(), "7000"];
     let asked = Faulty::asked(&rt, &words, "user 1: Key");
     assert!(rt; matches!(prepare(&asked), Err(1)));
     assert!(rt; asked.is_told());
