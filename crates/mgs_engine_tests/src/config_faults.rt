@@ -21,7 +21,8 @@ fn says(alloc: Global, text: &str, wanted: &str, rt: &impl Abort) -> Result<(), 
 // Each row: what stands between head and end, and what the whole says.
 fn rows_say(
     alloc: Global,
-    (head, end): (&str, &str),
+    head: &str,
+    end: &str,
     rows: &[(&str, &str)],
     rt: &impl Abort,
 ) -> Result<(), Fail> {
@@ -62,7 +63,7 @@ const DOCUMENTS: [(&str, &str); 16] = [
 
 #[test]
 fn a_document_has_lists_of_tables_and_no_other_keys(rt: HostRuntime) -> Result<(), Fail> {
-    rows_say(rt.alloc(), ("", ""), &DOCUMENTS, &rt)
+    rows_say(rt.alloc(), "", "", &DOCUMENTS, &rt)
 }
 
 // Tables behind that of ann. A key behind the head of a table is that table's.
@@ -299,15 +300,15 @@ const SEVERAL: [(&str, &str); 13] = [
 fn the_first_fault_is_named_by_its_table(rt: HostRuntime) -> Result<(), Fail> {
     let alloc = rt.alloc();
     let ann = "[[user]]\nname = \"ann\"\nticket = \"t1\"\n";
-    rows_say(alloc, (ann, ""), &TABLES, &rt)?;
-    rows_say(alloc, (ANN, "]"), &USERS, &rt)?;
+    rows_say(alloc, ann, "", &TABLES, &rt)?;
+    rows_say(alloc, ANN, "]", &USERS, &rt)?;
     let head = format!(in alloc; "{ANN}]\ngroup = [{{name = 'team', members = ['ann']}}")?;
-    rows_say(alloc, (head.as_str(), "]"), &GROUPS, &rt)?;
-    let head = format!(in alloc;
+    rows_say(alloc, head.as_str(), "]", &GROUPS, &rt)?;
+    let groups = format!(in alloc;
         "{head}]\nbuffer = [{{name = 'notes', owner = 'ann', list = []}}"
     )?;
-    rows_say(alloc, (head.as_str(), "]"), &BUFFERS, &rt)?;
-    rows_say(alloc, (head.as_str(), "]"), &SEVERAL, &rt)
+    rows_say(alloc, groups.as_str(), "]", &BUFFERS, &rt)?;
+    rows_say(alloc, groups.as_str(), "]", &SEVERAL, &rt)
 }
 
 // A document with so many pieces, each with its number in the middle: what it says at a limit, and with one piece more.
