@@ -35,3 +35,4 @@ mod Runs
 mod Families
 mod Asked
 mod Altered
+mod Characters

@@ -1,5 +1,5 @@
 -- What bytes come to, behind the decoder.
-use Rattle.std.proofs.Common.{◌≡◌, ◌≤◌, ◌<◌, ◌-◌, ℕ, Bool, true, false, ◌&&◌, List, [], ◌∷◌, ◌++◌, drop, refl, sym, ap, subst, ◌∙◌, true≢false, arith, append-nil}
+use Rattle.std.proofs.Common.{◌≡◌, ◌≤◌, ◌<◌, ◌-◌, ℕ, Bool, true, false, ◌&&◌, List, [], ◌∷◌, ◌++◌, length, drop, refl, sym, ap, subst, ◌∙◌, true≢false, arith, append-nil}
 use Rattle.std.specs.Prelude.{◌==◌, nat_le, nat_lt, find, chars, Option, Some, None, is_some, if◌then◌else◌}
 use Rattle.std.specs.Int.{is_in_range}
 use Rattle.std.specs.List.{list_all}
@@ -80,7 +80,7 @@ whole_begins_none : (cs : List ℕ) → whole_of cs ≡ Begun → ⊥
 whole_begins_none [] e = cc
 whole_begins_none (c ∷ cs) e = cc
 
-some_length : (p q r : Bool) → begun_of (if p then (if q then (if r then Some 3 else Some 2) else Some 1) else Some 1) ≡ Broken
+some_length : (p q r : Bool) → begun_of 4 (if p then (if q then (if r then Some 3 else Some 2) else Some 1) else Some 1) ≡ Broken
 some_length true true true = refl
 some_length true true false = refl
 some_length true false r = refl
@@ -89,7 +89,7 @@ some_length false q r = refl
 no_text : (bytes : List ℕ) → IsBegun bytes → is_utf8 bytes ≡ false
 unfolding sequence_read
 no_text bytes h =
-    let rest : Sequence = begun_of (utf8_error_len (drop (utf8_valid_len bytes) bytes)) in
+    let rest : Sequence = begun_of (length bytes) (utf8_error_len (drop (utf8_valid_len bytes) bytes)) in
     let go : (t : Bool) → (if t then whole_of (chars bytes) else rest) ≡ Begun → t ≡ false = λ t. elim t as (λ t. (if t then whole_of (chars bytes) else rest) ≡ Begun → t ≡ false) [
       | true ↦ λ e. absurd (whole_begins_none (chars bytes) e)
       | false ↦ λ e. refl

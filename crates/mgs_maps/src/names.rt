@@ -10,27 +10,27 @@ ghost use Rattle.mgs_maps.specs.Table.{row_of, rows_of, named_row, narrowed_row}
 
 use crate::table::{Binding, bindings, keyless};
 use mgs_mini::narrowed;
-use mgs_model::Command;
+use mgs_model::{Command, is_typed};
 
 // The command of a name in a table.
-fn command_in(bindings: &[Binding], name: &[u8]) -> Option<Command>
+fn command_in(bindings: &[Binding], name: &[char]) -> Option<Command>
     ensures { result ≡ option_map (λ (b : Binding). b.command) (find (λ (b : Binding). same_name name.now b.name.now) bindings.now) }
 {
     bindings
         .iter()
-        .find(|binding| name == binding.name.as_bytes())
+        .find(|binding| is_typed(name, binding.name.as_bytes()))
         .map(|binding| binding.command)
 }
 
 // The same, told of its rows.
-fn named_in(bindings: &[Binding], name: &[u8]) -> Option<Command>
+fn named_in(bindings: &[Binding], name: &[char]) -> Option<Command>
     ensures { result ≡ named_row name.now (rows_of bindings.now) }
 {
     command_in(bindings, name)
 }
 
 #[tactic(auto, using(crate::proofs::Named::no_name, crate::proofs::Named::in_tables))]
-fn find_command(name: &[u8]) -> Option<Command>
+fn find_command(name: &[char]) -> Option<Command>
     ensures { result ≡ find_command name.now }
 {
     if name.is_empty() {
@@ -39,9 +39,9 @@ fn find_command(name: &[u8]) -> Option<Command>
     named_in(bindings(), name).or(named_in(keyless(), name))
 }
 
-/// The command of a name: one of the table, or one that no word of keys runs. `None`: no command has it.
+/// The command of a name that was typed: one of the table, or one that no word of keys runs. `None`: no command has it.
 #[tactic(auto, using(crate::proofs::Named::found_is_bound))]
-pub fn command_named(name: &[u8]) -> Option<Command>
+pub fn command_named(name: &[char]) -> Option<Command>
     ensures value { result ≡ find_command name.now }
     ensures bound { IfSome result (λ c. is_bound c ≡ true) }
 {
@@ -50,7 +50,7 @@ pub fn command_named(name: &[u8]) -> Option<Command>
 
 // What the names so far have in common that begin with what was typed, with the name of a row.
 fn narrowed_by(
-    input: &[u8],
+    input: &[char],
     found: Option<&'static [u8]>,
     binding: &Binding,
 ) -> Option<&'static [u8]>
@@ -64,7 +64,7 @@ fn narrowed_by(
 
 // The same with the names of a table.
 fn narrowed_in(
-    input: &[u8],
+    input: &[char],
     mut found: Option<&'static [u8]>,
     bindings: &[Binding],
 ) -> Option<&'static [u8]>
@@ -77,7 +77,7 @@ fn narrowed_in(
 }
 
 #[tactic(auto, using(crate::proofs::Named::by_rows))]
-fn completed(input: &[u8]) -> Option<&'static [u8]>
+fn completed(input: &[char]) -> Option<&'static [u8]>
     ensures { option_map (λ t. t.now) result ≡ completion command_names input.now }
 {
     narrowed_in(input, narrowed_in(input, None, bindings()), keyless())
@@ -85,7 +85,7 @@ fn completed(input: &[u8]) -> Option<&'static [u8]>
 
 /// What a name is completed to that was typed so far: the longest text with which all names of commands begin that begin with
 /// it, at most 120 characters. `None`: no name does.
-pub fn name_completion(input: &[u8]) -> Option<&'static [u8]>
+pub fn name_completion(input: &[char]) -> Option<&'static [u8]>
     ensures value { option_map (λ t. t.now) result ≡ completion command_names input.now }
     ensures within { IfSome (option_map (λ t. t.now) result) (λ text. length text ≤ 120) }
 {

@@ -1,2 +1,3 @@
 mod Names
 mod Questions
+mod Characters

@@ -1,15 +1,17 @@
 //! The input of a prompt, typed byte by byte. It has fixed room and takes no memory.
 #![tactic(auto)]
 
-ghost use Rattle.std.specs.Prelude.{◌≡◌, ◌≤◌, [], length, IfSome};
+ghost use Rattle.std.specs.Prelude.{◌≡◌, ◌≤◌, ℕ, List, [], length, IfSome, false};
 ghost use Rattle.std.specs.Option.{option_map};
 ghost use Rattle.mgs_model.specs.Keys.{is_graphic};
+ghost use Rattle.mgs_model.specs.Searching.{lengthened};
+ghost use Rattle.mgs_model.specs.Sequences.{sequence_read};
 ghost use Rattle.mgs_model.specs.World.{Own};
 ghost use Rattle.mgs_model.specs.View.{View};
 ghost use Rattle.mgs_model.specs.declared.session.Question.{Question};
 ghost use Rattle.mgs_model.specs.Turns.{prompt_turn, prompt_keys, prompt_key, completed, names_buffers, names_commands};
 ghost use Rattle.mgs_model.specs.declared.session.Question.TheVariants.{ReplaceWith};
-ghost use Rattle.mgs_mini.specs.Typing.{IsFirst, keys_of, typed_own, stepped, last_dropped, told};
+ghost use Rattle.mgs_mini.specs.Typing.{IsFirst, IsWaiting, is_within, keys_of, typed_own, typed_turn, stepped, last_dropped, told};
 ghost use Rattle.mgs_mini.specs.declared.Waiting.TheVariants.{NoKey};
 ghost use Rattle.mgs_mini.specs.declared.Step.TheVariants.{Answered};
 
@@ -17,7 +19,7 @@ mod completing;
 
 use arrayvec::ArrayVec;
 pub use completing::{completion, narrowed};
-use mgs_model::Question;
+use mgs_model::{Question, Sequence, read_sequence};
 use std::marker::Model;
 
 const ESCAPE: u8 = 0x1B;
@@ -36,6 +38,10 @@ pub enum Waiting {
     Arrow,
     /// M-[ and ESC (0x1B) came.
     ArrowEscape,
+    /// The first bytes of a character past ASCII came.
+    One(u8),
+    Two(u8, u8),
+    Three(u8, u8, u8),
 }
 
 /// What a byte comes to in a prompt.
@@ -49,6 +55,8 @@ pub enum Step {
     Quit,
     /// The input is to be completed.
     Completes,
+    /// The bytes are no character and no key.
+    Unbound,
 }
 
 /// A question and what was typed as its answer so far, at most 120 characters. The second of two questions has the answer to the
@@ -56,8 +64,8 @@ pub enum Step {
 #[derive(Drop)]
 pub struct Prompt {
     question: Question,
-    first: ArrayVec<u8, 120>,
-    input: ArrayVec<u8, 120>,
+    first: ArrayVec<char, 120>,
+    input: ArrayVec<char, 120>,
     waiting: Waiting,
 }
 
@@ -68,9 +76,9 @@ impl Model for Prompt {
 
     ghost view = { λ p. record { question = p.question; first = p.first.items; input = p.input.items; waiting = p.waiting } };
 
-    ghost use Rattle.mgs_mini.specs.Typing.{IsFirst};
+    ghost use Rattle.mgs_mini.specs.Typing.{IsFirst, IsWaiting};
 
-    ghost invariant = { λ p. IsFirst p.question p.first.items };
+    ghost invariant = { λ p. IsFirst p.question p.first.items × IsWaiting p.waiting };
 }
 
 fn names_buffers(question: Question) -> bool
@@ -99,9 +107,11 @@ fn names_commands(question: Question) -> bool
     }
 }
 
-// What waits after a byte that is typed behind what waited.
+// What waits after a byte of ASCII that is typed behind keys.
 fn waiting_after(waiting: Waiting, byte: u8) -> Waiting
-    ensures { keys_of result ≡ prompt_keys (keys_of waiting) byte }
+    requires { is_within waiting ≡ false }
+    ensures keys { keys_of result ≡ prompt_keys (keys_of waiting) byte }
+    ensures waits { IsWaiting result }
 {
     match waiting {
         Waiting::NoKey if byte == ESCAPE => Waiting::Escape,
@@ -111,6 +121,7 @@ fn waiting_after(waiting: Waiting, byte: u8) -> Waiting
         Waiting::Arrow if byte == ESCAPE => Waiting::ArrowEscape,
         Waiting::Arrow => Waiting::NoKey,
         Waiting::ArrowEscape => Waiting::NoKey,
+        Waiting::One(_) | Waiting::Two(_, _) | Waiting::Three(_, _, _) => Waiting::NoKey,
     }
 }
 
@@ -120,13 +131,22 @@ fn is_graphic(byte: u8) -> bool
     32 <= byte && byte <= 126
 }
 
-fn drop_last(input: &mut ArrayVec<u8, 120>)
+fn drop_last(input: &mut ArrayVec<char, 120>)
     ensures { input.new.items ≡ last_dropped input.old.items }
 {
     let _last = input.pop();
 }
 
-fn put_input(input: &mut ArrayVec<u8, 120>, text: &[u8])
+// A character behind the input, which has at most 120.
+fn lengthen(input: &mut ArrayVec<char, 120>, c: char)
+    ensures { input.new.items ≡ lengthened input.old.items c }
+{
+    if input.len() < 120 {
+        input.push(c);
+    }
+}
+
+fn put_input(input: &mut ArrayVec<char, 120>, text: &[char])
     requires { length text.now ≤ 120 }
     ensures { input.new.items ≡ text.now }
 {
@@ -134,9 +154,21 @@ fn put_input(input: &mut ArrayVec<u8, 120>, text: &[u8])
     let _extended = input.try_extend_from_slice(text);
 }
 
+// Each byte of a name is a character.
+fn put_name(input: &mut ArrayVec<char, 120>, name: &[u8])
+    requires { length name.now ≤ 120 }
+    ensures { input.new.items ≡ name.now }
+{
+    input.clear();
+    for byte in name {
+        input.push(char::from(*byte));
+    }
+}
+
 // A key by itself.
-fn feed_key(input: &mut ArrayVec<u8, 120>, byte: u8) -> (Step, Waiting)
+fn feed_key(input: &mut ArrayVec<char, 120>, byte: u8) -> (Step, Waiting)
     ensures answered { result.0 ≡ Answered → (input.new.items ≡ input.old.items) × (result.1 ≡ NoKey) }
+    ensures waits { IsWaiting result.1 }
     ensures turn { (v : View) → (c : Question) → (own : Own) → prompt_key v c (typed_own own input.old.items NoKey) byte ≡ stepped v c (typed_own own input.new.items result.1) result.0 }
 {
     if byte == b'\r' {
@@ -147,26 +179,82 @@ fn feed_key(input: &mut ArrayVec<u8, 120>, byte: u8) -> (Step, Waiting)
     } else if byte == b'\t' {
         (Step::Completes, Waiting::NoKey)
     } else if is_graphic(byte) && input.len() < 120 {
-        input.push(byte);
+        input.push(char::from(byte));
         (Step::GoesOn, Waiting::NoKey)
     } else {
         (Step::GoesOn, waiting_after(Waiting::NoKey, byte))
     }
 }
 
+// The bytes of a character so far, which wait so where more of them are to come.
+fn feed_character(
+    input: &mut ArrayVec<char, 120>,
+    bytes: &[u8],
+    waiting: Waiting,
+) -> (Step, Waiting)
+    requires { IsWaiting waiting }
+    ensures answered { result.0 ≡ Answered → ⊥ }
+    ensures waits { IsWaiting result.1 }
+    ensures turn { (v : View) → (c : Question) → (own : Own) → typed_turn own input.old.items waiting (sequence_read bytes.now) ≡ stepped v c (typed_own own input.new.items result.1) result.0 }
+{
+    match read_sequence(bytes) {
+        Sequence::Whole(c) => {
+            lengthen(input, c);
+            (Step::GoesOn, Waiting::NoKey)
+        }
+        Sequence::Begun => (Step::GoesOn, waiting),
+        Sequence::Broken => (Step::Unbound, Waiting::NoKey),
+    }
+}
+
+// A byte behind ESC or M-[, where no character begins.
+fn feed_word(waiting: Waiting, byte: u8) -> (Step, Waiting)
+    requires within { is_within waiting ≡ false }
+    requires some { length (keys_of waiting) ≡ 0 → ⊥ }
+    requires other { byte ≡ 7 → ⊥ }
+    ensures answered { result.0 ≡ Answered → ⊥ }
+    ensures waits { IsWaiting result.1 }
+    ensures turn { (v : View) → (c : Question) → (own : Own) → (input : List ℕ) → prompt_turn v c (typed_own own input waiting) byte ≡ stepped v c (typed_own own input result.1) result.0 }
+{
+    if byte < 0x80 {
+        (Step::GoesOn, waiting_after(waiting, byte))
+    } else {
+        (Step::Unbound, Waiting::NoKey)
+    }
+}
+
+// A byte by itself.
+fn feed_first(input: &mut ArrayVec<char, 120>, byte: u8) -> (Step, Waiting)
+    requires { byte ≡ 7 → ⊥ }
+    ensures answered { result.0 ≡ Answered → (input.new.items ≡ input.old.items) × (result.1 ≡ NoKey) }
+    ensures waits { IsWaiting result.1 }
+    ensures turn { (v : View) → (c : Question) → (own : Own) → prompt_turn v c (typed_own own input.old.items NoKey) byte ≡ stepped v c (typed_own own input.new.items result.1) result.0 }
+{
+    if byte < 0x80 {
+        feed_key(input, byte)
+    } else {
+        feed_character(input, &[byte], Waiting::One(byte))
+    }
+}
+
 // A byte behind keys that may be half read.
-fn feed_byte(input: &mut ArrayVec<u8, 120>, waiting: Waiting, byte: u8) -> (Step, Waiting)
+fn feed_byte(input: &mut ArrayVec<char, 120>, waiting: Waiting, byte: u8) -> (Step, Waiting)
+    requires { IsWaiting waiting }
     ensures answered { result.0 ≡ Answered → (input.new.items ≡ input.old.items) × (result.1 ≡ waiting) × (waiting ≡ NoKey) }
+    ensures waits { IsWaiting result.1 }
     ensures turn { (v : View) → (c : Question) → (own : Own) → prompt_turn v c (typed_own own input.old.items waiting) byte ≡ stepped v c (typed_own own input.new.items result.1) result.0 }
 {
     if byte == QUIT {
         return (Step::Quit, Waiting::NoKey);
     }
     match waiting {
-        Waiting::NoKey => feed_key(input, byte),
-        Waiting::Escape => (Step::GoesOn, waiting_after(Waiting::Escape, byte)),
-        Waiting::Arrow => (Step::GoesOn, waiting_after(Waiting::Arrow, byte)),
-        Waiting::ArrowEscape => (Step::GoesOn, waiting_after(Waiting::ArrowEscape, byte)),
+        Waiting::NoKey => feed_first(input, byte),
+        Waiting::Escape => feed_word(Waiting::Escape, byte),
+        Waiting::Arrow => feed_word(Waiting::Arrow, byte),
+        Waiting::ArrowEscape => feed_word(Waiting::ArrowEscape, byte),
+        Waiting::One(a) => feed_character(input, &[a, byte], Waiting::Two(a, byte)),
+        Waiting::Two(a, b) => feed_character(input, &[a, b, byte], Waiting::Three(a, b, byte)),
+        Waiting::Three(a, b, c) => feed_character(input, &[a, b, c, byte], Waiting::NoKey),
     }
 }
 
@@ -185,7 +273,7 @@ impl Prompt {
     }
 
     /// With what to replace, where it was answered so what is replaced: nothing is typed.
-    pub fn second(first: &[u8]) -> Prompt
+    pub fn second(first: &[char]) -> Prompt
         requires { length first.now ≤ 120 }
         ensures { result ≡ record { question = ReplaceWith; first = first.now; input = []; waiting = NoKey } }
     {
@@ -216,7 +304,8 @@ impl Prompt {
     }
 
     /// What a byte comes to. The input and the keys that are half read are then as the byte left them; an answer, a prompt
-    /// that is given up and an input to complete leave the input as it was.
+    /// that is given up, an input to complete and bytes that are no character leave the input as it was. Bytes from 0x80 on are
+    /// the UTF-8 of a character, which is put behind the input at its last byte.
     pub fn feed(&mut self, byte: u8) -> Step
         ensures question { self.new.question ≡ self.old.question }
         ensures first { self.new.first ≡ self.old.first }
@@ -239,12 +328,12 @@ impl Prompt {
         let Some(text) = completion else {
             return false;
         };
-        put_input(&mut self.input, text);
+        put_name(&mut self.input, text);
         true
     }
 
     /// The answer to the first of two questions, at most 120 characters. Beside any other question it is empty.
-    pub fn first(&self) -> &[u8]
+    pub fn first(&self) -> &[char]
         ensures value { result.now ≡ self.now.first }
         ensures within { length result.now ≤ 120 }
         ensures second { IsFirst self.now.question self.now.first }
@@ -253,7 +342,7 @@ impl Prompt {
     }
 
     /// What was typed, at most 120 characters.
-    pub fn input(&self) -> &[u8]
+    pub fn input(&self) -> &[char]
         ensures value { result.now ≡ self.now.input }
         ensures within { length result.now ≤ 120 }
     {

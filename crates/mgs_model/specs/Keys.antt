@@ -227,3 +227,13 @@ key_read argument keys byte =
     if in_sequence keys && (byte == 7) then Bound (Set KeyboardQuit) (value_of argument)
     else if in_sequence keys || begins_sequence keys byte then sequence_step argument (keys ++ byte ∷ []) (sequence_read (sequence_of keys ++ byte ∷ []))
     else ascii_read argument keys byte
+
+-- CHARACTERS PAST ASCII in a prompt and in an incremental search, where they are put behind what was typed
+
+-- a byte of such a character, or one behind some of its bytes; C-g is a key there too
+abbrev pub is_character_byte : List ℕ → ℕ → Bool
+is_character_byte keys byte = (in_sequence keys || nat_le 128 byte) && not (byte == 7)
+
+-- what its bytes are with this one; no character begins behind ESC and behind M-[
+abbrev pub character_read : List ℕ → ℕ → Sequence
+character_read keys byte = if in_sequence keys || begins_sequence keys byte then sequence_read (sequence_of keys ++ byte ∷ []) else Broken

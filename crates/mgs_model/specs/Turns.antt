@@ -1,19 +1,21 @@
 -- What comes next in an event: bytes make words of keys, arguments and the input of prompts, and these make acts.
 use Rattle.std.specs.Prelude.{ℕ, ◌-◌, nat_lt, ◌==◌, Bool, true, false, not, ◌&&◌, ◌||◌, List, [], ◌∷◌, ◌++◌, length, take, Option, None, Some, Result, Ok, Err, cond, if◌then◌else◌}
 use Rattle.mgs_model.specs.World.{Own, Todo, Typed, Played, Replace_all, Play}
-use Rattle.mgs_model.specs.Keys.{is_graphic, ends_in_escape, value_of, KeyRead, Half, Bound, Not_bound, key_read}
+use Rattle.mgs_model.specs.Keys.{is_graphic, ends_in_escape, value_of, KeyRead, Half, Bound, Not_bound, key_read, is_character_byte, character_read}
 use Rattle.mgs_model.specs.Commands.{find_command, command_names}
 use Rattle.mgs_model.specs.Names.{same_name}
 use Rattle.mgs_model.specs.View.{View}
 use Rattle.mgs_model.specs.Completion.{completion, shown_names}
 use Rattle.mgs_model.specs.Outcome.{Act, Unbound, Run}
 use Rattle.mgs_model.specs.Plans.{failed_own, acted_own, setting}
-use Rattle.mgs_model.specs.Searching.{Sought, read_byte}
+use Rattle.mgs_model.specs.Searching.{Sought, lengthened, read_byte}
+use Rattle.mgs_model.specs.declared.sequence.Sequence.{Sequence}
+use Rattle.mgs_model.specs.declared.sequence.Sequence.TheVariants.{Whole, Begun, Broken}
 use Rattle.mgs_model.specs.declared.search.Direction.{Direction}
 use Rattle.mgs_model.specs.declared.search.SearchStep.{SearchStep}
-use Rattle.mgs_model.specs.declared.search.SearchStep.TheVariants.{Ends, Quits, Leaves}
+use Rattle.mgs_model.specs.declared.search.SearchStep.TheVariants.{FromAnchor, Ends, Quits, Leaves}
 use Rattle.mgs_model.specs.declared.message.Message.{Message}
-use Rattle.mgs_model.specs.declared.message.Message.TheVariants.{Silent, Quitting, NoMatch, NoSuchCommand, Replaced}
+use Rattle.mgs_model.specs.declared.message.Message.TheVariants.{Silent, KeyNotBound, Quitting, NoMatch, NoSuchCommand, Replaced}
 use Rattle.mgs_model.specs.declared.session.Mode.{Mode}
 use Rattle.mgs_model.specs.declared.session.Mode.TheVariants.{Plain, Prompt, Searching, Replacing}
 use Rattle.mgs_model.specs.declared.session.Motion.TheVariants.{GoToLine, StartSearch, SearchOn, SearchFor, StartReplace, SkipMatch}
@@ -66,6 +68,10 @@ read_turn own Not_bound = Do (used own) Unbound
 
 abbrev pub key_turn : Own → ℕ → Turn
 key_turn own byte = read_turn own (key_read own.argument own.keys byte)
+
+-- TYPED BYTES that are no character and no key: this is told, and they are forgotten. The mode stays, and what was typed in it
+abbrev pub unbound_own : Own → Own
+unbound_own own = record own { echo = KeyNotBound; keys = []; kind = Other; todo = [] }
 
 -- THE INPUT OF A PROMPT
 
@@ -140,10 +146,17 @@ prompt_key v c own byte =
     else if is_graphic byte && nat_lt (length own.input) 120 then Keep (record own { input = own.input ++ byte ∷ [] })
     else Keep (record own { keys = prompt_keys own.keys byte })
 
+-- a byte of a character past ASCII, which is put behind the input
+abbrev pub input_turn : Own → ℕ → Sequence → Turn
+input_turn own byte (Whole c) = Keep (record own { keys = []; input = lengthened own.input c })
+input_turn own byte Begun = Keep (record own { keys = own.keys ++ byte ∷ [] })
+input_turn own byte Broken = Keep (unbound_own own)
+
 -- C-g quits also in the middle of a word of keys. Such a word does nothing
 abbrev pub prompt_turn : View → Question → Own → ℕ → Turn
 prompt_turn v c own byte =
     if byte == 7 then Keep (failed_own Quitting own)
+    else if is_character_byte own.keys byte then input_turn own byte (character_read own.keys byte)
     else if length own.keys == 0 then prompt_key v c own byte
     else Keep (record own { keys = prompt_keys own.keys byte })
 
@@ -160,10 +173,20 @@ sought_turn own byte s Leaves = key_turn (searched own) byte
 sought_turn own byte s step =
     Do (record own { mode = Searching s.direction s.failing; input = s.pattern }) (Run (Move (SearchOn s.direction step)) None s.pattern)
 
+-- a byte of a character past ASCII, which is put behind the pattern
+abbrev pub pattern_turn : Own → Sought → ℕ → Sequence → Turn
+pattern_turn own s byte (Whole c) = sought_turn (used own) byte (record s { pattern = lengthened s.pattern c }) FromAnchor
+pattern_turn own s byte Begun = Keep (record own { keys = own.keys ++ byte ∷ [] })
+pattern_turn own s byte Broken = Keep (unbound_own (used own))
+
+-- a byte of a search by itself
+abbrev pub sought_byte : Own → Sought → ℕ → Turn
+sought_byte own s byte = (let read = read_byte own.pattern s byte in sought_turn own byte read.0 read.1)
+
 abbrev pub search_turn : Own → Direction → Bool → ℕ → Turn
 search_turn own d failing byte =
-    let read = read_byte own.pattern (record { direction = d; pattern = own.input; failing = failing }) byte in
-    sought_turn own byte read.0 read.1
+    let s : Sought = record { direction = d; pattern = own.input; failing = failing } in
+    if is_character_byte own.keys byte then pattern_turn own s byte (character_read own.keys byte) else sought_byte own s byte
 
 -- A REPLACING: `!` is no act, and queues its replacements
 

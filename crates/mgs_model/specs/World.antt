@@ -80,7 +80,7 @@ pub record Own : Type 0 where
   pub keys : List ℕ
   pub kind : Kind
   pub mode : Mode
-  -- what was typed at the prompt
+  -- the characters that were typed at the prompt
   pub input : List ℕ
   -- what is replaced by the input, and how often it was
   pub old : List ℕ

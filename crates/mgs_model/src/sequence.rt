@@ -1,5 +1,5 @@
-ghost use Rattle.std.specs.Prelude.{◌≡◌};
-ghost use Rattle.mgs_model.specs.Sequences.{sequence_read};
+ghost use Rattle.std.specs.Prelude.{◌≡◌, None};
+ghost use Rattle.mgs_model.specs.Sequences.{begun_of, sequence_read};
 
 /// What bytes are that were typed one after another, of which the first is past ASCII.
 #[derive(Clone, Copy, Debug, PartialEq, Eq)]
@@ -10,6 +10,17 @@ pub enum Sequence {
     Begun,
     /// No character begins with them.
     Broken,
+}
+
+// So many bytes that end within a character. It has at most four.
+fn begun(len: usize) -> Sequence
+    ensures { result ≡ begun_of len None }
+{
+    if len < 4 {
+        Sequence::Begun
+    } else {
+        Sequence::Broken
+    }
 }
 
 /// What typed bytes are.
@@ -23,7 +34,7 @@ pub fn read_sequence(bytes: &[u8]) -> Sequence
         },
         Err(fault) => match fault.error_len() {
             Some(_) => Sequence::Broken,
-            None => Sequence::Begun,
+            None => begun(bytes.len()),
         },
     }
 }

@@ -5,6 +5,7 @@ ghost use Rattle.mgs_model.specs.Searching.{lengthened, shortened, directed, dro
 ghost use Rattle.mgs_model.specs.Plans as model;
 ghost use Rattle.mgs_model.specs.Plans.{motion};
 ghost use Rattle.mgs_model.specs.declared.search.Direction.{Direction};
+ghost use Rattle.mgs_model.specs.declared.search.SearchStep.TheVariants.{FromAnchor};
 ghost use Rattle.mgs_model.specs.declared.session.Motion.TheVariants.{SearchOn};
 ghost use Rattle.mgs_search.specs.Planned.{stepped};
 
@@ -45,11 +46,11 @@ fn is_graphic(byte: u8) -> bool
     32 <= byte && byte <= 126
 }
 
-fn lengthen(pattern: &mut ArrayVec<char, 120>, byte: u8)
-    ensures { pattern.new.items ≡ lengthened pattern.old.items byte }
+fn lengthen(pattern: &mut ArrayVec<char, 120>, c: char)
+    ensures { pattern.new.items ≡ lengthened pattern.old.items c }
 {
     if pattern.len() < 120 {
-        pattern.push(char::from(byte));
+        pattern.push(c);
     }
 }
 
@@ -136,14 +137,14 @@ impl IncrementalSearch {
         self.failing
     }
 
-    /// Reads a byte, and tells what is to be done: `look` does it. `last` is what a search looked for last: an empty pattern
-    /// becomes it at C-s (0x13) and C-r (0x12).
+    /// Reads a byte of ASCII, and tells what is to be done: `look` does it. `last` is what a search looked for last: an empty
+    /// pattern becomes it at C-s (0x13) and C-r (0x12).
     pub fn feed(&mut self, last: &[char], byte: u8) -> SearchStep
         requires { length last.now ≤ 120 }
         ensures { read_byte last.now self.old byte ≡ (self.new, result) }
     {
         if is_graphic(byte) {
-            lengthen(&mut self.pattern, byte);
+            lengthen(&mut self.pattern, char::from(byte));
             return SearchStep::FromAnchor;
         }
         if byte == FORWARD {
@@ -164,6 +165,16 @@ impl IncrementalSearch {
             return SearchStep::Quits;
         }
         SearchStep::Leaves
+    }
+
+    /// Puts a character past ASCII behind what it looks for, unless that has 120 characters, and tells what is to be done, as for
+    /// a byte that is put behind.
+    pub fn put(&mut self, c: char) -> SearchStep
+        ensures step { result ≡ FromAnchor }
+        ensures sought { self.new ≡ record self.old { pattern = lengthened self.old.pattern c } }
+    {
+        lengthen(&mut self.pattern, c);
+        SearchStep::FromAnchor
     }
 
     // DEL.

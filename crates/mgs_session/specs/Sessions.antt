@@ -2,7 +2,7 @@
 use Rattle.std.specs.Prelude.{ℕ, ◌-◌, List, [], ◌∷◌, Option, None, Some, slice_get, cond}
 use Rattle.std.specs.Option.{option_and_then}
 use Rattle.mgs_model.specs.declared.message.Message.{Message}
-use Rattle.mgs_model.specs.declared.message.Message.TheVariants.{Silent, MacroTooLong}
+use Rattle.mgs_model.specs.declared.message.Message.TheVariants.{Silent, KeyNotBound, MacroTooLong}
 use Rattle.mgs_model.specs.Plans.{kind_failed}
 use Rattle.mgs_model.specs.World.{first_own}
 use Rattle.mgs_model.specs.declared.session.Kind.{Kind}
@@ -55,6 +55,14 @@ playing_as p x = record x { own = record x.own { player = p } }
 -- it is told what stands against what was to be done, and nothing more is to be done
 abbrev pub broken_off : Message → Session → Session
 broken_off message x = playing_as (stopped x.own.player) (told message x)
+
+-- typed bytes are no character and no key: this is told, and breaks a run of commands. A prompt and a search go on
+abbrev pub unbound : Session → Session
+unbound x = broken_off KeyNotBound (acted Other x)
+
+-- what is half read changes alone
+abbrev pub reading : Held → Session → Session
+reading k x = record x { own = record x.own { keyboard = k } }
 
 -- a command has failed: nothing more is to be done
 abbrev pub failed : Message → Session → Session

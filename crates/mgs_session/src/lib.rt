@@ -11,7 +11,7 @@ ghost use Rattle.std.specs.Prelude.{◌≡◌, ◌≤◌, ◌<◌, ◌+◌, ◌-
 ghost use Rattle.mgs_model.specs.Plans.{kind_failed};
 ghost use Rattle.mgs_session.specs.Playing.{IsNext};
 ghost use Rattle.mgs_session.specs.Seeking.{is_search_in, own_bereft, search_left, searching, session_edited, unsearched};
-ghost use Rattle.mgs_session.specs.Sessions.{session_opened, acted, asking, begun, broken_off, failed, filling, holding, macro_called, macro_ended, macro_given_up, macro_started, playing_as, prompting, resting, told, subject_in, subject_of, unprompted, window_marks_of};
+ghost use Rattle.mgs_session.specs.Sessions.{session_opened, acted, asking, begun, broken_off, failed, filling, holding, macro_called, macro_ended, macro_given_up, macro_started, playing_as, prompting, reading, resting, told, unbound, subject_in, subject_of, unprompted, window_marks_of};
 
 pub use kill_buffer::KillBuffer;
 use mgs_maps::Keyboard;
@@ -31,7 +31,8 @@ pub const FILL_COLUMN: usize = 72;
 /// What a session holds beside its windows and its kill buffer: its echo text, the keys and the argument that are half
 /// read, the kind of its last command, the column up to which it fills lines (1 to 9,999), the prompt that it answers, what it
 /// searched for last, its macro, what is still to be done in an event, and the search that goes on, which comes before a prompt.
-/// While there is a prompt, the keyboard holds the argument of the command that the prompt is for, and no keys.
+/// While there is a prompt, the keyboard holds the argument of the command that the prompt is for, and no keys; while an incremental
+/// search goes on, the bytes of a character that is not complete, which are those of a key when the search's buffer is killed.
 #[derive(Drop)]
 pub struct Own {
     pub echo: Message,
@@ -131,6 +132,15 @@ pub fn break_off(session: &mut Session, message: Message)
     session.own.player.stop();
 }
 
+/// The bytes that were typed are no character and no key: this is told, it breaks a run of commands, and nothing more of a macro is
+/// played. A prompt and a search go on.
+pub fn tell_unbound(session: &mut Session)
+    ensures { session.new ≡ unbound session.old }
+{
+    set_kind(session, Kind::Other);
+    break_off(session, Message::KeyNotBound);
+}
+
 /// A command of this kind was done.
 pub fn set_kind(session: &mut Session, kind: Kind)
     ensures { session.new ≡ acted kind session.old }
@@ -222,6 +232,13 @@ pub fn hold(session: &mut Session, keyboard: Keyboard)
     session.own.keyboard = keyboard;
     session.own.prompt = None;
     session.own.search = None;
+}
+
+/// Holds what was read of a byte of a search. The search and the echo line stay.
+pub fn hold_keyboard(session: &mut Session, keyboard: Keyboard)
+    ensures { session.new ≡ reading keyboard session.old }
+{
+    session.own.keyboard = keyboard;
 }
 
 /// Nothing is half read, a prompt or a search is over, and the echo line is empty: an act can begin.

@@ -28,16 +28,6 @@ impl SearchString {
         }
     }
 
-    /// What was typed, each byte a character.
-    pub fn typed(input: &[u8]) -> SearchString
-        requires { length input.now ≤ 120 }
-        ensures { result ≡ input.now }
-    {
-        SearchString {
-            chars: chars(input),
-        }
-    }
-
     /// These characters.
     pub fn of(pattern: &[char]) -> SearchString
         requires { length pattern.now ≤ 120 }
@@ -55,16 +45,4 @@ impl SearchString {
     {
         self.chars.as_slice()
     }
-}
-
-// Bytes, each as a character.
-fn chars(bytes: &[u8]) -> ArrayVec<char, 120>
-    requires { length bytes.now ≤ 120 }
-    ensures { result.items ≡ bytes.now }
-{
-    let mut chars = ArrayVec::new();
-    for byte in bytes {
-        chars.push(char::from(*byte));
-    }
-    chars
 }

@@ -4,25 +4,38 @@ use mgs_model::Question;
 use std::process::Abort;
 
 // What bytes make of a new prompt: what the last one comes to, and the input.
-const KEYS: [(&[u8], Step, &[u8]); 18] = [
-    (b"ab ~", Step::GoesOn, b"ab ~"),
-    (b"ab\x7F", Step::GoesOn, b"a"),
-    (b"\x7F", Step::GoesOn, b""),
-    (b"ab\r", Step::Answered, b"ab"),
-    (b"a\t", Step::Completes, b"a"),
-    (b"a\x07", Step::Quit, b"a"),
-    (b"a\x1B\x07", Step::Quit, b"a"),
-    (b"a\x1B[\x07", Step::Quit, b"a"),
-    (b"a\x1B[\x1B\x07", Step::Quit, b"a"),
-    (b"a\x1Bbc", Step::GoesOn, b"ac"),
-    (b"a\x1B\r", Step::GoesOn, b"a"),
-    (b"a\x1B[Ac", Step::GoesOn, b"ac"),
-    (b"a\x1B[\x1Bbc", Step::GoesOn, b"ac"),
-    (b"a\x1B\x1Bc", Step::GoesOn, b"ac"),
-    (b"a\x18c", Step::GoesOn, b"ac"),
-    (b"a\x80c", Step::GoesOn, b"ac"),
-    (&[b'a'; 120], Step::GoesOn, &[b'a'; 120]),
-    (&[b'a'; 121], Step::GoesOn, &[b'a'; 120]),
+const KEYS: [(&[u8], Step, &[char]); 31] = [
+    (b"ab ~", Step::GoesOn, &['a', 'b', ' ', '~']),
+    (b"ab\x7F", Step::GoesOn, &['a']),
+    (b"\x7F", Step::GoesOn, &[]),
+    (b"ab\r", Step::Answered, &['a', 'b']),
+    (b"a\t", Step::Completes, &['a']),
+    (b"a\x07", Step::Quit, &['a']),
+    (b"a\x1B\x07", Step::Quit, &['a']),
+    (b"a\x1B[\x07", Step::Quit, &['a']),
+    (b"a\x1B[\x1B\x07", Step::Quit, &['a']),
+    (b"a\x1Bbc", Step::GoesOn, &['a', 'c']),
+    (b"a\x1B\r", Step::GoesOn, &['a']),
+    (b"a\x1B[Ac", Step::GoesOn, &['a', 'c']),
+    (b"a\x1B[\x1Bbc", Step::GoesOn, &['a', 'c']),
+    (b"a\x1B\x1Bc", Step::GoesOn, &['a', 'c']),
+    (b"a\x18c", Step::GoesOn, &['a', 'c']),
+    (&[b'a'; 120], Step::GoesOn, &['a'; 120]),
+    (&[b'a'; 121], Step::GoesOn, &['a'; 120]),
+    (b"a\xC3", Step::GoesOn, &['a']),
+    (b"a\xC3\xA9", Step::GoesOn, &['a', '\u{E9}']),
+    (b"\xE6\xBC\xA2c", Step::GoesOn, &['\u{6F22}', 'c']),
+    (b"\xF0\x9F\x98\x80", Step::GoesOn, &['\u{1F600}']),
+    (b"a\xC3\xA9\x7F", Step::GoesOn, &['a']),
+    (b"a\xC3A", Step::Unbound, &['a']),
+    (b"a\xC3Ac", Step::GoesOn, &['a', 'c']),
+    (b"a\xC3\r", Step::Unbound, &['a']),
+    (b"a\x80", Step::Unbound, &['a']),
+    (b"a\xF0\x9F\x98A", Step::Unbound, &['a']),
+    (b"a\xE6\xBC\x07", Step::Quit, &['a']),
+    (b"a\x1B\xC3", Step::Unbound, &['a']),
+    (b"a\x1B[\xC3", Step::Unbound, &['a']),
+    (b"a\x1B\xC3\xA9", Step::Unbound, &['a']),
 ];
 
 // What the last of these bytes comes to.
@@ -35,7 +48,7 @@ fn last_fed(prompt: &mut Prompt, bytes: &[u8]) -> Step {
 }
 
 // Whether the last of these bytes comes to this, and so much stands in the prompt then.
-fn comes_to(prompt: &mut Prompt, bytes: &[u8], last: Step, input: &[u8]) -> bool {
+fn comes_to(prompt: &mut Prompt, bytes: &[u8], last: Step, input: &[char]) -> bool {
     last_fed(prompt, bytes) == last && prompt.input() == input
 }
 
@@ -49,18 +62,19 @@ fn each_key_of_a_prompt(rt: HostRuntime) {
 
 const NAMES: [&[u8]; 4] = [b"notes.txt", b"notebook", b"other", b"note"];
 
-const COMPLETED: [(&[u8], Option<&[u8]>); 7] = [
-    (b"", Some(b"")),
-    (b"n", Some(b"note")),
-    (b"note", Some(b"note")),
-    (b"notes", Some(b"notes.txt")),
-    (b"other", Some(b"other")),
-    (b"others", None),
-    (b"N", None),
+const COMPLETED: [(&[char], Option<&[u8]>); 8] = [
+    (&[], Some(b"")),
+    (&['n'], Some(b"note")),
+    (&['n', 'o', 't', 'e'], Some(b"note")),
+    (&['n', 'o', 't', 'e', 's'], Some(b"notes.txt")),
+    (&['o', 't', 'h', 'e', 'r'], Some(b"other")),
+    (&['o', 't', 'h', 'e', 'r', 's'], None),
+    (&['N'], None),
+    (&['n', '\u{F6}'], None),
 ];
 
 // Whether this stands in a prompt.
-fn has_input(prompt: &Prompt, input: &[u8]) -> bool {
+fn has_input(prompt: &Prompt, input: &[char]) -> bool {
     prompt.input() == input
 }
 
@@ -74,11 +88,11 @@ fn complete(rt: &impl Abort, prompt: &mut Prompt) {
     assert!(rt; prompt.names_buffer());
     prompt.feed(b'n');
     assert!(rt; takes_in(prompt, b"notes"));
-    assert!(rt; has_input(prompt, b"notes"));
+    assert!(rt; has_input(prompt, &['n', 'o', 't', 'e', 's']));
     assert!(rt; !prompt.complete(None));
-    assert!(rt; has_input(prompt, b"notes"));
+    assert!(rt; has_input(prompt, &['n', 'o', 't', 'e', 's']));
     assert!(rt; prompt.feed(0x7F) == Step::GoesOn);
-    assert!(rt; has_input(prompt, b"note"));
+    assert!(rt; has_input(prompt, &['n', 'o', 't', 'e']));
 }
 
 #[test]
@@ -86,6 +100,22 @@ fn a_prompt_takes_in_what_names_have_in_common(rt: HostRuntime) {
     for &(input, wanted) in &COMPLETED {
         assert!(rt; completion(input, &NAMES) == wanted, "{input:?}");
     }
-    assert!(rt; completion(b"", &[]) == None);
+    assert!(rt; completion(&[], &[]) == None);
     complete(&rt, &mut Prompt::new(Question::KillWhich));
+}
+
+// A prompt into which so many characters of two bytes are typed.
+fn typed(count: usize) -> Prompt {
+    let mut prompt = Prompt::new(Question::SwitchTo);
+    for _ in 0..count {
+        prompt.feed(0xC3);
+        prompt.feed(0xA9);
+    }
+    prompt
+}
+
+#[test]
+fn the_limit_counts_characters(rt: HostRuntime) {
+    assert!(rt; typed(119).input().len() == 119);
+    assert!(rt; typed(121).input().len() == 120);
 }

@@ -335,3 +335,19 @@ fn searches_by_bytes(rt: HostRuntime) -> Result<(), Fail> {
     );
     Ok(())
 }
+
+#[test]
+fn finds_a_character_past_ascii(rt: HostRuntime) -> Result<(), Fail> {
+    let text = PlainText::of(rt.alloc(), &['a', '\u{E9}', 'b'])?;
+    let mut search = IncrementalSearch::new(F);
+    let step = search.put('\u{E9}');
+    let start = SearchPlaces {
+        origin: 0,
+        anchor: 0,
+        point: 0,
+    };
+    let places = search.look(&text, step, start);
+    assert!(rt; step == SearchStep::FromAnchor && search.pattern() == ['\u{E9}']);
+    assert!(rt; places.anchor == 1 && places.point == 2);
+    Ok(())
+}

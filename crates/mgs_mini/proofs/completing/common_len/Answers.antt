@@ -1,5 +1,5 @@
 use Rattle.std.proofs.Common.{arith}
-use Rattle.mgs_mini.proofs.Names.{all_met}
+use Rattle.mgs_model.proofs.TypedNames.{all_met}
 use Rattle.mgs_mini.proofs.completing.common_len.Goals as goal
 
 pub returns-clause-value : goal.returns-clause-value

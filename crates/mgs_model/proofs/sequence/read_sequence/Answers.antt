@@ -34,4 +34,4 @@ unfolding sequence_read
 returns-in-None-error_len c =
     let bs : List ℕ = c.args.bytes.now in
     let len : utf8_error_len (drop (utf8_valid_len bs) bs) ≡ None = sym (ap (λ n. utf8_error_len (drop n bs)) c.in-Err.ensures.valid_len) ∙ sym c.in-Err.ensures.fault ∙ sym c.in-None-error_len.ensures in
-    rw (is_none bs c.in-Err.ensures.cases.0, len) refl
+    rw (is_none bs c.in-Err.ensures.cases.0, len) c.begun.ensures
