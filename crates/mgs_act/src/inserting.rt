@@ -171,7 +171,7 @@ fn decide<T: Marked + Drop>(
     buffers: &Buffers<T>,
     directory: &Directory,
     user: &Name,
-    typed: &[u8],
+    typed: &[char],
     window_marks: &WindowMarks,
 ) -> Inserted
     requires target { HasBuffer window_marks.now.name buffers.now }
@@ -390,7 +390,7 @@ pub fn insert<T: Marked + Drop>(
     directory: &Directory,
     sessions: &mut [Session],
     at: usize,
-    typed: &[u8],
+    typed: &[char],
 ) -> Result<Touched, Short>
     requires sound { IsSound buffers.old sessions.old }
     requires within { at < length sessions.old }

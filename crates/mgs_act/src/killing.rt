@@ -46,7 +46,7 @@ fn denial<T: Marked + Drop>(
 fn meant<T: Marked + Drop>(
     buffers: &Buffers<T>,
     subject: Option<Name>,
-    typed: &[u8],
+    typed: &[char],
 ) -> Result<Name, Message>
     ensures name { IfOk result (λ n. n ≡ name_meant subject typed.now) }
     ensures kept { IfOk result (λ n. HasBuffer n buffers.now) }
@@ -70,7 +70,7 @@ fn target<T: Marked + Drop>(
     buffers: &Buffers<T>,
     directory: &Directory,
     session: &Session,
-    typed: &[u8],
+    typed: &[char],
 ) -> Result<Name, Message>
     ensures kept { IfOk result (λ n. HasBuffer n buffers.now) }
     ensures value { (own : Own) → kill_answered own result ≡ kill_outcome directory.now buffers.now own session.now.user (subject_of session.now) typed.now }
@@ -90,7 +90,7 @@ pub fn kill<T: Marked + Drop>(
     directory: &Directory,
     sessions: &mut [Session],
     at: usize,
-    typed: &[u8],
+    typed: &[char],
 ) -> Touched
     requires sound { IsSound buffers.old sessions.old }
     requires within { at < length sessions.old }

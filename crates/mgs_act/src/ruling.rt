@@ -76,7 +76,7 @@ fn refusal<T: Marked + Drop>(
 }
 
 /// The buffer gets the owner whose name was typed, where that is a user.
-fn owner_ruled(directory: &Directory, name: Name, typed: &[u8]) -> Ruled
+fn owner_ruled(directory: &Directory, name: Name, typed: &[char]) -> Ruled
     ensures value { (own : Own) (entries : Items Entry) (n : Option ℕ) → ruled_outcome own result ≡ effects own (ruling_plan directory.now name entries Owner n typed.now) }
     ensures can { (ks : Items MarkedBuffer) → HasBuffer name ks → CanRule ks result }
 {
@@ -161,7 +161,7 @@ fn changed(
     list: List,
     change: EntryChange,
     argument: Option<usize>,
-    typed: &[u8],
+    typed: &[char],
 ) -> Result<List, Message>
     ensures { result ≡ entries_changed change list argument typed.now }
 {
@@ -187,7 +187,7 @@ fn entries_ruled(
     name: Name,
     change: EntryChange,
     argument: Option<usize>,
-    typed: &[u8],
+    typed: &[char],
 ) -> Ruled
     ensures value { (own : Own) (directory : Directory) → ruled_outcome own result ≡ effects own (ruling_plan directory name list (Entries change) argument typed.now) }
     ensures can { (ks : Items MarkedBuffer) → HasBuffer name ks → CanRule ks result }
@@ -205,7 +205,7 @@ fn granted<T: Marked + Drop>(
     name: Name,
     ruling: Ruling,
     argument: Option<usize>,
-    typed: &[u8],
+    typed: &[char],
 ) -> Ruled
     requires { HasBuffer name buffers.now }
     ensures value { (own : Own) → ruled_outcome own result ≡ effects own (ruling_plan directory.now name (marked_at name buffers.now).buffer.entries ruling argument typed.now) }
@@ -227,7 +227,7 @@ fn ruled_in<T: Marked + Drop>(
     name: Name,
     ruling: Ruling,
     argument: Option<usize>,
-    typed: &[u8],
+    typed: &[char],
 ) -> Ruled
     requires { HasBuffer name buffers.now }
     ensures value { (own : Own) → ruled_outcome own result ≡ ruling_in directory.now buffers.now own user.now name ruling argument typed.now }
@@ -246,7 +246,7 @@ fn decide<T: Marked + Drop>(
     session: &Session,
     ruling: Ruling,
     argument: Option<usize>,
-    typed: &[u8],
+    typed: &[char],
 ) -> Ruled
     ensures value { (own : Own) → ruled_outcome own result ≡ ruling_outcome directory.now buffers.now own session.now.user (subject_kept buffers.now (subject_of session.now)) ruling argument typed.now }
     ensures can { CanRule buffers.now result }
@@ -305,7 +305,7 @@ pub fn rule<T: Marked + Drop>(
     at: usize,
     ruling: Ruling,
     argument: Option<usize>,
-    typed: &[u8],
+    typed: &[char],
 ) -> Touched
     requires sound { IsSound buffers.old sessions.old }
     requires within { at < length sessions.old }

@@ -140,7 +140,7 @@ fn plan_meant<T: Marked + Drop>(
     window_marks: &WindowMarks,
     direction: Direction,
     argument: Option<usize>,
-    typed: &[u8],
+    typed: &[char],
 ) -> Action
     requires marks { AreMarks buffers.now window_marks.now }
     requires few { length typed.now ≤ 120 }
@@ -159,7 +159,7 @@ fn plan_meant<T: Marked + Drop>(
             last,
         );
     }
-    let pattern = SearchString::typed(typed);
+    let pattern = SearchString::of(typed);
     plan_for(
         buffers,
         directory,
@@ -182,7 +182,7 @@ pub fn search<T: Marked + Drop>(
     at: usize,
     direction: Direction,
     argument: Option<usize>,
-    typed: &[u8],
+    typed: &[char],
 ) -> Result<Touched, Short>
     requires sound { IsSound buffers.old sessions.old }
     requires within { at < length sessions.old }

@@ -24,7 +24,7 @@ use crate::planning::denial;
 use mgs_arrange::show;
 use mgs_buffers::Buffers;
 use mgs_marks::Marked;
-use mgs_model::{BUFFER_LIMIT, Mask, Message, Name, Right, Short, Touched};
+use mgs_model::{BUFFER_LIMIT, Mask, Message, NAME_LIMIT, Name, Right, Short, Touched};
 use mgs_policy::Directory;
 use mgs_session::{Session, fail};
 
@@ -72,19 +72,25 @@ fn switch_there<T: Marked + Drop>(
 }
 
 /// The name that is typed so, if it is one.
-fn name_typed(typed: &[u8]) -> Option<Name>
+fn name_typed(typed: &[char]) -> Option<Name>
     ensures form { is_some result ≡ is_name typed.now }
     ensures value { IfSome result (λ n. n ≡ typed.now) }
 {
-    match str::from_utf8(typed) {
-        Ok(text) => Name::read(text),
-        // Names are ASCII.
-        Err(_) => None,
+    if typed.len() > NAME_LIMIT {
+        return None;
     }
+    let mut bytes = [0; NAME_LIMIT];
+    for at in 0..typed.len() {
+        if !typed[at].is_ascii() {
+            return None;
+        }
+        bytes[at] = typed[at] as u8;
+    }
+    Name::read(str::from_utf8(&bytes[..typed.len()]).ok()?)
 }
 
 /// What a switch to a buffer that is not there comes to: the name is judged first, and then whether there is room.
-fn switch_new<T: Marked + Drop>(buffers: &Buffers<T>, typed: &[u8]) -> Switch
+fn switch_new<T: Marked + Drop>(buffers: &Buffers<T>, typed: &[char]) -> Switch
     requires { has_buffer typed.now buffers.now ≡ false }
     ensures value { (v : View) → length v.buffers ≡ length buffers.now → created v typed.now ≡ switch_outcome v result }
     ensures can { CanSwitch buffers.now result }
@@ -103,7 +109,7 @@ fn decide<T: Marked + Drop>(
     buffers: &Buffers<T>,
     directory: &Directory,
     user: &Name,
-    typed: &[u8],
+    typed: &[char],
 ) -> Switch
     ensures value { (xs : List code.Session) (next : Option ℕ) (h : code.Session) (n : Option ℕ) → h.user ≡ user.now → outcome (view_at directory.now buffers.now xs next h) (Run (Named SwitchToBuffer) n typed.now) true ≡ switch_outcome (view_at directory.now buffers.now xs next h) result }
     ensures can { CanSwitch buffers.now result }
@@ -185,7 +191,7 @@ pub fn switch_to<T: Marked + Drop>(
     directory: &Directory,
     sessions: &mut [Session],
     at: usize,
-    typed: &[u8],
+    typed: &[char],
 ) -> Result<Touched, Short>
     requires sound { IsSound buffers.old sessions.old }
     requires within { at < length sessions.old }

@@ -114,7 +114,7 @@ impl<T: Marked + Drop> Buffers<T> {
     }
 
     /// The name that was typed, where a buffer has it. What is no name is the name of none.
-    pub fn name_typed(&self, typed: &[u8]) -> Option<Name>
+    pub fn name_typed(&self, typed: &[char]) -> Option<Name>
         ensures value { IfSome result (λ n. n ≡ typed.now) }
         ensures form { IfSome result (λ n. IsName n) }
         ensures there { is_some result ≡ has_buffer typed.now self.now }
@@ -312,7 +312,7 @@ impl<T: Marked + Drop> Buffers<T> {
         judge: &mut Judge,
         directory: &Directory,
         user: &Name,
-        input: &[u8],
+        input: &[char],
     ) -> Option<&'a [u8]>
         requires { AreJudged directory.now (rules_kept self.now) judge.old }
         ensures within { IsWithinName (option_map (λ t. t.now) result) }

@@ -19,7 +19,7 @@ use mgs_policy::Directory;
 // What the names so far have in common, and one name more where it counts.
 fn with_name<'a>(
     found: Option<&'a [u8]>,
-    input: &[u8],
+    input: &[char],
     name: &'a [u8],
     counts: bool,
 ) -> Option<&'a [u8]>
@@ -39,7 +39,7 @@ fn with_buffer<'a, T: Marked + Drop>(
     place: usize,
     directory: &Directory,
     user: &Name,
-    input: &[u8],
+    input: &[char],
     name: &'a Name,
     buffer: &Buffer<T>,
 ) -> Option<&'a [u8]>
@@ -60,7 +60,7 @@ fn with_place<'a, T: Marked + Drop>(
     place: usize,
     directory: &Directory,
     user: &Name,
-    input: &[u8],
+    input: &[char],
 ) -> Option<&'a [u8]>
     requires { AreJudged directory.now (rules_kept (marked_all T.text T.marks all.now.entries)) judge.old }
     ensures within { IsWithinName (option_map (λ t. t.now) found.entry) → IsWithinName (option_map (λ t. t.now) result) }
@@ -81,7 +81,7 @@ pub(crate) fn completion<'a, T: Marked + Drop>(
     judge: &mut Judge,
     directory: &Directory,
     user: &Name,
-    input: &[u8],
+    input: &[char],
 ) -> Option<&'a [u8]>
     requires { AreJudged directory.now (rules_kept (marked_all T.text T.marks all.now.entries)) judge.old }
     ensures within { IsWithinName (option_map (λ t. t.now) result) }

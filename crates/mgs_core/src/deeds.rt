@@ -229,8 +229,8 @@ pub fn do_deed<T: Marked + Drop, S: Store>(
         }
         Deed::StartReplacing => {
             let prompt = asked(before);
-            let pattern = SearchString::typed(prompt.first());
-            let put = SearchString::typed(prompt.input());
+            let pattern = SearchString::of(prompt.first());
+            let put = SearchString::of(prompt.input());
             start_replacing(buffers, directory, sessions, at, pattern, put);
             Ok(Touched::Nowhere)
         }

@@ -214,7 +214,7 @@ impl Grid {
 
     /// Draws the line of a prompt in the echo row: the prompt and, behind it, what was typed. A line that leaves no cell behind
     /// it is shown as a `$` and its end. Tells the column behind it, where the cursor belongs.
-    pub fn draw_prompt(&mut self, row: usize, question: Question, input: &[u8]) -> usize
+    pub fn draw_prompt(&mut self, row: usize, question: Question, input: &[char]) -> usize
         requires row { row < self.old.rows }
         requires short { length input.now < 2 ^ 32 }
         ensures grid { self.new ≡ record self.old { lines = rows_put row (line_row self.old.cols (prompt_line question input.now) ∷ []) self.old.lines } }

@@ -185,7 +185,7 @@ impl Line {
 
     /// Draws the line of a prompt, plain: the prompt and, behind it, what was typed. A line that leaves no cell behind it is
     /// shown as a `$` and its end. Tells the column behind it.
-    pub(crate) fn draw_prompt(&mut self, question: Question, input: &[u8]) -> usize
+    pub(crate) fn draw_prompt(&mut self, question: Question, input: &[char]) -> usize
         requires some { 4 ≤ length self.old.text }
         requires width { length self.old.text < 2 ^ 62 }
         requires short { length input.now < 2 ^ 32 }

@@ -244,18 +244,23 @@ fn prompt_text(question: Question) -> &'static [u8]
 
 /// Writes the cells of a prompt's line into a row that shows the line from column `shift` on, and tells the column after
 /// them: the prompt and, behind it, what was typed. Cells that are not in sight are passed over.
-pub(crate) fn put_prompt(row: &mut [char], shift: usize, question: Question, input: &[u8]) -> usize
+pub(crate) fn put_prompt(
+    row: &mut [char],
+    shift: usize,
+    question: Question,
+    input: &[char],
+) -> usize
     requires short { length input.now < 2 ^ 32 }
     ensures row { row.new ≡ over row.old shift 0 (cells (prompt_line question input.now)) }
     ensures next { result ≡ length (cells (prompt_line question input.now)) }
     ensures few { result < 2 ^ 40 }
 {
     let start = put_chars(row, shift, 0, prompt_text(question));
-    put_chars(row, shift, start, input)
+    put_pattern(row, shift, start, input)
 }
 
 /// How many cells a prompt's line has.
-pub(crate) fn prompt_width(question: Question, input: &[u8]) -> usize
+pub(crate) fn prompt_width(question: Question, input: &[char]) -> usize
     requires short { length input.now < 2 ^ 32 }
     ensures width { result ≡ length (cells (prompt_line question input.now)) }
     ensures few { result < 2 ^ 40 }

@@ -13,6 +13,11 @@ abbrev pub is_nothing : Held → Bool
 is_nothing Nothing = true
 is_nothing _ = false
 
+abbrev pub is_in_character : Held → Bool
+is_in_character Nothing = false
+is_in_character Escape = false
+is_in_character _ = true
+
 -- the key of bytes past ASCII, of which this is the first; those that are no character give the first, which no word of keys has
 abbrev pub begun_key : ℕ → Sequence → Option Key
 begun_key first (Whole c) = Some (Wide c)

@@ -1,6 +1,6 @@
 // Bytes of a terminal as keys.
 ghost use Rattle.std.specs.Prelude.{◌≡◌, [], ◌∷◌};
-ghost use Rattle.mgs_keys.specs.Decoded.{decoded, held_after, begun_key, held_begun, key_within, held_within, is_nothing};
+ghost use Rattle.mgs_keys.specs.Decoded.{decoded, held_after, begun_key, held_begun, key_within, held_within, is_in_character, is_nothing};
 ghost use Rattle.mgs_keys.specs.declared.decoder.Held.TheVariants.{Nothing};
 
 use crate::spelling::ESCAPE;
@@ -125,6 +125,16 @@ impl Decoder {
         ensures { result ≡ is_nothing self.now }
     {
         matches!(self.held, Held::Nothing)
+    }
+
+    /// Whether it waits for a byte that goes on with a character.
+    pub fn is_in_character(&self) -> bool
+        ensures { result ≡ is_in_character self.now }
+    {
+        matches!(
+            self.held,
+            Held::One(_) | Held::Two(_, _) | Held::Three(_, _, _)
+        )
     }
 
     /// The key that is complete with this byte. None after an ESC that begins a key, and within a character; the byte after

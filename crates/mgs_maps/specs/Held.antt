@@ -5,7 +5,8 @@ use Rattle.mgs_keys.specs.declared.decoder.Key.{Key}
 use Rattle.mgs_keys.specs.declared.decoder.Key.TheVariants.{Plain, Meta, Wide}
 use Rattle.mgs_model.specs.Keys.{KeyRead, Half, Bound, Not_bound, quotes, value_of, ascii_read}
 use Rattle.mgs_model.specs.Sequences.{sequence_read}
-use Rattle.mgs_model.specs.declared.sequence.Sequence.TheVariants.{Begun}
+use Rattle.mgs_model.specs.declared.sequence.Sequence.{Sequence}
+use Rattle.mgs_model.specs.declared.sequence.Sequence.TheVariants.{Begun, Broken, Whole}
 use Rattle.mgs_model.specs.declared.session.Argument.{Argument}
 use Rattle.mgs_model.specs.declared.session.Insertion.TheVariants.{SelfInsert}
 use Rattle.mgs_model.specs.declared.session.Motion.{Motion}
@@ -35,6 +36,12 @@ nothing_held = record { argument = None; keys = [] }
 -- an argument alone, which no digit goes on with
 abbrev pub argument_held : Option ℕ → Held
 argument_held n = record { argument = option_map (λ k. record { value = k; extends = false }) n; keys = [] }
+
+-- a byte of a character: it is held while the character goes on, and else nothing is held
+pub held_character : Held → ℕ → Sequence → Held
+held_character h byte Begun = record h { keys = h.keys ++ byte ∷ [] }
+held_character h byte (Whole c) = nothing_held
+held_character h byte Broken = nothing_held
 
 -- a word goes on and is held; else it is used up, and nothing is held
 abbrev pub FedBy : Fed → KeyRead → Held → Type 0

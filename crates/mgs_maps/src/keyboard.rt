@@ -1,11 +1,14 @@
 // What bytes come to.
-ghost use Rattle.std.specs.Prelude.{◌≡◌};
-ghost use Rattle.mgs_model.specs.Keys.{key_read, value_of};
-ghost use Rattle.mgs_maps.specs.Held.{FedBy, IsBoundRun, argument_held, nothing_held};
+ghost use Rattle.std.specs.Prelude.{◌≡◌, true};
+ghost use Rattle.mgs_model.specs.Keys.{character_read, in_sequence, is_character_byte, key_read, value_of};
+ghost use Rattle.mgs_maps.specs.Held.{FedBy, IsBoundRun, argument_held, held_character, nothing_held};
 
 use crate::maps::{Fed, Maps};
 use mgs_keys::{Decoder, Key};
+use mgs_model::{Command, Insertion, Sequence};
 use std::marker::Model;
+
+const QUIT: u8 = 0x07;
 
 /// Makes commands of the bytes that a terminal sends. It holds what a session has half read: an argument, and the word
 /// of keys that goes on.
@@ -58,6 +61,12 @@ impl Keyboard {
         self.maps.argument()
     }
 
+    fn is_in_character(&self) -> bool
+        ensures { result ≡ in_sequence self.now.keys }
+    {
+        self.decoder.is_in_character()
+    }
+
     /// What a byte comes to, after what is held: a word of keys that goes on, a command and its argument, or a word that
     /// runs no command. A command is one of the table, or inserts the character that was typed.
     ///
@@ -75,6 +84,28 @@ impl Keyboard {
         match self.decoder.feed(byte) {
             None => Fed::Pending,
             Some(key) => self.maps.feed_decoded(key),
+        }
+    }
+
+    /// Whether a byte that is typed belongs to a character past ASCII, or begins one, rather than being a key of ASCII: what a
+    /// prompt or a search asks of each byte.
+    pub fn is_character_byte(&self, byte: u8) -> bool
+        ensures { result ≡ is_character_byte self.now.keys byte }
+    {
+        (byte >= 0x80 || self.is_in_character()) && byte != QUIT
+    }
+
+    /// A byte of a character past ASCII, behind what is held: `Whole` with its last byte, `Begun` while bytes are to come, which
+    /// are held, and `Broken` where it cannot go on with what is held, or begins none. After `Whole` and `Broken` nothing is held.
+    pub fn feed_character(&mut self, byte: u8) -> Sequence
+        requires { is_character_byte self.old.keys byte ≡ true }
+        ensures read { result ≡ character_read self.old.keys byte }
+        ensures held { self.new ≡ held_character self.old byte result }
+    {
+        match self.feed(byte) {
+            Fed::Pending => Sequence::Begun,
+            Fed::Run(Command::Insert(Insertion::SelfInsert(c)), _) => Sequence::Whole(c),
+            _ => Sequence::Broken,
         }
     }
 }

@@ -5,7 +5,7 @@ ghost use Rattle.mgs_model.specs.Names.{same_name};
 ghost use Rattle.mgs_policy.specs.Groups.{is_group_named};
 
 use crate::group::{Group, has_group, is_member};
-use crate::users::{are_users, has_name, known, named, spelled};
+use crate::users::{are_users, has_name, known, named, typed_name};
 use mgs_acl::user_named;
 use mgs_model::{GROUP_LIMIT, Name, USER_LIMIT};
 use std::alloc::Global;
@@ -77,10 +77,10 @@ impl Directory {
     }
 
     /// The user whose name is typed so, if there is one.
-    pub fn user_typed(&self, typed: &[u8]) -> Option<Name>
+    pub fn user_typed(&self, typed: &[char]) -> Option<Name>
         ensures { result ≡ find (same_name typed.now) self.now.users }
     {
-        spelled(self.users.as_slice(), typed)
+        typed_name(self.users.as_slice(), typed)
     }
 
     /// Whether a group has this name.

@@ -4,7 +4,7 @@ ghost use Rattle.mgs_model.specs.Access.{is_among};
 ghost use Rattle.mgs_model.specs.Names.{same_name};
 ghost use Rattle.mgs_policy.specs.Groups.{are_users};
 
-use mgs_model::Name;
+use mgs_model::{Name, is_typed};
 use std::alloc::{AllocError, Global};
 
 /// Whether this name is among the names.
@@ -26,6 +26,16 @@ pub(crate) fn spelled(names: &[Name], name: &[u8]) -> Option<Name>
     ensures { result ≡ find (same_name name.now) names.now }
 {
     names.iter().copied().find(|other| name == other.as_bytes())
+}
+
+/// The first of the names that is typed so, if there is one.
+pub(crate) fn typed_name(names: &[Name], typed: &[char]) -> Option<Name>
+    ensures { result ≡ find (same_name typed.now) names.now }
+{
+    names
+        .iter()
+        .copied()
+        .find(|other| is_typed(typed, other.as_bytes()))
 }
 
 /// Whether this text is the name of one of the users.
