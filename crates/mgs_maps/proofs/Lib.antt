@@ -2,3 +2,4 @@ pub mod Rows
 pub mod KeyRules
 pub mod Sequenced
 pub mod Named
+pub mod Characters

@@ -38,7 +38,7 @@ abbrev pub argument_held : Option ℕ → Held
 argument_held n = record { argument = option_map (λ k. record { value = k; extends = false }) n; keys = [] }
 
 -- a byte of a character: it is held while the character goes on, and else nothing is held
-pub held_character : Held → ℕ → Sequence → Held
+abbrev pub held_character : Held → ℕ → Sequence → Held
 held_character h byte Begun = record h { keys = h.keys ++ byte ∷ [] }
 held_character h byte (Whole c) = nothing_held
 held_character h byte Broken = nothing_held
@@ -48,6 +48,17 @@ abbrev pub FedBy : Fed → KeyRead → Held → Type 0
 FedBy Pending read new = read ≡ Half new.argument new.keys
 FedBy (Run c n) read new = (read ≡ Bound c n) × (new ≡ nothing_held)
 FedBy Unbound read new = (read ≡ Not_bound) × (new ≡ nothing_held)
+
+-- the character that a command inserts
+abbrev pub character_of : Command → Sequence
+character_of (Insert (SelfInsert c)) = Whole c
+character_of _ = Broken
+
+-- what a byte of a character past ASCII has come to
+abbrev pub character_fed : Fed → Sequence
+character_fed Pending = Begun
+character_fed (Run c n) = character_of c
+character_fed Unbound = Broken
 
 -- the motions and alterations of the table
 abbrev pub is_bound_motion : Motion → Bool

@@ -1,7 +1,7 @@
 // What bytes come to.
 ghost use Rattle.std.specs.Prelude.{◌≡◌, true};
 ghost use Rattle.mgs_model.specs.Keys.{character_read, in_sequence, is_character_byte, key_read, value_of};
-ghost use Rattle.mgs_maps.specs.Held.{FedBy, IsBoundRun, argument_held, held_character, nothing_held};
+ghost use Rattle.mgs_maps.specs.Held.{FedBy, IsBoundRun, argument_held, character_fed, character_of, held_character, nothing_held};
 
 use crate::maps::{Fed, Maps};
 use mgs_keys::{Decoder, Key};
@@ -31,6 +31,27 @@ impl Model for Keyboard {
     ghost inverse = { λ h. record { decoder = decoder_back h.keys; maps = record { argument = h.argument; prefix = prefix_back h.keys } } };
 
     ghost inverse_ok = { λ k h i. record { decoder = decoder_told k.decoder k.maps.prefix h i; maps = record { argument = k.maps.argument; prefix = prefix_told k.decoder k.maps.prefix h i } } };
+}
+
+// The character that a command inserts.
+fn character_of(command: Command) -> Sequence
+    ensures { result ≡ character_of command }
+{
+    match command {
+        Command::Insert(Insertion::SelfInsert(c)) => Sequence::Whole(c),
+        _ => Sequence::Broken,
+    }
+}
+
+// What a byte of a character past ASCII has come to.
+fn character_fed(fed: Fed) -> Sequence
+    ensures { result ≡ character_fed fed }
+{
+    match fed {
+        Fed::Pending => Sequence::Begun,
+        Fed::Run(command, _) => character_of(command),
+        Fed::Unbound => Sequence::Broken,
+    }
 }
 
 impl Keyboard {
@@ -97,15 +118,13 @@ impl Keyboard {
 
     /// A byte of a character past ASCII, behind what is held: `Whole` with its last byte, `Begun` while bytes are to come, which
     /// are held, and `Broken` where it cannot go on with what is held, or begins none. After `Whole` and `Broken` nothing is held.
+    #[tactic(auto, using(crate::proofs::Characters::is_character, crate::proofs::Characters::is_held))]
     pub fn feed_character(&mut self, byte: u8) -> Sequence
         requires { is_character_byte self.old.keys byte ≡ true }
         ensures read { result ≡ character_read self.old.keys byte }
         ensures held { self.new ≡ held_character self.old byte result }
     {
-        match self.feed(byte) {
-            Fed::Pending => Sequence::Begun,
-            Fed::Run(Command::Insert(Insertion::SelfInsert(c)), _) => Sequence::Whole(c),
-            _ => Sequence::Broken,
-        }
+        let fed = self.feed(byte);
+        character_fed(fed)
     }
 }
