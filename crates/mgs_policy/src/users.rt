@@ -18,14 +18,10 @@ pub(crate) fn has_name(names: &[Name], name: &Name) -> bool
 pub(crate) fn named(names: &[Name], name: &str) -> Option<Name>
     ensures { result ≡ find (same_name name.now) names.now }
 {
-    spelled(names, name.as_bytes())
-}
-
-/// The first of the names that has these bytes, if there is one.
-pub(crate) fn spelled(names: &[Name], name: &[u8]) -> Option<Name>
-    ensures { result ≡ find (same_name name.now) names.now }
-{
-    names.iter().copied().find(|other| name == other.as_bytes())
+    names
+        .iter()
+        .copied()
+        .find(|other| name.as_bytes() == other.as_bytes())
 }
 
 /// The first of the names that is typed so, if there is one.
