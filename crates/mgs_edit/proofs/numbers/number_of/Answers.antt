@@ -11,5 +11,5 @@ with_digit-number-requires-clause-small c =
     let digit = c.index-digits-i in
     next_small ds (drop (i + 1) ds) c.loop-i.number digit.result c.requires.few c.requires.digits
     (ap (λ (d : ℕ). fold with_next c.loop-i.number (d ∷ drop (i + 1) ds)) digit.is
-     ∙ sym (ap (fold with_next c.loop-i.number) (drop_more ds i digit.result c.loop-i-test.true))
-     ∙ c.loop-i.invariant.value)
+    ∙ sym (ap (fold with_next c.loop-i.number) (drop_more ds i digit.result c.loop-i-test.true))
+    ∙ c.loop-i.invariant.value)
