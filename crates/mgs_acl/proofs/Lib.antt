@@ -3,4 +3,3 @@ pub mod NameLemmas
 pub mod Masks
 pub mod RoundTrip
 pub mod Printable
-pub mod Texts

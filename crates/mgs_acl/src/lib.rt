@@ -1,6 +1,7 @@
 //! Access lists: at most 64 entries in order, and how an entry is read and printed.
 #![tactic(auto)]
 
+mod characters;
 mod list;
 mod printing;
 mod spelling;

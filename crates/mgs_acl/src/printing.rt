@@ -54,7 +54,7 @@ fn push_letter(text: &mut ArrayString<64>, right: Right)
     ensures value { text.new.bytes ≡ text.old.bytes ++ letter_of right ∷ [] }
     ensures room { array_string_len text.new ≡ array_string_len text.old + 1 }
 {
-    text.push(letter_of(right) as char);
+    text.push(letter_of(right));
 }
 
 fn push_letters(text: &mut ArrayString<64>, mask: Mask)

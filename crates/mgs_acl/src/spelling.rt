@@ -1,26 +1,27 @@
 // How a written entry is read.
-ghost use Rattle.std.specs.Prelude.{◌≡◌, ◌<◌, length, position, IfSome};
+ghost use Rattle.std.specs.Prelude.{◌≡◌, ◌<◌, ◌↔◌, length, map, position, IfSome, IsSome};
 ghost use Rattle.std.specs.Option.{option_map};
 ghost use Rattle.std.specs.List.{before_first, after_first};
-ghost use Rattle.mgs_model.specs.Names.{is_space};
+ghost use Rattle.mgs_model.specs.Names.{IsName, is_space};
 ghost use Rattle.mgs_model.specs.Rights.{letter_of};
 ghost use Rattle.mgs_model.specs.Spelling.{words, words_cut, type_named, user_named, after_group, named_who, who_named, right_lettered, mask_lettered, entry_in};
 
-use mgs_model::{Entry, EntryFault, EntryType, Mask, Name, Right, Who};
-use std::str;
+use crate::characters::Character;
+use arrayvec::ArrayString;
+use mgs_model::{Entry, EntryFault, EntryType, Mask, NAME_LIMIT, Name, Right, Who};
 
 /// The place of the first space.
-fn space_in(text: &[u8]) -> Option<usize>
-    ensures at { result ≡ position is_space text.now }
+fn space_in<C: Character>(text: &[C]) -> Option<usize>
+    ensures at { result ≡ position (λ c. is_space (C.number c)) text.now }
     ensures within { IfSome result (λ i. i < length text.now) }
 {
-    text.iter().position(|byte| *byte == b' ')
+    text.iter().position(|character| character.as_char() == ' ')
 }
 
 /// The text up to its first space, and the text after it.
-fn cut(text: &[u8]) -> (&[u8], &[u8])
-    ensures piece { result.0.now ≡ before_first is_space text.now }
-    ensures rest { result.1.now ≡ after_first is_space text.now }
+fn cut<C: Character>(text: &[C]) -> (&[C], &[C])
+    ensures piece { result.0.now ≡ before_first (λ c. is_space (C.number c)) text.now }
+    ensures rest { result.1.now ≡ after_first (λ c. is_space (C.number c)) text.now }
 {
     match space_in(text) {
         None => (text, &[]),
@@ -29,9 +30,9 @@ fn cut(text: &[u8]) -> (&[u8], &[u8])
 }
 
 /// The first word, and the text after the space that ends it.
-#[tactic(auto, using(crate::proofs::WordLemmas::words_filled))]
-fn next_word(mut text: &[u8]) -> Option<(&[u8], &[u8])>
-    ensures { words_cut (option_map (λ p. (p.0.now, p.1.now)) result) ≡ words text.entry.now }
+#[tactic(auto, using(crate::proofs::WordLemmas::words_filled, crate::proofs::WordLemmas::words_empty))]
+fn next_word<C: Character>(mut text: &[C]) -> Option<(&[C], &[C])>
+    ensures { words_cut (option_map (λ p. (map C.number p.0.now, map C.number p.1.now)) result) ≡ words (map C.number text.entry.now) }
 {
     while !text.is_empty() {
         let (piece, rest) = cut(text);
@@ -43,49 +44,69 @@ fn next_word(mut text: &[u8]) -> Option<(&[u8], &[u8])>
     None
 }
 
-fn type_named(word: &[u8]) -> Option<EntryType>
-    ensures { result ≡ type_named word.now }
+fn type_named<C: Character>(word: &[C]) -> Option<EntryType>
+    ensures { result ≡ type_named (map C.number word.now) }
 {
-    if word == b"ALLOW".as_slice() {
+    if C::is_word(word, b"ALLOW") {
         Some(EntryType::Allow)
-    } else if word == b"DENY".as_slice() {
+    } else if C::is_word(word, b"DENY") {
         Some(EntryType::Deny)
     } else {
         None
     }
 }
 
-/// The text as the name of a user or a group, if it is one: 1 to `NAME_LIMIT` (32) lower-case letters, digits, `-` and `_`.
-#[tactic(auto, using(crate::proofs::NameLemmas::user_named_no_name))]
-pub fn user_named(word: &str) -> Option<Name>
-    ensures { result ≡ user_named word.now }
+/// The word as a name, if it is one. No name has a character past ASCII.
+#[tactic(auto, using(crate::proofs::NameLemmas::no_name_past_ascii))]
+fn name_spelled<C: Character>(word: &[C]) -> Option<Name>
+    ensures form { IsSome result ↔ IsName (map C.number word.now) }
+    ensures value { IfSome result (λ n. n ≡ map C.number word.now) }
 {
-    match Name::read(word) {
+    if word.len() > NAME_LIMIT {
+        return None;
+    }
+    let mut text = ArrayString::<NAME_LIMIT>::new();
+    for character in word {
+        let character = character.as_char();
+        if !character.is_ascii() {
+            return None;
+        }
+        text.push(character);
+    }
+    Name::read(text.as_str())
+}
+
+#[tactic(auto, using(crate::proofs::NameLemmas::user_named_no_name))]
+fn user_spelled<C: Character>(word: &[C]) -> Option<Name>
+    ensures { result ≡ user_named (map C.number word.now) }
+{
+    match name_spelled(word) {
         Some(name) if name.is_user_name() => Some(name),
         _ => None,
     }
 }
 
-/// The same, of bytes: no name has other characters than ASCII.
-#[tactic(auto, using(crate::proofs::NameLemmas::user_named_no_text))]
-fn user_spelled(word: &[u8]) -> Option<Name>
+/// The text as the name of a user or a group, if it is one: 1 to `NAME_LIMIT` (32) lower-case letters, digits, `-` and `_`.
+pub fn user_named(word: &str) -> Option<Name>
     ensures { result ≡ user_named word.now }
 {
-    match str::from_utf8(word) {
-        Ok(text) => user_named(text),
-        Err(_) => None,
-    }
+    user_spelled(word.as_bytes())
 }
 
 /// The rest of a word that begins with `group:`.
-fn after_group(word: &[u8]) -> Option<&[u8]>
-    ensures { option_map (λ name. name.now) result ≡ after_group word.now }
+fn after_group<C: Character>(word: &[C]) -> Option<&[C]>
+    ensures { option_map (λ name. map C.number name.now) result ≡ after_group (map C.number word.now) }
 {
-    word.strip_prefix(b"group:")
+    let (front, name) = word.split_at(word.len().min(6));
+    if C::is_word(front, b"group:") {
+        Some(name)
+    } else {
+        None
+    }
 }
 
-fn named_who(word: &[u8]) -> Option<Who>
-    ensures { result ≡ named_who word.now (after_group word.now) }
+fn named_who<C: Character>(word: &[C]) -> Option<Who>
+    ensures { result ≡ named_who (map C.number word.now) (after_group (map C.number word.now)) }
 {
     match after_group(word) {
         Some(name) => match user_spelled(name) {
@@ -99,12 +120,12 @@ fn named_who(word: &[u8]) -> Option<Who>
     }
 }
 
-fn who_named(word: &[u8]) -> Option<Who>
-    ensures { result ≡ who_named word.now }
+fn who_named<C: Character>(word: &[C]) -> Option<Who>
+    ensures { result ≡ who_named (map C.number word.now) }
 {
-    if word == b"OWNER@".as_slice() {
+    if C::is_word(word, b"OWNER@") {
         Some(Who::Owner)
-    } else if word == b"EVERYONE@".as_slice() {
+    } else if C::is_word(word, b"EVERYONE@") {
         Some(Who::Everyone)
     } else {
         named_who(word)
@@ -112,23 +133,23 @@ fn who_named(word: &[u8]) -> Option<Who>
 }
 
 /// The letter that a right is written as. It is ASCII, so below 128.
-pub(crate) fn letter_of(right: Right) -> u8
+pub(crate) fn letter_of(right: Right) -> char
     ensures value { result ≡ letter_of right }
     ensures ascii { result < 128 }
 {
     match right {
-        Right::ReadData => b'r',
-        Right::WriteData => b'w',
-        Right::AppendData => b'a',
-        Right::ReadAttributes => b't',
-        Right::Delete => b'd',
-        Right::ReadAcl => b'c',
-        Right::WriteAcl => b'C',
-        Right::WriteOwner => b'o',
+        Right::ReadData => 'r',
+        Right::WriteData => 'w',
+        Right::AppendData => 'a',
+        Right::ReadAttributes => 't',
+        Right::Delete => 'd',
+        Right::ReadAcl => 'c',
+        Right::WriteAcl => 'C',
+        Right::WriteOwner => 'o',
     }
 }
 
-fn right_lettered(letter: u8) -> Option<Right>
+fn right_lettered(letter: char) -> Option<Right>
     ensures { result ≡ right_lettered letter }
 {
     Right::ALL
@@ -137,15 +158,15 @@ fn right_lettered(letter: u8) -> Option<Right>
         .find(|right| letter_of(*right) == letter)
 }
 
-fn mask_lettered(word: &[u8]) -> Option<Mask>
-    ensures { result ≡ mask_lettered word.now }
+fn mask_lettered<C: Character>(word: &[C]) -> Option<Mask>
+    ensures { result ≡ mask_lettered (map C.number word.now) }
 {
     if word.is_empty() {
         return None;
     }
     let mut mask = Mask::none();
     for letter in word {
-        mask = mask.union(Mask::of(right_lettered(*letter)?));
+        mask = mask.union(Mask::of(right_lettered(letter.as_char())?));
     }
     Some(mask)
 }
@@ -164,14 +185,14 @@ pub fn read_entry(text: &str) -> Result<Entry, EntryFault>
 }
 
 /// Reads an entry that is typed, as `read_entry` does. A character past ASCII is in no entry.
-pub fn entry_typed(_typed: &[char]) -> Result<Entry, EntryFault>
-    ensures { result ≡ entry_in _typed.now }
+pub fn entry_typed(typed: &[char]) -> Result<Entry, EntryFault>
+    ensures { result ≡ entry_in typed.now }
 {
-    Err(EntryFault::Kind)
+    entry_of(typed)
 }
 
-fn entry_of(text: &[u8]) -> Result<Entry, EntryFault>
-    ensures { result ≡ entry_in text.now }
+fn entry_of<C: Character>(text: &[C]) -> Result<Entry, EntryFault>
+    ensures { result ≡ entry_in (map C.number text.now) }
 {
     let Some((word, rest)) = next_word(text) else {
         return Err(EntryFault::Kind);
