@@ -9,6 +9,7 @@ mod given;
 mod inserting;
 mod killing;
 mod listing;
+mod naming;
 mod performing;
 mod planning;
 mod replacing;

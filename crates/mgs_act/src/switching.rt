@@ -1,12 +1,11 @@
 // A switch to the buffer of a typed name: it is decided, and then done whole or not at all.
-ghost use Rattle.std.specs.Prelude.{◌≡◌, ◌<◌, ℕ, List, length, nat_le, Option, Some, None, IfOk, IfSome, OnOk, OnErr, is_some, slice_get, false, true};
+ghost use Rattle.std.specs.Prelude.{◌≡◌, ◌<◌, ℕ, List, length, nat_le, Option, Some, None, IfOk, IfSome, OnOk, OnErr, slice_get, false, true};
 ghost use Rattle.std.specs.List.{position_or_len};
 ghost use Rattle.mgs_model.specs.Access.{Directory};
 ghost use Rattle.mgs_model.specs.Acts.{created, fails, outcome, permitted, shows_named};
 ghost use Rattle.mgs_model.specs.Apart.{Apart, touched_by};
 ghost use Rattle.mgs_model.specs.Apply.{act, apply, outcome_in};
 ghost use Rattle.mgs_model.specs.Events.{may_be_refused};
-ghost use Rattle.mgs_model.specs.Names.{is_name};
 ghost use Rattle.mgs_model.specs.Outcome.{No_effect, Outcome, Run, takes_memory};
 ghost use Rattle.mgs_model.specs.View.{View};
 ghost use Rattle.mgs_model.specs.World.{Own, find_session};
@@ -20,11 +19,12 @@ ghost use Rattle.mgs_act.specs.Switching.{CanSwitch, coming_decision, created_in
 ghost use Rattle.mgs_world.specs.Sound.{IsSound};
 ghost use Rattle.mgs_world.specs.Worlds.{idle, own_at, session_id, sizes_in, world_of};
 
+use crate::naming::name_typed;
 use crate::planning::denial;
 use mgs_arrange::show;
 use mgs_buffers::Buffers;
 use mgs_marks::Marked;
-use mgs_model::{BUFFER_LIMIT, Mask, Message, NAME_LIMIT, Name, Right, Short, Touched};
+use mgs_model::{BUFFER_LIMIT, Mask, Message, Name, Right, Short, Touched};
 use mgs_policy::Directory;
 use mgs_session::{Session, fail};
 
@@ -69,24 +69,6 @@ fn switch_there<T: Marked + Drop>(
         Some(message) => Switch::Fails(message),
         None => Switch::Shows(name),
     }
-}
-
-/// The name that is typed so, if it is one.
-fn name_typed(typed: &[char]) -> Option<Name>
-    ensures form { is_some result ≡ is_name typed.now }
-    ensures value { IfSome result (λ n. n ≡ typed.now) }
-{
-    if typed.len() > NAME_LIMIT {
-        return None;
-    }
-    let mut bytes = [0; NAME_LIMIT];
-    for at in 0..typed.len() {
-        if !typed[at].is_ascii() {
-            return None;
-        }
-        bytes[at] = typed[at] as u8;
-    }
-    Name::read(str::from_utf8(&bytes[..typed.len()]).ok()?)
 }
 
 /// What a switch to a buffer that is not there comes to: the name is judged first, and then whether there is room.
