@@ -10,7 +10,7 @@ use Rattle.mgs_model.specs.View.{View}
 use Rattle.mgs_model.specs.Outcome.{Act, Run}
 use Rattle.mgs_model.specs.Apply.{act, outcome_in}
 use Rattle.mgs_model.specs.Completion.{completion, granted_names, shown_names}
-use Rattle.mgs_model.specs.Turns.{Keep, Do, command_turn, answer_turn, answered, completed, named_turn, names_buffers, names_commands, names_completed, plain_own, prompt_turn}
+use Rattle.mgs_model.specs.Turns.{Keep, Do, command_turn, answer_turn, answered, completed, named_turn, names_buffers, names_commands, names_completed, plain_own, prompt_turn, unbound_own}
 use Rattle.mgs_model.specs.Events.{act_effects, may_be_refused, refused_own, saved_by}
 use Rattle.mgs_model.specs.declared.message.Message.TheVariants.{Silent, NoMemory, NoSuchCommand, Quitting}
 use Rattle.mgs_model.specs.declared.session.Command.{Command}
@@ -22,7 +22,7 @@ use Rattle.mgs_laws.proofs.Saves.{is_save, act_saves_none}
 use Rattle.mgs_mini.specs.Typing.{PromptInput, keys_of, stepped, typed_own}
 use Rattle.mgs_mini.specs.Typing as prompts
 use Rattle.mgs_mini.specs.declared.Step.{Step}
-use Rattle.mgs_mini.specs.declared.Step.TheVariants.{GoesOn, Answered, Quit, Completes}
+use Rattle.mgs_mini.specs.declared.Step.TheVariants.{GoesOn, Answered, Quit, Completes, Unbound}
 use Rattle.mgs_mini.specs.declared.Waiting.{Waiting}
 use Rattle.mgs_mini.specs.declared.Waiting.TheVariants.{NoKey}
 use Rattle.mgs_act.specs.Actions.{is_answered}
@@ -34,7 +34,7 @@ use Rattle.mgs_session.specs.declared.Session.{Session}
 use Rattle.mgs_session.specs.declared.search.Aim.{Aim}
 use Rattle.mgs_session.specs.declared.search.Aim.TheVariants.{Find, Replace}
 use Rattle.mgs_session.specs.declared.search.Search.{Search}
-use Rattle.mgs_session.specs.Sessions.{failed, prompting, resting, unprompted}
+use Rattle.mgs_session.specs.Sessions.{failed, prompting, resting, unbound, unprompted}
 use Rattle.mgs_session.specs.Seeking.{unsearched}
 use Rattle.mgs_store.specs.Stores.{StoreTold, told_more}
 use Rattle.mgs_core.specs.Steps.{ActedBy}
@@ -125,6 +125,13 @@ goes_on d ks y taken new p q byte alone is question first turn took held =
 pub quits : (d : Directory) (ks : List MarkedBuffer) (y taken new : Session) (p q : PromptInput) (byte : ℕ) → (unsearched y).own.prompt ≡ Some p → q.question ≡ p.question → q.first ≡ p.first → IsFed p q byte Quit → taken ≡ unprompted (unsearched y) → new ≡ failed Quitting taken → IsByteStep d ks (unsearched y) new byte befores.Plain Kept
 quits d ks y taken new p q byte is question first turn took held =
     kept_as d ks y new (failed Quitting (unsearched y)).own byte (held ∙ ap (failed Quitting) took) (λ v sees. step_turn v y p q Quit byte is question first turn) refl (left_none (unsearched y).own.player [] refl) (fit_empty (own_of (failed Quitting (unsearched y)).own) refl)
+
+pub unbinds : (d : Directory) (ks : List MarkedBuffer) (y taken new : Session) (p q : PromptInput) (byte : ℕ) → (unsearched y).own.prompt ≡ Some p → q.question ≡ p.question → q.first ≡ p.first → q.waiting ≡ NoKey → IsFed p q byte Unbound → taken ≡ unprompted (unsearched y) → new ≡ unbound (prompting q taken) → IsByteStep d ks (unsearched y) new byte befores.Plain Kept
+unbinds d ks y taken new p q byte is question first none turn took held =
+    let own : model.Own = unbound_own (own_of (prompting q (unsearched y)).own) in
+    kept_as d ks y new (unbound (prompting q (unsearched y))).own byte (held ∙ ap (λ (s : Session). unbound (prompting q s)) took)
+    (λ v sees. step_turn v y p q Unbound byte is question first turn ∙ sym (ap (λ (w : Waiting). Keep (record own { keys = keys_of w })) none))
+    refl (left_none (unsearched y).own.player [] refl) (fit_empty (own_of (unbound (prompting q (unsearched y))).own) refl)
 
 -- what is completed: the names that are seen are those that are granted
 completed_seen : (d : Directory) (ks : List MarkedBuffer) (user : List ℕ) (v : View) (c e : Question) (own : model.Own) (input : List ℕ) → shown_names v ≡ granted_names d user (buffers_of ks) → e ≡ c → completed own (completion (names_completed v c) input) ≡ completed own (completion (names_for d user ks e) input)

@@ -3,12 +3,12 @@ use Rattle.std.proofs.Common.{◌≡◌, ℕ, Bool, true, false, cond, List, [],
 use Rattle.std.specs.Prelude.{◌==◌, ⊤, length, nat_lt}
 use Rattle.mgs_model.specs.Access.{Directory}
 use Rattle.mgs_model.specs.Apply.{searches}
-use Rattle.mgs_model.specs.Keys.{is_graphic}
+use Rattle.mgs_model.specs.Keys.{character_read, is_character_byte, is_graphic}
 use Rattle.mgs_model.specs.World as model
 use Rattle.mgs_model.specs.View.{View}
 use Rattle.mgs_model.specs.Outcome.{Run}
 use Rattle.mgs_model.specs.Searching.{Sought, directed, dropped, lengthened, read_byte, shortened}
-use Rattle.mgs_model.specs.Turns.{Keep, Do, sought_turn}
+use Rattle.mgs_model.specs.Turns.{Keep, Do, pattern_turn, sought_byte, sought_turn, used}
 use Rattle.mgs_model.specs.Events.{refused_own}
 use Rattle.mgs_model.specs.declared.message.Message.TheVariants.{Silent}
 use Rattle.mgs_model.specs.declared.search.Direction.{Direction}
@@ -18,13 +18,16 @@ use Rattle.mgs_model.specs.declared.search.SearchStep.TheVariants as step
 use Rattle.mgs_model.specs.declared.session.Command.TheVariants.{Move}
 use Rattle.mgs_model.specs.declared.session.Mode.TheVariants.{Searching}
 use Rattle.mgs_model.specs.declared.session.Motion.TheVariants.{SearchOn}
+use Rattle.mgs_model.specs.declared.sequence.Sequence.{Sequence}
+use Rattle.mgs_model.specs.declared.sequence.Sequence.TheVariants.{Whole, Begun, Broken}
 use Rattle.mgs_buffers.specs.MarkedBuffer.{MarkedBuffer}
+use Rattle.mgs_maps.specs.Held.{Held, held_character, nothing_held}
 use Rattle.mgs_mini.specs.Typing.{PromptInput}
 use Rattle.mgs_session.specs.declared.Own.{Own}
 use Rattle.mgs_session.specs.declared.search.Search.{Search}
 use Rattle.mgs_session.specs.declared.Session.{Session}
 use Rattle.mgs_session.specs.Seeking.{search_left, searching, unsearched}
-use Rattle.mgs_session.specs.Sessions.{told}
+use Rattle.mgs_session.specs.Sessions.{reading, told, unbound}
 use Rattle.mgs_world.specs.Worlds.{aim_mode, mode_in, own_of, search_of}
 use Rattle.mgs_core.specs.declared.deeds.Before.{Before}
 use Rattle.mgs_core.specs.declared.deeds.Before.TheVariants as befores
@@ -36,7 +39,7 @@ use Rattle.mgs_core.specs.Stepped.{IsAlone, IsByteStep, SearchStays, deed_act, f
 use Rattle.mgs_core.specs.Turned.{is_quiet}
 use Rattle.mgs_session.specs.declared.search.Aim.{Aim}
 use Rattle.mgs_session.specs.declared.search.Aim.TheVariants.{Find, Replace}
-use Rattle.mgs_core.proofs.Stepped.{fit_same, further_same, left_same, none_stays}
+use Rattle.mgs_core.proofs.Stepped.{fit_empty, fit_same, further_same, left_none, left_same, none_stays}
 
 -- WHAT A BYTE LEAVES OF WHAT IS LOOKED FOR, where it goes on with nothing
 
@@ -90,6 +93,28 @@ unsearched_same y none = ap (λ (o : Option Search). record y { own = record y.o
 
 -- WHAT COMES NEXT
 
+-- in a session that is searching
+module _ (y : Session) (name : List ℕ) (origin anchor : ℕ) (f : Sought) (byte : ℕ) where
+  abbrev it : Own
+  it = (searching (finding name origin anchor f) (unsearched y)).own
+
+  abbrev then_own : model.Own
+  then_own = record (own_of it) { echo = Silent }
+
+  abbrev is_past : Bool
+  is_past = is_character_byte y.own.keyboard.keys byte
+
+  by_character : (v : View) (a : Bool) → is_past ≡ a → own_turn v it byte ≡ cond a (pattern_turn then_own f byte (character_read then_own.keys byte)) (sought_byte then_own f byte)
+  by_character v a is = ap (λ (b : Bool). cond b (pattern_turn then_own f byte (character_read then_own.keys byte)) (sought_byte then_own f byte)) is
+
+  -- a byte of ASCII
+  comes : (v : View) (g : Sought) (k : SearchStep) → is_past ≡ false → read_byte y.own.pattern f byte ≡ (g, k) → own_turn v it byte ≡ sought_turn then_own byte g k
+  comes v g k ascii read = by_character v false ascii ∙ ap (λ (p : Sought × SearchStep). sought_turn then_own byte p.0 p.1) read
+
+  -- a byte of a character
+  comes_past : (v : View) (q : Sequence) → is_past ≡ true → character_read y.own.keyboard.keys byte ≡ q → own_turn v it byte ≡ pattern_turn then_own f byte q
+  comes_past v q is read = by_character v true is ∙ ap (pattern_turn then_own f byte) read
+
 -- the session that was searching
 module _ (d : Directory) (ks : List MarkedBuffer) (y new : Session) (name : List ℕ) (origin anchor : ℕ) (f g : Sought) (byte : ℕ) (b : Before) (alone : IsAlone y.own.player) where
   abbrev pub s : Search
@@ -107,39 +132,36 @@ module _ (d : Directory) (ks : List MarkedBuffer) (y new : Session) (name : List
   abbrev own : model.Own
   own = record (own_of x.own) { echo = Silent }
 
-  comes : (v : View) (k : SearchStep) → read_byte z.own.pattern f byte ≡ (g, k) → own_turn v x.own byte ≡ sought_turn own byte g k
-  comes v k read = ap (λ (p : Sought × SearchStep). sought_turn (record (own_of x.own) { echo = Silent }) byte p.0 p.1) read
-
   -- it is over
-  pub search_ends : read_byte y.own.pattern f byte ≡ (g, step.Ends) → new ≡ search_left g.pattern (unsearched y) → IsByteStep d ks (searching s (unsearched y)) new byte b Kept
-  search_ends read is =
+  pub search_ends : is_character_byte y.own.keyboard.keys byte ≡ false → read_byte y.own.pattern f byte ≡ (g, step.Ends) → new ≡ search_left g.pattern (unsearched y) → IsByteStep d ks (searching s (unsearched y)) new byte b Kept
+  search_ends ascii read is =
       let same : g ≡ f = sought_over z.own.pattern f g byte step.Ends read tt in
       let left : new ≡ search_left f.pattern z = is ∙ ap (λ (p : Sought). search_left p.pattern z) same in
       record {
         own = left ∙ sym (ap (λ (w : Session). record x { own = w.own }) left);
         stays = none_stays x.own new.own (ap (λ (w : Session). w.own.search) left);
-        turn = λ v sees. comes v step.Ends read ∙ ap (λ (q : Sought). sought_turn own byte q step.Ends) same ∙ sym (ap (λ (w : Session). Keep (own_of w.own)) left);
+        turn = λ v sees. comes y name origin anchor f byte v g step.Ends ascii read ∙ ap (λ (q : Sought). sought_turn own byte q step.Ends) same ∙ sym (ap (λ (w : Session). Keep (own_of w.own)) left);
         left = left_same x.own.player new.own.player.todo alone (ap (λ (w : Session). w.own.player.todo) left);
         fit = fit_same x.own.player (own_of new.own) alone (ap (λ (w : Session). w.own.player.todo) left);
       }
 
   -- the search goes on, with its positions
-  on_stays : new ≡ searching r (told Silent z) → SearchStays x.own new.own
-  on_stays is bs =
+  on_stays : (h : Sought) (k : Session) → new ≡ searching (finding name origin anchor h) k → SearchStays x.own new.own
+  on_stays h k is bs =
       ap (λ (w : Session). search_of bs w.own.search) is
       ∙ sym (ap (λ (w : Session). cond (searches (own_of w.own).mode) (search_of bs (Some s)) None) is)
 
   -- or is given up
-  pub search_quits : read_byte y.own.pattern f byte ≡ (g, step.Quits) → new ≡ searching r (told Silent (unsearched y)) → IsByteStep d ks (searching s (unsearched y)) new byte b (Acts deeds.QuitSearch)
-  search_quits read is =
+  pub search_quits : is_character_byte y.own.keyboard.keys byte ≡ false → read_byte y.own.pattern f byte ≡ (g, step.Quits) → new ≡ searching r (told Silent (unsearched y)) → IsByteStep d ks (searching s (unsearched y)) new byte b (Acts deeds.QuitSearch)
+  search_quits ascii read is =
       let same : g ≡ f = sought_over z.own.pattern f g byte step.Quits read tt in
       let kept : new ≡ searching s (told Silent z) = is ∙ ap (λ (h : Sought). searching (finding name origin anchor h) (told Silent z)) same in
       record {
         own = kept ∙ sym (ap (λ (w : Session). record x { own = w.own }) kept);
-        stays = on_stays is;
+        stays = on_stays g (told Silent z) is;
         ready = tt;
         here = tt;
-        turn = λ v sees. comes v step.Quits read ∙ sym (ap (λ (w : Session). Do (own_of w.own) (deed_act (own_of w.own) b deeds.QuitSearch)) kept);
+        turn = λ v sees. comes y name origin anchor f byte v g step.Quits ascii read ∙ sym (ap (λ (w : Session). Do (own_of w.own) (deed_act (own_of w.own) b deeds.QuitSearch)) kept);
         playing = λ e. ap (λ (p : Bool). is_quiet p (deed_act (own_of new.own) b deeds.QuitSearch)) (ap (λ (w : Session). w.own.player.playing) kept ∙ e);
         typed = λ e. ap (λ (w : Session). w.own.player.todo) kept ∙ alone.typed e;
         left = left_same x.own.player new.own.player.todo alone (ap (λ (w : Session). w.own.player.todo) kept);
@@ -150,20 +172,18 @@ module _ (d : Directory) (ks : List MarkedBuffer) (y new : Session) (name : List
         search = λ wants. cc;
       }
 
-  sought_on : (k : SearchStep) → (k ≡ step.Ends → ⊥) → (k ≡ step.Quits → ⊥) → (k ≡ step.Leaves → ⊥) → sought_turn own byte g k ≡ Do (record own { mode = Searching g.direction g.failing; input = g.pattern }) (Run (Move (SearchOn g.direction k)) None g.pattern)
-  sought_on step.Ends ends quits leaves = absurd (ends refl)
-  sought_on step.Quits ends quits leaves = absurd (quits refl)
-  sought_on step.Leaves ends quits leaves = absurd (leaves refl)
-  sought_on _ ends quits leaves = refl
+  -- or does a step, with this half read
+  abbrev own_read : Held → model.Own
+  own_read h = record (own_of (reading h x).own) { echo = Silent }
 
-  -- or does a step
-  pub search_on : (k : SearchStep) → (k ≡ step.Ends → ⊥) → (k ≡ step.Quits → ⊥) → (k ≡ step.Leaves → ⊥) → read_byte y.own.pattern f byte ≡ (g, k) → new ≡ searching r (told Silent (unsearched y)) → IsByteStep d ks (searching s (unsearched y)) new byte b (Acts (deeds.Seek k))
-  search_on k ends quits leaves read is = record {
+  steps_on : (h : Held) (k : SearchStep) → ((v : View) → own_turn v x.own byte ≡ Do (record (own_read h) { mode = Searching g.direction g.failing; input = g.pattern }) (Run (Move (SearchOn g.direction k)) None g.pattern)) → new ≡ searching r (told Silent (reading h (unsearched y)))
+      → IsByteStep d ks (searching s (unsearched y)) new byte b (Acts (deeds.Seek k))
+  steps_on h k turn is = record {
     own = is ∙ sym (ap (λ (w : Session). record x { own = w.own }) is);
-    stays = on_stays is;
+    stays = on_stays g (told Silent (reading h z)) is;
     ready = ap (λ (w : Session). is_finding w.own.search) is;
     here = tt;
-    turn = λ v sees. comes v k read ∙ sought_on k ends quits leaves ∙ sym (ap (λ (w : Session). Do (own_of w.own) (deed_act (own_of w.own) b (deeds.Seek k))) is);
+    turn = λ v sees. turn v ∙ sym (ap (λ (w : Session). Do (own_of w.own) (deed_act (own_of w.own) b (deeds.Seek k))) is);
     playing = λ e. ap (λ (p : Bool). is_quiet p (deed_act (own_of new.own) b (deeds.Seek k))) (ap (λ (w : Session). w.own.player.playing) is ∙ e);
     typed = λ e. ap (λ (w : Session). w.own.player.todo) is ∙ alone.typed e;
     left = left_same x.own.player new.own.player.todo alone (ap (λ (w : Session). w.own.player.todo) is);
@@ -173,6 +193,50 @@ module _ (d : Directory) (ks : List MarkedBuffer) (y new : Session) (name : List
     again = λ wants. cc;
     search = λ wants. cc;
   }
+
+  sought_on : (k : SearchStep) → (k ≡ step.Ends → ⊥) → (k ≡ step.Quits → ⊥) → (k ≡ step.Leaves → ⊥) → sought_turn own byte g k ≡ Do (record own { mode = Searching g.direction g.failing; input = g.pattern }) (Run (Move (SearchOn g.direction k)) None g.pattern)
+  sought_on step.Ends ends quits leaves = absurd (ends refl)
+  sought_on step.Quits ends quits leaves = absurd (quits refl)
+  sought_on step.Leaves ends quits leaves = absurd (leaves refl)
+  sought_on _ ends quits leaves = refl
+
+  -- as a byte of ASCII asks
+  pub search_on : (k : SearchStep) → is_character_byte y.own.keyboard.keys byte ≡ false → (k ≡ step.Ends → ⊥) → (k ≡ step.Quits → ⊥) → (k ≡ step.Leaves → ⊥) → read_byte y.own.pattern f byte ≡ (g, k) → new ≡ searching r (told Silent (unsearched y)) → IsByteStep d ks (searching s (unsearched y)) new byte b (Acts (deeds.Seek k))
+  search_on k ascii ends quits leaves read is = steps_on y.own.keyboard k (λ v. comes y name origin anchor f byte v g k ascii read ∙ sought_on k ends quits leaves) is
+
+  -- or a character with its last byte
+  pub search_puts : (c : ℕ) (k : SearchStep) → is_character_byte y.own.keyboard.keys byte ≡ true → character_read y.own.keyboard.keys byte ≡ Whole c → k ≡ step.FromAnchor → g ≡ record f { pattern = lengthened f.pattern c } → new ≡ searching r (told Silent (reading nothing_held (unsearched y)))
+      → IsByteStep d ks (searching s (unsearched y)) new byte b (Acts (deeds.Seek k))
+  search_puts c k is read seeks put held =
+      subst (λ (e : SearchStep). IsByteStep d ks (searching s (unsearched y)) new byte b (Acts (deeds.Seek e))) (sym seeks)
+      (steps_on nothing_held step.FromAnchor (λ v. comes_past y name origin anchor f byte v (Whole c) is read ∙ sym (ap (λ (q : Sought). sought_turn (used own) byte q step.FromAnchor) put)) held)
+
+  -- more of its bytes are to come
+  pub search_reads : is_character_byte y.own.keyboard.keys byte ≡ true → character_read y.own.keyboard.keys byte ≡ Begun → new ≡ searching s (told Silent (reading (held_character y.own.keyboard byte Begun) (unsearched y))) → IsByteStep d ks (searching s (unsearched y)) new byte b Kept
+  search_reads is read held = record {
+    own = held ∙ sym (ap (λ (w : Session). record x { own = w.own }) held);
+    stays = on_stays f (told Silent (reading (held_character y.own.keyboard byte Begun) z)) held;
+    turn = λ v sees. comes_past y name origin anchor f byte v Begun is read ∙ sym (ap (λ (w : Session). Keep (own_of w.own)) held);
+    left = left_same x.own.player new.own.player.todo alone (ap (λ (w : Session). w.own.player.todo) held);
+    fit = fit_same x.own.player (own_of new.own) alone (ap (λ (w : Session). w.own.player.todo) held);
+  }
+
+  -- or there is none, which is told
+  pub search_breaks : is_character_byte y.own.keyboard.keys byte ≡ true → character_read y.own.keyboard.keys byte ≡ Broken → new ≡ unbound (searching s (reading nothing_held (unsearched y))) → IsByteStep d ks (searching s (unsearched y)) new byte b Kept
+  search_breaks is read held = record {
+    own = held ∙ sym (ap (λ (w : Session). record x { own = w.own }) held);
+    stays = on_stays f (unbound (reading nothing_held z)) held;
+    turn = λ v sees. comes_past y name origin anchor f byte v Broken is read ∙ sym (ap (λ (w : Session). Keep (own_of w.own)) held);
+    left = left_none x.own.player new.own.player.todo (ap (λ (w : Session). w.own.player.todo) held);
+    fit = fit_empty (own_of new.own) (ap (λ (w : Session). w.own.player.todo) held);
+  }
+
+-- what the session has read of it, which does not search
+pub character_held : (y k : Session) (h : Held) (q e : Sequence) (byte : ℕ) → y ≡ unsearched y → k ≡ reading h y → h ≡ held_character y.own.keyboard byte q → q ≡ e → k ≡ reading (held_character y.own.keyboard byte e) (unsearched y)
+character_held y k h q e byte still is held read =
+    is
+    ∙ ap (λ (g : Held). reading g y) (held ∙ ap (held_character y.own.keyboard byte) read)
+    ∙ ap (reading (held_character y.own.keyboard byte e)) still
 
 -- A BYTE THAT IS NONE OF ITS OWN: the search is left, and the byte is a key
 
@@ -189,7 +253,7 @@ stays_none old new none stays =
     by None p e = refl
     by (Some g) p e = aims g g.aim e
 
-module _ (d : Directory) (ks : List MarkedBuffer) (y new : Session) (name : List ℕ) (origin anchor : ℕ) (f : Sought) (last : List ℕ) (byte : ℕ) (same : last ≡ y.own.pattern) (read : read_byte y.own.pattern f byte ≡ (f, step.Leaves)) where
+module _ (d : Directory) (ks : List MarkedBuffer) (y new : Session) (name : List ℕ) (origin anchor : ℕ) (f : Sought) (last : List ℕ) (byte : ℕ) (same : last ≡ y.own.pattern) (ascii : is_character_byte y.own.keyboard.keys byte ≡ false) (read : read_byte y.own.pattern f byte ≡ (f, step.Leaves)) where
   abbrev pub was : Search
   was = finding name origin anchor f
 
@@ -200,7 +264,7 @@ module _ (d : Directory) (ks : List MarkedBuffer) (y new : Session) (name : List
   left_one = search_left f.pattern (unsearched y)
 
   key_comes : (v : View) → own_turn v w.own byte ≡ own_turn v left_one.own byte
-  key_comes v = ap (λ (p : Sought × SearchStep). sought_turn (record (own_of w.own) { echo = Silent }) byte p.0 p.1) read
+  key_comes v = comes y name origin anchor f byte v f step.Leaves ascii read
 
   left_stays : SearchStays left_one.own new.own → SearchStays w.own new.own
   left_stays stays = none_stays w.own new.own (stays_none left_one.own new.own refl stays)
@@ -248,8 +312,8 @@ module _ (d : Directory) (ks : List MarkedBuffer) (y new : Session) (name : List
   }
   key_left (Acts _) keyed t = cc
 
-pub search_leaves : (d : Directory) (ks : List MarkedBuffer) (y left new : Session) (name : List ℕ) (origin anchor : ℕ) (f : Sought) (last : List ℕ) (byte : ℕ) (k : ByteStep) → last ≡ y.own.pattern → read_byte y.own.pattern f byte ≡ (f, step.Leaves) → left ≡ search_left f.pattern (unsearched y) → is_keyed k ≡ true → IsByteStep d ks left new byte befores.Plain k → IsByteStep d ks (searching (finding name origin anchor f) (unsearched y)) new byte (befores.Search (finding name origin anchor f) last) k
-search_leaves d ks y left new name origin anchor f last byte k same read is keyed t = key_left d ks y new name origin anchor f last byte same read k keyed (subst (λ (g : Session). IsByteStep d ks g new byte befores.Plain k) is t)
+pub search_leaves : (d : Directory) (ks : List MarkedBuffer) (y left new : Session) (name : List ℕ) (origin anchor : ℕ) (f : Sought) (last : List ℕ) (byte : ℕ) (k : ByteStep) → last ≡ y.own.pattern → is_character_byte y.own.keyboard.keys byte ≡ false → read_byte y.own.pattern f byte ≡ (f, step.Leaves) → left ≡ search_left f.pattern (unsearched y) → is_keyed k ≡ true → IsByteStep d ks left new byte befores.Plain k → IsByteStep d ks (searching (finding name origin anchor f) (unsearched y)) new byte (befores.Search (finding name origin anchor f) last) k
+search_leaves d ks y left new name origin anchor f last byte k same ascii read is keyed t = key_left d ks y new name origin anchor f last byte same ascii read k keyed (subst (λ (g : Session). IsByteStep d ks g new byte befores.Plain k) is t)
 
 -- what was read with the search string, as the session has it
 pub read_at : (pattern last : List ℕ) (s r : Sought) (byte : ℕ) (k e : SearchStep) → last ≡ pattern → read_byte last s byte ≡ (r, k) → k ≡ e → read_byte pattern s byte ≡ (r, e)

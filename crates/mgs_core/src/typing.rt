@@ -1,7 +1,8 @@
 // A byte of a session: in a search and at a prompt it is typed, and else it is a key.
-ghost use Rattle.std.specs.Prelude.{◌≡◌, ◌≤◌, ◌<◌, List, Option, IfSome, is_some, length, true};
+ghost use Rattle.std.specs.Prelude.{◌≡◌, ◌≤◌, ◌<◌, List, Option, IfSome, is_some, length, false, true};
 ghost use Rattle.std.specs.Option.{option_map};
 ghost use Rattle.mgs_model.specs.Access.{Directory};
+ghost use Rattle.mgs_model.specs.Keys.{is_character_byte};
 ghost use Rattle.mgs_model.specs.Searching.{read_byte};
 ghost use Rattle.mgs_model.specs.Turns.{completed};
 ghost use Rattle.mgs_model.specs.Completion.{completion};
@@ -14,7 +15,7 @@ ghost use Rattle.mgs_session.specs.Seeking.{searching, unsearched};
 ghost use Rattle.mgs_session.specs.Playing.{are_played, replacing_all};
 ghost use Rattle.mgs_model.specs.Commands.{find_command};
 ghost use Rattle.mgs_model.specs.declared.message.Message.TheVariants.{Replaced, Silent};
-ghost use Rattle.mgs_session.specs.Sessions.{playing_as, prompting, told, unprompted};
+ghost use Rattle.mgs_session.specs.Sessions.{playing_as, prompting, told, unbound, unprompted};
 ghost use Rattle.mgs_world.specs.Worlds.{own_of};
 ghost use Rattle.mgs_core.specs.Prompted.{names_for};
 ghost use Rattle.mgs_core.specs.declared.deeds.Before.{Before};
@@ -28,12 +29,12 @@ use mgs_cache::Judge;
 use mgs_maps::{command_named, name_completion};
 use mgs_marks::Marked;
 use mgs_mini::{Prompt, Step};
-use mgs_model::{Message, Name, Question, SearchStep};
+use mgs_model::{Message, Name, Question, SearchStep, Sequence};
 use mgs_policy::Directory;
 use mgs_search::IncrementalSearch;
 use mgs_session::{
-    Aim, Replacing, Search, SearchString, Session, fail, hold_prompt, hold_search, leave_search,
-    rest, set_echo, take_prompt, take_search,
+    Aim, Replacing, Search, SearchString, Session, fail, hold_keyboard, hold_prompt, hold_search,
+    leave_search, rest, set_echo, take_prompt, take_search, tell_unbound,
 };
 
 const QUIT: u8 = 0x07;
@@ -169,6 +170,11 @@ fn step_prompt<T: Marked + Drop>(
             fail(session, Message::Quitting);
             ByteStep::Kept
         }
+        Step::Unbound => {
+            hold_prompt(session, prompt);
+            tell_unbound(session);
+            ByteStep::Kept
+        }
         Step::Answered => step_answer(session, prompt, before),
     }
 }
@@ -208,6 +214,7 @@ fn step_foreign(
 ) -> ByteStep
     requires still { session.old ≡ unsearched session.old }
     requires alone { IsAlone session.old.own.player }
+    requires ascii { is_character_byte session.old.own.keyboard.keys byte ≡ false }
     requires leaves { read_byte session.old.own.pattern sought byte ≡ (sought, Leaves) }
     ensures { (directory : Directory) (ks : List MarkedBuffer) → IsByteStep directory ks (searching (finding name origin anchor sought) session.old) session.new byte before.new result }
 {
@@ -221,6 +228,58 @@ fn step_foreign(
     };
     *before = Before::Search(search, last);
     step_key(session, byte)
+}
+
+/// Holds a search that goes on, and tells that the bytes that were typed are no character.
+fn hold_unbound(session: &mut Session, search: Search)
+    ensures { session.new ≡ unbound (searching search session.old) }
+{
+    hold_search(session, search);
+    tell_unbound(session);
+}
+
+/// What a byte of a character past ASCII comes to in an incremental search, which was taken out of the session: the character is put behind
+/// what is looked for with its last byte. What is half read of it is the keyboard's, since it goes on as a key where the search is over.
+fn step_character(
+    session: &mut Session,
+    name: Name,
+    origin: usize,
+    anchor: usize,
+    sought: IncrementalSearch,
+    byte: u8,
+) -> ByteStep
+    requires still { session.old ≡ unsearched session.old }
+    requires alone { IsAlone session.old.own.player }
+    requires past { is_character_byte session.old.own.keyboard.keys byte ≡ true }
+    ensures { (directory : Directory) (ks : List MarkedBuffer) (before : Before) → IsByteStep directory ks (searching (finding name origin anchor sought) session.old) session.new byte before result }
+{
+    let mut keyboard = session.own.keyboard;
+    let sequence = keyboard.feed_character(byte);
+    hold_keyboard(session, keyboard);
+    match sequence {
+        Sequence::Begun => {
+            hold_sought(session, name, origin, anchor, sought);
+            ByteStep::Kept
+        }
+        Sequence::Whole(c) => {
+            let mut sought = sought;
+            let step = sought.put(c);
+            hold_sought(session, name, origin, anchor, sought);
+            ByteStep::Acts(Deed::Seek(step))
+        }
+        Sequence::Broken => {
+            hold_unbound(
+                session,
+                Search {
+                    name,
+                    origin,
+                    anchor,
+                    aim: Aim::Find(sought),
+                },
+            );
+            ByteStep::Kept
+        }
+    }
 }
 
 /// What a byte comes to in an incremental search, which was taken out of the session.
@@ -237,6 +296,9 @@ fn step_find(
     requires alone { IsAlone session.old.own.player }
     ensures { (directory : Directory) (ks : List MarkedBuffer) → IsByteStep directory ks (searching (finding name origin anchor sought) session.old) session.new byte before.new result }
 {
+    if session.own.keyboard.is_character_byte(byte) {
+        return step_character(session, name, origin, anchor, sought, byte);
+    }
     let mut sought = sought;
     match sought.feed(session.own.pattern.as_slice(), byte) {
         SearchStep::Ends => {

@@ -1,4 +1,4 @@
-use Rattle.std.proofs.Common.{◌∙◌, ap, refl}
+use Rattle.std.proofs.Common.{◌∙◌, ap, refl, sym}
 use Rattle.mgs_model.specs.declared.message.Message.TheVariants.{Silent}
 use Rattle.mgs_session.specs.Seeking.{search_left, searching}
 use Rattle.mgs_session.specs.Sessions.{told}
@@ -8,6 +8,15 @@ use Rattle.mgs_core.specs.declared.keying.ByteStep.TheVariants.{Kept, Acts}
 use Rattle.mgs_core.specs.Stepped.{finding}
 use Rattle.mgs_core.proofs.Sought.{foreign_step, read_again, read_at, search_ends, search_on, search_quits, still_search}
 use Rattle.mgs_core.proofs.typing.step_find.Goals as goal
+
+pub returns-then-is_character_byte : goal.returns-then-is_character_byte
+returns-then-is_character_byte c directory ks = c.step_character.ensures directory ks c.args.before.now
+
+pub step_character-requires-clause-past : goal.step_character-requires-clause-past
+step_character-requires-clause-past c = sym c.is_character_byte.ensures ∙ c.if-is_character_byte.true
+
+pub step_foreign-requires-clause-ascii : goal.step_foreign-requires-clause-ascii
+step_foreign-requires-clause-ascii c = sym c.is_character_byte.ensures ∙ c.if-is_character_byte.false
 
 pub step_foreign-requires-clause-leaves : goal.step_foreign-requires-clause-leaves
 step_foreign-requires-clause-leaves c =
@@ -21,6 +30,7 @@ returns-in-Ends c directory ks =
     let g = c.feed.new.self in
     still_search directory ks y c.leave_search.new.session (finding c.args.name c.args.origin c.args.anchor f) c.args.byte c.args.before.now Kept c.requires.still
     (search_ends directory ks y c.leave_search.new.session c.args.name c.args.origin c.args.anchor f g c.args.byte c.args.before.now c.requires.alone
+    (sym c.is_character_byte.ensures ∙ c.if-is_character_byte.false)
     (read_at y.own.pattern _ f g c.args.byte _ _ c.as_slice.ensures.value c.feed.ensures c.in-Ends.is)
     (c.leave_search.ensures ∙ ap (search_left g.pattern) c.requires.still))
 
@@ -37,6 +47,7 @@ returns-in-Quits c directory ks =
     let g = c.feed.new.self in
     still_search directory ks y c.hold_sought.new.session (finding c.args.name c.args.origin c.args.anchor f) c.args.byte c.args.before.now (Acts deeds.QuitSearch) c.requires.still
     (search_quits directory ks y c.hold_sought.new.session c.args.name c.args.origin c.args.anchor f g c.args.byte c.args.before.now c.requires.alone
+    (sym c.is_character_byte.ensures ∙ c.if-is_character_byte.false)
     (read_at y.own.pattern _ f g c.args.byte _ _ c.as_slice.ensures.value c.feed.ensures c.in-Quits.is)
     (c.hold_sought.ensures ∙ ap (λ (z : Session). searching (finding c.args.name c.args.origin c.args.anchor g) (told Silent z)) c.requires.still))
 
@@ -46,6 +57,6 @@ returns-in_default c directory ks =
     let f = c.args.sought in
     let g = c.feed.new.self in
     still_search directory ks y c.hold_sought-in_default.new.session (finding c.args.name c.args.origin c.args.anchor f) c.args.byte c.args.before.now (Acts (deeds.Seek c.feed.result)) c.requires.still
-    (search_on directory ks y c.hold_sought-in_default.new.session c.args.name c.args.origin c.args.anchor f g c.args.byte c.args.before.now c.requires.alone c.feed.result c.in_default.not-Ends c.in_default.not-Quits c.in_default.not-Leaves
+    (search_on directory ks y c.hold_sought-in_default.new.session c.args.name c.args.origin c.args.anchor f g c.args.byte c.args.before.now c.requires.alone c.feed.result (sym c.is_character_byte.ensures ∙ c.if-is_character_byte.false) c.in_default.not-Ends c.in_default.not-Quits c.in_default.not-Leaves
     (read_at y.own.pattern _ f g c.args.byte _ _ c.as_slice.ensures.value c.feed.ensures refl)
     (c.hold_sought-in_default.ensures ∙ ap (λ (z : Session). searching (finding c.args.name c.args.origin c.args.anchor g) (told Silent z)) c.requires.still))
