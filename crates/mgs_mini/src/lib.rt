@@ -13,7 +13,7 @@ ghost use Rattle.mgs_model.specs.Turns.{prompt_turn, prompt_keys, prompt_key, co
 ghost use Rattle.mgs_model.specs.declared.session.Question.TheVariants.{ReplaceWith};
 ghost use Rattle.mgs_mini.specs.Typing.{IsFirst, IsWaiting, is_within, keys_of, typed_own, typed_turn, stepped, last_dropped, told};
 ghost use Rattle.mgs_mini.specs.declared.Waiting.TheVariants.{NoKey};
-ghost use Rattle.mgs_mini.specs.declared.Step.TheVariants.{Answered};
+ghost use Rattle.mgs_mini.specs.declared.Step.TheVariants.{Answered, Unbound};
 
 mod completing;
 
@@ -168,6 +168,7 @@ fn put_name(input: &mut ArrayVec<char, 120>, name: &[u8])
 // A key by itself.
 fn feed_key(input: &mut ArrayVec<char, 120>, byte: u8) -> (Step, Waiting)
     ensures answered { result.0 ≡ Answered → (input.new.items ≡ input.old.items) × (result.1 ≡ NoKey) }
+    ensures unbound { result.0 ≡ Unbound → result.1 ≡ NoKey }
     ensures waits { IsWaiting result.1 }
     ensures turn { (v : View) → (c : Question) → (own : Own) → prompt_key v c (typed_own own input.old.items NoKey) byte ≡ stepped v c (typed_own own input.new.items result.1) result.0 }
 {
@@ -194,6 +195,7 @@ fn feed_character(
 ) -> (Step, Waiting)
     requires { IsWaiting waiting }
     ensures answered { result.0 ≡ Answered → ⊥ }
+    ensures unbound { result.0 ≡ Unbound → result.1 ≡ NoKey }
     ensures waits { IsWaiting result.1 }
     ensures turn { (v : View) → (c : Question) → (own : Own) → typed_turn own input.old.items waiting (sequence_read bytes.now) ≡ stepped v c (typed_own own input.new.items result.1) result.0 }
 {
@@ -213,6 +215,7 @@ fn feed_word(waiting: Waiting, byte: u8) -> (Step, Waiting)
     requires some { length (keys_of waiting) ≡ 0 → ⊥ }
     requires other { byte ≡ 7 → ⊥ }
     ensures answered { result.0 ≡ Answered → ⊥ }
+    ensures unbound { result.0 ≡ Unbound → result.1 ≡ NoKey }
     ensures waits { IsWaiting result.1 }
     ensures turn { (v : View) → (c : Question) → (own : Own) → (input : List ℕ) → prompt_turn v c (typed_own own input waiting) byte ≡ stepped v c (typed_own own input result.1) result.0 }
 {
@@ -227,6 +230,7 @@ fn feed_word(waiting: Waiting, byte: u8) -> (Step, Waiting)
 fn feed_first(input: &mut ArrayVec<char, 120>, byte: u8) -> (Step, Waiting)
     requires { byte ≡ 7 → ⊥ }
     ensures answered { result.0 ≡ Answered → (input.new.items ≡ input.old.items) × (result.1 ≡ NoKey) }
+    ensures unbound { result.0 ≡ Unbound → result.1 ≡ NoKey }
     ensures waits { IsWaiting result.1 }
     ensures turn { (v : View) → (c : Question) → (own : Own) → prompt_turn v c (typed_own own input.old.items NoKey) byte ≡ stepped v c (typed_own own input.new.items result.1) result.0 }
 {
@@ -241,6 +245,7 @@ fn feed_first(input: &mut ArrayVec<char, 120>, byte: u8) -> (Step, Waiting)
 fn feed_byte(input: &mut ArrayVec<char, 120>, waiting: Waiting, byte: u8) -> (Step, Waiting)
     requires { IsWaiting waiting }
     ensures answered { result.0 ≡ Answered → (input.new.items ≡ input.old.items) × (result.1 ≡ waiting) × (waiting ≡ NoKey) }
+    ensures unbound { result.0 ≡ Unbound → result.1 ≡ NoKey }
     ensures waits { IsWaiting result.1 }
     ensures turn { (v : View) → (c : Question) → (own : Own) → prompt_turn v c (typed_own own input.old.items waiting) byte ≡ stepped v c (typed_own own input.new.items result.1) result.0 }
 {
@@ -310,6 +315,7 @@ impl Prompt {
         ensures question { self.new.question ≡ self.old.question }
         ensures first { self.new.first ≡ self.old.first }
         ensures answered { result ≡ Answered → (self.new ≡ self.old) × (self.old.waiting ≡ NoKey) }
+        ensures unbound { result ≡ Unbound → self.new.waiting ≡ NoKey }
         ensures turn { (v : View) → (own : Own) → prompt_turn v self.old.question (typed_own own self.old.input self.old.waiting) byte ≡ stepped v self.old.question (typed_own own self.new.input self.new.waiting) result }
     {
         let (step, waiting) = feed_byte(&mut self.input, self.waiting, byte);
