@@ -28,3 +28,4 @@ mod Changes
 mod Replaces
 mod Puts
 mod Replacements
+mod Texts

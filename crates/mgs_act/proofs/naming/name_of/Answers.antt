@@ -1,7 +1,7 @@
 use Rattle.std.proofs.Common.{sym}
 use Rattle.mgs_model.specs.Names.{is_name}
 use Rattle.mgs_world.proofs.Marks.{false_from}
-use Rattle.mgs_acl.proofs.Texts.{name_is_text}
+use Rattle.mgs_act.proofs.Texts.{name_is_text}
 use Rattle.mgs_act.proofs.naming.name_of.Goals as goal
 
 pub returns-in-Err-clause-form : goal.returns-in-Err-clause-form
