@@ -1,6 +1,6 @@
 // Words of keys and arguments, byte by byte.
 use mgs_maps::{Fed, Keyboard, bindings};
-use mgs_model::{Alteration, Command, Insertion, Motion, Setting};
+use mgs_model::{Alteration, Command, Insertion, Motion, Sequence, Setting};
 use std::process::Abort;
 
 // What the last of these bytes comes to.
@@ -340,4 +340,71 @@ fn bytes_that_are_no_character_run_no_command(rt: HostRuntime) {
     // A letter that ends the bytes of a character is not typed, and the next one is.
     assert!(rt; comes_to(b"\xC3A", Fed::Unbound, b'a'));
     assert!(rt; comes_to(b"\x153\x11\xE6\xBC\x07", Fed::Run(QUIT, Some(3)), b'a'));
+}
+
+// Whether the last of these bytes ends a character and each other one goes on with it, and nothing is held then.
+fn is_read(before: &[u8], bytes: &[u8], c: char) -> bool {
+    let mut keyboard = Keyboard::new();
+    let _before = last_fed(&mut keyboard, before);
+    let mut read = Sequence::Begun;
+    for byte in bytes {
+        if read != Sequence::Begun || !keyboard.is_character_byte(*byte) {
+            return false;
+        }
+        read = keyboard.feed_character(*byte);
+    }
+    read == Sequence::Whole(c) && keyboard.feed(b'2') == character(b'2', None)
+}
+
+#[test]
+fn characters_are_read(rt: HostRuntime) {
+    for &(before, _) in &BEFORE {
+        for &(bytes, c) in &CHARACTERS {
+            assert!(rt; is_read(before, bytes, c), "{before:?} {c}");
+        }
+    }
+}
+
+// Whether a byte is one of a character behind what is held, where it is to be one, and then begins it or goes on with it, where it may.
+fn is_judged(held: &Keyboard, byte: u8, belongs: bool, fits: bool) -> bool {
+    let mut keyboard = *held;
+    if keyboard.is_character_byte(byte) != belongs {
+        return false;
+    }
+    if !belongs {
+        return true;
+    }
+    match keyboard.feed_character(byte) {
+        Sequence::Begun | Sequence::Whole(_) => fits,
+        Sequence::Broken => !fits && keyboard.feed(b'2') == character(b'2', None),
+    }
+}
+
+// C-g is a key within a character too.
+#[test]
+fn every_byte_goes_on_with_a_character_or_breaks_it(rt: HostRuntime) {
+    for &bytes in &BEGINNINGS {
+        let mut held = Keyboard::new();
+        let _bytes = last_fed(&mut held, bytes);
+        for byte in 0..=255u8 {
+            let fits = may_follow(bytes, byte);
+            assert!(rt; is_judged(&held, byte, byte != 7, fits), "{bytes:?} {byte}");
+        }
+    }
+}
+
+// Behind C-q a character may begin, and behind ESC, C-x and M-[ none.
+#[test]
+fn a_byte_past_ascii_begins_a_character_or_is_none(rt: HostRuntime) {
+    for &prefix in &PREFIXES {
+        let mut held = Keyboard::new();
+        let _prefix = last_fed(&mut held, prefix);
+        for byte in 0..=255u8 {
+            let fits = matches!((prefix, byte), ([] | [0x11], 0xC2..=0xF4));
+            assert!(rt;
+                is_judged(&held, byte, byte >= 0x80, fits),
+                "{prefix:?} {byte}"
+            );
+        }
+    }
 }

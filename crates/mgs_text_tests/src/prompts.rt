@@ -4,7 +4,7 @@ use mgs_model::Question;
 use std::process::Abort;
 
 // What bytes make of a new prompt: what the last one comes to, and the input.
-const KEYS: [(&[u8], Step, &[char]); 31] = [
+const KEYS: [(&[u8], Step, &[char]); 50] = [
     (b"ab ~", Step::GoesOn, &['a', 'b', ' ', '~']),
     (b"ab\x7F", Step::GoesOn, &['a']),
     (b"\x7F", Step::GoesOn, &[]),
@@ -26,16 +26,42 @@ const KEYS: [(&[u8], Step, &[char]); 31] = [
     (b"a\xC3\xA9", Step::GoesOn, &['a', '\u{E9}']),
     (b"\xE6\xBC\xA2c", Step::GoesOn, &['\u{6F22}', 'c']),
     (b"\xF0\x9F\x98\x80", Step::GoesOn, &['\u{1F600}']),
-    (b"a\xC3\xA9\x7F", Step::GoesOn, &['a']),
+    (
+        b"a\xCC\x81\xC2\x80",
+        Step::GoesOn,
+        &['a', '\u{301}', '\u{80}'],
+    ),
+    (b"a\xE6\xBC\xA2\x7F", Step::GoesOn, &['a']),
+    // A byte that cannot go on with a character is gone with what came of it, also where it is a key by itself or begins another one.
     (b"a\xC3A", Step::Unbound, &['a']),
     (b"a\xC3Ac", Step::GoesOn, &['a', 'c']),
-    (b"a\xC3\r", Step::Unbound, &['a']),
-    (b"a\x80", Step::Unbound, &['a']),
+    (b"a\xE6A", Step::Unbound, &['a']),
+    (b"a\xE6\xBCA", Step::Unbound, &['a']),
+    (b"a\xF0A", Step::Unbound, &['a']),
+    (b"a\xF0\x9FA", Step::Unbound, &['a']),
     (b"a\xF0\x9F\x98A", Step::Unbound, &['a']),
+    (b"a\xC3\r", Step::Unbound, &['a']),
+    (b"a\xC3\t", Step::Unbound, &['a']),
+    (b"a\xC3\x7F", Step::Unbound, &['a']),
+    (b"a\xC3\x1B", Step::Unbound, &['a']),
+    (b"a\xC3\x1Bc", Step::GoesOn, &['a', 'c']),
+    (b"a\xC3\xC3", Step::Unbound, &['a']),
+    (b"a\xC3\xC3\xA9", Step::Unbound, &['a']),
+    // What begins no character: a byte that only goes on, overlong forms, surrogates, and what is past U+10FFFF.
+    (b"a\x80", Step::Unbound, &['a']),
+    (b"a\xC1", Step::Unbound, &['a']),
+    (b"a\xF5", Step::Unbound, &['a']),
+    (b"a\xE0\x80", Step::Unbound, &['a']),
+    (b"a\xED\xA0", Step::Unbound, &['a']),
+    (b"a\xF0\x80", Step::Unbound, &['a']),
+    (b"a\xF4\x90", Step::Unbound, &['a']),
+    // C-g gives the prompt up, and behind ESC and M-[ no character begins.
     (b"a\xE6\xBC\x07", Step::Quit, &['a']),
     (b"a\x1B\xC3", Step::Unbound, &['a']),
     (b"a\x1B[\xC3", Step::Unbound, &['a']),
+    (b"a\x1B[\x1B\xC3", Step::Unbound, &['a']),
     (b"a\x1B\xC3\xA9", Step::Unbound, &['a']),
+    (b"a\x1B\xC3\xC3\xA9", Step::GoesOn, &['a', '\u{E9}']),
 ];
 
 // What the last of these bytes comes to.
@@ -104,12 +130,11 @@ fn a_prompt_takes_in_what_names_have_in_common(rt: HostRuntime) {
     complete(&rt, &mut Prompt::new(Question::KillWhich));
 }
 
-// A prompt into which so many characters of two bytes are typed.
+// A prompt into which so many characters of three bytes are typed.
 fn typed(count: usize) -> Prompt {
     let mut prompt = Prompt::new(Question::SwitchTo);
     for _ in 0..count {
-        prompt.feed(0xC3);
-        prompt.feed(0xA9);
+        let _last = last_fed(&mut prompt, b"\xE6\xBC\xA2");
     }
     prompt
 }
@@ -117,5 +142,5 @@ fn typed(count: usize) -> Prompt {
 #[test]
 fn the_limit_counts_characters(rt: HostRuntime) {
     assert!(rt; typed(119).input().len() == 119);
-    assert!(rt; typed(121).input().len() == 120);
+    assert!(rt; typed(121).input() == ['\u{6F22}'; 120].as_slice());
 }

@@ -336,18 +336,37 @@ fn searches_by_bytes(rt: HostRuntime) -> Result<(), Fail> {
     Ok(())
 }
 
-#[test]
-fn finds_a_character_past_ascii(rt: HostRuntime) -> Result<(), Fail> {
-    let text = PlainText::of(rt.alloc(), &['a', '\u{E9}', 'b'])?;
+// Whether a character past ASCII that is put behind an empty pattern is looked for from 0 on, and found from `anchor` to `point`.
+fn is_found(text: &impl Text, c: char, anchor: usize, point: usize) -> bool {
     let mut search = IncrementalSearch::new(F);
-    let step = search.put('\u{E9}');
+    let step = search.put(c);
     let start = SearchPlaces {
         origin: 0,
         anchor: 0,
         point: 0,
     };
-    let places = search.look(&text, step, start);
-    assert!(rt; step == SearchStep::FromAnchor && search.pattern() == ['\u{E9}']);
-    assert!(rt; places.anchor == 1 && places.point == 2);
+    let places = search.look(text, step, start);
+    step == SearchStep::FromAnchor
+        && search.pattern() == [c].as_slice()
+        && (places.anchor, places.point) == (anchor, point)
+}
+
+// How many characters a pattern has into which so many are put.
+fn put(count: usize) -> usize {
+    let mut search = IncrementalSearch::new(F);
+    for _ in 0..count {
+        let _step = search.put('\u{6F22}');
+    }
+    search.pattern().len()
+}
+
+#[test]
+fn characters_past_ascii_are_found(rt: HostRuntime) -> Result<(), Fail> {
+    let text = PlainText::of(rt.alloc(), &['a', '\u{E9}', 'b', '\u{6F22}'])?;
+    assert!(rt; is_found(&text, '\u{E9}', 1, 2));
+    assert!(rt; is_found(&text, '\u{6F22}', 3, 4));
+    assert!(rt; is_found(&text, '\u{C9}', 0, 0));
+    assert!(rt; put(119) == 119);
+    assert!(rt; put(121) == 120);
     Ok(())
 }
