@@ -5,22 +5,18 @@ use mgs_text::{PlainText, Text};
 use std::process::Abort;
 use std::test::Fail;
 
-// Whether a row has these characters, all of them in reverse or none.
+// Whether a row has these characters, all of them in reverse or none. Behind a wide character stands a NUL, for its right half.
 fn has_row(grid: &Grid, row: usize, expected: &str, reversed: bool) -> bool {
     let Some(line) = grid.lines().get(row) else {
         return false;
     };
     let text = line.text();
-    let bytes = expected.as_bytes();
-    if text.len() != bytes.len() || line.is_reversed() != reversed {
-        return false;
-    }
-    for (c, byte) in text.iter().zip(bytes) {
-        if *c != char::from(*byte) {
+    for (i, c) in text.iter().enumerate() {
+        if expected.chars().nth(i) != Some(*c) {
             return false;
         }
     }
-    true
+    text.len() == expected.chars().count() && line.is_reversed() == reversed
 }
 
 fn shows(rt: &impl Abort, grid: &Grid, row: usize, expected: &str, reversed: bool) {
@@ -124,30 +120,74 @@ fn mode_lines_and_masks(rt: HostRuntime) -> Result<(), Fail> {
 }
 
 // What is asked and typed, the echo row, and the column behind it. 19 cells leave one for the cursor, and of more the end is
-// shown. Nothing is left of the line before.
-const PROMPTS: [(Question, &[u8], &str, usize); 13] = [
-    (Question::SwitchTo, b"", "Switch to buffer:   ", 18),
-    (Question::SwitchTo, b"n", "Switch to buffer: n ", 19),
-    (Question::SwitchTo, b"no", "$itch to buffer: no ", 19),
-    (Question::FindWhich, b"", "Find file:          ", 11),
+// shown, where half of a wide character is a blank. Nothing is left of the line before.
+const PROMPTS: [(Question, &[char], &str, usize); 17] = [
+    (Question::SwitchTo, &[], "Switch to buffer:   ", 18),
+    (Question::SwitchTo, &['n'], "Switch to buffer: n ", 19),
+    (Question::SwitchTo, &['n', 'o'], "$itch to buffer: no ", 19),
+    (Question::FindWhich, &[], "Find file:          ", 11),
     (
         Question::FindWhich,
-        b"0123456789012345678901234567",
+        &[
+            '0', '1', '2', '3', '4', '5', '6', '7', '8', '9', '0', '1', '2', '3', '4', '5', '6',
+            '7', '8', '9', '0', '1', '2', '3', '4', '5', '6', '7',
+        ],
         "$012345678901234567 ",
         19,
     ),
-    (Question::KillWhich, b"", "Kill buffer:        ", 13),
-    (Question::InsertWhich, b"", "Insert buffer:      ", 15),
-    (Question::WhichOwner, b"", "Owner:              ", 7),
-    (Question::WhichOwner, b"ann", "Owner: ann          ", 10),
-    (Question::ReplaceWhat, b"", "Query replace:      ", 15),
-    (Question::ReplaceWith, b"", "With:               ", 6),
-    (Question::SwitchTo, b"notes", "$h to buffer: notes ", 19),
-    (Question::ReplaceWith, b"x", "With: x             ", 7),
+    (Question::KillWhich, &[], "Kill buffer:        ", 13),
+    (Question::InsertWhich, &[], "Insert buffer:      ", 15),
+    (Question::WhichOwner, &[], "Owner:              ", 7),
+    (
+        Question::WhichOwner,
+        &['a', 'n', 'n'],
+        "Owner: ann          ",
+        10,
+    ),
+    (Question::ReplaceWhat, &[], "Query replace:      ", 15),
+    (Question::ReplaceWith, &[], "With:               ", 6),
+    (
+        Question::SwitchTo,
+        &['n', 'o', 't', 'e', 's'],
+        "$h to buffer: notes ",
+        19,
+    ),
+    (Question::ReplaceWith, &['x'], "With: x             ", 7),
+    (
+        Question::FindWhich,
+        &['\u{e9}', '\u{6f22}'],
+        "Find file: \u{e9}\u{6f22}\0      ",
+        14,
+    ),
+    (
+        Question::WhichOwner,
+        &['\u{301}'],
+        "Owner: \\u{301}      ",
+        14,
+    ),
+    // The end of a line of 29 cells begins with a whole character, and that of one of 30 with a right half.
+    (
+        Question::FindWhich,
+        &[
+            '\u{6f22}', 'a', 'a', 'a', 'a', 'a', 'a', 'a', 'a', 'a', 'a', 'a', 'a', 'a', 'a', 'a',
+            'a',
+        ],
+        "$\u{6f22}\0aaaaaaaaaaaaaaaa ",
+        19,
+    ),
+    (
+        Question::FindWhich,
+        &[
+            '\u{6f22}', 'a', 'a', 'a', 'a', 'a', 'a', 'a', 'a', 'a', 'a', 'a', 'a', 'a', 'a', 'a',
+            'a', 'a',
+        ],
+        "$ aaaaaaaaaaaaaaaaa ",
+        19,
+    ),
 ];
 
 // The way of a search, whether it fails, its pattern, the echo row, and the column behind it.
-const SEARCHES: [(Direction, bool, &[char], &str, usize); 4] = [
+const SEARCHES: [(Direction, bool, &[char], &str, usize); 5] = [
     (
         Direction::Forward,
         false,
@@ -164,6 +204,13 @@ const SEARCHES: [(Direction, bool, &[char], &str, usize); 4] = [
         19,
     ),
     (Direction::Backward, false, &[], "I-search backward:  ", 19),
+    (
+        Direction::Forward,
+        false,
+        &['\u{6f22}'],
+        "I-search: \u{6f22}\0        ",
+        12,
+    ),
 ];
 
 #[test]

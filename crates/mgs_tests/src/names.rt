@@ -15,14 +15,15 @@ const BUFFERS: [(&str, &str); 3] = [
     ("nothing", "ALLOW EVERYONE@ rt"),
 ];
 
-const COMPLETED: [(&str, &[u8], Option<&[u8]>); 7] = [
-    ("ann", b"", Some(b"not")),
-    ("ann", b"note", Some(b"note")),
-    ("ann", b"notes", Some(b"notes.txt")),
-    ("ann", b"x", None),
-    ("bob", b"", Some(b"not")),
-    ("bob", b"note", Some(b"notebook")),
-    ("bob", b"notes", None),
+const COMPLETED: [(&str, &[char], Option<&[u8]>); 8] = [
+    ("ann", &[], Some(b"not")),
+    ("ann", &['n', 'o', 't', 'e'], Some(b"note")),
+    ("ann", &['n', 'o', 't', 'e', 's'], Some(b"notes.txt")),
+    ("ann", &['x'], None),
+    ("ann", &['n', '\u{f6}'], None),
+    ("bob", &[], Some(b"not")),
+    ("bob", &['n', 'o', 't', 'e'], Some(b"notebook")),
+    ("bob", &['n', 'o', 't', 'e', 's'], None),
 ];
 
 fn buffers_of_ann(rt: &impl Abort, alloc: Global) -> Buffers<PlainMarked> {
@@ -38,7 +39,7 @@ fn is_completed(
     all: &Buffers<PlainMarked>,
     directory: &Directory,
     user: &Name,
-    input: &[u8],
+    input: &[char],
     wanted: Option<&[u8]>,
 ) -> Result<bool, Short> {
     let mut judge = all.judge()?;

@@ -44,3 +44,38 @@ fn a_terminal_keeps_to_its_profile(rt: HostRuntime) -> Result<(), Short> {
     keep_to_profile(&rt, &mut term);
     Ok(())
 }
+
+// With wrap off, in the first row: what is then in its last two cells. Where one half of a wide character is hit, the other is a blank.
+const WIDE: [(&[u8], char, char); 6] = [
+    (b"\x1b[?7l\x1b[1;19H\xe6\xbc\xa2", '\u{6f22}', '\0'),
+    (b"\x1b[?7l\x1b[1;18H\xe6\xbc\xa2\xc3\xa9", '\0', '\u{e9}'),
+    (b"\x1b[?7l\x1b[1;19H\xe6\xbc\xa2x", ' ', 'x'),
+    (b"\x1b[?7l\x1b[1;19H\xe6\xbc\xa2\x1b[1;19Hx", 'x', ' '),
+    (b"\x1b[?7l\x1b[1;19H\xe6\xbc\xa2\x1b[K", ' ', ' '),
+    (
+        b"\x1b[?7l\x1b[1;19H\xe6\xbc\xa2\x1b[1;18H\xe6\xbc\xa2",
+        '\0',
+        ' ',
+    ),
+];
+
+// Whether a terminal takes these bytes, the cursor is in the last column then, and these are in the last two cells.
+fn fills(term: &mut Term, bytes: &[u8], left: char, right: char) -> bool {
+    takes(term, bytes)
+        && term.cursor() == (1, 20)
+        && shows(term, 18, left)
+        && shows(term, 19, right)
+}
+
+#[test]
+fn a_wide_character_fills_two_cells(rt: HostRuntime) -> Result<(), Short> {
+    for &(bytes, left, right) in &WIDE {
+        let mut term = Term::new(rt.alloc(), 6, 20)?;
+        assert!(rt; fills(&mut term, bytes, left, right), "{bytes:?}");
+    }
+    let mut term = Term::new(rt.alloc(), 6, 20)?;
+    assert!(rt; takes(&mut term, b"\x1b[?7l\x1b[1;20H\xe6\xbc"));
+    assert!(rt; refuses(&mut term, 0xA2), "the last column");
+    assert!(rt; shows(&term, 19, ' '));
+    Ok(())
+}
