@@ -15,8 +15,6 @@ mod drive;
 #[cfg(test)]
 mod fixtures;
 #[cfg(test)]
-mod foreign;
-#[cfg(test)]
 mod listing;
 #[cfg(test)]
 mod lockstep;
