@@ -87,8 +87,23 @@ def try_warnings(folder):
     expect("the same, in other words", folder, "'user' = [{\"name\" = '''ann''', ticket = \"\"\"\\\n  UAyuQ3Z8BhNZ\\u0042XYPbsDB9tRW\"\"\"}] # x\n", 0, "mgd serves it")
 
 
+def try_locales(folder):
+    """Whether it tells of a locale that is none of UTF-8."""
+    global failed
+    path = os.path.join(folder, "it.toml")
+    open(path, "w").write(BASE)
+    for locale, is_told in [({"LC_ALL": "C"}, True), ({}, True), ({"LANG": "C.UTF-8"}, False), ({"LANG": "C.UTF-8", "LC_CTYPE": "C"}, True)]:
+        surroundings = {name: value for name, value in os.environ.items() if name not in ("LC_ALL", "LC_CTYPE", "LANG")}
+        ran = subprocess.run([os.path.join(TOP, "contrib", "mgd-check"), path, "--", PROGRAM], capture_output=True, text=True,
+                             env={**surroundings, **locale})
+        is_so = ran.returncode == 0 and ("not one of UTF-8" in ran.stderr) == is_told
+        print(("ok    " if is_so else "FAILED ") + f"the locale {locale}" + ("" if is_so else f": {ran.returncode} {ran.stderr!r}"))
+        failed += not is_so
+
+
 with tempfile.TemporaryDirectory() as folder:
     try_faults(folder)
     try_warnings(folder)
+    try_locales(folder)
 print(f"{failed} failed")
 sys.exit(1 if failed else 0)
