@@ -3,7 +3,7 @@
 
     python3 bench/hostile.py [--seconds N] [--clients N] [--seed N] [--unproved | PROGRAM]
 
-It starts the server that stands in crates/mgd/out/mgd (or PROGRAM; or the sources, by `rt try`) on a port of its own. Hostile clients send
+It starts the server that stands in crates/mgd/out/mgd (or PROGRAM; or the sources, by `./mgd try`) on a port of its own. Hostile clients send
 random bytes, cut logins, floods of keys, take nothing of what they are sent, and connect and reset. The honest person types keys
 into a buffer of her own, one at a time, and each of her screens has to become the one that `replay` prints for the same keys.
 Figures are printed; status 0 where every screen came and the server went on. It is started by hand.
@@ -23,8 +23,7 @@ import threading
 import time
 
 TOP = os.path.dirname(os.path.dirname(os.path.abspath(__file__)))
-CRATE = os.path.join(TOP, "crates", "mgd")
-PROGRAM = os.path.join(CRATE, "out", "mgd")
+PROGRAM = os.path.join(TOP, "crates", "mgd", "out", "mgd")
 ROWS, COLS = 10, 40
 
 # How long a screen of the honest person may take to come, in seconds.
@@ -94,17 +93,13 @@ class Program:
     """What is tried: a program that stands somewhere, or the sources of this repository (`None`)."""
 
     def __init__(self, path):
-        self.path = path
+        self.words = [path] if path else [os.path.join(TOP, "mgd"), "try"]
 
     def replay(self, script):
-        words = [self.path] if self.path else ["rt", "try", "--seconds", "3600", "--"]
-        return subprocess.run([*words, "replay"], input=script, capture_output=True, cwd=CRATE)
+        return subprocess.run([*self.words, "replay"], input=script, capture_output=True)
 
     def serve(self, config):
-        words = [self.path, "serve", config, "0"]
-        if not self.path:
-            words = ["rt", "try", "--seconds", "86400", "--data", f"config.toml={config}", "--", "serve", "config.toml", "0"]
-        return subprocess.Popen(words, stdout=subprocess.PIPE, stderr=subprocess.STDOUT, cwd=CRATE)
+        return subprocess.Popen([*self.words, "serve", config, "0"], stdout=subprocess.PIPE, stderr=subprocess.STDOUT)
 
 
 def screens_of(program, keys):
@@ -359,7 +354,7 @@ def is_served(port):
     return False
 
 
-def tell(honest, counts, before, after):
+def tell(honest, counts):
     times = sorted(honest.times)
     print(f"{len(times)} keys of the honest person, each screen as `replay` prints it")
     if times:
@@ -367,7 +362,6 @@ def tell(honest, counts, before, after):
               f"{times[len(times) * 99 // 100] * 1000:.1f}, of all {times[-1] * 1000:.1f}")
     for name, count in sorted(counts.items()):
         print(f"{count:12,} {name.replace('_', ' ')}")
-    print(f"descriptors {before[0]} before, {after[0]} after; kilobytes {before[1]:,} before, {after[1]:,} after")
 
 
 def main():
@@ -400,7 +394,11 @@ def main():
             honest.stream.close()
             goes_on = server.poll() is None and is_served(port)
             time.sleep(0.5)
-            tell(honest, counts, before, held_by(server))
+            tell(honest, counts)
+            # What a look holds is not to be seen from here.
+            if not given.unproved:
+                after = held_by(server)
+                print(f"descriptors {before[0]} before, {after[0]} after; kilobytes {before[1]:,} before, {after[1]:,} after")
         finally:
             server.terminate()
             server.wait()

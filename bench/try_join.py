@@ -736,15 +736,16 @@ def try_program():
     if not os.path.exists(PROGRAM):
         print(f"      {PROGRAM} is not there: not tried over the program")
         return
-    config = os.path.join(FOLDER.name, "office.toml")
-    shutil.copy(os.path.join(TOP, "examples", "office.toml"), config)
+    shutil.copytree(os.path.join(TOP, "examples"), os.path.join(FOLDER.name, "examples"))
+    config = os.path.join("examples", "office.toml")
+    ticket = re.search(r'name = "ann"\nticket = "(.*)"', open(os.path.join(TOP, config)).read())[1]
     process = subprocess.Popen([PROGRAM, "serve", config, "0"], stdout=subprocess.PIPE, cwd=FOLDER.name)
     place = ["127.0.0.1", process.stdout.readline().decode().strip().rpartition(":")[2]]
-    one = Joined(["ann", "apple", *place])
+    one = Joined(["ann", ticket, *place])
     expect("mgd: the screen is shown", one.shows("-notes-L1-C0-"), one.screen.lines())
     one.type(b"\x1b[F\x11\x13\x11\x11\x11\x03\x11\x1c\x11\x1a.\x1b[1~")
     expect("mgd: C-s, C-q, C-c, C-\\ and C-z are keys, and Home and End", one.shows("^S^Q^C^\\^Z.") and one.shows("-L1-C0-"), one.screen.lines())
-    other = Joined(["ann", "apple", *place], rows=6, cols=20)
+    other = Joined(["ann", ticket, *place], rows=6, cols=20)
     expect("mgd: another sees it", other.shows("Notes of the office$"), other.screen.lines())
     other.type(b"\x1bxsave-buffers-k\t").shows("$buffers-kill-emacs")
     other.type(b"\r")
@@ -756,13 +757,13 @@ def try_program():
     one = Joined(["ann", "pear", *place])
     seen = one.end(), one.got
     expect("mgd: a refused login is told in words", seen == ((1, True), "join: refused: this is not the ticket of ann (3 Ticket)\r\n"), seen)
-    one = Joined(["ann", "apple", *place])
+    one = Joined(["ann", ticket, *place])
     one.shows("-notes-")
     process.kill()
     process.wait()
     seen = one.end(), one.got[-70:]
     expect("mgd: a server that is killed is told", seen[0] == (3, True) and "join: the connection was lost: " in seen[1], seen)
-    one = Joined(["ann", "apple", *place])
+    one = Joined(["ann", ticket, *place])
     seen = one.end(), one.got
     expect("mgd: no server is told in words", seen[0] == (1, True) and "nothing answers" in seen[1], seen)
 

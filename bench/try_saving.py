@@ -168,13 +168,18 @@ def try_read():
             expect(f"{os.path.basename(file)} is no file to read", seen == ("buffer 1: File\n", 1), seen)
             server.end()
             os.remove(folder.at("served.toml"))
-        with open(folder.at("huge"), "wb") as file:
-            file.truncate(3_000_000_000)
-        start = time.time()
-        server = Server(folder.path, folder.at("huge"))
-        seen = server.told()
-        expect("3 GB are too long", seen == ("buffer 1: Long\n", 1), seen)
-        expect("and are not read", time.time() - start < 2, time.time() - start)
+        # All that a text can have is 4,194,304 bytes.
+        times = []
+        for name, length in [("4 MB", 4_194_305), ("3 GB", 3_000_000_000)]:
+            with open(folder.at("huge"), "wb") as file:
+                file.truncate(length)
+            start = time.time()
+            server = Server(folder.path, folder.at("huge"))
+            seen = server.told()
+            times.append(time.time() - start)
+            expect(f"{name} are too long", seen == ("buffer 1: Long\n", 1), seen)
+            server.end()
+        expect("and no more is read of the longer one", times[1] < 2 + 5 * times[0], times)
         server.end()
 
 

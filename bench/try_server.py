@@ -78,6 +78,13 @@ class Terminal:
             self.read(quiet=0.2)
         return self
 
+    def read_until(self, begins, most=120.0):
+        """Takes what comes until the first row begins so."""
+        end = time.time() + most
+        while not self.shows(1).startswith(begins) and not self.ended and time.time() < end:
+            self.read(quiet=0.2)
+        return self
+
     def paint(self, data):
         data = self.rest + data
         at = 0
@@ -292,13 +299,13 @@ def try_slow():
             ann.send(b"\x18h\x17\x19" * 4)
             ann.read(quiet=0.02), cat.read(quiet=0.02)
         ann.send(b"\x1b<still here ")
-        ann.read(quiet=0.5), cat.read(quiet=0.5)
+        ann.read_until("still here abc"), cat.read_until("still here abc")
         expect("whoever reads sees what is typed", ann.shows(1).startswith("still here abc"), ann.shows(1))
         expect("so does the third", cat.shows(1).startswith("still here abc"), cat.shows(1))
         slow.drain()
         expect("who took nothing was ended", slow.ended)
         expect("and was not sent all", len(slow.got) < len(ann.got) - 262144, (len(slow.got), len(ann.got)))
-        again = Terminal(port, "bob t", 64, 160).read()
+        again = Terminal(port, "bob t", 64, 160).read_until("still here abc")
         expect("and can come again", again.shows(1).startswith("still here abc"), again.shows(1))
         expect("the server goes on", server.poll() is None, server.poll())
         server.kill()
