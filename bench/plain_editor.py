@@ -1,6 +1,7 @@
 """A second, plain account of the editor, written from the commands' descriptions and not from the program: a world, the bytes of its
 sessions, and the screens that they see. It knows no terminal, no bytes of paints and no want of memory. `try_scripts.py` plays
 random scripts against it."""
+import unicodedata
 
 RIGHTS = [("r", "READ_DATA"), ("w", "WRITE_DATA"), ("a", "APPEND_DATA"), ("t", "READ_ATTRIBUTES"), ("d", "DELETE"),
           ("c", "READ_ACL"), ("C", "WRITE_ACL"), ("o", "WRITE_OWNER")]
@@ -82,6 +83,19 @@ def is_word(c):
 
 def white(c):
     return c in " \t"
+
+
+def sequence(data):
+    """The character that these bytes are in UTF-8; "" where they are its first ones, and None where they are none."""
+    try:
+        return data.decode()
+    except UnicodeDecodeError as fault:
+        return "" if fault.reason == "unexpected end of data" else None
+
+
+def is_within(keys):
+    """Whether the bytes of a character are half read, also behind C-q."""
+    return keys.lstrip(b"\x11")[:1] > b"\x7f"
 
 
 class Session:
@@ -272,12 +286,28 @@ class World:
             s.kind = ("other",)
         return False
 
+    def character(self, s, keys, byte):
+        """What a byte makes of the keys before it: the character that it ends, "" where that goes on; else none."""
+        return sequence((keys + bytes([byte])).lstrip(b"\x11")) if is_within(keys) or keys in (b"", b"\x11") else None
+
+    def unbound(self, s):
+        """Typed bytes are no character: the mode stays."""
+        s.echo, s.keys, s.kind = "Key not bound", b"", ("other",)
+        return False
+
     def key(self, s, byte):
         keys = s.keys
+        if (is_within(keys) or byte > 127) and byte != 7:
+            found = self.character(s, keys, byte)
+            if found == "":
+                s.keys = keys + bytes([byte])
+                return True
+            if found is None:
+                return self.fail(s, Fault("Key not bound"))
+            s.keys, arg, s.arg = b"", s.arg, None
+            return self.run(s, "self-insert-command", arg and arg[0], found)
         if keys == b"\x11":
             s.keys, arg, s.arg = b"", s.arg, None
-            if byte > 127:
-                return self.fail(s, Fault("Key not bound"))
             return self.run(s, "self-insert-command", arg and arg[0], chr(byte))
         if byte == 7:
             s.keys, s.arg = b"", None
@@ -337,6 +367,13 @@ class World:
         p = s.mode[1]
         if byte == 7:
             return self.fail(s, Fault("Quit"))
+        if is_within(p["esc"]) or byte > 127:
+            found = self.character(s, p["esc"], byte)
+            p["esc"] = p["esc"] + bytes([byte]) if found == "" else b""
+            if found is None:
+                return self.unbound(s)
+            p["input"] = (p["input"] + found)[:120]
+            return True
         if p["esc"]:
             if byte == 27 and not p["esc"].endswith(b"\x1b"):
                 p["esc"] += b"\x1b"
@@ -996,6 +1033,13 @@ class World:
         if byte == 7:
             s.window().point = st["origin"]
             return self.fail(s, Fault("Quit"))
+        if is_within(s.keys) or byte > 127:
+            found = self.character(s, s.keys, byte)
+            if found == "":
+                s.keys += bytes([byte])
+                return True
+            s.keys, s.arg = b"", None
+            return self.unbound(s) if found is None else self.act(s, "search-step", None, byte=ord(found))
         if not (32 <= byte <= 126 or byte in (19, 18, 127)):
             if st["pattern"]:
                 s.pattern = st["pattern"]
@@ -1006,7 +1050,7 @@ class World:
     def search_step(self, s, b, w, p, L, n, given, kind, typed, byte=0):
         st = s.mode[1]
         exact, seek = True, True
-        if 32 <= byte <= 126:
+        if 32 <= byte <= 126 or byte > 127:
             st["pattern"] = (st["pattern"] + chr(byte))[:120]
         elif byte == 127:
             st["pattern"] = st["pattern"][:-1]
@@ -1151,7 +1195,8 @@ class World:
         if s.echo:
             rows.append(("|", fit(s.echo, C)))
         elif line is not None:
-            shown = line if len(line) <= C - 1 else "$" + line[-(C - 2):]
+            line = cells(line)
+            shown = line if len(line) <= C - 1 else "$" + whole(line[-(C - 2):])
             rows.append(("|", fit(shown, C)))
             if s.mode[0] == "prompt":
                 at = (s.rows, len(shown) + 1)
@@ -1159,7 +1204,7 @@ class World:
             rows.append(("|", " " * C))
         out = "screen %s\n" % label
         for m, x in rows:
-            out += m + x + m + "\n"
+            out += m + x.replace(HALF, "") + m + "\n"
         return out + "cursor %d %d\n" % at
 
     def line(self, s):
@@ -1204,9 +1249,9 @@ class World:
                 row = rows[k]
                 part = row[sh:sh + C]
                 more = len(row) - sh > C
-                part = "$" + part[1:]
+                part = "$" + whole(part[1:])
                 if more:
-                    part = part[:C - 1] + "$"
+                    part = whole(part[:C - 1], row[sh + C - 1]) + "$"
                 rows[k] = part
                 cursor = (k, c - sh)
             else:
@@ -1239,8 +1284,18 @@ def pad(rows, h):
     return rows + [""] * (h - len(rows))
 
 
+# The second cell of a character of two columns.
+HALF = "\0"
+
+
+def whole(row, behind=" "):
+    """A part of a row, in which a half that lost its other half is a blank."""
+    row = " " + row[1:] if row.startswith(HALF) else row
+    return row[:-1] + " " if row and behind == HALF else row
+
+
 def fit(text, C):
-    return text.ljust(C) if len(text) <= C else text[:C - 1] + "$"
+    return text.ljust(C) if len(text) <= C else whole(text[:C - 1], text[C - 1]) + "$"
 
 
 def fill(text, C):
@@ -1267,7 +1322,9 @@ def glyph(c, col):
         return "^" + chr(o + 64)
     if o == 127:
         return "^?"
-    return "\\u{%x}" % o
+    if o < 160 or unicodedata.category(c) in ("Mn", "Me", "Cf"):
+        return "\\u{%x}" % o
+    return c + HALF if unicodedata.east_asian_width(c) in "WF" else c
 
 
 def column(text, p):

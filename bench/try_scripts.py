@@ -26,12 +26,16 @@ MACROS = [b"\x18(", b"\x18(", b"\x18)", b"\x18)", b"\x18e", b"\x18e", b"\x153\x1
 SEARCHING = [b"\x13", b"\x12", b"\x13a", b"\x12b", b"\x13ab\x13", b"\x12b\x12", b"\x13c\x7f", b"\x13\x13", b"\x12\x12", b"\x13\x12", b"\x12\x13\x13",
              b"\x13bE\x7f\x7f\x7f", b"\x12zz\x7f", b"\x13a\r", b"\x12d\r", b"\x13 \x13\x13\x07", b"\x13b\x12\x12\x13", b"\x13d\x0b", b"\x12a\t",
              b"\x13b\x1bf", b"\x13a\x152\x06", b"\x13" + b"a" * 121 + b"\x7f", b"\x7f", b"\r", b"\x07"]
+PAST_ASCII = "\u00e9\u00f6\u00c9\u6f22\u5b57\u0301\U0001f600"
 REPLACEMENTS = [b"\x1b%a\rxy\r", b"\x1b%ab\r\r", b"\x1b%b\rB\ry", b"\x1b%a\rb\r!", b"\x1b% \r\t\rn", b"\x1b%e\rEe\r", b"\x1b%\r\r",
                 b"y", b"yn", b"n", b"\x7f", b"!", b".", b"q", b"\r", b" ", b"z", b"\x07", b"\x18(\x1b%a\rc\r!\x18)", b"\x18e"]
 
 
-def token(byte):
-    """The byte as a token of a script; None where no token has it."""
+def token(character):
+    """The character as a token of a script; None where no token has it."""
+    byte = ord(character)
+    if byte > 127:
+        return "'" + character
     if byte in NAMED_KEYS:
         return NAMED_KEYS[byte]
     if 1 <= byte <= 26:
@@ -62,7 +66,7 @@ class Script:
 
     def text(self):
         r = self.random
-        letters = "ab cdE1.\t\n\n  xyZ" if r.random() < .3 else "ab cd\nE"
+        letters = "ab cdE1.\t\n\n  xyZ" + PAST_ASCII * 2 if r.random() < .4 else "ab cd\nE"
         return "".join(r.choice(letters) for _ in range(r.choice([0, 1, 3, 10, 30, 80, 200])))
 
     def set_up(self):
@@ -102,11 +106,12 @@ class Script:
 
     def step(self):
         label = self.random.choice(self.labels)
-        for byte in self.keys():
-            if token(byte) is None:
+        for character in self.keys().decode():
+            if token(character) is None:
                 continue
-            self.lines.append("keys %s %s" % (label, token(byte)))
-            self.world.byte(label, byte)
+            self.lines.append("keys %s %s" % (label, token(character)))
+            for byte in character.encode():
+                self.world.byte(label, byte)
             self.show()
 
     def keys(self):
@@ -116,6 +121,8 @@ class Script:
             return r.choice(SEARCHING)
         if r.random() < .15:
             return r.choice(REPLACEMENTS)
+        if r.random() < .15:
+            return self.past_ascii()
         x = r.random()
         if x < .30:
             return bytes(r.choice(b"abcE .x1\t") for _ in range(r.randint(1, 4)))
@@ -130,6 +137,15 @@ class Script:
         if x < .98:
             return r.choice(MACROS)
         return bytes([r.randint(0, 127)])
+
+    def past_ascii(self):
+        """Characters past ASCII, where they are taken and where they are not."""
+        r = self.random
+        typed = "".join(r.choice(PAST_ASCII) for _ in range(r.choice([1, 1, 2, 3, 12]))).encode()
+        before = r.choice([b"", b"", b"", b"\x153", b"\x11", b"\x152\x11", b"\x18", b"\x1b", b"\x1b[", b"\x18(", b"\x13", b"\x12", b"\x13\x13", b"\x1bs", b"\x1br",
+                           b"\x1b%", b"\x1b%a\r", b"\x18b", b"\x18k", b"\x1bx", b"\x18g", b"\x1bxacl-insert\rALLOW ", b"\x1bxset-owner\r", b"\x1bx\x1b", b"\x18b\x1b["])
+        behind = r.choice([b"", b"", b"\r", b"\r", b"\x7f", b"\x7f\r", b"\t", b"a\r", b"\r\r", b"\x07", b"\x13", b"\x18)\x18e", b"\ry", b"\r!", b"x\r!"])
+        return before + typed + behind
 
     def name(self):
         return self.random.choice([b.name for b in self.world.buffers] + ["new", "n", "zzz"]).encode()
@@ -169,7 +185,7 @@ class Script:
 
 def report(seed, script, number, expected, printed):
     path = os.path.join(tempfile.gettempdir(), "mgd_script_%d.mgd" % seed)
-    with open(path, "w") as file:
+    with open(path, "w", encoding="utf-8") as file:
         file.write(script.source())
     keys = [line for line in script.lines[:number] if line.startswith("keys")][-12:]
     print("seed %d, line %d of %s, after\n%s\nexpected\n%s\nprinted\n%s" % (seed, number, path, "\n".join(keys), expected, printed))
@@ -194,7 +210,7 @@ def main():
         script = Script(seed, chosen.steps)
         if printed_cases is None:
             run = subprocess.run([chosen.program, "replay"], input=script.source().encode(), capture_output=True)
-            printed = run.stdout.decode("latin1")
+            printed = run.stdout.decode()
         elif seed in printed_cases:
             printed = printed_cases[seed]
         else:
@@ -211,12 +227,12 @@ def main():
 def write_scripts(folder, seeds, chosen):
     os.makedirs(folder, exist_ok=True)
     for seed in seeds:
-        with open(os.path.join(folder, "%06d" % seed), "w") as file:
+        with open(os.path.join(folder, "%06d" % seed), "w", encoding="utf-8") as file:
             file.write(Script(seed, chosen.steps).source())
 
 
 def cases_of(path):
-    with open(path, encoding="latin1") as file:
+    with open(path, encoding="utf-8") as file:
         parts = re.split(r"^== (\d+)\n", file.read(), flags=re.M)
     return {int(parts[i]): parts[i + 1] for i in range(1, len(parts), 2) if "run=no-answer" not in parts[i + 1]}
 

@@ -78,11 +78,11 @@ class Terminal:
             self.read(quiet=0.2)
         return self
 
-    def read_until(self, begins, most=120.0):
-        """Takes what comes until the first row begins so."""
+    def read_until(self, is_there, most=60.0):
+        """Takes what comes until something is there."""
         end = time.time() + most
-        while not self.shows(1).startswith(begins) and not self.ended and time.time() < end:
-            self.read(quiet=0.2)
+        while not is_there(self) and not self.ended and time.time() < end:
+            self.read(quiet=0.02)
         return self
 
     def paint(self, data):
@@ -294,19 +294,22 @@ def try_slow():
         slow = Terminal(port, "bob t", 64, 160, room=4096)
         slow.read_some()
         ann, cat = Terminal(port, "ann t", 64, 160).read(), Terminal(port, "cat t", 64, 160).read()
-        # Each time the whole text goes and comes back, on all three screens.
+        # Each time the whole text goes and comes back, on all three screens. Nobody types on before that has come.
         while len(ann.got) < 10_000_000 and not ann.ended:
+            wanted = len(ann.got) + 4 * len(text) // 2
             ann.send(b"\x18h\x17\x19" * 4)
-            ann.read(quiet=0.02), cat.read(quiet=0.02)
+            ann.read_until(lambda one: len(one.got) >= wanted)
+            cat.read(quiet=0.02)
         ann.send(b"\x1b<still here ")
-        ann.read_until("still here abc"), cat.read_until("still here abc")
-        expect("whoever reads sees what is typed", ann.shows(1).startswith("still here abc"), ann.shows(1))
-        expect("so does the third", cat.shows(1).startswith("still here abc"), cat.shows(1))
+        is_typed = lambda one: one.shows(1).startswith("still here abc")
+        ann.read_until(is_typed), cat.read_until(is_typed)
+        expect("whoever reads sees what is typed", is_typed(ann), (ann.ended, ann.shows(1)))
+        expect("so does the third", is_typed(cat), (cat.ended, cat.shows(1)))
         slow.drain()
         expect("who took nothing was ended", slow.ended)
         expect("and was not sent all", len(slow.got) < len(ann.got) - 262144, (len(slow.got), len(ann.got)))
-        again = Terminal(port, "bob t", 64, 160).read_until("still here abc")
-        expect("and can come again", again.shows(1).startswith("still here abc"), again.shows(1))
+        again = Terminal(port, "bob t", 64, 160).read_until(is_typed)
+        expect("and can come again", is_typed(again), again.shows(1))
         expect("the server goes on", server.poll() is None, server.poll())
         server.kill()
         server.wait()
