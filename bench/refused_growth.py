@@ -42,6 +42,8 @@ def main():
         if run(options.program, library, counted, 0) != wanted:
             sys.exit("the program does not print what is stored, with all memory that it asks for")
         count = int(pathlib.Path(counted).read_text())
+        if count == 0:
+            sys.exit("the program asks the C library for no block: one that `rt try` built has an allocator of its own")
         last = min(count, options.last or count)
         for refused in range(options.first, last + 1):
             try:
