@@ -4,8 +4,8 @@
     python3 bench/refused_growth.py [--program PATH] [--first N] [--last N]
 
 The program plays rows of keys at an engine, and where memory is refused to an act it compares what is shown with what a refused act leaves,
-and types the keys again (crates/mgs_refusals). So whichever one growth is refused, it has to print the same. It is run once for each of the
-blocks that it asks for, over a small library that `cc` compiles and that refuses that one. `rt run` in crates/mgs_refusals builds the program.
+and types the keys again (crates/mgs_hostile_tests). So whichever one growth is refused, it has to print the same. It is run once for each of the
+blocks that it asks for, over a small library that `cc` compiles and that refuses that one. `rt run` in crates/mgs_hostile_tests builds the program.
 Status 1 where an output was another, or a run did not end by itself."""
 import argparse
 import os
@@ -15,7 +15,7 @@ import sys
 import tempfile
 
 TOP = pathlib.Path(__file__).resolve().parent.parent
-CRATE = TOP / "crates/mgs_refusals"
+CRATE = TOP / "crates/mgs_hostile_tests"
 # A run takes some milliseconds.
 SECONDS = 60
 
@@ -29,7 +29,7 @@ def run(program, library, counted, refused):
 
 def main():
     options = argparse.ArgumentParser()
-    options.add_argument("--program", default=str(CRATE / "out/mgs_refusals"))
+    options.add_argument("--program", default=str(CRATE / "out/mgs_hostile_tests"))
     options.add_argument("--first", type=int, default=1)
     options.add_argument("--last", type=int)
     options = options.parse_args()

@@ -1,22 +1,15 @@
 // What one may not read has no effect on what one sees: two servers that differ in it alone show the same.
-use super::fixtures::{Stage, plays, press, serve, show_the_same, sit};
+use crate::fixtures::{comes_out, plays, seated, show_the_same};
+use crate::stage::{Stage, press};
+use crate::store::Takes;
 use mgs_keys::read_keys;
 use mgs_marks::PlainMarked;
 use mgs_model::{Keyed, SessionId};
-use mgs_store::RefusingStore;
 use std::alloc::Global;
 use std::process::Abort;
 use std::test::Fail;
 
-type Plain = Stage<PlainMarked, RefusingStore>;
-
-// A server over these buffers, where these users sit.
-fn seated(rt: &impl Abort, alloc: Global, buffers: &str, users: &[&str]) -> Result<Plain, Fail> {
-    let store = RefusingStore::new();
-    let mut stage = serve::<PlainMarked, RefusingStore>(rt, alloc, buffers, store)?;
-    sit(rt, &mut stage, users)?;
-    Ok(stage)
-}
+type Plain = Stage<PlainMarked>;
 
 // The first session types keys at both servers, and behind each byte its terminals show the same.
 fn types_at_both(
@@ -64,8 +57,8 @@ const READER: &str = "'q
 #[test]
 fn a_hidden_text_has_no_effect(rt: HostRuntime) -> Result<(), Fail> {
     let alloc = rt.alloc();
-    let mut one = seated(&rt, alloc, ABC, &["bob"])?;
-    let mut other = seated(&rt, alloc, XYZ, &["bob"])?;
+    let mut one = seated(alloc, ABC, Takes::Nothing, &["bob"])?;
+    let mut other = seated(alloc, XYZ, Takes::Nothing, &["bob"])?;
     for keys in READER.lines() {
         types_at_both(&rt, alloc, &mut one, &mut other, keys.trim())?;
     }
@@ -87,8 +80,7 @@ fn a_hidden_text_is_masked(rt: HostRuntime) -> Result<(), Fail> {
         1 C-s     | Done | b a b | ----notes-L1-C5 | Failing I-search: b
     ";
     for buffers in &[ABC, XYZ] {
-        let mut stage = seated(&rt, rt.alloc(), buffers, &["bob"])?;
-        plays(&rt, &mut stage, steps)?;
+        comes_out::<PlainMarked>(&rt, rt.alloc(), buffers, Takes::Nothing, &["bob"], steps)?;
     }
     Ok(())
 }
@@ -128,8 +120,8 @@ fn types_unseen(
 #[test]
 fn work_in_a_closed_buffer_leaves_no_trace(rt: HostRuntime) -> Result<(), Fail> {
     let alloc = rt.alloc();
-    let mut one = seated(&rt, alloc, CLOSED, &["bob", "cat"])?;
-    let mut other = seated(&rt, alloc, CLOSED, &["bob", "cat"])?;
+    let mut one = seated(alloc, CLOSED, Takes::Nothing, &["bob", "cat"])?;
+    let mut other = seated(alloc, CLOSED, Takes::Nothing, &["bob", "cat"])?;
     for &(bob, cat) in &TURNS {
         types_at_both(&rt, alloc, &mut one, &mut other, bob)?;
         types_unseen(&rt, alloc, &mut one, &other, cat)?;

@@ -1,21 +1,18 @@
 // Keys of any bytes, and sessions that end in the middle of a word, a prompt or a search.
-use super::fixtures::{Stage, close, is_open, plays, press, serve, sit, take, told, visit};
+use crate::fixtures::{close, is_open, plays, seated, take, told, visit};
+use crate::stage::{Stage, press};
+use crate::store::Takes;
 use mgs_engine::Cause;
 use mgs_keys::read_keys;
 use mgs_marks::PlainMarked;
 use mgs_model::{Keyed, SessionId};
-use mgs_store::RefusingStore;
 use std::alloc::Global;
 use std::process::Abort;
 use std::test::Fail;
 
-type Plain = Stage<PlainMarked, RefusingStore>;
+type Plain = Stage<PlainMarked>;
 
 const NOTES: &str = "notes ann | ALLOW OWNER@ rwatdcCo; ALLOW bob rwat | a b a";
-
-fn served(rt: &impl Abort, alloc: Global) -> Result<Plain, Fail> {
-    serve::<PlainMarked, RefusingStore>(rt, alloc, NOTES, RefusingStore::new())
-}
 
 // The keys that lead to each mode: to none, a half-read word, an argument, a prompt, an incremental search, a query-replace, a recording, and a
 // window that shows the list of buffers or an access list.
@@ -60,11 +57,11 @@ fn takes_byte(rt: &impl Abort, stage: &mut Plain, id: SessionId, keys: &[u8], by
 // A session types each byte in one mode. Where a byte ends it, another one goes on.
 fn takes_each_byte(rt: &impl Abort, alloc: Global, mode: &str) -> Result<(), Fail> {
     let keys = read_keys(alloc, mode)?;
-    let mut stage = served(rt, alloc)?;
+    let mut stage = seated(alloc, NOTES, Takes::Nothing, &[])?;
     let mut id = 0;
     for byte in 0..=255u8 {
         if !is_open(&stage, id) {
-            id = visit(rt, &mut stage, "bob");
+            id = visit(&mut stage, "bob").ok_or("not opened")?;
         }
         assert!(rt;
             takes_byte(rt, &mut stage, id, &keys, byte),
@@ -96,8 +93,7 @@ const ENDS: &str = "ESC
 
 // ann types a character and ends behind these keys. What she did before stands, and bob goes on.
 fn ends_behind(rt: &impl Abort, alloc: Global, keys: &str) -> Result<(), Fail> {
-    let mut stage = served(rt, alloc)?;
-    sit(rt, &mut stage, &["ann", "bob"])?;
+    let mut stage: Plain = seated(alloc, NOTES, Takes::Nothing, &["ann", "bob"])?;
     plays(rt, &mut stage, "1 'x | Done | xa b a | -**-notes-L1-C1 |")?;
     let keys = read_keys(alloc, keys)?;
     assert!(rt; press(&mut stage, 1, &keys) == Keyed::Done);

@@ -1,7 +1,7 @@
 // A kill that would be longer than a kill buffer may be.
-use super::fixtures::{plays, serve, sit};
+use crate::fixtures::comes_out;
+use crate::store::Takes;
 use mgs_marks::PlainMarked;
-use mgs_store::RefusingStore;
 use std::alloc::{AllocError, Global};
 use std::test::Fail;
 
@@ -18,9 +18,6 @@ fn long(alloc: Global, count: usize) -> Result<String, AllocError> {
 #[test]
 fn a_kill_has_a_limit(rt: HostRuntime) -> Result<(), Fail> {
     let line = long(rt.alloc(), 524_289)?;
-    let store = RefusingStore::new();
-    let mut stage = serve::<PlainMarked, RefusingStore>(&rt, rt.alloc(), line.as_str(), store)?;
-    sit(&rt, &mut stage, &["ann"])?;
     let steps = "
         1 C-x 'h  | Done | aaaaaaaaaaaaaaaaaaaaaaaaaaaaaaaaaaaaaaa$ | ----notes-L1-C0 |
         1 M-w     | Done | aaaaaaaaaaaaaaaaaaaaaaaaaaaaaaaaaaaaaaa$ | ----notes-L1-C0 |
@@ -29,5 +26,6 @@ fn a_kill_has_a_limit(rt: HostRuntime) -> Result<(), Fail> {
         1 C-f C-w | Done | a | -**-notes-L1-C1 |
         1 C-_     | Done | $aaaaaaaaaaaaaaaaaaaaa | -**-notes-L1-C524289 |
     ";
-    plays(&rt, &mut stage, steps)
+    let line = line.as_str();
+    comes_out::<PlainMarked>(&rt, rt.alloc(), line, Takes::Nothing, &["ann"], steps)
 }

@@ -7,15 +7,37 @@ use mgs_text::Text;
 use std::alloc::Global;
 use std::marker::Model;
 
-/// A plain text with marks. Its edits and new marks are its growths, counted from 1: those from `FIRST` to `LAST` are refused. Where `FIRST`
-/// is 0, an empty text is refused as well, with which each new buffer begins.
+/// A plain text with marks. Its edits and new marks are its growths, counted from 1. Of a text that begins with two digits those from the one
+/// to the other are refused, and 9 is the last of all. Of any other text growth `NEW` is refused; where that is 0 it is an empty text, with
+/// which each new buffer begins.
 #[derive(Drop)]
-pub(crate) struct Refusing<const FIRST: usize, const LAST: usize> {
+pub(crate) struct Refusing<const NEW: usize> {
     text: PlainMarked,
+    first: usize,
+    last: usize,
     growths: usize,
 }
 
-impl<const FIRST: usize, const LAST: usize> Model for Refusing<FIRST, LAST> {
+fn digit_in(character: char) -> Option<usize> {
+    match character {
+        '0'..='8' => Some((character as usize).saturating_sub('0' as usize)),
+        '9' => Some(usize::MAX),
+        _ => None,
+    }
+}
+
+// The first and the last growth that a text is refused.
+fn refused_of(chars: &[char], new: usize) -> (usize, usize) {
+    let (Some(first), Some(last)) = (chars.first(), chars.get(1)) else {
+        return (new, new);
+    };
+    match (digit_in(*first), digit_in(*last)) {
+        (Some(first), Some(last)) => (first, last),
+        _ => (new, new),
+    }
+}
+
+impl<const NEW: usize> Model for Refusing<NEW> {
     ghost use Rattle.mgs_marks.specs.Marks.{MarkedText};
 
     ghost Value = { MarkedText };
@@ -23,30 +45,36 @@ impl<const FIRST: usize, const LAST: usize> Model for Refusing<FIRST, LAST> {
     ghost view = { λ t. t.text };
 }
 
-impl<const FIRST: usize, const LAST: usize> Refusing<FIRST, LAST> {
+impl<const NEW: usize> Refusing<NEW> {
     // Counts one growth more. `Short`: it is a refused one.
     fn grow(&mut self) -> Result<(), Short>
         ensures { self.new ≡ self.old }
     {
         self.growths = self.growths.saturating_add(1);
-        if FIRST <= self.growths && self.growths <= LAST {
+        if self.first <= self.growths && self.growths <= self.last {
             return Err(Short);
         }
         Ok(())
     }
 }
 
-impl<const FIRST: usize, const LAST: usize> Text for Refusing<FIRST, LAST> {
+impl<const NEW: usize> Text for Refusing<NEW> {
     ghost text = { λ t. t.text };
 
     ghost marks = { λ t. t.marks };
 
     fn of(alloc: Global, chars: &[char]) -> Result<Self, Short> {
-        if FIRST == 0 && chars.is_empty() {
+        if NEW == 0 && chars.is_empty() {
             return Err(Short);
         }
         let text = PlainMarked::of(alloc, chars)?;
-        Ok(Refusing { text, growths: 0 })
+        let (first, last) = refused_of(chars, NEW);
+        Ok(Refusing {
+            text,
+            first,
+            last,
+            growths: 0,
+        })
     }
 
     fn len(&self) -> usize {
@@ -67,7 +95,7 @@ impl<const FIRST: usize, const LAST: usize> Text for Refusing<FIRST, LAST> {
     }
 }
 
-impl<const FIRST: usize, const LAST: usize> Marked for Refusing<FIRST, LAST> {
+impl<const NEW: usize> Marked for Refusing<NEW> {
     fn add_mark(&mut self, p: usize) -> Result<MarkId, Short> {
         self.grow()?;
         self.text.add_mark(p)

@@ -1,9 +1,11 @@
 // What a terminal is to show, told in a line.
 use mgs_term::Cell;
 
-pub(crate) const HEIGHT: usize = 6;
+/// The rows of each terminal.
+pub(crate) const ROWS: usize = 6;
 
-pub(crate) const WIDTH: usize = 40;
+/// And its columns.
+pub(crate) const COLS: usize = 40;
 
 const MODE_ROW: usize = 4;
 
@@ -15,6 +17,11 @@ pub(crate) fn cut_field(line: &str) -> (&str, &str) {
         Some((field, rest)) => (field.trim_end(), rest.strip_prefix(' ').unwrap_or(rest)),
         None => (line.trim_end(), ""),
     }
+}
+
+/// The first word of a field, and what stands behind it.
+pub(crate) fn cut_word(field: &str) -> (&str, &str) {
+    field.split_once(' ').unwrap_or((field, ""))
 }
 
 // The character in the column of a row that is told: a mode line is filled up with `-`, any other row with blanks.
@@ -38,10 +45,11 @@ fn row_of<'a>(screen: &'a str, row: usize) -> &'a str {
     }
 }
 
-/// Whether these cells are those of a screen: ROW/ROW/.. | MODE LINE | ECHO LINE.
+/// Whether these cells are those of a screen: ROW/ROW/.. | MODE LINE | ECHO LINE. What is left out behind a row are blanks, and behind a mode
+/// line `-`.
 pub(crate) fn is_screen(cells: &[Cell], screen: &str) -> bool {
     for (i, cell) in cells.iter().enumerate() {
-        if cell.character != wanted_at(row_of(screen, i / WIDTH), i % WIDTH) {
+        if cell.character != wanted_at(row_of(screen, i / COLS), i % COLS) {
             return false;
         }
     }
@@ -51,7 +59,7 @@ pub(crate) fn is_screen(cells: &[Cell], screen: &str) -> bool {
 // Whether a row of these cells shows this text.
 fn is_row(cells: &[Cell], row: usize, text: &str) -> bool {
     for (i, cell) in cells.iter().enumerate() {
-        if i / WIDTH == row && cell.character != wanted_at(text, i % WIDTH) {
+        if i / COLS == row && cell.character != wanted_at(text, i % COLS) {
             return false;
         }
     }
@@ -77,7 +85,7 @@ pub(crate) fn tells_no_memory(cells: &[Cell]) -> bool {
 /// Whether all rows but the echo line are the same.
 pub(crate) fn are_same_above(before: &[Cell], now: &[Cell]) -> bool {
     for (i, cell) in now.iter().enumerate() {
-        if i / WIDTH != ECHO_ROW && before.get(i) != Some(cell) {
+        if i / COLS != ECHO_ROW && before.get(i) != Some(cell) {
             return false;
         }
     }
