@@ -8,51 +8,49 @@ use std::io::{self, ErrorKind};
 use std::path::PathBuf;
 use std::random::RandomSource;
 
-/// Its first random bytes are all 0, and it may rename nothing.
+/// A runtime of a program that was started with these words, which blanks part, its own name first.
 #[derive(Drop)]
 pub struct Faulty<'a, R> {
     rt: &'a R,
-    zeros: Cell<u32>,
-    keeps_names: bool,
-    words: &'a [&'a str],
+    words: &'a str,
     line: &'a str,
     is_told: Cell<bool>,
+    zeros: Cell<u32>,
+    keeps_names: Cell<bool>,
 }
 
 impl<'a, R> Faulty<'a, R> {
-    /// So many calls for random bytes give zeros.
-    pub fn new(rt: &'a R, zeros: u32, keeps_names: bool) -> Faulty<'a, R> {
+    /// Nothing goes wrong. This line is to be told, or nothing where it is empty.
+    pub fn new(rt: &'a R, words: &'a str, line: &'a str) -> Faulty<'a, R> {
         Faulty {
             rt,
-            zeros: Cell::new(zeros),
-            keeps_names,
-            words: &[],
-            line: "",
-            is_told: Cell::new(false),
-        }
-    }
-
-    /// Nothing goes wrong. The program was started with these words, its own name first, and this line is waited for.
-    pub fn asked(rt: &'a R, words: &'a [&'a str], line: &'a str) -> Faulty<'a, R> {
-        Faulty {
-            rt,
-            zeros: Cell::new(0),
-            keeps_names: false,
             words,
             line,
-            is_told: Cell::new(false),
+            is_told: Cell::new(line.is_empty()),
+            zeros: Cell::new(0),
+            keeps_names: Cell::new(false),
         }
     }
 
-    /// Whether the line that is waited for was the last that was told.
+    /// Whether what is to be told was the last that was told.
     pub fn is_told(&self) -> bool {
         self.is_told.get()
+    }
+
+    /// The next random bytes are 0, for so many calls.
+    pub fn give_zeros(&self, calls: u32) {
+        self.zeros.set(calls);
+    }
+
+    /// From now on nothing is renamed.
+    pub fn keep_names(&self) {
+        self.keeps_names.set(true);
     }
 }
 
 impl<'a, R> Env for Faulty<'a, R> {
     fn arg(&self, i: usize, buf: &mut [u8]) -> Result<usize, FillError> {
-        let Some(word) = self.words.get(i) else {
+        let Some(word) = self.words.split(' ').nth(i) else {
             return Err(FillError::NotPresent);
         };
         let bytes = word.as_bytes();
@@ -130,7 +128,7 @@ impl<'a, R: Files<File = File>> Files for Faulty<'a, R> {
     }
 
     fn rename(&self, from: &str, to: &str) -> io::Result<()> {
-        if self.keeps_names {
+        if self.keeps_names.get() {
             return Err(io::Error::from(ErrorKind::PermissionDenied));
         }
         self.rt.rename(from, to)

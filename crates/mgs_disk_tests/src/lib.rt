@@ -3,16 +3,12 @@
 #![tactic(auto)]
 
 #[cfg(test)]
-mod command;
-#[cfg(test)]
 mod faulty;
 #[cfg(test)]
-mod folder;
+mod files;
 #[cfg(test)]
-mod loading;
+mod room;
 #[cfg(test)]
-mod reading;
+mod steps;
 #[cfg(test)]
-mod refused;
-#[cfg(test)]
-mod saving;
+mod tests;
