@@ -10,10 +10,11 @@ const ALL_RIGHTS: [&str; 1] = ["ALLOW ann rwatdcCo"];
 // Keys, and the screen and the cursor then.
 type Row = (&'static [u8], &'static str, (usize, usize));
 
-// The text of most tests, and what a screen begins with that shows it unchanged and with the point where the cursor is, or else at its start.
-// Behind that stands the echo line.
+// The text of most tests.
 const TEXT: [char; 4] = ['a', 'b', '\u{e9}', '\u{6f22}'];
 
+// A screen that begins so shows this text, with the point where the cursor is, or at the start where that is behind a prompt. Then comes the
+// echo line.
 const UNCHANGED: &str = "= ";
 
 fn screen_of(
