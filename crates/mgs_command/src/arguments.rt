@@ -1,4 +1,8 @@
 // What the program is asked to do.
+ghost use Rattle.std.specs.Prelude.{◌≡◌, ◌==◌, slice_index, SomeIff};
+ghost use Rattle.std.specs.Str.Parse.{digits_value};
+ghost use Rattle.mgs_command.specs.Ports.{IsPort};
+
 use std::env::{self, Env};
 use std::io;
 
@@ -13,9 +17,22 @@ pub enum Task {
     Wrong,
 }
 
+// Whether a word begins with a plus, which may stand before a number for std.
+fn has_plus(word: &str) -> bool
+    ensures { result ≡ (slice_index word.now 0 == 43) }
+{
+    match word.as_bytes().first() {
+        Some(byte) => *byte == b'+',
+        None => false,
+    }
+}
+
 // A port: a decimal number up to 65535.
-fn read_port(word: &str) -> Option<u16> {
-    if !word.bytes().all(|byte| byte.is_ascii_digit()) {
+#[tactic(auto, using(crate::proofs::Signs::signed_is_none, crate::proofs::Signs::read_as_is))]
+fn read_port(word: &str) -> Option<u16>
+    ensures { SomeIff result (IsPort word.now) (digits_value 10 word.now) }
+{
+    if has_plus(word) {
         return None;
     }
     match word.parse::<u16>() {
