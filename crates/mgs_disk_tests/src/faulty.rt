@@ -10,7 +10,7 @@ use std::random::RandomSource;
 
 /// A runtime of a program that was started with these words, which blanks part, its own name first.
 #[derive(Drop)]
-pub struct Faulty<'a, R> {
+pub(crate) struct Faulty<'a, R> {
     rt: &'a R,
     words: &'a str,
     line: &'a str,
@@ -21,7 +21,7 @@ pub struct Faulty<'a, R> {
 
 impl<'a, R> Faulty<'a, R> {
     /// Nothing goes wrong. This line is to be told, or nothing where it is empty.
-    pub fn new(rt: &'a R, words: &'a str, line: &'a str) -> Faulty<'a, R> {
+    pub(crate) fn new(rt: &'a R, words: &'a str, line: &'a str) -> Faulty<'a, R> {
         Faulty {
             rt,
             words,
@@ -33,17 +33,17 @@ impl<'a, R> Faulty<'a, R> {
     }
 
     /// Whether what is to be told was the last that was told.
-    pub fn is_told(&self) -> bool {
+    pub(crate) fn is_told(&self) -> bool {
         self.is_told.get()
     }
 
     /// The next random bytes are 0, for so many calls.
-    pub fn give_zeros(&self, calls: u32) {
+    pub(crate) fn give_zeros(&self, calls: u32) {
         self.zeros.set(calls);
     }
 
     /// From now on nothing is renamed.
-    pub fn keep_names(&self) {
+    pub(crate) fn keep_names(&self) {
         self.keeps_names.set(true);
     }
 }
