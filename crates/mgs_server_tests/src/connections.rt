@@ -1,7 +1,7 @@
 // Who is let in, for how long, and where.
-use crate::office::{Office, notes_list, open_office, open_office_at, turn, turn_at};
+use crate::office::{Office, open_office, turn, turn_at};
 use crate::terminal::{Terminal, enter, is_closed, is_served, press, take};
-use mgs_acl::List;
+use crate::together::only_users_share;
 use std::net::{Ipv4Addr, SocketAddr, TcpStream};
 use std::test::Fail;
 use std::time::{Duration, Instant};
@@ -49,18 +49,6 @@ fn are_kept_out_for_a_minute(rt: &HostRuntime, office: &mut Office) -> Result<bo
     Ok(all.len() == 64 && is_first_away && is_second_away && is_third_in)
 }
 
-// Whether an office with this list does so.
-fn is_crowd_closed(rt: &HostRuntime, list: List) -> Result<bool, Fail> {
-    let mut office = open_office(rt, list)?;
-    are_kept_out_for_a_minute(rt, &mut office)
-}
-
-#[test]
-fn the_65th_is_refused_and_silent_ones_are_closed(rt: HostRuntime) -> Result<(), Fail> {
-    assert!(rt; is_crowd_closed(&rt, notes_list(&rt))?);
-    Ok(())
-}
-
 // Whether a connection is closed by a turn at this time.
 fn is_closed_at(office: &mut Office, terminal: &mut Terminal, millis: u64) -> Result<bool, Fail> {
     turn_at(office, millis)?;
@@ -88,18 +76,6 @@ fn are_logins_timed(rt: &HostRuntime, office: &mut Office) -> Result<bool, Fail>
     is_late_one_closed(office, &mut late, &mut ann)
 }
 
-// Whether an office with this list does so.
-fn is_office_timed(rt: &HostRuntime, list: List) -> Result<bool, Fail> {
-    let mut office = open_office(rt, list)?;
-    are_logins_timed(rt, &mut office)
-}
-
-#[test]
-fn a_login_has_a_minute(rt: HostRuntime) -> Result<(), Fail> {
-    assert!(rt; is_office_timed(&rt, notes_list(&rt))?);
-    Ok(())
-}
-
 // Whether the connection of a session that its own key ends is closed.
 fn is_closed_by_a_key(rt: &HostRuntime, office: &mut Office) -> Result<bool, Fail> {
     let mut ann = enter(rt, office.port(), LOGIN)?;
@@ -109,58 +85,10 @@ fn is_closed_by_a_key(rt: &HostRuntime, office: &mut Office) -> Result<bool, Fai
     Ok(is_served && is_ended)
 }
 
-// Whether an office with this list does so.
-fn is_office_left(rt: &HostRuntime, list: List) -> Result<bool, Fail> {
-    let mut office = open_office(rt, list)?;
-    is_closed_by_a_key(rt, &mut office)
-}
-
-#[test]
-fn the_connection_of_an_ended_session_is_closed(rt: HostRuntime) -> Result<(), Fail> {
-    assert!(rt; is_office_left(&rt, notes_list(&rt))?);
-    Ok(())
-}
-
-// A port that was free just now.
-fn free_port(rt: &HostRuntime, list: List) -> Result<u16, Fail> {
-    let office = open_office(rt, list)?;
-    Ok(office.port())
-}
-
-// Whether an office that is asked for a port is found there.
-fn is_found_at(rt: &HostRuntime, port: u16, list: List) -> Result<bool, Fail> {
-    let mut office = open_office_at(rt, port, list)?;
-    let is_there = office.port() == port;
-    let mut ann = enter(rt, port, LOGIN)?;
-    let is_served = is_served(&mut office, &mut ann)?;
-    Ok(is_there && is_served)
-}
-
-#[test]
-fn a_server_listens_on_the_port_that_it_is_asked_for(rt: HostRuntime) -> Result<(), Fail> {
-    let port = free_port(&rt, notes_list(&rt))?;
-    assert!(rt; is_found_at(&rt, port, notes_list(&rt))?);
-    Ok(())
-}
-
 // Whether nobody listens at this port of another address of this machine.
 fn is_silent_elsewhere(rt: &HostRuntime, port: u16) -> bool {
     let elsewhere = Ipv4Addr::new(127, 0, 0, 2);
     TcpStream::connect(rt, SocketAddr::from((elsewhere, port))).is_err()
-}
-
-// Whether an office with this list is found on the loopback address alone.
-fn is_office_local(rt: &HostRuntime, list: List) -> Result<bool, Fail> {
-    let mut office = open_office(rt, list)?;
-    let is_silent = is_silent_elsewhere(rt, office.port());
-    let is_in = is_let_in(rt, &mut office)?;
-    Ok(is_silent && is_in)
-}
-
-#[test]
-fn a_server_listens_on_the_loopback_address_alone(rt: HostRuntime) -> Result<(), Fail> {
-    assert!(rt; is_office_local(&rt, notes_list(&rt))?);
-    Ok(())
 }
 
 // Whether a turn without work comes back soon.
@@ -170,14 +98,74 @@ fn is_turn_short(rt: &HostRuntime, office: &mut Office) -> Result<bool, Fail> {
     Ok(start.elapsed(rt)? < Duration::from_secs(IDLE_SECS))
 }
 
-// Whether an office with this list does so.
-fn is_office_idle(rt: &HostRuntime, list: List) -> Result<bool, Fail> {
-    let mut office = open_office(rt, list)?;
-    is_turn_short(rt, &mut office)
+// Whether ann is let in at this port of the loopback address, and nobody listens at another address.
+fn is_found_at(rt: &HostRuntime, office: &mut Office, port: u16) -> Result<bool, Fail> {
+    let is_there = office.port() == port;
+    let mut ann = enter(rt, port, LOGIN)?;
+    let is_in = is_served(office, &mut ann)?;
+    Ok(is_there && is_in && is_silent_elsewhere(rt, port))
+}
+
+// What is tried in an office of its own.
+#[derive(Clone, Copy)]
+enum Case {
+    Crowd,
+    Login,
+    Quit,
+    Idle,
+    Together,
+    Port(u16),
+}
+
+fn is_so(rt: &HostRuntime, office: &mut Office, case: Case) -> Result<bool, Fail> {
+    match case {
+        Case::Crowd => are_kept_out_for_a_minute(rt, office),
+        Case::Login => are_logins_timed(rt, office),
+        Case::Quit => is_closed_by_a_key(rt, office),
+        Case::Idle => is_turn_short(rt, office),
+        Case::Together => only_users_share(rt, office),
+        Case::Port(port) => is_found_at(rt, office, port),
+    }
+}
+
+// Whether a case is so in an office at this port; 0 is one that the system chooses. The office is dropped at one way out: a proof goes over
+// all that is owned at each.
+fn is_so_at(rt: &HostRuntime, port: u16, case: Case) -> Result<bool, Fail> {
+    let mut office = open_office(rt, port)?;
+    is_so(rt, &mut office, case)
+}
+
+// A port that was free just now.
+fn free_port(rt: &HostRuntime) -> Result<u16, Fail> {
+    let office = open_office(rt, 0)?;
+    Ok(office.port())
+}
+
+const CASES: [(Case, &str); 5] = [
+    (
+        Case::Crowd,
+        "the 65th connection is refused, and 64 silent ones are closed after a minute",
+    ),
+    (Case::Login, "a login has a minute"),
+    (Case::Quit, "the connection of an ended session is closed"),
+    (Case::Idle, "a turn without work comes back"),
+    (
+        Case::Together,
+        "users share a text, and others are not let in",
+    ),
+];
+
+#[test]
+fn a_server_serves_whom_it_is_to(rt: HostRuntime) -> Result<(), Fail> {
+    for &(case, name) in &CASES {
+        assert!(rt; is_so_at(&rt, 0, case)?, "{name}");
+    }
+    Ok(())
 }
 
 #[test]
-fn a_turn_without_work_comes_back(rt: HostRuntime) -> Result<(), Fail> {
-    assert!(rt; is_office_idle(&rt, notes_list(&rt))?);
+fn a_server_listens_where_it_is_asked_to(rt: HostRuntime) -> Result<(), Fail> {
+    let port = free_port(&rt)?;
+    assert!(rt; is_so_at(&rt, port, Case::Port(port))?);
     Ok(())
 }

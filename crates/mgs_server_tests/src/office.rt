@@ -12,23 +12,20 @@ use mgs_server::Server;
 use mgs_store::RefusingStore;
 use std::alloc::Global;
 use std::io;
-use std::process::Abort;
 use std::test::Fail;
 use std::time::{Clock, Duration};
 
 /// A server whose buffers have no files.
 pub(crate) type Office = Server<RefusingStore>;
 
-/// Ann may do everything with the notes, and bob read and write them.
-pub(crate) fn notes_list(rt: &impl Abort) -> List {
+// Ann may do everything with the notes, and bob read and write them.
+fn notes_list() -> Result<List, Fail> {
     let mut list = List::new();
     for &entry in &["ALLOW OWNER@ rwatdcCo", "ALLOW bob rwat"] {
-        match read_entry(entry) {
-            Ok(entry) => assert!(rt; list.insert(list.len(), entry).is_ok()),
-            Err(_) => panic!(rt; "no entry"),
-        }
+        let entry = read_entry(entry).ok().ok_or("no entry")?;
+        list.insert(list.len(), entry).ok().ok_or("no room")?;
     }
-    list
+    Ok(list)
 }
 
 // Adds a buffer of ann without a text.
@@ -75,16 +72,11 @@ fn office_config(alloc: Global, list: List) -> Result<Config, Fail>
     Ok(config)
 }
 
-/// A server of the notes with this list, on this port; 0 is one that the system chooses.
-pub(crate) fn open_office_at(rt: &HostRuntime, port: u16, list: List) -> Result<Office, Fail> {
-    let config = office_config(rt.alloc(), list)?;
+/// A server of the notes on this port; 0 is one that the system chooses.
+pub(crate) fn open_office(rt: &HostRuntime, port: u16) -> Result<Office, Fail> {
+    let config = office_config(rt.alloc(), notes_list()?)?;
     let office = Server::listen(rt, rt.alloc(), port, config, RefusingStore::new())?;
     Ok(office)
-}
-
-/// A server of the notes with this list, on a port that the system chose.
-pub(crate) fn open_office(rt: &HostRuntime, list: List) -> Result<Office, Fail> {
-    open_office_at(rt, 0, list)
 }
 
 // A clock that stands still, so many milliseconds after its start.

@@ -545,14 +545,22 @@ fn lists_are_full_at_64_entries(rt: HostRuntime) -> Result<(), Fail> {
     are_full(&rt, rt.alloc(), entries.as_str())
 }
 
-// Reads nothing, and takes all, which it cannot flush, or takes nothing.
+// Has nothing to read, and takes all, which it cannot flush; or neither reads nor takes. The first read may be interrupted.
 #[derive(Drop)]
 struct Broken {
     takes: bool,
+    is_interrupted: bool,
 }
 
 impl Read for Broken {
     fn read(&mut self, _buf: &mut [u8]) -> io::Result<usize> {
+        if self.is_interrupted {
+            self.is_interrupted = false;
+            return Err(io::Error::from(ErrorKind::Interrupted));
+        }
+        if self.takes {
+            return Ok(0);
+        }
         Err(io::Error::from(ErrorKind::Other))
     }
 }
@@ -576,18 +584,27 @@ impl Write for Broken {
 // The end of a script for such a writer.
 fn end_at(alloc: Global, script: &[u8], takes: bool) -> Result<(), ReplayFault> {
     let mut reader = script;
-    replay(alloc, &mut reader, &mut Broken { takes })
+    let mut writer = Broken {
+        takes,
+        is_interrupted: false,
+    };
+    replay(alloc, &mut reader, &mut writer)
 }
 
-// The end of what is not read.
-fn unread_end(alloc: Global) -> Result<(), ReplayFault> {
+// The end of what is read after an interruption, or not at all.
+fn read_end(alloc: Global, takes: bool) -> Result<(), ReplayFault> {
     let mut written = Vec::new(alloc);
-    replay(alloc, &mut Broken { takes: false }, &mut written)
+    let mut reader = Broken {
+        takes,
+        is_interrupted: true,
+    };
+    replay(alloc, &mut reader, &mut written)
 }
 
 #[test]
 fn faults_of_readers_and_writers_are_told(rt: HostRuntime) {
-    assert!(rt; unread_end(rt.alloc()) == Err(ReplayFault::Read));
+    assert!(rt; read_end(rt.alloc(), true) == Ok(()));
+    assert!(rt; read_end(rt.alloc(), false) == Err(ReplayFault::Read));
     assert!(rt; end_at(rt.alloc(), b"open a bob 6 20", false) == Err(ReplayFault::Write));
     assert!(rt; end_at(rt.alloc(), b"frob", true) == Err(ReplayFault::Write));
 }

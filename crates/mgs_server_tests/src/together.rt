@@ -1,8 +1,7 @@
 // Users at one text, and one who is not let in.
-use crate::office::{Office, notes_list, open_office};
+use crate::office::Office;
 use crate::screens::both_show;
 use crate::terminal::{Terminal, enter, is_closed, press};
-use mgs_acl::List;
 use std::test::Fail;
 
 const ANNS: &str = "|hi                  |\n\
@@ -74,24 +73,12 @@ fn both_type(
     both_show(rt.alloc(), office, ann, ANNS_THEN, bob, BOBS_THEN)
 }
 
-// Whether two share a text, and a third is not let in meanwhile.
-fn only_users_share(rt: &HostRuntime, office: &mut Office) -> Result<bool, Fail> {
+/// Whether two share a text, and a third is not let in meanwhile.
+pub(crate) fn only_users_share(rt: &HostRuntime, office: &mut Office) -> Result<bool, Fail> {
     let port = office.port();
     let mut ann = enter(rt, port, b"login ann t1 6 20\n")?;
     let mut bob = enter(rt, port, b"login bob t2 6 20\nhi")?;
     let is_shared = both_share(rt, office, &mut ann, &mut bob)?;
     let is_typed = both_type(rt, office, &mut ann, &mut bob)?;
     Ok(is_shared && is_typed)
-}
-
-// Whether an office with this list serves them so. It is dropped at one way out: a proof goes over all that is owned at each.
-fn is_office_shared(rt: &HostRuntime, list: List) -> Result<bool, Fail> {
-    let mut office = open_office(rt, list)?;
-    only_users_share(rt, &mut office)
-}
-
-#[test]
-fn users_share_a_text_and_others_are_not_let_in(rt: HostRuntime) -> Result<(), Fail> {
-    assert!(rt; is_office_shared(&rt, notes_list(&rt))?);
-    Ok(())
 }
