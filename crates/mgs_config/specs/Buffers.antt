@@ -8,6 +8,7 @@ use Rattle.mgs_model.specs.Names.{is_name, is_user_name}
 use Rattle.mgs_model.specs.Access.{is_among}
 use Rattle.mgs_model.specs.declared.entry.Entry.{Entry}
 use Rattle.mgs_acl.specs.Spelling.{entry_in}
+use Rattle.mgs_buffers.specs.MarkedBuffer.{MarkedBuffer, has_buffer}
 use Rattle.mgs_config.specs.Rows.{has_only, text_at, values_at, is_text, text_of}
 use Rattle.mgs_config.specs.declared.fault.TableFault.{TableFault}
 use Rattle.mgs_config.specs.declared.fault.TableFault.TheVariants.{Key, Name, Twice, Unknown, Entry as NoEntry, Long}
@@ -100,6 +101,10 @@ or_else (Some fault) later = Some fault
 
 abbrev pub refused_where : Bool → Bool → ℕ → Data → Option TableFault
 refused_where taken known count row = or_else (names_refused taken known row) (contents_refused count row)
+
+-- why the table of a buffer is refused where these buffers and these users are there
+abbrev pub refused_beside : List MarkedBuffer → List (List ℕ) → Data → Option TableFault
+refused_beside buffers users row = refused_where (has_buffer (name_of row) buffers) (is_among (owner_of row) users) (length buffers) row
 
 -- why the table of a buffer is refused after those of others, where these are the users; what its file holds aside
 abbrev pub buffer_refused : List (List ℕ) → List Data → Data → Option TableFault

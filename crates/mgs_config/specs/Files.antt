@@ -3,7 +3,7 @@ use Rattle.std.specs.Prelude.{◌≡◌, ◌≤◌, ◌<◌, ◌+◌, ℕ, nat_l
 use Rattle.toml.specs.Data.{Data}
 use Rattle.mgs_buffers.specs.MarkedBuffer.{MarkedBuffer, marked_new}
 use Rattle.mgs_config.specs.Faults.{first_fault}
-use Rattle.mgs_config.specs.Buffers.{name_of, owner_of, listed, entries_in, written, path_of, has_file, or_else, buffer_refused}
+use Rattle.mgs_config.specs.Buffers.{name_of, owner_of, listed, entries_in, written, path_of, has_file, or_else, refused_beside, buffer_refused}
 use Rattle.mgs_config.specs.declared.fault.TableFault.{TableFault}
 use Rattle.mgs_config.specs.declared.fault.TableFault.TheVariants.{Long, File, Short}
 
@@ -92,6 +92,10 @@ IsFaultAt tells (Some path) fault = IsFileFault (tells path) fault
 abbrev pub IsTableFault : Option TableFault → Tells → Option (List ℕ) → TableFault → Type 0
 IsTableFault None tells path fault = IsFaultAt tells path fault
 IsTableFault (Some due) tells path fault = due ≡ fault
+
+-- a fault of a table where these buffers and these users are there
+abbrev pub IsRowFault : Tells → List MarkedBuffer → List (List ℕ) → Data → TableFault → Type 0
+IsRowFault tells buffers users row fault = IsTableFault (refused_beside buffers users row) tells (path_of row) fault
 
 -- the first fault of the tables of buffers: no table before has one, and this table has it
 pub record IsBufferFault (tells : Tells) (users : List (List ℕ)) (rows : List Data) (fault : ℕ × TableFault) : Type 0 where

@@ -1,12 +1,13 @@
 -- What a configuration gives, or why it is refused.
-use Rattle.std.specs.Prelude.{◌≡◌, ℕ, not, List, [], ◌∷◌, map, codes, Option, Some, None, if◌then◌else◌}
+use Rattle.std.specs.Prelude.{◌≡◌, ℕ, not, List, [], ◌∷◌, map, codes, Option, Some, None, if◌then◌else◌, string_bytes}
 use Rattle.std.specs.Option.{option_map}
 use Rattle.toml.specs.Data.{Data}
 use Rattle.mgs_model.specs.Access.{Directory}
 use Rattle.mgs_config.specs.Faults.{first_fault, user_of, user_refused, names_of, group_of, group_refused}
 use Rattle.mgs_config.specs.Buffers.{name_of, path_of}
-use Rattle.mgs_config.specs.Files.{Tells, IsBufferFault}
+use Rattle.mgs_config.specs.Files.{Tells, table_refused, IsBufferFault}
 use Rattle.mgs_config.specs.Document.{is_configuration, rows_at}
+use Rattle.mgs_config.specs.declared.config.BufferFile.{BufferFile}
 use Rattle.mgs_config.specs.declared.fault.TableFault.{TableFault}
 use Rattle.mgs_config.specs.declared.fault.TableFault.TheVariants.{Toml, Key}
 use Rattle.mgs_config.specs.declared.fault.ConfigTable.{ConfigTable}
@@ -47,10 +48,25 @@ abbrev pub paths_in : List Data → List (List ℕ × List ℕ)
 paths_in [] = []
 paths_in (row ∷ rows) = with_path (path_of row) (name_of row) (paths_in rows)
 
+-- the tables of buffers
+abbrev pub buffer_rows : Data → List Data
+buffer_rows d = rows_at (codes "buffer") d
+
+abbrev pub files_in : Data → List (List ℕ × List ℕ)
+files_in d = paths_in (buffer_rows d)
+
+-- the names and paths of files that are kept
+abbrev pub paths_of : List BufferFile → List (List ℕ × List ℕ)
+paths_of files = map (λ f. (string_bytes f.name, string_bytes f.path)) files
+
+-- the first table of a buffer that is refused, and why, as far as is told of the files
+abbrev pub buffers_fault : Tells → Data → Option (ℕ × TableFault)
+buffers_fault tells d = first_fault (table_refused tells (names_of (users_in d))) [] (buffer_rows d)
+
 -- the fault that is due before the buffers, or else the first of theirs
 abbrev pub IsLaterFault : Option ConfigFault → Tells → Data → ConfigFault → Type 0
 IsLaterFault (Some due) tells d e = due ≡ e
-IsLaterFault None tells d e = (e.table ≡ Buffer) × IsBufferFault tells (names_of (users_in d)) (rows_at (codes "buffer") d) (e.index, e.fault)
+IsLaterFault None tells d e = (e.table ≡ Buffer) × IsBufferFault tells (names_of (users_in d)) (buffer_rows d) (e.index, e.fault)
 
 -- why a document, or what is none, is refused
 abbrev pub IsConfigFault : Option Data → Tells → ConfigFault → Type 0

@@ -6,7 +6,8 @@ ghost use Rattle.toml.specs.Data.{get};
 ghost use Rattle.toml.specs.View.{view};
 ghost use Rattle.mgs_model.specs.Access.{is_among};
 ghost use Rattle.mgs_buffers.specs.MarkedBuffer.{has_buffer};
-ghost use Rattle.mgs_config.specs.Buffers.{string_at, name_of, owner_of, listed, written, text_or_none, is_list_at, has_content, has_names, is_buffer_row, is_entry, entries_in, names_refused, contents_refused, refused_where};
+ghost use Rattle.mgs_config.specs.Buffers.{string_at, name_of, owner_of, listed, written, text_or_none, is_list_at, has_content, has_names, is_buffer_row};
+ghost use Rattle.mgs_config.specs.Buffers.{is_entry, entries_in, names_refused, contents_refused, refused_where, refused_beside};
 
 use crate::fault::TableFault;
 use crate::row::{are_texts, has_only, text_at, values_at};
@@ -178,7 +179,7 @@ fn contents_refused(count: usize, row: &Value) -> Option<TableFault>
 
 /// Why the table of a buffer is refused, what its file holds aside.
 pub fn refusal(directory: &Directory, buffers: &Buffers<GapText>, row: &Value) -> Option<TableFault>
-    ensures { result ≡ refused_where (has_buffer (name_of (view row.now)) buffers.now) (is_among (owner_of (view row.now)) directory.now.users) (length buffers.now) (view row.now) }
+    ensures { result ≡ refused_beside buffers.now directory.now.users (view row.now) }
 {
     match names_refused(directory, buffers, row) {
         Some(fault) => Some(fault),

@@ -5,7 +5,8 @@ ghost use Rattle.mgs_config.specs.Document.{document_in, rows_at};
 ghost use Rattle.mgs_config.specs.Faults.{first_fault, names_of};
 ghost use Rattle.mgs_buffers.specs.MarkedBuffer.{AreUnmarked};
 ghost use Rattle.mgs_config.specs.Files.{AreBuffers, IsCounted, table_refused};
-ghost use Rattle.mgs_config.specs.World.{fault_of, users_in, directory_in, people_refused, paths_in, IsLaterFault, IsConfigFault};
+ghost use Rattle.mgs_config.specs.World.{fault_of, users_in, directory_in, people_refused, buffer_rows, files_in, paths_in, paths_of};
+ghost use Rattle.mgs_config.specs.World.{buffers_fault, IsLaterFault, IsConfigFault};
 ghost use Rattle.mgs_config.specs.declared.fault.TableFault.TheVariants.{Short};
 ghost use Rattle.mgs_config.specs.declared.fault.ConfigTable.TheVariants.{Top};
 
@@ -85,7 +86,7 @@ fn read_people(alloc: Global, document: &Value) -> Result<(Directory, Tickets), 
 
 // Puts the path of a table's file last, where it has one.
 fn push_path(alloc: Global, files: &mut Vec<BufferFile>, row: &Value) -> Result<(), AllocError>
-    ensures { OnOk result (map (λ f. (string_bytes f.name, string_bytes f.path)) files.new.items ≡ map (λ f. (string_bytes f.name, string_bytes f.path)) files.old.items ++ paths_in (view row.now ∷ [])) }
+    ensures { OnOk result (paths_of files.new.items ≡ paths_of files.old.items ++ paths_in (view row.now ∷ [])) }
 {
     if let Some(path) = text_at(row, "file") {
         let name = String::from_str(alloc, string_at(row, "name"))?;
@@ -98,7 +99,7 @@ fn push_path(alloc: Global, files: &mut Vec<BufferFile>, row: &Value) -> Result<
 // The buffers of these tables that have files.
 #[tactic(auto, using(crate::proofs::Paths::paths_more))]
 fn read_paths(alloc: Global, rows: &[Value]) -> Result<Vec<BufferFile>, AllocError>
-    ensures { IfOk result (λ files. map (λ f. (string_bytes f.name, string_bytes f.path)) files.items ≡ paths_in (map view rows.now)) }
+    ensures { IfOk result (λ files. paths_of files.items ≡ paths_in (map view rows.now)) }
 {
     let mut files = Vec::new(alloc);
     for row in rows {
@@ -114,12 +115,12 @@ fn configure<F: Files>(
     files: &mut F,
 ) -> Result<Config, ConfigFault>
     ensures due { OnOk result (people_refused (view document.now) ≡ None) }
-    ensures none { OnOk result (first_fault (table_refused (F.tells files.old) (names_of (users_in (view document.now)))) [] (rows_at (codes "buffer") (view document.now)) ≡ None) }
+    ensures none { OnOk result (buffers_fault (F.tells files.old) (view document.now) ≡ None) }
     ensures directory { IfOk result (λ c. c.directory ≡ directory_in (view document.now)) }
     ensures tickets { IfOk result (λ c. c.tickets ≡ users_in (view document.now)) }
-    ensures buffers { IfOk result (λ c. AreBuffers (F.tells files.old) (rows_at (codes "buffer") (view document.now)) c.buffers) }
+    ensures buffers { IfOk result (λ c. AreBuffers (F.tells files.old) (buffer_rows (view document.now)) c.buffers) }
     ensures unmarked { IfOk result (λ c. AreUnmarked c.buffers) }
-    ensures files { IfOk result (λ c. map (λ f. (string_bytes f.name, string_bytes f.path)) c.files.items ≡ paths_in (rows_at (codes "buffer") (view document.now))) }
+    ensures files { IfOk result (λ c. paths_of c.files.items ≡ files_in (view document.now)) }
     ensures err { IfErr result (λ e. e.fault ≢ Short → IsLaterFault (people_refused (view document.now)) (F.tells files.old) (view document.now) e) }
     ensures short { IfErr result (λ e. e.fault ≡ Short → e ≡ fault_of Top (0, Short)) }
     ensures same { F.tells files.new ≡ F.tells files.old }
@@ -160,12 +161,12 @@ pub fn read_config<F: Files>(
     files: &mut F,
 ) -> Result<Config, ConfigFault>
     ensures due { OnOk result (IfSome (document_in text.now) (λ d. people_refused d ≡ None)) }
-    ensures none { OnOk result (IfSome (document_in text.now) (λ d. first_fault (table_refused (F.tells files.old) (names_of (users_in d))) [] (rows_at (codes "buffer") d) ≡ None)) }
+    ensures none { OnOk result (IfSome (document_in text.now) (λ d. buffers_fault (F.tells files.old) d ≡ None)) }
     ensures directory { IfOk result (λ c. Some c.directory ≡ option_map directory_in (document_in text.now)) }
     ensures tickets { IfOk result (λ c. Some c.tickets ≡ option_map users_in (document_in text.now)) }
-    ensures buffers { IfOk result (λ c. IfSome (document_in text.now) (λ d. AreBuffers (F.tells files.old) (rows_at (codes "buffer") d) c.buffers)) }
+    ensures buffers { IfOk result (λ c. IfSome (document_in text.now) (λ d. AreBuffers (F.tells files.old) (buffer_rows d) c.buffers)) }
     ensures unmarked { IfOk result (λ c. AreUnmarked c.buffers) }
-    ensures files { IfOk result (λ c. Some (map (λ f. (string_bytes f.name, string_bytes f.path)) c.files.items) ≡ option_map (λ d. paths_in (rows_at (codes "buffer") d)) (document_in text.now)) }
+    ensures files { IfOk result (λ c. Some (paths_of c.files.items) ≡ option_map files_in (document_in text.now)) }
     ensures err { IfErr result (λ e. e.fault ≢ Short → IsConfigFault (document_in text.now) (F.tells files.old) e) }
     ensures short { IfErr result (λ e. e.fault ≡ Short → e ≡ fault_of Top (0, Short)) }
     ensures same { F.tells files.new ≡ F.tells files.old }

@@ -3,9 +3,10 @@ ghost use Rattle.std.specs.Prelude.{◌≡◌, ◌≢◌, ◌≤◌, [], ◌∷�
 ghost use Rattle.toml.specs.View.{view};
 ghost use Rattle.mgs_model.specs.Access.{is_among};
 ghost use Rattle.mgs_buffers.specs.MarkedBuffer.{AreUnmarked, has_buffer};
-ghost use Rattle.mgs_config.specs.Buffers.{name_of, owner_of, listed, path_of, has_file, refused_where};
+ghost use Rattle.mgs_config.specs.Buffers.{name_of, owner_of, listed, path_of, has_file, refused_where, refused_beside};
 ghost use Rattle.mgs_config.specs.Faults.{first_fault};
-ghost use Rattle.mgs_config.specs.Files.{IsTold, told_fault, file_fault, table_refused, IsFileFault, IsFaultAt, IsTableFault, IsTextOf, IsCounted, buffer_of, IsAdded, AreBuffers, IsBufferFault};
+ghost use Rattle.mgs_config.specs.Files.{IsTold, told_fault, file_fault, table_refused, IsFileFault, IsFaultAt, IsTableFault, IsTextOf, IsCounted, buffer_of};
+ghost use Rattle.mgs_config.specs.Files.{IsAdded, AreBuffers, IsRowFault, IsBufferFault};
 ghost use Rattle.mgs_config.specs.declared.fault.TableFault.TheVariants.{Short};
 
 use crate::buffers::{chars_of, listed, read_list, refusal, string_at};
@@ -88,11 +89,11 @@ fn add_buffer<F: Files>(
     files: &mut F,
     row: &Value,
 ) -> Result<(), TableFault>
-    ensures due { OnOk result (refused_where (has_buffer (name_of (view row.now)) buffers.old) (is_among (owner_of (view row.now)) directory.now.users) (length buffers.old) (view row.now) ≡ None) }
+    ensures due { OnOk result (refused_beside buffers.old directory.now.users (view row.now) ≡ None) }
     ensures none { OnOk result (file_fault (F.tells files.old) (path_of (view row.now)) ≡ None) }
     ensures added { OnOk result (IsAdded (F.tells files.old) (view row.now) buffers.old buffers.new) }
     ensures unmarked { AreUnmarked buffers.old → AreUnmarked buffers.new }
-    ensures err { IfErr result (λ f. f ≢ Short → IsTableFault (refused_where (has_buffer (name_of (view row.now)) buffers.old) (is_among (owner_of (view row.now)) directory.now.users) (length buffers.old) (view row.now)) (F.tells files.old) (path_of (view row.now)) f) }
+    ensures err { IfErr result (λ f. f ≢ Short → IsRowFault (F.tells files.old) buffers.old directory.now.users (view row.now) f) }
     ensures same { F.tells files.new ≡ F.tells files.old }
     ensures read { OnOk result (F.count files.new ≡ F.count files.old) }
     ensures count { IfErr result (λ f. IsCounted f (F.count files.old) (F.count files.new)) }

@@ -6,7 +6,8 @@ ghost use Rattle.mgs_policy.specs.Directories.{with_user, with_group};
 ghost use Rattle.mgs_model.specs.Tickets.{ticket_fault, with_ticket};
 ghost use Rattle.mgs_policy.specs.Directories.{group_fault};
 ghost use Rattle.mgs_config.specs.Rows.{user_row, group_row};
-ghost use Rattle.mgs_config.specs.Faults.{first_fault, of_ticket, user_of, names_of, ticket_refused, user_refused, of_directory, group_of, added_refused, group_refused};
+ghost use Rattle.mgs_config.specs.Faults.{first_fault, of_ticket, user_of, names_of, ticket_refused, user_refused};
+ghost use Rattle.mgs_config.specs.Faults.{of_directory, group_of, added_refused, group_refused};
 ghost use Rattle.mgs_config.specs.declared.fault.TableFault.TheVariants.{Short};
 
 use crate::fault::TableFault;
@@ -53,7 +54,8 @@ fn add_user(directory: &mut Directory, tickets: &mut Tickets, row: &Value) -> Re
 
 // Adds a group to a directory.
 fn add_members(directory: &mut Directory, name: &str, members: &[&str]) -> Result<(), TableFault>
-    ensures ok { OnOk result ((group_fault directory.old name.now (map (λ m. m.now) members.now) ≡ None) × (directory.new ≡ with_group directory.old name.now (map (λ m. m.now) members.now))) }
+    ensures due { OnOk result (group_fault directory.old name.now (map (λ m. m.now) members.now) ≡ None) }
+    ensures group { OnOk result (directory.new ≡ with_group directory.old name.now (map (λ m. m.now) members.now)) }
     ensures err { IfErr result (λ f. f ≢ Short → option_map of_directory (group_fault directory.old name.now (map (λ m. m.now) members.now)) ≡ Some f) }
 {
     match directory.add_group(name, members) {
