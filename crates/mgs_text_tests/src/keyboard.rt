@@ -348,7 +348,10 @@ fn is_read(before: &[u8], bytes: &[u8], c: char) -> bool {
     let _before = last_fed(&mut keyboard, before);
     let mut read = Sequence::Begun;
     for byte in bytes {
-        if read != Sequence::Begun || !keyboard.is_character_byte(*byte) {
+        if read != Sequence::Begun {
+            return false;
+        }
+        if !keyboard.is_character_byte(*byte) {
             return false;
         }
         read = keyboard.feed_character(*byte);
@@ -368,15 +371,12 @@ fn characters_are_read(rt: HostRuntime) {
 // Whether a byte is one of a character behind what is held, where it is to be one, and then begins it or goes on with it, where it may.
 fn is_judged(held: &Keyboard, byte: u8, belongs: bool, fits: bool) -> bool {
     let mut keyboard = *held;
-    if keyboard.is_character_byte(byte) != belongs {
-        return false;
-    }
-    if !belongs {
-        return true;
+    if !keyboard.is_character_byte(byte) {
+        return !belongs;
     }
     match keyboard.feed_character(byte) {
-        Sequence::Begun | Sequence::Whole(_) => fits,
-        Sequence::Broken => !fits && keyboard.feed(b'2') == character(b'2', None),
+        Sequence::Begun | Sequence::Whole(_) => belongs && fits,
+        Sequence::Broken => belongs && !fits && keyboard.feed(b'2') == character(b'2', None),
     }
 }
 
