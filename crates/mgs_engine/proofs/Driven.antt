@@ -36,7 +36,7 @@ use Rattle.mgs_engine.specs.declared.ending.Cause.{Cause}
 use Rattle.mgs_engine.specs.declared.ending.Cause.TheVariants.{Slow}
 use Rattle.mgs_engine.specs.Does.{Does}
 use Rattle.mgs_engine.specs.Drives.{Asked, Opens, Types, Closes, Takes, Asks, Makes, Rig, Runs, RunsSome, answered}
-use Rattle.mgs_engine.specs.Driven.{AreOf, AreTaped, Gives, IsRun, IsRunOfSome, IsTaped}
+use Rattle.mgs_engine.specs.Driven.{AreTaped, Gives, HasEvents, IsRun, IsRunOfSome, IsTaped}
 use Rattle.mgs_engine.specs.Handled.{Handles}
 use Rattle.mgs_engine.specs.Painted.{Painted, PaintedBy}
 use Rattle.mgs_engine.specs.Queues.{Queue, after_taking, find_queue, is_queue_of, waiting_in}
@@ -51,7 +51,7 @@ record Made (r : Rig) (c : Asked) (s : Rig) : Type 0 where
   answer : Answer
   told : s.tape.answers ≡ r.tape.answers ++ answer ∷ []
   events : List Event
-  of : AreOf c answer events
+  of : HasEvents r.serving c answer s.serving events
   world : s.serving.world ≡ run r.serving.world events
   saves : s.serving.store.accepted ≡ told_more (run_saves r.serving.world events) r.serving.store.accepted
 
@@ -60,7 +60,7 @@ made_open r s user rows cols (Ok id) d t = record {
   answer = answers.Open (Ok id);
   told = ap (λ (x : Told). x.answers) t;
   events = Open id user rows cols ∷ [];
-  of = refl;
+  of = (d, refl);
   world = d.0.ok.2;
   saves = ap (λ (t : StoreTold). t.accepted) d.0.store ∙ told_none r.serving.store.accepted [] refl;
 }
@@ -68,7 +68,7 @@ made_open r s user rows cols (Err fault) d t = record {
   answer = answers.Open (Err fault);
   told = ap (λ (x : Told). x.answers) t;
   events = [];
-  of = refl;
+  of = (d, refl);
   world = ap (λ (x : Serving). x.world) d.0.err;
   saves = ap (λ (x : Serving). x.store.accepted) d.0.err ∙ told_none r.serving.store.accepted [] refl;
 }
@@ -82,7 +82,7 @@ made r s (Types id byte) m =
       answer = answers.Byte m.0;
       told = ap (λ (x : Told). x.answers) m.2;
       events = Byte id byte h.step.stored h.step.stop ∷ slow;
-      of = (h.step.stored, h.step.stop, slow_ids r.serving h.typed.world, refl);
+      of = (m.1, refl);
       world = h.closes ∙ ap (λ (w : World). run w slow) h.step.step;
       saves =
           ap (λ (x : Serving). x.store.accepted) h.slow
@@ -90,16 +90,16 @@ made r s (Types id byte) m =
           ∙ h.step.saves
           ∙ ap (λ (xs : List Saved). told_more xs r.serving.store.accepted) (sym (saves_first r.serving.world (Byte id byte h.step.stored h.step.stop) (slow_ids r.serving h.typed.world)));
     }
-made r s (Closes id) m = record { answer = answers.Close; told = ap (λ (x : Told). x.answers) m.2; events = Close id ∷ []; of = refl; world = m.1; saves = ap (λ (x : Serving). x.store.accepted) m.0.0 ∙ told_none r.serving.store.accepted [] refl }
-made r s (Takes id most) m = record { answer = answers.Took m.0; told = m.4; events = []; of = refl; world = ap (λ (x : Serving). x.world) m.3; saves = ap (λ (x : Serving). x.store.accepted) m.3 ∙ told_none r.serving.store.accepted [] refl }
-made r s Asks m = record { answer = answers.Ended m.0; told = ap (λ (x : Told). x.answers) m.3; events = []; of = refl; world = ap (λ (x : Serving). x.world) m.2; saves = ap (λ (x : Serving). x.store.accepted) m.2 ∙ told_none r.serving.store.accepted [] refl }
+made r s (Closes id) m = record { answer = answers.Close; told = ap (λ (x : Told). x.answers) m.2; events = Close id ∷ []; of = (m.0, refl); world = m.1; saves = ap (λ (x : Serving). x.store.accepted) m.0.0 ∙ told_none r.serving.store.accepted [] refl }
+made r s (Takes id most) m = record { answer = answers.Took m.0; told = m.4; events = []; of = (m.3, refl); world = ap (λ (x : Serving). x.world) m.3; saves = ap (λ (x : Serving). x.store.accepted) m.3 ∙ told_none r.serving.store.accepted [] refl }
+made r s Asks m = record { answer = answers.Ended m.0; told = ap (λ (x : Told). x.answers) m.3; events = []; of = (m.1, m.2, refl); world = ap (λ (x : Serving). x.world) m.2; saves = ap (λ (x : Serving). x.store.accepted) m.2 ∙ told_none r.serving.store.accepted [] refl }
 
 pub runs_events : (r s : Rig) (cs : List Asked) → Runs r cs s → IsRun r cs s
 runs_events r s [] h = record {
   answers = [];
   told = ap (λ (x : Rig). x.tape.answers) h ∙ sym (append-nil r.tape.answers);
   events = [];
-  each = refl;
+  each = (refl, ap (λ (x : Rig). x.serving) h);
   world = ap (λ (x : Rig). x.serving.world) h;
   saves = ap (λ (x : Rig). x.serving.store.accepted) h ∙ told_none r.serving.store.accepted [] refl;
 }
@@ -110,7 +110,7 @@ runs_events r s (c ∷ cs) h =
       answers = first.answer ∷ rest.answers;
       told = rest.told ∙ ap (λ xs. xs ++ rest.answers) first.told ∙ append_assoc r.tape.answers (first.answer ∷ []) rest.answers;
       events = first.events ++ rest.events;
-      each = (first.events, rest.events, first.of, rest.each, refl);
+      each = (h.0.serving, first.events, rest.events, first.of, rest.each, refl);
       world = rest.world ∙ ap (λ (w : World). run w rest.events) first.world ∙ sym (run-append r.serving.world first.events rest.events);
       saves =
           rest.saves

@@ -26,20 +26,21 @@ use Rattle.mgs_engine.specs.Serving.{Serving, opening_fault, slots_used}
 pub open_screens : (w : World) (xs : List Screen) → map shown_size xs ≡ sizes w → length w.sessions ≡ length xs
 open_screens w xs e = sym (length-map w.sessions session_size) ∙ sym (ap length e) ∙ length-map xs shown_size
 
-pub same_slots : (xs ys : List Screen) (es : List (ℕ × Cause)) (n : ℕ) → map shown_size ys ≡ map shown_size xs → HasSlots xs es n → HasSlots ys es n
-same_slots xs ys es n e h =
+-- lists of the same lengths in the same room
+pub same_slots : (xs ys : List Screen) (es : List (ℕ × Cause)) (m n k : ℕ) → map shown_size ys ≡ map shown_size xs → k ≡ m → HasSlots xs es m n → HasSlots ys es k n
+same_slots xs ys es m n k e room h =
     let l : length ys ≡ length xs = sym (length-map ys shown_size) ∙ ap length e ∙ length-map xs shown_size in
-    record { limit = h.limit; each = omega (arith, l, h.each) }
+    record { limit = h.limit; each = omega (arith, l, h.each); same = room ∙ h.same }
 
-pub more_slots : (xs ys : List Screen) (z : Screen) (es : List (ℕ × Cause)) (n : ℕ) → ys ≡ xs ++ z ∷ [] → HasSlots xs es n → length xs + length es < SESSION_LIMIT → HasSlots ys es n
-more_slots xs ys z es n is h l =
-    let m : length ys ≡ length xs + 1 = ap length is ∙ length_push xs z in
-    record { limit = h.limit; each = omega (arith, m, l, h.limit) }
+pub more_slots : (xs ys : List Screen) (z : Screen) (es : List (ℕ × Cause)) (m n k : ℕ) → ys ≡ xs ++ z ∷ [] → k ≡ m → HasSlots xs es m n → length xs + length es < SESSION_LIMIT → HasSlots ys es k n
+more_slots xs ys z es m n k is room h l =
+    let len : length ys ≡ length xs + 1 = ap length is ∙ length_push xs z in
+    record { limit = h.limit; each = omega (arith, len, l, h.limit); same = room ∙ h.same }
 
-pub told_slots : (xs : List Screen) (es : List (ℕ × Cause)) (n : ℕ) → HasSlots xs es n → HasSlots xs (drop 1 es) n
-told_slots xs es n h =
+pub told_slots : (xs : List Screen) (es : List (ℕ × Cause)) (m n : ℕ) → HasSlots xs es m n → HasSlots xs (drop 1 es) m n
+told_slots xs es m n h =
     let l : length (drop 1 es) ≡ length es - 1 = length-drop 1 es in
-    record { limit = h.limit; each = omega (arith, l, h.each) }
+    record { limit = h.limit; each = omega (arith, l, h.each); same = h.same }
 
 -- FAULTS
 

@@ -1,5 +1,5 @@
 -- WHAT A LIST OF CALLS DOES: the world is the run of its events, and the bytes draw the last screens.
-use Rattle.std.specs.Prelude.{◌≡◌, ℕ, ◌<◌, Bool, List, [], ◌∷◌, ◌++◌, Option, Some, None, Ok, Err, length, take, map}
+use Rattle.std.specs.Prelude.{◌≡◌, ℕ, ◌<◌, List, [], ◌∷◌, ◌++◌, Some, None, Ok, Err, length, take, drop, map, slice_get}
 use Rattle.mgs_model.specs.Draw.{screen}
 use Rattle.mgs_model.specs.Events.{Event, Open, Byte, Close, run, run_saves}
 use Rattle.mgs_model.specs.Picture.{Picture}
@@ -8,34 +8,40 @@ use Rattle.mgs_term.specs.Drawing.{Anything, Draws}
 use Rattle.mgs_term.specs.Screen.{Screen, IsScreen}
 use Rattle.mgs_paint.specs.Painting.{shown}
 use Rattle.mgs_store.specs.Stores.{told_more}
+use Rattle.mgs_wire.specs.Calls as wire
 use Rattle.mgs_engine.specs.declared.tape.Answer.{Answer}
 use Rattle.mgs_engine.specs.declared.tape.Answer.TheVariants as answers
+use Rattle.mgs_engine.specs.Does.{Does, taken_by}
 use Rattle.mgs_engine.specs.Drives.{Asked, Opens, Types, Closes, Takes, Asks, Rig}
-use Rattle.mgs_engine.specs.Serving.{pending_of}
+use Rattle.mgs_engine.specs.Serving.{Serving, pending_of}
+use Rattle.mgs_engine.specs.Slow.{slow_ids}
 use Rattle.mgs_engine.specs.Tapes.{bytes_on}
 
--- EVENTS: an open is one where it answered Ok; a byte is one, with a close for each session that fell behind by it; a close
--- is one
-abbrev pub AreOf : Asked → Answer → List Event → Type 0
-AreOf (Opens user rows cols) (answers.Open (Ok id)) es = es ≡ Open id user rows cols ∷ []
-AreOf (Opens user rows cols) (answers.Open (Err fault)) es = es ≡ []
-AreOf (Types id byte) (answers.Byte a) es = (stored : Bool) × (stop : Option ℕ) × (slow : List ℕ) × (es ≡ Byte id byte stored stop ∷ map (λ i. Close i) slow)
-AreOf (Closes id) answers.Close es = es ≡ Close id ∷ []
-AreOf (Takes id most) (answers.Took n) es = es ≡ []
-AreOf Asks (answers.Ended a) es = es ≡ []
-AreOf _ _ es = ⊥
+-- EVENTS. A call leads from what is served to what is served then. An open is one event where it answered Ok; a byte is one, with a
+-- close for each session that fell behind by it; a close is one. Of a byte, the store's answer, the number of acts for which there was
+-- memory and the sessions that fell behind are those with which it was handled.
+abbrev pub HasEvents : Serving → Asked → Answer → Serving → List Event → Type 0
+HasEvents s (Opens user rows cols) (answers.Open (Ok id)) t es = Does s (wire.Open user rows cols (Ok id)) t × (es ≡ Open id user rows cols ∷ [])
+HasEvents s (Opens user rows cols) (answers.Open (Err fault)) t es = Does s (wire.Open user rows cols (Err fault)) t × (es ≡ [])
+HasEvents s (Types id byte) (answers.Byte a) t es =
+    (d : Does s (wire.Byte id byte a) t) × (es ≡ Byte id byte d.0.step.stored d.0.step.stop ∷ map (λ i. Close i) (slow_ids s d.0.typed.world))
+HasEvents s (Closes id) answers.Close t es = Does s (wire.Close id) t × (es ≡ Close id ∷ [])
+HasEvents s (Takes id most) (answers.Took n) t es = (t ≡ taken_by id n s) × (es ≡ [])
+HasEvents s Asks (answers.Ended a) t es = (a ≡ slice_get s.ended 0) × (t ≡ record s { ended = drop 1 s.ended }) × (es ≡ [])
+HasEvents _ _ _ _ _ = ⊥
 
-abbrev pub AreAllOf : List Asked → List Answer → List Event → Type 0
-AreAllOf [] [] es = es ≡ []
-AreAllOf (c ∷ cs) (a ∷ told) es = (first rest : List Event) × AreOf c a first × AreAllOf cs told rest × (es ≡ first ++ rest)
-AreAllOf _ _ es = ⊥
+-- one after another, each from what the calls before it left
+abbrev pub HaveEvents : Serving → List Asked → List Answer → Serving → List Event → Type 0
+HaveEvents s [] [] t es = (es ≡ []) × (t ≡ s)
+HaveEvents s (c ∷ cs) (a ∷ told) t es = (mid : Serving) × (first rest : List Event) × HasEvents s c a mid first × HaveEvents mid cs told t rest × (es ≡ first ++ rest)
+HaveEvents _ _ _ _ _ = ⊥
 
 -- the calls have these answers, put behind those on the tape, and the world after is that of their events
 pub record IsRun (r : Rig) (cs : List Asked) (s : Rig) : Type 0 where
   pub answers : List Answer
   pub told : s.tape.answers ≡ r.tape.answers ++ answers
   pub events : List Event
-  pub each : AreAllOf cs answers events
+  pub each : HaveEvents r.serving cs answers s.serving events
   pub world : s.serving.world ≡ run r.serving.world events
   -- what the store accepted is what they save
   pub saves : s.serving.store.accepted ≡ told_more (run_saves r.serving.world events) r.serving.store.accepted

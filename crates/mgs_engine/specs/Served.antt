@@ -30,7 +30,9 @@ pub record IsServedInTime (world : World) (xs : List Screen) : Type 0 where
   pub each : All IsSessionScreen xs
   pub drawn : All (IsDrawnInTime world) xs
 
--- what ended has a place for each session that is open, and for 64 at least
-pub record HasSlots (xs : List Screen) (ended : List (ℕ × Cause)) (capacity : ℕ) : Type 0 where
+-- What ended has a place for each session that is open, and for 64 at least. The screens have as many places, so that neither list ever
+-- grows.
+pub record HasSlots (xs : List Screen) (ended : List (ℕ × Cause)) (room capacity : ℕ) : Type 0 where
   pub limit : SESSION_LIMIT ≤ capacity
   pub each : length xs + length ended ≤ capacity
+  pub same : room ≡ capacity

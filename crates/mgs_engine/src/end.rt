@@ -25,10 +25,10 @@ pub(crate) fn end_screen(
     id: SessionId,
     cause: Cause,
 )
-    requires { HasSlots screens.old.items ended.old.items (vec_capacity ended.old) }
+    requires { HasSlots screens.old.items ended.old.items (vec_capacity screens.old) (vec_capacity ended.old) }
     ensures screens { screens.new.items ≡ remove_first (screen_id id) screens.old.items }
     ensures ended { ended.new.items ≡ ended.old.items ++ cond (is_some (find (screen_id id) screens.old.items)) ((id, cause) ∷ []) [] }
-    ensures slots { HasSlots screens.new.items ended.new.items (vec_capacity ended.new) }
+    ensures slots { HasSlots screens.new.items ended.new.items (vec_capacity screens.new) (vec_capacity ended.new) }
 {
     let at = place_of(screens, id);
     if at < screens.len() {
@@ -57,10 +57,10 @@ fn end_slow<T: Marked + Drop, S: Store + Drop>(
     id: SessionId,
 )
     requires served { IsServedInTime core.old.world screens.old.items }
-    requires slots { HasSlots screens.old.items ended.old.items (vec_capacity ended.old) }
+    requires slots { HasSlots screens.old.items ended.old.items (vec_capacity screens.old) (vec_capacity ended.old) }
     requires late { option_map (λ x. x.id) (find is_late screens.old.items) ≡ Some id }
     ensures served { IsServedInTime core.new.world screens.new.items }
-    ensures slots { HasSlots screens.new.items ended.new.items (vec_capacity ended.new) }
+    ensures slots { HasSlots screens.new.items ended.new.items (vec_capacity screens.new) (vec_capacity ended.new) }
     ensures ended { serving_of core.new screens.new.items ended.new.items ≡ ended_by Slow id (serving_of core.old screens.old.items ended.old.items) }
     ensures closes { core.new.world ≡ step core.old.world (Close id) }
     ensures late { late_ids screens.old.items ≡ id ∷ late_ids screens.new.items }
@@ -77,9 +77,9 @@ pub(crate) fn end_late<T: Marked + Drop, S: Store + Drop>(
     ended: &mut Vec<(SessionId, Cause)>,
 )
     requires served { IsServedInTime core.old.world screens.old.items }
-    requires slots { HasSlots screens.old.items ended.old.items (vec_capacity ended.old) }
+    requires slots { HasSlots screens.old.items ended.old.items (vec_capacity screens.old) (vec_capacity ended.old) }
     ensures served { IsServed core.new.world screens.new.items }
-    ensures slots { HasSlots screens.new.items ended.new.items (vec_capacity ended.new) }
+    ensures slots { HasSlots screens.new.items ended.new.items (vec_capacity screens.new) (vec_capacity ended.new) }
     ensures ended { serving_of core.new screens.new.items ended.new.items ≡ all_ended_by Slow (late_ids screens.old.items) (serving_of core.old screens.old.items ended.old.items) }
     ensures closes { core.new.world ≡ run core.old.world (map (λ i. Close i) (late_ids screens.old.items)) }
     ensures kept { AreAmong screens.new.items screens.old.items }

@@ -1,5 +1,5 @@
 // Bytes leave the queues.
-ghost use Rattle.std.specs.Prelude.{◌≡◌, ◌≤◌, map, All, length};
+ghost use Rattle.std.specs.Prelude.{◌≡◌, ◌≤◌, map, All, length, vec_capacity};
 ghost use Rattle.mgs_model.specs.Apply.{change_first};
 ghost use Rattle.mgs_engine.specs.Queues.{after_taking, waiting_in, find_queue, is_queue_of};
 ghost use Rattle.mgs_engine.specs.Screens.{IsSessionScreen, drawn_of, queue_of, queues_of};
@@ -20,11 +20,12 @@ fn take_front(screen: &mut Screen, n: usize)
 }
 
 /// Takes `n` bytes from the front of the queue of the first screen of an id, of the bytes that wait there. Where none
-/// has the id, nothing waits and nothing is taken. What terminals show stays.
+/// has the id, nothing waits and nothing is taken. What terminals show stays, and the list does not grow.
 pub(crate) fn take_from(screens: &mut Vec<Screen>, id: SessionId, n: usize)
     requires each { All IsSessionScreen screens.old.items }
     requires within { n ≤ length (waiting_in (find_queue id (queues_of screens.old.items))) }
     ensures each { All IsSessionScreen screens.new.items }
+    ensures capacity { vec_capacity screens.new ≡ vec_capacity screens.old }
     ensures drawn { map drawn_of screens.new.items ≡ map drawn_of screens.old.items }
     ensures queues { queues_of screens.new.items ≡ change_first (is_queue_of id) (after_taking n) (queues_of screens.old.items) }
 {

@@ -11,7 +11,7 @@ use Rattle.mgs_engine.proofs.end.end_late.Given as goal
 abbrev pub invariant-loop-id : goal.invariant-loop-id
 invariant-loop-id g l = record {
   served : IsServedInTime l.core.world l.screens.items;
-  slots : HasSlots l.screens.items l.ended.items (vec_capacity l.ended);
+  slots : HasSlots l.screens.items l.ended.items (vec_capacity l.screens) (vec_capacity l.ended);
   ended :
       all_ended_by Slow (late_ids l.screens.items) (serving_of l.core l.screens.items l.ended.items)
       ≡ all_ended_by Slow (late_ids l.initial.screens.items) (serving_of l.initial.core l.initial.screens.items l.initial.ended.items);

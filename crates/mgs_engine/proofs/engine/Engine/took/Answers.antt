@@ -12,5 +12,5 @@ invariant_of-self g c = (
     drawn = drawn_same c.self.inside.core.world c.take_from.new.screens.items c.self.inside.screens.items c.take_from.ensures.drawn c.self.invariant.0.drawn;
     on_time = on_time_same c.take_from.new.screens.items c.self.inside.screens.items c.take_from.ensures.drawn c.self.invariant.0.on_time;
   },
-  same_slots c.self.inside.screens.items c.take_from.new.screens.items c.self.inside.ended.items _ (sizes_same c.take_from.new.screens.items c.self.inside.screens.items c.take_from.ensures.drawn) c.self.invariant.1,
+  same_slots c.self.inside.screens.items c.take_from.new.screens.items c.self.inside.ended.items _ _ _ (sizes_same c.take_from.new.screens.items c.self.inside.screens.items c.take_from.ensures.drawn) c.take_from.ensures.capacity c.self.invariant.1,
 )
