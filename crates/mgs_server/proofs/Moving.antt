@@ -4,14 +4,15 @@ use Rattle.std.specs.Prelude.{option_map, slice_index_or, Result, Ok, Err, IfOk,
 use Rattle.slab.specs.Slab.{Slab, get, Updates, with_value}
 use Rattle.slab.proofs.SlabLemmas.{Updates-with_value}
 use Rattle.mgs_wire.specs.declared.pump.PumpedIn.{PumpedIn}
+use Rattle.mgs_wire.specs.declared.pump.PumpedIn.TheVariants.{Took, Idle, Finished, Failed}
 use Rattle.mgs_wire.specs.declared.pump.PumpedOut.{PumpedOut}
 use Rattle.mgs_wire.specs.declared.pump.PumpedOut.TheVariants as out
 use Rattle.mgs_wire.specs.Calls.{Call}
-use Rattle.mgs_wire.specs.Connections.{Connection, Logging_in, Serving, Refused, Over, waiting, is_logging_in, is_reading, stopped, Breaks, Writes}
+use Rattle.mgs_wire.specs.Connections.{Connection, Logging_in, Serving, Refused, Over, waiting, is_logging_in, is_reading, stopped, Breaks, Ends, Writes}
 use Rattle.mgs_wire.specs.Pumps.{PumpsIn, Finishes, Leaves, WritesFirst}
 use Rattle.mgs_server.specs.declared.peer.Peer.{Peer}
 use Rattle.mgs_server.specs.Calls.{Calls}
-use Rattle.mgs_server.specs.Peers.{Desk, desk, peers_of, under, IsChanged, AreTaken, Taken, Step, Reads, Writes as Writing, Stops, GivesUp, Expires, Move, Comes, Serves, Goes, IsStep, AreSteps, Stepped, IsMove, AreMoves, Moved, IsOverAt, is_closing}
+use Rattle.mgs_server.specs.Peers.{Desk, desk, peers_of, under, IsChanged, AreTaken, Taken, Step, Reads, Writes as Writing, Stops, GivesUp, Expires, Move, Comes, Serves, Goes, IsStep, AreSteps, Stepped, IsMove, AreMoves, Moved, IsOverAt, IsUnread, is_closing, is_taking}
 use Rattle.mgs_server.proofs.Calling.{calls_breaks, calls_pumped, calls_then, calls_written, none_made}
 
 -- SLABS
@@ -70,7 +71,7 @@ closing_written does n (Serving id) next old new c p = absurd cc
 closing_written does n (Refused left) next old new c p = ap is_closing p.0
 closing_written does n (Over session) next old new c p = ap is_closing p.0
 
-closing_broken : {E : Type 0} (does : E → Call → E → Type 0) (conn next : Connection) (old new : E) → Breaks does conn old next new → is_closing next ≡ true
+pub closing_broken : {E : Type 0} (does : E → Call → E → Type 0) (conn next : Connection) (old new : E) → Breaks does conn old next new → is_closing next ≡ true
 closing_broken does (Logging_in line) next old new p = ap is_closing p.0
 closing_broken does (Serving id) next old new p = ap is_closing p.0
 closing_broken does (Refused left) next old new p = ap is_closing p.0
@@ -84,6 +85,30 @@ closing_leaves does out.Failed n conn next old new c p = closing_broken does p.0
 -- nothing more is read of one that was stopped, whatever is written to it
 pub closing_stays : {E : Type 0} (does : E → Call → E → Type 0) (outcome : PumpedOut) (bytes : List ℕ) (held holds : Option (List ℕ)) (conn mid next : Connection) (old new : E) → mid ≡ stopped conn → WritesFirst does outcome bytes held holds mid old next new → is_closing next ≡ true
 closing_stays does outcome bytes held holds conn mid next old new e p = closing_leaves does outcome p.count mid next old new (ap is_closing e ∙ closing_stopped conn) p.leaves
+
+-- WHEN NOTHING WAS READ OF ONE
+
+closing_ended : {E : Type 0} (does : E → Call → E → Type 0) (conn next : Connection) (old new : E) → Ends does conn old next new → is_closing next ≡ true
+closing_ended does (Logging_in line) next old new p = ap is_closing p.0
+closing_ended does (Serving id) next old new p = ap is_closing p.0
+closing_ended does (Refused left) next old new p = ap is_closing p.0
+closing_ended does (Over session) next old new p = ap is_closing p.0
+
+-- one of which nothing more is read does not go on
+unread_closing : {E : Type 0} (conn next : Connection) (old new : E) → is_closing next ≡ true → IsUnread conn old next new
+unread_closing conn next old new e = λ f. absurd cc
+
+unread_by : {E : Type 0} (does : E → Call → E → Type 0) (live : ℕ → E → Bool) (tickets : List (List ℕ × List ℕ)) (answer : PumpedIn) (left rest : Option (List ℕ)) (conn next : Connection) (old new : E) (v : Bool) → is_reading live conn old ≡ v
+    → PumpsIn does live tickets answer left rest conn old next new → Finishes live answer conn old next new → is_taking answer ≡ false → IsUnread conn old next new
+unread_by does live tickets answer left rest conn next old new false e p q t = unread_closing conn next old new (ap is_closing (q e).1 ∙ closing_stopped conn)
+unread_by does live tickets (Took n) left rest conn next old new true e p q t = absurd cc
+unread_by does live tickets Idle left rest conn next old new true e p q t = λ f. ((p e).1, (p e).2)
+unread_by does live tickets Finished left rest conn next old new true e p q t = unread_closing conn next old new (closing_ended does conn next old new (p e).2)
+unread_by does live tickets Failed left rest conn next old new true e p q t = unread_closing conn next old new (closing_broken does conn next old new (p e).1)
+
+pub unread : {E : Type 0} (does : E → Call → E → Type 0) (live : ℕ → E → Bool) (tickets : List (List ℕ × List ℕ)) (answer : PumpedIn) (left rest : Option (List ℕ)) (conn next : Connection) (old new : E)
+    → PumpsIn does live tickets answer left rest conn old next new → Finishes live answer conn old next new → is_taking answer ≡ false → IsUnread conn old next new
+unread does live tickets answer left rest conn next old new p q t = unread_by does live tickets answer left rest conn next old new (is_reading live conn old) refl p q t
 
 module _ {E : Type 0} (does : E → Call → E → Type 0) (live : ℕ → E → Bool) (pending : ℕ → E → List ℕ) (tickets : List (List ℕ × List ℕ)) where
   -- ONE

@@ -12,7 +12,7 @@ use Rattle.mgs_store.proofs.Told.{told_none, told_twice}
 use Rattle.mgs_wire.specs.Calls.{Call, Open, Byte, Close, Took}
 use Rattle.mgs_engine.specs.declared.ending.Cause.TheVariants.{Slow}
 use Rattle.mgs_engine.specs.Does.{Does}
-use Rattle.mgs_engine.specs.Driven.{AreOf, AreAllOf}
+use Rattle.mgs_engine.specs.Driven.{HasEvents}
 use Rattle.mgs_engine.specs.Handled.{Handles}
 use Rattle.mgs_engine.specs.Serving.{Serving, pending_of}
 use Rattle.mgs_engine.specs.Slow.{slow_ids}
@@ -29,20 +29,20 @@ use Rattle.mgs_server.proofs.Moving.{moved_calls, moved_then}
 -- the events of one call
 record Came (old : Serving) (c : Call) (new : Serving) : Type 0 where
   events : List Event
-  of : AreOf (asked_by c) (answer_of c) events
+  has : HasEvents old (asked_by c) (answer_of c) new events
   world : new.world ≡ run old.world events
   saves : new.store.accepted ≡ told_more (run_saves old.world events) old.store.accepted
 
 came_open : (old new : Serving) (user : List ℕ) (rows cols : ℕ) (a : Result ℕ OpenFault) → Does old (Open user rows cols a) new → Came old (Open user rows cols a) new
 came_open old new user rows cols (Ok id) d = record {
   events = model.Open id user rows cols ∷ [];
-  of = refl;
+  has = (d, refl);
   world = d.0.ok.2;
   saves = ap (λ (t : StoreTold). t.accepted) d.0.store ∙ told_none old.store.accepted [] refl;
 }
 came_open old new user rows cols (Err fault) d = record {
   events = [];
-  of = refl;
+  has = (d, refl);
   world = ap (λ (s : Serving). s.world) d.0.err;
   saves = ap (λ (s : Serving). s.store.accepted) d.0.err ∙ told_none old.store.accepted [] refl;
 }
@@ -55,7 +55,7 @@ came old new (Byte id byte a) d =
     let slow : List Event = map (λ i. model.Close i) ids in
     record {
       events = model.Byte id byte h.step.stored h.step.stop ∷ slow;
-      of = (h.step.stored, h.step.stop, ids, refl);
+      has = (d, refl);
       world = h.closes ∙ ap (λ (w : World). run w slow) h.step.step;
       saves =
           ap (λ (s : Serving). s.store.accepted) h.slow
@@ -65,31 +65,31 @@ came old new (Byte id byte a) d =
     }
 came old new (Close id) d = record {
   events = model.Close id ∷ [];
-  of = refl;
+  has = (d, refl);
   world = d.2;
   saves = ap (λ (s : Serving). s.store.accepted) d.0 ∙ told_none old.store.accepted [] refl;
 }
 came old new (Took id n) d = record {
   events = [];
-  of = refl;
+  has = (d, refl);
   world = ap (λ (s : Serving). s.world) d;
   saves = ap (λ (s : Serving). s.store.accepted) d ∙ told_none old.store.accepted [] refl;
 }
 
 -- those of all
-ran : (old new : Serving) (cs : List Call) → AreMade Does old cs new → Ran old cs new
+ran : (old new : Serving) (cs : List Call) → AreMade Does old cs new → Ran old cs new new
 ran old new [] h = record {
   events = [];
-  each = refl;
+  each = (refl, h);
   world = ap (λ (s : Serving). s.world) h;
   saves = ap (λ (s : Serving). s.store.accepted) h ∙ told_none old.store.accepted [] refl;
 }
 ran old new (c ∷ cs) h =
     let first : Came old c h.0 = came old h.0 c h.1 in
-    let rest : Ran h.0 cs new = ran h.0 new cs h.2 in
+    let rest : Ran h.0 cs new new = ran h.0 new cs h.2 in
     record {
       events = first.events ++ rest.events;
-      each = (first.events, rest.events, first.of, rest.each, refl);
+      each = (h.0, first.events, rest.events, first.has, rest.each, refl);
       world = rest.world ∙ ap (λ (w : World). run w rest.events) first.world ∙ sym (run-append old.world first.events rest.events);
       saves =
           rest.saves
@@ -103,7 +103,7 @@ ran old new (c ∷ cs) h =
 pub turned : (old new : Listening) (served : Serving) → Moved Does live_in pending_of old.tickets (desk old.serving (under old.peers)) (desk served (under new.peers)) → new.serving ≡ record served { ended = [] } → new.tickets ≡ old.tickets → new.port ≡ old.port → Turns old new
 turned old new served moved told tickets port =
     let c : Calls Does old.serving served = moved_calls Does live_in pending_of old.tickets (desk old.serving (under old.peers)) (desk served (under new.peers)) moved in
-    let r : Ran old.serving c.calls served = ran old.serving served c.calls c.made in
+    let r : Ran old.serving c.calls served served = ran old.serving served c.calls c.made in
     record {
       served = served;
       moved = moved;

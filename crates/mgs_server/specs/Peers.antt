@@ -2,6 +2,7 @@
 use Rattle.std.specs.Prelude.{◌≡◌, ◌≢◌, ℕ, Bool, true, false, List, [], ◌∷◌, Option, Some, None, option_map, map, slice_index_or}
 use Rattle.slab.specs.Slab.{Slab}
 use Rattle.mgs_wire.specs.declared.pump.PumpedIn.{PumpedIn}
+use Rattle.mgs_wire.specs.declared.pump.PumpedIn.TheVariants.{Took, Idle, Finished, Failed}
 use Rattle.mgs_wire.specs.declared.pump.PumpedOut.{PumpedOut}
 use Rattle.mgs_wire.specs.Calls.{Call}
 use Rattle.mgs_wire.specs.Connections.{Connection, Logging_in, Serving, Refused, Over, Breaks, is_logging_in, is_over, is_reading, stopped, waiting}
@@ -43,6 +44,17 @@ is_closing (Logging_in line) = false
 is_closing (Serving id) = false
 is_closing (Refused left) = true
 is_closing (Over session) = true
+
+-- some bytes were read of one
+abbrev pub is_taking : PumpedIn → Bool
+is_taking (Took n) = true
+is_taking Idle = false
+is_taking Finished = false
+is_taking Failed = false
+
+-- one that goes on is as it was, and so is what is served
+abbrev pub IsUnread : {E : Type 0} → Connection → E → Connection → E → Type 0
+IsUnread conn old next new = is_closing next ≡ false → (next ≡ conn) × (new ≡ old)
 
 -- NEW ONES, of which nothing was read, each under a key that had none
 abbrev pub AreTaken : (ℕ → Option Connection) → List ℕ → (ℕ → Option Connection) → Type 0

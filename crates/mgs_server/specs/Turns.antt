@@ -6,7 +6,7 @@ use Rattle.mgs_store.specs.Stores.{told_more}
 use Rattle.mgs_engine.specs.declared.tape.Answer.{Answer}
 use Rattle.mgs_engine.specs.declared.tape.Answer.TheVariants as answers
 use Rattle.mgs_engine.specs.Drives.{Asked, Opens, Types, Closes, Takes}
-use Rattle.mgs_engine.specs.Driven.{AreAllOf}
+use Rattle.mgs_engine.specs.Driven.{HaveEvents}
 use Rattle.mgs_engine.specs.Does.{Does}
 use Rattle.mgs_engine.specs.Serving.{Serving, pending_of}
 use Rattle.mgs_server.specs.Calls.{AreMade}
@@ -29,10 +29,11 @@ answer_of (Took id n) = answers.Took n
 abbrev pub live_in : ℕ → Serving → Bool
 live_in id s = is_open id s.world
 
--- the world is that of the events of calls, and the store accepted what these save
-pub record Ran (old : Serving) (calls : List Call) (new : Serving) : Type 0 where
+-- The world is that of the events of the calls, and the store accepted what these save. Of a byte, the store's answer, the number of acts
+-- for which there was memory and the sessions that fell behind are those with which it was handled.
+pub record Ran (old : Serving) (calls : List Call) (served new : Serving) : Type 0 where
   pub events : List Event
-  pub each : AreAllOf (map asked_by calls) (map answer_of calls) events
+  pub each : HaveEvents old (map asked_by calls) (map answer_of calls) served events
   pub world : new.world ≡ run old.world events
   pub saves : new.store.accepted ≡ told_more (run_saves old.world events) old.store.accepted
 
@@ -44,6 +45,6 @@ pub record Turns (old new : Listening) : Type 0 where
   pub told : new.serving ≡ record served { ended = [] }
   pub calls : List Call
   pub made : AreMade Does old.serving calls served
-  pub ran : Ran old.serving calls new.serving
+  pub ran : Ran old.serving calls served new.serving
   pub tickets : new.tickets ≡ old.tickets
   pub port : new.port ≡ old.port

@@ -2,7 +2,7 @@
 ghost use Rattle.std.specs.Prelude.{◌≡◌, ℕ, [], true, false, List, IfOk};
 ghost use Rattle.mgs_wire.specs.Connections.{Breaks, Logging_in, is_over, is_reading};
 ghost use Rattle.mgs_wire.specs.Pumps.{PumpsIn, Finishes};
-ghost use Rattle.mgs_server.specs.Peers.{Stepped, is_closing};
+ghost use Rattle.mgs_server.specs.Peers.{IsUnread, Stepped, is_closing, is_taking};
 
 use crate::accept::both_ways;
 use crate::sips::Sips;
@@ -16,6 +16,12 @@ use std::time::{Duration, Instant};
 
 // The seconds in which a connection's login line has to end.
 const LOGIN_SECS: u64 = 60;
+
+/// A stream is reported again, if it is ready still. Only `Peer::report_again` makes one, so that who has one has asked.
+#[derive(Drop)]
+pub(crate) struct Reported {
+    _again: (),
+}
 
 /// A connection and its stream.
 #[derive(Drop)]
@@ -45,6 +51,7 @@ impl<S: Read + Write + Drop> Peer<S> {
         ensures read { PumpsIn E.does E.live tickets.now result (S.remaining self.old.stream.stream) (S.remaining self.new.stream.stream) self.old.conn engine.old self.new.conn engine.new }
         ensures finished { Finishes E.live result self.old.conn engine.old self.new.conn engine.new }
         ensures steps { Stepped E.does E.live E.pending tickets.now self.old.conn engine.old self.new.conn engine.new }
+        ensures unread { is_taking result ≡ false → IsUnread self.old.conn engine.old self.new.conn engine.new }
     {
         pump_in(&mut self.conn, engine, tickets, &mut self.stream)
     }
@@ -65,7 +72,8 @@ impl<S: Read + Write + Drop> Peer<S> {
 impl<S: Drop> Peer<S> {
     /// Gives the connection up, as where reading fails: its session is closed, and nothing more is read or written.
     pub(crate) fn give_up<E: Sessions>(&mut self, engine: &mut E)
-        ensures { Breaks E.does self.old.conn engine.old self.new.conn engine.new }
+        ensures breaks { Breaks E.does self.old.conn engine.old self.new.conn engine.new }
+        ensures closing { is_closing self.new.conn ≡ true }
     {
         self.conn.break_off(engine);
     }
@@ -100,12 +108,13 @@ impl<S: Drop> Peer<S> {
 }
 
 impl<S: Source + Drop> Peer<S> {
-    /// Has its stream reported again, if it is ready still. False: that could not be done.
-    pub(crate) fn report_again(&mut self, registry: &Registry, token: Token) -> bool
+    /// Has its stream reported again, if it is ready still. None: that could not be done.
+    pub(crate) fn report_again(&mut self, registry: &Registry, token: Token) -> Option<Reported>
         ensures { self.new.conn ≡ self.old.conn }
     {
-        registry
-            .reregister(&mut self.stream.stream, token, both_ways())
-            .is_ok()
+        match registry.reregister(&mut self.stream.stream, token, both_ways()) {
+            Ok(()) => Some(Reported { _again: () }),
+            Err(_) => None,
+        }
     }
 }

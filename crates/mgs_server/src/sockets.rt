@@ -1,10 +1,10 @@
 // The sockets of a server.
-ghost use Rattle.std.specs.Prelude.{◌≡◌, ◌≢◌, ℕ, [], true, List, IfOk};
-ghost use Rattle.mgs_server.specs.Peers.{IsOverAt, Moved, Stepped, desk, peers_of, slots_of};
+ghost use Rattle.std.specs.Prelude.{◌≡◌, ◌≢◌, ℕ, [], true, List, IfOk, IsNone};
+ghost use Rattle.mgs_server.specs.Peers.{IsOverAt, IsUnread, Moved, Stepped, desk, peers_of, slots_of};
 
 use crate::accept::accept_all;
 use crate::fault::{ListenFault, PollFailed};
-use crate::peer::Peer;
+use crate::peer::{Peer, Reported};
 use mgs_model::{SESSION_LIMIT, Tickets};
 use mgs_wire::{PumpedIn, Sessions};
 use mio::net::{TcpListener, TcpStream};
@@ -68,23 +68,27 @@ fn watch(net: &impl Net, listener: &mut TcpListener) -> io::Result<Poll> {
     Ok(poll)
 }
 
-// Reads a connection once. One of which something was read is reported again, since more may be there.
+// Reads a connection once. One of which something was read is reported again, since more may be there; where that cannot be done it is
+// given up. None: nothing was read, or nothing more is.
 fn read_peer<E: Sessions>(
     registry: &Registry,
     engine: &mut E,
     tickets: &Tickets,
     peer: &mut Peer<TcpStream>,
     token: Token,
-)
-    ensures { Stepped E.does E.live E.pending tickets.now peer.old.conn engine.old peer.new.conn engine.new }
+) -> Option<Reported>
+    ensures steps { Stepped E.does E.live E.pending tickets.now peer.old.conn engine.old peer.new.conn engine.new }
+    ensures unread { IsNone result → IsUnread peer.old.conn engine.old peer.new.conn engine.new }
 {
     match peer.read(engine, tickets) {
-        PumpedIn::Took(_) => {
-            if !peer.report_again(registry, token) {
+        PumpedIn::Took(_) => match peer.report_again(registry, token) {
+            Some(reported) => Some(reported),
+            None => {
                 peer.give_up(engine);
+                None
             }
-        }
-        PumpedIn::Idle | PumpedIn::Finished | PumpedIn::Failed => {}
+        },
+        PumpedIn::Idle | PumpedIn::Finished | PumpedIn::Failed => None,
     }
 }
 
@@ -128,7 +132,7 @@ fn read_one<E: Sessions>(
     ensures { Moved E.does E.live E.pending tickets.now (desk engine.old (peers_of peers.old)) (desk engine.new (peers_of peers.new)) }
 {
     if let Some(peer) = peers.get_mut(token.0) {
-        read_peer(registry, engine, tickets, peer, token);
+        let _reported = read_peer(registry, engine, tickets, peer, token);
     }
 }
 
