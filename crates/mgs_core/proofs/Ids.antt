@@ -14,6 +14,7 @@ use Rattle.mgs_world.specs.declared.size.Size.{Size}
 use Rattle.mgs_model.specs.World.{World, has_id, find_session}
 use Rattle.mgs_model.proofs.Firsts.{find-map}
 use Rattle.mgs_world.specs.Worlds.{find_size, is_size_of, session_size, sizes, IsOther, IsUnique}
+use Rattle.mgs_core.specs.Held.{AreBelow, AreRising, IsBefore}
 
 -- WHAT IS FOUND
 
@@ -157,6 +158,21 @@ pub unique_removed : (p : Size → Bool) (xs : List Size) → IsUnique xs → Is
 unique_removed p [] u = u
 unique_removed p (x ∷ xs) u =
     elim (p x) as (λ b. IsUnique (cond b xs (x ∷ remove_first p xs))) [ true ↦ u.1 | false ↦ (All-remove_first (IsOther x) p xs u.0, unique_removed p xs u.1) ]
+
+-- IN THE ORDER OF THEIR IDS
+
+-- one more, which is above all
+pub rising_opened : (y : Size) (xs : List Size) → AreBelow y.id xs → AreRising xs → AreRising (xs ++ y ∷ [])
+rising_opened y [] h r = (All-nil (IsBefore y), tt)
+rising_opened y (x ∷ xs) h r = (All-append (IsBefore x) xs (y ∷ []) r.0 (All-cons (IsBefore x) y [] h.0 (All-nil (IsBefore x))), rising_opened y xs h.1 r.1)
+
+-- one less
+pub rising_removed : (p : Size → Bool) (xs : List Size) → AreRising xs → AreRising (remove_first p xs)
+rising_removed p [] r = r
+rising_removed p (x ∷ xs) r =
+    elim (p x) as (λ b. AreRising (cond b xs (x ∷ remove_first p xs))) [ true ↦ r.1 | false ↦ (All-remove_first (IsBefore x) p xs r.0, rising_removed p xs r.1) ]
+
+-- OTHER IDS
 
 pub differ : (a b : ℕ) → nat_eq a b ≡ false → nat_eq b a ≡ false
 differ a b e = grind (arith, nat_tests)

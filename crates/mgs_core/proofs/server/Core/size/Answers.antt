@@ -5,6 +5,7 @@ use Rattle.mgs_model.specs.Events.{settled}
 use Rattle.mgs_session.specs.declared.Session.{Session}
 use Rattle.mgs_world.specs.declared.size.Size.{Size}
 use Rattle.mgs_world.specs.Worlds.{sizes, sizes_in, IsOfSize, IsUnique}
+use Rattle.mgs_core.specs.Held.{AreRising}
 use Rattle.mgs_core.proofs.Sizes.{sizes_world}
 use Rattle.mgs_core.proofs.Kept.{world_is}
 use Rattle.mgs_core.proofs.server.Core.size.Goals as goal
@@ -25,6 +26,11 @@ pub returns-clause-unique : goal.returns-clause-unique
 returns-clause-unique g c =
     let i = c.self.inside in
     subst IsUnique (sym (sizes_world i.directory i.buffers i.sessions.items i.next_id) ∙ ap sizes (world_is _ _ c.self.view_is)) c.self.invariant.0.unique
+
+pub returns-clause-rising : goal.returns-clause-rising
+returns-clause-rising g c =
+    let i = c.self.inside in
+    subst AreRising (sym (sizes_world i.directory i.buffers i.sessions.items i.next_id) ∙ ap sizes (world_is _ _ c.self.view_is)) c.self.invariant.0.rising
 
 pub returns-clause-settled : goal.returns-clause-settled
 returns-clause-settled g c = subst (λ (w : World). settled w ≡ w) (world_is _ _ c.self.view_is) (c.self.invariant.0.settles c.self.inside.next_id)
