@@ -37,8 +37,8 @@ returns-in-QuitSearch-clause-ok g c id next place =
 
 pub returns-in-StartReplacing-clause-ok : goal.returns-in-StartReplacing-clause-ok
 returns-in-StartReplacing-clause-ok g c id next place =
-    started_replacing _ _ _ id (own_at c.args.at c.args.sessions.now) c.args.before.now c.args.deed c.asked-prompt-in-StartReplacing.result.now c.typed-pattern.result c.typed-put.result c.in-StartReplacing.is c.asked-prompt-in-StartReplacing.ensures
-    (c.typed-pattern.ensures ∙ c.first.ensures.value) (c.typed-put.ensures ∙ c.input.ensures.value) (c.start_replacing.ensures.world id next place)
+    started_replacing _ _ _ id (own_at c.args.at c.args.sessions.now) c.args.before.now c.args.deed c.asked-prompt-in-StartReplacing.result.now c.of-pattern.result c.of-put.result c.in-StartReplacing.is c.asked-prompt-in-StartReplacing.ensures
+    (c.of-pattern.ensures ∙ c.first.ensures.value) (c.of-put.ensures ∙ c.input.ensures.value) (c.start_replacing.ensures.world id next place)
 
 pub returns-in-Ok-replace-clause-ok : goal.returns-in-Ok-replace-clause-ok
 returns-in-Ok-replace-clause-ok g c id next place =
