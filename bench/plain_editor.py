@@ -46,7 +46,7 @@ def good_user(name):
 
 
 def good_who(who):
-    if who in ("OWNER@", "EVERYONE@"):
+    if who in ("OWNER@", "GROUP@", "EVERYONE@"):
         return True
     if who.startswith("group:"):
         return good_user(who[6:])
@@ -59,7 +59,7 @@ def good_name(name):
 
 class Buffer:
     def __init__(self, name, owner, entries=None, text=""):
-        self.name, self.owner, self.entries, self.text = name, owner, entries or [], text
+        self.name, self.owner, self.group, self.entries, self.text = name, owner, None, entries or [], text
         self.items, self.serial, self.modified, self.file = {}, 0, False, False
 
 
@@ -132,7 +132,7 @@ TABLE = {
     b"\x18e": "call-last-kbd-macro", b"\x1b%": "query-replace",
     b"\x1b[A": "previous-line", b"\x1b[B": "next-line", b"\x1b[C": "forward-char", b"\x1b[D": "backward-char",
 }
-KEYLESS = ["insert-buffer", "shrink-window", "acl-list", "acl-insert", "acl-delete", "acl-replace", "set-owner"]
+KEYLESS = ["insert-buffer", "shrink-window", "acl-list", "acl-insert", "acl-delete", "acl-replace", "set-owner", "set-group"]
 UNNAMED = ["execute-extended-command", "start-kbd-macro", "end-kbd-macro", "call-last-kbd-macro", "quoted-insert"]
 
 
@@ -148,6 +148,8 @@ class World:
             return True
         if e.who == "OWNER@":
             return user == b.owner
+        if e.who == "GROUP@":
+            return user in self.groups.get(b.group, [])
         if e.who.startswith("group:"):
             return user in self.groups.get(e.who[6:], [])
         return e.who == user
@@ -341,7 +343,7 @@ class World:
 
     PROMPTS = {"switch-to-buffer": "Switch to buffer: ", "find-file": "Find file: ", "kill-buffer": "Kill buffer: ",
                "insert-buffer": "Insert buffer: ", "execute-extended-command": "M-x ", "acl-insert": "Entry: ", "acl-replace": "Entry: ",
-               "set-owner": "Owner: ", "search-forward": "Search: ", "search-backward": "Search: ", "query-replace": "Query replace: ", "goto-line": "Goto line: "}
+               "set-owner": "Owner: ", "set-group": "Group: ", "search-forward": "Search: ", "search-backward": "Search: ", "query-replace": "Query replace: ", "goto-line": "Goto line: "}
 
     def run(self, s, name, n, typed=None):
         if name == "call-last-kbd-macro":
@@ -1021,6 +1023,13 @@ class World:
             raise Fault("No such user")
         b.owner = typed
 
+    def set_group(self, s, w, n, given, typed):
+        b = self.ruled(w)
+        self.need(b, s.user, "o")
+        if typed and typed not in self.groups:
+            raise Fault("No such group")
+        b.group = typed or None
+
     # SEARCHES
     def isearch_forward(self, s, b, w, p, L, n, given, kind, typed, back=False):
         s.mode = ("search", {"buffer": b, "back": back, "pattern": "", "origin": p, "anchor": p, "failing": False})
@@ -1225,7 +1234,7 @@ class World:
             rows = []
             for b in self.buffers:
                 if self.may(b, s.user, "t"):
-                    rows.append("%s %7d %s %s" % ("*" if b.modified else " ", len(b.text), b.name, b.owner))
+                    rows.append("%s %7d %s %s" % ("*" if b.modified else " ", len(b.text), b.name, b.owner + (":" + b.group if b.group else "")))
             return pad(rows[w.row:], h), (0, 0)
         if w.shows[0] == "acl":
             b = w.shows[1]

@@ -49,6 +49,8 @@ def try_faults(folder):
         ("a ticket", changed('ticket = "OND', 'ticket = "O ND'), "user 2: Name", "O ND"),
         ("a name twice", changed('name = "bob"', 'name = "ann" # again'), "user 2: Twice", "again"),
         ("an owner", changed('owner = "ann"', 'owner = "eve"'), "buffer 1: Unknown", "eve"),
+        ("an owning group", changed('owner = "ann"', 'owner = "ann"\ngroup = "staff"'), "buffer 1: Unknown", "staff"),
+        ("no group's name", changed('owner = "ann"', 'owner = "ann"\ngroup = "Staff"'), "buffer 1: Name", "Staff"),
         ("a member", BASE + '[[group]]\nname = "staff"\nmembers = ["ann",\n "eve"]\n', "group 1: Unknown", "eve"),
         ("an entry", changed('"ALLOW bob rwat"', '\n  "ALLOW bob x"'), "buffer 1: Entry", "bob x"),
         ("a long list", changed('"ALLOW bob rwat"', ", ".join(['"ALLOW bob r"'] * 64)), "buffer 1: Long", "ALLOW bob r"),

@@ -19,7 +19,7 @@ NAMED_KEYS = {0x00: "C-SPC", 0x09: "TAB", 0x0D: "RET", 0x1B: "ESC", 0x1F: "C-_",
 ARGUMENTS = [b"", b"", b"", b"", b"\x15", b"\x152", b"\x1b3", b"\x150", b"\x15\x15", b"\x1b7"]
 ASKING = [b"\x18b", b"\x18b", b"\x18\x06", b"\x18k"]
 WINDOWS = [b"\x182", b"\x18o", b"\x180", b"\x181", b"\x18^", b"\x18\x02", b"\x16", b"\x1bv", b"\x18p", b"\x18n", b"\x18g", b"\x18g2\r", b"\x153\x18g"]
-RULES = ["acl-list", "acl-insert", "acl-delete", "acl-replace", "set-owner", "insert-buffer", "shrink-window", "goto-line"]
+RULES = ["acl-list", "acl-insert", "acl-delete", "acl-replace", "set-owner", "set-group", "insert-buffer", "shrink-window", "goto-line"]
 WRONG_ENTRIES = ["ALLOW ann x", "deny ann r", "ALLOW", "ALLOW ann r w", "  ALLOW   ann  rw  ", ""]
 LETTERS = ["rw", "rwat", "r", "w", "a", "at", "t", "rwatdcCo", "C", "rt"]
 MACROS = [b"\x18(", b"\x18(", b"\x18)", b"\x18)", b"\x18e", b"\x18e", b"\x153\x18e", b"\x1bsa\r", b"\x1brb\r", b"\x1bs\r"]
@@ -60,7 +60,7 @@ class Script:
 
     def entry(self):
         r = self.random
-        who = r.choice(self.world.users + ["OWNER@", "EVERYONE@", "EVERYONE@"] + ["group:" + g for g in self.world.groups])
+        who = r.choice(self.world.users + ["OWNER@", "GROUP@", "EVERYONE@", "EVERYONE@"] + ["group:" + g for g in self.world.groups])
         letters = "".join(r.sample(ORDER, r.randint(1, 8))) if r.random() < .6 else r.choice(LETTERS)
         return "%s %s %s" % ("ALLOW" if r.random() < .75 else "DENY", who, letters)
 
@@ -90,6 +90,9 @@ class Script:
         r, w = self.random, self.world
         b = Buffer(name, r.choice(w.users), text=self.text())
         self.lines.append("buffer %s %s" % (name, b.owner))
+        if w.groups and r.random() < .6:
+            b.group = r.choice(list(w.groups))
+            self.lines.append("owngroup %s %s" % (name, b.group))
         entries = ["ALLOW OWNER@ rwatdcCo"] if r.random() < .6 else []
         entries += [self.entry() for _ in range(r.choice([0, 1, 2, 3]))]
         for e in entries:
@@ -143,7 +146,7 @@ class Script:
         r = self.random
         typed = "".join(r.choice(PAST_ASCII) for _ in range(r.choice([1, 1, 2, 3, 12]))).encode()
         before = r.choice([b"", b"", b"", b"\x153", b"\x11", b"\x152\x11", b"\x18", b"\x1b", b"\x1b[", b"\x18(", b"\x13", b"\x12", b"\x13\x13", b"\x1bs", b"\x1br",
-                           b"\x1b%", b"\x1b%a\r", b"\x18b", b"\x18k", b"\x1bx", b"\x18g", b"\x1bxacl-insert\rALLOW ", b"\x1bxset-owner\r", b"\x1bx\x1b", b"\x18b\x1b["])
+                           b"\x1b%", b"\x1b%a\r", b"\x18b", b"\x18k", b"\x1bx", b"\x18g", b"\x1bxacl-insert\rALLOW ", b"\x1bxset-owner\r", b"\x1bxset-group\r", b"\x1bx\x1b", b"\x18b\x1b["])
         behind = r.choice([b"", b"", b"\r", b"\r", b"\x7f", b"\x7f\r", b"\t", b"a\r", b"\r\r", b"\x07", b"\x13", b"\x18)\x18e", b"\ry", b"\r!", b"x\r!"])
         return before + typed + behind
 
@@ -164,6 +167,8 @@ class Script:
             return keys + (self.entry() if r.random() < .8 else r.choice(WRONG_ENTRIES)).encode() + b"\r"
         if name == "set-owner":
             return keys + r.choice([b"ann", b"bob", b"cat", b"eve", b""]) + b"\r"
+        if name == "set-group":
+            return keys + r.choice([b"staff", b"crew", b"ann", b"eve", b"", b""]) + b"\r"
         if name == "insert-buffer":
             return keys + self.name() + b"\r"
         if name == "goto-line" and not argument:

@@ -14,7 +14,7 @@ use Rattle.mgs_model.specs.declared.entry.Entry.{Entry}
 use Rattle.mgs_model.specs.declared.entry.EntryType.{EntryType}
 use Rattle.mgs_model.specs.declared.entry.EntryType.TheVariants.{Allow, Deny}
 use Rattle.mgs_model.specs.declared.entry.Who.{Who}
-use Rattle.mgs_model.specs.declared.entry.Who.TheVariants.{Owner, Everyone, User, Group}
+use Rattle.mgs_model.specs.declared.entry.Who.TheVariants.{Owner, OwningGroup, Everyone, User, Group}
 use Rattle.mgs_acl.specs.Written.{HasName}
 
 visible_printable : (xs : List ℕ) → IsTrue (list_all is_visible xs) → All IsPrintable xs
@@ -34,6 +34,7 @@ type_printable Deny = visible_printable (type_text Deny) refl
 
 who_printable : (who : Who) → HasName who → All IsPrintable (who_text who)
 who_printable Owner h = visible_printable (who_text Owner) refl
+who_printable OwningGroup h = visible_printable (who_text OwningGroup) refl
 who_printable Everyone h = visible_printable (who_text Everyone) refl
 who_printable (User name) h = name_printable name h
 who_printable (Group name) h = All-append IsPrintable (codes "group:") name (visible_printable (codes "group:") refl) (name_printable name h)

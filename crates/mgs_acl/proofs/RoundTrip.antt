@@ -21,7 +21,7 @@ use Rattle.mgs_model.specs.declared.right.Right.TheVariants.{ReadData, WriteData
 use Rattle.mgs_model.specs.declared.entry.EntryType.{EntryType}
 use Rattle.mgs_model.specs.declared.entry.EntryType.TheVariants.{Allow, Deny}
 use Rattle.mgs_model.specs.declared.entry.Who.{Who}
-use Rattle.mgs_model.specs.declared.entry.Who.TheVariants.{Owner, Everyone, User, Group}
+use Rattle.mgs_model.specs.declared.entry.Who.TheVariants.{Owner, OwningGroup, Everyone, User, Group}
 use Rattle.mgs_model.specs.declared.entry.Entry.{Entry}
 use Rattle.mgs_model.specs.Spelling.{is_filled, words, type_named, after_group, named_who, who_named, right_lettered, is_letter, bit_or_none, with_letter, mask_lettered, said, checked, entry_of_words, entry_in}
 use Rattle.mgs_acl.specs.Written.{is_writable_who, mask_of, IsWritable}
@@ -87,13 +87,15 @@ no_group name h = ap (λ b. cond b (Some (drop 6 name)) None) (false_from_ne_tru
 
 who_named-name : (name : List ℕ) → is_user_name name ≡ true → who_named name ≡ Some (User name)
 who_named-name name h =
-    ap (λ b. cond b (Some Owner) (cond (bytes_eq name (codes "EVERYONE@")) (Some Everyone) (named_who name (after_group name)))) (not_text name (codes "OWNER@") (letters_of_name name h) refl)
+    ap (λ b. cond b (Some Owner) (cond (bytes_eq name (codes "GROUP@")) (Some OwningGroup) (cond (bytes_eq name (codes "EVERYONE@")) (Some Everyone) (named_who name (after_group name))))) (not_text name (codes "OWNER@") (letters_of_name name h) refl)
+    ∙ ap (λ b. cond b (Some OwningGroup) (cond (bytes_eq name (codes "EVERYONE@")) (Some Everyone) (named_who name (after_group name)))) (not_text name (codes "GROUP@") (letters_of_name name h) refl)
     ∙ ap (λ b. cond b (Some Everyone) (named_who name (after_group name))) (not_text name (codes "EVERYONE@") (letters_of_name name h) refl)
     ∙ ap (named_who name) (no_group name (letters_of_name name h))
     ∙ ap (λ b. option_map User (cond b (Some name) None)) h
 
 who_named-who_text : (who : Who) → is_writable_who who ≡ true → who_named (who_text who) ≡ Some who
 who_named-who_text Owner h = refl
+who_named-who_text OwningGroup h = refl
 who_named-who_text Everyone h = refl
 who_named-who_text (User name) h = who_named-name name h
 who_named-who_text (Group name) h = ap (option_map Group) (ap (λ b. cond b (Some name) None) h)
@@ -133,6 +135,7 @@ unspaced_name (c ∷ cs) h = and_from (not (is_space c)) (is_unspaced cs) (unspa
 
 unspaced_who : (who : Who) → is_writable_who who ≡ true → is_unspaced (who_text who) ≡ true
 unspaced_who Owner h = refl
+unspaced_who OwningGroup h = refl
 unspaced_who Everyone h = refl
 unspaced_who (User name) h = unspaced_name name (letters_of_name name h)
 unspaced_who (Group name) h = unspaced_name name (letters_of_name name h)
@@ -146,6 +149,7 @@ word_name (c ∷ cs) h = word_of c cs
 
 word_who : (who : Who) → is_writable_who who ≡ true → is_filled (who_text who) ≡ true
 word_who Owner h = refl
+word_who OwningGroup h = refl
 word_who Everyone h = refl
 word_who (User name) h = word_name name h
 word_who (Group name) h = word_of 103 (114 ∷ 111 ∷ 117 ∷ 112 ∷ 58 ∷ name)
@@ -198,12 +202,13 @@ named_who-spelled word None who h = by (is_user_name word) refl h
     by false is e = absurd (cc)
 
 who_named-spelled : (word : List ℕ) (who : Who) → who_named word ≡ Some who → is_writable_who who ≡ true
-who_named-spelled word who h = by (bytes_eq word (codes "OWNER@")) (bytes_eq word (codes "EVERYONE@")) h
+who_named-spelled word who h = by (bytes_eq word (codes "OWNER@")) (bytes_eq word (codes "GROUP@")) (bytes_eq word (codes "EVERYONE@")) h
   where
-    by : (a b : Bool) → cond a (Some Owner) (cond b (Some Everyone) (named_who word (after_group word))) ≡ Some who → is_writable_who who ≡ true
-    by true b e = let same : who ≡ Owner = cc in ap is_writable_who same
-    by false true e = let same : who ≡ Everyone = cc in ap is_writable_who same
-    by false false e = named_who-spelled word (after_group word) who e
+    by : (a g b : Bool) → cond a (Some Owner) (cond g (Some OwningGroup) (cond b (Some Everyone) (named_who word (after_group word)))) ≡ Some who → is_writable_who who ≡ true
+    by true g b e = let same : who ≡ Owner = cc in ap is_writable_who same
+    by false true b e = let same : who ≡ OwningGroup = cc in ap is_writable_who same
+    by false false true e = let same : who ≡ Everyone = cc in ap is_writable_who same
+    by false false false e = named_who-spelled word (after_group word) who e
 
 -- the right of a letter
 right_of : (c : ℕ) (o : Option Right) → right_lettered c ≡ o → is_some o ≡ true → (right : Right) × (c ≡ letter_of right)

@@ -5,12 +5,13 @@ use Rattle.mgs_model.specs.Names.{is_user_name, IsName}
 use Rattle.mgs_model.specs.Rights.{bit_of, rights_in}
 use Rattle.mgs_model.specs.declared.right.Right.{Right}
 use Rattle.mgs_model.specs.declared.entry.Who.{Who}
-use Rattle.mgs_model.specs.declared.entry.Who.TheVariants.{Owner, Everyone, User, Group}
+use Rattle.mgs_model.specs.declared.entry.Who.TheVariants.{Owner, OwningGroup, Everyone, User, Group}
 use Rattle.mgs_model.specs.declared.entry.Entry.{Entry}
 
 -- a name that an entry has is one of a user or a group
 abbrev pub is_writable_who : Who → Bool
 is_writable_who Owner = true
+is_writable_who OwningGroup = true
 is_writable_who Everyone = true
 is_writable_who (User name) = is_user_name name
 is_writable_who (Group name) = is_user_name name
@@ -22,6 +23,7 @@ mask_of rights = fold (λ mask right. bit_or mask (bit_of right)) 0 rights
 -- a name that an entry has is a name
 abbrev pub HasName : Who → Type 0
 HasName Owner = Unit {0}
+HasName OwningGroup = Unit {0}
 HasName Everyone = Unit {0}
 HasName (User name) = IsName name
 HasName (Group name) = IsName name

@@ -9,4 +9,4 @@ mod spelling;
 pub use list::{List, ListFault};
 pub use mgs_model::{Entry, EntryFault, EntryType, Who};
 pub use printing::print_entry;
-pub use spelling::{entry_typed, read_entry, user_named};
+pub use spelling::{entry_typed, group_named, read_entry, user_named};

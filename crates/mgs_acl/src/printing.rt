@@ -40,6 +40,7 @@ fn push_who(text: &mut ArrayString<64>, who: &Who)
 {
     match who {
         Who::Owner => text.push_str("OWNER@"),
+        Who::OwningGroup => text.push_str("GROUP@"),
         Who::Everyone => text.push_str("EVERYONE@"),
         Who::User(name) => push_name(text, name),
         Who::Group(name) => {

@@ -1,8 +1,8 @@
 // How a written entry is read.
-ghost use Rattle.std.specs.Prelude.{◌≡◌, ◌<◌, ◌↔◌, length, map, position, IfSome, IsSome};
+ghost use Rattle.std.specs.Prelude.{◌≡◌, ◌<◌, ◌↔◌, length, map, position, is_some, IfSome, IsSome};
 ghost use Rattle.std.specs.Option.{option_map};
 ghost use Rattle.std.specs.List.{before_first, after_first};
-ghost use Rattle.mgs_model.specs.Names.{IsName, is_space};
+ghost use Rattle.mgs_model.specs.Names.{IsName, is_group_or_none, is_space};
 ghost use Rattle.mgs_model.specs.Rights.{letter_of};
 ghost use Rattle.mgs_model.specs.Spelling.{words, words_cut, type_named, user_named, after_group, named_who, who_named, right_lettered, mask_lettered, entry_in};
 
@@ -93,6 +93,20 @@ pub fn user_named(word: &str) -> Option<Name>
     user_spelled(word.as_bytes())
 }
 
+/// The text as the name of a group, where there is one, and none where there is none. `None`: it is no group's name.
+pub fn group_named(group: Option<&str>) -> Option<Option<Name>>
+    ensures form { is_some result ≡ is_group_or_none (option_map (λ g. g.now) group.entry) }
+    ensures value { IfSome result (λ g. g ≡ option_map (λ g. g.now) group.entry) }
+{
+    match group {
+        None => Some(None),
+        Some(group) => match user_named(group) {
+            Some(group) => Some(Some(group)),
+            None => None,
+        },
+    }
+}
+
 /// The rest of a word that begins with `group:`.
 fn after_group<C: Character>(word: &[C]) -> Option<&[C]>
     ensures { option_map (λ name. map C.number name.now) result ≡ after_group (map C.number word.now) }
@@ -125,6 +139,8 @@ fn who_named<C: Character>(word: &[C]) -> Option<Who>
 {
     if C::is_word(word, b"OWNER@") {
         Some(Who::Owner)
+    } else if C::is_word(word, b"GROUP@") {
+        Some(Who::OwningGroup)
     } else if C::is_word(word, b"EVERYONE@") {
         Some(Who::Everyone)
     } else {
@@ -172,7 +188,7 @@ fn mask_lettered<C: Character>(word: &[C]) -> Option<Mask>
 }
 
 /// Reads an entry: `TYPE WHO LETTERS`, the words separated by one or more spaces, with any number of spaces before and after them.
-/// TYPE is `ALLOW` or `DENY`. WHO is `OWNER@`, `EVERYONE@`, a user's name, or `group:` and a group's name. LETTERS are one or more of
+/// TYPE is `ALLOW` or `DENY`. WHO is `OWNER@`, `GROUP@`, `EVERYONE@`, a user's name, or `group:` and a group's name. LETTERS are one or more of
 /// r (READ_DATA), w (WRITE_DATA), a (APPEND_DATA), t (READ_ATTRIBUTES), d (DELETE), c (READ_ACL), C (WRITE_ACL) and o (WRITE_OWNER),
 /// in any order, also more than once.
 ///

@@ -46,7 +46,7 @@ module _ (directory : Directory) (ks : List MarkedBuffer) (xs : List Session) (n
     b = (marked_at x.name ks).buffer
 
     abbrev d : Right → Decider
-    d = decider directory b.owner h.user b.entries
+    d = decider directory b.owners h.user b.entries
 
     abbrev seen : Option model.Search → Around
     seen search = let y : model.Session = record (session_of ks h) { search = search; own = own } in around (view (world_of directory ks xs next) y).session n typed (target_at directory ks h.user (selected_height h) x)

@@ -165,7 +165,7 @@ module _ (directory : Directory) (ks : List MarkedBuffer) (xs : List Session) (n
         granted_known : (n : Option ℕ) → outcome (view w seen) (Run (Move (StartSearch d)) n []) true ≡ finished own begins No_effect
         granted_known n =
             let b = (marked_at x.name ks).buffer in
-            let g = decider directory b.owner h.user b.entries in
+            let g = decider directory b.owners h.user b.entries in
             outcome_owned directory ks xs next h own x (Move (StartSearch d)) n [] refl sel kept
             ∙ ap (λ dec. permitted own dec (let p = place_in (allows (g ReadData)) point (length b.text) in finished own (record stays { sought = Begin x.name p p }) No_effect)) granted
             ∙ ap (λ r. let p = place_in r point (length b.text) in finished own (record stays { sought = Begin x.name p p }) No_effect) (first_granted g [] granted)

@@ -103,8 +103,8 @@ module _ (directory : Directory) (ks : List MarkedBuffer) (xs : List Session) (n
       let own = own_of h.own in
       let b = (marked_at x.name ks).buffer in
       let k = (marked_at typed ks).buffer in
-      let d = decider directory b.owner h.user b.entries in
-      let from = decider directory k.owner h.user k.entries in
+      let d = decider directory b.owners h.user b.entries in
+      let from = decider directory k.owners h.user k.entries in
       let s = decision_by from (rights_in 1) in
       let told = told_if (any_right d) b in
       let point = mark_at x.name ks x.point in

@@ -296,7 +296,7 @@ through : (directory : Directory) (ks : List MarkedBuffer) (xs : List Session) (
 through directory ks xs next h height x c n typed kept quiet =
     let t = target_at directory ks h.user height x in
     let b = (marked_at x.name ks).buffer in
-    let d = decider directory b.owner h.user b.entries in
+    let d = decider directory b.owners h.user b.entries in
     let own = own_of h.own in
     let point = mark_at x.name ks x.point in
     let mark = option_map (mark_at x.name ks) x.mark in
@@ -311,7 +311,7 @@ pub through_owned : (directory : Directory) (ks : List MarkedBuffer) (xs : List 
     → (let t = target_at directory ks h.user height x in let y : model.Session = record (session_of ks h) { search = None; own = own } in outcome_at own c t.buffer.deciders (text_in t.buffer.full) (items_in t.buffer.full) (around (view (world_of directory ks xs next) y).session n typed t) ≡ plan_in directory ks own h.user x height c n typed h.kill)
 through_owned directory ks xs next h own height x c n typed kept =
     let b = (marked_at x.name ks).buffer in
-    let d = decider directory b.owner h.user b.entries in
+    let d = decider directory b.owners h.user b.entries in
     let point = mark_at x.name ks x.point in
     let mark = option_map (mark_at x.name ks) x.mark in
     let top = mark_at x.name ks x.top in
@@ -408,7 +408,7 @@ module _ (directory : Directory) (ks : List MarkedBuffer) (xs : List Session) (n
     b = (marked_at x.name ks).buffer
 
     abbrev d : Right → Decider
-    d = decider directory b.owner h.user b.entries
+    d = decider directory b.owners h.user b.entries
 
     abbrev seen : Option model.Search → Around
     seen search = let y : model.Session = record (session_of ks h) { search = search; own = own } in around (view (world_of directory ks xs next) y).session n typed (target_at directory ks h.user (selected_height h) x)

@@ -26,7 +26,7 @@ at_buffer holds text kept serial last same_text same_serial h = subst (λ n. hol
 abbrev pub needed : Directory → List MarkedBuffer → List ℕ → WindowMarks → Given → Command → ℕ → Decision
 needed directory ks user x g c killed =
     let b = (marked_at x.name ks).buffer in
-    decision directory b.owner user b.entries (mask_at c (around_given directory ks user x g killed).place (length b.text))
+    decision directory b.owners user b.entries (mask_at c (around_given directory ks user x g killed).place (length b.text))
 
 pub granted : (directory : Directory) (ks : List MarkedBuffer) (user : List ℕ) (x : WindowMarks) (g : Given) (c : Command) (typed kill : List ℕ) (around : Around) (action : Action) (own : model.Own)
     → around ≡ around_given directory ks user x g (length kill) → needed directory ks user x g c (length kill) ≡ Granted

@@ -1,24 +1,27 @@
--- A change of a buffer's owner or of its access list: what the act comes to, and that what is done is the act.
-use Rattle.std.proofs.Common.{◌≡◌, ℕ, ◌<◌, Bool, true, false, cond, ◌||◌, List, [], ◌∷◌, length, map, Option, Some, None, refl, sym, ap, subst, ◌∙◌, arith}
+-- A change of a buffer's owners or of its access list: what the act comes to, and that what is done is the act.
+use Rattle.std.proofs.Common.{◌≡◌, ℕ, ◌<◌, Bool, true, false, true≢false, cond, ◌||◌, ◌==◌, List, [], ◌∷◌, length, map, Option, Some, None, refl, sym, ap, subst, ◌∙◌, arith}
 use Rattle.std.specs.Prelude.{find, is_some, slice_get, slice_set, IfSome, Result, Ok, Err}
 use Rattle.std.specs.List.{position_or_len}
+use Rattle.std.proofs.lemmas.Bool.{eqb-true}
 use Rattle.std.proofs.lemmas.List.{map-id}
 use Rattle.std.proofs.lemmas.List.Folds.{list_any_at}
 use Rattle.std.proofs.lemmas.Option.{get_or_from_slice_get}
-use Rattle.mgs_model.specs.Access.{Decider, Directory, allows, any_right, decision_by, is_among}
+use Rattle.mgs_model.specs.Access.{Decider, Directory, UserGroup, allows, any_right, decision_by, group_answered, is_among, is_group_answer, is_group_named}
 use Rattle.mgs_model.specs.Names.{IsName, same_name}
 use Rattle.mgs_model.specs.Rights.{all_rights, rights_in}
 use Rattle.mgs_model.specs.World.{Buffer, Own, has_id}
 use Rattle.mgs_model.specs.View.{BufferSeen, View, buffer_seen, find_seen, told_if, view}
 use Rattle.mgs_model.specs.Outcome.{Effect, Relist, Reown, Run}
+use Rattle.mgs_model.specs.declared.owners.NewOwner.{NewOwner}
+use Rattle.mgs_model.specs.declared.owners.NewOwner.TheVariants.{ToUser, ToGroup}
 use Rattle.mgs_model.specs.Plans.{acted_own, entries_changed}
 use Rattle.mgs_model.specs.Acts.{about, deciders_found, effects, entries_told, fails, judged, outcome, permitted, relisted, rules, subject}
 use Rattle.mgs_model.specs.Apart.{Apart, touched_by}
-use Rattle.mgs_model.specs.Apply.{act, applied, apply, change_first, session_arranged}
+use Rattle.mgs_model.specs.Apply.{act, applied, owners_after, apply, change_first, session_arranged}
 use Rattle.mgs_model.specs.declared.entry.Decision.TheVariants.{Granted}
 use Rattle.mgs_model.specs.declared.entry.Entry.{Entry}
 use Rattle.mgs_model.specs.declared.message.Message.{Message}
-use Rattle.mgs_model.specs.declared.message.Message.TheVariants.{NoBuffer, NoSuchUser}
+use Rattle.mgs_model.specs.declared.message.Message.TheVariants.{NoBuffer, NoSuchUser, NoSuchGroup}
 use Rattle.mgs_model.specs.declared.right.Right.{Right}
 use Rattle.mgs_model.specs.declared.right.Right.TheVariants.{ReadData, WriteAcl}
 use Rattle.mgs_model.specs.declared.session.EntryChange.{EntryChange}
@@ -39,7 +42,7 @@ use Rattle.mgs_act.specs.Actions.{act_of}
 use Rattle.mgs_act.specs.Subjects.{subject_kept}
 use Rattle.mgs_act.specs.Ruling.{buffers_ruled, command_of, ruled_outcome, ruling_in, ruling_outcome, ruling_plan, session_ruled}
 use Rattle.mgs_act.specs.declared.ruling.Ruling.{Ruling}
-use Rattle.mgs_act.specs.declared.ruling.Ruling.TheVariants.{Owner, Entries}
+use Rattle.mgs_act.specs.declared.ruling.Ruling.TheVariants.{Owner, Group, Entries}
 use Rattle.mgs_act.specs.declared.ruling.Ruled.{Ruled}
 use Rattle.mgs_act.specs.declared.ruling.Ruled.TheVariants.{Fails, Reowns, Relists}
 use Rattle.mgs_world.specs.Sound.{IsSound, session_uses}
@@ -59,26 +62,61 @@ use Rattle.mgs_act.proofs.Subjects.{kept_subject, subject_seen, subject_told}
 
 abbrev owner_found : List ℕ → Option (List ℕ) → Result Effect Message
 owner_found name None = Err NoSuchUser
-owner_found name (Some owner) = Ok (Reown name owner)
+owner_found name (Some owner) = Ok (Reown name (ToUser owner))
 
 -- whoever is found by the name that was typed has that name
-user_found : (name typed : List ℕ) (users : List (List ℕ)) → owner_found name (find (same_name typed) users) ≡ cond (is_among typed users) (Ok (Reown name typed)) (Err NoSuchUser)
+user_found : (name typed : List ℕ) (users : List (List ℕ)) → owner_found name (find (same_name typed) users) ≡ cond (is_among typed users) (Ok (Reown name (ToUser typed))) (Err NoSuchUser)
 user_found name typed [] = refl
 user_found name typed (user ∷ users) = by (same_name typed user) refl (user_found name typed users)
   where
-    by : (b : Bool) → same_name typed user ≡ b → owner_found name (find (same_name typed) users) ≡ cond (is_among typed users) (Ok (Reown name typed)) (Err NoSuchUser)
-        → owner_found name (cond b (Some user) (find (same_name typed) users)) ≡ cond (b || is_among typed users) (Ok (Reown name typed)) (Err NoSuchUser)
-    by true is later = ap (λ (m : List ℕ). Ok (Reown name m)) (sym (same_is typed user is))
+    by : (b : Bool) → same_name typed user ≡ b → owner_found name (find (same_name typed) users) ≡ cond (is_among typed users) (Ok (Reown name (ToUser typed))) (Err NoSuchUser)
+        → owner_found name (cond b (Some user) (find (same_name typed) users)) ≡ cond (b || is_among typed users) (Ok (Reown name (ToUser typed))) (Err NoSuchUser)
+    by true is later = ap (λ (m : List ℕ). Ok (Reown name (ToUser m))) (sym (same_is typed user is))
     by false is later = later
 
 -- in the words of what is done
-pub owner_some : (directory : Directory) (own : Own) (name owner typed : List ℕ) (entries : List Entry) (n : Option ℕ) → Some owner ≡ find (same_name typed) directory.users → ruled_outcome own (Reowns name owner) ≡ effects own (ruling_plan directory name entries Owner n typed)
+pub owner_some : (directory : Directory) (own : Own) (name owner typed : List ℕ) (entries : List Entry) (n : Option ℕ) → Some owner ≡ find (same_name typed) directory.users → ruled_outcome own (Reowns name (ToUser owner)) ≡ effects own (ruling_plan directory name entries Owner n typed)
 owner_some directory own name owner typed entries n found =
     ap (λ o. effects own (owner_found name o)) found ∙ ap (effects own) (user_found name typed directory.users)
 
 pub owner_none : (directory : Directory) (own : Own) (name typed : List ℕ) (entries : List Entry) (n : Option ℕ) → None ≡ find (same_name typed) directory.users → ruled_outcome own (Fails NoSuchUser) ≡ effects own (ruling_plan directory name entries Owner n typed)
 owner_none directory own name typed entries n found =
     ap (λ o. effects own (owner_found name o)) found ∙ ap (effects own) (user_found name typed directory.users)
+
+-- A GROUP'S NAME
+
+abbrev group_found : List ℕ → Option (List ℕ) → Result Effect Message
+group_found name None = Err NoSuchGroup
+group_found name (Some group) = Ok (Reown name (ToGroup (Some group)))
+
+-- the group that is found by the name that was typed has that name
+named_found : (name typed : List ℕ) (groups : List UserGroup) → group_found name (find (same_name typed) (map (λ g. g.name) groups)) ≡ cond (is_group_named typed groups) (Ok (Reown name (ToGroup (Some typed)))) (Err NoSuchGroup)
+named_found name typed [] = refl
+named_found name typed (g ∷ groups) = by (same_name typed g.name) refl (named_found name typed groups)
+  where
+    by : (b : Bool) → same_name typed g.name ≡ b → group_found name (find (same_name typed) (map (λ g. g.name) groups)) ≡ cond (is_group_named typed groups) (Ok (Reown name (ToGroup (Some typed)))) (Err NoSuchGroup)
+        → group_found name (cond b (Some g.name) (find (same_name typed) (map (λ g. g.name) groups))) ≡ cond (b || is_group_named typed groups) (Ok (Reown name (ToGroup (Some typed)))) (Err NoSuchGroup)
+    by true is later = ap (λ (m : List ℕ). Ok (Reown name (ToGroup (Some m)))) (sym (same_is typed g.name is))
+    by false is later = later
+
+-- what a typed name that is not empty plans
+group_planned : (directory : Directory) (name typed : List ℕ) (entries : List Entry) (n : Option ℕ) → (length typed == 0) ≡ false → group_found name (find (same_name typed) (map (λ g. g.name) directory.groups)) ≡ ruling_plan directory name entries Group n typed
+group_planned directory name [] entries n some = absurd (true≢false some)
+group_planned directory name (c ∷ cs) entries n some = named_found name (c ∷ cs) directory.groups
+
+-- in the words of what is done
+pub group_some : (directory : Directory) (own : Own) (name group typed : List ℕ) (entries : List Entry) (n : Option ℕ) → (length typed == 0) ≡ false → Some group ≡ find (same_name typed) (map (λ g. g.name) directory.groups) → ruled_outcome own (Reowns name (ToGroup (Some group))) ≡ effects own (ruling_plan directory name entries Group n typed)
+group_some directory own name group typed entries n some found =
+    ap (λ o. effects own (group_found name o)) found ∙ ap (effects own) (group_planned directory name typed entries n some)
+
+pub group_none : (directory : Directory) (own : Own) (name typed : List ℕ) (entries : List Entry) (n : Option ℕ) → (length typed == 0) ≡ false → None ≡ find (same_name typed) (map (λ g. g.name) directory.groups) → ruled_outcome own (Fails NoSuchGroup) ≡ effects own (ruling_plan directory name entries Group n typed)
+group_none directory own name typed entries n some found =
+    ap (λ o. effects own (group_found name o)) found ∙ ap (effects own) (group_planned directory name typed entries n some)
+
+-- where nothing is typed, no group is to own the buffer
+pub group_empty : (directory : Directory) (own : Own) (name typed : List ℕ) (entries : List Entry) (n : Option ℕ) → (length typed == 0) ≡ true → ruled_outcome own (Reowns name (ToGroup None)) ≡ effects own (ruling_plan directory name entries Group n typed)
+group_empty directory own name [] entries n none = refl
+group_empty directory own name (c ∷ cs) entries n none = absurd (omega (arith, eqb-true (length (c ∷ cs)) 0 none))
 
 -- WHAT THE ACT COMES TO
 
@@ -107,9 +145,16 @@ shown_ruled directory ks xs next h Owner n typed name kept is =
     let v = view (world_of directory ks xs next) (session_of ks h) in
     let b = (marked_at name ks).buffer in
     let seen = buffer_seen directory h.user b in
-    one_ruled v seen 524288 (λ (k : BufferSeen). cond (is_among typed v.directory.users) (Ok (Reown k.name typed)) (Err NoSuchUser)) is
+    one_ruled v seen 524288 (λ (k : BufferSeen). cond (is_among typed v.directory.users) (Ok (Reown k.name (ToUser typed))) (Err NoSuchUser)) is
     (ap (λ m. find_seen m (map (buffer_seen directory h.user) (buffers_of ks))) (name_kept name ks kept) ∙ found_seen directory h.user name ks kept)
     ∙ ap (λ (m : List ℕ). permitted v.session.own (decision_by seen.deciders (rights_in 524288)) (effects v.session.own (ruling_plan directory m b.entries Owner n typed))) (name_kept name ks kept)
+shown_ruled directory ks xs next h Group n typed name kept is =
+    let v = view (world_of directory ks xs next) (session_of ks h) in
+    let b = (marked_at name ks).buffer in
+    let seen = buffer_seen directory h.user b in
+    one_ruled v seen 524288 (λ (k : BufferSeen). cond (is_group_answer v.directory.groups typed) (Ok (Reown k.name (ToGroup (group_answered typed)))) (Err NoSuchGroup)) is
+    (ap (λ m. find_seen m (map (buffer_seen directory h.user) (buffers_of ks))) (name_kept name ks kept) ∙ found_seen directory h.user name ks kept)
+    ∙ ap (λ (m : List ℕ). permitted v.session.own (decision_by seen.deciders (rights_in 524288)) (effects v.session.own (ruling_plan directory m b.entries Group n typed))) (name_kept name ks kept)
 shown_ruled directory ks xs next h (Entries c) n typed name kept is =
     let v = view (world_of directory ks xs next) (session_of ks h) in
     let b = (marked_at name ks).buffer in
@@ -121,7 +166,8 @@ shown_ruled directory ks xs next h (Entries c) n typed name kept is =
 
 unshown_ruled : (v : View) (c : Ruling) (n : Option ℕ) (typed : List ℕ) → subject v ≡ None → outcome v (Run (command_of c) n typed) true ≡ fails v.session.own NoBuffer
 unfolding outcome
-unshown_ruled v Owner n typed none = none_ruled v 524288 (λ (k : BufferSeen). cond (is_among typed v.directory.users) (Ok (Reown k.name typed)) (Err NoSuchUser)) none
+unshown_ruled v Owner n typed none = none_ruled v 524288 (λ (k : BufferSeen). cond (is_among typed v.directory.users) (Ok (Reown k.name (ToUser typed))) (Err NoSuchUser)) none
+unshown_ruled v Group n typed none = none_ruled v 524288 (λ (k : BufferSeen). cond (is_group_answer v.directory.groups typed) (Ok (Reown k.name (ToGroup (group_answered typed)))) (Err NoSuchGroup)) none
 unshown_ruled v (Entries c) n typed none = none_ruled v 262144 (λ (k : BufferSeen). relisted k.name (entries_changed c (entries_told k.told) n typed)) none
 
 ruling_known : (directory : Directory) (ks : List MarkedBuffer) (xs : List Session) (next : Option ℕ) (h : Session) (c : Ruling) (n : Option ℕ) (typed : List ℕ) → has_buffer [] ks ≡ false
@@ -138,11 +184,11 @@ fresh_ruled : (o : held.Own) → own_of o ≡ idle (own_of o) → own_of (record
 fresh_ruled o fresh = at_rest (λ (own : Own). record own { kind = Other }) acted_own (λ own. refl) (own_of o) fresh
 
 module _ (directory : Directory) (ks : List MarkedBuffer) (xs : List Session) (next : Option ℕ) (id at : ℕ) (h : Session) (place : at ≡ position_or_len (session_id id) xs) (within : at < length xs) (found : slice_get xs at ≡ Some h) (fresh : own_of h.own ≡ idle (own_of h.own)) where
-  reowned_so : (name owner : List ℕ) → world_of directory (change_first (marked_named name) (marked_reowned owner) ks) (slice_set xs at (acted Other h)) next ≡ apply (world_of directory ks xs next) id (effects (own_of h.own) (Ok (Reown name owner)))
-  reowned_so name owner =
-      let f = session_arranged (effects (own_of h.own) (Ok (Reown name owner))) in
-      let g : Buffer → Buffer = λ b. record b { owner = owner } in
-      let ls = change_first (marked_named name) (marked_reowned owner) ks in
+  reowned_so : (name : List ℕ) (new : NewOwner) → world_of directory (change_first (marked_named name) (marked_reowned new) ks) (slice_set xs at (acted Other h)) next ≡ apply (world_of directory ks xs next) id (effects (own_of h.own) (Ok (Reown name new)))
+  reowned_so name new =
+      let f = session_arranged (effects (own_of h.own) (Ok (Reown name new))) in
+      let g : Buffer → Buffer = λ b. record b { owners = owners_after new b.owners } in
+      let ls = change_first (marked_named name) (marked_reowned new) ks in
       same_world directory _ _ _ _ (id_after next) (buffers_by g (λ b. refl) name ks)
       (written_first (session_of ls) (has_id id) f xs at h (acted Other h) (place ∙ sym (position_or_len-map (session_of ls) (has_id id) xs)) within (sym (get_or_from_slice_get xs at h h found))
       (λ i. record (session_of ls h) { own = fresh_ruled h.own fresh i; search = search_kept ls h fresh i })
@@ -160,7 +206,7 @@ module _ (directory : Directory) (ks : List MarkedBuffer) (xs : List Session) (n
 
   ruled_so : (r : Ruled) → world_of directory (buffers_ruled r ks) (slice_set xs at (session_ruled r h)) next ≡ apply (world_of directory ks xs next) id (ruled_outcome (own_of h.own) r)
   ruled_so (Fails message) = failed_so directory ks xs next id at h message place within found fresh
-  ruled_so (Reowns name owner) = reowned_so name owner
+  ruled_so (Reowns name new) = reowned_so name new
   ruled_so (Relists name entries) = relisted_so name entries
 
   pub ruled_act : (c : Ruling) (n : Option ℕ) (typed : List ℕ) (r : Ruled) → has_buffer [] ks ≡ false → ruled_outcome (own_of h.own) r ≡ ruling_outcome directory ks (own_of h.own) h.user (subject_kept ks (subject_of h)) c n typed
@@ -178,17 +224,17 @@ module _ (directory : Directory) (ks : List MarkedBuffer) (xs : List Session) (n
 
 buffers_sound : (r : Ruled) (ks : List MarkedBuffer) (xs : List Session) → IsSound ks xs → IsSound (buffers_ruled r ks) xs
 buffers_sound (Fails message) ks xs sound = sound
-buffers_sound (Reowns name owner) ks xs sound = sound_by (λ b. record b { owner = owner }) (λ b. refl) name ks xs sound
+buffers_sound (Reowns name new) ks xs sound = sound_by (λ b. record b { owners = owners_after new b.owners }) (λ b. refl) name ks xs sound
 buffers_sound (Relists name entries) ks xs sound = sound_by (λ b. record b { entries = entries }) (λ b. refl) name ks xs sound
 
 uses_ruled : (r : Ruled) (h : Session) (n : List ℕ) (i : ℕ) → session_uses n i (session_ruled r h) ≡ session_uses n i h
 uses_ruled (Fails message) h n i = refl
-uses_ruled (Reowns name owner) h n i = refl
+uses_ruled (Reowns name new) h n i = refl
 uses_ruled (Relists name entries) h n i = refl
 
 size_ruled : (r : Ruled) (h : Session) → size_in (session_ruled r h) ≡ size_in h
 size_ruled (Fails message) h = refl
-size_ruled (Reowns name owner) h = refl
+size_ruled (Reowns name new) h = refl
 size_ruled (Relists name entries) h = refl
 
 pub ruled_sound : (r : Ruled) (ks : List MarkedBuffer) (xs : List Session) (at : ℕ) (h : Session) → slice_get xs at ≡ Some h → IsSound ks xs → IsSound (buffers_ruled r ks) (slice_set xs at (session_ruled r h))

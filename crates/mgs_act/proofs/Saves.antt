@@ -120,7 +120,7 @@ unfolding outcome
 save_known directory ks xs next h x n stored sel kept =
     let v = view (world_of directory ks xs next) (session_of ks h) in
     let b = (marked_at x.name ks).buffer in
-    let d = decider directory b.owner h.user b.entries in
+    let d = decider directory b.owners h.user b.entries in
     let seen = selected_some directory ks xs next h x sel kept in
     let t = target_at directory ks h.user seen.0 x in
     let found = ap (λ m. find_seen m (map (buffer_seen directory h.user) (buffers_of ks))) (name_kept x.name ks kept) ∙ found_seen directory h.user x.name ks kept in

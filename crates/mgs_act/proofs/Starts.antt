@@ -129,7 +129,7 @@ module _ (directory : Directory) (ks : List MarkedBuffer) (xs : List Session) (n
     granted_known : (r : Result (Option ℕ) Message) → rights_decision directory ks h.user x.name 1 ≡ Granted → ((rest : plans.Around) → begun rest.name point (length old) r ≡ motion StartReplace text (record rest { place = point; old = old })) → outcome (view w seen) (Run (Move StartReplace) None put) true ≡ moved_by own (begun x.name point (length old) r)
     granted_known r granted planned =
         let b = (marked_at x.name ks).buffer in
-        let g = decider directory b.owner h.user b.entries in
+        let g = decider directory b.owners h.user b.entries in
         let comes : plans.Around → Outcome = λ a. moved_by own (motion StartReplace text a) in
         let a : ℕ → plans.Around = λ p. record (around_in directory ks h.user x (selected_height h) None put h.kill own) { place = p } in
         outcome_owned directory ks xs next h own x (Move StartReplace) None put refl sel kept

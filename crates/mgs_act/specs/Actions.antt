@@ -314,4 +314,4 @@ outcome_at own c deciders text items a = permitted own (decision_by deciders (ri
 abbrev pub plan_in : Directory → List MarkedBuffer → model.Own → List ℕ → WindowMarks → ℕ → Command → Option ℕ → List ℕ → List ℕ → Outcome
 plan_in directory ks own user x height c n typed kill =
     let b = (marked_at x.name ks).buffer in
-    outcome_at own c (decider directory b.owner user b.entries) b.text b.items (around_in directory ks user x height n typed kill own)
+    outcome_at own c (decider directory b.owners user b.entries) b.text b.items (around_in directory ks user x height n typed kill own)

@@ -38,7 +38,7 @@ acting_place directory ks user x =
 -- what is decided on these rights on a buffer
 abbrev pub rights_decision : Directory → List MarkedBuffer → List ℕ → List ℕ → ℕ → Decision
 rights_decision directory ks user name mask =
-    let b = (marked_at name ks).buffer in decision directory b.owner user b.entries mask
+    let b = (marked_at name ks).buffer in decision directory b.owners user b.entries mask
 
 -- what is decided on an insertion at a place of a buffer
 abbrev pub target_decision : Directory → List MarkedBuffer → List ℕ → List ℕ → ℕ → Decision

@@ -31,7 +31,7 @@ kill_answered own (Err message) = fails own message
 -- what is decided on its deletion
 abbrev pub kill_decision : Directory → List ℕ → Option MarkedBuffer → Decision
 kill_decision directory user None = Granted
-kill_decision directory user (Some k) = decision directory k.buffer.owner user k.buffer.entries 65536
+kill_decision directory user (Some k) = decision directory k.buffer.owners user k.buffer.entries 65536
 
 -- what it comes to where that is granted
 abbrev pub kill_granted : Own → List ℕ → Option MarkedBuffer → Outcome

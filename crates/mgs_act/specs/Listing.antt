@@ -14,7 +14,7 @@ use Rattle.mgs_buffers.specs.MarkedBuffer.{MarkedBuffer, marked_at}
 -- what is decided on reading it
 abbrev pub list_decision : Directory → List ℕ → List ℕ → List MarkedBuffer → Decision
 list_decision directory user name ks =
-    let b = (marked_at name ks).buffer in decision directory b.owner user b.entries 131072
+    let b = (marked_at name ks).buffer in decision directory b.owners user b.entries 131072
 
 -- the selected window comes to the list of the buffer of a name
 abbrev pub lists_named : View → List ℕ → Outcome

@@ -38,7 +38,7 @@ save_decided playing own name text file d stored =
 -- what is decided on reading and writing for a user
 abbrev pub save_decision : Directory → List ℕ → List ℕ → List MarkedBuffer → Decision
 save_decision directory user name ks =
-    let b = (marked_at name ks).buffer in decision directory b.owner user b.entries 3
+    let b = (marked_at name ks).buffer in decision directory b.owners user b.entries 3
 
 -- what it comes to for a user, where a macro plays and where none does
 abbrev pub save_outcome : Directory → List ℕ → List ℕ → List MarkedBuffer → Bool → Own → Bool → Outcome

@@ -17,7 +17,7 @@ use Rattle.mgs_act.specs.declared.switching.Switch.TheVariants.{Fails, Shows, Cr
 -- what is decided on a user's coming to a buffer: its attributes are read
 abbrev pub coming_decision : Directory → List ℕ → List ℕ → List MarkedBuffer → Decision
 coming_decision directory user name ks =
-    let b = (marked_at name ks).buffer in decision directory b.owner user b.entries 128
+    let b = (marked_at name ks).buffer in decision directory b.owners user b.entries 128
 
 -- the view of a session
 abbrev pub view_at : Directory → List MarkedBuffer → List code.Session → Option ℕ → code.Session → View

@@ -26,11 +26,12 @@ use mgs_session::Session;
 use std::alloc::Global;
 
 /// The command that a question is for is done by the session at `at`, which is at rest: `typed` is the answer, of a question
-/// that asks for neither a command's name nor what a query-replace is to replace. The selected window comes to show the buffer of that name, which is made for the session's
-/// user where it is not there; or the buffer of that name is killed; or its text is inserted where the user acts; or the point goes to the line of that number, or to where what was typed stands; or the buffer
-/// that is shown gets another owner, or that entry in its access list. A refused right, an answer that is not what was asked for,
-/// and what is full are told in the echo line. It tells what it touched, and what it did not touch is as it was. `Short`: memory
-/// was refused, the world is as it was, and the act is one that may be refused.
+/// that asks for neither a command's name nor what a query-replace is to replace. The selected window comes to show the buffer
+/// of that name, which is made for the session's user where it is not there; or the buffer of that name is killed; or its text
+/// is inserted where the user acts; or the point goes to the line of that number, or to where what was typed stands; or the
+/// buffer that is shown gets another owner, another owning group, or that entry in its access list. A refused right, an answer
+/// that is not what was asked for, and what is full are told in the echo line. It tells what it touched, and what it did not
+/// touch is as it was. `Short`: memory was refused, the world is as it was, and the act is one that may be refused.
 pub fn answer<T: Marked + Drop>(
     alloc: Global,
     buffers: &mut Buffers<T>,
@@ -81,6 +82,17 @@ pub fn answer<T: Marked + Drop>(
                 sessions,
                 at,
                 Ruling::Owner,
+                argument,
+                typed,
+            ))
+        }
+        Question::WhichGroup => {
+            Ok(rule(
+                buffers,
+                directory,
+                sessions,
+                at,
+                Ruling::Group,
                 argument,
                 typed,
             ))

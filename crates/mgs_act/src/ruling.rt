@@ -1,10 +1,10 @@
-// The rules of a buffer change: who owns it, or an entry of its access list.
+// The rules of a buffer change: its owner, its owning group, or an entry of its access list.
 ghost use Rattle.std.specs.Prelude.{◌≡◌, ◌<◌, ◌-◌, ℕ, List as Items, length, Option, None, IfSome, true, false};
 ghost use Rattle.std.specs.List.{position_or_len};
 ghost use Rattle.mgs_model.specs.Access.{Directory};
 ghost use Rattle.mgs_model.specs.Acts.{effects, fails, permitted};
 ghost use Rattle.mgs_model.specs.Apart.{Apart, touched_by};
-ghost use Rattle.mgs_model.specs.Apply.{act};
+ghost use Rattle.mgs_model.specs.Apply.{act, change_first};
 ghost use Rattle.mgs_model.specs.Outcome.{Outcome, Run};
 ghost use Rattle.mgs_model.specs.Plans.{count_of, entries_changed, entry_inserted, entry_replaced, has_entry, new_number};
 ghost use Rattle.mgs_model.specs.Rights.{bit_of};
@@ -12,9 +12,10 @@ ghost use Rattle.mgs_model.specs.World.{Own};
 ghost use Rattle.mgs_model.specs.declared.entry.Decision.TheVariants.{Granted};
 ghost use Rattle.mgs_model.specs.declared.entry.Entry.{Entry};
 ghost use Rattle.mgs_model.specs.declared.session.EntryChange.TheVariants.{DeleteEntry, InsertEntry, ReplaceEntry};
-ghost use Rattle.mgs_buffers.specs.MarkedBuffer.{HasBuffer, MarkedBuffer, marked_at};
+ghost use Rattle.mgs_model.specs.declared.touched.Touched.TheVariants.{Anywhere};
+ghost use Rattle.mgs_buffers.specs.MarkedBuffer.{HasBuffer, MarkedBuffer, marked_at, marked_named, marked_reowned};
 ghost use Rattle.mgs_session.specs.Sessions.{subject_of};
-ghost use Rattle.mgs_act.specs.declared.ruling.Ruling.TheVariants.{Entries, Owner};
+ghost use Rattle.mgs_act.specs.declared.ruling.Ruling.TheVariants.{Entries, Group, Owner};
 ghost use Rattle.mgs_act.specs.Subjects.{subject_kept};
 ghost use Rattle.mgs_act.specs.Ruling.{CanRule, buffers_ruled, command_of, ruled_outcome, ruling_decision, ruling_in, ruling_mask, ruling_outcome, ruling_plan, session_ruled};
 ghost use Rattle.mgs_world.specs.Sound.{IsSound};
@@ -25,7 +26,7 @@ use crate::subject::subject_in;
 use mgs_acl::{List, ListFault, entry_typed};
 use mgs_buffers::Buffers;
 use mgs_marks::Marked;
-use mgs_model::{Entry, EntryChange, Kind, Mask, Message, Name, Right, Touched};
+use mgs_model::{Entry, EntryChange, Kind, Mask, Message, Name, NewOwner, Right, Touched};
 use mgs_policy::Directory;
 use mgs_session::{Session, fail, set_kind};
 
@@ -34,6 +35,8 @@ use mgs_session::{Session, fail, set_kind};
 pub enum Ruling {
     /// Another user is to own it.
     Owner,
+    /// Another group is to own it, or none.
+    Group,
     /// An entry of its access list is to change.
     Entries(EntryChange),
 }
@@ -43,8 +46,8 @@ pub enum Ruling {
 pub enum Ruled {
     /// It fails, and this is told.
     Fails(Message),
-    /// The buffer of a name gets an owner.
-    Reowns(Name, Name),
+    /// The buffer of a name gets an owner, or an owning group, or none.
+    Reowns(Name, NewOwner),
     /// The buffer of a name gets an access list.
     Relists(Name, List),
 }
@@ -54,7 +57,7 @@ fn right_for(ruling: Ruling) -> Right
     ensures { bit_of result ≡ ruling_mask ruling }
 {
     match ruling {
-        Ruling::Owner => Right::WriteOwner,
+        Ruling::Owner | Ruling::Group => Right::WriteOwner,
         Ruling::Entries(_) => Right::WriteAcl,
     }
 }
@@ -81,8 +84,22 @@ fn owner_ruled(directory: &Directory, name: Name, typed: &[char]) -> Ruled
     ensures can { (ks : Items MarkedBuffer) → HasBuffer name ks → CanRule ks result }
 {
     match directory.user_typed(typed) {
-        Some(owner) => Ruled::Reowns(name, owner),
+        Some(owner) => Ruled::Reowns(name, NewOwner::ToUser(owner)),
         None => Ruled::Fails(Message::NoSuchUser),
+    }
+}
+
+/// The buffer gets the owning group whose name was typed, where that is a group of the directory, or none, where nothing was typed.
+fn group_ruled(directory: &Directory, name: Name, typed: &[char]) -> Ruled
+    ensures value { (own : Own) (entries : Items Entry) (n : Option ℕ) → ruled_outcome own result ≡ effects own (ruling_plan directory.now name entries Group n typed.now) }
+    ensures can { (ks : Items MarkedBuffer) → HasBuffer name ks → CanRule ks result }
+{
+    if typed.is_empty() {
+        return Ruled::Reowns(name, NewOwner::ToGroup(None));
+    }
+    match directory.group_typed(typed) {
+        Some(group) => Ruled::Reowns(name, NewOwner::ToGroup(Some(group))),
+        None => Ruled::Fails(Message::NoSuchGroup),
     }
 }
 
@@ -213,6 +230,7 @@ fn granted<T: Marked + Drop>(
 {
     match ruling {
         Ruling::Owner => owner_ruled(directory, name, typed),
+        Ruling::Group => group_ruled(directory, name, typed),
         Ruling::Entries(change) => {
             entries_ruled(buffers.copy_list(&name), name, change, argument, typed)
         }
@@ -265,6 +283,19 @@ fn decide<T: Marked + Drop>(
     }
 }
 
+/// The buffer of a name gets an owner, or an owning group, or none. It tells what that touches.
+fn reown<T: Marked + Drop>(buffers: &mut Buffers<T>, name: &Name, new: NewOwner) -> Touched
+    requires { HasBuffer name.now buffers.old }
+    ensures buffers { buffers.new ≡ change_first (marked_named name.now) (marked_reowned new) buffers.old }
+    ensures touched { result ≡ Anywhere }
+{
+    match new {
+        NewOwner::ToUser(owner) => buffers.reown(name, owner),
+        NewOwner::ToGroup(group) => buffers.set_group(name, group),
+    }
+    Touched::Anywhere
+}
+
 /// Does what was decided, and tells what it touched.
 fn carry_out<T: Marked + Drop>(
     buffers: &mut Buffers<T>,
@@ -281,10 +312,9 @@ fn carry_out<T: Marked + Drop>(
             fail(session, message);
             Touched::Nowhere
         }
-        Ruled::Reowns(name, owner) => {
-            buffers.reown(&name, owner);
+        Ruled::Reowns(name, new) => {
             set_kind(session, Kind::Other);
-            Touched::Anywhere
+            reown(buffers, &name, new)
         }
         Ruled::Relists(name, list) => {
             buffers.relist(&name, list);
@@ -294,10 +324,9 @@ fn carry_out<T: Marked + Drop>(
     }
 }
 
-/// Changes the owner or the access list of the buffer whose text or access list the selected window of the session at `at`
-/// shows. `typed` is the
-/// owner's name, or the new entry. The session has nothing half read and an empty echo line. It tells what it touched, and
-/// what it did not touch is as it was. It takes no memory.
+/// Changes the owner, the owning group or the access list of the buffer whose text or access list the selected window of the
+/// session at `at` shows. `typed` is the owner's name, the group's, which is empty for none, or the new entry. The session has
+/// nothing half read and an empty echo line. It tells what it touched, and what it did not touch is as it was. It takes no memory.
 pub fn rule<T: Marked + Drop>(
     buffers: &mut Buffers<T>,
     directory: &Directory,

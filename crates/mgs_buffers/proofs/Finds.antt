@@ -8,7 +8,7 @@ use Rattle.mgs_buffers.specs.Found.{Named, IsFound}
 
 -- it is found under the name that it is kept under
 pub found_there : {T : Type 0} (text : T → List ℕ) (marks : T → List (Option ℕ)) (name kept : List ℕ) (all : List MarkedBuffer) (place : ℕ) (b : Buffer T) → kept ≡ name → HasBuffer name all
-    → marked_of text marks name b ≡ marked_at name all → IsRuled place b.owner b.list (rules_kept all) → IsFound text marks kept all place b
+    → marked_of text marks name b ≡ marked_at name all → IsRuled place b.owners b.list (rules_kept all) → IsFound text marks kept all place b
 found_there text marks name kept all place b same there is ruled = subst (λ (n : List ℕ). IsFound text marks n all place b) (sym same) (record { kept = there; is = is; there = ruled })
 
 module _ {T : Type 0} (text : T → List ℕ) (marks : T → List (Option ℕ)) (name : List ℕ) (all : List MarkedBuffer) (place : ℕ) (b : Buffer T) (f : Named) (found : IsFound text marks name all place b) (view : ◌≡◌ {A = Named} (record { name = name; all = all }) f) where
@@ -18,5 +18,5 @@ module _ {T : Type 0} (text : T → List ℕ) (marks : T → List (Option ℕ)) 
   pub found_is : marked_of text marks f.name b ≡ marked_at f.name f.all
   found_is = subst (λ (x : Named). marked_of text marks x.name b ≡ marked_at x.name x.all) view found.is
 
-  pub found_ruled : IsRuled place b.owner b.list (rules_kept f.all)
-  found_ruled = subst (λ (x : Named). IsRuled place b.owner b.list (rules_kept x.all)) view found.there
+  pub found_ruled : IsRuled place b.owners b.list (rules_kept f.all)
+  found_ruled = subst (λ (x : Named). IsRuled place b.owners b.list (rules_kept x.all)) view found.there

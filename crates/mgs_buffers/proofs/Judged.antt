@@ -4,6 +4,7 @@ use Rattle.std.specs.Prelude.{slice_get, is_some, IfSome}
 use Rattle.std.specs.Option.{option_map}
 use Rattle.std.proofs.lemmas.Option.{slice_get-map}
 use Rattle.mgs_model.specs.Access.{Directory, decider, decision, decision_by}
+use Rattle.mgs_model.specs.declared.owners.Owners.{Owners}
 use Rattle.mgs_model.specs.Apart.{Rules, rules_of, rules_in}
 use Rattle.mgs_model.specs.Rights.{bit_of}
 use Rattle.mgs_model.specs.World as model
@@ -20,11 +21,11 @@ use Rattle.mgs_buffers.specs.Judging.{AreJudged, IsRuled, StaysRight, rules_kept
 
 -- nothing is kept
 pub judged_none : (directory : Directory) (rules : List Rules) → AreJudged directory rules []
-judged_none directory rules = record { each = λ place r is. right_none place directory r.owner r.entries }
+judged_none directory rules = record { each = λ place r is. right_none place directory r.owners r.entries }
 
 -- what is kept for the buffer at a place is right
-pub right_there : (place : ℕ) (directory : Directory) (owner : List ℕ) (entries : List Entry) (rules : List Rules) (keeps : List Kept) → AreJudged directory rules keeps → IsRuled place owner entries rules → AreRight place directory owner entries keeps
-right_there place directory owner entries rules keeps judged is = judged.each place (record { name = is.name; owner = owner; entries = entries }) is.there
+pub right_there : (place : ℕ) (directory : Directory) (owners : Owners) (entries : List Entry) (rules : List Rules) (keeps : List Kept) → AreJudged directory rules keeps → IsRuled place owners entries rules → AreRight place directory owners entries keeps
+right_there place directory owners entries rules keeps judged is = judged.each place (record { name = is.name; owners = owners; entries = entries }) is.there
 
 same_rules : (a b : Rules) → Some a ≡ Some b → a ≡ b
 same_rules a b e = cc
@@ -41,23 +42,23 @@ some_mapped f None = refl
 some_mapped f (Some a) = refl
 
 -- one decision more is kept, and it is right
-pub judged_with : (place : ℕ) (directory : Directory) (owner user : List ℕ) (entries : List Entry) (mask : ℕ) (d : Decision) (old new : List Kept) → AreAmong new (kept place user mask d ∷ old) → d ≡ decision directory owner user entries mask → StaysRight place directory owner entries old new
-judged_with place directory owner user entries mask d old new among is rules judged here = record {
+pub judged_with : (place : ℕ) (directory : Directory) (owners : Owners) (user : List ℕ) (entries : List Entry) (mask : ℕ) (d : Decision) (old new : List Kept) → AreAmong new (kept place user mask d ∷ old) → d ≡ decision directory owners user entries mask → StaysRight place directory owners entries old new
+judged_with place directory owners user entries mask d old new among is rules judged here = record {
   each = λ other r at.
-      right_with other directory r.owner r.entries new old (kept place user mask d) among (judged.each other r at)
+      right_with other directory r.owners r.entries new old (kept place user mask d) among (judged.each other r at)
       (λ e.
-      let mine : Rules = record { name = here.name; owner = owner; entries = entries } in
+      let mine : Rules = record { name = here.name; owners = owners; entries = entries } in
       let same : mine ≡ r = same_rules mine r (sym here.there ∙ ap (slice_get rules) e ∙ at) in
-      is ∙ ap (λ (x : Rules). decision directory x.owner user x.entries mask) same);
+      is ∙ ap (λ (x : Rules). decision directory x.owners user x.entries mask) same);
 }
 
 -- on one right
-pub one_right : (directory : Directory) (owner user : List ℕ) (entries : List Entry) (right : Right) → decision directory owner user entries (bit_of right) ≡ decision_by (decider directory owner user entries) (right ∷ [])
-one_right directory owner user entries right = decision_one directory owner user entries right
+pub one_right : (directory : Directory) (owners : Owners) (user : List ℕ) (entries : List Entry) (right : Right) → decision directory owners user entries (bit_of right) ≡ decision_by (decider directory owners user entries) (right ∷ [])
+one_right directory owners user entries right = decision_one directory owners user entries right
 
 module _ {T : Type 0} (text : T → List ℕ) (marks : T → List (Option ℕ)) where
   -- the buffer that stands at a place
-  pub ruled_at : (es : List (List ℕ × Buffer T)) (ks : List MarkedBuffer) (i : ℕ) (n : List ℕ) (s : Buffer T) → marked_all text marks es ≡ ks → slice_get es i ≡ Some (n, s) → IsRuled i s.owner s.list (rules_kept ks)
+  pub ruled_at : (es : List (List ℕ × Buffer T)) (ks : List MarkedBuffer) (i : ℕ) (n : List ℕ) (s : Buffer T) → marked_all text marks es ≡ ks → slice_get es i ≡ Some (n, s) → IsRuled i s.owners s.list (rules_kept ks)
   ruled_at es ks i n s view at =
       let f : List ℕ × Buffer T → MarkedBuffer = λ e. marked_of text marks e.0 e.1 in
       let g : MarkedBuffer → model.Buffer = λ k. k.buffer in

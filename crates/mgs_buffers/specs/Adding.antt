@@ -1,14 +1,20 @@
 -- Why a buffer is not added.
-use Rattle.std.specs.Prelude.{◌≡◌, ℕ, nat_le, nat_lt, not, ◌&&◌, List, length, Option, Some, None, Result, Ok, Err, if◌then◌else◌}
-use Rattle.mgs_model.specs.Names.{is_name, is_user_name}
+use Rattle.std.specs.Prelude.{◌≡◌, ℕ, nat_le, nat_lt, not, Bool, ◌&&◌, List, length, Option, Some, None, Result, Ok, Err, if◌then◌else◌}
+use Rattle.mgs_model.specs.Names.{is_group_or_none, is_name, is_user_name}
+use Rattle.mgs_model.specs.Access.{owners_of}
+use Rattle.mgs_model.specs.declared.owners.Owners.{Owners}
 use Rattle.mgs_buffers.specs.MarkedBuffer.{MarkedBuffer, has_buffer}
 use Rattle.mgs_buffers.specs.declared.fault.AddFault.{AddFault}
 use Rattle.mgs_buffers.specs.declared.fault.AddFault.TheVariants.{Name, Twice, Full, Long, Short}
 
--- why a buffer of this name, owner and size must not be added
-abbrev pub add_fault : List ℕ → List ℕ → ℕ → List MarkedBuffer → Option AddFault
-add_fault name owner size ks =
-    if not (is_name name && is_user_name owner) then Some Name
+-- these have the form of a buffer's name, of a user's, and of a group's where there is one
+abbrev pub are_names : List ℕ → List ℕ → Option (List ℕ) → Bool
+are_names name owner group = is_name name && (is_user_name owner && is_group_or_none group)
+
+-- why a buffer of this name, owner, group and size must not be added
+abbrev pub add_fault : List ℕ → List ℕ → Option (List ℕ) → ℕ → List MarkedBuffer → Option AddFault
+add_fault name owner group size ks =
+    if not (are_names name owner group) then Some Name
     else if has_buffer name ks then Some Twice
     else if nat_le 256 (length ks) then Some Full
     else if nat_lt 1048576 size then Some Long
@@ -27,7 +33,7 @@ abbrev pub AddAnswers : Result (Unit {0}) AddFault → Option AddFault → Type 
 AddAnswers (Ok done) due = due ≡ None
 AddAnswers (Err fault) due = IsAddDue fault due
 
--- what is answered where a buffer is checked and not yet added: its name and its owner's
-abbrev pub NamesToAdd : Result (List ℕ × List ℕ) AddFault → List ℕ → List ℕ → Option AddFault → Type 0
-NamesToAdd (Ok names) name owner due = (names ≡ (name, owner)) × (due ≡ None)
-NamesToAdd (Err fault) name owner due = IsAddDue fault due
+-- what is answered where a buffer is checked and not yet added: its name and its owners
+abbrev pub NamesToAdd : Result (List ℕ × Owners) AddFault → List ℕ → List ℕ → Option (List ℕ) → Option AddFault → Type 0
+NamesToAdd (Ok names) name owner group due = (names ≡ (name, owners_of owner group)) × (due ≡ None)
+NamesToAdd (Err fault) name owner group due = IsAddDue fault due

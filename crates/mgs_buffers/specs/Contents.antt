@@ -7,7 +7,7 @@ module _ {T : Type 0} (text : T → List ℕ) (marks : T → List (Option ℕ)) 
   abbrev pub marked_of : List ℕ → Buffer T → MarkedBuffer
   marked_of name s =
       record {
-        buffer = record { name = name; owner = s.owner; entries = s.list; text = text s.text; items = s.record.items; serial = s.record.serial; modified = s.modified; file = s.has_file };
+        buffer = record { name = name; owners = s.owners; entries = s.list; text = text s.text; items = s.record.items; serial = s.record.serial; modified = s.modified; file = s.has_file };
         marks = marks s.text;
       }
 

@@ -10,8 +10,8 @@ pub record Named : Type 0 where
   pub name : List ℕ
   pub all : List MarkedBuffer
 
--- these fields fit each other: the buffer is that of the name, and what a judge kept for the place is about its owner and its list
+-- these fields fit each other: the buffer is that of the name, and what a judge kept for the place is about its owners and its list
 pub record IsFound {T : Type 0} (text : T → List ℕ) (marks : T → List (Option ℕ)) (name : List ℕ) (all : List MarkedBuffer) (place : ℕ) (b : Buffer T) : Type 0 where
   pub kept : HasBuffer name all
   pub is : marked_of text marks name b ≡ marked_at name all
-  pub there : IsRuled place b.owner b.list (rules_kept all)
+  pub there : IsRuled place b.owners b.list (rules_kept all)

@@ -1,8 +1,11 @@
 -- What is kept of each buffer: the buffer, and the marks in its text.
 use Rattle.std.specs.Prelude.{◌≡◌, ◌≢◌, ◌≤◌, ◌∷◌, ℕ, Bool, false, List, [], length, Option, Some, None, find, is_some, slice_set, IsSome}
+use Rattle.mgs_model.specs.Access.{owners_of}
+use Rattle.mgs_model.specs.declared.owners.Owners.{Owners}
 use Rattle.mgs_model.specs.Text.{shift_all}
 use Rattle.mgs_model.specs.World.{Buffer, is_named}
-use Rattle.mgs_model.specs.Apply.{change_first, remove_first, new_buffer, buffer_edited, buffer_unmodified}
+use Rattle.mgs_model.specs.declared.owners.NewOwner.{NewOwner}
+use Rattle.mgs_model.specs.Apply.{change_first, remove_first, new_buffer, owners_after, buffer_edited, buffer_unmodified}
 use Rattle.mgs_model.specs.declared.entry.Entry.{Entry}
 use Rattle.mgs_marks.specs.Marks.{mark_in, position_in}
 
@@ -14,10 +17,10 @@ abbrev pub marked_named : List ℕ → MarkedBuffer → Bool
 marked_named name k = is_named name k.buffer
 
 -- a buffer that was not edited, and no marks
-abbrev pub marked_new : List ℕ → List ℕ → List Entry → List ℕ → Bool → MarkedBuffer
-marked_new name owner entries text file =
+abbrev pub marked_new : List ℕ → Owners → List Entry → List ℕ → Bool → MarkedBuffer
+marked_new name owners entries text file =
     record {
-      buffer = record { name = name; owner = owner; entries = entries; text = text; items = []; serial = 0; modified = false; file = file };
+      buffer = record { name = name; owners = owners; entries = entries; text = text; items = []; serial = 0; modified = false; file = file };
       marks = [];
     }
 
@@ -26,7 +29,7 @@ abbrev pub marked_created : List ℕ → List ℕ → MarkedBuffer
 marked_created name owner = record { buffer = new_buffer name owner; marks = [] }
 
 abbrev pub marked_or_none : Option MarkedBuffer → MarkedBuffer
-marked_or_none None = marked_new [] [] [] [] false
+marked_or_none None = marked_new [] (owners_of [] None) [] [] false
 marked_or_none (Some k) = k
 
 -- what is kept under a name
@@ -64,9 +67,9 @@ marked_edited a b put k = record { buffer = buffer_edited a b put k.buffer; mark
 abbrev pub marked_unmodified : MarkedBuffer → MarkedBuffer
 marked_unmodified k = record { buffer = buffer_unmodified k.buffer; marks = k.marks }
 
--- another owner, and another access list
-abbrev pub marked_reowned : List ℕ → MarkedBuffer → MarkedBuffer
-marked_reowned owner k = record { buffer = record k.buffer { owner = owner }; marks = k.marks }
+-- another owner or owning group, and another access list
+abbrev pub marked_reowned : NewOwner → MarkedBuffer → MarkedBuffer
+marked_reowned new k = record { buffer = record k.buffer { owners = owners_after new k.buffer.owners }; marks = k.marks }
 
 abbrev pub marked_relisted : List Entry → MarkedBuffer → MarkedBuffer
 marked_relisted entries k = record { buffer = record k.buffer { entries = entries }; marks = k.marks }

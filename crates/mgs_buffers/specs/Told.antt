@@ -9,12 +9,12 @@ use Rattle.mgs_buffers.specs.declared.telling.Attributes as declared
 
 -- its attributes, as the model has them
 abbrev pub attributes_read : declared.Attributes → Attributes
-attributes_read a = record { name = a.name; modified = a.modified; size = a.size; owner = a.owner }
+attributes_read a = record { name = a.name; modified = a.modified; size = a.size; owners = a.owners }
 
 -- they are told to those to whom READ_ATTRIBUTES is granted
 abbrev pub attributes_to : Directory → List ℕ → Buffer → Option Attributes
 attributes_to directory user b =
-    if may directory user ReadAttributes b then Some (record { name = b.name; modified = b.modified; size = length b.text; owner = b.owner }) else None
+    if may directory user ReadAttributes b then Some (record { name = b.name; modified = b.modified; size = length b.text; owners = b.owners }) else None
 
 abbrev pub attributes_found : Directory → List ℕ → Option MarkedBuffer → Option Attributes
 attributes_found directory user None = None

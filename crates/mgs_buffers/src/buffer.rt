@@ -2,6 +2,7 @@
 ghost use Rattle.std.specs.Prelude.{◌≡◌, ◌≢◌, ℕ, ◌-◌, ◌<◌, ◌≤◌, ◌^◌, ◌∷◌, [], List, Some, None, length, IsSome, OnOk, OnErr, IfOk};
 ghost use Rattle.mgs_model.specs.Access.{decider, decision, decision_by};
 ghost use Rattle.mgs_model.specs.Apply.{first_entries};
+ghost use Rattle.mgs_model.specs.declared.owners.NewOwner.TheVariants.{ToUser, ToGroup};
 ghost use Rattle.mgs_model.specs.World.{may};
 ghost use Rattle.mgs_marks.specs.Marks.{mark_in};
 ghost use Rattle.mgs_buffers.specs.MarkedBuffer.{marked_new, marked_edited, marked_placed, marked_relisted, marked_reowned, marked_unmodified, with_marks};
@@ -13,7 +14,7 @@ use crate::judging::judged;
 use mgs_acl::{Entry, EntryType, Who};
 use mgs_cache::Judge;
 use mgs_marks::Marked;
-use mgs_model::{Decision, MarkId, Mask, Name, Right, Short};
+use mgs_model::{Decision, MarkId, Mask, Name, Owners, Right, Short};
 use mgs_policy::{Directory, decide, decide_right, is_granted};
 use mgs_text::Text;
 use mgs_undo::{Edit, Record};
@@ -22,8 +23,8 @@ use std::alloc::Global;
 /// What is kept of one buffer beside its name. The buffers keep it under that name.
 #[derive(Drop)]
 pub struct Buffer<T: Marked + Drop> {
-    /// The user who owns the buffer.
-    pub owner: Name,
+    /// Who owns the buffer.
+    pub owners: Owners,
     /// Who has which right on the buffer.
     pub list: mgs_acl::List,
     /// The text, with its marks.
@@ -59,17 +60,17 @@ pub(crate) fn owners_list() -> mgs_acl::List
 /// memory from `alloc`. `Short`: memory was refused.
 pub fn new_buffer<T: Marked + Drop>(
     alloc: Global,
-    owner: Name,
+    owners: Owners,
     list: mgs_acl::List,
     text: &[char],
     has_file: bool,
 ) -> Result<Buffer<T>, Short>
-    ensures { IfOk result (λ s. (name : List ℕ) → marked_of T.text T.marks name s ≡ marked_new name owner list text.now has_file) }
+    ensures { IfOk result (λ s. (name : List ℕ) → marked_of T.text T.marks name s ≡ marked_new name owners list text.now has_file) }
 {
     let text = T::of(alloc, text)?;
     let record = Record::new(alloc)?;
     Ok(Buffer {
-        owner,
+        owners,
         list,
         text,
         record,
@@ -81,23 +82,24 @@ pub fn new_buffer<T: Marked + Drop>(
 impl<T: Marked + Drop> Buffer<T> {
     /// What the access list decides on one right of a user (RFC 8881, section 6.2.1).
     pub fn decide(&self, directory: &Directory, user: &Name, right: Right) -> Decision
-        ensures { result ≡ decision_by (decider directory.now self.now.owner user.now self.now.list) (right ∷ []) }
+        ensures { result ≡ decision_by (decider directory.now self.now.owners user.now self.now.list) (right ∷ []) }
     {
-        decide_right(&self.list, &self.owner, user, directory, right)
+        decide_right(&self.list, &self.owners, user, directory, right)
     }
 
     /// What it decides on all rights of a mask.
     pub fn decide_all(&self, directory: &Directory, user: &Name, mask: Mask) -> Decision
-        ensures { result ≡ decision directory.now self.now.owner user.now self.now.list mask }
+        ensures { result ≡ decision directory.now self.now.owners user.now self.now.list mask }
     {
-        decide(&self.list, &self.owner, user, directory, mask)
+        let group = self.owners.group.as_ref();
+        decide(&self.list, &self.owners.owner, group, user, directory, mask)
     }
 
     /// Whether a user is granted a right on the buffer.
     pub fn grants(&self, directory: &Directory, user: &Name, right: Right) -> bool
         ensures { (name : List ℕ) → result ≡ may directory.now user.now right (marked_of T.text T.marks name self.now).buffer }
     {
-        is_granted(&self.list, &self.owner, user, directory, right)
+        is_granted(&self.list, &self.owners, user, directory, right)
     }
 
     /// What a judge decides on one right of a user, where the buffer stands at a place.
@@ -109,15 +111,15 @@ impl<T: Marked + Drop> Buffer<T> {
         user: &Name,
         right: Right,
     ) -> Decision
-        requires { AreRight place directory.now self.now.owner self.now.list judge.old }
-        ensures value { result ≡ decision_by (decider directory.now self.now.owner user.now self.now.list) (right ∷ []) }
-        ensures stays { StaysRight place directory.now self.now.owner self.now.list judge.old judge.new }
+        requires { AreRight place directory.now self.now.owners self.now.list judge.old }
+        ensures value { result ≡ decision_by (decider directory.now self.now.owners user.now self.now.list) (right ∷ []) }
+        ensures stays { StaysRight place directory.now self.now.owners self.now.list judge.old judge.new }
     {
         judged(
             judge,
             place,
             &self.list,
-            &self.owner,
+            &self.owners,
             user,
             directory,
             right,
@@ -133,9 +135,9 @@ impl<T: Marked + Drop> Buffer<T> {
         user: &Name,
         right: Right,
     ) -> bool
-        requires { AreRight place directory.now self.now.owner self.now.list judge.old }
+        requires { AreRight place directory.now self.now.owners self.now.list judge.old }
         ensures value { (name : List ℕ) → result ≡ may directory.now user.now right (marked_of T.text T.marks name self.now).buffer }
-        ensures stays { StaysRight place directory.now self.now.owner self.now.list judge.old judge.new }
+        ensures stays { StaysRight place directory.now self.now.owners self.now.list judge.old judge.new }
     {
         self.decide_by(judge, place, directory, user, right) == Decision::Granted
     }
@@ -204,9 +206,16 @@ impl<T: Marked + Drop> Buffer<T> {
 
     /// Another user owns the buffer.
     pub fn reown(&mut self, owner: Name)
-        ensures { (name : List ℕ) → marked_of T.text T.marks name self.new ≡ marked_reowned owner (marked_of T.text T.marks name self.old) }
+        ensures { (name : List ℕ) → marked_of T.text T.marks name self.new ≡ marked_reowned (ToUser owner) (marked_of T.text T.marks name self.old) }
     {
-        self.owner = owner;
+        self.owners.owner = owner;
+    }
+
+    /// Another group owns the buffer, or none does.
+    pub fn set_group(&mut self, group: Option<Name>)
+        ensures { (name : List ℕ) → marked_of T.text T.marks name self.new ≡ marked_reowned (ToGroup group) (marked_of T.text T.marks name self.old) }
+    {
+        self.owners.group = group;
     }
 
     /// Another access list takes the place of the buffer's.

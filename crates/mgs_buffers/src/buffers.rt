@@ -6,9 +6,10 @@ ghost use Rattle.mgs_undo.specs.Numbered.{item_of};
 ghost use Rattle.std.specs.Map.{lookup, remove_entry};
 ghost use Rattle.mgs_model.specs.Names.{IsName, same_name};
 ghost use Rattle.std.specs.List.{position_or_len};
-ghost use Rattle.mgs_model.specs.Access.{decider, decision, decision_by};
+ghost use Rattle.mgs_model.specs.Access.{decider, decision, decision_by, owners_of};
 ghost use Rattle.mgs_model.specs.Apply.{change_first};
 ghost use Rattle.mgs_model.specs.Completion.{completion, granted_names};
+ghost use Rattle.mgs_model.specs.declared.owners.NewOwner.TheVariants.{ToUser, ToGroup};
 ghost use Rattle.mgs_model.specs.World.{may};
 ghost use Rattle.mgs_buffers.specs.Adding.{add_fault, AddAnswers, NamesToAdd};
 ghost use Rattle.mgs_buffers.specs.Completed.{IsWithinName};
@@ -24,10 +25,10 @@ use crate::found::Found;
 use crate::naming::name_typed;
 use crate::telling::{Attributes, is_shown, told};
 use indexmap::IndexMap;
-use mgs_acl::user_named;
+use mgs_acl::{group_named, user_named};
 use mgs_cache::Judge;
 use mgs_marks::Marked;
-use mgs_model::{BUFFER_LIMIT, Decision, MarkId, Mask, Name, Right, Short, TEXT_LIMIT};
+use mgs_model::{BUFFER_LIMIT, Decision, MarkId, Mask, Name, Owners, Right, Short, TEXT_LIMIT};
 use mgs_policy::Directory;
 use mgs_text::Text;
 use mgs_undo::Edit;
@@ -123,42 +124,45 @@ impl<T: Marked + Drop> Buffers<T> {
     }
 
     /// Adds a buffer with this text as the last, without marks and with no edit recorded: its serial is 0. That its owner is
-    /// a user of the directory is for the caller to see.
+    /// a user of the directory, and its owning group a group of it, is for the caller to see.
     ///
-    /// The faults, checked in this order: `Name` where `name` is no buffer's name or `owner` no user's, `Twice` where a buffer has the
-    /// name, `Full` where there are 256 buffers, `Long` where the text has more than 1,048,576 characters, `Short` where memory was
+    /// The faults, checked in this order: `Name` where `name` is no buffer's name, `owner` no user's or `group` no group's, `Twice`
+    /// where a buffer has the name, `Full` where there are 256 buffers, `Long` where the text has more than 1,048,576 characters, `Short` where memory was
     /// refused. They change nothing.
     pub fn add(
         &mut self,
         name: &str,
         owner: &str,
+        group: Option<&str>,
         list: mgs_acl::List,
         text: &[char],
         has_file: bool,
     ) -> Result<(), AddFault>
-        ensures answer { AddAnswers result (add_fault name.now owner.now (length text.now) self.old) }
-        ensures ok { OnOk result (self.new ≡ self.old ++ marked_new name.now owner.now list text.now has_file ∷ []) }
+        ensures answer { AddAnswers result (add_fault name.now owner.now (option_copied group.entry) (length text.now) self.old) }
+        ensures ok { OnOk result (self.new ≡ self.old ++ marked_new name.now (owners_of owner.now (option_copied group.entry)) list text.now has_file ∷ []) }
         ensures err { OnErr result (self.new ≡ self.old) }
         ensures unmarked { AreUnmarked self.old → AreUnmarked self.new }
     {
-        let (name, owner) = match self.names_to_add(name, owner, text.len()) {
+        let (name, owners) = match self.names_to_add(name, owner, group, text.len()) {
             Ok(names) => names,
             Err(fault) => return Err(fault),
         };
-        match self.add_last(name, owner, list, text, has_file) {
+        match self.add_last(name, owners, list, text, has_file) {
             Ok(()) => Ok(()),
             Err(Short) => Err(AddFault::Short),
         }
     }
 
-    /// Makes an empty buffer without a file, as the last. Its access list grants its owner every right, and nobody else any.
+    /// Makes an empty buffer without a file, as the last. No group owns it, and its access list grants its owner every right, and
+    /// nobody else any.
     /// `Short`: memory was refused, and all is as it was.
     pub fn create(&mut self, name: Name, owner: Name) -> Result<(), Short>
         requires { has_buffer name self.old ≡ false }
         ensures ok { OnOk result (self.new ≡ self.old ++ marked_created name owner ∷ []) }
         ensures err { OnErr result (self.new ≡ self.old) }
     {
-        self.add_last(name, owner, owners_list(), &[], false)
+        let owners = Owners { owner, group: None };
+        self.add_last(name, owners, owners_list(), &[], false)
     }
 
     /// Takes the buffer of a name out, with its marks. The others keep their order and their marks.
@@ -173,23 +177,29 @@ impl<T: Marked + Drop> Buffers<T> {
     fn add_last(
         &mut self,
         name: Name,
-        owner: Name,
+        owners: Owners,
         list: mgs_acl::List,
         text: &[char],
         has_file: bool,
     ) -> Result<(), Short>
         requires free { has_buffer name self.old ≡ false }
         requires room { length text.now ≤ 1048576 }
-        ensures ok { OnOk result (self.new ≡ self.old ++ marked_new name owner list text.now has_file ∷ []) }
+        ensures ok { OnOk result (self.new ≡ self.old ++ marked_new name owners list text.now has_file ∷ []) }
         ensures err { OnErr result (self.new ≡ self.old) }
     {
-        let buffer = new_buffer(self.alloc, owner, list, text, has_file)?;
+        let buffer = new_buffer(self.alloc, owners, list, text, has_file)?;
         put_last(&mut self.all, name, buffer)
     }
 
-    // The name and the owner's name, where a buffer of these and with a text of this size may be added.
-    fn names_to_add(&self, name: &str, owner: &str, size: usize) -> Result<(Name, Name), AddFault>
-        ensures answer { NamesToAdd result name.now owner.now (add_fault name.now owner.now size self.now) }
+    // The name and the owners, where a buffer of these and with a text of this size may be added.
+    fn names_to_add(
+        &self,
+        name: &str,
+        owner: &str,
+        group: Option<&str>,
+        size: usize,
+    ) -> Result<(Name, Owners), AddFault>
+        ensures answer { NamesToAdd result name.now owner.now (option_copied group.entry) (add_fault name.now owner.now (option_copied group.entry) size self.now) }
         ensures free { IfOk result (λ names. has_buffer names.0 self.now ≡ false) }
         ensures room { IfOk result (λ names. size ≤ 1048576) }
     {
@@ -197,6 +207,9 @@ impl<T: Marked + Drop> Buffers<T> {
             return Err(AddFault::Name);
         };
         let Some(owner) = user_named(owner) else {
+            return Err(AddFault::Name);
+        };
+        let Some(group) = group_named(group) else {
             return Err(AddFault::Name);
         };
         if self.has(&name) {
@@ -208,7 +221,7 @@ impl<T: Marked + Drop> Buffers<T> {
         if size > TEXT_LIMIT {
             return Err(AddFault::Long);
         }
-        Ok((name, owner))
+        Ok((name, Owners { owner, group }))
     }
 
     // The place of a buffer.
@@ -226,7 +239,7 @@ impl<T: Marked + Drop> Buffers<T> {
         requires { HasBuffer name.now self.now }
         ensures name { result.1.now ≡ name.now }
         ensures buffer { marked_of T.text T.marks name.now result.2.now ≡ marked_at name.now self.now }
-        ensures place { IsRuled result.0 result.2.now.owner result.2.now.list (rules_kept self.now) }
+        ensures place { IsRuled result.0 result.2.now.owners result.2.now.list (rules_kept self.now) }
     {
         self.all.get_full(name).unwrap()
     }
@@ -256,7 +269,7 @@ impl<T: Marked + Drop> Buffers<T> {
     /// What the buffer's access list decides on one right of a user (RFC 8881, section 6.2.1).
     pub fn decide(&self, directory: &Directory, name: &Name, user: &Name, right: Right) -> Decision
         requires { HasBuffer name.now self.now }
-        ensures { let b = (marked_at name.now self.now).buffer in result ≡ decision_by (decider directory.now b.owner user.now b.entries) (right ∷ []) }
+        ensures { let b = (marked_at name.now self.now).buffer in result ≡ decision_by (decider directory.now b.owners user.now b.entries) (right ∷ []) }
     {
         self.buffer(name).decide(directory, user, right)
     }
@@ -270,7 +283,7 @@ impl<T: Marked + Drop> Buffers<T> {
         mask: Mask,
     ) -> Decision
         requires { HasBuffer name.now self.now }
-        ensures { let b = (marked_at name.now self.now).buffer in result ≡ decision directory.now b.owner user.now b.entries mask }
+        ensures { let b = (marked_at name.now self.now).buffer in result ≡ decision directory.now b.owners user.now b.entries mask }
     {
         self.buffer(name).decide_all(directory, user, mask)
     }
@@ -484,11 +497,21 @@ impl<T: Marked + Drop> Buffers<T> {
     /// Another user owns the buffer. That it is a user of the directory is for the caller to see.
     pub fn reown(&mut self, name: &Name, owner: Name)
         requires { HasBuffer name.now self.old }
-        ensures { self.new ≡ change_first (marked_named name.now) (marked_reowned owner) self.old }
+        ensures { self.new ≡ change_first (marked_named name.now) (marked_reowned (ToUser owner)) self.old }
     {
         let at = self.place_of(name);
         let (_, buffer) = self.all.pair_mut(at);
         buffer.reown(owner);
+    }
+
+    /// Another group owns the buffer, or none does. That it is a group of the directory is for the caller to see.
+    pub fn set_group(&mut self, name: &Name, group: Option<Name>)
+        requires { HasBuffer name.now self.old }
+        ensures { self.new ≡ change_first (marked_named name.now) (marked_reowned (ToGroup group)) self.old }
+    {
+        let at = self.place_of(name);
+        let (_, buffer) = self.all.pair_mut(at);
+        buffer.set_group(group);
     }
 
     /// Another access list takes the place of the buffer's.

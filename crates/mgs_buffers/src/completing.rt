@@ -43,10 +43,10 @@ fn with_buffer<'a, T: Marked + Drop>(
     name: &'a Name,
     buffer: &Buffer<T>,
 ) -> Option<&'a [u8]>
-    requires { AreRight place directory.now buffer.now.owner buffer.now.list judge.old }
+    requires { AreRight place directory.now buffer.now.owners buffer.now.list judge.old }
     ensures within { IsWithinName (option_map (λ t. t.now) found.entry) → IsWithinName (option_map (λ t. t.now) result) }
     ensures value { option_map (λ t. t.now) result ≡ cond (may directory.now user.now Right.ReadAttributes (marked_of T.text T.marks name.now buffer.now).buffer) (narrowed input.now (option_map (λ t. t.now) found.entry) name.now) (option_map (λ t. t.now) found.entry) }
-    ensures stays { StaysRight place directory.now buffer.now.owner buffer.now.list judge.old judge.new }
+    ensures stays { StaysRight place directory.now buffer.now.owners buffer.now.list judge.old judge.new }
 {
     let counts = buffer.grants_by(judge, place, directory, user, Right::ReadAttributes);
     with_name(found, input, name.as_bytes(), counts)

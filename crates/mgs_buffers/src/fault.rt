@@ -4,8 +4,8 @@ use thiserror::Error;
 /// Why a buffer was not added, in the order in which the faults are checked.
 #[derive(Clone, Copy, Debug, PartialEq, Eq, Error)]
 pub enum AddFault {
-    /// The name is none of a buffer (1 to 32 visible ASCII characters), or the owner's none of a user (of them, lower-case
-    /// letters, digits, `-` and `_`).
+    /// The name is none of a buffer (1 to 32 visible ASCII characters), the owner's none of a user (of them, lower-case
+    /// letters, digits, `-` and `_`), or the group's none of a group (as a user's).
     #[error("it is no name")]
     Name,
     /// There is a buffer of that name.

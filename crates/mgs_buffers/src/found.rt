@@ -68,7 +68,7 @@ impl<'a, T: Marked + Drop> Found<'a, T> {
         right: Right,
     ) -> Decision
         requires { AreJudged directory.now (rules_kept self.now.all) judge.old }
-        ensures value { let b = (marked_at self.now.name self.now.all).buffer in result ≡ decision_by (decider directory.now b.owner user.now b.entries) (right ∷ []) }
+        ensures value { let b = (marked_at self.now.name self.now.all).buffer in result ≡ decision_by (decider directory.now b.owners user.now b.entries) (right ∷ []) }
         ensures judged { AreJudged directory.now (rules_kept self.now.all) judge.new }
     {
         self.buffer

@@ -1,4 +1,4 @@
-// What a judge decides on a right, by the owner and the access list of the buffer at a place.
+// What a judge decides on a right, by the owners and the access list of the buffer at a place.
 ghost use Rattle.std.specs.Prelude.{◌≡◌, ◌∷◌, []};
 ghost use Rattle.mgs_model.specs.Access.{decider, decision_by};
 ghost use Rattle.mgs_cache.specs.Kept.{AreRight};
@@ -6,7 +6,7 @@ ghost use Rattle.mgs_buffers.specs.Judging.{StaysRight};
 
 use mgs_acl::List;
 use mgs_cache::Judge;
-use mgs_model::{Decision, Mask, Name, Right};
+use mgs_model::{Decision, Mask, Name, Owners, Right};
 use mgs_policy::Directory;
 
 /// What a list decides on one right of a user, from what a judge keeps for a place or by deciding and keeping.
@@ -14,14 +14,23 @@ pub(crate) fn judged(
     judge: &mut Judge,
     place: usize,
     list: &List,
-    owner: &Name,
+    owners: &Owners,
     user: &Name,
     directory: &Directory,
     right: Right,
 ) -> Decision
-    requires { AreRight place directory.now owner.now list.now judge.old }
-    ensures value { result ≡ decision_by (decider directory.now owner.now user.now list.now) (right ∷ []) }
-    ensures stays { StaysRight place directory.now owner.now list.now judge.old judge.new }
+    requires { AreRight place directory.now owners.now list.now judge.old }
+    ensures value { result ≡ decision_by (decider directory.now owners.now user.now list.now) (right ∷ []) }
+    ensures stays { StaysRight place directory.now owners.now list.now judge.old judge.new }
 {
-    judge.decide(place, list, owner, user, directory, Mask::of(right))
+    let group = owners.group.as_ref();
+    judge.decide(
+        place,
+        list,
+        &owners.owner,
+        group,
+        user,
+        directory,
+        Mask::of(right),
+    )
 }

@@ -1,4 +1,4 @@
-//! The buffers of a server, in order of creation: each a text with marks, its access list, its owner and its latest edits.
+//! The buffers of a server, in order of creation: each a text with marks, its access list, its owners and its latest edits.
 #![tactic(auto)]
 
 mod buffer;

@@ -10,7 +10,7 @@ ghost use Rattle.mgs_buffers.specs.Told.{attributes_read, attributes_to};
 use crate::buffer::Buffer;
 use mgs_cache::Judge;
 use mgs_marks::Marked;
-use mgs_model::{Name, Right};
+use mgs_model::{Name, Owners, Right};
 use mgs_policy::{Directory, is_granted};
 use mgs_text::Text;
 
@@ -22,7 +22,7 @@ pub struct Attributes {
     pub modified: bool,
     /// The number of characters of its text.
     pub size: usize,
-    pub owner: Name,
+    pub owners: Owners,
 }
 
 // Whether a user is granted READ_ATTRIBUTES.
@@ -36,7 +36,7 @@ pub(crate) fn is_shown<T: Marked + Drop>(
 {
     is_granted(
         &buffer.list,
-        &buffer.owner,
+        &buffer.owners,
         user,
         directory,
         Right::ReadAttributes,
@@ -52,9 +52,9 @@ fn is_shown_by<T: Marked + Drop>(
     directory: &Directory,
     user: &Name,
 ) -> bool
-    requires { AreRight place directory.now buffer.now.owner buffer.now.list judge.old }
+    requires { AreRight place directory.now buffer.now.owners buffer.now.list judge.old }
     ensures value { result ≡ may directory.now user.now Right.ReadAttributes (marked_of T.text T.marks name.now buffer.now).buffer }
-    ensures stays { StaysRight place directory.now buffer.now.owner buffer.now.list judge.old judge.new }
+    ensures stays { StaysRight place directory.now buffer.now.owners buffer.now.list judge.old judge.new }
 {
     buffer.grants_by(judge, place, directory, user, Right::ReadAttributes)
 }
@@ -68,16 +68,16 @@ pub(crate) fn told<T: Marked + Drop>(
     directory: &Directory,
     user: &Name,
 ) -> Option<Attributes>
-    requires { AreRight place directory.now buffer.now.owner buffer.now.list judge.old }
+    requires { AreRight place directory.now buffer.now.owners buffer.now.list judge.old }
     ensures value { option_map attributes_read result ≡ attributes_to directory.now user.now (marked_of T.text T.marks name.now buffer.now).buffer }
-    ensures stays { StaysRight place directory.now buffer.now.owner buffer.now.list judge.old judge.new }
+    ensures stays { StaysRight place directory.now buffer.now.owners buffer.now.list judge.old judge.new }
 {
     if is_shown_by(name, buffer, judge, place, directory, user) {
         Some(Attributes {
             name: *name,
             modified: buffer.modified,
             size: buffer.text.len(),
-            owner: buffer.owner,
+            owners: buffer.owners,
         })
     } else {
         None

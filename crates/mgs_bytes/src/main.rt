@@ -70,7 +70,10 @@ fn server_of(alloc: Global, text: &[char]) -> Option<Server> {
     let directory = users(alloc)?;
     let list = open_list()?;
     let mut buffers = Buffers::new(alloc);
-    if buffers.add("notes", "ann", list, text, false).is_err() {
+    if buffers
+        .add("notes", "ann", None, list, text, false)
+        .is_err()
+    {
         return None;
     }
     match Core::new(alloc, directory, buffers, RefusingStore::new()) {

@@ -2,6 +2,7 @@
 use Rattle.std.proofs.Common.{◌≡◌, ℕ, inl, inr, List, [], ◌∷◌, Contains, Option, Some, None, IfSome, refl, subst}
 use Rattle.lru.proofs.Splits.{Contains-cons, Contains-nil}
 use Rattle.mgs_model.specs.Access.{Directory, decision}
+use Rattle.mgs_model.specs.declared.owners.Owners.{Owners}
 use Rattle.mgs_model.specs.declared.entry.Entry.{Entry}
 use Rattle.mgs_model.specs.declared.entry.Decision.{Decision}
 use Rattle.mgs_cache.specs.Kept.{Kept, kept, AreRight, AreAmong}
@@ -9,32 +10,32 @@ use Rattle.mgs_cache.proofs.Among.{among_more, among_after}
 
 -- what is kept for one place is right by its own owner and entries, and stays so where one more that is right, if it is for this
 -- place, is kept
-pub right_with : (place : ℕ) (directory : Directory) (owner : List ℕ) (entries : List Entry) (now before : List Kept) (k : Kept) → AreAmong now (k ∷ before) → AreRight place directory owner entries before → (k.buffer ≡ place → k.decision ≡ decision directory owner k.user entries k.mask) → AreRight place directory owner entries now
-right_with place directory owner entries now before k among right this = record {
+pub right_with : (place : ℕ) (directory : Directory) (owners : Owners) (entries : List Entry) (now before : List Kept) (k : Kept) → AreAmong now (k ∷ before) → AreRight place directory owners entries before → (k.buffer ≡ place → k.decision ≡ decision directory owners k.user entries k.mask) → AreRight place directory owners entries now
+right_with place directory owners entries now before k among right this = record {
   each = λ user mask d h. elim (Contains-cons k before (kept place user mask d) (among.each (kept place user mask d) h)) [
-    | inl e ↦ subst (λ (x : Kept). x.buffer ≡ place → x.decision ≡ decision directory owner x.user entries x.mask) e this refl
+    | inl e ↦ subst (λ (x : Kept). x.buffer ≡ place → x.decision ≡ decision directory owners x.user entries x.mask) e this refl
     | inr was ↦ right.each user mask d was
   ];
 }
 
 -- after `decide`, for the same buffer
-pub right_here : (place : ℕ) (directory : Directory) (owner user : List ℕ) (entries : List Entry) (mask : ℕ) (d : Decision) (now before : List Kept) → AreAmong now (kept place user mask d ∷ before) → d ≡ decision directory owner user entries mask → AreRight place directory owner entries before → AreRight place directory owner entries now
-right_here place directory owner user entries mask d now before among is right =
-    right_with place directory owner entries now before (kept place user mask d) among right (λ e. is)
+pub right_here : (place : ℕ) (directory : Directory) (owners : Owners) (user : List ℕ) (entries : List Entry) (mask : ℕ) (d : Decision) (now before : List Kept) → AreAmong now (kept place user mask d ∷ before) → d ≡ decision directory owners user entries mask → AreRight place directory owners entries before → AreRight place directory owners entries now
+right_here place directory owners user entries mask d now before among is right =
+    right_with place directory owners entries now before (kept place user mask d) among right (λ e. is)
 
 -- after `decide`, for the buffer at another place
-pub right_elsewhere : (place other : ℕ) (user : List ℕ) (mask : ℕ) (d : Decision) (directory : Directory) (owner : List ℕ) (entries : List Entry) (now before : List Kept) → AreAmong now (kept place user mask d ∷ before) → (place ≡ other → ⊥) → AreRight other directory owner entries before → AreRight other directory owner entries now
-right_elsewhere place other user mask d directory owner entries now before among apart right =
-    right_with other directory owner entries now before (kept place user mask d) among right (λ e. absurd (apart e))
+pub right_elsewhere : (place other : ℕ) (user : List ℕ) (mask : ℕ) (d : Decision) (directory : Directory) (owners : Owners) (entries : List Entry) (now before : List Kept) → AreAmong now (kept place user mask d ∷ before) → (place ≡ other → ⊥) → AreRight other directory owners entries before → AreRight other directory owners entries now
+right_elsewhere place other user mask d directory owners entries now before among apart right =
+    right_with other directory owners entries now before (kept place user mask d) among right (λ e. absurd (apart e))
 
 -- where nothing is kept
-pub right_none : (place : ℕ) (directory : Directory) (owner : List ℕ) (entries : List Entry) → AreRight place directory owner entries []
-right_none place directory owner entries = record { each = λ user mask d h. absurd (Contains-nil (kept place user mask d) h) }
+pub right_none : (place : ℕ) (directory : Directory) (owners : Owners) (entries : List Entry) → AreRight place directory owners entries []
+right_none place directory owners entries = record { each = λ user mask d h. absurd (Contains-nil (kept place user mask d) h) }
 
 -- what is kept for a request is its decision
-pub recalled_right : (place : ℕ) (directory : Directory) (owner user : List ℕ) (entries : List Entry) (mask : ℕ) (o : Option Decision) (keeps : List Kept) → AreRight place directory owner entries keeps → IfSome o (λ d. Contains keeps (kept place user mask d)) → IfSome o (λ d. d ≡ decision directory owner user entries mask)
-recalled_right place directory owner user entries mask None keeps right h = tt
-recalled_right place directory owner user entries mask (Some d) keeps right h = right.each user mask d h
+pub recalled_right : (place : ℕ) (directory : Directory) (owners : Owners) (user : List ℕ) (entries : List Entry) (mask : ℕ) (o : Option Decision) (keeps : List Kept) → AreRight place directory owners entries keeps → IfSome o (λ d. Contains keeps (kept place user mask d)) → IfSome o (λ d. d ≡ decision directory owners user entries mask)
+recalled_right place directory owners user entries mask None keeps right h = tt
+recalled_right place directory owners user entries mask (Some d) keeps right h = right.each user mask d h
 
 -- what closes the goals of `decide`
 pub ruleset deciding = (among_more, among_after)

@@ -1,6 +1,8 @@
 // Decisions of access lists, and what is kept of them.
-ghost use Rattle.std.specs.Prelude.{ℕ, List as Items, ◌≡◌, ◌≤◌, ◌∷◌, [], length, IfOk, IfSome};
-ghost use Rattle.mgs_model.specs.Access.{Directory as Users, decision};
+ghost use Rattle.std.specs.Prelude.{List as Items, ◌≡◌, ◌≤◌, ◌∷◌, [], length, IfOk, IfSome};
+ghost use Rattle.std.specs.Option.{option_copied};
+ghost use Rattle.mgs_model.specs.Access.{Directory as Users, decision, owners_of};
+ghost use Rattle.mgs_model.specs.declared.owners.Owners.{Owners};
 ghost use Rattle.mgs_model.specs.declared.entry.Entry.{Entry};
 ghost use Rattle.mgs_cache.specs.Kept.{AreAmong, AreRight, kept};
 
@@ -18,8 +20,8 @@ pub const KEPT_LIMIT: usize = 256;
 
 /// Decides what access lists grant, and keeps what was decided: `KEPT_LIMIT` decisions at most (256), those that were asked for last.
 ///
-/// A decision is kept for the place of a buffer, a user and a mask. It holds as long as the list and the owner of that buffer and the
-/// directory stay as they are: whoever changes one of them calls `forget`.
+/// A decision is kept for the place of a buffer, a user and a mask. It holds as long as the list, the owner and the owning group of
+/// that buffer and the directory stay as they are: whoever changes one of them calls `forget`.
 #[derive(Drop)]
 pub struct Judge {
     decisions: LruCache<Request, Decision>,
@@ -70,7 +72,7 @@ impl Judge {
 
     /// What is kept for a request. It is then the last to go.
     fn recall(&mut self, buffer: usize, user: &Name, mask: Mask) -> Option<Decision>
-        ensures value { (directory : Users) (owner : Items ℕ) (entries : Items Entry) → AreRight buffer directory owner entries self.old → IfSome result (λ d. d ≡ decision directory owner user.now entries mask) }
+        ensures value { (directory : Users) (owners : Owners) (entries : Items Entry) → AreRight buffer directory owners entries self.old → IfSome result (λ d. d ≡ decision directory owners user.now entries mask) }
         ensures stays { AreAmong self.new self.old }
     {
         let request = Request::new(buffer, user, mask);
@@ -89,25 +91,26 @@ impl Judge {
     }
 
     /// What a list decides on all rights of a mask, as `mgs_policy::decide` answers it, from what is kept or by deciding and keeping.
-    /// The list and the owner are those of the buffer at that place. Where memory is refused, the decision is not kept.
+    /// The list, the owner and the owning group are those of the buffer at that place. Where memory is refused, the decision is not kept.
     #[tactic(auto, using(crate::proofs::Rightness::deciding))]
     pub fn decide(
         &mut self,
         buffer: usize,
         list: &List,
         owner: &Name,
+        group: Option<&Name>,
         user: &Name,
         directory: &Directory,
         mask: Mask,
     ) -> Decision
-        requires { AreRight buffer directory.now owner.now list.now self.old }
-        ensures value { result ≡ decision directory.now owner.now user.now list.now mask }
+        requires { AreRight buffer directory.now (owners_of owner.now (option_copied group)) list.now self.old }
+        ensures value { result ≡ decision directory.now (owners_of owner.now (option_copied group.entry)) user.now list.now mask }
         ensures kept { AreAmong self.new (kept buffer user.now mask result ∷ self.old) }
     {
         if let Some(decision) = self.recall(buffer, user, mask) {
             return decision;
         }
-        let decision = decide(list, owner, user, directory, mask);
+        let decision = decide(list, owner, group, user, directory, mask);
         self.keep(buffer, user, mask, decision);
         decision
     }

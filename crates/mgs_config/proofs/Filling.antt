@@ -8,11 +8,11 @@ use Rattle.toml.specs.Data.{Data}
 use Rattle.toml.specs.View.{view}
 use Rattle.toml.specs.declared.value.Value.{Value}
 use Rattle.mgs_model.specs.Names.{same_name}
-use Rattle.mgs_model.specs.Access.{is_among}
+use Rattle.mgs_model.specs.Access.{Directory, is_among}
 use Rattle.mgs_buffers.specs.MarkedBuffer.{MarkedBuffer, has_buffer, marked_named}
 use Rattle.mgs_config.specs.declared.fault.TableFault.{TableFault}
 use Rattle.mgs_config.specs.Faults.{first_fault}
-use Rattle.mgs_config.specs.Buffers.{name_of, owner_of, listed, path_of, is_entry, refused_where, names_refused, contents_refused, or_else, buffer_refused}
+use Rattle.mgs_config.specs.Buffers.{name_of, are_known, listed, path_of, is_entry, refused_where, names_refused, contents_refused, or_else, buffer_refused}
 use Rattle.mgs_config.specs.Files.{Tells, file_fault, table_refused, IsTableFault, IsAdded, AreBuffers, IsTextOf, buffer_of, IsBufferFault}
 use Rattle.mgs_config.proofs.Firsts.{rows_before, rows_from, rows_more, rows_less, rows_count, none_more}
 
@@ -67,9 +67,9 @@ count_same tells [] (k ∷ ks) h = absurd h
 count_same tells (row ∷ rows) [] h = absurd h
 count_same tells (row ∷ rows) (k ∷ ks) h = ap suc (count_same tells rows ks h.1)
 
-refused_same : (tells : Tells) (users : List (List ℕ)) (before : List Data) (row : Data) (ks : List MarkedBuffer) → AreBuffers tells before ks
-    → buffer_refused users before row ≡ refused_where (has_buffer (name_of row) ks) (is_among (owner_of row) users) (length ks) row
-refused_same tells users before row ks h = rw (has_same tells (name_of row) before ks h, count_same tells before ks h)
+refused_same : (tells : Tells) (directory : Directory) (before : List Data) (row : Data) (ks : List MarkedBuffer) → AreBuffers tells before ks
+    → buffer_refused directory before row ≡ refused_where (has_buffer (name_of row) ks) (are_known directory row) (length ks) row
+refused_same tells directory before row ks h = rw (has_same tells (name_of row) before ks h, count_same tells before ks h)
 
 -- a table without a fault, and a file that has none
 none_at : (own : Option TableFault) (of_file : Option TableFault) → own ≡ None → of_file ≡ None → or_else own of_file ≡ None
@@ -83,25 +83,25 @@ pub loop_buffers : (tells now : Tells) (rows : List Value) (i : ℕ) (v : Value)
 loop_buffers tells now rows i v ks new within is same h a = more_buffers tells now rows i v ks new within same h (subst (λ (x : Value). IsAdded now (view x) ks new) is a)
 
 -- one table more without a fault
-pub loop_none : (tells now : Tells) (users : List (List ℕ)) (rows : List Value) (i : ℕ) (v : Value) (ks : List MarkedBuffer) → i < length rows → v ≡ get_or rows i v → now ≡ tells → AreBuffers tells (rows_before rows i) ks
-    → refused_where (has_buffer (name_of (view v)) ks) (is_among (owner_of (view v)) users) (length ks) (view v) ≡ None
+pub loop_none : (tells now : Tells) (directory : Directory) (rows : List Value) (i : ℕ) (v : Value) (ks : List MarkedBuffer) → i < length rows → v ≡ get_or rows i v → now ≡ tells → AreBuffers tells (rows_before rows i) ks
+    → refused_where (has_buffer (name_of (view v)) ks) (are_known directory (view v)) (length ks) (view v) ≡ None
     → file_fault now (path_of (view v)) ≡ None
-    → first_fault (table_refused tells users) [] (rows_before rows i) ≡ None → first_fault (table_refused tells users) [] (rows_before rows (i + 1)) ≡ None
-loop_none tells now users rows i v ks within is same h own of_file none =
-    let refused : table_refused tells users (rows_before rows i) (view v) ≡ None = none_at _ _ (refused_same tells users (rows_before rows i) (view v) ks h ∙ own) (rw same at of_file) in
-    none_more (table_refused tells users) rows i v within none (subst (λ (x : Value). table_refused tells users (rows_before rows i) (view x) ≡ None) is refused)
+    → first_fault (table_refused tells directory) [] (rows_before rows i) ≡ None → first_fault (table_refused tells directory) [] (rows_before rows (i + 1)) ≡ None
+loop_none tells now directory rows i v ks within is same h own of_file none =
+    let refused : table_refused tells directory (rows_before rows i) (view v) ≡ None = none_at _ _ (refused_same tells directory (rows_before rows i) (view v) ks h ∙ own) (rw same at of_file) in
+    none_more (table_refused tells directory) rows i v within none (subst (λ (x : Value). table_refused tells directory (rows_before rows i) (view x) ≡ None) is refused)
 
 split_at : (rows : List Value) (i : ℕ) (d : Value) → i < length rows → map view rows ≡ rows_before rows i ++ view (get_or rows i d) ∷ rows_from rows (i + 1)
 split_at rows i d within =
     ap (map view) (sym (take-append-drop i rows)) ∙ map-append view (take i rows) (drop i rows) ∙ ap (λ rest. rows_before rows i ++ rest) (rows_less rows i d within)
 
 -- a table that is refused
-pub loop_refused : (tells now : Tells) (users : List (List ℕ)) (rows : List Value) (i : ℕ) (v : Value) (ks : List MarkedBuffer) (fault : TableFault) → i < length rows → v ≡ get_or rows i v → now ≡ tells → AreBuffers tells (rows_before rows i) ks
-    → first_fault (table_refused tells users) [] (rows_before rows i) ≡ None
-    → IsTableFault (refused_where (has_buffer (name_of (view v)) ks) (is_among (owner_of (view v)) users) (length ks) (view v)) now (path_of (view v)) fault
-    → IsBufferFault tells users (map view rows) (i + 1, fault)
-loop_refused tells now users rows i v ks fault within is same h none due =
-    let here : IsTableFault (refused_where (has_buffer (name_of (view v)) ks) (is_among (owner_of (view v)) users) (length ks) (view v)) tells (path_of (view v)) fault = rw same at due in
+pub loop_refused : (tells now : Tells) (directory : Directory) (rows : List Value) (i : ℕ) (v : Value) (ks : List MarkedBuffer) (fault : TableFault) → i < length rows → v ≡ get_or rows i v → now ≡ tells → AreBuffers tells (rows_before rows i) ks
+    → first_fault (table_refused tells directory) [] (rows_before rows i) ≡ None
+    → IsTableFault (refused_where (has_buffer (name_of (view v)) ks) (are_known directory (view v)) (length ks) (view v)) now (path_of (view v)) fault
+    → IsBufferFault tells directory (map view rows) (i + 1, fault)
+loop_refused tells now directory rows i v ks fault within is same h none due =
+    let here : IsTableFault (refused_where (has_buffer (name_of (view v)) ks) (are_known directory (view v)) (length ks) (view v)) tells (path_of (view v)) fault = rw same at due in
     record {
       before = rows_before rows i;
       row = view v;
@@ -109,5 +109,5 @@ loop_refused tells now users rows i v ks fault within is same h none due =
       split = split_at rows i v within ∙ ap (λ x. rows_before rows i ++ view x ∷ rows_from rows (i + 1)) (sym is);
       number = ap (λ n. n + 1) (sym (rows_count rows i (omega arith)));
       none = none;
-      due = subst (λ (own : Option TableFault). IsTableFault own tells (path_of (view v)) fault) (sym (refused_same tells users (rows_before rows i) (view v) ks h)) here;
+      due = subst (λ (own : Option TableFault). IsTableFault own tells (path_of (view v)) fault) (sym (refused_same tells directory (rows_before rows i) (view v) ks h)) here;
     }

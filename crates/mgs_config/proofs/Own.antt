@@ -1,12 +1,11 @@
 -- A table's own fault is none of its file.
 use Rattle.std.proofs.Common.{◌≡◌, ◌≢◌, ℕ, ◌+◌, refl, sym, ap, ◌∙◌, arith, Bool, true, false, cond, List, [], ◌∷◌, ◌++◌, length, map, codes, Option, Some, None}
-use Rattle.std.specs.Prelude.{not, nat_lt, nat_le, ◌&&◌}
+use Rattle.std.specs.Prelude.{not, nat_lt, nat_le}
 use Rattle.std.specs.List.{list_all}
 use Rattle.std.specs.Option.{option_map, unwrap_or}
 use Rattle.toml.specs.Data.{Data}
 use Rattle.mgs_model.specs.declared.tickets.TicketFault.{TicketFault}
 use Rattle.mgs_model.specs.declared.tickets.TicketFault.TheVariants as ticket
-use Rattle.mgs_model.specs.Names.{is_name, is_user_name}
 use Rattle.mgs_model.specs.Tickets.{ticket_fault}
 use Rattle.mgs_policy.specs.declared.directory.DirectoryFault.{DirectoryFault}
 use Rattle.mgs_policy.specs.declared.directory.DirectoryFault.TheVariants as directory
@@ -18,7 +17,8 @@ use Rattle.mgs_config.specs.declared.fault.ConfigFault.{ConfigFault}
 use Rattle.mgs_config.specs.Rows.{user_row, group_row}
 use Rattle.mgs_config.specs.Document.{is_configuration, rows_at}
 use Rattle.mgs_config.specs.Faults.{or_later, first_fault, of_ticket, of_directory, user_of, user_refused, ticket_refused, names_of, group_of, group_refused, added_refused}
-use Rattle.mgs_config.specs.Buffers.{name_of, owner_of, listed, written, is_buffer_row, is_entry, names_refused, contents_refused, or_else, refused_where}
+use Rattle.mgs_buffers.specs.Adding.{are_names}
+use Rattle.mgs_config.specs.Buffers.{name_of, owner_of, owning_group, listed, written, is_buffer_row, is_entry, names_refused, contents_refused, or_else, refused_where}
 use Rattle.mgs_config.specs.Files.{IsCounted}
 use Rattle.mgs_config.specs.World.{fault_of, first_of, users_in, users_fault, groups_fault, people_refused}
 
@@ -44,7 +44,7 @@ else_own (Some fault) b not_a not_b h = not_a h
 
 where_own : (taken known : Bool) (count : ℕ) (row : Data) → refused_where taken known count row ≢ Some File
 where_own taken known count row h =
-    else_own (names_refused taken known row) (contents_refused count row) (named_own (is_buffer_row row) (is_name (name_of row) && is_user_name (owner_of row)) taken known)
+    else_own (names_refused taken known row) (contents_refused count row) (named_own (is_buffer_row row) (are_names (name_of row) (owner_of row) (owning_group row)) taken known)
     (contents_own (list_all is_entry (listed row)) (nat_lt 64 (length (listed row))) (nat_le 256 count) (nat_lt 1048576 (length (written row)))) h
 
 -- USERS AND GROUPS

@@ -1,9 +1,10 @@
 -- What is known of the files of a configuration, and what becomes of the tables that name them.
 use Rattle.std.specs.Prelude.{◌≡◌, ◌≤◌, ◌<◌, ◌+◌, ℕ, nat_lt, List, [], ◌∷◌, ◌++◌, length, Option, Some, None, if◌then◌else◌}
 use Rattle.toml.specs.Data.{Data}
+use Rattle.mgs_model.specs.Access.{Directory, owners_of}
 use Rattle.mgs_buffers.specs.MarkedBuffer.{MarkedBuffer, marked_new}
 use Rattle.mgs_config.specs.Faults.{first_fault}
-use Rattle.mgs_config.specs.Buffers.{name_of, owner_of, listed, entries_in, written, path_of, has_file, or_else, refused_beside, buffer_refused}
+use Rattle.mgs_config.specs.Buffers.{name_of, owner_of, owning_group, listed, entries_in, written, path_of, has_file, or_else, refused_beside, buffer_refused}
 use Rattle.mgs_config.specs.declared.fault.TableFault.{TableFault}
 use Rattle.mgs_config.specs.declared.fault.TableFault.TheVariants.{Long, File, Short}
 
@@ -29,8 +30,8 @@ file_fault tells None = None
 file_fault tells (Some path) = told_fault (tells path)
 
 -- why the table of a buffer is refused after those of others: its own faults come before that of its file
-abbrev pub table_refused : Tells → List (List ℕ) → List Data → Data → Option TableFault
-table_refused tells users before row = or_else (buffer_refused users before row) (file_fault tells (path_of row))
+abbrev pub table_refused : Tells → Directory → List Data → Data → Option TableFault
+table_refused tells directory before row = or_else (buffer_refused directory before row) (file_fault tells (path_of row))
 
 -- a count of faults rose, or stood at the last u64
 abbrev pub HasRisen : ℕ → ℕ → Type 0
@@ -54,7 +55,7 @@ IsTextOf tells row text = IsTextFrom tells (path_of row) (written row) text
 
 -- the buffer that a table gives, with this text
 abbrev pub buffer_of : Data → List ℕ → MarkedBuffer
-buffer_of row text = marked_new (name_of row) (owner_of row) (entries_in (listed row)) text (has_file row)
+buffer_of row text = marked_new (name_of row) (owners_of (owner_of row) (owning_group row)) (entries_in (listed row)) text (has_file row)
 
 -- the buffer of a table stands last
 pub record IsAdded (tells : Tells) (row : Data) (old new : List MarkedBuffer) : Type 0 where
@@ -93,16 +94,16 @@ abbrev pub IsTableFault : Option TableFault → Tells → Option (List ℕ) → 
 IsTableFault None tells path fault = IsFaultAt tells path fault
 IsTableFault (Some due) tells path fault = due ≡ fault
 
--- a fault of a table where these buffers and these users are there
-abbrev pub IsRowFault : Tells → List MarkedBuffer → List (List ℕ) → Data → TableFault → Type 0
-IsRowFault tells buffers users row fault = IsTableFault (refused_beside buffers users row) tells (path_of row) fault
+-- a fault of a table where these buffers and this directory are there
+abbrev pub IsRowFault : Tells → List MarkedBuffer → Directory → Data → TableFault → Type 0
+IsRowFault tells buffers directory row fault = IsTableFault (refused_beside buffers directory row) tells (path_of row) fault
 
 -- the first fault of the tables of buffers: no table before has one, and this table has it
-pub record IsBufferFault (tells : Tells) (users : List (List ℕ)) (rows : List Data) (fault : ℕ × TableFault) : Type 0 where
+pub record IsBufferFault (tells : Tells) (directory : Directory) (rows : List Data) (fault : ℕ × TableFault) : Type 0 where
   pub before : List Data
   pub row : Data
   pub after : List Data
   pub split : rows ≡ before ++ row ∷ after
   pub number : fault.0 ≡ length before + 1
-  pub none : first_fault (table_refused tells users) [] before ≡ None
-  pub due : IsTableFault (buffer_refused users before row) tells (path_of row) fault.1
+  pub none : first_fault (table_refused tells directory) [] before ≡ None
+  pub due : IsTableFault (buffer_refused directory before row) tells (path_of row) fault.1

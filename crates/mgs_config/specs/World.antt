@@ -61,12 +61,12 @@ paths_of files = map (λ f. (string_bytes f.name, string_bytes f.path)) files
 
 -- the first table of a buffer that is refused, and why, as far as is told of the files
 abbrev pub buffers_fault : Tells → Data → Option (ℕ × TableFault)
-buffers_fault tells d = first_fault (table_refused tells (names_of (users_in d))) [] (buffer_rows d)
+buffers_fault tells d = first_fault (table_refused tells (directory_in d)) [] (buffer_rows d)
 
 -- the fault that is due before the buffers, or else the first of theirs
 abbrev pub IsLaterFault : Option ConfigFault → Tells → Data → ConfigFault → Type 0
 IsLaterFault (Some due) tells d e = due ≡ e
-IsLaterFault None tells d e = (e.table ≡ Buffer) × IsBufferFault tells (names_of (users_in d)) (buffer_rows d) (e.index, e.fault)
+IsLaterFault None tells d e = (e.table ≡ Buffer) × IsBufferFault tells (directory_in d) (buffer_rows d) (e.index, e.fault)
 
 -- why a document, or what is none, is refused
 abbrev pub IsConfigFault : Option Data → Tells → ConfigFault → Type 0

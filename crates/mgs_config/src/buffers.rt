@@ -4,14 +4,14 @@ ghost use Rattle.std.specs.List.{list_all};
 ghost use Rattle.std.specs.Str.{chars};
 ghost use Rattle.toml.specs.Data.{get};
 ghost use Rattle.toml.specs.View.{view};
-ghost use Rattle.mgs_model.specs.Access.{is_among};
+ghost use Rattle.mgs_model.specs.Access.{is_group_named};
 ghost use Rattle.mgs_buffers.specs.MarkedBuffer.{has_buffer};
-ghost use Rattle.mgs_config.specs.Buffers.{string_at, name_of, owner_of, listed, written, text_or_none, is_list_at, has_content, has_names, is_buffer_row};
+ghost use Rattle.mgs_config.specs.Buffers.{string_at, name_of, owning_group, are_known, is_known, listed, written, text_or_none, is_list_at, has_content, has_names, is_buffer_row};
 ghost use Rattle.mgs_config.specs.Buffers.{is_entry, entries_in, names_refused, contents_refused, refused_where, refused_beside};
 
 use crate::fault::TableFault;
 use crate::row::{are_texts, has_only, text_at, values_at};
-use mgs_acl::{List, read_entry, user_named};
+use mgs_acl::{List, group_named, read_entry, user_named};
 use mgs_buffers::Buffers;
 use mgs_gap::GapText;
 use mgs_model::{BUFFER_LIMIT, ENTRY_LIMIT, Name, TEXT_LIMIT};
@@ -69,7 +69,10 @@ fn is_list_at(row: &Value, key: &str) -> bool
 fn has_names(row: &Value) -> bool
     ensures { result ≡ has_names (view row.now) }
 {
-    text_at(row, "name").is_some() && text_at(row, "owner").is_some() && is_list_at(row, "list")
+    text_at(row, "name").is_some()
+        && text_at(row, "owner").is_some()
+        && is_text_or_none(row, "group")
+        && is_list_at(row, "list")
 }
 
 // Whether a table has a text, or a file, or neither.
@@ -84,7 +87,8 @@ fn has_content(row: &Value) -> bool
 fn is_buffer_row(row: &Value) -> bool
     ensures { result ≡ is_buffer_row (view row.now) }
 {
-    has_only(&["name", "owner", "list", "text", "file"], row) && has_names(row) && has_content(row)
+    let keys = &["name", "owner", "group", "list", "text", "file"];
+    has_only(keys, row) && has_names(row) && has_content(row)
 }
 
 fn is_entry(value: &Value) -> bool
@@ -131,13 +135,23 @@ fn list_len(row: &Value) -> usize
     listed(row).len()
 }
 
+// Whether an owning group, where there is one, is a group of the directory.
+fn is_known(directory: &Directory, group: Option<Name>) -> bool
+    ensures { result ≡ is_known group directory.now.groups }
+{
+    match group {
+        None => true,
+        Some(group) => directory.has_group(&group),
+    }
+}
+
 // Why a table is refused for its names.
 fn names_refused(
     directory: &Directory,
     buffers: &Buffers<GapText>,
     row: &Value,
 ) -> Option<TableFault>
-    ensures { result ≡ names_refused (has_buffer (name_of (view row.now)) buffers.now) (is_among (owner_of (view row.now)) directory.now.users) (view row.now) }
+    ensures { result ≡ names_refused (has_buffer (name_of (view row.now)) buffers.now) (are_known directory.now (view row.now)) (view row.now) }
 {
     if !is_buffer_row(row) {
         return Some(TableFault::Key);
@@ -148,10 +162,13 @@ fn names_refused(
     let Some(owner) = user_named(string_at(row, "owner")) else {
         return Some(TableFault::Name);
     };
+    let Some(group) = group_named(text_at(row, "group")) else {
+        return Some(TableFault::Name);
+    };
     if buffers.has(&name) {
         return Some(TableFault::Twice);
     }
-    if !directory.has_user(&owner) {
+    if !directory.has_user(&owner) || !is_known(directory, group) {
         return Some(TableFault::Unknown);
     }
     None
@@ -179,7 +196,7 @@ fn contents_refused(count: usize, row: &Value) -> Option<TableFault>
 
 /// Why the table of a buffer is refused, what its file holds aside.
 pub fn refusal(directory: &Directory, buffers: &Buffers<GapText>, row: &Value) -> Option<TableFault>
-    ensures { result ≡ refused_beside buffers.now directory.now.users (view row.now) }
+    ensures { result ≡ refused_beside buffers.now directory.now (view row.now) }
 {
     match names_refused(directory, buffers, row) {
         Some(fault) => Some(fault),

@@ -148,8 +148,8 @@ fn configure<F: Files>(
 }
 
 /// Reads a configuration: a TOML document with lists of tables `[[user]]` (`name`, `ticket`), `[[group]]` (`name`, `members`) and
-/// `[[buffer]]` (`name`, `owner`, `list`, and `text` or `file`; neither is an empty text). Members and owners are users; files are
-/// read by `files`, each in its turn.
+/// `[[buffer]]` (`name`, `owner`, `list`, and `text` or `file`; neither is an empty text; it may have `group`). Members and owners are
+/// users, and owning groups are groups; files are read by `files`, each in its turn.
 ///
 /// The faults are those of the document (`top 0`: `Toml` where it is none, `Key` where it has another key, or one that is no list of
 /// tables), and then the first of the first table that has one, by the order of [`TableFault`]; users come before groups, and groups

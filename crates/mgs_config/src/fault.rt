@@ -33,7 +33,7 @@ pub enum TableFault {
     /// An earlier table of the kind has the name.
     #[error("Twice")]
     Twice,
-    /// A member or an owner is no user.
+    /// A member or an owner is no user, or an owning group no group.
     #[error("Unknown")]
     Unknown,
     /// A string of an access list is no entry.

@@ -1,9 +1,8 @@
 // The buffers of a configuration, with their texts.
 ghost use Rattle.std.specs.Prelude.{◌≡◌, ◌≢◌, ◌≤◌, [], ◌∷◌, ◌++◌, length, map, IfOk, IfErr, OnOk, None, Some};
 ghost use Rattle.toml.specs.View.{view};
-ghost use Rattle.mgs_model.specs.Access.{is_among};
 ghost use Rattle.mgs_buffers.specs.MarkedBuffer.{AreUnmarked, has_buffer};
-ghost use Rattle.mgs_config.specs.Buffers.{name_of, owner_of, listed, path_of, has_file, refused_where, refused_beside};
+ghost use Rattle.mgs_config.specs.Buffers.{name_of, are_known, listed, path_of, has_file, refused_where, refused_beside};
 ghost use Rattle.mgs_config.specs.Faults.{first_fault};
 ghost use Rattle.mgs_config.specs.Files.{IsTold, told_fault, file_fault, table_refused, IsFileFault, IsFaultAt, IsTableFault, IsTextOf, IsCounted, buffer_of};
 ghost use Rattle.mgs_config.specs.Files.{IsAdded, AreBuffers, IsRowFault, IsBufferFault};
@@ -74,7 +73,8 @@ fn put_buffer(buffers: &mut Buffers<GapText>, row: &Value, text: &[char]) -> Res
 {
     let list = read_list(listed(row));
     let (name, owner) = (string_at(row, "name"), string_at(row, "owner"));
-    match buffers.add(name, owner, list, text, has_file(row)) {
+    let group = text_at(row, "group");
+    match buffers.add(name, owner, group, list, text, has_file(row)) {
         Ok(()) => Ok(()),
         Err(_) => Err(TableFault::Short),
     }
@@ -89,11 +89,11 @@ fn add_buffer<F: Files>(
     files: &mut F,
     row: &Value,
 ) -> Result<(), TableFault>
-    ensures due { OnOk result (refused_beside buffers.old directory.now.users (view row.now) ≡ None) }
+    ensures due { OnOk result (refused_beside buffers.old directory.now (view row.now) ≡ None) }
     ensures none { OnOk result (file_fault (F.tells files.old) (path_of (view row.now)) ≡ None) }
     ensures added { OnOk result (IsAdded (F.tells files.old) (view row.now) buffers.old buffers.new) }
     ensures unmarked { AreUnmarked buffers.old → AreUnmarked buffers.new }
-    ensures err { IfErr result (λ f. f ≢ Short → IsRowFault (F.tells files.old) buffers.old directory.now.users (view row.now) f) }
+    ensures err { IfErr result (λ f. f ≢ Short → IsRowFault (F.tells files.old) buffers.old directory.now (view row.now) f) }
     ensures same { F.tells files.new ≡ F.tells files.old }
     ensures read { OnOk result (F.count files.new ≡ F.count files.old) }
     ensures count { IfErr result (λ f. IsCounted f (F.count files.old) (F.count files.new)) }
@@ -115,10 +115,10 @@ pub fn read_buffers<F: Files>(
     files: &mut F,
     rows: &[Value],
 ) -> Result<Buffers<GapText>, (usize, TableFault)>
-    ensures none { OnOk result (first_fault (table_refused (F.tells files.old) directory.now.users) [] (map view rows.now) ≡ None) }
+    ensures none { OnOk result (first_fault (table_refused (F.tells files.old) directory.now) [] (map view rows.now) ≡ None) }
     ensures buffers { IfOk result (λ buffers. AreBuffers (F.tells files.old) (map view rows.now) buffers) }
     ensures unmarked { IfOk result (λ buffers. AreUnmarked buffers) }
-    ensures err { IfErr result (λ f. f.1 ≢ Short → IsBufferFault (F.tells files.old) directory.now.users (map view rows.now) f) }
+    ensures err { IfErr result (λ f. f.1 ≢ Short → IsBufferFault (F.tells files.old) directory.now (map view rows.now) f) }
     ensures same { F.tells files.new ≡ F.tells files.old }
     ensures read { OnOk result (F.count files.new ≡ F.count files.old) }
     ensures count { IfErr result (λ f. IsCounted f.1 (F.count files.old) (F.count files.new)) }

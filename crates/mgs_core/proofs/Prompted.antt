@@ -4,7 +4,7 @@ use Rattle.std.specs.List.{flat_map}
 use Rattle.mgs_model.specs.Access.{Directory}
 use Rattle.mgs_model.specs.Commands.{command_names, find_command}
 use Rattle.mgs_model.specs.Keys.{value_of}
-use Rattle.mgs_model.specs.World.{World, has_id}
+use Rattle.mgs_model.specs.World.{World}
 use Rattle.mgs_model.specs.World as model
 use Rattle.mgs_model.specs.View.{View}
 use Rattle.mgs_model.specs.Outcome.{Act, Run}
@@ -16,7 +16,7 @@ use Rattle.mgs_model.specs.declared.message.Message.TheVariants.{Silent, NoMemor
 use Rattle.mgs_model.specs.declared.session.Command.{Command}
 use Rattle.mgs_model.specs.declared.session.Mode.TheVariants.{Prompt}
 use Rattle.mgs_model.specs.declared.session.Question.{Question}
-use Rattle.mgs_model.specs.declared.session.Question.TheVariants.{SwitchTo, FindWhich, KillWhich, InsertWhich, RunWhich, GoToWhich, EntryToInsert, EntryToReplace, WhichOwner, SearchWhat, ReplaceWhat, ReplaceWith}
+use Rattle.mgs_model.specs.declared.session.Question.TheVariants.{SwitchTo, FindWhich, KillWhich, InsertWhich, RunWhich, GoToWhich, EntryToInsert, EntryToReplace, WhichOwner, WhichGroup, SearchWhat, ReplaceWhat, ReplaceWith}
 use Rattle.mgs_laws.proofs.LeftToDo.{is_single}
 use Rattle.mgs_laws.proofs.Saves.{is_save, act_saves_none}
 use Rattle.mgs_mini.specs.Typing.{PromptInput, keys_of, stepped, typed_own}
@@ -73,6 +73,7 @@ answered_single GoToWhich n typed = refl
 answered_single EntryToInsert n typed = refl
 answered_single EntryToReplace n typed = refl
 answered_single WhichOwner n typed = refl
+answered_single WhichGroup n typed = refl
 answered_single (SearchWhat d) n typed = refl
 answered_single ReplaceWhat n typed = refl
 answered_single ReplaceWith n typed = refl
@@ -87,6 +88,7 @@ answered_saves_none GoToWhich n typed = refl
 answered_saves_none EntryToInsert n typed = refl
 answered_saves_none EntryToReplace n typed = refl
 answered_saves_none WhichOwner n typed = refl
+answered_saves_none WhichGroup n typed = refl
 answered_saves_none (SearchWhat d) n typed = refl
 answered_saves_none ReplaceWhat n typed = refl
 answered_saves_none ReplaceWith n typed = refl

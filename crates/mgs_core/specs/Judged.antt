@@ -1,4 +1,4 @@
--- What a judge keeps once an act is done: nothing, where any owner or list may have changed, and else all.
+-- What a judge keeps once an act is done: nothing, where any owner, owning group or list may have changed, and else all.
 use Rattle.std.specs.Prelude.{List, []}
 use Rattle.mgs_model.specs.declared.touched.Touched.{Touched}
 use Rattle.mgs_model.specs.declared.touched.Touched.TheVariants.{Nowhere, In, Anywhere}

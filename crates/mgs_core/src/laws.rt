@@ -9,7 +9,7 @@ pub fn settled_stays()
 {}
 
 /// An effect comes only with its right. A buffer is edited only by who may write or append to it, its flag is cleared
-/// and it is saved only by who may read and write it, its list, its owner and the buffer itself go only by who has the
+/// and it is saved only by who may read and write it, its list, its owners and the buffer itself go only by who has the
 /// right for that, and a buffer is created only under a name that none has. So nothing has to ask for rights again when
 /// an effect is carried out.
 pub fn outcomes_are_lawful()
@@ -17,7 +17,7 @@ pub fn outcomes_are_lawful()
 {}
 
 /// A kill stays its holder's. Whatever the other sessions do, and whatever rights are taken meanwhile, a session's kill
-/// buffer stays what it is: only its own events can change it. And an act that changes an access list or an owner, that
+/// buffer stays what it is: only its own events can change it. And an act that changes an access list, an owner or an owning group, that
 /// creates a buffer or kills one, changes no kill buffer at all, that of the acting session neither.
 pub fn kill_stays()
     ensures others { KillStays }

@@ -150,7 +150,7 @@ fn refuse(session: &mut Session, before: Before, kind: Kind, is_playing: bool)
     break_off(session, Message::NoMemory);
 }
 
-/// Forgets what was decided, where an act may have changed an owner, an access list or which buffers there are.
+/// Forgets what was decided, where an act may have changed an owner, an owning group, an access list or which buffers there are.
 fn forget_touched(judge: &mut Judge, touched: &Touched)
     ensures { judge.new ≡ judged_touched touched.now judge.old }
 {

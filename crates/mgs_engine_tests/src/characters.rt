@@ -139,7 +139,7 @@ fn control_characters_take_more_cells(rt: HostRuntime) -> Result<(), Fail> {
     rows_come_to(&rt, rt.alloc(), &text, &[(b"", screen, (1, 1))])
 }
 
-const ASKED: [Row; 29] = [
+const ASKED: [Row; 30] = [
     (
         b"\x18\x06\xc3\xa9\xe6\xbc\xa2",
         "= Find file: \u{e9}\u{6f22}\0",
@@ -197,6 +197,7 @@ const ASKED: [Row; 29] = [
         (1, 1),
     ),
     (b"\x1bxset-owner\r\xc3\xa9\r", "= No such user", (1, 1)),
+    (b"\x1bxset-group\r\xc3\xa9\r", "= No such group", (1, 1)),
     (b"\x18g1\xc3\xa9\r", "= Not a number", (1, 1)),
     (b"\x18g\xef\xbc\x91\r", "= Not a number", (1, 1)),
     (

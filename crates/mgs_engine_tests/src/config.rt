@@ -149,8 +149,8 @@ const OFFICE: &str =
     "[[user]]\nname = \"ann\"\nticket = \"t1\"\n\n[[user]]\nname = \"bob\"\nticket = \"t2\"\n
 [[group]]\nname = \"team\"\nmembers = [\"bob\"]\n\n[[group]]\nname = \"ann\"\nmembers = []\n
 [[buffer]]\nname = \"notes\"\nowner = \"ann\"\nlist = [\"ALLOW OWNER@ rw\", \"DENY  group:team wr\"]\ntext = \"ab\\nc\"\n
-[[buffer]]\nname = \"Plan!\"\nowner = \"bob\"\nlist = [\"ALLOW OWNER@ r\"]\n
-[[buffer]]\nname = \"log\"\nowner = \"ann\"\nlist = []\nfile = \"log.txt\"\n";
+[[buffer]]\nname = \"Plan!\"\nowner = \"bob\"\nlist = [\"ALLOW OWNER@ r\", \"ALLOW GROUP@ r\"]\n
+[[buffer]]\nname = \"log\"\nowner = \"ann\"\ngroup = \"team\"\nlist = [\"ALLOW GROUP@ r\"]\nfile = \"log.txt\"\n";
 
 #[test]
 fn a_document_gives_the_world_of_its_tables(rt: HostRuntime) -> Result<(), Fail> {
@@ -178,7 +178,9 @@ fn a_document_gives_the_world_of_its_tables(rt: HostRuntime) -> Result<(), Fail>
     assert!(rt; may_read(&config, "Plan!", "bob", &rt));
     assert!(rt; !may_read(&config, "Plan!", "ann", &rt));
     assert!(rt; text_of(alloc, &config, "log", &rt)?.as_str() == "hi");
-    assert!(rt; list_of(alloc, &config, "log", &rt)?.is_empty());
+    assert!(rt; list_of(alloc, &config, "log", &rt)?.as_str() == "ALLOW GROUP@ r;");
+    assert!(rt; may_read(&config, "log", "bob", &rt));
+    assert!(rt; !may_read(&config, "log", "ann", &rt));
     assert!(rt; files_of(alloc, &config)?.as_str() == "log=log.txt;");
     assert!(rt; files.asked.as_str() == "log.txt ");
     assert!(rt; files.faults() == 0);

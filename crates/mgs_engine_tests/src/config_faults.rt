@@ -140,6 +140,14 @@ const BUFFERS: &str = "
     buffer 2: Key     | , {name = 'a', owner = 'ann'}
     buffer 2: Key     | , {name = 1, owner = 'ann', list = []}
     buffer 2: Key     | , {name = 'a', owner = 1, list = []}
+    read              | , {name = 'a', owner = 'ann', group = 'team', list = []}
+    buffer 2: Key     | , {name = 'a', owner = 'ann', group = 1, list = []}
+    buffer 2: Key     | , {name = 'a', owner = 'ann', group = ['team'], list = []}
+    buffer 2: Key     | , {name = 'a', group = 'team', list = []}
+    buffer 2: Name    | , {name = 'a', owner = 'ann', group = '', list = []}
+    buffer 2: Name    | , {name = 'a', owner = 'ann', group = 'Team', list = []}
+    buffer 2: Unknown | , {name = 'a', owner = 'ann', group = 'crew', list = []}
+    buffer 2: Unknown | , {name = 'a', owner = 'ann', group = 'ann', list = []}
     buffer 2: Key     | , {name = 'a', owner = 'ann', list = 'ALLOW ann r'}
     buffer 2: Key     | , {name = 'a', owner = 'ann', list = ['ALLOW ann r', 1]}
     buffer 2: Key     | , {name = 'a', owner = 'ann', list = [], text = 1}
@@ -169,6 +177,9 @@ const SEVERAL: &str = "
     buffer 2: Name    | , {name = 'notes', owner = 'Bob', list = []}
     buffer 2: Twice   | , {name = 'notes', owner = 'bob', list = []}
     buffer 2: Unknown | , {name = 'a', owner = 'bob', list = ['x']}
+    buffer 2: Name    | , {name = 'notes', owner = 'bob', group = 'Team', list = []}
+    buffer 2: Twice   | , {name = 'notes', owner = 'ann', group = 'crew', list = []}
+    buffer 2: Unknown | , {name = 'a', owner = 'ann', group = 'crew', list = ['x']}
     buffer 2: Entry   | , {name = 'a', owner = 'ann', list = ['x'], file = 'long'}
     buffer 2: Entry   | , {name = 'a', owner = 'ann', list = ['x'], file = 'gone'}
     buffer 2: Long    | , {name = 'a', owner = 'ann', list = [], file = 'long'}, {}

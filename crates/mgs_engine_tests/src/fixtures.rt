@@ -87,8 +87,8 @@ pub(crate) fn core_of(
     let notes = list_of(entries, rt);
     let plan = list_of(&["ALLOW OWNER@ rwat"], rt);
     let mut buffers = Buffers::new(alloc);
-    assert!(rt; buffers.add("notes", "ann", notes, text, true).is_ok());
-    assert!(rt; buffers.add("plan", "cyn", plan, &[], false).is_ok());
+    assert!(rt; buffers.add("notes", "ann", None, notes, text, true).is_ok());
+    assert!(rt; buffers.add("plan", "cyn", None, plan, &[], false).is_ok());
     match Core::new(alloc, users(alloc, rt), buffers, store) {
         Ok(core) => core,
         Err(_) => panic!(rt; "no memory"),

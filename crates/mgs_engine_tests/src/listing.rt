@@ -17,13 +17,13 @@ fn named(rt: &impl Abort, text: &str) -> Name {
     }
 }
 
-// `notes` of ann, which was edited, and `secret` of cat.
-fn two(alloc: Global, rt: &impl Abort) -> Buffers<PlainMarked> {
+// `notes` of ann and of a group, or of none, which was edited, and `secret` of cat.
+fn two(alloc: Global, group: Option<&str>, rt: &impl Abort) -> Buffers<PlainMarked> {
     let mut all = Buffers::new(alloc);
     let list = list_of(&["ALLOW OWNER@ rwatdcCo"], rt);
-    assert!(rt; all.add("notes", "ann", list, &['a'], false).is_ok());
+    assert!(rt; all.add("notes", "ann", group, list, &['a'], false).is_ok());
     let list = list_of(&["ALLOW OWNER@ rwatdcCo"], rt);
-    assert!(rt; all.add("secret", "cat", list, &['b'], false).is_ok());
+    assert!(rt; all.add("secret", "cat", None, list, &['b'], false).is_ok());
     let notes = named(rt, "notes");
     assert!(rt; all.has(&notes));
     assert!(rt; all.text_len(&notes) == 1);
@@ -60,9 +60,16 @@ fn shows(grid: &Grid, text: &str, mode: &str) -> bool {
 }
 
 // Whether a user is shown this first row of the listing from a row on.
-fn lists(rt: &impl Abort, alloc: Global, user: &str, row: usize, text: &str) -> Result<bool, Fail> {
+fn lists(
+    rt: &impl Abort,
+    alloc: Global,
+    group: Option<&str>,
+    user: &str,
+    row: usize,
+    text: &str,
+) -> Result<bool, Fail> {
     let mut grid = Grid::new(alloc, 6, 30)?;
-    let all = two(alloc, rt);
+    let all = two(alloc, group, rt);
     let user = named(rt, user);
     assert!(rt; grid.rows() > 3);
     let mut judge = all.judge()?;
@@ -82,9 +89,12 @@ fn lists(rt: &impl Abort, alloc: Global, user: &str, row: usize, text: &str) -> 
 #[test]
 fn the_listing_shows_what_may_be_seen(rt: HostRuntime) -> Result<(), Fail> {
     let alloc = rt.alloc();
-    assert!(rt; lists(&rt, alloc, "ann", 0, "*       2 notes ann")?);
-    assert!(rt; lists(&rt, alloc, "cat", 0, "        1 secret cat")?);
-    assert!(rt; lists(&rt, alloc, "cat", 1, "")?);
+    assert!(rt; lists(&rt, alloc, None, "ann", 0, "*       2 notes ann")?);
+    assert!(rt; lists(&rt, alloc, None, "cat", 0, "        1 secret cat")?);
+    assert!(rt; lists(&rt, alloc, None, "cat", 1, "")?);
+    let staff = Some("staff");
+    assert!(rt; lists(&rt, alloc, staff, "ann", 0, "*       2 notes ann:staff")?);
+    assert!(rt; lists(&rt, alloc, staff, "cat", 0, "        1 secret cat")?);
     Ok(())
 }
 
@@ -97,7 +107,7 @@ fn acl_shows(
     mode: &str,
 ) -> Result<bool, Fail> {
     let mut grid = Grid::new(alloc, 6, 30)?;
-    let all = two(alloc, rt);
+    let all = two(alloc, None, rt);
     let user = named(rt, user);
     let notes = named(rt, "notes");
     assert!(rt; all.has(&notes));

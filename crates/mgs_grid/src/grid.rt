@@ -11,7 +11,7 @@ ghost use Rattle.mgs_grid.specs.RowSets.{AreSameApart};
 use crate::line::Line;
 use crate::row_set::RowSet;
 use crate::window::{clear_rows, draw_rows, take_rows};
-use mgs_model::{Decision, Direction, Message, Name, Question, Short};
+use mgs_model::{Decision, Direction, Message, Name, Owners, Question, Short};
 use mgs_text::Text;
 use std::alloc::Global;
 use std::marker::Model;
@@ -253,19 +253,19 @@ impl Grid {
         self.lines[row].draw_replacing()
     }
 
-    /// Draws a row of the listing of all buffers: whether the buffer is modified, its size, its name and its owner.
+    /// Draws a row of the listing of all buffers: whether the buffer is modified, its size, its name and its owners.
     pub fn draw_listed(
         &mut self,
         row: usize,
         modified: bool,
         size: usize,
         name: &Name,
-        owner: &Name,
+        owners: &Owners,
     )
         requires { row < self.old.rows }
-        ensures { self.new ≡ record self.old { lines = rows_put row (plain_row self.old.cols (listing_text (record { name = name.now; modified = modified; size = size; owner = owner.now })) ∷ []) self.old.lines } }
+        ensures { self.new ≡ record self.old { lines = rows_put row (plain_row self.old.cols (listing_text (record { name = name.now; modified = modified; size = size; owners = owners.now })) ∷ []) self.old.lines } }
     {
-        self.lines[row].draw_listed(modified, size, name, owner);
+        self.lines[row].draw_listed(modified, size, name, owners);
     }
 
     /// Draws a row of an access list: the entry's number and the entry as it is printed.

@@ -16,7 +16,7 @@ use crate::words::{
     put_unread, replacing_width, search_width,
 };
 use mgs_lines::line_end;
-use mgs_model::{Decision, Direction, Message, Name, Question, Short};
+use mgs_model::{Decision, Direction, Message, Name, Owners, Question, Short};
 use mgs_text::Text;
 use std::alloc::Global;
 use std::marker::Model;
@@ -241,17 +241,17 @@ impl Line {
         end - shift
     }
 
-    /// Draws a row of the listing of all buffers, plain: whether the buffer is modified, its size, its name and its owner.
-    pub(crate) fn draw_listed(&mut self, modified: bool, size: usize, name: &Name, owner: &Name)
+    /// Draws a row of the listing of all buffers, plain: whether the buffer is modified, its size, its name and its owners.
+    pub(crate) fn draw_listed(&mut self, modified: bool, size: usize, name: &Name, owners: &Owners)
         requires some { 4 ≤ length self.old.text }
         requires width { length self.old.text < 2 ^ 62 }
-        ensures row { self.new ≡ plain_row (length self.old.text) (listing_text (record { name = name.now; modified = modified; size = size; owner = owner.now })) }
-        ensures printable { All IsPrintable (listing_text (record { name = name.now; modified = modified; size = size; owner = owner.now })) }
+        ensures row { self.new ≡ plain_row (length self.old.text) (listing_text (record { name = name.now; modified = modified; size = size; owners = owners.now })) }
+        ensures printable { All IsPrintable (listing_text (record { name = name.now; modified = modified; size = size; owners = owners.now })) }
     {
         self.reversed = false;
         let row = self.text.as_mut_slice();
         fill(row, ' ');
-        let end = put_listed(row, modified, size, name, owner);
+        let end = put_listed(row, modified, size, name, owners);
         finish(row, 0, end);
     }
 

@@ -2,13 +2,13 @@
 ghost use Rattle.std.specs.Prelude.{◌≡◌, ℕ, ◌+◌, ◌<◌, ◌≤◌, ◌^◌, [], ◌∷◌, ◌++◌, length, replicate, decimal, codes, All};
 ghost use Rattle.mgs_model.specs.Picture.{IsPrintable};
 ghost use Rattle.mgs_model.specs.Rows.{cause_text};
-ghost use Rattle.mgs_model.specs.Draw.{right_in, flag_of, listing_text};
+ghost use Rattle.mgs_model.specs.Draw.{right_in, flag_of, owners_text, listing_text};
 ghost use Rattle.mgs_grid.specs.Cells.{Wrote};
 ghost use Rattle.mgs_grid.specs.Lists.{acl_mode};
 
 use crate::cells::{put_blanks, put_bytes, put_decimal};
 use crate::words::{put_cause, put_name};
-use mgs_model::{Decision, Name};
+use mgs_model::{Decision, Name, Owners};
 
 fn put_spaces(row: &mut [char], column: usize, count: usize) -> usize
     requires { column + count < 2 ^ 64 }
@@ -41,23 +41,38 @@ fn put_flag(row: &mut [char], modified: bool) -> usize
     }
 }
 
+// Writes who owns a buffer: the owner, and behind a colon the owning group, where there is one.
+fn put_owners(row: &mut [char], column: usize, owners: &Owners) -> usize
+    requires { column < 2 ^ 61 }
+    ensures { Wrote row.old column (owners_text owners.now) row.new result }
+{
+    let end = put_name(row, column, &owners.owner);
+    match &owners.group {
+        None => end,
+        Some(group) => {
+            let at_group = put_bytes(row, end, b":");
+            put_name(row, at_group, group)
+        }
+    }
+}
+
 /// Writes a row of the listing of all buffers from column 0 on, and tells the column after it: whether the buffer is
-/// modified, its size, its name and its owner.
+/// modified, its size, its name and its owners.
 pub(crate) fn put_listed(
     row: &mut [char],
     modified: bool,
     size: usize,
     name: &Name,
-    owner: &Name,
+    owners: &Owners,
 ) -> usize
-    ensures { Wrote row.old 0 (listing_text (record { name = name.now; modified = modified; size = size; owner = owner.now })) row.new result }
+    ensures { Wrote row.old 0 (listing_text (record { name = name.now; modified = modified; size = size; owners = owners.now })) row.new result }
 {
     let at_size = put_flag(row, modified);
     let end = put_size(row, at_size, size);
     let at_name = put_bytes(row, end, b" ");
     let end = put_name(row, at_name, name);
-    let at_owner = put_bytes(row, end, b" ");
-    put_name(row, at_owner, owner)
+    let at_owners = put_bytes(row, end, b" ");
+    put_owners(row, at_owners, owners)
 }
 
 /// Writes a row of an access list from column 0 on, and tells the column after it: the entry's number and the entry as it

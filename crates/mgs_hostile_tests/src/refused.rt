@@ -98,11 +98,12 @@ fn a_revocation_takes_no_memory(rt: HostRuntime) -> Result<(), Fail> {
 }
 
 #[test]
-fn a_new_owner_takes_no_memory(rt: HostRuntime) -> Result<(), Fail> {
+fn new_owners_take_no_memory(rt: HostRuntime) -> Result<(), Fail> {
     let text = "notes ann | ALLOW OWNER@ rwatdcCo | 59banana";
     let steps = "
         1 'x                        | Short | 59banana | ----notes-L1-C0 | No memory
         2                           |       | 59banana | ----notes-L1-C0 |
+        1 M-x 'set-group RET RET    | Done  | 59banana | ----notes-L1-C0 |
         1 M-x 'set-owner RET 'bob RET | Done | [no read: no entry] | -??-?-(no read) |
         2                           |       | [no read: no entry] | -??-?-(no read) |
     ";

@@ -62,7 +62,7 @@ fn add<T: Marked + Drop>(alloc: Global, buffers: &mut Buffers<T>, line: &str) ->
     let (name, owner) = cut_word(buffer);
     let text = characters(alloc, text)?;
     buffers
-        .add(name, owner, list_of(entries)?, &text, true)
+        .add(name, owner, None, list_of(entries)?, &text, true)
         .ok()
 }
 

@@ -1,6 +1,7 @@
 -- Worked runs of questions: what is typed at a prompt, and what it comes to.
 use Rattle.std.proofs.Common.{◌≡◌, ℕ, List, [], ◌∷◌, ◌++◌, map, Option, Some, None, refl, take}
 use Rattle.std.specs.Prelude.{codes, replicate}
+use Rattle.mgs_model.specs.Access.{owners_of}
 use Rattle.mgs_model.specs.World.{World, Buffer, List_of}
 use Rattle.mgs_model.specs.Acts.{outcome}
 use Rattle.mgs_model.specs.Keys.{key_read}
@@ -8,20 +9,20 @@ use Rattle.mgs_model.specs.Commands.{find_command, command_names}
 use Rattle.mgs_model.specs.Completion.{completion}
 use Rattle.mgs_model.specs.Turns.{next}
 use Rattle.mgs_model.specs.Events.{turns, most_turns}
-use Rattle.mgs_model.specs.declared.message.Message.TheVariants.{Silent, Denied, NoBuffer, NoMatch, NoSuchCommand, NotANumber, BadEntry, NoSuchEntry, ListFull, NoSuchUser}
+use Rattle.mgs_model.specs.declared.message.Message.TheVariants.{Silent, Denied, NoBuffer, NoMatch, NoSuchCommand, NotANumber, BadEntry, NoSuchEntry, ListFull, NoSuchUser, NoSuchGroup}
 use Rattle.mgs_model.specs.declared.session.Command.TheVariants.{Move, Alter, Rearrange, Ask, Entries, ListEntries}
 use Rattle.mgs_model.specs.declared.session.Motion.TheVariants.{BufferEnd, GoToLine}
 use Rattle.mgs_model.specs.declared.session.Alteration.TheVariants.{KillWord}
 use Rattle.mgs_model.specs.declared.session.Arrangement.TheVariants.{ListBuffers}
 use Rattle.mgs_model.specs.declared.session.EntryChange.TheVariants.{DeleteEntry}
 use Rattle.mgs_model.specs.declared.session.Question.{Question}
-use Rattle.mgs_model.specs.declared.session.Question.TheVariants.{RunWhich, EntryToInsert, EntryToReplace, WhichOwner}
-use Rattle.mgs_model.specs.declared.right.Right.TheVariants.{ReadAcl, WriteAcl}
+use Rattle.mgs_model.specs.declared.session.Question.TheVariants.{RunWhich, EntryToInsert, EntryToReplace, WhichOwner, WhichGroup}
+use Rattle.mgs_model.specs.declared.right.Right.TheVariants.{ReadAcl, WriteAcl, WriteOwner}
 use Rattle.mgs_model.specs.declared.entry.Decision.TheVariants.{NotGranted}
 use Rattle.mgs_model.specs.declared.entry.Entry.{Entry}
 use Rattle.mgs_model.specs.declared.entry.EntryFault.TheVariants.{Kind, Letters}
 use Rattle.mgs_model.specs.declared.entry.EntryType.TheVariants.{Allow}
-use Rattle.mgs_model.specs.declared.entry.Who.TheVariants.{Owner, User}
+use Rattle.mgs_model.specs.declared.entry.Who.TheVariants.{Owner, OwningGroup, User}
 use Rattle.mgs_laws.proofs.Runs.{Doing, B, C, buffer_of, notes, doing, doing_bob, texts, echo, kill, points, heights, shown}
 
 abbrev typed : List ℕ → List Doing
@@ -126,6 +127,9 @@ owned = record { entry_type = Allow; who = Owner; mask = 983175 }
 abbrev entries : World → List (List Entry)
 entries w = map (λ (b : Buffer). b.entries) w.buffers
 
+abbrev members_read : Entry
+members_read = record { entry_type = Allow; who = OwningGroup; mask = 129 }
+
 -- a list with so many entries for bob behind the owner's
 abbrev listed : ℕ → World
 listed n = record (notes []) { buffers = buffer_of (codes "notes") [] (owned ∷ replicate n (entry_of (codes "bob") 1)) ∷ [] }
@@ -218,7 +222,7 @@ nothing_listed = refl
 -- THE OWNER: one of the directory's users, and it may be the same one
 
 abbrev owners : World → List (List ℕ)
-owners w = map (λ (b : Buffer). b.owner) w.buffers
+owners w = map (λ (b : Buffer). b.owners.owner) w.buffers
 
 new_owner : owners (doing (listed 0) (asked_for WhichOwner None (codes "bob"))) ≡ codes "bob" ∷ []
 unfolding turns most_turns outcome next key_read
@@ -231,3 +235,42 @@ no_owner = refl
 same_owner : (echo (doing (listed 0) (asked_for WhichOwner None (codes "ann"))) ≡ Some Silent) × (owners (doing (listed 0) (asked_for WhichOwner None (codes "ann"))) ≡ codes "ann" ∷ [])
 unfolding turns most_turns outcome next key_read
 same_owner = (refl, refl)
+
+-- THE OWNING GROUP: one of the directory's groups, or none; the list of the buffer decides with it from then on
+abbrev groups : World → List (Option (List ℕ))
+groups w = map (λ (b : Buffer). b.owners.group) w.buffers
+
+-- bob alone is the staff, who owns a buffer of ann's
+abbrev staffed : Option (List ℕ) → List Entry → World
+staffed group entries = record (notes []) {
+  directory = record { users = codes "ann" ∷ codes "bob" ∷ []; groups = record { name = codes "staff"; members = codes "bob" ∷ [] } ∷ [] };
+  buffers = record (buffer_of (codes "notes") [] entries) { owners = owners_of (codes "ann") group } ∷ [];
+}
+
+new_group : groups (doing (staffed None (owned ∷ [])) (asked_for WhichGroup None (codes "staff"))) ≡ Some (codes "staff") ∷ []
+unfolding turns most_turns outcome next key_read
+new_group = refl
+
+no_group : echo (doing (staffed None (owned ∷ [])) (asked_for WhichGroup None (codes "zzz"))) ≡ Some NoSuchGroup
+unfolding turns most_turns outcome next key_read
+no_group = refl
+
+-- a user's name is no group's
+user_is_no_group : echo (doing (staffed None (owned ∷ [])) (asked_for WhichGroup None (codes "bob"))) ≡ Some NoSuchGroup
+unfolding turns most_turns outcome next key_read
+user_is_no_group = refl
+
+-- an empty answer means none
+group_taken : (echo (doing (staffed (Some (codes "staff")) (owned ∷ [])) (asked_for WhichGroup None [])) ≡ Some Silent) × (groups (doing (staffed (Some (codes "staff")) (owned ∷ [])) (asked_for WhichGroup None [])) ≡ None ∷ [])
+unfolding turns most_turns outcome next key_read
+group_taken = (refl, refl)
+
+-- the right comes before the name
+group_not_granted : echo (doing_bob (staffed (Some (codes "staff")) (members_read ∷ [])) (asked_for WhichGroup None (codes "zzz"))) ≡ Some (Denied (NotGranted WriteOwner))
+unfolding turns most_turns outcome next key_read
+group_not_granted = refl
+
+-- by its name
+group_by_name : groups (doing (staffed None (owned ∷ [])) (C (Ask RunWhich) None ∷ answer (codes "set-group") ++ answer (codes "staff"))) ≡ Some (codes "staff") ∷ []
+unfolding turns most_turns outcome next key_read find_command
+group_by_name = refl

@@ -7,7 +7,7 @@ use Rattle.mgs_model.specs.World.{World, Buffer, Session, Own, is_named, find_se
 use Rattle.mgs_model.specs.View.{view, buffer_seen, find_seen}
 use Rattle.mgs_model.specs.Outcome.{Act, Outcome, Effect, No_effect, Edit, Unmodified, Relist, Reown, Create, Kill, Save, Quit}
 use Rattle.mgs_model.specs.Acts.{outcome}
-use Rattle.mgs_model.specs.Apply.{change_first, remove_first, buffers_after, buffer_edited, buffer_unmodified, new_buffer, without_buffer, apply, applied, act}
+use Rattle.mgs_model.specs.Apply.{owners_after, change_first, remove_first, buffers_after, buffer_edited, buffer_unmodified, new_buffer, without_buffer, apply, applied, act}
 use Rattle.mgs_model.specs.Turns.{Turn, Rest, Keep, Do}
 use Rattle.mgs_model.specs.Events.{with_own, refused_own, turn_done}
 use Rattle.mgs_model.specs.Secrecy.{IsOf, has_name}
@@ -26,7 +26,7 @@ use Rattle.mgs_laws.proofs.Turning.{of_with_own}
 -- what no lawful effect of the users has for its buffer
 Spares : (List ℕ → Bool) → Effect → Type 0
 Spares shut (Relist name entries) = shut name ≡ false
-Spares shut (Reown name owner) = shut name ≡ false
+Spares shut (Reown name new) = shut name ≡ false
 Spares shut (Create name owner) = shut name ≡ false
 Spares shut (Kill name) = shut name ≡ false
 Spares shut _ = Unit {0}
@@ -62,7 +62,7 @@ module _ (users shut : List ℕ → Bool) (w : World) (x : Session) (g : users x
 
 -- what is asked of one buffer
 NoRights : (List ℕ → Bool) → (List ℕ → Bool) → Directory → Buffer → Type 0
-NoRights users shut d b = shut b.name ≡ true → (u : List ℕ) → users u ≡ true → any_right (decider d b.owner u b.entries) ≡ false
+NoRights users shut d b = shut b.name ≡ true → (u : List ℕ) → users u ≡ true → any_right (decider d b.owners u b.entries) ≡ false
 
 rights-change : (users shut : List ℕ → Bool) (d : Directory) (p : Buffer → Bool) (f : Buffer → Buffer) → ((b : Buffer) → p b ≡ true → NoRights users shut d b → NoRights users shut d (f b)) → (bs : List Buffer) → NoRightsAmong users shut d bs → NoRightsAmong users shut d (change_first p f bs)
 unfolding NoRights
@@ -97,7 +97,7 @@ rights_after users shut d No_effect bs q h = h
 rights_after users shut d (Edit n a b t) bs q h = rights-change users shut d (is_named n) (buffer_edited a b t) (λ x e p. p) bs h
 rights_after users shut d (Unmodified n) bs q h = rights-change users shut d (is_named n) buffer_unmodified (λ x e p. p) bs h
 rights_after users shut d (Relist n l) bs q h = rights-change users shut d (is_named n) (λ x. record x { entries = l }) (λ x e p. other_name users shut d n (record x { entries = l }) q (sym (same_names n x.name e))) bs h
-rights_after users shut d (Reown n u) bs q h = rights-change users shut d (is_named n) (λ x. record x { owner = u }) (λ x e p. other_name users shut d n (record x { owner = u }) q (sym (same_names n x.name e))) bs h
+rights_after users shut d (Reown n u) bs q h = rights-change users shut d (is_named n) (λ x. record x { owners = owners_after u x.owners }) (λ x e p. other_name users shut d n (record x { owners = owners_after u x.owners }) q (sym (same_names n x.name e))) bs h
 rights_after users shut d (Create n u) bs q h = rights-append users shut d bs (new_buffer n u) (other_name users shut d n (new_buffer n u) q refl) h
 rights_after users shut d (Kill n) bs q h = rights-remove users shut d (is_named n) bs h
 rights_after users shut d (Save n t) bs q h = rights-change users shut d (is_named n) buffer_unmodified (λ x e p. p) bs h
@@ -143,7 +143,7 @@ there_after shut No_effect bs q m p h = h
 there_after shut (Edit n a b t) bs q m p h = has-change (is_named n) (buffer_edited a b t) (λ x. refl) m bs ∙ h
 there_after shut (Unmodified n) bs q m p h = has-change (is_named n) buffer_unmodified (λ x. refl) m bs ∙ h
 there_after shut (Relist n l) bs q m p h = has-change (is_named n) (λ x. record x { entries = l }) (λ x. refl) m bs ∙ h
-there_after shut (Reown n u) bs q m p h = has-change (is_named n) (λ x. record x { owner = u }) (λ x. refl) m bs ∙ h
+there_after shut (Reown n u) bs q m p h = has-change (is_named n) (λ x. record x { owners = owners_after u x.owners }) (λ x. refl) m bs ∙ h
 there_after shut (Create n u) bs q m p h = has-append m bs (new_buffer n u) h
 there_after shut (Kill n) bs q m p h = has-remove shut m n p q bs h
 there_after shut (Save n t) bs q m p h = has-change (is_named n) buffer_unmodified (λ x. refl) m bs ∙ h

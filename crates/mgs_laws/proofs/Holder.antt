@@ -4,19 +4,20 @@ use Rattle.std.specs.Option.{option_map}
 use Rattle.std.proofs.lemmas.Bool.{eqb-true}
 use Rattle.std.specs.Prelude.{nat_le, length, Result, Ok, Err}
 use Rattle.mgs_model.specs.Names.{is_name}
-use Rattle.mgs_model.specs.Access.{is_among}
+use Rattle.mgs_model.specs.Access.{group_answered, is_among, is_group_answer}
 use Rattle.mgs_model.specs.Text.{is_edit}
 use Rattle.mgs_model.specs.World.{World, Session, Own, has_id, find_session}
 use Rattle.mgs_model.specs.View.{View, BufferSeen, find_seen, size_told, serial_told, text_in, view_of}
 use Rattle.mgs_model.specs.Plans.{acted_own, Finish, Change, insertion, reading_insertion, motion, alteration, scrolling, setting, arrangement, undo, entries_changed, inserted}
 use Rattle.mgs_model.specs.Acts.{Target, target, around, name_meant, needs, judged, fails, is_too_large, is_full, finished_own, finished, edit_of, edited_by, edits, moved_by, moves, sets, arranges, effects, has_file, has_rows, row_in, scrolls_rows, selected_seen, shown, entries_told, items_in, relisted, shows_named, created, killed, by_name, subject, rules, lists, saves, allowed, permitted, outcome}
+use Rattle.mgs_model.specs.declared.owners.NewOwner.TheVariants.{ToUser, ToGroup}
 use Rattle.mgs_model.specs.declared.entry.Decision.{Decision}
 use Rattle.mgs_model.specs.declared.entry.Decision.TheVariants.{Granted, DeniedBy, NotGranted}
 use Rattle.mgs_model.specs.declared.message.Message.{Message}
-use Rattle.mgs_model.specs.declared.message.Message.TheVariants.{BufferFull, KillTooLarge, BadName, TooManyBuffers, InMacro, NoFile, SaveFailed, NoSuchUser, Wrote}
+use Rattle.mgs_model.specs.declared.message.Message.TheVariants.{BufferFull, KillTooLarge, BadName, TooManyBuffers, InMacro, NoFile, SaveFailed, NoSuchUser, NoSuchGroup, Wrote}
 use Rattle.mgs_model.specs.declared.session.ByName.{ByName}
 use Rattle.mgs_model.specs.declared.session.ByName.TheVariants.{SwitchToBuffer, KillBuffer, InsertBuffer}
-use Rattle.mgs_model.specs.declared.session.Command.TheVariants.{Insert, InsertReading, Move, Alter, Scroll, Set, Rearrange, Ask, Named, Entries, ListEntries, SetOwner, UndoEdit, NotModified, SaveBuffer, LeaveSearch, Exit}
+use Rattle.mgs_model.specs.declared.session.Command.TheVariants.{Insert, InsertReading, Move, Alter, Scroll, Set, Rearrange, Ask, Named, Entries, ListEntries, SetOwner, SetGroup, UndoEdit, NotModified, SaveBuffer, LeaveSearch, Exit}
 use Rattle.mgs_model.specs.Outcome.{Act, Unbound, Run, Stay, Adjust, Arrange, Outcome, Keep_kill, Effect, No_effect, Edit, Unmodified, Reown, Create, Kill, Save, Quit}
 use Rattle.mgs_model.specs.Apply.{apply, applied, kill_after, outcome_in, act, change_first, session_after, session_arranged, after_quit, without_session}
 use Rattle.mgs_model.specs.Turns.{Turn, Rest, Keep, Do}
@@ -223,7 +224,9 @@ allowed_keep v (Run (Named c) n typed) stored = named_keep v c n typed
 allowed_keep v (Run (Entries c) n typed) stored = rules_keep v.session.own (subject v) (λ b. relisted b.name (entries_changed c (entries_told b.told) n typed))
 allowed_keep v (Run ListEntries n typed) stored = lists_keep v (subject v)
 allowed_keep v (Run SetOwner n typed) stored =
-    rules_keep v.session.own (subject v) (λ b. cond (is_among typed v.directory.users) (Ok (Reown b.name typed)) (Err NoSuchUser))
+    rules_keep v.session.own (subject v) (λ b. cond (is_among typed v.directory.users) (Ok (Reown b.name (ToUser typed))) (Err NoSuchUser))
+allowed_keep v (Run SetGroup n typed) stored =
+    rules_keep v.session.own (subject v) (λ b. cond (is_group_answer v.directory.groups typed) (Ok (Reown b.name (ToGroup (group_answered typed)))) (Err NoSuchGroup))
 allowed_keep v (Run UndoEdit n typed) stored = edits_keep v.session.own (target v) (λ t. undo (items_in t.buffer.full) (around v.session n typed t))
 allowed_keep v (Run NotModified n typed) stored = rules_keep v.session.own (shown v) (λ b. Ok (Unmodified b.name))
 allowed_keep v (Run SaveBuffer n typed) stored = saves_keep v.session.own (target v) stored

@@ -2,7 +2,7 @@
 use Rattle.std.proofs.Common.{◌≡◌, ℕ, zero, suc, ◌≤◌, List, [], ◌∷◌, ◌++◌, map, refl, sym, ap, subst, ◌∙◌, Bool, true, false, cond, Option, Some, None, arith, append-nil}
 use Rattle.std.specs.Prelude.{Result, Ok, Err, not, ◌||◌, ◌==◌, ◌-◌, nat_le, length, take}
 use Rattle.std.specs.Option.{option_map}
-use Rattle.mgs_model.specs.Access.{is_among}
+use Rattle.mgs_model.specs.Access.{group_answered, is_among, is_group_answer}
 use Rattle.mgs_model.specs.Names.{is_name}
 use Rattle.mgs_model.specs.World.{World, Session, Own, Todo, has_id, find_session}
 use Rattle.mgs_model.specs.View.{View, BufferSeen, view, view_of, find_seen, size_told, serial_told, text_in}
@@ -12,13 +12,14 @@ use Rattle.mgs_model.specs.Acts.{outcome, permitted, judged, needs, allowed, Tar
 use Rattle.mgs_model.specs.Apply.{searches, change_first, apply, applied, act, after_quit, session_after, session_arranged}
 use Rattle.mgs_model.specs.Turns.{todo_turn, next}
 use Rattle.mgs_model.specs.Events.{own_set, with_own, Doing, turn_in, turn_seen, rests, turn, turns, most_turns, turn_effects, turns_effects}
+use Rattle.mgs_model.specs.declared.owners.NewOwner.TheVariants.{ToUser, ToGroup}
 use Rattle.mgs_model.specs.declared.message.Message.{Message}
-use Rattle.mgs_model.specs.declared.message.Message.TheVariants.{KillTooLarge, BadColumn, BadName, BufferFull, InMacro, NoFile, NoSuchUser, NotInMacro, SaveFailed, TooManyBuffers, Wrote}
+use Rattle.mgs_model.specs.declared.message.Message.TheVariants.{KillTooLarge, BadColumn, BadName, BufferFull, InMacro, NoFile, NoSuchUser, NoSuchGroup, NotInMacro, SaveFailed, TooManyBuffers, Wrote}
 use Rattle.mgs_model.specs.declared.session.ByName.{ByName}
 use Rattle.mgs_model.specs.declared.session.ByName.TheVariants.{SwitchToBuffer, KillBuffer, InsertBuffer}
 use Rattle.mgs_model.specs.declared.session.Setting.{Setting}
 use Rattle.mgs_model.specs.declared.session.Setting.TheVariants.{SetFillColumn, KeyboardQuit, StartMacro, EndMacro, CallMacro}
-use Rattle.mgs_model.specs.declared.session.Command.TheVariants.{Insert, InsertReading, Move, Alter, Scroll, Set, Rearrange, Ask, Named, Entries, ListEntries, SetOwner, UndoEdit, NotModified, SaveBuffer, LeaveSearch, Exit}
+use Rattle.mgs_model.specs.declared.session.Command.TheVariants.{Insert, InsertReading, Move, Alter, Scroll, Set, Rearrange, Ask, Named, Entries, ListEntries, SetOwner, SetGroup, UndoEdit, NotModified, SaveBuffer, LeaveSearch, Exit}
 use Rattle.mgs_model.specs.declared.entry.Decision.{Decision}
 use Rattle.mgs_model.specs.declared.entry.Decision.TheVariants.{Granted, DeniedBy, NotGranted}
 use Rattle.mgs_model.proofs.Firsts.{change_twice, find-change_first}
@@ -249,7 +250,9 @@ module _ (P : List Todo → Type 0) (none : P []) (rest : (todo : List Todo) →
       rules_left v.session.own (subject v) (λ b. relisted b.name (entries_changed c (entries_told b.told) n typed)) h
   allowed_left v (Run ListEntries n typed) stored s h = lists_left v (subject v) h
   allowed_left v (Run SetOwner n typed) stored s h =
-      rules_left v.session.own (subject v) (λ b. cond (is_among typed v.directory.users) (Ok (Reown b.name typed)) (Err NoSuchUser)) h
+      rules_left v.session.own (subject v) (λ b. cond (is_among typed v.directory.users) (Ok (Reown b.name (ToUser typed))) (Err NoSuchUser)) h
+  allowed_left v (Run SetGroup n typed) stored s h =
+      rules_left v.session.own (subject v) (λ b. cond (is_group_answer v.directory.groups typed) (Ok (Reown b.name (ToGroup (group_answered typed)))) (Err NoSuchGroup)) h
   allowed_left v (Run LeaveSearch n typed) stored s h = none
 
   pub brief_left : (v : View) (c : Act) (stored : Bool) → is_brief v.session.own c ≡ true → P v.session.own.todo → Leaves (outcome v c stored)

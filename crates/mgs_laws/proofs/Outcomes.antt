@@ -5,24 +5,26 @@ use Rattle.std.specs.Option.{option_map}
 use Rattle.mgs_model.specs.Names.{is_name}
 use Rattle.mgs_model.specs.Rights.{rights_in}
 use Rattle.mgs_model.specs.Text.{is_edit}
-use Rattle.mgs_model.specs.Access.{is_among, Decider, Nobody, Allows, Denies, allows, decision_by, with_denial, with_gap, denial, gap}
+use Rattle.mgs_model.specs.Access.{group_answered, is_among, is_group_answer, Decider, Nobody, Allows, Denies, allows, decision_by, with_denial, with_gap, denial, gap}
 use Rattle.mgs_model.specs.World.{Own}
 use Rattle.mgs_model.specs.View.{View, BufferSeen, find_seen, size_told, serial_told, text_in}
 use Rattle.mgs_model.specs.Outcome.{Act, Unbound, Run, Outcome, Keep_kill, Stay, Adjust, Arrange, Effect, No_effect, Edit, Unmodified, Reown, Create, Save, Quit}
 use Rattle.mgs_model.specs.Plans.{acted_own, Finish, Change, insertion, reading_insertion, motion, alteration, scrolling, setting, arrangement, undo, entries_changed, inserted}
 use Rattle.mgs_model.specs.Acts.{Target, target, around, is_at_text_end, moved_by, copy_needs, needs_by_name, Request, insertion_right, here, name_meant, needs, deciders_found, request_judged, or_else, judged, fails, is_too_large, is_full, finished_own, finished, edit_of, edited_by, edits, moves, sets, arranges, shows_named, created, killed, by_name, has_file, entries_told, items_in, relisted, effects, rules, lists, saves, about, shown, subject, selected_seen, has_rows, row_in, scrolls_rows, scrolls, allowed, permitted, outcome}
 use Rattle.mgs_model.specs.Lawful.{granted_on, lawful}
+use Rattle.mgs_model.specs.declared.owners.NewOwner.{NewOwner}
+use Rattle.mgs_model.specs.declared.owners.NewOwner.TheVariants.{ToUser, ToGroup}
 use Rattle.mgs_model.specs.declared.right.Right.{Right}
 use Rattle.mgs_model.specs.declared.right.Right.TheVariants.{WriteData, AppendData}
 use Rattle.mgs_model.specs.declared.entry.Entry.{Entry}
 use Rattle.mgs_model.specs.declared.entry.Decision.{Decision}
 use Rattle.mgs_model.specs.declared.entry.Decision.TheVariants.{Granted, DeniedBy, NotGranted}
 use Rattle.mgs_model.specs.declared.message.Message.{Message}
-use Rattle.mgs_model.specs.declared.message.Message.TheVariants.{BufferFull, KillTooLarge, BadName, TooManyBuffers, InMacro, NoFile, SaveFailed, NoSuchUser, Wrote}
+use Rattle.mgs_model.specs.declared.message.Message.TheVariants.{BufferFull, KillTooLarge, BadName, TooManyBuffers, InMacro, NoFile, SaveFailed, NoSuchUser, NoSuchGroup, Wrote}
 use Rattle.mgs_model.specs.declared.session.ByName.{ByName}
 use Rattle.mgs_model.specs.declared.session.Scrolling.{Scrolling}
 use Rattle.mgs_model.specs.declared.session.ByName.TheVariants.{SwitchToBuffer, KillBuffer, InsertBuffer}
-use Rattle.mgs_model.specs.declared.session.Command.TheVariants.{Insert, InsertReading, Move, Alter, Scroll, Set, Rearrange, Ask, Named, Entries, ListEntries, SetOwner, UndoEdit, NotModified, SaveBuffer, LeaveSearch, Exit}
+use Rattle.mgs_model.specs.declared.session.Command.TheVariants.{Insert, InsertReading, Move, Alter, Scroll, Set, Rearrange, Ask, Named, Entries, ListEntries, SetOwner, SetGroup, UndoEdit, NotModified, SaveBuffer, LeaveSearch, Exit}
 
 -- AN EFFECT COMES ONLY WITH ITS RIGHT
 
@@ -222,9 +224,9 @@ relisted_lawful : (v : View) (own : Own) (b : BufferSeen) (p : Result (List Entr
 relisted_lawful v own b (Err message) e = refl
 relisted_lawful v own b (Ok entries) e = (request_granted v (record { buffer = b.name; rights = 262144 }) [] e).0
 
-reowned_lawful : (v : View) (own : Own) (owner : List ℕ) (c : Bool) (b : BufferSeen) → judged v (about (Some b) 524288) ≡ Granted → lawful v (effects own (cond c (Ok (Reown b.name owner)) (Err NoSuchUser))).effect ≡ true
-reowned_lawful v own owner true b e = (request_granted v (record { buffer = b.name; rights = 524288 }) [] e).0
-reowned_lawful v own owner false b e = refl
+reowned_lawful : (v : View) (own : Own) (new : NewOwner) (m : Message) (c : Bool) (b : BufferSeen) → judged v (about (Some b) 524288) ≡ Granted → lawful v (effects own (cond c (Ok (Reown b.name new)) (Err m))).effect ≡ true
+reowned_lawful v own new m true b e = (request_granted v (record { buffer = b.name; rights = 524288 }) [] e).0
+reowned_lawful v own new m false b e = refl
 
 and_both : (a b : Bool) → a ≡ true → b ≡ true → (a && b) ≡ true
 and_both true b p q = q
@@ -277,7 +279,9 @@ allowed_lawful v (Run (Entries c) n typed) stored e =
     rules_lawful v v.session.own 262144 (λ b. relisted b.name (entries_changed c (entries_told b.told) n typed)) (λ b. relisted_lawful v v.session.own b (entries_changed c (entries_told b.told) n typed)) (subject v) e
 allowed_lawful v (Run ListEntries n typed) stored e = lists_lawful v (subject v)
 allowed_lawful v (Run SetOwner n typed) stored e =
-    rules_lawful v v.session.own 524288 (λ b. cond (is_among typed v.directory.users) (Ok (Reown b.name typed)) (Err NoSuchUser)) (reowned_lawful v v.session.own typed (is_among typed v.directory.users)) (subject v) e
+    rules_lawful v v.session.own 524288 (λ b. cond (is_among typed v.directory.users) (Ok (Reown b.name (ToUser typed))) (Err NoSuchUser)) (reowned_lawful v v.session.own (ToUser typed) NoSuchUser (is_among typed v.directory.users)) (subject v) e
+allowed_lawful v (Run SetGroup n typed) stored e =
+    rules_lawful v v.session.own 524288 (λ b. cond (is_group_answer v.directory.groups typed) (Ok (Reown b.name (ToGroup (group_answered typed)))) (Err NoSuchGroup)) (reowned_lawful v v.session.own (ToGroup (group_answered typed)) NoSuchGroup (is_group_answer v.directory.groups typed)) (subject v) e
 allowed_lawful v (Run UndoEdit n typed) stored e =
     edits_lawful v v.session.own (λ t. 3) (λ t. undo (items_in t.buffer.full) (around v.session n typed t)) (alteration_may v) (target v) e
 allowed_lawful v (Run NotModified n typed) stored e = rules_lawful v v.session.own 3 (λ b. Ok (Unmodified b.name)) (unmodified_lawful v v.session.own) (shown v) e

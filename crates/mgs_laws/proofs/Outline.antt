@@ -6,7 +6,8 @@ use Rattle.mgs_model.specs.Names.{same_name}
 use Rattle.mgs_model.specs.Text.{shift, is_edit}
 use Rattle.mgs_model.specs.World.{World, Buffer, Session, Window, Place, Search, first_own, Shows, Nothing, Buffer_of, Listing, List_of, is_named, has_id}
 use Rattle.mgs_model.specs.Outcome.{Outcome, PointPlan, Keep, At, At_origin, MarkPlan, Keep_mark, Mark_at, SearchPlan, Keep_search, No_search, Begin, Anchor_at, Source, Old, Come, Slot, is_old, Arrange, Stay, Adjust, Slots, Effect, No_effect, Edit, Unmodified, Relist, Reown, Create, Kill, Save, Quit}
-use Rattle.mgs_model.specs.Apply.{change_first, buffers_after, buffer_edited_if, buffer_edited, buffer_unmodified, new_buffer, is_in, is_of, window_moved_if, window_moved, place_moved, search_moved, session_moved, window_bereft_if, window_bereft, is_searched, bereft_own, session_bereft, session_after, set_place, left_places, places_left, place_in, place_point, place_mark, comer, window_at, source_window, has_positions, origin_or, point_after, mark_after, row_after, window_adjusted, window_put, windows_arranged, places_arranged, selected_arranged, search_after, search_arranged, searches, kill_after, session_arranged, after_quit, sessions_after, apply}
+use Rattle.mgs_model.specs.Apply.{owners_after, change_first, buffers_after, buffer_edited_if, buffer_edited, buffer_unmodified, new_buffer, is_in, is_of, window_moved_if, window_moved, place_moved, search_moved, session_moved, window_bereft_if, window_bereft, is_searched, bereft_own, session_bereft, session_after, set_place, left_places, places_left, place_in, place_point, place_mark, comer, window_at, source_window, has_positions, origin_or, point_after, mark_after, row_after, window_adjusted, window_put, windows_arranged, places_arranged, selected_arranged, search_after, search_arranged, searches, kill_after, session_arranged, after_quit, sessions_after, apply}
+use Rattle.mgs_model.specs.declared.owners.Owners.{Owners}
 use Rattle.mgs_model.specs.declared.entry.Entry.{Entry}
 use Rattle.mgs_laws.proofs.After.{user_after}
 use Rattle.mgs_model.proofs.Blind.{Blind-map, Blind-change, Blind-change_at, Blind-append, Blind-remove, Blind-filter, map_both, map_fixed, same_names}
@@ -89,16 +90,16 @@ erase_relisted : (h : Bool) (entries : List Entry) (x : Buffer) → erase_if h (
 erase_relisted true entries x = refl
 erase_relisted false entries x = refl
 
-erase_reowned : (h : Bool) (owner : List ℕ) (x : Buffer) → erase_if h (record x { owner = owner }) ≡ erase_if h (record (erase_if h x) { owner = owner })
-erase_reowned true owner x = refl
-erase_reowned false owner x = refl
+erase_reowned : (h : Bool) (owners : Owners) (x : Buffer) → erase_if h (record x { owners = owners }) ≡ erase_if h (record (erase_if h x) { owners = owners })
+erase_reowned true owners x = refl
+erase_reowned false owners x = refl
 
 pub erase_effect : (shut : List ℕ → Bool) (e : Effect) (xs : List Buffer) → map (erase shut) (buffers_after e xs) ≡ map (erase shut) (buffers_after e (map (erase shut) xs))
 erase_effect shut No_effect xs = map_fixed (erase shut) (erase_same shut) xs
 erase_effect shut (Edit name a b put) xs = Blind-change (erase shut) (erase_same shut) (is_named name) (λ x. refl) (buffer_edited a b put) (λ x. erase_edited (shut x.name) (is_edit a b put) a b put x) xs
 erase_effect shut (Unmodified name) xs = Blind-change (erase shut) (erase_same shut) (is_named name) (λ x. refl) buffer_unmodified (λ x. erase_unmodified (shut x.name) x) xs
 erase_effect shut (Relist name entries) xs = Blind-change (erase shut) (erase_same shut) (is_named name) (λ x. refl) (λ x. record x { entries = entries }) (λ x. erase_relisted (shut x.name) entries x) xs
-erase_effect shut (Reown name owner) xs = Blind-change (erase shut) (erase_same shut) (is_named name) (λ x. refl) (λ x. record x { owner = owner }) (λ x. erase_reowned (shut x.name) owner x) xs
+erase_effect shut (Reown name new) xs = Blind-change (erase shut) (erase_same shut) (is_named name) (λ x. refl) (λ x. record x { owners = owners_after new x.owners }) (λ x. erase_reowned (shut x.name) (owners_after new x.owners) x) xs
 erase_effect shut (Create name owner) xs = Blind-append (erase shut) (erase_same shut) xs (new_buffer name owner) (new_buffer name owner) refl
 erase_effect shut (Kill name) xs = Blind-remove (erase shut) (erase_same shut) (is_named name) (λ x. refl) xs
 erase_effect shut (Save name text) xs = Blind-change (erase shut) (erase_same shut) (is_named name) (λ x. refl) buffer_unmodified (λ x. erase_unmodified (shut x.name) x) xs
@@ -208,7 +209,7 @@ forget_after o shut (Kill name) x = forget_bereft_session o shut name x
 forget_after o shut No_effect x = forget_twice o shut x
 forget_after o shut (Unmodified name) x = forget_twice o shut x
 forget_after o shut (Relist name entries) x = forget_twice o shut x
-forget_after o shut (Reown name owner) x = forget_twice o shut x
+forget_after o shut (Reown name new) x = forget_twice o shut x
 forget_after o shut (Create name owner) x = forget_twice o shut x
 forget_after o shut (Save name text) x = forget_twice o shut x
 forget_after o shut Quit x = forget_twice o shut x

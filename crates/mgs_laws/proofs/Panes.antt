@@ -14,7 +14,7 @@ abbrev bob_has : ℕ → List Entry
 bob_has mask = record { entry_type = Allow; who = User (codes "bob"); mask = mask } ∷ []
 
 abbrev buffer_named : List ℕ → ℕ → Buffer
-buffer_named name mask = record { name = name; owner = codes "ann"; entries = bob_has mask; text = codes "abc"; items = []; serial = 0; modified = false; file = false }
+buffer_named name mask = record { name = name; owners = record { owner = codes "ann"; group = None }; entries = bob_has mask; text = codes "abc"; items = []; serial = 0; modified = false; file = false }
 
 abbrev bob_at : Shows → Session
 bob_at shows =
@@ -37,7 +37,7 @@ panes_seen buffers shows =
     (seen (record { directory = record { users = codes "ann" ∷ codes "bob" ∷ []; groups = [] }; buffers = buffers; sessions = bob_at shows ∷ []; next_id = 2 }) (bob_at shows)).windows
 
 abbrev attributes_named : List ℕ → Attributes
-attributes_named name = record { name = name; modified = false; size = 3; owner = codes "ann" }
+attributes_named name = record { name = name; modified = false; size = 3; owners = record { owner = codes "ann"; group = None } }
 
 -- READ_DATA alone: a pane without names, whatever the buffer's name is
 text_without_name : (name : List ℕ) → panes_seen (buffer_named name 1 ∷ []) (Buffer_of name) ≡ record { height = 4; pane = Text_pane (Readable (codes "abc") 2 0) None } ∷ []

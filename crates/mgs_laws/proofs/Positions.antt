@@ -21,7 +21,7 @@ abbrev world_of : List Session → World
 world_of sessions =
     record {
       directory = record { users = codes "ann" ∷ []; groups = [] };
-      buffers = record { name = codes "notes"; owner = codes "ann"; entries = record { entry_type = Allow; who = Everyone; mask = 135 } ∷ []; text = codes "abc"; items = []; serial = 0; modified = false; file = false } ∷ [];
+      buffers = record { name = codes "notes"; owners = record { owner = codes "ann"; group = None }; entries = record { entry_type = Allow; who = Everyone; mask = 135 } ∷ []; text = codes "abc"; items = []; serial = 0; modified = false; file = false } ∷ [];
       sessions = sessions;
       next_id = 5;
     }

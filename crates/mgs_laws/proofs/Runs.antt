@@ -15,7 +15,7 @@ use Rattle.mgs_model.specs.declared.entry.EntryType.TheVariants.{Allow}
 use Rattle.mgs_model.specs.declared.entry.Who.TheVariants.{Owner}
 
 abbrev pub buffer_of : List ℕ → List ℕ → List Entry → Buffer
-buffer_of name text entries = record { name = name; owner = codes "ann"; entries = entries; text = text; items = []; serial = 0; modified = false; file = false }
+buffer_of name text entries = record { name = name; owners = record { owner = codes "ann"; group = None }; entries = entries; text = text; items = []; serial = 0; modified = false; file = false }
 
 abbrev pub full : List Entry
 full = record { entry_type = Allow; who = Owner; mask = 983175 } ∷ []

@@ -4,7 +4,7 @@ use Rattle.std.proofs.lemmas.Grind.{flat_map-append}
 use Rattle.std.specs.Prelude.{Result, Ok, Err, length, nat_le, not}
 use Rattle.std.specs.List.{flat_map}
 use Rattle.std.specs.Option.{option_map}
-use Rattle.mgs_model.specs.Access.{is_among}
+use Rattle.mgs_model.specs.Access.{group_answered, is_among, is_group_answer}
 use Rattle.mgs_model.specs.Names.{is_name}
 use Rattle.mgs_model.specs.World.{World, Own, Buffer_of}
 use Rattle.mgs_model.specs.View.{View, BufferSeen, find_seen, size_told, serial_told, text_in, view_of}
@@ -13,12 +13,14 @@ use Rattle.mgs_model.specs.Plans.{Finish, Change, alteration, insertion, motion,
 use Rattle.mgs_model.specs.Text.{is_edit}
 use Rattle.mgs_model.specs.Acts.{outcome, permitted, judged, needs, allowed, Target, target, around, edits, edited_by, edit_of, has_rows, is_full, moves, row_in, scrolls_rows, selected_seen, moved_by, finished, is_too_large, arranges, sets, effects, rules, lists, subject, shown, relisted, entries_told, items_in, by_name, created, killed, name_meant, fails, finished_own, shows_named}
 use Rattle.mgs_model.specs.Events.{Event, Close, Saved, act_effects, effect_in, event_effects, event_saves, run, run_effects, run_saves, saved_by, step}
+use Rattle.mgs_model.specs.declared.owners.NewOwner.{NewOwner}
+use Rattle.mgs_model.specs.declared.owners.NewOwner.TheVariants.{ToUser, ToGroup}
 use Rattle.mgs_model.specs.declared.entry.Entry.{Entry}
 use Rattle.mgs_model.specs.declared.message.Message.{Message}
-use Rattle.mgs_model.specs.declared.message.Message.TheVariants.{BadName, BufferFull, InMacro, KillTooLarge, NoSuchUser, TooManyBuffers}
+use Rattle.mgs_model.specs.declared.message.Message.TheVariants.{BadName, BufferFull, InMacro, KillTooLarge, NoSuchUser, NoSuchGroup, TooManyBuffers}
 use Rattle.mgs_model.specs.declared.session.ByName.{ByName}
 use Rattle.mgs_model.specs.declared.session.ByName.TheVariants.{SwitchToBuffer, KillBuffer, InsertBuffer}
-use Rattle.mgs_model.specs.declared.session.Command.TheVariants.{Insert, InsertReading, Move, Alter, Scroll, Set, Rearrange, Ask, Named, Entries, ListEntries, SetOwner, UndoEdit, NotModified, SaveBuffer, LeaveSearch, Exit}
+use Rattle.mgs_model.specs.declared.session.Command.TheVariants.{Insert, InsertReading, Move, Alter, Scroll, Set, Rearrange, Ask, Named, Entries, ListEntries, SetOwner, SetGroup, UndoEdit, NotModified, SaveBuffer, LeaveSearch, Exit}
 use Rattle.mgs_model.specs.declared.entry.Decision.{Decision}
 use Rattle.mgs_model.specs.declared.entry.Decision.TheVariants.{Granted, DeniedBy, NotGranted}
 
@@ -102,6 +104,10 @@ named_none v SwitchToBuffer n typed = by (find_seen typed v.buffers)
 named_none v KillBuffer n typed = killed_none v (name_meant v typed) (find_seen (name_meant v typed) v.buffers)
 named_none v InsertBuffer n typed = edits_none v.session.own (target v) (λ t. inserted (option_map (λ b. text_in b.full) (find_seen typed v.buffers)) (around v.session n typed t))
 
+reowned_none : (own : Own) (b : BufferSeen) (new : NewOwner) (m : Message) (f : Bool) → SavesNothing (effects own (cond f (Ok (Reown b.name new)) (Err m)))
+reowned_none own b new m true = refl
+reowned_none own b new m false = refl
+
 allowed_none : (v : View) (c : Act) (stored : Bool) → is_save c ≡ false → SavesNothing (allowed v c stored)
 allowed_none v Unbound stored h = refl
 allowed_none v (Run (Insert c) n typed) stored h = edits_none v.session.own (target v) (λ t. insertion c (around v.session n typed t))
@@ -120,11 +126,8 @@ allowed_none v (Run (Named c) n typed) stored h = named_none v c n typed
 allowed_none v (Run (Entries c) n typed) stored h =
     rules_none v.session.own (subject v) (λ b. relisted b.name (entries_changed c (entries_told b.told) n typed)) (λ b. relisted_none v.session.own b.name (entries_changed c (entries_told b.told) n typed))
 allowed_none v (Run ListEntries n typed) stored h = lists_none v (subject v)
-allowed_none v (Run SetOwner n typed) stored h = rules_none v.session.own (subject v) (λ b. cond (is_among typed v.directory.users) (Ok (Reown b.name typed)) (Err NoSuchUser)) (λ b. by b (is_among typed v.directory.users))
-  where
-    by : (b : BufferSeen) (f : Bool) → SavesNothing (effects v.session.own (cond f (Ok (Reown b.name typed)) (Err NoSuchUser)))
-    by b true = refl
-    by b false = refl
+allowed_none v (Run SetOwner n typed) stored h = rules_none v.session.own (subject v) (λ b. cond (is_among typed v.directory.users) (Ok (Reown b.name (ToUser typed))) (Err NoSuchUser)) (λ b. reowned_none v.session.own b (ToUser typed) NoSuchUser (is_among typed v.directory.users))
+allowed_none v (Run SetGroup n typed) stored h = rules_none v.session.own (subject v) (λ b. cond (is_group_answer v.directory.groups typed) (Ok (Reown b.name (ToGroup (group_answered typed)))) (Err NoSuchGroup)) (λ b. reowned_none v.session.own b (ToGroup (group_answered typed)) NoSuchGroup (is_group_answer v.directory.groups typed))
 allowed_none v (Run UndoEdit n typed) stored h = edits_none v.session.own (target v) (λ t. undo (items_in t.buffer.full) (around v.session n typed t))
 allowed_none v (Run NotModified n typed) stored h = rules_none v.session.own (shown v) (λ b. Ok (Unmodified b.name)) (λ b. refl)
 allowed_none v (Run SaveBuffer n typed) stored h = cc

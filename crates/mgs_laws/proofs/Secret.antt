@@ -27,7 +27,7 @@ abbrev notes : List ℕ → Bool
 notes name = same_name (codes "notes") name
 
 abbrev buffer_with : List ℕ → List Entry → Buffer
-buffer_with text entries = record { name = codes "notes"; owner = codes "ann"; entries = entries; text = text; items = []; serial = 0; modified = false; file = false }
+buffer_with text entries = record { name = codes "notes"; owners = record { owner = codes "ann"; group = None }; entries = entries; text = text; items = []; serial = 0; modified = false; file = false }
 
 abbrev world_with : List ℕ → List Entry → World
 world_with text entries = record { directory = directory; buffers = buffer_with text entries ∷ []; sessions = []; next_id = 1 }
@@ -74,7 +74,7 @@ writes = Open 2 (codes "bob") 6 20 ∷ Byte 1 120 true None ∷ Byte 2 6 true No
 no_right : Closed bob notes ann_there
 no_right = record {
   there = λ name e. subst (λ n. has_name n ann_there.buffers ≡ true) (same_names (codes "notes") name e) refl;
-  no_rights = (λ e u g. subst (λ x. any_right (decider directory (codes "ann") x hers) ≡ false) (same_names (codes "bob") u g) refl, tt);
+  no_rights = (λ e u g. subst (λ x. any_right (decider directory (record { owner = codes "ann"; group = None }) x hers) ≡ false) (same_names (codes "bob") u g) refl, tt);
 }
 
 she_stays_inside : OthersInside bob notes ann_there writes

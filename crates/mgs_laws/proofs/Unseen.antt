@@ -38,7 +38,7 @@ found_none users shut d u g r n q [] h = refl
 found_none users shut d u g r n q (b ∷ bs) h = look (same_name n b.name) refl (found_none users shut d u g r n q bs h.1)
   where
     look : (c : Bool) → same_name n b.name ≡ c → granted_found r (option_map (buffer_seen d u) (find_buffer n bs)) ≡ false → granted_found r (option_map (buffer_seen d u) (cond c (Some b) (find_buffer n bs))) ≡ false
-    look true e ih = none_of (decider d b.owner u b.entries) (h.0 (sym (ap shut (same_names n b.name e)) ∙ q) u g) r
+    look true e ih = none_of (decider d b.owners u b.entries) (h.0 (sym (ap shut (same_names n b.name e)) ∙ q) u g) r
     look false e ih = ih
 
 reads_none : (users shut : List ℕ → Bool) (d : Directory) (u : List ℕ) → users u ≡ true → (n : List ℕ) → shut n ≡ true → (bs : List Buffer) → NoRightsAmong users shut d bs → reads d bs u n ≡ false
@@ -46,7 +46,7 @@ reads_none users shut d u g n q [] h = refl
 reads_none users shut d u g n q (b ∷ bs) h = look (same_name n b.name) refl (reads_none users shut d u g n q bs h.1)
   where
     look : (c : Bool) → same_name n b.name ≡ c → reads d bs u n ≡ false → reads_found d u (cond c (Some b) (find_buffer n bs)) ≡ false
-    look true e ih = none_of (decider d b.owner u b.entries) (h.0 (sym (ap shut (same_names n b.name e)) ∙ q) u g) ReadData
+    look true e ih = none_of (decider d b.owners u b.entries) (h.0 (sym (ap shut (same_names n b.name e)) ∙ q) u g) ReadData
     look false e ih = ih
 
 told_erase : (c h : Bool) (b : Buffer) → (h ≡ true → c ≡ false) → told_if c (erase_if h b) ≡ told_if c b
@@ -59,13 +59,13 @@ full_erase c false b p = refl
 full_erase false true b p = refl
 full_erase true true b p = let e : true ≡ false = p refl in cc
 
-seen_erase : (shut : List ℕ → Bool) (d : Directory) (u : List ℕ) (b : Buffer) → (shut b.name ≡ true → any_right (decider d b.owner u b.entries) ≡ false) → buffer_seen d u (erase shut b) ≡ buffer_seen d u b
+seen_erase : (shut : List ℕ → Bool) (d : Directory) (u : List ℕ) (b : Buffer) → (shut b.name ≡ true → any_right (decider d b.owners u b.entries) ≡ false) → buffer_seen d u (erase shut b) ≡ buffer_seen d u b
 seen_erase shut d u b p =
     λ i. record {
       name = b.name;
-      deciders = decider d b.owner u b.entries;
-      told = told_erase (any_right (decider d b.owner u b.entries)) (shut b.name) b p i;
-      full = full_erase (may d u ReadData b) (shut b.name) b (λ e. none_of (decider d b.owner u b.entries) (p e) ReadData) i;
+      deciders = decider d b.owners u b.entries;
+      told = told_erase (any_right (decider d b.owners u b.entries)) (shut b.name) b p i;
+      full = full_erase (may d u ReadData b) (shut b.name) b (λ e. none_of (decider d b.owners u b.entries) (p e) ReadData) i;
     }
 
 all_seen_erase : (users shut : List ℕ → Bool) (d : Directory) (u : List ℕ) → users u ≡ true → (bs : List Buffer) → NoRightsAmong users shut d bs → map (buffer_seen d u) (map (erase shut) bs) ≡ map (buffer_seen d u) bs

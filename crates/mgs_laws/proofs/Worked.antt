@@ -1,7 +1,10 @@
 -- Worked rows, computed by the definitions.
 use Rattle.std.proofs.Common.{◌≡◌, ℕ, true, false, List, [], ◌∷◌, ◌++◌, Option, Some, None, refl}
-use Rattle.std.specs.Prelude.{codes, replicate}
-use Rattle.mgs_model.specs.Access.{Directory, decision}
+use Rattle.std.specs.Prelude.{codes, replicate, Ok, Err}
+use Rattle.mgs_model.specs.declared.owners.Owners.{Owners}
+use Rattle.mgs_model.specs.declared.entry.EntryFault.TheVariants as faults
+use Rattle.mgs_model.specs.Spelling.{entry_in}
+use Rattle.mgs_model.specs.Access.{Directory, decision, owners_of}
 use Rattle.mgs_model.specs.Keys.{key_read}
 use Rattle.mgs_model.specs.Turns.{next}
 use Rattle.mgs_model.specs.Rows.{Row, fitted, shown_row, shift_for}
@@ -11,14 +14,14 @@ use Rattle.mgs_model.specs.Picture.{Picture}
 use Rattle.mgs_model.specs.World.{World, Buffer, find_session}
 use Rattle.mgs_model.specs.Acts.{outcome}
 use Rattle.mgs_model.specs.Events.{Event, Open, Byte, run, turns, most_turns}
-use Rattle.mgs_model.specs.Draw.{draw, screen}
+use Rattle.mgs_model.specs.Draw.{draw, entry_text, listing_text, screen}
 use Rattle.std.specs.Option.{option_map}
 use Rattle.std.specs.Fmt.{digits}
 use Rattle.mgs_model.specs.declared.right.Right.TheVariants.{ReadData, WriteData}
 use Rattle.mgs_model.specs.declared.entry.Decision.TheVariants.{Granted, DeniedBy, NotGranted}
 use Rattle.mgs_model.specs.declared.entry.Entry.{Entry}
 use Rattle.mgs_model.specs.declared.entry.EntryType.TheVariants.{Allow, Deny}
-use Rattle.mgs_model.specs.declared.entry.Who.TheVariants.{Owner, Everyone, User, Group}
+use Rattle.mgs_model.specs.declared.entry.Who.TheVariants.{Owner, OwningGroup, Everyone, User, Group}
 
 ann : List ℕ
 ann = codes "ann"
@@ -30,7 +33,7 @@ abbrev full : List Entry
 full = record { entry_type = Allow; who = Owner; mask = 983175 } ∷ []
 
 abbrev buffer_with : List ℕ → List Entry → Buffer
-buffer_with text entries = record { name = codes "notes"; owner = codes "ann"; entries = entries; text = text; items = []; serial = 0; modified = false; file = false }
+buffer_with text entries = record { name = codes "notes"; owners = record { owner = codes "ann"; group = None }; entries = entries; text = text; items = []; serial = 0; modified = false; file = false }
 
 abbrev world_with : List Buffer → World
 world_with buffers = record { directory = record { users = codes "ann" ∷ codes "bob" ∷ []; groups = [] }; buffers = buffers; sessions = []; next_id = 1 }
@@ -111,6 +114,9 @@ tab_and_controls = refl
 
 -- DECISIONS
 
+abbrev owned_by : List ℕ → Owners
+owned_by user = owners_of user None
+
 people : Directory
 people = record { users = codes "ann" ∷ codes "bob" ∷ codes "cat" ∷ []; groups = [] }
 
@@ -120,24 +126,24 @@ three =
     ∷ record { entry_type = Deny; who = User (codes "ann"); mask = 3 }
     ∷ record { entry_type = Allow; who = Everyone; mask = 2 } ∷ []
 
-ann_both : decision people (codes "cat") (codes "ann") three 3 ≡ DeniedBy 2 WriteData
+ann_both : decision people (owned_by (codes "cat")) (codes "ann") three 3 ≡ DeniedBy 2 WriteData
 unfolding people three
 ann_both = refl
 
-ann_reads : decision people (codes "cat") (codes "ann") three 1 ≡ Granted
+ann_reads : decision people (owned_by (codes "cat")) (codes "ann") three 1 ≡ Granted
 unfolding people three
 ann_reads = refl
 
-bob_both : decision people (codes "cat") (codes "bob") three 3 ≡ NotGranted ReadData
+bob_both : decision people (owned_by (codes "cat")) (codes "bob") three 3 ≡ NotGranted ReadData
 unfolding people three
 bob_both = refl
 
 -- the least entry that denies, and its lowest right
-two_denials : decision people (codes "cat") (codes "ann") (record { entry_type = Deny; who = User (codes "ann"); mask = 2 } ∷ record { entry_type = Deny; who = User (codes "ann"); mask = 1 } ∷ []) 3 ≡ DeniedBy 1 WriteData
+two_denials : decision people (owned_by (codes "cat")) (codes "ann") (record { entry_type = Deny; who = User (codes "ann"); mask = 2 } ∷ record { entry_type = Deny; who = User (codes "ann"); mask = 1 } ∷ []) 3 ≡ DeniedBy 1 WriteData
 unfolding people
 two_denials = refl
 
-one_denial : decision people (codes "cat") (codes "ann") (record { entry_type = Deny; who = User (codes "ann"); mask = 3 } ∷ []) 3 ≡ DeniedBy 1 ReadData
+one_denial : decision people (owned_by (codes "cat")) (codes "ann") (record { entry_type = Deny; who = User (codes "ann"); mask = 3 } ∷ []) 3 ≡ DeniedBy 1 ReadData
 unfolding people
 one_denial = refl
 
@@ -148,17 +154,72 @@ staffed = record { users = codes "ann" ∷ codes "bob" ∷ []; groups = record {
 owner_then_staff : List Entry
 owner_then_staff = record { entry_type = Allow; who = Owner; mask = 7 } ∷ record { entry_type = Deny; who = Group (codes "staff"); mask = 2 } ∷ []
 
-owner_of_staff : decision staffed (codes "ann") (codes "ann") owner_then_staff 7 ≡ Granted
+owner_of_staff : decision staffed (owned_by (codes "ann")) (codes "ann") owner_then_staff 7 ≡ Granted
 unfolding staffed owner_then_staff
 owner_of_staff = refl
 
-staff_writes : decision staffed (codes "ann") (codes "bob") owner_then_staff 2 ≡ DeniedBy 2 WriteData
+staff_writes : decision staffed (owned_by (codes "ann")) (codes "bob") owner_then_staff 2 ≡ DeniedBy 2 WriteData
 unfolding staffed owner_then_staff
 staff_writes = refl
 
-staff_reads : decision staffed (codes "ann") (codes "bob") owner_then_staff 1 ≡ NotGranted ReadData
+staff_reads : decision staffed (owned_by (codes "ann")) (codes "bob") owner_then_staff 1 ≡ NotGranted ReadData
 unfolding staffed owner_then_staff
 staff_reads = refl
+
+-- an owning group: its members, whom the owner is none of
+three_people : Directory
+three_people = record { users = codes "ann" ∷ codes "bob" ∷ codes "cat" ∷ []; groups = record { name = codes "staff"; members = codes "ann" ∷ codes "bob" ∷ [] } ∷ [] }
+
+by_group : List Entry
+by_group =
+    record { entry_type = Allow; who = OwningGroup; mask = 129 }
+    ∷ record { entry_type = Deny; who = Everyone; mask = 1 }
+    ∷ record { entry_type = Allow; who = Owner; mask = 983175 } ∷ []
+
+of_staff : Owners
+of_staff = owners_of (codes "cat") (Some (codes "staff"))
+
+member_reads : decision three_people of_staff (codes "bob") by_group 1 ≡ Granted
+unfolding three_people by_group of_staff
+member_reads = refl
+
+owner_is_no_member : decision three_people of_staff (codes "cat") by_group 1 ≡ DeniedBy 2 ReadData
+unfolding three_people by_group of_staff
+owner_is_no_member = refl
+
+owner_gives_away : decision three_people of_staff (codes "cat") by_group 524288 ≡ Granted
+unfolding three_people by_group of_staff
+owner_gives_away = refl
+
+-- no group, and one that is not there, have no members
+none_has_none : decision three_people (owned_by (codes "cat")) (codes "bob") by_group 1 ≡ DeniedBy 2 ReadData
+unfolding three_people by_group
+none_has_none = refl
+
+unknown_has_none : decision three_people (owners_of (codes "cat") (Some (codes "crew"))) (codes "bob") by_group 1 ≡ DeniedBy 2 ReadData
+unfolding three_people by_group
+unknown_has_none = refl
+
+-- ITS SPELLING
+
+group_read : entry_in (codes "ALLOW GROUP@ r") ≡ Ok (record { entry_type = Allow; who = OwningGroup; mask = 1 })
+group_read = refl
+
+group_printed : entry_text (record { entry_type = Allow; who = OwningGroup; mask = 1 }) ≡ codes "ALLOW GROUP@ r"
+group_printed = refl
+
+group_misspelled : entry_in (codes "ALLOW GROUP r") ≡ Err faults.Who
+group_misspelled = refl
+
+-- THE LISTING
+
+group_listed : listing_text (record { name = codes "notes"; modified = true; size = 2; owners = owners_of (codes "ann") (Some (codes "staff")) }) ≡ codes "*       2 notes ann:staff"
+unfolding digits
+group_listed = refl
+
+none_listed : listing_text (record { name = codes "notes"; modified = true; size = 2; owners = owned_by (codes "ann") }) ≡ codes "*       2 notes ann"
+unfolding digits
+none_listed = refl
 
 -- LONG LINES
 

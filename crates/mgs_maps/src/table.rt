@@ -403,7 +403,7 @@ static BINDINGS: [Binding; 73] = [
     },
 ];
 
-static KEYLESS: [Binding; 7] = [
+static KEYLESS: [Binding; 8] = [
     Binding {
         keys: b"",
         name: "shrink-window",
@@ -438,6 +438,11 @@ static KEYLESS: [Binding; 7] = [
         keys: b"",
         name: "set-owner",
         command: Command::Ask(Question::WhichOwner),
+    },
+    Binding {
+        keys: b"",
+        name: "set-group",
+        command: Command::Ask(Question::WhichGroup),
     },
 ];
 

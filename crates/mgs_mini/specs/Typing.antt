@@ -64,6 +64,10 @@ stepped v c own Quit = Keep (failed_own Quitting own)
 stepped v c own Completes = Keep (completed own (completion (names_completed v c) own.input))
 stepped v c own Unbound = Keep (unbound_own own)
 
+-- a turn is what the byte came to, with the input and the half-read keys that it left
+abbrev pub IsTurn : (View → Question → Own → Turn) → List ℕ → Step → Waiting → Type 0
+IsTurn turn input step waiting = (v : View) → (c : Question) → (own : Own) → turn v c own ≡ stepped v c (typed_own own input waiting) step
+
 -- what the bytes of a character come to, which wait so where they are some first bytes of one
 abbrev pub typed_turn : Own → List ℕ → Waiting → Sequence → Turn
 typed_turn own input waiting (Whole c) = Keep (typed_own own (lengthened input c) NoKey)

@@ -11,7 +11,7 @@ ghost use Rattle.mgs_model.specs.View.{View};
 ghost use Rattle.mgs_model.specs.declared.session.Question.{Question};
 ghost use Rattle.mgs_model.specs.Turns.{prompt_turn, prompt_keys, prompt_key, completed, names_buffers, names_commands};
 ghost use Rattle.mgs_model.specs.declared.session.Question.TheVariants.{ReplaceWith};
-ghost use Rattle.mgs_mini.specs.Typing.{IsFirst, IsWaiting, is_within, keys_of, typed_own, typed_turn, stepped, last_dropped, told};
+ghost use Rattle.mgs_mini.specs.Typing.{IsFirst, IsTurn, IsWaiting, is_within, keys_of, typed_own, typed_turn, stepped, last_dropped, told};
 ghost use Rattle.mgs_mini.specs.declared.Waiting.TheVariants.{NoKey};
 ghost use Rattle.mgs_mini.specs.declared.Step.TheVariants.{Answered, Unbound};
 
@@ -92,6 +92,7 @@ fn names_buffers(question: Question) -> bool
         | Question::EntryToInsert
         | Question::EntryToReplace
         | Question::WhichOwner
+        | Question::WhichGroup
         | Question::SearchWhat(_)
         | Question::ReplaceWhat
         | Question::ReplaceWith => false,
@@ -170,7 +171,7 @@ fn feed_key(input: &mut ArrayVec<char, 120>, byte: u8) -> (Step, Waiting)
     ensures answered { result.0 ≡ Answered → (input.new.items ≡ input.old.items) × (result.1 ≡ NoKey) }
     ensures unbound { result.0 ≡ Unbound → result.1 ≡ NoKey }
     ensures waits { IsWaiting result.1 }
-    ensures turn { (v : View) → (c : Question) → (own : Own) → prompt_key v c (typed_own own input.old.items NoKey) byte ≡ stepped v c (typed_own own input.new.items result.1) result.0 }
+    ensures turn { IsTurn (λ v c own. prompt_key v c (typed_own own input.old.items NoKey) byte) input.new.items result.0 result.1 }
 {
     if byte == b'\r' {
         (Step::Answered, Waiting::NoKey)
@@ -197,7 +198,7 @@ fn feed_character(
     ensures answered { result.0 ≡ Answered → ⊥ }
     ensures unbound { result.0 ≡ Unbound → result.1 ≡ NoKey }
     ensures waits { IsWaiting result.1 }
-    ensures turn { (v : View) → (c : Question) → (own : Own) → typed_turn own input.old.items waiting (sequence_read bytes.now) ≡ stepped v c (typed_own own input.new.items result.1) result.0 }
+    ensures turn { IsTurn (λ v c own. typed_turn own input.old.items waiting (sequence_read bytes.now)) input.new.items result.0 result.1 }
 {
     match read_sequence(bytes) {
         Sequence::Whole(c) => {
@@ -217,7 +218,7 @@ fn feed_word(waiting: Waiting, byte: u8) -> (Step, Waiting)
     ensures answered { result.0 ≡ Answered → ⊥ }
     ensures unbound { result.0 ≡ Unbound → result.1 ≡ NoKey }
     ensures waits { IsWaiting result.1 }
-    ensures turn { (v : View) → (c : Question) → (own : Own) → (input : List ℕ) → prompt_turn v c (typed_own own input waiting) byte ≡ stepped v c (typed_own own input result.1) result.0 }
+    ensures turn { (input : List ℕ) → IsTurn (λ v c own. prompt_turn v c (typed_own own input waiting) byte) input result.0 result.1 }
 {
     if byte < 0x80 {
         (Step::GoesOn, waiting_after(waiting, byte))
@@ -232,7 +233,7 @@ fn feed_first(input: &mut ArrayVec<char, 120>, byte: u8) -> (Step, Waiting)
     ensures answered { result.0 ≡ Answered → (input.new.items ≡ input.old.items) × (result.1 ≡ NoKey) }
     ensures unbound { result.0 ≡ Unbound → result.1 ≡ NoKey }
     ensures waits { IsWaiting result.1 }
-    ensures turn { (v : View) → (c : Question) → (own : Own) → prompt_turn v c (typed_own own input.old.items NoKey) byte ≡ stepped v c (typed_own own input.new.items result.1) result.0 }
+    ensures turn { IsTurn (λ v c own. prompt_turn v c (typed_own own input.old.items NoKey) byte) input.new.items result.0 result.1 }
 {
     if byte < 0x80 {
         feed_key(input, byte)
@@ -247,7 +248,7 @@ fn feed_byte(input: &mut ArrayVec<char, 120>, waiting: Waiting, byte: u8) -> (St
     ensures answered { result.0 ≡ Answered → (input.new.items ≡ input.old.items) × (result.1 ≡ waiting) × (waiting ≡ NoKey) }
     ensures unbound { result.0 ≡ Unbound → result.1 ≡ NoKey }
     ensures waits { IsWaiting result.1 }
-    ensures turn { (v : View) → (c : Question) → (own : Own) → prompt_turn v c (typed_own own input.old.items waiting) byte ≡ stepped v c (typed_own own input.new.items result.1) result.0 }
+    ensures turn { IsTurn (λ v c own. prompt_turn v c (typed_own own input.old.items waiting) byte) input.new.items result.0 result.1 }
 {
     if byte == QUIT {
         return (Step::Quit, Waiting::NoKey);

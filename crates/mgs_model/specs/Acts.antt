@@ -3,26 +3,26 @@ use Rattle.std.specs.Prelude.{ℕ, ◌+◌, ◌-◌, min, nat_lt, nat_le, ◌==�
 use Rattle.std.specs.Option.{option_and_then, option_map}
 use Rattle.mgs_model.specs.Names.{is_name, same_name}
 use Rattle.mgs_model.specs.Rights.{rights_in}
-use Rattle.mgs_model.specs.Access.{Decider, Nobody, decision_by, is_among}
+use Rattle.mgs_model.specs.Access.{Decider, Nobody, decision_by, group_answered, is_among, is_group_answer}
 use Rattle.mgs_model.specs.Text.{is_edit}
 use Rattle.mgs_model.specs.World.{Own, Shows, Buffer_of, Listing, List_of}
 use Rattle.mgs_model.specs.View.{View, SessionSeen, BufferSeen, WindowSeen, SearchSeen, Told, Full, Positions, find_seen, size_told, serial_told, text_in}
 use Rattle.mgs_model.specs.World.{Item, Todo, Typed, Played, Replace_all, Play}
 use Rattle.mgs_model.specs.declared.entry.Entry.{Entry}
-use Rattle.mgs_model.specs.Outcome.{Act, Unbound, Run, KillPlan, Keep_kill, Kill_is, Arrange, Stay, Adjust, At_origin, Keep, Keep_mark, Keep_search, No_search, Effect, No_effect, Edit, Unmodified, Relist, Reown, Create, Kill, Save, Quit, Outcome}
+use Rattle.mgs_model.specs.Outcome.{Act, Unbound, Run, KillPlan, Keep_kill, Kill_is, Arrange, Stay, Adjust, At_origin, Keep, Keep_mark, Keep_search, No_search, Effect, No_effect, Edit, Unmodified, Relist, Reown, ToUser, ToGroup, Create, Kill, Save, Quit, Outcome}
 use Rattle.mgs_model.specs.Plans.{failed_own, acted_own, Around, ModePlan, Goes_on, Over, Failing, Finish, Change, insertion, reading_insertion, motion, alteration, scrolling, row_scrolled, setting, arrangement, undo, entries_changed, comes, inserted}
 use Rattle.mgs_model.specs.declared.right.Right.{Right}
 use Rattle.mgs_model.specs.declared.entry.Decision.{Decision}
 use Rattle.mgs_model.specs.declared.entry.Decision.TheVariants.{Granted, DeniedBy, NotGranted}
 use Rattle.mgs_model.specs.declared.message.Message.{Message}
-use Rattle.mgs_model.specs.declared.message.Message.TheVariants.{Denied, KeyNotBound, NoBuffer, BufferFull, KillTooLarge, InMacro, NoSuchBuffer, BadName, TooManyBuffers, NoSuchUser, NoFile, SaveFailed, Wrote, Quitting, Replaced}
+use Rattle.mgs_model.specs.declared.message.Message.TheVariants.{Denied, KeyNotBound, NoBuffer, BufferFull, KillTooLarge, InMacro, NoSuchBuffer, BadName, TooManyBuffers, NoSuchUser, NoSuchGroup, NoFile, SaveFailed, Wrote, Quitting, Replaced}
 use Rattle.mgs_model.specs.declared.session.Mode.{Mode}
 use Rattle.mgs_model.specs.declared.session.Mode.TheVariants.{Plain, Prompt, Searching}
 use Rattle.mgs_model.specs.declared.session.Question.{Question}
 use Rattle.mgs_model.specs.declared.session.Scrolling.{Scrolling}
 use Rattle.mgs_model.specs.declared.session.ByName.{ByName}
 use Rattle.mgs_model.specs.declared.session.ByName.TheVariants.{SwitchToBuffer, KillBuffer, InsertBuffer}
-use Rattle.mgs_model.specs.declared.session.Command.TheVariants.{Insert, InsertReading, Move, Alter, Scroll, Set, Rearrange, Ask, Named, Entries, ListEntries, SetOwner, UndoEdit, NotModified, SaveBuffer, LeaveSearch, Exit}
+use Rattle.mgs_model.specs.declared.session.Command.TheVariants.{Insert, InsertReading, Move, Alter, Scroll, Set, Rearrange, Ask, Named, Entries, ListEntries, SetOwner, SetGroup, UndoEdit, NotModified, SaveBuffer, LeaveSearch, Exit}
 
 -- WHERE A COMMAND ACTS
 
@@ -158,6 +158,7 @@ needs v (Run (Named c) n typed) = needs_by_name v c typed
 needs v (Run (Entries c) n typed) = about (subject v) 262144
 needs v (Run ListEntries n typed) = about (subject v) 131072
 needs v (Run SetOwner n typed) = about (subject v) 524288
+needs v (Run SetGroup n typed) = about (subject v) 524288
 needs v (Run UndoEdit n typed) = here (target v) (λ t. 3)
 needs v (Run NotModified n typed) = about (shown v) 3
 needs v (Run SaveBuffer n typed) = here (target v) (λ t. 3)
@@ -354,7 +355,9 @@ allowed v (Run (Named c) n typed) stored = by_name v c n typed
 allowed v (Run (Entries c) n typed) stored = rules v.session.own (subject v) (λ b. relisted b.name (entries_changed c (entries_told b.told) n typed))
 allowed v (Run ListEntries n typed) stored = lists v (subject v)
 allowed v (Run SetOwner n typed) stored =
-    rules v.session.own (subject v) (λ b. if is_among typed v.directory.users then Ok (Reown b.name typed) else Err NoSuchUser)
+    rules v.session.own (subject v) (λ b. if is_among typed v.directory.users then Ok (Reown b.name (ToUser typed)) else Err NoSuchUser)
+allowed v (Run SetGroup n typed) stored =
+    rules v.session.own (subject v) (λ b. if is_group_answer v.directory.groups typed then Ok (Reown b.name (ToGroup (group_answered typed))) else Err NoSuchGroup)
 allowed v (Run UndoEdit n typed) stored = edits v.session.own (target v) (λ t. undo (items_in t.buffer.full) (around v.session n typed t))
 allowed v (Run NotModified n typed) stored = rules v.session.own (shown v) (λ b. Ok (Unmodified b.name))
 allowed v (Run SaveBuffer n typed) stored = saves v.session.own (target v) stored

@@ -4,9 +4,10 @@ use Rattle.std.specs.List.{list_any}
 use Rattle.std.specs.Option.{option_map}
 use Rattle.mgs_model.specs.Names.{same_name}
 use Rattle.mgs_model.specs.Text.{edited, removed, shift, is_edit}
+use Rattle.mgs_model.specs.Access.{Owners, owners_of}
 use Rattle.mgs_model.specs.World.{World, Buffer, Own, Session, Window, Place, Search, Shows, Nothing, Buffer_of, List_of, is_named, has_id}
 use Rattle.mgs_model.specs.View.{view_of}
-use Rattle.mgs_model.specs.Outcome.{Act, Outcome, PointPlan, Keep, At, At_origin, MarkPlan, Keep_mark, Mark_at, SearchPlan, Keep_search, No_search, Begin, Anchor_at, KillPlan, Keep_kill, Kill_is, Source, Old, Come, Slot, is_old, Arrange, Stay, Adjust, Slots, Effect, No_effect, Edit, Unmodified, Relist, Reown, Create, Kill, Save, Quit}
+use Rattle.mgs_model.specs.Outcome.{Act, NewOwner, ToUser, ToGroup, Outcome, PointPlan, Keep, At, At_origin, MarkPlan, Keep_mark, Mark_at, SearchPlan, Keep_search, No_search, Begin, Anchor_at, KillPlan, Keep_kill, Kill_is, Source, Old, Come, Slot, is_old, Arrange, Stay, Adjust, Slots, Effect, No_effect, Edit, Unmodified, Relist, Reown, Create, Kill, Save, Quit}
 use Rattle.mgs_model.specs.Acts.{outcome}
 use Rattle.mgs_model.specs.declared.entry.Entry.{Entry}
 use Rattle.mgs_model.specs.declared.entry.EntryType.TheVariants.{Allow}
@@ -48,12 +49,16 @@ buffer_edited a b put x = buffer_edited_if (is_edit a b put) a b put x
 abbrev pub buffer_unmodified : Buffer → Buffer
 buffer_unmodified x = record x { modified = false }
 
--- everything to the owner
+abbrev pub owners_after : NewOwner → Owners → Owners
+owners_after (ToUser user) owners = record owners { owner = user }
+owners_after (ToGroup group) owners = record owners { group = group }
+
+-- everything to the owner; there is no owning group
 abbrev pub first_entries : List Entry
 first_entries = record { entry_type = Allow; who = Owner; mask = 983175 } ∷ []
 
 abbrev pub new_buffer : List ℕ → List ℕ → Buffer
-new_buffer name owner = record { name = name; owner = owner; entries = first_entries; text = []; items = []; serial = 0; modified = false; file = false }
+new_buffer name owner = record { name = name; owners = owners_of owner None; entries = first_entries; text = []; items = []; serial = 0; modified = false; file = false }
 
 abbrev pub without_buffer : List ℕ → List Buffer → List Buffer
 without_buffer name buffers = remove_first (is_named name) buffers
@@ -63,7 +68,7 @@ buffers_after No_effect buffers = buffers
 buffers_after (Edit name a b put) buffers = change_first (is_named name) (buffer_edited a b put) buffers
 buffers_after (Unmodified name) buffers = change_first (is_named name) buffer_unmodified buffers
 buffers_after (Relist name entries) buffers = change_first (is_named name) (λ x. record x { entries = entries }) buffers
-buffers_after (Reown name owner) buffers = change_first (is_named name) (λ x. record x { owner = owner }) buffers
+buffers_after (Reown name new) buffers = change_first (is_named name) (λ x. record x { owners = owners_after new x.owners }) buffers
 buffers_after (Create name owner) buffers = buffers ++ new_buffer name owner ∷ []
 buffers_after (Kill name) buffers = without_buffer name buffers
 buffers_after (Save name text) buffers = change_first (is_named name) buffer_unmodified buffers

@@ -7,7 +7,7 @@ use Rattle.mgs_model.specs.declared.session.Arrangement.TheVariants.{ShrinkWindo
 use Rattle.mgs_model.specs.declared.session.Command.{Command}
 use Rattle.mgs_model.specs.declared.session.Command.TheVariants.{Rearrange, Ask, Entries, ListEntries}
 use Rattle.mgs_model.specs.declared.session.EntryChange.TheVariants.{DeleteEntry}
-use Rattle.mgs_model.specs.declared.session.Question.TheVariants.{InsertWhich, EntryToInsert, EntryToReplace, WhichOwner}
+use Rattle.mgs_model.specs.declared.session.Question.TheVariants.{InsertWhich, EntryToInsert, EntryToReplace, WhichOwner, WhichGroup}
 
 abbrev keyless : List ℕ → Command → KeyRow
 keyless name c = record { keys = []; name = name; command = c }
@@ -22,6 +22,7 @@ keyless_rows =
     ∷ keyless (codes "acl-delete") (Entries DeleteEntry)
     ∷ keyless (codes "acl-replace") (Ask EntryToReplace)
     ∷ keyless (codes "set-owner") (Ask WhichOwner)
+    ∷ keyless (codes "set-group") (Ask WhichGroup)
     ∷ []
 
 -- a row without a name is another word of a command that has its name in another row, or the word of one that M-x does not know

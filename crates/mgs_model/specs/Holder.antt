@@ -28,10 +28,10 @@ AllOthers id (e ∷ es) = ((session_in e == id) ≡ false) × AllOthers id es
 abbrev pub KillStays : Type 0
 KillStays = (w : World) (id : ℕ) (es : List Event) → AllOthers id es → kill_in (run w es) id ≡ kill_in w id
 
--- a change of an access list or of an owner, a new buffer, or the end of one
+-- a change of an access list, of an owner or of an owning group, a new buffer, or the end of one
 abbrev pub is_rule : Effect → Bool
 is_rule (Relist name entries) = true
-is_rule (Reown name owner) = true
+is_rule (Reown name new) = true
 is_rule (Create name owner) = true
 is_rule (Kill name) = true
 is_rule _ = false

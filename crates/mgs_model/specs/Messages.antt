@@ -7,7 +7,7 @@ use Rattle.mgs_model.specs.declared.entry.EntryFault.{EntryFault}
 use Rattle.mgs_model.specs.declared.entry.EntryFault.TheVariants.{Kind, Who, Letters, Trailing}
 use Rattle.mgs_model.specs.declared.message.CursorPosition.{CursorPosition}
 use Rattle.mgs_model.specs.declared.message.Message.{Message}
-use Rattle.mgs_model.specs.declared.message.Message.TheVariants.{Silent, Denied, KeyNotBound, NoBuffer, BeginningOfBuffer, EndOfBuffer, BufferFull, NoMemory, Quitting, MarkSet, NoMark, KillTooLarge, NothingToYank, CharacterAt, EndAt, NoArgument, BadColumn, InMacro, NotInMacro, NoMacro, TooMany, OnlyOneWindow, WindowTooSmall, TooManyWindows, ImpossibleChange, NoSuchBuffer, BadName, TooManyBuffers, NoMatch, NoSuchCommand, NotANumber, BadEntry, NoSuchEntry, ListFull, NoSuchUser, NoFurtherUndo, NoFile, SaveFailed, Wrote, NoPattern, NotFound, MacroTooLong, Replaced}
+use Rattle.mgs_model.specs.declared.message.Message.TheVariants.{Silent, Denied, KeyNotBound, NoBuffer, BeginningOfBuffer, EndOfBuffer, BufferFull, NoMemory, Quitting, MarkSet, NoMark, KillTooLarge, NothingToYank, CharacterAt, EndAt, NoArgument, BadColumn, InMacro, NotInMacro, NoMacro, TooMany, OnlyOneWindow, WindowTooSmall, TooManyWindows, ImpossibleChange, NoSuchBuffer, BadName, TooManyBuffers, NoMatch, NoSuchCommand, NotANumber, BadEntry, NoSuchEntry, ListFull, NoSuchUser, NoSuchGroup, NoFurtherUndo, NoFile, SaveFailed, Wrote, NoPattern, NotFound, MacroTooLong, Replaced}
 
 abbrev pub denial_text : Decision → List ℕ
 denial_text Granted = []
@@ -60,6 +60,7 @@ message_text (BadEntry fault) = codes "Bad entry: " ++ fault_name fault
 message_text NoSuchEntry = codes "No such entry"
 message_text ListFull = codes "List full"
 message_text NoSuchUser = codes "No such user"
+message_text NoSuchGroup = codes "No such group"
 message_text NoFurtherUndo = codes "No further undo information"
 message_text NoFile = codes "No file"
 message_text SaveFailed = codes "Save failed"

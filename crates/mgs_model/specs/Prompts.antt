@@ -5,7 +5,7 @@ use Rattle.mgs_model.specs.declared.search.Direction.TheVariants.{Forward, Backw
 use Rattle.mgs_model.specs.declared.session.Mode.{Mode}
 use Rattle.mgs_model.specs.declared.session.Mode.TheVariants.{Plain, Prompt, Searching, Replacing}
 use Rattle.mgs_model.specs.declared.session.Question.{Question}
-use Rattle.mgs_model.specs.declared.session.Question.TheVariants.{SwitchTo, FindWhich, KillWhich, InsertWhich, RunWhich, GoToWhich, EntryToInsert, EntryToReplace, WhichOwner, SearchWhat, ReplaceWhat, ReplaceWith}
+use Rattle.mgs_model.specs.declared.session.Question.TheVariants.{SwitchTo, FindWhich, KillWhich, InsertWhich, RunWhich, GoToWhich, EntryToInsert, EntryToReplace, WhichOwner, WhichGroup, SearchWhat, ReplaceWhat, ReplaceWith}
 
 abbrev pub prompt_text : Question → List ℕ
 prompt_text SwitchTo = codes "Switch to buffer: "
@@ -17,6 +17,7 @@ prompt_text GoToWhich = codes "Goto line: "
 prompt_text EntryToInsert = codes "Entry: "
 prompt_text EntryToReplace = codes "Entry: "
 prompt_text WhichOwner = codes "Owner: "
+prompt_text WhichGroup = codes "Group: "
 prompt_text (SearchWhat d) = codes "Search: "
 prompt_text ReplaceWhat = codes "Query replace: "
 prompt_text ReplaceWith = codes "With: "

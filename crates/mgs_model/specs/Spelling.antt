@@ -10,7 +10,7 @@ use Rattle.mgs_model.specs.declared.right.Right.{Right}
 use Rattle.mgs_model.specs.declared.entry.EntryType.{EntryType}
 use Rattle.mgs_model.specs.declared.entry.EntryType.TheVariants.{Allow, Deny}
 use Rattle.mgs_model.specs.declared.entry.Who.{Who}
-use Rattle.mgs_model.specs.declared.entry.Who.TheVariants.{Owner, Everyone, User, Group}
+use Rattle.mgs_model.specs.declared.entry.Who.TheVariants.{Owner, OwningGroup, Everyone, User, Group}
 use Rattle.mgs_model.specs.declared.entry.Entry.{Entry}
 use Rattle.mgs_model.specs.declared.entry.EntryFault.{EntryFault}
 use Rattle.mgs_model.specs.declared.entry.EntryFault.TheVariants as faults
@@ -54,6 +54,7 @@ named_who word None = option_map User (user_named word)
 abbrev pub who_named : List ℕ → Option Who
 who_named word =
     if bytes_eq word (codes "OWNER@") then Some Owner
+    else if bytes_eq word (codes "GROUP@") then Some OwningGroup
     else if bytes_eq word (codes "EVERYONE@") then Some Everyone
     else named_who word (after_group word)
 

@@ -24,11 +24,11 @@ use Rattle.mgs_model.specs.declared.session.Alteration.TheVariants.{ReplaceMatch
 use Rattle.mgs_model.specs.declared.session.Kind.TheVariants.{Other}
 use Rattle.mgs_model.specs.declared.session.Setting.TheVariants.{CallMacro}
 use Rattle.mgs_model.specs.declared.session.Question.{Question}
-use Rattle.mgs_model.specs.declared.session.Question.TheVariants.{SwitchTo, FindWhich, KillWhich, InsertWhich, RunWhich, GoToWhich, EntryToInsert, EntryToReplace, WhichOwner, SearchWhat, ReplaceWhat, ReplaceWith}
+use Rattle.mgs_model.specs.declared.session.Question.TheVariants.{SwitchTo, FindWhich, KillWhich, InsertWhich, RunWhich, GoToWhich, EntryToInsert, EntryToReplace, WhichOwner, WhichGroup, SearchWhat, ReplaceWhat, ReplaceWith}
 use Rattle.mgs_model.specs.declared.session.ByName.TheVariants.{SwitchToBuffer, KillBuffer, InsertBuffer}
 use Rattle.mgs_model.specs.declared.session.EntryChange.TheVariants.{InsertEntry, ReplaceEntry}
 use Rattle.mgs_model.specs.declared.session.Command.{Command}
-use Rattle.mgs_model.specs.declared.session.Command.TheVariants.{Move, Alter, Set, Ask, Named, Entries, SetOwner, LeaveSearch}
+use Rattle.mgs_model.specs.declared.session.Command.TheVariants.{Move, Alter, Set, Ask, Named, Entries, SetOwner, SetGroup, LeaveSearch}
 
 -- TURNS
 
@@ -86,6 +86,7 @@ answered GoToWhich = Move GoToLine
 answered EntryToInsert = Entries InsertEntry
 answered EntryToReplace = Entries ReplaceEntry
 answered WhichOwner = SetOwner
+answered WhichGroup = SetGroup
 answered (SearchWhat d) = Move (SearchFor d)
 answered ReplaceWhat = Ask ReplaceWith
 answered ReplaceWith = Move StartReplace

@@ -2,7 +2,7 @@
 use Rattle.std.specs.Prelude.{ℕ, Bool, true, false, List, [], map, find, length, Option, Some, None}
 use Rattle.std.specs.Option.{option_map}
 use Rattle.mgs_model.specs.Names.{same_name}
-use Rattle.mgs_model.specs.Access.{Directory, Decider, decider, allows, any_right}
+use Rattle.mgs_model.specs.Access.{Directory, Owners, Decider, decider, allows, any_right}
 use Rattle.mgs_model.specs.World.{World, Buffer, Item, Session, Window, Place, Search, Own, Shows, Buffer_of, find_buffer, find_session, may}
 use Rattle.mgs_model.specs.declared.right.Right.{Right}
 use Rattle.mgs_model.specs.declared.right.Right.TheVariants.{ReadData}
@@ -43,7 +43,7 @@ pub record SessionSeen : Type 0 where
 
 -- what is told of a buffer on which any right is granted
 pub record Told : Type 0 where
-  pub owner : List ℕ
+  pub owners : Owners
   pub entries : List Entry
   pub size : ℕ
   pub serial : ℕ
@@ -109,7 +109,7 @@ session_seen can x =
     }
 
 abbrev pub told_if : Bool → Buffer → Option Told
-told_if true b = Some (record { owner = b.owner; entries = b.entries; size = length b.text; serial = b.serial; modified = b.modified; file = b.file })
+told_if true b = Some (record { owners = b.owners; entries = b.entries; size = length b.text; serial = b.serial; modified = b.modified; file = b.file })
 told_if false b = None
 
 abbrev pub full_if : Bool → Buffer → Option Full
@@ -120,8 +120,8 @@ abbrev pub buffer_seen : Directory → List ℕ → Buffer → BufferSeen
 buffer_seen directory user b =
     record {
       name = b.name;
-      deciders = decider directory b.owner user b.entries;
-      told = told_if (any_right (decider directory b.owner user b.entries)) b;
+      deciders = decider directory b.owners user b.entries;
+      told = told_if (any_right (decider directory b.owners user b.entries)) b;
       full = full_if (may directory user ReadData b) b;
     }
 

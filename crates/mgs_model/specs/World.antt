@@ -1,7 +1,7 @@
 -- The world: the directory, the buffers in order of creation, and the sessions.
 use Rattle.std.specs.Prelude.{ℕ, Bool, false, ◌==◌, List, [], Option, None, find}
 use Rattle.mgs_model.specs.Names.{same_name}
-use Rattle.mgs_model.specs.Access.{Directory, decider, allows}
+use Rattle.mgs_model.specs.Access.{Directory, Owners, decider, allows}
 use Rattle.mgs_model.specs.declared.right.Right.{Right}
 use Rattle.mgs_model.specs.declared.entry.Entry.{Entry}
 use Rattle.mgs_model.specs.declared.message.Message.{Message}
@@ -22,7 +22,7 @@ pub record Item : Type 0 where
 -- a buffer; its items are the latest first, and its serial is that of the last edit
 pub record Buffer : Type 0 where
   pub name : List ℕ
-  pub owner : List ℕ
+  pub owners : Owners
   pub entries : List Entry
   pub text : List ℕ
   pub items : List Item
@@ -141,4 +141,4 @@ find_session id sessions = find (has_id id) sessions
 
 -- the user is granted the right on the buffer
 abbrev pub may : Directory → List ℕ → Right → Buffer → Bool
-may directory user right b = allows (decider directory b.owner user b.entries right)
+may directory user right b = allows (decider directory b.owners user b.entries right)

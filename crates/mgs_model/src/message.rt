@@ -59,6 +59,7 @@ pub enum Message {
     /// The access list has as many entries as it may have.
     ListFull,
     NoSuchUser,
+    NoSuchGroup,
     NoFurtherUndo,
     NoFile,
     SaveFailed,

@@ -218,6 +218,7 @@ pub enum Question {
     /// The text of an entry that takes the place of another.
     EntryToReplace,
     WhichOwner,
+    WhichGroup,
     /// The pattern of a search that is no incremental one.
     SearchWhat(Direction),
     ReplaceWhat,
@@ -241,6 +242,7 @@ pub enum Command {
     /// Shows the access list.
     ListEntries,
     SetOwner,
+    SetGroup,
     UndoEdit,
     /// Clears the modified flag.
     NotModified,

@@ -1,13 +1,15 @@
 -- Members of a group who are users.
 use Rattle.std.proofs.Common.{◌≡◌, ℕ, ◌+◌, ◌<◌, refl, sym, ap, ◌∙◌, Bool, true, false, cond, List, [], ◌∷◌, ◌++◌, length, map, get_or, take, Bor}
 use Rattle.std.specs.Prelude.{find, Some, None, ◌||◌}
+use Rattle.std.specs.Option.{option_map}
 use Rattle.std.specs.List.{list_all}
 use Rattle.std.proofs.lemmas.List.{take_more, map-append}
 use Rattle.std.proofs.lemmas.List.Folds.{list_all-map}
 use Rattle.std.proofs.lemmas.List.Sums.{AllPass-from_list_all}
 use Rattle.std.proofs.lemmas.Slice.Eq.{bytes_eq-Decides}
 use Rattle.mgs_model.specs.Names.{same_name}
-use Rattle.mgs_model.specs.Access.{is_among}
+use Rattle.mgs_model.specs.Access.{UserGroup, is_among}
+use Rattle.mgs_model.proofs.Firsts.{find-map}
 use Rattle.mgs_policy.specs.Groups.{are_users}
 
 -- what texts say
@@ -46,3 +48,7 @@ texts_more members i d within =
 
 pub known_more : (members : List (Bor (List ℕ))) (i : ℕ) (d : Bor (List ℕ)) (old new : List (List ℕ)) → i < length members → old ≡ texts (take i members) → new ≡ old ++ (get_or members i d).now ∷ [] → new ≡ texts (take (i + 1) members)
 known_more members i d old new within e f = f ∙ ap (λ (xs : List (List ℕ)). xs ++ (get_or members i d).now ∷ []) e ∙ sym (texts_more members i d within)
+
+-- the name of the group that is found is the name that is found
+pub group_name : (typed : List ℕ) (groups : List UserGroup) → find (same_name typed) (map (λ g. g.name) groups) ≡ option_map (λ g. g.name) (find (λ g. same_name typed g.name) groups)
+group_name typed groups = find-map (λ (g : UserGroup). g.name) (λ g. same_name typed g.name) (same_name typed) (λ g. refl) groups

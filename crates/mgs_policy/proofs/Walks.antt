@@ -15,6 +15,7 @@ use Rattle.mgs_model.specs.declared.entry.EntryType.TheVariants.{Allow, Deny}
 use Rattle.mgs_model.specs.declared.entry.Decision.{Decision}
 use Rattle.mgs_model.specs.declared.entry.Decision.TheVariants.{Granted, DeniedBy, NotGranted}
 use Rattle.mgs_model.specs.Access.{Directory, Decider, Nobody, Allows, Denies, matches, concerns, decider, decider_of, decider_from, decision_by, with_denier, with_denial, with_gap, denial, gap, decision}
+use Rattle.mgs_model.specs.declared.owners.Owners.{Owners}
 use Rattle.mgs_acl.proofs.Masks.{place, bit_of-place}
 use Rattle.mgs_policy.specs.Walk.{wanted}
 
@@ -149,17 +150,17 @@ after_of : (n m : ℕ) (e : Entry) → n < m → (type : EntryType) → IsAfter 
 after_of n m e h Allow = tt
 after_of n m e h Deny = h
 
-after_from : (n m : ℕ) (directory : Directory) (owner user : List ℕ) (right : Right) (es : List Entry) → n < m → IsAfter n (decider_from m directory owner user right es)
-after_from n m directory owner user right [] h = tt
-after_from n m directory owner user right (e ∷ es) h =
-    elim (concerns directory owner user right e) as (λ b. IsAfter n (cond b (decider_of e.entry_type m) (decider_from (m + 1) directory owner user right es))) [
+after_from : (n m : ℕ) (directory : Directory) (owners : Owners) (user : List ℕ) (right : Right) (es : List Entry) → n < m → IsAfter n (decider_from m directory owners user right es)
+after_from n m directory owners user right [] h = tt
+after_from n m directory owners user right (e ∷ es) h =
+    elim (concerns directory owners user right e) as (λ b. IsAfter n (cond b (decider_of e.entry_type m) (decider_from (m + 1) directory owners user right es))) [
       | true ↦ after_of n m e h e.entry_type
-      | false ↦ after_from n (m + 1) directory owner user right es (omega arith)
+      | false ↦ after_from n (m + 1) directory owners user right es (omega arith)
     ]
 
 -- what the entries decide, where the first is the n-th
-unfoldable pub decided_from : ℕ → Directory → List ℕ → List ℕ → List Entry → List Right → Decision
-decided_from n directory owner user es rights = decision_by (λ right. decider_from n directory owner user right es) rights
+unfoldable pub decided_from : ℕ → Directory → Owners → List ℕ → List Entry → List Right → Decision
+decided_from n directory owners user es rights = decision_by (λ right. decider_from n directory owners user right es) rights
 
 and-false : (a b : Bool) (x y : Decider) → a ≡ false → cond (a && b) x y ≡ y
 and-false a b x y h = rw h refl
@@ -168,41 +169,41 @@ and-true : (a b : Bool) (x y : Decider) → a ≡ true → cond (a && b) x y ≡
 and-true a b x y h = rw h refl
 
 -- an entry that does not match is passed over
-decided-passed : (n : ℕ) (directory : Directory) (owner user : List ℕ) (e : Entry) (es : List Entry) (rights : List Right) → matches directory owner user e.who ≡ false → decided_from n directory owner user (e ∷ es) rights ≡ decided_from (n + 1) directory owner user es rights
+decided-passed : (n : ℕ) (directory : Directory) (owners : Owners) (user : List ℕ) (e : Entry) (es : List Entry) (rights : List Right) → matches directory owners user e.who ≡ false → decided_from n directory owners user (e ∷ es) rights ≡ decided_from (n + 1) directory owners user es rights
 unfolding decided_from
-decided-passed n directory owner user e es rights h =
+decided-passed n directory owners user e es rights h =
     ap (λ f. decision_by f rights)
-    (λ i right. and-false (matches directory owner user e.who) (has_right e.mask right) (decider_of e.entry_type n) (decider_from (n + 1) directory owner user right es) h i)
+    (λ i right. and-false (matches directory owners user e.who) (has_right e.mask right) (decider_of e.entry_type n) (decider_from (n + 1) directory owners user right es) h i)
 
 -- of an entry that matches the rights of its mask are decided, and the rest decides the others
-decided-matched : (n : ℕ) (directory : Directory) (owner user : List ℕ) (e : Entry) (es : List Entry) (rights : List Right) → matches directory owner user e.who ≡ true → decided_from n directory owner user (e ∷ es) rights ≡ decision_by (first (has_right e.mask) (decider_of e.entry_type n) (λ right. decider_from (n + 1) directory owner user right es)) rights
+decided-matched : (n : ℕ) (directory : Directory) (owners : Owners) (user : List ℕ) (e : Entry) (es : List Entry) (rights : List Right) → matches directory owners user e.who ≡ true → decided_from n directory owners user (e ∷ es) rights ≡ decision_by (first (has_right e.mask) (decider_of e.entry_type n) (λ right. decider_from (n + 1) directory owners user right es)) rights
 unfolding decided_from
-decided-matched n directory owner user e es rights h =
+decided-matched n directory owners user e es rights h =
     ap (λ f. decision_by f rights)
-    (λ i right. and-true (matches directory owner user e.who) (has_right e.mask right) (decider_of e.entry_type n) (decider_from (n + 1) directory owner user right es) h i)
+    (λ i right. and-true (matches directory owners user e.who) (has_right e.mask right) (decider_of e.entry_type n) (decider_from (n + 1) directory owners user right es) h i)
 
 -- what an ALLOW entry that matches allows is wanted no more
-decided-allowed : (n : ℕ) (directory : Directory) (owner user : List ℕ) (e : Entry) (es : List Entry) (rights : List Right) → matches directory owner user e.who ≡ true → e.entry_type ≡ Allow → decided_from n directory owner user (e ∷ es) rights ≡ decided_from (n + 1) directory owner user es (filter (λ right. not (has_right e.mask right)) rights)
+decided-allowed : (n : ℕ) (directory : Directory) (owners : Owners) (user : List ℕ) (e : Entry) (es : List Entry) (rights : List Right) → matches directory owners user e.who ≡ true → e.entry_type ≡ Allow → decided_from n directory owners user (e ∷ es) rights ≡ decided_from (n + 1) directory owners user es (filter (λ right. not (has_right e.mask right)) rights)
 unfolding decided_from
-decided-allowed n directory owner user e es rights h is =
-    decided-matched n directory owner user e es rights h
-    ∙ ap (λ type. decision_by (first (has_right e.mask) (decider_of type n) (λ right. decider_from (n + 1) directory owner user right es)) rights) is
-    ∙ decision_by-allowed (has_right e.mask) n (λ right. decider_from (n + 1) directory owner user right es) rights
+decided-allowed n directory owners user e es rights h is =
+    decided-matched n directory owners user e es rights h
+    ∙ ap (λ type. decision_by (first (has_right e.mask) (decider_of type n) (λ right. decider_from (n + 1) directory owners user right es)) rights) is
+    ∙ decision_by-allowed (has_right e.mask) n (λ right. decider_from (n + 1) directory owners user right es) rights
 
 -- a matching entry with no right that is wanted is passed over
-decided-unmet : (n : ℕ) (directory : Directory) (owner user : List ℕ) (e : Entry) (es : List Entry) (rights : List Right) → matches directory owner user e.who ≡ true → find (has_right e.mask) rights ≡ None → decided_from n directory owner user (e ∷ es) rights ≡ decided_from (n + 1) directory owner user es rights
+decided-unmet : (n : ℕ) (directory : Directory) (owners : Owners) (user : List ℕ) (e : Entry) (es : List Entry) (rights : List Right) → matches directory owners user e.who ≡ true → find (has_right e.mask) rights ≡ None → decided_from n directory owners user (e ∷ es) rights ≡ decided_from (n + 1) directory owners user es rights
 unfolding decided_from
-decided-unmet n directory owner user e es rights h none =
-    decided-matched n directory owner user e es rights h
-    ∙ decision_by-unmet (has_right e.mask) (decider_of e.entry_type n) (λ right. decider_from (n + 1) directory owner user right es) rights none
+decided-unmet n directory owners user e es rights h none =
+    decided-matched n directory owners user e es rights h
+    ∙ decision_by-unmet (has_right e.mask) (decider_of e.entry_type n) (λ right. decider_from (n + 1) directory owners user right es) rights none
 
 -- a DENY entry that matches denies the first right that is wanted and that it has
-decided-denied : (n : ℕ) (directory : Directory) (owner user : List ℕ) (e : Entry) (es : List Entry) (rights : List Right) (denied : Right) → matches directory owner user e.who ≡ true → e.entry_type ≡ Deny → find (has_right e.mask) rights ≡ Some denied → decided_from n directory owner user (e ∷ es) rights ≡ DeniedBy n denied
+decided-denied : (n : ℕ) (directory : Directory) (owners : Owners) (user : List ℕ) (e : Entry) (es : List Entry) (rights : List Right) (denied : Right) → matches directory owners user e.who ≡ true → e.entry_type ≡ Deny → find (has_right e.mask) rights ≡ Some denied → decided_from n directory owners user (e ∷ es) rights ≡ DeniedBy n denied
 unfolding decided_from
-decided-denied n directory owner user e es rights denied h is found =
-    decided-matched n directory owner user e es rights h
-    ∙ ap (λ type. decision_by (first (has_right e.mask) (decider_of type n) (λ right. decider_from (n + 1) directory owner user right es)) rights) is
-    ∙ decision_by-met (has_right e.mask) n (λ right. decider_from (n + 1) directory owner user right es) rights denied (λ right. after_from n (n + 1) directory owner user right es (omega arith)) found
+decided-denied n directory owners user e es rights denied h is found =
+    decided-matched n directory owners user e es rights h
+    ∙ ap (λ type. decision_by (first (has_right e.mask) (decider_of type n) (λ right. decider_from (n + 1) directory owners user right es)) rights) is
+    ∙ decision_by-met (has_right e.mask) n (λ right. decider_from (n + 1) directory owners user right es) rights denied (λ right. after_from n (n + 1) directory owners user right es (omega arith)) found
 
 -- AT THE END OF THE LIST
 
@@ -223,9 +224,9 @@ undecided : (rights : List Right) → gap (λ r. Nobody) rights Granted ≡ at_e
 undecided [] = refl
 undecided (right ∷ rights) = gap-nobody rights right
 
-pub decided-end : (n : ℕ) (directory : Directory) (owner user : List ℕ) (rights : List Right) → decided_from n directory owner user [] rights ≡ at_end (slice_get rights 0)
+pub decided-end : (n : ℕ) (directory : Directory) (owners : Owners) (user : List ℕ) (rights : List Right) → decided_from n directory owners user [] rights ≡ at_end (slice_get rights 0)
 unfolding decided_from
-decided-end n directory owner user rights = ap (gap (λ r. Nobody) rights) (denial-nobody rights Granted) ∙ undecided rights
+decided-end n directory owners user rights = ap (gap (λ r. Nobody) rights) (denial-nobody rights Granted) ∙ undecided rights
 
 -- the first that passes is the first of all that pass
 find-first : {X : Type 0} (p : X → Bool) (xs : List X) → find p xs ≡ slice_get (filter p xs) 0
@@ -243,14 +244,14 @@ first-right mask = find-first (has_right mask) all_rights
 -- THE WALK
 
 -- on no right all is granted
-pub decided-none : (n : ℕ) (directory : Directory) (owner user : List ℕ) (es : List Entry) (mask : ℕ) → mask ≡ 0 → decided_from n directory owner user es (wanted mask) ≡ Granted
+pub decided-none : (n : ℕ) (directory : Directory) (owners : Owners) (user : List ℕ) (es : List Entry) (mask : ℕ) → mask ≡ 0 → decided_from n directory owners user es (wanted mask) ≡ Granted
 unfolding decided_from wanted
-decided-none n directory owner user es mask h = ap (λ m. decided_from n directory owner user es (wanted m)) h
+decided-none n directory owners user es mask h = ap (λ m. decided_from n directory owners user es (wanted m)) h
 
 -- all entries
-pub decided-all : (directory : Directory) (owner user : List ℕ) (es : List Entry) (mask : ℕ) → decided_from 1 directory owner user es (wanted mask) ≡ decision directory owner user es mask
+pub decided-all : (directory : Directory) (owners : Owners) (user : List ℕ) (es : List Entry) (mask : ℕ) → decided_from 1 directory owners user es (wanted mask) ≡ decision directory owners user es mask
 unfolding decided_from wanted
-decided-all directory owner user es mask = refl
+decided-all directory owners user es mask = refl
 
 -- what is decided with an entry more: the first wanted right that it has, whether it matches, its type, what is decided without it, and what on the rights that it does not have
 abbrev pub turned : ℕ → Option Right → Bool → EntryType → Decision → Decision → Decision
@@ -259,21 +260,21 @@ turned n (Some right) false type passed left = passed
 turned n (Some right) true Allow passed left = left
 turned n (Some right) true Deny passed left = DeniedBy n right
 
-module _ (n : ℕ) (directory : Directory) (owner user : List ℕ) (e : Entry) (es : List Entry) (rights : List Right) where
-  turned-entry : (o : Option Right) → find (has_right e.mask) rights ≡ o → (b : Bool) → matches directory owner user e.who ≡ b → (type : EntryType) → e.entry_type ≡ type
-      → decided_from n directory owner user (e ∷ es) rights
-      ≡ turned n o b type (decided_from (n + 1) directory owner user es rights) (decided_from (n + 1) directory owner user es (filter (λ right. not (has_right e.mask right)) rights))
-  turned-entry None found true h type is = decided-unmet n directory owner user e es rights h found
-  turned-entry None found false h type is = decided-passed n directory owner user e es rights h
-  turned-entry (Some right) found false h type is = decided-passed n directory owner user e es rights h
-  turned-entry (Some right) found true h Allow is = decided-allowed n directory owner user e es rights h is
-  turned-entry (Some right) found true h Deny is = decided-denied n directory owner user e es rights right h is found
+module _ (n : ℕ) (directory : Directory) (owners : Owners) (user : List ℕ) (e : Entry) (es : List Entry) (rights : List Right) where
+  turned-entry : (o : Option Right) → find (has_right e.mask) rights ≡ o → (b : Bool) → matches directory owners user e.who ≡ b → (type : EntryType) → e.entry_type ≡ type
+      → decided_from n directory owners user (e ∷ es) rights
+      ≡ turned n o b type (decided_from (n + 1) directory owners user es rights) (decided_from (n + 1) directory owners user es (filter (λ right. not (has_right e.mask right)) rights))
+  turned-entry None found true h type is = decided-unmet n directory owners user e es rights h found
+  turned-entry None found false h type is = decided-passed n directory owners user e es rights h
+  turned-entry (Some right) found false h type is = decided-passed n directory owners user e es rights h
+  turned-entry (Some right) found true h Allow is = decided-allowed n directory owners user e es rights h is
+  turned-entry (Some right) found true h Deny is = decided-denied n directory owners user e es rights right h is found
 
-pub decided-turned : (n : ℕ) (directory : Directory) (owner user : List ℕ) (e : Entry) (es : List Entry) (rights : List Right)
-    → decided_from n directory owner user (e ∷ es) rights
-    ≡ turned n (find (has_right e.mask) rights) (matches directory owner user e.who) e.entry_type (decided_from (n + 1) directory owner user es rights) (decided_from (n + 1) directory owner user es (filter (λ right. not (has_right e.mask right)) rights))
-decided-turned n directory owner user e es rights =
-    turned-entry n directory owner user e es rights (find (has_right e.mask) rights) refl (matches directory owner user e.who) refl e.entry_type refl
+pub decided-turned : (n : ℕ) (directory : Directory) (owners : Owners) (user : List ℕ) (e : Entry) (es : List Entry) (rights : List Right)
+    → decided_from n directory owners user (e ∷ es) rights
+    ≡ turned n (find (has_right e.mask) rights) (matches directory owners user e.who) e.entry_type (decided_from (n + 1) directory owners user es rights) (decided_from (n + 1) directory owners user es (filter (λ right. not (has_right e.mask right)) rights))
+decided-turned n directory owners user e es rights =
+    turned-entry n directory owners user e es rights (find (has_right e.mask) rights) refl (matches directory owners user e.who) refl e.entry_type refl
 
 -- MASKS
 
@@ -337,15 +338,15 @@ pub rights_in-without : (a b : ℕ) → b < 2 ^ 32 → rights_in (bit_and a (2 ^
 rights_in-without a b h = rights_in-both a (2 ^ 32 - 1 - b) ∙ ap (λ p. filter p (rights_in a)) (λ i right. has_right-not b right h i)
 
 -- the mask of one right has that right alone
-pub decision_one : (directory : Directory) (owner user : List ℕ) (es : List Entry) (right : Right) → decision directory owner user es (bit_of right) ≡ decision_by (decider directory owner user es) (right ∷ [])
-decision_one directory owner user es ReadData = refl
-decision_one directory owner user es WriteData = refl
-decision_one directory owner user es AppendData = refl
-decision_one directory owner user es ReadAttributes = refl
-decision_one directory owner user es Delete = refl
-decision_one directory owner user es ReadAcl = refl
-decision_one directory owner user es WriteAcl = refl
-decision_one directory owner user es WriteOwner = refl
+pub decision_one : (directory : Directory) (owners : Owners) (user : List ℕ) (es : List Entry) (right : Right) → decision directory owners user es (bit_of right) ≡ decision_by (decider directory owners user es) (right ∷ [])
+decision_one directory owners user es ReadData = refl
+decision_one directory owners user es WriteData = refl
+decision_one directory owners user es AppendData = refl
+decision_one directory owners user es ReadAttributes = refl
+decision_one directory owners user es Delete = refl
+decision_one directory owners user es ReadAcl = refl
+decision_one directory owners user es WriteAcl = refl
+decision_one directory owners user es WriteOwner = refl
 
 -- what closes the goals of the walk
 pub ruleset walk = (decided-all, decided-turned, decided-none, decided-end, first-right, drop_more, drop_all)

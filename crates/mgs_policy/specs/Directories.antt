@@ -2,8 +2,8 @@
 use Rattle.std.specs.Prelude.{◌≡◌, ℕ, nat_le, not, List, [], ◌∷◌, ◌++◌, length, Option, Some, None, Result, Ok, Err, if◌then◌else◌}
 use Rattle.mgs_model.specs.declared.limits.TheConstants.{USER_LIMIT, GROUP_LIMIT}
 use Rattle.mgs_model.specs.Names.{is_user_name}
-use Rattle.mgs_model.specs.Access.{Directory, is_among}
-use Rattle.mgs_policy.specs.Groups.{is_group_named, are_users}
+use Rattle.mgs_model.specs.Access.{Directory, is_among, is_group_named}
+use Rattle.mgs_policy.specs.Groups.{are_users}
 use Rattle.mgs_policy.specs.declared.directory.DirectoryFault.{DirectoryFault}
 use Rattle.mgs_policy.specs.declared.directory.DirectoryFault.TheVariants.{Name, Twice, Unknown, Full, Short}
 

@@ -1,12 +1,8 @@
 -- Who is among users, and in a group.
 use Rattle.std.specs.Prelude.{ℕ, Bool, ◌&&◌, List}
-use Rattle.std.specs.List.{list_any, list_all}
+use Rattle.std.specs.List.{list_all}
 use Rattle.mgs_model.specs.Names.{same_name}
 use Rattle.mgs_model.specs.Access.{UserGroup, is_among}
-
--- a group has this name
-abbrev pub is_group_named : List ℕ → List UserGroup → Bool
-is_group_named name groups = list_any (λ g. same_name name g.name) groups
 
 -- it is the group of this name, and the user is in it
 abbrev pub has_member : List ℕ → List ℕ → UserGroup → Bool

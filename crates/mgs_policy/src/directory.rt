@@ -1,10 +1,9 @@
 // The users and groups of a server.
 ghost use Rattle.std.specs.Prelude.{◌≡◌, [], OnOk, OnErr, find, map};
-ghost use Rattle.mgs_model.specs.Access.{is_among, is_member};
+ghost use Rattle.mgs_model.specs.Access.{is_among, is_group_named, is_member};
 ghost use Rattle.mgs_model.specs.Names.{same_name};
-ghost use Rattle.mgs_policy.specs.Groups.{is_group_named};
 
-use crate::group::{Group, has_group, is_member};
+use crate::group::{Group, group_typed, has_group, is_member};
 use crate::users::{are_users, has_name, known, named, typed_name};
 use mgs_acl::user_named;
 use mgs_model::{GROUP_LIMIT, Name, USER_LIMIT};
@@ -88,6 +87,13 @@ impl Directory {
         ensures { result ≡ is_group_named name.now self.now.groups }
     {
         has_group(self.groups.as_slice(), name)
+    }
+
+    /// The group whose name is typed so, if there is one: its name.
+    pub fn group_typed(&self, typed: &[char]) -> Option<Name>
+        ensures { result ≡ find (same_name typed.now) (map (λ g. g.name) self.now.groups) }
+    {
+        group_typed(self.groups.as_slice(), typed)
     }
 
     /// Whether a user is a member of a group.

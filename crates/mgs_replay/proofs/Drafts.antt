@@ -1,6 +1,7 @@
 -- A draft that is found by its name and changed.
 use Rattle.std.proofs.Common.{◌≡◌, ℕ, ◌+◌, ◌<◌, Bool, true, false, cond, List, [], ◌∷◌, ◌++◌, length, get_or, set, map, Option, Some, None, Result, Ok, Err, refl, sym, ap, ◌∙◌, arith, length-append}
-use Rattle.std.specs.Prelude.{position, nat_le, nat_lt, is_some}
+use Rattle.mgs_model.specs.Access.{Directory}
+use Rattle.std.specs.Prelude.{not, position, nat_le, nat_lt, is_some}
 use Rattle.std.proofs.Common.{inl, inr, subst}
 use Rattle.mgs_buffers.specs.MarkedBuffer.{MarkedBuffer, AreUnmarked}
 use Rattle.mgs_buffers.proofs.Unmarked.{unmarked_map}
@@ -21,8 +22,8 @@ use Rattle.mgs_script.specs.declared.line.LineFault.{LineFault}
 use Rattle.mgs_script.specs.declared.line.LineFault.TheVariants.{Bad, Short}
 use Rattle.mgs_replay.specs.declared.setup.Draft.{Draft}
 use Rattle.std.proofs.lemmas.List.{map-append}
-use Rattle.mgs_replay.specs.Settings.{entry_refused, text_refused, with_entry, with_text, empty_buffer}
-use Rattle.mgs_replay.specs.Setups.{Listed, Lengthened, Changes, Sets, drafted_buffer, buffer_of, buffers_in, is_drafted}
+use Rattle.mgs_replay.specs.Settings.{is_group, owngroup_refused, with_group_owned, entry_refused, text_refused, with_entry, with_text, empty_buffer}
+use Rattle.mgs_replay.specs.Setups.{Listed, Lengthened, Changes, PutsGroup, Sets, drafted_buffer, buffer_of, buffers_in, is_drafted}
 
 -- the first place that passes
 placed : {A : Type 0} (p : A → Bool) (xs : List A) (i : ℕ) (d : A) → Some i ≡ position p xs → (i < length xs) × (position_or_len p xs ≡ i)
@@ -97,37 +98,51 @@ some_draft name xs = by_place name xs (position (is_drafted name) xs) refl
 
 -- an entry is put last in a draft
 pub listed : {F : Type 0} (r : Result (Unit {0}) LineFault) (o : Result Entry F) (name : List ℕ) (xs : List Draft) (i : ℕ) (x y : Draft)
-    → Some i ≡ position (is_drafted name) xs → x ≡ get_or xs i x → Listed r x.list y.list o → y.text.items ≡ x.text.items → y.name.now ≡ x.name.now → y.owner.now ≡ x.owner.now
+    → Some i ≡ position (is_drafted name) xs → x ≡ get_or xs i x → Listed r x.list y.list o → y.text.items ≡ x.text.items → y.name.now ≡ x.name.now → y.owner.now ≡ x.owner.now → y.group ≡ x.group
     → Changes r (entry_refused (find_buffer name (buffers_in xs)) o) name (with_entry o) (buffers_in xs) (buffers_in (set xs i y))
-listed {F = F} (Ok u) (Ok e) name xs i x y at is h t n w =
+listed {F = F} (Ok u) (Ok e) name xs i x y at is h t n w g =
     let there : find_buffer name (buffers_in xs) ≡ Some (buffer_of x) = found_draft name xs i x at is in
     let room : nat_le 64 (length x.list) ≡ false = grind (arith, nat_tests) in
     (ap (λ o. entry_refused {F = F} o (Ok e)) there ∙ room, changed_draft name (with_entry {F = F} (Ok e)) xs i x y at is (cc (h.1)))
-listed (Ok u) (Err f) name xs i x y at is h t n w = absurd h
-listed {F = F} (Err Bad) (Ok e) name xs i x y at is h t n w =
+listed (Ok u) (Err f) name xs i x y at is h t n w g = absurd h
+listed {F = F} (Err Bad) (Ok e) name xs i x y at is h t n w g =
     let there : find_buffer name (buffers_in xs) ≡ Some (buffer_of x) = found_draft name xs i x at is in
     let full : nat_le 64 (length x.list) ≡ true = grind (arith, nat_tests) in
     (ap (λ o. entry_refused {F = F} o (Ok e)) there ∙ full, same_draft name xs i x y at is (cc (h.1)))
-listed {F = F} (Err Bad) (Err f) name xs i x y at is h t n w = (ap (λ o. entry_refused {F = F} o (Err f)) (found_draft name xs i x at is), same_draft name xs i x y at is (cc (h)))
-listed (Err Short) o name xs i x y at is h t n w = absurd h
+listed {F = F} (Err Bad) (Err f) name xs i x y at is h t n w g = (ap (λ o. entry_refused {F = F} o (Err f)) (found_draft name xs i x at is), same_draft name xs i x y at is (cc (h)))
+listed (Err Short) o name xs i x y at is h t n w g = absurd h
 
 -- characters are put after a draft's text
 pub lengthened : (r : Result (Unit {0}) LineFault) (cs : List ℕ) (name : List ℕ) (xs : List Draft) (i : ℕ) (x y : Draft)
-    → Some i ≡ position (is_drafted name) xs → x ≡ get_or xs i x → Lengthened r x.text.items y.text.items cs → y.list ≡ x.list → y.name.now ≡ x.name.now → y.owner.now ≡ x.owner.now
+    → Some i ≡ position (is_drafted name) xs → x ≡ get_or xs i x → Lengthened r x.text.items y.text.items cs → y.list ≡ x.list → y.name.now ≡ x.name.now → y.owner.now ≡ x.owner.now → y.group ≡ x.group
     → Changes r (text_refused (find_buffer name (buffers_in xs)) cs) name (with_text cs) (buffers_in xs) (buffers_in (set xs i y))
-lengthened (Ok u) cs name xs i x y at is h l n w =
+lengthened (Ok u) cs name xs i x y at is h l n w g =
     let there : find_buffer name (buffers_in xs) ≡ Some (buffer_of x) = found_draft name xs i x at is in
     let size : length x.text.items + length cs ≡ length y.text.items = sym (ap length h.0 ∙ length-append x.text.items cs) in
     let room : nat_lt 1048576 (length x.text.items + length cs) ≡ false = grind (arith, nat_tests) in
     (ap (λ o. text_refused o cs) there ∙ room, changed_draft name (with_text cs) xs i x y at is (cc (h.0)))
-lengthened (Err Bad) cs name xs i x y at is h l n w =
+lengthened (Err Bad) cs name xs i x y at is h l n w g =
     let there : find_buffer name (buffers_in xs) ≡ Some (buffer_of x) = found_draft name xs i x at is in
     let long : nat_lt 1048576 (length x.text.items + length cs) ≡ true = grind (arith, nat_tests) in
     (ap (λ o. text_refused o cs) there ∙ long, same_draft name xs i x y at is (cc (h.1)))
-lengthened (Err Short) cs name xs i x y at is h l n w =
+lengthened (Err Short) cs name xs i x y at is h l n w g =
     let there : find_buffer name (buffers_in xs) ≡ Some (buffer_of x) = found_draft name xs i x at is in
     let room : nat_lt 1048576 (length x.text.items + length cs) ≡ false = grind (arith, nat_tests) in
     (ap (λ o. text_refused o cs) there ∙ room, same_draft name xs i x y at is (cc (h.1)))
+
+-- a draft gets its owning group
+pub grouped : (name group : List ℕ) (directory : Directory) (xs : List Draft) (i : ℕ) (x y : Draft)
+    → Some i ≡ position (is_drafted name) xs → x ≡ get_or xs i x → is_group group directory ≡ true → buffer_of y ≡ with_group_owned group (buffer_of x)
+    → PutsGroup (Ok tt) name group directory (buffers_in xs) (buffers_in (set xs i y))
+grouped name group directory xs i x y at is named does =
+    (ap (λ o. owngroup_refused o group directory) (found_draft name xs i x at is) ∙ ap not named, changed_draft name (with_group_owned group) xs i x y at is does)
+
+-- an owning group's line
+pub sets_group : (r : Result (Unit {0}) LineFault) (w : World) (name group : List ℕ) (bs : List Buffer) → PutsGroup r name group w.directory w.buffers bs
+    → Sets r (lines.OwnGroup name group) w (record w { buffers = bs })
+sets_group (Ok u) w name group bs h = (h.0, ap (λ (xs : List Buffer). record w { buffers = xs }) h.1)
+sets_group (Err Bad) w name group bs h = (h.0, ap (λ (xs : List Buffer). record w { buffers = xs }) h.1)
+sets_group (Err Short) w name group bs h = (h.0, ap (λ (xs : List Buffer). record w { buffers = xs }) h.1)
 
 -- an entry's line
 pub sets_entry : (r : Result (Unit {0}) LineFault) (w : World) (name entry : List ℕ) (bs : List Buffer) → Changes r (entry_refused (find_buffer name w.buffers) (entry_in entry)) name (with_entry (entry_in entry)) w.buffers bs
@@ -137,8 +152,8 @@ sets_entry (Err Bad) w name entry bs h = (h.0, ap (λ (xs : List Buffer). record
 sets_entry (Err Short) w name entry bs h = (h.0, ap (λ (xs : List Buffer). record w { buffers = xs }) h.1)
 
 -- a draft is put last
-pub pushed : (name owner : List ℕ) (ds new : List Draft) (d : Draft) → new ≡ ds ++ d ∷ [] → d.name.now ≡ name → d.owner.now ≡ owner → d.list ≡ [] → d.text.items ≡ [] → buffers_in new ≡ buffers_in ds ++ empty_buffer name owner ∷ []
-pushed name owner ds new d is n o l t =
+pub pushed : (name owner : List ℕ) (ds new : List Draft) (d : Draft) → new ≡ ds ++ d ∷ [] → d.name.now ≡ name → d.owner.now ≡ owner → d.group ≡ None → d.list ≡ [] → d.text.items ≡ [] → buffers_in new ≡ buffers_in ds ++ empty_buffer name owner ∷ []
+pushed name owner ds new d is n o g l t =
     let e : buffer_of d ≡ empty_buffer name owner = cc in
     ap buffers_in is ∙ map-append buffer_of ds (d ∷ []) ∙ ap (λ (b : Buffer). buffers_in ds ++ b ∷ []) e
 

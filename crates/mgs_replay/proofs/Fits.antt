@@ -7,16 +7,18 @@ use Rattle.std.proofs.lemmas.List.{map-append, length-map, length-take-le}
 use Rattle.std.proofs.lemmas.List.Elements.{All-nil, All-cons, All-head, All-tail, All-append, All-push, All-get_or}
 use Rattle.mgs_model.proofs.Firsts.{find-map, get_or-map}
 use Rattle.mgs_model.specs.Apply.{change_first}
-use Rattle.mgs_model.specs.Names.{same_name, is_name, is_user_name}
+use Rattle.mgs_model.specs.Names.{same_name, is_group_or_none, is_name, is_user_name}
+use Rattle.mgs_model.specs.Access.{Directory, is_group_named}
+use Rattle.std.proofs.lemmas.Bool.{and_parts}
 use Rattle.mgs_model.specs.World.{World, Buffer, is_named, find_buffer}
 use Rattle.mgs_model.specs.declared.entry.Entry.{Entry}
 use Rattle.mgs_buffers.specs.MarkedBuffer.{marked_named, has_buffer}
-use Rattle.mgs_buffers.specs.Adding.{add_fault, AddAnswers}
+use Rattle.mgs_buffers.specs.Adding.{add_fault, are_names as add_names, AddAnswers}
 use Rattle.mgs_buffers.specs.declared.fault.AddFault.{AddFault}
 use Rattle.mgs_buffers.specs.declared.fault.AddFault.TheVariants as adds
 use Rattle.mgs_replay.specs.declared.setup.Draft.{Draft}
-use Rattle.mgs_replay.specs.Settings.{are_names, is_user, unmarked, buffer_refused, entry_refused, text_refused, with_entry, with_text, empty_buffer}
-use Rattle.mgs_replay.specs.Setups.{cannot_add, Changes, drafted_buffer, buffer_of, buffers_in, buffer_name, IsFit, AreNew, AreFit, OnlyShort}
+use Rattle.mgs_replay.specs.Settings.{are_names, is_group, is_user, unmarked, buffer_refused, owngroup_refused, with_group_owned, entry_refused, text_refused, with_entry, with_text, empty_buffer}
+use Rattle.mgs_replay.specs.Setups.{cannot_add, Changes, PutsGroup, drafted_buffer, buffer_of, buffers_in, buffer_name, IsFit, AreNew, AreFit, OnlyShort}
 use Rattle.mgs_script.specs.declared.line.LineFault.{LineFault}
 use Rattle.mgs_script.specs.declared.line.LineFault.TheVariants.{Bad, Short}
 
@@ -41,14 +43,14 @@ names_same p f same (b ∷ bs) =
       | false ↦ ap (λ (ns : List (List ℕ)). b.name ∷ ns) (names_same p f same bs)
     ]
 
-fit_changed : (n : List ℕ) (f : Buffer → Buffer) (bs : List Buffer) → ((b : Buffer) → (f b).name ≡ b.name) → ((b : Buffer) → (f b).owner ≡ b.owner) → ((b : Buffer) → find_buffer n bs ≡ Some b → length b.text ≤ 1048576 → length (f b).text ≤ 1048576)
+fit_changed : (n : List ℕ) (f : Buffer → Buffer) (bs : List Buffer) → ((b : Buffer) → (f b).name ≡ b.name) → ((b : Buffer) → add_names b.name b.owners.owner b.owners.group ≡ true → add_names (f b).name (f b).owners.owner (f b).owners.group ≡ true) → ((b : Buffer) → find_buffer n bs ≡ Some b → length b.text ≤ 1048576 → length (f b).text ≤ 1048576)
     → AreFit bs → AreFit (change_first (is_named n) f bs)
-fit_changed n f bs names owners texts h =
+fit_changed n f bs names named texts h =
     let same = names_same (is_named n) f names bs in
     let long : length (change_first (is_named n) f bs) ≡ length bs = sym (length-map (change_first (is_named n) f bs) buffer_name) ∙ ap length same ∙ length-map bs buffer_name in
     record {
       each = All-changed IsFit (is_named n) f bs h.each (λ b e k. record {
-        named = ap (λ x. is_name x && is_user_name (f b).owner) (names b) ∙ ap (λ x. is_name b.name && is_user_name x) (owners b) ∙ k.named;
+        named = named b k.named;
         short = texts b e k.short;
       });
       few = omega (arith, long, h.few);
@@ -59,9 +61,9 @@ entry_name : {F : Type 0} (o : Result Entry F) (b : Buffer) → (with_entry o b)
 entry_name (Ok e) b = refl
 entry_name (Err f) b = refl
 
-entry_owner : {F : Type 0} (o : Result Entry F) (b : Buffer) → (with_entry o b).owner ≡ b.owner
-entry_owner (Ok e) b = refl
-entry_owner (Err f) b = refl
+entry_named : {F : Type 0} (o : Result Entry F) (b : Buffer) → add_names b.name b.owners.owner b.owners.group ≡ true → add_names (with_entry o b).name (with_entry o b).owners.owner (with_entry o b).owners.group ≡ true
+entry_named (Ok e) b h = h
+entry_named (Err f) b h = h
 
 entry_text : {F : Type 0} (o : Result Entry F) (b : Buffer) → (with_entry o b).text ≡ b.text
 entry_text (Ok e) b = refl
@@ -95,7 +97,7 @@ none_is : {A : Type 0} (o : Option A) → is_some o ≡ false → o ≡ None
 none_is None h = refl
 none_is (Some x) h = absurd cc
 
-fit_pushed : (n o : List ℕ) (bs : List Buffer) → (is_name n && is_user_name o) ≡ true → (is_some (find_buffer n bs) || nat_le 256 (length bs)) ≡ false → AreFit bs → AreFit (bs ++ empty_buffer n o ∷ [])
+fit_pushed : (n o : List ℕ) (bs : List Buffer) → are_names n o ≡ true → (is_some (find_buffer n bs) || nat_le 256 (length bs)) ≡ false → AreFit bs → AreFit (bs ++ empty_buffer n o ∷ [])
 fit_pushed n o bs judged free h =
     let b : Buffer = empty_buffer n o in
     let parts = or_false (is_some (find_buffer n bs)) (nat_le 256 (length bs)) free in
@@ -119,15 +121,34 @@ text_room n cs bs b h e =
 -- the buffers after an entry's line
 pub entry_fits : {F : Type 0} (r : Result (Unit {0}) LineFault) (o : Result Entry F) (n : List ℕ) (bs new : List Buffer) → Changes r (entry_refused (find_buffer n bs) o) n (with_entry o) bs new → AreFit bs → AreFit new
 entry_fits (Ok u) o n bs new h fit =
-    subst AreFit (sym h.1) (fit_changed n (with_entry o) bs (entry_name o) (entry_owner o) (λ b e k. subst (λ (t : List ℕ). length t ≤ 1048576) (sym (entry_text o b)) k) fit)
+    subst AreFit (sym h.1) (fit_changed n (with_entry o) bs (entry_name o) (entry_named o) (λ b e k. subst (λ (t : List ℕ). length t ≤ 1048576) (sym (entry_text o b)) k) fit)
 entry_fits (Err Bad) o n bs new h fit = subst AreFit (sym h.1) fit
 entry_fits (Err Short) o n bs new h fit = subst AreFit (sym h.1) fit
 
 -- and after a text's
 pub text_fits : (r : Result (Unit {0}) LineFault) (n cs : List ℕ) (bs new : List Buffer) → Changes r (text_refused (find_buffer n bs) cs) n (with_text cs) bs new → AreFit bs → AreFit new
-text_fits (Ok u) n cs bs new h fit = subst AreFit (sym h.1) (fit_changed n (with_text cs) bs (λ b. refl) (λ b. refl) (λ b e k. text_room n cs bs b h.0 e) fit)
+text_fits (Ok u) n cs bs new h fit = subst AreFit (sym h.1) (fit_changed n (with_text cs) bs (λ b. refl) (λ b h. h) (λ b e k. text_room n cs bs b h.0 e) fit)
 text_fits (Err Bad) n cs bs new h fit = subst AreFit (sym h.1) fit
 text_fits (Err Short) n cs bs new h fit = subst AreFit (sym h.1) fit
+
+-- another group's name in the place of what stood there
+group_named : (a b c g : Bool) → a && (b && c) ≡ true → g ≡ true → a && (b && g) ≡ true
+group_named true true c g h e = e
+group_named true false c g h e = h
+group_named false b c g h e = h
+
+group_is : (o : Option Buffer) (group : List ℕ) (directory : Directory) → owngroup_refused o group directory ≡ false → is_user_name group ≡ true
+group_is None group directory h = absurd cc
+group_is (Some b) group directory h = (and_parts (is_user_name group) (is_group_named group directory.groups) (names_are (is_group group directory) h)).0
+
+-- and after an owning group's
+pub group_fits : (r : Result (Unit {0}) LineFault) (n group : List ℕ) (directory : Directory) (bs new : List Buffer) → PutsGroup r n group directory bs new → AreFit bs → AreFit new
+group_fits (Ok u) n group directory bs new h fit =
+    let named = group_is (find_buffer n bs) group directory h.0 in
+    subst AreFit (sym h.1)
+    (fit_changed n (with_group_owned group) bs (λ b. refl) (λ b k. group_named (is_name b.name) (is_user_name b.owners.owner) (is_group_or_none b.owners.group) (is_user_name group) k named) (λ b e k. k) fit)
+group_fits (Err Bad) n group directory bs new h fit = subst AreFit (sym h.1) fit
+group_fits (Err Short) n group directory bs new h fit = subst AreFit (sym h.1) fit
 
 fault_by : Bool → Bool → Bool → Bool → Option AddFault
 fault_by a b c d = if not a then Some adds.Name else if b then Some adds.Twice else if c then Some adds.Full else if d then Some adds.Long else None
@@ -182,7 +203,7 @@ unfolding fault_by
 fault_none a b c d ea eb ec ed =
     ap (λ x. fault_by x b c d) ea ∙ ap (λ x. fault_by true x c d) eb ∙ ap (λ x. fault_by true false x d) ec ∙ ap (λ x. fault_by true false false x) ed
 
-pub no_fault : (ds : List Draft) (i : ℕ) (d : Draft) → i < length ds → AreFit (buffers_in ds) → add_fault (get_or ds i d).name.now (get_or ds i d).owner.now (length (get_or ds i d).text.items) (map drafted_buffer (take i ds)) ≡ None
+pub no_fault : (ds : List Draft) (i : ℕ) (d : Draft) → i < length ds → AreFit (buffers_in ds) → add_fault (get_or ds i d).name.now (get_or ds i d).owner.now (option_map (λ g. g.now) (get_or ds i d).group) (length (get_or ds i d).text.items) (map drafted_buffer (take i ds)) ≡ None
 unfolding fault_by
 no_fault ds i d l h =
     let x : Draft = get_or ds i d in
@@ -192,7 +213,7 @@ no_fault ds i d l h =
     let room : nat_le 256 (length (map drafted_buffer (take i ds))) ≡ false = grind (arith, nat_tests) in
     let size : length x.text.items ≤ 1048576 = fit.short in
     let fits : nat_lt 1048576 (length x.text.items) ≡ false = grind (arith, nat_tests) in
-    fault_none (is_name x.name.now && is_user_name x.owner.now) (has_buffer x.name.now (map drafted_buffer (take i ds))) (nat_le 256 (length (map drafted_buffer (take i ds)))) (nat_lt 1048576 (length x.text.items))
+    fault_none (add_names x.name.now x.owner.now (option_map (λ g. g.now) x.group)) (has_buffer x.name.now (map drafted_buffer (take i ds))) (nat_le 256 (length (map drafted_buffer (take i ds)))) (nat_lt 1048576 (length x.text.items))
     fit.named (ap is_some (no_earlier ds i d l h.new)) room fits
 
 pub only_short : (A : Type 0) (f : AddFault) (due : Option AddFault) → AddAnswers (Err f) due → due ≡ None → OnlyShort {A = A} (Err f)

@@ -3,7 +3,7 @@ use Rattle.std.proofs.Common.{◌≡◌, ℕ, ◌+◌, Bool, true, false, cond, 
 use Rattle.std.specs.Prelude.{All, IsSome, is_some, ◌↔◌}
 use Rattle.std.proofs.lemmas.List.Elements.{All-nil, All-head, All-tail}
 use Rattle.mgs_model.specs.World.{World, Session, find_session}
-use Rattle.mgs_model.specs.Events.{step, may_be_refused, refused_act, can_open}
+use Rattle.mgs_model.specs.Events.{step, may_be_refused, refused_act}
 use Rattle.mgs_model.specs.Events as events
 use Rattle.mgs_model.specs.declared.errors.Keyed.{Keyed}
 use Rattle.mgs_model.specs.declared.errors.Keyed.TheVariants as keyed
@@ -125,6 +125,7 @@ said_done s said.Nothing t print h = ([], did_same _ _ _ _ (sym h.0) (sym h.1))
 said_done s (said.User name) t print h = ([], did_same _ _ _ _ (sym h.0) (sym h.1))
 said_done s (said.Group name members) t print h = ([], did_same _ _ _ _ (sym h.0) (sym h.1))
 said_done s (said.Buffer name owner) t print h = ([], did_same _ _ _ _ (sym h.0) (sym h.1))
+said_done s (said.OwnGroup buffer group) t print h = ([], did_same _ _ _ _ (sym h.0) (sym h.1))
 said_done s (said.Entry buffer entry) t print h = ([], did_same _ _ _ _ (sym h.0) (sym h.1))
 said_done s (said.Text buffer chars) t print h = ([], did_same _ _ _ _ (sym h.0) (sym h.1))
 said_done s (said.Open name user rows cols) t print h =
@@ -188,6 +189,7 @@ did_granted cs s said.Nothing h = refl
 did_granted cs s (said.User name) h = refl
 did_granted cs s (said.Group name members) h = refl
 did_granted cs s (said.Buffer name owner) h = refl
+did_granted cs s (said.OwnGroup buffer group) h = refl
 did_granted cs s (said.Entry buffer entry) h = refl
 did_granted cs s (said.Text buffer chars) h = refl
 did_granted cs s (said.Open name user rows cols) h =

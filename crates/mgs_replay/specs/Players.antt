@@ -17,7 +17,7 @@ use Rattle.mgs_replay.specs.declared.client.Cause.TheVariants as causes
 use Rattle.mgs_replay.specs.Settings.{setting_refused, world_set}
 use Rattle.mgs_script.specs.declared.line.LineFault.{LineFault}
 use Rattle.mgs_script.specs.declared.line.LineFault.TheVariants.{Bad, Short}
-use Rattle.mgs_script.specs.Lines.{Said, Nothing, User, Group, Buffer, Entry as Listing, Text, Open, Keys, Show, Close}
+use Rattle.mgs_script.specs.Lines.{Said, Nothing, User, Group, Buffer, OwnGroup, Entry as Listing, Text, Open, Keys, Show, Close}
 use Rattle.mgs_replay.specs.Prints.{refusal_text, ended_text, screen_text}
 
 -- LABELS
@@ -84,6 +84,7 @@ is_refused s Nothing = false
 is_refused s (User name) = s.begun || setting_refused s.world (User name)
 is_refused s (Group name members) = s.begun || setting_refused s.world (Group name members)
 is_refused s (Buffer name owner) = s.begun || setting_refused s.world (Buffer name owner)
+is_refused s (OwnGroup buffer group) = s.begun || setting_refused s.world (OwnGroup buffer group)
 is_refused s (Listing buffer entry) = s.begun || setting_refused s.world (Listing buffer entry)
 is_refused s (Text buffer cs) = s.begun || setting_refused s.world (Text buffer cs)
 is_refused s (Open name user rows cols) = is_some (standing_of name s.labels)
@@ -140,6 +141,7 @@ Does s Nothing t print = (t ≡ s) × (print ≡ [])
 Does s (User name) t print = (t ≡ record s { world = world_set s.world (User name) }) × (print ≡ [])
 Does s (Group name members) t print = (t ≡ record s { world = world_set s.world (Group name members) }) × (print ≡ [])
 Does s (Buffer name owner) t print = (t ≡ record s { world = world_set s.world (Buffer name owner) }) × (print ≡ [])
+Does s (OwnGroup buffer group) t print = (t ≡ record s { world = world_set s.world (OwnGroup buffer group) }) × (print ≡ [])
 Does s (Listing buffer entry) t print = (t ≡ record s { world = world_set s.world (Listing buffer entry) }) × (print ≡ [])
 Does s (Text buffer cs) t print = (t ≡ record s { world = world_set s.world (Text buffer cs) }) × (print ≡ [])
 Does s (Open name user rows cols) t print = (answer : Result ℕ OpenFault) × Opens s name user rows cols answer t print

@@ -10,7 +10,7 @@ use Rattle.mgs_model.specs.declared.errors.OpenFault.{OpenFault}
 use Rattle.mgs_model.specs.declared.errors.OpenFault.TheVariants as opening
 use Rattle.mgs_model.specs.Events.{open_fault}
 use Rattle.mgs_paint.specs.Painting.{shown}
-use Rattle.mgs_script.specs.Lines.{Said, said_in, Nothing, User, Group, Buffer, Entry as Listing, Text, Open, Keys, Show, Close}
+use Rattle.mgs_script.specs.Lines.{Said, said_in, Nothing, User, Group, Buffer, OwnGroup, Entry as Listing, Text, Open, Keys, Show, Close}
 use Rattle.mgs_script.specs.Scripts.{lines_of}
 use Rattle.mgs_replay.specs.declared.client.Cause.TheVariants as causes
 use Rattle.mgs_replay.specs.Settings.{first_world, world_set}
@@ -125,6 +125,7 @@ did_by cs s Nothing = did s []
 did_by cs s (User name) = did (record s { world = world_set s.world (User name) }) []
 did_by cs s (Group name members) = did (record s { world = world_set s.world (Group name members) }) []
 did_by cs s (Buffer name owner) = did (record s { world = world_set s.world (Buffer name owner) }) []
+did_by cs s (OwnGroup buffer group) = did (record s { world = world_set s.world (OwnGroup buffer group) }) []
 did_by cs s (Listing buffer entry) = did (record s { world = world_set s.world (Listing buffer entry) }) []
 did_by cs s (Text buffer chars) = did (record s { world = world_set s.world (Text buffer chars) }) []
 did_by cs s (Open name user rows cols) =

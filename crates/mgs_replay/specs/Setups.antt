@@ -1,9 +1,11 @@
 -- What the lines before the first session do.
-use Rattle.std.specs.Prelude.{◌≡◌, ℕ, ◌+◌, ◌<◌, ◌≤◌, Bool, true, false, not, ◌&&◌, ◌||◌, nat_le, is_some, List, [], ◌∷◌, ◌++◌, length, map, All, Result, Ok, Err}
-use Rattle.mgs_model.specs.Names.{same_name, is_name, is_user_name}
+use Rattle.std.specs.Prelude.{◌≡◌, ℕ, ◌+◌, ◌<◌, ◌≤◌, Bool, true, false, not, ◌||◌, nat_le, is_some, List, [], ◌∷◌, ◌++◌, length, map, All, Result, Ok, Err}
+use Rattle.std.specs.Option.{option_map}
+use Rattle.mgs_model.specs.Names.{same_name}
+use Rattle.mgs_buffers.specs.Adding.{are_names as add_names}
 use Rattle.mgs_buffers.specs.declared.fault.AddFault.{AddFault}
 use Rattle.mgs_buffers.specs.declared.fault.AddFault.TheVariants as adds
-use Rattle.mgs_model.specs.Access.{Directory}
+use Rattle.mgs_model.specs.Access.{Directory, owners_of}
 use Rattle.mgs_model.specs.Apply.{change_first}
 use Rattle.mgs_model.specs.World.{World, Buffer, is_named, find_buffer}
 use Rattle.mgs_model.specs.declared.entry.Entry.{Entry}
@@ -12,7 +14,7 @@ use Rattle.mgs_script.specs.declared.line.LineFault.{LineFault}
 use Rattle.mgs_script.specs.declared.line.LineFault.TheVariants.{Bad, Short}
 use Rattle.mgs_replay.specs.declared.setup.Draft.{Draft}
 use Rattle.mgs_script.specs.Lines.{Said}
-use Rattle.mgs_replay.specs.Settings.{are_names, is_user, entry_refused, text_refused, with_entry, with_text, setting_refused, world_set}
+use Rattle.mgs_replay.specs.Settings.{are_names, is_user, owngroup_refused, entry_refused, text_refused, with_entry, with_group_owned, with_text, setting_refused, world_set}
 
 -- an entry is put last; what is none is refused, and so is a 65th
 abbrev pub Listed : {F : Type 0} → Result (Unit {0}) LineFault → List Entry → List Entry → Result Entry F → Type 0
@@ -30,7 +32,7 @@ Lengthened (Err Short) old new cs = (length old + length cs ≤ 1048576) × (new
 
 -- what is kept of a buffer that was written down
 abbrev pub drafted_buffer : Draft → MarkedBuffer
-drafted_buffer d = marked_new d.name.now d.owner.now d.list d.text.items false
+drafted_buffer d = marked_new d.name.now (owners_of d.owner.now (option_map (λ g. g.now) d.group)) d.list d.text.items false
 
 abbrev pub buffer_of : Draft → Buffer
 buffer_of d = (drafted_buffer d).buffer
@@ -55,6 +57,10 @@ Changes (Err Short) refused name change old new = (refused ≡ false) × (new �
 abbrev pub PutsEntry : {F : Type 0} → Result (Unit {0}) LineFault → List ℕ → Result Entry F → List Buffer → List Buffer → Type 0
 PutsEntry result name entry old new = Changes result (entry_refused (find_buffer name old) entry) name (with_entry entry) old new
 
+-- the buffer of that name gets its owning group
+abbrev pub PutsGroup : Result (Unit {0}) LineFault → List ℕ → List ℕ → Directory → List Buffer → List Buffer → Type 0
+PutsGroup result name group directory old new = Changes result (owngroup_refused (find_buffer name old) group directory) name (with_group_owned group) old new
+
 -- characters are put last in the text of the buffer of that name
 abbrev pub PutsText : Result (Unit {0}) LineFault → List ℕ → List ℕ → List Buffer → List Buffer → Type 0
 PutsText result name text old new = Changes result (text_refused (find_buffer name old) text) name (with_text text) old new
@@ -71,9 +77,9 @@ Sets (Err Short) said old new = (setting_refused old said ≡ false) × (new ≡
 abbrev pub cannot_add : World → List ℕ → List ℕ → Bool
 cannot_add w name owner = not (are_names name owner) || (not (is_user owner w.directory) || (is_some (find_buffer name w.buffers) || nat_le 256 (length w.buffers)))
 
--- a buffer's name and its owner's are such names, and its text is within the limit
+-- a buffer's name and its owners' are such names, and its text is within the limit
 pub record IsFit (b : Buffer) : Type 0 where
-  pub named : (is_name b.name && is_user_name b.owner) ≡ true
+  pub named : add_names b.name b.owners.owner b.owners.group ≡ true
   pub short : length b.text ≤ 1048576
 
 abbrev pub buffer_name : Buffer → List ℕ

@@ -35,6 +35,7 @@ IsOpening (Some said.Nothing) = ⊥
 IsOpening (Some (said.User name)) = ⊥
 IsOpening (Some (said.Group name members)) = ⊥
 IsOpening (Some (said.Buffer name owner)) = ⊥
+IsOpening (Some (said.OwnGroup buffer group)) = ⊥
 IsOpening (Some (said.Entry buffer entry)) = ⊥
 IsOpening (Some (said.Text buffer cs)) = ⊥
 IsOpening (Some (said.Open name user rows cols)) = Unit {0}

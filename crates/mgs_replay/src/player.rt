@@ -319,6 +319,7 @@ fn run_line<T: Marked + Drop>(
         Line::User { .. }
         | Line::Group { .. }
         | Line::Buffer { .. }
+        | Line::OwnGroup { .. }
         | Line::Entry { .. }
         | Line::Text { .. } => Err(LineFault::Bad),
     }

@@ -4,8 +4,8 @@ ghost use Rattle.mgs_acl.specs.Spelling.{entry_in};
 ghost use Rattle.mgs_model.specs.World.{find_buffer};
 ghost use Rattle.mgs_script.specs.Lines.{line_view, User, Group, Buffer};
 ghost use Rattle.mgs_replay.specs.SetupFaults.{fault_in};
-ghost use Rattle.mgs_replay.specs.Settings.{first_world, are_names, buffer_refused};
-ghost use Rattle.mgs_replay.specs.Setups.{cannot_add, Listed, Lengthened, PutsEntry, PutsText, Sets, drafted_buffer, buffers_in, is_drafted, AreFit, OnlyShort};
+ghost use Rattle.mgs_replay.specs.Settings.{first_world, are_names, is_group, buffer_refused};
+ghost use Rattle.mgs_replay.specs.Setups.{cannot_add, Listed, Lengthened, PutsEntry, PutsGroup, PutsText, Sets, drafted_buffer, buffers_in, is_drafted, AreFit, OnlyShort};
 
 use mgs_acl::{List, read_entry, user_named};
 use mgs_buffers::{AddFault, Buffers};
@@ -23,6 +23,7 @@ use std::marker::Model;
 struct Draft<'a> {
     name: &'a str,
     owner: &'a str,
+    group: Option<&'a str>,
     list: List,
     text: Vec<char>,
 }
@@ -53,6 +54,7 @@ fn add_entry(draft: &mut Draft, entry: &str) -> Result<(), LineFault>
     ensures text { draft.new.text.items ≡ draft.old.text.items }
     ensures name { draft.new.name.now ≡ draft.old.name.now }
     ensures owner { draft.new.owner.now ≡ draft.old.owner.now }
+    ensures group { draft.new.group ≡ draft.old.group }
 {
     let Ok(entry) = read_entry(entry) else {
         return Err(LineFault::Bad);
@@ -69,6 +71,7 @@ fn add_text(draft: &mut Draft, text: &[char]) -> Result<(), LineFault>
     ensures list { draft.new.list ≡ draft.old.list }
     ensures name { draft.new.name.now ≡ draft.old.name.now }
     ensures owner { draft.new.owner.now ≡ draft.old.owner.now }
+    ensures group { draft.new.group ≡ draft.old.group }
 {
     if text.len() > TEXT_LIMIT || draft.text.len() > TEXT_LIMIT - text.len() {
         return Err(LineFault::Bad);
@@ -105,6 +108,36 @@ fn entry_line(drafts: &mut [Draft], name: &Name, entry: &str) -> Result<(), Line
     }
 }
 
+fn is_group(directory: &Directory, name: &str) -> bool
+    ensures { result ≡ is_group name.now directory.now }
+{
+    match user_named(name) {
+        Some(name) => directory.has_group(&name),
+        None => false,
+    }
+}
+
+// The buffer of that name gets its owning group, where that is a group of the directory.
+fn owngroup_line<'a>(
+    drafts: &mut [Draft<'a>],
+    directory: &Directory,
+    name: &Name,
+    group: &'a str,
+) -> Result<(), LineFault>
+    ensures { PutsGroup result name.now group.now directory.now (buffers_in drafts.old) (buffers_in drafts.new) }
+{
+    if !is_group(directory, group) {
+        return Err(LineFault::Bad);
+    }
+    match place_of(drafts, name.as_bytes()) {
+        Some(at) => {
+            drafts[at].group = Some(group);
+            Ok(())
+        }
+        None => Err(LineFault::Bad),
+    }
+}
+
 // Puts characters after the text of the buffer of that name.
 fn text_line(drafts: &mut [Draft], name: &Name, text: &[char]) -> Result<(), LineFault>
     ensures { PutsText result name.now text.now (buffers_in drafts.old) (buffers_in drafts.new) }
@@ -124,7 +157,14 @@ fn add_all<T: Marked + Drop>(alloc: Global, drafts: &[Draft]) -> Result<Buffers<
     let mut buffers = Buffers::new(alloc);
     for draft in drafts {
         let list = draft.list.copy();
-        match buffers.add(draft.name, draft.owner, list, &draft.text, false) {
+        match buffers.add(
+            draft.name,
+            draft.owner,
+            draft.group,
+            list,
+            &draft.text,
+            false,
+        ) {
             Ok(()) => {}
             Err(fault) => return Err(fault),
         }
@@ -213,6 +253,7 @@ impl<'a> Setup<'a> {
         let draft = Draft {
             name,
             owner,
+            group: None,
             list: List::new(),
             text: Vec::new(self.alloc),
         };
@@ -232,6 +273,9 @@ impl<'a> Setup<'a> {
             Line::User { name } => self.add_user(name),
             Line::Group { name, members } => self.add_group(name, &members),
             Line::Buffer { name, owner } => self.add_buffer(name, owner),
+            Line::OwnGroup { buffer, group } => {
+                owngroup_line(&mut self.drafts, &self.directory, &buffer, group)
+            }
             Line::Entry { buffer, entry } => entry_line(&mut self.drafts, &buffer, entry),
             Line::Text { buffer, text } => text_line(&mut self.drafts, &buffer, &text),
             Line::Open { .. } | Line::Keys { .. } | Line::Show { .. } | Line::Close { .. } => {

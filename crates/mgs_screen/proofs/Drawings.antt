@@ -116,7 +116,7 @@ abbrev marks_seen : Bool → List MarkedBuffer → WindowMarks → Option Positi
 marks_seen can ks x = positions_if can (mark_at x.name ks x.point) (option_map (mark_at x.name ks) x.mark) (mark_at x.name ks x.top)
 
 abbrev why_not : Directory → List ℕ → Buffer → Decision
-why_not d user b = decision_by (decider d b.owner user b.entries) (ReadData ∷ [])
+why_not d user b = decision_by (decider d b.owners user b.entries) (ReadData ∷ [])
 
 -- what such a window shows
 abbrev marks_pane : Directory → List ℕ → List MarkedBuffer → ℕ → Bool → WindowMarks → WindowPane
@@ -140,7 +140,7 @@ some_right deciders is = list_any_at (λ (right : Right). allows (deciders right
 heading_seen : (d : Directory) (user : List ℕ) (ks : List MarkedBuffer) (name : List ℕ) → HasBuffer name ks → heading_of (attributes_of (buffer_seen d user (marked_at name ks).buffer)) ≡ heading_to d user ks name
 heading_seen d user ks name kept =
     let b : Buffer = (marked_at name ks).buffer in
-    let deciders : Right → Decider = decider d b.owner user b.entries in
+    let deciders : Right → Decider = decider d b.owners user b.entries in
     let goal : Bool → Type 0 = λ r. heading_of (attributes_seen r b.name (told_if (any_right deciders) b)) ≡ (if r then Some (name, b.modified) else None) in
     let go : (r : Bool) → allows (deciders ReadAttributes) ≡ r → goal r = λ r. elim r as (λ r. allows (deciders ReadAttributes) ≡ r → goal r) [
       | true ↦ λ is. ap (λ (any : Bool). heading_of (attributes_seen true b.name (told_if any b))) (some_right deciders is) ∙ ap (λ (n : List ℕ). Some (n, b.modified)) (name_kept name ks kept)
@@ -162,7 +162,7 @@ window_cursor_read cols d user ks w x is kept can = ap (λ (p : WindowPane). win
 
 pub window_unread : (selected : Bool) (cols : ℕ) (d : Directory) (user : List ℕ) (ks : List MarkedBuffer) (w : Window) (x : WindowMarks) → w.shows ≡ Some x → HasBuffer x.name ks → may d user ReadData (marked_at x.name ks).buffer ≡ false
     → window_rows selected cols (window_to d user ks w)
-    ≡ unread_rows cols w.height (decision_by (decider d (marked_at x.name ks).buffer.owner user (marked_at x.name ks).buffer.entries) (ReadData ∷ [])) ++ mode_row cols (buffer_mode (heading_to d user ks x.name) None) ∷ []
+    ≡ unread_rows cols w.height (decision_by (decider d (marked_at x.name ks).buffer.owners user (marked_at x.name ks).buffer.entries) (ReadData ∷ [])) ++ mode_row cols (buffer_mode (heading_to d user ks x.name) None) ∷ []
 window_unread selected cols d user ks w x is kept can =
     ap (window_rows selected cols) (pane_shown d user ks w x false is kept can)
     ∙ ap (λ (h : Option (List ℕ × Bool)). unread_rows cols w.height (why_not d user (marked_at x.name ks).buffer) ++ mode_row cols (buffer_mode h None) ∷ []) (heading_seen d user ks x.name kept)

@@ -30,8 +30,8 @@ use Rattle.mgs_screen.proofs.Sights.{row_more}
 
 pub attributes_are : (d : Directory) (user : List ℕ) (b : Buffer) → attributes_of (buffer_seen d user b) ≡ attributes_to d user b
 attributes_are d user b =
-    let deciders : Right → Decider = decider d b.owner user b.entries in
-    let mine : Attributes = record { name = b.name; modified = b.modified; size = length b.text; owner = b.owner } in
+    let deciders : Right → Decider = decider d b.owners user b.entries in
+    let mine : Attributes = record { name = b.name; modified = b.modified; size = length b.text; owners = b.owners } in
     let goal : Bool → Type 0 = λ r. attributes_seen r b.name (told_if (any_right deciders) b) ≡ (if r then Some mine else None) in
     let go : (r : Bool) → allows (deciders ReadAttributes) ≡ r → goal r = λ r. elim r as (λ r. allows (deciders ReadAttributes) ≡ r → goal r) [
       | true ↦ λ is. ap (λ (any : Bool). attributes_seen true b.name (told_if any b)) (list_any_at (λ (right : Right). allows (deciders right)) all_rights 3 ReadAttributes (omega arith) is)
@@ -39,9 +39,9 @@ attributes_are d user b =
     ] in
     go (allows (deciders ReadAttributes)) refl
 
-entries_are : (d : Directory) (user : List ℕ) (b : Buffer) → entries_seen (allows (decider d b.owner user b.entries ReadAcl)) (decision_by (decider d b.owner user b.entries) (ReadAcl ∷ [])) (buffer_seen d user b).told ≡ entries_told d user b
+entries_are : (d : Directory) (user : List ℕ) (b : Buffer) → entries_seen (allows (decider d b.owners user b.entries ReadAcl)) (decision_by (decider d b.owners user b.entries) (ReadAcl ∷ [])) (buffer_seen d user b).told ≡ entries_told d user b
 entries_are d user b =
-    let deciders : Right → Decider = decider d b.owner user b.entries in
+    let deciders : Right → Decider = decider d b.owners user b.entries in
     let why : Decision = decision_by deciders (ReadAcl ∷ []) in
     let goal : Bool → Type 0 = λ r. entries_seen r why (told_if (any_right deciders) b) ≡ (if r then Listed b.entries else Unlisted why) in
     let go : (r : Bool) → allows (deciders ReadAcl) ≡ r → goal r = λ r. elim r as (λ r. allows (deciders ReadAcl) ≡ r → goal r) [
@@ -108,11 +108,11 @@ entries_pane_is selected cols h row d user name ks kept =
     let b : Buffer = (marked_at name ks).buffer in
     let rows : EntriesSeen → List Row = λ (e : EntriesSeen). rows_from cols h row (entries_shown e) in
     let told : EntriesSeen = entries_told d user b in
-    let mode : (r : Bool) → codes "-Acl-" ++ name_or_mask (if r then Some (record { name = b.name; modified = b.modified; size = length b.text; owner = b.owner }) else None) ≡ acl_mode (if r then Some name else None) = elim [
+    let mode : (r : Bool) → codes "-Acl-" ++ name_or_mask (if r then Some (record { name = b.name; modified = b.modified; size = length b.text; owners = b.owners }) else None) ≡ acl_mode (if r then Some name else None) = elim [
       | true ↦ ap (λ (n : List ℕ). codes "-Acl-" ++ n) (name_kept name ks kept)
       | false ↦ refl
     ] in
     ap (λ (o : Option BufferSeen). pane_rows selected cols h (entries_pane row o)) (found_seen d user name ks kept)
     ∙ ap (λ (e : EntriesSeen). rows e ++ mode_row cols (codes "-Acl-" ++ name_or_mask (attributes_of (buffer_seen d user b))) ∷ []) (entries_are d user b)
     ∙ ap (λ (o : Option Attributes). rows told ++ mode_row cols (codes "-Acl-" ++ name_or_mask o) ∷ []) (attributes_are d user b)
-    ∙ ap (λ (text : List ℕ). rows told ++ mode_row cols text ∷ []) (mode (allows (decider d b.owner user b.entries ReadAttributes)))
+    ∙ ap (λ (text : List ℕ). rows told ++ mode_row cols text ∷ []) (mode (allows (decider d b.owners user b.entries ReadAttributes)))

@@ -72,7 +72,7 @@ length_window selected cols d user ks w sound =
     let read : (x : WindowMarks) → w.shows ≡ Some x → (r : Bool) → may d user ReadData (marked_at x.name ks).buffer ≡ r → goal =
     λ x. λ is.
     let kept : HasBuffer x.name ks = shown_kept ks w x sound is in
-    let decision : Decision = decision_by (decider d (marked_at x.name ks).buffer.owner user (marked_at x.name ks).buffer.entries) (ReadData ∷ []) in
+    let decision : Decision = decision_by (decider d (marked_at x.name ks).buffer.owners user (marked_at x.name ks).buffer.entries) (ReadData ∷ []) in
     let mode : List Row = mode_row cols (buffer_mode (heading_to d user ks x.name) None) ∷ [] in
     λ r. elim r as (λ r. may d user ReadData (marked_at x.name ks).buffer ≡ r → goal) [
       | true ↦ λ can. ap (λ (rows : List Row). length rows) (window_read selected cols d user ks w x is kept can) ∙ length_window_marks selected cols w.height (marked_at x.name ks) (heading_to d user ks x.name) x

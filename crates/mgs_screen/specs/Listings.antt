@@ -31,7 +31,7 @@ rows_to directory user ks (Entries name row) = entries_to directory user ks name
 -- a buffer's entries, where its access list may be read, and else why not
 abbrev pub entries_told : Directory → List ℕ → Buffer → EntriesSeen
 entries_told directory user b =
-    if may directory user ReadAcl b then Listed b.entries else Unlisted (decision_by (decider directory b.owner user b.entries) (ReadAcl ∷ []))
+    if may directory user ReadAcl b then Listed b.entries else Unlisted (decision_by (decider directory b.owners user b.entries) (ReadAcl ∷ []))
 
 -- its name, where its attributes may be read
 abbrev pub name_to : Directory → List ℕ → List MarkedBuffer → List ℕ → Option (List ℕ)

@@ -50,7 +50,7 @@ fn draw_listed(attributes: &Attributes, number: usize, sight: Sight, grid: &mut 
             attributes.modified,
             attributes.size,
             &attributes.name,
-            &attributes.owner,
+            &attributes.owners,
         );
     }
 }

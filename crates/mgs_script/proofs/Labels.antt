@@ -5,7 +5,7 @@ use Rattle.std.specs.Option.{option_map}
 use Rattle.mgs_keys.specs.Words.{◌>>=◌, word_of, words_after, words_of}
 use Rattle.mgs_keys.specs.Tokens.{keys_of}
 use Rattle.mgs_script.specs.Words.{name_of, any_word_of, text_of, size_said}
-use Rattle.mgs_script.specs.Lines.{Said, Group, Buffer, Entry, Text, Open, Keys, Show, Close, group_said, buffer_said, entry_said, text_said, open_said, keys_said, kind_named, said_as, said_by_kind, label_typed, label_after}
+use Rattle.mgs_script.specs.Lines.{Said, Group, Buffer, OwnGroup, Entry, Text, Open, Keys, Show, Close, group_said, buffer_said, owngroup_said, entry_said, text_said, open_said, keys_said, kind_named, said_as, said_by_kind, label_typed, label_after}
 use Rattle.mgs_script.specs.declared.kind.Kind.{Kind}
 use Rattle.mgs_script.specs.declared.kind.Kind.TheVariants as kinds
 
@@ -13,7 +13,7 @@ abbrev Labels : Option (List ℕ) → Option Said → Type 0
 Labels label said = IfSome said (λ s. label ≡ label_typed s)
 
 pub kind_labels : (k : Kind) (t : List ℕ) → Labels (label_after k t) (said_as k t)
-unfolding group_said buffer_said entry_said text_said open_said keys_said
+unfolding group_said buffer_said owngroup_said entry_said text_said open_said keys_said
 kind_labels kinds.User t = refl
 kind_labels kinds.Group t = by (words_after t)
   where
@@ -25,6 +25,12 @@ kind_labels kinds.Buffer t = by (words_after t)
     by : (rest : Option (List ℕ)) → Labels None (option_map (λ r. Buffer (word_of t) r) rest)
     by None = tt
     by (Some r) = refl
+kind_labels kinds.OwnGroup t = by (name_of (word_of t)) (words_after t)
+  where
+    by : (b rest : Option (List ℕ)) → Labels None (b >>= λ x. rest >>= λ g. Some (OwnGroup x g))
+    by None rest = tt
+    by (Some x) None = tt
+    by (Some x) (Some g) = refl
 kind_labels kinds.Entry t = by (name_of (word_of t)) (words_after t)
   where
     by : (b rest : Option (List ℕ)) → Labels None (b >>= λ x. rest >>= λ e. Some (Entry x e))

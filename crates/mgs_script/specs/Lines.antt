@@ -18,6 +18,7 @@ pub data Said : Type 0 where
   User : (name : List ℕ) → Said
   Group : (name : List ℕ) → (members : List (List ℕ)) → Said
   Buffer : (name owner : List ℕ) → Said
+  OwnGroup : (buffer group : List ℕ) → Said
   Entry : (buffer entry : List ℕ) → Said
   Text : (buffer text : List ℕ) → Said
   Open : (label user : List ℕ) → (rows cols : ℕ) → Said
@@ -31,6 +32,7 @@ kind_named w =
     if bytes_eq w (codes "user") then Some kinds.User
     else if bytes_eq w (codes "group") then Some kinds.Group
     else if bytes_eq w (codes "buffer") then Some kinds.Buffer
+    else if bytes_eq w (codes "owngroup") then Some kinds.OwnGroup
     else if bytes_eq w (codes "entry") then Some kinds.Entry
     else if bytes_eq w (codes "text") then Some kinds.Text
     else if bytes_eq w (codes "open") then Some kinds.Open
@@ -46,6 +48,13 @@ group_said t = option_map (λ rest. Group (word_of t) (words_of rest)) (words_af
 -- a buffer's name and its owner's, which are checked where the buffer is added
 unfoldable pub buffer_said : List ℕ → Option Said
 buffer_said t = option_map (λ owner. Buffer (word_of t) owner) (words_after t)
+
+-- a buffer's name and a group's, which is checked where the buffer gets it
+unfoldable pub owngroup_said : List ℕ → Option Said
+owngroup_said t = do
+  buffer ← name_of (word_of t)
+  group ← words_after t
+  Some (OwnGroup buffer group)
 
 -- a buffer's name and the text of an entry, in which more spaces may stand
 unfoldable pub entry_said : List ℕ → Option Said
@@ -85,6 +94,7 @@ abbrev pub said_as : Kind → List ℕ → Option Said
 said_as kinds.User t = Some (User t)
 said_as kinds.Group t = group_said t
 said_as kinds.Buffer t = buffer_said t
+said_as kinds.OwnGroup t = owngroup_said t
 said_as kinds.Entry t = entry_said t
 said_as kinds.Text t = text_said t
 said_as kinds.Open t = open_said t
@@ -113,6 +123,7 @@ line_view code.Nothing = Nothing
 line_view (code.User name) = User name.now
 line_view (code.Group name members) = Group name.now (map (λ m. m.now) members.items)
 line_view (code.Buffer name owner) = Buffer name.now owner.now
+line_view (code.OwnGroup buffer group) = OwnGroup buffer group.now
 line_view (code.Entry buffer entry) = Entry buffer entry.now
 line_view (code.Text buffer text) = Text buffer text.items
 line_view (code.Open label user rows cols) = Open label user.now rows cols
@@ -127,6 +138,7 @@ needs_memory (Some Nothing) = false
 needs_memory (Some (User name)) = false
 needs_memory (Some (Group name members)) = true
 needs_memory (Some (Buffer name owner)) = false
+needs_memory (Some (OwnGroup buffer group)) = false
 needs_memory (Some (Entry buffer entry)) = false
 needs_memory (Some (Text buffer text)) = true
 needs_memory (Some (Open label user rows cols)) = false
@@ -146,6 +158,7 @@ label_typed Nothing = None
 label_typed (User name) = None
 label_typed (Group name members) = None
 label_typed (Buffer name owner) = None
+label_typed (OwnGroup buffer group) = None
 label_typed (Entry buffer entry) = None
 label_typed (Text buffer text) = None
 label_typed (Open label user rows cols) = None

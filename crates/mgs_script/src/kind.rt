@@ -8,6 +8,7 @@ pub(crate) enum Kind {
     User,
     Group,
     Buffer,
+    OwnGroup,
     Entry,
     Text,
     Open,
@@ -26,6 +27,8 @@ pub(crate) fn kind_of(word: &str) -> Option<Kind>
         Some(Kind::Group)
     } else if word == "buffer" {
         Some(Kind::Buffer)
+    } else if word == "owngroup" {
+        Some(Kind::OwnGroup)
     } else if word == "entry" {
         Some(Kind::Entry)
     } else if word == "text" {

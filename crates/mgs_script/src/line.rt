@@ -20,6 +20,11 @@ pub enum Line<'a> {
         name: &'a str,
         owner: &'a str,
     },
+    /// `owngroup BUFFER GROUP`: the owning group of a buffer. The group's name is not checked here.
+    OwnGroup {
+        buffer: Name,
+        group: &'a str,
+    },
     /// `entry BUFFER ENTRY`: an entry, as it is written, that is put last in a buffer's list.
     Entry {
         buffer: Name,

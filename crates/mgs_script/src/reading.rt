@@ -1,7 +1,7 @@
 // How a script's line is read.
 ghost use Rattle.std.specs.Prelude.{◌≡◌, Some, IfSome};
 ghost use Rattle.std.specs.Option.{option_map};
-ghost use Rattle.mgs_script.specs.Lines.{line_view, group_said, buffer_said, entry_said, text_said, open_said, keys_said, said_by_kind, said_in, is_passed_over, GivesLine, label_typed, label_after};
+ghost use Rattle.mgs_script.specs.Lines.{line_view, group_said, buffer_said, owngroup_said, entry_said, text_said, open_said, keys_said, said_by_kind, said_in, is_passed_over, GivesLine, label_typed, label_after};
 
 use crate::kind::{Kind, kind_of};
 use crate::line::{Line, LineFault};
@@ -32,6 +32,16 @@ fn buffer_line(text: &str) -> Option<Line<'_>>
     let (name, rest) = cut_text(text);
     let owner = rest?;
     Some(Line::Buffer { name, owner })
+}
+
+#[tactic(auto, unfolding(crate::specs::Lines::owngroup_said))]
+fn owngroup_line(text: &str) -> Option<Line<'_>>
+    ensures { option_map line_view result ≡ owngroup_said text.now }
+{
+    let (buffer, rest) = cut_text(text);
+    let buffer = name_in(buffer)?;
+    let group = rest?;
+    Some(Line::OwnGroup { buffer, group })
 }
 
 #[tactic(auto, unfolding(crate::specs::Lines::entry_said))]
@@ -104,6 +114,7 @@ fn line_by_kind(alloc: Global, text: &str) -> Result<Line<'_>, LineFault>
         Kind::User => Ok(Line::User { name: rest }),
         Kind::Group => group_line(alloc, rest),
         Kind::Buffer => buffer_line(rest).ok_or(LineFault::Bad),
+        Kind::OwnGroup => owngroup_line(rest).ok_or(LineFault::Bad),
         Kind::Entry => entry_line(rest).ok_or(LineFault::Bad),
         Kind::Text => text_line(alloc, rest),
         Kind::Open => open_line(rest).ok_or(LineFault::Bad),

@@ -98,6 +98,44 @@ fn rights_are_taken_and_given(rt: HostRuntime) -> Result<(), Fail> {
         a M-x 'set-owner RET 'bob RET | [no read: no entry] | :-??-?-(no read) | 1 1
         b                             |         2 notes bob | :-Buffers        | 1 1
         b C-x 'b 'notes RET           | ab                  | --L1-C0          | 1 1
+        == another group owns a buffer
+        # What the members of the owning group may do goes with it in that event, and comes back with it.
+        user ann
+        user bob
+        user cat
+        group staff ann bob
+        buffer notes cat
+        entry notes ALLOW GROUP@ rt
+        entry notes DENY EVERYONE@ r
+        entry notes ALLOW OWNER@ rwatdcCo
+        text notes 'ab
+        owngroup notes staff
+        open b bob 6 60
+        open c cat 6 60
+        b                             | ab                  | --L1-C0             | 1 1
+        c                             | [no read: entry 2]  | :----notes-(no read) | 1 1
+        c C-x C-b                     |         2 notes cat:staff | :-Buffers     | 1 1
+        c C-x 'b 'notes RET           | [no read: entry 2]  | :----notes-(no read) | 1 1
+        c M-x 'set-group RET          | [no read: entry 2]  | :----notes-(no read) | 6 8 | Group:
+        c 'sta TAB                    | [no read: entry 2]  | :----notes-(no read) | 1 1 | No match
+        c 'x RET                      | [no read: entry 2]  | :----notes-(no read) | 1 1 | No such group
+        c M-x 'set-group RET 'zzz RET | [no read: entry 2]  | :----notes-(no read) | 1 1 | No such group
+        c M-x 'set-group RET 'cat RET | [no read: entry 2]  | :----notes-(no read) | 1 1 | No such group
+        b                             | ab                  | --L1-C0             | 1 1
+        b M-x 'set-group RET 'zzz RET | ab                  | --L1-C0             | 1 1 | Denied: no entry grants WRITE_OWNER
+        c M-x 'set-group RET RET      | [no read: entry 2]  | :----notes-(no read) | 1 1
+        b                             | [no read: entry 2]  | :-??-?-(no read)    | 1 1 | Denied: no entry grants WRITE_OWNER
+        b M-x 'set-group RET RET      | [no read: entry 2]  | :-??-?-(no read)    | 1 1 | Denied: no entry grants WRITE_OWNER
+        b C-f                         | [no read: entry 2]  | :-??-?-(no read)    | 1 1 | Denied: entry 2 denies READ_DATA
+        c C-x C-b                     |         2 notes cat | :-Buffers           | 1 1
+        c C-x 'b 'notes RET           | [no read: entry 2]  | :----notes-(no read) | 1 1
+        c M-x 'set-group RET 'staff RET | [no read: entry 2] | :----notes-(no read) | 1 1
+        b                             | ab                  | --L1-C0             | 1 1 | Denied: entry 2 denies READ_DATA
+        c M-x 'acl-list RET           | 1 ALLOW GROUP@ rt/2 DENY EVERYONE@ r/3 ALLOW OWNER@ rwatdcCo | :-Acl-notes | 1 1
+        c M-x 'set-group RET RET      | 1 ALLOW GROUP@ rt/2 DENY EVERYONE@ r/3 ALLOW OWNER@ rwatdcCo | :-Acl-notes | 1 1
+        b                             | [no read: entry 2]  | :-??-?-(no read)    | 1 1 | Denied: entry 2 denies READ_DATA
+        c M-x 'acl-replace RET 'ALLOW SPC 'GROUP SPC 'r RET | 1 ALLOW GROUP@ rt/2 DENY EVERYONE@ r/3 ALLOW OWNER@ rwatdcCo | :-Acl-notes | 1 1 | Bad entry: Who
+        c M-x 'acl-replace RET 'DENY SPC 'GROUP@ SPC 'r RET | 1 DENY GROUP@ r/2 DENY EVERYONE@ r/3 ALLOW OWNER@ rwatdcCo | :-Acl-notes | 1 1
         == a place is decided by the list of who stands there
         user ann
         user bob

@@ -32,7 +32,7 @@ fn notes_list() -> Result<List, Fail> {
 fn add_buffer(buffers: &mut Buffers<GapText>, name: &str, list: List) -> Result<(), Fail>
     ensures { AreUnmarked buffers.old → AreUnmarked buffers.new }
 {
-    buffers.add(name, "ann", list, &[], false)?;
+    buffers.add(name, "ann", None, list, &[], false)?;
     Ok(())
 }
 

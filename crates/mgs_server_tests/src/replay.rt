@@ -486,6 +486,9 @@ const FIRST: &str = "user\n\
     buffer more\n\
     entry more ALLOW ann r\n\
     entry notes ALLOW ann x\n\
+    owngroup notes staff\n\
+    owngroup notes ann\n\
+    owngroup notes\n\
     text more 'a\n\
     text notes Tab\n\
     open a ann 06 20\n\
@@ -502,6 +505,7 @@ const BEHIND_AN_OPEN: &str = "open a ann 6 20\n\
     group all ann\n\
     buffer more ann\n\
     entry notes ALLOW ann r\n\
+    owngroup notes staff\n\
     text notes 'a\n\
     keys b 'x";
 

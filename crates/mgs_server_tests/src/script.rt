@@ -43,6 +43,14 @@ fn lines_before_the_first_open_are_read(rt: HostRuntime) -> Result<(), Fail> {
     let owner = "ann";
     assert!(rt; is_read(alloc, b"buffer notes ann", Line::Buffer { name, owner }));
     let buffer = named("notes")?;
+    let group = "staff";
+    assert!(rt;
+        is_read(
+            alloc,
+            b"owngroup notes staff",
+            Line::OwnGroup { buffer, group }
+        )
+    );
     let entry = "ALLOW  EVERYONE@ rw";
     assert!(rt;
         is_read(
@@ -126,6 +134,8 @@ const OTHERS: &str = "open a ann 06 20\n\
     buffer notes\n\
     user\n\
     entry notes\n\
+    owngroup notes\n\
+    owngroup\n\
     group\n\
     group all\n\
     groups all ann\n\

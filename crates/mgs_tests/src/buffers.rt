@@ -18,9 +18,9 @@ fn two(alloc: Global, rt: &impl Abort) -> Buffers<PlainMarked> {
     let mut all = Buffers::new(alloc);
     assert!(rt; all.len() == 0);
     let list = list_of(rt, "ALLOW OWNER@ rt");
-    assert!(rt; all.add("first", "ann", list, &['a', 'b'], false) == Ok(()));
+    assert!(rt; all.add("first", "ann", None, list, &['a', 'b'], false) == Ok(()));
     let list = list_of(rt, "ALLOW EVERYONE@ rwt");
-    assert!(rt; all.add("second", "ann", list, &['c', 'd', 'e'], true) == Ok(()));
+    assert!(rt; all.add("second", "ann", None, list, &['c', 'd', 'e'], true) == Ok(()));
     all
 }
 
@@ -59,14 +59,17 @@ fn placed<T: Marked + Drop>(
     Ok(all.pos(name, id))
 }
 
-// A name, an owner, whether the text is too long, and the fault. The faults are told in their order: the names, a name that is taken, one
-// buffer too many, and a text that is too long.
-const REFUSED: [(&str, &str, bool, AddFault); 5] = [
-    ("", "ann", false, AddFault::Name),
-    ("first", "Ann", false, AddFault::Name),
-    ("first", "bob", false, AddFault::Twice),
-    ("first", "ann", true, AddFault::Twice),
-    ("third", "ann", true, AddFault::Long),
+// A name, an owner, a group or none, whether the text is too long, and the fault. The faults are told in their order: the names, a name
+// that is taken, one buffer too many, and a text that is too long.
+const REFUSED: [(&str, &str, Option<&str>, bool, AddFault); 8] = [
+    ("", "ann", None, false, AddFault::Name),
+    ("first", "Ann", None, false, AddFault::Name),
+    ("first", "ann", Some("Staff"), false, AddFault::Name),
+    ("third", "ann", Some(""), true, AddFault::Name),
+    ("first", "bob", None, false, AddFault::Twice),
+    ("first", "ann", Some("staff"), false, AddFault::Twice),
+    ("first", "ann", None, true, AddFault::Twice),
+    ("third", "ann", Some("staff"), true, AddFault::Long),
 ];
 
 // Whether a buffer is refused with this fault, and the two stay alone.
@@ -74,10 +77,11 @@ fn is_refused(
     all: &mut Buffers<PlainMarked>,
     name: &str,
     owner: &str,
+    group: Option<&str>,
     text: &[char],
     fault: AddFault,
 ) -> bool {
-    all.add(name, owner, List::new(), text, false) == Err(fault) && all.len() == 2
+    all.add(name, owner, group, List::new(), text, false) == Err(fault) && all.len() == 2
 }
 
 // Adds a third buffer with a text, and empty ones up to the most there may be.
@@ -87,19 +91,19 @@ fn fill(
     all: &mut Buffers<PlainMarked>,
     text: &[char],
 ) -> Result<(), Fail> {
-    assert!(rt; all.add("third", "ann", List::new(), text, false) == Ok(()));
+    assert!(rt; all.add("third", "ann", None, List::new(), text, false) == Ok(()));
     assert!(rt; all.len() == 3);
     for i in all.len()..256 {
         let name = format!(in alloc; "b{i}")?;
-        assert!(rt; all.add(&name, "ann", List::new(), &[], false) == Ok(()));
+        assert!(rt; all.add(&name, "ann", None, List::new(), &[], false) == Ok(()));
     }
     Ok(())
 }
 
 // Whether no buffer is added any more.
 fn is_full(all: &mut Buffers<PlainMarked>, long: &[char]) -> bool {
-    all.add("second", "ann", List::new(), &[], false) == Err(AddFault::Twice)
-        && all.add("more", "ann", List::new(), long, false) == Err(AddFault::Full)
+    all.add("second", "ann", None, List::new(), &[], false) == Err(AddFault::Twice)
+        && all.add("more", "ann", None, List::new(), long, false) == Err(AddFault::Full)
         && all.len() == 256
 }
 
@@ -107,10 +111,10 @@ fn is_full(all: &mut Buffers<PlainMarked>, long: &[char]) -> bool {
 fn buffers_are_refused(rt: HostRuntime) -> Result<(), Fail> {
     let mut all = two(rt.alloc(), &rt);
     let long = vec![in rt.alloc(); 'x'; 1_048_577]?;
-    for &(name, owner, is_long, fault) in &REFUSED {
+    for &(name, owner, group, is_long, fault) in &REFUSED {
         let text = if is_long { long.as_slice() } else { &[] };
         assert!(rt;
-            is_refused(&mut all, name, owner, text, fault),
+            is_refused(&mut all, name, owner, group, text, fault),
             "{name} of {owner}"
         );
     }
@@ -206,4 +210,45 @@ fn lists_and_owners_decide(rt: HostRuntime) {
     let all = two(rt.alloc(), &rt);
     let directory = Directory::new(rt.alloc());
     decide(&rt, &all, &directory);
+}
+
+// ann and bob, of whom bob is the staff.
+fn staffed(rt: &impl Abort, alloc: Global) -> Directory {
+    let mut directory = Directory::new(alloc);
+    assert!(rt; directory.add_user("ann") == Ok(()));
+    assert!(rt; directory.add_user("bob") == Ok(()));
+    assert!(rt; directory.add_group("staff", &["bob"]) == Ok(()));
+    directory
+}
+
+// Whether bob may write a buffer.
+fn bob_writes(rt: &impl Abort, all: &Buffers<PlainMarked>, directory: &Directory) -> bool {
+    let (name, bob) = (named(rt, "shared"), named(rt, "bob"));
+    all.has(&name) && all.grants(directory, &name, &bob, Right::WriteData)
+}
+
+// A buffer of ann, which its owning group may write, belongs to the staff, to none, and to the staff again.
+fn regroup(
+    rt: &impl Abort,
+    all: &mut Buffers<PlainMarked>,
+    directory: &Directory,
+) -> Result<(), Fail> {
+    let (shared, staff) = (named(rt, "shared"), named(rt, "staff"));
+    assert!(rt; bob_writes(rt, all, directory));
+    assert!(rt; all.has(&shared));
+    all.set_group(&shared, None);
+    assert!(rt; !bob_writes(rt, all, directory));
+    assert!(rt; all.has(&shared));
+    all.set_group(&shared, Some(staff));
+    assert!(rt; bob_writes(rt, all, directory));
+    Ok(())
+}
+
+#[test]
+fn the_owning_group_decides(rt: HostRuntime) -> Result<(), Fail> {
+    let directory = staffed(&rt, rt.alloc());
+    let mut all = Buffers::new(rt.alloc());
+    let list = list_of(&rt, "ALLOW GROUP@ w");
+    assert!(rt; all.add("shared", "ann", Some("staff"), list, &[], false) == Ok(()));
+    regroup(&rt, &mut all, &directory)
 }

@@ -29,7 +29,7 @@ const COMPLETED: [(&str, &[char], Option<&[u8]>); 8] = [
 fn buffers_of_ann(rt: &impl Abort, alloc: Global) -> Buffers<PlainMarked> {
     let mut all = Buffers::new(alloc);
     for &(name, entry) in &BUFFERS {
-        assert!(rt; all.add(name, "ann", list_of(rt, entry), &[], false) == Ok(()));
+        assert!(rt; all.add(name, "ann", None, list_of(rt, entry), &[], false) == Ok(()));
     }
     all
 }

@@ -95,6 +95,6 @@ fn take_both_back(
 #[test]
 fn two_undos_in_a_row(rt: HostRuntime) -> Result<(), Fail> {
     let mut all = Buffers::<PlainMarked>::new(rt.alloc());
-    assert!(rt; all.add("notes", "ann", List::new(), &['a', 'b', 'c'], false) == Ok(()));
+    assert!(rt; all.add("notes", "ann", None, List::new(), &['a', 'b', 'c'], false) == Ok(()));
     take_both_back(&rt, &mut all, &named(&rt, "notes"))
 }

@@ -1,16 +1,17 @@
 // Entries of access lists, as they are read and printed.
 use crate::people::{entry_of, named};
-use mgs_acl::{EntryFault, print_entry, read_entry, user_named};
+use mgs_acl::{EntryFault, group_named, print_entry, read_entry, user_named};
 use mgs_model::{Entry, EntryType, Mask, Who};
 use std::process::Abort;
 
 // The bits of a mask are those of RFC 8881, section 6.2.1.3.1.
-const READ: [(&str, &str, u32); 7] = [
+const READ: [(&str, &str, u32); 8] = [
     ("ALLOW OWNER@ rwatdcCo", "ALLOW OWNER@ rwatdcCo", 0xf_0087),
     ("ALLOW OWNER@ oCcdtawr", "ALLOW OWNER@ rwatdcCo", 0xf_0087),
     (" DENY  group:staff  awr ", "DENY group:staff rwa", 0x7),
     (" DENY  ann  awr ", "DENY ann rwa", 0x7),
     ("ALLOW EVERYONE@ trt", "ALLOW EVERYONE@ rt", 0x81),
+    ("ALLOW GROUP@ r", "ALLOW GROUP@ r", 0x1),
     ("DENY ann C", "DENY ann C", 0x4_0000),
     (
         "ALLOW group:abcdefghijklmnopqrstuvwxyz-_0123 rwatdcCo",
@@ -19,14 +20,16 @@ const READ: [(&str, &str, u32); 7] = [
     ),
 ];
 
-const FAULTS: [(&str, EntryFault); 10] = [
+const FAULTS: [(&str, EntryFault); 12] = [
     ("deny ann r", EntryFault::Kind),
     ("", EntryFault::Kind),
     ("ALLOW Ann r", EntryFault::Who),
     ("DENY group: r", EntryFault::Who),
     ("DENY group:Staff r", EntryFault::Who),
     ("DENY groups:staff r", EntryFault::Who),
-    ("ALLOW GROUP@ r", EntryFault::Who),
+    ("ALLOW GROUP r", EntryFault::Who),
+    ("ALLOW group@ r", EntryFault::Who),
+    ("ALLOW group:GROUP@ r", EntryFault::Who),
     ("ALLOW ann", EntryFault::Letters),
     ("ALLOW ann x", EntryFault::Letters),
     ("ALLOW ann r w", EntryFault::Trailing),
@@ -65,6 +68,7 @@ fn entries_are_what_they_spell(rt: HostRuntime) {
             0x7,
         ),
         (" DENY  ann  awr ", EntryType::Deny, Who::User(ann), 0x7),
+        ("DENY GROUP@ rr", EntryType::Deny, Who::OwningGroup, 0x1),
         ("ALLOW EVERYONE@ rrr", EntryType::Allow, Who::Everyone, 0x1),
     ] {
         let entry = Entry {
@@ -76,4 +80,7 @@ fn entries_are_what_they_spell(rt: HostRuntime) {
     }
     assert!(rt; user_named("ann") == Some(ann));
     assert!(rt; user_named("Ann") == None);
+    assert!(rt; group_named(Some("staff")) == Some(Some(staff)));
+    assert!(rt; group_named(Some("Staff")) == None);
+    assert!(rt; group_named(None) == Some(None));
 }

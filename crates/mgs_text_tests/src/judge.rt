@@ -1,13 +1,14 @@
 // Decisions that are kept.
 ghost use Rattle.std.specs.Prelude.{ℕ, List as Items, ◌≡◌, []};
 ghost use Rattle.mgs_model.specs.Access.{Directory as Users};
+ghost use Rattle.mgs_model.specs.declared.owners.Owners.{Owners as Owned};
 ghost use Rattle.mgs_model.specs.declared.entry.Entry.{Entry};
 ghost use Rattle.mgs_cache.specs.Kept.{AreRight};
 
-use crate::people::{list_of, named, staff};
+use crate::people::{list_of, named, owned, staff};
 use mgs_acl::List;
 use mgs_cache::Judge;
-use mgs_model::{Decision, Mask, Name, Right};
+use mgs_model::{Decision, Mask, Name, Owners, Right};
 use mgs_policy::Directory;
 use std::process::Abort;
 use std::test::Fail;
@@ -32,15 +33,16 @@ fn ask(
     directory: &Directory,
     place: usize,
     list: &List,
-    owner: &Name,
+    owners: &Owners,
     requests: &[(Name, u32, Decision)],
 )
-    requires { AreRight place directory.now owner.now list.now judge.old }
-    ensures right { AreRight place directory.now owner.now list.now judge.new }
-    ensures others { (other : ℕ) (users : Users) (name : Items ℕ) (entries : Items Entry) → (place ≡ other → ⊥) → AreRight other users name entries judge.old → AreRight other users name entries judge.new }
+    requires { AreRight place directory.now owners.now list.now judge.old }
+    ensures right { AreRight place directory.now owners.now list.now judge.new }
+    ensures others { (other : ℕ) (users : Users) (whose : Owned) (entries : Items Entry) → (place ≡ other → ⊥) → AreRight other users whose entries judge.old → AreRight other users whose entries judge.new }
 {
     for (user, bits, wanted) in requests {
-        let answer = judge.decide(place, list, owner, user, directory, Mask::from_bits(*bits));
+        let (mask, group) = (Mask::from_bits(*bits), owners.group.as_ref());
+        let answer = judge.decide(place, list, &owners.owner, group, user, directory, mask);
         assert!(rt; answer == *wanted);
     }
 }
@@ -59,6 +61,7 @@ fn ask_twice(
     requires { judge.old ≡ [] }
 {
     let (ann, bob, cat) = (named(rt, "ann"), named(rt, "bob"), named(rt, "cat"));
+    let (of_ann, of_cat) = (owned(ann, None), owned(cat, None));
     let of_first = [
         (ann, 0x3, DENIED_BY_2),
         (ann, 0x1, Decision::Granted),
@@ -71,15 +74,15 @@ fn ask_twice(
     ];
     let of_apart = [(ann, 0x3, denied_by_1(Right::WriteData))];
     let of_together = [(ann, 0x3, denied_by_1(Right::ReadData))];
-    ask(rt, judge, directory, 0, first, &cat, &of_first);
-    ask(rt, judge, directory, 1, shared, &ann, &of_shared);
-    ask(rt, judge, directory, 2, apart, &cat, &of_apart);
-    ask(rt, judge, directory, 3, together, &cat, &of_together);
+    ask(rt, judge, directory, 0, first, &of_cat, &of_first);
+    ask(rt, judge, directory, 1, shared, &of_ann, &of_shared);
+    ask(rt, judge, directory, 2, apart, &of_cat, &of_apart);
+    ask(rt, judge, directory, 3, together, &of_cat, &of_together);
     assert!(rt; judge.kept() == 8);
-    ask(rt, judge, directory, 0, first, &cat, &of_first);
-    ask(rt, judge, directory, 1, shared, &ann, &of_shared);
-    ask(rt, judge, directory, 2, apart, &cat, &of_apart);
-    ask(rt, judge, directory, 3, together, &cat, &of_together);
+    ask(rt, judge, directory, 0, first, &of_cat, &of_first);
+    ask(rt, judge, directory, 1, shared, &of_ann, &of_shared);
+    ask(rt, judge, directory, 2, apart, &of_cat, &of_apart);
+    ask(rt, judge, directory, 3, together, &of_cat, &of_together);
     assert!(rt; judge.kept() == 8);
 }
 
@@ -96,5 +99,57 @@ fn a_judge_answers_the_same_twice(rt: HostRuntime) -> Result<(), Fail> {
     );
     judge.forget();
     assert!(rt; judge.kept() == 0);
+    Ok(())
+}
+
+// Asks for one right by the owning group, and once more when it is not the owning group any more.
+fn ask_members(
+    rt: &impl Abort,
+    judge: &mut Judge,
+    directory: &Directory,
+    list: &List,
+    cat: Name,
+    staff: Name,
+)
+    requires { judge.old ≡ [] }
+{
+    let bob = named(rt, "bob");
+    let denied = Decision::DeniedBy {
+        entry: 2,
+        bit: Right::ReadData,
+    };
+    let of_staff = owned(cat, Some(staff));
+    ask(
+        rt,
+        judge,
+        directory,
+        0,
+        list,
+        &of_staff,
+        &[(bob, 0x1, Decision::Granted)],
+    );
+    assert!(rt; judge.kept() == 1);
+    judge.forget();
+    ask(
+        rt,
+        judge,
+        directory,
+        0,
+        list,
+        &owned(cat, None),
+        &[(bob, 0x1, denied)],
+    );
+}
+
+#[test]
+fn a_judge_decides_by_the_owning_group(rt: HostRuntime) -> Result<(), Fail> {
+    let mut judge = Judge::new(rt.alloc())?;
+    let directory = staff(&rt, rt.alloc());
+    let list = list_of(
+        &rt,
+        "ALLOW GROUP@ rt\nDENY EVERYONE@ r\nALLOW OWNER@ rwatdcCo",
+    );
+    let (cat, group) = (named(&rt, "cat"), named(&rt, "staff"));
+    ask_members(&rt, &mut judge, &directory, &list, cat, group);
     Ok(())
 }

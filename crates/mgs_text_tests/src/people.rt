@@ -1,6 +1,6 @@
 // Names, lists and the directory of the tests on rights.
 use mgs_acl::{List, read_entry};
-use mgs_model::{Entry, Name};
+use mgs_model::{Entry, Name, Owners};
 use mgs_policy::Directory;
 use std::alloc::Global;
 use std::process::Abort;
@@ -19,6 +19,11 @@ pub(crate) fn entry_of(rt: &impl Abort, text: &str) -> Entry {
     }
 }
 
+// A user who owns a buffer, and a group that owns it, or none.
+pub(crate) fn owned(owner: Name, group: Option<Name>) -> Owners {
+    Owners { owner, group }
+}
+
 // A list of these entries, one in a line.
 pub(crate) fn list_of(rt: &impl Abort, entries: &str) -> List {
     let mut list = List::new();
@@ -28,12 +33,13 @@ pub(crate) fn list_of(rt: &impl Abort, entries: &str) -> List {
     list
 }
 
-// ann, bob and cat, of whom ann and bob are the staff.
+// ann, bob and cat, of whom ann and bob are the staff, and none is of the crew.
 pub(crate) fn staff(rt: &impl Abort, alloc: Global) -> Directory {
     let mut directory = Directory::new(alloc);
     for &name in &["ann", "bob", "cat"] {
         assert!(rt; directory.add_user(name) == Ok(()));
     }
     assert!(rt; directory.add_group("staff", &["ann", "bob"]) == Ok(()));
+    assert!(rt; directory.add_group("crew", &[]) == Ok(()));
     directory
 }

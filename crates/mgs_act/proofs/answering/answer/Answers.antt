@@ -72,6 +72,11 @@ returns-in-WhichOwner-clause-ok g c = λ id next place.
     c.rule-in-WhichOwner.ensures.world id next place
     ∙ ap (λ q. act (world_of c.args.directory.now c.args.buffers.now c.args.sessions.now next) id (Run (answered q) c.args.argument (meant q (own_at c.args.at c.args.sessions.now).pattern c.args.typed.now)) true) (sym c.in-WhichOwner.is)
 
+pub returns-in-WhichGroup-clause-ok : goal.returns-in-WhichGroup-clause-ok
+returns-in-WhichGroup-clause-ok g c = λ id next place.
+    c.rule-in-WhichGroup.ensures.world id next place
+    ∙ ap (λ q. act (world_of c.args.directory.now c.args.buffers.now c.args.sessions.now next) id (Run (answered q) c.args.argument (meant q (own_at c.args.at c.args.sessions.now).pattern c.args.typed.now)) true) (sym c.in-WhichGroup.is)
+
 pub returns-in-SearchWhat-clause-ok : goal.returns-in-SearchWhat-clause-ok
 returns-in-SearchWhat-clause-ok g c =
     OnOk-map c.search.result

@@ -18,7 +18,7 @@ returns-in-None-clause-value g c = λ own.
     let given_here : Around = around_given c.args.directory.now ks c.args.user.now x c.args.given.now (length c.args.kill.now) in
     let decided : c.decide_all.result ≡ needed c.args.directory.now ks c.args.user.now x c.args.given.now c.args.command (length c.args.kill.now) =
     c.decide_all.ensures
-    ∙ ap (decision c.args.directory.now b.owner c.args.user.now b.entries)
+    ∙ ap (decision c.args.directory.now b.owners c.args.user.now b.entries)
     (c.needs-mask.ensures ∙ ap (λ (a : Around). mask_at c.args.command a.place c.text_len-size.result) c.around-around.ensures.value ∙ ap (mask_at c.args.command given_here.place) c.text_len-size.ensures.value) in
     granted c.args.directory.now ks c.args.user.now x c.args.given.now c.args.command [] c.args.kill.now c.around-around.result c.plan_granted.result own
     c.around-around.ensures.value (sym decided ∙ c.in-None.ensures.granted refl) c.plan_granted.ensures.value
@@ -31,7 +31,7 @@ returns-in-Some-clause-value g c = λ own.
     let given_here : Around = around_given c.args.directory.now ks c.args.user.now x c.args.given.now (length c.args.kill.now) in
     let decided : c.decide_all.result ≡ needed c.args.directory.now ks c.args.user.now x c.args.given.now c.args.command (length c.args.kill.now) =
     c.decide_all.ensures
-    ∙ ap (decision c.args.directory.now b.owner c.args.user.now b.entries)
+    ∙ ap (decision c.args.directory.now b.owners c.args.user.now b.entries)
     (c.needs-mask.ensures ∙ ap (λ (a : Around). mask_at c.args.command a.place c.text_len-size.result) c.around-around.ensures.value ∙ ap (mask_at c.args.command given_here.place) c.text_len-size.ensures.value) in
     denied c.args.directory.now ks c.args.user.now x c.args.given.now c.args.command [] c.args.kill.now c.in-Some.message own
     (subst (λ (d : Decision). (own : Own) (o : Outcome) → permitted own d o ≡ fails own c.in-Some.message) decided c.in-Some.ensures.denied)

@@ -12,6 +12,12 @@ returns-in-Owner-clause-value g c = λ own.
     c.owner_ruled.ensures.value own b.entries c.args.argument
     ∙ ap (λ (k : Ruling). effects own (ruling_plan c.args.directory.now c.args.name b.entries k c.args.argument c.args.typed.now)) (sym c.in-Owner.is)
 
+pub returns-in-Group-clause-value : goal.returns-in-Group-clause-value
+returns-in-Group-clause-value g c = λ own.
+    let b = (marked_at c.args.name c.args.buffers.now).buffer in
+    c.group_ruled.ensures.value own b.entries c.args.argument
+    ∙ ap (λ (k : Ruling). effects own (ruling_plan c.args.directory.now c.args.name b.entries k c.args.argument c.args.typed.now)) (sym c.in-Group.is)
+
 pub returns-in-Entries-clause-value : goal.returns-in-Entries-clause-value
 returns-in-Entries-clause-value g c = λ own.
     let d = c.args.directory.now in

@@ -17,7 +17,7 @@ returns-in-None-clause-value g c = λ own.
     let b = (marked_at x.name ks).buffer in
     let k = Move (SearchFor c.args.direction) in
     let decided : c.decide_all.result ≡ needed c.args.directory.now ks c.args.user.now x c.args.given.now k (length c.args.kill.now) =
-    c.decide_all.ensures ∙ ap (decision c.args.directory.now b.owner c.args.user.now b.entries) c.needs.ensures in
+    c.decide_all.ensures ∙ ap (decision c.args.directory.now b.owners c.args.user.now b.entries) c.needs.ensures in
     granted c.args.directory.now ks c.args.user.now x c.args.given.now k c.args.pattern.now c.args.kill.now c.around-place.result c.plan_granted.result own
     c.around-place.ensures.value (sym decided ∙ c.in-None.ensures.granted refl) c.plan_granted.ensures.value
 
@@ -28,6 +28,6 @@ returns-in-Some-clause-value g c = λ own.
     let b = (marked_at x.name ks).buffer in
     let k = Move (SearchFor c.args.direction) in
     let decided : c.decide_all.result ≡ needed c.args.directory.now ks c.args.user.now x c.args.given.now k (length c.args.kill.now) =
-    c.decide_all.ensures ∙ ap (decision c.args.directory.now b.owner c.args.user.now b.entries) c.needs.ensures in
+    c.decide_all.ensures ∙ ap (decision c.args.directory.now b.owners c.args.user.now b.entries) c.needs.ensures in
     denied c.args.directory.now ks c.args.user.now x c.args.given.now k c.args.pattern.now c.args.kill.now c.in-Some.message own
     (subst (λ (d : Decision). (own : Own) (o : Outcome) → permitted own d o ≡ fails own c.in-Some.message) decided c.in-Some.ensures.denied)

@@ -11,7 +11,7 @@ use Rattle.std.proofs.Common.{refl}
 pub with_buffer-requires : goal.with_buffer-requires
 with_buffer-requires g c =
     let ks : List MarkedBuffer = marked_all g.T.Text.text g.T.Text.marks c.args.all.now.entries in
-    right_there c.args.place c.args.directory.now c.in-Some.buffer.now.owner c.in-Some.buffer.now.list (rules_kept ks) c.args.judge.now c.requires
+    right_there c.args.place c.args.directory.now c.in-Some.buffer.now.owners c.in-Some.buffer.now.list (rules_kept ks) c.args.judge.now c.requires
     (ruled_at g.T.Text.text g.T.Text.marks c.args.all.now.entries ks c.args.place c.in-Some.name.now c.in-Some.buffer.now refl (sym c.in-Some.ensures.entry))
 
 pub returns-in-Some : goal.returns-in-Some

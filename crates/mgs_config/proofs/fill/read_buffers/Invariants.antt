@@ -12,5 +12,5 @@ invariant-loop-before g l = record {
   unmarked : AreUnmarked l.buffers;
   same : g.F.Files.tells l.files ≡ g.F.Files.tells l.initial.files;
   count : g.F.Files.count l.files ≡ g.F.Files.count l.initial.files;
-  none : first_fault (table_refused (g.F.Files.tells l.initial.files) l.directory.users) [] (rows_before l.rows l.before) ≡ None;
+  none : first_fault (table_refused (g.F.Files.tells l.initial.files) l.directory) [] (rows_before l.rows l.before) ≡ None;
 }

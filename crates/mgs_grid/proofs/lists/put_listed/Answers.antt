@@ -4,5 +4,5 @@ use Rattle.mgs_grid.proofs.lists.put_listed.Goals as goal
 pub returns : goal.returns
 returns c =
     let name = wrote_more c.put_bytes-at_name.ensures.wrote c.put_name-end.ensures.wrote in
-    let owner = wrote_more c.put_bytes-at_owner.ensures.wrote c.put_name.ensures.wrote in
-    wrote_more c.put_flag-at_size.ensures.wrote (wrote_more (wrote_more c.put_size-end.ensures.wrote name) owner)
+    let owners = wrote_more c.put_bytes-at_owners.ensures.wrote c.put_owners.ensures in
+    wrote_more c.put_flag-at_size.ensures.wrote (wrote_more (wrote_more c.put_size-end.ensures.wrote name) owners)

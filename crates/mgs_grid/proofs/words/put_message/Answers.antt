@@ -46,6 +46,9 @@ returns-in-NoSuchEntry-clause-wrote c = rw c.in-NoSuchEntry.is c.put_bytes-in-No
 pub returns-in-NoSuchUser-clause-wrote : goal.returns-in-NoSuchUser-clause-wrote
 returns-in-NoSuchUser-clause-wrote c = rw c.in-NoSuchUser.is c.put_bytes-in-NoSuchUser.ensures.wrote
 
+pub returns-in-NoSuchGroup-clause-wrote : goal.returns-in-NoSuchGroup-clause-wrote
+returns-in-NoSuchGroup-clause-wrote c = rw c.in-NoSuchGroup.is c.put_bytes-in-NoSuchGroup.ensures.wrote
+
 pub returns-in-NoFurtherUndo-clause-wrote : goal.returns-in-NoFurtherUndo-clause-wrote
 returns-in-NoFurtherUndo-clause-wrote c = rw c.in-NoFurtherUndo.is c.put_bytes-in-NoFurtherUndo.ensures.wrote
 

@@ -12,7 +12,7 @@ returns-in-Some c =
     listed c.add_entry.result (entry_in c.args.entry.now) c.args.name.now ds c.in-Some.at (get_or ds c.in-Some.at d) c.add_entry.new.draft
     (sym c.in-Some.is ∙ c.place_of.ensures.at ∙ ap (λ n. position (is_drafted n) ds) c.as_bytes.ensures.value)
     (ap (λ x. get_or ds c.in-Some.at x) c.index-drafts-at.is)
-    c.add_entry.ensures.list c.add_entry.ensures.text c.add_entry.ensures.name c.add_entry.ensures.owner
+    c.add_entry.ensures.list c.add_entry.ensures.text c.add_entry.ensures.name c.add_entry.ensures.owner c.add_entry.ensures.group
 
 pub returns-in-None : goal.returns-in-None
 returns-in-None c =

@@ -11,7 +11,7 @@ returns-in-Some c =
     lengthened c.add_text.result c.args.text.now c.args.name.now ds c.in-Some.at (get_or ds c.in-Some.at d) c.add_text.new.draft
     (sym c.in-Some.is ∙ c.place_of.ensures.at ∙ ap (λ n. position (is_drafted n) ds) c.as_bytes.ensures.value)
     (ap (λ x. get_or ds c.in-Some.at x) c.index-drafts-at.is)
-    c.add_text.ensures.text c.add_text.ensures.list c.add_text.ensures.name c.add_text.ensures.owner
+    c.add_text.ensures.text c.add_text.ensures.list c.add_text.ensures.name c.add_text.ensures.owner c.add_text.ensures.group
 
 pub returns-in-None : goal.returns-in-None
 returns-in-None c =

@@ -97,7 +97,7 @@ returns-clause-lines g c =
     let cannot : may c.args.directory.now user ReadData (marked_at x.name ks).buffer ≡ false =
     sym (ap (λ (f : Named). may c.args.directory.now user ReadData (marked_at f.name f.all).buffer) c.find-found.ensures) ∙ sym c.grants_by.ensures.value ∙ c.if-grants_by.false in
     let head : Named → Option (List ℕ × Bool) = λ (f : Named). heading_to c.args.directory.now user f.all f.name in
-    let why : Named → Decision = λ (f : Named). decision_by (decider c.args.directory.now (marked_at f.name f.all).buffer.owner user (marked_at f.name f.all).buffer.entries) (ReadData ∷ []) in
+    let why : Named → Decision = λ (f : Named). decision_by (decider c.args.directory.now (marked_at f.name f.all).buffer.owners user (marked_at f.name f.all).buffer.entries) (ReadData ∷ []) in
     let drawn : Option (List ℕ × Bool) → Decision → List Row = λ (h : Option (List ℕ × Bool)) (d : Decision).
     rows_put c.args.place.first (unread_rows cols w.height d ++ mode_row cols (buffer_mode h None) ∷ []) c.args.grid.now.lines in
     pane_put c.args.place.first w.height (unread_rows cols w.height c.decide_by-decision.result) (buffer_mode c.heading-heading.result None) c.args.grid.now c.draw_unread.new.self c.draw_mode.new.self

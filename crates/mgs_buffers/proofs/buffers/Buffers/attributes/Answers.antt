@@ -6,7 +6,7 @@ use Rattle.mgs_buffers.proofs.buffers.Buffers.attributes.Goals as goal
 
 pub told-requires : goal.told-requires
 told-requires g c =
-    right_there c.args.i c.args.directory.now c.in-Some.buffer.now.owner c.in-Some.buffer.now.list (rules_kept c.args.self.now) c.args.judge.now c.requires
+    right_there c.args.i c.args.directory.now c.in-Some.buffer.now.owners c.in-Some.buffer.now.list (rules_kept c.args.self.now) c.args.judge.now c.requires
     (ruled_at g.T.Text.text g.T.Text.marks c.self.inside.all.entries c.args.self.now c.args.i c.in-Some.name.now c.in-Some.buffer.now c.self.view_is (sym c.in-Some.ensures.entry))
 
 pub returns-in-Some : goal.returns-in-Some

@@ -9,7 +9,7 @@ use Rattle.mgs_buffers.proofs.found.Found.grants_by.Goals as goal
 pub grants_by-requires : goal.grants_by-requires
 grants_by-requires g c =
     let s = c.self.inside in
-    right_there s.place c.args.directory.now s.buffer.now.owner s.buffer.now.list (rules_kept c.args.self.now.all) c.args.judge.now c.requires
+    right_there s.place c.args.directory.now s.buffer.now.owners s.buffer.now.list (rules_kept c.args.self.now.all) c.args.judge.now c.requires
     (found_ruled g.T.Text.text g.T.Text.marks s.name.now s.buffers.now s.place s.buffer.now c.args.self.now c.self.invariant c.self.view_is)
 
 pub returns-clause-value : goal.returns-clause-value
