@@ -92,6 +92,7 @@ module _ (w start now : World) (before after : StoreTold) (id byte : ℕ) (begin
             ap (λ (s : StoreTold). s.accepted) t.left
             ∙ told_none before.accepted saved saves_none
             ∙ sym (ap (λ (xs : List Saved). told_more xs before.accepted) (saves_done w ended id byte true 1 saved here leads (within_most 1 (omega arith)) over));
+        unasked = λ e. cc;
       }
 
 -- an event that ends no session

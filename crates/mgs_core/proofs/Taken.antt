@@ -585,7 +585,7 @@ module _ (d : Directory) (ks : List MarkedBuffer) (xs : List Session) (next : Op
               ap (λ (o : model.Own). may_be_refused (outcome_in (with_own id (λ was. o) w) id act_done true)) (unstarted b deed (own_of y.own) r.wants)
               ∙ sym (ap (λ (v : World). may_be_refused (outcome_in v id act_done true)) (changed s.own s.stays))
               ∙ r.may;
-          accepted = r.accepted;
+          left = r.left;
         }
 
     pub deed_turned : (K : List MarkedBuffer) (ys : List Session) (before after : StoreTold) (kind : Kind) (playing : Bool) (k : Keyed) → kind ≡ h.own.kind → playing ≡ h.own.player.playing → sizes_in ys ≡ sizes_in xs

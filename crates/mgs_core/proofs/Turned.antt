@@ -1,5 +1,5 @@
 -- Turn after turn of an event, and the event that they make.
-use Rattle.std.proofs.Common.{◌≡◌, ℕ, ◌+◌, ◌≤◌, ◌<◌, Bool, true, false, List, [], ◌∷◌, ◌++◌, Option, Some, None, refl, sym, ap, subst, ◌∙◌, arith}
+use Rattle.std.proofs.Common.{◌≡◌, ℕ, zero, suc, ◌+◌, ◌≤◌, ◌<◌, Bool, true, false, List, [], ◌∷◌, ◌++◌, Option, Some, None, refl, sym, ap, subst, ◌∙◌, arith}
 use Rattle.std.specs.Prelude.{IsSome, not, ◌||◌}
 use Rattle.std.specs.Option.{option_map}
 use Rattle.std.specs.List.{flat_map}
@@ -16,7 +16,7 @@ use Rattle.mgs_model.specs.Events.{Saved, act_effects, begun_own, may_be_refused
 use Rattle.mgs_model.specs.declared.errors.Keyed.{Keyed}
 use Rattle.mgs_model.specs.declared.errors.Keyed.TheVariants.{Done, Short}
 use Rattle.mgs_model.specs.declared.errors.Keyed.TheVariants as keyed
-use Rattle.mgs_laws.proofs.Led.{Leads, leads_acted, leads_kept, leads_nowhere, leads_on, memory_behind}
+use Rattle.mgs_laws.proofs.Led.{Leads, LeadsOnce, acts_on, leads_kept, leads_nowhere, leads_on, leads_once, memory_behind}
 use Rattle.mgs_laws.proofs.Plays.{act_saves_nothing}
 use Rattle.mgs_laws.proofs.Turned.{act_short, leads_played, saves_done, saves_short, step_done, step_short, turn_todo}
 use Rattle.mgs_store.specs.Stores.{StoreTold, IsCounted, told_more}
@@ -81,6 +81,8 @@ pub record SoFar (id used : ℕ) (stored : Bool) (start now : World) (before aft
   pub leads : Leads id stored used saved start now
   pub fault : stored ≡ false → IsCounted before.failed after.failed
   pub saves : after.accepted ≡ told_more saved before.accepted
+  -- no act asked it for anything
+  pub still : leads.acts ≡ 0 → after ≡ before
 
 pub at_start : (id : ℕ) (w : World) (t : StoreTold) → SoFar id 0 true w w t t
 at_start id w t = record {
@@ -88,7 +90,12 @@ at_start id w t = record {
   leads = leads_nowhere id true w;
   fault = λ e. cc;
   saves = told_none t.accepted [] refl;
+  still = λ e. refl;
 }
+
+some_act : (n : ℕ) {X : Type 0} → n ≡ 1 → n ≡ 0 → X
+some_act zero one none = cc
+some_act (suc n) one none = cc
 
 -- the first turn, whatever the store answered
 first_kept : (id : ℕ) (old new : World) (t : StoreTold) (own : Own) → turn_in old id ≡ Keep own → new ≡ with_own id (λ was. own) old → SoFar id 1 true old new t t
@@ -97,19 +104,29 @@ first_kept id old new t own turn does = record {
   leads = leads_kept id true old new own turn does;
   fault = λ e. cc;
   saves = told_none t.accepted [] refl;
+  still = λ e. refl;
 }
 
 first_acted : (id : ℕ) (old new : World) (before after : StoreTold) (own : Own) (c : Act) → turn_in old id ≡ Do own c → (did : ActedBy (with_own id (λ was. own) old) new before after id c) → SoFar id 1 did.stored old new before after
-first_acted id old new before after own c turn did = record {
-  saved = flat_map saved_by (act_effects (with_own id (λ was. own) old) id c did.stored);
-  leads = leads_acted id did.stored old new own c turn did.world;
-  fault = did.fault;
-  saves = did.saves;
-}
+first_acted id old new before after own c turn did =
+    let once = leads_once id did.stored old new own c turn did.world in
+    record {
+      saved = flat_map saved_by (act_effects (with_own id (λ was. own) old) id c did.stored);
+      leads = once.0;
+      fault = did.fault;
+      saves = did.saves;
+      still = λ e. some_act once.0.acts once.1 e;
+    }
+
+none_earlier : (m n : ℕ) → m + n ≡ 0 → m ≡ 0
+none_earlier m n e = omega (arith, e)
+
+none_later : (m n : ℕ) → m + n ≡ 0 → n ≡ 0
+none_later m n e = omega (arith, e)
 
 -- where the store has refused nothing, and one more turn leads on, which saves nothing
-more : (id used : ℕ) (start now new : World) (before mid after : StoreTold) → SoFar id used true start now before mid → Leads id true 1 [] now new → after.accepted ≡ mid.accepted → SoFar id (used + 1) true start new before after
-more id used start now new before mid after s on same = record {
+more : (id used : ℕ) (start now new : World) (before mid after : StoreTold) → SoFar id used true start now before mid → (on : Leads id true 1 [] now new) → after.accepted ≡ mid.accepted → (on.acts ≡ 0 → after ≡ mid) → SoFar id (used + 1) true start new before after
+more id used start now new before mid after s on same still = record {
   saved = s.saved ++ [];
   leads = leads_on id true used 1 s.saved [] start now new s.leads on;
   fault = λ e. cc;
@@ -118,6 +135,9 @@ more id used start now new before mid after s on same = record {
       ∙ s.saves
       ∙ told_none (told_more s.saved before.accepted) [] refl
       ∙ told_twice before.accepted s.saved [];
+  still = λ e.
+      let none = sym (acts_on id true used 1 s.saved [] start now new s.leads on) ∙ e in
+      still (none_later s.leads.acts on.acts none) ∙ s.still (none_earlier s.leads.acts on.acts none);
 }
 
 -- an act that saves nothing is the same for any answer of the store
@@ -153,23 +173,25 @@ quiet_saves w id own x found c h stored = by own.playing (asks c) refl refl h
     by false true e f q = cc
     by false false e f q = act_saves_none (with_own id (λ was. own) w) id c stored (save_asks c f)
 
-leads_quiet : (id : ℕ) (s t : Bool) (w v : World) (own : Own) (c : Act) (x : Session) → find_session id w.sessions ≡ Some x → is_quiet own.playing c ≡ true → turn_in w id ≡ Do own c → v ≡ act (with_own id (λ was. own) w) id c s → Leads id t 1 [] w v
+leads_quiet : (id : ℕ) (s t : Bool) (w v : World) (own : Own) (c : Act) (x : Session) → find_session id w.sessions ≡ Some x → is_quiet own.playing c ≡ true → turn_in w id ≡ Do own c → v ≡ act (with_own id (λ was. own) w) id c s → LeadsOnce id t [] w v
 leads_quiet id s t w v own c x found h is does = by own.playing (asks c) refl refl h
   where
-    by : (p a : Bool) → own.playing ≡ p → asks c ≡ a → (p || not a) ≡ true → Leads id t 1 [] w v
+    by : (p a : Bool) → own.playing ≡ p → asks c ≡ a → (p || not a) ≡ true → LeadsOnce id t [] w v
     by true a e f q = leads_played id s t w v own c x found e is does
     by false true e f q = cc
     by false false e f q =
-        subst (λ (saved : List Saved). Leads id t 1 saved w v) (act_saves_none (with_own id (λ was. own) w) id c t (save_asks c f))
-        (leads_acted id t w v own c is (does ∙ unasked_act (with_own id (λ was. own) w) id c s t f))
+        subst (λ (saved : List Saved). LeadsOnce id t saved w v) (act_saves_none (with_own id (λ was. own) w) id c t (save_asks c f))
+        (leads_once id t w v own c is (does ∙ unasked_act (with_own id (λ was. own) w) id c s t f))
 
 more_by : (id used : ℕ) (left : List Todo) (start now new : World) (before mid after : StoreTold) (x : Session) → SoFar id used true start now before mid → find_session id now.sessions ≡ Some x → (own : Own) (o : Option Act) → turn_in now id ≡ turn_to own o → IsTurnDone true left own o now new mid after id → SoFar id (used + 1) true start new before after
 more_by id used left start now new before mid after x s found own None turn done =
-    more id used start now new before mid after s (leads_kept id true now new own turn done.0) (ap (λ (t : StoreTold). t.accepted) done.1)
+    more id used start now new before mid after s (leads_kept id true now new own turn done.0) (ap (λ (t : StoreTold). t.accepted) done.1) (λ e. done.1)
 more_by id used left start now new before mid after x s found own (Some c) turn done =
     let did = done.2 in
-    more id used start now new before mid after s (leads_quiet id did.stored true now new own c x found (done.0 refl) turn did.world)
+    let once = leads_quiet id did.stored true now new own c x found (done.0 refl) turn did.world in
+    more id used start now new before mid after s once.0
     (did.saves ∙ sym (told_none mid.accepted (flat_map saved_by (act_effects (with_own id (λ was. own) now) id c did.stored)) (quiet_saves now id own x found c (done.0 refl) did.stored)))
+    (λ e. some_act once.0.acts once.1 e)
 
 -- a turn of what a macro plays
 pub next_turn : (id used : ℕ) (left : List Todo) (start now new : World) (before mid after : StoreTold) (x : Session) → SoFar id used true start now before mid → find_session id now.sessions ≡ Some x → TurnDone true left now new mid after id → SoFar id (used + 1) true start new before after
@@ -180,6 +202,11 @@ next_turn id used left start now new before mid after x s found t = more_by id u
 not_there : {A X : Type 0} (o : Option A) → IsSome o → o ≡ None → X
 not_there None h e = cc
 not_there (Some a) h e = cc
+
+none_behind : (n : ℕ) → memory_behind n (Some 0) ≡ Some 0 → n ≡ 0
+none_behind n e =
+    let none : n + 0 ≡ 0 = cc in
+    omega (arith, none)
 
 some_memory : (n : ℕ) → IsSome (memory_behind n (Some 0))
 some_memory n = refl
@@ -196,6 +223,7 @@ event_done w u new before after id used byte here there stored s within stops se
   may = λ e. cc;
   fault = s.fault;
   saves = s.saves ∙ sym (ap (λ (xs : List Saved). told_more xs before.accepted) (saves_done w u id byte stored used s.saved here s.leads within stops));
+  unasked = λ e. cc;
 }
 
 -- memory is refused to the next act
@@ -212,9 +240,10 @@ event_short w u v new before mid after id used byte x here there s within found 
       ∙ t.may;
   fault = λ e. cc;
   saves =
-      t.accepted
+      ap (λ (told : StoreTold). told.accepted) t.left
       ∙ s.saves
       ∙ sym (ap (λ (xs : List Saved). told_more xs before.accepted) (saves_short w u id byte true used s.saved here s.leads within t.own t.act x found t.turn));
+  unasked = λ e. t.left ∙ s.still (none_behind s.leads.acts e);
 }
 
 -- UNTIL NOTHING IS LEFT, or memory was refused, or the session ends

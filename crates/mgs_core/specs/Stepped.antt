@@ -40,6 +40,7 @@ use Rattle.mgs_session.specs.declared.Session.{Session}
 use Rattle.mgs_session.specs.declared.search.Aim.{Aim}
 use Rattle.mgs_session.specs.declared.search.Aim.TheVariants.{Find, Replace}
 use Rattle.mgs_session.specs.Replacing.{Replacing}
+use Rattle.mgs_session.specs.Seeking.{searching}
 use Rattle.mgs_session.specs.declared.search.Search.{Search}
 use Rattle.mgs_model.specs.Searching.{Sought}
 use Rattle.mgs_session.specs.Playing.{Playing, are_behind, are_played}
@@ -339,6 +340,10 @@ SeesNames directory ks user v = shown_names v ≡ granted_names directory user (
 abbrev pub IsByteStep : Directory → List MarkedBuffer → Session → Session → ℕ → Before → ByteStep → Type 0
 IsByteStep directory ks old new byte b step =
     IsStep (SeesNames directory ks old.user) (λ v. own_turn v old.own byte) old.own.player.playing (IsLeft old.own.player) old new b step
+
+-- the same of a search that was taken out of the session, for any directory and texts
+abbrev pub IsSearchStep : Search → Session → Session → ℕ → Before → ByteStep → Type 0
+IsSearchStep s old new byte b step = (directory : Directory) → (ks : List MarkedBuffer) → IsByteStep directory ks (searching s old) new byte b step
 
 -- A TURN
 abbrev pub replaces : ByteStep → Bool

@@ -82,7 +82,7 @@ pub record TurnRefused (old new : World) (before after : StoreTold) (id : ℕ) :
   pub turn : turn_in old id ≡ Do own act
   pub told : new ≡ with_own id refused_own old
   pub may : may_be_refused (outcome_in (with_own id (λ was. own) old) id act true) ≡ true
-  pub accepted : after.accepted ≡ before.accepted
+  pub left : after ≡ before
 
 -- OR ITS SESSION ENDS, which is to be taken out: by a byte that was typed alone
 pub record TurnEnds (playing : Bool) (old new : World) (before after : StoreTold) (id : ℕ) : Type 0 where
@@ -106,7 +106,7 @@ pub record DeedRefused (old new : World) (before after : StoreTold) (id : ℕ) (
   pub wants : takes ≡ true
   pub told : new ≡ record old { sessions = change_first (has_id id) f old.sessions }
   pub may : may_be_refused (outcome_in old id c true) ≡ true
-  pub accepted : after.accepted ≡ before.accepted
+  pub left : after ≡ before
 
 abbrev pub DeedBy : World → World → World → StoreTold → StoreTold → ℕ → Bool → Act → (Session → Session) → Keyed → Type 0
 DeedBy old begun new before after id takes c f keyed.Done = ActedBy begun new before after id c

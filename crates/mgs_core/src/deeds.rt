@@ -134,7 +134,7 @@ fn do_plain_act<T: Marked + Drop, S: Store>(
     ensures ok { OnOk result ((id : ℕ) (next : Option ℕ) → at ≡ position_or_len (session_id id) sessions.old → ActedBy (world_of directory.now buffers.old sessions.old next) (world_of directory.now buffers.new sessions.new next) (store_told S.failed S.accepted store.old) (store_told S.failed S.accepted store.new) id (act_of done)) }
     ensures touched { IfOk result (λ touched. (id : ℕ) (next : Option ℕ) → at ≡ position_or_len (session_id id) sessions.old → Apart touched id (world_of directory.now buffers.old sessions.old next) (world_of directory.now buffers.new sessions.new next)) }
     ensures err { OnErr result ((next : Option ℕ) → world_of directory.now buffers.new sessions.new next ≡ world_of directory.now buffers.old sessions.old next) }
-    ensures accepted { OnErr result (S.accepted store.new ≡ S.accepted store.old) }
+    ensures unasked { OnErr result (store.new ≡ store.old) }
     ensures may { OnErr result ((id : ℕ) (next : Option ℕ) → at ≡ position_or_len (session_id id) sessions.old → may_be_refused (outcome_in (world_of directory.now buffers.old sessions.old next) id (act_of done) true) ≡ true) }
 {
     if asks_store(done) {
@@ -169,7 +169,7 @@ fn do_act<T: Marked + Drop, S: Store>(
     ensures touched { IfOk result (λ touched. (id : ℕ) (next : Option ℕ) → at ≡ position_or_len (session_id id) sessions.old → Apart touched id (world_of directory.now buffers.old sessions.old next) (world_of directory.now buffers.new sessions.new next)) }
     ensures wants { OnErr result (started_by done ≡ None) }
     ensures err { OnErr result ((next : Option ℕ) → world_of directory.now buffers.new sessions.new next ≡ world_of directory.now buffers.old sessions.old next) }
-    ensures accepted { OnErr result (S.accepted store.new ≡ S.accepted store.old) }
+    ensures unasked { OnErr result (store.new ≡ store.old) }
     ensures may { OnErr result ((id : ℕ) (next : Option ℕ) → at ≡ position_or_len (session_id id) sessions.old → may_be_refused (outcome_in (world_of directory.now buffers.old sessions.old next) id (act_of done) true) ≡ true) }
 {
     match started_by(done) {
@@ -202,7 +202,7 @@ pub fn do_deed<T: Marked + Drop, S: Store>(
     ensures touched { IfOk result (λ touched. (id : ℕ) (next : Option ℕ) → at ≡ position_or_len (session_id id) sessions.old → Apart touched id (world_of directory.now buffers.old sessions.old next) (world_of directory.now buffers.new sessions.new next)) }
     ensures wants { OnErr result (may_want_memory deed ≡ true) }
     ensures err { OnErr result ((next : Option ℕ) → world_of directory.now buffers.new sessions.new next ≡ world_of directory.now buffers.old sessions.old next) }
-    ensures accepted { OnErr result (S.accepted store.new ≡ S.accepted store.old) }
+    ensures unasked { OnErr result (store.new ≡ store.old) }
     ensures may { OnErr result ((id : ℕ) (next : Option ℕ) → at ≡ position_or_len (session_id id) sessions.old → may_be_refused (outcome_in (world_of directory.now buffers.old sessions.old next) id (deed_act (own_at at sessions.old) before.now deed) true) ≡ true) }
     ensures further { OnOk result ((s t : Search) → is_replacement deed ≡ true → search_held at sessions.old ≡ Some s → search_held at sessions.new ≡ Some t → 0 < length (aim_old s.aim) → remaining_at at buffers.new sessions.new < remaining_at at buffers.old sessions.old) }
 {

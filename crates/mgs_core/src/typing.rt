@@ -20,7 +20,7 @@ ghost use Rattle.mgs_world.specs.Worlds.{own_of};
 ghost use Rattle.mgs_core.specs.Prompted.{names_for};
 ghost use Rattle.mgs_core.specs.declared.deeds.Before.{Before};
 ghost use Rattle.mgs_core.specs.declared.deeds.Before.TheVariants.{Plain};
-ghost use Rattle.mgs_core.specs.Stepped.{IsAlone, IsAnswerStep, IsByteStep, IsNamedStep, finding, replace_key, replacing_at};
+ghost use Rattle.mgs_core.specs.Stepped.{IsAlone, IsAnswerStep, IsByteStep, IsNamedStep, IsSearchStep, finding, replace_key, replacing_at};
 
 use crate::deeds::{Before, Deed};
 use crate::keying::{ByteStep, step_command, step_key};
@@ -216,7 +216,7 @@ fn step_foreign(
     requires alone { IsAlone session.old.own.player }
     requires ascii { is_character_byte session.old.own.keyboard.keys byte ≡ false }
     requires leaves { read_byte session.old.own.pattern sought byte ≡ (sought, Leaves) }
-    ensures { (directory : Directory) (ks : List MarkedBuffer) → IsByteStep directory ks (searching (finding name origin anchor sought) session.old) session.new byte before.new result }
+    ensures { IsSearchStep (finding name origin anchor sought) session.old session.new byte before.new result }
 {
     let last = SearchString::of(session.own.pattern.as_slice());
     leave_search(session, &sought);
@@ -251,7 +251,7 @@ fn step_character(
     requires still { session.old ≡ unsearched session.old }
     requires alone { IsAlone session.old.own.player }
     requires past { is_character_byte session.old.own.keyboard.keys byte ≡ true }
-    ensures { (directory : Directory) (ks : List MarkedBuffer) (before : Before) → IsByteStep directory ks (searching (finding name origin anchor sought) session.old) session.new byte before result }
+    ensures { (before : Before) → IsSearchStep (finding name origin anchor sought) session.old session.new byte before result }
 {
     let mut keyboard = session.own.keyboard;
     let sequence = keyboard.feed_character(byte);
@@ -294,7 +294,7 @@ fn step_find(
 ) -> ByteStep
     requires still { session.old ≡ unsearched session.old }
     requires alone { IsAlone session.old.own.player }
-    ensures { (directory : Directory) (ks : List MarkedBuffer) → IsByteStep directory ks (searching (finding name origin anchor sought) session.old) session.new byte before.new result }
+    ensures { IsSearchStep (finding name origin anchor sought) session.old session.new byte before.new result }
 {
     if session.own.keyboard.is_character_byte(byte) {
         return step_character(session, name, origin, anchor, sought, byte);
@@ -424,7 +424,7 @@ fn step_replace(
 ) -> ByteStep
     requires still { session.old ≡ unsearched session.old }
     requires alone { IsAlone session.old.own.player }
-    ensures { (directory : Directory) (ks : List MarkedBuffer) (before : Before) → IsByteStep directory ks (searching (replacing_at name origin anchor replacing) session.old) session.new byte before result }
+    ensures { (before : Before) → IsSearchStep (replacing_at name origin anchor replacing) session.old session.new byte before result }
 {
     // Tells the prover that something is replaced.
     let _pattern = replacing.pattern();
@@ -465,7 +465,7 @@ fn step_replace(
 fn step_taken(session: &mut Session, search: Search, byte: u8, before: &mut Before) -> ByteStep
     requires still { session.old ≡ unsearched session.old }
     requires alone { IsAlone session.old.own.player }
-    ensures { (directory : Directory) (ks : List MarkedBuffer) → IsByteStep directory ks (searching search session.old) session.new byte before.new result }
+    ensures { IsSearchStep search session.old session.new byte before.new result }
 {
     let Search {
         name,

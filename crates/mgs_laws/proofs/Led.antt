@@ -55,6 +55,10 @@ pub record Leads (id : ℕ) (stored : Bool) (used : ℕ) (saved : List Saved) (v
   pub saves : (n : ℕ) (m : Option ℕ) → flat_map saved_by (turns_effects (used + n) id stored (doing v (memory_behind acts m))) ≡ saved ++ flat_map saved_by (turns_effects n id stored (doing w m))
   pub refused : (n : ℕ) (m : Option ℕ) → refused_in (used + n) id stored (doing v (memory_behind acts m)) ≡ refused_in n id stored (doing w m)
 
+-- by one act
+abbrev pub LeadsOnce : (id : ℕ) → Bool → List Saved → World → World → Type 0
+LeadsOnce id stored saved v w = (l : Leads id stored 1 saved v w) × (l.acts ≡ 1)
+
 none_more : (n : ℕ) → 0 + n ≡ n
 none_more n = omega arith
 
@@ -127,6 +131,10 @@ module _ (id : ℕ) (stored : Bool) (w v : World) (own : Own) (c : Act) (is : tu
         ∙ ap (refused_in n id stored) (acted_turn m);
   }
 
+  pub leads_once : LeadsOnce id stored (flat_map saved_by (act_effects (with_own id (λ old. own) w) id c stored)) w v
+  unfolding leads_acted
+  leads_once = (leads_acted, refl)
+
 -- one after the other
 module _ (id : ℕ) (stored : Bool) (first second : ℕ) (earlier later : List Saved) (u v w : World) (a : Leads id stored first earlier u v) (b : Leads id stored second later v w) where
   sum : (n : ℕ) → first + second + n ≡ first + (second + n)
@@ -153,6 +161,10 @@ module _ (id : ℕ) (stored : Bool) (first second : ℕ) (earlier later : List S
             ∙ a.refused (second + n) (memory_behind b.acts m)
             ∙ b.refused n m;
       }
+
+  pub acts_on : leads_on.acts ≡ a.acts + b.acts
+  unfolding leads_on
+  acts_on = refl
 
 all_of : (a b : ℕ) → a ≤ b → b ≡ a + (b - a)
 all_of a b h = omega (arith, h)

@@ -9,7 +9,7 @@ use Rattle.mgs_model.specs.Outcome.{Act}
 use Rattle.mgs_model.specs.Apply.{act, outcome_in}
 use Rattle.mgs_model.specs.Turns.{Do, next, todo_turn}
 use Rattle.mgs_model.specs.Events.{Byte, Doing, Saved, begun, begun_own, byte_done, event_saves, most_turns, refused_act, refused_own, rests, saved_by, settled, step, turn_in, turn_seen, turns_effects, with_own}
-use Rattle.mgs_laws.proofs.Led.{Leads, leads_acted, led_refused, led_saves, led_short, led_short_saves, led_world, memory_behind}
+use Rattle.mgs_laws.proofs.Led.{Leads, LeadsOnce, leads_once, led_refused, led_saves, led_short, led_short_saves, led_world, memory_behind}
 use Rattle.mgs_laws.proofs.Plays.{act_alike, act_saves_nothing}
 
 -- WHAT COMES NEXT, by what the session has still to do
@@ -18,10 +18,10 @@ unfolding next
 turn_todo w id x found = ap (λ (o : Option Session). turn_seen (option_map (view w) o)) found
 
 -- AN ACT OF A BYTE THAT IS PLAYED saves nothing, and is the same for any answer of the store
-pub leads_played : (id : ℕ) (s t : Bool) (w v : World) (own : Own) (c : Act) (x : Session) → find_session id w.sessions ≡ Some x → own.playing ≡ true → turn_in w id ≡ Do own c → v ≡ act (with_own id (λ old. own) w) id c s → Leads id t 1 [] w v
+pub leads_played : (id : ℕ) (s t : Bool) (w v : World) (own : Own) (c : Act) (x : Session) → find_session id w.sessions ≡ Some x → own.playing ≡ true → turn_in w id ≡ Do own c → v ≡ act (with_own id (λ old. own) w) id c s → LeadsOnce id t [] w v
 leads_played id s t w v own c x found playing is does =
-    subst (λ (saved : List Saved). Leads id t 1 saved w v) (act_saves_nothing w id own x found playing c t)
-    (leads_acted id t w v own c is (does ∙ act_alike w id own x found playing c s t))
+    subst (λ (saved : List Saved). LeadsOnce id t saved w v) (act_saves_nothing w id own x found playing c t)
+    (leads_once id t w v own c is (does ∙ act_alike w id own x found playing c s t))
 
 -- A BYTE OF AN OPEN SESSION
 module _ (w u : World) (id byte : ℕ) (stored : Bool) (used : ℕ) (saved : List Saved) (here : is_some (find_session id w.sessions) ≡ true) (l : Leads id stored used saved (with_own id (begun_own byte) w) u) where

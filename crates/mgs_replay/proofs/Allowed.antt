@@ -1,5 +1,5 @@
 -- What a script prints for any choices is what it may print.
-use Rattle.std.proofs.Common.{◌≡◌, ℕ, ◌+◌, ◌<◌, ◌≤◌, ◌^◌, nat_eq, nat_le, eqb-true, arith, Bool, true, false, cond, List, [], ◌∷◌, ◌++◌, map, Option, Some, None, Result, Err, refl, sym, ap, subst, ◌∙◌, inl, inr}
+use Rattle.std.proofs.Common.{◌≡◌, ℕ, zero, suc, ◌||◌, ◌+◌, ◌<◌, ◌≤◌, ◌^◌, nat_eq, nat_le, eqb-true, arith, Bool, true, false, cond, List, [], ◌∷◌, ◌++◌, map, Option, Some, None, Result, Err, refl, sym, ap, subst, ◌∙◌, inl, inr}
 use Rattle.std.specs.Prelude.{◌↔◌, ◌⊎◌, find, All, IsSome, is_some, not, ◌&&◌, if◌then◌else◌}
 use Rattle.std.specs.Option.{option_map, option_or}
 use Rattle.std.proofs.lemmas.Bool.Decides.{nat_tests}
@@ -11,7 +11,7 @@ use Rattle.mgs_model.specs.declared.errors.Keyed.{Keyed}
 use Rattle.mgs_model.specs.declared.errors.Keyed.TheVariants as keyed
 use Rattle.mgs_model.specs.declared.errors.OpenFault.{OpenFault}
 use Rattle.mgs_model.specs.declared.errors.OpenFault.TheVariants as opening
-use Rattle.mgs_store.specs.Stores.{StoreTold}
+use Rattle.mgs_store.specs.Stores.{StoreTold, IsCounted}
 use Rattle.mgs_core.specs.Steps.{KeyedBy, OpenedBy}
 use Rattle.mgs_script.specs.Lines.{Said, said_in}
 use Rattle.mgs_script.specs.Lines as said
@@ -24,6 +24,7 @@ use Rattle.mgs_replay.specs.Plays.{RefusedAt, Plays, MayPrint}
 use Rattle.mgs_replay.specs.Served.{Differ, IsApart, AreApart}
 use Rattle.mgs_replay.specs.Replayed.{Choice, next_choice, next_choices, later, stop_of, world_keyed, answer_of, key_answer, typed_one, typed, open_answer, did_open, session_text, label_text, closed, did_by, Replayed, after_print, line_then, played_with, replayed_with}
 use Rattle.mgs_core.proofs.Ids.{All-found}
+use Rattle.mgs_replay.proofs.FirstRefused.{is_first, may_first, step_first}
 use Rattle.mgs_replay.proofs.Labels.{differ_never, apart_push, apart_gone, each}
 use Rattle.mgs_replay.proofs.Staying.{Beside, is_found, beside_close, stays_refused, opened_next, opened_others, opened_stays, opened_there}
 use Rattle.mgs_replay.proofs.There.{IsThere, AreThere, there_now, are_kept, are_still, are_gone, keyed_beside, keyed_still}
@@ -186,21 +187,46 @@ keyed_is c w id byte = refl
 silent : ℕ → StoreTold
 silent faults = record { failed = faults; accepted = None }
 
-keyed_by : (c : Choice) (w : World) (id byte : ℕ) → is_open id w ≡ true → KeyedBy w (world_keyed c w id byte) (silent 0) (silent 1) id byte (key_answer c w id byte)
+-- where memory was refused to the first act, it was asked for nothing
+faults : Option ℕ → ℕ
+faults stop = cond (is_first stop) 0 1
+
+fault_counted : (stop : Option ℕ) (stored : Bool) → (is_first stop || stored) ≡ false → IsCounted 0 (faults stop)
+unfolding faults
+fault_counted None stored h = inl (omega arith)
+fault_counted (Some zero) stored h = cc
+fault_counted (Some (suc n)) stored h = inl (omega arith)
+
+first_unasked : (stop : Option ℕ) → stop ≡ Some 0 → silent (faults stop) ≡ silent 0
+unfolding faults
+first_unasked None e = cc
+first_unasked (Some zero) e = refl
+first_unasked (Some (suc n)) e = cc
+
+keyed_stopped : (c : Choice) (w : World) (id byte : ℕ) → is_open id w ≡ true → (stop : Option ℕ) → stop_of c w id byte ≡ stop → KeyedBy w (world_keyed c w id byte) (silent 0) (silent (faults stop)) id byte (key_answer c w id byte)
 unfolding key_answer silent
-keyed_by c w id byte there =
-    let fits = answer_fits (find_session id w.sessions) (find_session id (world_keyed c w id byte).sessions) (stop_of c w id byte) there (refused_kept c w id byte there) in
+keyed_stopped c w id byte there stop is =
+    let o = find_session id w.sessions in
+    let p = find_session id (world_keyed c w id byte).sessions in
+    let fits = subst (λ (m : Option ℕ). IsAnswer o p m (key_answer c w id byte)) is (answer_fits o p (stop_of c w id byte) there (refused_kept c w id byte there)) in
     record {
-      stored = c.stored;
-      stop = stop_of c w id byte;
-      step = keyed_is c w id byte;
+      stored = is_first stop || c.stored;
+      stop = stop;
+      step =
+          keyed_is c w id byte
+          ∙ ap (λ (m : Option ℕ). step w (events.Byte id byte c.stored m)) is
+          ∙ step_first w id byte c.stored stop;
       short = fits.0;
       no_session = fits.1;
       quit = fits.2;
-      may = refused_may c w id byte;
-      fault = λ e. inl (omega arith);
+      may = λ h. may_first w id byte c.stored stop (subst (λ (m : Option ℕ). IsSome m → may_be_refused (refused_act w id byte c.stored m) ≡ true) is (refused_may c w id byte) h);
+      fault = fault_counted stop c.stored;
       saves = refl;
+      unasked = first_unasked stop;
     }
+
+keyed_by : (c : Choice) (w : World) (id byte : ℕ) → is_open id w ≡ true → KeyedBy w (world_keyed c w id byte) (silent 0) (silent (faults (stop_of c w id byte))) id byte (key_answer c w id byte)
+keyed_by c w id byte there = keyed_stopped c w id byte there (stop_of c w id byte) refl
 
 sound_keyed : {before after : StoreTold} (k : Keyed) (w v : World) (name : List ℕ) (id byte : ℕ) (ls : List Label) → KeyedBy w v before after id byte k → session_now (standing_of name ls) ≡ Some id → IsSound w ls → IsSound v (labels_keyed k name ls)
 sound_keyed keyed.Quit w v name id byte ls by now h = sound_gone w v name id causes.Quit ls (keyed_beside w v id byte keyed.Quit by) now h
@@ -216,7 +242,7 @@ one_allowed c None s name byte now h = (refl, h)
 one_allowed c (Some id) s name byte now h =
     let by = keyed_by c s.world id byte (there_now s.world name id s.labels now h.there) in
     let k = key_answer c s.world id byte in
-    ((k, (silent 0, silent 1, by), refl, refl), sound_keyed k s.world (world_keyed c s.world id byte) name id byte s.labels by now h)
+    ((k, (silent 0, silent (faults (stop_of c s.world id byte)), by), refl, refl), sound_keyed k s.world (world_keyed c s.world id byte) name id byte s.labels by now h)
 
 all_allowed : (cs : List Choice) (s : Player) (name keys : List ℕ) → IsSoundPlayer s → Types s name keys (typed cs s name keys) × IsSoundPlayer (typed cs s name keys)
 all_allowed cs s name [] h = (refl, h)
@@ -302,6 +328,7 @@ said_allowed cs s said.Nothing e h = ((refl, refl), h)
 said_allowed cs s (said.User name) e h = ((refl, refl), record { there = h.there; given = h.given; fresh = h.fresh; apart = h.apart })
 said_allowed cs s (said.Group name members) e h = ((refl, refl), record { there = h.there; given = h.given; fresh = h.fresh; apart = h.apart })
 said_allowed cs s (said.Buffer name owner) e h = ((refl, refl), record { there = h.there; given = h.given; fresh = h.fresh; apart = h.apart })
+said_allowed cs s (said.OwnGroup buffer group) e h = ((refl, refl), record { there = h.there; given = h.given; fresh = h.fresh; apart = h.apart })
 said_allowed cs s (said.Entry buffer entry) e h = ((refl, refl), record { there = h.there; given = h.given; fresh = h.fresh; apart = h.apart })
 said_allowed cs s (said.Text buffer chars) e h = ((refl, refl), record { there = h.there; given = h.given; fresh = h.fresh; apart = h.apart })
 said_allowed cs s (said.Open name user rows cols) e h =

@@ -14,4 +14,5 @@ pub mod Drafts
 pub mod Fits
 pub mod Replaying
 pub mod Staying
+pub mod FirstRefused
 pub mod Allowed

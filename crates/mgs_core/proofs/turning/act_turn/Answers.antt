@@ -4,6 +4,7 @@ use Rattle.mgs_buffers.specs.Judging.{AreJudged, rules_kept}
 use Rattle.mgs_model.specs.Apart.{Apart}
 use Rattle.mgs_model.specs.declared.touched.Touched.TheVariants.{Nowhere}
 use Rattle.mgs_laws.proofs.Apart.{apart_same}
+use Rattle.mgs_store.specs.Stores.{store_told}
 use Rattle.mgs_world.specs.Worlds.{buffers_of, world_of}
 use Rattle.mgs_world.proofs.Soundness.{sound_set, sizes_set}
 use Rattle.mgs_core.specs.Stepped.{before_of}
@@ -48,7 +49,7 @@ returns-in-Err-clause-acted g c next =
       told = refused_in_world c.args.directory.now c.args.buffers.now c.do_deed.new.buffers c.args.sessions.now ys next c.args.id c.args.at (get_or ys c.args.at c.index-sessions-at.result) c.refuse.new.session (before_of c.args.before.now c.args.deed) c.take_before.result c.args.kind c.args.is_playing
           c.requires.place c.requires.within c.do_deed.ensures.sizes (ap (get_or ys c.args.at) c.index-sessions-at.is) c.take_before.ensures c.refuse.ensures (c.in-Err.ensures.err next);
       may = c.in-Err.ensures.may c.args.id next c.requires.place;
-      accepted = c.in-Err.ensures.accepted;
+      left = ap (λ s. store_told g.S.Store.failed g.S.Store.accepted s) c.in-Err.ensures.unasked;
     }
 
 pub returns-in-Err-clause-touched : goal.returns-in-Err-clause-touched

@@ -11,7 +11,7 @@ use Rattle.mgs_core.proofs.Sought.{character_held, search_breaks, search_puts, s
 use Rattle.mgs_core.proofs.typing.step_character.Goals as goal
 
 pub returns-in-Begun : goal.returns-in-Begun
-returns-in-Begun c directory ks before =
+returns-in-Begun c before directory ks =
     let y = c.args.session.now in
     let f = c.args.sought in
     let s = finding c.args.name c.args.origin c.args.anchor f in
@@ -23,7 +23,7 @@ returns-in-Begun c directory ks before =
     (character_held y c.hold_keyboard.new.session c.feed_character-sequence.new.self c.feed_character-sequence.result Begun c.args.byte c.requires.still c.hold_keyboard.ensures c.feed_character-sequence.ensures.held c.in-Begun.is)))
 
 pub returns-in-Whole : goal.returns-in-Whole
-returns-in-Whole c directory ks before =
+returns-in-Whole c before directory ks =
     let y = c.args.session.now in
     let f = c.args.sought in
     let g = c.put-step.new.self in
@@ -36,7 +36,7 @@ returns-in-Whole c directory ks before =
     (character_held y c.hold_keyboard.new.session c.feed_character-sequence.new.self c.feed_character-sequence.result e c.args.byte c.requires.still c.hold_keyboard.ensures c.feed_character-sequence.ensures.held c.in-Whole.is)))
 
 pub returns-in-Broken : goal.returns-in-Broken
-returns-in-Broken c directory ks before =
+returns-in-Broken c before directory ks =
     let y = c.args.session.now in
     let f = c.args.sought in
     let s = finding c.args.name c.args.origin c.args.anchor f in

@@ -10,7 +10,7 @@ use Rattle.mgs_core.proofs.Sought.{foreign_step, read_again, read_at, search_end
 use Rattle.mgs_core.proofs.typing.step_find.Goals as goal
 
 pub returns-then-is_character_byte : goal.returns-then-is_character_byte
-returns-then-is_character_byte c directory ks = c.step_character.ensures directory ks c.args.before.now
+returns-then-is_character_byte c directory ks = c.step_character.ensures c.args.before.now directory ks
 
 pub step_character-requires-clause-past : goal.step_character-requires-clause-past
 step_character-requires-clause-past c = sym c.is_character_byte.ensures ∙ c.if-is_character_byte.true

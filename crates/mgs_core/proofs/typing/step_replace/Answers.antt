@@ -12,14 +12,14 @@ use Rattle.mgs_core.proofs.Sought.{still_search}
 use Rattle.mgs_core.proofs.typing.step_replace.Goals as goal
 
 pub returns-in-Ends : goal.returns-in-Ends
-returns-in-Ends c directory ks before =
+returns-in-Ends c before directory ks =
     let y = c.args.session.now in
     let r = c.args.replacing in
     still_search directory ks y c.end_replacing.new.session (replacing_at c.args.name c.args.origin c.args.anchor r) c.args.byte before Kept c.requires.still
     (replace_ends directory ks y c.end_replacing.new.session c.args.name c.args.origin c.args.anchor r c.args.byte c.requires.alone c.replace_key.result c.replace_key.ensures c.in-Ends.is c.requires.still (c.end_replacing.ensures ∙ ap (λ (n : ℕ). told (Replaced n) (unprompted y)) c.count.ensures.value))
 
 pub returns-in-Replaces : goal.returns-in-Replaces
-returns-in-Replaces c directory ks before =
+returns-in-Replaces c before directory ks =
     let y = c.args.session.now in
     let r = c.args.replacing in
     let s = replacing_at c.args.name c.args.origin c.args.anchor r in
@@ -27,7 +27,7 @@ returns-in-Replaces c directory ks before =
     (replace_one directory ks y c.hold_replacing.new.session c.args.name c.args.origin c.args.anchor r c.args.byte c.requires.alone before c.replace_key.result c.replace_key.ensures c.in-Replaces.is (c.hold_replacing.ensures ∙ ap (λ (w : Session). searching s (told Silent w)) c.requires.still))
 
 pub returns-in-ReplacesLast : goal.returns-in-ReplacesLast
-returns-in-ReplacesLast c directory ks before =
+returns-in-ReplacesLast c before directory ks =
     let y = c.args.session.now in
     let r = c.args.replacing in
     let s = replacing_at c.args.name c.args.origin c.args.anchor r in
@@ -35,7 +35,7 @@ returns-in-ReplacesLast c directory ks before =
     (replace_last directory ks y c.hold_replacing-in-ReplacesLast.new.session c.args.name c.args.origin c.args.anchor r c.args.byte c.requires.alone before c.replace_key.result c.replace_key.ensures c.in-ReplacesLast.is (c.hold_replacing-in-ReplacesLast.ensures ∙ ap (λ (w : Session). searching s (told Silent w)) c.requires.still))
 
 pub returns-in-Skips : goal.returns-in-Skips
-returns-in-Skips c directory ks before =
+returns-in-Skips c before directory ks =
     let y = c.args.session.now in
     let r = c.args.replacing in
     let s = replacing_at c.args.name c.args.origin c.args.anchor r in
