@@ -11,7 +11,7 @@ use mio::net::{TcpListener, TcpStream};
 use mio::{Interest, Registry, Token};
 use slab::Slab;
 use std::alloc::Global;
-use std::io::Write;
+use std::io::{ErrorKind, Write};
 
 // The most connections that are taken in one turn.
 const ACCEPTED_AT_ONCE: usize = 64;
@@ -65,20 +65,22 @@ fn admit(
     }
 }
 
-/// Takes the connections that wait, 64 at most. One past the 64th that is open is answered `refused 5 Full` and closed.
+/// Takes the connections that wait, 64 at most. One past the 64th that is open is answered `refused 5 Full` and closed. True: more may
+/// wait, since 64 were taken, or one could not be.
 pub(crate) fn accept_all(
     alloc: Global,
     registry: &Registry,
     listener: &TcpListener,
     peers: &mut Slab<Peer<TcpStream>>,
-)
+) -> bool
     ensures limit { slab_len peers.old ≤ SESSION_LIMIT → slab_len peers.new ≤ SESSION_LIMIT }
     ensures taken { Taken (peers_of peers.old) (peers_of peers.new) }
 {
     for _ in 0..ACCEPTED_AT_ONCE {
         match listener.accept() {
             Ok((stream, _)) => admit(alloc, registry, peers, stream),
-            Err(_) => return,
+            Err(e) => return e.kind() != ErrorKind::WouldBlock,
         }
     }
+    true
 }

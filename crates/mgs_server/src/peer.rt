@@ -1,11 +1,12 @@
 // Connections with their streams.
-ghost use Rattle.std.specs.Prelude.{◌≡◌, ℕ, [], true, false, List, IfOk};
+ghost use Rattle.std.specs.Prelude.{◌≡◌, ◌<◌, ℕ, [], true, false, List, IfOk, IfSome};
 ghost use Rattle.mgs_wire.specs.Connections.{Breaks, Logging_in, is_over, is_reading};
 ghost use Rattle.mgs_wire.specs.Pumps.{PumpsIn, Finishes};
+ghost use Rattle.mgs_server.specs.declared.sips.TheConstants.{BYTES_AT_ONCE};
 ghost use Rattle.mgs_server.specs.Peers.{IsUnread, Stepped, is_closing, is_taking};
 
 use crate::accept::both_ways;
-use crate::sips::Sips;
+use crate::sips::{BYTES_AT_ONCE, Sips};
 use mgs_model::{Short, Tickets};
 use mgs_wire::{Conn, PumpedIn, Sessions, pump_in, pump_out};
 use mio::event::Source;
@@ -17,10 +18,11 @@ use std::time::{Duration, Instant};
 // The seconds in which a connection's login line has to end.
 const LOGIN_SECS: u64 = 60;
 
-/// A stream is reported again, if it is ready still. Only `Peer::report_again` makes one, so that who has one has asked.
+/// A stream is reported once it can be read: that was asked for, or all that was there was read and more can come, which the system
+/// reports by itself. Only `Peer::report_next` makes one.
 #[derive(Drop)]
 pub(crate) struct Reported {
-    _again: (),
+    is_asked: bool,
 }
 
 /// A connection and its stream.
@@ -108,12 +110,23 @@ impl<S: Drop> Peer<S> {
 }
 
 impl<S: Source + Drop> Peer<S> {
-    /// Has its stream reported again, if it is ready still. None: that could not be done.
-    pub(crate) fn report_again(&mut self, registry: &Registry, token: Token) -> Option<Reported>
-        ensures { self.new.conn ≡ self.old.conn }
+    /// Has its stream reported once it can be read, after a read that took so many bytes. That is asked for where more may be there: the
+    /// read was full, or the peer has closed its side, which is told once. None: it could not be done.
+    pub(crate) fn report_next(
+        &mut self,
+        registry: &Registry,
+        token: Token,
+        taken: usize,
+        is_closed: bool,
+    ) -> Option<Reported>
+        ensures same { self.new.conn ≡ self.old.conn }
+        ensures asked { IfSome result (λ r. r.is_asked ≡ false → (taken < BYTES_AT_ONCE) × (is_closed ≡ false)) }
     {
+        if taken < BYTES_AT_ONCE && !is_closed {
+            return Some(Reported { is_asked: false });
+        }
         match registry.reregister(&mut self.stream.stream, token, both_ways()) {
-            Ok(()) => Some(Reported { _again: () }),
+            Ok(()) => Some(Reported { is_asked: true }),
             Err(_) => None,
         }
     }

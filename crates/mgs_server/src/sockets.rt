@@ -1,12 +1,13 @@
 // The sockets of a server.
 ghost use Rattle.std.specs.Prelude.{◌≡◌, ◌≢◌, ℕ, [], true, List, IfOk, IsNone};
-ghost use Rattle.mgs_server.specs.Peers.{IsOverAt, IsUnread, Moved, Stepped, desk, peers_of, slots_of};
+ghost use Rattle.mgs_server.specs.Peers.{IsOverAt, IsUnread, Moved, Stepped, Taken, desk, peers_of, slots_of};
 
 use crate::accept::accept_all;
 use crate::fault::{ListenFault, PollFailed};
 use crate::peer::{Peer, Reported};
 use mgs_model::{SESSION_LIMIT, Tickets};
 use mgs_wire::{PumpedIn, Sessions};
+use mio::event::Event;
 use mio::net::{TcpListener, TcpStream};
 use mio::{Events, Interest, Poll, Registry, Token};
 use slab::Slab;
@@ -30,6 +31,8 @@ pub(crate) struct Sockets {
     alloc: Global,
     peers: Slab<Peer<TcpStream>>,
     listener: TcpListener,
+    // Whether connections may wait of which the listener is not reported again.
+    are_left: bool,
     poll: Poll,
     events: Events,
 }
@@ -68,26 +71,55 @@ fn watch(net: &impl Net, listener: &mut TcpListener) -> io::Result<Poll> {
     Ok(poll)
 }
 
-// Reads a connection once. One of which something was read is reported again, since more may be there; where that cannot be done it is
-// given up. None: nothing was read, or nothing more is.
+// Whether something was reported of a token.
+fn is_reported(events: &Events, token: Token) -> bool {
+    for event in events {
+        if event.token() == token {
+            return true;
+        }
+    }
+    false
+}
+
+// Takes the connections that wait, where the listener was reported, or some were left. True: some may be left.
+fn accept_reported(
+    alloc: Global,
+    registry: &Registry,
+    listener: &TcpListener,
+    peers: &mut Slab<Peer<TcpStream>>,
+    events: &Events,
+    are_left: bool,
+) -> bool
+    ensures { Taken (peers_of peers.old) (peers_of peers.new) }
+{
+    if !are_left && !is_reported(events, LISTENER) {
+        return false;
+    }
+    accept_all(alloc, registry, listener, peers)
+}
+
+// Reads a connection of which this was reported once. One of which something was read is reported once there is more; where that cannot be
+// done it is given up. None: nothing was read, or nothing more is.
 fn read_peer<E: Sessions>(
     registry: &Registry,
     engine: &mut E,
     tickets: &Tickets,
     peer: &mut Peer<TcpStream>,
-    token: Token,
+    event: &Event,
 ) -> Option<Reported>
     ensures steps { Stepped E.does E.live E.pending tickets.now peer.old.conn engine.old peer.new.conn engine.new }
     ensures unread { IsNone result → IsUnread peer.old.conn engine.old peer.new.conn engine.new }
 {
     match peer.read(engine, tickets) {
-        PumpedIn::Took(_) => match peer.report_again(registry, token) {
-            Some(reported) => Some(reported),
-            None => {
-                peer.give_up(engine);
-                None
+        PumpedIn::Took(taken) => {
+            match peer.report_next(registry, event.token(), taken, event.is_read_closed()) {
+                Some(reported) => Some(reported),
+                None => {
+                    peer.give_up(engine);
+                    None
+                }
             }
-        },
+        }
         PumpedIn::Idle | PumpedIn::Finished | PumpedIn::Failed => None,
     }
 }
@@ -121,32 +153,32 @@ fn write_all<E: Sessions>(engine: &mut E, peers: &mut Slab<Peer<TcpStream>>)
     }
 }
 
-// Reads the connection of a token once, if there is one.
+// Reads the connection of which this was reported once, if there is one.
 fn read_one<E: Sessions>(
     registry: &Registry,
     engine: &mut E,
     tickets: &Tickets,
     peers: &mut Slab<Peer<TcpStream>>,
-    token: Token,
+    event: &Event,
 )
     ensures { Moved E.does E.live E.pending tickets.now (desk engine.old (peers_of peers.old)) (desk engine.new (peers_of peers.new)) }
 {
-    if let Some(peer) = peers.get_mut(token.0) {
-        let _reported = read_peer(registry, engine, tickets, peer, token);
+    if let Some(peer) = peers.get_mut(event.token().0) {
+        let _reported = read_peer(registry, engine, tickets, peer, event);
     }
 }
 
-// Reads the connection of a token once, if there is one, and writes to each what it made wait.
+// Reads the connection of which this was reported once, if there is one, and writes to each what it made wait.
 fn serve_one<E: Sessions>(
     registry: &Registry,
     engine: &mut E,
     tickets: &Tickets,
     peers: &mut Slab<Peer<TcpStream>>,
-    token: Token,
+    event: &Event,
 )
     ensures { Moved E.does E.live E.pending tickets.now (desk engine.old (peers_of peers.old)) (desk engine.new (peers_of peers.new)) }
 {
-    read_one(registry, engine, tickets, peers, token);
+    read_one(registry, engine, tickets, peers, event);
     write_all(engine, peers);
 }
 
@@ -161,7 +193,7 @@ fn serve_ready<E: Sessions>(
     ensures { Moved E.does E.live E.pending tickets.now (desk engine.old (peers_of peers.old)) (desk engine.new (peers_of peers.new)) }
 {
     for event in events {
-        serve_one(registry, engine, tickets, peers, event.token());
+        serve_one(registry, engine, tickets, peers, event);
     }
 }
 
@@ -227,6 +259,7 @@ impl Sockets {
             alloc,
             peers,
             listener,
+            are_left: false,
             poll,
             events,
         };
@@ -249,7 +282,14 @@ impl Sockets {
         ensures { Moved E.does E.live E.pending tickets.now (desk engine.old (peers_of self.old.peers)) (desk engine.new (peers_of self.new.peers)) }
     {
         let registry = self.poll.registry();
-        accept_all(self.alloc, registry, &self.listener, &mut self.peers);
+        self.are_left = accept_reported(
+            self.alloc,
+            registry,
+            &self.listener,
+            &mut self.peers,
+            &self.events,
+            self.are_left,
+        );
         serve_ready(registry, engine, tickets, &mut self.peers, &self.events);
     }
 
