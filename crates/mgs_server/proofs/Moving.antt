@@ -1,6 +1,6 @@
 -- What is done with connections, one thing after another.
-use Rattle.std.proofs.Common.{◌≡◌, ℕ, zero, suc, map, Bool, true, false, List, [], ◌∷◌, ◌++◌, Option, Some, None, refl, sym, ap, subst, ◌∙◌}
-use Rattle.std.specs.Prelude.{option_map, slice_index_or, Result, Ok, Err, IfOk, OnErr, IsSome}
+use Rattle.std.proofs.Common.{◌≡◌, ℕ, zero, suc, map, Bool, true, false, List, [], ◌∷◌, ◌++◌, Option, Some, None, refl, sym, ap, subst, ◌∙◌, ◌==◌, length, eqb-true, arith}
+use Rattle.std.specs.Prelude.{option_map, slice_index_or, Result, Ok, Err, IfOk, OnErr, IsSome, not}
 use Rattle.slab.specs.Slab.{Slab, get, Updates, with_value}
 use Rattle.slab.proofs.SlabLemmas.{Updates-with_value}
 use Rattle.mgs_wire.specs.declared.pump.PumpedIn.{PumpedIn}
@@ -8,7 +8,7 @@ use Rattle.mgs_wire.specs.declared.pump.PumpedIn.TheVariants.{Took, Idle, Finish
 use Rattle.mgs_wire.specs.declared.pump.PumpedOut.{PumpedOut}
 use Rattle.mgs_wire.specs.declared.pump.PumpedOut.TheVariants as out
 use Rattle.mgs_wire.specs.Calls.{Call}
-use Rattle.mgs_wire.specs.Connections.{Connection, Logging_in, Serving, Refused, Over, waiting, is_logging_in, is_reading, stopped, Breaks, Ends, Writes}
+use Rattle.mgs_wire.specs.Connections.{Connection, Logging_in, Serving, Refused, Over, waiting, session_of, is_logging_in, is_reading, stopped, Breaks, Ends, Writes}
 use Rattle.mgs_wire.specs.Pumps.{PumpsIn, Finishes, Leaves, WritesFirst}
 use Rattle.mgs_server.specs.declared.peer.Peer.{Peer}
 use Rattle.mgs_server.specs.Calls.{Calls}
@@ -77,14 +77,30 @@ closing_broken does (Serving id) next old new p = ap is_closing p.0
 closing_broken does (Refused left) next old new p = ap is_closing p.0
 closing_broken does (Over session) next old new p = ap is_closing p.0
 
-closing_leaves : {E : Type 0} (does : E → Call → E → Type 0) (outcome : PumpedOut) (n : ℕ) (conn next : Connection) (old new : E) → is_closing conn ≡ true → Leaves does outcome n conn old next new → is_closing next ≡ true
+pub closing_leaves : {E : Type 0} (does : E → Call → E → Type 0) (outcome : PumpedOut) (n : ℕ) (conn next : Connection) (old new : E) → is_closing conn ≡ true → Leaves does outcome n conn old next new → is_closing next ≡ true
 closing_leaves does out.Drained n conn next old new c p = closing_written does n conn next old new c p
 closing_leaves does out.Blocked n conn next old new c p = closing_written does n conn next old new c p
 closing_leaves does out.Failed n conn next old new c p = closing_broken does p.0 next p.1 new p.3
 
--- nothing more is read of one that was stopped, whatever is written to it
-pub closing_stays : {E : Type 0} (does : E → Call → E → Type 0) (outcome : PumpedOut) (bytes : List ℕ) (held holds : Option (List ℕ)) (conn mid next : Connection) (old new : E) → mid ≡ stopped conn → WritesFirst does outcome bytes held holds mid old next new → is_closing next ≡ true
-closing_stays does outcome bytes held holds conn mid next old new e p = closing_leaves does outcome p.count mid next old new (ap is_closing e ∙ closing_stopped conn) p.leaves
+-- nothing more is read of one that was stopped
+pub closing_stopped_as : (conn mid : Connection) → mid ≡ stopped conn → is_closing mid ≡ true
+closing_stopped_as conn mid e = ap is_closing e ∙ closing_stopped conn
+
+-- WHEN NOTHING WAITS FOR ONE
+
+none_in : (xs : List ℕ) (empty : Bool) → empty ≡ (length xs == 0) → not empty ≡ false → xs ≡ []
+none_in [] empty e f = refl
+none_in (x ∷ xs) true e f = absurd (omega (arith, eqb-true (length (x ∷ xs)) 0 (sym e)))
+none_in (x ∷ xs) false e f = absurd cc
+
+-- its session has nothing
+pub none_waits : {E : Type 0} (pending : ℕ → E → List ℕ) (conn : Connection) (id : ℕ) (s : E) (xs : List ℕ) (empty : Bool) → session_of conn ≡ Some id → xs ≡ pending id s → empty ≡ (length xs == 0) → not empty ≡ false → waiting pending conn s ≡ []
+none_waits pending (Logging_in line) id s xs empty session is e f = refl
+none_waits pending (Serving own) id s xs empty session is e f =
+    let same : own ≡ id = cc in
+    ap (λ i. pending i s) same ∙ sym is ∙ none_in xs empty e f
+none_waits pending (Refused left) id s xs empty session is e f = absurd cc
+none_waits pending (Over had) id s xs empty session is e f = refl
 
 -- WHEN NOTHING WAS READ OF ONE
 
@@ -122,7 +138,7 @@ module _ {E : Type 0} (does : E → Call → E → Type 0) (live : ℕ → E →
   pub read_stepped : (answer : PumpedIn) (left rest : Option (List ℕ)) (conn next : Connection) (old new : E) → PumpsIn does live tickets answer left rest conn old next new → Finishes live answer conn old next new → Steps conn old next new
   read_stepped answer left rest conn next old new p q = record { steps = Reads answer ∷ []; made = (next, new, (left, rest, p, q), (refl, refl)) }
 
-  written_stepped : (answer : PumpedOut) (held holds : Option (List ℕ)) (conn next : Connection) (old new : E) → WritesFirst does answer (waiting pending conn old) held holds conn old next new → Steps conn old next new
+  pub written_stepped : (answer : PumpedOut) (held holds : Option (List ℕ)) (conn next : Connection) (old new : E) → WritesFirst does answer (waiting pending conn old) held holds conn old next new → Steps conn old next new
   written_stepped answer held holds conn next old new p = record { steps = Writing answer ∷ []; made = (next, new, (held, holds, p), (refl, refl)) }
 
   stopped_by : (conn mid : Connection) (old : E) (v : Bool) → is_reading live conn old ≡ v → (v ≡ true → mid ≡ conn) → (v ≡ false → mid ≡ stopped conn) → Steps conn old mid old
@@ -148,10 +164,8 @@ module _ {E : Type 0} (does : E → Call → E → Type 0) (live : ℕ → E →
   stepped_then conn between next old mid new p q = record { steps = p.steps ++ q.steps; made = steps_next conn between next old mid new p.steps q.steps p.made q.made }
 
   -- one whose session is not open is stopped, and then what waits is written
-  pub write_stepped : (answer : PumpedOut) (held holds : Option (List ℕ)) (conn mid next : Connection) (old new : E) → (is_reading live conn old ≡ true → mid ≡ conn) → (is_reading live conn old ≡ false → mid ≡ stopped conn)
-      → WritesFirst does answer (waiting pending mid old) held holds mid old next new → Steps conn old next new
-  write_stepped answer held holds conn mid next old new same stop p =
-      stepped_then conn mid next old old new (stopped_by conn mid old (is_reading live conn old) refl same stop) (written_stepped answer held holds mid next old new p)
+  pub write_stepped : (conn mid next : Connection) (old new : E) → (is_reading live conn old ≡ true → mid ≡ conn) → (is_reading live conn old ≡ false → mid ≡ stopped conn) → Steps mid old next new → Steps conn old next new
+  write_stepped conn mid next old new same stop p = stepped_then conn mid next old old new (stopped_by conn mid old (is_reading live conn old) refl same stop) p
 
   -- ALL
 

@@ -1,6 +1,6 @@
 // Connections with their streams.
 ghost use Rattle.std.specs.Prelude.{◌≡◌, ◌<◌, ℕ, [], true, false, List, IfOk, IfSome};
-ghost use Rattle.mgs_wire.specs.Connections.{Breaks, Logging_in, is_over, is_reading};
+ghost use Rattle.mgs_wire.specs.Connections.{Breaks, Logging_in, is_over, is_reading, waiting};
 ghost use Rattle.mgs_wire.specs.Pumps.{PumpsIn, Finishes};
 ghost use Rattle.mgs_server.specs.declared.sips.TheConstants.{BYTES_AT_ONCE};
 ghost use Rattle.mgs_server.specs.Peers.{IsUnread, Stepped, is_closing, is_taking};
@@ -34,6 +34,16 @@ pub(crate) struct Peer<S: Drop> {
     came: Option<Instant>,
 }
 
+// Whether bytes may wait for a connection. Of a session that has none the engine need not take any.
+fn may_wait<E: Sessions>(conn: &Conn, engine: &E) -> bool
+    ensures { result ≡ false → waiting E.pending conn.now engine.now ≡ [] }
+{
+    match conn.session() {
+        Some(id) => !engine.pending(id).is_empty(),
+        None => true,
+    }
+}
+
 impl<S: Read + Write + Drop> Peer<S> {
     /// A connection of which nothing was read. `Short`: memory was refused, and the stream is dropped.
     pub(crate) fn new(alloc: Global, stream: S) -> Result<Peer<S>, Short>
@@ -58,6 +68,16 @@ impl<S: Read + Write + Drop> Peer<S> {
         pump_in(&mut self.conn, engine, tickets, &mut self.stream)
     }
 
+    // Writes what waits for its stream, as far as that takes it.
+    fn write_waiting<E: Sessions>(&mut self, engine: &mut E)
+        ensures steps { (tickets : List (List ℕ × List ℕ)) → Stepped E.does E.live E.pending tickets self.old.conn engine.old self.new.conn engine.new }
+        ensures closing { is_closing self.old.conn ≡ true → is_closing self.new.conn ≡ true }
+    {
+        if may_wait(&self.conn, engine) {
+            let _ = pump_out(&mut self.conn, engine, &mut self.stream);
+        }
+    }
+
     /// Writes what waits for its stream, as far as that takes it. True: the connection is over, and its stream can be closed. That is
     /// so where its session is not open, where the line of its refusal was written, and where writing failed.
     pub(crate) fn write<E: Sessions>(&mut self, engine: &mut E) -> bool
@@ -66,7 +86,7 @@ impl<S: Read + Write + Drop> Peer<S> {
         ensures closing { is_reading E.live self.old.conn engine.old ≡ false → is_closing self.new.conn ≡ true }
     {
         let _ = self.conn.is_finished(engine);
-        let _ = pump_out(&mut self.conn, engine, &mut self.stream);
+        self.write_waiting(engine);
         self.conn.is_over()
     }
 }
