@@ -3,13 +3,14 @@
 // changed cell on, writes the cells that differ, and brings the mode line and the cursor to what docs/COMMANDS.md says of them. It calls no
 // system, has one size of screen, and proves nothing.
 //
-// usage: limit KEYS [check]    (KEYS up to 78: the point stays on the screen; check plays the bytes on a terminal, and compares after each key)
+// usage: limit KEYS LINES [check]    (KEYS up to 78, so that the point stays on the screen; LINES of words up to 400; check plays the bytes on a
+// terminal, and compares after each key)
 #include <stdint.h>
 #include <stdio.h>
 #include <stdlib.h>
 #include <string.h>
 
-enum { ROWS = 24, COLS = 80, TEXT_ROWS = ROWS - 2, MODE = ROWS - 2, LINES = 400, LINE = 60, ROOM = 1024, EDITS = 1000, MOST_KEYS = COLS - 2 };
+enum { ROWS = 24, COLS = 80, TEXT_ROWS = ROWS - 2, MODE = ROWS - 2, MOST_LINES = 400, LINE = 60, WORD = 5, ROOM = 1024, EDITS = 1000, MOST_KEYS = COLS - 2 };
 enum { ALLOW, DENY };
 enum { OWNER, USER, EVERYONE };
 enum { READ = 1, WRITE = 2, APPEND = 4 };
@@ -21,8 +22,10 @@ typedef struct { size_t at, length; } Edit;
 typedef uint32_t Cell;
 
 // The text: what stands before `gap`, and what stands from `after` on.
-static uint32_t text[LINES * (LINE + 1) + ROOM];
-static size_t gap, after = ROOM;
+static uint32_t text[MOST_LINES * (LINE + 1) + ROOM];
+static size_t gap, after;
+// A character of a line: words of x, with a space behind each.
+static char letter_at(size_t column) { return column % (WORD + 1) == WORD ? ' ' : 'x'; }
 static size_t length_of_text(void) { return sizeof text / sizeof *text - (after - gap); }
 
 static Edit edits[EDITS];
@@ -31,6 +34,7 @@ static const Entry list[] = {{ALLOW, OWNER, 0, READ | WRITE | APPEND}};
 static int owner, user;
 static int is_modified;
 static size_t point, line_start, line_number = 1;
+static int line_count;
 
 // What the terminal shows, where its cursor is, and what it is still to be sent.
 static Cell cells[ROWS][COLS];
@@ -163,7 +167,7 @@ static void draw_all(void) {
     used = (size_t)sprintf(out, "\x1b[m\x1b[2J\x1b[1;1H");
     const uint32_t *rest = text + after;
     for (int row = 0; row < TEXT_ROWS; row++)
-        rest = draw_row(row, 0, rest) + 1;
+        rest = draw_row(row, 0, rest) + (row < line_count);
     for (int col = 0; col < COLS; col++)
         put(MODE, col, '-' | REVERSED);
     column_at = put_text(put_number(put_text(3, "-busy-L"), line_number), "-C");
@@ -211,10 +215,14 @@ static int row_is(int row, const char *wanted, Cell reversed) {
 static int is_as_it_should_be(size_t typed) {
     char wanted[2 * COLS + LINE], place[64];
     for (int row = 0; row < ROWS; row++) {
-        size_t length = row < TEXT_ROWS ? LINE + (row == 0 ? typed : 0) : 0;
+        size_t before = row == 0 ? typed : 0;
         memset(wanted, ' ', sizeof wanted);
-        memset(wanted, 'x', length);
-        if (length > COLS)
+        if (row < TEXT_ROWS) {
+            memset(wanted, 'x', before);
+            for (size_t column = 0; column < LINE && row < line_count; column++)
+                wanted[before + column] = letter_at(column);
+        }
+        if (before + LINE > COLS && line_count > 0)
             wanted[COLS - 1] = '$';
         if (row == MODE) {
             memset(wanted, '-', COLS);
@@ -227,13 +235,16 @@ static int is_as_it_should_be(size_t typed) {
 }
 
 int main(int count, char **words) {
-    int keys = count > 1 ? atoi(words[1]) : -1, is_checked = count > 2 && strcmp(words[2], "check") == 0;
-    if (keys < 0 || keys > MOST_KEYS || count > 2 + is_checked) {
-        fprintf(stderr, "usage: limit KEYS [check]\n");
+    int keys = count > 2 ? atoi(words[1]) : -1, is_checked = count > 3 && strcmp(words[3], "check") == 0;
+    line_count = count > 2 ? atoi(words[2]) : -1;
+    if (keys < 0 || keys > MOST_KEYS || line_count < 0 || line_count > MOST_LINES || count > 3 + is_checked) {
+        fprintf(stderr, "usage: limit KEYS LINES [check]\n");
         return 2;
     }
-    for (size_t i = 0; i < LINES * (LINE + 1); i++)
-        text[after + i] = i % (LINE + 1) == LINE ? '\n' : 'x';
+    int length = line_count * (LINE + 1);
+    after = sizeof text / sizeof *text - (size_t)length;
+    for (int i = 0; i < length; i++)
+        text[after + (size_t)i] = i % (LINE + 1) == LINE ? '\n' : (uint32_t)letter_at((size_t)(i % (LINE + 1)));
     for (int key = 0; key < 256; key++)
         commands[key] = key >= ' ' && key <= '~' ? insert : unbound;
     unsigned char typed[MOST_KEYS];
