@@ -20,7 +20,7 @@ from served import per_key as per_key_served
 from terminals import Missing, Terminals, in_terminal, need
 
 # How long an editor that runs under valgrind is waited for, in seconds: until it has drawn, after a key, and until nothing more comes.
-FIRST_DRAWN, KEY_DRAWN, QUIET = 20.0, 1.0, 0.1
+FIRST_DRAWN, KEY_DRAWN, QUIET = 20.0, 5.0, 0.1
 # C-x C-c, and what an editor may then have to be told to leave a changed text unsaved.
 LEAVE = (b"\x18\x03", b"n", b"y", b"\r", b"yes\r")
 EDITORS = {"mg": ["-n"], "jove": []}

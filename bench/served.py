@@ -1,7 +1,7 @@
 #!/usr/bin/env python3
 """A case that is played over a server: the instructions for each key, of the whole server and of its engine.
 
-The server runs under valgrind's callgrind; each key is typed once the one before was answered. The engine is all that is done below
+The server runs under valgrind's callgrind; each key is typed a pause after the answer to the one before. The engine is all that is done below
 `type_all` of mgs_wire, which hands a session's bytes to it: no sockets, and no writing of answers. A run of 2n keys less one of n, over n.
 
 usage: bench/served.py [--program PATH] [the options of bench/script.py]
@@ -25,7 +25,9 @@ from terminals import Missing, Terminals, need
 ENGINE = r"mgs_wire\b.*\btype_all\b"
 LEAVE = b"\x18\x03"
 # How long a key's answer is waited for, where it may have none; a login's answer; and the end of a session that left.
-ANSWER, LOGIN, END = 0.3, 60, 3600
+ANSWER, LOGIN, END = 0.5, 60, 3600
+# The pause between a key's answer and the next key: the server takes a second turn once a socket can be written to, and waits then.
+PAUSE = 0.02
 
 
 def config_of(case, folder):
@@ -45,7 +47,7 @@ def config_of(case, folder):
 
 @contextlib.contextmanager
 def serving(program, config, wrapper=()):
-    """Serves, with the words of a program before it that runs it. The port."""
+    """Serves, with the words of a program before it that runs it. The port, and the process."""
     if not os.access(program, os.X_OK):
         raise Missing(f"there is no program {program}; ./mgd prove builds one")
     server = subprocess.Popen([*wrapper, program, "serve", config, "0"], stdout=subprocess.PIPE, stderr=subprocess.DEVNULL)
@@ -53,7 +55,7 @@ def serving(program, config, wrapper=()):
         found = re.fullmatch(rb"listening 127\.0\.0\.1:(\d+)\n", server.stdout.readline())
         if found is None:
             raise Missing(f"{' '.join([*wrapper, program])} does not serve")
-        yield int(found[1])
+        yield int(found[1]), server.pid
     finally:
         server.terminate()
         # What runs it may end after it, and say what it counted.
@@ -62,13 +64,12 @@ def serving(program, config, wrapper=()):
 
 
 def log_in(port, user, case):
-    """A session, which has its first screen."""
+    """A session, whose first screen has come and is still to be read."""
     stream = socket.create_connection(("127.0.0.1", port), LOGIN)
     stream.setsockopt(socket.IPPROTO_TCP, socket.TCP_NODELAY, 1)
     stream.sendall(f"login {user} {user} {case.rows} {case.cols}\n".encode())
-    answer = stream.recv(65536)
-    if not answer.startswith(b"\x1b"):
-        raise Missing(f"{user} was answered {answer!r}")
+    if stream.recv(1, socket.MSG_PEEK) != b"\x1b":
+        raise Missing(f"{user} was answered {stream.recv(128)!r}")
     stream.settimeout(None)
     return stream
 
@@ -78,8 +79,10 @@ def play(case, port):
     with contextlib.ExitStack() as stack:
         streams = {label: stack.enter_context(log_in(port, user, case)) for label, user in opened(case)}
         terminals = Terminals(stream.fileno() for stream in streams.values())
+        terminals.settle(PAUSE, PAUSE)
         for label, tokens in [*prepared(case), *typed(case)]:
             terminals.type_in(streams[label].fileno(), bytes_of(tokens), ANSWER)
+            terminals.settle(PAUSE, PAUSE)
         # A session reads its bytes in order, so it ends after the last key.
         typists = {streams[label].fileno() for label, _ in typed(case)}
         for typist in typists:
@@ -103,7 +106,7 @@ def counted(program, case):
     need("valgrind")
     with tempfile.TemporaryDirectory() as folder:
         profile = os.path.join(folder, "profile")
-        with serving(program, config_of(case, folder), ["valgrind", "--tool=callgrind", f"--callgrind-out-file={profile}"]) as port:
+        with serving(program, config_of(case, folder), ["valgrind", "--tool=callgrind", f"--callgrind-out-file={profile}"]) as (port, _):
             play(case, port)
         listed = subprocess.run(
             ["callgrind_annotate", "--inclusive=yes", "--threshold=100", "--auto=no", profile], capture_output=True, text=True, check=True
