@@ -3,8 +3,9 @@
 
 The first of 1, 8 and 64 terminals types letters and deletes them, each key once all that the one before drew has come; all of them show one
 text. mg and the echo have one terminal. For each: the time to the typist's own screen and to the last of the screens, as the 50th and the
-99th of a hundred, and the system calls for each key of what serves one terminal. Then what 64 sessions paste into one text a second, to what
-one does. The times are those of a reader in Python, which the bare echo tells; on a busy machine they are worth nothing.
+99th of a hundred, and the system calls for each key of what serves one terminal. Then the keys that so many
+sessions paste into one text, for each second that the server has a processor. The times are those of a reader in Python, which the bare echo
+tells; on a busy machine they are worth nothing.
 
 usage: bench/latency.py [--keys N] [--clients N,..] [PROGRAM]
 """
@@ -25,7 +26,7 @@ from script import Case, text_of
 from served import LEAVE, config_of, log_in, serving
 from terminals import Missing, Terminals, in_terminal, need
 
-CASE = Case(text=24400)
+CASE = Case(text=24400, word=5)
 # Letters that the text does not have, so that each of them and each deletion is seen on all screens.
 KEYS = [letter.encode() for letter in "abcdefghijklmnopqrst"] + [b"\x7f"] * 20
 # How long is waited, in seconds: for a first screen and until it is whole, for a key's screens, and until all that a key drew has come.
@@ -65,11 +66,15 @@ def mgd(program):
     return functools.partial(served, program)
 
 
+def sessions(stack, port, count):
+    return [stack.enter_context(log_in(port, "ann", CASE)).fileno() for _ in range(count)]
+
+
 @contextlib.contextmanager
 def served(program, folder, count, wrapper=()):
     with contextlib.ExitStack() as stack:
-        port = stack.enter_context(serving(program, config_of(CASE, folder), wrapper))
-        yield [stack.enter_context(log_in(port, "ann", CASE)).fileno() for _ in range(count)]
+        port, _ = stack.enter_context(serving(program, config_of(CASE, folder), wrapper))
+        yield sessions(stack, port, count)
 
 
 def mg_alone(folder, _, wrapper=()):
@@ -81,14 +86,22 @@ def echo(folder, _, wrapper=()):
 
 
 @contextlib.contextmanager
-def shared(start, attach, end, count, **environment):
-    """A program that shows one screen on several terminals."""
-    subprocess.run(start, env={**os.environ, **environment}, stdout=subprocess.DEVNULL, check=True)
+def shared(words, start, attach, ask, end, count, **environment):
+    """A program that shows one screen on several terminals, by the words of its commands."""
+
+    def is_done(command):
+        return subprocess.run(command, env={**os.environ, **environment}, stdout=subprocess.DEVNULL, check=False).returncode == 0
+
+    if not is_done(start):
+        raise Missing(f"{' '.join(start)} does not start")
     try:
-        with running(*[attach] * count, kind="xterm", **environment) as terminals:
+        end_of_wait = time.monotonic() + FIRST
+        while not is_done([*words, *ask]) and time.monotonic() < end_of_wait:
+            time.sleep(0.1)
+        with running(*[[*words, *attach]] * count, kind="xterm", **environment) as terminals:
             yield terminals
     finally:
-        subprocess.run(end, env={**os.environ, **environment}, stdout=subprocess.DEVNULL, check=False)
+        is_done([*words, *end])
 
 
 def tmux(folder, count, wrapper=()):
@@ -97,7 +110,7 @@ def tmux(folder, count, wrapper=()):
     config.write_text("set -g status off\n")
     words = ["tmux", "-S", os.path.join(folder, "tmux"), "-f", str(config)]
     start = [*wrapper, *words, "new-session", "-d", "-x", str(CASE.cols), "-y", str(CASE.rows), *mg(folder)]
-    return shared(start, [*words, "attach"], [*words, "kill-server"], count)
+    return shared(words, start, ["attach"], ["has-session"], ["kill-server"], count)
 
 
 def screen(folder, count, wrapper=()):
@@ -105,7 +118,8 @@ def screen(folder, count, wrapper=()):
     sockets = pathlib.Path(folder, "screens")
     sockets.mkdir(mode=0o700, exist_ok=True)
     words = ["screen", "-c", "/dev/null", "-S", "latency"]
-    return shared([*wrapper, *words, "-d", "-m", *mg(folder)], [*words, "-x"], [*words, "-X", "quit"], count, SCREENDIR=str(sockets))
+    start = [*wrapper, *words, "-d", "-m", *mg(folder)]
+    return shared(words, start, ["-x"], ["-Q", "windows"], ["-X", "quit"], count, SCREENDIR=str(sockets))
 
 
 def keys(count):
@@ -113,9 +127,14 @@ def keys(count):
 
 
 def first_screens(terminals):
-    all_of_them = Terminals(terminals)
-    all_of_them.settle(FIRST if len(terminals) == 1 else WHOLE, WHOLE)
-    return all_of_them
+    together = Terminals(terminals)
+    end = time.monotonic() + FIRST
+    while any(together.taken[terminal] == 0 for terminal in together.open) and time.monotonic() < end:
+        together.take(end - time.monotonic())
+    together.settle(WHOLE, WHOLE)
+    if together.open != set(terminals):
+        raise Missing(f"{len(terminals) - len(together.open)} of {len(terminals)} terminals ended at once")
+    return together
 
 
 def times(subject, count, number):
@@ -164,18 +183,28 @@ def system_calls(subject, number=CALLS_KEYS):
     return (counts[1] - counts[0]) / number
 
 
+def processor_time(process):
+    """The seconds that a process ran."""
+    try:
+        return int(pathlib.Path(f"/proc/{process}/schedstat").read_text().split()[0]) / 1e9
+    except FileNotFoundError:
+        raise Missing("the system does not tell how long a process ran") from None
+
+
 @functools.cache
 def pasted(program, count):
-    """The keys for each second, where so many sessions paste into one text."""
+    """The keys for each second that the server runs, where so many sessions paste into one text."""
     each = PASTED_LINE * (PASTED // count // len(PASTED_LINE))
-    with tempfile.TemporaryDirectory() as folder, served(program, folder, count) as streams:
+    with tempfile.TemporaryDirectory() as folder, contextlib.ExitStack() as stack:
+        port, server = stack.enter_context(serving(program, config_of(CASE, folder)))
+        streams = sessions(stack, port, count)
         together = first_screens(streams)
-        start = time.perf_counter()
+        before = processor_time(server)
         for stream in streams:
             os.write(stream, each + LEAVE)
         if not together.wait_for_end(streams, 600):
             raise Missing("what was pasted was not handled in ten minutes")
-        return count * len(each) / (time.perf_counter() - start)
+        return count * len(each) / (processor_time(server) - before)
 
 
 def part(sorted_times, of_hundred):
@@ -217,7 +246,7 @@ def main():
     print("system calls a key, one terminal")
     for name, subject in subjects.items():
         tried(name, lambda: print(f"{name}: {system_calls(subject):.1f}", flush=True))
-    print("keys a second that are pasted into one text")
+    print("keys pasted into one text, for each second that the server runs")
     for count in options.clients:
         tried(f"mgd, {count}", lambda: print(f"mgd, {count}: {pasted(options.program, count):,.0f}", flush=True))
 
