@@ -26,10 +26,11 @@ SMALL = 1000
 NO_COMMAND = ("C-g",)
 TO_AND_FRO = ("C-f", "C-b")
 LIMIT = pathlib.Path(__file__).resolve().parent / "limit.c"
-# 400 lines. The keys leave the point on the first screen, and left of its last column.
-PLAIN = Case(text=24400, keys=30)
-WORDS = replace(PLAIN, word=5)
-MACRO = ("C-x", "'(", "C-f", "C-f", "C-x", "')")
+# 400 lines of words, and none. The keys leave the point on the first screen, and left of its last column.
+LINES = 400
+PLAIN = Case(text=LINES * 61, word=5, keys=30)
+EMPTY = Case(keys=PLAIN.keys)
+MACRO = ("C-x", "'(", "'x", "C-f", "C-x", "')")
 HUGE = Case(text=1000000, keys=10)
 LONG = Case(text=100000, line=100000)
 # Lines of one character, of which an argument and C-k kill many.
@@ -76,14 +77,14 @@ def beside_mg(what, case, asked, part="engine"):
 
 
 @functools.cache
-def limit():
-    """The instructions that limit.c takes for each key, the keys being those of the plain case."""
+def limit(lines):
+    """The instructions that limit.c takes for each key, typed at the start of so many lines."""
     need("cc", "valgrind")
     with tempfile.TemporaryDirectory() as folder:
         program, counts = f"{folder}/limit", []
         subprocess.run(["cc", "-O2", "-o", program, LIMIT], check=True)
         for keys in (PLAIN.keys, 2 * PLAIN.keys):
-            command = ["valgrind", "--tool=callgrind", f"--callgrind-out-file={folder}/profile", program, str(keys)]
+            command = ["valgrind", "--tool=callgrind", f"--callgrind-out-file={folder}/profile", program, str(keys), str(lines)]
             said = subprocess.run(command, capture_output=True, text=True, check=True).stderr
             counts.append(int(re.search(r"Collected : (\d+)", said)[1]))
     return (counts[1] - counts[0]) / PLAIN.keys
@@ -131,10 +132,11 @@ def rows(large):
     yield pair("no command, 63 idle on the same buffer to none", replace(idle, same=63), idle, 2.0)
     yield beside_mg("engine to mg, typing", PLAIN, 0.5)
     yield beside_mg("engine to mg, C-f", replace(PLAIN, tokens=("C-f",)), 0.5)
-    yield beside_mg("engine to mg, M-f", replace(WORDS, tokens=("M-f",)), 0.75)
-    yield beside_mg("engine to mg, C-x e of two commands", replace(PLAIN, before=MACRO, tokens=("C-x", "'e")), 0.9)
-    yield Row("engine to bench/limit.c, typing", lambda program: to(engine(PLAIN, program), limit()), 7)
-    yield beside_mg("whole server to mg, typing with pauses", PLAIN, 0.9, "whole")
+    yield beside_mg("engine to mg, M-f", replace(PLAIN, tokens=("M-f",)), 0.75)
+    yield beside_mg("engine to mg, C-x e of two commands", replace(PLAIN, keys=15, before=MACRO, tokens=("C-x", "'e")), 0.9)
+    yield Row("engine to bench/limit.c, typing into an empty text", lambda program: to(engine(EMPTY, program), limit(0)), 7)
+    yield Row("engine to bench/limit.c, typing in front of a line", lambda program: to(engine(PLAIN, program), limit(LINES)))
+    yield beside_mg("whole server to mg, typing into an empty text with pauses", EMPTY, 0.9, "whole")
     yield Row("system calls a key, without viewers", lambda program: (latency.system_calls(latency.mgd(program)),), 3)
     yield Row("an idle connection, instructions a key", idle_connection, 60)
     yield added("a viewer of the same rows to the typist", replace(PLAIN, same=1), PLAIN, 0.3)
@@ -144,7 +146,7 @@ def rows(large):
     yield pair("3000 keys in one line, to 300", many, replace(many, keys=300), 1.3)
     yield Row("a search that finds nothing, instructions a character", failing_search, 10)
     yield pair("C-k after 80000 in a row, to 1000", kills(80000), kills(1000), 2)
-    yield Row("64 sessions pasting into one text, keys a second, to one", pasting, 0.15, True)
+    yield Row("64 sessions pasting into one text, keys a second of the server, to one", pasting, 0.15, True)
     listed = replace(PLAIN, listings=1)
     yield pair("one viewer of a listing of 256 buffers, to one of 2", replace(listed, buffers=256), listed, 3)
 
