@@ -1,12 +1,14 @@
 -- Each change of the fields of a block leaves a block.
-use Rattle.std.proofs.Common.{◌≡◌, ℕ, suc, ◌+◌, ◌-◌, ◌<◌, ◌≤◌, ◌^◌, List, [], ◌∷◌, ◌++◌, Option, Some, None, map, set, take, drop, length, sym, ap, ap₂, ◌∙◌, arith, length-take, length-drop, length-set, drop-drop, add-one, take_all, replicate}
-use Rattle.std.proofs.lemmas.List.{length-map, length-replicate, drop_all}
-use Rattle.mgs_gap.specs.Places.{somes}
-use Rattle.mgs_gap.specs.Gapped.{gapped}
+use Rattle.std.proofs.Common.{◌≡◌, ℕ, ◌+◌, ◌-◌, ◌<◌, ◌≤◌, ◌^◌, List, [], ◌∷◌, ◌++◌, Option, Some, None, map, set, take, drop, length, sym, ap, ap₂, ◌∙◌, arith, length-take, length-drop, length-set, drop-drop, append_assoc, add-one, take_all, replicate}
+use Rattle.std.proofs.lemmas.List.{length-map, length-replicate, drop_all, drop_at, drop-take, map-append, take-append-le, drop-append-le}
+use Rattle.std.proofs.lemmas.List.Edits.{length-paste, take-paste, drop-paste}
+use Rattle.std.proofs.Math.Seq.{take-append-add, drop-append-add}
+use Rattle.mgs_gap.specs.Places.{IsRun, slid, somes}
+use Rattle.mgs_gap.specs.Gapped.{Gapped, gapped}
 use Rattle.mgs_gap.specs.Blocks.{front_in, back_in, IsBlock}
 use Rattle.mgs_gap.specs.declared.block.Block.TheInside.{Inside}
 use Rattle.mgs_gap.specs.declared.cells.Cells.{Cells}
-use Rattle.mgs_gap.proofs.Slots.{take_before, drop_past, take_through, drop_from, take_less, somes_all, some_last, some_take, some_drop}
+use Rattle.mgs_gap.proofs.Slots.{drop_past, take_through, take_less, somes_all, some_last, some_take, some_drop}
 
 abbrev pub Owned : Inside → Type 0
 Owned b = (b.right.at ≡ b.cells.at) × (b.right.len ≡ b.before + b.gap + b.after) × (b.right.alloc ≡ b.alloc)
@@ -65,24 +67,54 @@ module _ (b : Inside) (is : IsBlock b) (w : Cells) (c : ℕ) (at : w.at ≡ b.ce
       (ap₂ (λ i (l : List (Option ℕ)). drop i l) same e ∙ drop_past b.cells.slots b.before (b.before + b.gap) (Some c) (omega (arith, some)) ∙ is.back)
       (omega (arith, long b.before e, some)) (omega (arith, is.sizes.1, some))
 
-  pub right_shows : w.slots ≡ set b.cells.slots b.before (Some c) → 0 < b.after → Shows (record b { cells = w; before = b.before + 1; after = b.after - 1 }) (front_in b ++ c ∷ []) (drop 1 (back_in b))
-  right_shows e some =
-      let same : b.before + 1 + b.gap ≡ suc (b.before + b.gap) = omega arith in
-      let rest : drop (suc (b.before + b.gap)) b.cells.slots ≡ map Some (drop 1 (back_in b)) = ap (λ i. drop i b.cells.slots) (sym (add-one (b.before + b.gap))) ∙ sym (drop-drop 1 (b.before + b.gap) b.cells.slots) ∙ ap (λ (l : List (Option ℕ)). drop 1 l) is.back ∙ some_drop (back_in b) 1 in
-      made (record b { cells = w; before = b.before + 1; after = b.after - 1 }) (front_in b ++ c ∷ []) (drop 1 (back_in b)) (is.owned.0 ∙ sym at, omega (arith, is.owned.1, some), is.owned.2)
-      (longer e (omega (arith, is.sizes.0, some)))
-      (ap₂ (λ i (l : List (Option ℕ)). drop i l) same e ∙ drop_past b.cells.slots b.before (suc (b.before + b.gap)) (Some c) (omega arith) ∙ rest)
-      (omega (arith, long b.before e, some)) (omega (arith, is.sizes.1, some))
+-- b after a move of its gap
+module _ (b : Inside) (is : IsBlock b) (w : Cells) (at : w.at ≡ b.cells.at) where
+  abbrev cs : List (Option ℕ)
+  cs = b.cells.slots
 
-  pub left_shows : w.slots ≡ set b.cells.slots (b.before - 1 + b.gap) (Some c) → 0 < b.before → Shows (record b { cells = w; before = b.before - 1; after = b.after + 1 }) (take (b.before - 1) (front_in b)) (c ∷ back_in b)
-  left_shows e some =
-      let j = b.before - 1 + b.gap in let n = b.before - 1 in
-      let next : suc j ≡ b.before + b.gap = omega (arith, some) in
-      let head : take n w.slots ≡ map Some (take n (front_in b)) = ap (λ (l : List (Option ℕ)). take n l) e ∙ take_before b.cells.slots j n (Some c) (omega arith) ∙ sym (take_less b.cells.slots n b.before (omega arith)) ∙ ap (λ (l : List (Option ℕ)). take n l) is.front ∙ some_take (front_in b) n in
-      made (record b { cells = w; before = b.before - 1; after = b.after + 1 }) (take (b.before - 1) (front_in b)) (c ∷ back_in b) (is.owned.0 ∙ sym at, omega (arith, is.owned.1, some), is.owned.2)
-      head
-      (ap (λ (l : List (Option ℕ)). drop j l) e ∙ drop_from b.cells.slots j (Some c) (omega (arith, is.sizes.0, some)) ∙ ap (λ i. Some c ∷ drop i b.cells.slots) next ∙ ap (λ (l : List (Option ℕ)). Some c ∷ l) is.back)
-      (omega (arith, long j e, some)) (omega (arith, is.sizes.1, some))
+  module _ (n : ℕ) (less : n ≤ b.after) where
+    pub run_of_back : IsRun cs (b.before + b.gap) n
+    run_of_back = (omega (arith, is.sizes.0, less), (take n (back_in b), ap (λ (l : List (Option ℕ)). take n l) is.back ∙ some_take (back_in b) n))
+
+    pub right_shows : w.slots ≡ slid cs (b.before + b.gap) b.before n → Shows (record b { cells = w; before = b.before + n; after = b.after - n }) (front_in b ++ take n (back_in b)) (drop n (back_in b))
+    right_shows e =
+        let rest : List (Option ℕ) = drop (b.before + b.gap) cs in
+        let fits : b.before + n ≤ length cs = omega (arith, is.sizes.0, less) in
+        let long : n ≤ length rest = omega (arith, is.sizes.0, less, length-drop (b.before + b.gap) cs) in
+        let on : b.before + n + b.gap ≡ b.before + b.gap + n = omega arith in
+        let same : length w.slots ≡ length cs = ap (λ (l : List (Option ℕ)). length l) e ∙ length-paste cs b.before rest n fits long in
+        let head : take (b.before + n) w.slots ≡ map Some (front_in b ++ take n (back_in b)) = ap (λ (l : List (Option ℕ)). take (b.before + n) l) e ∙ take-paste cs b.before rest n (omega (arith, fits)) long
+        ∙ ap₂ (λ (x y : List (Option ℕ)). x ++ take n y) is.front is.back ∙ ap (λ (l : List (Option ℕ)). map Some (front_in b) ++ l) (some_take (back_in b) n) ∙ sym (map-append Some (front_in b) (take n (back_in b))) in
+        let tail : drop (b.before + n + b.gap) w.slots ≡ map Some (drop n (back_in b)) = sym (drop-drop b.gap (b.before + n) w.slots) ∙ ap (λ (l : List (Option ℕ)). drop b.gap (drop (b.before + n) l)) e
+        ∙ ap (λ (l : List (Option ℕ)). drop b.gap l) (drop-paste cs b.before rest n (omega (arith, fits)) long) ∙ drop-drop b.gap (b.before + n) cs ∙ ap (λ i. drop i cs) on
+        ∙ sym (drop-drop n (b.before + b.gap) cs) ∙ ap (λ (l : List (Option ℕ)). drop n l) is.back ∙ some_drop (back_in b) n in
+        made (record b { cells = w; before = b.before + n; after = b.after - n }) (front_in b ++ take n (back_in b)) (drop n (back_in b)) (is.owned.0 ∙ sym at, omega (arith, is.owned.1, less), is.owned.2)
+        head tail (omega (arith, same, is.sizes.0, less)) (omega (arith, is.sizes.1, less))
+
+  module _ (a : ℕ) (less : a ≤ b.before) where
+    in_front : take (b.before - a) (drop a cs) ≡ map Some (drop a (front_in b))
+    in_front =
+        let sum : a + (b.before - a) ≡ b.before = omega (arith, less) in
+        sym (drop-take a (b.before - a) cs) ∙ ap (λ k. drop a (take k cs)) sum ∙ ap (λ (l : List (Option ℕ)). drop a l) is.front ∙ some_drop (front_in b) a
+
+    pub run_of_front : IsRun cs a (b.before - a)
+    run_of_front = (omega (arith, is.sizes.0, less), (drop a (front_in b), in_front))
+
+    pub left_shows : w.slots ≡ slid cs a (a + b.gap) (b.before - a) → Shows (record b { cells = w; before = a; after = b.after + (b.before - a) }) (take a (front_in b)) (drop a (front_in b) ++ back_in b)
+    left_shows e =
+        let n : ℕ = b.before - a in let to : ℕ = a + b.gap in
+        let moved : List (Option ℕ) = take n (drop a cs) in let rest : List (Option ℕ) = drop (to + n) cs in
+        let fits : to + n ≤ length cs = omega (arith, is.sizes.0, less) in
+        let long : length (take to cs) ≡ to = omega (arith, fits, length-take to cs) in
+        let same : length w.slots ≡ length cs = ap (λ (l : List (Option ℕ)). length l) e ∙ length-paste cs to (drop a cs) n fits (omega (arith, fits, length-drop a cs)) in
+        let parts : w.slots ≡ take to cs ++ (moved ++ rest) = e ∙ append_assoc (take to cs) moved rest in
+        let on : to + n ≡ b.before + b.gap = omega (arith, less) in
+        let head : take a w.slots ≡ map Some (take a (front_in b)) = ap (λ (l : List (Option ℕ)). take a l) parts ∙ take-append-le a (take to cs) (moved ++ rest) (omega (arith, long)) ∙ take_less cs a to (omega arith)
+        ∙ sym (take_less cs a b.before less) ∙ ap (λ (l : List (Option ℕ)). take a l) is.front ∙ some_take (front_in b) a in
+        let tail : drop to w.slots ≡ map Some (drop a (front_in b) ++ back_in b) = ap (λ (l : List (Option ℕ)). drop to l) parts ∙ drop_at (take to cs) (moved ++ rest) to long
+        ∙ ap₂ (λ (x y : List (Option ℕ)). x ++ y) in_front (ap (λ i. drop i cs) on ∙ is.back) ∙ sym (map-append Some (drop a (front_in b)) (back_in b)) in
+        made (record b { cells = w; before = a; after = b.after + n }) (take a (front_in b)) (drop a (front_in b) ++ back_in b) (is.owned.0 ∙ sym at, omega (arith, is.owned.1, less), is.owned.2)
+        head tail (omega (arith, same, is.sizes.0, less)) (omega (arith, is.sizes.1, less))
 
 -- b after its gap is wider by n places
 pub wider_shows : (b : Inside) → IsBlock b → (n : ℕ) → n ≤ b.after → Shows (record b { gap = b.gap + n; after = b.after - n }) (front_in b) (drop n (back_in b))
@@ -91,3 +123,10 @@ wider_shows b is n h =
     made (record b { gap = b.gap + n; after = b.after - n }) (front_in b) (drop n (back_in b)) (is.owned.0, omega (arith, is.owned.1, h), is.owned.2) is.front
     (ap (λ i. drop i b.cells.slots) same ∙ sym (drop-drop n (b.before + b.gap) b.cells.slots) ∙ ap (λ (l : List (Option ℕ)). drop n l) is.back ∙ some_drop (back_in b) n)
     (omega (arith, is.sizes.0, h)) (omega (arith, is.sizes.1, h))
+
+-- the gap lies at the place a of the text
+pub gap_back : (v : Gapped) (a : ℕ) → a ≤ length v.front → gapped (take a v.front) v.gap (drop a v.front ++ v.back) ≡ gapped (take a (v.front ++ v.back)) v.gap (drop a (v.front ++ v.back))
+gap_back v a within = ap₂ (λ x y. gapped x v.gap y) (sym (take-append-le a v.front v.back within)) (sym (drop-append-le a v.front v.back within))
+
+pub gap_on : (v : Gapped) (a n : ℕ) → length v.front + n ≡ a → gapped (v.front ++ take n v.back) v.gap (drop n v.back) ≡ gapped (take a (v.front ++ v.back)) v.gap (drop a (v.front ++ v.back))
+gap_on v a n at = ap₂ (λ x y. gapped x v.gap y) (sym (take-append-add v.front v.back n)) (sym (drop-append-add v.front v.back n)) ∙ ap (λ i. gapped (take i (v.front ++ v.back)) v.gap (drop i (v.front ++ v.back))) at

@@ -5,6 +5,7 @@ pub mod FeedLists
 pub mod Marks
 pub mod Ranges
 pub mod Row
+pub mod Runs
 pub mod Sharing
 pub mod Shifts
 pub mod Slots

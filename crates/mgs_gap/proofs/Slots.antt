@@ -20,11 +20,6 @@ module _ {X : Type 0} where
   take_through (c ∷ cs) zero y h = refl
   take_through (c ∷ cs) (suc i) y h = ap (λ l. c ∷ l) (take_through cs i y (omega arith))
 
-  pub drop_from : (cs : List X) (i : ℕ) (y : X) → i < length cs → drop i (set cs i y) ≡ y ∷ drop (suc i) cs
-  drop_from [] i y h = absurd (omega arith)
-  drop_from (c ∷ cs) zero y h = refl
-  drop_from (c ∷ cs) (suc i) y h = drop_from cs i y (omega arith)
-
   pub take_less : (cs : List X) (m n : ℕ) → m ≤ n → take m (take n cs) ≡ take m cs
   take_less [] zero n h = refl
   take_less [] (suc m) zero h = refl

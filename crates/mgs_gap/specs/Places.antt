@@ -1,5 +1,5 @@
 -- A row of places, each empty or holding a character.
-use Rattle.std.specs.Prelude.{ℕ, ◌≡◌, ◌+◌, ◌≤◌, List, [], ◌∷◌, Option, Some, None, map, length, take, drop}
+use Rattle.std.specs.Prelude.{ℕ, ◌≡◌, ◌+◌, ◌≤◌, List, [], ◌∷◌, ◌++◌, Option, Some, None, map, length, take, drop}
 
 -- the characters that are there
 abbrev pub somes : List (Option ℕ) → List ℕ
@@ -14,3 +14,7 @@ ShowsRun cs from len xs = take len (drop from cs) ≡ map Some xs
 -- those places are there, and each holds a character
 abbrev pub IsRun : List (Option ℕ) → ℕ → ℕ → Type 0
 IsRun cs from len = (from + len ≤ length cs) × ((xs : List ℕ) × ShowsRun cs from len xs)
+
+-- the places once those from the place from on, n of them, stand from the place to on as well
+abbrev pub slid : List (Option ℕ) → ℕ → ℕ → ℕ → List (Option ℕ)
+slid cs from to n = (take to cs ++ take n (drop from cs)) ++ drop (to + n) cs

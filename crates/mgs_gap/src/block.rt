@@ -109,24 +109,26 @@ impl Block {
         self.gap -= 1;
     }
 
-    // Moves the gap over the character before it, which is `c`.
-    pub(crate) fn step_left(&mut self, c: char)
-        requires { 0 < length self.old.front }
-        ensures { self.new ≡ gapped (take (length self.old.front - 1) self.old.front) self.old.gap (c ∷ self.old.back) }
+    // Moves the gap back to the place `a` before it.
+    pub(crate) fn pass_left(&mut self, a: usize)
+        requires { a ≤ length self.old.front }
+        ensures { self.new ≡ gapped (take a self.old.front) self.old.gap (drop a self.old.front ++ self.old.back) }
     {
-        self.before -= 1;
-        self.after += 1;
-        self.cells.write(self.before + self.gap, c);
+        let n = self.before - a;
+        self.cells.slide_up(a, a + self.gap, n);
+        self.before = a;
+        self.after += n;
     }
 
-    // Moves the gap over the character after it, which is `c`.
-    pub(crate) fn step_right(&mut self, c: char)
-        requires { 0 < length self.old.back }
-        ensures { self.new ≡ gapped (self.old.front ++ c ∷ []) self.old.gap (drop 1 self.old.back) }
+    // Moves the gap over the `n` characters after it.
+    pub(crate) fn pass_right(&mut self, n: usize)
+        requires { n ≤ length self.old.back }
+        ensures { self.new ≡ gapped (self.old.front ++ take n self.old.back) self.old.gap (drop n self.old.back) }
     {
-        self.cells.write(self.before, c);
-        self.before += 1;
-        self.after -= 1;
+        self.cells
+            .slide_down(self.before + self.gap, self.before, n);
+        self.before += n;
+        self.after -= n;
     }
 
     // Widens the gap over the `n` characters after it.

@@ -8,5 +8,6 @@ mod gap;
 mod lined;
 mod moves;
 mod places;
+mod slides;
 
 pub use gap::GapText;

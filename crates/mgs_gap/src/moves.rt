@@ -37,15 +37,9 @@ impl Block {
     {
         let before = self.before();
         if a < before {
-            for i in 0..before - a {
-                let c = self.front()[before - i - 1];
-                self.step_left(c);
-            }
+            self.pass_left(a);
         } else {
-            for _j in 0..a - before {
-                let c = self.back()[0];
-                self.step_right(c);
-            }
+            self.pass_right(a - before);
         }
     }
 
