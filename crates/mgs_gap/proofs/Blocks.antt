@@ -1,14 +1,14 @@
 -- Each change of the fields of a block leaves a block.
-use Rattle.std.proofs.Common.{◌≡◌, ℕ, ◌+◌, ◌-◌, ◌<◌, ◌≤◌, ◌^◌, List, [], ◌∷◌, ◌++◌, Option, Some, None, map, set, take, drop, length, sym, ap, ap₂, ◌∙◌, arith, length-take, length-drop, length-set, drop-drop, append_assoc, add-one, take_all, replicate}
+use Rattle.std.proofs.Common.{◌≡◌, ℕ, ◌+◌, ◌-◌, ◌<◌, ◌≤◌, ◌^◌, List, [], ◌++◌, Option, Some, None, map, take, drop, length, sym, ap, ap₂, ◌∙◌, arith, length-take, length-drop, drop-drop, append_assoc, take_all, replicate}
 use Rattle.std.proofs.lemmas.List.{length-map, length-replicate, drop_all, drop_at, drop-take, map-append, take-append-le, drop-append-le}
 use Rattle.std.proofs.lemmas.List.Edits.{length-paste, take-paste, drop-paste}
 use Rattle.std.proofs.Math.Seq.{take-append-add, drop-append-add}
-use Rattle.mgs_gap.specs.Places.{IsRun, slid, somes}
+use Rattle.mgs_gap.specs.Places.{IsRun, slid, written, somes}
 use Rattle.mgs_gap.specs.Gapped.{Gapped, gapped}
 use Rattle.mgs_gap.specs.Blocks.{front_in, back_in, IsBlock}
 use Rattle.mgs_gap.specs.declared.block.Block.TheInside.{Inside}
 use Rattle.mgs_gap.specs.declared.cells.Cells.{Cells}
-use Rattle.mgs_gap.proofs.Slots.{drop_past, take_through, take_less, somes_all, some_last, some_take, some_drop}
+use Rattle.mgs_gap.proofs.Slots.{take_less, somes_all, some_take, some_drop}
 
 abbrev pub Owned : Inside → Type 0
 Owned b = (b.right.at ≡ b.cells.at) × (b.right.len ≡ b.before + b.gap + b.after) × (b.right.alloc ≡ b.alloc)
@@ -51,21 +51,21 @@ all_gap b owned e n m small =
     let long : length b.cells.slots ≡ b.gap = ap (λ (l : List (Option ℕ)). length l) e ∙ length-replicate b.gap None in
     made b [] [] owned (ap (λ i. take i b.cells.slots) n) (ap (λ i. drop (i + b.gap) b.cells.slots) n ∙ drop_all (0 + b.gap) b.cells.slots (omega (arith, long))) (omega (arith, long, n, m)) (omega (arith, n, m, small))
 
--- b after a write to the place j
-module _ (b : Inside) (is : IsBlock b) (w : Cells) (c : ℕ) (at : w.at ≡ b.cells.at) where
-  long : (j : ℕ) → w.slots ≡ set b.cells.slots j (Some c) → length w.slots ≡ b.before + b.gap + b.after
-  long j e = ap (λ (l : List (Option ℕ)). length l) e ∙ length-set b.cells.slots j (Some c) ∙ is.sizes.0
-
-  longer : w.slots ≡ set b.cells.slots b.before (Some c) → b.before < length b.cells.slots → take (b.before + 1) w.slots ≡ map Some (front_in b ++ c ∷ [])
-  longer e h = ap (λ (l : List (Option ℕ)). take (b.before + 1) l) e ∙ rw add-one (take_through b.cells.slots b.before (Some c) h) ∙ ap (λ (l : List (Option ℕ)). l ++ Some c ∷ []) is.front ∙ some_last (front_in b) c
-
-  pub put_shows : w.slots ≡ set b.cells.slots b.before (Some c) → 0 < b.gap → Shows (record b { cells = w; before = b.before + 1; gap = b.gap - 1 }) (front_in b ++ c ∷ []) (back_in b)
-  put_shows e some =
-      let same : b.before + 1 + (b.gap - 1) ≡ b.before + b.gap = omega (arith, some) in
-      made (record b { cells = w; before = b.before + 1; gap = b.gap - 1 }) (front_in b ++ c ∷ []) (back_in b) (is.owned.0 ∙ sym at, omega (arith, is.owned.1, some), is.owned.2)
-      (longer e (omega (arith, is.sizes.0, some)))
-      (ap₂ (λ i (l : List (Option ℕ)). drop i l) same e ∙ drop_past b.cells.slots b.before (b.before + b.gap) (Some c) (omega (arith, some)) ∙ is.back)
-      (omega (arith, long b.before e, some)) (omega (arith, is.sizes.1, some))
+-- b after characters are put at its gap's start
+pub put_shows : (b : Inside) → IsBlock b → (w : Cells) (xs : List ℕ) → w.at ≡ b.cells.at → w.slots ≡ written b.cells.slots b.before xs (length xs) → length xs ≤ b.gap
+    → Shows (record b { cells = w; before = b.before + length xs; gap = b.gap - length xs }) (front_in b ++ xs) (back_in b)
+put_shows b is w xs at e fits =
+    let cs = b.cells.slots in let n : ℕ = length xs in let some : List (Option ℕ) = map Some xs in
+    let room : b.before + n ≤ length cs = omega (arith, is.sizes.0, fits) in
+    let long : n ≤ length some = omega (arith, length-map xs Some) in
+    let same : length w.slots ≡ length cs = ap (λ (l : List (Option ℕ)). length l) e ∙ length-paste cs b.before some n room long in
+    let on : b.before + n + (b.gap - n) ≡ b.before + b.gap = omega (arith, fits) in
+    let head : take (b.before + n) w.slots ≡ map Some (front_in b ++ xs) = ap (λ (l : List (Option ℕ)). take (b.before + n) l) e ∙ take-paste cs b.before some n (omega (arith, room)) long
+    ∙ ap₂ (λ (x y : List (Option ℕ)). x ++ y) is.front (take_all n some (omega (arith, length-map xs Some))) ∙ sym (map-append Some (front_in b) xs) in
+    let tail : drop (b.before + n + (b.gap - n)) w.slots ≡ map Some (back_in b) = sym (drop-drop (b.gap - n) (b.before + n) w.slots) ∙ ap (λ (l : List (Option ℕ)). drop (b.gap - n) (drop (b.before + n) l)) e
+    ∙ ap (λ (l : List (Option ℕ)). drop (b.gap - n) l) (drop-paste cs b.before some n (omega (arith, room)) long) ∙ drop-drop (b.gap - n) (b.before + n) cs ∙ ap (λ i. drop i cs) on ∙ is.back in
+    made (record b { cells = w; before = b.before + n; gap = b.gap - n }) (front_in b ++ xs) (back_in b) (is.owned.0 ∙ sym at, omega (arith, is.owned.1, fits), is.owned.2)
+    head tail (omega (arith, same, is.sizes.0, fits)) (omega (arith, is.sizes.1, fits))
 
 -- b after a move of its gap
 module _ (b : Inside) (is : IsBlock b) (w : Cells) (at : w.at ≡ b.cells.at) where

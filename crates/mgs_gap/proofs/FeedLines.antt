@@ -13,12 +13,15 @@ use Rattle.mgs_gap.proofs.FeedLists.{one, length-feeds_from, length-ends_from, f
 abbrev pub Finds : ℕ → List ℕ → ℕ → Type 0
 Finds limit xs r = (n : ℕ) → Parts limit xs n → r ≡ n
 
+-- the line feeds of the first part before its place p
+pub in_front : (xs before front : List ℕ) (p r : ℕ) → Finds p xs r → xs ≡ before → before ≡ feeds_from 0 front → p ≤ length front → r ≡ line_of front p
+in_front xs before front p r found same e within = found (line_of front p) (subst (λ l. Parts p l (line_of front p)) (sym (same ∙ e)) (feeds_before front p within))
+
 pub line_in_front : (xs before front back : List ℕ) (p r : ℕ) → Finds p xs r → xs ≡ before → before ≡ feeds_from 0 front → p ≤ length front → r ≡ line_of (front ++ back) p
-line_in_front xs before front back p r found same e within =
-    found (line_of front p) (subst (λ l. Parts p l (line_of front p)) (sym (same ∙ e)) (feeds_before front p within)) ∙ ap (λ (l : List ℕ). count_by is_feed l) (sym (take-append-le p front back within))
+line_in_front xs before front back p r found same e within = in_front xs before front p r found same e within ∙ ap (λ (l : List ℕ). count_by is_feed l) (sym (take-append-le p front back within))
 
 -- the line feeds of the second part from its place q on
-in_back : (xs after back : List ℕ) (q r : ℕ) → Finds (length back - q + 1) xs r → xs ≡ after → after ≡ ends_from 0 back → q ≤ length back → r ≡ count_by is_feed (drop q back)
+pub in_back : (xs after back : List ℕ) (q r : ℕ) → Finds (length back - q + 1) xs r → xs ≡ after → after ≡ ends_from 0 back → q ≤ length back → r ≡ count_by is_feed (drop q back)
 in_back xs after back q r found same e within =
     let limit : suc (length back - q) ≡ length back - q + 1 = omega arith in
     found (count_by is_feed (drop q back)) (subst (λ k. Parts k xs (count_by is_feed (drop q back))) limit (subst (λ l. Parts (suc (length back - q)) l (count_by is_feed (drop q back))) (sym (same ∙ e)) (feeds_after back q within)))

@@ -1,12 +1,12 @@
 -- The line feeds of a text in two parts, as characters go from one part to the other.
 use Rattle.std.proofs.Common.{◌≡◌, ℕ, zero, suc, ◌+◌, ◌-◌, ◌<◌, ◌≤◌, List, [], ◌∷◌, ◌++◌, length, take, drop, get_or, refl, sym, subst, ap, ap₂, ◌∙◌, arith, cond, length-append, append_assoc, add-zero, zero-add, inl, inr, eq-eqb}
 use Rattle.std.specs.List.{count_by}
-use Rattle.std.proofs.lemmas.List.{append-nil, take-append-drop, drop-append-le, take-append-le, take_at, length-drop, length-take, get_or_append_left, get_or-append_right}
-use Rattle.std.proofs.lemmas.List.Sums.{sum_by-cons, sum_by-take-drop}
+use Rattle.std.proofs.lemmas.List.{append-nil, take-append-drop, length-drop, length-take, get_or_append_left, get_or-append_right}
+use Rattle.std.proofs.lemmas.List.Sums.{sum_by-cons}
 use Rattle.std.proofs.lemmas.Bool.{ne_eqb, cases_eq, cases_lt}
-use Rattle.std.proofs.Math.Seq.{drop-append-add, take-append-add, get_or-append_seam}
+use Rattle.std.proofs.Math.Seq.{get_or-append_seam}
 use Rattle.mgs_model.specs.Lines.{is_feed, line_of, start_of}
-use Rattle.mgs_gap.specs.Feeds.{feeds_from, ends_from, AreFeeds, Parts}
+use Rattle.mgs_gap.specs.Feeds.{feeds_from, ends_from, Parts}
 
 abbrev pub one : ℕ → ℕ
 one c = cond (is_feed c) 1 0
@@ -17,10 +17,10 @@ count_yes x xs e = sum_by-cons one x xs ∙ rw (eq-eqb x 10 e) refl
 pub count_no : (x : ℕ) (xs : List ℕ) → (x ≡ 10 → ⊥) → count_by is_feed (x ∷ xs) ≡ count_by is_feed xs
 count_no x xs n = sum_by-cons one x xs ∙ rw (ne_eqb x 10 n) (zero-add _)
 
-feeds_yes : (n x : ℕ) (xs : List ℕ) → x ≡ 10 → feeds_from n (x ∷ xs) ≡ n ∷ feeds_from (suc n) xs
+pub feeds_yes : (n x : ℕ) (xs : List ℕ) → x ≡ 10 → feeds_from n (x ∷ xs) ≡ n ∷ feeds_from (suc n) xs
 feeds_yes n x xs e = rw (eq-eqb x 10 e) refl
 
-feeds_no : (n x : ℕ) (xs : List ℕ) → (x ≡ 10 → ⊥) → feeds_from n (x ∷ xs) ≡ feeds_from (suc n) xs
+pub feeds_no : (n x : ℕ) (xs : List ℕ) → (x ≡ 10 → ⊥) → feeds_from n (x ∷ xs) ≡ feeds_from (suc n) xs
 feeds_no n x xs e = rw (ne_eqb x 10 e) refl
 
 pub ends_yes : (m x : ℕ) (xs : List ℕ) → x ≡ 10 → ends_from m (x ∷ xs) ≡ ends_from m xs ++ suc (length xs + m) ∷ []
@@ -64,40 +64,6 @@ ends_from-append m (x ∷ xs) ys =
       | inl e ↦ ends_yes m x (xs ++ ys) e ∙ ap₂ (λ l i. l ++ i ∷ []) (ends_from-append m xs ys) at ∙ append_assoc (ends_from m ys) (ends_from k xs) (suc (length xs + k) ∷ []) ∙ ap (λ l. ends_from m ys ++ l) (sym (ends_yes k x xs e))
       | inr e ↦ ends_no m x (xs ++ ys) e ∙ ends_from-append m xs ys ∙ ap (λ l. ends_from m ys ++ l) (sym (ends_no k x xs e))
     ]
-
--- the last characters of the front are taken from it
-pub front_less : (xs ys : List ℕ) → take (length (feeds_from 0 (xs ++ ys)) - count_by is_feed ys) (feeds_from 0 (xs ++ ys)) ≡ feeds_from 0 xs
-front_less xs ys =
-    let e = feeds_from-append 0 xs ys in
-    let long : length (feeds_from 0 xs) ≡ length (feeds_from 0 (xs ++ ys)) - count_by is_feed ys = omega (arith, ap length e, length-append (feeds_from 0 xs) (feeds_from (0 + length xs) ys), length-feeds_from (0 + length xs) ys) in
-    ap (λ (l : List ℕ). take (length (feeds_from 0 (xs ++ ys)) - count_by is_feed ys) l) e ∙ take_at (feeds_from 0 xs) (feeds_from (0 + length xs) ys) _ long
-
--- the first characters of the back are taken from it
-pub back_less : (xs ys : List ℕ) → take (length (ends_from 0 (xs ++ ys)) - count_by is_feed xs) (ends_from 0 (xs ++ ys)) ≡ ends_from 0 ys
-back_less xs ys =
-    let e = ends_from-append 0 xs ys in
-    let long : length (ends_from 0 ys) ≡ length (ends_from 0 (xs ++ ys)) - count_by is_feed xs = omega (arith, ap length e, length-append (ends_from 0 ys) (ends_from (length ys + 0) xs), length-ends_from (length ys + 0) xs) in
-    ap (λ (l : List ℕ). take (length (ends_from 0 (xs ++ ys)) - count_by is_feed xs) l) e ∙ take_at (ends_from 0 ys) (ends_from (length ys + 0) xs) _ long
-
--- the gap goes back to the place a of the front
-pub feeds_back : (before after front back : List ℕ) (a : ℕ) → AreFeeds before after front back → a ≤ length front
-    → AreFeeds (take (length before - count_by is_feed (drop a front)) before) (after ++ ends_from (length back) (drop a front)) (take a (front ++ back)) (drop a (front ++ back))
-feeds_back before after front back a are within =
-    let whole : take a front ++ drop a front ≡ front = take-append-drop a front in
-    let e : before ≡ feeds_from 0 (take a front ++ drop a front) = are.0 ∙ ap (feeds_from 0) (sym whole) in (
-      ap (λ (l : List ℕ). take (length l - count_by is_feed (drop a front)) l) e ∙ front_less (take a front) (drop a front) ∙ ap (feeds_from 0) (sym (take-append-le a front back within)),
-      ap₂ (λ l k. l ++ ends_from k (drop a front)) are.1 (sym (add-zero (length back))) ∙ sym (ends_from-append 0 (drop a front) back) ∙ ap (ends_from 0) (sym (drop-append-le a front back within)),
-    )
-
--- the gap goes on over the first k characters of the back
-pub feeds_on : (before after front back : List ℕ) (k : ℕ) → AreFeeds before after front back
-    → AreFeeds (before ++ feeds_from (length front) (take k back)) (take (length after - count_by is_feed (take k back)) after) (take (length front + k) (front ++ back)) (drop (length front + k) (front ++ back))
-feeds_on before after front back k are =
-    let whole : take k back ++ drop k back ≡ back = take-append-drop k back in
-    let e : after ≡ ends_from 0 (take k back ++ drop k back) = are.1 ∙ ap (ends_from 0) (sym whole) in (
-      ap₂ (λ l n. l ++ feeds_from n (take k back)) are.0 (sym (zero-add (length front))) ∙ sym (feeds_from-append 0 front (take k back)) ∙ ap (feeds_from 0) (sym (take-append-add front back k)),
-      ap (λ (l : List ℕ). take (length l - count_by is_feed (take k back)) l) e ∙ back_less (take k back) (drop k back) ∙ ap (ends_from 0) (sym (drop-append-add front back k)),
-    )
 
 abbrev Between : ℕ → ℕ → List ℕ → ℕ → Type 0
 Between low high xs i = (low ≤ get_or xs i 0) × (get_or xs i 0 < high)
@@ -229,40 +195,3 @@ feeds_after xs q within =
     let e : ends_from 0 (drop q xs) ++ ends_from (length (drop q xs) + 0) (take q xs) ≡ ends_from 0 xs = sym (ends_from-append 0 (take q xs) (drop q xs)) ∙ ap (ends_from 0) whole in
     subst (λ (v : List ℕ × ℕ). Parts (suc (length xs - q)) v.0 v.1) (ap₂ (λ (l : List ℕ) (k : ℕ). (l, k)) e (length-ends_from 0 (drop q xs)))
     (parts_append (suc (length xs - q)) (ends_from 0 (drop q xs)) (ends_from (length (drop q xs) + 0) (take q xs)) (λ i h. omega (arith, (ends_within 0 (drop q xs) i h).1, n)) (λ i h. omega (arith, (ends_within (length (drop q xs) + 0) (take q xs) i h).0, n)))
-
--- after a deletion of the first n characters of the second part
-pub feeds_gone : (after back : List ℕ) (n : ℕ) → after ≡ ends_from 0 back → take (length after - count_by is_feed (take n back)) after ≡ ends_from 0 (drop n back)
-feeds_gone after back n e =
-    let whole : take n back ++ drop n back ≡ back = take-append-drop n back in
-    ap (λ (l : List ℕ). take (length l - count_by is_feed (take n back)) l) (e ∙ ap (ends_from 0) (sym whole)) ∙ back_less (take n back) (drop n back)
-
-pub count_back : (before front : List ℕ) (a : ℕ) → before ≡ feeds_from 0 front → count_by is_feed (drop a front) ≤ length before
-count_back before front a e = omega (arith, ap length e, length-feeds_from 0 front, sum_by-take-drop one front a)
-
-pub count_on : (after back : List ℕ) (k : ℕ) → after ≡ ends_from 0 back → count_by is_feed (take k back) ≤ length after
-count_on after back k e = omega (arith, ap length e, length-ends_from 0 back, sum_by-take-drop one back k)
-
-pub number_back : (before after front nb na moved : List ℕ) (a m : ℕ) → before ≡ feeds_from 0 front → moved ≡ drop a front → nb ≡ take (length before - count_by is_feed moved) before → na ≡ after ++ ends_from m moved → length nb + length na ≡ length before + length after
-number_back before after front nb na moved a m is e eb ea =
-    omega (
-      arith,
-      ap length eb,
-      length-take (length before - count_by is_feed moved) before,
-      ap length ea,
-      length-append after (ends_from m moved),
-      length-ends_from m moved,
-      count_back before front a is,
-      ap (λ (l : List ℕ). count_by is_feed l) e,
-    )
-
-pub number_on : (before after back nb na : List ℕ) (k n : ℕ) → after ≡ ends_from 0 back → nb ≡ before ++ feeds_from n (take k back) → na ≡ take (length after - count_by is_feed (take k back)) after → length nb + length na ≡ length before + length after
-number_on before after back nb na k n is eb ea =
-    omega (
-      arith,
-      ap length eb,
-      length-append before (feeds_from n (take k back)),
-      length-feeds_from n (take k back),
-      ap length ea,
-      length-take (length after - count_by is_feed (take k back)) after,
-      count_on after back k is,
-    )

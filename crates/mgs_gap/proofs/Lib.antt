@@ -2,6 +2,7 @@ pub mod Blocks
 pub mod FeedEdits
 pub mod FeedLines
 pub mod FeedLists
+pub mod FeedMoves
 pub mod Marks
 pub mod Ranges
 pub mod Row

@@ -1,9 +1,9 @@
--- Runs of characters that move inside a row of places.
+-- Runs of characters that are written into a row of places, or move inside it.
 use Rattle.std.proofs.Common.{◌≡◌, ℕ, zero, suc, ◌+◌, ◌-◌, ◌<◌, ◌≤◌, List, [], ◌∷◌, ◌++◌, Option, Some, None, map, set, get_or, take, drop, length, refl, sym, ap, ap₂, ◌∙◌, arith, add-zero, append_assoc, length-take, length-drop, drop-drop}
-use Rattle.std.proofs.lemmas.List.{length-map, get_or-take, get_or-drop, length-append, take_at, set_at}
+use Rattle.std.proofs.lemmas.List.{length-map, get_or-map, get_or-take, get_or-drop, length-append, take_at, set_at}
 use Rattle.std.proofs.lemmas.List.Edits.{length-paste, drop-paste, paste_more}
 use Rattle.std.proofs.Math.Seq.{drop-cons, take-suc}
-use Rattle.mgs_gap.specs.Places.{IsRun, ShowsRun, slid}
+use Rattle.mgs_gap.specs.Places.{IsRun, ShowsRun, slid, written}
 use Rattle.mgs_gap.proofs.Slots.{some_take, some_drop}
 
 one_long : (cs : List (Option ℕ)) (i : ℕ) (xs : List ℕ) → IsRun cs i 1 → ShowsRun cs i 1 xs → length xs ≡ 1
@@ -105,3 +105,9 @@ module _ (cs ds : List (Option ℕ)) (from to n i : ℕ) (run : IsRun cs from n)
       let cut : upper cs from to n i ≡ a ++ y ∷ (m ++ r) = ap (λ l. (l ++ m) ++ r) (ap (λ q. take q cs) on ∙ take-suc cs (to + j) x (omega (arith, room, some, most))) ∙ ap (λ l. l ++ r) (append_assoc a (y ∷ []) m) ∙ append_assoc a (y ∷ m) r in
       let more : drop j t ≡ x ∷ m = drop-cons t j x long ∙ ap₂ (λ z q. z ∷ drop q t) (sym is) next in
       ap (λ (l : List (Option ℕ)). set l (to + j) x) (now ∙ cut) ∙ set_at a y (m ++ r) x (to + j) (omega (arith, length-take (to + j) cs, room, some, most)) ∙ sym (append_assoc a (x ∷ m) r) ∙ ap (λ l. (a ++ l) ++ r) (sym more)
+
+-- i of the characters are there
+pub fill_next : (cs ds : List (Option ℕ)) (to i : ℕ) (xs : List ℕ) (c : ℕ) → to + i < length cs → i < length xs → ds ≡ written cs to xs i → c ≡ get_or xs i c → set ds (to + i) (Some c) ≡ written cs to xs (i + 1)
+fill_next cs ds to i xs c room less now read =
+    let value : Some c ≡ get_or (map Some xs) i (Some c) = ap (λ (x : ℕ). Some x) read ∙ sym (get_or-map Some xs i c (Some c) less) in
+    ap₂ (λ (l : List (Option ℕ)) x. set l (to + i) x) now value ∙ paste_more cs to (map Some xs) i (Some c) room (omega (arith, less, length-map xs Some))

@@ -1,5 +1,5 @@
 -- Where the line feeds of a text stand that lies in two parts.
-use Rattle.std.specs.Prelude.{ℕ, suc, ◌≡◌, ◌+◌, ◌<◌, ◌≤◌, List, [], ◌∷◌, ◌++◌, length, slice_index, if◌then◌else◌}
+use Rattle.std.specs.Prelude.{ℕ, suc, ◌≡◌, ◌+◌, ◌-◌, ◌<◌, ◌≤◌, List, [], ◌∷◌, ◌++◌, length, slice_index, if◌then◌else◌}
 use Rattle.mgs_model.specs.Lines.{is_feed}
 
 -- their places, where the first character has the place n
@@ -11,6 +11,11 @@ feeds_from n (c ∷ cs) = if is_feed c then n ∷ feeds_from (suc n) cs else fee
 abbrev pub ends_from : ℕ → List ℕ → List ℕ
 ends_from m [] = []
 ends_from m (c ∷ cs) = if is_feed c then ends_from m cs ++ suc (length cs + m) ∷ [] else ends_from m cs
+
+-- numbers counted from the other end of a text of n characters, the last one first
+abbrev pub turned : ℕ → List ℕ → List ℕ
+turned n [] = []
+turned n (x ∷ xs) = turned n xs ++ (n - x) ∷ []
 
 -- these are the line feeds of a text, of which one part lies before the gap and one after it
 abbrev pub AreFeeds : List ℕ → List ℕ → List ℕ → List ℕ → Type 0

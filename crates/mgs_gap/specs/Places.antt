@@ -18,3 +18,7 @@ IsRun cs from len = (from + len ≤ length cs) × ((xs : List ℕ) × ShowsRun c
 -- the places once those from the place from on, n of them, stand from the place to on as well
 abbrev pub slid : List (Option ℕ) → ℕ → ℕ → ℕ → List (Option ℕ)
 slid cs from to n = (take to cs ++ take n (drop from cs)) ++ drop (to + n) cs
+
+-- the places once the first n of the characters stand from the place to on
+abbrev pub written : List (Option ℕ) → ℕ → List ℕ → ℕ → List (Option ℕ)
+written cs to xs n = (take to cs ++ take n (map Some xs)) ++ drop (to + n) cs

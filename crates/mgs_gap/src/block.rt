@@ -1,6 +1,6 @@
 // The block with its gap: the characters before the gap, the places of the gap, and the characters after it.
-ghost use Rattle.std.specs.Prelude.{◌≡◌, ℕ, ◌+◌, ◌-◌, ◌<◌, ◌≤◌, ◌^◌, ◌++◌, ◌∷◌, [], List, length, take, drop, slice_index, slice_range, IfOk, OnOk, OnErr};
-ghost use Rattle.mgs_gap.specs.Gapped.{Gapped, gapped, text_of};
+ghost use Rattle.std.specs.Prelude.{◌≡◌, ◌+◌, ◌-◌, ◌<◌, ◌≤◌, ◌^◌, ◌++◌, [], length, take, drop, IfOk};
+ghost use Rattle.mgs_gap.specs.Gapped.{Gapped, gapped};
 
 use crate::cells::{Cells, FreeRight};
 use mgs_model::Short;
@@ -99,14 +99,14 @@ impl Block {
         self.cells.slice(self.before + self.gap, self.after)
     }
 
-    // Puts a character at the gap's start.
-    pub(crate) fn put(&mut self, c: char)
-        requires { 0 < self.old.gap }
-        ensures { self.new ≡ gapped (self.old.front ++ c ∷ []) (self.old.gap - 1) self.old.back }
+    // Puts characters at the gap's start.
+    pub(crate) fn insert(&mut self, put: &[char])
+        requires { length put.now ≤ self.old.gap }
+        ensures { self.new ≡ gapped (self.old.front ++ put.now) (self.old.gap - length put.now) self.old.back }
     {
-        self.cells.write(self.before, c);
-        self.before += 1;
-        self.gap -= 1;
+        self.cells.fill(self.before, put);
+        self.before += put.len();
+        self.gap -= put.len();
     }
 
     // Moves the gap back to the place `a` before it.

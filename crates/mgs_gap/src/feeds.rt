@@ -1,8 +1,8 @@
 // Where the line feeds of a text stand that lies in two parts.
-ghost use Rattle.std.specs.Prelude.{◌≡◌, ℕ, ◌+◌, ◌-◌, ◌<◌, ◌≤◌, ◌^◌, ◌++◌, [], List, length, take, drop, count_by, IfOk, OnOk};
+ghost use Rattle.std.specs.Prelude.{◌≡◌, ℕ, ◌+◌, ◌-◌, ◌<◌, ◌≤◌, ◌^◌, ◌++◌, [], length, take, drop, slice_index, count_by, IfOk, OnOk};
 ghost use Rattle.std.specs.Vec.{vec_capacity};
 ghost use Rattle.mgs_model.specs.Lines.{is_feed, line_of, start_of};
-ghost use Rattle.mgs_gap.specs.Feeds.{feeds_from, ends_from, AreFeeds, Parts};
+ghost use Rattle.mgs_gap.specs.Feeds.{feeds_from, ends_from, turned, AreFeeds, Parts};
 
 use mgs_model::Short;
 use std::alloc::Global;
@@ -42,37 +42,16 @@ fn push_places(places: &mut Vec<usize>, from: usize, chars: &[char])
     }
 }
 
-// Adds how far the line feeds among characters are from the text's end, where `rest` characters follow.
-fn push_ends(ends: &mut Vec<usize>, rest: usize, chars: &[char])
-    requires room { length ends.old.items + count_by is_feed chars.now ≤ vec_capacity ends.old }
-    requires fits { rest + length chars.now < 2 ^ 64 }
-    ensures items { ends.new.items ≡ ends.old.items ++ ends_from rest chars.now }
-    ensures capacity { vec_capacity ends.new ≡ vec_capacity ends.old }
-{
-    let mut i = chars.len();
-    while i > 0 {
-        i -= 1;
-        if chars[i] == '\n' {
-            ends.push_reserved(chars.len() - i + rest);
-        }
-    }
-}
-
-// Takes as many of the last numbers away as there are line feeds among characters.
-fn forget(feeds: &mut Vec<usize>, chars: &[char])
-    ensures items { feeds.new.items ≡ take (length feeds.old.items - count_by is_feed chars.now) feeds.old.items }
-    ensures capacity { vec_capacity feeds.new ≡ vec_capacity feeds.old }
-{
-    let left = feeds.len().saturating_sub(count(chars));
-    feeds.truncate(left);
-}
-
-// How many of the numbers are below the limit, where those stand before all others.
+// How many of the numbers are below the limit, where those stand before all others. The last one, which is beside the gap,
+// is looked at first: mostly all are.
 fn below(feeds: &[usize], limit: usize) -> usize
     ensures { (n : ℕ) → Parts limit feeds.now n → result ≡ n }
 {
     let mut low = 0;
     let mut high = feeds.len();
+    if high == 0 || feeds[high - 1] < limit {
+        return high;
+    }
     while low < high {
         let middle = low + (high - low) / 2;
         if feeds[middle] < limit {
@@ -82,6 +61,25 @@ fn below(feeds: &[usize], limit: usize) -> usize
         }
     }
     low
+}
+
+// Moves the numbers past the first `left` to the end of another list, the last one first, each counted from the other end
+// of a text of `len` characters.
+fn turn_over(from: &mut Vec<usize>, to: &mut Vec<usize>, left: usize, len: usize)
+    requires some { left ≤ length from.old.items }
+    requires within { (i : ℕ) → i < length from.old.items → slice_index from.old.items i ≤ len }
+    requires room { length from.old.items + length to.old.items ≤ vec_capacity to.old + left }
+    ensures stay { from.new.items ≡ take left from.old.items }
+    ensures go { to.new.items ≡ to.old.items ++ turned len (drop left from.old.items) }
+    ensures from_capacity { vec_capacity from.new ≡ vec_capacity from.old }
+    ensures to_capacity { vec_capacity to.new ≡ vec_capacity to.old }
+{
+    let mut i = from.len();
+    while i > left {
+        i -= 1;
+        to.push_reserved(len - from[i]);
+    }
+    from.truncate(left);
 }
 
 impl Feeds {
@@ -110,6 +108,7 @@ impl Feeds {
         self.after.reserve(after).map_err(|_| Short)
     }
 
+    #[tactic(auto, using(crate::proofs::FeedMoves::number_moved))]
     // The gap moves to the place `a` of the text.
     pub(crate) fn cut_at(&mut self, front: &[char], back: &[char], a: usize)
         requires feeds { AreFeeds self.old.before.items self.old.after.items front.now back.now }
@@ -122,18 +121,16 @@ impl Feeds {
         ensures capacity { vec_capacity self.new.before ≡ vec_capacity self.old.before }
     {
         let start = front.len();
+        let len = start + back.len();
         if a < start {
-            let moved = &front[a..];
-            forget(&mut self.before, moved);
-            push_ends(&mut self.after, back.len(), moved);
+            let left = below(&self.before, a);
+            turn_over(&mut self.before, &mut self.after, left, len);
         } else {
-            let moved = &back[..a - start];
-            forget(&mut self.after, moved);
-            push_places(&mut self.before, start, moved);
+            let left = below(&self.after, len - a + 1);
+            turn_over(&mut self.after, &mut self.before, left, len);
         }
     }
 
-    #[tactic(auto, using(crate::proofs::FeedLists::feeds_gone))]
     // The first `n` characters after the gap go.
     pub(crate) fn delete_after(&mut self, back: &[char], n: usize)
         requires feeds { self.old.after.items ≡ ends_from 0 back.now }
@@ -142,7 +139,8 @@ impl Feeds {
         ensures before { self.new.before.items ≡ self.old.before.items }
         ensures capacity { vec_capacity self.new.before ≡ vec_capacity self.old.before }
     {
-        forget(&mut self.after, &back[..n]);
+        let left = below(&self.after, back.len() - n + 1);
+        self.after.truncate(left);
     }
 
     // Characters come before the gap, which lies at `a`.

@@ -1,5 +1,5 @@
 // Longer steps of a block, in safe code.
-ghost use Rattle.std.specs.Prelude.{◌≡◌, ℕ, ◌+◌, ◌-◌, ◌<◌, ◌≤◌, ◌++◌, [], List, length, take, drop, slice_index, slice_range, IfOk, OnOk, OnErr};
+ghost use Rattle.std.specs.Prelude.{◌≡◌, ◌+◌, ◌-◌, ◌<◌, ◌≤◌, [], length, take, drop, slice_index, IfOk, OnOk, OnErr};
 ghost use Rattle.mgs_gap.specs.Gapped.{Gapped, gapped, text_of};
 
 use crate::block::Block;
@@ -40,16 +40,6 @@ impl Block {
             self.pass_left(a);
         } else {
             self.pass_right(a - before);
-        }
-    }
-
-    // Puts characters at the gap's start.
-    pub(crate) fn insert(&mut self, put: &[char])
-        requires { length put.now ≤ self.old.gap }
-        ensures { self.new ≡ gapped (self.old.front ++ put.now) (self.old.gap - length put.now) self.old.back }
-    {
-        for c in put {
-            self.put(*c);
         }
     }
 

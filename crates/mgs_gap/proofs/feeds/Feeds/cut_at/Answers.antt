@@ -1,47 +1,39 @@
-use Rattle.std.proofs.Common.{◌≡◌, ◌+◌, ◌-◌, ◌++◌, ℕ, List, length, take, drop, ap, sym, subst, ◌∙◌, arith}
-use Rattle.std.specs.List.{count_by}
-use Rattle.std.proofs.lemmas.List.{take_rest}
-use Rattle.mgs_model.specs.Lines.{is_feed}
-use Rattle.mgs_gap.specs.Feeds.{feeds_from, ends_from, AreFeeds}
-use Rattle.mgs_gap.proofs.FeedLists.{feeds_back, feeds_on, count_back, count_on, number_back, number_on}
+use Rattle.std.proofs.Common.{◌≡◌, ℕ, List, ◌+◌, ◌-◌, ◌≤◌, ◌++◌, length, take, drop, subst, arith}
+use Rattle.mgs_gap.specs.Feeds.{AreFeeds}
+use Rattle.mgs_gap.proofs.FeedLines.{Finds}
+use Rattle.mgs_gap.proofs.FeedMoves.{few_before, few_after, feeds_within_text, ends_within_text, feeds_back, feeds_on}
 use Rattle.mgs_gap.proofs.feeds.Feeds.cut_at.Goals as goal
 
-pub push_ends-requires-clause-room : goal.push_ends-requires-clause-room
-push_ends-requires-clause-room c =
-    let front = c.args.front.now in let a = c.args.a in
-    omega (arith, count_back c.args.self.now.before.items front a c.requires.feeds.0, ap (λ (l : List ℕ). count_by is_feed l) (take_rest front a), c.requires.room_after)
+-- how far the end of a text of n and m characters is from the place a
+from_end : (n m a r : ℕ) (xs : List ℕ) → n ≤ a → Finds (n + m - a + 1) xs r → Finds (m - (a - n) + 1) xs r
+from_end n m a r xs past found = let same : n + m - a + 1 ≡ m - (a - n) + 1 = omega (arith, past) in subst (λ k. Finds k xs r) same found
 
-pub push_places-requires-clause-room : goal.push_places-requires-clause-room
-push_places-requires-clause-room c =
-    omega (arith, count_on c.args.self.now.after.items c.args.back.now (c.args.a - length c.args.front.now) c.requires.feeds.1, c.requires.room_before)
+pub turn_over-requires-clause-some : goal.turn_over-requires-clause-some
+turn_over-requires-clause-some c =
+    few_before c.deref.result.now c.args.self.now.before.items c.args.front.now c.args.back.now c.args.a c.below-left.result c.below-left.ensures c.deref.ensures.value c.requires.feeds.0 (omega (arith, c.if-a-start.true))
+
+pub turn_over-requires-clause-within : goal.turn_over-requires-clause-within
+turn_over-requires-clause-within c = feeds_within_text c.args.self.now.before.items c.args.front.now (length c.args.back.now) c.requires.feeds.0
+
+pub turn_over-requires-else-a-start-clause-some : goal.turn_over-requires-else-a-start-clause-some
+turn_over-requires-else-a-start-clause-some c =
+    let n : ℕ = length c.args.front.now in let m : ℕ = length c.args.back.now in let r = c.below-left-else-a-start.result in let xs = c.deref-else-a-start.result.now in
+    few_after xs c.args.self.now.after.items c.args.back.now (c.args.a - n) r (from_end n m c.args.a r xs c.if-a-start.false c.below-left-else-a-start.ensures) c.deref-else-a-start.ensures.value c.requires.feeds.1 (omega (arith, c.requires.within, c.if-a-start.false))
+
+pub turn_over-requires-else-a-start-clause-within : goal.turn_over-requires-else-a-start-clause-within
+turn_over-requires-else-a-start-clause-within c = ends_within_text c.args.self.now.after.items c.args.back.now (length c.args.front.now) c.requires.feeds.1
 
 pub returns-then-a-start-clause-feeds : goal.returns-then-a-start-clause-feeds
 returns-then-a-start-clause-feeds c =
-    let before = c.args.self.now.before.items in let after = c.args.self.now.after.items in
-    let front = c.args.front.now in let back = c.args.back.now in let a = c.args.a in
-    let moved : List ℕ = take (length front - a) (drop a front) in
-    let cut = subst (λ m. AreFeeds (take (length before - count_by is_feed m) before) (after ++ ends_from (length back) m) (take a (front ++ back)) (drop a (front ++ back)))
-    (sym (take_rest front a)) (feeds_back before after front back a c.requires.feeds (omega (arith, c.if-a-start.true))) in
-    (c.forget.ensures.items ∙ cut.0, c.push_ends.ensures.items ∙ cut.1)
-
-pub returns-then-a-start-clause-number : goal.returns-then-a-start-clause-number
-returns-then-a-start-clause-number c =
-    let front = c.args.front.now in let a = c.args.a in
-    number_back c.args.self.now.before.items c.args.self.now.after.items front c.forget.new.feeds.items c.push_ends.new.ends.items (take (length front - a) (drop a front)) a (length c.args.back.now)
-    c.requires.feeds.0 (take_rest front a) c.forget.ensures.items c.push_ends.ensures.items
+    feeds_back c.deref.result.now c.args.self.now.before.items c.args.front.now c.args.back.now c.args.a c.below-left.result c.below-left.ensures c.deref.ensures.value c.requires.feeds.0 (omega (arith, c.if-a-start.true))
+    c.args.self.now.after.items c.turn_over.new.from.items c.turn_over.new.to.items c.requires.feeds.1 c.turn_over.ensures.stay c.turn_over.ensures.go
 
 pub returns-else-a-start-clause-feeds : goal.returns-else-a-start-clause-feeds
 returns-else-a-start-clause-feeds c =
-    let before = c.args.self.now.before.items in let after = c.args.self.now.after.items in
     let front = c.args.front.now in let back = c.args.back.now in let a = c.args.a in
-    let k : ℕ = a - length front in
-    let at : length front + k ≡ a = omega (arith, c.if-a-start.false) in
-    let cut = subst (λ i. AreFeeds (before ++ feeds_from (length front) (take k back)) (take (length after - count_by is_feed (take k back)) after) (take i (front ++ back)) (drop i (front ++ back)))
-    at (feeds_on before after front back k c.requires.feeds) in
-    (c.push_places.ensures.items ∙ cut.0, c.forget-else-a-start.ensures.items ∙ cut.1)
-
-pub returns-else-a-start-clause-number : goal.returns-else-a-start-clause-number
-returns-else-a-start-clause-number c =
-    let front = c.args.front.now in
-    number_on c.args.self.now.before.items c.args.self.now.after.items c.args.back.now c.push_places.new.places.items c.forget-else-a-start.new.feeds.items (c.args.a - length front) (length front)
-    c.requires.feeds.1 c.push_places.ensures.items c.forget-else-a-start.ensures.items
+    let n : ℕ = length front in let m : ℕ = length back in let r = c.below-left-else-a-start.result in let xs = c.deref-else-a-start.result.now in
+    let new = c.turn_over-else-a-start in
+    let at : n + (a - n) ≡ a = omega (arith, c.if-a-start.false) in
+    subst (λ i. AreFeeds new.new.to.items new.new.from.items (take i (front ++ back)) (drop i (front ++ back))) at
+    (feeds_on xs c.args.self.now.after.items back (a - n) r (from_end n m a r xs c.if-a-start.false c.below-left-else-a-start.ensures) c.deref-else-a-start.ensures.value c.requires.feeds.1 (omega (arith, c.requires.within, c.if-a-start.false))
+    c.args.self.now.before.items front new.new.to.items new.new.from.items c.requires.feeds.0 new.ensures.stay new.ensures.go)
