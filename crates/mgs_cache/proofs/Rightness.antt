@@ -6,7 +6,7 @@ use Rattle.mgs_model.specs.declared.owners.Owners.{Owners}
 use Rattle.mgs_model.specs.declared.entry.Entry.{Entry}
 use Rattle.mgs_model.specs.declared.entry.Decision.{Decision}
 use Rattle.mgs_cache.specs.Kept.{Kept, kept, AreRight, AreAmong}
-use Rattle.mgs_cache.proofs.Among.{among_more, among_after}
+use Rattle.mgs_cache.proofs.Among.{among_one, among_more, among_after}
 
 -- what is kept for one place is right by its own owner and entries, and stays so where one more that is right, if it is for this
 -- place, is kept
@@ -38,4 +38,4 @@ recalled_right place directory owners user entries mask None keeps right h = tt
 recalled_right place directory owners user entries mask (Some d) keeps right h = right.each user mask d h
 
 -- what closes the goals of `decide`
-pub ruleset deciding = (among_more, among_after)
+pub ruleset deciding = (among_one, among_more, among_after)

@@ -7,7 +7,7 @@ ghost use Rattle.mgs_cache.specs.Requests.{kept_as};
 use mgs_model::{Mask, Name};
 
 /// A request for all rights of a mask: what a decision is kept under.
-#[derive(Clone, Copy, Debug, PartialEq, Eq, Hash)]
+#[derive(Clone, Copy, PartialEq, Eq, Hash)]
 pub(crate) struct Request {
     /// The buffer's place in order.
     buffer: usize,

@@ -3,3 +3,4 @@ pub mod KeyRules
 pub mod Sequenced
 pub mod Named
 pub mod Characters
+pub mod Inserting

@@ -12,7 +12,7 @@ const QUIT: u8 = 0x07;
 
 /// Makes commands of the bytes that a terminal sends. It holds what a session has half read: an argument, and the word
 /// of keys that goes on.
-#[derive(Clone, Copy, Debug)]
+#[derive(Clone, Copy)]
 pub struct Keyboard {
     decoder: Decoder,
     maps: Maps,

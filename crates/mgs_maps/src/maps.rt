@@ -17,7 +17,7 @@ const ARGUMENT_LIMIT: usize = 9999;
 const ASCII_LIMIT: u8 = 0x7F;
 
 /// What a key, or a byte, comes to.
-#[derive(Clone, Copy, Debug, PartialEq, Eq)]
+#[derive(Clone, Copy, PartialEq, Eq)]
 pub enum Fed {
     /// A word of keys or an argument goes on.
     Pending,
@@ -28,7 +28,7 @@ pub enum Fed {
 }
 
 // The keys that were typed of a word.
-#[derive(Clone, Copy, Debug, PartialEq, Eq)]
+#[derive(Clone, Copy, PartialEq, Eq)]
 pub(crate) enum Prefix {
     Empty,
     ControlX,
@@ -37,14 +37,14 @@ pub(crate) enum Prefix {
 }
 
 // A key that is one byte, with Meta or without.
-#[derive(Clone, Copy, Debug, PartialEq, Eq)]
+#[derive(Clone, Copy, PartialEq, Eq)]
 pub(crate) enum Stroke {
     Plain(u8),
     Meta(u8),
 }
 
 /// Makes commands of keys. It holds the argument that was typed, and the word that goes on.
-#[derive(Clone, Copy, Debug)]
+#[derive(Clone, Copy)]
 pub struct Maps {
     argument: Option<Argument>,
     prefix: Prefix,
@@ -221,21 +221,23 @@ impl Maps {
         (Fed::Unbound, Maps::new())
     }
 
-    // What a word is that is no part of an argument.
+    // What a word is that is no part of an argument. A character that inserts itself is no row of the table, so it is taken before
+    // the rows are gone through.
+    #[tactic(auto, using(crate::proofs::Inserting::inserts_first))]
     fn look_up(self, stroke: Stroke) -> (Fed, Maps)
         ensures { FedBy result.0 (word_reads self.argument self.prefix stroke) (held_by result.1) }
     {
-        if let Some(command) = find_command(self.prefix, stroke) {
-            return Maps::run(command, self.argument);
-        }
-        if let Some(prefix) = prefix_with(self.prefix, stroke) {
-            return Maps::wait(self.argument, prefix);
-        }
         if let Some(character) = inserted(self.prefix, stroke) {
             return Maps::run(
                 Command::Insert(Insertion::SelfInsert(character)),
                 self.argument,
             );
+        }
+        if let Some(command) = find_command(self.prefix, stroke) {
+            return Maps::run(command, self.argument);
+        }
+        if let Some(prefix) = prefix_with(self.prefix, stroke) {
+            return Maps::wait(self.argument, prefix);
         }
         (Fed::Unbound, Maps::new())
     }

@@ -25,7 +25,7 @@ pub(crate) const QUOTE: u8 = 0x11;
 pub(crate) const BRACKET: u8 = b'[';
 
 /// A row of the table: the bytes of a word of keys, the name of its command, and the command.
-#[derive(Clone, Copy, Debug)]
+#[derive(Clone, Copy)]
 pub struct Binding {
     /// C-x is 0x18, and ESC (0x1B) stands before the byte of a key with Meta. Empty where no word runs the command.
     pub keys: &'static [u8],

@@ -1,10 +1,11 @@
 //! Searches in a text: a pattern matches whatever the case of its ASCII letters.
 #![tactic(auto)]
 
-ghost use Rattle.std.specs.Prelude.{◌≡◌, ◌+◌, ◌≤◌, length, IfSome, true};
-ghost use Rattle.std.specs.Char.{eq_ignore_ascii_case};
-ghost use Rattle.mgs_model.specs.Searching.{matches_at, first_match, last_match, match_from, match_past};
+ghost use Rattle.std.specs.Prelude.{◌≡◌, ℕ, ◌+◌, ◌<◌, ◌≤◌, List, length, IfSome, true};
+ghost use Rattle.std.specs.Char.{eq_ignore_ascii_case, to_ascii_lowercase, to_ascii_uppercase};
+ghost use Rattle.mgs_model.specs.Searching.{matches_at, first_match, last_match, last_match_before, match_from, match_past};
 ghost use Rattle.mgs_model.specs.declared.search.Direction.{Direction};
+ghost use Rattle.mgs_search.specs.Firsts.{IsFirst};
 
 mod incremental;
 mod prompted;
@@ -40,6 +41,59 @@ pub fn matches_at<T: Text>(text: &T, p: usize, pattern: &[char]) -> bool
     true
 }
 
+// The two cases of a pattern's first character: two comparisons with it cost less than to fold each character of a text.
+#[derive(Clone, Copy)]
+struct First {
+    small: char,
+    large: char,
+}
+
+fn first_of(pattern: &[char]) -> First
+    requires { 0 < length pattern.now }
+    ensures { IsFirst pattern.now result }
+{
+    let first = pattern[0];
+    First {
+        small: first.to_ascii_lowercase(),
+        large: first.to_ascii_uppercase(),
+    }
+}
+
+// Whether a character is one of the two cases of another.
+fn is_either(c: char, first: First) -> bool
+    ensures { (f : ℕ) → first.small ≡ to_ascii_lowercase f → first.large ≡ to_ascii_uppercase f → result ≡ eq_ignore_ascii_case f c }
+{
+    c == first.small || c == first.large
+}
+
+// The first place from `from` on where a character stands that a pattern may begin with, or the end. No such pattern is passed over.
+fn next_begun<T: Text>(text: &T, from: usize, first: First) -> usize
+    requires { from ≤ length (T.text text.now) }
+    ensures value { (chars : List ℕ) → IsFirst chars first → first_match chars (T.text text.now) result ≡ first_match chars (T.text text.now) from }
+    ensures order { from ≤ result }
+    ensures within { result ≤ length (T.text text.now) }
+{
+    for p in from..text.len() {
+        if is_either(text.at(p), first) {
+            return p;
+        }
+    }
+    text.len()
+}
+
+// The place behind the last one before `end` where a character stands that a pattern may begin with, or 0. No such pattern is passed over.
+fn last_begun<T: Text>(text: &T, end: usize, first: First) -> usize
+    requires { end ≤ length (T.text text.now) }
+    ensures value { (chars : List ℕ) → IsFirst chars first → last_match_before chars (T.text text.now) result ≡ last_match_before chars (T.text text.now) end }
+    ensures order { result ≤ end }
+{
+    let mut left = end;
+    while left > 0 && !is_either(text.at(left - 1), first) {
+        left -= 1;
+    }
+    left
+}
+
 /// The first position from `from` on where a pattern stands.
 pub fn find_forward<T: Text>(text: &T, from: usize, pattern: &[char]) -> Option<usize>
     requires { from ≤ length (T.text text.now) }
@@ -49,10 +103,13 @@ pub fn find_forward<T: Text>(text: &T, from: usize, pattern: &[char]) -> Option<
     if pattern.is_empty() {
         return Some(from);
     }
-    for p in from..text.len() {
+    let first = first_of(pattern);
+    let mut p = next_begun(text, from, first);
+    while p < text.len() {
         if matches_at(text, p, pattern) {
             return Some(p);
         }
+        p = next_begun(text, p + 1, first);
     }
     None
 }
@@ -63,14 +120,18 @@ pub fn find_backward<T: Text>(text: &T, from: usize, pattern: &[char]) -> Option
     ensures value { result ≡ last_match pattern.now (T.text text.now) from }
     ensures within { IfSome result (λ p. p + length pattern.now ≤ length (T.text text.now)) }
 {
-    let mut p = from;
-    while !matches_at(text, p, pattern) {
-        if p == 0 {
-            return None;
-        }
-        p -= 1;
+    if pattern.is_empty() {
+        return Some(from);
     }
-    Some(p)
+    let first = first_of(pattern);
+    let mut left = last_begun(text, text.len().min(from + 1), first);
+    while left > 0 {
+        if matches_at(text, left - 1, pattern) {
+            return Some(left - 1);
+        }
+        left = last_begun(text, left - 1, first);
+    }
+    None
 }
 
 /// The next position in a direction where a pattern stands. The position `p` itself counts.

@@ -12,7 +12,7 @@ use mgs_model::Message;
 use mgs_text::Text;
 
 /// A replacement at an anchor, as it is planned.
-#[derive(Clone, Copy, Debug, PartialEq, Eq)]
+#[derive(Clone, Copy, PartialEq, Eq)]
 pub struct Replacement {
     /// Whether the text still stands at the anchor, and is replaced.
     pub replaces: bool,

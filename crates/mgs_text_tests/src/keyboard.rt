@@ -182,7 +182,7 @@ fn arguments_and_words_are_read(rt: HostRuntime) {
     }
     for row in bindings() {
         let fed = last_fed(&mut Keyboard::new(), row.keys);
-        assert!(rt; fed == Fed::Run(row.command, None), "{row:?}");
+        assert!(rt; fed == Fed::Run(row.command, None), "{:?}", row.keys);
     }
 }
 

@@ -1,6 +1,7 @@
 // Matches in a text, and incremental search byte by byte.
 ghost use Rattle.std.specs.Prelude.{◌≤◌, length};
 
+use mgs_gap::GapText;
 use mgs_model::{Direction, Message, SearchPlaces, SearchStep, Short};
 use mgs_search::{
     IncrementalSearch, Replacement, begin_replacing, find_backward, find_forward, find_past,
@@ -71,6 +72,77 @@ fn finds_matches(rt: HostRuntime) -> Result<(), Fail> {
     let text = PlainText::of(rt.alloc(), &THRICE)?;
     for &(p, here, first, last) in &MATCHES {
         assert!(rt; finds(&text, p, here, first, last), "at {p}");
+    }
+    Ok(())
+}
+
+const TEXTS: [&[char]; 8] = [
+    &[],
+    &['a'],
+    &['B', 'a'],
+    &['a', 'A', 'a', 'b'],
+    &['a', 'b', 'A', 'B', 'a', 'B'],
+    &['b', 'b', 'a', 'a', 'b', 'a', 'a', 'b', 'A'],
+    &['[', '{', '@', '`', 'a', '['],
+    &['\u{e9}', 'a', '\u{c9}', 'a', '\u{e9}', 'A'],
+];
+
+const PATTERNS: [&[char]; 9] = [
+    &[],
+    &['a'],
+    &['B'],
+    &['a', 'b'],
+    &['A', 'A', 'b'],
+    &['b', 'a', 'a', 'b'],
+    &['{'],
+    &['`', 'A'],
+    &['\u{e9}', 'a'],
+];
+
+// The first place from one on where a pattern stands: each is tried in full.
+fn first_tried<T: Text>(text: &T, from: usize, pattern: &[char]) -> Option<usize>
+    requires { from ≤ length (T.text text.now) }
+{
+    for p in from..text.len() + 1 {
+        if matches_at(text, p, pattern) {
+            return Some(p);
+        }
+    }
+    None
+}
+
+// The last place up to one where a pattern stands: each is tried in full.
+fn last_tried<T: Text>(text: &T, from: usize, pattern: &[char]) -> Option<usize> {
+    let mut last = None;
+    for p in 0..text.len() + 1 {
+        if p <= from && matches_at(text, p, pattern) {
+            last = Some(p);
+        }
+    }
+    last
+}
+
+// Whether both searches find, from each place of a text, what is found where each place is tried in full.
+fn finds_as_tried(text: &impl Text, pattern: &[char]) -> bool {
+    for from in 0..text.len() + 1 {
+        if find_forward(text, from, pattern) != first_tried(text, from, pattern)
+            || find_backward(text, from, pattern) != last_tried(text, from, pattern)
+        {
+            return false;
+        }
+    }
+    true
+}
+
+#[test]
+fn searches_pass_over_no_match(rt: HostRuntime) -> Result<(), Fail> {
+    for chars in &TEXTS {
+        let plain = PlainText::of(rt.alloc(), chars)?;
+        let gap = GapText::of(rt.alloc(), chars)?;
+        for pattern in &PATTERNS {
+            assert!(rt; finds_as_tried(&plain, pattern), "{pattern:?} in {chars:?}");
+            assert!(rt; finds_as_tried(&gap, pattern), "{pattern:?} in {chars:?}");
+        }
     }
     Ok(())
 }

@@ -1,11 +1,30 @@
 use Rattle.std.proofs.Common.{ℕ, List, arith, sym, ◌∙◌}
-use Rattle.mgs_search.proofs.Matching.{last_next}
+use Rattle.mgs_model.specs.Searching.{last_match}
+use Rattle.mgs_search.proofs.Matching.{last_from_end, last_passed, last_stands}
 use Rattle.mgs_search.proofs.find_backward.Goals as goal
 
-pub loop-from-preserved : goal.loop-from-preserved
-loop-from-preserved g c =
+pub loop-left-init : goal.loop-left-init
+loop-left-init g c =
+    let pattern = c.args.pattern.now in
     let xs : List ℕ = g.T.Text.text c.args.text.now in
+    let begun = c.last_begun-left.ensures.value pattern c.first_of-first.ensures in
     record {
       within = omega arith;
-      same = last_next c.args.pattern.now xs c.loop-from.p (omega arith) (sym c.matches_at.ensures.value ∙ c.loop-from-test.true) ∙ c.loop-from.invariant.same;
+      same = last_from_end pattern xs c.args.from c.min.result c.last_begun-left.result (omega arith) (omega arith) c.first_of-first.ensures.some begun;
+    }
+
+pub returns-then-matches_at-clause-value : goal.returns-then-matches_at-clause-value
+returns-then-matches_at-clause-value g c =
+    let pattern = c.args.pattern.now in
+    let xs : List ℕ = g.T.Text.text c.args.text.now in
+    last_stands pattern xs c.loop-left.left (last_match pattern xs c.args.from) (omega arith) (sym c.matches_at.ensures.value ∙ c.if-matches_at.true) c.loop-left.invariant.same
+
+pub loop-left-preserved : goal.loop-left-preserved
+loop-left-preserved g c =
+    let pattern = c.args.pattern.now in
+    let xs : List ℕ = g.T.Text.text c.args.text.now in
+    let passed = last_passed pattern xs c.loop-left.left (last_match pattern xs c.args.from) (omega arith) (sym c.matches_at.ensures.value ∙ c.if-matches_at.false) c.loop-left.invariant.same in
+    record {
+      within = omega arith;
+      same = c.last_begun-left-in-loop-left.ensures.value pattern c.first_of-first.ensures ∙ passed;
     }

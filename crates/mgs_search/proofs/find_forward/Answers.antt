@@ -1,6 +1,7 @@
 use Rattle.std.proofs.Common.{ℕ, List, length, arith, sym, ◌∙◌}
 use Rattle.std.proofs.lemmas.Bool.{eqb-true}
-use Rattle.mgs_search.proofs.Matching.{first_empty, first_next}
+use Rattle.mgs_model.specs.Searching.{first_match}
+use Rattle.mgs_search.proofs.Matching.{first_empty, first_passed}
 use Rattle.mgs_search.proofs.find_forward.Goals as goal
 
 pub returns-then-is_empty-clause-value : goal.returns-then-is_empty-clause-value
@@ -10,5 +11,10 @@ returns-then-is_empty-clause-value g c =
 
 pub loop-p-preserved : goal.loop-p-preserved
 loop-p-preserved g c =
+    let pattern = c.args.pattern.now in
     let xs : List ℕ = g.T.Text.text c.args.text.now in
-    first_next c.args.pattern.now xs c.loop-p.p (omega arith) (sym c.matches_at.ensures.value ∙ c.if-matches_at.false) ∙ c.loop-p.invariant
+    let begun = c.next_begun-p-in-loop-p.ensures.value pattern c.first_of-first.ensures in
+    record {
+      within = c.next_begun-p-in-loop-p.ensures.within;
+      same = first_passed pattern xs c.loop-p.p c.next_begun-p-in-loop-p.result (first_match pattern xs c.args.from) (omega arith) (sym c.matches_at.ensures.value ∙ c.if-matches_at.false) begun c.loop-p.invariant.same;
+    }
