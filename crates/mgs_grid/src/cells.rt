@@ -1,5 +1,5 @@
 // Cells written into a row one after another.
-ghost use Rattle.std.specs.Prelude.{◌≡◌, ℕ, ◌+◌, ◌-◌, ◌*◌, ◌%◌, ◌<◌, ◌≤◌, ◌^◌, List, length, map, replicate, decimal, slice_range, IsTrue};
+ghost use Rattle.std.specs.Prelude.{◌≡◌, ◌+◌, ◌-◌, ◌*◌, ◌%◌, ◌<◌, ◌≤◌, ◌^◌, length, map, replicate, decimal, slice_range, IsTrue};
 ghost use Rattle.std.specs.List.{list_all};
 ghost use Rattle.std.specs.Int.Digits.{digits_of};
 ghost use Rattle.std.specs.Char.{digit_char};
@@ -130,6 +130,22 @@ pub(crate) fn put_glyph(row: &mut [char], shift: usize, column: usize, c: char) 
     ensures next { result ≡ column + length (glyph column c) }
     ensures few { result ≤ column + 12 }
 {
+    // Most characters are these, and walks along lines have the rest behind a call.
+    if ' ' <= c && c < '\x7f' {
+        put(row, shift, column, c);
+        return column + 1;
+    }
+    put_rare(row, shift, column, c)
+}
+
+// The cells of a character that is neither visible ASCII nor a space.
+fn put_rare(row: &mut [char], shift: usize, column: usize, c: char) -> usize
+    requires column { column < 2 ^ 62 }
+    requires rare { 32 ≤ c → 127 ≤ c }
+    ensures row { row.new ≡ over row.old shift column (glyph column c) }
+    ensures next { result ≡ column + length (glyph column c) }
+    ensures few { result ≤ column + 12 }
+{
     if c == '\t' {
         let count = 8 - column % 8;
         put_blanks(row, shift, column, count);
@@ -138,9 +154,6 @@ pub(crate) fn put_glyph(row: &mut [char], shift: usize, column: usize, c: char) 
         put(row, shift, column, '^');
         put(row, shift, column + 1, (c as u8 + 64) as char);
         column + 2
-    } else if c < '\x7f' {
-        put(row, shift, column, c);
-        column + 1
     } else if c == '\x7f' {
         put(row, shift, column, '^');
         put(row, shift, column + 1, '?');

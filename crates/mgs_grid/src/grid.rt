@@ -1,5 +1,5 @@
 // The rows of a screen, and a cursor.
-ghost use Rattle.std.specs.Prelude.{◌≡◌, ℕ, ◌+◌, ◌<◌, ◌≤◌, ◌^◌, List, [], ◌∷◌, ◌++◌, length, drop, decimal, codes, All, None, IfOk};
+ghost use Rattle.std.specs.Prelude.{◌≡◌, ℕ, ◌+◌, ◌<◌, ◌≤◌, ◌^◌, [], ◌∷◌, ◌++◌, length, drop, decimal, codes, All, None, IfOk};
 ghost use Rattle.mgs_model.specs.Rows.{text_rows, shift_at, blank_rows, unread_rows, cause_text, plain_row, mode_row, buffer_mode, none_mode, echo_row, line_row, line_end_column, rows_put};
 ghost use Rattle.mgs_model.specs.Draw.{listing_text};
 ghost use Rattle.mgs_model.specs.Prompts.{prompt_line, search_text};

@@ -1,5 +1,5 @@
 // Rows of the listing of all buffers and of an access list, and their mode lines, written into a row.
-ghost use Rattle.std.specs.Prelude.{◌≡◌, ℕ, ◌+◌, ◌<◌, ◌≤◌, ◌^◌, [], ◌∷◌, ◌++◌, length, replicate, decimal, codes, All};
+ghost use Rattle.std.specs.Prelude.{◌≡◌, ◌+◌, ◌<◌, ◌≤◌, ◌^◌, [], ◌∷◌, ◌++◌, length, replicate, decimal, codes, All};
 ghost use Rattle.mgs_model.specs.Picture.{IsPrintable};
 ghost use Rattle.mgs_model.specs.Rows.{cause_text};
 ghost use Rattle.mgs_model.specs.Draw.{right_in, flag_of, owners_text, listing_text};

@@ -1,5 +1,5 @@
 // Mode lines, messages and prompts written into a row.
-ghost use Rattle.std.specs.Prelude.{◌≡◌, ℕ, ◌+◌, ◌<◌, ◌≤◌, ◌^◌, ◌++◌, length, codes};
+ghost use Rattle.std.specs.Prelude.{◌≡◌, ◌+◌, ◌<◌, ◌≤◌, ◌^◌, ◌++◌, length, codes};
 ghost use Rattle.mgs_model.specs.Rows.{heading_text, place_text, cause_text, unread_text};
 ghost use Rattle.mgs_model.specs.Rights.{right_name};
 ghost use Rattle.mgs_model.specs.Messages.{denial_text, fault_name, message_text, position_text};

@@ -1,9 +1,9 @@
 -- The columns at which texts of one length differ.
 use Rattle.std.proofs.Common.{◌≡◌, ℕ, zero, suc, ◌+◌, ◌-◌, ◌<◌, ◌≤◌, Bool, false, inl, inr, List, [], ◌∷◌, map, length, take, drop, replicate, get_or, refl, sym, ap, ◌∙◌, arith}
 use Rattle.std.specs.Prelude.{nat_eq, ◌&&◌}
-use Rattle.std.proofs.lemmas.Bool.{eq-eqb, ne_eqb, cases_Bool, eqb-true, eqb-false, and_parts, and_right}
+use Rattle.std.proofs.lemmas.Bool.{cases_lt, eq-eqb, ne_eqb, cases_Bool, eqb-true, eqb-false, and_parts, and_right}
 use Rattle.std.proofs.Math.Dec.{eqb-suc-zero}
-use Rattle.std.proofs.lemmas.List.{length-replicate, drop-replicate, get_or-replicate, get_or_read, take_all, drop_more, drop_all, drop-drop, length-map, take-map, drop-map}
+use Rattle.std.proofs.lemmas.List.{length-replicate, drop-replicate, get_or-replicate, get_or-drop, get_or_read, take_all, drop_more, drop_all, drop-drop, length-map, take-map, drop-map}
 use Rattle.std.specs.Bool.{beq}
 use Rattle.std.specs.Cmp.{booleans_Decides}
 use Rattle.mgs_model.specs.Cells.{AreCells, starts_half}
@@ -104,10 +104,11 @@ pub start_found : (xs ys : List ℕ) (i x y : ℕ) → length xs ≡ length ys �
 start_found xs ys i x y n l same p q other =
     sym (change_start-at xs ys i 0 (omega arith) l same (other_read xs ys i x y 0 (omega arith) l p q other))
 
-pub start_none : (xs ys : List ℕ) (i : ℕ) → length xs ≡ length ys → length ys ≤ i → take i xs ≡ take i ys → length ys ≡ change_start xs ys
-start_none xs ys i n l same =
+pub start_none : (xs ys : List ℕ) (i : ℕ) → length xs ≡ length ys → i ≤ length ys → length ys ≤ i → take i xs ≡ take i ys → i ≡ change_start xs ys
+start_none xs ys i n within l same =
     let all : xs ≡ ys = sym (take_all i xs (omega arith)) ∙ same ∙ take_all i ys l in
-    rw all (sym (change_start-same ys))
+    let end : i ≡ length ys = omega arith in
+    end ∙ rw all (sym (change_start-same ys))
 
 -- from the right, down to two characters that differ
 pub end_found : (xs ys : List ℕ) (e x y : ℕ) → length xs ≡ length ys → 0 < e → e ≤ length ys → drop e xs ≡ drop e ys → x ≡ get_or xs (e - 1) x → y ≡ get_or ys (e - 1) y → (x ≡ y → ⊥) → e ≡ change_end xs ys
@@ -219,3 +220,18 @@ ink_apart text k l =
     let n : ℕ = length text in
     let blank : drop k text ≡ replicate (n - k) 32 = sym (drop_later (ink_end text) k (replicate n 32) text l (end_stays (replicate n 32) text (length-replicate n 32)).0) ∙ drop-replicate k n 32 in
     ap starts_half blank ∙ blank_apart (n - k)
+
+first_left : (xs : List ℕ) (k : ℕ) → get_or xs k 0 ≡ get_or (drop k xs) 0 0
+first_left xs k = let none : k + 0 ≡ k = omega arith in sym (get_or-drop k xs 0 0 ∙ ap (λ j. get_or xs j 0) none)
+
+-- ink before a place is no later than where it ends
+pub ink_past : (xs : List ℕ) (e x : ℕ) → 0 < e → e ≤ length xs → x ≡ get_or xs (e - 1) x → (x ≡ 32 → ⊥) → e ≤ ink_end xs
+ink_past xs e x some l p other = elim (cases_lt (ink_end xs) e) [
+  | inl before ↦
+      let blanks : List ℕ = replicate (length xs) 32 in
+      let n : length blanks ≡ length xs = length-replicate (length xs) 32 in
+      let rest : drop (e - 1) blanks ≡ drop (e - 1) xs = drop_later (ink_end xs) (e - 1) blanks xs (omega arith) (end_stays blanks xs n).0 in
+      let same : get_or blanks (e - 1) 0 ≡ get_or xs (e - 1) 0 = first_left blanks (e - 1) ∙ ap (λ zs. get_or zs 0 0) rest ∙ sym (first_left xs (e - 1)) in
+      absurd (other (get_or_read xs (e - 1) x (omega arith) p 0 ∙ sym same ∙ get_or-replicate (length xs) (e - 1) 32 0 (omega arith)))
+  | inr past ↦ past
+]

@@ -2,6 +2,7 @@ pub mod WholeCells
 pub mod Written
 pub mod Runs
 pub mod Rows
+pub mod Strides
 pub mod Columns
 pub mod Pieces
 pub mod Cursor

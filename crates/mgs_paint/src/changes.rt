@@ -1,5 +1,5 @@
 // The bytes of what changes from a shown picture to a new one.
-ghost use Rattle.std.specs.Prelude.{◌≡◌, ℕ, ◌+◌, ◌-◌, ◌*◌, ◌<◌, ◌≤◌, ◌++◌, length, drop, vec_len, vec_capacity, false, All};
+ghost use Rattle.std.specs.Prelude.{◌≡◌, ◌+◌, ◌-◌, ◌*◌, ◌<◌, ◌≤◌, ◌++◌, length, take, drop, replicate, max, vec_len, vec_capacity, true, false, All};
 ghost use Rattle.mgs_model.specs.Cells.{AreCells, starts_half};
 ghost use Rattle.mgs_model.specs.Picture.{IsRow};
 ghost use Rattle.mgs_model.specs.declared.limits.TheConstants.{COLS_MAX, ROWS_MAX};
@@ -13,17 +13,54 @@ use crate::put::{put_erase, put_goto, put_plain_on, put_reverse, put_text};
 use mgs_grid::{Grid, Line, RowSet};
 use mgs_model::RIGHT_HALF;
 
+// How many cells are compared at a time where texts are the same.
+const STRIDE: usize = 8;
+
+// Whether two texts of one length are the same. Where that is short and known this costs no call.
+#[tactic(auto, using(crate::proofs::Strides::whole_prefix))]
+fn is_same(old: &[char], new: &[char]) -> bool
+    requires { length old.now ≡ length new.now }
+    ensures { result ≡ true → old.now ≡ new.now }
+{
+    old.starts_with(new)
+}
+
+// A place not past the first at which two texts differ: what stands before it was compared by strides.
+fn skip_same(old: &[char], new: &[char]) -> usize
+    requires { length old.now ≡ length new.now }
+    ensures within { result ≤ length new.now }
+    ensures same { take result old.now ≡ take result new.now }
+{
+    let mut i = 0;
+    while STRIDE <= new.len() - i && is_same(&old[i..i + STRIDE], &new[i..i + STRIDE]) {
+        i += STRIDE;
+    }
+    i
+}
+
 // The first place at which two texts differ, or their length.
 fn change_start(old: &[char], new: &[char]) -> usize
     requires { length old.now ≡ length new.now }
     ensures { result ≡ change_start old.now new.now }
 {
-    for (i, c) in new.iter().enumerate() {
-        if old[i] != *c {
-            return i;
-        }
+    let mut i = skip_same(old, new);
+    while i < new.len() && old[i] == new[i] {
+        i += 1;
     }
-    new.len()
+    i
+}
+
+// A place not before the last at which two texts differ: what stands from it on was compared by strides.
+fn skip_same_back(old: &[char], new: &[char]) -> usize
+    requires { length old.now ≡ length new.now }
+    ensures within { result ≤ length new.now }
+    ensures same { drop result old.now ≡ drop result new.now }
+{
+    let mut end = new.len();
+    while STRIDE <= end && is_same(&old[end - STRIDE..end], &new[end - STRIDE..end]) {
+        end -= STRIDE;
+    }
+    end
 }
 
 // The place after the last at which they differ, or 0.
@@ -32,11 +69,7 @@ fn change_end(old: &[char], new: &[char]) -> usize
     ensures value { result ≡ change_end old.now new.now }
     ensures within { result ≤ length new.now }
 {
-    // Most rows stay the same, and are compared many cells at a time.
-    if old == new {
-        return 0;
-    }
-    let mut end = new.len();
+    let mut end = skip_same_back(old, new);
     while end > 0 && old[end - 1] == new[end - 1] {
         end -= 1;
     }
@@ -60,16 +93,44 @@ fn whole_end(text: &[char], end: usize) -> usize
     }
 }
 
+// A place not before the last character that is no blank: the blanks from it on were compared by strides.
+fn skip_blanks_back(text: &[char]) -> usize
+    ensures within { result ≤ length text.now }
+    ensures blank { drop result text.now ≡ drop result (replicate (length text.now) 32) }
+{
+    let mut end = text.len();
+    while STRIDE <= end && is_same(&text[end - STRIDE..end], &[' '; STRIDE]) {
+        end -= STRIDE;
+    }
+    end
+}
+
 // The place after the last character that is no blank, or 0.
 fn ink_end(text: &[char]) -> usize
     ensures value { result ≡ ink_end text.now }
     ensures within { result ≤ length text.now }
 {
-    let mut end = text.len();
+    let mut end = skip_blanks_back(text);
     while end > 0 && text[end - 1] == ' ' {
         end -= 1;
     }
     end
+}
+
+// The place from which an erase would go, at or behind `start`. Where the change up to `end` has no blanks to erase at its
+// end, that is some place near `end`: most changes end in ink, and the blanks behind are then not looked at.
+fn erase_start(text: &[char], start: usize, end: usize) -> usize
+    requires order { start < end }
+    requires within { end ≤ length text.now }
+    ensures from { start ≤ result }
+    ensures to { result ≤ length text.now }
+    ensures erased { result + 3 < end → result ≡ max (ink_end text.now) start }
+    ensures written { end ≤ result + 3 → end ≤ max (ink_end text.now) start + 3 }
+{
+    if text[end - 1] != ' ' {
+        return end;
+    }
+    ink_end(text).max(start)
 }
 
 // The first column of a row that changes: all of them do where its reverse does.
@@ -137,7 +198,7 @@ fn put_plain(
     ensures len { vec_len out.new ≤ vec_len out.old + 4 * (end - start) }
     ensures cursor { result ≡ moved (length text.now) (row, start) (plain_piece text.now start end) }
 {
-    let ink = ink_end(text).max(start);
+    let ink = erase_start(text, start, end);
     if ink + 3 < end {
         put_text(out, &text[start..ink]);
         put_erase(out);

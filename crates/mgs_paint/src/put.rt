@@ -1,7 +1,7 @@
 // The bytes of each operation. Each call needs room for what it appends, and takes no memory.
-ghost use Rattle.std.specs.Prelude.{◌≡◌, ℕ, ◌+◌, ◌*◌, ◌<◌, ◌≤◌, ◌++◌, [], ◌∷◌, length, vec_len, vec_capacity, cond, encode_utf8};
+ghost use Rattle.std.specs.Prelude.{◌≡◌, ◌+◌, ◌*◌, ◌<◌, ◌≤◌, ◌++◌, [], ◌∷◌, length, vec_len, vec_capacity, cond, encode_utf8};
 ghost use Rattle.mgs_term.specs.Sequences.{number, spelling};
-ghost use Rattle.mgs_term.specs.declared.operation.Operation.TheVariants.{Goto, Erase, Reverse, Plain, Unwrap, Print};
+ghost use Rattle.mgs_term.specs.declared.operation.Operation.TheVariants.{Goto, Erase, Reverse, Plain, Unwrap};
 ghost use Rattle.mgs_paint.specs.Operations.{bytes_of, prints, row_operations};
 ghost use Rattle.mgs_model.specs.declared.limits.TheConstants.{ROWS_MAX};
 

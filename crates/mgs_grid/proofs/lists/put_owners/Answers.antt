@@ -1,5 +1,5 @@
 use Rattle.std.proofs.Common.{List, ℕ, ◌++◌, sym, ap, subst, ◌∙◌, append-nil}
-use Rattle.mgs_model.specs.Draw.{group_text, owners_text}
+use Rattle.mgs_model.specs.Draw.{group_text}
 use Rattle.mgs_grid.specs.Cells.{Wrote}
 use Rattle.mgs_grid.proofs.CellLemmas.{wrote_more}
 use Rattle.mgs_grid.proofs.lists.put_owners.Goals as goal

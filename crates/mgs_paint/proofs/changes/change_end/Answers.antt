@@ -1,5 +1,3 @@
-use Rattle.std.proofs.Common.{arith, sym, ◌∙◌}
-use Rattle.std.proofs.lemmas.Slice.Eq.{bytes_eq-Decides}
 use Rattle.mgs_paint.proofs.Columns.{end_found, end_none}
 use Rattle.mgs_paint.proofs.changes.change_end.Goals as goal
 
@@ -9,7 +7,3 @@ returns-else-old-end-clause-value c =
 
 pub returns-after-loop-end-clause-value : goal.returns-after-loop-end-clause-value
 returns-after-loop-end-clause-value c = end_none c.args.old.now c.args.new.now c.loop-end.end c.loop-end-test.false c.loop-end.invariant.1
-
-pub returns-then-eq-clause-value : goal.returns-then-eq-clause-value
-returns-then-eq-clause-value c =
-    end_none c.args.old.now c.args.new.now 0 (omega arith) ((bytes_eq-Decides c.args.old.now c.args.new.now).0 (sym c.eq.ensures ∙ c.if-eq.true))
