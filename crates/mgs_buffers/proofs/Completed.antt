@@ -1,5 +1,5 @@
 -- A completion is found name by name, and is no longer than a name.
-use Rattle.std.proofs.Common.{◌≡◌, ◌≤◌, ◌==◌, ℕ, Bool, true, false, ◌&&◌, cond, List, [], ◌∷◌, take, drop, map, length, Option, None, Some, refl, ap, sym, subst, ◌∙◌, arith, ◌+◌, inl, inr}
+use Rattle.std.proofs.Common.{◌≡◌, ◌≤◌, ◌==◌, ℕ, Bool, true, false, ◌&&◌, cond, List, ◌∷◌, take, drop, map, length, Option, None, Some, refl, ap, sym, subst, ◌∙◌, arith, ◌+◌, inl, inr}
 use Rattle.std.proofs.lemmas.Bool.{leb-true}
 use Rattle.std.proofs.lemmas.List.{drop_all, drop_more, length-map, length-take}
 use Rattle.std.proofs.lemmas.Option.{get_or_from_slice_get, slice_get-map, slice_get_cases, slice_get_within}

@@ -7,3 +7,5 @@ mod Completed
 pub mod Judged
 pub mod Told
 pub mod Finds
+pub mod Placing
+pub mod Permitting

@@ -1,5 +1,5 @@
 -- What a buffer holds, as the contracts see it.
-use Rattle.std.specs.Prelude.{ℕ, List, Option, map}
+use Rattle.std.specs.Prelude.{◌≡◌, ℕ, List, Option, map}
 use Rattle.mgs_buffers.specs.MarkedBuffer.{MarkedBuffer}
 use Rattle.mgs_buffers.specs.declared.buffer.Buffer.{Buffer}
 
@@ -13,3 +13,7 @@ module _ {T : Type 0} (text : T → List ℕ) (marks : T → List (Option ℕ)) 
 
   abbrev pub marked_all : List (List ℕ × Buffer T) → List MarkedBuffer
   marked_all entries = map (λ e. marked_of e.0 e.1) entries
+
+  -- what is kept of one buffer has changed so, under whatever name
+  abbrev pub Changed : (MarkedBuffer → MarkedBuffer) → Buffer T → Buffer T → Type 0
+  Changed change old new = (name : List ℕ) → marked_of name new ≡ change (marked_of name old)

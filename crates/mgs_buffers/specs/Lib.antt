@@ -4,4 +4,6 @@ pub mod Contents
 pub mod Completed
 pub mod Found
 pub mod Judging
+pub mod Permitting
+pub mod Placing
 pub mod Told

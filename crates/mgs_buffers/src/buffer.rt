@@ -6,10 +6,13 @@ ghost use Rattle.mgs_model.specs.declared.owners.NewOwner.TheVariants.{ToUser, T
 ghost use Rattle.mgs_model.specs.World.{may};
 ghost use Rattle.mgs_marks.specs.Marks.{mark_in};
 ghost use Rattle.mgs_buffers.specs.MarkedBuffer.{marked_new, marked_edited, marked_placed, marked_relisted, marked_reowned, marked_unmodified, with_marks};
-ghost use Rattle.mgs_buffers.specs.Contents.{marked_of};
+ghost use Rattle.mgs_buffers.specs.Contents.{Changed, marked_of};
 ghost use Rattle.mgs_buffers.specs.Judging.{StaysRight};
+ghost use Rattle.mgs_buffers.specs.Permitting.{EditAnswers, PermitAnswers};
+ghost use Rattle.mgs_buffers.specs.Placing.{CanStand, marked_placed_if};
 ghost use Rattle.mgs_cache.specs.Kept.{AreRight};
 
+use crate::fault::EditFault;
 use crate::judging::judged;
 use mgs_acl::{Entry, EntryType, Who};
 use mgs_cache::Judge;
@@ -39,6 +42,9 @@ pub struct Buffer<T: Marked + Drop> {
 
 // The bits of every right.
 const ALL_RIGHTS: u32 = 983_175;
+
+// The bits of READ_DATA and WRITE_DATA.
+const READ_AND_WRITE: u32 = 3;
 
 // An access list that grants the owner every right, and nobody else any.
 pub(crate) fn owners_list() -> mgs_acl::List
@@ -95,6 +101,17 @@ impl<T: Marked + Drop> Buffer<T> {
         decide(&self.list, &self.owners.owner, group, user, directory, mask)
     }
 
+    /// Whether a user is granted all rights of a mask, and if not, what the access list decides.
+    pub fn permit(&self, directory: &Directory, user: &Name, mask: Mask) -> Result<(), Decision>
+        ensures { PermitAnswers result (decision directory.now self.now.owners user.now self.now.list mask) }
+    {
+        let decision = self.decide_all(directory, user, mask);
+        match decision {
+            Decision::Granted => Ok(()),
+            Decision::DeniedBy { .. } | Decision::NotGranted { .. } => Err(decision),
+        }
+    }
+
     /// Whether a user is granted a right on the buffer.
     pub fn grants(&self, directory: &Directory, user: &Name, right: Right) -> bool
         ensures { (name : List ℕ) → result ≡ may directory.now user.now right (marked_of T.text T.marks name self.now).buffer }
@@ -149,6 +166,27 @@ impl<T: Marked + Drop> Buffer<T> {
         ensures { (name : List ℕ) → marked_of T.text T.marks name self.new ≡ marked_placed id p (marked_of T.text T.marks name self.old) }
     {
         self.text.place(id, p);
+    }
+
+    // The same, where a mark is to go anywhere.
+    fn place_if(&mut self, target: Option<(MarkId, usize)>)
+        requires { CanStand (T.marks self.old.text) (T.text self.old.text) target }
+        ensures { Changed T.text T.marks (marked_placed_if target) self.old self.new }
+    {
+        match target {
+            None => {}
+            Some(mark) => self.place(mark.0, mark.1),
+        }
+    }
+
+    /// Puts up to two marks of the text at positions, one after the other.
+    pub fn place_both(&mut self, first: Option<(MarkId, usize)>, second: Option<(MarkId, usize)>)
+        requires first { CanStand (T.marks self.old.text) (T.text self.old.text) first }
+        requires second { CanStand (T.marks self.old.text) (T.text self.old.text) second }
+        ensures { Changed T.text T.marks (λ k. marked_placed_if second (marked_placed_if first k)) self.old self.new }
+    {
+        self.place_if(first);
+        self.place_if(second);
     }
 
     /// A new mark in the text, at a position. `Short`: memory was refused, and all is as it was.
@@ -223,5 +261,90 @@ impl<T: Marked + Drop> Buffer<T> {
         ensures { (name : List ℕ) → marked_of T.text T.marks name self.new ≡ marked_relisted list (marked_of T.text T.marks name self.old) }
     {
         self.list = list;
+    }
+    /// The edit of a user, where the list grants him the rights of a mask. They are judged before memory is taken.
+    pub fn edit_as(
+        &mut self,
+        directory: &Directory,
+        user: &Name,
+        mask: Mask,
+        a: usize,
+        b: usize,
+        put: &[char],
+    ) -> Result<(), EditFault>
+        requires order { a ≤ b }
+        requires within { b ≤ length (T.text self.old.text) }
+        requires serial { self.old.record.serial < 2 ^ 64 - 1 }
+        ensures answer { EditAnswers result (decision directory.now self.old.owners user.now self.old.list mask) }
+        ensures ok { OnOk result (Changed T.text T.marks (marked_edited a b put.now) self.old self.new) }
+        ensures err { OnErr result (Changed T.text T.marks (λ k. k) self.old self.new) }
+    {
+        match self.permit(directory, user, mask) {
+            Ok(()) => {}
+            Err(decision) => return Err(EditFault::Denied(decision)),
+        }
+        match self.edit(a, b, put) {
+            Ok(()) => Ok(()),
+            Err(Short) => Err(EditFault::Short),
+        }
+    }
+
+    /// Clears the modified flag for a user to whom READ_DATA and WRITE_DATA are granted.
+    pub fn unmodify_as(&mut self, directory: &Directory, user: &Name) -> Result<(), Decision>
+        ensures answer { PermitAnswers result (decision directory.now self.old.owners user.now self.old.list 3) }
+        ensures ok { OnOk result (Changed T.text T.marks marked_unmodified self.old self.new) }
+        ensures err { OnErr result (Changed T.text T.marks (λ k. k) self.old self.new) }
+    {
+        self.permit(directory, user, Mask::from_bits(READ_AND_WRITE))?;
+        self.unmodify();
+        Ok(())
+    }
+
+    /// Another user owns the buffer, where WRITE_OWNER is granted to the user who acts.
+    pub fn reown_as(
+        &mut self,
+        directory: &Directory,
+        user: &Name,
+        owner: Name,
+    ) -> Result<(), Decision>
+        ensures answer { PermitAnswers result (decision directory.now self.old.owners user.now self.old.list 524288) }
+        ensures ok { OnOk result (Changed T.text T.marks (marked_reowned (ToUser owner)) self.old self.new) }
+        ensures err { OnErr result (Changed T.text T.marks (λ k. k) self.old self.new) }
+    {
+        self.permit(directory, user, Mask::of(Right::WriteOwner))?;
+        self.reown(owner);
+        Ok(())
+    }
+
+    /// Another group owns the buffer, or none does, where WRITE_OWNER is granted to the user who acts.
+    pub fn set_group_as(
+        &mut self,
+        directory: &Directory,
+        user: &Name,
+        group: Option<Name>,
+    ) -> Result<(), Decision>
+        ensures answer { PermitAnswers result (decision directory.now self.old.owners user.now self.old.list 524288) }
+        ensures ok { OnOk result (Changed T.text T.marks (marked_reowned (ToGroup group)) self.old self.new) }
+        ensures err { OnErr result (Changed T.text T.marks (λ k. k) self.old self.new) }
+    {
+        self.permit(directory, user, Mask::of(Right::WriteOwner))?;
+        self.set_group(group);
+        Ok(())
+    }
+
+    /// Another access list takes the place of the buffer's, where WRITE_ACL is granted to the user who acts.
+    pub fn relist_as(
+        &mut self,
+        directory: &Directory,
+        user: &Name,
+        list: mgs_acl::List,
+    ) -> Result<(), Decision>
+        ensures answer { PermitAnswers result (decision directory.now self.old.owners user.now self.old.list 262144) }
+        ensures ok { OnOk result (Changed T.text T.marks (marked_relisted list) self.old self.new) }
+        ensures err { OnErr result (Changed T.text T.marks (λ k. k) self.old self.new) }
+    {
+        self.permit(directory, user, Mask::of(Right::WriteAcl))?;
+        self.relist(list);
+        Ok(())
     }
 }

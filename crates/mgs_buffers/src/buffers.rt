@@ -1,5 +1,5 @@
 // All buffers, by name and in order of creation.
-ghost use Rattle.std.specs.Prelude.{◌≡◌, ◌+◌, ℕ, ◌-◌, ◌<◌, ◌≤◌, ◌^◌, ◌∷◌, [], ◌++◌, List, map, find, length, OnOk, OnErr, IfOk, IfSome, None, false, count_by, is_some, slice_get};
+ghost use Rattle.std.specs.Prelude.{◌≡◌, ◌+◌, ◌-◌, ◌<◌, ◌≤◌, ◌^◌, ◌∷◌, [], ◌++◌, List, map, find, length, OnOk, OnErr, IfOk, IfSome, None, false, count_by, is_some, slice_get};
 ghost use Rattle.std.specs.Option.{option_copied, option_map};
 ghost use Rattle.mgs_undo.specs.History.{has_serial};
 ghost use Rattle.mgs_undo.specs.Numbered.{item_of};
@@ -15,12 +15,14 @@ ghost use Rattle.mgs_buffers.specs.Adding.{add_fault, AddAnswers, NamesToAdd};
 ghost use Rattle.mgs_buffers.specs.Completed.{IsWithinName};
 ghost use Rattle.mgs_buffers.specs.Contents.{marked_of};
 ghost use Rattle.mgs_buffers.specs.Judging.{AreJudged, IsRuled, rules_kept};
+ghost use Rattle.mgs_buffers.specs.Permitting.{EditAnswers, PermitAnswers};
+ghost use Rattle.mgs_buffers.specs.Placing.{CanStand, placed_if};
 ghost use Rattle.mgs_buffers.specs.Told.{attributes_read, attributes_found};
 ghost use Rattle.mgs_buffers.specs.MarkedBuffer.{AreUnmarked, AreWithinLimit, marked_named, marked_at, has_buffer, HasBuffer, IsMark, mark_at, marked_created, marked_new, marked_edited, marked_placed, marked_relisted, marked_reowned, marked_unmodified, without_marked, MarkAdded, MarkDropped};
 
 use crate::buffer::{Buffer, new_buffer, owners_list};
 use crate::completing::completion;
-use crate::fault::AddFault;
+use crate::fault::{AddFault, EditFault};
 use crate::found::Found;
 use crate::naming::name_typed;
 use crate::telling::{Attributes, is_shown, told};
@@ -296,6 +298,20 @@ impl<T: Marked + Drop> Buffers<T> {
         self.buffer(name).grants(directory, user, right)
     }
 
+    // Whether a user is granted all rights of a mask on the buffer, and if not, what its access list decides.
+    fn permit(
+        &self,
+        directory: &Directory,
+        user: &Name,
+        name: &Name,
+        mask: Mask,
+    ) -> Result<(), Decision>
+        requires { HasBuffer name.now self.now }
+        ensures { let b = (marked_at name.now self.now).buffer in PermitAnswers result (decision directory.now b.owners user.now b.entries mask) }
+    {
+        self.buffer(name).permit(directory, user, mask)
+    }
+
     /// A judge for these buffers, which keeps nothing yet. `Short`: memory was refused.
     #[tactic(auto, using(crate::proofs::Judged::judged_none))]
     pub fn judge(&self) -> Result<Judge, Short>
@@ -436,6 +452,23 @@ impl<T: Marked + Drop> Buffers<T> {
         buffer.place(id, p);
     }
 
+    /// Puts up to two marks of the buffer at positions, one after the other, with one look-up.
+    pub fn place_both(
+        &mut self,
+        name: &Name,
+        first: Option<(MarkId, usize)>,
+        second: Option<(MarkId, usize)>,
+    )
+        requires kept { HasBuffer name.now self.old }
+        requires first { let k = marked_at name.now self.old in CanStand k.marks k.buffer.text first }
+        requires second { let k = marked_at name.now self.old in CanStand k.marks k.buffer.text second }
+        ensures { self.new ≡ placed_if name.now second (placed_if name.now first self.old) }
+    {
+        let at = self.place_of(name);
+        let (_, buffer) = self.all.pair_mut(at);
+        buffer.place_both(first, second);
+    }
+
     /// A new mark in the buffer, at a position. `Short`: memory was refused, and all is as it was.
     pub fn add_mark(&mut self, name: &Name, p: usize) -> Result<MarkId, Short>
         requires kept { HasBuffer name.now self.old }
@@ -522,5 +555,127 @@ impl<T: Marked + Drop> Buffers<T> {
         let at = self.place_of(name);
         let (_, buffer) = self.all.pair_mut(at);
         buffer.relist(list);
+    }
+    /// The edit of a user, as `edit` does it, where all rights of a mask are granted to him. `Denied`: what the buffer's access list
+    /// decides, which is not `Granted`. `Short`: they are granted, and memory was refused. Both leave all as it was.
+    pub fn edit_as(
+        &mut self,
+        directory: &Directory,
+        user: &Name,
+        name: &Name,
+        mask: Mask,
+        a: usize,
+        b: usize,
+        put: &[char],
+    ) -> Result<(), EditFault>
+        requires kept { HasBuffer name.now self.old }
+        requires order { a ≤ b }
+        requires within { b ≤ length (marked_at name.now self.old).buffer.text }
+        requires serial { (marked_at name.now self.old).buffer.serial < 2 ^ 64 - 1 }
+        requires room { length (marked_at name.now self.old).buffer.text + length put.now ≤ 1048576 + (b - a) }
+        ensures answer { let k = (marked_at name.now self.old).buffer in EditAnswers result (decision directory.now k.owners user.now k.entries mask) }
+        ensures ok { OnOk result (self.new ≡ change_first (marked_named name.now) (marked_edited a b put.now) self.old) }
+        ensures err { OnErr result (self.new ≡ self.old) }
+    {
+        let at = self.place_of(name);
+        let (_, buffer) = self.all.pair_mut(at);
+        buffer.edit_as(directory, user, mask, a, b, put)
+    }
+
+    /// Clears the buffer's modified flag, where READ_DATA and WRITE_DATA are granted to the user. Else the answer is what the
+    /// buffer's access list decides, which is not `Granted`, and all is as it was. It takes no memory.
+    pub fn unmodify_as(
+        &mut self,
+        directory: &Directory,
+        user: &Name,
+        name: &Name,
+    ) -> Result<(), Decision>
+        requires { HasBuffer name.now self.old }
+        ensures answer { let b = (marked_at name.now self.old).buffer in PermitAnswers result (decision directory.now b.owners user.now b.entries 3) }
+        ensures ok { OnOk result (self.new ≡ change_first (marked_named name.now) marked_unmodified self.old) }
+        ensures err { OnErr result (self.new ≡ self.old) }
+    {
+        let at = self.place_of(name);
+        let (_, buffer) = self.all.pair_mut(at);
+        buffer.unmodify_as(directory, user)
+    }
+
+    /// Another user owns the buffer, where WRITE_OWNER is granted to the user who acts. Else the answer is what the buffer's access
+    /// list decides, which is not `Granted`, and all is as it was. It takes no memory. That the owner is a user of the directory is
+    /// for the caller to see.
+    pub fn reown_as(
+        &mut self,
+        directory: &Directory,
+        user: &Name,
+        name: &Name,
+        owner: Name,
+    ) -> Result<(), Decision>
+        requires { HasBuffer name.now self.old }
+        ensures answer { let b = (marked_at name.now self.old).buffer in PermitAnswers result (decision directory.now b.owners user.now b.entries 524288) }
+        ensures ok { OnOk result (self.new ≡ change_first (marked_named name.now) (marked_reowned (ToUser owner)) self.old) }
+        ensures err { OnErr result (self.new ≡ self.old) }
+    {
+        let at = self.place_of(name);
+        let (_, buffer) = self.all.pair_mut(at);
+        buffer.reown_as(directory, user, owner)
+    }
+
+    /// Another group owns the buffer, or none does, where WRITE_OWNER is granted to the user who acts. Else the answer is what the
+    /// buffer's access list decides, which is not `Granted`, and all is as it was. It takes no memory. That it is a group of the
+    /// directory is for the caller to see.
+    pub fn set_group_as(
+        &mut self,
+        directory: &Directory,
+        user: &Name,
+        name: &Name,
+        group: Option<Name>,
+    ) -> Result<(), Decision>
+        requires { HasBuffer name.now self.old }
+        ensures answer { let b = (marked_at name.now self.old).buffer in PermitAnswers result (decision directory.now b.owners user.now b.entries 524288) }
+        ensures ok { OnOk result (self.new ≡ change_first (marked_named name.now) (marked_reowned (ToGroup group)) self.old) }
+        ensures err { OnErr result (self.new ≡ self.old) }
+    {
+        let at = self.place_of(name);
+        let (_, buffer) = self.all.pair_mut(at);
+        buffer.set_group_as(directory, user, group)
+    }
+
+    /// Another access list takes the place of the buffer's, where WRITE_ACL is granted to the user who acts. Else the answer is
+    /// what the buffer's access list decides, which is not `Granted`, and all is as it was. It takes no memory.
+    pub fn relist_as(
+        &mut self,
+        directory: &Directory,
+        user: &Name,
+        name: &Name,
+        list: mgs_acl::List,
+    ) -> Result<(), Decision>
+        requires { HasBuffer name.now self.old }
+        ensures answer { let b = (marked_at name.now self.old).buffer in PermitAnswers result (decision directory.now b.owners user.now b.entries 262144) }
+        ensures ok { OnOk result (self.new ≡ change_first (marked_named name.now) (marked_relisted list) self.old) }
+        ensures err { OnErr result (self.new ≡ self.old) }
+    {
+        let at = self.place_of(name);
+        let (_, buffer) = self.all.pair_mut(at);
+        buffer.relist_as(directory, user, list)
+    }
+
+    /// Takes the buffer of a name out, with its marks, where DELETE is granted to the user. Else the answer is what the buffer's
+    /// access list decides, which is not `Granted`, and all is as it was. It takes no memory. The others keep their order and their
+    /// marks.
+    pub fn kill_as(
+        &mut self,
+        directory: &Directory,
+        user: &Name,
+        name: &Name,
+    ) -> Result<(), Decision>
+        requires { HasBuffer name.now self.old }
+        ensures answer { let b = (marked_at name.now self.old).buffer in PermitAnswers result (decision directory.now b.owners user.now b.entries 65536) }
+        ensures ok { OnOk result (self.new ≡ without_marked name.now self.old) }
+        ensures gone { OnOk result (has_buffer name.now self.new ≡ false) }
+        ensures err { OnErr result (self.new ≡ self.old) }
+    {
+        self.permit(directory, user, name, Mask::of(Right::Delete))?;
+        self.kill(name);
+        Ok(())
     }
 }

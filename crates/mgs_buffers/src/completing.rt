@@ -1,5 +1,5 @@
 // What is typed as the name of a buffer, completed.
-ghost use Rattle.std.specs.Prelude.{◌≡◌, ◌≤◌, ◌+◌, List, ℕ, map, length, cond, IfSome};
+ghost use Rattle.std.specs.Prelude.{◌≡◌, ◌+◌, map, cond};
 ghost use Rattle.std.specs.Option.{option_map};
 ghost use Rattle.mgs_model.specs.World.{may};
 ghost use Rattle.mgs_model.specs.Completion.{completion, narrowed, granted_names};

@@ -1,4 +1,5 @@
-// Why a buffer was not added.
+// Why a buffer was not added, and why one was not edited.
+use mgs_model::Decision;
 use thiserror::Error;
 
 /// Why a buffer was not added, in the order in which the faults are checked.
@@ -19,5 +20,14 @@ pub enum AddFault {
     Long,
     /// Memory was refused.
     #[error("no memory")]
+    Short,
+}
+
+/// Why a user did not edit a buffer. The rights are judged before memory is taken.
+#[derive(Clone, Copy, PartialEq, Eq)]
+pub enum EditFault {
+    /// The buffer's access list does not grant the rights: what it decides, which is not `Granted`.
+    Denied(Decision),
+    /// Memory was refused.
     Short,
 }

@@ -1,21 +1,22 @@
 // One buffer that was looked up by its name, and what is asked of it.
 ghost use Rattle.std.specs.Prelude.{◌≡◌, ◌≤◌, ◌∷◌, [], find, length};
 ghost use Rattle.std.specs.Option.{option_copied, option_map};
-ghost use Rattle.mgs_model.specs.Access.{decider, decision_by};
+ghost use Rattle.mgs_model.specs.Access.{decider, decision, decision_by};
 ghost use Rattle.mgs_model.specs.World.{may};
 ghost use Rattle.mgs_undo.specs.History.{has_serial};
 ghost use Rattle.mgs_undo.specs.Numbered.{item_of};
 ghost use Rattle.mgs_buffers.specs.Contents.{marked_of};
 ghost use Rattle.mgs_buffers.specs.Judging.{AreJudged, rules_kept};
-ghost use Rattle.mgs_buffers.specs.MarkedBuffer.{HasBuffer, marked_at};
+ghost use Rattle.mgs_buffers.specs.MarkedBuffer.{HasBuffer, IsMark, mark_at, marked_at};
 
 use crate::buffer::Buffer;
 use crate::buffers::Buffers;
 use mgs_acl::Entry;
 use mgs_cache::Judge;
 use mgs_marks::Marked;
-use mgs_model::{Decision, Name, Right};
+use mgs_model::{Decision, MarkId, Mask, Name, Right};
 use mgs_policy::Directory;
+use mgs_text::Text;
 use mgs_undo::Edit;
 use std::marker::Model;
 
@@ -56,6 +57,27 @@ impl<'a, T: Marked + Drop> Found<'a, T> {
         ensures kept { HasBuffer self.now.name self.now.all }
     {
         self.name
+    }
+
+    /// What the buffer's access list decides on one right of a user (RFC 8881, section 6.2.1).
+    pub fn decide(&self, directory: &Directory, user: &Name, right: Right) -> Decision
+        ensures { let b = (marked_at self.now.name self.now.all).buffer in result ≡ decision_by (decider directory.now b.owners user.now b.entries) (right ∷ []) }
+    {
+        self.buffer().decide(directory, user, right)
+    }
+
+    /// What the buffer's access list decides on all rights of a mask, in one walk (RFC 8881, section 6.2.1).
+    pub fn decide_all(&self, directory: &Directory, user: &Name, mask: Mask) -> Decision
+        ensures { let b = (marked_at self.now.name self.now.all).buffer in result ≡ decision directory.now b.owners user.now b.entries mask }
+    {
+        self.buffer().decide_all(directory, user, mask)
+    }
+
+    /// Whether a user is granted a right on the buffer.
+    pub fn grants(&self, directory: &Directory, user: &Name, right: Right) -> bool
+        ensures { result ≡ may directory.now user.now right (marked_at self.now.name self.now.all).buffer }
+    {
+        self.buffer().grants(directory, user, right)
     }
 
     /// What the buffer's access list decides on one right of a user (RFC 8881, section 6.2.1), by a judge that keeps what was
@@ -109,6 +131,23 @@ impl<'a, T: Marked + Drop> Found<'a, T> {
         &self.buffer().text
     }
 
+    /// The number of characters of the buffer's text.
+    pub fn text_len(&self) -> usize
+        ensures value { result ≡ length (marked_at self.now.name self.now.all).buffer.text }
+        ensures limit { result ≤ 1048576 }
+    {
+        self.text().len()
+    }
+
+    /// Where a mark of the buffer stands.
+    pub fn pos(&self, id: MarkId) -> usize
+        requires { IsMark self.now.name id self.now.all }
+        ensures value { result ≡ mark_at self.now.name self.now.all id }
+        ensures within { result ≤ length (marked_at self.now.name self.now.all).buffer.text }
+    {
+        self.buffer().text.pos(id)
+    }
+
     /// The serial of the buffer's last edit: 0 where there was none.
     pub fn serial(&self) -> u64
         ensures { result ≡ (marked_at self.now.name self.now.all).buffer.serial }
@@ -121,6 +160,13 @@ impl<'a, T: Marked + Drop> Found<'a, T> {
         ensures { result ≡ (marked_at self.now.name self.now.all).buffer.modified }
     {
         self.buffer().modified
+    }
+
+    /// Whether the buffer has a file.
+    pub fn has_file(&self) -> bool
+        ensures { result ≡ (marked_at self.now.name self.now.all).buffer.file }
+    {
+        self.buffer().has_file
     }
 
     /// The edit of a serial, where the buffer keeps it: where it was, the characters that it took out, and how many it put in.

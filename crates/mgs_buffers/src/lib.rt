@@ -12,6 +12,6 @@ mod telling;
 
 pub use buffer::{Buffer, new_buffer};
 pub use buffers::Buffers;
-pub use fault::AddFault;
+pub use fault::{AddFault, EditFault};
 pub use found::Found;
 pub use telling::Attributes;

@@ -1,12 +1,12 @@
 // Buffers by their names.
-ghost use Rattle.std.specs.Prelude.{◌+◌, ◌<◌, ◌≤◌, ◌^◌, ℕ, length};
+ghost use Rattle.std.specs.Prelude.{◌+◌, ◌<◌, ◌≤◌, ◌^◌, length};
 ghost use Rattle.mgs_buffers.specs.MarkedBuffer.{HasBuffer, marked_at};
 
 use crate::people::{list_of, named};
 use mgs_acl::List;
 use mgs_buffers::{AddFault, Buffers};
 use mgs_marks::{Marked, PlainMarked};
-use mgs_model::{Decision, Name, Right, Short};
+use mgs_model::{Decision, Mask, Name, Right, Short};
 use mgs_policy::Directory;
 use mgs_text::Text;
 use std::alloc::Global;
@@ -251,4 +251,53 @@ fn the_owning_group_decides(rt: HostRuntime) -> Result<(), Fail> {
     let list = list_of(&rt, "ALLOW GROUP@ w");
     assert!(rt; all.add("shared", "ann", Some("staff"), list, &[], false) == Ok(()));
     regroup(&rt, &mut all, &directory)
+}
+
+fn lacks(bit: Right) -> Result<(), Decision> {
+    Err(Decision::NotGranted { bit })
+}
+
+// Whether bob is denied what nobody grants him of the buffer that everyone may write, by the right that he lacks.
+fn is_denied(
+    rt: &impl Abort,
+    all: &mut Buffers<PlainMarked>,
+    directory: &Directory,
+    name: &Name,
+) -> bool {
+    let bob = named(rt, "bob");
+    assert!(rt; all.has(name));
+    let is_listed = all.relist_as(directory, &bob, name, List::new()) != lacks(Right::WriteAcl);
+    assert!(rt; all.has(name));
+    let is_owned = all.reown_as(directory, &bob, name, bob) != lacks(Right::WriteOwner);
+    assert!(rt; all.has(name));
+    let is_grouped = all.set_group_as(directory, &bob, name, None) != lacks(Right::WriteOwner);
+    assert!(rt; all.has(name));
+    let is_killed = all.kill_as(directory, &bob, name) != lacks(Right::Delete);
+    !is_listed && !is_owned && !is_grouped && !is_killed && all.has(name)
+}
+
+// What bob is granted is done.
+fn write_second(
+    rt: &impl Abort,
+    all: &mut Buffers<PlainMarked>,
+    directory: &Directory,
+) -> Result<(), Short> {
+    let (second, bob) = (named(rt, "second"), named(rt, "bob"));
+    let mask = Mask::of(Right::WriteData);
+    assert!(rt; all.has(&second) && all.text_len(&second) == 3 && all.serial(&second) == 0);
+    assert!(rt; all.edit_as(directory, &bob, &second, mask, 1, 2, &['x']) == Ok(()));
+    assert!(rt; has_text(all, &second, &['c', 'x', 'e'], 1)?);
+    assert!(rt; all.has(&second));
+    assert!(rt; all.unmodify_as(directory, &bob, &second) == Ok(()));
+    assert!(rt; all.has(&second) && !all.is_modified(&second));
+    Ok(())
+}
+
+#[test]
+fn changes_are_judged(rt: HostRuntime) -> Result<(), Short> {
+    let mut all = two(rt.alloc(), &rt);
+    let directory = Directory::new(rt.alloc());
+    let second = named(&rt, "second");
+    assert!(rt; is_denied(&rt, &mut all, &directory, &second));
+    write_second(&rt, &mut all, &directory)
 }

@@ -1,9 +1,7 @@
-use Rattle.std.proofs.Common.{ℕ, List, map, Bor, sym, ◌∙◌, arith}
+use Rattle.std.proofs.Common.{List, map, sym, ◌∙◌, arith}
 use Rattle.std.proofs.lemmas.List.{length-map}
-use Rattle.std.specs.Option.{option_map}
 use Rattle.mgs_buffers.specs.Contents.{marked_all, marked_of}
 use Rattle.mgs_buffers.specs.MarkedBuffer.{MarkedBuffer}
-use Rattle.mgs_model.specs.World.{Buffer}
 use Rattle.mgs_model.specs.Completion.{granted_names}
 use Rattle.mgs_buffers.proofs.Completed.{by_names, found_end}
 use Rattle.mgs_buffers.proofs.completing.completion.Goals as goal

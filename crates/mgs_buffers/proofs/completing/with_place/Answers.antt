@@ -1,5 +1,4 @@
-use Rattle.std.proofs.Common.{ℕ, List, sym, Bor}
-use Rattle.std.specs.Option.{option_map}
+use Rattle.std.proofs.Common.{List, sym}
 use Rattle.mgs_buffers.specs.Contents.{marked_all, marked_of}
 use Rattle.mgs_buffers.specs.MarkedBuffer.{MarkedBuffer}
 use Rattle.mgs_buffers.specs.Judging.{rules_kept}

@@ -1,0 +1,29 @@
+use Rattle.std.proofs.Common.{refl, sym, subst}
+use Rattle.mgs_model.specs.Access.{decision}
+use Rattle.mgs_buffers.specs.MarkedBuffer.{MarkedBuffer, AreWithinLimit, marked_relisted}
+use Rattle.mgs_buffers.specs.Permitting.{PermitAnswers}
+use Rattle.mgs_buffers.proofs.MarkedLemmas.{kept-at_place, kept-written, kept-same, OnOk-map, OnErr-map}
+use Rattle.mgs_buffers.proofs.Limits.{limit-same, ended}
+use Rattle.mgs_buffers.proofs.buffers.Buffers.relist_as.Goals as goal
+
+pub returns-clause-answer : goal.returns-clause-answer
+returns-clause-answer g c =
+    let is = kept-at_place g.T.Text.text g.T.Text.marks c.args.name.now c.self.inside.all.entries c.args.self.now c.place_of-at.result _ c.pair_mut-buffer.result.1.now c.self.view_is c.place_of-at.ensures.value c.pair_mut-buffer.ensures.value in
+    subst (λ (k : MarkedBuffer). PermitAnswers c.relist_as.result (decision c.args.directory.now k.buffer.owners c.args.user.now k.buffer.entries 262144)) is c.relist_as.ensures.answer
+
+pub returns-clause-ok : goal.returns-clause-ok
+returns-clause-ok g c =
+    let change : MarkedBuffer → MarkedBuffer = marked_relisted c.args.list in
+    OnOk-map c.relist_as.result (kept-written g.T.Text.text g.T.Text.marks c.args.name.now change c.self.inside.all.entries c.args.self.now c.place_of-at.result _ c.pair_mut-buffer.result.1.now c.relist_as.new.self c.self.view_is c.place_of-at.ensures.value c.pair_mut-buffer.ensures.value) c.relist_as.ensures.ok
+
+pub returns-clause-err : goal.returns-clause-err
+returns-clause-err g c =
+    OnErr-map c.relist_as.result (kept-same g.T.Text.text g.T.Text.marks c.self.inside.all.entries c.args.self.now c.place_of-at.result _ c.pair_mut-buffer.result.1.now c.relist_as.new.self c.self.view_is c.pair_mut-buffer.ensures.value) c.relist_as.ensures.err
+
+pub invariant_of-self : goal.invariant_of-self
+invariant_of-self g c =
+    let change : MarkedBuffer → MarkedBuffer = marked_relisted c.args.list in
+    let old = subst AreWithinLimit c.self.view_is c.self.invariant in
+    ended c.relist_as.result c.relist_as.ensures.ok c.relist_as.ensures.err
+    (λ does. subst AreWithinLimit (sym (kept-written g.T.Text.text g.T.Text.marks c.args.name.now change c.self.inside.all.entries c.args.self.now c.place_of-at.result _ c.pair_mut-buffer.result.1.now c.relist_as.new.self c.self.view_is c.place_of-at.ensures.value c.pair_mut-buffer.ensures.value does)) (limit-same c.args.name.now change c.args.self.now (λ k. refl) old))
+    (λ same. subst AreWithinLimit (sym (kept-same g.T.Text.text g.T.Text.marks c.self.inside.all.entries c.args.self.now c.place_of-at.result _ c.pair_mut-buffer.result.1.now c.relist_as.new.self c.self.view_is c.pair_mut-buffer.ensures.value same)) old)

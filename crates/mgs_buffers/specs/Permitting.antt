@@ -1,0 +1,17 @@
+-- What is answered where rights are judged before a buffer is changed.
+use Rattle.std.specs.Prelude.{◌≡◌, ◌≢◌, Result, Ok, Err}
+use Rattle.mgs_model.specs.declared.entry.Decision.{Decision}
+use Rattle.mgs_model.specs.declared.entry.Decision.TheVariants.{Granted}
+use Rattle.mgs_buffers.specs.declared.fault.EditFault.{EditFault}
+use Rattle.mgs_buffers.specs.declared.fault.EditFault.TheVariants.{Denied, Short}
+
+-- done where it was granted, and else the decision, which grants not all
+abbrev pub PermitAnswers : Result (Unit {0}) Decision → Decision → Type 0
+PermitAnswers (Ok done) due = due ≡ Granted
+PermitAnswers (Err decision) due = (due ≡ decision) × (decision ≢ Granted)
+
+-- the same of an edit; memory is refused only where it was granted
+abbrev pub EditAnswers : Result (Unit {0}) EditFault → Decision → Type 0
+EditAnswers (Ok done) due = due ≡ Granted
+EditAnswers (Err (Denied decision)) due = (due ≡ decision) × (decision ≢ Granted)
+EditAnswers (Err Short) due = due ≡ Granted
