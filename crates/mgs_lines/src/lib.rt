@@ -3,7 +3,7 @@
 //! Positions, lines and columns count from 0. A line ends before its line feed or where the text ends.
 #![tactic(auto)]
 
-ghost use Rattle.std.specs.Prelude.{◌≡◌, ℕ, ◌+◌, ◌*◌, ◌<◌, ◌≤◌, ◌^◌, List, length};
+ghost use Rattle.std.specs.Prelude.{◌≡◌, ◌+◌, ◌*◌, ◌<◌, ◌≤◌, ◌^◌, length};
 ghost use Rattle.std.specs.Int.Digits.{digits_of};
 ghost use Rattle.mgs_model.specs.Cells.{glyph};
 ghost use Rattle.mgs_model.specs.Lines.{line_of, line_start, line_end, column, settled_top};

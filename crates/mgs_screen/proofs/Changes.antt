@@ -1,7 +1,7 @@
 -- What an edit without line feeds changes of a text.
-use Rattle.std.proofs.Common.{◌≡◌, ℕ, zero, suc, ◌+◌, ◌-◌, ◌≤◌, List, [], ◌∷◌, ◌++◌, length, take, drop, cond, inl, inr, true, Some, refl, sym, ap, subst, ◌∙◌, arith}
+use Rattle.std.proofs.Common.{◌≡◌, ℕ, zero, suc, ◌+◌, ◌-◌, ◌≤◌, List, [], ◌∷◌, ◌++◌, length, take, drop, cond, inl, inr, true, Some, refl, sym, ap, subst, ◌∙◌, arith, append_assoc, length-append}
 use Rattle.std.specs.List.{count_by, find}
-use Rattle.std.proofs.Math.Seq.{take-append_seam, take-append-add}
+use Rattle.std.proofs.Math.Seq.{take-append_seam, take-append-add, drop-append-add}
 use Rattle.std.proofs.lemmas.Bool.{cases_eq, eq-eqb, ne_eqb}
 use Rattle.std.proofs.lemmas.List.{take-append-drop, take-append-le, drop-append-le, length-take-le}
 use Rattle.std.proofs.lemmas.List.Sums.{sum_by-append}
@@ -56,7 +56,7 @@ start_down above down start text from = start_below above down text ∙ ap (λ n
 feeds_joined : (xs ys : List ℕ) → count_by is_feed (xs ++ ys) ≡ count_by is_feed xs + count_by is_feed ys
 feeds_joined xs ys = sum_by-append (λ y. cond (is_feed y) 1 0) xs ys
 
-feeds_parted : (n : ℕ) (xs : List ℕ) → count_by is_feed xs ≡ count_by is_feed (take n xs) + count_by is_feed (drop n xs)
+pub feeds_parted : (n : ℕ) (xs : List ℕ) → count_by is_feed xs ≡ count_by is_feed (take n xs) + count_by is_feed (drop n xs)
 feeds_parted n xs = ap (count_by is_feed) (sym (take-append-drop n xs)) ∙ feeds_joined (take n xs) (drop n xs)
 
 -- before and behind what was put in
@@ -80,7 +80,7 @@ line_before x y text s is within = ap (λ (ys : List ℕ). line_of ys s) is ∙ 
 
 pub one_line : (x r q y old new : List ℕ) (p s above : ℕ) → old ≡ x ++ (r ++ y) → new ≡ x ++ (q ++ y) → length x ≡ p → s ≤ p
     → count_by is_feed r ≡ 0 → line_of new (p + length q) ≡ line_of new p → line_of new s ≡ above
-    → IsLineEdited (line_of new p - above) s old new
+    → IsLineEdited (line_of new p - above) s s old new
 one_line x r q y old new p s above was came size within none same from =
     let at : line_of new p ≡ count_by is_feed x = line_here x (q ++ y) new p came size in
     let top : above ≡ count_by is_feed (take s x) = sym from ∙ line_before x (q ++ y) new s came (omega (arith, size, within)) in
@@ -111,32 +111,69 @@ pub line_mono : (text : List ℕ) (s p : ℕ) → s ≤ p → p ≤ length text 
 line_mono text s p order within =
     line_down (take p text) (drop p text) text p s (line_of text s) (sym (take-append-drop p text)) (length-take-le p text within) order refl
 
--- an edit of a buffer, as it is kept
+-- A BUFFER'S EDIT
+
+-- as it is kept: what it took out and what it put in, between what stayed
+record KeptEdit (edit : Edit) (old new : List ℕ) : Type 0 where
+  before : List ℕ
+  put : List ℕ
+  behind : List ℕ
+  was : old ≡ before ++ (edit.removed.items ++ behind)
+  came : new ≡ before ++ (put ++ behind)
+  place : length before ≡ edit.at
+  count : length put ≡ edit.added
+
+kept_edit : (old new : Buffer) (e : IsEditedOnce old new) (serial : ℕ) (edit : Edit) (text : List ℕ) (size : ℕ)
+    → e.item ≡ item_of serial edit → new.text ≡ text → length old.text ≡ size
+    → edit.at + edit.added ≤ length text → length text + length edit.removed.items ≡ size + edit.added
+    → KeptEdit edit old.text text
+kept_edit old new e serial edit text size item came count within sizes =
+    let place : e.item.place ≡ edit.at = ap (λ (i : Item). i.place) item in
+    let out : e.item.removed ≡ edit.removed.items = ap (λ (i : Item). i.removed) item in
+    let added : e.item.put ≡ edit.added = ap (λ (i : Item). i.put) item in
+    let told : length new.text + length e.item.removed ≡ length old.text + e.item.put = omega (arith, ap length came, ap length out, sizes, count, added) in
+    let parts = edit_parts old new e told in
+    let inside : e.item.place ≤ length old.text = omega (arith, place, count, sizes, within) in
+    record {
+      before = parts.before;
+      put = parts.put;
+      behind = parts.behind;
+      was = parts.was ∙ ap (λ (ys : List ℕ). parts.before ++ (ys ++ parts.behind)) out;
+      came = sym came ∙ parts.came;
+      place = omega (arith, ap length parts.place, length-take-le e.item.place old.text inside, place);
+      count = parts.count ∙ added;
+    }
+
+-- in one line
 pub edited_line : (old new : Buffer) (e : IsEditedOnce old new) (serial : ℕ) (edit : Edit) (text : List ℕ) (start above line size : ℕ)
     → e.item ≡ item_of serial edit → new.text ≡ text → length old.text ≡ size
     → edit.at + edit.added ≤ length text → length text + length edit.removed.items ≡ size + edit.added
     → start ≤ edit.at → count_by is_feed edit.removed.items ≡ 0
     → line ≡ line_of text edit.at → line_of text (edit.at + edit.added) ≡ line → line_of text start ≡ above
-    → IsLineEdited (line - above) start old.text text
+    → IsLineEdited (line - above) start start old.text text
 edited_line old new e serial edit text start above line size item came count within sizes order none here same top =
-    let place : e.item.place ≡ edit.at = ap (λ (i : Item). i.place) item in
-    let out : e.item.removed ≡ edit.removed.items = ap (λ (i : Item). i.removed) item in
-    let added : e.item.put ≡ edit.added = ap (λ (i : Item). i.put) item in
-    let told : length new.text + length e.item.removed ≡ length old.text + e.item.put =
-    ap (λ (ys : List ℕ). length ys + length e.item.removed) came
-    ∙ ap (λ (ys : List ℕ). length text + length ys) out
-    ∙ sizes
-    ∙ ap (λ n. n + edit.added) (sym count)
-    ∙ ap (λ n. length old.text + n) (sym added) in
-    let parts = edit_parts old new e told in
-    let inside : e.item.place ≤ length old.text = omega (arith, place, count, sizes, within) in
-    let before : length parts.before ≡ edit.at = ap length parts.place ∙ length-take-le e.item.place old.text inside ∙ place in
-    let long : length parts.put ≡ edit.added = parts.count ∙ added in
-    let was : old.text ≡ parts.before ++ (edit.removed.items ++ parts.behind) = parts.was ∙ ap (λ (ys : List ℕ). parts.before ++ (ys ++ parts.behind)) out in
-    let is : text ≡ parts.before ++ (parts.put ++ parts.behind) = sym came ∙ parts.came in
-    subst (λ (n : ℕ). IsLineEdited (n - above) start old.text text) (sym here) (
-    one_line parts.before edit.removed.items parts.put parts.behind old.text text edit.at start above was is before order none
-    (ap (λ n. line_of text (edit.at + n)) long ∙ same ∙ here) top)
+    let k = kept_edit old new e serial edit text size item came count within sizes in
+    subst (λ (n : ℕ). IsLineEdited (n - above) start start old.text text) (sym here) (
+    one_line k.before edit.removed.items k.put k.behind old.text text edit.at start above k.was k.came k.place order none
+    (ap (λ n. line_of text (edit.at + n)) k.count ∙ same ∙ here) top)
+
+-- what lies behind two parts of a text
+behind_parts : (x r y text : List ℕ) (from k : ℕ) → text ≡ x ++ (r ++ y) → from ≡ length (x ++ r) + k → drop from text ≡ drop k y
+behind_parts x r y text from k is at =
+    ap (drop from) (is ∙ sym (append_assoc x r y)) ∙ ap (λ n. drop n (x ++ r ++ y)) at ∙ drop-append-add (x ++ r) y k
+
+-- before what is shown, which is then the same, elsewhere
+pub shown_moved : (old new : Buffer) (e : IsEditedOnce old new) (serial : ℕ) (edit : Edit) (text : List ℕ) (from start size : ℕ)
+    → e.item ≡ item_of serial edit → new.text ≡ text → length old.text ≡ size
+    → edit.at + edit.added ≤ length text → length text + length edit.removed.items ≡ size + edit.added
+    → edit.at + length edit.removed.items ≤ from → start + length edit.removed.items ≡ from + edit.added
+    → drop from old.text ≡ drop start text
+shown_moved old new e serial edit text from start size item came count within sizes ends moved =
+    let k = kept_edit old new e serial edit text size item came count within sizes in
+    let out : List ℕ = edit.removed.items in
+    let further : ℕ = from - (edit.at + length out) in
+    behind_parts k.before out k.behind old.text from further k.was (omega (arith, ends, k.place, length-append k.before out))
+    ∙ sym (behind_parts k.before k.put k.behind text start further k.came (omega (arith, ends, moved, k.place, k.count, length-append k.before k.put)))
 
 -- the latest item, looked up by the buffer's serial
 pub item_found : (old new : Buffer) (e : IsEditedOnce old new) (item : Item) (serial : ℕ) → serial ≡ new.serial → Some item ≡ find (has_serial serial) new.items → e.item ≡ item

@@ -5,3 +5,6 @@ pub mod RowPanes
 pub mod Sketches
 pub mod Changes
 pub mod Redrawn
+mod TabStops
+mod TabRows
+mod Blanks

@@ -1,9 +1,9 @@
 -- What the listing of all buffers and an access list show.
-use Rattle.std.proofs.Common.{◌≡◌, ℕ, suc, ◌+◌, ◌<◌, ◌≤◌, Bool, true, false, List, [], ◌∷◌, ◌++◌, length, map, take, get_or, Option, Some, None, refl, sym, ap, ◌∙◌, arith}
+use Rattle.std.proofs.Common.{◌≡◌, ℕ, suc, ◌+◌, ◌<◌, ◌≤◌, Bool, true, false, List, [], ◌∷◌, ◌++◌, length, map, take, drop, get_or, Option, Some, None, refl, sym, ap, ◌∙◌, arith}
 use Rattle.std.specs.Prelude.{slice_get, codes, decimal, if◌then◌else◌}
 use Rattle.std.specs.List.{flat_map}
 use Rattle.std.proofs.lemmas.Grind.{flat_map-append}
-use Rattle.std.proofs.lemmas.List.{append-nil, map-append, length-map, length-take-le, take_more}
+use Rattle.std.proofs.lemmas.List.{append-nil, map-append, length-map, length-take-le, take_more, take-append-drop}
 use Rattle.std.proofs.lemmas.List.Folds.{list_any_at}
 use Rattle.std.proofs.lemmas.Option.{slice_get-get_or}
 use Rattle.mgs_model.specs.Rights.{all_rights}
@@ -23,8 +23,8 @@ use Rattle.mgs_buffers.specs.Told.{attributes_to, attributes_found}
 use Rattle.mgs_grid.specs.Lists.{acl_mode}
 use Rattle.mgs_world.specs.Worlds.{buffers_of}
 use Rattle.mgs_world.proofs.Found.{found_seen, name_kept}
-use Rattle.mgs_screen.specs.Listings.{entries_to, entries_told, name_to, place_in, row_drawn, buffer_drawn, drawn, listed}
-use Rattle.mgs_screen.proofs.Sights.{row_more}
+use Rattle.mgs_screen.specs.Listings.{entries_to, entries_told, name_to, place_in, past_sight, row_drawn, buffer_drawn, drawn, listed}
+use Rattle.mgs_screen.proofs.Sights.{row_more, drawn_past}
 
 -- WHAT IS TOLD OF A BUFFER
 
@@ -52,20 +52,34 @@ entries_are d user b =
 
 -- THE LISTING
 
+listed_append : (d : Directory) (user : List ℕ) (xs ys : List MarkedBuffer) → listed d user (xs ++ ys) ≡ listed d user xs ++ listed d user ys
+listed_append d user xs ys =
+    let told : BufferSeen → List Attributes = λ (b : BufferSeen). if_granted (attributes_of b) in
+    ap (λ (bs : List Buffer). flat_map told (map (buffer_seen d user) bs)) (map-append (λ (x : MarkedBuffer). x.buffer) xs ys)
+    ∙ ap (flat_map told) (map-append (buffer_seen d user) (buffers_of xs) (buffers_of ys))
+    ∙ flat_map-append told (map (buffer_seen d user) (buffers_of xs)) (map (buffer_seen d user) (buffers_of ys))
+
 -- one buffer more
 pub listed_more : (d : Directory) (user : List ℕ) (ks : List MarkedBuffer) (i : ℕ) → i < length ks
     → listed d user (take (i + 1) ks) ≡ listed d user (take i ks) ++ if_granted (attributes_found d user (slice_get ks i))
 listed_more d user ks i within =
     let k : MarkedBuffer = get_or ks i (marked_at [] []) in
     let front : List MarkedBuffer = take i ks in
-    let told : BufferSeen → List Attributes = λ (b : BufferSeen). if_granted (attributes_of b) in
     ap (listed d user) (take_more ks i (marked_at [] []) within)
-    ∙ ap (λ (bs : List Buffer). flat_map told (map (buffer_seen d user) bs)) (map-append (λ (x : MarkedBuffer). x.buffer) front (k ∷ []))
-    ∙ ap (flat_map told) (map-append (buffer_seen d user) (buffers_of front) (k.buffer ∷ []))
-    ∙ flat_map-append told (map (buffer_seen d user) (buffers_of front)) (buffer_seen d user k.buffer ∷ [])
-    ∙ ap (λ (more : List Attributes). listed d user front ++ more) (append-nil (told (buffer_seen d user k.buffer)))
+    ∙ listed_append d user front (k ∷ [])
+    ∙ ap (λ (more : List Attributes). listed d user front ++ more) (append-nil (if_granted (attributes_of (buffer_seen d user k.buffer))))
     ∙ ap (λ (o : Option Attributes). listed d user front ++ if_granted o) (attributes_are d user k.buffer)
     ∙ ap (λ (o : Option MarkedBuffer). listed d user front ++ if_granted (attributes_found d user o)) (sym (slice_get-get_or ks i (marked_at [] []) within))
+
+-- the others are past the sight
+pub listing_past : (first h row n i : ℕ) (d : Directory) (user : List ℕ) (ks : List MarkedBuffer) (p : Picture) → n ≡ length (listed d user (take i ks)) → past_sight h row n ≡ true
+    → drawn first h row (map listing_text (listed d user (take i ks))) p ≡ drawn first h row (map listing_text (listed d user ks)) p
+listing_past first h row n i d user ks p is past =
+    let xs : List Attributes = listed d user (take i ks) in
+    let ys : List Attributes = listed d user (drop i ks) in
+    drawn_past first h row n (map listing_text xs) (map listing_text ys) p (is ∙ sym (length-map xs listing_text)) past
+    ∙ ap (λ (texts : List (List ℕ)). drawn first h row texts p) (sym (map-append listing_text xs ys))
+    ∙ ap (λ (told : List Attributes). drawn first h row (map listing_text told) p) (sym (listed_append d user (take i ks) (drop i ks)) ∙ ap (listed d user) (take-append-drop i ks))
 
 pub buffer_more : (first h row n : ℕ) (xs : List Attributes) (o : Option Attributes) (p : Picture) → n ≡ length xs → first + h ≤ length p.lines
     → buffer_drawn first h row n o (drawn first h row (map listing_text xs) p) ≡ drawn first h row (map listing_text (xs ++ if_granted o)) p
@@ -81,9 +95,9 @@ length-entries_texts : (n : ℕ) (es : List Entry) → length (entries_texts n e
 length-entries_texts n [] = refl
 length-entries_texts n (e ∷ es) = ap suc (length-entries_texts (n + 1) es)
 
-entries_texts_more : (n m : ℕ) (es : List Entry) (e : Entry) → m ≡ n + length es → entries_texts n (es ++ e ∷ []) ≡ entries_texts n es ++ (decimal m ++ 32 ∷ entry_text e) ∷ []
-entries_texts_more n m [] e is = ap (λ (k : ℕ). (decimal k ++ 32 ∷ entry_text e) ∷ []) (omega (arith, is))
-entries_texts_more n m (x ∷ es) e is = ap (λ (texts : List (List ℕ)). (decimal n ++ 32 ∷ entry_text x) ∷ texts) (entries_texts_more (n + 1) m es e (omega (arith, is)))
+entries_texts_append : (n m : ℕ) (xs ys : List Entry) → m ≡ n + length xs → entries_texts n (xs ++ ys) ≡ entries_texts n xs ++ entries_texts m ys
+entries_texts_append n m [] ys is = ap (λ (k : ℕ). entries_texts k ys) (omega (arith, is))
+entries_texts_append n m (x ∷ xs) ys is = ap (λ (texts : List (List ℕ)). (decimal n ++ 32 ∷ entry_text x) ∷ texts) (entries_texts_append (n + 1) m xs ys (omega (arith, is)))
 
 pub entry_more : (first h row i : ℕ) (es : List Entry) (e : Entry) (p now new : Picture) → i < length es → e ≡ get_or es i e → first + h ≤ length p.lines
     → now ≡ drawn first h row (entries_texts 1 (take i es)) p
@@ -99,7 +113,16 @@ entry_more first h row i es e p now new within at fits so_far put =
     ∙ ap (row_drawn (place_in first h row i) text) so_far
     ∙ ap (λ (k : ℕ). row_drawn (place_in first h row k) text (drawn first h row texts p)) size
     ∙ row_more first h row texts text p fits
-    ∙ ap (λ (ts : List (List ℕ)). drawn first h row ts p) (sym (ap (entries_texts 1) more ∙ entries_texts_more 1 (i + 1) (take i es) e (omega (arith, n))))
+    ∙ ap (λ (ts : List (List ℕ)). drawn first h row ts p) (sym (ap (entries_texts 1) more ∙ entries_texts_append 1 (i + 1) (take i es) (e ∷ []) (omega (arith, n))))
+
+-- the others are past the sight
+pub entries_past : (first h row i : ℕ) (es : List Entry) (p : Picture) → i < length es → past_sight h row i ≡ true
+    → drawn first h row (entries_texts 1 (take i es)) p ≡ drawn first h row (entries_texts 1 es) p
+entries_past first h row i es p within past =
+    let front : List Entry = take i es in
+    let n : length front ≡ i = length-take-le i es (omega (arith, within)) in
+    drawn_past first h row i (entries_texts 1 front) (entries_texts (i + 1) (drop i es)) p (sym (length-entries_texts 1 front ∙ n)) past
+    ∙ ap (λ (ts : List (List ℕ)). drawn first h row ts p) (sym (entries_texts_append 1 (i + 1) front (drop i es) (omega (arith, n))) ∙ ap (entries_texts 1) (take-append-drop i es))
 
 -- the pane of a buffer's access list
 pub entries_pane_is : (selected : Bool) (cols h row : ℕ) (d : Directory) (user name : List ℕ) (ks : List MarkedBuffer) → HasBuffer name ks

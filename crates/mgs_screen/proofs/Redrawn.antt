@@ -55,9 +55,9 @@ pub row_shifted : (cols row from to h : ℕ) (rest : List ℕ) → AreSameBut ro
 row_shifted cols row from to h rest = rows_shifted cols 0 row h (shift_at row from) (shift_at row to) rest (λ k other. shift_other row from to k (λ at. other (omega (arith, at))))
 
 -- where a line of the text changed
-pub rows_edited : (cols row from to h down start : ℕ) (old new : List ℕ) → ((k : ℕ) → (k ≡ down → ⊥) → shift_at row from k ≡ shift_at row to k) → IsLineEdited down start old new
-    → AreSameBut down (text_rows cols (shift_at row from) 0 h (drop start old)) (text_rows cols (shift_at row to) 0 h (drop start new))
-rows_edited cols row from to h down start old new same e = λ r.
+pub rows_edited : (cols row from to h down was start : ℕ) (old new : List ℕ) → ((k : ℕ) → (k ≡ down → ⊥) → shift_at row from k ≡ shift_at row to k) → IsLineEdited down was start old new
+    → AreSameBut down (text_rows cols (shift_at row from) 0 h (drop was old)) (text_rows cols (shift_at row to) 0 h (drop start new))
+rows_edited cols row from to h down was start old new same e = λ r.
     ap (λ (ys : List ℕ). set (text_rows cols (shift_at row from) 0 h ys) down r) e.was
     ∙ ap (λ n. set (text_rows cols (shift_at row from) 0 h (e.before ++ (e.out ++ e.behind))) n r) e.lines
     ∙ edited_rows cols (shift_at row from) (shift_at row to) 0 h e.before e.out e.put e.behind e.none_out e.none_put (λ k other. same k (λ at. other (omega (arith, at, e.lines)))) r
@@ -128,6 +128,10 @@ shown_already d row from to text p count room same stand =
     same_picture p (text_put d.first d.height row to (drop d.start text) p) (
     standing_put d.first d.height (text_rows p.cols (shift_at row to) 0 d.height (drop d.start text)) p (omega (arith, count, room))
     (stand ∙ ap (λ n. text_rows p.cols (shift_at row n) 0 d.height (drop d.start text)) same))
+
+-- from elsewhere in another one
+pub shown_moved : (d : DrawnText) (from row shift : ℕ) (old text : List ℕ) (p : Picture) → DoesShow (record d { start = from }) row shift old p → drop from old ≡ drop d.start text → DoesShow d row shift text p
+shown_moved d from row shift old text p stand same = stand ∙ ap (text_rows p.cols (shift_at row shift) 0 d.height) same
 
 -- it is there
 pub shown_there : (d : DrawnText) (row shift : ℕ) (text : List ℕ) (p q : Picture) → d.first ≤ length p.lines → q ≡ showing d row shift text p → DoesShow d row shift text q

@@ -1,13 +1,13 @@
 -- Rows of a list that are drawn one after another, of which some are in sight.
-use Rattle.std.proofs.Common.{◌≡◌, ℕ, zero, suc, ◌+◌, ◌-◌, ◌<◌, ◌≤◌, List, [], ◌∷◌, ◌++◌, length, map, take, drop, refl, sym, ap, ◌∙◌, arith, inl, inr, append_assoc, length-append, length-take, length-drop}
+use Rattle.std.proofs.Common.{◌≡◌, ℕ, zero, suc, ◌+◌, ◌-◌, ◌<◌, ◌≤◌, nat_le, true, List, [], ◌∷◌, ◌++◌, length, map, take, drop, refl, sym, ap, ◌∙◌, arith, inl, inr, append_assoc, length-append, length-take, length-drop}
 use Rattle.std.proofs.Math.Seq.{take-append_seam, take-append-add, drop-append-add}
-use Rattle.std.proofs.lemmas.Bool.{cases_lt, lt-leb, le-leb, lt-ltb, le-ltb}
+use Rattle.std.proofs.lemmas.Bool.{cases_lt, and_parts, leb-true, lt-leb, le-leb, lt-ltb, le-ltb}
 use Rattle.std.proofs.lemmas.List.{length-map, length-replicate, map-append, take_all, take-append-le, drop-append-le, drop_all, length-take-le}
 use Rattle.mgs_model.specs.Rows.{Row, plain_row, mode_row, blank_rows, rows_put}
 use Rattle.mgs_model.specs.Draw.{rows_from}
 use Rattle.mgs_model.specs.Picture.{Picture}
 use Rattle.mgs_grid.proofs.Pictures.{length-rows_put}
-use Rattle.mgs_screen.specs.Listings.{place_in, row_drawn, drawn}
+use Rattle.mgs_screen.specs.Listings.{place_in, past_sight, row_drawn, drawn}
 use Rattle.mgs_screen.proofs.Drawings.{put_below}
 
 -- A ROW IN A LIST OF ROWS
@@ -98,10 +98,10 @@ from_before cols h row texts text before =
     ap (from_seen cols h) (old ∙ sym new)
 
 -- nor those after the last one
-from_past : (cols h row : ℕ) (texts : List (List ℕ)) (text : List ℕ) → row ≤ length texts → h ≤ length texts - row → rows_from cols h row texts ≡ rows_from cols h row (texts ++ text ∷ [])
-from_past cols h row texts text from past =
-    let more : drop row (texts ++ text ∷ []) ≡ drop row texts ++ text ∷ [] = drop-append-le row texts (text ∷ []) from in
-    let same : take h (drop row (texts ++ text ∷ [])) ≡ take h (drop row texts) = ap (take h) more ∙ take-append-le h (drop row texts) (text ∷ []) (omega (arith, past, length-drop row texts)) in
+from_past : (cols h row : ℕ) (texts more : List (List ℕ)) → row ≤ length texts → h ≤ length texts - row → rows_from cols h row texts ≡ rows_from cols h row (texts ++ more)
+from_past cols h row texts more from past =
+    let longer : drop row (texts ++ more) ≡ drop row texts ++ more = drop-append-le row texts more from in
+    let same : take h (drop row (texts ++ more)) ≡ take h (drop row texts) = ap (take h) longer ∙ take-append-le h (drop row texts) more (omega (arith, past, length-drop row texts)) in
     ap (from_seen cols h) (sym same)
 
 with_rows : (first : ℕ) (p : Picture) (a b : List Row) → a ≡ b → record p { lines = rows_put first a p.lines } ≡ record p { lines = rows_put first b p.lines }
@@ -121,9 +121,18 @@ row_more first h row texts text p fits =
             put_inside first (length texts - row) (plain_row p.cols text ∷ []) old p.lines (omega (arith, n, sight)) (omega (arith, n, fits)) in
             rw (le-leb row (length texts) from, lt-ltb (length texts - row) h sight)
             (ap (λ (rows : List Row). record p { lines = rows }) inside ∙ with_rows first p (rows_put (length texts - row) (plain_row p.cols text ∷ []) old) new (from_more p.cols h row texts text from sight))
-        | inr past ↦ rw (le-leb row (length texts) from, le-ltb (length texts - row) h past) (with_rows first p old new (from_past p.cols h row texts text from past))
+        | inr past ↦ rw (le-leb row (length texts) from, le-ltb (length texts - row) h past) (with_rows first p old new (from_past p.cols h row texts (text ∷ []) from past))
       ]
     ]
+
+-- from a number past the sight on, nothing more is drawn
+pub drawn_past : (first h row n : ℕ) (texts more : List (List ℕ)) (p : Picture) → n ≡ length texts → past_sight h row n ≡ true
+    → drawn first h row texts p ≡ drawn first h row (texts ++ more) p
+drawn_past first h row n texts more p is past =
+    let both : (nat_le row n ≡ true) × (nat_le h (n - row) ≡ true) = and_parts (nat_le row n) (nat_le h (n - row)) past in
+    let from : row ≤ n = leb-true row n both.0 in
+    let below : h ≤ n - row = leb-true h (n - row) both.1 in
+    with_rows first p (rows_from p.cols h row texts) (rows_from p.cols h row (texts ++ more)) (from_past p.cols h row texts more (omega (arith, is, from)) (omega (arith, is, below)))
 
 -- no text
 pub drawn_none : (first h row : ℕ) (p new : Picture) → new ≡ record p { lines = rows_put first (blank_rows p.cols h) p.lines } → new ≡ drawn first h row [] p

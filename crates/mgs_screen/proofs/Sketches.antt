@@ -1,18 +1,21 @@
 -- What a sketch says stays true.
-use Rattle.std.proofs.Common.{◌≡◌, ℕ, zero, suc, ◌+◌, ◌≤◌, Bool, true, false, List, [], ◌∷◌, ◌++◌, length, take, drop, Some, None, inl, inr, sym, ap, subst, ◌∙◌, arith, append_assoc, length-append, length-drop}
-use Rattle.std.specs.Prelude.{Option, slice_get, if◌then◌else◌, ◌⊎◌, ◌==◌}
+use Rattle.std.proofs.Common.{◌≡◌, ℕ, zero, suc, ◌+◌, ◌<◌, ◌≤◌, Bool, true, false, List, [], ◌∷◌, ◌++◌, length, take, drop, Some, None, inl, inr, sym, ap, subst, ◌∙◌, arith, append_assoc, length-append, length-drop}
+use Rattle.std.specs.Prelude.{Option, IfSome, slice_get, if◌then◌else◌, ◌⊎◌, ◌==◌}
 use Rattle.std.proofs.Math.Seq.{take-append_seam, drop-append-add}
 use Rattle.std.proofs.lemmas.Option.{same_Some, none-some}
 use Rattle.std.proofs.lemmas.List.{take-append-drop, drop-drop, drop-take, length-take-le}
 use Rattle.mgs_model.specs.Apart.{AreFollowed}
 use Rattle.mgs_model.specs.Picture.{Picture}
-use Rattle.mgs_model.specs.Rows.{Row, rows_put, text_rows, shift_at}
+use Rattle.mgs_model.specs.Rows.{Row, rows_put, mode_row, text_rows, shift_at}
 use Rattle.mgs_model.specs.World.{Buffer, find_buffer}
 use Rattle.mgs_laws.proofs.Follow.{follows_then, follows_same}
 use Rattle.mgs_grid.proofs.Panes.{above_put, below_put}
 use Rattle.mgs_grid.proofs.Pictures.{length-rows_put, length-text_rows}
 use Rattle.mgs_screen.specs.declared.sketch.DrawnText.{DrawnText}
-use Rattle.mgs_screen.specs.Sketches.{Stands, AreStanding, AreStandingAbove, AreStandingFrom, DoesShow, rows_at, pushed}
+use Rattle.mgs_screen.specs.Sketches.{Stands, AreStanding, AreStandingAbove, AreStandingFrom, DoesShow, DoesShowMode, mode_text, rows_at, pushed, text_then}
+use Rattle.mgs_screen.specs.TabStops.{IsTabStop}
+use Rattle.mgs_screen.specs.declared.sketch.Earlier.{Earlier}
+use Rattle.mgs_screen.specs.declared.sketch.ModeLine.{ModeLine}
 
 -- where there is no text
 pub standing_none : (bs : List Buffer) (p : Picture) → AreStanding bs p []
@@ -28,6 +31,8 @@ stands_followed bs cs p d followed s =
       start = s.start;
       fits = s.fits;
       rows = s.rows;
+      stop = s.stop;
+      mode = s.mode;
       now = next.0;
       found = next.1;
       follows = follows_then s.drawn s.now next.0 s.follows next.2;
@@ -66,6 +71,16 @@ put_same first height lines fits =
     ∙ ap (λ (ls : List Row). take first lines ++ ls) (take-append-drop height (drop first lines))
     ∙ take-append-drop first lines
 
+-- the last of them
+put_last : (first height : ℕ) (new : List Row) (r : Row) (old : List Row) → first ≤ length old → length new ≡ height → rows_at (first + height) 1 (rows_put first (new ++ r ∷ []) old) ≡ r ∷ []
+put_last first height new r old begins size =
+    let front : List Row = take first old in
+    let rest : List Row = drop (first + length (new ++ r ∷ [])) old in
+    let at : first + height ≡ length (front ++ new) + 0 = omega (arith, length-take-le first old begins, size, length-append front new) in
+    ap (λ (ls : List Row). take 1 (drop (first + height) ls)) (append_assoc front (new ++ r ∷ []) rest ∙ ap (λ (ls : List Row). front ++ ls) (append_assoc new (r ∷ []) rest) ∙ sym (append_assoc front new (r ∷ rest)))
+    ∙ ap (λ n. take 1 (drop n ((front ++ new) ++ r ∷ rest))) at
+    ∙ ap (take 1) (drop-append-add (front ++ new) (r ∷ rest) 0)
+
 -- those above and below stay
 rows_above : (f h first : ℕ) (new old : List Row) → f + h ≤ first → first ≤ length old → rows_at f h (rows_put first new old) ≡ rows_at f h old
 rows_above f h first new old above within =
@@ -76,14 +91,16 @@ rows_below f h first new old below within = ap (take h) (below_put f first new o
 
 -- TEXTS THAT STAND
 
-stands_moved : (bs : List Buffer) (p q : Picture) (d : DrawnText) → q.cols ≡ p.cols → length q.lines ≡ length p.lines → rows_at d.first d.height q.lines ≡ rows_at d.first d.height p.lines → Stands bs p d → Stands bs q d
-stands_moved bs p q d wide long same s = record {
+stands_moved : (bs : List Buffer) (p q : Picture) (d : DrawnText) → q.cols ≡ p.cols → length q.lines ≡ length p.lines → rows_at d.first d.height q.lines ≡ rows_at d.first d.height p.lines → rows_at (d.first + d.height) 1 q.lines ≡ rows_at (d.first + d.height) 1 p.lines → Stands bs p d → Stands bs q d
+stands_moved bs p q d wide long same last s = record {
   drawn = s.drawn;
   serial = s.serial;
   size = s.size;
   start = s.start;
   fits = omega (arith, s.fits, long);
   rows = same ∙ s.rows ∙ ap (λ n. text_rows n (shift_at d.row d.shift) 0 d.height (drop d.start s.drawn.text)) (sym wide);
+  stop = s.stop;
+  mode = last ∙ s.mode ∙ ap (λ n. mode_row n (mode_text d.mode) ∷ []) (sym wide);
   now = s.now;
   found = s.found;
   follows = s.follows;
@@ -105,6 +122,7 @@ above_stay bs p q k first new ds put above s = record {
       let one = s.each i d is in (
         stands_moved bs p q d put.wide (put_long first new p q put)
             (ap (rows_at d.first d.height) put.lines ∙ rows_above d.first d.height first new p.lines (omega (arith, one.1, above)) (omega (arith, put.fits)))
+            (ap (rows_at (d.first + d.height) 1) put.lines ∙ rows_above (d.first + d.height) 1 first new p.lines (omega (arith, one.1, above)) (omega (arith, put.fits)))
             one.0,
         one.1,
       );
@@ -116,6 +134,7 @@ from_stay bs p q first k new ds put below s = record {
   each = λ i d is from.
       stands_moved bs p q d put.wide (put_long first new p q put)
       (ap (rows_at d.first d.height) put.lines ∙ rows_below d.first d.height first new p.lines (omega (arith, from, below)) (omega (arith, put.fits)))
+      (ap (rows_at (d.first + d.height) 1) put.lines ∙ rows_below (d.first + d.height) 1 first new p.lines (omega (arith, from, below)) (omega (arith, put.fits)))
       (s.each i d is (omega (arith, from, below)));
 }
 
@@ -128,6 +147,13 @@ above_none k bs p = record { each = λ i d is. cc }
 
 pub above_all : (k : ℕ) (bs : List Buffer) (p : Picture) (ds : List (Option DrawnText)) → AreStandingAbove k bs p ds → AreStanding bs p ds
 above_all k bs p ds s = record { each = λ i d is. (s.each i d is).0 }
+
+-- one that is found
+pub found_stands : (bs : List Buffer) (p : Picture) (ds : List (Option DrawnText)) (index : ℕ) (said name : List ℕ) (first height : ℕ) (o : Option Earlier) → AreStandingFrom first bs p ds → said ≡ name
+    → IfSome o (λ e. slice_get ds index ≡ Some (Some (text_then said first height e))) → IfSome o (λ e. Stands bs p (text_then name first height e))
+found_stands bs p ds index said name first height None s same is = is
+found_stands bs p ds index said name first height (Some e) s same is =
+    subst (λ (n : List ℕ). Stands bs p (text_then n first height e)) same (s.each index (text_then said first height e) is (omega arith))
 
 -- ONE MORE
 
@@ -142,7 +168,7 @@ pushed_has true ds o i d is = inl is
 pushed_has false ds o i d is = last_or_before ds o i d is
 
 pub above_pushed : (k m : ℕ) (bs : List Buffer) (p : Picture) (ds : List (Option DrawnText)) (o : Option DrawnText) → k ≤ m
-    → AreStandingAbove k bs p ds → ((d : DrawnText) → o ≡ Some d → Stands bs p d × (d.first + d.height ≤ m)) → AreStandingAbove m bs p (pushed o ds)
+    → AreStandingAbove k bs p ds → ((d : DrawnText) → o ≡ Some d → Stands bs p d × (d.first + d.height < m)) → AreStandingAbove m bs p (pushed o ds)
 above_pushed k m bs p ds o lower s more = record {
   each = λ i d is. elim (pushed_has (length ds == 8) ds o i d is) [
     | inl old ↦
@@ -155,15 +181,17 @@ above_pushed k m bs p ds o lower s more = record {
 -- A TEXT THAT IS DRAWN
 
 -- it stands
-pub stands_drawn : (bs : List Buffer) (q : Picture) (d : DrawnText) (b : Buffer) → find_buffer d.name bs ≡ Some b → d.serial ≡ b.serial → d.size ≡ length b.text → d.start ≤ length b.text → d.first + d.height ≤ length q.lines
-    → DoesShow d d.row d.shift b.text q → Stands bs q d
-stands_drawn bs q d b found serial size start fits rows = record {
+pub stands_drawn : (bs : List Buffer) (q : Picture) (d : DrawnText) (b : Buffer) → find_buffer d.name bs ≡ Some b → d.serial ≡ b.serial → d.size ≡ length b.text → d.start ≤ length b.text → d.first + d.height < length q.lines
+    → DoesShow d d.row d.shift b.text q → IsTabStop b.text d.stop d.stop_column → DoesShowMode (d.first + d.height) d.mode q → Stands bs q d
+stands_drawn bs q d b found serial size start fits rows stop mode = record {
   drawn = b;
   serial = sym serial;
   size = sym size;
   start = start;
   fits = fits;
   rows = rows;
+  stop = stop;
+  mode = mode;
   now = b;
   found = found;
   follows = follows_same b;
@@ -179,24 +207,46 @@ texts_passed bs p q first k new ds es put lower is s =
     above_pushed first k bs q ds None lower (above_stay bs p q first first new ds put (omega arith) s) (λ d none. absurd (none-some d none)))
 
 -- it shows a text
-pub texts_kept : (bs : List Buffer) (p q : Picture) (d : DrawnText) (b : Buffer) (text : List ℕ) (mode : Row) (ds es : List (Option DrawnText))
-    → IsPut d.first (text_rows p.cols (shift_at d.row d.shift) 0 d.height (drop d.start text) ++ mode ∷ []) p q
-    → find_buffer d.name bs ≡ Some b → d.serial ≡ b.serial → d.size ≡ length text → d.start ≤ length text → text ≡ b.text → es ≡ pushed (Some d) ds
+pub texts_kept : (bs : List Buffer) (p q : Picture) (d : DrawnText) (b : Buffer) (text : List ℕ) (ds es : List (Option DrawnText))
+    → IsPut d.first (text_rows p.cols (shift_at d.row d.shift) 0 d.height (drop d.start text) ++ mode_row p.cols (mode_text d.mode) ∷ []) p q
+    → find_buffer d.name bs ≡ Some b → d.serial ≡ b.serial → d.size ≡ length text → d.start ≤ length text → IsTabStop text d.stop d.stop_column → text ≡ b.text → es ≡ pushed (Some d) ds
     → AreStandingAbove d.first bs p ds → AreStandingAbove (d.first + (d.height + 1)) bs q es
-texts_kept bs p q d b text mode ds es put found serial size start same is s =
+texts_kept bs p q d b text ds es put found serial size start stop same is s =
     let pane : List Row = text_rows p.cols (shift_at d.row d.shift) 0 d.height (drop d.start text) in
+    let mode : Row = mode_row p.cols (mode_text d.mode) in
     let high : length pane ≡ d.height = length-text_rows p.cols (shift_at d.row d.shift) 0 d.height (drop d.start text) in
     let long : ℕ = length q.lines in
-    let fits : d.first + d.height ≤ long = omega (arith, put_long d.first (pane ++ mode ∷ []) p q put, put.fits, length-append pane (mode ∷ []), high) in
+    let fits : d.first + d.height < long = omega (arith, put_long d.first (pane ++ mode ∷ []) p q put, put.fits, length-append pane (mode ∷ []), high) in
     let there : rows_at d.first d.height q.lines ≡ pane =
     ap (rows_at d.first d.height) put.lines ∙ put_there d.first d.height pane (mode ∷ []) p.lines (omega (arith, put.fits)) high in
+    let last : rows_at (d.first + d.height) 1 q.lines ≡ mode ∷ [] =
+    ap (rows_at (d.first + d.height) 1) put.lines ∙ put_last d.first d.height pane mode p.lines (omega (arith, put.fits)) high in
     let now : Stands bs q d =
     stands_drawn bs q d b found serial (size ∙ ap length same) (omega (arith, start, ap length same)) fits (
     there
     ∙ ap (λ n. text_rows n (shift_at d.row d.shift) 0 d.height (drop d.start text)) (sym put.wide)
-    ∙ ap (λ (ys : List ℕ). text_rows q.cols (shift_at d.row d.shift) 0 d.height (drop d.start ys)) same) in
+    ∙ ap (λ (ys : List ℕ). text_rows q.cols (shift_at d.row d.shift) 0 d.height (drop d.start ys)) same)
+    (subst (λ (ys : List ℕ). IsTabStop ys d.stop d.stop_column) same stop)
+    (last ∙ ap (λ n. mode_row n (mode_text d.mode) ∷ []) (sym put.wide)) in
     let k : ℕ = d.first + (d.height + 1) in
-    let inside : d.first + d.height ≤ k = omega arith in
+    let inside : d.first + d.height < k = omega arith in
     subst (λ (xs : List (Option DrawnText)). AreStandingAbove k bs q xs) (sym is) (
     above_pushed d.first k bs q ds (Some d) (omega arith) (above_stay bs p q d.first d.first (pane ++ mode ∷ []) ds put (omega arith) s)
-    (λ e kept. subst (λ (x : DrawnText). Stands bs q x × (x.first + x.height ≤ k)) (same_Some d e kept) (now, inside)))
+    (λ e kept. subst (λ (x : DrawnText). Stands bs q x × (x.first + x.height < k)) (same_Some d e kept) (now, inside)))
+
+-- THE MODE LINE
+
+-- rows that are put above it leave it
+pub mode_stays : (row first : ℕ) (new : List Row) (p q : Picture) (o : Option Earlier) → IsPut first new p q → first + length new ≤ row → IfSome o (λ e. DoesShowMode row e.mode p) → IfSome o (λ e. DoesShowMode row e.mode q)
+mode_stays row first new p q None put below is = is
+mode_stays row first new p q (Some e) put below is =
+    ap (rows_at row 1) put.lines ∙ rows_below row 1 first new p.lines below (omega (arith, put.fits)) ∙ is ∙ ap (λ n. mode_row n (mode_text e.mode) ∷ []) (sym put.wide)
+
+pub mode_stands : (bs : List Buffer) (p : Picture) (name : List ℕ) (first height : ℕ) (o : Option Earlier) → IfSome o (λ e. Stands bs p (text_then name first height e)) → IfSome o (λ e. DoesShowMode (first + height) e.mode p)
+mode_stands bs p name first height None is = is
+mode_stands bs p name first height (Some e) is = is.mode
+
+-- it is drawn already
+pub mode_there : (row : ℕ) (m : ModeLine) (p : Picture) → row < length p.lines → DoesShowMode row m p → p ≡ record p { lines = rows_put row (mode_row p.cols (mode_text m) ∷ []) p.lines }
+mode_there row m p within is =
+    ap (λ (ls : List Row). record p { lines = ls }) (sym (put_same row 1 p.lines (omega (arith, within))) ∙ ap (λ (rows : List Row). rows_put row rows p.lines) is)

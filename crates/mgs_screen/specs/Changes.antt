@@ -1,22 +1,44 @@
 -- What has become of the rows of a text.
-use Rattle.std.specs.Prelude.{◌≡◌, ℕ, List, ◌++◌, drop, count_by}
+use Rattle.std.specs.Prelude.{◌≡◌, ℕ, List, ◌++◌, Option, drop, count_by, length}
+use Rattle.mgs_model.specs.Apart.{Follows, IsEditedOnce}
 use Rattle.mgs_model.specs.Lines.{is_feed}
+use Rattle.mgs_model.specs.World.{Buffer}
+use Rattle.mgs_undo.specs.Numbered.{item_of}
+use Rattle.mgs_undo.specs.declared.Edit.{Edit}
+use Rattle.mgs_screen.specs.TabStops.{IsKnown, IsTabStop}
 use Rattle.mgs_screen.specs.declared.change.Change.{Change}
 use Rattle.mgs_screen.specs.declared.change.Change.TheVariants.{Nothing, Line, Anything}
+use Rattle.mgs_screen.specs.declared.sketch.Earlier.{Earlier}
+use Rattle.mgs_screen.specs.declared.tab_stops.TabStop.{TabStop}
 
--- From a position on, an edit took characters out of a text and put others in, no line feed among them. It was so many lines further down.
-pub record IsLineEdited (down start : ℕ) (old new : List ℕ) : Type 0 where
+-- What is shown of a text began at one position, and begins at another one now. From there on an edit took characters out and put others in,
+-- no line feed among them. It was so many lines further down.
+pub record IsLineEdited (down from start : ℕ) (old new : List ℕ) : Type 0 where
   pub before : List ℕ
   pub out : List ℕ
   pub put : List ℕ
   pub behind : List ℕ
-  pub was : drop start old ≡ before ++ (out ++ behind)
+  pub was : drop from old ≡ before ++ (out ++ behind)
   pub came : drop start new ≡ before ++ (put ++ behind)
   pub lines : down ≡ count_by is_feed before
   pub none_out : count_by is_feed out ≡ 0
   pub none_put : count_by is_feed put ≡ 0
 
-abbrev pub IsChange : Change → ℕ → List ℕ → List ℕ → Type 0
-IsChange Nothing start old new = new ≡ old
-IsChange (Line down) start old new = IsLineEdited down start old new
-IsChange Anything start old new = Unit {0}
+abbrev pub IsChange : Change → ℕ → ℕ → List ℕ → List ℕ → Type 0
+IsChange Nothing from start old new = drop from old ≡ drop start new
+IsChange (Line down) from start old new = IsLineEdited down from start old new
+IsChange Anything from start old new = Unit {0}
+
+-- what an edit made of a text that had so many characters
+abbrev pub IsChangeBy : Edit → ℕ → ℕ → ℕ → List ℕ → Change → Type 0
+IsChangeBy edit from start size text change =
+    (old new : Buffer) (serial : ℕ) (e : IsEditedOnce old new) → e.item ≡ item_of serial edit → new.text ≡ text → length old.text ≡ size → IsChange change from start old.text text
+
+-- what has become of a text that was drawn earlier, whose buffer is this one now
+abbrev pub IsChangeSince : Earlier → ℕ → Buffer → List ℕ → Change → Type 0
+IsChangeSince e start now text change =
+    (old : Buffer) → old.serial ≡ e.serial → length old.text ≡ e.size → Follows old now → IsChange change e.start start old.text text
+
+-- and of its tab stop
+abbrev pub IsStopSince : Earlier → Buffer → Option TabStop → Type 0
+IsStopSince e now known = (old : Buffer) → old.serial ≡ e.serial → IsTabStop old.text e.stop e.stop_column → Follows old now → IsKnown now.text known

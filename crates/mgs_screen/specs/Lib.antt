@@ -2,3 +2,4 @@ pub mod Screens
 pub mod Listings
 pub mod Sketches
 pub mod Changes
+pub mod TabStops

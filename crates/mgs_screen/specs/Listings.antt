@@ -1,5 +1,5 @@
 -- The listing of all buffers and an access list, as a screen shows them of the kept buffers.
-use Rattle.std.specs.Prelude.{ℕ, ◌+◌, ◌-◌, nat_le, nat_lt, ◌&&◌, List, [], ◌∷◌, map, Option, Some, None, if◌then◌else◌}
+use Rattle.std.specs.Prelude.{ℕ, Bool, ◌+◌, ◌-◌, nat_le, nat_lt, ◌&&◌, List, [], ◌∷◌, map, Option, Some, None, if◌then◌else◌}
 use Rattle.std.specs.List.{flat_map}
 use Rattle.mgs_model.specs.Access.{Directory, decider, decision_by}
 use Rattle.mgs_model.specs.World.{Buffer, may}
@@ -42,6 +42,10 @@ name_to directory user ks name = if may directory user ReadAttributes (marked_at
 -- in which row of the screen the one of a number is drawn, where it is in sight
 abbrev pub place_in : ℕ → ℕ → ℕ → ℕ → Option ℕ
 place_in first height row number = if nat_le row number && nat_lt (number - row) height then Some (first + (number - row)) else None
+
+-- whether the one of a number, and each after it, is below those in sight
+abbrev pub past_sight : ℕ → ℕ → ℕ → Bool
+past_sight height row number = nat_le row number && nat_le height (number - row)
 
 abbrev pub row_drawn : Option ℕ → List ℕ → Picture → Picture
 row_drawn None text p = p

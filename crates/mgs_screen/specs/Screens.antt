@@ -1,5 +1,5 @@
 -- What a screen shows of the kept buffers.
-use Rattle.std.specs.Prelude.{◌≡◌, ℕ, ◌-◌, min, Bool, true, false, List, [], ◌∷◌, ◌++◌, map, Option, Some, None, if◌then◌else◌, codes}
+use Rattle.std.specs.Prelude.{◌≡◌, ℕ, ◌-◌, min, Bool, true, false, List, [], ◌∷◌, ◌++◌, ◌==◌, not, map, Option, Some, None, if◌then◌else◌, codes}
 use Rattle.mgs_model.specs.Access.{Directory}
 use Rattle.mgs_model.specs.World.{Own, may}
 use Rattle.mgs_model.specs.Lines.{column, line_of, line_start}
@@ -59,6 +59,10 @@ window_marks_cursor cols height k x = (
   min (height - 1) (point_row k.buffer.text (position_in k.marks x.top) (position_in k.marks x.point)),
   column k.buffer.text (position_in k.marks x.point) - shift_for cols (column k.buffer.text (position_in k.marks x.point)),
 )
+
+-- no blank
+abbrev pub is_ink : ℕ → Bool
+is_ink c = not (c == 32)
 
 -- the line of a prompt in a row, and the cursor behind it
 abbrev pub prompt_drawn : PromptInput → ℕ → Picture → Picture

@@ -1,11 +1,15 @@
 -- What texts the rows of a picture were drawn from, and what has become of their buffers since.
-use Rattle.std.specs.Prelude.{◌≡◌, ℕ, ◌+◌, ◌≤◌, ◌==◌, List, [], ◌∷◌, ◌++◌, Option, Some, take, drop, length, slice_get, if◌then◌else◌}
+use Rattle.std.specs.Prelude.{◌≡◌, ℕ, ◌+◌, ◌<◌, ◌≤◌, ◌==◌, List, [], ◌∷◌, ◌++◌, Bool, Option, Some, None, IfSome, take, drop, length, slice_get, if◌then◌else◌}
 use Rattle.mgs_model.specs.Apart.{Follows}
 use Rattle.mgs_model.specs.Picture.{Picture}
-use Rattle.mgs_model.specs.Rows.{Row, text_rows, shift_at}
+use Rattle.mgs_model.specs.Rows.{Row, buffer_mode, mode_row, text_rows, shift_at}
 use Rattle.mgs_model.specs.World.{Buffer, find_buffer}
 use Rattle.mgs_grid.specs.Panes.{text_put}
+use Rattle.mgs_screen.specs.TabStops.{IsKnown, IsTabStop}
 use Rattle.mgs_screen.specs.declared.sketch.DrawnText.{DrawnText}
+use Rattle.mgs_screen.specs.declared.sketch.Earlier.{Earlier}
+use Rattle.mgs_screen.specs.declared.sketch.ModeLine.{ModeLine}
+use Rattle.mgs_screen.specs.declared.tab_stops.TabStop.{TabStop}
 
 -- so many rows from a row on
 abbrev pub rows_at : ℕ → ℕ → List Row → List Row
@@ -15,9 +19,35 @@ rows_at first height lines = take height (drop first lines)
 abbrev pub DoesShow : DrawnText → ℕ → ℕ → List ℕ → Picture → Type 0
 DoesShow d row shift text p = rows_at d.first d.height p.lines ≡ text_rows p.cols (shift_at row shift) 0 d.height (drop d.start text)
 
+-- what a mode line says, and that it is in a row
+abbrev pub heading_of : ModeLine → Option (List ℕ × Bool)
+heading_of m = if m.tells then Some (m.name, m.modified) else None
+
+abbrev pub mode_text : ModeLine → List ℕ
+mode_text m = buffer_mode (heading_of m) (Some (m.line, m.column))
+
+abbrev pub DoesShowMode : ℕ → ModeLine → Picture → Type 0
+DoesShowMode row m p = rows_at row 1 p.lines ≡ mode_row p.cols (mode_text m) ∷ []
+
 -- a picture that shows it there
 abbrev pub showing : DrawnText → ℕ → ℕ → List ℕ → Picture → Picture
 showing d row shift text p = record p { lines = text_put d.first d.height row shift (drop d.start text) p }
+
+-- one that was drawn earlier
+abbrev pub text_then : List ℕ → ℕ → ℕ → Earlier → DrawnText
+text_then name first height e = record {
+  name = name;
+  serial = e.serial;
+  size = e.size;
+  start = e.start;
+  first = first;
+  height = height;
+  row = e.row;
+  shift = e.shift;
+  stop = e.stop;
+  stop_column = e.stop_column;
+  mode = e.mode;
+}
 
 -- the rows are those of a text, and the buffer of that name follows the one that it was read of
 pub record Stands (bs : List Buffer) (p : Picture) (d : DrawnText) : Type 0 where
@@ -25,11 +55,21 @@ pub record Stands (bs : List Buffer) (p : Picture) (d : DrawnText) : Type 0 wher
   pub serial : drawn.serial ≡ d.serial
   pub size : length drawn.text ≡ d.size
   pub start : d.start ≤ length drawn.text
-  pub fits : d.first + d.height ≤ length p.lines
+  pub fits : d.first + d.height < length p.lines
   pub rows : DoesShow d d.row d.shift drawn.text p
+  pub stop : IsTabStop drawn.text d.stop d.stop_column
+  pub mode : DoesShowMode (d.first + d.height) d.mode p
   pub now : Buffer
   pub found : find_buffer d.name bs ≡ Some now
   pub follows : Follows drawn now
+
+-- a text that may have been drawn earlier
+abbrev pub MayStand : List Buffer → Picture → List ℕ → ℕ → ℕ → Option Earlier → Type 0
+MayStand bs p name first height earlier = IfSome earlier (λ e. Stands bs p (text_then name first height e))
+
+-- a tab stop that its buffer's text has now
+abbrev pub IsStopOf : List Buffer → List ℕ → Option Earlier → List ℕ → Option TabStop → Type 0
+IsStopOf bs name earlier text known = (p : Picture) (first height : ℕ) → MayStand bs p name first height earlier → IsKnown text known
 
 -- a sketch has a place for each window, from the top; where one shows a text that may be read, it holds this
 pub record AreStanding (bs : List Buffer) (p : Picture) (ds : List (Option DrawnText)) : Type 0 where
@@ -39,7 +79,7 @@ pub record AreStanding (bs : List Buffer) (p : Picture) (ds : List (Option Drawn
 
 -- all texts stand, and above a row
 pub record AreStandingAbove (k : ℕ) (bs : List Buffer) (p : Picture) (ds : List (Option DrawnText)) : Type 0 where
-  pub each : (i : ℕ) (d : DrawnText) → slice_get ds i ≡ Some (Some d) → Stands bs p d × (d.first + d.height ≤ k)
+  pub each : (i : ℕ) (d : DrawnText) → slice_get ds i ≡ Some (Some d) → Stands bs p d × (d.first + d.height < k)
 
 -- the texts from a row on stand
 pub record AreStandingFrom (k : ℕ) (bs : List Buffer) (p : Picture) (ds : List (Option DrawnText)) : Type 0 where

@@ -1,13 +1,12 @@
 // What has become of the rows of a text since it was drawn.
-ghost use Rattle.std.specs.Prelude.{◌≡◌, ℕ, ◌+◌, ◌≤◌, List, true, length, count_by};
-ghost use Rattle.mgs_model.specs.Apart.{IsEditedOnce, Follows};
+ghost use Rattle.std.specs.Prelude.{◌≡◌, ℕ, ◌+◌, ◌≤◌, List, true, count_by};
 ghost use Rattle.mgs_model.specs.Lines.{is_feed, line_of};
-ghost use Rattle.mgs_model.specs.World.{Buffer};
 ghost use Rattle.mgs_buffers.specs.MarkedBuffer.{marked_at};
-ghost use Rattle.mgs_undo.specs.Numbered.{item_of};
-ghost use Rattle.mgs_screen.specs.Changes.{IsChange};
+ghost use Rattle.mgs_screen.specs.Changes.{IsChange, IsChangeBy, IsChangeSince, IsStopSince};
+ghost use Rattle.mgs_screen.specs.TabStops.{IsKnown, IsTabStop};
 
-use crate::sketch::DrawnText;
+use crate::sketch::{DrawnText, Earlier};
+use crate::tab_stops::TabStop;
 use mgs_buffers::Found;
 use mgs_marks::Marked;
 use mgs_text::Text;
@@ -16,10 +15,10 @@ use mgs_undo::Edit;
 /// How many characters that an edit took out are looked at for a line feed.
 const FEW: usize = 80;
 
-/// What has become of a text's rows, from the line on that starts at a position.
+/// What has become of a text's rows, from the first line on that is shown.
 #[derive(Clone, Copy)]
 pub(crate) enum Change {
-    /// The text is the same.
+    /// They show the same, though they may lie elsewhere in the text.
     Nothing,
     /// One line alone is another one: it is so many lines further down.
     Line(usize),
@@ -42,16 +41,39 @@ fn fits(at: usize, removed: usize, added: usize, size: usize, len: usize) -> boo
     added <= len && at <= len - added && removed <= size && len - added == size - removed
 }
 
-/// What an edit made of a text that has now these characters and had `size` of them. Line `above` starts at `start`.
-fn change_by<T: Text>(edit: &Edit, text: &T, start: usize, above: usize, size: usize) -> Change
+/// Whether an edit lies before what is shown of a text, and moved its start from one position to another.
+fn lies_before(at: usize, removed: usize, added: usize, from: usize, start: usize) -> bool
+    ensures old { result ≡ true → at + removed ≤ from }
+    ensures new { result ≡ true → start + removed ≡ from + added }
+{
+    removed <= from && at <= from - removed && added <= start && start - added == from - removed
+}
+
+/// What an edit made of a text that has now these characters and had `size` of them. What is shown of it began at `from`, and begins at
+/// `start` now, with line `above`.
+fn change_by<T: Text>(
+    edit: &Edit,
+    text: &T,
+    from: usize,
+    start: usize,
+    above: usize,
+    size: usize,
+) -> Change
     requires { line_of (T.text text.now) start ≡ above }
-    ensures { (old new : Buffer) (serial : ℕ) (e : IsEditedOnce old new) → e.item ≡ item_of serial edit.now → new.text ≡ T.text text.now → length old.text ≡ size → IsChange result start old.text (T.text text.now) }
+    ensures { IsChangeBy edit.now from start size (T.text text.now) result }
 {
     let len = text.len();
-    if edit.at < start {
+    let removed = edit.removed.len();
+    if !fits(edit.at, removed, edit.added, size, len) {
         return Change::Anything;
     }
-    if !fits(edit.at, edit.removed.len(), edit.added, size, len) {
+    if lies_before(edit.at, removed, edit.added, from, start) {
+        return Change::Nothing;
+    }
+    if from != start {
+        return Change::Anything;
+    }
+    if edit.at < start {
         return Change::Anything;
     }
     if !is_in_line(&edit.removed) {
@@ -64,28 +86,71 @@ fn change_by<T: Text>(edit: &Edit, text: &T, start: usize, above: usize, size: u
     Change::Line(line - above)
 }
 
-/// What has become of a buffer's text since it had this serial and so many characters.
+/// A tab stop, where it lies no further than an edit.
+fn stop_before(edit: &Edit, stop: TabStop) -> Option<TabStop>
+    ensures { (text : List ℕ) → (stop.place ≤ edit.now.at → IsTabStop text stop.place stop.column) → IsKnown text result }
+{
+    if edit.at < stop.place {
+        None
+    } else {
+        Some(stop)
+    }
+}
+
+/// What has become of the rows of a text that is the same, and is shown from this position and not from that one.
+fn change_of_place(from: usize, start: usize) -> Change
+    ensures { (text : List ℕ) → IsChange result from start text text }
+{
+    if from == start {
+        Change::Nothing
+    } else {
+        Change::Anything
+    }
+}
+
+/// The tab stop that was known of a text when it was drawn earlier, where no edit since lies before it.
+pub(crate) fn stop_since<T: Marked + Drop>(found: &Found<T>, earlier: &Earlier) -> Option<TabStop>
+    ensures { IsStopSince earlier.now (marked_at found.now.name found.now.all).buffer result }
+{
+    let stop = TabStop {
+        place: earlier.stop,
+        column: earlier.stop_column,
+    };
+    let serial = found.serial();
+    if serial == earlier.serial {
+        return Some(stop);
+    }
+    if serial < earlier.serial || serial - earlier.serial > 1 {
+        return None;
+    }
+    match found.item(serial) {
+        Some(edit) => stop_before(edit, stop),
+        None => None,
+    }
+}
+
+/// What has become of the rows of a buffer's text since it was drawn earlier.
 pub(crate) fn change_since<T: Marked + Drop>(
     found: &Found<T>,
     text: &T,
     drawn: &DrawnText,
     above: usize,
-    serial: u64,
-    size: usize,
+    earlier: &Earlier,
 ) -> Change
     requires text { T.text text.now ≡ (marked_at found.now.name found.now.all).buffer.text }
     requires serial { drawn.now.serial ≡ (marked_at found.now.name found.now.all).buffer.serial }
     requires above { line_of (T.text text.now) drawn.now.start ≡ above }
-    ensures { (old : Buffer) → old.serial ≡ serial → length old.text ≡ size → Follows old (marked_at found.now.name found.now.all).buffer → IsChange result drawn.now.start old.text (T.text text.now) }
+    ensures { IsChangeSince earlier.now drawn.now.start (marked_at found.now.name found.now.all).buffer (T.text text.now) result }
 {
+    let serial = earlier.serial;
     if drawn.serial == serial {
-        return Change::Nothing;
+        return change_of_place(earlier.start, drawn.start);
     }
     if drawn.serial < serial || drawn.serial - serial > 1 {
         return Change::Anything;
     }
     match found.item(drawn.serial) {
-        Some(edit) => change_by(edit, text, drawn.start, above, size),
+        Some(edit) => change_by(edit, text, earlier.start, drawn.start, above, earlier.size),
         None => Change::Anything,
     }
 }

@@ -1,11 +1,14 @@
 // The last row of a screen, and the cursor.
-ghost use Rattle.std.specs.Prelude.{◌≡◌, ◌+◌, ◌<◌, [], None};
-ghost use Rattle.mgs_model.specs.Rows.{is_silent};
+ghost use Rattle.std.specs.Prelude.{◌≡◌, ◌+◌, ◌<◌, ℕ, [], ◌∷◌, None, true, length, count_by};
+ghost use Rattle.mgs_model.specs.Picture.{Picture};
+ghost use Rattle.mgs_model.specs.Rows.{is_silent, plain_row, rows_put};
+ghost use Rattle.mgs_model.specs.declared.message.Message.TheVariants.{Silent};
 ghost use Rattle.mgs_model.specs.declared.session.Mode.TheVariants.{Plain};
+ghost use Rattle.mgs_grid.specs.RowSets.{AreIn, AreSameApart};
 ghost use Rattle.mgs_world.specs.Worlds.{input_in, mode_in, own_of};
-ghost use Rattle.mgs_screen.specs.Screens.{prompt_drawn, last_row_drawn, row_in_mode, search_drawn};
+ghost use Rattle.mgs_screen.specs.Screens.{is_ink, prompt_drawn, last_row_drawn, row_in_mode, search_drawn};
 
-use mgs_grid::Grid;
+use mgs_grid::{Grid, Line, RowSet};
 use mgs_mini::Prompt;
 use mgs_model::Message;
 use mgs_session::{Aim, Own};
@@ -77,7 +80,7 @@ fn draw_prompted(
 
 /// Draws the last row: where nothing is told, the line of the search that goes on, or of the prompt where there is one, and
 /// else the echo text. Puts the cursor behind the line of a prompt, and else at the point.
-pub(crate) fn draw_last_row(own: &Own, row: usize, point: (usize, usize), grid: &mut Grid)
+fn draw_last_row(own: &Own, row: usize, point: (usize, usize), grid: &mut Grid)
     requires last { row + 1 ≡ grid.old.rows }
     requires row { point.0 < grid.old.rows }
     requires col { point.1 < grid.old.cols }
@@ -93,4 +96,71 @@ pub(crate) fn draw_last_row(own: &Own, row: usize, point: (usize, usize), grid: 
         }
         None => draw_prompted(&own.prompt, &own.echo, row, point, grid),
     }
+}
+
+/// Whether no prompt waits, and nothing is told.
+fn is_unprompted(prompt: &Option<Prompt>, echo: &Message) -> bool
+    ensures { result ≡ true → (mode_in None prompt.now ≡ Plain) × (input_in None prompt.now ≡ []) × (echo.now ≡ Silent) }
+{
+    match prompt {
+        Some(_) => false,
+        None => is_silent(echo),
+    }
+}
+
+/// Whether nothing is told, no search goes on and no prompt waits: the last row is blank, and the cursor is at the point.
+fn is_at_rest(own: &Own) -> bool
+    ensures { result ≡ true → (row : ℕ) (point : ℕ × ℕ) (p : Picture) → last_row_drawn (own_of own.now) row point p ≡ row_in_mode Plain [] Silent row point p }
+{
+    match &own.search {
+        Some(_) => false,
+        None => is_unprompted(&own.prompt, &own.echo),
+    }
+}
+
+/// Whether characters are all blanks.
+fn has_no_ink(cells: &[char]) -> bool
+    ensures { result ≡ true → count_by is_ink cells.now ≡ 0 }
+{
+    cells.iter().filter(|c| **c != ' ').count() == 0
+}
+
+/// Whether a row shows plain blanks.
+fn is_blank(line: &Line) -> bool
+    ensures { result ≡ true → line.now ≡ plain_row (length line.now.text) [] }
+{
+    !line.is_reversed() && has_no_ink(line.text())
+}
+
+/// Whether a row of a screen shows plain blanks.
+fn is_blank_at(row: usize, grid: &Grid) -> bool
+    requires { row < grid.now.rows }
+    ensures { result ≡ true → rows_put row (plain_row grid.now.cols [] ∷ []) grid.now.lines ≡ grid.now.lines }
+{
+    let _rows = grid.rows();
+    is_blank(&grid.lines()[row])
+}
+
+/// Draws the last row, and notes that it was drawn. Where it is to be blank and is so, the cursor alone is put.
+pub(crate) fn redraw_last_row(
+    own: &Own,
+    row: usize,
+    point: (usize, usize),
+    rows: &mut RowSet,
+    grid: &mut Grid,
+)
+    requires last { row + 1 ≡ grid.old.rows }
+    requires row { point.0 < grid.old.rows }
+    requires col { point.1 < grid.old.cols }
+    ensures grid { grid.new ≡ last_row_drawn (own_of own.now) row point grid.old }
+    ensures rows { AreIn rows.old rows.new }
+    ensures apart { AreSameApart rows.new grid.old.lines grid.new.lines }
+{
+    let _rows = grid.rows();
+    if is_at_rest(own) && is_blank_at(row, grid) {
+        grid.set_cursor(point.0, point.1);
+        return;
+    }
+    draw_last_row(own, row, point, grid);
+    rows.insert(row);
 }

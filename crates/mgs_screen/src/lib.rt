@@ -8,6 +8,7 @@ mod measuring;
 mod redrawing;
 mod screen;
 mod sketch;
+mod tab_stops;
 
 pub use listing::{draw_entries, draw_listing};
 pub use screen::redraw_session;

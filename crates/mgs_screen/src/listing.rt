@@ -1,5 +1,5 @@
 // What a window shows in place of a text, drawn into its rows: nothing, the listing of all buffers, or an access list.
-ghost use Rattle.std.specs.Prelude.{◌≡◌, ℕ, ◌+◌, ◌<◌, ◌≤◌, ◌^◌, [], ◌∷◌, ◌++◌, Bool, List, map, length, decimal, codes};
+ghost use Rattle.std.specs.Prelude.{◌≡◌, ◌+◌, ◌<◌, ◌≤◌, ◌^◌, [], ◌∷◌, ◌++◌, Bool, map, length, decimal, codes};
 ghost use Rattle.std.specs.Option.{option_map};
 ghost use Rattle.mgs_model.specs.Rows.{rows_put, cause_text, blank_rows, mode_row, none_mode};
 ghost use Rattle.mgs_model.specs.Seen.{if_granted};
@@ -7,7 +7,7 @@ ghost use Rattle.mgs_model.specs.Draw.{pane_rows, listing_text, entry_text, entr
 ghost use Rattle.mgs_buffers.specs.MarkedBuffer.{HasBuffer, marked_at};
 ghost use Rattle.mgs_buffers.specs.Judging.{AreJudged, rules_kept};
 ghost use Rattle.mgs_buffers.specs.Told.{attributes_read};
-ghost use Rattle.mgs_screen.specs.Listings.{listing_to, entries_to, rows_to, entries_told, name_to, place_in, row_drawn, buffer_drawn, drawn, listed};
+ghost use Rattle.mgs_screen.specs.Listings.{listing_to, entries_to, rows_to, entries_told, name_to, place_in, past_sight, row_drawn, buffer_drawn, drawn, listed};
 
 use mgs_acl::{Entry, print_entry};
 use mgs_buffers::{Attributes, Buffers, Found};
@@ -36,6 +36,13 @@ fn place_in(sight: Sight, number: usize) -> Option<usize>
     } else {
         None
     }
+}
+
+/// Whether the row of a number is below those in sight, and with it each row after it.
+fn is_past(sight: Sight, number: usize) -> bool
+    ensures { result ≡ past_sight sight.height sight.row number }
+{
+    sight.row <= number && sight.height <= number - sight.row
 }
 
 /// Draws a row of the listing, where it is in sight.
@@ -77,7 +84,7 @@ fn draw_buffer(
     }
 }
 
-/// Draws the rows of the listing.
+/// Draws the rows of the listing, down to the last one in sight.
 fn draw_buffers<T: Marked + Drop>(
     buffers: &Buffers<T>,
     judge: &mut Judge,
@@ -95,6 +102,10 @@ fn draw_buffers<T: Marked + Drop>(
     grid.draw_blank(sight.first, sight.height);
     let mut number = 0;
     for i in 0..buffers.len() {
+        // No further row is in sight.
+        if is_past(sight, number) {
+            break;
+        }
         let attributes = buffers.attributes(judge, directory, user, i);
         number = draw_buffer(attributes, number, sight, grid);
     }
@@ -137,7 +148,7 @@ fn draw_entry(entry: &Entry, i: usize, sight: Sight, grid: &mut Grid)
     }
 }
 
-/// Draws the rows of an access list that may be read.
+/// Draws the rows of an access list that may be read, down to the last one in sight.
 fn draw_list(entries: &[Entry], sight: Sight, grid: &mut Grid)
     requires { sight.first + sight.height ≤ grid.old.rows }
     ensures { grid.new ≡ drawn sight.first sight.height sight.row (entries_texts 1 entries.now) grid.old }
@@ -145,6 +156,10 @@ fn draw_list(entries: &[Entry], sight: Sight, grid: &mut Grid)
     let _rows = grid.rows();
     grid.draw_blank(sight.first, sight.height);
     for (i, entry) in entries.iter().enumerate() {
+        // No further row is in sight.
+        if is_past(sight, i) {
+            break;
+        }
         draw_entry(entry, i, sight, grid);
     }
 }

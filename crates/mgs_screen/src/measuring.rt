@@ -4,9 +4,10 @@ ghost use Rattle.mgs_model.specs.Lines.{line_of, start_of};
 ghost use Rattle.mgs_model.specs.Rows.{shift_for};
 ghost use Rattle.mgs_marks.specs.Marks.{mark_in, position_in};
 ghost use Rattle.mgs_screen.specs.Screens.{IsMeasured, screen_shift};
+ghost use Rattle.mgs_screen.specs.TabStops.{IsKnown, IsTabStop};
 
+use crate::tab_stops::{TabStop, cells_to, first_stop, near_stop};
 use mgs_grid::shift_for;
-use mgs_lines::column;
 use mgs_marks::Marked;
 use mgs_windows::WindowMarks;
 
@@ -27,6 +28,10 @@ pub(crate) struct Measures {
     pub(crate) shift: usize,
     /// The cursor's column on the screen.
     pub(crate) col: usize,
+    /// A tab stop in the point's line.
+    pub(crate) stop: usize,
+    /// The column of that.
+    pub(crate) stop_column: usize,
 }
 
 /// From which column the point's line is shown, and where the cursor then is. Only the selected window is shifted.
@@ -45,17 +50,21 @@ fn shifted(cols: usize, column: usize, selected: bool) -> (usize, usize)
     }
 }
 
-/// What a window measures of a text. Only the selected window shifts the point's line.
+/// What a window measures of a text. Only the selected window shifts the point's line. Columns are counted from the tab stop that is known,
+/// where it lies before the point in its line.
 pub(crate) fn measure<T: Marked>(
     text: &T,
     window_marks: &WindowMarks,
     selected: bool,
     cols: usize,
+    known: Option<TabStop>,
 ) -> Measures
     requires point { IsSome (mark_in (T.marks text.now) window_marks.now.point) }
     requires top { IsSome (mark_in (T.marks text.now) window_marks.now.top) }
     requires short { length (T.text text.now) ≤ 1048576 }
     requires cols { 20 ≤ cols }
+    requires narrow { cols < 2 ^ 32 }
+    requires known { IsKnown (T.text text.now) known }
     ensures is { IsMeasured (T.text text.now) (position_in (T.marks text.now) window_marks.now.point) (position_in (T.marks text.now) window_marks.now.top) result.line result.row result.column result.start }
     ensures shift { result.shift ≡ screen_shift selected cols result.column }
     ensures cursor { selected ≡ true → result.col ≡ result.column - shift_for cols result.column }
@@ -65,12 +74,16 @@ pub(crate) fn measure<T: Marked>(
     ensures few { result.line ≤ 1048576 }
     ensures near { result.shift < 2 ^ 62 }
     ensures col { result.col < cols }
+    ensures stop { IsTabStop (T.text text.now) result.stop result.stop_column }
 {
     let point = text.pos(window_marks.point);
     let top = text.pos(window_marks.top);
     let line = text.line_of(point);
     let above = text.line_of(top);
-    let column = column(text, point);
+    let line_start = text.start_of(line);
+    let first = first_stop(known, line_start, point);
+    let stop = near_stop(text, line_start, first, point, cols);
+    let column = cells_to(text, line_start, stop, point);
     let (shift, col) = shifted(cols, column, selected);
     Measures {
         above,
@@ -80,5 +93,7 @@ pub(crate) fn measure<T: Marked>(
         row: line.saturating_sub(above),
         shift,
         col,
+        stop: stop.place,
+        stop_column: stop.column,
     }
 }

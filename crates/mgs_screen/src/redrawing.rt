@@ -7,10 +7,12 @@ ghost use Rattle.mgs_buffers.specs.MarkedBuffer.{HasBuffer, marked_at};
 ghost use Rattle.mgs_grid.specs.Panes.{AreSameBut};
 ghost use Rattle.mgs_grid.specs.RowSets.{AreIn, AreSameApart};
 ghost use Rattle.mgs_screen.specs.Changes.{IsChange, IsLineEdited};
-ghost use Rattle.mgs_screen.specs.Sketches.{AreStandingFrom, DoesShow, rows_at, showing};
+ghost use Rattle.mgs_screen.specs.Sketches.{DoesShow, MayStand, rows_at, showing};
+ghost use Rattle.mgs_screen.specs.TabStops.{IsTabStop};
 
 use crate::change::{Change, change_since};
-use crate::sketch::{DrawnText, Earlier, Sketch};
+use crate::sketch::{DrawnText, Earlier};
+use crate::tab_stops::{TabStop, begin_at};
 use mgs_buffers::Found;
 use mgs_grid::{Grid, RowSet};
 use mgs_marks::Marked;
@@ -38,7 +40,8 @@ fn draw_rows_of<T: Text>(text: &T, drawn: &DrawnText, rows: &mut RowSet, grid: &
     rows.insert_rows(drawn.first, drawn.height);
 }
 
-/// Draws one row of a text, whose first row shows line `above`, from a column. Where it is out of sight there is nothing to draw.
+/// Draws one row of a text, whose first row shows line `above`, from a column. Where it is out of sight there is nothing to draw. A row
+/// of the point's line is drawn from its tab stop.
 fn draw_row_of<T: Text>(
     text: &T,
     drawn: &DrawnText,
@@ -52,6 +55,7 @@ fn draw_row_of<T: Text>(
     requires short { length (T.text text.now) < 2 ^ 32 }
     requires few { above < 2 ^ 32 }
     requires start { start_of above (T.text text.now) ≡ drawn.now.start }
+    requires stop { IsTabStop (T.text text.now) drawn.now.stop drawn.now.stop_column }
     requires shift { shift < 2 ^ 62 }
     ensures grid { (top from : ℕ) (olds : List Row) → shift ≡ shift_at top from row → rows_at drawn.now.first drawn.now.height grid.old.lines ≡ olds → AreSameBut row olds (text_rows grid.old.cols (shift_at top from) 0 drawn.now.height (drop drawn.now.start (T.text text.now))) → grid.new ≡ showing drawn.now top from (T.text text.now) grid.old }
     ensures size { grid.new.rows ≡ grid.old.rows }
@@ -62,8 +66,12 @@ fn draw_row_of<T: Text>(
     if row >= drawn.height {
         return;
     }
-    let start = text.start_of(above + row);
-    grid.draw_text_row(drawn.first + row, text, start, shift);
+    let stop = TabStop {
+        place: drawn.stop,
+        column: drawn.stop_column,
+    };
+    let begin = begin_at(text, above + row, shift, stop);
+    grid.draw_text_row(drawn.first + row, text, begin.place, begin.shift);
     rows.insert(drawn.first + row);
 }
 
@@ -82,6 +90,7 @@ fn shift_row<T: Text>(
     requires short { length (T.text text.now) < 2 ^ 32 }
     requires few { above < 2 ^ 32 }
     requires start { start_of above (T.text text.now) ≡ drawn.now.start }
+    requires stop { IsTabStop (T.text text.now) drawn.now.stop drawn.now.stop_column }
     requires shift { to < 2 ^ 62 }
     ensures grid { DoesShow drawn.now row from (T.text text.now) grid.old → grid.new ≡ showing drawn.now row to (T.text text.now) grid.old }
     ensures size { grid.new.rows ≡ grid.old.rows }
@@ -109,6 +118,7 @@ fn shift_rows<T: Text>(
     requires short { length (T.text text.now) < 2 ^ 32 }
     requires few { above < 2 ^ 32 }
     requires start { start_of above (T.text text.now) ≡ drawn.now.start }
+    requires stop { IsTabStop (T.text text.now) drawn.now.stop drawn.now.stop_column }
     requires shift { drawn.now.shift < 2 ^ 62 }
     ensures grid { DoesShow drawn.now row shift (T.text text.now) grid.old → grid.new ≡ showing drawn.now drawn.now.row drawn.now.shift (T.text text.now) grid.old }
     ensures rows { AreIn rows.old rows.new }
@@ -148,8 +158,9 @@ fn draw_line_of<T: Text>(
     requires short { length (T.text text.now) < 2 ^ 32 }
     requires few { above < 2 ^ 32 }
     requires start { start_of above (T.text text.now) ≡ drawn.now.start }
+    requires stop { IsTabStop (T.text text.now) drawn.now.stop drawn.now.stop_column }
     requires shift { drawn.now.shift < 2 ^ 62 }
-    ensures grid { (old : List ℕ) → DoesShow drawn.now row shift old grid.old → IsLineEdited down drawn.now.start old (T.text text.now) → grid.new ≡ showing drawn.now row result (T.text text.now) grid.old }
+    ensures grid { (from : ℕ) (old : List ℕ) → DoesShow (record drawn.now { start = from }) row shift old grid.old → IsLineEdited down from drawn.now.start old (T.text text.now) → grid.new ≡ showing drawn.now row result (T.text text.now) grid.old }
     ensures size { grid.new.rows ≡ grid.old.rows }
     ensures rows { AreIn rows.old rows.new }
     ensures apart { AreSameApart rows.new grid.old.lines grid.new.lines }
@@ -178,8 +189,9 @@ fn redraw_rows<T: Text>(
     requires short { length (T.text text.now) < 2 ^ 32 }
     requires few { above < 2 ^ 32 }
     requires start { start_of above (T.text text.now) ≡ drawn.now.start }
+    requires stop { IsTabStop (T.text text.now) drawn.now.stop drawn.now.stop_column }
     requires shift { drawn.now.shift < 2 ^ 62 }
-    ensures grid { (old : List ℕ) → DoesShow drawn.now earlier.now.row earlier.now.shift old grid.old → IsChange change drawn.now.start old (T.text text.now) → grid.new ≡ showing drawn.now drawn.now.row drawn.now.shift (T.text text.now) grid.old }
+    ensures grid { (old : List ℕ) → DoesShow (record drawn.now { start = earlier.now.start }) earlier.now.row earlier.now.shift old grid.old → IsChange change earlier.now.start drawn.now.start old (T.text text.now) → grid.new ≡ showing drawn.now drawn.now.row drawn.now.shift (T.text text.now) grid.old }
     ensures rows { AreIn rows.old rows.new }
     ensures apart { AreSameApart rows.new grid.old.lines grid.new.lines }
 {
@@ -211,13 +223,11 @@ pub(crate) fn redraw_pane<T: Marked + Drop>(
     text: &T,
     drawn: &DrawnText,
     above: usize,
-    index: usize,
-    sketch: &Sketch,
+    earlier: &Option<Earlier>,
     rows: &mut RowSet,
     grid: &mut Grid,
 )
     requires kept { HasBuffer found.now.name found.now.all }
-    requires name { drawn.now.name ≡ found.now.name }
     requires text { T.text text.now ≡ (marked_at found.now.name found.now.all).buffer.text }
     requires serial { drawn.now.serial ≡ (marked_at found.now.name found.now.all).buffer.serial }
     requires room { drawn.now.first + drawn.now.height ≤ grid.old.rows }
@@ -226,15 +236,16 @@ pub(crate) fn redraw_pane<T: Marked + Drop>(
     requires shift { drawn.now.shift < 2 ^ 62 }
     requires above { line_of (T.text text.now) drawn.now.start ≡ above }
     requires start { start_of above (T.text text.now) ≡ drawn.now.start }
-    requires stands { AreStandingFrom drawn.now.first (buffers_of found.now.all) grid.old sketch.now }
+    requires stop { IsTabStop (T.text text.now) drawn.now.stop drawn.now.stop_column }
+    requires stands { MayStand (buffers_of found.now.all) grid.old found.now.name drawn.now.first drawn.now.height earlier.now }
     ensures grid { grid.new ≡ showing drawn.now drawn.now.row drawn.now.shift (T.text text.now) grid.old }
     ensures rows { AreIn rows.old rows.new }
     ensures apart { AreSameApart rows.new grid.old.lines grid.new.lines }
 {
-    let Some(earlier) = sketch.drawn(index, drawn) else {
+    let Some(earlier) = earlier else {
         draw_rows_of(text, drawn, rows, grid);
         return;
     };
-    let change = change_since(found, text, drawn, above, earlier.serial, earlier.size);
-    redraw_rows(change, text, drawn, above, &earlier, rows, grid);
+    let change = change_since(found, text, drawn, above, earlier);
+    redraw_rows(change, text, drawn, above, earlier, rows, grid);
 }

@@ -1,21 +1,23 @@
 // The screen of a session, drawn into a grid that is there.
-ghost use Rattle.std.specs.Prelude.{◌≡◌, ◌+◌, ◌<◌, ◌≤◌, ℕ, true, List, Option, None, Some};
+ghost use Rattle.std.specs.Prelude.{◌≡◌, ◌+◌, ◌<◌, ◌≤◌, ℕ, true, List, [], ◌∷◌, Option, None, Some, IfSome};
 ghost use Rattle.mgs_model.specs.Draw.{screen, window_rows, window_cursor};
-ghost use Rattle.mgs_model.specs.Rows.{rows_put};
+ghost use Rattle.mgs_model.specs.Rows.{rows_put, mode_row, buffer_mode};
 ghost use Rattle.mgs_session.specs.declared.Session.{Session};
 ghost use Rattle.mgs_world.specs.Worlds.{buffers_of, world_of, session_of};
 ghost use Rattle.mgs_world.specs.Sound.{IsSessionSound, IsWindowSound};
 ghost use Rattle.mgs_buffers.specs.Judging.{AreJudged, rules_kept};
-ghost use Rattle.mgs_buffers.specs.MarkedBuffer.{IsMark, marked_at};
+ghost use Rattle.mgs_buffers.specs.MarkedBuffer.{HasBuffer, IsMark, marked_at};
 ghost use Rattle.mgs_grid.specs.RowSets.{has_row, AreIn, AreSameApart};
 ghost use Rattle.mgs_screen.specs.Screens.{window_to, heading_to, window_marks_rows, window_marks_cursor};
-ghost use Rattle.mgs_screen.specs.Sketches.{AreStanding, AreStandingAbove, AreStandingFrom, pushed};
+ghost use Rattle.mgs_screen.specs.Sketches.{AreStanding, AreStandingAbove, AreStandingFrom, DoesShowMode, IsStopOf, heading_of, mode_text, pushed};
 
-use crate::last_row::draw_last_row;
+use crate::change::stop_since;
+use crate::last_row::redraw_last_row;
 use crate::listing::draw_rows;
 use crate::measuring::measure;
 use crate::redrawing::redraw_pane;
-use crate::sketch::{DrawnText, Sketch};
+use crate::sketch::{DrawnText, Earlier, ModeLine, Sketch};
+use crate::tab_stops::TabStop;
 use mgs_buffers::{Buffers, Found};
 use mgs_cache::Judge;
 use mgs_grid::{Grid, RowSet};
@@ -52,6 +54,85 @@ fn heading<T: Marked + Drop>(
     }
 }
 
+/// The tab stop that is known of a text that was drawn earlier.
+fn known_stop<T: Marked + Drop>(found: &Found<T>, earlier: &Option<Earlier>) -> Option<TabStop>
+    requires { HasBuffer found.now.name found.now.all }
+    ensures { IsStopOf (buffers_of found.now.all) found.now.name earlier.now (marked_at found.now.name found.now.all).buffer.text result }
+{
+    match earlier {
+        Some(earlier) => stop_since(found, earlier),
+        None => None,
+    }
+}
+
+/// What the mode line of a buffer of this name is drawn from.
+fn mode_of(heading: Option<(Name, bool)>, name: &Name, line: usize, column: usize) -> ModeLine
+    ensures { mode_text result ≡ buffer_mode heading (Some (line, column)) }
+{
+    match heading {
+        Some((name, modified)) => ModeLine {
+            tells: true,
+            name,
+            modified,
+            line,
+            column,
+        },
+        None => ModeLine {
+            tells: false,
+            name: *name,
+            modified: false,
+            line,
+            column,
+        },
+    }
+}
+
+/// The buffer's name and flag in a mode line.
+fn heading_of(mode: &ModeLine) -> Option<(Name, bool)>
+    ensures { result ≡ heading_of mode.now }
+{
+    if mode.tells {
+        Some((mode.name, mode.modified))
+    } else {
+        None
+    }
+}
+
+/// Whether two mode lines are drawn from the same.
+fn is_same_mode(a: &ModeLine, b: &ModeLine) -> bool
+    ensures { result ≡ true → a.now ≡ b.now }
+{
+    a.line == b.line
+        && a.column == b.column
+        && a.tells == b.tells
+        && a.modified == b.modified
+        && a.name == b.name
+}
+
+/// Draws the mode line of a text that may be read, where it is not there already.
+fn redraw_mode(
+    mode: &ModeLine,
+    earlier: &Option<Earlier>,
+    row: usize,
+    rows: &mut RowSet,
+    grid: &mut Grid,
+)
+    requires room { row < grid.old.rows }
+    requires stands { IfSome earlier.now (λ e. DoesShowMode row e.mode grid.old) }
+    ensures grid { grid.new ≡ record grid.old { lines = rows_put row (mode_row grid.old.cols (mode_text mode.now) ∷ []) grid.old.lines } }
+    ensures more { AreIn rows.old rows.new }
+    ensures apart { AreSameApart rows.new grid.old.lines grid.new.lines }
+{
+    let _rows = grid.rows();
+    if let Some(earlier) = earlier {
+        if is_same_mode(&earlier.mode, mode) {
+            return;
+        }
+    }
+    grid.draw_mode(row, heading_of(mode), Some((mode.line, mode.column)));
+    rows.insert(row);
+}
+
 /// Draws a text that may be read, and its mode line. Tells where the cursor is, from the window's first cell, if the window is the
 /// selected one.
 fn redraw_text<T: Marked + Drop>(
@@ -83,9 +164,13 @@ fn redraw_text<T: Marked + Drop>(
 {
     let cols = grid.cols();
     let text = found.text();
-    let measures = measure(text, window_marks, place.selected, cols);
+    let name = found.name();
+    let earlier = sketch.drawn(place.index, name, place.first, height);
+    let known = known_stop(found, &earlier);
+    let measures = measure(text, window_marks, place.selected, cols, known);
+    let mode = mode_of(heading, name, measures.line + 1, measures.column);
     let drawn = DrawnText {
-        name: *found.name(),
+        name: *name,
         serial: found.serial(),
         size: text.len(),
         start: measures.start,
@@ -93,23 +178,12 @@ fn redraw_text<T: Marked + Drop>(
         height,
         row: measures.row,
         shift: measures.shift,
+        stop: measures.stop,
+        stop_column: measures.stop_column,
+        mode,
     };
-    redraw_pane(
-        found,
-        text,
-        &drawn,
-        measures.above,
-        place.index,
-        sketch,
-        rows,
-        grid,
-    );
-    grid.draw_mode(
-        place.first + height,
-        heading,
-        Some((measures.line + 1, measures.column)),
-    );
-    rows.insert(place.first + height);
+    redraw_pane(found, text, &drawn, measures.above, &earlier, rows, grid);
+    redraw_mode(&mode, &earlier, place.first + height, rows, grid);
     texts.push_text(&drawn);
     (measures.row.min(height - 1), measures.col)
 }
@@ -245,8 +319,7 @@ pub fn redraw_session<T: Marked + Drop>(
         }
         first += window.height + 1;
     }
-    draw_last_row(&session.own, first, cursor, grid);
-    rows.insert(first);
+    redraw_last_row(&session.own, first, cursor, &mut rows, grid);
     *sketch = texts;
     rows
 }

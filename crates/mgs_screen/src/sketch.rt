@@ -1,10 +1,25 @@
 // Which texts a screen shows, and as of which edits.
 ghost use Rattle.std.specs.Prelude.{◌≡◌, ◌<◌, ◌++◌, ◌∷◌, [], length, Some, None, IfSome, slice_get};
-ghost use Rattle.mgs_screen.specs.Sketches.{pushed};
+ghost use Rattle.mgs_screen.specs.Sketches.{pushed, text_then};
 
 use arrayvec::ArrayVec;
 use mgs_model::Name;
 use std::marker::Model;
+
+/// What a mode line is drawn from.
+#[derive(Clone, Copy)]
+pub(crate) struct ModeLine {
+    /// Whether the buffer's name and flag may be told.
+    pub(crate) tells: bool,
+    /// The buffer's name.
+    pub(crate) name: Name,
+    /// Whether the buffer is modified.
+    pub(crate) modified: bool,
+    /// The point's line, from 1.
+    pub(crate) line: usize,
+    /// The point's column.
+    pub(crate) column: usize,
+}
 
 /// A text that was drawn.
 #[derive(Clone, Copy)]
@@ -25,19 +40,33 @@ pub struct DrawnText {
     pub(crate) row: usize,
     /// From which column that row is shown. The others are shown from column 0.
     pub(crate) shift: usize,
+    /// A tab stop in the point's line, from which its columns are counted next.
+    pub(crate) stop: usize,
+    /// The column of that.
+    pub(crate) stop_column: usize,
+    /// What the mode line was drawn from.
+    pub(crate) mode: ModeLine,
 }
 
-/// What is not the same in a text that was drawn earlier in the same rows.
+/// A text that was drawn earlier, but for its name and its rows.
 #[derive(Clone, Copy)]
 pub(crate) struct Earlier {
     /// The serial of the buffer's last edit then.
     pub(crate) serial: u64,
     /// How many characters the text had then.
     pub(crate) size: usize,
+    /// Where the first line that was shown started.
+    pub(crate) start: usize,
     /// The row of the point's line then, from the first.
     pub(crate) row: usize,
     /// From which column that row was shown.
     pub(crate) shift: usize,
+    /// A tab stop in the point's line.
+    pub(crate) stop: usize,
+    /// The column of that.
+    pub(crate) stop_column: usize,
+    /// What the mode line was drawn from.
+    pub(crate) mode: ModeLine,
 }
 
 /// The texts that a screen shows, so that it can be drawn again in the rows alone that change: one for each window, from the top, or
@@ -56,9 +85,15 @@ impl Model for Sketch {
     ghost view = { λ s. s.texts.items };
 }
 
-/// The text in a place, as far as it may not be this one, if it lies in the same rows and starts at the same line.
-fn drawn_in(texts: &[Option<DrawnText>], index: usize, text: &DrawnText) -> Option<Earlier>
-    ensures { IfSome result (λ e. slice_get texts.now index ≡ Some (Some (record text.now { serial = e.serial; size = e.size; row = e.row; shift = e.shift }))) }
+/// The text in a place, if it is of this buffer and lies in these rows.
+fn drawn_in(
+    texts: &[Option<DrawnText>],
+    index: usize,
+    name: &Name,
+    first: usize,
+    height: usize,
+) -> Option<Earlier>
+    ensures { IfSome result (λ e. slice_get texts.now index ≡ Some (Some (text_then name.now first height e))) }
 {
     let Some(place) = texts.get(index) else {
         return None;
@@ -66,16 +101,16 @@ fn drawn_in(texts: &[Option<DrawnText>], index: usize, text: &DrawnText) -> Opti
     let Some(drawn) = place else {
         return None;
     };
-    if drawn.first == text.first
-        && drawn.height == text.height
-        && drawn.start == text.start
-        && drawn.name == text.name
-    {
+    if drawn.first == first && drawn.height == height && drawn.name == *name {
         Some(Earlier {
             serial: drawn.serial,
             size: drawn.size,
+            start: drawn.start,
             row: drawn.row,
             shift: drawn.shift,
+            stop: drawn.stop,
+            stop_column: drawn.stop_column,
+            mode: drawn.mode,
         })
     } else {
         None
@@ -96,6 +131,9 @@ fn put_text(texts: &mut ArrayVec<Option<DrawnText>, 8>, text: &DrawnText)
         height: text.height,
         row: text.row,
         shift: text.shift,
+        stop: text.stop,
+        stop_column: text.stop_column,
+        mode: text.mode,
     }));
 }
 
@@ -116,12 +154,17 @@ impl Sketch {
         self.texts.clear();
     }
 
-    /// The text that was drawn in the place of this index, as far as it may not be this one, if it was drawn in the same rows, and from
-    /// the same line's start on.
-    pub(crate) fn drawn(&self, index: usize, text: &DrawnText) -> Option<Earlier>
-        ensures { IfSome result (λ e. slice_get self.now index ≡ Some (Some (record text.now { serial = e.serial; size = e.size; row = e.row; shift = e.shift }))) }
+    /// The text that was drawn in the place of this index, if it was of this buffer, in these rows.
+    pub(crate) fn drawn(
+        &self,
+        index: usize,
+        name: &Name,
+        first: usize,
+        height: usize,
+    ) -> Option<Earlier>
+        ensures { IfSome result (λ e. slice_get self.now index ≡ Some (Some (text_then name.now first height e))) }
     {
-        drawn_in(self.texts.as_slice(), index, text)
+        drawn_in(self.texts.as_slice(), index, name, first, height)
     }
 
     /// A place more, for a text. Where there are eight already, nothing changes.

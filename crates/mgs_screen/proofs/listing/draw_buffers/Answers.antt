@@ -7,7 +7,7 @@ use Rattle.mgs_model.specs.Draw.{listing_text}
 use Rattle.mgs_buffers.specs.MarkedBuffer.{MarkedBuffer}
 use Rattle.mgs_buffers.specs.Told.{attributes_read}
 use Rattle.mgs_screen.specs.Listings.{buffer_drawn, drawn, listed}
-use Rattle.mgs_screen.proofs.Listings.{listed_more, buffer_more}
+use Rattle.mgs_screen.proofs.Listings.{listed_more, buffer_more, listing_past}
 use Rattle.mgs_screen.proofs.listing.draw_buffers.Goals as goal
 
 pub loop-i-preserved : goal.loop-i-preserved
@@ -37,3 +37,8 @@ loop-i-preserved g c =
       judged = c.attributes-attributes.ensures.judged;
       few = omega (arith, c.draw_buffer-number.ensures.few, c.loop-i.invariant.few);
     }
+
+pub returns-then-is_past-clause-grid : goal.returns-then-is_past-clause-grid
+returns-then-is_past-clause-grid g c =
+    c.loop-i.invariant.grid
+    ∙ listing_past c.args.sight.first c.args.sight.height c.args.sight.row c.loop-i.number c.loop-i.i c.args.directory.now c.args.user.now c.args.buffers.now c.args.grid.now c.loop-i.invariant.number (sym c.if-is_past.ensures)

@@ -1,9 +1,12 @@
-use Rattle.std.proofs.Common.{◌≡◌, ℕ, List, sym, ap, subst, ◌∙◌}
-use Rattle.mgs_model.specs.Lines.{line_of, line_start, start_of}
+use Rattle.std.proofs.Common.{◌≡◌, ℕ, List, length, sym, ap, subst, ◌∙◌, arith}
+use Rattle.std.specs.Prelude.{slice_range}
+use Rattle.mgs_model.specs.Cells.{cells}
+use Rattle.mgs_model.specs.Lines.{column, line_of, line_start, start_of}
 use Rattle.mgs_marks.specs.Marks.{or_zero, position_in}
 use Rattle.mgs_lines.proofs.Feeds.{start_of_line, line_of_start}
 use Rattle.mgs_screen.specs.Screens.{IsMeasured}
 use Rattle.mgs_screen.proofs.Drawings.{measured}
+use Rattle.mgs_screen.proofs.TabStops.{line_begins, stop_on}
 use Rattle.mgs_screen.proofs.measuring.measure.Goals as goal
 
 pub returns-clause-is : goal.returns-clause-is
@@ -14,10 +17,12 @@ returns-clause-is g c =
     let line : ℕ = c.line_of-line.result in
     let above : ℕ = c.line_of-above.result in
     let row : ℕ = c.saturating_sub.result in
-    let place : ℕ = c.column-column.result in
+    let place : ℕ = c.cells_to-column.result in
     let start : ℕ = c.start_of.result in
     let from : start ≡ line_start text top = c.start_of.ensures.value ∙ ap (λ (n : ℕ). start_of n text) c.line_of-above.ensures ∙ start_of_line text top c.pos-top.ensures.within in
-    let is : IsMeasured text point top line row place start = measured text point top line above row place start c.line_of-line.ensures c.line_of-above.ensures c.saturating_sub.ensures c.column-column.ensures.value from in
+    let here : c.start_of-line_start.result ≡ line_start text point = line_begins text c.line_of-line.result c.start_of-line_start.result point c.start_of-line_start.ensures.value c.line_of-line.ensures c.pos-point.ensures.within in
+    let counted : place ≡ column text point = c.cells_to-column.ensures.value ∙ ap (λ (n : ℕ). length (cells (slice_range text n point))) here in
+    let is : IsMeasured text point top line row place start = measured text point top line above row place start c.line_of-line.ensures c.line_of-above.ensures c.saturating_sub.ensures counted from in
     let marks = g.T.Text.marks c.args.text.now in
     subst (λ (n : ℕ). IsMeasured text (position_in marks c.args.window_marks.now.point) n line row place start) (sym (ap or_zero c.pos-top.ensures.value)) (
     subst (λ (n : ℕ). IsMeasured text n top line row place start) (sym (ap or_zero c.pos-point.ensures.value)) is)
@@ -28,3 +33,24 @@ returns-clause-above g c =
     let top : ℕ = c.pos-top.result in
     let from : c.start_of.result ≡ line_start text top = c.start_of.ensures.value ∙ ap (λ (n : ℕ). start_of n text) c.line_of-above.ensures ∙ start_of_line text top c.pos-top.ensures.within in
     ap (line_of text) from ∙ line_of_start text top c.pos-top.ensures.within ∙ sym c.line_of-above.ensures
+
+pub near_stop-stop-requires-clause-on : goal.near_stop-stop-requires-clause-on
+near_stop-stop-requires-clause-on g c =
+    let text : List ℕ = g.T.Text.text c.args.text.now in
+    let point : ℕ = c.pos-point.result in
+    let here : c.start_of-line_start.result ≡ line_start text point = line_begins text c.line_of-line.result c.start_of-line_start.result point c.start_of-line_start.ensures.value c.line_of-line.ensures c.pos-point.ensures.within in
+    c.first_stop-first.ensures.on text here c.pos-point.ensures.within c.requires.known
+
+pub near_stop-stop-requires-clause-order : goal.near_stop-stop-requires-clause-order
+near_stop-stop-requires-clause-order g c =
+    let text : List ℕ = g.T.Text.text c.args.text.now in
+    let point : ℕ = c.pos-point.result in
+    let here : c.start_of-line_start.result ≡ line_start text point = line_begins text c.line_of-line.result c.start_of-line_start.result point c.start_of-line_start.ensures.value c.line_of-line.ensures c.pos-point.ensures.within in
+    c.first_stop-first.ensures.before (omega (arith, here))
+
+pub returns-clause-stop : goal.returns-clause-stop
+returns-clause-stop g c =
+    let text : List ℕ = g.T.Text.text c.args.text.now in
+    let point : ℕ = c.pos-point.result in
+    let here : c.start_of-line_start.result ≡ line_start text point = line_begins text c.line_of-line.result c.start_of-line_start.result point c.start_of-line_start.ensures.value c.line_of-line.ensures c.pos-point.ensures.within in
+    stop_on text c.start_of-line_start.result point c.near_stop-stop.result.place c.near_stop-stop.result.column here c.pos-point.ensures.within c.near_stop-stop.ensures.before c.near_stop-stop.ensures.on

@@ -1,9 +1,12 @@
 use Rattle.std.proofs.Common.{◌+◌, ℕ, List, drop, ap, ◌∙◌, arith}
+use Rattle.mgs_model.specs.Lines.{start_of}
 use Rattle.mgs_model.specs.Picture.{Picture}
-use Rattle.mgs_model.specs.Rows.{text_rows, shift_at}
+use Rattle.mgs_model.specs.Rows.{Row, text_rows, shift_at}
 use Rattle.mgs_grid.proofs.Pictures.{length-text_rows}
+use Rattle.mgs_grid.proofs.Panes.{text_by_row}
 use Rattle.mgs_screen.proofs.Changes.{start_down}
 use Rattle.mgs_screen.proofs.Redrawn.{row_apart, but_one, out_of_sight}
+use Rattle.mgs_screen.proofs.TabRows.{row_same}
 use Rattle.mgs_screen.proofs.redrawing.draw_row_of.Goals as goal
 
 pub returns-clause-grid : goal.returns-clause-grid
@@ -11,18 +14,26 @@ returns-clause-grid g c = λ top from olds column stand same.
     let p : Picture = c.args.grid.now in
     let d = c.args.drawn.now in
     let text : List ℕ = g.T.Text.text c.args.text.now in
-    c.draw_text_row.ensures.pane c.args.row d.first d.height d.start top from
-    (but_one c.args.row d.first d.height d.start c.start_of-start.result top from c.args.shift text olds p c.rows-rows.ensures.picture.count c.requires.room c.if-row-drawn.false
-    (c.start_of-start.ensures.value ∙ start_down c.args.above c.args.row d.start text c.requires.start) column stand same)
+    let row : ℕ = c.args.row in
+    let at : ℕ = d.first + row in
+    let begin = c.begin_at-begin.result in
+    let start : ℕ = start_of (c.args.above + row) text in
+    let drawn = but_one row d.first d.height d.start start top from c.args.shift text olds p c.rows-rows.ensures.picture.count c.requires.room c.if-row-drawn.false
+    (start_down c.args.above row d.start text c.requires.start) column stand same in
+    c.draw_text_row.ensures.row
+    ∙ ap (λ (ls : List Row). record p { lines = ls }) (
+    row_same at begin.shift c.args.shift begin.place start text p (c.begin_at-begin.ensures.row p.cols)
+    ∙ text_by_row row at start c.args.shift d.first d.height text d.start top from p c.rows-rows.ensures.picture.count drawn)
 
 pub returns-clause-apart : goal.returns-clause-apart
 returns-clause-apart g c =
     let p : Picture = c.args.grid.now in
     let at : ℕ = c.args.drawn.now.first + c.args.row in
-    let rest : List ℕ = drop c.start_of-start.result (g.T.Text.text c.args.text.now) in
-    row_apart c.insert.new.self at (text_rows p.cols (shift_at 0 c.args.shift) 0 1 rest) p c.draw_text_row.new.self
+    let begin = c.begin_at-begin.result in
+    let rest : List ℕ = drop begin.place (g.T.Text.text c.args.text.now) in
+    row_apart c.insert.new.self at (text_rows p.cols (shift_at 0 begin.shift) 0 1 rest) p c.draw_text_row.new.self
     (ap (λ (q : Picture). q.lines) c.draw_text_row.ensures.row)
-    (length-text_rows p.cols (shift_at 0 c.args.shift) 0 1 rest)
+    (length-text_rows p.cols (shift_at 0 begin.shift) 0 1 rest)
     c.insert.ensures.put
     (omega (arith, c.requires.room, c.if-row-drawn.false, c.rows-rows.ensures.picture.count))
 

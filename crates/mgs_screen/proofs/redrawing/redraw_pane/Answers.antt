@@ -1,18 +1,20 @@
-use Rattle.std.proofs.Common.{◌≡◌, ◌≤◌, ℕ, List, length, take, sym, ap, subst, ◌∙◌, arith}
+use Rattle.std.proofs.Common.{◌≡◌, ◌≤◌, ℕ, List, length, take, sym, subst, ◌∙◌, arith}
 use Rattle.std.specs.List.{count_by}
+use Rattle.std.specs.Prelude.{Option, IfSome}
 use Rattle.std.proofs.lemmas.List.{length-take-le}
 use Rattle.std.proofs.lemmas.List.Sums.{count_by-le-length}
 use Rattle.std.proofs.lemmas.Option.{same_Some}
 use Rattle.mgs_model.specs.Apart.{Follows}
 use Rattle.mgs_model.specs.Lines.{is_feed}
 use Rattle.mgs_model.specs.Picture.{Picture}
-use Rattle.mgs_model.specs.World.{Buffer, find_buffer}
+use Rattle.mgs_model.specs.World.{Buffer}
 use Rattle.mgs_buffers.specs.MarkedBuffer.{MarkedBuffer, marked_at}
 use Rattle.mgs_world.specs.Worlds.{buffers_of}
 use Rattle.mgs_world.proofs.Found.{found_buffer}
 use Rattle.mgs_screen.specs.Changes.{IsChange}
-use Rattle.mgs_screen.specs.Sketches.{Stands}
+use Rattle.mgs_screen.specs.Sketches.{Stands, text_then}
 use Rattle.mgs_screen.specs.declared.sketch.DrawnText.{DrawnText}
+use Rattle.mgs_screen.specs.declared.sketch.Earlier.{Earlier}
 use Rattle.mgs_screen.proofs.redrawing.redraw_pane.Goals as goal
 
 pub returns-clause-grid : goal.returns-clause-grid
@@ -22,13 +24,13 @@ returns-clause-grid g c =
     let name : List ℕ = c.args.found.now.name in
     let d : DrawnText = c.args.drawn.now in
     let e = c.in-Some.earlier in
-    let then : DrawnText = record d { serial = e.serial; size = e.size; row = e.row; shift = e.shift } in
+    let then : DrawnText = text_then name d.first d.height e in
     let b : Buffer = (marked_at name ks).buffer in
     let text : List ℕ = g.T.Text.text c.args.text.now in
-    let s : Stands (buffers_of ks) p then = c.requires.stands.each c.args.index then c.in-Some.ensures (omega arith) in
-    let now : s.now ≡ b = same_Some s.now b (sym s.found ∙ ap (λ (n : List ℕ). find_buffer n (buffers_of ks)) c.requires.name ∙ found_buffer name ks c.requires.kept) in
+    let s : Stands (buffers_of ks) p then = subst (λ (o : Option Earlier). IfSome o (λ x. Stands (buffers_of ks) p (text_then name d.first d.height x))) c.in-Some.is c.requires.stands in
+    let now : s.now ≡ b = same_Some s.now b (sym s.found ∙ found_buffer name ks c.requires.kept) in
     let follows : Follows s.drawn b = subst (λ (x : Buffer). Follows s.drawn x) now s.follows in
-    let change : IsChange c.change_since-change.result d.start s.drawn.text text = c.change_since-change.ensures s.drawn s.serial s.size follows in
+    let change : IsChange c.change_since-change.result e.start d.start s.drawn.text text = c.change_since-change.ensures s.drawn s.serial s.size follows in
     c.redraw_rows.ensures.grid s.drawn.text s.rows change
 
 pub redraw_rows-requires-clause-few : goal.redraw_rows-requires-clause-few

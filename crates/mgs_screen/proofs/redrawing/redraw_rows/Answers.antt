@@ -1,10 +1,9 @@
-use Rattle.std.proofs.Common.{◌≡◌, ◌≤◌, ℕ, List, length, sym, subst, arith}
+use Rattle.std.proofs.Common.{◌≡◌, ◌≤◌, ℕ, List, length, drop, subst, arith}
 use Rattle.mgs_model.specs.Picture.{Picture}
 use Rattle.mgs_grid.proofs.RowSets.{same_then}
 use Rattle.mgs_screen.specs.Changes.{IsChange, IsLineEdited}
-use Rattle.mgs_screen.specs.Sketches.{DoesShow}
 use Rattle.mgs_screen.specs.declared.change.Change.{Change}
-use Rattle.mgs_screen.proofs.Redrawn.{shown_over, shown_there}
+use Rattle.mgs_screen.proofs.Redrawn.{shown_moved, shown_over, shown_there}
 use Rattle.mgs_screen.proofs.redrawing.redraw_rows.Goals as goal
 
 pub returns-in-Nothing-clause-grid : goal.returns-in-Nothing-clause-grid
@@ -13,8 +12,8 @@ returns-in-Nothing-clause-grid g c = λ old stand change.
     let d = c.args.drawn.now in
     let e = c.args.earlier.now in
     let text : List ℕ = g.T.Text.text c.args.text.now in
-    let same : text ≡ old = subst (λ (x : Change). IsChange x d.start old text) c.in-Nothing.is change in
-    c.shift_rows.ensures.grid (subst (λ (ys : List ℕ). DoesShow d e.row e.shift ys p) (sym same) stand)
+    let same : drop e.start old ≡ drop d.start text = subst (λ (x : Change). IsChange x e.start d.start old text) c.in-Nothing.is change in
+    c.shift_rows.ensures.grid (shown_moved d e.start e.row e.shift old text p stand same)
 
 pub returns-in-Line-clause-grid : goal.returns-in-Line-clause-grid
 returns-in-Line-clause-grid g c = λ old stand change.
@@ -25,9 +24,9 @@ returns-in-Line-clause-grid g c = λ old stand change.
     let e = c.args.earlier.now in
     let shift : ℕ = c.draw_line_of-shift.result in
     let text : List ℕ = g.T.Text.text c.args.text.now in
-    let edited : IsLineEdited c.in-Line.down d.start old text = subst (λ (x : Change). IsChange x d.start old text) c.in-Line.is change in
+    let edited : IsLineEdited c.in-Line.down e.start d.start old text = subst (λ (x : Change). IsChange x e.start d.start old text) c.in-Line.is change in
     let begins : d.first ≤ length p.lines = omega (arith, c.requires.room, c.rows-rows.ensures.picture.count) in
-    let first = c.draw_line_of-shift.ensures.grid old stand edited in
+    let first = c.draw_line_of-shift.ensures.grid e.start old stand edited in
     shown_over d e.row shift d.row d.shift text text p q r begins first (c.shift_rows-in-Line.ensures.grid (shown_there d e.row shift text p q begins first))
 
 pub returns-in-Line-clause-apart : goal.returns-in-Line-clause-apart

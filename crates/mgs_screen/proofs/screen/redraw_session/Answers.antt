@@ -17,7 +17,6 @@ use Rattle.mgs_world.proofs.Soundness.{window_sound}
 use Rattle.mgs_world.specs.Worlds.{buffers_of}
 use Rattle.mgs_grid.proofs.Pictures.{length-rows_put}
 use Rattle.mgs_grid.proofs.RowSets.{same_then}
-use Rattle.mgs_screen.proofs.Redrawn.{row_apart}
 use Rattle.mgs_screen.proofs.Sketches.{IsPut, from_stay, above_stay, above_all}
 use Rattle.mgs_screen.proofs.Drawings.{rows_more, cursor_more, cursor_in, cursor_all, rows_all, session_drawn}
 use Rattle.mgs_screen.proofs.RowPanes.{length_window}
@@ -100,7 +99,7 @@ returns-clause-grid g c = λ sessions. λ next.
     let selected : ℕ = c.selected-selected.result in
     let old : Picture = c.args.grid.now in
     let drawn : Picture = c.loop-i.grid in
-    let p : Picture = c.draw_last_row.new.grid in
+    let p : Picture = c.redraw_last_row.new.grid in
     let ws : List Window = c.as_slice-window-items.result.now in
     let inv = c.loop-i.invariant in
     let rows : List Row = windows_rows 0 selected old.cols (windows_to d x.user ks ws) in
@@ -108,17 +107,17 @@ returns-clause-grid g c = λ sessions. λ next.
     let v : ws ≡ x.windows.windows = c.as_slice-window-items.ensures.value in
     let within : selected < length ws = omega (arith, c.selected-selected.ensures.within, c.selected-selected.ensures.value, ap (λ (vs : List Window). length vs) v) in
     let lines : p.lines ≡ rows ++ echo old.cols ∷ [] =
-    ap (λ (q : Picture). q.lines) c.draw_last_row.ensures
+    ap (λ (q : Picture). q.lines) c.redraw_last_row.ensures.grid
     ∙ ap (λ (n : ℕ). rows_put c.loop-i.first (echo n ∷ []) drawn.lines) inv.cols_stay
     ∙ rows_all d x.user ks old.cols selected c.loop-i.i c.loop-i.first ws drawn.lines rows (echo old.cols) c.loop-i-test.false (inv.room ∙ sym inv.count) inv.lines_are in
     let cursor : cursor_in x.own drawn.rows drawn.cols c.loop-i.cursor ≡ cursor_in x.own old.rows old.cols c.loop-i.cursor =
     ap (λ (n : ℕ). cursor_in x.own n drawn.cols c.loop-i.cursor) inv.rows_stay ∙ ap (λ (n : ℕ). cursor_in x.own old.rows n c.loop-i.cursor) inv.cols_stay in
     session_drawn d ks x sessions next ws selected old.rows old.cols c.loop-i.cursor p v c.selected-selected.ensures.value (sym c.requires.rows) (sym c.requires.cols)
-    (ap (λ (q : Picture). q.rows) c.draw_last_row.ensures ∙ inv.rows_stay)
-    (ap (λ (q : Picture). q.cols) c.draw_last_row.ensures ∙ inv.cols_stay)
+    (ap (λ (q : Picture). q.rows) c.redraw_last_row.ensures.grid ∙ inv.rows_stay)
+    (ap (λ (q : Picture). q.cols) c.redraw_last_row.ensures.grid ∙ inv.cols_stay)
     lines
-    (ap (λ (q : Picture). q.row) c.draw_last_row.ensures ∙ ap (λ (n : ℕ × ℕ). n.0) cursor)
-    (ap (λ (q : Picture). q.col) c.draw_last_row.ensures ∙ ap (λ (n : ℕ × ℕ). n.1) cursor)
+    (ap (λ (q : Picture). q.row) c.redraw_last_row.ensures.grid ∙ ap (λ (n : ℕ × ℕ). n.0) cursor)
+    (ap (λ (q : Picture). q.col) c.redraw_last_row.ensures.grid ∙ ap (λ (n : ℕ × ℕ). n.1) cursor)
     (cursor_all d x.user ks old.cols selected c.loop-i.i c.loop-i.first ws c.loop-i.cursor within c.loop-i-test.false inv.cursor_is)
 
 pub returns-clause-stands : goal.returns-clause-stands
@@ -126,22 +125,19 @@ returns-clause-stands g c =
     let ks : List MarkedBuffer = c.args.buffers.now in
     let x : Session = c.args.session.now in
     let p : Picture = c.loop-i.grid in
-    let q : Picture = c.draw_last_row.new.grid in
+    let q : Picture = c.redraw_last_row.new.grid in
     let inv = c.loop-i.invariant in
     let echo : Row = echo_row p.cols (own_line (own_of x.own)) x.own.echo in
     let put : IsPut c.loop-i.first (echo ∷ []) p q = record {
-      lines = ap (λ (r : Picture). r.lines) c.draw_last_row.ensures;
-      wide = ap (λ (r : Picture). r.cols) c.draw_last_row.ensures;
+      lines = ap (λ (r : Picture). r.lines) c.redraw_last_row.ensures.grid;
+      wide = ap (λ (r : Picture). r.cols) c.redraw_last_row.ensures.grid;
       fits = omega (arith, inv.room, inv.count);
     } in
     above_all c.loop-i.first (buffers_of ks) q c.loop-i.texts (above_stay (buffers_of ks) p q c.loop-i.first c.loop-i.first (echo ∷ []) c.loop-i.texts put (omega arith) inv.above)
 
 pub returns-clause-apart : goal.returns-clause-apart
 returns-clause-apart g c =
-    let x : Session = c.args.session.now in
     let p : Picture = c.loop-i.grid in
-    let q : Picture = c.draw_last_row.new.grid in
+    let q : Picture = c.redraw_last_row.new.grid in
     let inv = c.loop-i.invariant in
-    let echo : Row = echo_row p.cols (own_line (own_of x.own)) x.own.echo in
-    let last = row_apart c.insert.new.self c.loop-i.first (echo ∷ []) p q (ap (λ (r : Picture). r.lines) c.draw_last_row.ensures) refl c.insert.ensures.put (omega (arith, inv.room, inv.count)) in
-    same_then c.loop-i.rows c.insert.new.self c.args.grid.now.lines p.lines q.lines inv.apart last c.insert.ensures.kept
+    same_then c.loop-i.rows c.redraw_last_row.new.rows c.args.grid.now.lines p.lines q.lines inv.apart c.redraw_last_row.ensures.apart c.redraw_last_row.ensures.rows

@@ -1,0 +1,96 @@
+-- Cells that are counted from a tab stop on.
+use Rattle.std.proofs.Common.{◌≡◌, ℕ, ◌+◌, ◌-◌, ◌<◌, ◌≤◌, List, ◌++◌, length, take, drop, get_or, refl, sym, ap, subst, ◌∙◌, arith, append_assoc, length-append, length-take}
+use Rattle.std.specs.Prelude.{slice_range}
+use Rattle.std.specs.List.{suffix_len}
+use Rattle.std.proofs.lemmas.List.{drop-take, length-take-le, take-append-le, take-take}
+use Rattle.mgs_model.specs.Apart.{IsEditedOnce}
+use Rattle.mgs_model.specs.Cells.{cells, glyph}
+use Rattle.mgs_model.specs.Lines.{is_within, line_of, line_start, start_of}
+use Rattle.mgs_model.specs.World.{Buffer}
+use Rattle.mgs_lines.proofs.Feeds.{start_of_line, line_of_start}
+use Rattle.mgs_lines.proofs.Walks.{cells_more}
+use Rattle.mgs_screen.specs.TabStops.{IsOn, IsTabStop}
+use Rattle.mgs_screen.proofs.Changes.{line_mono}
+
+-- THE LINE OF A POSITION
+
+-- where its line begins
+pub line_begins : (text : List ℕ) (line start p : ℕ) → start ≡ start_of line text → line ≡ line_of text p → p ≤ length text → start ≡ line_start text p
+line_begins text line start p begin at within = begin ∙ ap (λ n. start_of n text) at ∙ start_of_line text p within
+
+-- a place between a line's start and a position of it
+same_line : (text : List ℕ) (q p : ℕ) → p ≤ length text → line_start text p ≤ q → q ≤ p → line_start text q ≡ line_start text p
+same_line text q p within from order =
+    let inside : q ≤ length text = omega (arith, within, order) in
+    let low : line_of text (line_start text p) ≤ line_of text q = line_mono text (line_start text p) q from inside in
+    let high : line_of text q ≤ line_of text p = line_mono text q p order within in
+    let same : line_of text q ≡ line_of text p = omega (arith, low, high, line_of_start text p within) in
+    sym (start_of_line text q inside) ∙ ap (λ n. start_of n text) same ∙ start_of_line text p within
+
+-- A TAB STOP
+
+pub on_start : (text : List ℕ) (start : ℕ) → IsOn text start start 0
+on_start text start =
+    let none : start - start ≡ 0 = omega arith in
+    record {
+      from = omega arith;
+      cells = sym (ap (λ n. length (cells (take n (drop start text)))) none);
+      whole = refl;
+      few = omega arith;
+    }
+
+pub on_known : (text : List ℕ) (start p place column : ℕ) → start ≡ line_start text p → p ≤ length text → start ≤ place → place ≤ p → IsTabStop text place column → IsOn text start place column
+on_known text start p place column is within from order stop =
+    subst (λ n. IsOn text n place column) (same_line text place p within (omega (arith, is, from)) order ∙ sym is) stop.on
+
+pub stop_on : (text : List ℕ) (start p place column : ℕ) → start ≡ line_start text p → p ≤ length text → place ≤ p → IsOn text start place column → IsTabStop text place column
+stop_on text start p place column is within order on = record {
+  within = omega (arith, within, order);
+  on = subst (λ n. IsOn text n place column) (is ∙ sym (same_line text place p within (omega (arith, is, on.from)) order)) on;
+}
+
+-- ONE CHARACTER FURTHER
+
+pub cells_next : (xs : List ℕ) (start i at w : ℕ) → start ≤ i → i < length xs → at ≡ length (cells (slice_range xs start i)) → w ≡ length (glyph at (get_or xs i 0)) → at + w ≡ length (cells (slice_range xs start (i + 1)))
+cells_next xs start i at w from within is more =
+    let old : List ℕ = cells (slice_range xs start i) in
+    let one : w ≡ length (glyph (length old) (get_or xs i 0)) = more ∙ ap (λ n. length (glyph n (get_or xs i 0))) is in
+    omega (arith, is, one, ap length (cells_more xs start i from within), length-append old (glyph (length old) (get_or xs i 0)))
+
+-- AN EDIT AT OR BEHIND A TAB STOP
+
+-- what lies between two places is told by what lies before the second
+pub range_before : (xs : List ℕ) (s p : ℕ) → s ≤ p → slice_range xs s p ≡ drop s (take p xs)
+range_before xs s p order =
+    let sum : s + (p - s) ≡ p = omega (arith, order) in
+    sym (drop-take s (p - s) xs) ∙ ap (λ n. drop s (take n xs)) sum
+
+same_before : (old new : List ℕ) (place column : ℕ) → take place new ≡ take place old → IsTabStop old place column → IsTabStop new place column
+same_before old new place column same stop =
+    let start : ℕ = line_start old place in
+    let here : line_start new place ≡ start = ap (λ (ys : List ℕ). place - suffix_len is_within ys) same in
+    let cut : slice_range new start place ≡ slice_range old start place =
+    range_before new start place stop.on.from ∙ ap (drop start) same ∙ sym (range_before old start place stop.on.from) in
+    let size : length (take place new) ≡ place = ap length same ∙ length-take-le place old stop.within in
+    let on : IsOn new start place column = record {
+      from = stop.on.from;
+      cells = stop.on.cells ∙ ap (λ (ys : List ℕ). length (cells ys)) (sym cut);
+      whole = stop.on.whole;
+      few = stop.on.few;
+    } in
+    record {
+      within = omega (arith, size, length-take place new);
+      on = subst (λ n. IsOn new n place column) (sym here) on;
+    }
+
+pub stop_edited : (old new : Buffer) (e : IsEditedOnce old new) (place column : ℕ) → place ≤ e.item.place → IsTabStop old.text place column → IsTabStop new.text place column
+stop_edited old new e place column order stop =
+    let at : ℕ = e.item.place in
+    let behind : List ℕ = drop e.until old.text in
+    let front : List ℕ = take at old.text in
+    let inside : place ≤ length front = omega (arith, order, stop.within, length-take at old.text) in
+    let same : take place new.text ≡ take place old.text =
+    ap (take place) (e.text ∙ append_assoc front e.put behind)
+    ∙ take-append-le place front (e.put ++ behind) inside
+    ∙ take-take place at old.text order in
+    same_before old.text new.text place column same stop

@@ -1,0 +1,24 @@
+use Rattle.std.proofs.Common.{◌≡◌, ℕ, [], ◌∷◌, refl, ap, subst, arith}
+use Rattle.std.specs.Prelude.{Option, Some, IfSome}
+use Rattle.mgs_model.specs.Picture.{Picture}
+use Rattle.mgs_model.specs.Rows.{buffer_mode, mode_row}
+use Rattle.mgs_screen.specs.Sketches.{DoesShowMode}
+use Rattle.mgs_screen.specs.declared.sketch.Earlier.{Earlier}
+use Rattle.mgs_screen.specs.declared.sketch.ModeLine.{ModeLine}
+use Rattle.mgs_screen.proofs.Redrawn.{row_apart}
+use Rattle.mgs_screen.proofs.Sketches.{mode_there}
+use Rattle.mgs_screen.proofs.screen.redraw_mode.Goals as goal
+
+pub returns-then-is_same_mode-clause-grid : goal.returns-then-is_same_mode-clause-grid
+returns-then-is_same_mode-clause-grid c =
+    let p : Picture = c.args.grid.now in
+    let row : ℕ = c.args.row in
+    let stand : DoesShowMode row c.in-Some.earlier.mode p = subst (λ (o : Option Earlier). IfSome o (λ x. DoesShowMode row x.mode p)) c.in-Some.is c.requires.stands in
+    let same : c.in-Some.earlier.mode ≡ c.args.mode.now = c.is_same_mode.ensures c.if-is_same_mode.true in
+    mode_there row c.args.mode.now p (omega (arith, c.requires.room, c.rows-rows.ensures.picture.count)) (subst (λ (m : ModeLine). DoesShowMode row m p) same stand)
+
+pub returns-clause-apart : goal.returns-clause-apart
+returns-clause-apart c =
+    let p : Picture = c.args.grid.now in
+    row_apart c.insert.new.self c.args.row (mode_row p.cols (buffer_mode c.heading_of.result (Some (c.args.mode.now.line, c.args.mode.now.column))) ∷ []) p c.draw_mode.new.self
+    (ap (λ (r : Picture). r.lines) c.draw_mode.ensures) refl c.insert.ensures.put (omega (arith, c.requires.room, c.rows-rows.ensures.picture.count))

@@ -1,0 +1,27 @@
+-- Tab stops: places of a line before which so many cells stand that a tab goes to there. From one on, cells can be counted.
+use Rattle.std.specs.Prelude.{◌≡◌, ℕ, ◌*◌, ◌%◌, ◌≤◌, List, Option, IfSome, length, drop, slice_range}
+use Rattle.std.specs.List.{before_first}
+use Rattle.mgs_model.specs.Cells.{cells}
+use Rattle.mgs_model.specs.Lines.{is_feed, line_start}
+use Rattle.mgs_model.specs.Rows.{shown_row}
+use Rattle.mgs_screen.specs.declared.tab_stops.TabStop.{TabStop}
+
+-- in the line that starts here
+pub record IsOn (text : List ℕ) (start place column : ℕ) : Type 0 where
+  pub from : start ≤ place
+  pub cells : column ≡ length (cells (slice_range text start place))
+  pub whole : column % 8 ≡ 0
+  pub few : column ≤ 12 * place
+
+-- in its own line
+pub record IsTabStop (text : List ℕ) (place column : ℕ) : Type 0 where
+  pub within : place ≤ length text
+  pub on : IsOn text (line_start text place) place column
+
+-- one that may be known
+abbrev pub IsKnown : List ℕ → Option TabStop → Type 0
+IsKnown text known = IfSome known (λ s. IsTabStop text s.place s.column)
+
+-- what a row shows of the line from a place on, from a column of that on
+abbrev pub shown_from : ℕ → ℕ → ℕ → List ℕ → List ℕ
+shown_from cols shift place text = shown_row cols shift (cells (before_first is_feed (drop place text)))
