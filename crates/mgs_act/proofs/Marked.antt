@@ -1,11 +1,11 @@
 -- What an action does that sets the mark of the window.
-use Rattle.std.proofs.Common.{◌≡◌, ℕ, zero, suc, ◌+◌, ◌<◌, ◌≤◌, Bool, true, false, cond, ◌||◌, List, [], ◌∷◌, length, map, Option, Some, None, refl, sym, ap, subst, ◌∙◌, arith}
+use Rattle.std.proofs.Common.{◌≡◌, ℕ, ◌+◌, ◌<◌, ◌≤◌, Bool, true, false, cond, ◌||◌, List, [], ◌∷◌, length, map, Option, Some, None, refl, sym, ap, subst, ◌∙◌, arith}
 use Rattle.std.specs.Prelude.{find, is_some, slice_get, slice_set, Result, Ok, Err, OnOk, OnErr}
 use Rattle.std.specs.List.{position_or_len}
 use Rattle.std.specs.Option.{option_and_then, option_map}
 use Rattle.std.proofs.lemmas.Option.{get_or_from_slice_get}
 use Rattle.mgs_model.specs.Access.{Directory}
-use Rattle.mgs_model.specs.World.{Buffer, Item, World, has_id}
+use Rattle.mgs_model.specs.World.{Buffer, Item, has_id}
 use Rattle.mgs_model.specs.World as model
 use Rattle.mgs_model.specs.Outcome.{Effect, No_effect, Keep, Keep_mark, Mark_at, effect_takes_memory, takes_memory}
 use Rattle.mgs_model.specs.Plans as plans
@@ -20,24 +20,24 @@ use Rattle.mgs_session.specs.Sessions.{window_marks_of}
 use Rattle.mgs_session.specs.declared.Session.{Session}
 use Rattle.mgs_edit.specs.Reading.{IsWithin, change_read, finish_read, kill_read, mark_read, put_read, undone_read}
 use Rattle.mgs_edit.specs.declared.plan.Finish.{Finish}
-use Rattle.mgs_act.specs.declared.action.Action.{Action}
-use Rattle.mgs_act.specs.declared.action.Action.TheVariants.{Fails, Edits, Undoes, Moves, Clears}
-use Rattle.mgs_act.specs.Following.{edit_through, edit_told, followed}
-use Rattle.mgs_act.specs.Actions.{AreMarks, CanBeDone, IsMarked, edited_by, kill_at, kill_or_none, mark_gone, mark_told, marked_after, marks_gone, outcome_through, removed_by, session_finished}
+use Rattle.mgs_plan.specs.declared.action.Action.{Action}
+use Rattle.mgs_plan.specs.declared.action.Action.TheVariants.{Fails, Edits, Undoes, Moves, Clears}
+use Rattle.mgs_plan.specs.Following.{edit_through, edit_told, followed}
+use Rattle.mgs_plan.specs.Actions.{AreMarks, CanBeDone, IsMarked, edited_by, kill_at, kill_or_none, mark_gone, mark_told, marked_after, marks_gone, outcome_through, removed_by, session_finished}
 use Rattle.mgs_world.specs.Marking.{IsReserved, mark_at_place, session_marked}
 use Rattle.mgs_world.specs.Sound.{IsSound}
 use Rattle.mgs_world.specs.WindowMarks.{WindowMarksDropped}
-use Rattle.mgs_world.specs.Worlds.{id_after, idle, own_at, own_of, own_or_first, session_id, session_of, size_in, sizes_in, world_of}
+use Rattle.mgs_world.specs.Worlds.{id_after, idle, own_at, own_of, own_or_first, session_id, session_of, world_of}
 use Rattle.mgs_world.proofs.SelectedMark.{changed_first, get_set, given_up_sessions, given_up_sound, reserved_buffers, reserved_mark, reserved_more, reserved_sessions, reserved_sound, sessions_marked}
-use Rattle.mgs_world.proofs.Soundness.{in_use_mark, mark_is_kept, sizes_set, sound_placed, sound_set}
+use Rattle.mgs_world.proofs.Soundness.{in_use_mark, mark_is_kept, sound_placed, sound_set}
 use Rattle.mgs_world.proofs.Marks.{found_same, is_same}
 use Rattle.mgs_world.proofs.Owns.{search_at_rest}
 use Rattle.mgs_world.proofs.WindowMarks.{added_mark}
 use Rattle.mgs_world.proofs.Worlds.{buffers_placed, same_world}
 use Rattle.mgs_world.proofs.Unmodified.{marks_unmodified}
-use Rattle.mgs_act.proofs.Deeds.{acting_marks, at_twice, edited_buffers, edited_sound, ended, finished_there, fresh_own, gone_buffers, gone_sound, no_quit, once_used, set_back, size_after, unmarked}
-use Rattle.mgs_act.proofs.Followed.{get_followed, place_followed, sessions_went, set_followed, sound_kept, within_followed}
-use Rattle.mgs_act.proofs.Leaving.{length_edited_by, mark_edited_by, mark_still, text_gone, used_once}
+use Rattle.mgs_plan.proofs.Deeds.{acting_marks, at_twice, edited_buffers, edited_sound, ended, finished_there, fresh_own, gone_buffers, gone_sound, no_quit, once_used, set_back, unmarked, set_twice}
+use Rattle.mgs_plan.proofs.Followed.{get_followed, place_followed, sessions_went, set_followed, sound_kept, within_followed}
+use Rattle.mgs_plan.proofs.Leaving.{length_edited_by, mark_edited_by, mark_still, text_gone, used_once}
 
 -- A MARK THAT IS RESERVED
 
@@ -66,12 +66,6 @@ reserved_in_use None x id ks ls is kept marks r = added_mark x.name 0 id ks ls k
 reserved_in_use (Some m) x id ks ls is kept marks r = rw (r.1, r.0) (marks.mark m is)
 
 -- LISTS
-
-pub set_twice : {A : Type 0} (xs : List A) (at : ℕ) (x y : A) → slice_set (slice_set xs at x) at y ≡ slice_set xs at y
-set_twice [] zero x y = refl
-set_twice [] (suc at) x y = refl
-set_twice (z ∷ zs) zero x y = refl
-set_twice (z ∷ zs) (suc at) x y = ap (λ ys. z ∷ ys) (set_twice zs at x y)
 
 first_pointwise : {A : Type 0} (p : A → Bool) (f g : A → A) → ((x : A) → f x ≡ g x) → (xs : List A) → change_first p f xs ≡ change_first p g xs
 first_pointwise p f g same [] = refl
@@ -237,17 +231,10 @@ sound_then ks ls xs at p x h y (Moves f) sound is sel marks told m =
     rw (m.buffers, m.session) (sound_placed x.name m.id p _ _ mark (held_then ks m.between xs at m.id h x change left left sound kept m.reserved is sel marks_l))
 sound_then ks ls xs at p x h y Clears sound is sel marks told m = cc
 
-size_then : (ks ls : List MarkedBuffer) (p : ℕ) (x : WindowMarks) (h y : Session) (action : Action) → IsMarked x p action ks ls h y → size_in y ≡ size_in h
-size_then ks ls p x h y action m = ap size_in m.session ∙ size_after (marked_at x.name ks).buffer.text action h
-
 pub marked_sound : {T E : Type 0} (r : Result T E) (ks ls : List MarkedBuffer) (xs : List Session) (at p : ℕ) (x : WindowMarks) (h y : Session) (action : Action) → slice_get xs at ≡ Some h → window_marks_of h ≡ Some x → OnOk r (IsMarked x p action ks ls h y) → OnErr r (WindowMarksDropped None ks ls) → OnErr r (y ≡ h) → AreMarks ks x → mark_told action ≡ Some p → IsSound ks xs → IsSound ls (slice_set xs at y)
 marked_sound (Ok o) ks ls xs at p x h y action is sel ok err same marks told sound = sound_then ks ls xs at p x h y action sound is sel marks told ok
 marked_sound (Err e) ks ls xs at p x h y action is sel ok err same marks told sound =
     rw same (sound_set ls xs at h h (sym (get_or_from_slice_get xs at h h is)) (λ n i. refl) (given_up_sound ks ls xs err sound))
-
-pub marked_sizes : {T E : Type 0} (r : Result T E) (ks ls : List MarkedBuffer) (xs : List Session) (at p : ℕ) (x : WindowMarks) (h y : Session) (action : Action) → slice_get xs at ≡ Some h → OnOk r (IsMarked x p action ks ls h y) → OnErr r (y ≡ h) → sizes_in (slice_set xs at y) ≡ sizes_in xs
-marked_sizes (Ok o) ks ls xs at p x h y action is ok same = sizes_set xs at h y (sym (get_or_from_slice_get xs at h h is)) (size_then ks ls p x h y action ok)
-marked_sizes (Err e) ks ls xs at p x h y action is ok same = rw same (sizes_set xs at h h (sym (get_or_from_slice_get xs at h h is)) refl)
 
 pub marked_ok : {T E : Type 0} (r : Result T E) (ks ls : List MarkedBuffer) (xs : List Session) (at p : ℕ) (x : WindowMarks) (h y : Session) (action : Action) → slice_get xs at ≡ Some h → OnOk r (IsMarked x p action ks ls h y) → IsSound ks xs → at < length xs → option_and_then window_marks_of (slice_get xs at) ≡ Some x → own_at at xs ≡ idle (own_at at xs) → CanBeDone ks x (kill_at at xs) action → mark_told action ≡ Some p → OnOk r ((directory : Directory) (id : ℕ) (next : Option ℕ) → at ≡ position_or_len (session_id id) xs → world_of directory ls (followed x.name (edit_through x ks (kill_at at xs) action) (slice_set xs at y)) next ≡ apply (world_of directory ks xs next) id (outcome_through (own_at at xs) x ks (kill_at at xs) action))
 marked_ok (Ok o) ks ls xs at p x h y action is ok sound within sel fresh can told = λ directory id next place.
@@ -268,7 +255,7 @@ or_true : (a : Bool) → (a || true) ≡ true
 or_true true = refl
 or_true false = refl
 
-finish_takes : (own : model.Own) (f : plans.Finish) (e : Effect) (p : ℕ) → is_too_large f.kill ≡ false → f.mark ≡ Mark_at p → takes_memory (finished own f e) ≡ true
+pub finish_takes : (own : model.Own) (f : plans.Finish) (e : Effect) (p : ℕ) → is_too_large f.kill ≡ false → f.mark ≡ Mark_at p → takes_memory (finished own f e) ≡ true
 finish_takes own f e p small told =
     ap (λ b. takes_memory (cond b (fails own KillTooLarge) (ended f e own))) small
     ∙ ap (λ m. takes_memory (ended (record f { mark = m }) e own)) told

@@ -1,190 +1,34 @@
--- A change of a buffer's owners or of its access list: what the act comes to, and that what is done is the act.
-use Rattle.std.proofs.Common.{◌≡◌, ℕ, ◌<◌, Bool, true, false, true≢false, cond, ◌||◌, ◌==◌, List, [], ◌∷◌, length, map, Option, Some, None, refl, sym, ap, subst, ◌∙◌, arith}
-use Rattle.std.specs.Prelude.{find, is_some, slice_get, slice_set, IfSome, Result, Ok, Err}
+-- What is done where a buffer gets an owner or an access list.
+use Rattle.std.proofs.Common.{◌≡◌, ℕ, ◌<◌, List, length, map, Option, Some, refl, sym, ap, ◌∙◌}
+use Rattle.std.specs.Prelude.{slice_get, slice_set, Ok}
 use Rattle.std.specs.List.{position_or_len}
-use Rattle.std.proofs.lemmas.Bool.{eqb-true}
 use Rattle.std.proofs.lemmas.List.{map-id}
-use Rattle.std.proofs.lemmas.List.Folds.{list_any_at}
 use Rattle.std.proofs.lemmas.Option.{get_or_from_slice_get}
-use Rattle.mgs_model.specs.Access.{Decider, Directory, UserGroup, allows, any_right, decision_by, group_answered, is_among, is_group_answer, is_group_named}
-use Rattle.mgs_model.specs.Names.{IsName, same_name}
-use Rattle.mgs_model.specs.Rights.{all_rights, rights_in}
+use Rattle.mgs_model.specs.Access.{Directory}
 use Rattle.mgs_model.specs.World.{Buffer, Own, has_id}
-use Rattle.mgs_model.specs.View.{BufferSeen, View, buffer_seen, find_seen, told_if, view}
-use Rattle.mgs_model.specs.Outcome.{Effect, Relist, Reown, Run}
-use Rattle.mgs_model.specs.declared.owners.NewOwner.{NewOwner}
-use Rattle.mgs_model.specs.declared.owners.NewOwner.TheVariants.{ToUser, ToGroup}
-use Rattle.mgs_model.specs.Plans.{acted_own, entries_changed}
-use Rattle.mgs_model.specs.Acts.{about, deciders_found, effects, entries_told, fails, judged, outcome, permitted, relisted, rules, subject}
-use Rattle.mgs_model.specs.Apart.{Apart, touched_by}
-use Rattle.mgs_model.specs.Apply.{act, applied, owners_after, apply, change_first, session_arranged}
-use Rattle.mgs_model.specs.declared.entry.Decision.TheVariants.{Granted}
+use Rattle.mgs_model.specs.Outcome.{Relist, Reown}
+use Rattle.mgs_model.specs.Plans.{acted_own}
+use Rattle.mgs_model.specs.Acts.{effects}
+use Rattle.mgs_model.specs.Apply.{apply, change_first, owners_after, session_arranged}
 use Rattle.mgs_model.specs.declared.entry.Entry.{Entry}
-use Rattle.mgs_model.specs.declared.message.Message.{Message}
-use Rattle.mgs_model.specs.declared.message.Message.TheVariants.{NoBuffer, NoSuchUser, NoSuchGroup}
-use Rattle.mgs_model.specs.declared.right.Right.{Right}
-use Rattle.mgs_model.specs.declared.right.Right.TheVariants.{ReadData, WriteAcl}
-use Rattle.mgs_model.specs.declared.session.EntryChange.{EntryChange}
+use Rattle.mgs_model.specs.declared.owners.NewOwner.{NewOwner}
 use Rattle.mgs_model.specs.declared.session.Kind.TheVariants.{Other}
-use Rattle.mgs_model.specs.declared.touched.Touched.{Touched}
-use Rattle.mgs_laws.proofs.Apart.{apart_apply}
 use Rattle.mgs_model.proofs.Firsts.{position_or_len-map, written_first}
-use Rattle.mgs_laws.proofs.Outcomes.{granted_each}
-use Rattle.mgs_buffers.specs.MarkedBuffer.{HasBuffer, MarkedBuffer, has_buffer, marked_at, marked_named, marked_relisted, marked_reowned}
-use Rattle.mgs_session.specs.Sessions.{acted, subject_of}
+use Rattle.mgs_buffers.specs.MarkedBuffer.{MarkedBuffer, marked_named, marked_relisted, marked_reowned}
+use Rattle.mgs_session.specs.Sessions.{acted}
 use Rattle.mgs_session.specs.declared.Own as held
 use Rattle.mgs_session.specs.declared.Session.{Session}
-use Rattle.mgs_model.specs.declared.session.Command.{Command}
-use Rattle.mgs_model.specs.declared.session.Command.TheVariants as commands
-use Rattle.mgs_act.specs.declared.acts.KeyAct.{KeyAct}
-use Rattle.mgs_act.specs.declared.acts.KeyAct.TheVariants as acts
-use Rattle.mgs_act.specs.Actions.{act_of}
-use Rattle.mgs_act.specs.Subjects.{subject_kept}
-use Rattle.mgs_act.specs.Ruling.{buffers_ruled, command_of, ruled_outcome, ruling_in, ruling_outcome, ruling_plan, session_ruled}
-use Rattle.mgs_act.specs.declared.ruling.Ruling.{Ruling}
-use Rattle.mgs_act.specs.declared.ruling.Ruling.TheVariants.{Owner, Group, Entries}
-use Rattle.mgs_act.specs.declared.ruling.Ruled.{Ruled}
-use Rattle.mgs_act.specs.declared.ruling.Ruled.TheVariants.{Fails, Reowns, Relists}
-use Rattle.mgs_world.specs.Sound.{IsSound, session_uses}
-use Rattle.mgs_world.specs.Worlds.{buffers_of, id_after, idle, own_of, session_id, session_of, size_in, sizes_in, world_of}
+use Rattle.mgs_world.specs.Sound.{IsSound}
+use Rattle.mgs_world.specs.Worlds.{id_after, idle, own_of, session_id, session_of, world_of}
 use Rattle.mgs_world.proofs.Attributes.{buffers_by, sessions_by, sound_by}
-use Rattle.mgs_world.proofs.Found.{found_seen, name_kept}
-use Rattle.mgs_world.proofs.Marks.{same_is}
 use Rattle.mgs_world.proofs.Owns.{at_rest, search_kept}
-use Rattle.mgs_world.proofs.Soundness.{sizes_set, sound_set}
 use Rattle.mgs_world.proofs.Worlds.{same_world}
-use Rattle.mgs_act.proofs.Commands.{outcome_known}
-use Rattle.mgs_act.proofs.Deeds.{failed_so}
-use Rattle.mgs_act.proofs.Outcomes.{only_one, permitted_same}
-use Rattle.mgs_act.proofs.Subjects.{kept_subject, subject_seen, subject_told}
-
--- A USER'S NAME
-
-abbrev owner_found : List ℕ → Option (List ℕ) → Result Effect Message
-owner_found name None = Err NoSuchUser
-owner_found name (Some owner) = Ok (Reown name (ToUser owner))
-
--- whoever is found by the name that was typed has that name
-user_found : (name typed : List ℕ) (users : List (List ℕ)) → owner_found name (find (same_name typed) users) ≡ cond (is_among typed users) (Ok (Reown name (ToUser typed))) (Err NoSuchUser)
-user_found name typed [] = refl
-user_found name typed (user ∷ users) = by (same_name typed user) refl (user_found name typed users)
-  where
-    by : (b : Bool) → same_name typed user ≡ b → owner_found name (find (same_name typed) users) ≡ cond (is_among typed users) (Ok (Reown name (ToUser typed))) (Err NoSuchUser)
-        → owner_found name (cond b (Some user) (find (same_name typed) users)) ≡ cond (b || is_among typed users) (Ok (Reown name (ToUser typed))) (Err NoSuchUser)
-    by true is later = ap (λ (m : List ℕ). Ok (Reown name (ToUser m))) (sym (same_is typed user is))
-    by false is later = later
-
--- in the words of what is done
-pub owner_some : (directory : Directory) (own : Own) (name owner typed : List ℕ) (entries : List Entry) (n : Option ℕ) → Some owner ≡ find (same_name typed) directory.users → ruled_outcome own (Reowns name (ToUser owner)) ≡ effects own (ruling_plan directory name entries Owner n typed)
-owner_some directory own name owner typed entries n found =
-    ap (λ o. effects own (owner_found name o)) found ∙ ap (effects own) (user_found name typed directory.users)
-
-pub owner_none : (directory : Directory) (own : Own) (name typed : List ℕ) (entries : List Entry) (n : Option ℕ) → None ≡ find (same_name typed) directory.users → ruled_outcome own (Fails NoSuchUser) ≡ effects own (ruling_plan directory name entries Owner n typed)
-owner_none directory own name typed entries n found =
-    ap (λ o. effects own (owner_found name o)) found ∙ ap (effects own) (user_found name typed directory.users)
-
--- A GROUP'S NAME
-
-abbrev group_found : List ℕ → Option (List ℕ) → Result Effect Message
-group_found name None = Err NoSuchGroup
-group_found name (Some group) = Ok (Reown name (ToGroup (Some group)))
-
--- the group that is found by the name that was typed has that name
-named_found : (name typed : List ℕ) (groups : List UserGroup) → group_found name (find (same_name typed) (map (λ g. g.name) groups)) ≡ cond (is_group_named typed groups) (Ok (Reown name (ToGroup (Some typed)))) (Err NoSuchGroup)
-named_found name typed [] = refl
-named_found name typed (g ∷ groups) = by (same_name typed g.name) refl (named_found name typed groups)
-  where
-    by : (b : Bool) → same_name typed g.name ≡ b → group_found name (find (same_name typed) (map (λ g. g.name) groups)) ≡ cond (is_group_named typed groups) (Ok (Reown name (ToGroup (Some typed)))) (Err NoSuchGroup)
-        → group_found name (cond b (Some g.name) (find (same_name typed) (map (λ g. g.name) groups))) ≡ cond (b || is_group_named typed groups) (Ok (Reown name (ToGroup (Some typed)))) (Err NoSuchGroup)
-    by true is later = ap (λ (m : List ℕ). Ok (Reown name (ToGroup (Some m)))) (sym (same_is typed g.name is))
-    by false is later = later
-
--- what a typed name that is not empty plans
-group_planned : (directory : Directory) (name typed : List ℕ) (entries : List Entry) (n : Option ℕ) → (length typed == 0) ≡ false → group_found name (find (same_name typed) (map (λ g. g.name) directory.groups)) ≡ ruling_plan directory name entries Group n typed
-group_planned directory name [] entries n some = absurd (true≢false some)
-group_planned directory name (c ∷ cs) entries n some = named_found name (c ∷ cs) directory.groups
-
--- in the words of what is done
-pub group_some : (directory : Directory) (own : Own) (name group typed : List ℕ) (entries : List Entry) (n : Option ℕ) → (length typed == 0) ≡ false → Some group ≡ find (same_name typed) (map (λ g. g.name) directory.groups) → ruled_outcome own (Reowns name (ToGroup (Some group))) ≡ effects own (ruling_plan directory name entries Group n typed)
-group_some directory own name group typed entries n some found =
-    ap (λ o. effects own (group_found name o)) found ∙ ap (effects own) (group_planned directory name typed entries n some)
-
-pub group_none : (directory : Directory) (own : Own) (name typed : List ℕ) (entries : List Entry) (n : Option ℕ) → (length typed == 0) ≡ false → None ≡ find (same_name typed) (map (λ g. g.name) directory.groups) → ruled_outcome own (Fails NoSuchGroup) ≡ effects own (ruling_plan directory name entries Group n typed)
-group_none directory own name typed entries n some found =
-    ap (λ o. effects own (group_found name o)) found ∙ ap (effects own) (group_planned directory name typed entries n some)
-
--- where nothing is typed, no group is to own the buffer
-pub group_empty : (directory : Directory) (own : Own) (name typed : List ℕ) (entries : List Entry) (n : Option ℕ) → (length typed == 0) ≡ true → ruled_outcome own (Reowns name (ToGroup None)) ≡ effects own (ruling_plan directory name entries Group n typed)
-group_empty directory own name [] entries n none = refl
-group_empty directory own name (c ∷ cs) entries n none = absurd (omega (arith, eqb-true (length (c ∷ cs)) 0 none))
-
--- WHAT THE ACT COMES TO
-
--- where no buffer is shown
-none_ruled : (v : View) (rights : ℕ) (plan : BufferSeen → Result Effect Message) → subject v ≡ None → permitted v.session.own (judged v (about (subject v) rights)) (rules v.session.own (subject v) plan) ≡ fails v.session.own NoBuffer
-none_ruled v rights plan none = ap (λ o. permitted v.session.own (judged v (about o rights)) (rules v.session.own o plan)) none
-
--- in the buffer that is shown
-one_ruled : (v : View) (b : BufferSeen) (rights : ℕ) (plan : BufferSeen → Result Effect Message) → subject v ≡ Some b → find_seen b.name v.buffers ≡ Some b → permitted v.session.own (judged v (about (subject v) rights)) (rules v.session.own (subject v) plan) ≡ permitted v.session.own (decision_by b.deciders (rights_in rights)) (effects v.session.own (plan b))
-one_ruled v b rights plan is found =
-    ap (λ o. permitted v.session.own (judged v (about o rights)) (rules v.session.own o plan)) is
-    ∙ ap (λ d. permitted v.session.own d (effects v.session.own (plan b))) (only_one (decision_by (deciders_found (find_seen b.name v.buffers)) (rights_in rights)) ∙ ap (λ o. decision_by (deciders_found o) (rights_in rights)) found)
-
-any_write_acl : (d : Right → Decider) → decision_by d (rights_in 262144) ≡ Granted → any_right d ≡ true
-any_write_acl d e = list_any_at (λ right. allows (d right)) all_rights 6 ReadData (omega arith) (granted_each d (WriteAcl ∷ []) e).0
-
--- whoever may write the list is told of it
-list_told : (own : Own) (d : Right → Decider) (b : Buffer) (c : EntryChange) (n : Option ℕ) (typed : List ℕ) → permitted own (decision_by d (rights_in 262144)) (effects own (relisted b.name (entries_changed c (entries_told (told_if (any_right d) b)) n typed))) ≡ permitted own (decision_by d (rights_in 262144)) (effects own (relisted b.name (entries_changed c b.entries n typed)))
-list_told own d b c n typed =
-    permitted_same own (decision_by d (rights_in 262144)) _ _ (λ e. ap (λ (a : Bool). effects own (relisted b.name (entries_changed c (entries_told (told_if a b)) n typed))) (any_write_acl d e))
-
-shown_ruled : (directory : Directory) (ks : List MarkedBuffer) (xs : List Session) (next : Option ℕ) (h : Session) (c : Ruling) (n : Option ℕ) (typed name : List ℕ) → HasBuffer name ks
-    → (let v = view (world_of directory ks xs next) (session_of ks h) in subject v ≡ Some (buffer_seen directory h.user (marked_at name ks).buffer) → outcome v (Run (command_of c) n typed) true ≡ ruling_in directory ks (own_of h.own) h.user name c n typed)
-unfolding outcome
-shown_ruled directory ks xs next h Owner n typed name kept is =
-    let v = view (world_of directory ks xs next) (session_of ks h) in
-    let b = (marked_at name ks).buffer in
-    let seen = buffer_seen directory h.user b in
-    one_ruled v seen 524288 (λ (k : BufferSeen). cond (is_among typed v.directory.users) (Ok (Reown k.name (ToUser typed))) (Err NoSuchUser)) is
-    (ap (λ m. find_seen m (map (buffer_seen directory h.user) (buffers_of ks))) (name_kept name ks kept) ∙ found_seen directory h.user name ks kept)
-    ∙ ap (λ (m : List ℕ). permitted v.session.own (decision_by seen.deciders (rights_in 524288)) (effects v.session.own (ruling_plan directory m b.entries Owner n typed))) (name_kept name ks kept)
-shown_ruled directory ks xs next h Group n typed name kept is =
-    let v = view (world_of directory ks xs next) (session_of ks h) in
-    let b = (marked_at name ks).buffer in
-    let seen = buffer_seen directory h.user b in
-    one_ruled v seen 524288 (λ (k : BufferSeen). cond (is_group_answer v.directory.groups typed) (Ok (Reown k.name (ToGroup (group_answered typed)))) (Err NoSuchGroup)) is
-    (ap (λ m. find_seen m (map (buffer_seen directory h.user) (buffers_of ks))) (name_kept name ks kept) ∙ found_seen directory h.user name ks kept)
-    ∙ ap (λ (m : List ℕ). permitted v.session.own (decision_by seen.deciders (rights_in 524288)) (effects v.session.own (ruling_plan directory m b.entries Group n typed))) (name_kept name ks kept)
-shown_ruled directory ks xs next h (Entries c) n typed name kept is =
-    let v = view (world_of directory ks xs next) (session_of ks h) in
-    let b = (marked_at name ks).buffer in
-    let seen = buffer_seen directory h.user b in
-    one_ruled v seen 262144 (λ (k : BufferSeen). relisted k.name (entries_changed c (entries_told k.told) n typed)) is
-    (ap (λ m. find_seen m (map (buffer_seen directory h.user) (buffers_of ks))) (name_kept name ks kept) ∙ found_seen directory h.user name ks kept)
-    ∙ list_told v.session.own seen.deciders b c n typed
-    ∙ ap (λ (m : List ℕ). permitted v.session.own (decision_by seen.deciders (rights_in 262144)) (effects v.session.own (ruling_plan directory m b.entries (Entries c) n typed))) (name_kept name ks kept)
-
-unshown_ruled : (v : View) (c : Ruling) (n : Option ℕ) (typed : List ℕ) → subject v ≡ None → outcome v (Run (command_of c) n typed) true ≡ fails v.session.own NoBuffer
-unfolding outcome
-unshown_ruled v Owner n typed none = none_ruled v 524288 (λ (k : BufferSeen). cond (is_among typed v.directory.users) (Ok (Reown k.name (ToUser typed))) (Err NoSuchUser)) none
-unshown_ruled v Group n typed none = none_ruled v 524288 (λ (k : BufferSeen). cond (is_group_answer v.directory.groups typed) (Ok (Reown k.name (ToGroup (group_answered typed)))) (Err NoSuchGroup)) none
-unshown_ruled v (Entries c) n typed none = none_ruled v 262144 (λ (k : BufferSeen). relisted k.name (entries_changed c (entries_told k.told) n typed)) none
-
-ruling_known : (directory : Directory) (ks : List MarkedBuffer) (xs : List Session) (next : Option ℕ) (h : Session) (c : Ruling) (n : Option ℕ) (typed : List ℕ) → has_buffer [] ks ≡ false
-    → outcome (view (world_of directory ks xs next) (session_of ks h)) (Run (command_of c) n typed) true ≡ ruling_outcome directory ks (own_of h.own) h.user (subject_kept ks (subject_of h)) c n typed
-ruling_known directory ks xs next h c n typed unnamed = go (subject_kept ks (subject_of h)) (kept_subject ks (subject_of h)) (subject_seen directory ks xs next h unnamed)
-  where
-    go : (s : Option (List ℕ)) → IfSome s (λ name. HasBuffer name ks) → subject (view (world_of directory ks xs next) (session_of ks h)) ≡ subject_told directory ks h.user s → outcome (view (world_of directory ks xs next) (session_of ks h)) (Run (command_of c) n typed) true ≡ ruling_outcome directory ks (own_of h.own) h.user s c n typed
-    go None there is = unshown_ruled (view (world_of directory ks xs next) (session_of ks h)) c n typed is
-    go (Some name) there is = shown_ruled directory ks xs next h c n typed name there is
-
--- WHAT IS DONE
 
 fresh_ruled : (o : held.Own) → own_of o ≡ idle (own_of o) → own_of (record o { kind = Other }) ≡ acted_own (own_of o)
 fresh_ruled o fresh = at_rest (λ (own : Own). record own { kind = Other }) acted_own (λ own. refl) (own_of o) fresh
 
 module _ (directory : Directory) (ks : List MarkedBuffer) (xs : List Session) (next : Option ℕ) (id at : ℕ) (h : Session) (place : at ≡ position_or_len (session_id id) xs) (within : at < length xs) (found : slice_get xs at ≡ Some h) (fresh : own_of h.own ≡ idle (own_of h.own)) where
-  reowned_so : (name : List ℕ) (new : NewOwner) → world_of directory (change_first (marked_named name) (marked_reowned new) ks) (slice_set xs at (acted Other h)) next ≡ apply (world_of directory ks xs next) id (effects (own_of h.own) (Ok (Reown name new)))
+  pub reowned_so : (name : List ℕ) (new : NewOwner) → world_of directory (change_first (marked_named name) (marked_reowned new) ks) (slice_set xs at (acted Other h)) next ≡ apply (world_of directory ks xs next) id (effects (own_of h.own) (Ok (Reown name new)))
   reowned_so name new =
       let f = session_arranged (effects (own_of h.own) (Ok (Reown name new))) in
       let g : Buffer → Buffer = λ b. record b { owners = owners_after new b.owners } in
@@ -194,7 +38,7 @@ module _ (directory : Directory) (ks : List MarkedBuffer) (xs : List Session) (n
       (λ i. record (session_of ls h) { own = fresh_ruled h.own fresh i; search = search_kept ls h fresh i })
       ∙ ap (change_first (has_id id) f) (sessions_by g (λ b. refl) (λ b. refl) name ks xs ∙ sym (map-id (map (session_of ks) xs))))
 
-  relisted_so : (name : List ℕ) (entries : List Entry) → world_of directory (change_first (marked_named name) (marked_relisted entries) ks) (slice_set xs at (acted Other h)) next ≡ apply (world_of directory ks xs next) id (effects (own_of h.own) (Ok (Relist name entries)))
+  pub relisted_so : (name : List ℕ) (entries : List Entry) → world_of directory (change_first (marked_named name) (marked_relisted entries) ks) (slice_set xs at (acted Other h)) next ≡ apply (world_of directory ks xs next) id (effects (own_of h.own) (Ok (Relist name entries)))
   relisted_so name entries =
       let f = session_arranged (effects (own_of h.own) (Ok (Relist name entries))) in
       let g : Buffer → Buffer = λ b. record b { entries = entries } in
@@ -204,54 +48,8 @@ module _ (directory : Directory) (ks : List MarkedBuffer) (xs : List Session) (n
       (λ i. record (session_of ls h) { own = fresh_ruled h.own fresh i; search = search_kept ls h fresh i })
       ∙ ap (change_first (has_id id) f) (sessions_by g (λ b. refl) (λ b. refl) name ks xs ∙ sym (map-id (map (session_of ks) xs))))
 
-  ruled_so : (r : Ruled) → world_of directory (buffers_ruled r ks) (slice_set xs at (session_ruled r h)) next ≡ apply (world_of directory ks xs next) id (ruled_outcome (own_of h.own) r)
-  ruled_so (Fails message) = failed_so directory ks xs next id at h message place within found fresh
-  ruled_so (Reowns name new) = reowned_so name new
-  ruled_so (Relists name entries) = relisted_so name entries
+pub reowned_sound : (name : List ℕ) (new : NewOwner) (ks : List MarkedBuffer) (xs : List Session) → IsSound ks xs → IsSound (change_first (marked_named name) (marked_reowned new) ks) xs
+reowned_sound name new ks xs sound = sound_by (λ b. record b { owners = owners_after new b.owners }) (λ b. refl) name ks xs sound
 
-  pub ruled_act : (c : Ruling) (n : Option ℕ) (typed : List ℕ) (r : Ruled) → has_buffer [] ks ≡ false → ruled_outcome (own_of h.own) r ≡ ruling_outcome directory ks (own_of h.own) h.user (subject_kept ks (subject_of h)) c n typed
-      → world_of directory (buffers_ruled r ks) (slice_set xs at (session_ruled r h)) next ≡ act (world_of directory ks xs next) id (Run (command_of c) n typed) true
-  ruled_act c n typed r unnamed decided =
-      let w = world_of directory ks xs next in
-      ruled_so r
-      ∙ ap (apply w id) (decided ∙ sym (ruling_known directory ks xs next h c n typed unnamed))
-      ∙ sym (ap (applied w id) (outcome_known directory ks xs next id at h (Run (command_of c) n typed) place within found))
-
-  pub ruled_apart : (r : Ruled) (touched : Touched) → touched ≡ touched_by (ruled_outcome (own_of h.own) r).effect → Apart touched id (world_of directory ks xs next) (world_of directory (buffers_ruled r ks) (slice_set xs at (session_ruled r h)) next)
-  ruled_apart r touched is = rw (is, ruled_so r) (apart_apply (world_of directory ks xs next) id (ruled_outcome (own_of h.own) r))
-
--- SOUNDNESS
-
-buffers_sound : (r : Ruled) (ks : List MarkedBuffer) (xs : List Session) → IsSound ks xs → IsSound (buffers_ruled r ks) xs
-buffers_sound (Fails message) ks xs sound = sound
-buffers_sound (Reowns name new) ks xs sound = sound_by (λ b. record b { owners = owners_after new b.owners }) (λ b. refl) name ks xs sound
-buffers_sound (Relists name entries) ks xs sound = sound_by (λ b. record b { entries = entries }) (λ b. refl) name ks xs sound
-
-uses_ruled : (r : Ruled) (h : Session) (n : List ℕ) (i : ℕ) → session_uses n i (session_ruled r h) ≡ session_uses n i h
-uses_ruled (Fails message) h n i = refl
-uses_ruled (Reowns name new) h n i = refl
-uses_ruled (Relists name entries) h n i = refl
-
-size_ruled : (r : Ruled) (h : Session) → size_in (session_ruled r h) ≡ size_in h
-size_ruled (Fails message) h = refl
-size_ruled (Reowns name new) h = refl
-size_ruled (Relists name entries) h = refl
-
-pub ruled_sound : (r : Ruled) (ks : List MarkedBuffer) (xs : List Session) (at : ℕ) (h : Session) → slice_get xs at ≡ Some h → IsSound ks xs → IsSound (buffers_ruled r ks) (slice_set xs at (session_ruled r h))
-ruled_sound r ks xs at h is sound =
-    sound_set (buffers_ruled r ks) xs at h (session_ruled r h) (sym (get_or_from_slice_get xs at h h is)) (uses_ruled r h) (buffers_sound r ks xs sound)
-
-pub ruled_sizes : (r : Ruled) (xs : List Session) (at : ℕ) (h : Session) → slice_get xs at ≡ Some h → sizes_in (slice_set xs at (session_ruled r h)) ≡ sizes_in xs
-ruled_sizes r xs at h is = sizes_set xs at h (session_ruled r h) (sym (get_or_from_slice_get xs at h h is)) (size_ruled r h)
-
--- IN THE CODE'S STEPS
-
--- an empty name is none
-pub no_empty_name : (ks : List MarkedBuffer) (o : Option (List ℕ)) → IfSome o (λ n. n ≡ []) → IfSome o (λ n. IsName n) → is_some o ≡ has_buffer [] ks → has_buffer [] ks ≡ false
-no_empty_name ks None empty form there = sym there
-no_empty_name ks (Some n) empty form there =
-    let never : IsName [] = subst IsName empty form in cc
-
--- an entry is deleted by a word of keys
-pub entries_run : (a : KeyAct) (c : Command) (k : EntryChange) (n : Option ℕ) → a ≡ acts.Run c n → c ≡ commands.Entries k → act_of a ≡ Run (command_of (Entries k)) n []
-entries_run a c k n a_is c_is = ap act_of a_is ∙ ap (λ (x : Command). Run x n []) c_is
+pub relisted_sound : (name : List ℕ) (entries : List Entry) (ks : List MarkedBuffer) (xs : List Session) → IsSound ks xs → IsSound (change_first (marked_named name) (marked_relisted entries) ks) xs
+relisted_sound name entries ks xs sound = sound_by (λ b. record b { entries = entries }) (λ b. refl) name ks xs sound

@@ -7,24 +7,24 @@ use Rattle.std.proofs.lemmas.List.{map-id}
 use Rattle.std.proofs.lemmas.Option.{get_or_from_slice_get}
 use Rattle.mgs_model.specs.Access.{Directory, Decider, allows, any_right, decider, decision_by}
 use Rattle.mgs_model.specs.Rights.{rights_in}
-use Rattle.mgs_model.specs.World.{World, Buffer, find_session, has_id}
+use Rattle.mgs_model.specs.World.{World, Buffer, has_id}
 use Rattle.mgs_model.specs.World as model
 use Rattle.mgs_model.specs.View.{buffer_seen, find_seen, full_if, text_in, told_if, view}
 use Rattle.mgs_model.specs.Outcome.{Keep_kill, Outcome, Run, Save, Stay}
 use Rattle.mgs_model.specs.Plans.{acted_own}
 use Rattle.mgs_model.specs.Acts.{fails, has_file, here, judged, outcome, permitted, saves}
 use Rattle.mgs_model.specs.Apply.{applied, apply, change_first, outcome_in, session_arranged}
-use Rattle.mgs_model.specs.Apart.{Apart, touched_by}
+use Rattle.mgs_model.specs.Apart.{touched_by}
 use Rattle.mgs_model.specs.Events.{Saved, effect_in, may_be_refused, saved_by}
 use Rattle.mgs_model.specs.declared.right.Right.{Right}
 use Rattle.mgs_model.specs.declared.right.Right.TheVariants.{ReadData, WriteData}
 use Rattle.mgs_model.specs.declared.entry.Decision.TheVariants.{Granted}
 use Rattle.mgs_model.specs.declared.touched.Touched.{Touched}
+use Rattle.mgs_model.specs.declared.touched.Touched.TheVariants.{Nowhere}
 use Rattle.mgs_model.specs.declared.message.Message.{Message}
 use Rattle.mgs_model.specs.declared.message.Message.TheVariants.{InMacro, NoBuffer, NoFile, SaveFailed, Wrote}
 use Rattle.mgs_model.specs.declared.session.Command.TheVariants.{SaveBuffer}
 use Rattle.mgs_model.specs.declared.session.Kind.TheVariants.{Other}
-use Rattle.mgs_laws.proofs.Apart.{apart_apply}
 use Rattle.mgs_model.proofs.Firsts.{position_or_len-map, written_first}
 use Rattle.mgs_store.specs.Stores.{IsCounted, StoreTold, told_more}
 use Rattle.mgs_store.proofs.Told.{told_none}
@@ -35,15 +35,16 @@ use Rattle.mgs_session.specs.declared.Own.{Own}
 use Rattle.mgs_session.specs.declared.Session.{Session}
 use Rattle.mgs_act.specs.Saving.{SavedBy, buffers_saved, save_answered, save_outcome, saves_if, session_saved}
 use Rattle.mgs_world.specs.Sound.{IsSound, session_uses}
-use Rattle.mgs_world.specs.Worlds.{buffers_of, id_after, idle, own_at, own_of, own_or_first, session_id, session_of, size_in, sizes_in, world_of}
+use Rattle.mgs_world.specs.Worlds.{buffers_of, id_after, idle, own_at, own_of, own_or_first, session_id, session_of, world_of}
 use Rattle.mgs_world.proofs.Found.{found_seen, name_kept}
 use Rattle.mgs_world.proofs.Sessions.{session_some}
 use Rattle.mgs_world.proofs.Owns.{at_rest, search_kept}
-use Rattle.mgs_world.proofs.Soundness.{mark_is_kept, sizes_set, sound_set}
+use Rattle.mgs_world.proofs.Soundness.{mark_is_kept, sound_set}
 use Rattle.mgs_world.proofs.Worlds.{same_world}
 use Rattle.mgs_world.proofs.Unmodified.{buffers_unmodified, sessions_unmodified, sound_unmodified}
-use Rattle.mgs_act.proofs.Deeds.{acting_marks, failed_so, fresh_own}
-use Rattle.mgs_act.proofs.Outcomes.{any_read, first_granted, judged_here, permitted_same, selected_none, selected_some, target_at}
+use Rattle.mgs_plan.proofs.Tells.{tells_known}
+use Rattle.mgs_plan.proofs.Deeds.{acting_marks, failed_so, fresh_own}
+use Rattle.mgs_plan.proofs.Outcomes.{any_read, first_granted, judged_here, permitted_same, selected_none, selected_some, target_at}
 
 -- the buffer of the selected window is kept
 pub kept_here : (ks : List MarkedBuffer) (xs : List Session) (at : ℕ) (h : Session) (x : WindowMarks) → IsSound ks xs → slice_get xs at ≡ Some h → window_marks_of h ≡ Some x → HasBuffer x.name ks
@@ -77,10 +78,6 @@ uses_saved : (stored : Bool) (name : List ℕ) (h : Session) (n : List ℕ) (i :
 uses_saved true name h n i = refl
 uses_saved false name h n i = refl
 
-size_saved : (stored : Bool) (name : List ℕ) (h : Session) → size_in (session_saved stored name h) ≡ size_in h
-size_saved true name h = refl
-size_saved false name h = refl
-
 kept_saved : (stored : Bool) (name : List ℕ) (ks : List MarkedBuffer) (xs : List Session) → IsSound ks xs → IsSound (buffers_saved stored name ks) xs
 kept_saved true name ks xs sound = sound_unmodified name ks xs sound
 kept_saved false name ks xs sound = sound
@@ -88,10 +85,6 @@ kept_saved false name ks xs sound = sound
 pub saved_sound : (ks ls : List MarkedBuffer) (xs : List Session) (at : ℕ) (h y : Session) (name : List ℕ) (stored : Bool) → ls ≡ buffers_saved stored name ks → y ≡ session_saved stored name h → slice_get xs at ≡ Some h → IsSound ks xs → IsSound ls (slice_set xs at y)
 saved_sound ks ls xs at h y name stored ls_is y_is is sound =
     rw (ls_is, y_is) (sound_set (buffers_saved stored name ks) xs at h (session_saved stored name h) (sym (get_or_from_slice_get xs at h h is)) (uses_saved stored name h) (kept_saved stored name ks xs sound))
-
-pub saved_sizes : (xs : List Session) (at : ℕ) (h y : Session) (name : List ℕ) (stored : Bool) → y ≡ session_saved stored name h → slice_get xs at ≡ Some h → sizes_in (slice_set xs at y) ≡ sizes_in xs
-saved_sizes xs at h y name stored y_is is =
-    rw y_is (sizes_set xs at h (session_saved stored name h) (sym (get_or_from_slice_get xs at h h is)) (size_saved stored name h))
 
 -- WHAT A SAVE COMES TO
 
@@ -144,10 +137,11 @@ known_at directory ks xs next id at h n stored place within is =
 
 -- THE ACT
 
-saved_act : (w new : World) (before after : StoreTold) (id : ℕ) (n : Option ℕ) (stored : Bool) (o : Outcome) → outcome_in w id (Run SaveBuffer n []) stored ≡ Some o → new ≡ apply w id o → (stored ≡ false → IsCounted before.failed after.failed) → after.accepted ≡ told_more (saved_by o.effect) before.accepted → SavedBy w new before after id n
-saved_act w new before after id n stored o known done fault saves = record {
+saved_act : (w new : World) (before after : StoreTold) (id : ℕ) (n : Option ℕ) (stored : Bool) (o : Outcome) (touched : Touched) → outcome_in w id (Run SaveBuffer n []) stored ≡ Some o → touched ≡ touched_by o.effect → new ≡ apply w id o → (stored ≡ false → IsCounted before.failed after.failed) → after.accepted ≡ told_more (saved_by o.effect) before.accepted → SavedBy w new before after id n touched
+saved_act w new before after id n stored o touched known touches done fault saves = record {
   stored = stored;
   world = done ∙ sym (ap (applied w id) known);
+  tells = tells_known _ o touched known touches;
   fault = fault;
   saves =
       saves
@@ -156,19 +150,20 @@ saved_act w new before after id n stored o known done fault saves = record {
 }
 
 -- it failed before the store was asked
-failed_save : (directory : Directory) (ks : List MarkedBuffer) (xs : List Session) (next : Option ℕ) (before : StoreTold) (id at : ℕ) (h : Session) (n : Option ℕ) (message : Message) → at ≡ position_or_len (session_id id) xs → at < length xs → slice_get xs at ≡ Some h → own_at at xs ≡ idle (own_at at xs) → outcome (view (world_of directory ks xs next) (session_of ks h)) (Run SaveBuffer n []) true ≡ fails (own_of h.own) message → SavedBy (world_of directory ks xs next) (world_of directory ks (slice_set xs at (failed message h)) next) before before id n
+failed_save : (directory : Directory) (ks : List MarkedBuffer) (xs : List Session) (next : Option ℕ) (before : StoreTold) (id at : ℕ) (h : Session) (n : Option ℕ) (message : Message) → at ≡ position_or_len (session_id id) xs → at < length xs → slice_get xs at ≡ Some h → own_at at xs ≡ idle (own_at at xs) → outcome (view (world_of directory ks xs next) (session_of ks h)) (Run SaveBuffer n []) true ≡ fails (own_of h.own) message → SavedBy (world_of directory ks xs next) (world_of directory ks (slice_set xs at (failed message h)) next) before before id n Nowhere
 failed_save directory ks xs next before id at h n message place within is fresh known =
-    saved_act (world_of directory ks xs next) _ before before id n true (fails (own_of h.own) message)
+    saved_act (world_of directory ks xs next) _ before before id n true (fails (own_of h.own) message) Nowhere
     (known_at directory ks xs next id at h n true place within is ∙ ap (λ o. Some o) known)
+    refl
     (failed_so directory ks xs next id at h message place within is (fresh_own xs at h is fresh))
     (λ e. cc)
     (told_none before.accepted [] refl)
 
-pub saved_nowhere : (directory : Directory) (ks : List MarkedBuffer) (xs : List Session) (next : Option ℕ) (before : StoreTold) (id at : ℕ) (h : Session) (n : Option ℕ) → at ≡ position_or_len (session_id id) xs → at < length xs → slice_get xs at ≡ Some h → own_at at xs ≡ idle (own_at at xs) → window_marks_of h ≡ None → SavedBy (world_of directory ks xs next) (world_of directory ks (slice_set xs at (failed NoBuffer h)) next) before before id n
+pub saved_nowhere : (directory : Directory) (ks : List MarkedBuffer) (xs : List Session) (next : Option ℕ) (before : StoreTold) (id at : ℕ) (h : Session) (n : Option ℕ) → at ≡ position_or_len (session_id id) xs → at < length xs → slice_get xs at ≡ Some h → own_at at xs ≡ idle (own_at at xs) → window_marks_of h ≡ None → SavedBy (world_of directory ks xs next) (world_of directory ks (slice_set xs at (failed NoBuffer h)) next) before before id n Nowhere
 saved_nowhere directory ks xs next before id at h n place within is fresh none =
     failed_save directory ks xs next before id at h n NoBuffer place within is fresh (save_nowhere directory ks xs next h n true none)
 
-pub saved_refused : (directory : Directory) (ks : List MarkedBuffer) (xs : List Session) (next : Option ℕ) (before : StoreTold) (id at : ℕ) (h : Session) (x : WindowMarks) (n : Option ℕ) (message : Message) → at ≡ position_or_len (session_id id) xs → at < length xs → slice_get xs at ≡ Some h → own_at at xs ≡ idle (own_at at xs) → window_marks_of h ≡ Some x → HasBuffer x.name ks → ((own : model.Own) (stored : Bool) → save_outcome directory h.user x.name ks h.own.player.playing own stored ≡ fails own message) → SavedBy (world_of directory ks xs next) (world_of directory ks (slice_set xs at (failed message h)) next) before before id n
+pub saved_refused : (directory : Directory) (ks : List MarkedBuffer) (xs : List Session) (next : Option ℕ) (before : StoreTold) (id at : ℕ) (h : Session) (x : WindowMarks) (n : Option ℕ) (message : Message) → at ≡ position_or_len (session_id id) xs → at < length xs → slice_get xs at ≡ Some h → own_at at xs ≡ idle (own_at at xs) → window_marks_of h ≡ Some x → HasBuffer x.name ks → ((own : model.Own) (stored : Bool) → save_outcome directory h.user x.name ks h.own.player.playing own stored ≡ fails own message) → SavedBy (world_of directory ks xs next) (world_of directory ks (slice_set xs at (failed message h)) next) before before id n Nowhere
 saved_refused directory ks xs next before id at h x n message place within is fresh sel kept refused =
     failed_save directory ks xs next before id at h n message place within is fresh (save_known directory ks xs next h x n true sel kept ∙ refused (own_of h.own) true)
 
@@ -196,20 +191,15 @@ answered directory ks xs next id at h x n stored place within is sel kept grante
     ∙ ap (λ o. Some o) (save_known directory ks xs next h x n stored sel kept ∙ granted (own_of h.own) stored)
     ∙ ap (λ o. Some (save_answered (own_or_first o) x.name (marked_at x.name ks).buffer.text stored)) (sym is)
 
-pub saved_asked : (directory : Directory) (ks : List MarkedBuffer) (xs : List Session) (next : Option ℕ) (new : World) (before after : StoreTold) (id at : ℕ) (h : Session) (x : WindowMarks) (n : Option ℕ) (stored : Bool) → at ≡ position_or_len (session_id id) xs → at < length xs → slice_get xs at ≡ Some h → window_marks_of h ≡ Some x → HasBuffer x.name ks → IsGranted directory ks h x
-    → new ≡ apply (world_of directory ks xs next) id (save_answered (own_at at xs) x.name (marked_at x.name ks).buffer.text stored) → (stored ≡ false → IsCounted before.failed after.failed) → after.accepted ≡ told_more (saves_if stored x.name (marked_at x.name ks).buffer.text) before.accepted → SavedBy (world_of directory ks xs next) new before after id n
-saved_asked directory ks xs next new before after id at h x n stored place within is sel kept granted done fault saves =
+pub saved_asked : (directory : Directory) (ks : List MarkedBuffer) (xs : List Session) (next : Option ℕ) (new : World) (before after : StoreTold) (id at : ℕ) (h : Session) (x : WindowMarks) (n : Option ℕ) (stored : Bool) (touched : Touched) → at ≡ position_or_len (session_id id) xs → at < length xs → slice_get xs at ≡ Some h → window_marks_of h ≡ Some x → HasBuffer x.name ks → IsGranted directory ks h x
+    → touched ≡ touched_by (save_answered (own_at at xs) x.name (marked_at x.name ks).buffer.text stored).effect → new ≡ apply (world_of directory ks xs next) id (save_answered (own_at at xs) x.name (marked_at x.name ks).buffer.text stored) → (stored ≡ false → IsCounted before.failed after.failed) → after.accepted ≡ told_more (saves_if stored x.name (marked_at x.name ks).buffer.text) before.accepted → SavedBy (world_of directory ks xs next) new before after id n touched
+saved_asked directory ks xs next new before after id at h x n stored touched place within is sel kept granted touches done fault saves =
     let text = (marked_at x.name ks).buffer.text in
-    saved_act (world_of directory ks xs next) new before after id n stored (save_answered (own_at at xs) x.name text stored)
-    (answered directory ks xs next id at h x n stored place within is sel kept granted) done fault
+    saved_act (world_of directory ks xs next) new before after id n stored (save_answered (own_at at xs) x.name text stored) touched
+    (answered directory ks xs next id at h x n stored place within is sel kept granted) touches done fault
     (saves ∙ ap (λ (more : List Saved). told_more more before.accepted) (saves_answered (own_at at xs) x.name text stored))
 
 -- a save that asks the store may be refused
 pub may_save : (directory : Directory) (ks : List MarkedBuffer) (xs : List Session) (next : Option ℕ) (id at : ℕ) (h : Session) (x : WindowMarks) (n : Option ℕ) → at ≡ position_or_len (session_id id) xs → at < length xs → slice_get xs at ≡ Some h → window_marks_of h ≡ Some x → HasBuffer x.name ks → IsGranted directory ks h x → may_be_refused (outcome_in (world_of directory ks xs next) id (Run SaveBuffer n []) true) ≡ true
 may_save directory ks xs next id at h x n place within is sel kept granted =
     ap may_be_refused (answered directory ks xs next id at h x n true place within is sel kept granted)
-
--- WHAT IS TOUCHED
-
-pub save_apart : (w new : World) (id : ℕ) (own : model.Own) (name text : List ℕ) (stored : Bool) (touched : Touched) → touched ≡ touched_by (save_answered own name text stored).effect → new ≡ apply w id (save_answered own name text stored) → Apart touched id w new
-save_apart w new id own name text stored touched is done = rw (is, done) (apart_apply w id (save_answered own name text stored))

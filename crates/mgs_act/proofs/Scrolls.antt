@@ -11,14 +11,13 @@ use Rattle.mgs_model.specs.Outcome.{Keep, Keep_mark, Outcome}
 use Rattle.mgs_model.specs.Outcome as outcomes
 use Rattle.mgs_model.specs.Plans.{acted_own, row_scrolled}
 use Rattle.mgs_model.specs.Acts.{scrolls_rows}
-use Rattle.mgs_model.specs.Apart.{Apart, touched_by}
-use Rattle.mgs_model.specs.Apply.{act, applied, apply, change_at, change_first, session_arranged, window_adjusted}
+use Rattle.mgs_model.specs.Apart.{touched_by}
+use Rattle.mgs_model.specs.Apply.{act, applied, apply, change_at, change_first, outcome_in, session_arranged, window_adjusted}
 use Rattle.mgs_model.specs.declared.message.Message.TheVariants.{NoBuffer}
 use Rattle.mgs_model.specs.declared.session.Command.{Command}
 use Rattle.mgs_model.specs.declared.session.Kind.TheVariants.{Other}
 use Rattle.mgs_model.specs.declared.session.Scrolling.{Scrolling}
 use Rattle.mgs_model.specs.declared.touched.Touched.TheVariants.{Nowhere}
-use Rattle.mgs_laws.proofs.Apart.{apart_apply}
 use Rattle.mgs_model.proofs.Firsts.{position_or_len-map, written_first}
 use Rattle.mgs_buffers.specs.MarkedBuffer.{MarkedBuffer}
 use Rattle.mgs_windows.specs.declared.WindowMarks.{WindowMarks}
@@ -30,15 +29,17 @@ use Rattle.mgs_session.specs.Sessions.{acted, window_marks_of}
 use Rattle.mgs_session.specs.declared.Own.{Own}
 use Rattle.mgs_session.specs.declared.Session.{Session}
 use Rattle.mgs_arrange.proofs.WindowsGone.{sum_changed}
-use Rattle.mgs_act.specs.Actions.{height_or_none}
-use Rattle.mgs_act.specs.Rows.{outcome_without, pane_scrolled, scroll_in, scroll_outcome, scrolled_at, scrolled_to, session_rows, without_text}
+use Rattle.mgs_plan.specs.Actions.{height_or_none}
+use Rattle.mgs_plan.specs.Rows.{outcome_without, pane_scrolled, scroll_in, scroll_outcome, scrolled_at, scrolled_to, session_rows, without_text}
 use Rattle.mgs_world.specs.Sound.{session_uses, window_uses}
-use Rattle.mgs_world.specs.Worlds.{id_after, idle, own_at, own_of, session_id, session_of, size_in, window_of, window_shown, world_of}
+use Rattle.mgs_world.specs.Worlds.{id_after, idle, own_at, own_of, session_id, session_of, window_of, window_shown, world_of}
 use Rattle.mgs_world.proofs.Owns.{at_rest, search_kept}
 use Rattle.mgs_world.proofs.Worlds.{same_world}
-use Rattle.mgs_act.proofs.Commands.{outcome_known}
-use Rattle.mgs_act.proofs.Deeds.{failed_so, fresh_own}
-use Rattle.mgs_act.proofs.Outcomes.{is_of_text, outcome_none}
+use Rattle.mgs_plan.specs.Tells.{touched_in}
+use Rattle.mgs_plan.proofs.Commands.{outcome_known}
+use Rattle.mgs_plan.proofs.Tells.{tells_known}
+use Rattle.mgs_plan.proofs.Deeds.{failed_so, fresh_own}
+use Rattle.mgs_plan.proofs.Outcomes.{is_of_text, outcome_none}
 
 -- NO MARK MOVES
 
@@ -50,15 +51,6 @@ pub without_uses : (s : Option Scrolling) (h : Session) (n : List ℕ) (i : ℕ)
 without_uses None h n i = refl
 without_uses (Some c) h n i =
     let o = slice_get h.windows.windows h.windows.selected in to_uses (pane_scrolled c (height_or_none o) (rows_in o)) h n i
-
-to_size : (o : Option RowPane) (h : Session) → size_in (scrolled_to o h) ≡ size_in h
-to_size None h = refl
-to_size (Some rows) h = refl
-
-pub without_size : (s : Option Scrolling) (h : Session) → size_in (without_text s h) ≡ size_in h
-without_size None h = refl
-without_size (Some c) h =
-    let o = slice_get h.windows.windows h.windows.selected in to_size (pane_scrolled c (height_or_none o) (rows_in o)) h
 
 -- THE WINDOWS
 
@@ -135,8 +127,9 @@ module _ (directory : Directory) (ks : List MarkedBuffer) (xs : List Session) (n
       by (Buffers row) = refl
       by (Entries name row) = refl
 
-  pub without_apart : (s : Option Scrolling) → window_marks_of h ≡ None → Apart Nowhere id (world_of directory ks xs next) (world_of directory ks (slice_set xs at (without_text s h)) next)
-  without_apart s none =
-      let w = world_of directory ks xs next in
-      let o : Outcome = outcome_without (own_of h.own) s (slice_get h.windows.windows h.windows.selected) in
-      rw (without_so s none) (subst (λ t. Apart t id w (apply w id o)) (touches_nothing s (own_of h.own) (slice_get h.windows.windows h.windows.selected)) (apart_apply w id o))
+  pub tells_without : (c : Command) (n : Option ℕ) (typed : List ℕ) → is_of_text c ≡ true → window_marks_of h ≡ None → Nowhere ≡ touched_in (outcome_in (world_of directory ks xs next) id (outcomes.Run c n typed) true)
+  tells_without c n typed here none =
+      let o = slice_get h.windows.windows h.windows.selected in
+      tells_known _ (outcome_without (own_of h.own) (scroll_in c) o) Nowhere
+      (outcome_known directory ks xs next id at h (outcomes.Run c n typed) place within found ∙ ap (λ o. Some o) (outcome_none directory ks xs next h c n typed here none))
+      (sym (touches_nothing (scroll_in c) (own_of h.own) o))

@@ -8,8 +8,7 @@ use Rattle.mgs_model.specs.declared.session.Setting.TheVariants.{SetFillColumn, 
 use Rattle.mgs_session.specs.declared.Session.{Session}
 use Rattle.mgs_session.specs.Sessions.{acted, failed, filling, macro_ended, macro_started}
 use Rattle.mgs_world.specs.Sound.{session_uses}
-use Rattle.mgs_world.specs.Worlds.{size_in}
-use Rattle.mgs_act.specs.Setting.{session_set}
+use Rattle.mgs_plan.specs.Setting.{session_set}
 
 -- one of two sessions that are the same in this
 either_same : {A : Type 0} (f : Session → A) (x y z : Session) → f y ≡ f x → f z ≡ f x → (c : Bool) → f (cond c y z) ≡ f x
@@ -23,11 +22,3 @@ set_uses KeyboardQuit n x m i = refl
 set_uses StartMacro n x m i = either_same (session_uses m i) x (failed InMacro x) (macro_started x) refl refl (x.own.recorder.recording || x.own.player.playing)
 set_uses EndMacro n x m i = either_same (session_uses m i) x (failed InMacro x) (cond x.own.recorder.recording (macro_ended x) (failed NotInMacro x)) refl (either_same (session_uses m i) x (macro_ended x) (failed NotInMacro x) refl refl x.own.recorder.recording) x.own.player.playing
 set_uses CallMacro n x m i = refl
-
-pub set_size : (s : Setting) (n : Option ℕ) (x : Session) → size_in (session_set s n x) ≡ size_in x
-set_size SetFillColumn None x = refl
-set_size SetFillColumn (Some n) x = either_same size_in x (failed BadColumn x) (filling n (acted Other x)) refl refl (n == 0)
-set_size KeyboardQuit n x = refl
-set_size StartMacro n x = either_same size_in x (failed InMacro x) (macro_started x) refl refl (x.own.recorder.recording || x.own.player.playing)
-set_size EndMacro n x = either_same size_in x (failed InMacro x) (cond x.own.recorder.recording (macro_ended x) (failed NotInMacro x)) refl (either_same size_in x (macro_ended x) (failed NotInMacro x) refl refl x.own.recorder.recording) x.own.player.playing
-set_size CallMacro n x = refl

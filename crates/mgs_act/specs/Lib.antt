@@ -1,14 +1,4 @@
-pub mod Actions
 pub mod Saving
-pub mod Setting
-pub mod Inserting
-pub mod Killing
 pub mod Switching
-pub mod Ruling
-pub mod Rows
-pub mod Subjects
-pub mod Listing
 pub mod Searching
-pub mod Beginning
-pub mod Following
-pub mod Replacing
+pub mod Doing

@@ -6,21 +6,24 @@ use Rattle.mgs_model.specs.World.{World, Own}
 use Rattle.mgs_model.specs.Outcome.{Outcome, Run, Keep_kill, Stay, Save}
 use Rattle.mgs_model.specs.Plans.{acted_own}
 use Rattle.mgs_model.specs.Acts.{fails, permitted}
-use Rattle.mgs_model.specs.Apply.{act, change_first}
+use Rattle.mgs_model.specs.Apply.{act, change_first, outcome_in}
 use Rattle.mgs_model.specs.Events.{Saved, act_effects, saved_by}
 use Rattle.mgs_model.specs.declared.entry.Decision.{Decision}
 use Rattle.mgs_model.specs.declared.message.Message.TheVariants.{InMacro, NoFile, SaveFailed, Wrote}
 use Rattle.mgs_model.specs.declared.session.Command.TheVariants.{SaveBuffer}
+use Rattle.mgs_model.specs.declared.touched.Touched.{Touched}
 use Rattle.mgs_model.specs.declared.session.Kind.TheVariants.{Other}
 use Rattle.mgs_store.specs.Stores.{IsCounted, StoreTold, saved_of, told_more}
 use Rattle.mgs_buffers.specs.MarkedBuffer.{MarkedBuffer, marked_at, marked_named, marked_unmodified}
+use Rattle.mgs_plan.specs.Tells.{touched_in}
 use Rattle.mgs_session.specs.Sessions.{acted, failed, told}
 use Rattle.mgs_session.specs.declared.Session.{Session}
 
 -- WHAT A SAVE IS: the act with the store's answer. Where the store is not asked, the act is the same for any answer.
-pub record SavedBy (old new : World) (before after : StoreTold) (id : ℕ) (n : Option ℕ) : Type 0 where
+pub record SavedBy (old new : World) (before after : StoreTold) (id : ℕ) (n : Option ℕ) (touched : Touched) : Type 0 where
   pub stored : Bool
   pub world : new ≡ act old id (Run SaveBuffer n []) stored
+  pub tells : touched ≡ touched_in (outcome_in old id (Run SaveBuffer n []) stored)
   pub fault : stored ≡ false → IsCounted before.failed after.failed
   pub saves : after.accepted ≡ told_more (flat_map saved_by (act_effects old id (Run SaveBuffer n []) stored)) before.accepted
 

@@ -1,5 +1,5 @@
 // An action is done: in the buffers, and to the session that acts.
-ghost use Rattle.std.specs.Prelude.{◌≡◌, ◌+◌, ◌++◌, ◌<◌, ◌≤◌, ℕ, List, [], length, Option, Some, None, IfOk, OnOk, OnErr, slice_get, true, false};
+ghost use Rattle.std.specs.Prelude.{IsSome, ◌≡◌, ◌+◌, ◌++◌, ◌<◌, ◌≤◌, ℕ, List, [], length, Option, Some, None, IfOk, OnOk, OnErr, slice_get, true, false};
 ghost use Rattle.std.specs.List.{position_or_len};
 ghost use Rattle.std.specs.Option.{option_and_then};
 ghost use Rattle.mgs_model.specs.Access.{Directory};
@@ -10,23 +10,24 @@ ghost use Rattle.mgs_model.specs.Outcome.{kill_takes_memory, takes_memory};
 ghost use Rattle.mgs_model.specs.Text.{is_edit};
 ghost use Rattle.mgs_model.specs.World.{Own};
 ghost use Rattle.mgs_buffers.specs.MarkedBuffer.{HasBuffer, IsMark, MarkedBuffer, marked_at, marked_edited, marked_named, marked_placed};
+ghost use Rattle.mgs_marks.specs.Marks.{mark_in};
+ghost use Rattle.mgs_buffers.specs.Placing.{CanStand, placed_if};
 ghost use Rattle.mgs_edit.specs.Reading.{ChangeWithin, GoesWithin, IsWithin, PieceWithin, change_read, kill_read, point_read, put_read, top_read, undone_read};
 ghost use Rattle.mgs_session.specs.Sessions.{acted, told, window_marks_of};
-ghost use Rattle.mgs_act.specs.declared.action.Action.TheVariants.{Edits, Moves, Undoes};
-ghost use Rattle.mgs_act.specs.Actions.{AreMarks, CanBeDone, CanUndo, IsMarked, kill_at, edited_by, kill_set, mark_gone, mark_told, marked_after, outcome_through, removed_by, session_acted};
-ghost use Rattle.mgs_act.specs.Following.{edit_through, followed};
+ghost use Rattle.mgs_plan.specs.declared.action.Action.TheVariants.{Edits, Moves, Undoes};
+ghost use Rattle.mgs_plan.specs.Actions.{AreMarks, CanBeDone, CanUndo, IsMarked, kill_at, edited_by, kill_set, mark_gone, mark_told, marked_after, outcome_through, removed_by, session_acted};
+ghost use Rattle.mgs_plan.specs.Following.{edit_through, followed};
 ghost use Rattle.mgs_world.specs.Sound.{IsSound};
 ghost use Rattle.mgs_world.specs.WindowMarks.{WindowMarksDropped};
-ghost use Rattle.mgs_world.specs.Worlds.{idle, own_at, session_id, sizes_in, world_of};
+ghost use Rattle.mgs_world.specs.Worlds.{idle, own_at, session_id, world_of};
 
-use crate::action::Action;
-use crate::following::{edit_of, follow};
 use mgs_buffers::Buffers;
 use mgs_edit::{
     Change, Finish, Goes, Joins, Piece, Put, Undone, is_edit, is_undo_an_edit, put_chars,
 };
 use mgs_marks::Marked;
 use mgs_model::{Kind, MarkId, Message, Name, Short, Touched};
+use mgs_plan::{Action, edit_of, follow};
 use mgs_session::{Session, fail, finish, set_kill};
 use mgs_text::Text;
 use mgs_windows::WindowMarks;
@@ -199,47 +200,26 @@ fn restore<T: Marked + Drop>(
     Ok(undone.from)
 }
 
-/// Puts a mark of the window's buffer at a position.
-fn place<T: Marked + Drop>(buffers: &mut Buffers<T>, name: &Name, mark: MarkId, position: usize)
-    requires mark { IsMark name.now mark buffers.old }
-    requires within { position ≤ length (marked_at name.now buffers.old).buffer.text }
-    ensures { buffers.new ≡ change_first (marked_named name.now) (marked_placed mark position) buffers.old }
-{
-    buffers.place(name, mark, position);
-}
-
-/// The window's point goes where it is to. What was put in ends at `behind`.
-fn place_point<T: Marked + Drop>(
-    buffers: &mut Buffers<T>,
-    window_marks: &WindowMarks,
-    goes: &Goes,
-    behind: usize,
-)
-    requires point { IsMark window_marks.now.name window_marks.now.point buffers.old }
-    requires within { GoesWithin (length (marked_at window_marks.now.name buffers.old).buffer.text) goes.now }
-    requires behind { behind ≤ length (marked_at window_marks.now.name buffers.old).buffer.text }
-    ensures { buffers.new ≡ mark_gone window_marks.now.name window_marks.now.point (point_read behind goes.now) buffers.old }
+/// The point of a window, and where it goes. What was put in ends at `behind`.
+fn point_target(window_marks: &WindowMarks, goes: &Goes, behind: usize) -> Option<(MarkId, usize)>
+    ensures value { (name : List ℕ) (ks : List MarkedBuffer) → placed_if name result ks ≡ mark_gone name window_marks.now.point (point_read behind goes.now) ks }
+    ensures stands { (k : MarkedBuffer) → IsSome (mark_in k.marks window_marks.now.point) → GoesWithin (length k.buffer.text) goes.now → behind ≤ length k.buffer.text → CanStand k.marks k.buffer.text result }
 {
     match *goes {
-        Goes::Stays => {}
-        Goes::To(position) => place(buffers, &window_marks.name, window_marks.point, position),
-        Goes::Behind => place(buffers, &window_marks.name, window_marks.point, behind),
+        Goes::Stays => None,
+        Goes::To(position) => Some((window_marks.point, position)),
+        Goes::Behind => Some((window_marks.point, behind)),
     }
 }
 
-/// The window's top goes where it is to.
-fn place_top<T: Marked + Drop>(
-    buffers: &mut Buffers<T>,
-    window_marks: &WindowMarks,
-    top: &Option<usize>,
-)
-    requires top { IsMark window_marks.now.name window_marks.now.top buffers.old }
-    requires within { IsWithin (length (marked_at window_marks.now.name buffers.old).buffer.text) top.now }
-    ensures { buffers.new ≡ mark_gone window_marks.now.name window_marks.now.top (top_read top.now) buffers.old }
+/// The top of a window, and where it goes.
+fn top_target(window_marks: &WindowMarks, top: &Option<usize>) -> Option<(MarkId, usize)>
+    ensures value { (name : List ℕ) (ks : List MarkedBuffer) → placed_if name result ks ≡ mark_gone name window_marks.now.top (top_read top.now) ks }
+    ensures stands { (k : MarkedBuffer) → IsSome (mark_in k.marks window_marks.now.top) → IsWithin (length k.buffer.text) top.now → CanStand k.marks k.buffer.text result }
 {
     match *top {
-        None => {}
-        Some(position) => place(buffers, &window_marks.name, window_marks.top, position),
+        None => None,
+        Some(position) => Some((window_marks.top, position)),
     }
 }
 
@@ -269,8 +249,9 @@ pub fn leave<T: Marked + Drop>(
     ensures marks { buffers.new ≡ mark_gone window_marks.now.name window_marks.now.top (top_read left.now.top) (mark_gone window_marks.now.name window_marks.now.point (point_read behind left.now.point) buffers.old) }
     ensures session { session.new ≡ told left.now.told (acted left.now.kind (record session.old { kill = kill_set kill session.old.kill })) }
 {
-    place_point(buffers, window_marks, &left.point, behind);
-    place_top(buffers, window_marks, &left.top);
+    let point = point_target(window_marks, &left.point, behind);
+    let top = top_target(window_marks, &left.top);
+    buffers.place_both(&window_marks.name, point, top);
     hold_kill(session, kill);
     finish(session, left.kind, left.told);
 }
@@ -439,7 +420,6 @@ fn perform_plain<T: Marked + Drop>(
     requires can { CanBeDone buffers.old window_marks.now (kill_at at sessions.old) action.now }
     requires unmarked { mark_told action.now ≡ None }
     ensures sound { IsSound buffers.new sessions.new }
-    ensures sizes { sizes_in sessions.new ≡ sizes_in sessions.old }
     ensures ok { OnOk result ((directory : Directory) (id : ℕ) (next : Option ℕ) → at ≡ position_or_len (session_id id) sessions.old → world_of directory buffers.new (followed window_marks.now.name (edit_through window_marks.now buffers.old (kill_at at sessions.old) action.now) sessions.new) next ≡ apply (world_of directory buffers.old sessions.old next) id (outcome_through (own_at at sessions.old) window_marks.now buffers.old (kill_at at sessions.old) action.now)) }
     ensures err { OnErr result ((directory : Directory) (next : Option ℕ) → world_of directory buffers.new sessions.new next ≡ world_of directory buffers.old sessions.old next) }
     ensures may { OnErr result ((own : Own) → takes_memory (outcome_through own window_marks.now buffers.old (kill_at at sessions.old) action.now) ≡ true) }
@@ -464,7 +444,6 @@ fn perform_marked<T: Marked + Drop>(
     requires can { CanBeDone buffers.old window_marks.now (kill_at at sessions.old) action.now }
     requires told { mark_told action.now ≡ Some position }
     ensures sound { IsSound buffers.new sessions.new }
-    ensures sizes { sizes_in sessions.new ≡ sizes_in sessions.old }
     ensures ok { OnOk result ((directory : Directory) (id : ℕ) (next : Option ℕ) → at ≡ position_or_len (session_id id) sessions.old → world_of directory buffers.new (followed window_marks.now.name (edit_through window_marks.now buffers.old (kill_at at sessions.old) action.now) sessions.new) next ≡ apply (world_of directory buffers.old sessions.old next) id (outcome_through (own_at at sessions.old) window_marks.now buffers.old (kill_at at sessions.old) action.now)) }
     ensures err { OnErr result ((directory : Directory) (next : Option ℕ) → world_of directory buffers.new sessions.new next ≡ world_of directory buffers.old sessions.old next) }
     ensures may { OnErr result ((own : Own) → takes_memory (outcome_through own window_marks.now buffers.old (kill_at at sessions.old) action.now) ≡ true) }
@@ -494,7 +473,6 @@ fn perform_unfollowed<T: Marked + Drop>(
     requires fresh { own_at at sessions.old ≡ idle (own_at at sessions.old) }
     requires can { CanBeDone buffers.old window_marks.now (kill_at at sessions.old) action.now }
     ensures sound { IsSound buffers.new sessions.new }
-    ensures sizes { sizes_in sessions.new ≡ sizes_in sessions.old }
     ensures ok { OnOk result ((directory : Directory) (id : ℕ) (next : Option ℕ) → at ≡ position_or_len (session_id id) sessions.old → world_of directory buffers.new (followed window_marks.now.name (edit_through window_marks.now buffers.old (kill_at at sessions.old) action.now) sessions.new) next ≡ apply (world_of directory buffers.old sessions.old next) id (outcome_through (own_at at sessions.old) window_marks.now buffers.old (kill_at at sessions.old) action.now)) }
     ensures err { OnErr result ((directory : Directory) (next : Option ℕ) → world_of directory buffers.new sessions.new next ≡ world_of directory buffers.old sessions.old next) }
     ensures may { OnErr result ((own : Own) → takes_memory (outcome_through own window_marks.now buffers.old (kill_at at sessions.old) action.now) ≡ true) }
@@ -528,7 +506,6 @@ pub fn perform<T: Marked + Drop>(
     requires fresh { own_at at sessions.old ≡ idle (own_at at sessions.old) }
     requires can { CanBeDone buffers.old window_marks.now (kill_at at sessions.old) action.now }
     ensures sound { IsSound buffers.new sessions.new }
-    ensures sizes { sizes_in sessions.new ≡ sizes_in sessions.old }
     ensures ok { OnOk result ((directory : Directory) (id : ℕ) (next : Option ℕ) → at ≡ position_or_len (session_id id) sessions.old → world_of directory buffers.new sessions.new next ≡ apply (world_of directory buffers.old sessions.old next) id (outcome_through (own_at at sessions.old) window_marks.now buffers.old (kill_at at sessions.old) action.now)) }
     ensures err { OnErr result ((directory : Directory) (next : Option ℕ) → world_of directory buffers.new sessions.new next ≡ world_of directory buffers.old sessions.old next) }
     ensures may { OnErr result ((own : Own) → takes_memory (outcome_through own window_marks.now buffers.old (kill_at at sessions.old) action.now) ≡ true) }

@@ -1,24 +1,11 @@
 // Commands on a text in a window that shows none: the rows of a list are scrolled, and nothing else is done.
 ghost use Rattle.std.specs.Prelude.{◌≡◌, Option};
-ghost use Rattle.mgs_model.specs.Plans.{row_scrolled};
-ghost use Rattle.mgs_act.specs.Rows.{pane_scrolled, scroll_in, scrolled_to, without_text};
+ghost use Rattle.mgs_plan.specs.Rows.{pane_scrolled, scroll_in, scrolled_to, without_text};
 
+use mgs_edit::scrolled_row;
 use mgs_model::{Command, Kind, Message, Scrolling};
 use mgs_session::{Session, fail, set_kind};
 use mgs_windows::RowPane;
-
-/// The last row from which a window can show a list.
-const LAST_TOP_ROW: usize = 512;
-
-/// The row from which a list is shown, a window's rows further on or back.
-fn row_scrolled(scrolling: Scrolling, row: usize, height: usize) -> usize
-    ensures { result ≡ row_scrolled scrolling row height }
-{
-    match scrolling {
-        Scrolling::ScrollUp => row.saturating_add(height).min(LAST_TOP_ROW),
-        Scrolling::ScrollDown => row.saturating_sub(height),
-    }
-}
 
 /// The rows of a window, scrolled. `None` where it has none.
 fn pane_scrolled(scrolling: Scrolling, height: usize, rows: RowPane) -> Option<RowPane>
@@ -27,11 +14,11 @@ fn pane_scrolled(scrolling: Scrolling, height: usize, rows: RowPane) -> Option<R
     match rows {
         RowPane::NoRows => None,
         RowPane::Buffers { row } => Some(RowPane::Buffers {
-            row: row_scrolled(scrolling, row, height),
+            row: scrolled_row(row, height, scrolling),
         }),
         RowPane::Entries { name, row } => Some(RowPane::Entries {
             name,
-            row: row_scrolled(scrolling, row, height),
+            row: scrolled_row(row, height, scrolling),
         }),
     }
 }

@@ -1,21 +1,19 @@
 // A save: the text that a session's selected window shows is handed to the store.
-ghost use Rattle.std.specs.Prelude.{◌≡◌, ◌<◌, ℕ, Bool, false, List, [], length, Option, Some, None, IfOk, IfSome, OnOk, OnErr, slice_get, true};
+ghost use Rattle.std.specs.Prelude.{◌≡◌, ◌<◌, ℕ, Bool, false, List, [], length, Option, Some, None, IfOk, IfSome, OnOk, OnErr, true};
 ghost use Rattle.std.specs.List.{position_or_len};
-ghost use Rattle.std.specs.Option.{option_and_then};
 ghost use Rattle.mgs_model.specs.Access.{Directory};
 ghost use Rattle.mgs_model.specs.Acts.{fails};
-ghost use Rattle.mgs_model.specs.Apart.{Apart, touched_by};
+ghost use Rattle.mgs_model.specs.Apart.{touched_by};
 ghost use Rattle.mgs_model.specs.Apply.{apply, outcome_in};
 ghost use Rattle.mgs_model.specs.Events.{may_be_refused};
 ghost use Rattle.mgs_model.specs.Outcome.{Run};
 ghost use Rattle.mgs_model.specs.World.{Own};
 ghost use Rattle.mgs_model.specs.declared.session.Command.TheVariants.{SaveBuffer};
 ghost use Rattle.mgs_buffers.specs.MarkedBuffer.{HasBuffer, marked_at};
-ghost use Rattle.mgs_session.specs.Sessions.{window_marks_of};
-ghost use Rattle.mgs_store.specs.Stores.{IsCounted, StoreTold, told_more};
+ghost use Rattle.mgs_store.specs.Stores.{IsCounted, told_more};
 ghost use Rattle.mgs_act.specs.Saving.{SavedBy, buffers_saved, save_answered, save_outcome, saves_if, session_saved};
 ghost use Rattle.mgs_world.specs.Sound.{IsSound};
-ghost use Rattle.mgs_world.specs.Worlds.{idle, own_at, session_id, sizes_in, world_of};
+ghost use Rattle.mgs_world.specs.Worlds.{idle, own_at, session_id, world_of};
 
 use mgs_buffers::Buffers;
 use mgs_marks::Marked;
@@ -24,7 +22,6 @@ use mgs_policy::Directory;
 use mgs_session::{Session, fail, finish, selected_window_marks};
 use mgs_store::Store;
 use mgs_text::Text;
-use mgs_windows::WindowMarks;
 
 /// Why a user may not have a buffer saved, if there is a reason: the rights are asked first, then whether a macro plays, and then the
 /// file.
@@ -138,7 +135,6 @@ fn save_text<T: Marked + Drop, S: Store>(
     requires kept { HasBuffer name.now buffers.old }
     requires fresh { own_at at sessions.old ≡ idle (own_at at sessions.old) }
     ensures sound { IsSound buffers.new sessions.new }
-    ensures sizes { sizes_in sessions.new ≡ sizes_in sessions.old }
     ensures ok { IfOk result (λ stored. (directory : Directory) (id : ℕ) (next : Option ℕ) → at ≡ position_or_len (session_id id) sessions.old → world_of directory buffers.new sessions.new next ≡ apply (world_of directory buffers.old sessions.old next) id (save_answered (own_at at sessions.old) name.now (marked_at name.now buffers.old).buffer.text stored)) }
     ensures saved { IfOk result (λ stored. S.accepted store.new ≡ told_more (saves_if stored name.now (marked_at name.now buffers.old).buffer.text) (S.accepted store.old)) }
     ensures fault { IfOk result (λ stored. stored ≡ false → IsCounted (S.failed store.old) (S.failed store.new)) }
@@ -169,9 +165,7 @@ pub fn save<T: Marked + Drop, S: Store>(
     requires within { at < length sessions.old }
     requires fresh { own_at at sessions.old ≡ idle (own_at at sessions.old) }
     ensures sound { IsSound buffers.new sessions.new }
-    ensures sizes { sizes_in sessions.new ≡ sizes_in sessions.old }
-    ensures ok { OnOk result ((id : ℕ) (next : Option ℕ) (n : Option ℕ) → at ≡ position_or_len (session_id id) sessions.old → SavedBy (world_of directory.now buffers.old sessions.old next) (world_of directory.now buffers.new sessions.new next) (record { failed = S.failed store.old; accepted = S.accepted store.old }) (record { failed = S.failed store.new; accepted = S.accepted store.new }) id n) }
-    ensures touched { IfOk result (λ touched. (id : ℕ) (next : Option ℕ) → at ≡ position_or_len (session_id id) sessions.old → Apart touched id (world_of directory.now buffers.old sessions.old next) (world_of directory.now buffers.new sessions.new next)) }
+    ensures ok { IfOk result (λ touched. (id : ℕ) (next : Option ℕ) (n : Option ℕ) → at ≡ position_or_len (session_id id) sessions.old → SavedBy (world_of directory.now buffers.old sessions.old next) (world_of directory.now buffers.new sessions.new next) (record { failed = S.failed store.old; accepted = S.accepted store.old }) (record { failed = S.failed store.new; accepted = S.accepted store.new }) id n touched) }
     ensures err { OnErr result ((next : Option ℕ) → world_of directory.now buffers.new sessions.new next ≡ world_of directory.now buffers.old sessions.old next) }
     ensures unasked { OnErr result (store.new ≡ store.old) }
     ensures may { OnErr result ((id : ℕ) (next : Option ℕ) (n : Option ℕ) → at ≡ position_or_len (session_id id) sessions.old → may_be_refused (outcome_in (world_of directory.now buffers.old sessions.old next) id (Run SaveBuffer n []) true) ≡ true) }

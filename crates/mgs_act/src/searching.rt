@@ -1,10 +1,6 @@
-// A search for what was typed: it is planned, and then done.
-ghost use Rattle.std.specs.Prelude.{◌≡◌, ◌<◌, ◌≤◌, ℕ, List, length, Option, IfOk, OnOk, OnErr, true};
-ghost use Rattle.std.specs.List.{position_or_len};
+// What a search for what was typed comes to.
+ghost use Rattle.std.specs.Prelude.{◌≡◌, ◌≤◌, ℕ, List, length, Option, IfOk, IfSome};
 ghost use Rattle.mgs_model.specs.Acts.{moved_by};
-ghost use Rattle.mgs_model.specs.Apart.{Apart};
-ghost use Rattle.mgs_model.specs.Apply.{act, outcome_in};
-ghost use Rattle.mgs_model.specs.Events.{may_be_refused};
 ghost use Rattle.mgs_model.specs.Outcome.{Run};
 ghost use Rattle.mgs_model.specs.Plans as plans;
 ghost use Rattle.mgs_model.specs.Plans.{motion};
@@ -14,25 +10,22 @@ ghost use Rattle.mgs_model.specs.declared.session.Motion.TheVariants.{SearchFor}
 ghost use Rattle.mgs_buffers.specs.MarkedBuffer.{HasBuffer, marked_at};
 ghost use Rattle.mgs_edit.specs.Reading.{FinishWithin, motion_read};
 ghost use Rattle.mgs_search.specs.Planned.{went};
-ghost use Rattle.mgs_act.specs.Actions.{AreMarks, CanBeDone, CanDo, action_outcome, given_own, outcome_through, plan_in, selected_height};
+ghost use Rattle.mgs_plan.specs.Actions.{AreMarks, CanBeDone, CanDo, action_outcome, given_own, outcome_through, plan_in, selected_height};
+ghost use Rattle.mgs_session.specs.Sessions.{window_marks_of};
+ghost use Rattle.mgs_session.specs.declared.Session as code;
+ghost use Rattle.mgs_plan.specs.Deciding.{CanPerform, IsOutcome};
 ghost use Rattle.mgs_act.specs.Searching.{sought};
-ghost use Rattle.mgs_world.specs.Sound.{IsSound};
-ghost use Rattle.mgs_world.specs.Worlds.{idle, own_at, own_of, session_id, sizes_in, world_of};
+ghost use Rattle.mgs_world.specs.Worlds.{idle, own_of};
 
-use crate::action::Action;
-use crate::given::Given;
-use crate::performing::{perform, touched_by};
-use crate::planning::{around, denial, moves, needs};
-use crate::rows::act_without_text;
 use mgs_buffers::Buffers;
 use mgs_edit::{Finish, Goes};
 use mgs_marks::Marked;
-use mgs_model::{Command, Direction, Kind, Message, Motion, Name, Short, Touched};
+use mgs_model::{Command, Direction, Kind, Message, Motion, Name};
+use mgs_plan::{Action, Given, Outcome, around, denial, moves, needs};
 use mgs_policy::Directory;
 use mgs_search::search_for;
 use mgs_session::{SearchString, Session, selected_window_marks};
 use mgs_windows::WindowMarks;
-use std::alloc::Global;
 
 /// The point goes to where a search ends.
 fn goes(found: Result<usize, Message>) -> Result<Finish, Message>
@@ -171,35 +164,23 @@ fn plan_meant<T: Marked + Drop>(
     )
 }
 
-/// A search by the session at `at`, which is at rest, in the text that its selected window shows: for what was typed, or for the
-/// search string where nothing was. It tells what it touched, and what it did not touch is as it was. `Short`: memory was
-/// refused, the world is as it was, and the act is one that may be refused.
-pub fn search<T: Marked + Drop>(
-    alloc: Global,
-    buffers: &mut Buffers<T>,
+/// What a search comes to for a session at rest: for what was typed, or for the search string where nothing was.
+pub fn plan_search<T: Marked + Drop>(
+    buffers: &Buffers<T>,
     directory: &Directory,
-    sessions: &mut [Session],
-    at: usize,
+    session: &Session,
     direction: Direction,
     argument: Option<usize>,
     typed: &[char],
-) -> Result<Touched, Short>
-    requires sound { IsSound buffers.old sessions.old }
-    requires within { at < length sessions.old }
-    requires fresh { own_at at sessions.old ≡ idle (own_at at sessions.old) }
+) -> Outcome
+    requires marks { IfSome (window_marks_of session.now) (AreMarks buffers.now) }
+    requires fresh { own_of session.now.own ≡ idle (own_of session.now.own) }
     requires few { length typed.now ≤ 120 }
-    ensures sound { IsSound buffers.new sessions.new }
-    ensures sizes { sizes_in sessions.new ≡ sizes_in sessions.old }
-    ensures ok { OnOk result ((id : ℕ) (next : Option ℕ) → at ≡ position_or_len (session_id id) sessions.old → world_of directory.now buffers.new sessions.new next ≡ act (world_of directory.now buffers.old sessions.old next) id (Run (Move (SearchFor direction)) argument (sought (own_at at sessions.old).pattern typed.now)) true) }
-    ensures touched { IfOk result (λ touched. (id : ℕ) (next : Option ℕ) → at ≡ position_or_len (session_id id) sessions.old → Apart touched id (world_of directory.now buffers.old sessions.old next) (world_of directory.now buffers.new sessions.new next)) }
-    ensures err { OnErr result ((next : Option ℕ) → world_of directory.now buffers.new sessions.new next ≡ world_of directory.now buffers.old sessions.old next) }
-    ensures may { OnErr result ((id : ℕ) (next : Option ℕ) → at ≡ position_or_len (session_id id) sessions.old → may_be_refused (outcome_in (world_of directory.now buffers.old sessions.old next) id (Run (Move (SearchFor direction)) argument (sought (own_at at sessions.old).pattern typed.now)) true) ≡ true) }
+    ensures value { (xs : List code.Session) (next : Option ℕ) → IsOutcome directory.now buffers.now xs next session.now (Run (Move (SearchFor direction)) argument (sought (own_of session.now.own).pattern typed.now)) result }
+    ensures can { CanPerform buffers.now session.now result }
 {
-    let session = &sessions[at];
     let Some(window_marks) = selected_window_marks(session) else {
-        let command = Command::Move(Motion::SearchFor(direction));
-        act_without_text(&mut sessions[at], command);
-        return Ok(Touched::Nowhere);
+        return Outcome::Fails(Message::NoBuffer);
     };
     let action = plan_meant(
         buffers,
@@ -210,9 +191,5 @@ pub fn search<T: Marked + Drop>(
         argument,
         typed,
     );
-    let touched = touched_by(&window_marks, &action, session.kill.as_slice().len());
-    match perform(alloc, buffers, sessions, at, &window_marks, &action) {
-        Ok(()) => Ok(touched),
-        Err(short) => Err(short),
-    }
+    Outcome::Acts(window_marks, action)
 }

@@ -1,6 +1,6 @@
 // Settings of a session.
 ghost use Rattle.std.specs.Prelude.{◌≡◌};
-ghost use Rattle.mgs_act.specs.Setting.{column_set, recording_ended, recording_started, session_set};
+ghost use Rattle.mgs_plan.specs.Setting.{column_set, recording_ended, recording_started, session_set};
 
 use mgs_model::{Kind, Message, Setting};
 use mgs_session::{Session, end_macro, fail, give_up_macro, set_fill, set_kind, start_macro};

@@ -1,5 +1,5 @@
 -- An arrangement of windows, as the model's act of a session: that it comes to what is said of the session alone.
-use Rattle.std.proofs.Common.{◌≡◌, ℕ, ◌+◌, ◌-◌, ◌<◌, ◌≢◌, ◌==◌, nat_lt, nat_le, Bool, true, false, cond, List, [], ◌∷◌, map, length, remove, Option, None, Some, Result, Ok, Err, refl, sym, ap, ap₂, subst, ◌∙◌, ◌||◌, map-id, arith, eqb-true, ne_eqb, le-ltb, ltb-false}
+use Rattle.std.proofs.Common.{◌≡◌, ℕ, ◌+◌, ◌-◌, ◌<◌, ◌≢◌, ◌==◌, nat_lt, nat_le, Bool, true, false, cond, List, [], ◌∷◌, map, length, remove, Option, None, Some, Result, Ok, Err, refl, sym, ap, ap₂, ◌∙◌, ◌||◌, map-id, arith, eqb-true, ne_eqb, le-ltb, ltb-false}
 use Rattle.std.specs.Option.{option_map}
 use Rattle.std.proofs.lemmas.List.{length-map}
 use Rattle.mgs_model.specs.World.{Buffer_of, List_of, Listing, Own, Place, Session, Shows, Window, World, find_session, has_id}
@@ -8,7 +8,6 @@ use Rattle.mgs_model.specs.Outcome.{Arrange, Effect, No_effect, Keep_search, Out
 use Rattle.mgs_model.specs.Plans.{acted_own, arrangement, comes, count_of, failed_own, given, heir, height_at, kind_failed, neighbor, old_slot, resized, rows_of, selects, slots_but}
 use Rattle.mgs_model.specs.Acts.{arranges, fails, outcome}
 use Rattle.mgs_model.specs.Apply.{act, applied, apply, change_at, change_first, comer, outcome_in, places_left, searches, session_arranged, window_at}
-use Rattle.mgs_model.specs.Apart.{Apart, touched_by}
 use Rattle.mgs_model.specs.Events.{may_be_refused}
 use Rattle.mgs_model.specs.declared.limits.TheConstants.{WINDOW_LIMIT}
 use Rattle.mgs_model.specs.declared.message.Message.{Message}
@@ -18,8 +17,6 @@ use Rattle.mgs_model.specs.declared.session.Arrangement.TheVariants.{DeleteWindo
 use Rattle.mgs_model.specs.declared.session.Command.TheVariants.{Rearrange}
 use Rattle.mgs_model.specs.declared.session.Kind.{Kind}
 use Rattle.mgs_model.specs.declared.session.Kind.TheVariants.{Other}
-use Rattle.mgs_model.specs.declared.touched.Touched.TheVariants.{Nowhere}
-use Rattle.mgs_laws.proofs.Apart.{apart_apply}
 use Rattle.mgs_model.proofs.Basics.{or_true}
 use Rattle.mgs_model.proofs.Firsts.{change_first_found}
 use Rattle.mgs_windows.specs.Panes.{closer}
@@ -223,10 +220,6 @@ outcome_is : (w : World) (id : ℕ) (c : Arrangement) (n : Option ℕ) (x : Sess
 unfolding outcome
 outcome_is w id c n x found = ap (λ o. option_map (λ v. outcome v (Run (Rearrange c) n []) true) (option_map (view w) o)) found
 
-touches_nothing : (own : Own) (plan : Result Arrange Message) → touched_by (arranges own No_effect plan).effect ≡ Nowhere
-touches_nothing own (Ok plan) = refl
-touches_nothing own (Err message) = refl
-
 -- an arrangement changes the acting session alone
 session_alone : (w : World) (id : ℕ) (own : Own) (plan : Result Arrange Message) → apply w id (arranges own No_effect plan) ≡ record w { sessions = change_first (has_id id) (session_arranged (arranges own No_effect plan)) w.sessions }
 session_alone w id own (Ok plan) =
@@ -242,14 +235,6 @@ arranged_act w id c n x found fresh quiet within =
     ∙ session_alone w id x.own (arrangement c (seen can x.windows) x.selected n)
     ∙ ap (λ xs. record w { sessions = xs })
     (change_first_found (has_id id) (session_arranged (planned w x c n)) (λ old. run_ended (arranged_or_told (rearranged c n x) x)) x w.sessions found (arrangement_done can c n x fresh quiet within))
-
--- what it leaves apart
-pub arranged_apart : (w : World) (id : ℕ) (c : Arrangement) (n : Option ℕ) (x : Session) → find_session id w.sessions ≡ Some x → Apart Nowhere id w (act w id (Run (Rearrange c) n []) true)
-arranged_apart w id c n x found =
-    let can = reads w.directory w.buffers x.user in
-    let plan = arrangement c (seen can x.windows) x.selected n in
-    let there : Apart Nowhere id w (apply w id (planned w x c n)) = subst (λ t. Apart t id w (apply w id (planned w x c n))) (touches_nothing x.own plan) (apart_apply w id (planned w x c n)) in
-    subst (λ v. Apart Nowhere id w v) (sym (ap (applied w id) (outcome_is w id c n x found))) there
 
 -- A REFUSED SPLIT
 

@@ -83,7 +83,7 @@ pub reheighted_one : (g : ℕ → ℕ) (m : ℕ) (xs : List Window) → reheight
 reheighted_one g m xs =
     (let on : m ≡ 0 + m = omega arith in ap (λ n. reheighted (λ j h. cond (j == n) (g h) h) 0 xs) on) ∙ reheighted_at g 0 m xs
 
-map_remove : {A B : Type 0} (f : A → B) (xs : List A) (k : ℕ) → map f (remove xs k) ≡ remove (map f xs) k
+pub map_remove : {A B : Type 0} (f : A → B) (xs : List A) (k : ℕ) → map f (remove xs k) ≡ remove (map f xs) k
 map_remove f [] zero = refl
 map_remove f [] (suc k) = refl
 map_remove f (x ∷ xs) zero = refl

@@ -17,7 +17,7 @@ use Rattle.mgs_world.specs.Worlds.{place_of, rows_shown, session_id, session_of,
 use Rattle.mgs_world.proofs.WindowMarks.{same_sizes, session_local}
 use Rattle.mgs_world.proofs.Worlds.{same_positions}
 use Rattle.mgs_arrange.specs.Arranged.{left_by, listing_for, run_ended, window_lists}
-use Rattle.mgs_arrange.specs.Arranging.{Lessened, Rearranged}
+use Rattle.mgs_arrange.specs.Arranging.{Rearranged}
 use Rattle.mgs_arrange.specs.Listing.{IsFromStart, listed_in}
 use Rattle.mgs_arrange.proofs.WindowsGone.{after_uses, height_shown, map_changed, places_seen, window_seen}
 use Rattle.mgs_arrange.proofs.WindowShown.{given_up, made_world}
@@ -59,11 +59,8 @@ module _ (ks ls : List MarkedBuffer) (rows : RowPane) (x : Session) (within : x.
   left_sound = record { once = λ m i. omega (arith, sound.once m i, came_uses m i rows x within) }
 
   module _ (dropped : WindowMarksDropped (given_up x) ks ls) where
-    pub rows_less : Lessened ks ls x (rows_session rows x)
-    rows_less = record {
-      rearranged = record { buffers = dropped.buffers; uses = λ m i. omega (arith, came_uses m i rows x within, dropped.uses m i); stay = dropped.stay; size = refl };
-      less = λ m i. omega (arith, dropped.uses m i);
-    }
+    pub rows_rearranged : Rearranged ks ls x (rows_session rows x)
+    rows_rearranged = record { buffers = dropped.buffers; uses = λ m i. omega (arith, came_uses m i rows x within, dropped.uses m i); stay = λ m i own. dropped.stay m i; size = refl }
 
     pub rows_seen : IsFromStart rows → session_of ls (rows_session rows x) ≡ window_lists (rows_shown rows) (session_of ks x)
     rows_seen start =

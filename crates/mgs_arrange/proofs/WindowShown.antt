@@ -17,15 +17,16 @@ use Rattle.mgs_windows.specs.declared.WindowMarks.{WindowMarks}
 use Rattle.mgs_windows.specs.declared.Window.{Window}
 use Rattle.mgs_session.specs.declared.Session.{Session}
 use Rattle.mgs_world.specs.Worlds.{place_of, session_id, session_of, window_of, world_of}
+use Rattle.mgs_world.specs.Only.{nothing_held}
 use Rattle.mgs_world.specs.Sound.{IsSessionSound, IsShownSound, IsSound, in_use, place_uses, session_uses, sum_of, window_marks_uses, window_uses}
 use Rattle.mgs_world.specs.WindowMarks.{WindowMarksAdded, WindowMarksDropped}
 use Rattle.mgs_world.proofs.WindowMarks.{place_local, same_sizes, session_local}
+use Rattle.mgs_world.proofs.Only.{only_world, sound_but}
 use Rattle.mgs_world.proofs.Sessions.{session_some}
 use Rattle.mgs_world.proofs.Worlds.{same_positions}
 use Rattle.mgs_arrange.specs.Arranged.{left_by, run_ended}
 use Rattle.mgs_arrange.specs.Arranging.{Rearranged}
 use Rattle.mgs_arrange.specs.Showing.{coming, is_shown, shown_in, standing, standing_mark, standing_point, window_shows}
-use Rattle.mgs_arrange.proofs.Rearranging.{after_world}
 use Rattle.mgs_arrange.proofs.WindowsGone.{after_uses, height_shown, map_changed, places_seen, window_seen}
 use Rattle.mgs_arrange.proofs.WindowsSplit.{shown_uses}
 
@@ -152,7 +153,7 @@ module _ (name : List ℕ) (p : ℕ) (q : Option ℕ) (capacity : ℕ) (y : Wind
     shown_rearranged = record {
       buffers = dropped.buffers ∙ added.buffers;
       uses = λ m i. omega (arith, added.uses m i, dropped.uses m i, came_uses m i capacity y x within);
-      stay = λ m i before after. dropped.stay m i (omega (arith, before, added.uses m i)) after ∙ added.stay m i before (omega (arith, before, added.uses m i));
+      stay = λ m i own before after. dropped.stay m i (omega (arith, before, added.uses m i)) after ∙ added.stay m i before (omega (arith, before, added.uses m i));
       size = refl;
     }
 
@@ -200,10 +201,8 @@ module _ (name : List ℕ) (p : ℕ) (q : Option ℕ) (capacity : ℕ) (y : Wind
 pub made_world : (f : model.Session → model.Session) (d : Directory) (ks ls : List MarkedBuffer) (xs : List Session) (next : Option ℕ) (id at : ℕ) (x y : Session) (z : model.Session) → IsSound ks xs → at ≡ position_or_len (session_id id) xs → x ≡ get_or xs at x → at < length xs → Rearranged ks ls x y
     → session_of ls y ≡ f (session_of ks x) → find_session id (world_of d ks xs next).sessions ≡ Some z → world_of d ls (slice_set xs at y) next ≡ (let w = world_of d ks xs next in let v : World = record w { sessions = change_first (has_id id) (λ old. f z) w.sessions } in v)
 made_world f d ks ls xs next id at x y z sound place is within h shown found =
-    let w = world_of d ks xs next in
     let same : session_of ks x ≡ z = some_same (sym (session_some d ks xs next id at x place within is) ∙ found) in
-    after_world d ks ls xs next id at x y sound place is within h
-    ∙ ap (λ (s : model.Session). let v : World = record w { sessions = change_first (has_id id) (λ old. s) w.sessions } in v) (shown ∙ ap f same)
+    only_world nothing_held d ks ls xs next id at x y (λ old. f z) (sound_but ks xs sound) place is within h (shown ∙ ap f same)
   where
     some_same : {A : Type 0} {a b : A} → Path (Option A) (Some a) (Some b) → a ≡ b
     some_same e = cc

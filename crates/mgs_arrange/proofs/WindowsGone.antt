@@ -5,7 +5,6 @@ use Rattle.std.proofs.lemmas.List.{length-map}
 use Rattle.std.proofs.lemmas.Bool.{lt-ltb}
 use Rattle.std.proofs.lemmas.Bool.Decides.{nat_tests}
 use Rattle.mgs_model.specs.Names.{same_name}
-use Rattle.mgs_model.specs.World.{Nothing, Buffer_of}
 use Rattle.mgs_model.specs.World as model
 use Rattle.mgs_model.specs.Apply.{change_at, set_place, window_at}
 use Rattle.mgs_model.specs.Plans.{heir}
@@ -22,13 +21,14 @@ use Rattle.mgs_windows.proofs.Heights.{length_changed, length_removed, shows_sam
 use Rattle.mgs_session.specs.declared.Session.{Session}
 use Rattle.mgs_session.specs.Sessions.{broken_off}
 use Rattle.mgs_world.specs.Worlds.{place_of, session_of, window_of, window_shown}
-use Rattle.mgs_world.specs.Sound.{IsSessionSound, IsShownSound, in_use, place_uses, session_uses, sum_of, window_marks_uses, window_uses}
+use Rattle.mgs_world.specs.Sound.{IsSessionSound, IsShownSound, place_uses, session_uses, sum_of, window_marks_uses, window_uses}
 use Rattle.mgs_world.specs.WindowMarks.{WindowMarksDropped}
 use Rattle.mgs_world.proofs.WindowMarks.{same_sizes, session_local}
 use Rattle.mgs_world.proofs.Worlds.{same_positions}
 use Rattle.mgs_arrange.specs.Arranged.{arranged_or_told, grown, left_by, others_gone, rearranged, shrunk, window_gone}
-use Rattle.mgs_arrange.specs.Arranging.{Lessened}
+use Rattle.mgs_arrange.specs.Arranging.{Rearranged}
 use Rattle.mgs_arrange.proofs.Others.{others_after_above, others_after_below, others_of_one}
+use Rattle.mgs_arrange.proofs.Slots.{map_remove}
 
 -- LISTS
 
@@ -36,12 +36,6 @@ pub map_changed : {A B : Type 0} (F : A → B) (f : A → A) (g : B → B) (i : 
 map_changed F f g i [] same = refl
 map_changed F f g zero (x ∷ xs) same = ap (λ y. y ∷ map F xs) (same x)
 map_changed F f g (suc i) (x ∷ xs) same = ap (λ ys. F x ∷ ys) (map_changed F f g i xs same)
-
-map_removed : {A B : Type 0} (F : A → B) (xs : List A) (k : ℕ) → map F (remove xs k) ≡ remove (map F xs) k
-map_removed F [] zero = refl
-map_removed F [] (suc k) = refl
-map_removed F (x ∷ xs) zero = refl
-map_removed F (x ∷ xs) (suc k) = ap (λ ys. F x ∷ ys) (map_removed F xs k)
 
 pub sum_changed : {A : Type 0} (used : A → ℕ) (f : A → A) (i : ℕ) (xs : List A) → ((x : A) → used (f x) ≡ used x) → sum_of used (change_at i f xs) ≡ sum_of used xs
 sum_changed used f i [] same = refl
@@ -79,7 +73,7 @@ height_seen ks k xs within = ap (λ (w : model.Window). w.height) (window_seen k
 windows_gone : (ks : List MarkedBuffer) (k to : ℕ) (xs : List Window) → k < length xs → map (window_of ks) (windows_without k to xs) ≡ remove (change_at to (grown ((window_at k (map (window_of ks) xs)).height + 1)) (map (window_of ks) xs)) k
 windows_gone ks k to xs within =
     let seen = map (window_of ks) xs in
-    map_removed (window_of ks) (change_at to (panes.grown (height_at k xs + 1)) xs) k
+    map_remove (window_of ks) (change_at to (panes.grown (height_at k xs + 1)) xs) k
     ∙ ap (λ (ws : List model.Window). remove ws k) (map_changed (window_of ks) (panes.grown (height_at k xs + 1)) (grown (height_at k xs + 1)) to xs (seen_grown ks (height_at k xs + 1)))
     ∙ ap (λ (h : ℕ). remove (change_at to (grown (h + 1)) seen) k) (sym (height_seen ks k xs within))
 
@@ -148,36 +142,14 @@ left_sound ks x k to within sound = record { once = λ m i. omega (arith, sound.
 pub rest_sound : (ks ls : List MarkedBuffer) (x : Session) (k to : ℕ) → k < length x.windows.windows → IsSessionSound ks x → WindowMarksDropped (panes.left_by (shows_at k x.windows.windows) x.windows.places) ks ls → IsSessionSound ls (record x { windows = window_removed k to x.windows })
 rest_sound ks ls x k to within sound h = record { once = λ m i. omega (arith, sound.once m i, gone_uses m i k to x within, h.uses m i) }
 
-pub rest_less : (ks ls : List MarkedBuffer) (x : Session) (k to : ℕ) → k < length x.windows.windows → WindowMarksDropped (panes.left_by (shows_at k x.windows.windows) x.windows.places) ks ls → Lessened ks ls x (record x { windows = window_removed k to x.windows })
-rest_less ks ls x k to within h = record {
-  rearranged = record { buffers = h.buffers; uses = λ m i. omega (arith, gone_uses m i k to x within, h.uses m i); stay = h.stay; size = refl };
-  less = λ m i. omega (arith, h.uses m i);
-}
+pub rest_rearranged : (ks ls : List MarkedBuffer) (x : Session) (k to : ℕ) → k < length x.windows.windows → WindowMarksDropped (panes.left_by (shows_at k x.windows.windows) x.windows.places) ks ls → Rearranged ks ls x (record x { windows = window_removed k to x.windows })
+rest_rearranged ks ls x k to within h = record { buffers = h.buffers; uses = λ m i. omega (arith, gone_uses m i k to x within, h.uses m i); stay = λ m i own. h.stay m i; size = refl }
 
 pub rest_gone : (ks ls : List MarkedBuffer) (x : Session) (k to : ℕ) → k < length x.windows.windows → IsSessionSound ks x → WindowMarksDropped (panes.left_by (shows_at k x.windows.windows) x.windows.places) ks ls → session_of ls (record x { windows = window_removed k to x.windows }) ≡ window_gone k to (session_of ks x)
 rest_gone ks ls x k to within sound h =
     let y : Session = record x { windows = window_removed k to x.windows } in
     session_local ls ks y (same_sizes ks ls h.buffers) (λ n i used. h.stay n i (omega (arith, used, gone_uses n i k to x within, sound.once n i)) (omega (arith, used, gone_uses n i k to x within, sound.once n i, h.uses n i)))
     ∙ session_gone ks x k to within
-
--- ONE AFTER ANOTHER
-
-pub lessened_none : (ks : List MarkedBuffer) (x : Session) → Lessened ks ks x x
-lessened_none ks x = record {
-  rearranged = record { buffers = refl; uses = λ m i. refl; stay = λ m i a b. refl; size = refl };
-  less = λ m i. omega arith;
-}
-
-pub lessened_twice : (a b c : List MarkedBuffer) (x y z : Session) → Lessened a b x y → Lessened b c y z → Lessened a c x z
-lessened_twice a b c x y z h g = record {
-  rearranged = record {
-    buffers = g.rearranged.buffers ∙ h.rearranged.buffers;
-    uses = λ m i. omega (arith, h.rearranged.uses m i, g.rearranged.uses m i);
-    stay = λ m i used after. let mid : 1 ≤ in_use m i b = omega (arith, after, g.less m i) in g.rearranged.stay m i mid after ∙ h.rearranged.stay m i used mid;
-    size = g.rearranged.size ∙ h.rearranged.size;
-  };
-  less = λ m i. omega (arith, h.less m i, g.less m i);
-}
 
 -- THE SELECTED ONE GOES
 

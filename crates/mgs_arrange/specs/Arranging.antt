@@ -1,5 +1,5 @@
 -- What an arrangement does to the marks of its session.
-use Rattle.std.specs.Prelude.{◌≡◌, ℕ, ◌+◌, ◌≤◌, List, Option, Some, None, Ok}
+use Rattle.std.specs.Prelude.{◌≡◌, ℕ, List, Option, Some, None, Ok}
 use Rattle.std.specs.Option.{option_map}
 use Rattle.mgs_model.specs.World as model
 use Rattle.mgs_model.specs.declared.session.Arrangement.{Arrangement}
@@ -7,22 +7,15 @@ use Rattle.mgs_model.specs.declared.session.Arrangement.TheVariants.{SplitWindow
 use Rattle.mgs_buffers.specs.MarkedBuffer.{MarkedBuffer, mark_at}
 use Rattle.mgs_windows.specs.declared.WindowMarks.{WindowMarks}
 use Rattle.mgs_session.specs.declared.Session.{Session}
-use Rattle.mgs_world.specs.Worlds.{buffers_of, session_of, size_in}
-use Rattle.mgs_world.specs.Sound.{in_use, session_uses}
-use Rattle.mgs_world.specs.WindowMarks.{MarksStay, WindowMarksAdded}
+use Rattle.mgs_world.specs.Worlds.{session_of, size_in}
+use Rattle.mgs_world.specs.Only.{OnlyThis, nothing_held}
+use Rattle.mgs_world.specs.Sound.{session_uses}
+use Rattle.mgs_world.specs.WindowMarks.{WindowMarksAdded}
 use Rattle.mgs_arrange.specs.Arranged.{rearranged, arranged_or_told, run_ended, window_split}
 
--- the buffers are the same, and the marks in use go with what the session uses
-pub record Rearranged (ks ls : List MarkedBuffer) (x y : Session) : Type 0 where
-  pub buffers : buffers_of ls ≡ buffers_of ks
-  pub uses : (m : List ℕ) (i : ℕ) → in_use m i ls + session_uses m i x ≡ in_use m i ks + session_uses m i y
-  pub stay : MarksStay ks ls
-  pub size : size_in y ≡ size_in x
-
--- no mark was added
-pub record Lessened (ks ls : List MarkedBuffer) (x y : Session) : Type 0 where
-  pub rearranged : Rearranged ks ls x y
-  pub less : (m : List ℕ) (i : ℕ) → in_use m i ls ≤ in_use m i ks
+-- nothing but this session changed, with the marks that it uses
+abbrev pub Rearranged : List MarkedBuffer → List MarkedBuffer → Session → Session → Type 0
+Rearranged ks ls x y = OnlyThis nothing_held ks ls x y
 
 -- the session is as the arrangement leaves its windows
 abbrev pub IsArranged : Arrangement → Option ℕ → List MarkedBuffer → List MarkedBuffer → Session → Session → Type 0

@@ -1,17 +1,15 @@
 // The windows of one of the sessions are arranged anew.
-ghost use Rattle.std.specs.Prelude.{◌≡◌, ◌<◌, ℕ, Option, Result, List, [], None, length, true, OnOk, OnErr};
+ghost use Rattle.std.specs.Prelude.{◌≡◌, ◌<◌, ℕ, Option, List, [], None, length, true, OnOk, OnErr};
 ghost use Rattle.std.specs.List.{position_or_len};
 ghost use Rattle.mgs_model.specs.Access.{Directory};
-ghost use Rattle.mgs_model.specs.Apart.{Apart};
 ghost use Rattle.mgs_model.specs.Apply.{act, outcome_in};
 ghost use Rattle.mgs_model.specs.Events.{may_be_refused};
 ghost use Rattle.mgs_model.specs.Outcome.{Run};
 ghost use Rattle.mgs_model.specs.declared.session.Command.TheVariants.{Rearrange};
-ghost use Rattle.mgs_model.specs.declared.touched.Touched.TheVariants.{Nowhere};
 ghost use Rattle.mgs_buffers.specs.MarkedBuffer.{MarkedBuffer};
 ghost use Rattle.mgs_world.specs.Sound.{IsSessionSound, IsSound};
 ghost use Rattle.mgs_world.specs.WindowMarks.{WindowMarksDropped};
-ghost use Rattle.mgs_world.specs.Worlds.{idle, own_at, session_id, session_of, sizes_in, world_of};
+ghost use Rattle.mgs_world.specs.Worlds.{idle, own_at, session_id, session_of, world_of};
 ghost use Rattle.mgs_arrange.specs.Arranging.{IsArranged, IsDone, IsResized, MayBeRefused, Rearranged};
 
 use crate::leaving::{delete, delete_others};
@@ -89,9 +87,7 @@ pub fn rearrange<T: Marked + Drop>(
     requires within { at < length sessions.old }
     requires fresh { own_at at sessions.old ≡ idle (own_at at sessions.old) }
     ensures sound { IsSound buffers.new sessions.new }
-    ensures sizes { sizes_in sessions.new ≡ sizes_in sessions.old }
     ensures ok { OnOk result ((directory : Directory) (id : ℕ) (next : Option ℕ) → at ≡ position_or_len (session_id id) sessions.old → world_of directory buffers.new sessions.new next ≡ act (world_of directory buffers.old sessions.old next) id (Run (Rearrange arrangement) argument []) true) }
-    ensures touched { OnOk result ((directory : Directory) (id : ℕ) (next : Option ℕ) → at ≡ position_or_len (session_id id) sessions.old → Apart Nowhere id (world_of directory buffers.old sessions.old next) (world_of directory buffers.new sessions.new next)) }
     ensures err { OnErr result ((directory : Directory) (next : Option ℕ) → world_of directory buffers.new sessions.new next ≡ world_of directory buffers.old sessions.old next) }
     ensures may { OnErr result ((directory : Directory) (id : ℕ) (next : Option ℕ) → at ≡ position_or_len (session_id id) sessions.old → may_be_refused (outcome_in (world_of directory buffers.old sessions.old next) id (Run (Rearrange arrangement) argument []) true) ≡ true) }
 {

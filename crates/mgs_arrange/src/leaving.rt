@@ -6,7 +6,7 @@ ghost use Rattle.mgs_windows.specs.Panes.{window_removed};
 ghost use Rattle.mgs_world.specs.Sound.{IsSessionSound};
 ghost use Rattle.mgs_world.specs.Worlds.{session_of};
 ghost use Rattle.mgs_arrange.specs.Arranged.{others_gone, window_gone};
-ghost use Rattle.mgs_arrange.specs.Arranging.{Lessened, IsArranged};
+ghost use Rattle.mgs_arrange.specs.Arranging.{IsArranged, Rearranged};
 
 use mgs_buffers::Buffers;
 use mgs_marks::Marked;
@@ -27,7 +27,7 @@ fn leave<T: Marked + Drop>(
     requires apart { heir ≢ index }
     ensures windows { session.new ≡ record session.old { windows = window_removed index heir session.old.windows } }
     ensures sound { IsSessionSound buffers.new session.new }
-    ensures less { Lessened buffers.old buffers.new session.old session.new }
+    ensures rearranged { Rearranged buffers.old buffers.new session.old session.new }
     ensures gone { session_of buffers.new session.new ≡ window_gone index heir (session_of buffers.old session.old) }
 {
     let before = session.windows.remove(index, heir);
@@ -44,7 +44,7 @@ fn heir(index: usize) -> usize
 /// The selected window goes.
 pub fn delete<T: Marked + Drop>(buffers: &mut Buffers<T>, session: &mut Session)
     requires { IsSessionSound buffers.old session.old }
-    ensures less { Lessened buffers.old buffers.new session.old session.new }
+    ensures rearranged { Rearranged buffers.old buffers.new session.old session.new }
     ensures arranged { (n : Option ℕ) → IsArranged DeleteWindow n buffers.old buffers.new session.old session.new }
 {
     if session.windows.as_slice().len() < 2 {
@@ -59,7 +59,7 @@ pub fn delete<T: Marked + Drop>(buffers: &mut Buffers<T>, session: &mut Session)
 fn delete_above<T: Marked + Drop>(buffers: &mut Buffers<T>, session: &mut Session)
     requires { IsSessionSound buffers.old session.old }
     ensures sound { IsSessionSound buffers.new session.new }
-    ensures less { Lessened buffers.old buffers.new session.old session.new }
+    ensures rearranged { Rearranged buffers.old buffers.new session.old session.new }
     ensures same { others_gone (session_of buffers.new session.new) ≡ others_gone (session_of buffers.old session.old) }
     ensures first { session.new.windows.selected ≡ 0 }
 {
@@ -73,7 +73,7 @@ fn delete_above<T: Marked + Drop>(buffers: &mut Buffers<T>, session: &mut Sessio
 fn delete_below<T: Marked + Drop>(buffers: &mut Buffers<T>, session: &mut Session)
     requires sound { IsSessionSound buffers.old session.old }
     requires first { session.old.windows.selected ≡ 0 }
-    ensures less { Lessened buffers.old buffers.new session.old session.new }
+    ensures rearranged { Rearranged buffers.old buffers.new session.old session.new }
     ensures same { others_gone (session_of buffers.new session.new) ≡ others_gone (session_of buffers.old session.old) }
     ensures one { length session.new.windows.windows ≡ 1 }
     ensures first { session.new.windows.selected ≡ 0 }
@@ -86,7 +86,7 @@ fn delete_below<T: Marked + Drop>(buffers: &mut Buffers<T>, session: &mut Sessio
 /// All windows but the selected one go.
 pub fn delete_others<T: Marked + Drop>(buffers: &mut Buffers<T>, session: &mut Session)
     requires { IsSessionSound buffers.old session.old }
-    ensures less { Lessened buffers.old buffers.new session.old session.new }
+    ensures rearranged { Rearranged buffers.old buffers.new session.old session.new }
     ensures arranged { (n : Option ℕ) → IsArranged DeleteOtherWindows n buffers.old buffers.new session.old session.new }
 {
     delete_above(buffers, session);

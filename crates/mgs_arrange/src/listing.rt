@@ -6,9 +6,9 @@ ghost use Rattle.mgs_model.specs.World.{List_of, find_session};
 ghost use Rattle.mgs_model.specs.World as model;
 ghost use Rattle.mgs_model.specs.declared.session.Arrangement.TheVariants.{ListBuffers};
 ghost use Rattle.mgs_world.specs.Sound.{IsSessionSound, IsSound};
-ghost use Rattle.mgs_world.specs.Worlds.{rows_shown, session_id, session_of, sizes_in, world_of};
+ghost use Rattle.mgs_world.specs.Worlds.{rows_shown, session_id, session_of, world_of};
 ghost use Rattle.mgs_arrange.specs.Arranged.{run_ended, window_lists};
-ghost use Rattle.mgs_arrange.specs.Arranging.{IsArranged, Lessened, Rearranged};
+ghost use Rattle.mgs_arrange.specs.Arranging.{IsArranged, Rearranged};
 ghost use Rattle.mgs_arrange.specs.Listing.{IsFromStart, listed_in};
 
 use mgs_buffers::Buffers;
@@ -23,7 +23,7 @@ fn come_to_rows<T: Marked + Drop>(buffers: &mut Buffers<T>, session: &mut Sessio
     requires sound { IsSessionSound buffers.old session.old }
     requires start { IsFromStart rows }
     ensures selected { session.old.windows.selected < length session.old.windows.windows }
-    ensures less { Lessened buffers.old buffers.new session.old session.new }
+    ensures rearranged { Rearranged buffers.old buffers.new session.old session.new }
     ensures seen { session_of buffers.new session.new ≡ window_lists (rows_shown rows) (session_of buffers.old session.old) }
 {
     // For what it says of the selected window.
@@ -35,7 +35,7 @@ fn come_to_rows<T: Marked + Drop>(buffers: &mut Buffers<T>, session: &mut Sessio
 /// The selected window comes to show the list of all buffers.
 pub fn list_buffers<T: Marked + Drop>(buffers: &mut Buffers<T>, session: &mut Session)
     requires { IsSessionSound buffers.old session.old }
-    ensures less { Lessened buffers.old buffers.new session.old session.new }
+    ensures rearranged { Rearranged buffers.old buffers.new session.old session.new }
     ensures arranged { (n : Option ℕ) → IsArranged ListBuffers n buffers.old buffers.new session.old session.new }
 {
     come_to_rows(buffers, session, RowPane::Buffers { row: 0 });
@@ -72,7 +72,6 @@ pub fn show_entries<T: Marked + Drop>(
     requires within { at < length sessions.old }
     ensures selected { IfSome (slice_get sessions.old at) (λ x. x.windows.selected < length x.windows.windows) }
     ensures sound { IsSound buffers.new sessions.new }
-    ensures sizes { sizes_in sessions.new ≡ sizes_in sessions.old }
     ensures world { (directory : Directory) (id : ℕ) (next : Option ℕ) (x : model.Session) → at ≡ position_or_len (session_id id) sessions.old → find_session id (world_of directory buffers.old sessions.old next).sessions ≡ Some x → world_of directory buffers.new sessions.new next ≡ listed_in id (List_of name.now) x (world_of directory buffers.old sessions.old next) }
 {
     show_entries_in_session(buffers, &mut sessions[at], name);

@@ -8,7 +8,7 @@ ghost use Rattle.mgs_buffers.specs.MarkedBuffer.{HasBuffer, MarkedBuffer};
 ghost use Rattle.mgs_windows.specs.Panes.{is_place_in};
 ghost use Rattle.mgs_world.specs.Sound.{IsSessionSound, IsShownSound, IsSound};
 ghost use Rattle.mgs_world.specs.WindowMarks.{WindowMarksAdded, WindowMarksDropped};
-ghost use Rattle.mgs_world.specs.Worlds.{session_id, session_of, sizes_in, world_of};
+ghost use Rattle.mgs_world.specs.Worlds.{session_id, session_of, world_of};
 ghost use Rattle.mgs_arrange.specs.Arranged.{run_ended};
 ghost use Rattle.mgs_arrange.specs.Arranging.{IsResized, Rearranged};
 ghost use Rattle.mgs_arrange.specs.Showing.{is_shown, shown_in, standing, standing_mark, standing_point, window_shows};
@@ -117,7 +117,6 @@ pub fn show<T: Marked + Drop>(
     requires kept { HasBuffer name.now buffers.old }
     ensures selected { IfSome (slice_get sessions.old at) (λ x. x.windows.selected < length x.windows.windows) }
     ensures sound { IsSound buffers.new sessions.new }
-    ensures sizes { sizes_in sessions.new ≡ sizes_in sessions.old }
     ensures ok { OnOk result ((directory : Directory) (id : ℕ) (next : Option ℕ) (x : model.Session) → at ≡ position_or_len (session_id id) sessions.old → find_session id (world_of directory buffers.old sessions.old next).sessions ≡ Some x → world_of directory buffers.new sessions.new next ≡ shown_in id name.now x (world_of directory buffers.old sessions.old next)) }
     ensures err { OnErr result ((directory : Directory) (next : Option ℕ) → world_of directory buffers.new sessions.new next ≡ world_of directory buffers.old sessions.old next) }
     ensures unmarked { OnErr result (WindowMarksDropped None buffers.old buffers.new) }

@@ -39,7 +39,7 @@ fn copy_shown<T: Marked + Drop>(
 /// The selected window becomes two, which show the same. `Short`: memory was refused, and the session is as it was.
 pub fn split<T: Marked + Drop>(buffers: &mut Buffers<T>, session: &mut Session) -> Result<(), Short>
     requires { IsSessionSound buffers.old session.old }
-    ensures moved { OnOk result (Rearranged buffers.old buffers.new session.old session.new) }
+    ensures rearranged { OnOk result (Rearranged buffers.old buffers.new session.old session.new) }
     ensures arranged { OnOk result ((n : Option ℕ) → IsArranged SplitWindow n buffers.old buffers.new session.old session.new) }
     ensures err { OnErr result (WindowMarksDropped None buffers.old buffers.new) }
     ensures same { OnErr result (IsResized session.old session.new) }

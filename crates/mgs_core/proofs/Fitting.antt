@@ -19,7 +19,7 @@ use Rattle.mgs_model.specs.Events.{with_own}
 use Rattle.mgs_laws.proofs.After.{find_after, find_without}
 use Rattle.mgs_laws.proofs.LeftToDo.{seen_begun}
 use Rattle.mgs_laws.proofs.Turning.{begun_view}
-use Rattle.mgs_act.specs.Replacing.{replacement}
+use Rattle.mgs_seek.specs.Replacing.{replacement}
 use Rattle.mgs_core.specs.declared.deeds.Before.{Before}
 use Rattle.mgs_core.specs.declared.deeds.Deed.{Deed}
 use Rattle.mgs_core.specs.declared.deeds.Deed.TheVariants as deeds

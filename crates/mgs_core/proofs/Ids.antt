@@ -15,6 +15,7 @@ use Rattle.mgs_model.specs.World.{World, has_id, find_session}
 use Rattle.mgs_model.proofs.Firsts.{find-map}
 use Rattle.mgs_world.specs.Worlds.{find_size, is_size_of, session_size, sizes, IsOther, IsUnique}
 use Rattle.mgs_core.specs.Held.{AreBelow, AreRising, IsBefore}
+use Rattle.mgs_world.proofs.Killed.{find_removed}
 
 -- WHAT IS FOUND
 
@@ -101,15 +102,7 @@ All-remove_first P p (x ∷ xs) h =
 
 -- a look-up by a test that fails where one goes
 pub find-remove_first_other : {A : Type 0} (p q : A → Bool) → ((x : A) → p x ≡ true → q x ≡ false) → (xs : List A) → find q (remove_first p xs) ≡ find q xs
-find-remove_first_other p q apart [] = refl
-find-remove_first_other p q apart (x ∷ xs) =
-    let goal : Bool → Type 0 = λ b. find q (cond b xs (x ∷ remove_first p xs)) ≡ cond (q x) (Some x) (find q xs) in
-    let go : (b : Bool) → p x ≡ b → goal b =
-    λ b. elim b as (λ b. p x ≡ b → goal b) [
-      | true ↦ λ e. sym (ap (λ c. cond c (Some x) (find q xs)) (apart x e))
-      | false ↦ λ e. ap (cond (q x) (Some x)) (find-remove_first_other p q apart xs)
-    ]
-    in go (p x) refl
+find-remove_first_other p q apart xs = find_removed p q apart xs
 
 -- where none passes, none is changed
 pub change_none : {A : Type 0} (p : A → Bool) (f : A → A) (xs : List A) → find p xs ≡ None → change_first p f xs ≡ xs

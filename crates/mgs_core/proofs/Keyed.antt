@@ -1,9 +1,7 @@
 -- What a key comes to, and a command of a session at rest.
 use Rattle.std.proofs.Common.{◌≡◌, ℕ, true, false, [], Option, Some, None, refl, ap, ◌∙◌}
-use Rattle.mgs_model.specs.World.{World, has_id, find_session}
 use Rattle.mgs_model.specs.World as model
 use Rattle.mgs_model.specs.Outcome as outcomes
-use Rattle.mgs_model.specs.Outcome.{Effect}
 use Rattle.mgs_model.specs.Keys.{key_read}
 use Rattle.mgs_model.specs.View.{View}
 use Rattle.mgs_model.specs.Turns.{Keep, Do, command_turn, key_turn, line_turn, read_turn}
@@ -25,10 +23,10 @@ use Rattle.mgs_mini.specs.Typing.{PromptInput}
 use Rattle.mgs_session.specs.declared.Own.{Own}
 use Rattle.mgs_session.specs.declared.search.Search.{Search}
 use Rattle.mgs_world.specs.Worlds.{own_of}
-use Rattle.mgs_act.specs.declared.acts.KeyAct.{KeyAct}
-use Rattle.mgs_act.specs.declared.acts.KeyAct.TheVariants as acts
+use Rattle.mgs_plan.specs.declared.key_act.KeyAct.{KeyAct}
+use Rattle.mgs_plan.specs.declared.key_act.KeyAct.TheVariants as acts
 use Rattle.mgs_edit.specs.Reading.{is_alteration_planned}
-use Rattle.mgs_act.specs.Actions.{act_of, is_entry_done, is_setting_done}
+use Rattle.mgs_plan.specs.Actions.{act_of, is_entry_done, is_setting_done}
 use Rattle.mgs_world.specs.Worlds.{idle}
 use Rattle.mgs_core.specs.Prompted.{own_turn}
 use Rattle.mgs_core.specs.Stepped.{is_call, is_exit}

@@ -1,6 +1,5 @@
 -- A byte of a session at a prompt.
 use Rattle.std.proofs.Common.{◌≡◌, ℕ, Bool, true, false, cond, List, [], Option, Some, None, refl, sym, ap, subst, ◌∙◌}
-use Rattle.std.specs.List.{flat_map}
 use Rattle.mgs_model.specs.Access.{Directory}
 use Rattle.mgs_model.specs.Commands.{command_names, find_command}
 use Rattle.mgs_model.specs.Keys.{value_of}
@@ -11,34 +10,35 @@ use Rattle.mgs_model.specs.Outcome.{Act, Run}
 use Rattle.mgs_model.specs.Apply.{act, outcome_in}
 use Rattle.mgs_model.specs.Completion.{completion, granted_names, shown_names}
 use Rattle.mgs_model.specs.Turns.{Keep, Do, command_turn, answer_turn, answered, completed, named_turn, names_buffers, names_commands, names_completed, plain_own, prompt_turn, unbound_own}
-use Rattle.mgs_model.specs.Events.{act_effects, may_be_refused, refused_own, saved_by}
+use Rattle.mgs_model.specs.Events.{may_be_refused, refused_own}
 use Rattle.mgs_model.specs.declared.message.Message.TheVariants.{Silent, NoMemory, NoSuchCommand, Quitting}
 use Rattle.mgs_model.specs.declared.session.Command.{Command}
 use Rattle.mgs_model.specs.declared.session.Mode.TheVariants.{Prompt}
 use Rattle.mgs_model.specs.declared.session.Question.{Question}
-use Rattle.mgs_model.specs.declared.session.Question.TheVariants.{SwitchTo, FindWhich, KillWhich, InsertWhich, RunWhich, GoToWhich, EntryToInsert, EntryToReplace, WhichOwner, WhichGroup, SearchWhat, ReplaceWhat, ReplaceWith}
+use Rattle.mgs_model.specs.declared.session.Question.TheVariants.{SwitchTo, RunWhich, ReplaceWhat, ReplaceWith}
 use Rattle.mgs_laws.proofs.LeftToDo.{is_single}
-use Rattle.mgs_laws.proofs.Saves.{is_save, act_saves_none}
+use Rattle.mgs_laws.proofs.Saves.{is_save}
 use Rattle.mgs_mini.specs.Typing.{PromptInput, keys_of, stepped, typed_own}
 use Rattle.mgs_mini.specs.Typing as prompts
 use Rattle.mgs_mini.specs.declared.Step.{Step}
 use Rattle.mgs_mini.specs.declared.Step.TheVariants.{GoesOn, Answered, Quit, Completes, Unbound}
 use Rattle.mgs_mini.specs.declared.Waiting.{Waiting}
 use Rattle.mgs_mini.specs.declared.Waiting.TheVariants.{NoKey}
-use Rattle.mgs_act.specs.Actions.{is_answered}
+use Rattle.mgs_plan.specs.Actions.{is_answered}
+use Rattle.mgs_plan.specs.Tells.{touched_in}
+use Rattle.mgs_model.specs.declared.touched.Touched.{Touched}
 use Rattle.mgs_act.specs.Searching.{meant}
 use Rattle.mgs_model.specs.Plans.{failed_own}
 use Rattle.mgs_buffers.specs.MarkedBuffer.{MarkedBuffer}
-use Rattle.mgs_session.specs.declared.Own.{Own}
 use Rattle.mgs_session.specs.declared.Session.{Session}
 use Rattle.mgs_session.specs.declared.search.Aim.{Aim}
 use Rattle.mgs_session.specs.declared.search.Aim.TheVariants.{Find, Replace}
 use Rattle.mgs_session.specs.declared.search.Search.{Search}
 use Rattle.mgs_session.specs.Sessions.{failed, prompting, resting, unbound, unprompted}
 use Rattle.mgs_session.specs.Seeking.{unsearched}
-use Rattle.mgs_store.specs.Stores.{StoreTold, told_more}
-use Rattle.mgs_core.specs.Steps.{ActedBy}
-use Rattle.mgs_store.proofs.Told.{told_none}
+use Rattle.mgs_store.specs.Stores.{StoreTold}
+use Rattle.mgs_core.specs.Steps.{DoneBy}
+use Rattle.mgs_core.proofs.Told.{quietly}
 use Rattle.mgs_world.specs.Worlds.{aim_mode, buffers_of, idle, mode_in, own_of}
 use Rattle.mgs_world.proofs.Owns.{prompt_fed}
 use Rattle.mgs_core.specs.declared.deeds.Deed.{Deed}
@@ -49,9 +49,8 @@ use Rattle.mgs_core.specs.declared.keying.ByteStep.{ByteStep}
 use Rattle.mgs_core.specs.declared.keying.ByteStep.TheVariants.{Kept, Acts}
 use Rattle.mgs_core.specs.Prompted.{names_for, own_turn}
 use Rattle.mgs_mini.specs.Typing.{IsFirst}
-use Rattle.mgs_core.specs.Stepped.{IsAlone, IsAnswerStep, IsAskedStep, IsByteStep, IsCommandStep, IsLeft, IsNamedStep, IsReplyStep, SeesNames, asked_of, deed_act, deed_own, deed_world, refused_again, second_input}
-use Rattle.mgs_core.specs.Turned.{IsFit, is_quiet}
-use Rattle.mgs_core.proofs.Stepped.{command_step, fit_empty, fit_same, further_same, left_none, left_same, none_stays}
+use Rattle.mgs_core.specs.Stepped.{IsAlone, IsAnswerStep, IsAskedStep, IsByteStep, IsCommandStep, IsNamedStep, IsReplyStep, SeesNames, asked_of, deed_act, deed_own, deed_world, refused_again, second_input}
+use Rattle.mgs_core.proofs.Stepped.{command_step, fit_same, left_same, none_stays, acts_same, kept_none, kept_same}
 
 -- WHAT AN ANSWER IS FOR
 
@@ -65,33 +64,11 @@ asked_turn _ h own = refl
 -- it leaves no more to do, and saves nothing
 pub answered_single : (c : Question) (n : Option ℕ) (typed : List ℕ) → is_single (Run (answered c) n typed) ≡ true
 answered_single SwitchTo n typed = refl
-answered_single FindWhich n typed = refl
-answered_single KillWhich n typed = refl
-answered_single InsertWhich n typed = refl
-answered_single RunWhich n typed = refl
-answered_single GoToWhich n typed = refl
-answered_single EntryToInsert n typed = refl
-answered_single EntryToReplace n typed = refl
-answered_single WhichOwner n typed = refl
-answered_single WhichGroup n typed = refl
-answered_single (SearchWhat d) n typed = refl
-answered_single ReplaceWhat n typed = refl
-answered_single ReplaceWith n typed = refl
+answered_single _ n typed = refl
 
 answered_saves_none : (c : Question) (n : Option ℕ) (typed : List ℕ) → is_save (Run (answered c) n typed) ≡ false
 answered_saves_none SwitchTo n typed = refl
-answered_saves_none FindWhich n typed = refl
-answered_saves_none KillWhich n typed = refl
-answered_saves_none InsertWhich n typed = refl
-answered_saves_none RunWhich n typed = refl
-answered_saves_none GoToWhich n typed = refl
-answered_saves_none EntryToInsert n typed = refl
-answered_saves_none EntryToReplace n typed = refl
-answered_saves_none WhichOwner n typed = refl
-answered_saves_none WhichGroup n typed = refl
-answered_saves_none (SearchWhat d) n typed = refl
-answered_saves_none ReplaceWhat n typed = refl
-answered_saves_none ReplaceWith n typed = refl
+answered_saves_none _ n typed = refl
 
 -- A TURN
 
@@ -107,33 +84,22 @@ IsFed p q byte step = (v : View) (own : model.Own) → prompt_turn v p.question 
 step_turn : (v : View) (y : Session) (p q : PromptInput) (step : Step) (byte : ℕ) → (unsearched y).own.prompt ≡ Some p → q.question ≡ p.question → q.first ≡ p.first → IsFed p q byte step → own_turn v (unsearched y).own byte ≡ stepped v p.question (own_of (prompting q (unsearched y)).own) step
 step_turn v y p q step byte is question first turn = at_prompt v y p byte is ∙ prompt_fed v (unsearched y) p q step byte refl is question first turn
 
--- what the session holds changed alone
-kept_as : (d : Directory) (ks : List MarkedBuffer) (y new : Session) (own : Own) (byte : ℕ) → new ≡ record (unsearched y) { own = own }
-    → ((v : View) → shown_names v ≡ granted_names d (unsearched y).user (buffers_of ks) → own_turn v (unsearched y).own byte ≡ Keep (own_of own)) → own.search ≡ None → IsLeft (unsearched y).own.player own.player.todo → IsFit (own_of own) → IsByteStep d ks (unsearched y) new byte befores.Plain Kept
-kept_as d ks y new own byte is turn none left fit =
-    let same : new.own ≡ own = ap (λ (s : Session). s.own) is in
-    record {
-      own = is ∙ sym (ap (λ (o : Own). record (unsearched y) { own = o }) same);
-      stays = none_stays (unsearched y).own new.own (ap (λ (o : Own). o.search) same ∙ none);
-      turn = λ v sees. turn v sees ∙ sym (ap (λ (o : Own). Keep (own_of o)) same);
-      left = subst (λ (o : Own). IsLeft (unsearched y).own.player o.player.todo) (sym same) left;
-      fit = subst (λ (o : Own). IsFit (own_of o)) (sym same) fit;
-    }
-
 pub goes_on : (d : Directory) (ks : List MarkedBuffer) (y taken new : Session) (p q : PromptInput) (byte : ℕ) → IsAlone (unsearched y).own.player → (unsearched y).own.prompt ≡ Some p → q.question ≡ p.question → q.first ≡ p.first → IsFed p q byte GoesOn → taken ≡ unprompted (unsearched y) → new ≡ prompting q taken → IsByteStep d ks (unsearched y) new byte befores.Plain Kept
 goes_on d ks y taken new p q byte alone is question first turn took held =
-    kept_as d ks y new (prompting q (unsearched y)).own byte (held ∙ ap (prompting q) took) (λ v sees. step_turn v y p q GoesOn byte is question first turn) refl (left_same (unsearched y).own.player (unsearched y).own.player.todo alone refl) (fit_same (unsearched y).own.player (own_of (prompting q (unsearched y)).own) alone refl)
+    let it : Session = prompting q (unsearched y) in
+    kept_same (SeesNames d ks (unsearched y).user) (λ v. own_turn v (unsearched y).own byte) (unsearched y) new it (held ∙ ap (prompting q) took) refl (none_stays (unsearched y).own it.own refl) alone (λ v sees. step_turn v y p q GoesOn byte is question first turn) refl
 
 pub quits : (d : Directory) (ks : List MarkedBuffer) (y taken new : Session) (p q : PromptInput) (byte : ℕ) → (unsearched y).own.prompt ≡ Some p → q.question ≡ p.question → q.first ≡ p.first → IsFed p q byte Quit → taken ≡ unprompted (unsearched y) → new ≡ failed Quitting taken → IsByteStep d ks (unsearched y) new byte befores.Plain Kept
 quits d ks y taken new p q byte is question first turn took held =
-    kept_as d ks y new (failed Quitting (unsearched y)).own byte (held ∙ ap (failed Quitting) took) (λ v sees. step_turn v y p q Quit byte is question first turn) refl (left_none (unsearched y).own.player [] refl) (fit_empty (own_of (failed Quitting (unsearched y)).own) refl)
+    let it : Session = failed Quitting (unsearched y) in
+    kept_none (SeesNames d ks (unsearched y).user) (λ v. own_turn v (unsearched y).own byte) (unsearched y) new it (held ∙ ap (failed Quitting) took) refl (none_stays (unsearched y).own it.own refl) (λ v sees. step_turn v y p q Quit byte is question first turn) refl
 
 pub unbinds : (d : Directory) (ks : List MarkedBuffer) (y taken new : Session) (p q : PromptInput) (byte : ℕ) → (unsearched y).own.prompt ≡ Some p → q.question ≡ p.question → q.first ≡ p.first → q.waiting ≡ NoKey → IsFed p q byte Unbound → taken ≡ unprompted (unsearched y) → new ≡ unbound (prompting q taken) → IsByteStep d ks (unsearched y) new byte befores.Plain Kept
 unbinds d ks y taken new p q byte is question first none turn took held =
     let own : model.Own = unbound_own (own_of (prompting q (unsearched y)).own) in
-    kept_as d ks y new (unbound (prompting q (unsearched y))).own byte (held ∙ ap (λ (s : Session). unbound (prompting q s)) took)
-    (λ v sees. step_turn v y p q Unbound byte is question first turn ∙ sym (ap (λ (w : Waiting). Keep (record own { keys = keys_of w })) none))
-    refl (left_none (unsearched y).own.player [] refl) (fit_empty (own_of (unbound (prompting q (unsearched y))).own) refl)
+    let it : Session = unbound (prompting q (unsearched y)) in
+    kept_none (SeesNames d ks (unsearched y).user) (λ v. own_turn v (unsearched y).own byte) (unsearched y) new it (held ∙ ap (λ (s : Session). unbound (prompting q s)) took) refl (none_stays (unsearched y).own it.own refl)
+    (λ v sees. step_turn v y p q Unbound byte is question first turn ∙ sym (ap (λ (w : Waiting). Keep (record own { keys = keys_of w })) none)) refl
 
 -- what is completed: the names that are seen are those that are granted
 completed_seen : (d : Directory) (ks : List MarkedBuffer) (user : List ℕ) (v : View) (c e : Question) (own : model.Own) (input : List ℕ) → shown_names v ≡ granted_names d user (buffers_of ks) → e ≡ c → completed own (completion (names_completed v c) input) ≡ completed own (completion (names_for d user ks e) input)
@@ -232,11 +198,10 @@ module _ (d : Directory) (ks : List MarkedBuffer) (y taken new : Session) (p : P
   -- where it names a command
   named_step : (step : ByteStep) (o : Option Command) → p.question ≡ RunWhich → p.first ≡ [] → find_command p.input ≡ o → IsNamedStep taken new p b o step → IsByteStep d ks (unsearched y) new byte b step
   named_step step None names first found did =
-      let kept : IsByteStep d ks (unsearched y) new byte b Kept =
-      kept_as d ks y new (failed NoSuchCommand (unsearched y)).own byte (did.1 ∙ ap (failed NoSuchCommand) took)
-      (λ v sees. named_at v y p None byte is turn names found ∙ ap (λ (o : model.Own). Keep (failed_own NoSuchCommand o)) (plain_rests y p none first))
-      refl (left_none (unsearched y).own.player [] refl) (fit_empty (own_of (failed NoSuchCommand (unsearched y)).own) refl) in
-      subst (IsByteStep d ks (unsearched y) new byte b) (sym did.0) kept
+      let it : Session = failed NoSuchCommand (unsearched y) in
+      subst (IsByteStep d ks (unsearched y) new byte b) (sym did.0)
+      (kept_none (SeesNames d ks (unsearched y).user) (λ v. own_turn v (unsearched y).own byte) (unsearched y) new it (did.1 ∙ ap (failed NoSuchCommand) took) refl (none_stays (unsearched y).own it.own refl)
+      (λ v sees. named_at v y p None byte is turn names found ∙ ap (λ (o : model.Own). Keep (failed_own NoSuchCommand o)) (plain_rests y p none first)) refl)
   named_step step (Some c) names first found did =
       prompt_was step step refl did.1
       (command_step (SeesNames d ks (unsearched y).user) (λ v. own_turn v (unsearched y).own byte) (unsearched y) new c (value_of (unsearched y).own.keyboard.argument) (befores.Prompt p) step
@@ -247,22 +212,8 @@ module _ (d : Directory) (ks : List MarkedBuffer) (y taken new : Session) (p : P
   -- where it is what the question is for
   asked_step : is_answered p.question ≡ true → p.first ≡ [] → new ≡ resting (unsearched y) → IsByteStep d ks (unsearched y) new byte (befores.Prompt p) (Acts (deeds.Answer (value_of (unsearched y).own.keyboard.argument)))
   asked_step answers first same =
-      let deed : Deed = deeds.Answer (value_of (unsearched y).own.keyboard.argument) in
-      record {
-        own = same ∙ sym (ap (λ (s : Session). record (unsearched y) { own = s.own }) same);
-        stays = none_stays (unsearched y).own new.own (ap (λ (s : Session). s.own.search) same);
-        ready = ap (λ (s : Session). own_of s.own) same ∙ sym (ap (λ (s : Session). idle (own_of s.own)) same);
-        here = (refl, answers);
-        turn = λ v sees. asked_at v y p byte is none first turn answers ∙ sym (ap (λ (s : Session). Do (own_of s.own) (deed_act (own_of s.own) (befores.Prompt p) deed)) same);
-        playing = λ e. ap (λ (plays : Bool). is_quiet plays (deed_act (own_of new.own) (befores.Prompt p) deed)) (ap (λ (s : Session). s.own.player.playing) same ∙ e);
-        typed = λ e. ap (λ (s : Session). s.own.player.todo) same ∙ alone.typed e;
-        left = left_same (unsearched y).own.player new.own.player.todo alone (ap (λ (s : Session). s.own.player.todo) same);
-        again = λ wants. ap (λ (s : Session). refused_again (befores.Prompt p) (unsearched y).own.kind (unsearched y).own.player.playing (own_of s.own)) same ∙ again_prompted y p is none;
-        search = λ wants. refl;
-        fit = fit_same (unsearched y).own.player (own_of new.own) alone (ap (λ (s : Session). s.own.player.todo) same);
-        further = further_same (unsearched y).own.player (own_of new.own) alone (ap (λ (s : Session). s.own.player.todo) same);
-        begins = λ h. cc;
-      }
+      acts_same (SeesNames d ks (unsearched y).user) (λ v. own_turn v (unsearched y).own byte) (unsearched y) new (resting (unsearched y)) same refl (none_stays (unsearched y).own (resting (unsearched y)).own refl) (befores.Prompt p) (deeds.Answer (value_of (unsearched y).own.keyboard.argument)) alone refl (refl, answers)
+      (λ v sees. asked_at v y p byte is none first turn answers) refl (λ wants. again_prompted y p is none) (λ wants. refl) (λ h. cc)
 
   other_step : (step : ByteStep) → is_answered p.question ≡ true → p.first ≡ [] → IsAskedStep taken new p b (deeds.Answer (value_of taken.own.keyboard.argument)) step → IsByteStep d ks (unsearched y) new byte b step
   other_step step answers first did =
@@ -272,33 +223,19 @@ module _ (d : Directory) (ks : List MarkedBuffer) (y taken new : Session) (p : P
   -- where it is the first of two
   second_step : p.question ≡ ReplaceWhat → new ≡ prompting (second_input p.input) taken → IsByteStep d ks (unsearched y) new byte b Kept
   second_step of_c held =
-      let q : PromptInput = second_input p.input in
-      kept_as d ks y new (prompting q (unsearched y)).own byte (held ∙ ap (prompting q) took)
-      (λ v sees. answered_at v y p byte ReplaceWhat is turn of_c ∙ ap (λ (w : Waiting). Keep (record (own_of (prompting q (unsearched y)).own) { keys = keys_of w })) none)
-      refl (left_same (unsearched y).own.player (unsearched y).own.player.todo alone refl) (fit_same (unsearched y).own.player (own_of (prompting q (unsearched y)).own) alone refl)
+      let it : Session = prompting (second_input p.input) (unsearched y) in
+      kept_same (SeesNames d ks (unsearched y).user) (λ v. own_turn v (unsearched y).own byte) (unsearched y) new it (held ∙ ap (prompting (second_input p.input)) took) refl (none_stays (unsearched y).own it.own refl) alone
+      (λ v sees. answered_at v y p byte ReplaceWhat is turn of_c ∙ ap (λ (w : Waiting). Keep (record (own_of it.own) { keys = keys_of w })) none) refl
 
   -- and where it is the second
   replacing_step : p.question ≡ ReplaceWith → new ≡ resting (unsearched y) → IsByteStep d ks (unsearched y) new byte (befores.Prompt p) (Acts deeds.StartReplacing)
   replacing_step of_c same =
       let deed : Deed = deeds.StartReplacing in
-      record {
-        own = same ∙ sym (ap (λ (s : Session). record (unsearched y) { own = s.own }) same);
-        stays = none_stays (unsearched y).own new.own (ap (λ (s : Session). s.own.search) same);
-        ready = ap (λ (s : Session). own_of s.own) same ∙ sym (ap (λ (s : Session). idle (own_of s.own)) same);
-        here = refl;
-        turn = λ v sees.
-            answered_at v y p byte ReplaceWith is turn of_c
-            ∙ ap (λ (w : Waiting). Do (record (deed_own (befores.Prompt p) deed (own_of (resting (unsearched y)).own)) { keys = keys_of w }) (deed_act (own_of (unsearched y).own) (befores.Prompt p) deed)) none
-            ∙ sym (ap (λ (s : Session). Do (deed_own (befores.Prompt p) deed (own_of s.own)) (deed_act (own_of s.own) (befores.Prompt p) deed)) same);
-        playing = λ e. ap (λ (plays : Bool). is_quiet plays (deed_act (own_of new.own) (befores.Prompt p) deed)) (ap (λ (s : Session). s.own.player.playing) same ∙ e);
-        typed = λ e. ap (λ (s : Session). s.own.player.todo) same ∙ alone.typed e;
-        left = left_same (unsearched y).own.player new.own.player.todo alone (ap (λ (s : Session). s.own.player.todo) same);
-        again = λ wants. cc;
-        search = λ wants. cc;
-        fit = fit_same (unsearched y).own.player (own_of new.own) alone (ap (λ (s : Session). s.own.player.todo) same);
-        further = further_same (unsearched y).own.player (own_of new.own) alone (ap (λ (s : Session). s.own.player.todo) same);
-        begins = λ h. refl;
-      }
+      acts_same (SeesNames d ks (unsearched y).user) (λ v. own_turn v (unsearched y).own byte) (unsearched y) new (resting (unsearched y)) same refl (none_stays (unsearched y).own (resting (unsearched y)).own refl) (befores.Prompt p) deed alone refl refl
+      (λ v sees.
+      answered_at v y p byte ReplaceWith is turn of_c
+      ∙ ap (λ (w : Waiting). Do (record (deed_own (befores.Prompt p) deed (own_of (resting (unsearched y)).own)) { keys = keys_of w }) (deed_act (own_of (unsearched y).own) (befores.Prompt p) deed)) none)
+      refl (λ wants. cc) (λ wants. cc) (λ h. refl)
 
   reply_step : (step : ByteStep) (c : Question) → p.question ≡ c → IsFirst c p.first → IsReplyStep c taken new p b step → IsByteStep d ks (unsearched y) new byte b step
   reply_step step RunWhich of_c first did = named_step step (find_command p.input) of_c first refl did
@@ -324,19 +261,14 @@ answer_act f own b deed p n c typed is asked question input =
     ∙ ap (λ (q : PromptInput). f (Run (answered q.question) n (meant q.question own.pattern q.input))) asked
     ∙ sym (ap (λ (d : Deed). f (deed_act own b d)) is)
 
-pub answer_quietly : (old new : World) (t : StoreTold) (id : ℕ) (own : model.Own) (b : Before) (deed : Deed) (p : PromptInput) (n : Option ℕ) (c : Question) (typed : List ℕ) → deed ≡ deeds.Answer n → p ≡ asked_of b → c ≡ p.question → typed ≡ p.input → new ≡ act old id (Run (answered c) n (meant c own.pattern typed)) true → ActedBy (deed_world b deed id old) new t t id (deed_act own b deed)
-answer_quietly old new t id own b deed p n c typed is asked question input world =
+pub answer_quietly : (touched : Touched) (old new : World) (t : StoreTold) (id : ℕ) (own : model.Own) (b : Before) (deed : Deed) (p : PromptInput) (n : Option ℕ) (c : Question) (typed : List ℕ) → deed ≡ deeds.Answer n → p ≡ asked_of b → c ≡ p.question → typed ≡ p.input
+    → new ≡ act old id (Run (answered c) n (meant c own.pattern typed)) true → touched ≡ touched_in (outcome_in old id (Run (answered c) n (meant c own.pattern typed)) true) → DoneBy touched (deed_world b deed id old) new t t id (deed_act own b deed)
+answer_quietly touched old new t id own b deed p n c typed is asked question input world tells =
     let this : Deed = deeds.Answer n in
-    let did : ActedBy old new t t id (deed_act own b this) =
-    record {
-      stored = true;
-      world = world ∙ answer_act (λ (a : Act). act old id a true) own b this p n c typed refl asked question input;
-      fault = λ e. cc;
-      saves =
-          told_none t.accepted (flat_map saved_by (act_effects old id (Run (answered c) n (meant c own.pattern typed)) true)) (act_saves_none old id (Run (answered c) n (meant c own.pattern typed)) true (answered_saves_none c n (meant c own.pattern typed)))
-          ∙ answer_act (λ (a : Act). told_more (flat_map saved_by (act_effects old id a true)) t.accepted) own b this p n c typed refl asked question input;
-    }
-    in subst (λ (e : Deed). ActedBy (deed_world b e id old) new t t id (deed_act own b e)) (sym is) did
+    let a : Act = Run (answered c) n (meant c own.pattern typed) in
+    subst (λ (e : Deed). DoneBy touched (deed_world b e id old) new t t id (deed_act own b e)) (sym is)
+    (subst (DoneBy touched old new t t id) (answer_act (λ (e : Act). e) own b this p n c typed refl asked question input)
+    (quietly touched old new t id a (answered_saves_none c n (meant c own.pattern typed)) world tells))
 
 pub answer_may : (w : World) (id : ℕ) (own : model.Own) (b : Before) (deed : Deed) (p : PromptInput) (n : Option ℕ) (c : Question) (typed : List ℕ) → deed ≡ deeds.Answer n → p ≡ asked_of b → c ≡ p.question → typed ≡ p.input → may_be_refused (outcome_in w id (Run (answered c) n (meant c own.pattern typed)) true) ≡ true → may_be_refused (outcome_in w id (deed_act own b deed) true) ≡ true
 answer_may w id own b deed p n c typed is asked question input may = sym (answer_act (λ (a : Act). may_be_refused (outcome_in w id a true)) own b deed p n c typed is asked question input) ∙ may

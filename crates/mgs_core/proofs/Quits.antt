@@ -1,13 +1,11 @@
 -- A byte that ends its session leaves the world as a close does.
-use Rattle.std.proofs.Common.{◌≡◌, ℕ, true, false, List, [], Option, Some, None, refl, sym, ap, subst, ◌∙◌, arith}
+use Rattle.std.proofs.Common.{◌≡◌, ℕ, true, false, List, [], Some, None, refl, sym, ap, subst, ◌∙◌, arith}
 use Rattle.std.specs.Prelude.{IsSome, is_some}
 use Rattle.std.specs.List.{flat_map}
 use Rattle.mgs_model.specs.World.{World, Session, find_session}
 use Rattle.mgs_model.specs.Outcome.{Act, Run}
 use Rattle.mgs_model.specs.Apply.{act, without_session}
 use Rattle.mgs_model.specs.Events.{Saved, act_effects, begun_own, rests, saved_by, settled, turn_in, with_own}
-use Rattle.mgs_model.specs.Apart.{Apart}
-use Rattle.mgs_model.specs.declared.touched.Touched.TheVariants.{Anywhere}
 use Rattle.mgs_model.specs.declared.errors.Keyed.{Keyed}
 use Rattle.mgs_model.specs.declared.errors.Keyed.TheVariants as keyed
 use Rattle.mgs_model.specs.declared.session.Command.TheVariants.{Exit}
@@ -26,10 +24,7 @@ use Rattle.mgs_core.specs.Turned.{EventBy, TurnEnds}
 use Rattle.mgs_core.proofs.Begun.{closed_own}
 use Rattle.mgs_core.proofs.Stays.{closed_rests, without_first}
 use Rattle.mgs_core.proofs.Turned.{within_most}
-
-not_there : {A X : Type 0} (o : Option A) → IsSome o → o ≡ None → X
-not_there None h e = cc
-not_there (Some a) h e = cc
+use Rattle.mgs_core.proofs.Steps.{not_found}
 
 -- an event whose first turn is the session's end
 module _ (w start now : World) (before after : StoreTold) (id byte : ℕ) (begins : start ≡ with_own id (begun_own byte) w) (x : Session) (found : find_session id w.sessions ≡ Some x) (unique : IsUnique (sizes start)) (rest : settled w ≡ w) (t : TurnEnds false start now before after id) where
@@ -84,7 +79,7 @@ module _ (w start now : World) (before after : StoreTold) (id byte : ℕ) (begin
             ∙ ap settled (sym ended_closed)
             ∙ sym (step_done w ended id byte true 1 saved here leads (within_most 1 (omega arith)) over);
         short = (λ e. cc, λ e. cc);
-        no_session = (λ e. cc, λ e. not_there (find_session id w.sessions) here e);
+        no_session = (λ e. cc, λ e. not_found (find_session id w.sessions) here e);
         quit = (λ e. (here, ap (λ (v : World). find_session id v.sessions) (sym ended_closed) ∙ gone), λ e. refl);
         may = λ e. cc;
         fault = λ e. cc;
@@ -115,10 +110,6 @@ typed_ends w new before after id byte keyed.Quit is h = h
 typed_ends w new before after id byte keyed.Done is h = cc
 typed_ends w new before after id byte keyed.Short is h = cc
 typed_ends w new before after id byte keyed.NoSession is h = cc
-
--- nothing is said to stay
-pub apart_closed : (w : World) (id : ℕ) → Apart Anywhere id w (closed w id)
-apart_closed w id = record { directory = refl; buffers = tt; rules = λ h. cc; texts = λ h. cc; sessions = λ h. cc }
 
 -- what was typed, where it ends the session and where it does not
 pub typed_quit : (v w : World) (before after : StoreTold) (id byte : ℕ) (k : Keyed) → k ≡ keyed.Quit → TypedBy v w before after id byte k → KeyedBy v (closed v id) before after id byte keyed.Quit

@@ -1,12 +1,11 @@
 -- A byte of a session that replaces.
-use Rattle.std.proofs.Common.{◌≡◌, ℕ, ◌+◌, ◌<◌, length, Bool, true, false, cond, List, [], ◌∷◌, Some, None, refl, sym, ap, subst, ◌∙◌, arith}
+use Rattle.std.proofs.Common.{◌≡◌, ℕ, ◌+◌, ◌<◌, length, Bool, true, false, cond, List, [], ◌∷◌, None, refl, sym, ap, subst, ◌∙◌, arith}
 use Rattle.std.specs.Prelude.{◌==◌, ◌||◌}
 use Rattle.mgs_model.specs.Access.{Directory}
-use Rattle.mgs_model.specs.Apply.{searches}
 use Rattle.mgs_model.specs.Outcome.{Run}
 use Rattle.mgs_model.specs.Plans.{failed_own}
 use Rattle.mgs_model.specs.World as model
-use Rattle.mgs_model.specs.World.{Buffer, Todo, Typed, Played, Replace_all, Play}
+use Rattle.mgs_model.specs.World.{Todo, Replace_all}
 use Rattle.mgs_model.specs.View.{View}
 use Rattle.mgs_model.specs.Turns.{Turn, Keep, Do, replace_turn, replacing}
 use Rattle.mgs_model.specs.declared.message.Message.TheVariants.{Quitting, Replaced, Silent}
@@ -21,7 +20,7 @@ use Rattle.mgs_session.specs.declared.Session.{Session}
 use Rattle.mgs_session.specs.Playing.{Playing, are_behind, replacing_all}
 use Rattle.mgs_session.specs.Seeking.{searching, unsearched}
 use Rattle.mgs_session.specs.Sessions.{failed, playing_as, told, unprompted}
-use Rattle.mgs_world.specs.Worlds.{own_of, search_of}
+use Rattle.mgs_world.specs.Worlds.{own_of}
 use Rattle.mgs_core.specs.declared.deeds.Deed.TheVariants as deeds
 use Rattle.mgs_core.specs.declared.deeds.Before.{Before}
 use Rattle.mgs_core.specs.declared.deeds.Before.TheVariants as befores
@@ -29,9 +28,9 @@ use Rattle.mgs_core.specs.declared.keying.ByteStep.TheVariants.{Kept, Acts}
 use Rattle.mgs_core.specs.declared.typing.ReplaceKey.{ReplaceKey}
 use Rattle.mgs_core.specs.declared.typing.ReplaceKey.TheVariants as keys
 use Rattle.mgs_core.specs.Prompted.{own_turn}
-use Rattle.mgs_core.specs.Stepped.{IsAlone, IsByteStep, IsLeft, IsReady, SearchStays, deed_act, refused_again, replace_key, replacing_at}
-use Rattle.mgs_core.specs.Turned.{IsWithin, is_quiet}
-use Rattle.mgs_core.proofs.Stepped.{fit_empty, fit_same, further_same, left_none, left_same, none_stays}
+use Rattle.mgs_core.specs.Stepped.{IsAlone, IsByteStep, IsLeft, deed_act, replace_key, replacing_at, SeesNames}
+use Rattle.mgs_core.specs.Turned.{IsWithin}
+use Rattle.mgs_core.proofs.Stepped.{acts_same, kept_none, kept_same, none_stays}
 
 -- what each byte comes to, by what it asks
 abbrev pub keyed_turn : model.Own → ReplaceKey → Turn
@@ -80,89 +79,35 @@ module _ (d : Directory) (ks : List MarkedBuffer) (y new : Session) (name : List
   comes v k e of_byte is = turn_keyed own byte ∙ ap (keyed_turn own) (sym of_byte ∙ is)
 
   -- it goes on
-  held_stays : new ≡ searching s (told Silent z) → SearchStays x.own new.own
-  held_stays is bs = ap (λ (w : Session). search_of bs w.own.search) is ∙ sym (ap (λ (w : Session). cond (searches (own_of w.own).mode) (search_of bs (Some s)) None) is)
-
   pub replace_other : (k : ReplaceKey) → k ≡ replace_key byte → k ≡ keys.Other → new ≡ searching s (told Silent (unsearched y)) → IsByteStep d ks (searching s (unsearched y)) new byte befores.Plain Kept
-  replace_other k of_byte e is = record {
-    own = is ∙ sym (ap (λ (w : Session). record x { own = w.own }) is);
-    stays = held_stays is;
-    turn = λ v sees. comes v k keys.Other of_byte e ∙ sym (ap (λ (w : Session). Keep (own_of w.own)) is);
-    left = left_same x.own.player new.own.player.todo alone (ap (λ (w : Session). w.own.player.todo) is);
-    fit = fit_same x.own.player (own_of new.own) alone (ap (λ (w : Session). w.own.player.todo) is);
-  }
+  replace_other k of_byte e is = kept_same (SeesNames d ks x.user) (λ v. own_turn v x.own byte) x new (searching s (told Silent z)) is refl (λ bs. refl) alone (λ v sees. comes v k keys.Other of_byte e) refl
 
   pub replace_every : (held : Session) (k : ReplaceKey) → k ≡ replace_key byte → k ≡ keys.ReplacesAll → 0 < length r.pattern → held ≡ searching s (told Silent (unsearched y)) → new ≡ playing_as (replacing_all held.own.player) held → IsByteStep d ks (searching s (unsearched y)) new byte befores.Plain Kept
   replace_every held k of_byte e some is all =
-      let put : new ≡ playing_as (replacing_all y.own.player) (searching s (told Silent z)) = all ∙ ap (λ (w : Session). playing_as (replacing_all w.own.player) w) is in
-      record {
-        own = put ∙ sym (ap (λ (w : Session). record x { own = w.own }) put);
-        stays = λ bs. ap (λ (w : Session). search_of bs w.own.search) put ∙ sym (ap (λ (w : Session). cond (searches (own_of w.own).mode) (search_of bs (Some s)) None) put);
-        turn = λ v sees. comes v k keys.ReplacesAll of_byte e ∙ sym (ap (λ (w : Session). Keep (own_of w.own)) put);
-        left = left_all x.own.player new.own.player.todo alone (ap (λ (w : Session). w.own.player.todo) put);
-        fit = λ h. (ap (λ (w : Session). (own_of w.own).mode) put, subst (λ (w : Session). 0 < length (own_of w.own).old) (sym put) some);
-      }
+      let it : Session = playing_as (replacing_all y.own.player) (searching s (told Silent z)) in
+      subst (λ (w : Session). IsByteStep d ks x w byte befores.Plain Kept) (sym (all ∙ ap (λ (w : Session). playing_as (replacing_all w.own.player) w) is))
+      (record { own = refl; stays = λ bs. refl; turn = λ v sees. comes v k keys.ReplacesAll of_byte e; left = left_all x.own.player it.own.player.todo alone refl; fit = λ h. (refl, some) })
 
   pub replace_ends : (k : ReplaceKey) → k ≡ replace_key byte → k ≡ keys.Ends → y ≡ unsearched y → new ≡ told (Replaced r.count) (unprompted y) → IsByteStep d ks (searching s (unsearched y)) new byte befores.Plain Kept
   replace_ends k of_byte e still is =
-      let over : new ≡ told (Replaced r.count) (unprompted z) = is ∙ ap (λ (w : Session). told (Replaced r.count) (unprompted w)) still in
-      record {
-        own = over ∙ sym (ap (λ (w : Session). record x { own = w.own }) over);
-        stays = none_stays x.own new.own (ap (λ (w : Session). w.own.search) over);
-        turn = λ v sees. comes v k keys.Ends of_byte e ∙ sym (ap (λ (w : Session). Keep (own_of w.own)) over);
-        left = left_same x.own.player new.own.player.todo alone (ap (λ (w : Session). w.own.player.todo) over);
-        fit = fit_same x.own.player (own_of new.own) alone (ap (λ (w : Session). w.own.player.todo) over);
-      }
+      let it : Session = told (Replaced r.count) (unprompted z) in
+      kept_same (SeesNames d ks x.user) (λ v. own_turn v x.own byte) x new it (is ∙ ap (λ (w : Session). told (Replaced r.count) (unprompted w)) still) refl (none_stays x.own it.own refl) alone (λ v sees. comes v k keys.Ends of_byte e) refl
 
   pub replace_quits : (k : ReplaceKey) → k ≡ replace_key byte → k ≡ keys.Quits → y ≡ unsearched y → new ≡ failed Quitting y → IsByteStep d ks (searching s (unsearched y)) new byte befores.Plain Kept
   replace_quits k of_byte e still is =
-      let over : new ≡ failed Quitting z = is ∙ ap (failed Quitting) still in
-      let none : new.own.player.todo ≡ [] = ap (λ (w : Session). w.own.player.todo) over in
-      record {
-        own = over ∙ sym (ap (λ (w : Session). record x { own = w.own }) over);
-        stays = none_stays x.own new.own (ap (λ (w : Session). w.own.search) over);
-        turn = λ v sees. comes v k keys.Quits of_byte e ∙ sym (ap (λ (w : Session). Keep (own_of w.own)) over);
-        left = left_none x.own.player new.own.player.todo none;
-        fit = fit_empty (own_of new.own) none;
-      }
+      kept_none (SeesNames d ks x.user) (λ v. own_turn v x.own byte) x new (failed Quitting z) (is ∙ ap (failed Quitting) still) refl (none_stays x.own (failed Quitting z).own refl) (λ v sees. comes v k keys.Quits of_byte e) refl
 
   pub replace_skips : (b : Before) (k : ReplaceKey) → k ≡ replace_key byte → k ≡ keys.Skips → new ≡ searching s (told Silent (unsearched y)) → IsByteStep d ks (searching s (unsearched y)) new byte b (Acts deeds.Skip)
-  replace_skips b k of_byte e is = record {
-    own = is ∙ sym (ap (λ (w : Session). record x { own = w.own }) is);
-    stays = held_stays is;
-    ready = subst (λ (w : Session). IsReady deeds.Skip w.own.search (own_of w.own)) (sym is) refl;
-    here = tt;
-    turn = λ v sees. comes v k keys.Skips of_byte e ∙ sym (ap (λ (w : Session). Do (own_of w.own) (deed_act (own_of w.own) b deeds.Skip)) is);
-    playing = λ p. ap (λ (plays : Bool). is_quiet plays (deed_act (own_of new.own) b deeds.Skip)) (ap (λ (w : Session). w.own.player.playing) is ∙ p);
-    typed = λ p. ap (λ (w : Session). w.own.player.todo) is ∙ alone.typed p;
-    left = left_same x.own.player new.own.player.todo alone (ap (λ (w : Session). w.own.player.todo) is);
-    again = λ wants. cc;
-    search = λ wants. cc;
-    fit = fit_same x.own.player (own_of new.own) alone (ap (λ (w : Session). w.own.player.todo) is);
-    further = further_same x.own.player (own_of new.own) alone (ap (λ (w : Session). w.own.player.todo) is);
-    begins = λ h. cc;
-  }
+  replace_skips b k of_byte e is =
+      acts_same (SeesNames d ks x.user) (λ v. own_turn v x.own byte) x new (searching s (told Silent z)) is refl (λ bs. refl) b deeds.Skip alone refl tt (λ v sees. comes v k keys.Skips of_byte e) refl (λ wants. cc) (λ wants. cc) (λ h. cc)
 
   -- a match is replaced
   abbrev replaced_turn : (last : Bool) → Turn
   replaced_turn last = Do own (deed_act own befores.Plain (deeds.Replace last))
 
   replaces_step : (b : Before) (last : Bool) → ((v : View) → own_turn v x.own byte ≡ replaced_turn last) → new ≡ searching s (told Silent z) → IsByteStep d ks x new byte b (Acts (deeds.Replace last))
-  replaces_step b last turn is = record {
-    own = is ∙ sym (ap (λ (w : Session). record x { own = w.own }) is);
-    stays = held_stays is;
-    ready = subst (λ (w : Session). IsReady (deeds.Replace last) w.own.search (own_of w.own)) (sym is) refl;
-    here = tt;
-    turn = λ v sees. turn v ∙ sym (ap (λ (w : Session). Do (own_of w.own) (deed_act (own_of w.own) b (deeds.Replace last))) is);
-    playing = λ p. ap (λ (plays : Bool). is_quiet plays (deed_act (own_of new.own) b (deeds.Replace last))) (ap (λ (w : Session). w.own.player.playing) is ∙ p);
-    typed = λ p. ap (λ (w : Session). w.own.player.todo) is ∙ alone.typed p;
-    left = left_same x.own.player new.own.player.todo alone (ap (λ (w : Session). w.own.player.todo) is);
-    again = λ wants. ap (λ (w : Session). refused_again befores.Held x.own.kind x.own.player.playing (own_of w.own)) is;
-    search = λ wants. ap (λ (w : Session). w.own.search) is;
-    fit = fit_same x.own.player (own_of new.own) alone (ap (λ (w : Session). w.own.player.todo) is);
-    further = further_same x.own.player (own_of new.own) alone (ap (λ (w : Session). w.own.player.todo) is);
-    begins = λ h. cc;
-  }
+  replaces_step b last turn is =
+      acts_same (SeesNames d ks x.user) (λ v. own_turn v x.own byte) x new (searching s (told Silent z)) is refl (λ bs. refl) b (deeds.Replace last) alone refl tt (λ v sees. turn v) refl (λ wants. refl) (λ wants. refl) (λ h. cc)
 
   pub replace_one : (b : Before) (k : ReplaceKey) → k ≡ replace_key byte → k ≡ keys.Replaces → new ≡ searching s (told Silent (unsearched y)) → IsByteStep d ks (searching s (unsearched y)) new byte b (Acts (deeds.Replace false))
   replace_one b k of_byte e is = replaces_step b false (λ v. comes v k keys.Replaces of_byte e) is

@@ -8,7 +8,7 @@ use Rattle.mgs_model.specs.World as model
 use Rattle.mgs_model.specs.View.{View}
 use Rattle.mgs_model.specs.Outcome.{Run}
 use Rattle.mgs_model.specs.Searching.{Sought, directed, dropped, lengthened, read_byte, shortened}
-use Rattle.mgs_model.specs.Turns.{Keep, Do, pattern_turn, sought_byte, sought_turn, used}
+use Rattle.mgs_model.specs.Turns.{Do, pattern_turn, sought_byte, sought_turn, used}
 use Rattle.mgs_model.specs.Events.{refused_own}
 use Rattle.mgs_model.specs.declared.message.Message.TheVariants.{Silent}
 use Rattle.mgs_model.specs.declared.search.Direction.{Direction}
@@ -35,11 +35,10 @@ use Rattle.mgs_core.specs.declared.deeds.Deed.TheVariants as deeds
 use Rattle.mgs_core.specs.declared.keying.ByteStep.{ByteStep}
 use Rattle.mgs_core.specs.declared.keying.ByteStep.TheVariants.{Kept, Failed, Ends, Acts}
 use Rattle.mgs_core.specs.Prompted.{own_turn}
-use Rattle.mgs_core.specs.Stepped.{IsAlone, IsByteStep, SearchStays, deed_act, finding, is_finding, is_keyed}
-use Rattle.mgs_core.specs.Turned.{is_quiet}
+use Rattle.mgs_core.specs.Stepped.{IsAlone, IsByteStep, SearchStays, finding, is_keyed, SeesNames}
 use Rattle.mgs_session.specs.declared.search.Aim.{Aim}
 use Rattle.mgs_session.specs.declared.search.Aim.TheVariants.{Find, Replace}
-use Rattle.mgs_core.proofs.Stepped.{fit_empty, fit_same, further_same, left_none, left_same, none_stays}
+use Rattle.mgs_core.proofs.Stepped.{acts_same, kept_none, kept_same, none_stays}
 
 -- WHAT A BYTE LEAVES OF WHAT IS LOOKED FOR, where it goes on with nothing
 
@@ -136,41 +135,16 @@ module _ (d : Directory) (ks : List MarkedBuffer) (y new : Session) (name : List
   pub search_ends : is_character_byte y.own.keyboard.keys byte ≡ false → read_byte y.own.pattern f byte ≡ (g, step.Ends) → new ≡ search_left g.pattern (unsearched y) → IsByteStep d ks (searching s (unsearched y)) new byte b Kept
   search_ends ascii read is =
       let same : g ≡ f = sought_over z.own.pattern f g byte step.Ends read tt in
-      let left : new ≡ search_left f.pattern z = is ∙ ap (λ (p : Sought). search_left p.pattern z) same in
-      record {
-        own = left ∙ sym (ap (λ (w : Session). record x { own = w.own }) left);
-        stays = none_stays x.own new.own (ap (λ (w : Session). w.own.search) left);
-        turn = λ v sees. comes y name origin anchor f byte v g step.Ends ascii read ∙ ap (λ (q : Sought). sought_turn own byte q step.Ends) same ∙ sym (ap (λ (w : Session). Keep (own_of w.own)) left);
-        left = left_same x.own.player new.own.player.todo alone (ap (λ (w : Session). w.own.player.todo) left);
-        fit = fit_same x.own.player (own_of new.own) alone (ap (λ (w : Session). w.own.player.todo) left);
-      }
-
-  -- the search goes on, with its positions
-  on_stays : (h : Sought) (k : Session) → new ≡ searching (finding name origin anchor h) k → SearchStays x.own new.own
-  on_stays h k is bs =
-      ap (λ (w : Session). search_of bs w.own.search) is
-      ∙ sym (ap (λ (w : Session). cond (searches (own_of w.own).mode) (search_of bs (Some s)) None) is)
+      let it : Session = search_left f.pattern z in
+      kept_same (SeesNames d ks x.user) (λ v. own_turn v x.own byte) x new it (is ∙ ap (λ (p : Sought). search_left p.pattern z) same) refl (none_stays x.own it.own refl) alone
+      (λ v sees. comes y name origin anchor f byte v g step.Ends ascii read ∙ ap (λ (q : Sought). sought_turn own byte q step.Ends) same) refl
 
   -- or is given up
   pub search_quits : is_character_byte y.own.keyboard.keys byte ≡ false → read_byte y.own.pattern f byte ≡ (g, step.Quits) → new ≡ searching r (told Silent (unsearched y)) → IsByteStep d ks (searching s (unsearched y)) new byte b (Acts deeds.QuitSearch)
   search_quits ascii read is =
       let same : g ≡ f = sought_over z.own.pattern f g byte step.Quits read tt in
-      let kept : new ≡ searching s (told Silent z) = is ∙ ap (λ (h : Sought). searching (finding name origin anchor h) (told Silent z)) same in
-      record {
-        own = kept ∙ sym (ap (λ (w : Session). record x { own = w.own }) kept);
-        stays = on_stays g (told Silent z) is;
-        ready = tt;
-        here = tt;
-        turn = λ v sees. comes y name origin anchor f byte v g step.Quits ascii read ∙ sym (ap (λ (w : Session). Do (own_of w.own) (deed_act (own_of w.own) b deeds.QuitSearch)) kept);
-        playing = λ e. ap (λ (p : Bool). is_quiet p (deed_act (own_of new.own) b deeds.QuitSearch)) (ap (λ (w : Session). w.own.player.playing) kept ∙ e);
-        typed = λ e. ap (λ (w : Session). w.own.player.todo) kept ∙ alone.typed e;
-        left = left_same x.own.player new.own.player.todo alone (ap (λ (w : Session). w.own.player.todo) kept);
-        fit = fit_same x.own.player (own_of new.own) alone (ap (λ (w : Session). w.own.player.todo) kept);
-        further = further_same x.own.player (own_of new.own) alone (ap (λ (w : Session). w.own.player.todo) kept);
-        begins = λ h. cc;
-        again = λ wants. cc;
-        search = λ wants. cc;
-      }
+      acts_same (SeesNames d ks x.user) (λ v. own_turn v x.own byte) x new (searching s (told Silent z)) (is ∙ ap (λ (h : Sought). searching (finding name origin anchor h) (told Silent z)) same) refl (λ bs. refl) b deeds.QuitSearch alone tt tt
+      (λ v sees. comes y name origin anchor f byte v g step.Quits ascii read) refl (λ wants. cc) (λ wants. cc) (λ h. cc)
 
   -- or does a step, with this half read
   abbrev own_read : Held → model.Own
@@ -178,21 +152,8 @@ module _ (d : Directory) (ks : List MarkedBuffer) (y new : Session) (name : List
 
   steps_on : (h : Held) (k : SearchStep) → ((v : View) → own_turn v x.own byte ≡ Do (record (own_read h) { mode = Searching g.direction g.failing; input = g.pattern }) (Run (Move (SearchOn g.direction k)) None g.pattern)) → new ≡ searching r (told Silent (reading h (unsearched y)))
       → IsByteStep d ks (searching s (unsearched y)) new byte b (Acts (deeds.Seek k))
-  steps_on h k turn is = record {
-    own = is ∙ sym (ap (λ (w : Session). record x { own = w.own }) is);
-    stays = on_stays g (told Silent (reading h z)) is;
-    ready = ap (λ (w : Session). is_finding w.own.search) is;
-    here = tt;
-    turn = λ v sees. turn v ∙ sym (ap (λ (w : Session). Do (own_of w.own) (deed_act (own_of w.own) b (deeds.Seek k))) is);
-    playing = λ e. ap (λ (p : Bool). is_quiet p (deed_act (own_of new.own) b (deeds.Seek k))) (ap (λ (w : Session). w.own.player.playing) is ∙ e);
-    typed = λ e. ap (λ (w : Session). w.own.player.todo) is ∙ alone.typed e;
-    left = left_same x.own.player new.own.player.todo alone (ap (λ (w : Session). w.own.player.todo) is);
-    fit = fit_same x.own.player (own_of new.own) alone (ap (λ (w : Session). w.own.player.todo) is);
-    further = further_same x.own.player (own_of new.own) alone (ap (λ (w : Session). w.own.player.todo) is);
-    begins = λ h. cc;
-    again = λ wants. cc;
-    search = λ wants. cc;
-  }
+  steps_on h k turn is =
+      acts_same (SeesNames d ks x.user) (λ v. own_turn v x.own byte) x new (searching r (told Silent (reading h z))) is refl (λ bs. refl) b (deeds.Seek k) alone refl tt (λ v sees. turn v) refl (λ wants. cc) (λ wants. cc) (λ h. cc)
 
   sought_on : (k : SearchStep) → (k ≡ step.Ends → ⊥) → (k ≡ step.Quits → ⊥) → (k ≡ step.Leaves → ⊥) → sought_turn own byte g k ≡ Do (record own { mode = Searching g.direction g.failing; input = g.pattern }) (Run (Move (SearchOn g.direction k)) None g.pattern)
   sought_on step.Ends ends quits leaves = absurd (ends refl)
@@ -213,23 +174,13 @@ module _ (d : Directory) (ks : List MarkedBuffer) (y new : Session) (name : List
 
   -- more of its bytes are to come
   pub search_reads : is_character_byte y.own.keyboard.keys byte ≡ true → character_read y.own.keyboard.keys byte ≡ Begun → new ≡ searching s (told Silent (reading (held_character y.own.keyboard byte Begun) (unsearched y))) → IsByteStep d ks (searching s (unsearched y)) new byte b Kept
-  search_reads is read held = record {
-    own = held ∙ sym (ap (λ (w : Session). record x { own = w.own }) held);
-    stays = on_stays f (told Silent (reading (held_character y.own.keyboard byte Begun) z)) held;
-    turn = λ v sees. comes_past y name origin anchor f byte v Begun is read ∙ sym (ap (λ (w : Session). Keep (own_of w.own)) held);
-    left = left_same x.own.player new.own.player.todo alone (ap (λ (w : Session). w.own.player.todo) held);
-    fit = fit_same x.own.player (own_of new.own) alone (ap (λ (w : Session). w.own.player.todo) held);
-  }
+  search_reads is read held =
+      kept_same (SeesNames d ks x.user) (λ v. own_turn v x.own byte) x new (searching s (told Silent (reading (held_character y.own.keyboard byte Begun) z))) held refl (λ bs. refl) alone (λ v sees. comes_past y name origin anchor f byte v Begun is read) refl
 
   -- or there is none, which is told
   pub search_breaks : is_character_byte y.own.keyboard.keys byte ≡ true → character_read y.own.keyboard.keys byte ≡ Broken → new ≡ unbound (searching s (reading nothing_held (unsearched y))) → IsByteStep d ks (searching s (unsearched y)) new byte b Kept
-  search_breaks is read held = record {
-    own = held ∙ sym (ap (λ (w : Session). record x { own = w.own }) held);
-    stays = on_stays f (unbound (reading nothing_held z)) held;
-    turn = λ v sees. comes_past y name origin anchor f byte v Broken is read ∙ sym (ap (λ (w : Session). Keep (own_of w.own)) held);
-    left = left_none x.own.player new.own.player.todo (ap (λ (w : Session). w.own.player.todo) held);
-    fit = fit_empty (own_of new.own) (ap (λ (w : Session). w.own.player.todo) held);
-  }
+  search_breaks is read held =
+      kept_none (SeesNames d ks x.user) (λ v. own_turn v x.own byte) x new (unbound (searching s (reading nothing_held z))) held refl (λ bs. refl) (λ v sees. comes_past y name origin anchor f byte v Broken is read) refl
 
 -- what the session has read of it, which does not search
 pub character_held : (y k : Session) (h : Held) (q e : Sequence) (byte : ℕ) → y ≡ unsearched y → k ≡ reading h y → h ≡ held_character y.own.keyboard byte q → q ≡ e → k ≡ reading (held_character y.own.keyboard byte e) (unsearched y)

@@ -18,10 +18,10 @@ use Rattle.mgs_model.specs.declared.session.Motion.{Motion}
 use Rattle.mgs_model.specs.declared.session.Motion.TheVariants.{StartSearch}
 use Rattle.mgs_model.proofs.Firsts.{change_first_found, change_twice, find-change_first}
 use Rattle.mgs_store.specs.Stores.{StoreTold, told_more}
-use Rattle.mgs_act.specs.declared.acts.KeyAct.{KeyAct}
-use Rattle.mgs_act.specs.declared.acts.KeyAct.TheVariants as acts
-use Rattle.mgs_act.specs.Actions.{act_of}
-use Rattle.mgs_act.specs.Beginning.{searching_own}
+use Rattle.mgs_plan.specs.declared.key_act.KeyAct.{KeyAct}
+use Rattle.mgs_plan.specs.declared.key_act.KeyAct.TheVariants as acts
+use Rattle.mgs_plan.specs.Actions.{act_of}
+use Rattle.mgs_plan.specs.Beginning.{searching_own}
 use Rattle.mgs_core.specs.Steps.{ActedBy, started_by, started_own, started_world}
 
 -- THE ACT, by a session that holds this and has these positions of a search

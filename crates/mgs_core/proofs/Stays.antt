@@ -14,6 +14,7 @@ use Rattle.mgs_model.specs.Events.{Close, top_settled, window_top, session_settl
 use Rattle.mgs_model.specs.declared.right.Right.TheVariants.{ReadData}
 use Rattle.mgs_core.specs.Steps.{closed}
 use Rattle.mgs_core.proofs.Ids.{differ, remove_none}
+use Rattle.mgs_model.proofs.Basics.{cons_head, cons_tail}
 
 pub settled_as : (v w : World) → w ≡ v → settled v ≡ v → settled w ≡ w
 settled_as v w is rests = subst (λ (u : World). settled u ≡ u) (sym is) rests
@@ -49,12 +50,6 @@ opened_rests w id user rows cols some rests =
     ∙ ap (λ (y : Session). w.sessions ++ y ∷ []) (new_stays w.directory w.buffers id user rows cols some))
 
 -- A SESSION CLOSES
-
-cons_head : {A : Type 0} (x y : A) (xs ys : List A) → x ∷ xs ≡ y ∷ ys → x ≡ y
-cons_head x y xs ys e = cc
-
-cons_tail : {A : Type 0} (x y : A) (xs ys : List A) → x ∷ xs ≡ y ∷ ys → xs ≡ ys
-cons_tail x y xs ys e = cc
 
 fixed_removed : {A : Type 0} (f : A → A) (p : A → Bool) (xs : List A) → map f xs ≡ xs → map f (remove_first p xs) ≡ remove_first p xs
 fixed_removed f p [] e = refl

@@ -25,9 +25,8 @@ use Rattle.mgs_model.specs.declared.limits.TheConstants.{REPETITION_LIMIT}
 use Rattle.mgs_laws.proofs.Ends.{call_fails, exit_fails}
 use Rattle.mgs_laws.proofs.Saves.{act_saves_none}
 use Rattle.mgs_buffers.specs.MarkedBuffer.{MarkedBuffer}
-use Rattle.mgs_act.specs.Actions.{act_of}
-use Rattle.mgs_act.specs.declared.acts.KeyAct.{KeyAct}
-use Rattle.mgs_act.specs.declared.acts.KeyAct.TheVariants.{Unbound as unbound}
+use Rattle.mgs_plan.specs.declared.key_act.KeyAct.{KeyAct}
+use Rattle.mgs_plan.specs.declared.key_act.KeyAct.TheVariants.{Unbound as unbound}
 use Rattle.mgs_maps.specs.Held.{Held, FedBy, is_bound}
 use Rattle.mgs_maps.specs.declared.maps.Fed.TheVariants as fed
 use Rattle.mgs_mini.specs.Typing.{PromptInput}
@@ -36,17 +35,19 @@ use Rattle.mgs_session.specs.declared.Session.{Session}
 use Rattle.mgs_session.specs.declared.search.Search.{Search}
 use Rattle.mgs_session.specs.Playing.{Playing, are_behind, are_played, rounds}
 use Rattle.mgs_session.specs.Sessions.{failed, holding, resting}
-use Rattle.mgs_world.specs.Worlds.{idle, mode_in, own_of, search_of}
+use Rattle.mgs_world.specs.Worlds.{mode_in, own_of, search_of}
+use Rattle.mgs_core.specs.declared.deeds.Deed.{Deed}
 use Rattle.mgs_core.specs.declared.deeds.Deed.TheVariants as deeds
 use Rattle.mgs_core.specs.declared.deeds.Before.{Before}
 use Rattle.mgs_core.specs.declared.deeds.Before.TheVariants as befores
 use Rattle.mgs_core.specs.declared.keying.ByteStep.{ByteStep}
 use Rattle.mgs_core.specs.declared.keying.ByteStep.TheVariants.{Kept, Failed, Ends, Acts}
 use Rattle.mgs_core.specs.Prompted.{own_turn}
-use Rattle.mgs_core.specs.Steps.{command_act, started_by, started_own}
-use Rattle.mgs_core.specs.Stepped.{IsAlone, IsByteStep, IsCommandStep, IsLeft, IsStep, MacroPlayed, SearchStays, SeesNames, StepActs, StepEnds, StepFailed, StepKept, call_fault, fault_of, is_call, is_exit, refused_again, search_before}
+use Rattle.mgs_core.specs.Steps.{command_act}
+use Rattle.mgs_core.specs.Stepped.{IsAlone, IsByteStep, IsCommandStep, IsLeft, IsStep, MacroPlayed, SearchStays, SeesNames, StepActs, StepEnds, StepFailed, StepKept, call_fault, fault_of, is_call, is_exit, refused_again, search_before, CanDo, IsReady, before_of, deed_act, deed_own, may_want_memory, starts_replacing}
 use Rattle.mgs_core.specs.Turned.{IsFit, IsWithin, has_all, is_played, is_quiet, weight}
 use Rattle.mgs_core.proofs.Keyed.{command_done, command_here, turn_command, turn_kept, turn_unbound}
+use Rattle.mgs_world.proofs.Marks.{not_both}
 
 -- WHAT IS LEFT
 
@@ -79,23 +80,15 @@ left_none old todo none = record {
 }
 
 -- no further replacements are left
-either : {X : Type 0} (b : Bool) → b ≡ true → b ≡ false → X
-either true e f = cc
-either false e f = cc
-
 pub fit_none : (o : model.Own) → has_all o.todo ≡ false → IsFit o
-fit_none o none all = either (has_all o.todo) all none
+fit_none o none all = not_both (has_all o.todo) all none
 
 pub fit_same : (old : Playing) (o : model.Own) → IsAlone old → o.todo ≡ old.todo → IsFit o
 fit_same old o alone same = fit_none o (ap has_all same ∙ none_all old.todo alone.played)
 
 -- a step of a byte keeps none of them to be done
 pub further_same : {X : Type 0} (old : Playing) (o : model.Own) → IsAlone old → o.todo ≡ old.todo → has_all o.todo ≡ true → X
-further_same old o alone same all = neither (has_all o.todo) all (ap has_all same ∙ none_all old.todo alone.played)
-  where
-    neither : {X : Type 0} (b : Bool) → b ≡ true → b ≡ false → X
-    neither true e f = cc
-    neither false e f = cc
+further_same old o alone same all = not_both (has_all o.todo) all (ap has_all same ∙ none_all old.todo alone.played)
 
 pub fit_empty : (o : model.Own) → o.todo ≡ [] → IsFit o
 fit_empty o none = fit_none o (ap has_all none)
@@ -175,6 +168,45 @@ call_refused o n message e =
     let more : List Todo = flat_map (λ (bytes : List ℕ). map Played bytes) (replicate (count_of n) own.macro) in
     refused_of (record own { todo = Play ∷ more ++ own.todo }) message (o.recorder.recording || o.player.playing) (length o.recorder.macro == 0) (nat_lt REPETITION_LIMIT (count_of n)) e
 
+-- A STEP, by the session that it leaves
+
+module _ (Sees : View → Type 0) (comes : View → Turn) (x new it : Session) (is : new ≡ it) (own : it ≡ record x { own = it.own }) (stays : SearchStays x.own it.own) where
+  -- nothing else is left to do, or nothing at all
+  pub kept_same : IsAlone x.own.player → ((v : View) → Sees v → comes v ≡ Keep (own_of it.own)) → it.own.player.todo ≡ x.own.player.todo → StepKept Sees comes (IsLeft x.own.player) x new
+  kept_same alone turn todo =
+      subst (StepKept Sees comes (IsLeft x.own.player) x) (sym is)
+      (record { own = own; stays = stays; turn = turn; left = left_same x.own.player it.own.player.todo alone todo; fit = fit_same x.own.player (own_of it.own) alone todo })
+
+  pub kept_none : ((v : View) → Sees v → comes v ≡ Keep (own_of it.own)) → it.own.player.todo ≡ [] → StepKept Sees comes (IsLeft x.own.player) x new
+  kept_none turn none =
+      subst (StepKept Sees comes (IsLeft x.own.player) x) (sym is)
+      (record { own = own; stays = stays; turn = turn; left = left_none x.own.player it.own.player.todo none; fit = fit_empty (own_of it.own) none })
+
+  -- an act of a session that has the same to do, no macro plays that did not
+  pub acts_same : (b : Before) (deed : Deed) → IsAlone x.own.player → IsReady deed it.own.search (own_of it.own) → CanDo b deed
+      → ((v : View) → Sees v → comes v ≡ Do (deed_own b deed (own_of it.own)) (deed_act (own_of it.own) b deed)) → it.own.player ≡ x.own.player
+      → (may_want_memory deed ≡ true → refused_again (before_of b deed) x.own.kind x.own.player.playing (own_of it.own) ≡ refused_own (own_of x.own))
+      → (may_want_memory deed ≡ true → search_before (before_of b deed) it.own.search ≡ x.own.search) → (starts_replacing deed ≡ true → x.own.search ≡ None)
+      → StepActs Sees comes x.own.player.playing (IsLeft x.own.player) x new b deed
+  acts_same b deed alone ready here turn same again search begins =
+      let todo : it.own.player.todo ≡ x.own.player.todo = ap (λ (p : Playing). p.todo) same in
+      subst (λ (w : Session). StepActs Sees comes x.own.player.playing (IsLeft x.own.player) x w b deed) (sym is)
+      (record {
+        own = own;
+        stays = stays;
+        ready = ready;
+        here = here;
+        turn = turn;
+        playing = λ e. ap (λ (p : Bool). is_quiet p (deed_act (own_of it.own) b deed)) (ap (λ (p : Playing). p.playing) same ∙ e);
+        typed = λ e. todo ∙ alone.typed e;
+        left = left_same x.own.player it.own.player.todo alone todo;
+        again = again;
+        search = search;
+        fit = fit_same x.own.player (own_of it.own) alone todo;
+        further = further_same x.own.player (own_of it.own) alone todo;
+        begins = begins;
+      })
+
 -- WHAT A COMMAND COMES TO in a session at rest
 
 -- it fails
@@ -245,10 +277,6 @@ module _ (Sees : View → Type 0) (comes : View → Turn) (x new : Session) (c :
         fit = fit_none (own_of new.own) (ap has_all left ∙ played_none (rounds (count_of n) o.recorder.macro));
       }
     where
-      not_both : {X : Type 0} (b : Bool) → b ≡ true → b ≡ false → X
-      not_both true e f = cc
-      not_both false e f = cc
-
       never_played : (r b e f : Bool) → (let m : Option Message = cond (r || b) (Some InMacro) (cond e (Some NoMacro) (cond f (Some TooMany) None)) in m ≡ None) → b ≡ false
       never_played true b e f h = cc
       never_played false true e f h = cc
@@ -272,24 +300,10 @@ module _ (Sees : View → Type 0) (comes : View → Turn) (x new : Session) (c :
       → refused_again b x.own.kind x.own.player.playing (own_of (resting x).own) ≡ refused_own (own_of x.own)
       → ((s : Option Search) → search_before b s ≡ x.own.search)
       → StepActs Sees comes x.own.player.playing (IsLeft x.own.player) x new b (deeds.Act (command_act c n))
-  acts_step b bound goes_on calls alone same again search = record {
-    own = same ∙ sym (ap (λ (s : Session). record x { own = s.own }) same);
-    stays = none_stays x.own new.own (ap (λ (s : Session). s.own.search) same);
-    ready = ap (λ (s : Session). own_of s.own) same ∙ sym (ap (λ (s : Session). idle (own_of s.own)) same);
-    here = command_here n c bound goes_on calls;
-    turn = λ v sees.
-        turn v sees
-        ∙ command_done (own_of (resting x).own) n c bound calls
-        ∙ sym (ap (λ (s : Session). Do (started_own (started_by (command_act c n)) (own_of s.own)) (act_of (command_act c n))) same);
-    playing = λ e. ap (λ (p : Bool). is_quiet p (act_of (command_act c n))) (ap (λ (s : Session). s.own.player.playing) same ∙ e);
-    typed = λ e. ap (λ (s : Session). s.own.player.todo) same ∙ alone.typed e;
-    left = left_same x.own.player new.own.player.todo alone (ap (λ (s : Session). s.own.player.todo) same);
-    again = λ wants. ap (λ (s : Session). refused_again b x.own.kind x.own.player.playing (own_of s.own)) same ∙ again;
-    search = λ wants. search new.own.search;
-    fit = fit_same x.own.player (own_of new.own) alone (ap (λ (s : Session). s.own.player.todo) same);
-    further = further_same x.own.player (own_of new.own) alone (ap (λ (s : Session). s.own.player.todo) same);
-    begins = λ h. cc;
-  }
+  acts_step b bound goes_on calls alone same again search =
+      let a = command_act c n in
+      acts_same Sees comes x new (resting x) same refl (none_stays x.own (resting x).own refl) b (deeds.Act a) alone refl (command_here n c bound goes_on calls)
+      (λ v sees. turn v sees ∙ command_done (own_of (resting x).own) n c bound calls) refl (λ wants. again) (λ wants. search None) (λ h. cc)
 
 is_exit_of : (c : Command) → is_exit c ≡ true → c ≡ Exit
 is_exit_of Exit h = refl
@@ -338,30 +352,13 @@ again_plain : (x : Session) → x.own.search ≡ None → x.own.prompt ≡ None 
 again_plain x still none = sym (ap (λ (y : Session). refused_own (own_of y.own)) (plain_same x still none))
 
 pub key_kept : (d : Directory) (ks : List MarkedBuffer) (x new : Session) (byte : ℕ) (k : Held) → x.own.search ≡ None → x.own.prompt ≡ None → IsAlone x.own.player → FedBy fed.Pending (key_read x.own.keyboard.argument x.own.keyboard.keys byte) k → new ≡ holding k x → IsByteStep d ks x new byte befores.Plain Kept
-key_kept d ks x new byte k still none alone read held = record {
-  own = held ∙ sym (ap (λ (s : Session). record x { own = s.own }) held);
-  stays = none_stays x.own new.own (ap (λ (s : Session). s.own.search) held);
-  turn = λ v sees. turn_kept v x.own byte k still none read ∙ sym (ap (λ (s : Session). Keep (own_of s.own)) held);
-  left = left_same x.own.player new.own.player.todo alone (ap (λ (s : Session). s.own.player.todo) held);
-  fit = fit_same x.own.player (own_of new.own) alone (ap (λ (s : Session). s.own.player.todo) held);
-}
+key_kept d ks x new byte k still none alone read held =
+    kept_same (SeesNames d ks x.user) (λ v. own_turn v x.own byte) x new (holding k x) held refl (none_stays x.own (holding k x).own refl) alone (λ v sees. turn_kept v x.own byte k still none read) refl
 
 pub key_unbound : (d : Directory) (ks : List MarkedBuffer) (x new : Session) (byte : ℕ) (k : Held) → x.own.search ≡ None → x.own.prompt ≡ None → IsAlone x.own.player → FedBy fed.Unbound (key_read x.own.keyboard.argument x.own.keyboard.keys byte) k → new ≡ resting x → IsByteStep d ks x new byte befores.Plain (Acts (deeds.Act unbound))
-key_unbound d ks x new byte k still none alone read same = record {
-  own = same ∙ sym (ap (λ (s : Session). record x { own = s.own }) same);
-  stays = none_stays x.own new.own (ap (λ (s : Session). s.own.search) same);
-  ready = ap (λ (s : Session). own_of s.own) same ∙ sym (ap (λ (s : Session). idle (own_of s.own)) same);
-  here = refl;
-  turn = λ v sees. turn_unbound v x.own byte k still none read ∙ sym (ap (λ (s : Session). Do (own_of s.own) (act_of unbound)) same);
-  playing = λ e. ap (λ (p : Bool). is_quiet p (act_of unbound)) (ap (λ (s : Session). s.own.player.playing) same ∙ e);
-  typed = λ e. ap (λ (s : Session). s.own.player.todo) same ∙ alone.typed e;
-  left = left_same x.own.player new.own.player.todo alone (ap (λ (s : Session). s.own.player.todo) same);
-  again = λ wants. ap (λ (s : Session). refused_again befores.Plain x.own.kind x.own.player.playing (own_of s.own)) same ∙ again_plain x still none;
-  search = λ wants. sym still;
-  fit = fit_same x.own.player (own_of new.own) alone (ap (λ (s : Session). s.own.player.todo) same);
-  further = further_same x.own.player (own_of new.own) alone (ap (λ (s : Session). s.own.player.todo) same);
-  begins = λ h. cc;
-}
+key_unbound d ks x new byte k still none alone read same =
+    acts_same (SeesNames d ks x.user) (λ v. own_turn v x.own byte) x new (resting x) same refl (none_stays x.own (resting x).own refl) befores.Plain (deeds.Act unbound) alone refl refl
+    (λ v sees. turn_unbound v x.own byte k still none read) refl (λ wants. again_plain x still none) (λ wants. sym still) (λ h. cc)
 
 pub key_command : (d : Directory) (ks : List MarkedBuffer) (x y new : Session) (byte : ℕ) (k : Held) (c : Command) (n : Option ℕ) (step : ByteStep) → x.own.search ≡ None → x.own.prompt ≡ None → IsAlone x.own.player → FedBy (fed.Run c n) (key_read x.own.keyboard.argument x.own.keyboard.keys byte) k → is_bound c ≡ true → y ≡ resting x → IsCommandStep y new c n step → IsByteStep d ks x new byte befores.Plain step
 key_command d ks x y new byte k c n step still none alone read bound rests s =

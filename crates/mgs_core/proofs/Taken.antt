@@ -26,7 +26,7 @@ use Rattle.mgs_mini.specs.Typing.{PromptInput}
 use Rattle.mgs_session.specs.declared.search.Aim.{Aim}
 use Rattle.mgs_session.specs.declared.search.Aim.TheVariants.{Find, Replace}
 use Rattle.mgs_session.specs.Replacing.{Replacing}
-use Rattle.mgs_act.specs.Replacing.{remaining_at, remaining_in, replacement, replacing_own}
+use Rattle.mgs_seek.specs.Replacing.{remaining_at, remaining_in, replacement, replacing_own}
 use Rattle.mgs_model.specs.declared.session.Kind.{Kind}
 use Rattle.mgs_model.specs.declared.touched.Touched.{Touched}
 use Rattle.mgs_model.specs.declared.touched.Touched.TheVariants.{Nowhere}
@@ -37,9 +37,12 @@ use Rattle.mgs_laws.proofs.Ends.{act_fails}
 use Rattle.mgs_model.proofs.Firsts.{change_first_found, change_twice}
 use Rattle.mgs_laws.proofs.Follow.{followed_same}
 use Rattle.mgs_laws.proofs.LeftToDo.{is_single, single_brief, todo_acted}
-use Rattle.mgs_laws.proofs.Saves.{act_saves_none, is_save}
 use Rattle.mgs_laws.proofs.Turned.{turn_todo}
-use Rattle.mgs_act.specs.Beginning.{search_held, search_or_none}
+use Rattle.mgs_plan.specs.Beginning.{search_held, search_or_none}
+use Rattle.mgs_plan.specs.Actions.{act_of}
+use Rattle.mgs_plan.specs.declared.key_act.KeyAct.{KeyAct}
+use Rattle.mgs_plan.specs.Tells.{touched_in}
+use Rattle.mgs_plan.proofs.Quiet.{quiet_leaving, quiet_motion}
 use Rattle.mgs_act.specs.Searching.{meant}
 use Rattle.mgs_buffers.specs.MarkedBuffer.{AreWithinLimit, MarkedBuffer}
 use Rattle.mgs_session.specs.declared.Session.{Session}
@@ -53,7 +56,7 @@ use Rattle.mgs_core.specs.declared.deeds.Deed.TheVariants as deeds
 use Rattle.mgs_core.specs.declared.deeds.Before.{Before}
 use Rattle.mgs_core.specs.declared.deeds.Before.TheVariants as befores
 use Rattle.mgs_core.specs.declared.keying.ByteStep.TheVariants.{Kept, Failed, Ends, Acts}
-use Rattle.mgs_core.specs.Steps.{ActedBy, closed, started_by, started_own}
+use Rattle.mgs_core.specs.Steps.{ActedBy, DoneBy, closed, started_by, started_own, started_world}
 use Rattle.mgs_core.specs.Stepped.{CanDo, IsReady, IsTurnStep, SearchStays, SeesNames, TurnLeft, asked_of, before_of, deed_act, deed_own, deed_world, finds, is_finding, is_replacement, is_replacing, keys_left, may_want_memory, put_back, refused, search_again, search_before, seek_act, starts_replacing}
 use Rattle.mgs_core.specs.Turned.{DeedBy, DeedRefused, IsLess, IsWithin, TurnDone, TurnEnds, TurnRefused, TurnedBy, IsFit, has_all, is_played, is_quiet, weight}
 use Rattle.mgs_core.proofs.Begun.{closed_own, search_still}
@@ -65,6 +68,7 @@ use Rattle.mgs_core.proofs.Steps.{session_changed, session_there, set_there, wor
 use Rattle.mgs_core.proofs.Turned.{AllLeft, all_less, all_none, all_same, all_without, more_weight, none_weight, some_left, without_same, without_within}
 use Rattle.mgs_core.proofs.Fitting.{replaced_fits}
 use Rattle.mgs_core.proofs.Stepped.{fit_empty, fit_none}
+use Rattle.mgs_core.proofs.Told.{quietly}
 use Rattle.mgs_core.proofs.Turns.{mode_replacing}
 
 there : (xs : List Session) (at : ℕ) → at < length xs → (h : Session) × (h ≡ get_or xs at h) × (slice_get xs at ≡ Some h)
@@ -153,30 +157,29 @@ replace_found (Some x) h = by x.own.search refl h
 pub replace_there : (xs : List Session) (at : ℕ) → is_replacing (search_held at xs) ≡ true → (s : Search) × (r : Replacing) × (search_held at xs ≡ Some s) × (s.aim ≡ Replace r) × ((own_at at xs).input ≡ r.put)
 replace_there xs at h = replace_found (slice_get xs at) h
 
--- an act that is no save leaves the store
-quietly : (old new : World) (t : StoreTold) (id : ℕ) (c : Act) → is_save c ≡ false → new ≡ act old id c true → ActedBy old new t t id c
-quietly old new t id c h world = record {
-  stored = true;
-  world = world;
-  fault = λ e. cc;
-  saves = told_none t.accepted (flat_map saved_by (act_effects old id c true)) (act_saves_none old id c true h);
-}
+-- an act of a key is done as it is
+pub acted_deed : (touched : Touched) (old new : World) (before after : StoreTold) (id : ℕ) (own : model.Own) (b : Before) (deed : Deed) (a : KeyAct) → deed ≡ deeds.Act a
+    → DoneBy touched (started_world (started_by a) id old) new before after id (act_of a) → DoneBy touched (deed_world b deed id old) new before after id (deed_act own b deed)
+acted_deed touched old new before after id own b deed a is did = subst (λ (e : Deed). DoneBy touched (deed_world b e id old) new before after id (deed_act own b e)) (sym is) did
 
 pub skipped_quietly : (old new : World) (t : StoreTold) (id : ℕ) (xs : List Session) (at : ℕ) (b : Before) (deed : Deed) → deed ≡ deeds.Skip → IsReady deed (search_held at xs) (own_at at xs)
-    → ((s : Search) (r : Replacing) → search_held at xs ≡ Some s → s.aim ≡ Replace r → new ≡ act old id (Run (Move SkipMatch) None r.put) true) → ActedBy (deed_world b deed id old) new t t id (deed_act (own_at at xs) b deed)
+    → ((s : Search) (r : Replacing) → search_held at xs ≡ Some s → s.aim ≡ Replace r → new ≡ act old id (Run (Move SkipMatch) None r.put) true) → DoneBy Nowhere (deed_world b deed id old) new t t id (deed_act (own_at at xs) b deed)
 skipped_quietly old new t id xs at b deed is ready world =
     let there = replace_there xs at (subst (λ (e : Deed). IsReady e (search_held at xs) (own_at at xs)) is ready) in
-    let did : ActedBy old new t t id (Run (Move SkipMatch) None (own_at at xs).input) = quietly old new t id (Run (Move SkipMatch) None (own_at at xs).input) refl
-    (world there.0 there.1 there.2 there.3 ∙ sym (ap (λ (put : List ℕ). act old id (Run (Move SkipMatch) None put) true) there.4)) in
-    subst (λ (e : Deed). ActedBy (deed_world b e id old) new t t id (deed_act (own_at at xs) b e)) (sym is) did
+    let put = there.1.put in
+    subst (λ (e : Deed). DoneBy Nowhere (deed_world b e id old) new t t id (deed_act (own_at at xs) b e)) (sym is)
+    (subst (λ (put : List ℕ). DoneBy Nowhere old new t t id (Run (Move SkipMatch) None put)) (sym there.4)
+    (quietly Nowhere old new t id (Run (Move SkipMatch) None put) refl (world there.0 there.1 there.2 there.3) (sym (quiet_motion old id None put true SkipMatch))))
 
-pub replaced_quietly : (old new : World) (t : StoreTold) (id : ℕ) (xs : List Session) (at : ℕ) (b : Before) (deed : Deed) (last : Bool) → deed ≡ deeds.Replace last → IsReady deed (search_held at xs) (own_at at xs)
-    → ((s : Search) (r : Replacing) → search_held at xs ≡ Some s → s.aim ≡ Replace r → new ≡ act old id (Run (Alter (replacement last)) None r.put) true) → ActedBy (deed_world b deed id old) new t t id (deed_act (own_at at xs) b deed)
-replaced_quietly old new t id xs at b deed last is ready world =
+pub replaced_quietly : (touched : Touched) (old new : World) (t : StoreTold) (id : ℕ) (xs : List Session) (at : ℕ) (b : Before) (deed : Deed) (last : Bool) → deed ≡ deeds.Replace last → IsReady deed (search_held at xs) (own_at at xs)
+    → ((s : Search) (r : Replacing) → search_held at xs ≡ Some s → s.aim ≡ Replace r → new ≡ act old id (Run (Alter (replacement last)) None r.put) true)
+    → ((s : Search) (r : Replacing) → search_held at xs ≡ Some s → s.aim ≡ Replace r → touched ≡ touched_in (outcome_in old id (Run (Alter (replacement last)) None r.put) true))
+    → DoneBy touched (deed_world b deed id old) new t t id (deed_act (own_at at xs) b deed)
+replaced_quietly touched old new t id xs at b deed last is ready world tells =
     let there = replace_there xs at (subst (λ (e : Deed). IsReady e (search_held at xs) (own_at at xs)) is ready) in
-    let did : ActedBy old new t t id (Run (Alter (replacement last)) None (own_at at xs).input) = quietly old new t id (Run (Alter (replacement last)) None (own_at at xs).input) refl
-    (world there.0 there.1 there.2 there.3 ∙ sym (ap (λ (put : List ℕ). act old id (Run (Alter (replacement last)) None put) true) there.4)) in
-    subst (λ (e : Deed). ActedBy (deed_world b e id old) new t t id (deed_act (own_at at xs) b e)) (sym is) did
+    subst (λ (e : Deed). DoneBy touched (deed_world b e id old) new t t id (deed_act (own_at at xs) b e)) (sym is)
+    (subst (λ (put : List ℕ). DoneBy touched old new t t id (Run (Alter (replacement last)) None put)) (sym there.4)
+    (quietly touched old new t id (Run (Alter (replacement last)) None there.1.put) refl (world there.0 there.1 there.2 there.3) (tells there.0 there.1 there.2 there.3)))
 
 pub replaced_may : (w : World) (id : ℕ) (xs : List Session) (at : ℕ) (b : Before) (deed : Deed) (last : Bool) → deed ≡ deeds.Replace last → IsReady deed (search_held at xs) (own_at at xs)
     → ((s : Search) (r : Replacing) → search_held at xs ≡ Some s → s.aim ≡ Replace r → may_be_refused (outcome_in w id (Run (Alter (replacement last)) None r.put) true) ≡ true) → may_be_refused (outcome_in w id (deed_act (own_at at xs) b deed) true) ≡ true
@@ -186,39 +189,29 @@ replaced_may w id xs at b deed last is ready may =
     ∙ ap (λ (put : List ℕ). may_be_refused (outcome_in w id (Run (Alter (replacement last)) None put) true)) there.4
     ∙ may there.0 there.1 there.2 there.3
 
-pub started_replacing : (old new : World) (t : StoreTold) (id : ℕ) (own : model.Own) (b : Before) (deed : Deed) (p : PromptInput) (pattern put : List ℕ) → deed ≡ deeds.StartReplacing → p ≡ asked_of b → pattern ≡ p.first → put ≡ p.input → new ≡ act (with_own id (replacing_own pattern put) old) id (Run (Move StartReplace) None put) true → ActedBy (deed_world b deed id old) new t t id (deed_act own b deed)
+pub started_replacing : (old new : World) (t : StoreTold) (id : ℕ) (own : model.Own) (b : Before) (deed : Deed) (p : PromptInput) (pattern put : List ℕ) → deed ≡ deeds.StartReplacing → p ≡ asked_of b → pattern ≡ p.first → put ≡ p.input
+    → new ≡ act (with_own id (replacing_own pattern put) old) id (Run (Move StartReplace) None put) true → DoneBy Nowhere (deed_world b deed id old) new t t id (deed_act own b deed)
 started_replacing old new t id own b deed p pattern put is asked first input world =
     let f : List ℕ = (asked_of b).first in
-    let i : List ℕ = (asked_of b).input in
-    subst (λ (e : Deed). ActedBy (deed_world b e id old) new t t id (deed_act own b e)) (sym is)
-    (quietly (with_own id (replacing_own f i) old) new t id (Run (Move StartReplace) None i) refl
-    (world
-    ∙ ap (λ (xs : List ℕ). act (with_own id (replacing_own xs put) old) id (Run (Move StartReplace) None put) true) (first ∙ ap (λ (q : PromptInput). q.first) asked)
-    ∙ ap (λ (xs : List ℕ). act (with_own id (replacing_own f xs) old) id (Run (Move StartReplace) None xs) true) (input ∙ ap (λ (q : PromptInput). q.input) asked)))
+    let v : World = with_own id (replacing_own pattern put) old in
+    subst (λ (e : Deed). DoneBy Nowhere (deed_world b e id old) new t t id (deed_act own b e)) (sym is)
+    (subst (λ (xs : List ℕ). DoneBy Nowhere (with_own id (replacing_own f xs) old) new t t id (Run (Move StartReplace) None xs)) (input ∙ ap (λ (q : PromptInput). q.input) asked)
+    (subst (λ (xs : List ℕ). DoneBy Nowhere (with_own id (replacing_own xs put) old) new t t id (Run (Move StartReplace) None put)) (first ∙ ap (λ (q : PromptInput). q.first) asked)
+    (quietly Nowhere v new t id (Run (Move StartReplace) None put) refl world (sym (quiet_motion v id None put true StartReplace)))))
 
--- what is done leaves the store
 pub sought_quietly : (old new : World) (t : StoreTold) (id : ℕ) (xs : List Session) (at : ℕ) (b : Before) (deed : Deed) (step : SearchStep) → deed ≡ deeds.Seek step → IsReady deed (search_held at xs) (own_at at xs)
-    → ((s : Search) (f : Sought) → search_held at xs ≡ Some s → s.aim ≡ Find f → new ≡ act old id (Run (Move (SearchOn f.direction step)) None f.pattern) true) → ActedBy (deed_world b deed id old) new t t id (deed_act (own_at at xs) b deed)
+    → ((s : Search) (f : Sought) → search_held at xs ≡ Some s → s.aim ≡ Find f → new ≡ act old id (Run (Move (SearchOn f.direction step)) None f.pattern) true) → DoneBy Nowhere (deed_world b deed id old) new t t id (deed_act (own_at at xs) b deed)
 sought_quietly old new t id xs at b deed step is ready world =
     let there = seek_there xs at step (subst (λ (e : Deed). IsReady e (search_held at xs) (own_at at xs)) is ready) in
-    let c : Act = Run (Move (SearchOn there.1.direction step)) None there.1.pattern in
-    let did : ActedBy old new t t id c = record {
-      stored = true;
-      world = world there.0 there.1 there.2 there.3;
-      fault = λ e. cc;
-      saves = told_none t.accepted (flat_map saved_by (act_effects old id c true)) (act_saves_none old id c true refl);
-    }
-    in subst (λ (e : Deed). ActedBy (deed_world b e id old) new t t id (deed_act (own_at at xs) b e)) (sym is) (subst (ActedBy old new t t id) (sym there.4) did)
+    let f = there.1 in
+    subst (λ (e : Deed). DoneBy Nowhere (deed_world b e id old) new t t id (deed_act (own_at at xs) b e)) (sym is)
+    (subst (DoneBy Nowhere old new t t id) (sym there.4)
+    (quietly Nowhere old new t id (Run (Move (SearchOn f.direction step)) None f.pattern) refl (world there.0 f there.2 there.3) (sym (quiet_motion old id None f.pattern true (SearchOn f.direction step)))))
 
-pub quit_quietly : (old new : World) (t : StoreTold) (id : ℕ) (own : model.Own) (b : Before) (deed : Deed) → deed ≡ deeds.QuitSearch → new ≡ act old id (Run LeaveSearch None []) true → ActedBy (deed_world b deed id old) new t t id (deed_act own b deed)
+pub quit_quietly : (old new : World) (t : StoreTold) (id : ℕ) (own : model.Own) (b : Before) (deed : Deed) → deed ≡ deeds.QuitSearch → new ≡ act old id (Run LeaveSearch None []) true → DoneBy Nowhere (deed_world b deed id old) new t t id (deed_act own b deed)
 quit_quietly old new t id own b deed is world =
-    let did : ActedBy old new t t id (Run LeaveSearch None []) = record {
-      stored = true;
-      world = world;
-      fault = λ e. cc;
-      saves = told_none t.accepted (flat_map saved_by (act_effects old id (Run LeaveSearch None []) true)) (act_saves_none old id (Run LeaveSearch None []) true refl);
-    }
-    in subst (λ (e : Deed). ActedBy (deed_world b e id old) new t t id (deed_act own b e)) (sym is) did
+    subst (λ (e : Deed). DoneBy Nowhere (deed_world b e id old) new t t id (deed_act own b e)) (sym is)
+    (quietly Nowhere old new t id (Run LeaveSearch None []) refl world (sym (quiet_leaving old id None [] true)))
 
 -- A DEED THAT IS REFUSED
 
@@ -462,12 +455,22 @@ module _ (d : Directory) (ks : List MarkedBuffer) (xs : List Session) (next : Op
     put : own_at at (slice_set xs at y) ≡ own_of y.own
     put = own_put xs at y within
 
+    -- what became of it
+    abbrev pub IsDeedBy : List MarkedBuffer → List Session → StoreTold → StoreTold → Kind → Bool → Keyed → Type 0
+    IsDeedBy K ys before after kind playing k =
+        DeedBy begun (deed_world b deed id begun) (world_of d K ys next) before after id (may_want_memory deed) (deed_act (own_at at (slice_set xs at y)) b deed) (put_back (buffers_of ks) (before_of b deed) kind playing) k
+
     -- it is done in the world that the turn leaves
     done_from : (new : World) (before after : StoreTold) → ActedBy (deed_world b deed id begun) new before after id (deed_act (own_at at (slice_set xs at y)) b deed) → ActedBy (with_own id (λ was. own) old) new before after id act_done
     done_from new before after did =
         begun_deed old id (own_of y.own) b deed (own_of y.own) (session_of ks h) new before after (session_some d ks xs next id at h place within is_h) (λ starts. ap (search_of (buffers_of ks)) (s.begins starts))
         (subst (λ (v : World). ActedBy (deed_world b deed id v) new before after id act_done) (changed s.own s.stays)
         (subst (λ (o : model.Own). ActedBy (deed_world b deed id begun) new before after id (deed_act o b deed)) put did))
+
+    acted_of : (K : List MarkedBuffer) (ys : List Session) (before after : StoreTold) (kind : Kind) (playing : Bool) (k : Keyed) → k ≡ keyed.Done → IsDeedBy K ys before after kind playing k → ActedBy (with_own id (λ was. own) old) (world_of d K ys next) before after id act_done
+    acted_of K ys before after kind playing k is by =
+        let new : World = world_of d K ys next in
+        done_from new before after (deed_done begun (deed_world b deed id begun) new before after id (may_want_memory deed) (deed_act (own_at at (slice_set xs at y)) b deed) (put_back (buffers_of ks) (before_of b deed) kind playing) k is by)
 
     -- what holds of what is to be done, and of nothing, holds of what the deed leaves
     deed_leaves : (P : List Todo → Type 0) → P [] → ((todo : List Todo) → P todo → P (without_all todo)) → P y.own.player.todo → (K : List MarkedBuffer) (ys : List Session) (before after : StoreTold) → sizes_in ys ≡ sizes_in xs
@@ -481,13 +484,12 @@ module _ (d : Directory) (ks : List MarkedBuffer) (xs : List Session) (next : Op
 
     -- what further replacements leave: all that was to be done, or none of them
     pub acted_less : (m n : ℕ) (K : List MarkedBuffer) (ys : List Session) (before after : StoreTold) (kind : Kind) (playing : Bool) (k : Keyed) → n ≤ 1048576 → k ≡ keyed.Done → sizes_in ys ≡ sizes_in xs
-        → DeedBy (world_of d ks (slice_set xs at y) next) (deed_world b deed id (world_of d ks (slice_set xs at y) next)) (world_of d K ys next) before after id (may_want_memory deed) (deed_act (own_at at (slice_set xs at y)) b deed) (put_back (buffers_of ks) (before_of b deed) kind playing) k
+        → IsDeedBy K ys before after kind playing k
         → has_all h.own.player.todo ≡ false
         → IsLess m n (own_at at xs).todo (own_at at ys).todo
     acted_less m n K ys before after kind playing k small is same by none =
-        let new : World = world_of d K ys next in
-        let did = deed_done begun (deed_world b deed id begun) new before after id (may_want_memory deed) (deed_act (own_at at (slice_set xs at y)) b deed) (put_back (buffers_of ks) (before_of b deed) kind playing) k is by in
-        let left = deed_leaves (IsWithin (weight 1048576 y.own.player.todo)) (omega arith, refl) (without_within (weight 1048576 y.own.player.todo)) (omega arith, s.left.played) K ys before after same (done_from new before after did) in
+        let did = acted_of K ys before after kind playing k is by in
+        let left = deed_leaves (IsWithin (weight 1048576 y.own.player.todo)) (omega arith, refl) (without_within (weight 1048576 y.own.player.todo)) (omega arith, s.left.played) K ys before after same did in
         let most = more_weight n 1048576 (own_at at ys).todo small in
         let first = s.left.less none in
         let alike = none_weight m 1048576 h.own.player.todo none in
@@ -495,25 +497,22 @@ module _ (d : Directory) (ks : List MarkedBuffer) (xs : List Session) (next : Op
 
     -- or by one of all further replacements
     pub replaced_less : (m n : ℕ) (K : List MarkedBuffer) (ys : List Session) (before after : StoreTold) (kind : Kind) (playing : Bool) (k : Keyed) → k ≡ keyed.Done → sizes_in ys ≡ sizes_in xs
-        → DeedBy (world_of d ks (slice_set xs at y) next) (deed_world b deed id (world_of d ks (slice_set xs at y) next)) (world_of d K ys next) before after id (may_want_memory deed) (deed_act (own_at at (slice_set xs at y)) b deed) (put_back (buffers_of ks) (before_of b deed) kind playing) k
+        → IsDeedBy K ys before after kind playing k
         → has_all h.own.player.todo ≡ true → (has_all (own_at at ys).todo ≡ true → n < m)
         → IsLess m n (own_at at xs).todo (own_at at ys).todo
     replaced_less m n K ys before after kind playing k is same by all further =
-        let new : World = world_of d K ys next in
         let todo : List Todo = h.own.player.todo in
-        let did = deed_done begun (deed_world b deed id begun) new before after id (may_want_memory deed) (deed_act (own_at at (slice_set xs at y)) b deed) (put_back (buffers_of ks) (before_of b deed) kind playing) k is by in
+        let did = acted_of K ys before after kind playing k is by in
         let stays = s.left.same all in
-        let left = deed_leaves (AllLeft m todo) (all_none m todo all) (all_without m todo all stays.2) (subst (AllLeft m todo) (sym stays.1) (all_same m todo all (ap is_played (sym stays.1) ∙ s.left.played))) K ys before after same (done_from new before after did) in
+        let left = deed_leaves (AllLeft m todo) (all_none m todo all) (all_without m todo all stays.2) (subst (AllLeft m todo) (sym stays.1) (all_same m todo all (ap is_played (sym stays.1) ∙ s.left.played))) K ys before after same did in
         subst (λ (ts : List Todo). IsLess m n ts (own_at at ys).todo) (sym todo_there) (all_less m n todo (own_at at ys).todo all left further)
 
     -- further replacements are left only where the session goes on to replace
     pub acted_fit : (K : List MarkedBuffer) (ys : List Session) (before after : StoreTold) (kind : Kind) (playing : Bool) (k : Keyed) → k ≡ keyed.Done → sizes_in ys ≡ sizes_in xs
-        → DeedBy (world_of d ks (slice_set xs at y) next) (deed_world b deed id (world_of d ks (slice_set xs at y) next)) (world_of d K ys next) before after id (may_want_memory deed) (deed_act (own_at at (slice_set xs at y)) b deed) (put_back (buffers_of ks) (before_of b deed) kind playing) k
+        → IsDeedBy K ys before after kind playing k
         → IsFit (own_at at ys)
     acted_fit K ys before after kind playing k is same by =
-        let new : World = world_of d K ys next in
-        either (has_all y.own.player.todo) refl
-        (done_from new before after (deed_done begun (deed_world b deed id begun) new before after id (may_want_memory deed) (deed_act (own_at at (slice_set xs at y)) b deed) (put_back (buffers_of ks) (before_of b deed) kind playing) k is by))
+        either (has_all y.own.player.todo) refl (acted_of K ys before after kind playing k is by)
       where
         either : (all : Bool) → has_all y.own.player.todo ≡ all → ActedBy (with_own id (λ was. own) old) (world_of d K ys next) before after id act_done → IsFit (own_at at ys)
         either true e did =
@@ -528,7 +527,7 @@ module _ (d : Directory) (ks : List MarkedBuffer) (xs : List Session) (next : Op
 
     -- less is left in any case
     pub acts_less : (K : List MarkedBuffer) (ys : List Session) (before after : StoreTold) (kind : Kind) (playing : Bool) (k : Keyed) → AreWithinLimit K → k ≡ keyed.Done → sizes_in ys ≡ sizes_in xs
-        → DeedBy (world_of d ks (slice_set xs at y) next) (deed_world b deed id (world_of d ks (slice_set xs at y) next)) (world_of d K ys next) before after id (may_want_memory deed) (deed_act (own_at at (slice_set xs at y)) b deed) (put_back (buffers_of ks) (before_of b deed) kind playing) k
+        → IsDeedBy K ys before after kind playing k
         → ((s t : Search) → is_replacement deed ≡ true → search_held at (slice_set xs at y) ≡ Some s → search_held at ys ≡ Some t → 0 < length (aim_old s.aim) → remaining_at at K ys < remaining_at at ks (slice_set xs at y))
         → IsLess (remaining_at at ks xs) (remaining_at at K ys) (own_at at xs).todo (own_at at ys).todo
     acts_less K ys before after kind playing k limits is same by further = either (has_all h.own.player.todo) refl
@@ -589,7 +588,7 @@ module _ (d : Directory) (ks : List MarkedBuffer) (xs : List Session) (next : Op
         }
 
     pub deed_turned : (K : List MarkedBuffer) (ys : List Session) (before after : StoreTold) (kind : Kind) (playing : Bool) (k : Keyed) → kind ≡ h.own.kind → playing ≡ h.own.player.playing → sizes_in ys ≡ sizes_in xs
-        → DeedBy (world_of d ks (slice_set xs at y) next) (deed_world b deed id (world_of d ks (slice_set xs at y) next)) (world_of d K ys next) before after id (may_want_memory deed) (deed_act (own_at at (slice_set xs at y)) b deed) (put_back (buffers_of ks) (before_of b deed) kind playing) k
+        → IsDeedBy K ys before after kind playing k
         → TurnedBy (is_played (own_at at xs).todo) (own_at at ys).todo (world_of d ks xs next) (world_of d K ys next) before after id k
     deed_turned K ys before after kind playing keyed.Done of_kind of_play same did =
         acted_turn K ys before after same (done_from (world_of d K ys next) before after did)

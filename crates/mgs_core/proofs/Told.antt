@@ -2,8 +2,8 @@
 use Rattle.std.proofs.Common.{◌≡◌, ◌||◌, ℕ, Bool, true, false, [], Option, Some, refl, sym, ap, ◌∙◌, subst}
 use Rattle.std.specs.List.{flat_map}
 use Rattle.mgs_model.specs.World.{World}
-use Rattle.mgs_model.specs.Outcome.{Act}
 use Rattle.mgs_model.specs.Outcome as outcomes
+use Rattle.mgs_model.specs.Outcome.{Act}
 use Rattle.mgs_model.specs.Apply.{act, outcome_in}
 use Rattle.mgs_model.specs.Events.{act_effects, may_be_refused, saved_by, with_own}
 use Rattle.mgs_model.specs.declared.errors.Keyed.{Keyed}
@@ -11,16 +11,20 @@ use Rattle.mgs_model.specs.declared.search.Direction.{Direction}
 use Rattle.mgs_model.specs.declared.session.Command.TheVariants.{Move, SaveBuffer}
 use Rattle.mgs_model.specs.declared.session.Motion.{Motion}
 use Rattle.mgs_model.specs.declared.session.Motion.TheVariants.{StartSearch}
+use Rattle.mgs_model.specs.declared.touched.Touched.{Touched}
+use Rattle.mgs_model.specs.declared.touched.Touched.TheVariants.{Nowhere}
 use Rattle.mgs_laws.proofs.Saves.{is_save, act_saves_none}
 use Rattle.mgs_store.specs.Stores.{StoreTold}
 use Rattle.mgs_store.proofs.Told.{told_none}
-use Rattle.mgs_act.specs.declared.acts.KeyAct.{KeyAct}
-use Rattle.mgs_act.specs.declared.acts.KeyAct.TheVariants.{Unbound, Run}
-use Rattle.mgs_act.specs.Actions.{act_of, is_done_here}
-use Rattle.mgs_act.specs.Beginning.{searching_own}
+use Rattle.mgs_plan.specs.declared.key_act.KeyAct.{KeyAct}
+use Rattle.mgs_plan.specs.declared.key_act.KeyAct.TheVariants.{Unbound, Run}
+use Rattle.mgs_plan.specs.Actions.{act_of, is_done_here}
+use Rattle.mgs_plan.specs.Beginning.{searching_own}
+use Rattle.mgs_plan.specs.Tells.{touched_in}
+use Rattle.mgs_plan.proofs.Quiet.{quiet_motion}
 use Rattle.mgs_act.specs.Saving.{SavedBy}
 use Rattle.mgs_core.specs.Kept.{Kept}
-use Rattle.mgs_core.specs.Steps.{ActedBy, KeyedBy, asks_store, is_plain_act, started_by, started_in_motion, started_world}
+use Rattle.mgs_core.specs.Steps.{DoneBy, KeyedBy, asks_store, is_plain_act, started_by, started_in_motion, started_world}
 
 -- what is done by the act is no save
 done_saves_none : (a : KeyAct) → is_done_here a ≡ true → is_save (act_of a) ≡ false
@@ -28,43 +32,42 @@ done_saves_none Unbound h = refl
 done_saves_none (Run SaveBuffer n) h = cc
 done_saves_none (Run _ n) h = refl
 
--- such an act leaves the store
-pub acted_quietly : (old new : World) (t : StoreTold) (id : ℕ) (a : KeyAct) → is_done_here a ≡ true → new ≡ act old id (act_of a) true → ActedBy old new t t id (act_of a)
-acted_quietly old new t id a here world = record {
-  stored = true;
-  world = world;
-  fault = λ e. cc;
-  saves = told_none t.accepted (flat_map saved_by (act_effects old id (act_of a) true)) (act_saves_none old id (act_of a) true (done_saves_none a here));
+-- an act that is no save leaves the store
+pub quietly : (touched : Touched) (old new : World) (t : StoreTold) (id : ℕ) (c : Act) → is_save c ≡ false → new ≡ act old id c true → touched ≡ touched_in (outcome_in old id c true) → DoneBy touched old new t t id c
+quietly touched old new t id c other world tells = record {
+  acted = record { stored = true; world = world; fault = λ e. cc; saves = told_none t.accepted (flat_map saved_by (act_effects old id c true)) (act_saves_none old id c true other) };
+  tells = tells;
 }
+
+pub acted_quietly : (touched : Touched) (old new : World) (t : StoreTold) (id : ℕ) (a : KeyAct) → is_done_here a ≡ true → new ≡ act old id (act_of a) true → touched ≡ touched_in (outcome_in old id (act_of a) true) → DoneBy touched old new t t id (act_of a)
+acted_quietly touched old new t id a here = quietly touched old new t id (act_of a) (done_saves_none a here)
 
 -- what does not ask it is done as any other act
 pub done_else : (a : KeyAct) → is_plain_act a ≡ true → asks_store a ≡ false → is_done_here a ≡ true
 done_else a acts none = sym (ap (λ (b : Bool). b || is_done_here a) none) ∙ acts
 
 -- a search that starts, whatever the argument of its act
-started_motion : (old new : World) (t : StoreTold) (id : ℕ) (c : Motion) (n : Option ℕ) (d : Direction) → started_in_motion c ≡ Some d → ((m : Option ℕ) → new ≡ act (with_own id (searching_own d) old) id (outcomes.Run (Move (StartSearch d)) m []) true) → ActedBy (started_world (started_in_motion c) id old) new t t id (outcomes.Run (Move c) n [])
+started_motion : (old new : World) (t : StoreTold) (id : ℕ) (c : Motion) (n : Option ℕ) (d : Direction) → started_in_motion c ≡ Some d
+    → ((m : Option ℕ) → new ≡ act (with_own id (searching_own d) old) id (outcomes.Run (Move (StartSearch d)) m []) true) → DoneBy Nowhere (started_world (started_in_motion c) id old) new t t id (outcomes.Run (Move c) n [])
 started_motion old new t id (StartSearch e) n d is world =
     let same : e ≡ d = cc in
-    record {
-      stored = true;
-      world = world n ∙ sym (ap (λ (k : Direction). act (with_own id (searching_own k) old) id (outcomes.Run (Move (StartSearch k)) n []) true) same);
-      fault = λ e. cc;
-      saves =
-          told_none t.accepted (flat_map saved_by (act_effects (with_own id (searching_own e) old) id (outcomes.Run (Move (StartSearch e)) n []) true)) (act_saves_none (with_own id (searching_own e) old) id (outcomes.Run (Move (StartSearch e)) n []) true refl);
-    }
+    let v : World = with_own id (searching_own d) old in
+    subst (λ (k : Direction). DoneBy Nowhere (with_own id (searching_own k) old) new t t id (outcomes.Run (Move (StartSearch k)) n [])) (sym same)
+    (quietly Nowhere v new t id (outcomes.Run (Move (StartSearch d)) n []) refl (world n) (sym (quiet_motion v id n [] true (StartSearch d))))
 started_motion old new t id _ n d is world = cc
 
-pub started_quietly : (old new : World) (t : StoreTold) (id : ℕ) (a : KeyAct) (d : Direction) → started_by a ≡ Some d → ((m : Option ℕ) → new ≡ act (with_own id (searching_own d) old) id (outcomes.Run (Move (StartSearch d)) m []) true) → ActedBy (started_world (started_by a) id old) new t t id (act_of a)
+pub started_quietly : (old new : World) (t : StoreTold) (id : ℕ) (a : KeyAct) (d : Direction) → started_by a ≡ Some d
+    → ((m : Option ℕ) → new ≡ act (with_own id (searching_own d) old) id (outcomes.Run (Move (StartSearch d)) m []) true) → DoneBy Nowhere (started_world (started_by a) id old) new t t id (act_of a)
 started_quietly old new t id Unbound d is world = cc
 started_quietly old new t id (Run (Move c) n) d is world = started_motion old new t id c n d is world
 started_quietly old new t id (Run _ n) d is world = cc
 
 -- a save, whatever its argument
-pub acted_saving : (old new : World) (before after : StoreTold) (id : ℕ) (a : KeyAct) → asks_store a ≡ true → ((n : Option ℕ) → SavedBy old new before after id n) → ActedBy old new before after id (act_of a)
-acted_saving old new before after id Unbound h saved = cc
-acted_saving old new before after id (Run SaveBuffer n) h saved =
-    let by = saved n in record { stored = by.stored; world = by.world; fault = by.fault; saves = by.saves }
-acted_saving old new before after id (Run _ n) h saved = cc
+pub acted_saving : (touched : Touched) (old new : World) (before after : StoreTold) (id : ℕ) (a : KeyAct) → asks_store a ≡ true → ((n : Option ℕ) → SavedBy old new before after id n touched) → DoneBy touched old new before after id (act_of a)
+acted_saving touched old new before after id Unbound h saved = cc
+acted_saving touched old new before after id (Run SaveBuffer n) h saved =
+    let by = saved n in record { acted = record { stored = by.stored; world = by.world; fault = by.fault; saves = by.saves }; tells = by.tells }
+acted_saving touched old new before after id (Run _ n) h saved = cc
 
 pub may_saving : (w : World) (id : ℕ) (a : KeyAct) → asks_store a ≡ true → ((n : Option ℕ) → may_be_refused (outcome_in w id (outcomes.Run SaveBuffer n []) true) ≡ true) → may_be_refused (outcome_in w id (act_of a) true) ≡ true
 may_saving w id Unbound h may = cc

@@ -24,11 +24,10 @@ use Rattle.mgs_store.proofs.Told.{told_none, told_twice}
 use Rattle.mgs_core.specs.Steps.{ActedBy, KeyedBy}
 use Rattle.mgs_session.specs.Playing.{is_nothing}
 use Rattle.mgs_core.specs.Turned.{EventBy, IsLess, IsTurnDone, IsWithin, TurnDone, TurnEnds, TurnRefused, TurnedBy, asks, goes_on, has_all, is_played, is_quiet, left_to_do, turn_to, weight}
+use Rattle.mgs_core.proofs.Steps.{not_found}
+use Rattle.mgs_world.proofs.Killed.{not_true, not_false}
 
 -- WHAT IS LEFT
-
-pub none_within : (n : ℕ) → IsWithin n []
-none_within n = (omega arith, refl)
 
 -- no more is left without the replacing of all
 pub without_weight : (n : ℕ) (todo : List Todo) → weight n (without_all todo) ≤ weight n todo
@@ -199,10 +198,6 @@ next_turn id used left start now new before mid after x s found t = more_by id u
 
 -- THE EVENT
 
-not_there : {A X : Type 0} (o : Option A) → IsSome o → o ≡ None → X
-not_there None h e = cc
-not_there (Some a) h e = cc
-
 none_behind : (n : ℕ) → memory_behind n (Some 0) ≡ Some 0 → n ≡ 0
 none_behind n e =
     let none : n + 0 ≡ 0 = cc in
@@ -218,8 +213,8 @@ event_done w u new before after id used byte here there stored s within stops se
   stop = None;
   step = settles ∙ sym (step_done w u id byte stored used s.saved here s.leads within stops);
   short = (λ e. cc, λ e. cc);
-  no_session = (λ e. cc, λ e. not_there (find_session id w.sessions) here e);
-  quit = (λ e. cc, λ e. not_there (find_session id new.sessions) there e.1);
+  no_session = (λ e. cc, λ e. not_found (find_session id w.sessions) here e);
+  quit = (λ e. cc, λ e. not_found (find_session id new.sessions) there e.1);
   may = λ e. cc;
   fault = s.fault;
   saves = s.saves ∙ sym (ap (λ (xs : List Saved). told_more xs before.accepted) (saves_done w u id byte stored used s.saved here s.leads within stops));
@@ -233,8 +228,8 @@ event_short w u v new before mid after id used byte x here there s within found 
   stop = memory_behind s.leads.acts (Some 0);
   step = settles ∙ ap settled t.told ∙ sym (step_short w u id byte true used s.saved here s.leads within t.own t.act x found t.turn);
   short = (λ e. some_memory s.leads.acts, λ e. refl);
-  no_session = (λ e. cc, λ e. not_there (find_session id w.sessions) here e);
-  quit = (λ e. cc, λ e. not_there (find_session id new.sessions) there e.1);
+  no_session = (λ e. cc, λ e. not_found (find_session id w.sessions) here e);
+  quit = (λ e. cc, λ e. not_found (find_session id new.sessions) there e.1);
   may = λ e.
       ap may_be_refused (act_short w u id byte true used s.saved here s.leads within t.own t.act x found t.turn)
       ∙ t.may;
@@ -388,18 +383,10 @@ pub something_left : (todo : List Todo) → is_nothing todo ≡ false → todo �
 something_left [] h e = cc
 something_left (x ∷ todo) h e = cc
 
-not_false : (b : Bool) → not b ≡ true → b ≡ false
-not_false true e = cc
-not_false false e = refl
-
-not_true : (b : Bool) → not b ≡ false → b ≡ true
-not_true true e = refl
-not_true false e = cc
-
 -- it goes on by one turn, after which less is left to do
 pub event_next : (id : ℕ) (start now new : World) (before mid after : StoreTold) (m n : ℕ) (todo left : List Todo) (x : Session) → find_session id now.sessions ≡ Some x → (k l : Keyed) → goes_on k todo ≡ true → EventSoFar id start now before mid m todo k → TurnedBy (is_played todo) left now new mid after id l → (l ≡ Done → IsLess m n todo left) → EventSoFar id start new before after n left l
 event_next id start now new before mid after m n todo left x found keyed.Done l on so t less =
-    one_more id start now new before mid after m n todo left x so (something_left todo (not_false (is_nothing todo) on)) found l t less
+    one_more id start now new before mid after m n todo left x so (something_left todo (not_true (is_nothing todo) on)) found l t less
 event_next id start now new before mid after m n todo left x found keyed.Short l on so t less = cc
 event_next id start now new before mid after m n todo left x found keyed.Quit l on so t less = cc
 event_next id start now new before mid after m n todo left x found keyed.NoSession l on so t less = cc
@@ -414,7 +401,7 @@ less_to_do keyed.Quit l m n todo left on less = cc
 less_to_do keyed.NoSession l m n todo left on less = cc
 
 pub none_on : (k : Keyed) (todo : List Todo) → goes_on k todo ≡ false → k ≡ Done → todo ≡ []
-none_on keyed.Done todo off e = nothing_left todo (not_true (is_nothing todo) off)
+none_on keyed.Done todo off e = nothing_left todo (not_false (is_nothing todo) off)
 none_on keyed.Short todo off e = cc
 none_on keyed.Quit todo off e = cc
 none_on keyed.NoSession todo off e = cc

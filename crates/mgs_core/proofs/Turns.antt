@@ -41,6 +41,7 @@ use Rattle.mgs_core.specs.Steps.{started_by, started_own}
 use Rattle.mgs_core.proofs.Begun.{search_still}
 use Rattle.mgs_core.specs.Turned.{IsFit, IsWithin, has_all, is_played, is_quiet, weight}
 use Rattle.mgs_core.proofs.Stepped.{fit_empty, none_all}
+use Rattle.mgs_world.proofs.Marks.{not_both}
 
 pub played_of : (todo : List Todo) → are_played todo ≡ true → is_played todo ≡ true
 played_of [] h = refl
@@ -48,10 +49,6 @@ played_of (Played byte ∷ todo) h = played_of todo h
 played_of (Typed byte ∷ todo) h = cc
 played_of (Replace_all ∷ todo) h = cc
 played_of (Play ∷ todo) h = cc
-
-never : {X : Type 0} (b : Bool) → b ≡ true → b ≡ false → X
-never true e f = cc
-never false e f = cc
 
 -- a session in this mode replaces
 pub mode_replacing : (s : Option Search) (p : Option PromptInput) → mode_in s p ≡ Replacing → is_replacing s ≡ true
@@ -159,7 +156,7 @@ module _ (d : Directory) (ks : List MarkedBuffer) (own : model.Own) (x y new : S
   pub first_other : (step : ByteStep) → (step ≡ Kept → ⊥) → ((deed : Deed) → step ≡ Acts deed → ⊥) → IsByteStep d ks x new byte b step → IsFirstStep d ks own x new byte b step
   first_other Kept none acts s = absurd (none refl)
   first_other Failed none acts s = first_failed s
-  first_other Ends none acts s = never x.own.player.playing plays s.typed
+  first_other Ends none acts s = not_both x.own.player.playing plays s.typed
   first_other (Acts deed) none acts s = absurd (acts deed refl)
 
 -- A TURN
@@ -206,7 +203,7 @@ step_from Sees comes mine a p Left Mine q x new b same is less (Acts deed) s = r
 
 -- where no further replacements are to be done
 below : (r : Bool) (old new : List Todo) → has_all old ≡ false → is_played new ≡ true → weight 1048576 new < weight 1048576 old → TurnLeft r old new
-below r old new none played less = record { played = played; less = λ e. less; same = λ e. never (has_all old) e none }
+below r old new none played less = record { played = played; less = λ e. less; same = λ e. not_both (has_all old) e none }
 
 module _ (d : Directory) (ks : List MarkedBuffer) (x y new : Session) (taken : y ≡ playing_as y.own.player x) where
   abbrev mine : View → Turn
@@ -277,8 +274,8 @@ module _ (d : Directory) (ks : List MarkedBuffer) (x y new : Session) (taken : y
         here = tt;
         turn = λ v sees. turn v ∙ sym (ap (λ (z : Session). Do (own_of z.own) (deed_act (own_of z.own) b (deeds.Replace false))) is);
         playing = λ e. or_true new.own.player.playing;
-        typed = λ e. never (is_played x.own.player.todo) typed e;
-        left = record { played = ap is_played left ∙ typed; less = λ e. never (has_all x.own.player.todo) (ap has_all todo ∙ all) e; same = λ e. (refl, left, ap (λ (ts : List Todo). has_all (without_all ts)) todo ∙ rest) };
+        typed = λ e. not_both (is_played x.own.player.todo) typed e;
+        left = record { played = ap is_played left ∙ typed; less = λ e. not_both (has_all x.own.player.todo) (ap has_all todo ∙ all) e; same = λ e. (refl, left, ap (λ (ts : List Todo). has_all (without_all ts)) todo ∙ rest) };
         again = λ wants. ap (λ (z : Session). refused_again befores.Held x.own.kind x.own.player.playing (own_of z.own)) is ∙ held_again x.own replaces;
         search = λ wants. ap (λ (z : Session). z.own.search) is;
         fit = subst (λ (z : Session). IsFit (own_of z.own)) (sym is) fit;

@@ -1,27 +1,26 @@
 // What a byte asks for: the act of a key, or of the answer to a prompt.
 ghost use Rattle.std.specs.Prelude.{◌≡◌, ◌<◌, ℕ, Option, Some, None, IfOk, OnOk, OnErr, length, true};
 ghost use Rattle.std.specs.List.{position_or_len};
-ghost use Rattle.mgs_model.specs.Apart.{Apart};
 ghost use Rattle.mgs_model.specs.Apply.{outcome_in};
 ghost use Rattle.mgs_model.specs.Events.{may_be_refused};
-ghost use Rattle.mgs_act.specs.Actions.{act_of};
-ghost use Rattle.mgs_act.specs.Beginning.{search_held};
-ghost use Rattle.mgs_act.specs.Replacing.{remaining_at};
+ghost use Rattle.mgs_plan.specs.Actions.{act_of};
+ghost use Rattle.mgs_plan.specs.Beginning.{search_held};
+ghost use Rattle.mgs_seek.specs.Replacing.{remaining_at};
 ghost use Rattle.mgs_session.specs.declared.search.Search.{Search};
 ghost use Rattle.mgs_store.specs.Stores.{store_told};
 ghost use Rattle.mgs_world.specs.Sound.{IsSound};
-ghost use Rattle.mgs_world.specs.Worlds.{aim_old, idle, own_at, session_id, sizes_in, world_of};
-ghost use Rattle.mgs_core.specs.Steps.{ActedBy, asks_store, is_acted, is_plain_act, started_by, started_in_motion, started_world};
+ghost use Rattle.mgs_world.specs.Worlds.{aim_old, idle, own_at, session_id, world_of};
+ghost use Rattle.mgs_core.specs.Steps.{DoneBy, asks_store, is_acted, is_plain_act, started_by, started_in_motion, started_world};
 ghost use Rattle.mgs_core.specs.Stepped.{CanDo, IsReady, asked_of, before_of, deed_act, deed_world, is_asked, is_replacement, may_want_memory};
 
-use mgs_act::{
-    KeyAct, act, answer, quit_search, replace, save, search_on, skip, start_replacing, start_search,
-};
+use mgs_act::{act, answer, save};
 use mgs_buffers::Buffers;
 use mgs_marks::Marked;
 use mgs_mini::Prompt;
 use mgs_model::{Command, Direction, Motion, SearchStep, Short, Touched};
+use mgs_plan::KeyAct;
 use mgs_policy::Directory;
+use mgs_seek::{quit_search, replace, search_on, skip, start_replacing, start_search};
 use mgs_session::{Search, SearchString, Session};
 use mgs_store::Store;
 use std::alloc::Global;
@@ -130,9 +129,7 @@ fn do_plain_act<T: Marked + Drop, S: Store>(
     requires fresh { own_at at sessions.old ≡ idle (own_at at sessions.old) }
     requires here { is_plain_act done ≡ true }
     ensures sound { IsSound buffers.new sessions.new }
-    ensures sizes { sizes_in sessions.new ≡ sizes_in sessions.old }
-    ensures ok { OnOk result ((id : ℕ) (next : Option ℕ) → at ≡ position_or_len (session_id id) sessions.old → ActedBy (world_of directory.now buffers.old sessions.old next) (world_of directory.now buffers.new sessions.new next) (store_told S.failed S.accepted store.old) (store_told S.failed S.accepted store.new) id (act_of done)) }
-    ensures touched { IfOk result (λ touched. (id : ℕ) (next : Option ℕ) → at ≡ position_or_len (session_id id) sessions.old → Apart touched id (world_of directory.now buffers.old sessions.old next) (world_of directory.now buffers.new sessions.new next)) }
+    ensures ok { IfOk result (λ touched. (id : ℕ) (next : Option ℕ) → at ≡ position_or_len (session_id id) sessions.old → DoneBy touched (world_of directory.now buffers.old sessions.old next) (world_of directory.now buffers.new sessions.new next) (store_told S.failed S.accepted store.old) (store_told S.failed S.accepted store.new) id (act_of done)) }
     ensures err { OnErr result ((next : Option ℕ) → world_of directory.now buffers.new sessions.new next ≡ world_of directory.now buffers.old sessions.old next) }
     ensures unasked { OnErr result (store.new ≡ store.old) }
     ensures may { OnErr result ((id : ℕ) (next : Option ℕ) → at ≡ position_or_len (session_id id) sessions.old → may_be_refused (outcome_in (world_of directory.now buffers.old sessions.old next) id (act_of done) true) ≡ true) }
@@ -164,9 +161,7 @@ fn do_act<T: Marked + Drop, S: Store>(
     requires fresh { own_at at sessions.old ≡ idle (own_at at sessions.old) }
     requires here { is_acted done ≡ true }
     ensures sound { IsSound buffers.new sessions.new }
-    ensures sizes { sizes_in sessions.new ≡ sizes_in sessions.old }
-    ensures ok { OnOk result ((id : ℕ) (next : Option ℕ) → at ≡ position_or_len (session_id id) sessions.old → ActedBy (started_world (started_by done) id (world_of directory.now buffers.old sessions.old next)) (world_of directory.now buffers.new sessions.new next) (store_told S.failed S.accepted store.old) (store_told S.failed S.accepted store.new) id (act_of done)) }
-    ensures touched { IfOk result (λ touched. (id : ℕ) (next : Option ℕ) → at ≡ position_or_len (session_id id) sessions.old → Apart touched id (world_of directory.now buffers.old sessions.old next) (world_of directory.now buffers.new sessions.new next)) }
+    ensures ok { IfOk result (λ touched. (id : ℕ) (next : Option ℕ) → at ≡ position_or_len (session_id id) sessions.old → DoneBy touched (started_world (started_by done) id (world_of directory.now buffers.old sessions.old next)) (world_of directory.now buffers.new sessions.new next) (store_told S.failed S.accepted store.old) (store_told S.failed S.accepted store.new) id (act_of done)) }
     ensures wants { OnErr result (started_by done ≡ None) }
     ensures err { OnErr result ((next : Option ℕ) → world_of directory.now buffers.new sessions.new next ≡ world_of directory.now buffers.old sessions.old next) }
     ensures unasked { OnErr result (store.new ≡ store.old) }
@@ -197,9 +192,7 @@ pub fn do_deed<T: Marked + Drop, S: Store>(
     requires ready { IsReady deed (search_held at sessions.old) (own_at at sessions.old) }
     requires here { CanDo before.now deed }
     ensures sound { IsSound buffers.new sessions.new }
-    ensures sizes { sizes_in sessions.new ≡ sizes_in sessions.old }
-    ensures ok { OnOk result ((id : ℕ) (next : Option ℕ) → at ≡ position_or_len (session_id id) sessions.old → ActedBy (deed_world before.now deed id (world_of directory.now buffers.old sessions.old next)) (world_of directory.now buffers.new sessions.new next) (store_told S.failed S.accepted store.old) (store_told S.failed S.accepted store.new) id (deed_act (own_at at sessions.old) before.now deed)) }
-    ensures touched { IfOk result (λ touched. (id : ℕ) (next : Option ℕ) → at ≡ position_or_len (session_id id) sessions.old → Apart touched id (world_of directory.now buffers.old sessions.old next) (world_of directory.now buffers.new sessions.new next)) }
+    ensures ok { IfOk result (λ touched. (id : ℕ) (next : Option ℕ) → at ≡ position_or_len (session_id id) sessions.old → DoneBy touched (deed_world before.now deed id (world_of directory.now buffers.old sessions.old next)) (world_of directory.now buffers.new sessions.new next) (store_told S.failed S.accepted store.old) (store_told S.failed S.accepted store.new) id (deed_act (own_at at sessions.old) before.now deed)) }
     ensures wants { OnErr result (may_want_memory deed ≡ true) }
     ensures err { OnErr result ((next : Option ℕ) → world_of directory.now buffers.new sessions.new next ≡ world_of directory.now buffers.old sessions.old next) }
     ensures unasked { OnErr result (store.new ≡ store.old) }

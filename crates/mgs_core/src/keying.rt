@@ -8,9 +8,9 @@ ghost use Rattle.mgs_core.specs.declared.deeds.Before.TheVariants.{Plain};
 ghost use Rattle.mgs_core.specs.Stepped.{IsAlone, IsByteStep, IsCommandStep, call_fault, is_call, is_exit, is_keyed};
 
 use crate::deeds::Deed;
-use mgs_act::KeyAct;
 use mgs_maps::Fed;
 use mgs_model::{Command, Message, Motion, Question, REPETITION_LIMIT, Setting};
+use mgs_plan::KeyAct;
 use mgs_session::{Session, call_macro, fail, hold, rest};
 
 /// What a byte comes to in its session.

@@ -19,14 +19,14 @@ use Rattle.mgs_session.specs.declared.Session.{Session}
 use Rattle.mgs_session.specs.Seeking.{unsearched}
 use Rattle.mgs_world.specs.Killing.{session_forgetting, world_without}
 use Rattle.mgs_world.specs.Sound.{IsSound, in_use, one_if, option_uses, place_uses, session_uses, sum_of, uses, window_marks_uses, window_uses}
-use Rattle.mgs_world.specs.Worlds.{buffers_of, own_of, place_of, search_at, search_of, session_of, size_found, size_in, size_named, sizes_in, window_of, window_shown, world_of}
+use Rattle.mgs_world.specs.Worlds.{buffers_of, own_of, place_of, search_at, search_of, session_of, size_found, size_named, window_of, window_shown, world_of}
 use Rattle.mgs_world.proofs.Marks.{other_name, same_is}
 use Rattle.mgs_world.proofs.Worlds.{option_mapped, same_place, same_positions, same_window, same_world}
 
 -- WHAT IS KEPT
 
 -- a look-up by a test that fails at what goes
-find_removed : {A : Type 0} (p q : A → Bool) → ((x : A) → p x ≡ true → q x ≡ false) → (xs : List A) → find q (remove_first p xs) ≡ find q xs
+pub find_removed : {A : Type 0} (p q : A → Bool) → ((x : A) → p x ≡ true → q x ≡ false) → (xs : List A) → find q (remove_first p xs) ≡ find q xs
 find_removed p q apart [] = refl
 find_removed {A = A} p q apart (x ∷ xs) = go (p x) refl (find_removed p q apart xs)
   where
@@ -133,10 +133,6 @@ sessions_killed n ks (x ∷ xs) =
 pub world_killed : (directory : Directory) (n : List ℕ) (ks : List MarkedBuffer) (xs : List Session) (next : Option ℕ) → world_of directory (without_marked n ks) (map (session_forgetting n) xs) next ≡ world_without n (world_of directory ks xs next)
 world_killed directory n ks xs next = same_world directory _ _ _ _ _ (buffers_killed n ks) (sessions_killed n ks xs)
 
-pub sizes_killed : (n : List ℕ) (xs : List Session) → sizes_in (map (session_forgetting n) xs) ≡ sizes_in xs
-sizes_killed n [] = refl
-sizes_killed n (x ∷ xs) = ap (λ ss. size_in x ∷ ss) (sizes_killed n xs)
-
 -- WHAT IS USED
 
 sum_none : {A : Type 0} (f : A → ℕ) (g : A → A) → ((a : A) → f (g a) ≡ 0) → (xs : List A) → sum_of f (map g xs) ≡ 0
@@ -185,11 +181,11 @@ shown_same n m i (Some x) apart = go (same_name n x.name) refl
     go true e = sym (elsewhere m i x (other_name n m x.name apart e))
     go false e = refl
 
-not_true : (b : Bool) → not b ≡ true → b ≡ false
+pub not_true : (b : Bool) → not b ≡ true → b ≡ false
 not_true true e = cc
 not_true false e = refl
 
-not_false : (b : Bool) → not b ≡ false → b ≡ true
+pub not_false : (b : Bool) → not b ≡ false → b ≡ true
 not_false true e = refl
 not_false false e = cc
 

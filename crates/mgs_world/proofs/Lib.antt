@@ -14,3 +14,5 @@ pub mod Attributes
 pub mod Unmodified
 pub mod Owns
 pub mod Killed
+pub mod Only
+pub mod Sizes

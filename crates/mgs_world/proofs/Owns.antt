@@ -4,9 +4,7 @@ use Rattle.mgs_model.specs.World.{Own, Search}
 use Rattle.mgs_model.specs.Apply.{searches}
 use Rattle.mgs_model.specs.View.{View}
 use Rattle.mgs_model.specs.Acts.{asks}
-use Rattle.mgs_model.specs.Plans.{failed_own}
 use Rattle.mgs_model.specs.Turns.{prompt_turn}
-use Rattle.mgs_model.specs.declared.message.Message.{Message}
 use Rattle.mgs_model.specs.declared.message.Message.TheVariants.{Silent}
 use Rattle.mgs_model.specs.declared.session.Mode.TheVariants.{Plain, Prompt}
 use Rattle.mgs_model.specs.declared.session.Question.{Question}
@@ -17,7 +15,7 @@ use Rattle.mgs_session.specs.declared.search.Search as held_search
 use Rattle.mgs_session.specs.declared.search.Aim.{Aim}
 use Rattle.mgs_session.specs.declared.search.Aim.TheVariants.{Find, Replace}
 use Rattle.mgs_session.specs.declared.Session.{Session}
-use Rattle.mgs_session.specs.Sessions.{asking, failed, prompting, resting}
+use Rattle.mgs_session.specs.Sessions.{asking, prompting}
 use Rattle.mgs_buffers.specs.MarkedBuffer.{MarkedBuffer}
 use Rattle.mgs_world.specs.Worlds.{aim_mode, buffers_of, idle, mode_in, old_in, own_of, search_of, session_of}
 
@@ -48,12 +46,6 @@ pub search_kept : (ks : List MarkedBuffer) (x : Session) → own_of x.own ≡ id
 search_kept ks x fresh = no_search_at_rest ks x fresh ∙ sym (none_at_rest (session_of ks x).search (own_of x.own) fresh)
 
 -- CALLS
-
-pub own_failed : (message : Message) (x : Session) → own_of (failed message x).own ≡ failed_own message (own_of x.own)
-own_failed message x = refl
-
-pub own_resting : (x : Session) → own_of (resting x).own ≡ idle (own_of x.own)
-own_resting x = refl
 
 -- a session that has this search, or none
 abbrev with_search : Session → Option held_search.Search → Session

@@ -1,18 +1,15 @@
 -- The mark of a selected window is reserved and set.
-use Rattle.std.proofs.Common.{◌≡◌, ℕ, zero, suc, ◌+◌, ◌<◌, ◌≤◌, Bool, true, false, cond, List, [], ◌∷◌, length, map, get_or, Option, Some, None, refl, sym, ap, subst, ◌∙◌, arith}
+use Rattle.std.proofs.Common.{◌≡◌, ℕ, zero, suc, ◌+◌, ◌≤◌, Bool, true, false, cond, List, [], ◌∷◌, map, Option, Some, None, refl, sym, ap, subst, ◌∙◌, arith}
 use Rattle.std.specs.Prelude.{nat_eq, slice_get, slice_set}
 use Rattle.std.specs.List.{position_or_len}
 use Rattle.std.specs.Option.{option_and_then, option_map}
-use Rattle.std.proofs.lemmas.Option.{slice_get-get_or}
 use Rattle.mgs_model.specs.World as model
 use Rattle.mgs_model.specs.World.{Buffer, Buffer_of}
 use Rattle.mgs_model.specs.Names.{same_name}
-use Rattle.mgs_model.specs.Text.{shift}
-use Rattle.mgs_model.specs.Outcome.{At, Keep, Keep_mark, Mark_at}
-use Rattle.mgs_model.specs.Apply.{change_at, change_first, session_moved, window_adjusted}
-use Rattle.mgs_model.proofs.Firsts.{change_at_twice}
+use Rattle.mgs_model.specs.Outcome.{Keep, Mark_at}
+use Rattle.mgs_model.specs.Apply.{change_at, change_first, window_adjusted}
 use Rattle.mgs_marks.specs.Marks.{or_zero}
-use Rattle.mgs_buffers.specs.MarkedBuffer.{MarkedBuffer, HasBuffer, IsMark, mark_at, marked_edited, marked_named, marked_placed}
+use Rattle.mgs_buffers.specs.MarkedBuffer.{MarkedBuffer, HasBuffer, IsMark, mark_at, marked_named, marked_placed}
 use Rattle.mgs_windows.specs.Panes.{mark_set, marked}
 use Rattle.mgs_windows.specs.declared.WindowMarks.{WindowMarks}
 use Rattle.mgs_windows.specs.declared.Window.{Window}
@@ -25,10 +22,10 @@ use Rattle.mgs_world.specs.Sound.{IsSound, in_use, one_if, sum_of, place_uses, s
 use Rattle.mgs_world.specs.WindowMarks.{MarksStay, WindowMarksDropped}
 use Rattle.mgs_world.specs.Worlds.{buffers_of, place_of, search_of, session_of, window_of, window_shown}
 use Rattle.mgs_world.proofs.Marks.{apart_from, is_same, mark_placed, mark_unused}
-use Rattle.mgs_world.proofs.Soundness.{in_use_mark, in_use_more, mark_edited_used, mark_used, sound_edited, sound_in_use, sound_placed}
+use Rattle.mgs_world.proofs.Soundness.{mark_used, in_use_mark, in_use_more, sound_in_use}
 use Rattle.mgs_world.proofs.Uses.{map_unused, map_used_at, sum_at}
 use Rattle.mgs_world.proofs.WindowMarks.{added_mark, buffers_marked, in_use_added, same_sizes, sessions_stay, stays_added, undone, with_mark_uses}
-use Rattle.mgs_world.proofs.Worlds.{buffers_placed, one_use, place_unused, point_to, same_positions, same_window, selected_at, selected_window, session_unused, window_unused}
+use Rattle.mgs_world.proofs.Worlds.{buffers_placed, one_use, place_unused, same_positions, same_window, selected_window, session_unused, window_unused}
 
 -- LISTS
 
@@ -104,13 +101,6 @@ pub reserved_mark : (o : Option ℕ) (id : ℕ) (ks ls : List MarkedBuffer) (xs 
 reserved_mark None id ks ls xs at h x is sound kept there sel r = added_mark x.name 0 id ks ls kept r
 reserved_mark (Some k) id ks ls xs at h x is sound kept there sel r =
     subst (IsMark x.name id) (sym r.1) (own_mark ks xs at h x id sound there sel (is ∙ ap (λ (j : ℕ). Some j) (sym r.0)))
-
--- the session at a place
-pub session_there : (xs : List Session) (at : ℕ) (h : Session) → h ≡ get_or xs at h → at < length xs → slice_get xs at ≡ Some h
-session_there xs at h is within = slice_get-get_or xs at h within ∙ ap (λ (y : Session). Some y) (sym is)
-
-pub marks_there : (xs : List Session) (at : ℕ) (h : Session) (x : WindowMarks) → slice_get xs at ≡ Some h → option_and_then window_marks_of (slice_get xs at) ≡ Some x → window_marks_of h ≡ Some x
-marks_there xs at h x there shown = ap (option_and_then window_marks_of) (sym there) ∙ shown
 
 -- the sessions are as before
 pub reserved_sessions : (x : WindowMarks) (id : ℕ) (ks ls : List MarkedBuffer) (xs : List Session) → IsSound ks xs → HasBuffer x.name ks → IsReserved x.name x.mark id ks ls → map (session_of ls) xs ≡ map (session_of ks) xs
@@ -231,9 +221,3 @@ sessions_marked p id ls xs at h x there sel mark sound =
     let all : uses n id ys ≡ in_use n id ls = sound.once n id in
     map_used_at (session_uses n id) (session_of (change_first (marked_named n) (marked_placed id p) ls)) (session_of ls) (mark_at_place p) (session_unused n id p ls) y (omega (arith, used_is, in_windows, u)) (session_mark_placed p id ls y x sel_y mark (omega (arith, in_all, all, one))) ys at there_y (omega (arith, all, one))
     ∙ change_put (session_of ls) (mark_at_place p) xs at h y there (session_marked_same p id ls h)
-
--- THE POINT TOO: the mark and then the point are one change of the window
-pub point_and_mark : (q p : ℕ) (s : model.Session) → selected_at (point_to q) (mark_at_place p s) ≡ record s { windows = change_at s.selected (window_adjusted None (At q) (Mark_at p) Keep None) s.windows }
-point_and_mark q p s =
-    ap (λ (ws : List model.Window). let t : model.Session = record s { windows = ws } in t)
-    (change_at_twice (window_adjusted None (At q) Keep_mark Keep None) (window_adjusted None Keep (Mark_at p) Keep None) s.selected s.windows)

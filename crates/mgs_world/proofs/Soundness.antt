@@ -1,7 +1,7 @@
 -- Soundness: the marks in use are those that the sessions use, through edits, placements and changes of a session.
 use Rattle.std.proofs.Common.{◌≡◌, ℕ, zero, suc, ◌+◌, ◌-◌, ◌<◌, ◌≤◌, Bool, true, false, cond, ◌||◌, nat_lt, ltb-false, List, [], ◌∷◌, ◌++◌, take, drop, length, length-append, get_or, Option, Some, None, refl, sym, ap, subst, ◌∙◌, arith}
 use Rattle.std.proofs.lemmas.List.{length-take, length-drop}
-use Rattle.std.specs.Prelude.{find, slice_get, slice_set, IsSome, is_some, nat_eq}
+use Rattle.std.specs.Prelude.{find, slice_get, slice_set, IsSome, is_some}
 use Rattle.std.specs.Option.{option_map, option_and_then}
 use Rattle.std.proofs.lemmas.Option.{slice_get-get_or, slice_get-map}
 use Rattle.mgs_model.specs.Names.{same_name}
@@ -13,11 +13,11 @@ use Rattle.mgs_session.specs.Sessions.{window_marks_of}
 use Rattle.mgs_windows.specs.declared.WindowMarks.{WindowMarks}
 use Rattle.mgs_windows.specs.declared.Window.{Window}
 use Rattle.mgs_session.specs.declared.Session.{Session}
-use Rattle.mgs_world.specs.Sound.{IsSound, IsSessionSound, IsShownSound, IsWindowSound, in_use, one_if, option_uses, sum_of, session_uses, uses, window_uses, window_marks_uses}
+use Rattle.mgs_world.specs.Sound.{IsSound, IsSessionSound, IsShownSound, IsWindowSound, in_use, one_if, sum_of, session_uses, uses, window_uses, window_marks_uses}
 use Rattle.mgs_world.specs.Worlds.{size_in, sizes_in}
 use Rattle.mgs_world.proofs.Uses.{sum_at}
 use Rattle.mgs_world.proofs.Marks.{is_same, same_is, found_same, found_other}
-use Rattle.mgs_world.proofs.Worlds.{selected_window, window_marks_once, one_use}
+use Rattle.mgs_world.proofs.Worlds.{mark_used_once, top_used_once, selected_window, window_marks_once}
 
 pub one_if_most : (b : Bool) → one_if b ≤ 1
 one_if_most true = omega arith
@@ -56,20 +56,11 @@ shown_sound ks w sound = record { once = sound.once }
 pub point_used : (x : WindowMarks) → 1 ≤ window_marks_uses x.name x.point (Some x)
 point_used x = omega (arith, window_marks_once x)
 
--- how often a window uses its top
-pub top_once : (x : WindowMarks) → window_marks_uses x.name x.top (Some x) ≡ one_if (nat_eq x.point x.top) + option_uses x.top x.mark + 1
-top_once x =
-    let s : same_name x.name x.name ≡ true = is_same x.name x.name refl in
-    rw (s, one_use x.top x.top refl) refl
-
 pub top_used : (x : WindowMarks) → 1 ≤ window_marks_uses x.name x.top (Some x)
-top_used x = omega (arith, top_once x)
+top_used x = top_used_once x
 
 pub mark_used : (x : WindowMarks) (m : ℕ) → x.mark ≡ Some m → 1 ≤ window_marks_uses x.name m (Some x)
-mark_used x m is =
-    let s : same_name x.name x.name ≡ true = is_same x.name x.name refl in
-    let u : option_uses m x.mark ≡ 1 = ap (option_uses m) is ∙ one_use m m refl in
-    rw s (omega (arith, u))
+mark_used x m is = mark_used_once x m is
 
 pub in_use_mark : (ks : List MarkedBuffer) (n : List ℕ) (i : ℕ) → 1 ≤ in_use n i ks → IsMark n i ks
 in_use_mark ks n i h = one_if_is (is_some (mark_in (marked_at n ks).marks i)) h
@@ -81,13 +72,6 @@ shown_point ks o x sound is =
 
 pub window_point : (ks : List MarkedBuffer) (w : Window) (x : WindowMarks) → IsWindowSound ks w → w.shows ≡ Some x → IsMark x.name x.point ks
 window_point ks w x sound is = shown_point ks w.shows x (shown_sound ks w sound) is
-
--- a mark of the selected window
-pub selected_mark : (ks : List MarkedBuffer) (h : Session) (x : WindowMarks) (id : ℕ) → IsSessionSound ks h → window_marks_of h ≡ Some x → 1 ≤ window_marks_uses x.name id (Some x) → IsMark x.name id ks
-selected_mark ks h x id sound sel used =
-    let got = selected_window (slice_get h.windows.windows h.windows.selected) x sel in
-    let u : window_uses x.name id got.0 ≡ window_marks_uses x.name id (Some x) = ap (window_marks_uses x.name id) got.2 in
-    in_use_mark ks x.name id (omega (arith, sound.once x.name id, u, used, sum_at (window_uses x.name id) got.0 h.windows.windows h.windows.selected got.1))
 
 -- THE SAME MARKS STAY IN USE
 
@@ -191,6 +175,13 @@ sizes_set (x ∷ xs) (suc at) h y is same = ap (λ ss. size_in x ∷ ss) (sizes_
 pub session_shown : (o : Option Session) (x : WindowMarks) → option_and_then window_marks_of o ≡ Some x → (h : Session) × (o ≡ Some h) × (window_marks_of h ≡ Some x)
 session_shown None x e = cc
 session_shown (Some h) x e = (h, refl, e)
+
+-- a mark of the selected window
+pub selected_mark : (ks : List MarkedBuffer) (h : Session) (x : WindowMarks) (id : ℕ) → IsSessionSound ks h → window_marks_of h ≡ Some x → 1 ≤ window_marks_uses x.name id (Some x) → IsMark x.name id ks
+selected_mark ks h x id sound sel used =
+    let got = selected_window (slice_get h.windows.windows h.windows.selected) x sel in
+    let u : window_uses x.name id got.0 ≡ window_marks_uses x.name id (Some x) = ap (window_marks_uses x.name id) got.2 in
+    in_use_mark ks x.name id (omega (arith, sound.once x.name id, u, used, sum_at (window_uses x.name id) got.0 h.windows.windows h.windows.selected got.1))
 
 -- a mark of the acting session's selected window is in use
 pub acting_mark : (ks : List MarkedBuffer) (xs : List Session) (at : ℕ) (x : WindowMarks) (id : ℕ) → IsSound ks xs → option_and_then window_marks_of (slice_get xs at) ≡ Some x → 1 ≤ window_marks_uses x.name id (Some x) → IsMark x.name id ks

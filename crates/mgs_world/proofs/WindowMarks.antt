@@ -22,7 +22,7 @@ use Rattle.mgs_world.proofs.Found.{found_buffer}
 use Rattle.mgs_world.proofs.Frames.{map_local}
 use Rattle.mgs_world.proofs.Marks.{is_same, same_is, false_from, found_same, found_other}
 use Rattle.mgs_world.proofs.Worlds.{map-change_first_same, same_place, same_positions, same_window, search_same}
-use Rattle.mgs_world.proofs.Soundness.{AreInUse, some_from, one_if_is, point_used, top_used, mark_used}
+use Rattle.mgs_world.proofs.Soundness.{mark_used, AreInUse, some_from, one_if_is, point_used, top_used}
 
 -- a mark of this buffer and this number
 abbrev pub this_one : List ℕ → ℕ → List ℕ → ℕ → ℕ
@@ -294,15 +294,6 @@ undone n p id a b d kept h g =
       buffers = buffers_marked n g.marks b d g.shape ∙ buffers_marked n h.marks a b h.shape;
       uses = λ m i. omega (arith, in_use_added n p id a b m i kept h, in_use_dropped n id b d m i kept_b mark g);
       stay = λ m i used after. ap or_zero (stays_dropped n id b d m i kept_b g after ∙ stays_added n p id a b m i kept h used);
-    }
-
--- a window's marks that were added are dropped again
-pub all_undone : (n : List ℕ) (p : ℕ) (m : Option ℕ) (t : ℕ) (x : WindowMarks) (a b d : List MarkedBuffer) → WindowMarksAdded n p m t x a b → WindowMarksDropped (Some x) b d → WindowMarksDropped None a d
-all_undone n p m t x a b d h g =
-    record {
-      buffers = g.buffers ∙ h.buffers;
-      uses = λ m i. omega (arith, h.uses m i, g.uses m i);
-      stay = λ m i used after. let mid : 1 ≤ in_use m i b = omega (arith, used, h.uses m i) in g.stay m i mid after ∙ h.stay m i used mid;
     }
 
 pub when_err : {A E P : Type 0} (r : Result A E) → P → OnErr r P

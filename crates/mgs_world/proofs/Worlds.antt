@@ -1,14 +1,14 @@
 -- How the world changes when what is kept does.
-use Rattle.std.proofs.Common.{◌≡◌, ℕ, ◌+◌, ◌-◌, ◌≤◌, min, Bool, true, false, cond, List, [], ◌∷◌, length, map, Option, Some, None, refl, sym, ap, ◌∙◌, arith, eq-eqb}
+use Rattle.std.proofs.Common.{◌≡◌, ℕ, ◌+◌, ◌≤◌, min, Bool, true, false, cond, List, [], ◌∷◌, length, map, Option, Some, None, refl, sym, ap, ◌∙◌, arith, eq-eqb}
 use Rattle.std.specs.Prelude.{find, slice_get, IsSome, nat_eq}
 use Rattle.std.specs.Option.{option_map, option_and_then}
 use Rattle.mgs_model.specs.Access.{Directory}
 use Rattle.mgs_model.specs.Names.{same_name}
 use Rattle.mgs_model.specs.Text.{shift}
-use Rattle.mgs_model.specs.World.{World, Buffer, Shows, Nothing, Buffer_of, is_named, has_id}
+use Rattle.mgs_model.specs.World.{World, Buffer, Shows, Buffer_of, is_named, has_id}
 use Rattle.mgs_model.specs.World as model
 use Rattle.mgs_model.specs.Outcome.{At, Keep, Keep_mark}
-use Rattle.mgs_model.specs.Apply.{change_first, change_at, buffer_edited, window_moved, place_moved, session_moved, window_adjusted}
+use Rattle.mgs_model.specs.Apply.{change_first, change_at, buffer_edited, window_moved, place_moved, window_adjusted}
 use Rattle.mgs_model.proofs.Firsts.{map-change_first}
 use Rattle.mgs_marks.specs.Marks.{mark_in}
 use Rattle.mgs_buffers.specs.MarkedBuffer.{MarkedBuffer, marked_named, marked_at, mark_at, marked_edited, marked_placed}
@@ -17,10 +17,7 @@ use Rattle.mgs_windows.specs.declared.Window.{Window}
 use Rattle.mgs_windows.specs.declared.RowPane.{RowPane}
 use Rattle.mgs_windows.specs.declared.RowPane.TheVariants.{NoRows, Buffers, Entries}
 use Rattle.mgs_session.specs.declared.search.Search.{Search}
-use Rattle.mgs_session.specs.declared.search.Edited.{Edited}
 use Rattle.mgs_session.specs.declared.Session.{Session}
-use Rattle.mgs_session.specs.Seeking as seeking
-use Rattle.mgs_session.specs.Seeking.{moved, search_edited}
 use Rattle.mgs_session.specs.Sessions.{window_marks_of}
 use Rattle.mgs_world.specs.Worlds.{window_shown, window_of, place_of, search_of, size_named, session_of, buffers_of, session_id}
 use Rattle.mgs_world.specs.Sound.{one_if, option_uses, window_marks_uses, window_uses, place_uses, session_uses, uses}
@@ -225,7 +222,7 @@ point_places p ks x mark once height = window_marks_placed p ks height x mark on
 abbrev pub top_to : ℕ → model.Window → model.Window
 top_to p x = window_adjusted None Keep Keep_mark (At p) None x
 
-top_uses : (x : WindowMarks) → window_marks_uses x.name x.top (Some x) ≡ 1 + (one_if (nat_eq x.point x.top) + option_uses x.top x.mark)
+pub top_uses : (x : WindowMarks) → window_marks_uses x.name x.top (Some x) ≡ 1 + (one_if (nat_eq x.point x.top) + option_uses x.top x.mark)
 top_uses x =
     let s : same_name x.name x.name ≡ true = is_same x.name x.name refl in
     rw (s, one_use x.top x.top refl) (omega arith)

@@ -4,7 +4,7 @@ ghost use Rattle.mgs_model.specs.Access.{Directory};
 ghost use Rattle.mgs_buffers.specs.MarkedBuffer.{HasBuffer};
 ghost use Rattle.mgs_world.specs.Killing.{session_forgetting, world_without};
 ghost use Rattle.mgs_world.specs.Sound.{IsSound};
-ghost use Rattle.mgs_world.specs.Worlds.{sizes_in, world_of};
+ghost use Rattle.mgs_world.specs.Worlds.{world_of};
 
 use mgs_buffers::Buffers;
 use mgs_marks::Marked;
@@ -23,7 +23,7 @@ fn forget(sessions: &mut [Session], name: &Name)
 
 /// The buffer of this name is taken out: windows of all sessions that show it or its access list show nothing, places
 /// in it go, and searches in it are over. It takes no memory.
-#[tactic(auto, using(crate::proofs::Killed::sound_killed, crate::proofs::Killed::sizes_killed))]
+#[tactic(auto, using(crate::proofs::Killed::sound_killed))]
 pub fn kill_buffer<T: Marked + Drop>(
     buffers: &mut Buffers<T>,
     sessions: &mut [Session],
@@ -32,7 +32,6 @@ pub fn kill_buffer<T: Marked + Drop>(
     requires sound { IsSound buffers.old sessions.old }
     requires kept { HasBuffer name.now buffers.old }
     ensures sound { IsSound buffers.new sessions.new }
-    ensures sizes { sizes_in sessions.new ≡ sizes_in sessions.old }
     ensures world { (directory : Directory) (next : Option ℕ) → world_of directory buffers.new sessions.new next ≡ world_without name.now (world_of directory buffers.old sessions.old next) }
 {
     buffers.kill(name);

@@ -1,13 +1,9 @@
 // The mark of the window that is selected. It is reserved first, which may want memory, and set then, so that an edit that
 // may be refused can stand between.
-ghost use Rattle.std.specs.Prelude.{◌≡◌, ◌<◌, ◌≤◌, length, map, Some, IfOk, OnOk, OnErr, slice_get, None};
-ghost use Rattle.std.specs.Option.{option_and_then};
-ghost use Rattle.mgs_model.specs.Apply.{change_at, change_first};
+ghost use Rattle.std.specs.Prelude.{◌≡◌, ◌≤◌, length, IfOk, OnErr, None};
+ghost use Rattle.mgs_model.specs.Apply.{change_first};
 ghost use Rattle.mgs_buffers.specs.MarkedBuffer.{HasBuffer, IsMark, marked_at, marked_named, marked_placed};
-ghost use Rattle.mgs_session.specs.Sessions.{window_marks_of};
-ghost use Rattle.mgs_world.specs.Marking.{IsGivenUp, IsReserved, mark_at_place, session_marked};
-ghost use Rattle.mgs_world.specs.Sound.{IsSound};
-ghost use Rattle.mgs_world.specs.Worlds.{buffers_of, session_of, sizes_in};
+ghost use Rattle.mgs_world.specs.Marking.{IsGivenUp, IsReserved, session_marked};
 
 use mgs_buffers::Buffers;
 use mgs_marks::Marked;
@@ -64,30 +60,4 @@ pub fn set_mark<T: Marked + Drop>(
 {
     buffers.place(&window_marks.name, id, position);
     session.windows.set_mark(id);
-}
-
-/// The mark of the selected window of the session at `at`, which has these marks, goes to a position of its buffer. `Short`:
-/// memory was refused, which only a window without a mark takes, and all is as it was.
-pub fn mark_selected<T: Marked + Drop>(
-    buffers: &mut Buffers<T>,
-    sessions: &mut [Session],
-    at: usize,
-    window_marks: &WindowMarks,
-    position: usize,
-) -> Result<(), Short>
-    requires sound { IsSound buffers.old sessions.old }
-    requires there { at < length sessions.old }
-    requires shown { option_and_then window_marks_of (slice_get sessions.old at) ≡ Some window_marks.now }
-    requires within { position ≤ length (marked_at window_marks.now.name buffers.old).buffer.text }
-    ensures sound { IsSound buffers.new sessions.new }
-    ensures sizes { sizes_in sessions.new ≡ sizes_in sessions.old }
-    ensures buffers { buffers_of buffers.new ≡ buffers_of buffers.old }
-    ensures ok { OnOk result (map (session_of buffers.new) sessions.new ≡ change_at at (mark_at_place position) (map (session_of buffers.old) sessions.old)) }
-    ensures err { OnErr result (buffers.new ≡ buffers.old) }
-    ensures same { OnErr result (sessions.new ≡ sessions.old) }
-    ensures unmarked { OnErr result (window_marks.now.mark ≡ None) }
-{
-    let id = reserve_mark(buffers, window_marks)?;
-    set_mark(buffers, &mut sessions[at], window_marks, id, position);
-    Ok(())
 }

@@ -2,7 +2,7 @@
 use mgs_model::SessionId;
 
 /// An open session: its id, and the rows and columns of its screen.
-#[derive(Clone, Copy, Debug, PartialEq, Eq)]
+#[derive(Clone, Copy, PartialEq, Eq)]
 pub struct Size {
     pub id: SessionId,
     pub rows: usize,

@@ -1,6 +1,6 @@
-use Rattle.mgs_act.specs.Inserting.{insertion_of}
+use Rattle.mgs_plan.specs.Inserting.{insertion_of}
 use Rattle.mgs_act.proofs.Insertions.{length_inserted}
-use Rattle.mgs_act.proofs.Leaving.{marks_edited_by}
+use Rattle.mgs_plan.proofs.Leaving.{marks_edited_by}
 use Rattle.mgs_world.proofs.Soundness.{mark_is_kept}
 use Rattle.mgs_act.proofs.inserting.insert_chars.Goals as goal
 

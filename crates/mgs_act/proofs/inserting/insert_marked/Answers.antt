@@ -4,7 +4,7 @@ use Rattle.mgs_buffers.specs.MarkedBuffer.{MarkedBuffer}
 use Rattle.mgs_world.specs.Marking.{IsGivenUp}
 use Rattle.mgs_world.proofs.SelectedMark.{reserved_given_up}
 use Rattle.mgs_world.proofs.Soundness.{mark_is_kept}
-use Rattle.mgs_act.specs.Inserting.{CanPut}
+use Rattle.mgs_plan.specs.Inserting.{CanPut}
 use Rattle.mgs_act.proofs.Insertions.{mark_inserted, place_inserted}
 use Rattle.mgs_act.proofs.Marked.{reserved_buffer, reserved_in_use, reserved_marks}
 use Rattle.mgs_act.proofs.inserting.insert_marked.Goals as goal

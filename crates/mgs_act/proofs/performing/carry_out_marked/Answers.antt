@@ -5,7 +5,7 @@ use Rattle.mgs_buffers.specs.MarkedBuffer.{MarkedBuffer, marked_at, marked_named
 use Rattle.mgs_world.specs.Marking.{IsGivenUp, session_marked}
 use Rattle.mgs_world.proofs.SelectedMark.{reserved_given_up}
 use Rattle.mgs_world.proofs.Soundness.{mark_is_kept}
-use Rattle.mgs_act.specs.Actions.{CanDo, marked_after, session_acted}
+use Rattle.mgs_plan.specs.Actions.{CanDo, marked_after, session_acted}
 use Rattle.mgs_act.proofs.Marked.{mark_after_action, reserved_buffer, reserved_in_use, reserved_marks, within_after}
 use Rattle.mgs_act.proofs.performing.carry_out_marked.Goals as goal
 

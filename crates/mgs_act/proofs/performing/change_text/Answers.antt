@@ -1,8 +1,8 @@
 use Rattle.std.proofs.Common.{ℕ, ◌+◌, List, length, ◌∙◌, sym, ap, subst, arith}
 use Rattle.mgs_buffers.specs.MarkedBuffer.{MarkedBuffer, marked_at}
 use Rattle.mgs_edit.specs.Reading.{GoesWithin, IsWithin, change_read, point_read, put_read, top_read}
-use Rattle.mgs_act.specs.Actions.{edited_by, mark_gone}
-use Rattle.mgs_act.proofs.Leaving.{length_edited_by, marks_edited_by}
+use Rattle.mgs_plan.specs.Actions.{edited_by, mark_gone}
+use Rattle.mgs_plan.proofs.Leaving.{length_edited_by, marks_edited_by}
 use Rattle.mgs_world.proofs.Soundness.{mark_is_kept}
 use Rattle.mgs_act.proofs.performing.change_text.Goals as goal
 

@@ -1,14 +1,19 @@
-use Rattle.std.proofs.Common.{ℕ, List, length, sym, subst}
-use Rattle.mgs_edit.specs.Reading.{IsWithin, point_read}
-use Rattle.mgs_act.proofs.Leaving.{mark_still, text_gone}
+use Rattle.std.proofs.Common.{ap, ◌∙◌}
+use Rattle.mgs_buffers.specs.MarkedBuffer.{marked_at}
+use Rattle.mgs_plan.specs.Actions.{mark_gone}
+use Rattle.mgs_edit.specs.Reading.{top_read}
+use Rattle.mgs_buffers.specs.Placing.{placed_if}
 use Rattle.mgs_act.proofs.performing.leave.Goals as goal
 
-pub place_top-requires-clause-top : goal.place_top-requires-clause-top
-place_top-requires-clause-top g c =
-    let x = c.args.window_marks.now in
-    rw c.place_point.ensures (mark_still x.name x.point x.top (point_read c.args.behind c.args.left.now.point) c.args.buffers.now c.requires.marks.point c.requires.marks.top)
+pub place_both-requires-clause-first : goal.place_both-requires-clause-first
+place_both-requires-clause-first g c = c.point_target-point.ensures.stands (marked_at c.args.window_marks.now.name c.args.buffers.now) c.requires.marks.point c.requires.point c.requires.behind
 
-pub place_top-requires-clause-within : goal.place_top-requires-clause-within
-place_top-requires-clause-within g c =
+pub place_both-requires-clause-second : goal.place_both-requires-clause-second
+place_both-requires-clause-second g c = c.top_target-top.ensures.stands (marked_at c.args.window_marks.now.name c.args.buffers.now) c.requires.marks.top c.requires.top
+
+pub returns-clause-marks : goal.returns-clause-marks
+returns-clause-marks g c =
     let x = c.args.window_marks.now in
-    rw c.place_point.ensures (subst (λ (t : List ℕ). IsWithin (length t) c.args.left.now.top) (sym (text_gone x.name x.point (point_read c.args.behind c.args.left.now.point) c.args.buffers.now)) c.requires.top)
+    c.place_both.ensures
+    ∙ ap (placed_if x.name c.top_target-top.result) (c.point_target-point.ensures.value x.name c.args.buffers.now)
+    ∙ c.top_target-top.ensures.value x.name _

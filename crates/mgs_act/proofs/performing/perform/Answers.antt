@@ -4,10 +4,10 @@ use Rattle.mgs_session.specs.declared.Session.{Session}
 use Rattle.mgs_session.specs.declared.search.Edited.{Edited}
 use Rattle.mgs_world.specs.Worlds.{world_of}
 use Rattle.mgs_world.proofs.Soundness.{mark_is_kept}
-use Rattle.mgs_act.specs.Following.{edit_through, followed}
-use Rattle.mgs_act.specs.Actions.{CanBeDone, kill_or_none}
-use Rattle.mgs_act.proofs.Deeds.{acting_marks}
-use Rattle.mgs_act.proofs.Followed.{sizes_kept, sound_kept}
+use Rattle.mgs_plan.specs.Following.{edit_through, followed}
+use Rattle.mgs_plan.specs.Actions.{CanBeDone, kill_or_none}
+use Rattle.mgs_plan.proofs.Deeds.{acting_marks}
+use Rattle.mgs_plan.proofs.Followed.{sound_kept}
 use Rattle.mgs_act.proofs.performing.perform.Goals as goal
 
 pub edit_of-edit-requires-clause-kept : goal.edit_of-edit-requires-clause-kept
@@ -22,10 +22,6 @@ edit_of-edit-requires-clause-can g c =
 pub returns-clause-sound : goal.returns-clause-sound
 returns-clause-sound g c =
     rw c.follow.ensures (sound_kept c.args.window_marks.now.name c.edit_of-edit.result c.perform_unfollowed.new.buffers c.perform_unfollowed.new.sessions c.perform_unfollowed.ensures.sound)
-
-pub returns-clause-sizes : goal.returns-clause-sizes
-returns-clause-sizes g c =
-    rw c.follow.ensures (sizes_kept c.args.window_marks.now.name c.edit_of-edit.result c.perform_unfollowed.new.sessions ∙ c.perform_unfollowed.ensures.sizes)
 
 pub returns-clause-ok : goal.returns-clause-ok
 returns-clause-ok g c = λ directory id next place.

@@ -2,9 +2,9 @@ use Rattle.std.proofs.Common.{get_or, ap, sym, ◌∙◌, subst}
 use Rattle.std.specs.Option.{option_and_then}
 use Rattle.std.proofs.lemmas.Option.{slice_get-get_or}
 use Rattle.mgs_session.specs.Sessions.{window_marks_of}
-use Rattle.mgs_act.specs.Actions.{CanBeDone, kill_at, kill_or_none}
-use Rattle.mgs_act.proofs.Deeds.{acting_marks}
-use Rattle.mgs_act.proofs.Marked.{marked_err, marked_ok, marked_sizes, marked_sound, marking_takes, when_refused}
+use Rattle.mgs_plan.specs.Actions.{CanBeDone, kill_at, kill_or_none}
+use Rattle.mgs_plan.proofs.Deeds.{acting_marks}
+use Rattle.mgs_act.proofs.Marked.{marked_err, marked_ok, marked_sound, marking_takes, when_refused}
 use Rattle.mgs_act.proofs.performing.perform_marked.Goals as goal
 
 pub carry_out_marked-requires-clause-marks : goal.carry_out_marked-requires-clause-marks
@@ -21,12 +21,6 @@ returns-clause-sound g c =
     let x = c.args.window_marks.now in
     let found = slice_get-get_or xs c.args.at r c.requires.within in
     marked_sound c.carry_out_marked.result c.args.buffers.now c.carry_out_marked.new.buffers xs c.args.at c.args.position x (get_or xs c.args.at r) c.carry_out_marked.new.session c.args.action.now found (sym (ap (option_and_then window_marks_of) found) ∙ c.requires.window_marks) c.carry_out_marked.ensures.ok c.carry_out_marked.ensures.err c.carry_out_marked.ensures.same (acting_marks c.args.buffers.now xs c.args.at x c.requires.sound c.requires.window_marks) c.requires.told c.requires.sound
-
-pub returns-clause-sizes : goal.returns-clause-sizes
-returns-clause-sizes g c =
-    let xs = c.args.sessions.now in
-    let r = c.index-sessions-at.result in
-    marked_sizes c.carry_out_marked.result c.args.buffers.now c.carry_out_marked.new.buffers xs c.args.at c.args.position c.args.window_marks.now (get_or xs c.args.at r) c.carry_out_marked.new.session c.args.action.now (slice_get-get_or xs c.args.at r c.requires.within) c.carry_out_marked.ensures.ok c.carry_out_marked.ensures.same
 
 pub returns-clause-ok : goal.returns-clause-ok
 returns-clause-ok g c =

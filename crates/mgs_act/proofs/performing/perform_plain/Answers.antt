@@ -4,8 +4,8 @@ use Rattle.mgs_model.specs.Outcome.{takes_memory}
 use Rattle.mgs_model.specs.World.{Own}
 use Rattle.std.proofs.lemmas.Option.{slice_get-get_or}
 use Rattle.mgs_buffers.specs.MarkedBuffer.{marked_at}
-use Rattle.mgs_act.specs.Actions.{CanBeDone, kill_or_none, outcome_through}
-use Rattle.mgs_act.proofs.Deeds.{acting_marks, after_err, after_ok, after_sizes, after_sound}
+use Rattle.mgs_plan.specs.Actions.{CanBeDone, kill_or_none, outcome_through}
+use Rattle.mgs_plan.proofs.Deeds.{acting_marks, after_err, after_ok, after_sound}
 use Rattle.mgs_act.proofs.performing.perform_plain.Goals as goal
 
 pub carry_out-requires-clause-marks : goal.carry_out-requires-clause-marks
@@ -21,13 +21,6 @@ returns-clause-sound g c =
     let r = c.index-sessions-at.result in
     let x = c.args.window_marks.now in
     after_sound c.carry_out.result c.args.buffers.now c.carry_out.new.buffers xs c.args.at x (marked_at x.name c.args.buffers.now).buffer.text (marked_at x.name c.args.buffers.now).buffer.items (get_or xs c.args.at r) c.carry_out.new.session c.args.action.now (slice_get-get_or xs c.args.at r c.requires.within) c.carry_out.ensures.ok c.carry_out.ensures.acted c.carry_out.ensures.err c.carry_out.ensures.same (acting_marks c.args.buffers.now xs c.args.at x c.requires.sound c.requires.window_marks) c.requires.sound
-
-pub returns-clause-sizes : goal.returns-clause-sizes
-returns-clause-sizes g c =
-    let xs = c.args.sessions.now in
-    let r = c.index-sessions-at.result in
-    let x = c.args.window_marks.now in
-    after_sizes c.carry_out.result xs c.args.at (marked_at x.name c.args.buffers.now).buffer.text (get_or xs c.args.at r) c.carry_out.new.session c.args.action.now (slice_get-get_or xs c.args.at r c.requires.within) c.carry_out.ensures.acted c.carry_out.ensures.same
 
 pub returns-clause-ok : goal.returns-clause-ok
 returns-clause-ok g c =

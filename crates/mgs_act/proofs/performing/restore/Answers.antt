@@ -3,8 +3,8 @@ use Rattle.std.specs.Prelude.{OnOk, OnErr, Result, Ok, Err}
 use Rattle.mgs_model.specs.Text.{is_edit}
 use Rattle.mgs_model.specs.Apply.{change_first}
 use Rattle.mgs_buffers.specs.MarkedBuffer.{marked_at, marked_edited, marked_named}
-use Rattle.mgs_act.specs.Actions.{removed_by}
-use Rattle.mgs_act.proofs.Leaving.{no_edit}
+use Rattle.mgs_plan.specs.Actions.{removed_by}
+use Rattle.mgs_plan.proofs.Leaving.{no_edit}
 use Rattle.mgs_act.proofs.performing.restore.Goals as goal
 
 refused : {T E : Type 0} {P : Type 0} (r : Result T E) → P → OnErr r P

@@ -1,8 +1,8 @@
 use Rattle.std.proofs.Common.{ℕ, ◌≤◌, ◌+◌, List, ◌∙◌, ap, arith}
 use Rattle.mgs_buffers.specs.MarkedBuffer.{MarkedBuffer, marked_at}
 use Rattle.mgs_edit.specs.Reading.{point_read, top_read, undone_read}
-use Rattle.mgs_act.specs.Actions.{edited_by, mark_gone, removed_by}
-use Rattle.mgs_act.proofs.Leaving.{length_edited_by, marks_edited_by}
+use Rattle.mgs_plan.specs.Actions.{edited_by, mark_gone, removed_by}
+use Rattle.mgs_plan.proofs.Leaving.{length_edited_by, marks_edited_by}
 use Rattle.mgs_world.proofs.Soundness.{mark_is_kept}
 use Rattle.mgs_act.proofs.performing.take_back.Goals as goal
 

@@ -1,6 +1,6 @@
 use Rattle.std.proofs.Common.{sym, subst}
 use Rattle.std.specs.Str.{IsUtf8}
-use Rattle.mgs_act.proofs.Texts.{name_is_text}
+use Rattle.mgs_plan.proofs.Texts.{name_is_text}
 use Rattle.mgs_act.proofs.saving.spelled.Goals as goal
 
 pub returns-in-Err : goal.returns-in-Err

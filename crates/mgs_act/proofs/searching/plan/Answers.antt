@@ -7,7 +7,7 @@ use Rattle.mgs_model.specs.declared.entry.Decision.{Decision}
 use Rattle.mgs_model.specs.declared.session.Command.TheVariants.{Move}
 use Rattle.mgs_model.specs.declared.session.Motion.TheVariants.{SearchFor}
 use Rattle.mgs_buffers.specs.MarkedBuffer.{marked_at}
-use Rattle.mgs_act.proofs.Plans.{denied, granted, needed}
+use Rattle.mgs_plan.proofs.Plans.{denied, granted, needed}
 use Rattle.mgs_act.proofs.searching.plan.Goals as goal
 
 pub returns-in-None-clause-value : goal.returns-in-None-clause-value

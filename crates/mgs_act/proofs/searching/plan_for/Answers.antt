@@ -2,9 +2,9 @@ use Rattle.std.proofs.Common.{refl, ap}
 use Rattle.mgs_model.specs.declared.session.Command.TheVariants.{Move}
 use Rattle.mgs_model.specs.declared.session.Motion.TheVariants.{SearchFor}
 use Rattle.mgs_world.specs.Worlds.{idle, own_of}
-use Rattle.mgs_act.specs.Actions.{height_or_none}
-use Rattle.mgs_act.specs.declared.given.Given.{Given}
-use Rattle.mgs_act.proofs.Plans.{for_session}
+use Rattle.mgs_plan.specs.Actions.{height_or_none}
+use Rattle.mgs_plan.specs.declared.given.Given.{Given}
+use Rattle.mgs_plan.proofs.Plans.{for_session}
 use Rattle.mgs_act.proofs.searching.plan_for.Goals as goal
 
 pub returns-clause-value : goal.returns-clause-value

@@ -3,7 +3,7 @@ use Rattle.mgs_model.specs.Acts.{moved_by}
 use Rattle.mgs_model.specs.Plans.{motion}
 use Rattle.mgs_model.specs.declared.session.Motion.TheVariants.{SearchFor}
 use Rattle.mgs_buffers.specs.MarkedBuffer.{marked_at}
-use Rattle.mgs_act.specs.Actions.{CanDo, action_outcome}
+use Rattle.mgs_plan.specs.Actions.{CanDo, action_outcome}
 use Rattle.mgs_act.proofs.searching.plan_granted.Goals as goal
 
 pub returns-clause-value : goal.returns-clause-value

@@ -2,14 +2,14 @@ use Rattle.std.proofs.Common.{◌≡◌}
 use Rattle.mgs_world.specs.Sound.{IsSessionSound}
 use Rattle.mgs_world.specs.Worlds.{session_of}
 use Rattle.mgs_arrange.specs.Arranged.{others_gone}
-use Rattle.mgs_arrange.specs.Arranging.{Lessened}
+use Rattle.mgs_arrange.specs.Arranging.{Rearranged}
 use Rattle.mgs_arrange.proofs.leaving.delete_above.Given as goal
 
--- marks were given up alone, and the others still go the same way
+-- nothing but the session changed, and the others still go the same way
 abbrev pub invariant-loop-session : goal.invariant-loop-session
 invariant-loop-session g l = record {
   sound : IsSessionSound l.buffers l.session;
-  less : Lessened l.initial.buffers l.buffers l.initial.session l.session;
+  rearranged : Rearranged l.initial.buffers l.buffers l.initial.session l.session;
   same : others_gone (session_of l.buffers l.session) ≡ others_gone (session_of l.initial.buffers l.initial.session);
 }
 

@@ -3,7 +3,7 @@ use Rattle.mgs_model.specs.World.{List_of}
 use Rattle.mgs_session.specs.declared.Session.{Session}
 use Rattle.mgs_world.specs.Sound.{IsSessionSound}
 use Rattle.mgs_world.proofs.Soundness.{session_sound}
-use Rattle.mgs_arrange.proofs.Rearranging.{after_sizes, after_sound}
+use Rattle.mgs_arrange.proofs.Rearranging.{after_sound, selected_there}
 use Rattle.mgs_arrange.proofs.WindowRows.{listed_world}
 use Rattle.mgs_arrange.proofs.listing.show_entries.Goals as goal
 
@@ -12,26 +12,19 @@ show_entries_in_session-requires g c =
     subst (IsSessionSound c.args.buffers.now) c.index-sessions-at.is
     (session_sound c.args.buffers.now c.args.sessions.now c.args.at c.index-sessions-at.result c.requires.sound c.index-sessions-at.is c.requires.within)
 
-pub returns-clause-sound : goal.returns-clause-sound
-returns-clause-sound g c =
+pub returns : goal.returns
+returns g c =
+    let ks = c.args.buffers.now in
     let xs = c.args.sessions.now in
     let x : Session = get_or xs c.args.at c.index-sessions-at.result in
     let is : x ≡ get_or xs c.args.at x = ap (λ (s : Session). get_or xs c.args.at s) c.index-sessions-at.is in
+    let ls = c.show_entries_in_session.new.buffers in
+    let y = c.show_entries_in_session.new.session in
     let e = c.show_entries_in_session.ensures in
-    after_sound c.args.buffers.now c.show_entries_in_session.new.buffers xs c.args.at x c.show_entries_in_session.new.session c.requires.sound is c.requires.within e.rearranged
-
-pub returns-clause-sizes : goal.returns-clause-sizes
-returns-clause-sizes g c =
-    let xs = c.args.sessions.now in
-    let x : Session = get_or xs c.args.at c.index-sessions-at.result in
-    let is : x ≡ get_or xs c.args.at x = ap (λ (s : Session). get_or xs c.args.at s) c.index-sessions-at.is in
-    let e = c.show_entries_in_session.ensures in
-    after_sizes c.args.buffers.now c.show_entries_in_session.new.buffers xs c.args.at x c.show_entries_in_session.new.session is e.rearranged
-
-pub returns-clause-world : goal.returns-clause-world
-returns-clause-world g c = λ d id next z place found.
-    let xs = c.args.sessions.now in
-    let x : Session = get_or xs c.args.at c.index-sessions-at.result in
-    let is : x ≡ get_or xs c.args.at x = ap (λ (s : Session). get_or xs c.args.at s) c.index-sessions-at.is in
-    let e = c.show_entries_in_session.ensures in
-    listed_world (List_of c.args.name.now) d c.args.buffers.now c.show_entries_in_session.new.buffers xs next id c.args.at x c.show_entries_in_session.new.session z c.requires.sound place is c.requires.within e.rearranged e.seen found
+    let sound = c.requires.sound in
+    let within = c.requires.within in
+    record {
+      selected = selected_there xs c.args.at x is within e.selected;
+      sound = after_sound ks ls xs c.args.at x y sound is within e.rearranged;
+      world = λ d id next z place found. listed_world (List_of c.args.name.now) d ks ls xs next id c.args.at x y z sound place is within e.rearranged e.seen found;
+    }

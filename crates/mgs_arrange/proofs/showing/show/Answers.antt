@@ -3,7 +3,7 @@ use Rattle.mgs_buffers.proofs.MarkedLemmas.{OnOk-map}
 use Rattle.mgs_session.specs.declared.Session.{Session}
 use Rattle.mgs_world.specs.Sound.{IsSessionSound}
 use Rattle.mgs_world.proofs.Soundness.{session_sound}
-use Rattle.mgs_arrange.proofs.Rearranging.{after_sizes, after_sound, either_rearranged, refused_all}
+use Rattle.mgs_arrange.proofs.Rearranging.{after_sound, either_rearranged, refused_all, selected_there}
 use Rattle.mgs_arrange.proofs.WindowShown.{shown_world}
 use Rattle.mgs_arrange.proofs.showing.show.Goals as goal
 
@@ -12,40 +12,23 @@ show_in_session-requires-clause-sound g c =
     subst (IsSessionSound c.args.buffers.now) c.index-sessions-at.is
     (session_sound c.args.buffers.now c.args.sessions.now c.args.at c.index-sessions-at.result c.requires.sound c.index-sessions-at.is c.requires.within)
 
-pub returns-clause-sound : goal.returns-clause-sound
-returns-clause-sound g c =
+pub returns : goal.returns
+returns g c =
+    let ks = c.args.buffers.now in
     let xs = c.args.sessions.now in
     let x : Session = get_or xs c.args.at c.index-sessions-at.result in
     let is : x ≡ get_or xs c.args.at x = ap (λ (s : Session). get_or xs c.args.at s) c.index-sessions-at.is in
+    let ls = c.show_in_session.new.buffers in
+    let y = c.show_in_session.new.session in
+    let r = c.show_in_session.result in
     let e = c.show_in_session.ensures in
-    let h = either_rearranged c.show_in_session.result c.args.buffers.now c.show_in_session.new.buffers x c.show_in_session.new.session e.rearranged e.err e.same in
-    after_sound c.args.buffers.now c.show_in_session.new.buffers xs c.args.at x c.show_in_session.new.session c.requires.sound is c.requires.within h
-
-pub returns-clause-sizes : goal.returns-clause-sizes
-returns-clause-sizes g c =
-    let xs = c.args.sessions.now in
-    let x : Session = get_or xs c.args.at c.index-sessions-at.result in
-    let is : x ≡ get_or xs c.args.at x = ap (λ (s : Session). get_or xs c.args.at s) c.index-sessions-at.is in
-    let e = c.show_in_session.ensures in
-    let h = either_rearranged c.show_in_session.result c.args.buffers.now c.show_in_session.new.buffers x c.show_in_session.new.session e.rearranged e.err e.same in
-    after_sizes c.args.buffers.now c.show_in_session.new.buffers xs c.args.at x c.show_in_session.new.session is h
-
-pub returns-clause-ok : goal.returns-clause-ok
-returns-clause-ok g c =
-    let xs = c.args.sessions.now in
-    let x : Session = get_or xs c.args.at c.index-sessions-at.result in
-    let is : x ≡ get_or xs c.args.at x = ap (λ (s : Session). get_or xs c.args.at s) c.index-sessions-at.is in
-    let e = c.show_in_session.ensures in
-    let h = either_rearranged c.show_in_session.result c.args.buffers.now c.show_in_session.new.buffers x c.show_in_session.new.session e.rearranged e.err e.same in
-    OnOk-map c.show_in_session.result
-    (λ shown. λ d id next y place found. shown_world d c.args.buffers.now c.show_in_session.new.buffers xs next id c.args.at c.args.name.now x c.show_in_session.new.session y c.requires.sound place is c.requires.within h shown found)
-    e.shown
-
-pub returns-clause-err : goal.returns-clause-err
-returns-clause-err g c =
-    let xs = c.args.sessions.now in
-    let x : Session = get_or xs c.args.at c.index-sessions-at.result in
-    let is : x ≡ get_or xs c.args.at x = ap (λ (s : Session). get_or xs c.args.at s) c.index-sessions-at.is in
-    let e = c.show_in_session.ensures in
-    let h = either_rearranged c.show_in_session.result c.args.buffers.now c.show_in_session.new.buffers x c.show_in_session.new.session e.rearranged e.err e.same in
-    refused_all c.show_in_session.result c.args.buffers.now c.show_in_session.new.buffers xs c.args.at x c.show_in_session.new.session c.requires.sound is c.requires.within h e.err e.seen
+    let sound = c.requires.sound in
+    let within = c.requires.within in
+    let h = either_rearranged r ks ls x y e.rearranged e.err e.same in
+    record {
+      selected = selected_there xs c.args.at x is within e.selected;
+      sound = after_sound ks ls xs c.args.at x y sound is within h;
+      ok = OnOk-map r (λ shown. λ d id next z place found. shown_world d ks ls xs next id c.args.at c.args.name.now x y z sound place is within h shown found) e.shown;
+      err = refused_all r ks ls xs c.args.at x y sound is within h e.err e.seen;
+      unmarked = e.err;
+    }

@@ -31,32 +31,29 @@ drop_window_marks-requires g c =
     subst (IsShownSound c.add_standing.new.buffers) (sym given)
     (before_sound c.args.name.now _ _ c.reserve.new.self.capacity c.in_ok-window_marks.window_marks x c.args.buffers.now c.add_standing.new.buffers within c.requires.sound c.in_ok-window_marks.ensures.ok)
 
-pub returns-clause-rearranged : goal.returns-clause-rearranged
-returns-clause-rearranged g c =
+pub returns : goal.returns
+returns g c =
+    let name = c.args.name.now in
     let x : Session = c.args.session.now in
     let y = c.in_ok-window_marks.window_marks in
     let ks = c.args.buffers.now in
     let ls = c.add_standing.new.buffers in
     let ms = c.drop_window_marks.new.buffers in
+    let capacity = c.reserve.new.self.capacity in
     let within : x.windows.selected < length x.windows.windows = omega (arith, c.selected-selected.ensures.value, c.selected-selected.ensures.within) in
     let given : c.show-before.result ≡ given_up x = c.show-before.ensures.left ∙ ap (λ (w : WindowList). left_by (shows_at w.selected w.windows) w.places) c.reserve.ensures.same in
-    let session : c.set_kind.new.session ≡ acted Other (shown_session c.reserve.new.self.capacity y x) =
+    let session : c.set_kind.new.session ≡ acted Other (shown_session capacity y x) =
     c.set_kind.ensures ∙ ap (λ (w : WindowList). acted Other (record x { windows = w })) (c.show-before.ensures.list ∙ ap (window_shown y) c.reserve.ensures.same) in
-    let r = shown_rearranged c.args.name.now _ _ c.reserve.new.self.capacity y x ks ls within c.requires.sound c.in_ok-window_marks.ensures.ok ms (subst (λ (o : Option WindowMarks). WindowMarksDropped o ls ms) given c.drop_window_marks.ensures) in
-    subst (Rearranged ks ms x) (sym session) (record { buffers = r.buffers; uses = r.uses; stay = r.stay; size = r.size })
-
-pub returns-clause-shown : goal.returns-clause-shown
-returns-clause-shown g c =
-    let x : Session = c.args.session.now in
-    let y = c.in_ok-window_marks.window_marks in
-    let ks = c.args.buffers.now in
-    let ls = c.add_standing.new.buffers in
-    let ms = c.drop_window_marks.new.buffers in
-    let within : x.windows.selected < length x.windows.windows = omega (arith, c.selected-selected.ensures.value, c.selected-selected.ensures.within) in
-    let given : c.show-before.result ≡ given_up x = c.show-before.ensures.left ∙ ap (λ (w : WindowList). left_by (shows_at w.selected w.windows) w.places) c.reserve.ensures.same in
-    let session : c.set_kind.new.session ≡ acted Other (shown_session c.reserve.new.self.capacity y x) =
-    c.set_kind.ensures ∙ ap (λ (w : WindowList). acted Other (record x { windows = w })) (c.show-before.ensures.list ∙ ap (window_shown y) c.reserve.ensures.same) in
-    ap (session_of ms) session
-    ∙ ap run_ended
-    (shown_seen c.args.name.now _ _ c.reserve.new.self.capacity y x ks ls within c.requires.sound c.in_ok-window_marks.ensures.ok ms (subst (λ (o : Option WindowMarks). WindowMarksDropped o ls ms) given c.drop_window_marks.ensures)
-    (ap (standing_point ks) c.standing-stood.ensures) (ap (standing_mark ks) c.standing-stood.ensures))
+    let added = c.in_ok-window_marks.ensures.ok in
+    let dropped = subst (λ (o : Option WindowMarks). WindowMarksDropped o ls ms) given c.drop_window_marks.ensures in
+    let r = shown_rearranged name _ _ capacity y x ks ls within c.requires.sound added ms dropped in
+    record {
+      selected = within;
+      rearranged = subst (Rearranged ks ms x) (sym session) (record { buffers = r.buffers; uses = r.uses; stay = r.stay; size = r.size });
+      shown =
+          ap (session_of ms) session
+          ∙ ap run_ended (shown_seen name _ _ capacity y x ks ls within c.requires.sound added ms dropped (ap (standing_point ks) c.standing-stood.ensures) (ap (standing_mark ks) c.standing-stood.ensures));
+      err = tt;
+      same = tt;
+      seen = tt;
+    }

@@ -29,8 +29,8 @@ pub returns-in_err-shows-clause-may : goal.returns-in_err-shows-clause-may
 returns-in_err-shows-clause-may g c =
     when_err c.from_residual-in_err-shows.result (λ n ks. may_split n ks c.args.session.now c.selected_window-window.result c.selected_window-window.ensures (omega (arith, c.if-window-lt3.false)) (omega (arith, c.if-as_slice-ge-WINDOW_LIMIT.false, ap length c.as_slice.ensures.value)))
 
-pub returns-clause-moved : goal.returns-clause-moved
-returns-clause-moved g c =
+pub returns-clause-rearranged : goal.returns-clause-rearranged
+returns-clause-rearranged g c =
     let x : Session = c.args.session.now in
     subst (λ (w : WindowList). Rearranged c.args.buffers.now c.copy_shown.new.buffers x (record x { windows = w })) (sym (c.split.ensures ∙ ap (window_split c.in_ok-shows.shows) c.reserve.ensures.same))
     (split_rearranged c.args.buffers.now c.copy_shown.new.buffers c.reserve.new.self.capacity c.in_ok-shows.shows x c.selected_window-window.result c.selected_window-window.ensures c.in_ok-shows.ensures.ok)

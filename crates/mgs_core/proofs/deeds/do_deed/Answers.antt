@@ -1,13 +1,18 @@
 use Rattle.std.proofs.Common.{◌∙◌, true, ap}
-use Rattle.std.proofs.lemmas.Result.{on_err_weaker}
+use Rattle.std.proofs.lemmas.Result.{IfOk-weaker, on_err_weaker}
 use Rattle.mgs_model.specs.Apply.{outcome_in}
 use Rattle.mgs_model.specs.Events.{may_be_refused}
 use Rattle.mgs_world.specs.Worlds.{own_at, world_of}
 use Rattle.mgs_core.specs.declared.deeds.Deed.{Deed}
 use Rattle.mgs_core.specs.Stepped.{deed_act}
 use Rattle.mgs_core.proofs.Prompted.{answer_may, answer_quietly}
-use Rattle.mgs_core.proofs.Taken.{quit_quietly, replaced_may, replaced_quietly, skipped_quietly, sought_quietly, started_replacing}
+use Rattle.mgs_core.proofs.Taken.{acted_deed, quit_quietly, replaced_may, replaced_quietly, skipped_quietly, sought_quietly, started_replacing}
 use Rattle.mgs_core.proofs.deeds.do_deed.Goals as goal
+
+pub returns-in-Act-clause-ok : goal.returns-in-Act-clause-ok
+returns-in-Act-clause-ok g c =
+    IfOk-weaker c.do_act.result _ _
+    (λ touched did id next place. acted_deed touched _ _ _ _ id (own_at c.args.at c.args.sessions.now) c.args.before.now c.args.deed c.in-Act.done c.in-Act.is (did id next place)) c.do_act.ensures.ok
 
 pub returns-in-Act-clause-may : goal.returns-in-Act-clause-may
 returns-in-Act-clause-may g c =
@@ -19,8 +24,8 @@ returns-in-Act-clause-may g c =
 
 pub returns-in-Ok-clause-ok : goal.returns-in-Ok-clause-ok
 returns-in-Ok-clause-ok g c id next place =
-    answer_quietly _ _ _ id (own_at c.args.at c.args.sessions.now) c.args.before.now c.args.deed c.asked-prompt.result.now c.in-Answer.argument c.question-question.result c.input-input.result.now
-    c.in-Answer.is c.asked-prompt.ensures c.question-question.ensures c.input-input.ensures.value (c.in-Ok.ensures.ok id next place)
+    answer_quietly c.in-Ok.touched _ _ _ id (own_at c.args.at c.args.sessions.now) c.args.before.now c.args.deed c.asked-prompt.result.now c.in-Answer.argument c.question-question.result c.input-input.result.now
+    c.in-Answer.is c.asked-prompt.ensures c.question-question.ensures c.input-input.ensures.value (c.in-Ok.ensures.ok id next place) (c.in-Ok.ensures.tells id next place)
 
 pub returns-in-Err-clause-may : goal.returns-in-Err-clause-may
 returns-in-Err-clause-may g c id next place =
@@ -42,7 +47,7 @@ returns-in-StartReplacing-clause-ok g c id next place =
 
 pub returns-in-Ok-replace-clause-ok : goal.returns-in-Ok-replace-clause-ok
 returns-in-Ok-replace-clause-ok g c id next place =
-    replaced_quietly _ _ _ id c.args.sessions.now c.args.at c.args.before.now c.args.deed c.in-Replace.last c.in-Replace.is c.requires.ready (λ s r held aim. c.in-Ok-replace.ensures.ok id next s r place held aim)
+    replaced_quietly c.in-Ok-replace.touched _ _ _ id c.args.sessions.now c.args.at c.args.before.now c.args.deed c.in-Replace.last c.in-Replace.is c.requires.ready (λ s r held aim. c.in-Ok-replace.ensures.ok id next s r place held aim) (λ s r held aim. c.in-Ok-replace.ensures.tells id next s r place held aim)
 
 pub returns-in-Err-replace-clause-may : goal.returns-in-Err-replace-clause-may
 returns-in-Err-replace-clause-may g c id next place =

@@ -9,7 +9,7 @@ use Rattle.mgs_core.proofs.Sizes.{place_same}
 use Rattle.mgs_core.proofs.Taken.{open_at}
 use Rattle.mgs_core.proofs.Turned.{event_next, event_over, goes_done, none_on, none_weight, starts}
 use Rattle.mgs_core.proofs.Stepped.{fit_none}
-use Rattle.mgs_act.specs.Replacing.{remaining_at}
+use Rattle.mgs_seek.specs.Replacing.{remaining_at}
 use Rattle.mgs_core.proofs.turning.take_turns.Goals as goal
 
 pub loop-keyed-init : goal.loop-keyed-init

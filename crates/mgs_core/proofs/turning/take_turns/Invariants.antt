@@ -5,7 +5,7 @@ use Rattle.mgs_store.specs.Stores.{store_told}
 use Rattle.mgs_world.specs.Sound.{IsSound}
 use Rattle.mgs_world.specs.Worlds.{own_at, sizes_in, world_of}
 use Rattle.mgs_core.specs.Turned.{IsFit, left_to_do}
-use Rattle.mgs_act.specs.Replacing.{remaining_at}
+use Rattle.mgs_seek.specs.Replacing.{remaining_at}
 use Rattle.mgs_model.specs.declared.errors.Keyed.TheVariants.{Done}
 use Rattle.mgs_core.proofs.Turned.{EventSoFar}
 use Rattle.mgs_core.proofs.turning.take_turns.Given as goal

@@ -4,7 +4,7 @@ use Rattle.mgs_model.specs.Draw.{screen}
 use Rattle.mgs_session.specs.declared.Session.{Session}
 use Rattle.mgs_world.specs.Worlds.{sizes, sizes_in, find_size, world_of}
 use Rattle.mgs_screen.specs.Sketches.{AreStanding}
-use Rattle.mgs_core.proofs.Sizes.{sizes_world}
+use Rattle.mgs_world.proofs.Sizes.{sizes_of_world}
 use Rattle.mgs_core.proofs.Kept.{world_is}
 use Rattle.mgs_core.proofs.server.Core.redraw.Goals as goal
 
@@ -12,7 +12,7 @@ pub redraw_in-requires-clause-open : goal.redraw_in-requires-clause-open
 redraw_in-requires-clause-open g c =
     let i = c.self.inside in
     ap (λ (xs : List Session). find_size c.args.id (sizes_in xs)) c.deref.ensures.value
-    ∙ ap (find_size c.args.id) (sym (sizes_world i.directory i.buffers i.sessions.items i.next_id) ∙ ap sizes (world_is _ _ c.self.view_is)) ∙ c.requires.open
+    ∙ ap (find_size c.args.id) (sym (sizes_of_world i.directory i.buffers i.sessions.items i.next_id) ∙ ap sizes (world_is _ _ c.self.view_is)) ∙ c.requires.open
 
 pub redraw_in-requires-clause-stands : goal.redraw_in-requires-clause-stands
 redraw_in-requires-clause-stands g c =

@@ -1,0 +1,179 @@
+-- What an act of a session comes to, and that what is done is the act.
+use Rattle.std.proofs.Common.{◌≡◌, ℕ, ◌<◌, ◌-◌, ◌==◌, ◌||◌, Bool, true, false, cond, List, [], length, map, Option, Some, None, Result, Ok, Err, refl, sym, ap, ◌∙◌, map-id}
+use Rattle.std.specs.Prelude.{take, slice_get, slice_set}
+use Rattle.std.specs.List.{position_or_len}
+use Rattle.std.specs.Option.{option_map}
+use Rattle.std.proofs.lemmas.Option.{get_or_from_slice_get}
+use Rattle.mgs_model.specs.Access.{Directory}
+use Rattle.mgs_model.specs.World.{World, find_session, has_id}
+use Rattle.mgs_model.specs.World as model
+use Rattle.mgs_model.specs.View.{view}
+use Rattle.mgs_model.specs.Outcome.{takes_memory}
+use Rattle.mgs_model.specs.Outcome as outcomes
+use Rattle.mgs_model.specs.Acts.{asks, fails, outcome, owns, sets}
+use Rattle.mgs_model.specs.Apply.{act, applied, apply, change_first, outcome_in, searches, session_arranged}
+use Rattle.mgs_model.specs.Plans.{acted_own, failed_own, setting}
+use Rattle.mgs_model.specs.declared.session.Command.{Command}
+use Rattle.mgs_model.specs.declared.session.Command.TheVariants.{Ask, Set, Rearrange}
+use Rattle.mgs_model.specs.declared.session.Arrangement.{Arrangement}
+use Rattle.mgs_model.specs.declared.session.Question.{Question}
+use Rattle.mgs_model.specs.declared.session.Setting.{Setting}
+use Rattle.mgs_model.specs.declared.session.Setting.TheVariants.{SetFillColumn, KeyboardQuit, StartMacro, EndMacro, CallMacro}
+use Rattle.mgs_model.specs.declared.message.Message.{Message}
+use Rattle.mgs_model.specs.declared.message.Message.TheVariants.{BadColumn, InMacro, KeyNotBound, NoArgument, NotInMacro, Quitting}
+use Rattle.mgs_model.specs.declared.session.Kind.TheVariants.{Other}
+use Rattle.mgs_model.proofs.Firsts.{position_or_len-map, written_first}
+use Rattle.mgs_buffers.specs.MarkedBuffer.{MarkedBuffer}
+use Rattle.mgs_windows.specs.declared.WindowMarks.{WindowMarks}
+use Rattle.mgs_session.specs.Sessions.{acted, asking, failed, filling, macro_ended, macro_given_up, macro_started}
+use Rattle.mgs_session.specs.declared.Own.{Own}
+use Rattle.mgs_session.specs.declared.Session.{Session}
+use Rattle.mgs_plan.specs.declared.key_act.KeyAct.{KeyAct}
+use Rattle.mgs_plan.specs.declared.key_act.KeyAct.TheVariants.{Unbound, Run}
+use Rattle.mgs_plan.specs.declared.action.Action.{Action}
+use Rattle.mgs_plan.specs.Actions.{act_of, is_done_here, is_setting_done, outcome_through, plan_in, selected_height}
+use Rattle.mgs_plan.specs.Setting.{session_set}
+use Rattle.mgs_world.specs.Worlds.{id_after, idle, own_at, own_of, session_id, session_of, world_of}
+use Rattle.mgs_world.proofs.Sessions.{session_some}
+use Rattle.mgs_world.proofs.Owns.{at_rest, no_search_at_rest, own_asking, search_at_rest, search_kept}
+use Rattle.mgs_world.proofs.Worlds.{same_world}
+use Rattle.mgs_plan.proofs.Deeds.{failed_so, fresh_own}
+
+pub session_known : (directory : Directory) (ks : List MarkedBuffer) (xs : List Session) (next : Option ℕ) (id at : ℕ) (h : Session) → at ≡ position_or_len (session_id id) xs → at < length xs → slice_get xs at ≡ Some h → find_session id (world_of directory ks xs next).sessions ≡ Some (session_of ks h)
+session_known directory ks xs next id at h place within is =
+    session_some directory ks xs next id at h place within (sym (get_or_from_slice_get xs at h h is))
+
+-- what an act comes to, by the session that does it
+pub outcome_known : (directory : Directory) (ks : List MarkedBuffer) (xs : List Session) (next : Option ℕ) (id at : ℕ) (h : Session) (c : outcomes.Act) → at ≡ position_or_len (session_id id) xs → at < length xs → slice_get xs at ≡ Some h → outcome_in (world_of directory ks xs next) id c true ≡ Some (outcome (view (world_of directory ks xs next) (session_of ks h)) c true)
+outcome_known directory ks xs next id at h c place within is =
+    let w = world_of directory ks xs next in
+    ap (λ o. option_map (λ v. outcome v c true) (option_map (view w) o)) (session_known directory ks xs next id at h place within is)
+
+-- PLANNED
+
+-- that what is planned for a session is the command's plan
+abbrev pub IsPlanned : Directory → List MarkedBuffer → Session → WindowMarks → Command → Option ℕ → List ℕ → Action → Type 0
+IsPlanned directory ks h x c n typed action =
+    outcome_through (idle (own_of h.own)) x ks h.kill action ≡ plan_in directory ks (idle (own_of h.own)) h.user x (selected_height h) c n typed h.kill
+
+-- FAILED BEFORE ANYTHING IS PLANNED
+
+pub act_failed : (directory : Directory) (ks : List MarkedBuffer) (xs : List Session) (next : Option ℕ) (id at : ℕ) (h : Session) (c : outcomes.Act) (message : Message) → at ≡ position_or_len (session_id id) xs → at < length xs → slice_get xs at ≡ Some h → own_at at xs ≡ idle (own_at at xs) → outcome (view (world_of directory ks xs next) (session_of ks h)) c true ≡ fails (own_of h.own) message → world_of directory ks (slice_set xs at (failed message h)) next ≡ act (world_of directory ks xs next) id c true
+act_failed directory ks xs next id at h c message place within is fresh known =
+    let w = world_of directory ks xs next in
+    failed_so directory ks xs next id at h message place within is (fresh_own xs at h is fresh)
+    ∙ ap (apply w id) (sym known)
+    ∙ sym (ap (applied w id) (outcome_known directory ks xs next id at h c place within is))
+
+pub act_unbound : (directory : Directory) (ks : List MarkedBuffer) (xs : List Session) (next : Option ℕ) (id at : ℕ) (h : Session) → at ≡ position_or_len (session_id id) xs → at < length xs → slice_get xs at ≡ Some h → own_at at xs ≡ idle (own_at at xs) → world_of directory ks (slice_set xs at (failed KeyNotBound h)) next ≡ act (world_of directory ks xs next) id (act_of Unbound) true
+unfolding outcome
+act_unbound directory ks xs next id at h place within is fresh =
+    act_failed directory ks xs next id at h (act_of Unbound) KeyNotBound place within is fresh refl
+
+-- A SETTING
+
+-- what is set of a session at rest
+acted_as : (f : model.Own → model.Own) → ((own : model.Own) → f (record (idle own) { kind = Other }) ≡ f (acted_own (idle own))) → (o : Own) → own_of o ≡ idle (own_of o) → f (record (own_of o) { kind = Other }) ≡ f (acted_own (own_of o))
+acted_as f same o fresh = at_rest (λ own. f (record own { kind = Other })) (λ own. f (acted_own own)) same (own_of o) fresh
+
+module _ (directory : Directory) (ks : List MarkedBuffer) (xs : List Session) (next : Option ℕ) (id at : ℕ) (h : Session) (place : at ≡ position_or_len (session_id id) xs) (within : at < length xs) (found : slice_get xs at ≡ Some h) (fresh : own_at at xs ≡ idle (own_at at xs)) where
+  rests : own_of h.own ≡ idle (own_of h.own)
+  rests = fresh_own xs at h found fresh
+
+  kept : (session_of ks h).search ≡ cond (searches (own_of h.own).mode) (session_of ks h).search None
+  kept = search_kept ks h rests
+
+  failed_set : (message : Message) → world_of directory ks (slice_set xs at (failed message h)) next ≡ apply (world_of directory ks xs next) id (fails (own_of h.own) message)
+  failed_set message = failed_so directory ks xs next id at h message place within found rests
+
+  owned_so : (y : Session) (after : model.Own) → session_of ks y ≡ session_arranged (owns after) (session_of ks h) → world_of directory ks (slice_set xs at y) next ≡ apply (world_of directory ks xs next) id (owns after)
+  owned_so y after does =
+      let f = session_arranged (owns after) in
+      same_world directory _ _ _ _ (id_after next) refl
+      (written_first (session_of ks) (has_id id) f xs at h y (place ∙ sym (position_or_len-map (session_of ks) (has_id id) xs)) within (sym (get_or_from_slice_get xs at h h found)) does
+      ∙ ap (change_first (has_id id) f) (sym (map-id (map (session_of ks) xs))))
+
+  -- a command of no kind was done, which set this
+  acted_so : (y : Session) (f : model.Own → model.Own) → ((own : model.Own) → f (record (idle own) { kind = Other }) ≡ f (acted_own (idle own)))
+      → session_of ks y ≡ record (session_of ks h) { own = f (record (own_of h.own) { kind = Other }) }
+      → Path (Option model.Search) (session_of ks h).search (cond (searches (f (acted_own (own_of h.own))).mode) (session_of ks h).search None)
+      → world_of directory ks (slice_set xs at y) next ≡ apply (world_of directory ks xs next) id (owns (f (acted_own (own_of h.own))))
+  acted_so y f same does still =
+      owned_so y (f (acted_own (own_of h.own)))
+      (does ∙ (λ i. record (session_of ks h) { own = acted_as f same h.own rests i; search = still i }))
+
+  -- a command that is done or fails, by what the session records
+  recorded_so : (y : Session) (f : model.Own → model.Own) (message : Message)
+      → world_of directory ks (slice_set xs at y) next ≡ apply (world_of directory ks xs next) id (owns (f (acted_own (own_of h.own))))
+      → (c : Bool) → world_of directory ks (slice_set xs at (cond c y (failed message h))) next ≡ apply (world_of directory ks xs next) id (sets (own_of h.own) (cond c (Ok (f (acted_own (own_of h.own)))) (Err message)))
+  recorded_so y f message done true = done
+  recorded_so y f message done false = failed_set message
+
+  started_so : (c : Bool) → world_of directory ks (slice_set xs at (cond c (failed InMacro h) (macro_started h))) next ≡ apply (world_of directory ks xs next) id (sets (own_of h.own) (cond c (Err InMacro) (Ok (record (acted_own (own_of h.own)) { recording = true; macro = [] }))))
+  started_so true = failed_set InMacro
+  started_so false = acted_so (macro_started h) (λ own. record own { recording = true; macro = [] }) (λ own. refl) refl kept
+
+  -- nothing ends while a macro plays
+  ended_so : (c : Bool)
+      → (let ends : Result model.Own Message = cond c (Ok (record (acted_own (own_of h.own)) { recording = false; macro = take (length (own_of h.own).macro - 2) (own_of h.own).macro })) (Err NotInMacro) in world_of directory ks (slice_set xs at (cond c (macro_ended h) (failed NotInMacro h))) next ≡ apply (world_of directory ks xs next) id (sets (own_of h.own) ends))
+      → (p : Bool)
+      → (let ends : Result model.Own Message = cond c (Ok (record (acted_own (own_of h.own)) { recording = false; macro = take (length (own_of h.own).macro - 2) (own_of h.own).macro })) (Err NotInMacro) in world_of directory ks (slice_set xs at (cond p (failed InMacro h) (cond c (macro_ended h) (failed NotInMacro h)))) next ≡ apply (world_of directory ks xs next) id (sets (own_of h.own) (cond p (Err InMacro) ends)))
+  ended_so c done true = failed_set InMacro
+  ended_so c done false = done
+
+  set_so : (s : Setting) (n : Option ℕ) → is_setting_done s ≡ true → world_of directory ks (slice_set xs at (session_set s n h)) next ≡ apply (world_of directory ks xs next) id (sets (own_of h.own) (setting s (acted_own (own_of h.own)) n))
+  set_so SetFillColumn None here = failed_set NoArgument
+  set_so SetFillColumn (Some n) here = by (n == 0)
+    where
+      by : (b : Bool) → world_of directory ks (slice_set xs at (cond b (failed BadColumn h) (filling n (acted Other h)))) next ≡ apply (world_of directory ks xs next) id (sets (own_of h.own) (cond b (Err BadColumn) (Ok (record (acted_own (own_of h.own)) { fill = n }))))
+      by true = failed_set BadColumn
+      by false = acted_so (filling n (acted Other h)) (λ own. record own { fill = n }) (λ own. refl) refl kept
+  set_so KeyboardQuit n here =
+      let after : model.Own = record (failed_own Quitting (own_of h.own)) { recording = false; macro = cond h.own.recorder.recording [] h.own.recorder.macro } in
+      owned_so (macro_given_up (failed Quitting h)) after refl
+  set_so StartMacro n here = started_so (h.own.recorder.recording || h.own.player.playing)
+  set_so EndMacro n here =
+      let ends : model.Own → model.Own = λ own. record own { recording = false; macro = take (length own.macro - 2) own.macro } in
+      ended_so h.own.recorder.recording (recorded_so (macro_ended h) ends NotInMacro (acted_so (macro_ended h) ends (λ own. refl) refl kept) h.own.recorder.recording) h.own.player.playing
+  set_so CallMacro n here = cc
+
+  set_known : (s : Setting) (n : Option ℕ) → outcome (view (world_of directory ks xs next) (session_of ks h)) (act_of (Run (Set s) n)) true ≡ sets (own_of h.own) (setting s (acted_own (own_of h.own)) n)
+  unfolding outcome
+  set_known s n = refl
+
+  pub act_set : (a : KeyAct) (c : Command) (s : Setting) (n : Option ℕ) → a ≡ Run c n → c ≡ Set s → is_done_here a ≡ true → world_of directory ks (slice_set xs at (session_set s n h)) next ≡ act (world_of directory ks xs next) id (act_of a) true
+  act_set a c s n is set here =
+      let same : a ≡ Run (Set s) n = is ∙ ap (λ (k : Command). Run k n) set in
+      let w = world_of directory ks xs next in
+      set_so s n (sym (ap is_done_here same) ∙ here)
+      ∙ ap (apply w id) (sym (set_known s n))
+      ∙ sym (ap (applied w id) (outcome_known directory ks xs next id at h (act_of (Run (Set s) n)) place within found))
+      ∙ ap (λ (k : KeyAct). act w id (act_of k) true) (sym same)
+
+-- A QUESTION
+
+module _ (directory : Directory) (ks : List MarkedBuffer) (xs : List Session) (next : Option ℕ) (id at : ℕ) (h : Session) (place : at ≡ position_or_len (session_id id) xs) (within : at < length xs) (found : slice_get xs at ≡ Some h) (fresh : own_at at xs ≡ idle (own_at at xs)) where
+  asked_so : (c : Question) (n : Option ℕ) → world_of directory ks (slice_set xs at (asking c n h)) next ≡ apply (world_of directory ks xs next) id (owns (asks c n (own_of h.own)))
+  asked_so c n =
+      let f = session_arranged (owns (asks c n (own_of h.own))) in
+      same_world directory _ _ _ _ (id_after next) refl
+      (written_first (session_of ks) (has_id id) f xs at h (asking c n h) (place ∙ sym (position_or_len-map (session_of ks) (has_id id) xs)) within (sym (get_or_from_slice_get xs at h h found))
+      (λ i. record (session_of ks h) { own = own_asking c n h (search_at_rest h.own (fresh_own xs at h found fresh)) (fresh_own xs at h found fresh) i; search = no_search_at_rest ks h (fresh_own xs at h found fresh) i })
+      ∙ ap (change_first (has_id id) f) (sym (map-id (map (session_of ks) xs))))
+
+  ask_known : (c : Question) (n : Option ℕ) → outcome (view (world_of directory ks xs next) (session_of ks h)) (act_of (Run (Ask c) n)) true ≡ owns (asks c n (own_of h.own))
+  unfolding outcome
+  ask_known c n = refl
+
+  pub act_asked : (a : KeyAct) (k : Command) (c : Question) (n : Option ℕ) → a ≡ Run k n → k ≡ Ask c → world_of directory ks (slice_set xs at (asking c n h)) next ≡ act (world_of directory ks xs next) id (act_of a) true
+  act_asked a k c n is asks_it =
+      let same : a ≡ Run (Ask c) n = is ∙ ap (λ (k : Command). Run k n) asks_it in
+      let w = world_of directory ks xs next in
+      asked_so c n
+      ∙ ap (apply w id) (sym (ask_known c n))
+      ∙ sym (ap (applied w id) (outcome_known directory ks xs next id at h (act_of (Run (Ask c) n)) place within found))
+      ∙ ap (λ (k : KeyAct). act w id (act_of k) true) (sym same)
+
+-- an act that arranges windows
+pub rearranging : (a : KeyAct) (c : Command) (k : Arrangement) (n : Option ℕ) → a ≡ Run c n → c ≡ Rearrange k → act_of a ≡ outcomes.Run (Rearrange k) n []
+rearranging a c k n a_is c_is = ap act_of a_is ∙ ap (λ (x : Command). outcomes.Run x n []) c_is

@@ -1,0 +1,16 @@
+pub mod Leaving
+pub mod Followed
+pub mod Deeds
+pub mod Outcomes
+pub mod Commands
+pub mod Plans
+pub mod Copies
+pub mod Tells
+pub mod Quiet
+pub mod Kills
+pub mod Decided
+pub mod Subjects
+pub mod Rulings
+pub mod Listings
+pub mod Switches
+pub mod Texts

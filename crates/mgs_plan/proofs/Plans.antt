@@ -1,0 +1,58 @@
+-- What is planned where the rights are granted, and where they are not.
+use Rattle.std.proofs.Common.{◌≡◌, ℕ, List, length, sym, ap, subst, ◌∙◌}
+use Rattle.mgs_model.specs.Access.{Directory, decision}
+use Rattle.mgs_model.specs.Acts.{fails, permitted}
+use Rattle.mgs_model.specs.Outcome.{Outcome}
+use Rattle.mgs_model.specs.Plans as plans
+use Rattle.mgs_model.specs.World as model
+use Rattle.mgs_model.specs.declared.entry.Decision.{Decision}
+use Rattle.mgs_model.specs.declared.entry.Decision.TheVariants.{Granted}
+use Rattle.mgs_model.specs.declared.message.Message.{Message}
+use Rattle.mgs_model.specs.declared.session.Command.{Command}
+use Rattle.mgs_buffers.specs.MarkedBuffer.{MarkedBuffer, marked_at}
+use Rattle.mgs_windows.specs.declared.WindowMarks.{WindowMarks}
+use Rattle.mgs_edit.specs.Reading.{surrounded}
+use Rattle.mgs_edit.specs.declared.plan.Around.{Around}
+use Rattle.mgs_plan.specs.declared.action.Action.{Action}
+use Rattle.mgs_plan.specs.declared.action.Action.TheVariants.{Fails}
+use Rattle.mgs_plan.specs.declared.given.Given.{Given}
+use Rattle.mgs_plan.specs.Actions.{action_outcome, around_given, around_in, given_own, granted_outcome, mask_at, outcome_through, plan_in}
+
+-- what holds of a text and a serial holds of the buffer's, which are the same
+pub at_buffer : (holds : List ℕ → ℕ → Type 0) (text kept : List ℕ) (serial last : ℕ) → text ≡ kept → serial ≡ last → holds text serial → holds kept last
+at_buffer holds text kept serial last same_text same_serial h = subst (λ n. holds kept n) same_serial (subst (λ t. holds t serial) same_text h)
+
+-- what is decided on the rights that a command needs
+abbrev pub needed : Directory → List MarkedBuffer → List ℕ → WindowMarks → Given → Command → ℕ → Decision
+needed directory ks user x g c killed =
+    let b = (marked_at x.name ks).buffer in
+    decision directory b.owners user b.entries (mask_at c (around_given directory ks user x g killed).place (length b.text))
+
+pub granted : (directory : Directory) (ks : List MarkedBuffer) (user : List ℕ) (x : WindowMarks) (g : Given) (c : Command) (typed kill : List ℕ) (around : Around) (action : Action) (own : model.Own)
+    → around ≡ around_given directory ks user x g (length kill) → needed directory ks user x g c (length kill) ≡ Granted
+    → (let b = (marked_at x.name ks).buffer in (own : model.Own) (rest : plans.Around) → action_outcome own x.name b.text b.items kill action ≡ granted_outcome own c b.text b.items (record (surrounded around (length b.text) (record rest { name = x.name; kill = kill; serial = b.serial })) { typed = typed }))
+    → outcome_through (given_own g own) x ks kill action ≡ plan_in directory ks (given_own g own) user x g.height c g.argument typed kill
+granted directory ks user x g c typed kill around action holds around_is allowed value =
+    let own = given_own g holds in
+    let b = (marked_at x.name ks).buffer in
+    let rest = around_in directory ks user x g.height g.argument typed kill own in
+    let by_around = subst (λ (a : Around). action_outcome own x.name b.text b.items kill action ≡ granted_outcome own c b.text b.items (record (surrounded a (length b.text) (record rest { name = x.name; kill = kill; serial = b.serial })) { typed = typed })) around_is (value own rest) in
+    by_around ∙ sym (ap (λ d. permitted own d (granted_outcome own c b.text b.items rest)) allowed)
+
+pub denied : (directory : Directory) (ks : List MarkedBuffer) (user : List ℕ) (x : WindowMarks) (g : Given) (c : Command) (typed kill : List ℕ) (message : Message) (own : model.Own)
+    → ((own : model.Own) (o : Outcome) → permitted own (needed directory ks user x g c (length kill)) o ≡ fails own message)
+    → outcome_through (given_own g own) x ks kill (Fails message) ≡ plan_in directory ks (given_own g own) user x g.height c g.argument typed kill
+denied directory ks user x g c typed kill message holds told =
+    let own = given_own g holds in
+    let b = (marked_at x.name ks).buffer in
+    sym (told own (granted_outcome own c b.text b.items (around_in directory ks user x g.height g.argument typed kill own)))
+
+-- the same for a session that has this kill buffer and whose selected window has so many rows
+pub for_session : (directory : Directory) (ks : List MarkedBuffer) (user : List ℕ) (x : WindowMarks) (g : Given) (c : Command) (typed kill held : List ℕ) (height : ℕ) (action : Action) (own : model.Own)
+    → given_own g own ≡ own → held ≡ kill → height ≡ g.height
+    → outcome_through (given_own g own) x ks held action ≡ plan_in directory ks (given_own g own) user x g.height c g.argument typed held
+    → outcome_through own x ks kill action ≡ plan_in directory ks own user x height c g.argument typed kill
+for_session directory ks user x g c typed kill held height action own same kills rows value =
+    let by_own = subst (λ (o : model.Own). outcome_through o x ks held action ≡ plan_in directory ks o user x g.height c g.argument typed held) same value in
+    let by_kill = subst (λ (k : List ℕ). outcome_through own x ks k action ≡ plan_in directory ks own user x g.height c g.argument typed k) kills by_own in
+    subst (λ (n : ℕ). outcome_through own x ks kill action ≡ plan_in directory ks own user x n c g.argument typed kill) (sym rows) by_kill

@@ -1,0 +1,129 @@
+use Rattle.std.proofs.Common.{◌≡◌, ℕ, List, length, sym, ap, ◌∙◌, arith}
+use Rattle.mgs_model.specs.Acts.{moved_by}
+use Rattle.mgs_model.specs.Plans as plans
+use Rattle.mgs_model.specs.Plans.{insertion}
+use Rattle.mgs_model.specs.declared.session.Command.{Command}
+use Rattle.mgs_buffers.specs.MarkedBuffer.{marked_at}
+use Rattle.mgs_edit.specs.Reading.{surrounded}
+use Rattle.mgs_plan.specs.Actions.{CanDo, action_outcome, edit_outcome, granted_outcome}
+use Rattle.mgs_plan.proofs.Plans.{at_buffer}
+use Rattle.mgs_plan.proofs.planning.plan_granted.Goals as goal
+
+pub edits_so-requires : goal.edits_so-requires
+edits_so-requires g c = c.reading_insertion.ensures.within c.args.kill.now
+
+pub returns-in-Insert-clause-value : goal.returns-in-Insert-clause-value
+returns-in-Insert-clause-value g c = λ own rest.
+    let name = c.args.name.now in
+    let b = (marked_at name c.args.buffers.now).buffer in
+    let text = g.T.Text.text c.text-text.result.now in
+    let serial = c.serial-serial.result in
+    let known : ℕ → plans.Around = λ n. record rest { name = name; kill = c.args.kill.now; serial = n } in
+    at_buffer (λ t n. action_outcome own name t b.items c.args.kill.now c.edits.result ≡ granted_outcome own c.args.command t b.items (surrounded c.args.around.now (length t) (known n)))
+    text b.text serial b.serial c.text-text.ensures.text c.serial-serial.ensures
+    (c.edits.ensures.value own name b.items
+    ∙ ap (edit_outcome own name (length text) serial) (c.insertion.ensures.plan text (known serial) c.requires.killed)
+    ∙ ap (λ size. edit_outcome own name (length text) serial (insertion c.in-Insert.by (surrounded c.args.around.now size (known serial)))) (c.text_len-size.ensures.value ∙ sym (ap (λ (t : List ℕ). length t) c.text-text.ensures.text))
+    ∙ sym (ap (λ (k : Command). granted_outcome own k text b.items (surrounded c.args.around.now (length text) (known serial))) c.in-Insert.is))
+
+pub returns-in-Insert-clause-can : goal.returns-in-Insert-clause-can
+returns-in-Insert-clause-can g c =
+    let b = (marked_at c.args.name.now c.args.buffers.now).buffer in
+    at_buffer (λ t n. CanDo t b.items c.args.kill.now n c.edits.result)
+    (g.T.Text.text c.text-text.result.now) b.text c.serial-serial.result b.serial c.text-text.ensures.text c.serial-serial.ensures
+    (c.edits.ensures.can b.items)
+
+pub returns-in-InsertReading-clause-value : goal.returns-in-InsertReading-clause-value
+returns-in-InsertReading-clause-value g c = λ own rest.
+    let name = c.args.name.now in
+    let b = (marked_at name c.args.buffers.now).buffer in
+    let text = g.T.Text.text c.text-text.result.now in
+    let serial = c.serial-serial.result in
+    let known : ℕ → plans.Around = λ n. record rest { name = name; kill = c.args.kill.now; serial = n } in
+    at_buffer (λ t n. action_outcome own name t b.items c.args.kill.now c.edits_so.result ≡ granted_outcome own c.args.command t b.items (surrounded c.args.around.now (length t) (known n)))
+    text b.text serial b.serial c.text-text.ensures.text c.serial-serial.ensures
+    (c.edits_so.ensures.value own name b.items
+    ∙ ap (edit_outcome own name (length text) serial) (c.reading_insertion.ensures.plan (known serial))
+    ∙ sym (ap (λ (k : Command). granted_outcome own k text b.items (surrounded c.args.around.now (length text) (known serial))) c.in-InsertReading.is))
+
+pub returns-in-InsertReading-clause-can : goal.returns-in-InsertReading-clause-can
+returns-in-InsertReading-clause-can g c =
+    let b = (marked_at c.args.name.now c.args.buffers.now).buffer in
+    at_buffer (λ t n. CanDo t b.items c.args.kill.now n c.edits_so.result)
+    (g.T.Text.text c.text-text.result.now) b.text c.serial-serial.result b.serial c.text-text.ensures.text c.serial-serial.ensures
+    (c.edits_so.ensures.can b.items)
+
+pub motion-requires-clause-short : goal.motion-requires-clause-short
+motion-requires-clause-short g c =
+    omega (arith, ap (λ (t : List ℕ). length t) c.text-text.ensures.text, c.text_len-size.ensures.value, c.text_len-size.ensures.limit)
+
+pub returns-in-Move-clause-value : goal.returns-in-Move-clause-value
+returns-in-Move-clause-value g c = λ own rest.
+    let name = c.args.name.now in
+    let b = (marked_at name c.args.buffers.now).buffer in
+    let text = g.T.Text.text c.text-text.result.now in
+    let serial = c.serial-serial.result in
+    let known : ℕ → plans.Around = λ n. record rest { name = name; kill = c.args.kill.now; serial = n } in
+    at_buffer (λ t n. action_outcome own name t b.items c.args.kill.now c.moves.result ≡ granted_outcome own c.args.command t b.items (surrounded c.args.around.now (length t) (known n)))
+    text b.text serial b.serial c.text-text.ensures.text c.serial-serial.ensures
+    (c.moves.ensures.value own name b.items
+    ∙ ap (moved_by own) (c.motion.ensures.plan (known serial))
+    ∙ sym (ap (λ (k : Command). granted_outcome own k text b.items (surrounded c.args.around.now (length text) (known serial))) c.in-Move.is))
+
+pub returns-in-Move-clause-can : goal.returns-in-Move-clause-can
+returns-in-Move-clause-can g c =
+    let b = (marked_at c.args.name.now c.args.buffers.now).buffer in
+    at_buffer (λ t n. CanDo t b.items c.args.kill.now n c.moves.result)
+    (g.T.Text.text c.text-text.result.now) b.text c.serial-serial.result b.serial c.text-text.ensures.text c.serial-serial.ensures
+    (c.moves.ensures.can b.items c.serial-serial.result)
+
+pub returns-in-Alter-clause-value : goal.returns-in-Alter-clause-value
+returns-in-Alter-clause-value g c = λ own rest.
+    let name = c.args.name.now in
+    let b = (marked_at name c.args.buffers.now).buffer in
+    let text = g.T.Text.text c.text-text.result.now in
+    let serial = c.serial-serial.result in
+    let known : ℕ → plans.Around = λ n. record rest { name = name; kill = c.args.kill.now; serial = n } in
+    at_buffer (λ t n. action_outcome own name t b.items c.args.kill.now c.edits-in-Alter.result ≡ granted_outcome own c.args.command t b.items (surrounded c.args.around.now (length t) (known n)))
+    text b.text serial b.serial c.text-text.ensures.text c.serial-serial.ensures
+    (c.edits-in-Alter.ensures.value own name b.items
+    ∙ ap (edit_outcome own name (length text) serial) (c.alteration.ensures.plan (known serial))
+    ∙ sym (ap (λ (k : Command). granted_outcome own k text b.items (surrounded c.args.around.now (length text) (known serial))) c.in-Alter.is))
+
+pub returns-in-Alter-clause-can : goal.returns-in-Alter-clause-can
+returns-in-Alter-clause-can g c =
+    let b = (marked_at c.args.name.now c.args.buffers.now).buffer in
+    at_buffer (λ t n. CanDo t b.items c.args.kill.now n c.edits-in-Alter.result)
+    (g.T.Text.text c.text-text.result.now) b.text c.serial-serial.result b.serial c.text-text.ensures.text c.serial-serial.ensures
+    (c.edits-in-Alter.ensures.can b.items)
+
+pub returns-in-Scroll-clause-value : goal.returns-in-Scroll-clause-value
+returns-in-Scroll-clause-value g c = λ own rest.
+    let name = c.args.name.now in
+    let b = (marked_at name c.args.buffers.now).buffer in
+    let text = g.T.Text.text c.text-text.result.now in
+    let serial = c.serial-serial.result in
+    let known : ℕ → plans.Around = λ n. record rest { name = name; kill = c.args.kill.now; serial = n } in
+    at_buffer (λ t n. action_outcome own name t b.items c.args.kill.now c.moves-in-Scroll.result ≡ granted_outcome own c.args.command t b.items (surrounded c.args.around.now (length t) (known n)))
+    text b.text serial b.serial c.text-text.ensures.text c.serial-serial.ensures
+    (c.moves-in-Scroll.ensures.value own name b.items
+    ∙ ap (moved_by own) (c.scroll.ensures.plan (known serial))
+    ∙ sym (ap (λ (k : Command). granted_outcome own k text b.items (surrounded c.args.around.now (length text) (known serial))) c.in-Scroll.is))
+
+pub returns-in-Scroll-clause-can : goal.returns-in-Scroll-clause-can
+returns-in-Scroll-clause-can g c =
+    let b = (marked_at c.args.name.now c.args.buffers.now).buffer in
+    at_buffer (λ t n. CanDo t b.items c.args.kill.now n c.moves-in-Scroll.result)
+    (g.T.Text.text c.text-text.result.now) b.text c.serial-serial.result b.serial c.text-text.ensures.text c.serial-serial.ensures
+    (c.moves-in-Scroll.ensures.can b.items c.serial-serial.result)
+
+pub returns-in-UndoEdit-clause-value : goal.returns-in-UndoEdit-clause-value
+returns-in-UndoEdit-clause-value g c = λ own rest.
+    let name = c.args.name.now in
+    let b = (marked_at name c.args.buffers.now).buffer in
+    let known : plans.Around = record rest { name = name; kill = c.args.kill.now; serial = b.serial } in
+    c.undoes.ensures.value own c.args.kill.now (surrounded c.args.around.now (length b.text) known)
+    ∙ sym (ap (λ (k : Command). granted_outcome own k b.text b.items (surrounded c.args.around.now (length b.text) known)) c.in-UndoEdit.is)
+
+pub returns-in-UndoEdit-clause-can : goal.returns-in-UndoEdit-clause-can
+returns-in-UndoEdit-clause-can g c = c.undoes.ensures.can c.args.kill.now

@@ -1,0 +1,317 @@
+-- What is planned, and where.
+use Rattle.std.specs.Global.{Vec}
+use Rattle.std.specs.Prelude.{◌≡◌, ℕ, ◌+◌, ◌≤◌, ◌==◌, Bool, true, false, List, [], length, Option, Some, None, Result, Ok, Err, slice_get, find, cond, if◌then◌else◌}
+use Rattle.std.specs.Option.{option_map}
+use Rattle.mgs_model.specs.Access.{Directory, Decider, decider, decision_by}
+use Rattle.mgs_model.specs.Rights.{rights_in}
+use Rattle.mgs_model.specs.Text.{is_edit}
+use Rattle.mgs_model.specs.World.{Item, may}
+use Rattle.mgs_model.specs.World as model
+use Rattle.mgs_model.specs.Apply.{change_first, kill_after}
+use Rattle.mgs_model.specs.Outcome.{Outcome, No_effect, Unmodified, PointPlan, Keep, At, At_origin}
+use Rattle.mgs_model.specs.Outcome as outcomes
+use Rattle.mgs_model.specs.Plans as plans
+use Rattle.mgs_model.specs.Plans.{alteration, insertion, motion, reading_insertion, scrolling, undo}
+use Rattle.mgs_model.specs.Acts.{effects, fails, finished, edit_of, is_full, is_too_large, moved_by, permitted}
+use Rattle.mgs_model.specs.declared.right.Right.{Right}
+use Rattle.mgs_model.specs.declared.right.Right.TheVariants.{ReadData}
+use Rattle.mgs_model.specs.declared.message.Message.{Message}
+use Rattle.mgs_model.specs.declared.message.Message.TheVariants.{KeyNotBound, BufferFull, Silent}
+use Rattle.mgs_model.specs.declared.session.Command.{Command}
+use Rattle.mgs_model.specs.declared.session.Command.TheVariants.{Insert, InsertReading, Move, Alter, Scroll, Set, Rearrange, Ask, Entries, ListEntries, UndoEdit, NotModified}
+use Rattle.mgs_model.specs.declared.session.Kind.TheVariants.{Other}
+use Rattle.mgs_model.specs.declared.session.EntryChange.{EntryChange}
+use Rattle.mgs_model.specs.declared.session.EntryChange.TheVariants.{DeleteEntry}
+use Rattle.mgs_model.specs.declared.session.Setting.{Setting}
+use Rattle.mgs_model.specs.declared.session.Setting.TheVariants.{SetFillColumn, KeyboardQuit, StartMacro, EndMacro}
+use Rattle.mgs_buffers.specs.MarkedBuffer.{IsMark, MarkedBuffer, marked_at, marked_edited, marked_named, marked_placed, marked_unmodified, mark_at}
+use Rattle.mgs_windows.specs.declared.WindowMarks.{WindowMarks}
+use Rattle.mgs_windows.specs.declared.Window.{Window}
+use Rattle.mgs_session.specs.Sessions.{acted, failed, told}
+use Rattle.mgs_session.specs.declared.Session.{Session}
+use Rattle.mgs_edit.specs.Reading.{ChangeWithin, FinishWithin, LeavesBehind, change_read, finish_read, is_alteration_planned, is_planned, kill_read, undone_read}
+use Rattle.mgs_edit.specs.declared.plan.Around.{Around}
+use Rattle.mgs_edit.specs.declared.plan.Change.{Change}
+use Rattle.mgs_edit.specs.declared.plan.Finish.{Finish}
+use Rattle.mgs_edit.specs.declared.plan.Undone.{Undone}
+use Rattle.mgs_undo.specs.History.{has_serial}
+use Rattle.mgs_model.specs.declared.session.Question.{Question}
+use Rattle.mgs_model.specs.declared.session.Question.TheVariants.{RunWhich, ReplaceWhat, ReplaceWith}
+use Rattle.mgs_world.specs.Marking.{IsReserved, session_marked}
+use Rattle.mgs_plan.specs.declared.key_act.KeyAct.{KeyAct}
+use Rattle.mgs_plan.specs.declared.key_act.KeyAct.TheVariants.{Unbound, Run}
+use Rattle.mgs_plan.specs.declared.given.Given.{Given}
+use Rattle.mgs_plan.specs.declared.action.Action.{Action}
+use Rattle.mgs_plan.specs.declared.action.Action.TheVariants.{Fails, Edits, Undoes, Moves, Clears}
+
+-- ACTS
+
+abbrev pub act_of : KeyAct → outcomes.Act
+act_of Unbound = outcomes.Unbound
+act_of (Run c n) = outcomes.Run c n []
+
+-- the commands that act on the text in the selected window
+abbrev pub is_on_text : Command → Bool
+is_on_text (Insert c) = true
+is_on_text (InsertReading c) = true
+is_on_text (Move c) = is_planned c
+is_on_text (Alter c) = is_alteration_planned c
+is_on_text (Scroll c) = true
+is_on_text UndoEdit = true
+is_on_text NotModified = true
+is_on_text _ = false
+
+abbrev pub is_setting_done : Setting → Bool
+is_setting_done SetFillColumn = true
+is_setting_done KeyboardQuit = true
+is_setting_done StartMacro = true
+is_setting_done EndMacro = true
+is_setting_done _ = false
+
+-- an entry is deleted at once; one that comes is typed first
+abbrev pub is_entry_done : EntryChange → Bool
+is_entry_done DeleteEntry = true
+is_entry_done _ = false
+
+-- the acts that are done here
+abbrev pub is_command_done : Command → Bool
+is_command_done (Set c) = is_setting_done c
+is_command_done (Rearrange c) = true
+is_command_done (Ask c) = true
+is_command_done (Entries c) = is_entry_done c
+is_command_done ListEntries = true
+is_command_done c = is_on_text c
+
+-- the questions whose answers are done here: a command's name is looked up elsewhere, and so is what is to be replaced
+abbrev pub is_answered : Question → Bool
+is_answered RunWhich = false
+is_answered ReplaceWhat = false
+is_answered ReplaceWith = false
+is_answered _ = true
+
+abbrev pub is_done_here : KeyAct → Bool
+is_done_here Unbound = true
+is_done_here (Run c n) = is_command_done c
+
+-- WHAT A PLAN IS GIVEN
+
+-- the point and the mark of a window stand in its buffer
+pub record AreMarks (ks : List MarkedBuffer) (x : WindowMarks) : Type 0 where
+  pub point : IsMark x.name x.point ks
+  pub mark : (id : ℕ) → x.mark ≡ Some id → IsMark x.name id ks
+  pub top : IsMark x.name x.top ks
+
+-- where a user acts: at the point, or at the text's end where the text may not be read
+abbrev pub place_in : Bool → ℕ → ℕ → ℕ
+place_in reads point size = cond reads point size
+
+-- the mark, where the text may be read
+abbrev pub mark_if : Bool → Option ℕ → Option ℕ
+mark_if reads mark = cond reads mark None
+
+abbrev pub mark_shown : List MarkedBuffer → WindowMarks → Option ℕ
+mark_shown ks x = option_map (mark_at x.name ks) x.mark
+
+-- what a session holds that has this kind and this fill column: a plan goes by no more of it
+abbrev pub given_own : Given → model.Own → model.Own
+given_own g own = record own { kind = g.kind; fill = g.fill }
+
+abbrev pub around_given : Directory → List MarkedBuffer → List ℕ → WindowMarks → Given → ℕ → Around
+around_given directory ks user x g killed =
+    let b = (marked_at x.name ks).buffer in
+    let reads = may directory user ReadData b in
+    record {
+      place = place_in reads (mark_at x.name ks x.point) (length b.text);
+      mark = mark_if reads (mark_shown ks x);
+      argument = g.argument;
+      killed = killed;
+      kind = g.kind;
+      height = g.height;
+      fill = g.fill;
+    }
+
+-- the same, as the model's plans are given it
+abbrev pub around_in : Directory → List MarkedBuffer → List ℕ → WindowMarks → ℕ → Option ℕ → List ℕ → List ℕ → model.Own → plans.Around
+around_in directory ks user x height n typed kill own =
+    let b = (marked_at x.name ks).buffer in
+    let reads = may directory user ReadData b in
+    record {
+      name = x.name;
+      size = length b.text;
+      serial = b.serial;
+      place = place_in reads (mark_at x.name ks x.point) (length b.text);
+      mark = mark_if reads (mark_shown ks x);
+      origin = 0;
+      anchor = 0;
+      sought_here = false;
+      old = own.old;
+      argument = n;
+      typed = typed;
+      kill = kill;
+      kind = own.kind;
+      height = height;
+      fill = own.fill;
+    }
+
+-- ACTIONS
+
+-- what the buffers ask of what is left
+pub record CanFinish (size after : ℕ) (text kill : List ℕ) (f : Finish) : Type 0 where
+  pub within : FinishWithin size after f
+  pub small : is_too_large (kill_read text kill f.kill) ≡ false
+
+pub record CanChange (text kill : List ℕ) (serial : ℕ) (c : Change) : Type 0 where
+  pub within : ChangeWithin text kill c
+  pub small : is_too_large (kill_read text kill c.finish.kill) ≡ false
+  pub room : is_full (length text) serial (change_read text kill c) ≡ false
+
+-- what the edit of a serial took out, where it is kept
+abbrev pub removed_or_none : Option Item → List ℕ
+removed_or_none None = []
+removed_or_none (Some item) = item.removed
+
+abbrev pub removed_by : ℕ → List Item → List ℕ
+removed_by serial items = removed_or_none (find (has_serial serial) items)
+
+pub record CanUndo (text : List ℕ) (items : List Item) (kill : List ℕ) (serial : ℕ) (u : Undone) : Type 0 where
+  pub within : u.from + u.gone ≤ length text
+  pub len : length (removed_by u.serial items) ≡ u.len
+  pub finish : LeavesBehind u.finish
+  pub room : is_full (length text) serial (undone_read text kill (removed_by u.serial items) u) ≡ false
+
+abbrev pub CanDo : List ℕ → List Item → List ℕ → ℕ → Action → Type 0
+CanDo text items kill serial (Fails message) = Unit {0}
+CanDo text items kill serial (Edits c) = CanChange text kill serial c
+CanDo text items kill serial (Undoes u) = CanUndo text items kill serial u
+CanDo text items kill serial (Moves f) = CanFinish (length text) (length text) text kill f
+CanDo text items kill serial Clears = Unit {0}
+
+abbrev pub CanBeDone : List MarkedBuffer → WindowMarks → List ℕ → Action → Type 0
+CanBeDone ks x kill action = CanDo (marked_at x.name ks).buffer.text (marked_at x.name ks).buffer.items kill (marked_at x.name ks).buffer.serial action
+
+-- the outcome that an action stands for, in the buffer of this name, text and items, by a session that holds this and has this kill
+-- buffer
+abbrev pub action_outcome : model.Own → List ℕ → List ℕ → List Item → List ℕ → Action → Outcome
+action_outcome own name text items kill (Fails message) = fails own message
+action_outcome own name text items kill (Edits c) = finished own (change_read text kill c).finish (edit_of name (change_read text kill c))
+action_outcome own name text items kill (Undoes u) =
+    let c = undone_read text kill (removed_by u.serial items) u in
+    finished own c.finish (edit_of name c)
+action_outcome own name text items kill (Moves f) = finished own (finish_read text kill 0 f) No_effect
+action_outcome own name text items kill Clears = effects own (Ok (Unmodified name))
+
+-- what an action comes to through a window's marks
+abbrev pub outcome_through : model.Own → WindowMarks → List MarkedBuffer → List ℕ → Action → Outcome
+outcome_through own x ks kill action = action_outcome own x.name (marked_at x.name ks).buffer.text (marked_at x.name ks).buffer.items kill action
+
+-- the rows of the selected window above its mode line
+abbrev pub height_or_none : Option Window → ℕ
+height_or_none None = 0
+height_or_none (Some w) = w.height
+
+abbrev pub selected_height : Session → ℕ
+selected_height h = height_or_none (slice_get h.windows.windows h.windows.selected)
+
+-- the kill buffer of the session at an index
+abbrev pub kill_or_none : Option Session → List ℕ
+kill_or_none None = []
+kill_or_none (Some h) = h.kill
+
+abbrev pub kill_at : ℕ → List Session → List ℕ
+kill_at at xs = kill_or_none (slice_get xs at)
+
+-- where an action sets the mark, if it does
+abbrev pub mark_told : Action → Option ℕ
+mark_told (Fails message) = None
+mark_told (Edits c) = c.finish.mark
+mark_told (Undoes u) = None
+mark_told (Moves f) = f.mark
+mark_told Clears = None
+
+-- WHAT IS DONE
+
+-- one mark goes to a position, if it does
+abbrev pub mark_gone : List ℕ → ℕ → PointPlan → List MarkedBuffer → List MarkedBuffer
+mark_gone name id Keep ks = ks
+mark_gone name id (At p) ks = change_first (marked_named name) (marked_placed id p) ks
+mark_gone name id At_origin ks = ks
+
+-- point and top go where they are to
+abbrev pub marks_gone : WindowMarks → plans.Finish → List MarkedBuffer → List MarkedBuffer
+marks_gone x f ks = mark_gone x.name x.top f.top (mark_gone x.name x.point f.point ks)
+
+-- what takes out nothing and puts in nothing is no edit
+abbrev pub edited_by : List ℕ → plans.Change → List MarkedBuffer → List MarkedBuffer
+edited_by name c ks = cond (is_edit c.a c.b c.put) (change_first (marked_named name) (marked_edited c.a c.b c.put) ks) ks
+
+-- the buffers, and the acting session, once an action is done, but for the mark
+abbrev pub marked_after : WindowMarks → List ℕ → List Item → List ℕ → Action → List MarkedBuffer → List MarkedBuffer
+marked_after x text items kill (Fails message) ks = ks
+marked_after x text items kill (Edits c) ks = marks_gone x (change_read text kill c).finish (edited_by x.name (change_read text kill c) ks)
+marked_after x text items kill (Undoes u) ks =
+    let c = undone_read text kill (removed_by u.serial items) u in
+    marks_gone x c.finish (edited_by x.name c ks)
+marked_after x text items kill (Moves f) ks = marks_gone x (finish_read text kill 0 f) ks
+marked_after x text items kill Clears ks = change_first (marked_named x.name) marked_unmodified ks
+
+-- the kill buffer that was made, if one was
+abbrev pub kill_set : Option (Vec ℕ) → List ℕ → List ℕ
+kill_set None old = old
+kill_set (Some v) old = v.items
+
+abbrev pub session_finished : plans.Finish → Session → Session
+session_finished f h = told f.told (acted f.kind (record h { kill = kill_after f.kill h.kill }))
+
+abbrev pub session_acted : List ℕ → Action → Session → Session
+session_acted text (Fails message) h = failed message h
+session_acted text (Edits c) h = session_finished (change_read text h.kill c).finish h
+session_acted text (Undoes u) h = session_finished (finish_read text h.kill 0 u.finish) h
+session_acted text (Moves f) h = session_finished (finish_read text h.kill 0 f) h
+session_acted text Clears h = told Silent (acted Other h)
+
+-- and once the window's mark is where it is to be: a mark was reserved for the window if it had none
+pub record IsMarked (x : WindowMarks) (position : ℕ) (action : Action) (ks ls : List MarkedBuffer) (h y : Session) : Type 0 where
+  pub id : ℕ
+  pub between : List MarkedBuffer
+  pub reserved : IsReserved x.name x.mark id ks between
+  pub buffers : ls ≡ change_first (marked_named x.name) (marked_placed id position) (marked_after x (marked_at x.name ks).buffer.text (marked_at x.name ks).buffer.items h.kill action between)
+  pub session : y ≡ session_marked id (session_acted (marked_at x.name ks).buffer.text action h)
+
+-- OUTCOMES
+
+abbrev pub edit_outcome : model.Own → List ℕ → ℕ → ℕ → Result plans.Change Message → Outcome
+edit_outcome own name size serial (Err message) = fails own message
+edit_outcome own name size serial (Ok c) = if is_full size serial c then fails own BufferFull else finished own c.finish (edit_of name c)
+
+-- an insertion at the text's end appends, one elsewhere writes
+abbrev pub insertion_mask : ℕ → ℕ → ℕ
+insertion_mask place size = cond (place == size) 4 2
+
+-- the rights that a command needs at a place of a text of so many characters
+abbrev pub mask_at : Command → ℕ → ℕ → ℕ
+mask_at (Insert c) place size = insertion_mask place size
+mask_at (InsertReading c) place size = 1 + insertion_mask place size
+mask_at (Alter c) place size = 3
+mask_at UndoEdit place size = 3
+mask_at NotModified place size = 3
+mask_at _ place size = 1
+
+-- what it does where they are granted
+abbrev pub granted_outcome : model.Own → Command → List ℕ → List Item → plans.Around → Outcome
+granted_outcome own (Insert c) text items a = edit_outcome own a.name a.size a.serial (insertion c a)
+granted_outcome own (InsertReading c) text items a = edit_outcome own a.name a.size a.serial (reading_insertion c text a)
+granted_outcome own (Move c) text items a = moved_by own (motion c text a)
+granted_outcome own (Alter c) text items a = edit_outcome own a.name a.size a.serial (alteration c text a)
+granted_outcome own (Scroll c) text items a = moved_by own (scrolling c text a)
+granted_outcome own UndoEdit text items a = edit_outcome own a.name a.size a.serial (undo items a)
+granted_outcome own NotModified text items a = effects own (Ok (Unmodified a.name))
+granted_outcome own _ text items a = fails own KeyNotBound
+
+abbrev pub outcome_at : model.Own → Command → (Right → Decider) → List ℕ → List Item → plans.Around → Outcome
+outcome_at own c deciders text items a = permitted own (decision_by deciders (rights_in (mask_at c a.place a.size))) (granted_outcome own c text items a)
+
+-- the outcome of a command through a window's marks, and of what was typed for it
+abbrev pub plan_in : Directory → List MarkedBuffer → model.Own → List ℕ → WindowMarks → ℕ → Command → Option ℕ → List ℕ → List ℕ → Outcome
+plan_in directory ks own user x height c n typed kill =
+    let b = (marked_at x.name ks).buffer in
+    outcome_at own c (decider directory b.owners user b.entries) b.text b.items (around_in directory ks user x height n typed kill own)

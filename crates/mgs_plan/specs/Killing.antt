@@ -1,0 +1,37 @@
+-- What the killing of a buffer comes to.
+use Rattle.std.specs.Prelude.{ℕ, ◌==◌, List, [], ◌∷◌, length, Option, Some, None, Ok, find, if◌then◌else◌}
+use Rattle.mgs_model.specs.Access.{Directory, decision}
+use Rattle.mgs_model.specs.World.{Own}
+use Rattle.mgs_model.specs.Outcome.{Outcome, Kill}
+use Rattle.mgs_model.specs.Acts.{effects, fails, permitted}
+use Rattle.mgs_model.specs.declared.entry.Decision.{Decision}
+use Rattle.mgs_model.specs.declared.entry.Decision.TheVariants.{Granted}
+use Rattle.mgs_model.specs.declared.message.Message.TheVariants.{NoBuffer, NoSuchBuffer}
+use Rattle.mgs_buffers.specs.MarkedBuffer.{MarkedBuffer, marked_named}
+
+-- the name that was typed, or else that of the buffer whose text or access list a window shows; none where it shows neither
+abbrev pub name_in : Option (List ℕ) → List ℕ
+name_in None = []
+name_in (Some name) = name
+
+abbrev pub name_meant : Option (List ℕ) → List ℕ → List ℕ
+name_meant subject typed = if length typed == 0 then name_in subject else typed
+
+-- what is decided on its deletion
+abbrev pub kill_decision : Directory → List ℕ → Option MarkedBuffer → Decision
+kill_decision directory user None = Granted
+kill_decision directory user (Some k) = decision directory k.buffer.owners user k.buffer.entries 65536
+
+-- what it comes to where that is granted
+abbrev pub kill_granted : Own → List ℕ → Option MarkedBuffer → Outcome
+kill_granted own [] found = fails own NoBuffer
+kill_granted own (c ∷ cs) None = fails own NoSuchBuffer
+kill_granted own (c ∷ cs) (Some k) = effects own (Ok (Kill (c ∷ cs)))
+
+abbrev pub kill_named : Directory → List MarkedBuffer → Own → List ℕ → List ℕ → Outcome
+kill_named directory ks own user name =
+    permitted own (kill_decision directory user (find (marked_named name) ks)) (kill_granted own name (find (marked_named name) ks))
+
+-- what it comes to for a user whose selected window shows the text or the access list of this buffer
+abbrev pub kill_outcome : Directory → List MarkedBuffer → Own → List ℕ → Option (List ℕ) → List ℕ → Outcome
+kill_outcome directory ks own user subject typed = kill_named directory ks own user (name_meant subject typed)

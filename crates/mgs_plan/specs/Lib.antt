@@ -1,0 +1,13 @@
+pub mod Actions
+pub mod Following
+pub mod Beginning
+pub mod Inserting
+pub mod Rows
+pub mod Setting
+pub mod Tells
+pub mod Deciding
+pub mod Killing
+pub mod Listed
+pub mod Ruling
+pub mod Subjects
+pub mod Listing

@@ -1,0 +1,57 @@
+-- What a command on a text does in a window that shows none.
+use Rattle.std.specs.Prelude.{ℕ, Option, Some, None, slice_get}
+use Rattle.mgs_model.specs.World.{Own}
+use Rattle.mgs_model.specs.Outcome.{Outcome}
+use Rattle.mgs_model.specs.Plans.{row_scrolled}
+use Rattle.mgs_model.specs.Acts.{fails, scrolls_rows}
+use Rattle.mgs_model.specs.Apply.{change_at}
+use Rattle.mgs_model.specs.declared.message.Message.TheVariants.{NoBuffer}
+use Rattle.mgs_model.specs.declared.session.Command.{Command}
+use Rattle.mgs_model.specs.declared.session.Command.TheVariants.{Scroll}
+use Rattle.mgs_model.specs.declared.session.Kind.TheVariants.{Other}
+use Rattle.mgs_model.specs.declared.session.Scrolling.{Scrolling}
+use Rattle.mgs_windows.specs.declared.Window.{Window}
+use Rattle.mgs_windows.specs.declared.RowPane.{RowPane}
+use Rattle.mgs_windows.specs.declared.RowPane.TheVariants.{NoRows, Buffers, Entries}
+use Rattle.mgs_windows.specs.Panes.{rows_in, rows_set}
+use Rattle.mgs_session.specs.Sessions.{acted, failed}
+use Rattle.mgs_session.specs.declared.Session.{Session}
+use Rattle.mgs_plan.specs.Actions.{height_or_none}
+
+-- only scrolling is done without a text
+abbrev pub scroll_in : Command → Option Scrolling
+scroll_in (Scroll c) = Some c
+scroll_in _ = None
+
+-- rows in a window of so many; None where there are none
+abbrev pub pane_scrolled : Scrolling → ℕ → RowPane → Option RowPane
+pane_scrolled c height NoRows = None
+pane_scrolled c height (Buffers row) = Some (Buffers (row_scrolled c row height))
+pane_scrolled c height (Entries name row) = Some (Entries name (row_scrolled c row height))
+
+-- the selected window has these rows
+abbrev pub session_rows : RowPane → Session → Session
+session_rows rows h = record h { windows = record h.windows { windows = change_at h.windows.selected (rows_set rows) h.windows.windows } }
+
+abbrev pub scrolled_to : Option RowPane → Session → Session
+scrolled_to None h = failed NoBuffer h
+scrolled_to (Some rows) h = acted Other (session_rows rows h)
+
+abbrev pub scrolled_at : Scrolling → Option Window → Session → Session
+scrolled_at c o h = scrolled_to (pane_scrolled c (height_or_none o) (rows_in o)) h
+
+-- the selected window shows no text
+abbrev pub without_text : Option Scrolling → Session → Session
+without_text None h = failed NoBuffer h
+without_text (Some c) h = scrolled_at c (slice_get h.windows.windows h.windows.selected) h
+
+-- OUTCOMES
+
+abbrev pub scroll_outcome : Own → Scrolling → ℕ → RowPane → Outcome
+scroll_outcome own c height NoRows = fails own NoBuffer
+scroll_outcome own c height (Buffers row) = scrolls_rows own (Some (row_scrolled c row height))
+scroll_outcome own c height (Entries name row) = scrolls_rows own (Some (row_scrolled c row height))
+
+abbrev pub outcome_without : Own → Option Scrolling → Option Window → Outcome
+outcome_without own None o = fails own NoBuffer
+outcome_without own (Some c) o = scroll_outcome own c (height_or_none o) (rows_in o)

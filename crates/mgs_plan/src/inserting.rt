@@ -1,0 +1,197 @@
+// What the insertion of a buffer's text into the one that is shown comes to.
+ghost use Rattle.std.specs.Prelude.{◌≡◌, ◌<◌, ◌≤◌, ℕ, List, length, Option, Some, None, IfSome};
+ghost use Rattle.mgs_model.specs.Access.{Directory};
+ghost use Rattle.mgs_model.specs.Acts.{fails, is_full, permitted};
+ghost use Rattle.mgs_model.specs.Outcome as model;
+ghost use Rattle.mgs_model.specs.Outcome.{Run};
+ghost use Rattle.mgs_model.specs.World.{Own};
+ghost use Rattle.mgs_model.specs.declared.entry.Decision.TheVariants.{Granted};
+ghost use Rattle.mgs_buffers.specs.MarkedBuffer.{HasBuffer, has_buffer, marked_at};
+ghost use Rattle.mgs_plan.specs.declared.inserting.Inserted.TheVariants.{Copies};
+ghost use Rattle.mgs_model.specs.declared.session.ByName.TheVariants.{InsertBuffer};
+ghost use Rattle.mgs_model.specs.declared.session.Command.TheVariants.{Named};
+ghost use Rattle.mgs_session.specs.Sessions.{window_marks_of};
+ghost use Rattle.mgs_session.specs.declared.Session as code;
+ghost use Rattle.mgs_plan.specs.Actions.{AreMarks};
+ghost use Rattle.mgs_plan.specs.Deciding.{CanPerform, IsOutcome};
+ghost use Rattle.mgs_plan.specs.Inserting.{CanInsert, acting_place, copied_at, copy_decision, copy_outcome, decided_outcome, insertion_of, outcome_from, rights_decision, target_decision};
+
+use crate::outcome::Outcome;
+use crate::planning::{denial, insertion_bit};
+use mgs_buffers::Buffers;
+use mgs_marks::Marked;
+use mgs_model::{Mask, Message, Name, Right, TEXT_LIMIT};
+use mgs_policy::Directory;
+use mgs_session::{Session, selected_window_marks};
+use mgs_text::Text;
+use mgs_windows::WindowMarks;
+
+/// What an insertion comes to, once it is decided.
+#[derive(Clone, Copy)]
+pub enum Inserted {
+    /// It fails, and this is told.
+    Fails(Message),
+    /// The text of the buffer of a name comes in at a place.
+    Copies(Name, usize),
+}
+
+/// Why a user may not read the buffer whose text is to come in, if there is a reason.
+pub fn source_refusal<T: Marked + Drop>(
+    buffers: &Buffers<T>,
+    directory: &Directory,
+    user: &Name,
+    source: &Name,
+) -> Option<Message>
+    requires { HasBuffer source.now buffers.now }
+    ensures refused { IfSome result (λ message. (own : Own) (o : model.Outcome) → permitted own (rights_decision directory.now buffers.now user.now source.now 1) o ≡ fails own message) }
+    ensures none { result ≡ None → rights_decision directory.now buffers.now user.now source.now 1 ≡ Granted }
+{
+    let mask = Mask::from_bits(Right::ReadData.bit());
+    denial(buffers.decide_all(directory, source, user, mask))
+}
+
+/// Why a user may not insert at a place of a buffer, if there is a reason.
+fn target_refusal<T: Marked + Drop>(
+    buffers: &Buffers<T>,
+    directory: &Directory,
+    user: &Name,
+    name: &Name,
+    place: usize,
+) -> Option<Message>
+    requires { HasBuffer name.now buffers.now }
+    ensures refused { IfSome result (λ message. (own : Own) (o : model.Outcome) → permitted own (target_decision directory.now buffers.now user.now name.now place) o ≡ fails own message) }
+    ensures none { result ≡ None → target_decision directory.now buffers.now user.now name.now place ≡ Granted }
+{
+    let mask = Mask::from_bits(insertion_bit(place, buffers.text_len(name)));
+    denial(buffers.decide_all(directory, name, user, mask))
+}
+
+/// Why a user may not insert one buffer's text at a place of another, if there is a reason: the source is judged first.
+fn refusal<T: Marked + Drop>(
+    buffers: &Buffers<T>,
+    directory: &Directory,
+    user: &Name,
+    source: &Name,
+    name: &Name,
+    place: usize,
+) -> Option<Message>
+    requires source { HasBuffer source.now buffers.now }
+    requires target { HasBuffer name.now buffers.now }
+    ensures refused { IfSome result (λ message. (own : Own) (o : model.Outcome) → permitted own (copy_decision directory.now buffers.now user.now source.now name.now place) o ≡ fails own message) }
+    ensures none { result ≡ None → copy_decision directory.now buffers.now user.now source.now name.now place ≡ Granted }
+{
+    match source_refusal(buffers, directory, user, source) {
+        Some(message) => Some(message),
+        None => target_refusal(buffers, directory, user, name, place),
+    }
+}
+
+/// Where a user acts: at the window's point, or at the text's end where the text may not be read.
+fn acting_place<T: Marked + Drop>(
+    buffers: &Buffers<T>,
+    directory: &Directory,
+    user: &Name,
+    window_marks: &WindowMarks,
+) -> usize
+    requires kept { HasBuffer window_marks.now.name buffers.now }
+    requires marks { AreMarks buffers.now window_marks.now }
+    ensures value { result ≡ acting_place directory.now buffers.now user.now window_marks.now }
+    ensures within { result ≤ length (marked_at window_marks.now.name buffers.now).buffer.text }
+{
+    let name = &window_marks.name;
+    if buffers.grants(directory, name, user, Right::ReadData) {
+        buffers.pos(name, window_marks.point)
+    } else {
+        buffers.text_len(name)
+    }
+}
+
+/// Whether a buffer has no room for another's text, wherever it comes in.
+fn is_full<T: Marked + Drop>(buffers: &Buffers<T>, source: &Name, name: &Name) -> bool
+    requires source { HasBuffer source.now buffers.now }
+    requires target { HasBuffer name.now buffers.now }
+    ensures { (place : ℕ) → result ≡ is_full (length (marked_at name.now buffers.now).buffer.text) (marked_at name.now buffers.now).buffer.serial (insertion_of place (marked_at source.now buffers.now).buffer.text) }
+{
+    let put = buffers.text_len(source);
+    put > 0 && (buffers.text_len(name) + put > TEXT_LIMIT || buffers.serial(name) == u64::MAX)
+}
+
+/// What it comes to at a place of a buffer, where the rights are granted.
+fn copied_at<T: Marked + Drop>(
+    buffers: &Buffers<T>,
+    source: Name,
+    name: &Name,
+    place: usize,
+) -> Inserted
+    requires source { HasBuffer source buffers.now }
+    requires target { HasBuffer name.now buffers.now }
+    requires within { place ≤ length (marked_at name.now buffers.now).buffer.text }
+    ensures value { (own : Own) → decided_outcome buffers.now own name.now result ≡ copied_at buffers.now own source name.now place }
+    ensures can { CanInsert buffers.now name.now result }
+{
+    if is_full(buffers, &source, name) {
+        return Inserted::Fails(Message::BufferFull);
+    }
+    Inserted::Copies(source, place)
+}
+
+/// What it comes to for a user.
+fn copied<T: Marked + Drop>(
+    buffers: &Buffers<T>,
+    directory: &Directory,
+    user: &Name,
+    source: Name,
+    window_marks: &WindowMarks,
+) -> Inserted
+    requires source { HasBuffer source buffers.now }
+    requires target { HasBuffer window_marks.now.name buffers.now }
+    requires marks { AreMarks buffers.now window_marks.now }
+    ensures value { (own : Own) → decided_outcome buffers.now own window_marks.now.name result ≡ copy_outcome directory.now buffers.now own user.now source window_marks.now }
+    ensures can { CanInsert buffers.now window_marks.now.name result }
+{
+    let name = &window_marks.name;
+    let place = acting_place(buffers, directory, user, window_marks);
+    match refusal(buffers, directory, user, &source, name, place) {
+        Some(message) => Inserted::Fails(message),
+        None => copied_at(buffers, source, name, place),
+    }
+}
+
+/// What it comes to by the name that was typed.
+fn decide_insertion<T: Marked + Drop>(
+    buffers: &Buffers<T>,
+    directory: &Directory,
+    user: &Name,
+    typed: &[char],
+    window_marks: &WindowMarks,
+) -> Inserted
+    requires target { HasBuffer window_marks.now.name buffers.now }
+    requires marks { AreMarks buffers.now window_marks.now }
+    ensures value { (own : Own) → decided_outcome buffers.now own window_marks.now.name result ≡ outcome_from directory.now buffers.now own user.now typed.now window_marks.now (has_buffer typed.now buffers.now) }
+    ensures can { CanInsert buffers.now window_marks.now.name result }
+{
+    match buffers.name_typed(typed) {
+        None => Inserted::Fails(Message::NoSuchBuffer),
+        Some(source) => copied(buffers, directory, user, source, window_marks),
+    }
+}
+
+/// What it comes to for a session.
+pub fn plan_insertion<T: Marked + Drop>(
+    buffers: &Buffers<T>,
+    directory: &Directory,
+    session: &Session,
+    typed: &[char],
+) -> Outcome
+    requires marks { IfSome (window_marks_of session.now) (AreMarks buffers.now) }
+    ensures value { (xs : List code.Session) (next n : Option ℕ) → IsOutcome directory.now buffers.now xs next session.now (Run (Named InsertBuffer) n typed.now) result }
+    ensures can { CanPerform buffers.now session.now result }
+{
+    let Some(window_marks) = selected_window_marks(session) else {
+        return Outcome::Fails(Message::NoBuffer);
+    };
+    match decide_insertion(buffers, directory, &session.user, typed, &window_marks) {
+        Inserted::Fails(message) => Outcome::Fails(message),
+        Inserted::Copies(source, place) => Outcome::Copies(window_marks, source, place),
+    }
+}

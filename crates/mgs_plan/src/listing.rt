@@ -1,0 +1,41 @@
+// What it comes to that an access list is to be shown: that of the buffer whose text or access list the selected window shows.
+ghost use Rattle.std.specs.Prelude.{◌≡◌, ℕ, List, [], Option};
+ghost use Rattle.mgs_model.specs.Outcome.{Run};
+ghost use Rattle.mgs_model.specs.declared.session.Command.TheVariants.{ListEntries};
+ghost use Rattle.mgs_session.specs.declared.Session as code;
+ghost use Rattle.mgs_plan.specs.Deciding.{CanPerform, IsOutcome};
+
+use crate::judging::judged;
+use crate::outcome::Outcome;
+use crate::subject::subject_in;
+use mgs_buffers::Buffers;
+use mgs_marks::Marked;
+use mgs_model::{Mask, Message, Right};
+use mgs_policy::Directory;
+use mgs_session::Session;
+
+/// The right that it needs.
+fn right_to_list() -> Mask
+    ensures { result ≡ 131072 }
+{
+    Mask::of(Right::ReadAcl)
+}
+
+/// What it comes to for a session: its selected window comes to the list from its first entry on.
+pub fn plan_list<T: Marked + Drop>(
+    buffers: &Buffers<T>,
+    directory: &Directory,
+    session: &Session,
+) -> Outcome
+    ensures value { (xs : List code.Session) (next n : Option ℕ) → IsOutcome directory.now buffers.now xs next session.now (Run ListEntries n []) result }
+    ensures can { CanPerform buffers.now session.now result }
+{
+    // Tells the prover that no buffer has an empty name.
+    let _unnamed = buffers.name_typed(&[]);
+    let Some(name) = subject_in(buffers, session) else {
+        return Outcome::Fails(Message::NoBuffer);
+    };
+    let mask = right_to_list();
+    let lists = Outcome::Lists(name);
+    judged(buffers, directory, &session.user, &name, mask, lists)
+}

@@ -1,0 +1,38 @@
+// What an act of a session comes to.
+use crate::action::Action;
+use mgs_model::{Entry, Message, Name, NewOwner};
+use mgs_windows::WindowMarks;
+
+/// What becomes of an access list.
+#[derive(Clone, Copy)]
+pub enum EntryPlan {
+    /// An entry comes before the one of a number; without one it is the last.
+    Insert(Option<usize>, Entry),
+    /// The entry of a number goes; without one it is the first.
+    Delete(Option<usize>),
+    /// Another one takes its place.
+    Replace(Option<usize>, Entry),
+}
+
+/// What an act of a session comes to, once it is decided.
+#[derive(Clone, Copy)]
+pub enum Outcome {
+    /// It fails, and this is told.
+    Fails(Message),
+    /// A command on the text that the selected window shows, through that window's marks.
+    Acts(WindowMarks, Action),
+    /// The buffer of a name goes.
+    Kills(Name),
+    /// The buffer of a name gets an owner, or an owning group, or none.
+    Reowns(Name, NewOwner),
+    /// The access list of the buffer of a name changes.
+    Relists(Name, EntryPlan),
+    /// The selected window comes to the access list of the buffer of a name.
+    Lists(Name),
+    /// The selected window comes to the buffer of a name, which is there.
+    Shows(Name),
+    /// A buffer is made for the session's user, and shown.
+    Creates(Name),
+    /// The text of the buffer of a name comes in at a place, through the window's marks.
+    Copies(WindowMarks, Name, usize),
+}

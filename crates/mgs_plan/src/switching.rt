@@ -1,0 +1,61 @@
+// What a switch to the buffer of a typed name comes to.
+ghost use Rattle.std.specs.Prelude.{◌≡◌, ℕ, List, length, Option, false};
+ghost use Rattle.mgs_model.specs.Acts.{created};
+ghost use Rattle.mgs_model.specs.Outcome.{Run};
+ghost use Rattle.mgs_model.specs.View.{View};
+ghost use Rattle.mgs_model.specs.declared.session.ByName.TheVariants.{SwitchToBuffer};
+ghost use Rattle.mgs_model.specs.declared.session.Command.TheVariants.{Named};
+ghost use Rattle.mgs_buffers.specs.MarkedBuffer.{has_buffer};
+ghost use Rattle.mgs_session.specs.declared.Session as code;
+ghost use Rattle.mgs_plan.specs.Deciding.{CanPerform, IsOutcome, outcome_read};
+
+use crate::judging::judged;
+use crate::naming::name_typed;
+use crate::outcome::Outcome;
+use mgs_buffers::Buffers;
+use mgs_marks::Marked;
+use mgs_model::{BUFFER_LIMIT, Mask, Message, Right};
+use mgs_policy::Directory;
+use mgs_session::Session;
+
+/// The right to come to a buffer.
+fn right_to_come() -> Mask
+    ensures { result ≡ 128 }
+{
+    Mask::of(Right::ReadAttributes)
+}
+
+/// What a switch to a buffer that is not there comes to: the name is judged first, and then whether there is room.
+fn switch_new<T: Marked + Drop>(buffers: &Buffers<T>, typed: &[char]) -> Outcome
+    requires { has_buffer typed.now buffers.now ≡ false }
+    ensures value { (v : View) → length v.buffers ≡ length buffers.now → created v typed.now ≡ outcome_read buffers.now v result }
+    ensures can { (h : code.Session) → CanPerform buffers.now h result }
+{
+    let Some(name) = name_typed(typed) else {
+        return Outcome::Fails(Message::BadName);
+    };
+    if buffers.len() >= BUFFER_LIMIT {
+        return Outcome::Fails(Message::TooManyBuffers);
+    }
+    Outcome::Creates(name)
+}
+
+/// What it comes to for a session.
+pub fn plan_switch<T: Marked + Drop>(
+    buffers: &Buffers<T>,
+    directory: &Directory,
+    session: &Session,
+    typed: &[char],
+) -> Outcome
+    ensures value { (xs : List code.Session) (next n : Option ℕ) → IsOutcome directory.now buffers.now xs next session.now (Run (Named SwitchToBuffer) n typed.now) result }
+    ensures can { CanPerform buffers.now session.now result }
+{
+    match buffers.name_typed(typed) {
+        None => switch_new(buffers, typed),
+        Some(name) => {
+            let mask = right_to_come();
+            let shows = Outcome::Shows(name);
+            judged(buffers, directory, &session.user, &name, mask, shows)
+        }
+    }
+}

@@ -1,0 +1,10 @@
+pub mod Comes
+pub mod Done
+pub mod Lifts
+pub mod Meets
+pub mod Puts
+pub mod Replaces
+pub mod Seeks
+pub mod Skips
+pub mod Starts
+pub mod Targets

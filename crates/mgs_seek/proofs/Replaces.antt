@@ -1,0 +1,191 @@
+-- A replacement: what it comes to is planned, and what is done is that.
+use Rattle.std.proofs.Common.{◌≡◌, ℕ, ◌+◌, ◌-◌, ◌<◌, ◌≤◌, min, Bool, true, false, cond, List, length, Option, Some, None, refl, sym, ap, subst, ◌∙◌, arith}
+use Rattle.std.specs.Prelude.{IfErr, IfSome, IfOk, Result, Ok, Err}
+use Rattle.mgs_model.specs.Access.{Directory}
+use Rattle.mgs_model.specs.Acts.{edit_of, fails, finished, is_full, outcome}
+use Rattle.mgs_model.specs.Outcome.{Act, Outcome, Run}
+use Rattle.mgs_model.specs.Plans as plans
+use Rattle.mgs_model.specs.Plans.{Change, alteration}
+use Rattle.mgs_model.specs.View.{view}
+use Rattle.mgs_model.specs.World as model
+use Rattle.mgs_model.specs.declared.message.Message.{Message}
+use Rattle.mgs_model.specs.declared.message.Message.TheVariants.{BufferFull}
+use Rattle.mgs_model.specs.declared.search.SearchPlaces.{SearchPlaces}
+use Rattle.mgs_model.specs.declared.session.Command.TheVariants.{Alter}
+use Rattle.mgs_model.specs.declared.session.Motion.TheVariants.{SkipMatch}
+use Rattle.mgs_buffers.specs.MarkedBuffer.{HasBuffer, MarkedBuffer, mark_at, marked_at}
+use Rattle.mgs_windows.specs.declared.WindowMarks.{WindowMarks}
+use Rattle.mgs_search.specs.Planned.{replacement_read}
+use Rattle.mgs_session.specs.Replacing.{Replacing}
+use Rattle.mgs_session.specs.Seeking.{searching}
+use Rattle.mgs_session.specs.declared.Session.{Session}
+use Rattle.mgs_session.specs.declared.search.Aim.{Aim}
+use Rattle.mgs_session.specs.declared.search.Aim.TheVariants.{Replace}
+use Rattle.mgs_session.specs.declared.search.Edited.{Edited}
+use Rattle.mgs_session.specs.declared.search.Search.{Search}
+use Rattle.mgs_plan.specs.Actions.{edit_outcome}
+use Rattle.mgs_plan.specs.Beginning.{seeking}
+use Rattle.mgs_world.specs.Worlds.{buffers_of, own_of, session_of, size_named, world_of}
+use Rattle.mgs_world.proofs.Edits.{size_kept}
+use Rattle.mgs_world.proofs.Soundness.{mark_is_kept}
+use Rattle.mgs_seek.specs.Acting.{IsSought, SearchFails}
+use Rattle.mgs_seek.specs.Planning.{FullAt, IsPlanned, PlannedAt, ReplacementFails, anchor_at, edit_planned, old_of, one_met, put_by, put_of, size_then, to_by}
+use Rattle.mgs_seek.specs.Replacing.{finish_met, replacement, taken}
+use Rattle.mgs_seek.specs.declared.replacing.Planned.{Planned}
+use Rattle.mgs_seek.proofs.Comes.{come_here}
+use Rattle.mgs_seek.proofs.Lifts.{in_this}
+use Rattle.mgs_seek.proofs.Meets.{replaces}
+use Rattle.mgs_seek.proofs.Puts.{change_read, next_facts, within_text}
+use Rattle.mgs_seek.proofs.Seeks.{held_so}
+use Rattle.mgs_seek.proofs.Skips.{same_replacing}
+
+-- WHAT IT COMES TO, by a session that has this query-replace in the buffer of its window
+module _ (d : Directory) (ks : List MarkedBuffer) (h : Session) (x : WindowMarks) (s : Search) (r : Replacing) (last : Bool) (sought : IsSought d ks h true x) (held : h.own.search ≡ Some (replaces s r)) where
+  abbrev text : List ℕ
+  text = (marked_at x.name ks).buffer.text
+
+  abbrev serial : ℕ
+  serial = (marked_at x.name ks).buffer.serial
+
+  abbrev a : ℕ
+  a = anchor_at x ks s.anchor
+
+  name : s.name ≡ x.name
+  name = in_this x.name h.own.search (replaces s r) sought.here held
+
+  kept : HasBuffer x.name ks
+  kept = mark_is_kept x.name x.point ks sought.target.marks.point
+
+  size : size_named s.name (buffers_of ks) ≡ length text
+  size = ap (λ (n : List ℕ). size_named n (buffers_of ks)) name ∙ size_kept x.name ks kept
+
+  anchored : a ≤ length text
+  anchored = omega arith
+
+  abbrev places : SearchPlaces
+  places = record { origin = min s.origin (length text); anchor = a; point = mark_at x.name ks x.point }
+
+  abbrev replaces_it : Act
+  replaces_it = Run (Alter (replacement last)) None r.put
+
+  comes_to : (c : Change) → ((rest : plans.Around) → Path (Result Change Message) (Ok c) (alteration (replacement last) text (record rest { anchor = a; sought_here = true; old = r.pattern; typed = r.put })))
+      → (xs : List Session) (next : Option ℕ) → outcome (view (world_of d ks xs next) (session_of ks h)) replaces_it true ≡ edit_outcome (own_of h.own) x.name (length text) serial (Ok c)
+  comes_to c planned xs next =
+      let w = world_of d ks xs next in
+      let shown = searching (replaces s r) h in
+      let here = held_so h (replaces s r) held in
+      ap (λ (y : Session). outcome (view w (session_of ks y)) replaces_it true) here
+      ∙ ap (λ (q : Option model.Search). let y : model.Session = record (session_of ks shown) { search = q } in outcome (view w y) replaces_it true)
+      (λ i. Some (record { name = name i; origin = min s.origin (size i); anchor = min s.anchor (size i) }))
+      ∙ come_here d ks xs next shown (own_of shown.own) None r.put true SkipMatch (replacement last) x sought.target.sel kept sought.target.granted places refl (edit_outcome (own_of shown.own) x.name (length text) serial (Ok c))
+      (λ a name size serial old.
+      let seen = seeking a places r.put in
+      (λ i. edit_outcome (own_of shown.own) (name i) (size i) (serial i) (alteration (replacement last) text seen))
+      ∙ ap (edit_outcome (own_of shown.own) x.name (length text) (marked_at x.name ks).buffer.serial)
+      (ap (λ (q : List ℕ). alteration (replacement last) text (record seen { old = q })) old ∙ sym (planned seen)))
+      ∙ ap (λ (y : Session). edit_outcome (own_of y.own) x.name (length text) serial (Ok c)) (sym here)
+
+  -- the buffer is full
+  pub full_fails : (message : Message) → FullAt ks x s.anchor r last message → ReplacementFails d ks h last message
+  full_fails message full xs next typed is =
+      let t = is (replaces s r) held in
+      let c = replacement_read a (length r.pattern) r.put full.done in
+      let same : r ≡ t.0 = same_replacing s r (replaces s r) t.0 refl t.1 in
+      ap (λ (q : List ℕ). outcome (view (world_of d ks xs next) (session_of ks h)) (Run (Alter (replacement last)) None q) true) (t.2 ∙ ap (λ (v : Replacing). v.put) (sym same))
+      ∙ comes_to c full.plan xs next
+      ∙ ap (λ (q : Change). edit_outcome (own_of h.own) x.name (length text) serial (Ok q)) (change_read last a r text full.done anchored full.plan)
+      ∙ ap (λ (q : Bool). cond q (fails (own_of h.own) BufferFull) (finished (own_of h.own) (finish_met (length r.pattern) full.done.next (cond full.done.replaces (Some (a + length (put_by full.done.replaces r.put))) None) (one_met full.done.replaces)) (edit_of x.name (taken a (to_by full.done.replaces a r.pattern) (put_by full.done.replaces r.put))))) full.full
+      ∙ ap (fails (own_of h.own)) (sym full.told)
+
+  -- it is planned
+  module _ (p : Planned) (planned : PlannedAt ks x s.anchor r last p) where
+    abbrev b : Bool
+    b = p.plan.replaces
+
+    abbrev e : Edited
+    e = edit_planned (length text) a r b
+
+    put_is : (q : Bool) → put_of q h.own.search ≡ put_by q r.put
+    put_is q = ap (put_of q) held
+
+    facts : (m : ℕ) → p.plan.next ≡ Some m → (m + length r.pattern ≤ length text - (e.to - a) + e.added) × (0 < length r.pattern → length text - (e.to - a) + e.added - min m (length text - (e.to - a) + e.added) < length text - a)
+    facts = next_facts last a r text p.plan anchored planned.plan
+
+    after : Edited → ℕ
+    after q = length text - (q.to - q.from) + q.added
+
+    fits : (q : Edited) → q ≡ e → (o : Option ℕ) → p.plan.next ≡ o → IfSome o (λ m. m + length r.pattern ≤ length text - (q.to - q.from) + q.added)
+    fits q same None is = tt
+    fits q same (Some m) is = subst (λ (z : Edited). m + length r.pattern ≤ length text - (z.to - z.from) + z.added) (sym same) (facts m is).0
+
+    less : (q : Edited) → q ≡ e → 0 < length r.pattern → (o : Option ℕ) → p.plan.next ≡ o → IfSome o (λ m. length text - (q.to - q.from) + q.added - min m (length text - (q.to - q.from) + q.added) < length text - a)
+    less q same some None is = tt
+    less q same some (Some m) is = subst (λ (z : Edited). length text - (z.to - z.from) + z.added - min m (length text - (z.to - z.from) + z.added) < length text - a) (sym same) ((facts m is).1 some)
+
+    order_by : (q : Bool) → a ≤ to_by q a r.pattern
+    order_by true = omega arith
+    order_by false = omega arith
+
+    abbrev left : Edited → Option ℕ
+    left q = cond b (Some (q.from + q.added)) None
+
+    known_at : (q : Edited) → q ≡ e → is_full (length text) serial (taken q.from q.to (put_by b r.put)) ≡ false → (xs : List Session) (next : Option ℕ)
+        → outcome (view (world_of d ks xs next) (session_of ks h)) replaces_it true ≡ finished (own_of h.own) (finish_met (length r.pattern) p.plan.next (left q) (one_met b)) (edit_of x.name (taken q.from q.to (put_of b h.own.search)))
+    known_at q same room xs next =
+        let own = own_of h.own in
+        let does : Edited → Outcome = λ z. finished own (finish_met (length r.pattern) p.plan.next (left z) (one_met b)) (edit_of x.name (taken z.from z.to (put_by b r.put))) in
+        comes_to (replacement_read a (length r.pattern) r.put p.plan) planned.plan xs next
+        ∙ ap (λ (c : Change). edit_outcome own x.name (length text) serial (Ok c)) (change_read last a r text p.plan anchored planned.plan)
+        ∙ ap (λ (z : Edited). cond (is_full (length text) serial (taken z.from z.to (put_by b r.put))) (fails own BufferFull) (does z)) (sym same)
+        ∙ ap (λ (full : Bool). cond full (fails own BufferFull) (does q)) room
+        ∙ ap (λ (put : List ℕ). finished own (finish_met (length r.pattern) p.plan.next (left q) (one_met b)) (edit_of x.name (taken q.from q.to put))) (sym (put_is b))
+
+pub plans_it : (d : Directory) (ks : List MarkedBuffer) (h : Session) (s : Search) (r : Replacing) (last : Bool) (p : Planned) → IsSought d ks h true p.window_marks → h.own.search ≡ Some (replaces s r) → PlannedAt ks p.window_marks s.anchor r last p → IsPlanned d ks h last p
+plans_it d ks h s r last p sought held planned =
+    let x = p.window_marks in
+    let size = length (marked_at x.name ks).buffer.text in
+    let e = edit_planned size (anchor_at x ks s.anchor) r p.plan.replaces in
+    let from : p.edit.from ≡ e.from = ap (λ (q : Edited). q.from) planned.edit in
+    let to : p.edit.to ≡ e.to = ap (λ (q : Edited). q.to) planned.edit in
+    record {
+      sought = sought;
+      can = record {
+        mark = sought.target.marks.point;
+        order = omega (arith, from, to, order_by d ks h x s r last sought held p planned p.plan.replaces);
+        within = omega (arith, to, within_text last (anchor_at x ks s.anchor) r (marked_at x.name ks).buffer.text p.plan (anchored d ks h x s r last sought held) planned.plan);
+        size = ap (λ (q : Edited). q.size) planned.edit;
+        added = ap (λ (put : List ℕ). length put) (put_is d ks h x s r last sought held p planned p.plan.replaces) ∙ sym (ap (λ (q : Edited). q.added) planned.edit);
+        few = planned.few;
+        room = ap (λ (put : List ℕ). is_full size (marked_at x.name ks).buffer.serial (taken p.edit.from p.edit.to put)) (put_is d ks h x s r last sought held p planned p.plan.replaces) ∙ planned.room;
+        next = subst (λ (o : Option Search). IfSome p.plan.next (λ m. m + length (old_of o) ≤ size_then p size)) (sym held) (fits d ks h x s r last sought held p planned p.edit planned.edit p.plan.next refl);
+      };
+      s = s;
+      r = r;
+      held = held;
+      count = planned.count;
+      known = known_at d ks h x s r last sought held p planned p.edit planned.edit planned.room;
+      less = λ some. less d ks h x s r last sought held p planned p.edit planned.edit some p.plan.next refl;
+    }
+
+-- every act fails by which a search replaces
+pub sought_fails : (d : Directory) (ks : List MarkedBuffer) (h : Session) (last : Bool) (message : Message) → SearchFails d ks h true message → ReplacementFails d ks h last message
+sought_fails d ks h last message all xs next typed is = all SkipMatch last xs next typed (λ text a. refl)
+
+-- by what the planner answers
+module _ (d : Directory) (ks : List MarkedBuffer) (h : Session) (x : WindowMarks) (s : Search) (r : Replacing) (last : Bool) (sought : IsSought d ks h true x) (is : h.own.search ≡ Some s) (aim : s.aim ≡ Replace r) (result : Result Planned Message) where
+  held_so_far : h.own.search ≡ Some (replaces s r)
+  held_so_far = is ∙ ap (λ (a : Aim). let t : Search = record s { aim = a } in Some t) aim
+
+  pub planned_ok : IfOk result (λ p. p.window_marks ≡ x) → IfOk result (λ p. PlannedAt ks x s.anchor r last p) → IfOk result (λ p. IsPlanned d ks h last p)
+  planned_ok window planned = by result window planned
+    where
+      by : (o : Result Planned Message) → IfOk o (λ p. p.window_marks ≡ x) → IfOk o (λ p. PlannedAt ks x s.anchor r last p) → IfOk o (λ p. IsPlanned d ks h last p)
+      by (Ok p) same planned = plans_it d ks h s r last p (subst (λ (v : WindowMarks). IsSought d ks h true v) (sym same) sought) held_so_far (subst (λ (v : WindowMarks). PlannedAt ks v s.anchor r last p) (sym same) planned)
+      by (Err m) same planned = tt
+
+  pub planned_err : IfErr result (λ message. FullAt ks x s.anchor r last message) → IfErr result (λ message. ReplacementFails d ks h last message)
+  planned_err full = by result full
+    where
+      by : (o : Result Planned Message) → IfErr o (λ message. FullAt ks x s.anchor r last message) → IfErr o (λ message. ReplacementFails d ks h last message)
+      by (Ok p) full = tt
+      by (Err m) full = full_fails d ks h x s r last sought held_so_far m full

@@ -1,0 +1,17 @@
+use Rattle.std.proofs.Common.{get_or, ap, subst}
+use Rattle.mgs_world.specs.Sound.{IsSessionSound}
+use Rattle.mgs_world.proofs.Soundness.{session_sound}
+use Rattle.mgs_seek.proofs.Lifts.{acts, acts_sound, held_at}
+use Rattle.mgs_seek.proofs.replacing.skip.Goals as goal
+
+pub skip_in-requires : goal.skip_in-requires
+skip_in-requires g c =
+    subst (IsSessionSound c.args.buffers.now) c.index-sessions-at.is
+    (session_sound c.args.buffers.now c.args.sessions.now c.args.at c.index-sessions-at.result c.requires.sound c.index-sessions-at.is c.requires.within)
+
+pub returns-clause-sound : goal.returns-clause-sound
+returns-clause-sound g c = acts_sound c.args.buffers.now _ c.args.sessions.now c.args.at _ _ c.requires.sound (ap (get_or c.args.sessions.now c.args.at) c.index-sessions-at.is) c.requires.within c.skip_in.ensures.only
+
+pub returns-clause-world : goal.returns-clause-world
+returns-clause-world g c = λ id next s r place held aim.
+    acts c.args.directory.now c.args.buffers.now _ c.args.sessions.now c.args.at _ _ c.requires.sound (ap (get_or c.args.sessions.now c.args.at) c.index-sessions-at.is) c.requires.within c.skip_in.ensures.only next id place _ (c.skip_in.ensures.does s r (held_at c.args.sessions.now c.args.at _ _ (ap (get_or c.args.sessions.now c.args.at) c.index-sessions-at.is) c.requires.within held) aim)

@@ -1,0 +1,4 @@
+pub mod Acting
+pub mod Planning
+pub mod Replacing
+pub mod Seekers

@@ -1,0 +1,161 @@
+-- A replacement: as it is planned, and what is done.
+use Rattle.std.specs.Prelude.{◌≡◌, ℕ, ◌+◌, ◌-◌, ◌<◌, ◌≤◌, ◌^◌, min, Bool, true, false, cond, List, [], length, Option, Some, None, Result, Ok, IfSome, slice_set}
+use Rattle.mgs_model.specs.Access.{Directory}
+use Rattle.mgs_model.specs.Acts.{edit_of, fails, finished, is_full, outcome}
+use Rattle.mgs_model.specs.Apart.{touched_by}
+use Rattle.mgs_model.specs.Outcome.{Run}
+use Rattle.mgs_model.specs.Plans as plans
+use Rattle.mgs_model.specs.Plans.{alteration}
+use Rattle.mgs_model.specs.View.{view}
+use Rattle.mgs_model.specs.declared.message.Message.{Message}
+use Rattle.mgs_model.specs.declared.message.Message.TheVariants.{BufferFull}
+use Rattle.mgs_model.specs.declared.session.Command.TheVariants.{Alter, Move}
+use Rattle.mgs_model.specs.declared.session.Motion.TheVariants.{SkipMatch}
+use Rattle.mgs_model.specs.declared.touched.Touched.{Touched}
+use Rattle.mgs_model.specs.declared.touched.Touched.TheVariants.{In, Nowhere}
+use Rattle.mgs_buffers.specs.MarkedBuffer.{IsMark, MarkedBuffer, marked_at}
+use Rattle.mgs_search.specs.Planned.{replacement_read}
+use Rattle.mgs_search.specs.declared.replacing.Replacement.{Replacement}
+use Rattle.mgs_session.specs.Replacing.{Replacing}
+use Rattle.mgs_session.specs.Seeking.{search_edited, session_edited}
+use Rattle.mgs_session.specs.declared.Session.{Session}
+use Rattle.mgs_session.specs.declared.search.Aim.TheVariants.{Replace}
+use Rattle.mgs_session.specs.declared.search.Edited.{Edited}
+use Rattle.mgs_session.specs.declared.search.Search.{Search}
+use Rattle.mgs_windows.specs.declared.WindowMarks.{WindowMarks}
+use Rattle.mgs_plan.specs.Actions.{edited_by, mark_gone}
+use Rattle.mgs_plan.specs.Following.{edit_told, followed}
+use Rattle.mgs_world.specs.Worlds.{aim_input, aim_old, own_of, session_of, world_of}
+use Rattle.mgs_seek.specs.Acting.{Does, IsSought, as_is}
+use Rattle.mgs_seek.specs.Replacing.{finish_met, point_met, replacement, search_counted, session_met, taken}
+use Rattle.mgs_seek.specs.declared.replacing.Planned.{Planned}
+
+-- WHAT IS TAKEN OUT, AND PUT IN, where there is a match or none
+abbrev pub put_by : Bool → List ℕ → List ℕ
+put_by true put = put
+put_by false put = []
+
+abbrev pub to_by : Bool → ℕ → List ℕ → ℕ
+to_by true a old = a + length old
+to_by false a old = a
+
+abbrev pub edit_planned : ℕ → ℕ → Replacing → Bool → Edited
+edit_planned size a r replaces = record { size = size; from = a; to = to_by replaces a r.pattern; added = length (put_by replaces r.put) }
+
+-- of what a session looks for
+abbrev pub old_of : Option Search → List ℕ
+old_of None = []
+old_of (Some s) = aim_old s.aim
+
+abbrev pub put_in : Option Search → List ℕ
+put_in None = []
+put_in (Some s) = aim_input s.aim
+
+abbrev pub put_of : Bool → Option Search → List ℕ
+put_of replaces o = put_by replaces (put_in o)
+
+abbrev pub change_planned : Planned → Option Search → plans.Change
+change_planned p o = taken p.edit.from p.edit.to (put_of p.plan.replaces o)
+
+-- what is done for a session is the act of its query-replace that skips a match
+abbrev pub SkipDone : Directory → List MarkedBuffer → List MarkedBuffer → Session → Session → Type 0
+SkipDone d ks ls x y = (s : Search) (r : Replacing) → x.own.search ≡ Some s → s.aim ≡ Replace r → Does d ks ls x y as_is (Run (Move SkipMatch) None r.put)
+
+-- PLANNED at an anchor, by what the model plans there
+abbrev pub IsPlan : List ℕ → ℕ → Replacing → Bool → Replacement → Type 0
+IsPlan text a r last plan = (rest : plans.Around)
+    → Path (Result plans.Change Message) (Ok (replacement_read a (length r.pattern) r.put plan)) (alteration (replacement last) text (record rest { anchor = a; sought_here = true; old = r.pattern; typed = r.put }))
+
+abbrev pub anchor_at : WindowMarks → List MarkedBuffer → ℕ → ℕ
+anchor_at x ks anchor = min anchor (length (marked_at x.name ks).buffer.text)
+
+pub record PlannedAt (ks : List MarkedBuffer) (x : WindowMarks) (anchor : ℕ) (r : Replacing) (last : Bool) (p : Planned) : Type 0 where
+  pub edit : p.edit ≡ edit_planned (length (marked_at x.name ks).buffer.text) (anchor_at x ks anchor) r p.plan.replaces
+  pub plan : IsPlan (marked_at x.name ks).buffer.text (anchor_at x ks anchor) r last p.plan
+  pub room : is_full (length (marked_at x.name ks).buffer.text) (marked_at x.name ks).buffer.serial (taken p.edit.from p.edit.to (put_by p.plan.replaces r.put)) ≡ false
+  pub few : p.edit.added ≤ 120
+  pub count : r.count < 2 ^ 64
+
+-- the buffer is full
+pub record FullAt (ks : List MarkedBuffer) (x : WindowMarks) (anchor : ℕ) (r : Replacing) (last : Bool) (message : Message) : Type 0 where
+  pub told : message ≡ BufferFull
+  pub done : Replacement
+  pub plan : IsPlan (marked_at x.name ks).buffer.text (anchor_at x ks anchor) r last done
+  pub full : (let a = anchor_at x ks anchor in is_full (length (marked_at x.name ks).buffer.text) (marked_at x.name ks).buffer.serial (taken a (to_by done.replaces a r.pattern) (put_by done.replaces r.put)) ≡ true)
+
+-- how many characters the text has then
+abbrev pub size_then : Planned → ℕ → ℕ
+size_then p size = size - (p.edit.to - p.edit.from) + p.edit.added
+
+-- it can be done
+pub record CanPerform (ks : List MarkedBuffer) (h : Session) (p : Planned) : Type 0 where
+  pub mark : IsMark p.window_marks.name p.window_marks.point ks
+  pub order : p.edit.from ≤ p.edit.to
+  pub within : p.edit.to ≤ length (marked_at p.window_marks.name ks).buffer.text
+  pub size : p.edit.size ≡ length (marked_at p.window_marks.name ks).buffer.text
+  pub added : length (put_of p.plan.replaces h.own.search) ≡ p.edit.added
+  pub few : p.edit.added ≤ 120
+  pub room : is_full (length (marked_at p.window_marks.name ks).buffer.text) (marked_at p.window_marks.name ks).buffer.serial (change_planned p h.own.search) ≡ false
+  pub next : IfSome p.plan.next (λ m. m + length (old_of h.own.search) ≤ size_then p (length (marked_at p.window_marks.name ks).buffer.text))
+
+-- where the point is without a next match
+abbrev pub left_at : Planned → Option ℕ
+left_at p = cond p.plan.replaces (Some (p.edit.from + p.edit.added)) None
+
+abbrev pub one_met : Bool → ℕ
+one_met true = 1
+one_met false = 0
+
+-- the next match is less far from the end
+abbrev pub IsLess : Planned → ℕ → ℕ → Type 0
+IsLess p size a = IfSome p.plan.next (λ m. size_then p size - min m (size_then p size) < size - a)
+
+-- by a session that may write, and has this query-replace there: what its act comes to
+pub record IsPlanned (d : Directory) (ks : List MarkedBuffer) (h : Session) (last : Bool) (p : Planned) : Type 0 where
+  pub sought : IsSought d ks h true p.window_marks
+  pub can : CanPerform ks h p
+  pub s : Search
+  pub r : Replacing
+  pub held : (let t : Search = record s { aim = Replace r } in h.own.search ≡ Some t)
+  pub count : r.count < 2 ^ 64
+  pub known : (xs : List Session) (next : Option ℕ) → outcome (view (world_of d ks xs next) (session_of ks h)) (Run (Alter (replacement last)) None r.put) true ≡ finished (own_of h.own) (finish_met (length r.pattern) p.plan.next (left_at p) (one_met p.plan.replaces)) (edit_of p.window_marks.name (change_planned p h.own.search))
+  pub less : 0 < length r.pattern → (let size = length (marked_at p.window_marks.name ks).buffer.text in IsLess p size (min s.anchor size))
+
+-- what is typed is what its query-replace puts
+abbrev pub IsTyped : Option Search → List ℕ → Type 0
+IsTyped o typed = (s : Search) → o ≡ Some s → (r : Replacing) × (s.aim ≡ Replace r) × (typed ≡ r.put)
+
+abbrev pub ReplacementFails : Directory → List MarkedBuffer → Session → Bool → Message → Type 0
+ReplacementFails d ks h last message = (xs : List Session) (next : Option ℕ) (typed : List ℕ) → IsTyped h.own.search typed
+    → outcome (view (world_of d ks xs next) (session_of ks h)) (Run (Alter (replacement last)) None typed) true ≡ fails (own_of h.own) message
+
+-- WHAT IS DONE: in its session, which was taken this search
+abbrev pub counted_if : Bool → Search → Search
+counted_if true s = search_counted s
+counted_if false s = s
+
+pub record IsLeft (p : Planned) (s : Search) (ks ls : List MarkedBuffer) (h y : Session) : Type 0 where
+  pub buffers : ls ≡ mark_gone p.window_marks.name p.window_marks.point (point_met (length (aim_old s.aim)) p.plan.next (left_at p)) ks
+  pub session : y ≡ session_met p.plan.next (counted_if p.plan.replaces s) h
+
+-- the positions of a search and of its session go by an edit
+abbrev pub search_after : List ℕ → Option Edited → Search → Search
+search_after name None s = s
+search_after name (Some e) s = search_edited name e s
+
+abbrev pub session_after : List ℕ → Option Edited → Session → Session
+session_after name None h = h
+session_after name (Some e) h = session_edited name e h
+
+abbrev pub touched_edit : List ℕ → Option Edited → Touched
+touched_edit name None = Nowhere
+touched_edit name (Some e) = In name
+
+abbrev pub edit_of_plan : Planned → Session → Option Edited
+edit_of_plan p h = edit_told p.edit.size (change_planned p h.own.search)
+
+pub record IsDone (at : ℕ) (p : Planned) (h : Session) (ks ls : List MarkedBuffer) (xs ys : List Session) (touched : Touched) : Type 0 where
+  pub left : Session
+  pub done : (s : Search) → h.own.search ≡ Some s → IsLeft p (search_after p.window_marks.name (edit_of_plan p h) s) (edited_by p.window_marks.name (change_planned p h.own.search) ks) ls (session_after p.window_marks.name (edit_of_plan p h) h) left
+  pub sessions : ys ≡ slice_set (followed p.window_marks.name (edit_of_plan p h) xs) at left
+  pub tells : touched ≡ touched_by (edit_of p.window_marks.name (change_planned p h.own.search))

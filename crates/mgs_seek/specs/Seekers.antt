@@ -1,0 +1,79 @@
+-- An incremental search by itself: a step of it, and what its session and the buffers are then.
+use Rattle.std.specs.Prelude.{◌≡◌, ℕ, min, List, length, Option, None, Some, Result, Ok, cond}
+use Rattle.mgs_model.specs.Access.{Directory}
+use Rattle.mgs_model.specs.Names.{same_name}
+use Rattle.mgs_model.specs.Outcome.{PointPlan, Keep, At, Run}
+use Rattle.mgs_model.specs.Plans.{Around, Finish, motion}
+use Rattle.mgs_model.specs.Searching.{Sought, places_after, sought_after}
+use Rattle.mgs_model.specs.declared.message.Message.{Message}
+use Rattle.mgs_model.specs.declared.session.Command.TheVariants.{Move}
+use Rattle.mgs_model.specs.declared.session.Motion.TheVariants.{SearchOn}
+use Rattle.mgs_search.specs.Planned.{stepped}
+use Rattle.mgs_plan.specs.Beginning.{seeking}
+use Rattle.mgs_seek.specs.Acting.{Does, as_is}
+use Rattle.mgs_model.specs.declared.search.SearchPlaces.{SearchPlaces}
+use Rattle.mgs_model.specs.declared.search.SearchStep.{SearchStep}
+use Rattle.mgs_model.specs.declared.session.Kind.TheVariants.{Other}
+use Rattle.mgs_buffers.specs.MarkedBuffer.{MarkedBuffer, mark_at, marked_at}
+use Rattle.mgs_windows.specs.declared.WindowMarks.{WindowMarks}
+use Rattle.mgs_plan.specs.Actions.{mark_gone}
+use Rattle.mgs_session.specs.Seeking.{searching}
+use Rattle.mgs_session.specs.Sessions.{acted, resting}
+use Rattle.mgs_session.specs.declared.Session.{Session}
+use Rattle.mgs_session.specs.declared.search.Aim.{Aim}
+use Rattle.mgs_session.specs.declared.search.Aim.TheVariants.{Find, Replace}
+use Rattle.mgs_session.specs.declared.search.Search.{Search}
+use Rattle.mgs_seek.specs.declared.seeking.Seeker.{Seeker}
+
+-- an incremental search by itself, and as its session holds it
+abbrev pub seek_in : Search → Aim → Option Seeker
+seek_in s (Find f) = Some (record { name = s.name; origin = s.origin; anchor = s.anchor; sought = f })
+seek_in s (Replace r) = None
+
+abbrev pub sought_by : Seeker → Search
+sought_by s = record { name = s.name; origin = s.origin; anchor = s.anchor; aim = Find s.sought }
+
+-- ONE STEP in a text of so many characters, from this point on
+abbrev pub places_at : ℕ → ℕ → Seeker → SearchPlaces
+places_at size point s = record { origin = min s.origin size; anchor = min s.anchor size; point = point }
+
+abbrev pub search_stepped : SearchStep → List ℕ → SearchPlaces → Seeker → Seeker
+search_stepped step text x s = record s { anchor = (places_after step s.sought text x).anchor; sought = sought_after step s.sought text x }
+
+-- in the text that a window shows, from its point on: where it begins and ends, and the search then
+abbrev pub step_places : List MarkedBuffer → WindowMarks → Seeker → SearchPlaces
+step_places ks x s = places_at (length (marked_at x.name ks).buffer.text) (mark_at x.name ks x.point) s
+
+abbrev pub step_ends : List MarkedBuffer → WindowMarks → Seeker → SearchStep → SearchPlaces
+step_ends ks x s step = places_after step s.sought (marked_at x.name ks).buffer.text (step_places ks x s)
+
+abbrev pub step_search : List MarkedBuffer → WindowMarks → Seeker → SearchStep → Seeker
+step_search ks x s step = search_stepped step (marked_at x.name ks).buffer.text (step_places ks x s) s
+
+-- as the model plans it
+abbrev pub IsStep : List MarkedBuffer → WindowMarks → Seeker → SearchStep → Type 0
+IsStep ks x s step = (rest : Around)
+    → Path (Result Finish Message) (Ok (stepped step (step_ends ks x s step) (step_search ks x s step).sought.failing)) (motion (SearchOn s.sought.direction step) (marked_at x.name ks).buffer.text (seeking rest (step_places ks x s) s.sought.pattern))
+
+-- what is done for a session is the act of its incremental search
+abbrev pub StepDone : Directory → List MarkedBuffer → List MarkedBuffer → Session → Session → SearchStep → Type 0
+StepDone d ks ls x y step = (s : Search) (f : Sought) → x.own.search ≡ Some s → s.aim ≡ Find f → Does d ks ls x y as_is (Run (Move (SearchOn f.direction step)) None f.pattern)
+
+-- the incremental search that a session holds
+abbrev pub seeker_of : Option Search → Option Seeker
+seeker_of None = None
+seeker_of (Some s) = seek_in s s.aim
+
+-- a session that goes on with a search
+abbrev pub session_sought : Seeker → Session → Session
+session_sought s h = acted Other (searching (sought_by s) (resting h))
+
+-- where the point goes to that quits: to the origin of a search in that buffer
+abbrev pub origin_plan : List ℕ → ℕ → Option Search → PointPlan
+origin_plan name size None = Keep
+origin_plan name size (Some s) = cond (same_name s.name name) (At (min s.origin size)) Keep
+
+-- and the buffers then, by what the selected window shows
+abbrev pub gone_back : Option WindowMarks → Option Search → List MarkedBuffer → List MarkedBuffer
+gone_back None search ks = ks
+gone_back (Some x) search ks = mark_gone x.name x.point (origin_plan x.name (length (marked_at x.name ks).buffer.text) search) ks

@@ -1,0 +1,519 @@
+// A query-replace: it begins, a match is skipped or replaced, and it is over where no match is left.
+ghost use Rattle.std.specs.Prelude.{IfErr, Ok, ◌≡◌, ℕ, ◌+◌, ◌<◌, ◌≤◌, ◌^◌, List, length, Option, Some, None, IfOk, IfSome, OnOk, OnErr, true, false, slice_get};
+ghost use Rattle.std.specs.List.{position_or_len};
+ghost use Rattle.mgs_model.specs.Acts.{is_full};
+ghost use Rattle.mgs_model.specs.Apply.{act, outcome_in};
+ghost use Rattle.mgs_model.specs.Events.{may_be_refused, own_set, with_own};
+ghost use Rattle.mgs_model.specs.Outcome.{Run};
+ghost use Rattle.mgs_model.specs.Text.{is_edit};
+ghost use Rattle.mgs_model.specs.declared.session.Command.TheVariants.{Alter, Move};
+ghost use Rattle.mgs_model.specs.declared.session.Motion.TheVariants.{SkipMatch, StartReplace};
+ghost use Rattle.mgs_model.specs.declared.touched.Touched.TheVariants.{Nowhere};
+ghost use Rattle.mgs_buffers.specs.MarkedBuffer.{HasBuffer, IsMark, marked_at};
+ghost use Rattle.mgs_session.specs.Seeking.{unsearched};
+ghost use Rattle.mgs_session.specs.declared.Session.{Session};
+ghost use Rattle.mgs_session.specs.declared.search.Aim.TheVariants.{Replace};
+ghost use Rattle.mgs_session.specs.Replacing.{Replacing};
+ghost use Rattle.mgs_session.specs.declared.search.Search.{Search};
+ghost use Rattle.mgs_plan.specs.Actions.{edited_by, mark_gone};
+ghost use Rattle.mgs_plan.specs.Beginning.{search_held};
+ghost use Rattle.mgs_plan.specs.Following.{CanFollow, edit_told};
+ghost use Rattle.mgs_plan.specs.Tells.{touched_in};
+ghost use Rattle.mgs_seek.specs.Replacing.{if_replaces, is_change, point_met, remaining_at, replacement, replacing_of, replacing_own, search_counted, session_met, session_over, taken};
+ghost use Rattle.mgs_seek.specs.Planning.{CanPerform, FullAt, IsDone, IsLeft, IsPlan, IsPlanned, PlannedAt, ReplacementFails, SkipDone, change_planned, counted_if, edit_planned, old_of, put_of, touched_edit};
+ghost use Rattle.mgs_model.specs.Plans as plans;
+ghost use Rattle.mgs_seek.specs.Acting.{Does};
+ghost use Rattle.mgs_world.specs.Only.{OnlyThis, nothing_held};
+ghost use Rattle.mgs_world.specs.Sound.{IsSessionSound, IsSound};
+ghost use Rattle.mgs_world.specs.Worlds.{aim_count, aim_input, aim_old, idle, own_at, own_of, session_id, world_of};
+
+use crate::target::{go_on, sought, target};
+use mgs_buffers::Buffers;
+use mgs_marks::Marked;
+use mgs_model::{Kind, Message, Name, Short, TEXT_LIMIT, Touched};
+use mgs_plan::follow;
+use mgs_policy::Directory;
+use mgs_search::{Replacement, begin_replacing, replace_last, replace_match, skip_match};
+use mgs_session::{
+    Aim, Edited, Replacing, Search, SearchString, Session, fail, hold_search, rest,
+    selected_window_marks, set_echo, set_kind, take_search,
+};
+use mgs_text::Text;
+use mgs_windows::WindowMarks;
+
+/// What a search replaces; nothing where it replaces nothing.
+fn replaced_text(search: &Search) -> &[char]
+    ensures value { result.now ≡ aim_old search.now.aim }
+    ensures few { length result.now ≤ 120 }
+{
+    match &search.aim {
+        Aim::Find(_) => &[],
+        Aim::Replace(replacing) => replacing.pattern(),
+    }
+}
+
+/// What comes in its place; what is looked for where it replaces nothing.
+fn put_text(search: &Search) -> &[char]
+    ensures value { result.now ≡ aim_input search.now.aim }
+    ensures few { length result.now ≤ 120 }
+{
+    match &search.aim {
+        Aim::Find(sought) => sought.pattern(),
+        Aim::Replace(replacing) => replacing.put(),
+    }
+}
+
+/// How often it was replaced.
+fn replaced_count(search: &Search) -> usize
+    ensures value { result ≡ aim_count search.now.aim }
+    ensures small { result < 2 ^ 64 }
+{
+    match &search.aim {
+        Aim::Find(_) => 0,
+        Aim::Replace(replacing) => replacing.count(),
+    }
+}
+
+/// One more was replaced.
+fn count_one(search: &mut Search)
+    ensures { search.new ≡ search_counted search.old }
+{
+    match &mut search.aim {
+        Aim::Find(_) => {}
+        Aim::Replace(replacing) => replacing.count_one(),
+    }
+}
+
+/// A search, if it is a query-replace.
+fn if_replaces(search: Search) -> Option<Search>
+    ensures { result ≡ if_replaces search search.aim }
+{
+    match &search.aim {
+        Aim::Find(_) => None,
+        Aim::Replace(_) => Some(search),
+    }
+}
+
+/// The query-replace of a session, which is taken out.
+fn take_replacing(session: &mut Session) -> Option<Search>
+    ensures search { result ≡ replacing_of session.old.own.search }
+    ensures rest { session.new ≡ unsearched session.old }
+{
+    match take_search(session) {
+        Some(search) => if_replaces(search),
+        None => None,
+    }
+}
+
+/// A query-replace that was taken out of its session is over.
+fn end(session: &mut Session, search: &Search)
+    ensures { session.new ≡ session_over (aim_count search.now.aim) session.old }
+{
+    rest(session);
+    set_kind(session, Kind::Other);
+    set_echo(session, Message::Replaced(replaced_count(search)));
+    session.own.player.end_replacing();
+}
+
+/// It is at its next match, or over where there is none.
+fn go_to(session: &mut Session, search: Search, next: Option<usize>)
+    ensures { session.new ≡ session_met next search session.old }
+{
+    match next {
+        Some(found) => {
+            let mut search = search;
+            search.anchor = found;
+            go_on(session, search);
+        }
+        None => end(session, &search),
+    }
+}
+
+/// The same, with the window's point behind the match; without one it is where it is left.
+fn meet<T: Marked + Drop>(
+    buffers: &mut Buffers<T>,
+    session: &mut Session,
+    window_marks: &WindowMarks,
+    search: Search,
+    left: Option<usize>,
+    next: Option<usize>,
+)
+    requires mark { IsMark window_marks.now.name window_marks.now.point buffers.old }
+    requires left { IfSome left (λ p. p ≤ length (marked_at window_marks.now.name buffers.old).buffer.text) }
+    requires next { IfSome next (λ m. m + length (aim_old search.aim) ≤ length (marked_at window_marks.now.name buffers.old).buffer.text) }
+    ensures buffers { buffers.new ≡ mark_gone window_marks.now.name window_marks.now.point (point_met (length (aim_old search.aim)) next left) buffers.old }
+    ensures session { session.new ≡ session_met next search session.old }
+{
+    // For the limit of a text.
+    let _size = buffers.text_len(&window_marks.name);
+    let name = &window_marks.name;
+    let size = replaced_text(&search).len();
+    match next {
+        Some(found) => buffers.place(name, window_marks.point, found + size),
+        None => match left {
+            Some(place) => buffers.place(name, window_marks.point, place),
+            None => {}
+        },
+    }
+    go_to(session, search, next);
+}
+
+/// A replacement as it is planned: the window in whose text it is, what is taken out and put in, whether the match is still there, and where
+/// the next one is then.
+#[derive(Clone, Copy)]
+pub struct Planned {
+    pub window_marks: WindowMarks,
+    pub edit: Edited,
+    pub plan: Replacement,
+}
+
+/// Plans a replacement at an anchor; the last one looks for no next match.
+fn plan<T: Text>(text: &T, anchor: usize, replacing: &Replacing, last: bool) -> Replacement
+    requires anchor { anchor ≤ length (T.text text.now) }
+    requires short { length (T.text text.now) < 2 ^ 32 }
+    ensures { IsPlan (T.text text.now) anchor replacing.now last result }
+{
+    if last {
+        replace_last(text, anchor, replacing.pattern())
+    } else {
+        replace_match(text, anchor, replacing.pattern(), replacing.put())
+    }
+}
+
+/// What it takes out of a text of `size` characters, and how many it puts in.
+fn edit_planned(size: usize, anchor: usize, replacing: &Replacing, replaces: bool) -> Edited
+    requires { anchor < 2 ^ 32 }
+    ensures value { result ≡ edit_planned size anchor replacing.now replaces }
+    ensures order { result.from ≤ result.to }
+    ensures few { result.added ≤ 120 }
+{
+    let (to, added) = if replaces {
+        (anchor + replacing.pattern().len(), replacing.put().len())
+    } else {
+        (anchor, 0)
+    };
+    Edited {
+        size,
+        from: anchor,
+        to,
+        added,
+    }
+}
+
+/// Whether a buffer has no room for an edit.
+fn is_full<T: Marked + Drop>(buffers: &Buffers<T>, name: &Name, edit: &Edited) -> bool
+    requires kept { HasBuffer name.now buffers.now }
+    requires order { edit.now.from ≤ edit.now.to }
+    requires within { edit.now.to ≤ length (marked_at name.now buffers.now).buffer.text }
+    requires added { edit.now.added ≤ 120 }
+    ensures { (put : List ℕ) → length put ≡ edit.now.added → result ≡ is_full (length (marked_at name.now buffers.now).buffer.text) (marked_at name.now buffers.now).buffer.serial (taken edit.now.from edit.now.to put) }
+{
+    let size = buffers.text_len(name);
+    let serial = buffers.serial(name);
+    (edit.from < edit.to || edit.added > 0)
+        && (size - (edit.to - edit.from) + edit.added > TEXT_LIMIT || serial == u64::MAX)
+}
+
+/// Plans a replacement in the text of a window, unless the buffer is full.
+fn plan_at<T: Marked + Drop>(
+    buffers: &Buffers<T>,
+    window_marks: &WindowMarks,
+    anchor: usize,
+    replacing: &Replacing,
+    last: bool,
+) -> Result<Planned, Message>
+    requires kept { HasBuffer window_marks.now.name buffers.now }
+    ensures window { IfOk result (λ p. p.window_marks ≡ window_marks.now) }
+    ensures ok { IfOk result (λ p. PlannedAt buffers.now window_marks.now anchor replacing.now last p) }
+    ensures err { IfErr result (λ message. FullAt buffers.now window_marks.now anchor replacing.now last message) }
+{
+    // For the range of a count.
+    let _count = replacing.count();
+    let name = &window_marks.name;
+    let size = buffers.text_len(name);
+    let anchor = anchor.min(size);
+    let plan = plan(buffers.text(name), anchor, replacing, last);
+    let edit = edit_planned(size, anchor, replacing, plan.replaces);
+    if is_full(buffers, name, &edit) {
+        return Err(Message::BufferFull);
+    }
+    Ok(Planned {
+        window_marks: *window_marks,
+        edit,
+        plan,
+    })
+}
+
+/// The same of a session, where its user may read and write, and where it has a query-replace there.
+fn plan_in<T: Marked + Drop>(
+    buffers: &Buffers<T>,
+    directory: &Directory,
+    session: &Session,
+    last: bool,
+) -> Result<Planned, Message>
+    requires { IsSessionSound buffers.now session.now }
+    ensures ok { IfOk result (λ p. IsPlanned directory.now buffers.now session.now last p) }
+    ensures err { IfErr result (λ message. ReplacementFails directory.now buffers.now session.now last message) }
+{
+    match sought(buffers, directory, session, true) {
+        Err(message) => Err(message),
+        Ok(window_marks) => match &session.own.search {
+            None => Err(Message::NoBuffer),
+            Some(search) => match &search.aim {
+                Aim::Find(_) => Err(Message::NoBuffer),
+                Aim::Replace(replacing) => {
+                    plan_at(buffers, &window_marks, search.anchor, replacing, last)
+                }
+            },
+        },
+    }
+}
+
+/// Edits a buffer, if that is an edit. `Short`: memory was refused, and nothing was done.
+fn edit<T: Marked + Drop>(
+    buffers: &mut Buffers<T>,
+    name: &Name,
+    from: usize,
+    to: usize,
+    put: &[char],
+) -> Result<(), Short>
+    requires kept { HasBuffer name.now buffers.old }
+    requires order { from ≤ to }
+    requires within { to ≤ length (marked_at name.now buffers.old).buffer.text }
+    requires room { is_full (length (marked_at name.now buffers.old).buffer.text) (marked_at name.now buffers.old).buffer.serial (taken from to put.now) ≡ false }
+    ensures ok { OnOk result (buffers.new ≡ edited_by name.now (taken from to put.now) buffers.old) }
+    ensures err { OnErr result (buffers.new ≡ buffers.old) }
+    ensures may { OnErr result (is_edit from to put.now ≡ true) }
+{
+    // For the ranges of a serial and of a place.
+    let _serial = buffers.serial(name);
+    let _size = buffers.text_len(name);
+    if from == to && put.is_empty() {
+        return Ok(());
+    }
+    buffers.edit(name, from, to, put)
+}
+
+/// An edit, if it is one.
+fn if_edit(edit: Edited) -> Option<Edited>
+    requires order { edit.from ≤ edit.to }
+    requires fits { edit.size + edit.added < 2 ^ 64 }
+    ensures can { CanFollow result }
+    ensures value { (put : List ℕ) → length put ≡ edit.added → result ≡ edit_told edit.size (taken edit.from edit.to put) }
+{
+    if edit.from < edit.to || edit.added > 0 {
+        Some(edit)
+    } else {
+        None
+    }
+}
+
+/// What comes in: what the query-replace of a session puts, where there was a match.
+fn put_of(session: &Session, replaces: bool) -> &[char]
+    ensures { result.now ≡ put_of replaces session.now.own.search }
+{
+    match &session.own.search {
+        Some(search) => { if replaces { put_text(search) } else { &[] } }
+        None => &[],
+    }
+}
+
+/// One more was replaced, where there was a match.
+fn count_if(search: Search, replaces: bool) -> Search
+    ensures { result ≡ counted_if replaces search }
+{
+    let mut search = search;
+    if replaces {
+        count_one(&mut search);
+    }
+    search
+}
+
+/// What the replacement leaves in its session once the text is edited and all positions went by it: it counts, and the next match is met.
+fn leave<T: Marked + Drop>(buffers: &mut Buffers<T>, session: &mut Session, planned: &Planned)
+    requires mark { IsMark planned.now.window_marks.name planned.now.window_marks.point buffers.old }
+    requires behind { planned.now.edit.from + planned.now.edit.added ≤ length (marked_at planned.now.window_marks.name buffers.old).buffer.text }
+    requires next { IfSome planned.now.plan.next (λ m. m + length (old_of session.old.own.search) ≤ length (marked_at planned.now.window_marks.name buffers.old).buffer.text) }
+    ensures { (s : Search) → session.old.own.search ≡ Some s → IsLeft planned.now s buffers.old buffers.new session.old session.new }
+{
+    // For the limit of a text.
+    let _size = buffers.text_len(&planned.window_marks.name);
+    match take_search(session) {
+        None => {}
+        Some(search) => {
+            let behind = planned.edit.from + planned.edit.added;
+            let replaces = planned.plan.replaces;
+            let left = if replaces { Some(behind) } else { None };
+            let search = count_if(search, replaces);
+            let next = planned.plan.next;
+            meet(buffers, session, &planned.window_marks, search, left, next);
+        }
+    }
+}
+
+/// What an edit touches, if it is one.
+fn touched(name: &Name, edit: &Option<Edited>) -> Touched
+    ensures { result ≡ touched_edit name.now edit.now }
+{
+    match edit {
+        Some(_) => Touched::In(*name),
+        None => Touched::Nowhere,
+    }
+}
+
+/// A replacement that the session at `at` planned is done. `Short`: memory was refused, and nothing was done.
+fn perform<T: Marked + Drop>(
+    buffers: &mut Buffers<T>,
+    sessions: &mut [Session],
+    at: usize,
+    planned: &Planned,
+) -> Result<Touched, Short>
+    requires within { at < length sessions.old }
+    requires mark { IsMark planned.now.window_marks.name planned.now.window_marks.point buffers.old }
+    requires order { planned.now.edit.from ≤ planned.now.edit.to }
+    requires inside { planned.now.edit.to ≤ length (marked_at planned.now.window_marks.name buffers.old).buffer.text }
+    requires can { (h : Session) → slice_get sessions.old at ≡ Some h → CanPerform buffers.old h planned.now }
+    ensures done { IfOk result (λ touched. (h : Session) → slice_get sessions.old at ≡ Some h → IsDone at planned.now h buffers.old buffers.new sessions.old sessions.new touched) }
+    ensures err { OnErr result ((buffers.new ≡ buffers.old) × (sessions.new ≡ sessions.old)) }
+    ensures may { OnErr result ((h : Session) → slice_get sessions.old at ≡ Some h → is_change (change_planned planned.now h.own.search) ≡ true) }
+{
+    let name = &planned.window_marks.name;
+    // For the limit of a text.
+    let _size = buffers.text_len(name);
+    let put = put_of(&sessions[at], planned.plan.replaces);
+    match edit(buffers, name, planned.edit.from, planned.edit.to, put) {
+        Ok(()) => {}
+        Err(short) => return Err(short),
+    }
+    let edit = if_edit(planned.edit);
+    follow(sessions, name, &edit);
+    leave(buffers, &mut sessions[at], planned);
+    Ok(touched(name, &edit))
+}
+
+/// A query-replace of a session at rest begins where its user may read.
+fn start_in<T: Marked + Drop>(
+    buffers: &mut Buffers<T>,
+    directory: &Directory,
+    session: &mut Session,
+    pattern: SearchString,
+    put: SearchString,
+)
+    requires sound { IsSessionSound buffers.old session.old }
+    requires fresh { own_of session.old.own ≡ idle (own_of session.old.own) }
+    ensures only { OnlyThis nothing_held buffers.old buffers.new session.old session.new }
+    ensures does { Does directory.now buffers.old buffers.new session.old session.new (own_set (replacing_own pattern put)) (Run (Move StartReplace) None put) }
+{
+    match target(buffers, directory, session, false) {
+        Err(message) => fail(session, message),
+        Ok(window_marks) => {
+            let name = &window_marks.name;
+            let place = buffers.pos(name, window_marks.point);
+            match begin_replacing(buffers.text(name), place, pattern.as_slice()) {
+                Err(message) => fail(session, message),
+                Ok(next) => {
+                    let search = Search::replacing(
+                        *name,
+                        place,
+                        place,
+                        Replacing::new(pattern, put),
+                    );
+                    meet(buffers, session, &window_marks, search, None, next);
+                }
+            }
+        }
+    }
+}
+
+/// A query-replace begins in the text that the selected window of the session at `at` shows: `pattern` is looked for from its point on,
+/// and `put` comes in its place. Where no match is there, it is over at once. The session is at rest, and the world that the act is
+/// decided in has its record with the mode that begins. It takes no memory, and touches no text and no other session.
+pub fn start_replacing<T: Marked + Drop>(
+    buffers: &mut Buffers<T>,
+    directory: &Directory,
+    sessions: &mut [Session],
+    at: usize,
+    pattern: SearchString,
+    put: SearchString,
+)
+    requires sound { IsSound buffers.old sessions.old }
+    requires within { at < length sessions.old }
+    requires fresh { own_at at sessions.old ≡ idle (own_at at sessions.old) }
+    ensures sound { IsSound buffers.new sessions.new }
+    ensures world { (id : ℕ) (next : Option ℕ) → at ≡ position_or_len (session_id id) sessions.old → world_of directory.now buffers.new sessions.new next ≡ act (with_own id (replacing_own pattern put) (world_of directory.now buffers.old sessions.old next)) id (Run (Move StartReplace) None put) true }
+{
+    start_in(buffers, directory, &mut sessions[at], pattern, put);
+}
+
+/// The match at which the query-replace of a session stands stays as it is, where its user may read.
+fn skip_in<T: Marked + Drop>(buffers: &mut Buffers<T>, directory: &Directory, session: &mut Session)
+    requires { IsSessionSound buffers.old session.old }
+    ensures only { OnlyThis nothing_held buffers.old buffers.new session.old session.new }
+    ensures does { SkipDone directory.now buffers.old buffers.new session.old session.new }
+{
+    match sought(buffers, directory, session, false) {
+        Err(message) => fail(session, message),
+        Ok(window_marks) => match take_replacing(session) {
+            Some(search) => {
+                // For the range of a count.
+                let _count = replaced_count(&search);
+                let name = &window_marks.name;
+                let anchor = search.anchor.min(buffers.text_len(name));
+                let next = skip_match(buffers.text(name), anchor, replaced_text(&search));
+                meet(buffers, session, &window_marks, search, None, next);
+            }
+            None => fail(session, Message::NoBuffer),
+        },
+    }
+}
+
+/// The match at which the query-replace of the session at `at` stands stays as it is, and the next one is met. A window that shows
+/// another buffer, or none, is a failure, and so is a denial. It takes no memory, and touches no text and no other session.
+pub fn skip<T: Marked + Drop>(
+    buffers: &mut Buffers<T>,
+    directory: &Directory,
+    sessions: &mut [Session],
+    at: usize,
+)
+    requires sound { IsSound buffers.old sessions.old }
+    requires within { at < length sessions.old }
+    ensures sound { IsSound buffers.new sessions.new }
+    ensures world { (id : ℕ) (next : Option ℕ) (s : Search) (r : Replacing) → at ≡ position_or_len (session_id id) sessions.old → search_held at sessions.old ≡ Some s → s.aim ≡ Replace r → world_of directory.now buffers.new sessions.new next ≡ act (world_of directory.now buffers.old sessions.old next) id (Run (Move SkipMatch) None r.put) true }
+{
+    skip_in(buffers, directory, &mut sessions[at]);
+}
+
+/// The match at which the query-replace of the session at `at` stands is replaced, where it still stands there, and the next one is
+/// met; where it is the last, it is over. A window that shows another buffer, or none, is a failure, and so are a denial and a full
+/// buffer. It tells what it touched, and what it did not touch is as it was. `Short`: memory was refused, the world is as it was, and
+/// the act is one that may be refused. Where all further matches are replaced, what is left of the text becomes less with each.
+pub fn replace<T: Marked + Drop>(
+    buffers: &mut Buffers<T>,
+    directory: &Directory,
+    sessions: &mut [Session],
+    at: usize,
+    last: bool,
+) -> Result<Touched, Short>
+    requires sound { IsSound buffers.old sessions.old }
+    requires within { at < length sessions.old }
+    ensures sound { IsSound buffers.new sessions.new }
+    ensures ok { OnOk result ((id : ℕ) (next : Option ℕ) (s : Search) (r : Replacing) → at ≡ position_or_len (session_id id) sessions.old → search_held at sessions.old ≡ Some s → s.aim ≡ Replace r → world_of directory.now buffers.new sessions.new next ≡ act (world_of directory.now buffers.old sessions.old next) id (Run (Alter (replacement last)) None r.put) true) }
+    ensures none { OnOk result ((id : ℕ) (next : Option ℕ) (typed : List ℕ) → at ≡ position_or_len (session_id id) sessions.old → search_held at sessions.old ≡ None → world_of directory.now buffers.new sessions.new next ≡ act (world_of directory.now buffers.old sessions.old next) id (Run (Alter (replacement last)) None typed) true) }
+    ensures tells { IfOk result (λ touched. (id : ℕ) (next : Option ℕ) (s : Search) (r : Replacing) → at ≡ position_or_len (session_id id) sessions.old → search_held at sessions.old ≡ Some s → s.aim ≡ Replace r → touched ≡ touched_in (outcome_in (world_of directory.now buffers.old sessions.old next) id (Run (Alter (replacement last)) None r.put) true)) }
+    ensures quiet { IfOk result (λ touched. search_held at sessions.old ≡ None → touched ≡ Nowhere) }
+    ensures err { OnErr result ((next : Option ℕ) → world_of directory.now buffers.new sessions.new next ≡ world_of directory.now buffers.old sessions.old next) }
+    ensures may { OnErr result ((id : ℕ) (next : Option ℕ) (s : Search) (r : Replacing) → at ≡ position_or_len (session_id id) sessions.old → search_held at sessions.old ≡ Some s → s.aim ≡ Replace r → may_be_refused (outcome_in (world_of directory.now buffers.old sessions.old next) id (Run (Alter (replacement last)) None r.put) true) ≡ true) }
+    ensures held { OnErr result (search_held at sessions.old ≡ None → ⊥) }
+    ensures further { OnOk result ((s t : Search) → search_held at sessions.old ≡ Some s → search_held at sessions.new ≡ Some t → 0 < length (aim_old s.aim) → remaining_at at buffers.new sessions.new < remaining_at at buffers.old sessions.old) }
+{
+    match plan_in(buffers, directory, &sessions[at], last) {
+        Ok(planned) => match perform(buffers, sessions, at, &planned) {
+            Ok(touched) => Ok(touched),
+            Err(short) => Err(short),
+        },
+        Err(message) => {
+            fail(&mut sessions[at], message);
+            Ok(Touched::Nowhere)
+        }
+    }
+}
