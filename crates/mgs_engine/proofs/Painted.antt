@@ -16,7 +16,7 @@ use Rattle.mgs_term.specs.Drawing.{Draws, IsFaithful}
 use Rattle.mgs_paint.specs.Painting.{Paints, bound_of, cells_of, shown}
 use Rattle.mgs_model.proofs.Basics.{cons_head, cons_tail}
 use Rattle.mgs_model.proofs.Firsts.{found_passes}
-use Rattle.mgs_world.specs.Worlds.{find_size, sizes, is_size_of, IsOther, IsUnique}
+use Rattle.mgs_world.specs.Worlds.{find_size, sizes, is_size_of, IsUnique}
 use Rattle.mgs_world.specs.Worlds as core
 use Rattle.mgs_screen.specs.Sketches.{AreStanding}
 use Rattle.mgs_engine.specs.declared.screen.Screen.{Screen}

@@ -16,7 +16,7 @@ use Rattle.mgs_paint.proofs.Changing.{Draws-faithful}
 use Rattle.mgs_screen.specs.Sketches.{AreStanding}
 use Rattle.mgs_screen.proofs.Sketches.{standing_none}
 use Rattle.mgs_world.specs.declared.size.Size.{Size}
-use Rattle.mgs_world.specs.Worlds.{find_size, sizes, is_size_of, IsOfSize, IsUnique}
+use Rattle.mgs_world.specs.Worlds.{find_size, sizes, IsOfSize, IsUnique}
 use Rattle.mgs_world.specs.Worlds as core
 use Rattle.mgs_engine.specs.declared.screen.Screen.{Screen}
 use Rattle.mgs_engine.specs.Queues.{IsTaken}

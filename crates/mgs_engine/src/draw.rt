@@ -1,5 +1,5 @@
 // The screens are drawn from a world, and painted where they changed.
-ghost use Rattle.std.specs.Prelude.{◌≡◌, ◌≤◌, ◌<◌, ℕ, List, [], map, not, All, false, IfOk, Some, length, vec_len, vec_capacity};
+ghost use Rattle.std.specs.Prelude.{◌≡◌, ◌<◌, map, not, All, false, IfOk, Some, length, vec_len, vec_capacity};
 ghost use Rattle.mgs_world.specs.Worlds.{sizes, find_size, IsOfSize, IsUnique};
 ghost use Rattle.mgs_core.specs.Steps.{differs_at};
 ghost use Rattle.mgs_engine.specs.Queues.{IsTaken};

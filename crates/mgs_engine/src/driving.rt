@@ -1,7 +1,7 @@
 // Calls of an engine, one after another.
 ghost use Rattle.std.specs.Prelude.{◌≡◌, OnOk, OnErr};
 ghost use Rattle.mgs_engine.specs.Driven.{AreTaped, IsRun, IsRunOfSome};
-ghost use Rattle.mgs_engine.specs.Drives.{Makes, Rig, Runs, RunsSome, asked, all_asked, rig, taped};
+ghost use Rattle.mgs_engine.specs.Drives.{Makes, Runs, RunsSome, asked, all_asked, rig, taped};
 ghost use Rattle.mgs_engine.specs.Tapes.{pieces_of};
 
 use crate::engine::Engine;

@@ -1,7 +1,7 @@
 // How sessions end.
 
 /// How a session ended.
-#[derive(Clone, Copy, Debug, PartialEq, Eq)]
+#[derive(Clone, Copy, PartialEq, Eq)]
 pub enum Cause {
     /// By a byte of its own.
     Quit,

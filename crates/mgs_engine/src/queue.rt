@@ -15,8 +15,8 @@ use std::marker::Model;
 /// Bytes that are put in at the end and taken from the front, at most `QUEUE_LIMIT` at once. Its room is made at the start.
 #[derive(Drop)]
 pub(crate) struct ByteQueue {
-    // The bytes that wait, after some that were taken. These go when as many were taken as may wait: so each byte is
-    // moved once at most.
+    // The bytes that wait, after some that were taken. These go when no more wait, so that a terminal which keeps up has its
+    // bytes in the same few places, or when as many were taken as may wait: so each byte is moved once at most.
     bytes: Vec<u8>,
     taken: usize,
 }
@@ -41,6 +41,10 @@ fn take_more(bytes: &mut Vec<u8>, taken: usize, n: usize) -> usize
     ensures rest { drop result bytes.new.items ≡ drop n (drop taken bytes.old.items) }
 {
     let taken = taken + n;
+    if taken == bytes.len() {
+        bytes.clear();
+        return 0;
+    }
     if taken < QUEUE_LIMIT {
         return taken;
     }

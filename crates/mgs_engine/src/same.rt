@@ -1,5 +1,5 @@
 // Whether two grids show the same.
-ghost use Rattle.std.specs.Prelude.{◌≡◌, ◌&&◌, drop, IsTrue};
+ghost use Rattle.std.specs.Prelude.{◌≡◌, ◌&&◌};
 ghost use Rattle.std.specs.Cmp.Lexicographic.{pointwise};
 ghost use Rattle.mgs_engine.specs.Slow.{same_row, same_picture};
 

@@ -9,7 +9,7 @@ use std::alloc::Global;
 use std::marker::Model;
 
 /// A call of an engine, with its arguments.
-#[derive(Clone, Copy, Debug)]
+#[derive(Clone, Copy)]
 pub enum Call<'a> {
     /// Opens a session of a user, on a screen of so many rows and columns.
     Open(&'a str, usize, usize),
@@ -24,7 +24,7 @@ pub enum Call<'a> {
 }
 
 /// What a call answered.
-#[derive(Clone, Copy, Debug)]
+#[derive(Clone, Copy)]
 pub enum Answer {
     /// The id of the session, or why it was not opened.
     Open(Result<SessionId, OpenFault>),

@@ -13,10 +13,10 @@ pub returns : goal.returns
 returns g c =
     let v : map shown_size c.self.inside.screens.items ≡ sizes c.args.self.now.world =
     c.self.invariant.0.sizes_are ∙ ap (λ (s : Serving). sizes s.world) c.self.view_is in
-    let e : c.place_of.result ≡ position_or_len (screen_id c.args.id) c.self.inside.screens.items =
-    c.place_of.ensures.value ∙ ap (position_or_len (screen_id c.args.id)) c.deref.ensures.value in
-    let o = open_place c.args.id (sizes c.args.self.now.world) c.self.inside.screens.items c.place_of.result v e in
+    let e : c.find_place.result ≡ position_or_len (screen_id c.args.id) c.self.inside.screens.items =
+    c.find_place.ensures.value ∙ ap (position_or_len (screen_id c.args.id)) c.deref.ensures.value in
+    let o = open_place c.args.id (sizes c.args.self.now.world) c.self.inside.screens.items c.find_place.result v e in
     same_from_decides _ (is_open c.args.id c.args.self.now.world) (
-      λ h. o.0 (omega (arith, ltb-true c.place_of.result c.len.result h, c.len.ensures, c.self.inside.screens.ok.0)),
-      λ h. lt-ltb c.place_of.result c.len.result (omega (arith, o.1 h, c.len.ensures, c.self.inside.screens.ok.0)),
+      λ h. o.0 (omega (arith, ltb-true c.find_place.result c.len.result h, c.len.ensures, c.self.inside.screens.ok.0)),
+      λ h. lt-ltb c.find_place.result c.len.result (omega (arith, o.1 h, c.len.ensures, c.self.inside.screens.ok.0)),
     ) (open_tells c.args.id c.args.self.now.world)

@@ -10,16 +10,16 @@ use Rattle.mgs_engine.proofs.engine.Engine.pending.Goals as goal
 pub returns-then-at-len-clause-value : goal.returns-then-at-len-clause-value
 returns-then-at-len-clause-value g c =
     c.bytes.ensures
-    ∙ sym (queue_at c.args.id c.self.inside.screens.items c.place_of-at.result c.index.result.now
-    (c.place_of-at.ensures.value ∙ ap (position_or_len (screen_id c.args.id)) c.deref.ensures.value)
+    ∙ sym (queue_at c.args.id c.self.inside.screens.items c.find_place-at.result c.index.result.now
+    (c.find_place-at.ensures.value ∙ ap (position_or_len (screen_id c.args.id)) c.deref.ensures.value)
     (omega (arith, c.if-at-len.true, c.len.ensures, c.self.inside.screens.ok.0)) c.index.ensures)
     ∙ ap (pending_of c.args.id) c.self.view_is
 
 pub returns-else-at-len-clause-value : goal.returns-else-at-len-clause-value
 returns-else-at-len-clause-value g c =
-    sym (queue_none c.args.id c.self.inside.screens.items c.place_of-at.result
-    (c.place_of-at.ensures.value ∙ ap (position_or_len (screen_id c.args.id)) c.deref.ensures.value)
-    (omega (arith, c.place_of-at.ensures.within, c.deref.ensures.len, c.self.inside.screens.ok.0))
+    sym (queue_none c.args.id c.self.inside.screens.items c.find_place-at.result
+    (c.find_place-at.ensures.value ∙ ap (position_or_len (screen_id c.args.id)) c.deref.ensures.value)
+    (omega (arith, c.find_place-at.ensures.within, c.deref.ensures.len, c.self.inside.screens.ok.0))
     (omega (arith, c.if-at-len.false, c.len.ensures, c.self.inside.screens.ok.0)))
     ∙ ap (pending_of c.args.id) c.self.view_is
 
@@ -27,8 +27,8 @@ pub returns-then-at-len-clause-none : goal.returns-then-at-len-clause-none
 returns-then-at-len-clause-none g c =
     let v : map shown_size c.self.inside.screens.items ≡ sizes c.args.self.now.world =
     c.self.invariant.0.sizes_are ∙ ap (λ (s : Serving). sizes s.world) c.self.view_is in
-    λ closed. absurd (open_at c.args.id c.args.self.now.world c.self.inside.screens.items c.place_of-at.result v
-    (c.place_of-at.ensures.value ∙ ap (position_or_len (screen_id c.args.id)) c.deref.ensures.value)
+    λ closed. absurd (open_at c.args.id c.args.self.now.world c.self.inside.screens.items c.find_place-at.result v
+    (c.find_place-at.ensures.value ∙ ap (position_or_len (screen_id c.args.id)) c.deref.ensures.value)
     (omega (arith, c.if-at-len.true, c.len.ensures, c.self.inside.screens.ok.0)) closed)
 
 pub returns-then-at-len-clause-formed : goal.returns-then-at-len-clause-formed
