@@ -1,5 +1,5 @@
 -- A plus that stands before a number.
-use Rattle.std.proofs.Common.{◌≡◌, ℕ, ◌<◌, ◌^◌, Bool, true, false, cond, subst, List, [], ◌∷◌, drop, rules, arith}
+use Rattle.std.proofs.Common.{◌≡◌, ℕ, ◌<◌, Bool, true, false, cond, subst, List, [], ◌∷◌, drop, rules, arith}
 use Rattle.std.specs.Prelude.{Result, OkIff, slice_index, ◌==◌}
 use Rattle.std.specs.Char.{digit_value}
 use Rattle.std.specs.Str.Parse.{IsNumeral, digits_value, ParsesUnsigned}

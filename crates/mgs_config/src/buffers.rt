@@ -4,10 +4,9 @@ ghost use Rattle.std.specs.List.{list_all};
 ghost use Rattle.std.specs.Str.{chars};
 ghost use Rattle.toml.specs.Data.{get};
 ghost use Rattle.toml.specs.View.{view};
-ghost use Rattle.mgs_model.specs.Access.{is_group_named};
 ghost use Rattle.mgs_buffers.specs.MarkedBuffer.{has_buffer};
-ghost use Rattle.mgs_config.specs.Buffers.{string_at, name_of, owning_group, are_known, is_known, listed, written, text_or_none, is_list_at, has_content, has_names, is_buffer_row};
-ghost use Rattle.mgs_config.specs.Buffers.{is_entry, entries_in, names_refused, contents_refused, refused_where, refused_beside};
+ghost use Rattle.mgs_config.specs.Buffers.{string_at, name_of, are_known, is_known, listed, written, text_or_none, is_list_at, has_content, has_names, is_buffer_row};
+ghost use Rattle.mgs_config.specs.Buffers.{is_entry, entries_in, names_refused, contents_refused, refused_beside};
 
 use crate::fault::TableFault;
 use crate::row::{are_texts, has_only, text_at, values_at};

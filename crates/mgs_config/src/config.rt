@@ -1,10 +1,9 @@
 // The configuration of a server.
-ghost use Rattle.std.specs.Prelude.{◌≡◌, ◌≢◌, [], ◌∷◌, ◌++◌, codes, map, IfOk, IfErr, OnOk, IfSome, Some, None, option_map, string_bytes};
+ghost use Rattle.std.specs.Prelude.{◌≡◌, ◌≢◌, [], ◌∷◌, ◌++◌, map, IfOk, IfErr, OnOk, IfSome, Some, None, option_map};
 ghost use Rattle.toml.specs.View.{view};
 ghost use Rattle.mgs_config.specs.Document.{document_in, rows_at};
-ghost use Rattle.mgs_config.specs.Faults.{first_fault, names_of};
 ghost use Rattle.mgs_buffers.specs.MarkedBuffer.{AreUnmarked};
-ghost use Rattle.mgs_config.specs.Files.{AreBuffers, IsCounted, table_refused};
+ghost use Rattle.mgs_config.specs.Files.{AreBuffers, IsCounted};
 ghost use Rattle.mgs_config.specs.World.{fault_of, users_in, directory_in, people_refused, buffer_rows, files_in, paths_in, paths_of};
 ghost use Rattle.mgs_config.specs.World.{buffers_fault, IsLaterFault, IsConfigFault};
 ghost use Rattle.mgs_config.specs.declared.fault.TableFault.TheVariants.{Short};

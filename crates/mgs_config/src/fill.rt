@@ -1,10 +1,10 @@
 // The buffers of a configuration, with their texts.
 ghost use Rattle.std.specs.Prelude.{◌≡◌, ◌≢◌, ◌≤◌, [], ◌∷◌, ◌++◌, length, map, IfOk, IfErr, OnOk, None, Some};
 ghost use Rattle.toml.specs.View.{view};
-ghost use Rattle.mgs_buffers.specs.MarkedBuffer.{AreUnmarked, has_buffer};
-ghost use Rattle.mgs_config.specs.Buffers.{name_of, are_known, listed, path_of, has_file, refused_where, refused_beside};
+ghost use Rattle.mgs_buffers.specs.MarkedBuffer.{AreUnmarked};
+ghost use Rattle.mgs_config.specs.Buffers.{listed, path_of, has_file, refused_beside};
 ghost use Rattle.mgs_config.specs.Faults.{first_fault};
-ghost use Rattle.mgs_config.specs.Files.{IsTold, told_fault, file_fault, table_refused, IsFileFault, IsFaultAt, IsTableFault, IsTextOf, IsCounted, buffer_of};
+ghost use Rattle.mgs_config.specs.Files.{IsTold, told_fault, file_fault, table_refused, IsFileFault, IsFaultAt, IsTextOf, IsCounted, buffer_of};
 ghost use Rattle.mgs_config.specs.Files.{IsAdded, AreBuffers, IsRowFault, IsBufferFault};
 ghost use Rattle.mgs_config.specs.declared.fault.TableFault.TheVariants.{Short};
 

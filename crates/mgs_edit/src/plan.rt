@@ -2,7 +2,7 @@
 use mgs_model::{Kind, Message};
 
 /// What a planner is given beside the text.
-#[derive(Clone, Copy, Debug, PartialEq, Eq)]
+#[derive(Clone, Copy, PartialEq, Eq)]
 pub struct Around {
     /// Where the command acts.
     pub place: usize,
@@ -19,7 +19,7 @@ pub struct Around {
 }
 
 /// Where the point goes.
-#[derive(Clone, Copy, Debug, PartialEq, Eq)]
+#[derive(Clone, Copy, PartialEq, Eq)]
 pub enum Goes {
     /// Nowhere but where the edit moves it.
     Stays,
@@ -29,7 +29,7 @@ pub enum Goes {
 }
 
 /// What becomes of the kill buffer when a piece is killed.
-#[derive(Clone, Copy, Debug, PartialEq, Eq)]
+#[derive(Clone, Copy, PartialEq, Eq)]
 pub enum Joins {
     /// It is the piece alone.
     New,
@@ -40,7 +40,7 @@ pub enum Joins {
 }
 
 /// A piece of the text, as it was before the edit, that is killed or copied: from a position up to another.
-#[derive(Clone, Copy, Debug, PartialEq, Eq)]
+#[derive(Clone, Copy, PartialEq, Eq)]
 pub struct Piece {
     pub from: usize,
     pub to: usize,
@@ -48,7 +48,7 @@ pub struct Piece {
 }
 
 /// What a command leaves.
-#[derive(Clone, Copy, Debug, PartialEq, Eq)]
+#[derive(Clone, Copy, PartialEq, Eq)]
 pub struct Finish {
     pub point: Goes,
     /// Where the mark is set, if it is.
@@ -61,7 +61,7 @@ pub struct Finish {
 }
 
 /// The case that letters come in.
-#[derive(Clone, Copy, Debug, PartialEq, Eq)]
+#[derive(Clone, Copy, PartialEq, Eq)]
 pub enum Case {
     Upper,
     Lower,
@@ -70,7 +70,7 @@ pub enum Case {
 }
 
 /// What is put in.
-#[derive(Clone, Copy, Debug, PartialEq, Eq)]
+#[derive(Clone, Copy, PartialEq, Eq)]
 pub enum Put {
     Nothing,
     /// A character so many times.
@@ -109,7 +109,7 @@ pub enum Put {
 
 /// An edit, and what is left when it is done: the characters from `from` up to `to` are taken out, and `put` comes in
 /// their place.
-#[derive(Clone, Copy, Debug, PartialEq, Eq)]
+#[derive(Clone, Copy, PartialEq, Eq)]
 pub struct Change {
     pub from: usize,
     pub to: usize,
@@ -119,7 +119,7 @@ pub struct Change {
 
 /// An undo, and what is left when it is done: `gone` characters from `from` on are taken out, and the characters that the
 /// edit of a serial took out come back in their place.
-#[derive(Clone, Copy, Debug, PartialEq, Eq)]
+#[derive(Clone, Copy, PartialEq, Eq)]
 pub struct Undone {
     pub from: usize,
     pub gone: usize,

@@ -1,5 +1,5 @@
 // Bytes of a terminal as keys.
-ghost use Rattle.std.specs.Prelude.{◌≡◌, [], ◌∷◌};
+ghost use Rattle.std.specs.Prelude.{◌≡◌};
 ghost use Rattle.mgs_keys.specs.Decoded.{decoded, held_after, begun_key, held_begun, key_within, held_within, is_in_character, is_nothing};
 ghost use Rattle.mgs_keys.specs.declared.decoder.Held.TheVariants.{Nothing};
 
@@ -8,7 +8,7 @@ use mgs_model::{Sequence, read_sequence};
 use std::marker::Model;
 
 /// A key of a terminal: its byte, and whether it was typed with Meta, or a character past ASCII.
-#[derive(Clone, Copy, Debug, PartialEq, Eq)]
+#[derive(Clone, Copy, PartialEq, Eq)]
 pub enum Key {
     /// A byte. One past ASCII stands for bytes that are no character.
     Plain(u8),
@@ -19,7 +19,7 @@ pub enum Key {
 }
 
 /// The bytes that came of a key that is not complete.
-#[derive(Clone, Copy, Debug, PartialEq, Eq)]
+#[derive(Clone, Copy, PartialEq, Eq)]
 pub enum Held {
     Nothing,
     Escape,
@@ -32,7 +32,7 @@ const QUIT: u8 = 0x07;
 
 /// Makes keys of the bytes that a terminal sends. It holds the bytes of a key that is not complete: ESC (0x1B), or those of a
 /// character past ASCII.
-#[derive(Clone, Copy, Debug)]
+#[derive(Clone, Copy)]
 pub struct Decoder {
     held: Held,
 }

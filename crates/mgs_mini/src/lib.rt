@@ -29,7 +29,7 @@ const QUIT: u8 = 0x07;
 const DELETE: u8 = 0x7F;
 
 /// The keys that are half read in a prompt.
-#[derive(Clone, Copy, Debug, PartialEq, Eq)]
+#[derive(Clone, Copy, PartialEq, Eq)]
 pub enum Waiting {
     NoKey,
     /// ESC (0x1B) came.
@@ -45,7 +45,7 @@ pub enum Waiting {
 }
 
 /// What a byte comes to in a prompt.
-#[derive(Clone, Copy, Debug, PartialEq, Eq)]
+#[derive(Clone, Copy, PartialEq, Eq)]
 pub enum Step {
     /// More is typed.
     GoesOn,

@@ -9,7 +9,8 @@ use Rattle.mgs_model.specs.World.{Own, Shows, Buffer_of, Listing, List_of}
 use Rattle.mgs_model.specs.View.{View, SessionSeen, BufferSeen, WindowSeen, SearchSeen, Told, Full, Positions, find_seen, size_told, serial_told, text_in}
 use Rattle.mgs_model.specs.World.{Item, Todo, Typed, Played, Replace_all, Play}
 use Rattle.mgs_model.specs.declared.entry.Entry.{Entry}
-use Rattle.mgs_model.specs.Outcome.{Act, Unbound, Run, KillPlan, Keep_kill, Kill_is, Arrange, Stay, Adjust, At_origin, Keep, Keep_mark, Keep_search, No_search, Effect, No_effect, Edit, Unmodified, Relist, Reown, ToUser, ToGroup, Create, Kill, Save, Quit, Outcome}
+use Rattle.mgs_model.specs.Outcome.{Act, Unbound, Run, KillPlan, Keep_kill, Kill_is, Arrange, Stay, Adjust, At_origin, Keep, Keep_mark, Keep_search, No_search, Effect, No_effect, Edit, Unmodified, Relist, Reown, Create, Kill, Save, Quit, Outcome}
+use Rattle.mgs_model.specs.declared.owners.NewOwner.TheVariants.{ToUser, ToGroup}
 use Rattle.mgs_model.specs.Plans.{failed_own, acted_own, Around, ModePlan, Goes_on, Over, Failing, Finish, Change, insertion, reading_insertion, motion, alteration, scrolling, row_scrolled, setting, arrangement, undo, entries_changed, comes, inserted}
 use Rattle.mgs_model.specs.declared.right.Right.{Right}
 use Rattle.mgs_model.specs.declared.entry.Decision.{Decision}

@@ -2,7 +2,8 @@
 use Rattle.std.specs.Prelude.{ℕ, Bool, true, false, List, [], map, find, length, Option, Some, None}
 use Rattle.std.specs.Option.{option_map}
 use Rattle.mgs_model.specs.Names.{same_name}
-use Rattle.mgs_model.specs.Access.{Directory, Owners, Decider, decider, allows, any_right}
+use Rattle.mgs_model.specs.Access.{Directory, Decider, decider, allows, any_right}
+use Rattle.mgs_model.specs.declared.owners.Owners.{Owners}
 use Rattle.mgs_model.specs.World.{World, Buffer, Item, Session, Window, Place, Search, Own, Shows, Buffer_of, find_buffer, find_session, may}
 use Rattle.mgs_model.specs.declared.right.Right.{Right}
 use Rattle.mgs_model.specs.declared.right.Right.TheVariants.{ReadData}

@@ -1,4 +1,4 @@
-ghost use Rattle.std.specs.Prelude.{◌≡◌, ℕ, ◌≤◌};
+ghost use Rattle.std.specs.Prelude.{◌≡◌, ◌≤◌};
 ghost use Rattle.mgs_model.specs.Cells.{one_or_two, own_columns};
 
 use unicode_width::UnicodeWidthChar;

@@ -4,7 +4,7 @@ use crate::name::Name;
 
 /// Where a point stands in its text: the number of characters before it and in all, its line from 1 and its column
 /// from 0.
-#[derive(Clone, Copy, Debug, PartialEq, Eq)]
+#[derive(Clone, Copy, PartialEq, Eq)]
 pub struct CursorPosition {
     pub point: usize,
     pub size: usize,
@@ -13,7 +13,7 @@ pub struct CursorPosition {
 }
 
 /// What a session's echo line says. `specs/Messages.antt` has the texts.
-#[derive(Clone, Copy, Debug, PartialEq, Eq)]
+#[derive(Clone, Copy, PartialEq, Eq)]
 pub enum Message {
     /// Nothing.
     Silent,

@@ -1,14 +1,14 @@
 // The words for an incremental search.
 
 /// Which way a search goes through a text.
-#[derive(Clone, Copy, Debug, PartialEq, Eq)]
+#[derive(Clone, Copy, PartialEq, Eq)]
 pub enum Direction {
     Forward,
     Backward,
 }
 
 /// The positions of an incremental search: where it began, where it looks from, and the point.
-#[derive(Clone, Copy, Debug, PartialEq, Eq)]
+#[derive(Clone, Copy, PartialEq, Eq)]
 pub struct SearchPlaces {
     pub origin: usize,
     pub anchor: usize,
@@ -16,7 +16,7 @@ pub struct SearchPlaces {
 }
 
 /// What is to be done after a byte of an incremental search.
-#[derive(Clone, Copy, Debug, PartialEq, Eq)]
+#[derive(Clone, Copy, PartialEq, Eq)]
 pub enum SearchStep {
     /// Nothing.
     Stays,

@@ -2,7 +2,7 @@ ghost use Rattle.std.specs.Prelude.{◌≡◌, None};
 ghost use Rattle.mgs_model.specs.Sequences.{begun_of, sequence_read};
 
 /// What bytes are that were typed one after another, of which the first is past ASCII.
-#[derive(Clone, Copy, Debug, PartialEq, Eq)]
+#[derive(Clone, Copy, PartialEq, Eq)]
 pub enum Sequence {
     /// The UTF-8 of a character.
     Whole(char),

@@ -9,7 +9,7 @@ use std::marker::Model;
 pub type SessionId = u64;
 
 /// A mark of a text: the number of its slot.
-#[derive(Clone, Copy, Debug)]
+#[derive(Clone, Copy)]
 pub struct MarkId {
     slot: usize,
 }
@@ -41,14 +41,14 @@ impl MarkId {
 }
 
 /// An argument, and whether a digit goes on with it: C-u is 4, and a digit replaces it.
-#[derive(Clone, Copy, Debug, PartialEq, Eq)]
+#[derive(Clone, Copy, PartialEq, Eq)]
 pub struct Argument {
     pub value: usize,
     pub extends: bool,
 }
 
 /// What a session is in the middle of.
-#[derive(Clone, Copy, Debug, PartialEq, Eq)]
+#[derive(Clone, Copy, PartialEq, Eq)]
 pub enum Mode {
     Plain,
     /// It types the answer to this.
@@ -60,7 +60,7 @@ pub enum Mode {
 }
 
 /// The kind of a session's last command.
-#[derive(Clone, Copy, Debug, PartialEq, Eq)]
+#[derive(Clone, Copy, PartialEq, Eq)]
 pub enum Kind {
     Other,
     /// A kill or a copy: the next one adds its piece.
@@ -78,7 +78,7 @@ pub enum Kind {
 }
 
 /// Puts characters in, and sees nothing of the text but its length.
-#[derive(Clone, Copy, Debug, PartialEq, Eq)]
+#[derive(Clone, Copy, PartialEq, Eq)]
 pub enum Insertion {
     SelfInsert(char),
     Newline,
@@ -89,13 +89,13 @@ pub enum Insertion {
 }
 
 /// Puts in what depends on the text.
-#[derive(Clone, Copy, Debug, PartialEq, Eq)]
+#[derive(Clone, Copy, PartialEq, Eq)]
 pub enum ReadingInsertion {
     NewlineAndIndent,
 }
 
 /// Reads the text, and edits nothing.
-#[derive(Clone, Copy, Debug, PartialEq, Eq)]
+#[derive(Clone, Copy, PartialEq, Eq)]
 pub enum Motion {
     ForwardChar,
     BackwardChar,
@@ -130,7 +130,7 @@ pub enum Motion {
 }
 
 /// Reads the text and edits it.
-#[derive(Clone, Copy, Debug, PartialEq, Eq)]
+#[derive(Clone, Copy, PartialEq, Eq)]
 pub enum Alteration {
     DeleteChar,
     DeleteBackwardChar,
@@ -157,14 +157,14 @@ pub enum Alteration {
 }
 
 /// Goes on or back by a screen: in a text by lines, in a listing or an access list by rows.
-#[derive(Clone, Copy, Debug, PartialEq, Eq)]
+#[derive(Clone, Copy, PartialEq, Eq)]
 pub enum Scrolling {
     ScrollUp,
     ScrollDown,
 }
 
 /// Changes the session's own record alone.
-#[derive(Clone, Copy, Debug, PartialEq, Eq)]
+#[derive(Clone, Copy, PartialEq, Eq)]
 pub enum Setting {
     SetFillColumn,
     KeyboardQuit,
@@ -174,7 +174,7 @@ pub enum Setting {
 }
 
 /// Changes the session's windows alone.
-#[derive(Clone, Copy, Debug, PartialEq, Eq)]
+#[derive(Clone, Copy, PartialEq, Eq)]
 pub enum Arrangement {
     DeleteWindow,
     DeleteOtherWindows,
@@ -187,7 +187,7 @@ pub enum Arrangement {
 }
 
 /// Acts on a buffer by the name that was typed for it.
-#[derive(Clone, Copy, Debug, PartialEq, Eq)]
+#[derive(Clone, Copy, PartialEq, Eq)]
 pub enum ByName {
     SwitchToBuffer,
     KillBuffer,
@@ -195,7 +195,7 @@ pub enum ByName {
 }
 
 /// Changes an access list.
-#[derive(Clone, Copy, Debug, PartialEq, Eq)]
+#[derive(Clone, Copy, PartialEq, Eq)]
 pub enum EntryChange {
     InsertEntry,
     DeleteEntry,
@@ -203,7 +203,7 @@ pub enum EntryChange {
 }
 
 /// What a prompt asks for.
-#[derive(Clone, Copy, Debug, PartialEq, Eq)]
+#[derive(Clone, Copy, PartialEq, Eq)]
 pub enum Question {
     SwitchTo,
     FindWhich,
@@ -226,7 +226,7 @@ pub enum Question {
 }
 
 /// What a word of keys tells a session to do, by what it may see and do.
-#[derive(Clone, Copy, Debug, PartialEq, Eq)]
+#[derive(Clone, Copy, PartialEq, Eq)]
 pub enum Command {
     Insert(Insertion),
     InsertReading(ReadingInsertion),

@@ -1,8 +1,8 @@
 // The ticket of each user.
-ghost use Rattle.std.specs.Prelude.{◌≡◌, [], ◌<◌, ◌≤◌, OnOk, OnErr, IfSome, IsSome, find};
+ghost use Rattle.std.specs.Prelude.{◌≡◌, [], ◌<◌, OnOk, OnErr, find};
 ghost use Rattle.std.specs.List.{list_all};
 ghost use Rattle.std.specs.Option.{option_map};
-ghost use Rattle.mgs_model.specs.Names.{is_visible, same_name};
+ghost use Rattle.mgs_model.specs.Names.{is_visible};
 ghost use Rattle.mgs_model.specs.Tickets.{is_ticket, user_name_in, is_ticket_of, has_ticket, ticket_of};
 
 use crate::limits::USER_LIMIT;

@@ -1,5 +1,5 @@
 // The calls of a player: each is made by `drive`, on a tape of its own.
-ghost use Rattle.std.specs.Prelude.{◌≡◌, ◌++◌, ◌∷◌, ℕ, [], Result, Option, IfOk, OnOk, drop, length, slice_get, is_some};
+ghost use Rattle.std.specs.Prelude.{◌≡◌, ◌++◌, ◌∷◌, ℕ, [], Result, Option, IfOk, OnOk, drop, slice_get, is_some};
 ghost use Rattle.mgs_model.specs.Events.{Close, step};
 ghost use Rattle.mgs_model.specs.declared.errors.Keyed.{Keyed};
 ghost use Rattle.mgs_model.specs.declared.errors.OpenFault.{OpenFault};

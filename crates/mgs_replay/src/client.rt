@@ -3,7 +3,7 @@ use mgs_model::{Name, SessionId};
 use mgs_term::Term;
 
 /// How a session ended.
-#[derive(Clone, Copy, Debug, PartialEq, Eq)]
+#[derive(Clone, Copy, PartialEq, Eq)]
 pub(crate) enum Cause {
     /// By a byte.
     Quit,

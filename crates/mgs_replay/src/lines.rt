@@ -23,7 +23,7 @@ use std::alloc::Global;
 use std::io::Write;
 
 /// Why a line ended a replay.
-#[derive(Clone, Copy, Debug, PartialEq, Eq)]
+#[derive(Clone, Copy, PartialEq, Eq)]
 enum TurnFault {
     Refused,
     Write,

@@ -1,5 +1,5 @@
 // Prints the screens of sessions, refused opens and ended sessions.
-ghost use Rattle.std.specs.Prelude.{◌≡◌, ◌++◌, ◌∷◌, [], OnOk, codes, decimal};
+ghost use Rattle.std.specs.Prelude.{◌≡◌, ◌++◌, ◌∷◌, [], OnOk, decimal};
 ghost use Rattle.mgs_replay.specs.Prints.{edge_of, cell_bytes, characters, row_text, rows_text, screen_text, refusal_text, ended_text, fault_text, ended_by_text};
 
 use crate::client::Cause;

@@ -1,6 +1,5 @@
 // Reads a script, and replays it.
 ghost use Rattle.std.specs.Prelude.{◌≡◌, ◌+◌, ◌≤◌, length, IfOk, IfSome};
-ghost use Rattle.std.specs.Io.KnownBytes.{Keeps};
 ghost use Rattle.mgs_replay.specs.Faults.{IsCounted};
 ghost use Rattle.mgs_replay.specs.Settings.{first_world};
 ghost use Rattle.mgs_replay.specs.Plays.{WrittenOrUnread};
@@ -14,7 +13,7 @@ use std::alloc::Global;
 use std::io::{ErrorKind, Read, Write};
 
 /// Why a replay ended.
-#[derive(Clone, Copy, Debug, PartialEq, Eq)]
+#[derive(Clone, Copy, PartialEq, Eq)]
 pub enum ReplayFault {
     /// This line, counted from 1, is refused.
     Line(usize),
@@ -27,7 +26,7 @@ pub enum ReplayFault {
 }
 
 /// Why a script was not read.
-#[derive(Clone, Copy, Debug, PartialEq, Eq)]
+#[derive(Clone, Copy, PartialEq, Eq)]
 enum ScriptFault {
     Read,
     Short,

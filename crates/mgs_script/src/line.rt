@@ -2,7 +2,7 @@
 use mgs_model::Name;
 
 /// What a script's line says. The texts are the script's own.
-#[derive(Debug, PartialEq, Eq, Drop)]
+#[derive(PartialEq, Eq, Drop)]
 pub enum Line<'a> {
     /// An empty line, or one that begins with `#`.
     Nothing,
@@ -58,7 +58,7 @@ pub enum Line<'a> {
 }
 
 /// Why a line was not read.
-#[derive(Clone, Copy, Debug, PartialEq, Eq)]
+#[derive(Clone, Copy, PartialEq, Eq)]
 pub enum LineFault {
     /// The line is refused.
     Bad,

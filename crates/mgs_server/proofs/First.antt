@@ -1,5 +1,5 @@
 -- The engine of a world in which no session is open yet.
-use Rattle.std.proofs.Common.{◌≡◌, ℕ, List, [], ◌∷◌, map, Result, Ok, Err, refl, ap, ◌∙◌}
+use Rattle.std.proofs.Common.{◌≡◌, List, [], ◌∷◌, map, Result, Ok, Err, refl, ap, ◌∙◌}
 use Rattle.std.specs.Prelude.{IfOk}
 use Rattle.mgs_model.specs.World.{World, Session}
 use Rattle.mgs_store.specs.Stores.{StoreTold}

@@ -2,7 +2,7 @@
 use Rattle.std.proofs.Common.{◌≡◌, ℕ, zero, suc, Bool, true, false, List, [], ◌∷◌, ◌==◌, length, map, Option, None, Some, refl, ◌∙◌}
 use Rattle.std.proofs.Math.Dec.{eqb-suc-zero}
 use Rattle.mgs_model.specs.Acts.{without_all}
-use Rattle.mgs_model.specs.World.{Todo, Played, Replace_all, Play}
+use Rattle.mgs_model.specs.World.{Played, Replace_all, Play}
 use Rattle.mgs_session.specs.Playing.{IsNext, Playing, are_behind, are_played, rounds, todo_in}
 use Rattle.mgs_session.specs.declared.playing.Task.TheVariants.{Replacement, FirstReplacement}
 

@@ -1,5 +1,5 @@
 -- What a session records: the bytes of its macro, and whether more are recorded.
-use Rattle.std.specs.Prelude.{ℕ, ◌-◌, nat_le, Bool, true, false, not, ◌&&◌, List, [], ◌∷◌, ◌++◌, length, take, cond}
+use Rattle.std.specs.Prelude.{ℕ, ◌-◌, nat_le, Bool, true, false, ◌&&◌, List, [], ◌∷◌, ◌++◌, length, take, cond}
 use Rattle.mgs_model.specs.declared.limits.TheConstants.{MACRO_LIMIT}
 
 pub record Recorded : Type 0 where

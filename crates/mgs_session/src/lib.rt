@@ -7,7 +7,7 @@ mod recording;
 mod search;
 mod search_string;
 
-ghost use Rattle.std.specs.Prelude.{◌≡◌, ◌≤◌, ◌<◌, ◌+◌, ◌-◌, ◌^◌, [], ◌∷◌, vec_capacity};
+ghost use Rattle.std.specs.Prelude.{◌≡◌, ◌≤◌, ◌<◌, ◌+◌, ◌-◌, ◌^◌, [], vec_capacity};
 ghost use Rattle.mgs_model.specs.Plans.{kind_failed};
 ghost use Rattle.mgs_session.specs.Playing.{IsNext};
 ghost use Rattle.mgs_session.specs.Seeking.{is_search_in, own_bereft, search_left, searching, session_edited, unsearched};

@@ -1,6 +1,6 @@
 /// One cell of a terminal's screen: a character that is shown as itself, and whether that is in reverse. Behind a character of
 /// two columns stands `RIGHT_HALF`.
-#[derive(Clone, Copy, Debug, PartialEq, Eq)]
+#[derive(Clone, Copy, PartialEq, Eq)]
 pub struct Cell {
     pub character: char,
     pub reversed: bool,

@@ -1,12 +1,12 @@
-ghost use Rattle.std.specs.Prelude.{◌≡◌, ℕ, ◌+◌, ◌-◌, ◌*◌, ◌<◌, ◌≤◌, ◌++◌, ◌↔◌, length, take, drop, replicate, true, false, IsTrue, IsOk, IsErr, IfOk, OnOk, OnErr, List, [], ◌∷◌};
+ghost use Rattle.std.specs.Prelude.{◌≡◌, ℕ, ◌+◌, ◌-◌, ◌*◌, ◌<◌, ◌≤◌, ◌++◌, ◌↔◌, length, take, drop, replicate, true, false, IsOk, IfOk, OnOk, OnErr, List, [], ◌∷◌};
 ghost use Rattle.mgs_model.specs.Picture.{IsSize};
 ghost use Rattle.mgs_model.specs.Cells.{own_cells};
 ghost use Rattle.mgs_term.specs.declared.operation.Operation.TheVariants.{Print};
-ghost use Rattle.mgs_term.specs.Screen.{Screen, IsScreen, blank_cell, cursor_cell, own_shown, parted, written};
+ghost use Rattle.mgs_term.specs.Screen.{Screen, IsScreen, blank_cell, own_shown, parted, written};
 ghost use Rattle.mgs_term.specs.Sequences.{Accepts, has_room, after};
-ghost use Rattle.mgs_term.specs.Terminal.{Continues, Takes, Refuses, TakesAll, RefusesSome, resting};
+ghost use Rattle.mgs_term.specs.Terminal.{Continues, Takes, TakesAll, RefusesSome, resting};
 ghost use Rattle.mgs_term.specs.Drawing.{Draws, Anything};
-ghost use Rattle.mgs_term.specs.Automaton.{Automaton, IsPlace, stepped, fed, new_automaton, terminal_of};
+ghost use Rattle.mgs_term.specs.Automaton.{Automaton, IsPlace, stepped, new_automaton, terminal_of};
 ghost use Rattle.mgs_term.specs.declared.place.Place.TheVariants.{Ground, Refused};
 ghost use Rattle.mgs_term.specs.declared.operation.Operation.{Operation};
 

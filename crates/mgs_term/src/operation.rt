@@ -1,5 +1,5 @@
 /// An operation of a terminal, told by one sequence of a VT100. Rows and columns are counted from 0.
-#[derive(Clone, Copy, Debug, PartialEq, Eq)]
+#[derive(Clone, Copy, PartialEq, Eq)]
 pub enum Operation {
     /// `ESC [ r ; c H`: the cursor goes to a row and a column, which the sequence counts from 1.
     Goto(usize, usize),

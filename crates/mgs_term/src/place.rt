@@ -8,7 +8,7 @@ use crate::operation::Operation;
 use mgs_model::own_columns;
 
 /// Where in a sequence a terminal is. Numbers are those read so far, rows and columns counted from 1.
-#[derive(Clone, Copy, Debug)]
+#[derive(Clone, Copy)]
 pub(crate) enum Place {
     /// Between two sequences.
     Ground,
@@ -33,7 +33,7 @@ pub(crate) enum Place {
 }
 
 /// The effect of the next byte.
-#[derive(Clone, Copy, Debug)]
+#[derive(Clone, Copy)]
 pub(crate) enum Next {
     /// No accepted sequence has it.
     Stuck,

@@ -1,4 +1,4 @@
-ghost use Rattle.std.specs.Prelude.{◌≡◌, ℕ, ◌+◌, ◌*◌, ◌≤◌, ◌++◌, ◌↔◌, false, true, IsOk, IfOk, OnOk, OnErr, List, [], ◌∷◌, length};
+ghost use Rattle.std.specs.Prelude.{◌≡◌, ℕ, ◌+◌, ◌*◌, ◌++◌, ◌↔◌, false, IsOk, IfOk, OnOk, OnErr, List, [], ◌∷◌, length};
 ghost use Rattle.mgs_model.specs.Picture.{IsSize};
 ghost use Rattle.mgs_term.specs.Screen.{Screen, IsScreen, blank_screen};
 ghost use Rattle.mgs_term.specs.Sequences.{after};

@@ -5,10 +5,10 @@
 mod bereft;
 mod places;
 
-ghost use Rattle.std.specs.Prelude.{◌≡◌, ◌≢◌, ◌-◌, ◌/◌, ◌+◌, ◌<◌, ◌≤◌, [], ◌∷◌, length, slice_get, vec_capacity, Some, OnOk, OnErr, ◌^◌};
+ghost use Rattle.std.specs.Prelude.{◌≡◌, ◌≢◌, ◌-◌, ◌/◌, ◌+◌, ◌<◌, ◌≤◌, [], ◌∷◌, length, slice_get, vec_capacity, Some, OnOk, ◌^◌};
 ghost use Rattle.mgs_model.specs.Apply.{change_at};
 ghost use Rattle.std.specs.Option.{option_map};
-ghost use Rattle.mgs_windows.specs.Panes.{WindowList, IsWindowList, closer, given, grown, height_at, left_by, list_bereft, mark_set, marked, one_shown, places_after, room_of, rows_at, rows_set, showing, showing_rows, shown_in, shows_at, shrunk, split_at, window_removed, window_rows_shown, window_shown, window_split, windows_without};
+ghost use Rattle.mgs_windows.specs.Panes.{WindowList, IsWindowList, closer, given, grown, height_at, left_by, list_bereft, mark_set, marked, one_shown, places_after, rows_at, rows_set, showing, showing_rows, shown_in, shows_at, shrunk, split_at, window_removed, window_rows_shown, window_shown, window_split, windows_without};
 ghost use Rattle.mgs_windows.specs.declared.RowPane.TheVariants.{NoRows};
 
 use crate::bereft::{leave_places, leave_windows};
@@ -18,7 +18,7 @@ use mgs_model::{MarkId, Name, Short};
 use std::marker::Model;
 
 /// A buffer in a window: the marks of the window's point, mark and top in the buffer's text.
-#[derive(Clone, Copy, Debug)]
+#[derive(Clone, Copy)]
 pub struct WindowMarks {
     pub name: Name,
     pub point: MarkId,
@@ -28,7 +28,7 @@ pub struct WindowMarks {
 
 /// What a window without a text shows: nothing, the list of all buffers, or the access list of the buffer of this name. A
 /// list begins at a row.
-#[derive(Clone, Copy, Debug, Default)]
+#[derive(Clone, Copy, Default)]
 pub enum RowPane {
     #[default]
     NoRows,
@@ -38,7 +38,7 @@ pub enum RowPane {
 
 /// A window: how many rows its pane has, and the buffer whose text it shows. Where it shows no text, it shows the rows; where
 /// it does, these count for nothing.
-#[derive(Clone, Copy, Debug, Default)]
+#[derive(Clone, Copy, Default)]
 pub struct Window {
     pub height: usize,
     pub shows: Option<WindowMarks>,

@@ -1,5 +1,5 @@
 // Where a session was in the buffers that its windows left: the marks of the last window that left each.
-ghost use Rattle.std.specs.Prelude.{◌≡◌, ◌<◌, ◌≤◌, ◌+◌, length, find, IsSome, vec_capacity, slice_set, Option, Some, None};
+ghost use Rattle.std.specs.Prelude.{◌≡◌, ◌<◌, ◌≤◌, ◌+◌, length, find, vec_capacity, Option, Some, None};
 ghost use Rattle.std.specs.List.{position_or_len};
 ghost use Rattle.mgs_windows.specs.Panes.{is_place_in, with_place};
 

@@ -1,5 +1,5 @@
 // Reads and writes connections.
-ghost use Rattle.std.specs.Prelude.{◌≡◌, ◌≤◌, ◌<◌, length, take, false};
+ghost use Rattle.std.specs.Prelude.{◌≡◌, ◌<◌, length, take, false};
 ghost use Rattle.std.specs.Io.{ReadsAtMost};
 ghost use Rattle.std.specs.Io.KnownBytes.{Appends};
 ghost use Rattle.std.specs.IoError.{error_kind};
@@ -13,7 +13,7 @@ use mgs_model::Tickets;
 use std::io::{self, Error, ErrorKind, Read, Write};
 
 /// What a call of `pump_in` did.
-#[derive(Clone, Copy, Debug, PartialEq, Eq)]
+#[derive(Clone, Copy, PartialEq, Eq)]
 pub enum PumpedIn {
     /// So many bytes were read, 1 to 4,096.
     Took(usize),
@@ -26,7 +26,7 @@ pub enum PumpedIn {
 }
 
 /// What a call of `pump_out` did.
-#[derive(Clone, Copy, Debug, PartialEq, Eq)]
+#[derive(Clone, Copy, PartialEq, Eq)]
 pub enum PumpedOut {
     /// All that waited was written.
     Drained,

@@ -5,7 +5,7 @@ ghost use Rattle.mgs_wire.specs.Login.{refusal_line, refusal_of};
 use mgs_model::OpenFault;
 
 /// Why a login is refused, in the order in which the causes are checked.
-#[derive(Clone, Copy, Debug, PartialEq, Eq)]
+#[derive(Clone, Copy, PartialEq, Eq)]
 pub enum Refusal {
     /// The line is no login line, it has more than 128 bytes, or the input ended before its line feed.
     Line,

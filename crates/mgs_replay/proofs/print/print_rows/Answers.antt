@@ -1,4 +1,4 @@
-use Rattle.std.proofs.Common.{◌≡◌, rules}
+use Rattle.std.proofs.Common.{rules}
 use Rattle.mgs_replay.proofs.Rows.{row_more}
 use Rattle.mgs_replay.proofs.print.print_rows.Goals as goal
 

@@ -1,4 +1,4 @@
-use Rattle.std.proofs.Common.{◌+◌, length, refl, arith, ap, ◌∙◌}
+use Rattle.std.proofs.Common.{refl, arith, ap, ◌∙◌}
 use Rattle.mgs_windows.specs.Panes.{one_shown, shows_at}
 use Rattle.mgs_windows.proofs.Heights.{showing_rows_list, shown_at_most}
 use Rattle.mgs_windows.proofs.PlaceLists.{length_left}
