@@ -4,6 +4,7 @@ ghost use Rattle.std.specs.Vec.{vec_capacity};
 ghost use Rattle.mgs_model.specs.Lines.{is_feed, line_of, start_of};
 ghost use Rattle.mgs_gap.specs.Feeds.{feeds_from, ends_from, turned, AreFeeds, Parts};
 
+use core::mem::replace_with;
 use mgs_model::Short;
 use std::alloc::Global;
 
@@ -63,6 +64,25 @@ fn below(feeds: &[usize], limit: usize) -> usize
     low
 }
 
+// Adds numbers past the first `left` to a list, the last one first, each counted from the other end of a text of `len`
+// characters. The loop has the list by value, which keeps its address in a register while numbers are written.
+fn turned_onto(to: Vec<usize>, run: (&[usize], usize, usize)) -> (Vec<usize>, ())
+    requires some { run.1 ≤ length run.0.now }
+    requires within { (i : ℕ) → i < length run.0.now → slice_index run.0.now i ≤ run.2 }
+    requires room { length run.0.now + length to.items ≤ vec_capacity to + run.1 }
+    ensures items { result.0.items ≡ to.items ++ turned run.entry.2 (drop run.entry.1 run.entry.0.now) }
+    ensures capacity { vec_capacity result.0 ≡ vec_capacity to }
+{
+    let (numbers, left, len) = run;
+    let mut to = to;
+    let mut i = numbers.len();
+    while i > left {
+        i -= 1;
+        to.push_reserved(len - numbers[i]);
+    }
+    (to, ())
+}
+
 // Moves the numbers past the first `left` to the end of another list, the last one first, each counted from the other end
 // of a text of `len` characters.
 fn turn_over(from: &mut Vec<usize>, to: &mut Vec<usize>, left: usize, len: usize)
@@ -74,11 +94,7 @@ fn turn_over(from: &mut Vec<usize>, to: &mut Vec<usize>, left: usize, len: usize
     ensures from_capacity { vec_capacity from.new ≡ vec_capacity from.old }
     ensures to_capacity { vec_capacity to.new ≡ vec_capacity to.old }
 {
-    let mut i = from.len();
-    while i > left {
-        i -= 1;
-        to.push_reserved(len - from[i]);
-    }
+    replace_with(to, (&from[..], left, len), turned_onto);
     from.truncate(left);
 }
 

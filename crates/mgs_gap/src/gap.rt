@@ -92,6 +92,10 @@ impl Text for GapText {
         self.block.at(i)
     }
 
+    fn piece(&self, at: usize) -> &[char] {
+        self.block.piece(at)
+    }
+
     fn copy(&self, a: usize, b: usize) -> Result<Vec<char>, Short> {
         copied(self.alloc, self.block.front(), self.block.back(), a, b)
     }

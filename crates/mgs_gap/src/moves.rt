@@ -1,5 +1,5 @@
 // Longer steps of a block, in safe code.
-ghost use Rattle.std.specs.Prelude.{◌≡◌, ◌+◌, ◌-◌, ◌<◌, ◌≤◌, [], length, take, drop, slice_index, IfOk, OnOk, OnErr};
+ghost use Rattle.std.specs.Prelude.{◌≡◌, ◌+◌, ◌-◌, ◌<◌, ◌≤◌, ◌++◌, [], length, take, drop, slice_index, IfOk, OnOk, OnErr};
 ghost use Rattle.mgs_gap.specs.Gapped.{Gapped, gapped, text_of};
 
 use crate::block::Block;
@@ -27,6 +27,22 @@ impl Block {
             self.front()[i]
         } else {
             self.back()[i - before]
+        }
+    }
+
+    // The characters after the place `at` of the text: those up to the gap, or all.
+    #[tactic(auto, using(crate::proofs::Ranges::piece_front, crate::proofs::Ranges::piece_back))]
+    pub(crate) fn piece(&self, at: usize) -> &[char]
+        requires { at ≤ length (text_of self.now) }
+        ensures piece { drop at (text_of self.now) ≡ result.now ++ drop (at + length result.now) (text_of self.now) }
+        ensures within { at + length result.now ≤ length (text_of self.now) }
+        ensures some { at < length (text_of self.now) → 0 < length result.now }
+    {
+        let before = self.before();
+        if at < before {
+            &self.front()[at..]
+        } else {
+            &self.back()[at - before..]
         }
     }
 

@@ -85,6 +85,10 @@ impl<const NEW: usize> Text for Refusing<NEW> {
         self.text.at(i)
     }
 
+    fn piece(&self, at: usize) -> &[char] {
+        self.text.piece(at)
+    }
+
     fn copy(&self, a: usize, b: usize) -> Result<Vec<char>, Short> {
         self.text.copy(a, b)
     }

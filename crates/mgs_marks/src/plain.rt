@@ -109,6 +109,10 @@ impl Text for PlainMarked {
         self.text.at(i)
     }
 
+    fn piece(&self, at: usize) -> &[char] {
+        self.text.piece(at)
+    }
+
     fn copy(&self, a: usize, b: usize) -> Result<Vec<char>, Short> {
         self.text.copy(a, b)
     }

@@ -1,7 +1,7 @@
 -- One step of a comparison, and one of a walk over places.
-use Rattle.std.proofs.Common.{◌≡◌, ℕ, suc, true, false, ◌+◌, ◌-◌, ◌<◌, ◌≤◌, min, leb, ◌⊎◌, inl, inr, List, [], ◌∷◌, length, drop, get_or, Option, Some, None, refl, sym, ap, ◌∙◌, arith, length-drop}
+use Rattle.std.proofs.Common.{◌≡◌, ℕ, suc, true, false, ◌+◌, ◌-◌, ◌<◌, ◌≤◌, min, leb, ◌⊎◌, inl, inr, List, [], ◌∷◌, ◌++◌, length, drop, get_or, Option, Some, None, refl, sym, ap, ◌∙◌, arith, length-drop, drop-drop}
 use Rattle.std.proofs.lemmas.Bool.Decides.{leb_tells}
-use Rattle.std.proofs.lemmas.List.{drop_more, drop_all, get_or-drop}
+use Rattle.std.proofs.lemmas.List.{drop_more, drop_all, drop-append-le, get_or-drop}
 use Rattle.std.specs.Char.{eq_ignore_ascii_case}
 use Rattle.mgs_model.specs.Searching.{begins, matches_at, first_in, first_match, last_match_before, last_match}
 
@@ -71,6 +71,14 @@ first_next ps xs p within other =
 -- n: a place from which on the same is left to look through as behind p
 pub first_passed : (ps xs : List ℕ) (p n : ℕ) (first : Option ℕ) → p < length xs → matches_at ps xs p ≡ false → first_match ps xs n ≡ first_match ps xs (p + 1) → first_match ps xs p ≡ first → first_match ps xs n ≡ first
 first_passed ps xs p n first within other is was = is ∙ first_next ps xs p within other ∙ was
+
+-- k characters of a piece are passed over, whatever follows the piece
+pub piece_passed : (ps xs piece : List ℕ) (p k : ℕ) → k ≤ length piece → drop p xs ≡ piece ++ drop (p + length piece) xs
+    → ((rest : List ℕ) → first_in ps (p + k) (drop k piece ++ rest) ≡ first_in ps p (piece ++ rest)) → first_match ps xs (p + k) ≡ first_match ps xs p
+piece_passed ps xs piece p k within is passed =
+    let rest : List ℕ = drop (p + length piece) xs in
+    let left : drop (p + k) xs ≡ drop k piece ++ rest = sym (drop-drop k p xs) ∙ ap (λ (l : List ℕ). drop k l) is ∙ drop-append-le k piece rest within in
+    ap (first_in ps (p + k)) left ∙ passed rest ∙ sym (ap (first_in ps p) is)
 
 -- where no text is left, no other pattern stands
 pub first_end : (ps xs : List ℕ) (p : ℕ) → length xs ≤ p → (length ps ≡ 0 → ⊥) → first_match ps xs p ≡ None

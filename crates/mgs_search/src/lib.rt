@@ -1,9 +1,9 @@
 //! Searches in a text: a pattern matches whatever the case of its ASCII letters.
 #![tactic(auto)]
 
-ghost use Rattle.std.specs.Prelude.{◌≡◌, ℕ, ◌+◌, ◌<◌, ◌≤◌, List, length, IfSome, true};
+ghost use Rattle.std.specs.Prelude.{◌≡◌, ℕ, ◌+◌, ◌<◌, ◌≤◌, ◌++◌, List, length, drop, IfSome, true};
 ghost use Rattle.std.specs.Char.{eq_ignore_ascii_case, to_ascii_lowercase, to_ascii_uppercase};
-ghost use Rattle.mgs_model.specs.Searching.{matches_at, first_match, last_match, last_match_before, match_from, match_past};
+ghost use Rattle.mgs_model.specs.Searching.{matches_at, first_in, first_match, last_match, last_match_before, match_from, match_past};
 ghost use Rattle.mgs_model.specs.declared.search.Direction.{Direction};
 ghost use Rattle.mgs_search.specs.Firsts.{IsFirst};
 
@@ -66,6 +66,20 @@ fn is_either(c: char, first: First) -> bool
     c == first.small || c == first.large
 }
 
+// How many characters stand before the first one that a pattern may begin with: all of them where there is none. No such
+// pattern is passed over, whatever follows.
+fn begun_in(piece: &[char], first: First) -> usize
+    ensures value { (chars rest : List ℕ) (p : ℕ) → IsFirst chars first → first_in chars (p + result) (drop result piece.now ++ rest) ≡ first_in chars p (piece.now ++ rest) }
+    ensures within { result ≤ length piece.now }
+{
+    for i in 0..piece.len() {
+        if is_either(piece[i], first) {
+            return i;
+        }
+    }
+    piece.len()
+}
+
 // The first place from `from` on where a character stands that a pattern may begin with, or the end. No such pattern is passed over.
 fn next_begun<T: Text>(text: &T, from: usize, first: First) -> usize
     requires { from ≤ length (T.text text.now) }
@@ -73,12 +87,16 @@ fn next_begun<T: Text>(text: &T, from: usize, first: First) -> usize
     ensures order { from ≤ result }
     ensures within { result ≤ length (T.text text.now) }
 {
-    for p in from..text.len() {
-        if is_either(text.at(p), first) {
-            return p;
+    let mut p = from;
+    while p < text.len() {
+        let piece = text.piece(p);
+        let passed = begun_in(piece, first);
+        p += passed;
+        if passed < piece.len() {
+            break;
         }
     }
-    text.len()
+    p
 }
 
 // The place behind the last one before `end` where a character stands that a pattern may begin with, or 0. No such pattern is passed over.

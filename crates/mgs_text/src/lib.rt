@@ -1,7 +1,7 @@
 //! Texts: lists of characters, of which a part is put in another's place.
 #![tactic(auto)]
 
-ghost use Rattle.std.specs.Prelude.{◌≡◌, ℕ, ◌<◌, ◌≤◌, ◌^◌, [], List, Option, length, slice_index, slice_range, OnOk, OnErr, IfOk};
+ghost use Rattle.std.specs.Prelude.{◌≡◌, ℕ, ◌+◌, ◌<◌, ◌≤◌, ◌^◌, ◌++◌, [], List, Option, length, drop, slice_index, slice_range, OnOk, OnErr, IfOk};
 ghost use Rattle.mgs_model.specs.Text.{edited, shift_all};
 ghost use Rattle.mgs_model.specs.Lines.{line_of, start_of};
 
@@ -32,6 +32,14 @@ pub trait Text {
     fn at(&self, i: usize) -> char
         requires { i < length (text self.now) }
         ensures { result ≡ slice_index (text self.now) i };
+
+    /// The characters from a position on that lie together, as far as they do: some at least, where any follow it. A walk
+    /// that takes them piece by piece asks the text once for many.
+    fn piece(&self, at: usize) -> &[char]
+        requires { at ≤ length (text self.now) }
+        ensures piece { drop at (text self.now) ≡ result.now ++ drop (at + length result.now) (text self.now) }
+        ensures within { at + length result.now ≤ length (text self.now) }
+        ensures some { at < length (text self.now) → 0 < length result.now };
 
     /// The characters from `a` up to `b`. `Short`: memory was refused.
     fn copy(&self, a: usize, b: usize) -> Result<Vec<char>, Short>

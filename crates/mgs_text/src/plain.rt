@@ -59,6 +59,11 @@ impl Text for PlainText {
         self.chars[i]
     }
 
+    #[tactic(auto, using(crate::proofs::Pieces::all_behind))]
+    fn piece(&self, at: usize) -> &[char] {
+        &self.chars[at..]
+    }
+
     fn copy(&self, a: usize, b: usize) -> Result<Vec<char>, Short> {
         copied(self.alloc, &self.chars[a..b])
     }

@@ -147,6 +147,31 @@ fn searches_pass_over_no_match(rt: HostRuntime) -> Result<(), Fail> {
     Ok(())
 }
 
+// A text whose gap lies at a place, or at its end.
+fn cut_at(alloc: Global, chars: &[char], place: usize) -> Result<GapText, Short> {
+    let mut text = GapText::of(alloc, chars)?;
+    let cut = place.min(text.len());
+    text.replace(cut, cut, &[])?;
+    Ok(text)
+}
+
+// A match is found in front of a gap, behind it and across it.
+#[test]
+fn searches_go_on_behind_a_gap(rt: HostRuntime) -> Result<(), Fail> {
+    for chars in &TEXTS {
+        for place in 0..chars.len() {
+            let text = cut_at(rt.alloc(), chars, place)?;
+            for pattern in &PATTERNS {
+                assert!(rt;
+                    finds_as_tried(&text, pattern),
+                    "{pattern:?} in {chars:?}, cut at {place}"
+                );
+            }
+        }
+    }
+    Ok(())
+}
+
 // Whether the next match from a place is this one, and a search takes the point there.
 fn finds_past(
     text: &impl Text,

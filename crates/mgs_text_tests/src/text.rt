@@ -24,6 +24,23 @@ fn holds(text: &impl Text, chars: &[char]) -> Result<bool, Short> {
     Ok(all.as_slice() == chars)
 }
 
+// Whether the pieces of a text, one behind the other, are these characters.
+fn lends(text: &impl Text, chars: &[char]) -> bool {
+    let mut at = 0;
+    for _ in 0..chars.len() {
+        if at >= text.len() {
+            break;
+        }
+        let piece = text.piece(at);
+        let end = at + piece.len();
+        if chars.get(at..end) != Some(piece) {
+            return false;
+        }
+        at = end;
+    }
+    at == chars.len() && at == text.len()
+}
+
 // Puts two characters in the place of one, in a text `abc`.
 fn edit(rt: &impl Abort, text: &mut impl Text) -> Result<(), Short> {
     assert!(rt; text.len() == 3);
@@ -31,6 +48,7 @@ fn edit(rt: &impl Abort, text: &mut impl Text) -> Result<(), Short> {
     text.replace(1, 2, &['X', 'Y'])?;
     assert!(rt; holds(text, &['a', 'X', 'Y', 'c'])?);
     assert!(rt; text.len() == 4 && text.at(3) == 'c');
+    assert!(rt; lends(text, &['a', 'X', 'Y', 'c']));
     Ok(())
 }
 
@@ -139,6 +157,7 @@ fn put_at_both_ends(rt: &impl Abort, text: &mut impl Text) -> Result<(), Short> 
     text.replace(0, 0, &['a'])?;
     assert!(rt; holds(text, &['a', 'b', 'c', 'd'])?);
     assert!(rt; reads(text, 1, 3, &['b', 'c'])?);
+    assert!(rt; lends(text, &['a', 'b', 'c', 'd']));
     Ok(())
 }
 
@@ -151,7 +170,7 @@ fn take_from_both_ends(rt: &impl Abort, text: &mut impl Text) -> Result<(), Shor
     assert!(rt; holds(text, &['b', 'c'])?);
     assert!(rt; text.len() == 2);
     text.replace(0, 2, &[])?;
-    assert!(rt; text.len() == 0 && holds(text, &[])?);
+    assert!(rt; text.len() == 0 && holds(text, &[])? && lends(text, &[]));
     Ok(())
 }
 
