@@ -1,11 +1,11 @@
--- No row of the table is one character that inserts itself, so such a character needs no look-up.
+-- No row of the table is one character that inserts itself, and none is a prefix, so these need no look-up.
 use Rattle.std.proofs.Common.{◌≡◌, ℕ, Bool, true, false, not, ◌&&◌, ◌||◌, cond, List, [], ◌∷◌, refl, sym, ap, subst, ◌∙◌, true≢false}
 use Rattle.std.specs.Prelude.{◌==◌, find, Option, Some, None, if◌then◌else◌}
 use Rattle.std.specs.Option.{option_map}
 use Rattle.std.specs.List.{list_all}
 use Rattle.std.proofs.lemmas.Bool.{eqb-true}
 use Rattle.std.proofs.Math.Bool.{and-false}
-use Rattle.mgs_model.specs.Keys.{KeyRow, Bound, is_graphic, value_of, key_rows}
+use Rattle.mgs_model.specs.Keys.{KeyRow, Half, Bound, is_graphic, value_of, key_rows}
 use Rattle.mgs_model.specs.Names.{same_name}
 use Rattle.mgs_model.specs.declared.session.Argument.{Argument}
 use Rattle.mgs_model.specs.declared.session.Insertion.TheVariants.{SelfInsert}
@@ -14,6 +14,7 @@ use Rattle.mgs_maps.specs.declared.maps.Prefix.{Prefix}
 use Rattle.mgs_maps.specs.declared.maps.Prefix.TheVariants.{Empty, ControlX, MetaBracket, Quote}
 use Rattle.mgs_maps.specs.declared.maps.Stroke.{Stroke}
 use Rattle.mgs_maps.specs.declared.maps.Stroke.TheVariants.{Plain, Meta}
+use Rattle.mgs_maps.specs.Held.{prefix_bytes}
 use Rattle.mgs_maps.specs.Table.{command_of}
 use Rattle.mgs_maps.specs.Words.{prefix_after, inserted, chosen, word_reads}
 
@@ -75,3 +76,23 @@ inserts_first a Empty (Meta byte) c same = cc
 inserts_first a ControlX stroke c same = cc
 inserts_first a MetaBracket stroke c same = cc
 inserts_first a Quote stroke c same = cc
+
+control_x : (a : Option Argument) (byte : ℕ) (next : Prefix) (t : Bool) → (byte == 24) ≡ t → (if t then Some ControlX else None) ≡ Some next → word_reads a Empty (Plain byte) ≡ Half a (prefix_bytes next)
+control_x a byte next true is same =
+    ap (λ b. word_reads a Empty (Plain b)) (eqb-true byte 24 is)
+    ∙ ap (λ o. chosen a None o None) same
+control_x a byte next false is same = cc
+
+meta_bracket : (a : Option Argument) (byte : ℕ) (next : Prefix) (t : Bool) → (byte == 91) ≡ t → (if t then Some MetaBracket else None) ≡ Some next → word_reads a Empty (Meta byte) ≡ Half a (prefix_bytes next)
+meta_bracket a byte next true is same =
+    ap (λ b. word_reads a Empty (Meta b)) (eqb-true byte 91 is)
+    ∙ ap (λ o. chosen a None o None) same
+meta_bracket a byte next false is same = cc
+
+-- a prefix is no row
+pub prefix_first : (a : Option Argument) (prefix : Prefix) (stroke : Stroke) (next : Prefix) → inserted prefix stroke ≡ None → prefix_after prefix stroke ≡ Some next → word_reads a prefix stroke ≡ Half a (prefix_bytes next)
+prefix_first a Empty (Plain byte) next none same = control_x a byte next (byte == 24) refl same
+prefix_first a Empty (Meta byte) next none same = meta_bracket a byte next (byte == 91) refl same
+prefix_first a ControlX stroke next none same = cc
+prefix_first a MetaBracket stroke next none same = cc
+prefix_first a Quote stroke next none same = cc

@@ -1,11 +1,19 @@
 -- Words in the table: a word that begins a row is that row, or goes on to it.
-use Rattle.std.proofs.Common.{◌≡◌, ℕ, Bool, true, false, ◌&&◌, ◌||◌, cond, List, [], ◌∷◌, map, refl, sym, ap, ◌∙◌}
+use Rattle.std.proofs.Common.{◌≡◌, ℕ, Bool, true, false, ◌&&◌, ◌||◌, cond, List, [], ◌∷◌, map, refl, sym, ap, subst, ◌∙◌}
 use Rattle.std.specs.Prelude.{◌==◌, Option, Some, find, is_some}
 use Rattle.std.specs.List.{list_any}
 use Rattle.std.specs.Option.{option_map}
+use Rattle.std.proofs.lemmas.Bool.{eq-eqb}
+use Rattle.std.proofs.lemmas.Slice.Eq.{bytes_eq-Decides}
+use Rattle.std.proofs.Math.Bool.{and-false}
 use Rattle.mgs_model.specs.Names.{same_name}
 use Rattle.mgs_model.specs.Keys.{KeyRow, key_rows, begins_with, is_prefix, find_row}
+use Rattle.mgs_maps.specs.declared.maps.Prefix.{Prefix}
+use Rattle.mgs_maps.specs.declared.maps.Prefix.TheVariants.{Empty, ControlX, MetaBracket, Quote}
+use Rattle.mgs_maps.specs.declared.maps.Stroke.{Stroke}
+use Rattle.mgs_maps.specs.declared.maps.Stroke.TheVariants.{Plain, Meta}
 use Rattle.mgs_maps.specs.declared.table.Binding.{Binding}
+use Rattle.mgs_maps.specs.Words.{ends_in, last_byte, word_of}
 use Rattle.mgs_maps.specs.Table.{row_of, rows_of, command_of}
 
 -- a longer word that begins with a word
@@ -55,6 +63,28 @@ is_half word = list_any (λ (r : KeyRow). goes_on r.keys word) key_rows
 
 pub prefix_is : (word : List ℕ) → is_prefix word ≡ (is_some (find_row word) || is_half word)
 prefix_is word = any_begins word key_rows
+
+-- THE LAST BYTE OF A WORD
+
+ends_so : (prefix : Prefix) (stroke : Stroke) → ends_in (last_byte stroke) (word_of prefix stroke) ≡ true
+ends_so Empty (Plain byte) = eq-eqb byte byte refl
+ends_so Empty (Meta byte) = eq-eqb byte byte refl
+ends_so ControlX (Plain byte) = eq-eqb byte byte refl
+ends_so ControlX (Meta byte) = eq-eqb byte byte refl
+ends_so MetaBracket (Plain byte) = eq-eqb byte byte refl
+ends_so MetaBracket (Meta byte) = eq-eqb byte byte refl
+ends_so Quote (Plain byte) = eq-eqb byte byte refl
+ends_so Quote (Meta byte) = eq-eqb byte byte refl
+
+-- a row that is the word ends as the word does, so that end can be looked at first
+pub last_tells : (prefix : Prefix) (stroke : Stroke) (keys : List ℕ) → (ends_in (last_byte stroke) keys && same_name (word_of prefix stroke) keys) ≡ same_name (word_of prefix stroke) keys
+last_tells prefix stroke keys =
+    let word : List ℕ = word_of prefix stroke in
+    let go : (t : Bool) → same_name word keys ≡ t → (ends_in (last_byte stroke) keys && t) ≡ t = λ t. elim t as (λ t. same_name word keys ≡ t → (ends_in (last_byte stroke) keys && t) ≡ t) [
+      | true ↦ λ e. ap (λ b. b && true) (subst (λ k. ends_in (last_byte stroke) k ≡ true) ((bytes_eq-Decides word keys).0 e) (ends_so prefix stroke))
+      | false ↦ λ e. and-false (ends_in (last_byte stroke) keys)
+    ]
+    in go (same_name word keys) refl
 
 -- THE TABLE OF THE CODE
 

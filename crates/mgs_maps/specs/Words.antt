@@ -1,5 +1,6 @@
 -- Words of keys, as the maps tell them from each other.
-use Rattle.std.specs.Prelude.{ℕ, nat_le, nat_lt, ◌==◌, ◌-◌, Bool, true, false, ◌&&◌, ◌||◌, List, [], ◌∷◌, ◌++◌, is_some, Option, Some, None, if◌then◌else◌}
+use Rattle.std.specs.Prelude.{ℕ, nat_le, nat_lt, ◌==◌, ◌-◌, Bool, true, false, ◌&&◌, ◌||◌, List, [], ◌∷◌, ◌++◌, length, is_some, Option, Some, None, if◌then◌else◌}
+use Rattle.std.specs.List.{slice_get}
 use Rattle.mgs_model.specs.Keys.{KeyRead, Half, Bound, Not_bound, is_graphic, is_digit, digit_added, four_times, value_of, quoted_read}
 use Rattle.mgs_model.specs.declared.session.Argument.{Argument}
 use Rattle.mgs_model.specs.declared.session.Insertion.TheVariants.{SelfInsert}
@@ -16,6 +17,14 @@ use Rattle.mgs_maps.specs.Table.{command_of}
 abbrev pub last_byte : Stroke → ℕ
 last_byte (Plain byte) = byte
 last_byte (Meta byte) = byte
+
+abbrev pub is_byte : ℕ → Option ℕ → Bool
+is_byte byte (Some other) = byte == other
+is_byte byte None = false
+
+-- whether this is the last of these bytes
+abbrev pub ends_in : ℕ → List ℕ → Bool
+ends_in byte keys = is_byte byte (slice_get keys (length keys - 1))
 
 abbrev pub stroke_bytes : Stroke → List ℕ
 stroke_bytes (Plain byte) = byte ∷ []

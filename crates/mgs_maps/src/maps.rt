@@ -221,9 +221,9 @@ impl Maps {
         (Fed::Unbound, Maps::new())
     }
 
-    // What a word is that is no part of an argument. A character that inserts itself is no row of the table, so it is taken before
-    // the rows are gone through.
-    #[tactic(auto, using(crate::proofs::Inserting::inserts_first))]
+    // What a word is that is no part of an argument. A character that inserts itself and a prefix are no rows of the table, so they are
+    // taken before the rows are gone through.
+    #[tactic(auto, using(crate::proofs::Inserting::inserts_first, crate::proofs::Inserting::prefix_first))]
     fn look_up(self, stroke: Stroke) -> (Fed, Maps)
         ensures { FedBy result.0 (word_reads self.argument self.prefix stroke) (held_by result.1) }
     {
@@ -233,11 +233,11 @@ impl Maps {
                 self.argument,
             );
         }
-        if let Some(command) = find_command(self.prefix, stroke) {
-            return Maps::run(command, self.argument);
-        }
         if let Some(prefix) = prefix_with(self.prefix, stroke) {
             return Maps::wait(self.argument, prefix);
+        }
+        if let Some(command) = find_command(self.prefix, stroke) {
+            return Maps::run(command, self.argument);
         }
         (Fed::Unbound, Maps::new())
     }

@@ -4,7 +4,7 @@ ghost use Rattle.std.specs.Option.{option_map};
 ghost use Rattle.mgs_model.specs.Names.{same_name};
 ghost use Rattle.mgs_model.specs.Keys.{key_rows};
 ghost use Rattle.mgs_model.specs.Commands.{keyless_rows};
-ghost use Rattle.mgs_maps.specs.Words.{word_of};
+ghost use Rattle.mgs_maps.specs.Words.{ends_in, last_byte, word_of};
 ghost use Rattle.mgs_maps.specs.declared.table.Binding.{Binding};
 ghost use Rattle.mgs_maps.specs.Table.{rows_of, command_of};
 
@@ -461,8 +461,36 @@ pub(crate) fn keyless() -> &'static [Binding]
     &KEYLESS
 }
 
-// Whether these bytes are those of the word.
+// The last byte of a word that ends in this key.
+fn last_byte(stroke: Stroke) -> u8
+    ensures { result ≡ last_byte stroke }
+{
+    match stroke {
+        Stroke::Plain(byte) => byte,
+        Stroke::Meta(byte) => byte,
+    }
+}
+
+// Whether this is the last of these bytes.
+fn ends_in(keys: &[u8], byte: u8) -> bool
+    ensures { result ≡ ends_in byte keys.now }
+{
+    match keys.last() {
+        Some(last) => byte == *last,
+        None => false,
+    }
+}
+
+// Whether these bytes are those of the word. The last byte tells it from most of the other rows, so it is looked at first.
+#[tactic(auto, using(crate::proofs::Rows::last_tells))]
 fn spells(keys: &[u8], prefix: Prefix, stroke: Stroke) -> bool
+    ensures { result ≡ same_name (word_of prefix stroke) keys.now }
+{
+    ends_in(keys, last_byte(stroke)) && is_word(keys, prefix, stroke)
+}
+
+// The same, without that look.
+fn is_word(keys: &[u8], prefix: Prefix, stroke: Stroke) -> bool
     ensures { result ≡ same_name (word_of prefix stroke) keys.now }
 {
     match (prefix, stroke) {

@@ -224,14 +224,32 @@ pub fn set_kill(session: &mut Session, text: Vec<char>)
     session.kill.set(text);
 }
 
+/// A prompt is given up, where there is one: its place is large, and is written only then.
+fn drop_prompt(session: &mut Session)
+    ensures { session.new ≡ unprompted session.old }
+{
+    if session.own.prompt.is_some() {
+        session.own.prompt = None;
+    }
+}
+
+/// A search is given up, where one goes on: its place is large, and is written only then.
+fn drop_search(session: &mut Session)
+    ensures { session.new ≡ unsearched session.old }
+{
+    if session.own.search.is_some() {
+        session.own.search = None;
+    }
+}
+
 /// Holds what was read of a byte that is neither a prompt's nor a search's, and empties the echo line, as each byte does.
 pub fn hold(session: &mut Session, keyboard: Keyboard)
     ensures { session.new ≡ holding keyboard session.old }
 {
     session.own.echo = Message::Silent;
     session.own.keyboard = keyboard;
-    session.own.prompt = None;
-    session.own.search = None;
+    drop_prompt(session);
+    drop_search(session);
 }
 
 /// Holds what was read of a byte of a search. The search and the echo line stay.
