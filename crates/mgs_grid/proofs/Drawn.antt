@@ -1,26 +1,12 @@
 -- The walk along a line writes its cells.
-use Rattle.std.proofs.Common.{◌≡◌, ℕ, ◌+◌, ◌<◌, ◌≤◌, List, ◌∷◌, ◌++◌, length, drop, get_or, sym, ap, ◌∙◌, zero-add, arith, length-append}
+use Rattle.std.proofs.Common.{◌≡◌, ℕ, ◌+◌, ◌-◌, ◌<◌, ◌≤◌, List, ◌∷◌, ◌++◌, length, take, drop, get_or, sym, ap, ◌∙◌, zero-add, arith, length-append, drop-drop}
 use Rattle.std.specs.Prelude.{slice_range}
-use Rattle.std.proofs.lemmas.List.{drop_more}
+use Rattle.std.proofs.lemmas.List.{drop_more, take-append-le}
+use Rattle.std.proofs.Math.Seq.{take-add}
 use Rattle.mgs_model.specs.Cells.{glyph, cells, cells_from}
-use Rattle.mgs_lines.proofs.Walks.{cells_more, cells_from-append}
+use Rattle.mgs_lines.proofs.Walks.{cells_from-append}
 use Rattle.mgs_grid.specs.Cells.{over}
 use Rattle.mgs_grid.proofs.CellLemmas.{over-append}
-
-pub drawn_more : (xs first row : List ℕ) (shift s i n c : ℕ) → s ≤ i → i < length xs → row ≡ over first shift 0 (cells (slice_range xs s i)) → n ≡ length (cells (slice_range xs s i)) → c ≡ get_or xs i 0 → over row shift n (glyph n c) ≡ over first shift 0 (cells (slice_range xs s (i + 1)))
-drawn_more xs first row shift s i n c from within is col at =
-    let done : List ℕ = cells (slice_range xs s i) in
-    let new : List ℕ = glyph (length done) (get_or xs i 0) in
-    let all : over (over first shift 0 done) shift (length done) new ≡ over first shift 0 (cells (slice_range xs s (i + 1))) =
-    sym (ap (over first shift 0) (cells_more xs s i from within) ∙ over-append first shift 0 done new ∙ ap (λ k. over (over first shift 0 done) shift k new) (zero-add (length done))) in
-    rw (is, col, at) all
-
-pub columns_more : (xs : List ℕ) (s i n c : ℕ) → s ≤ i → i < length xs → n ≡ length (cells (slice_range xs s i)) → c ≡ get_or xs i 0 → n + length (glyph n c) ≡ length (cells (slice_range xs s (i + 1)))
-columns_more xs s i n c from within col at =
-    let done : List ℕ = cells (slice_range xs s i) in
-    let new : List ℕ = glyph (length done) (get_or xs i 0) in
-    let all : length done + length new ≡ length (cells (slice_range xs s (i + 1))) = sym (ap length (cells_more xs s i from within) ∙ length-append done new) in
-    rw (col, at) all
 
 -- CHARACTERS FROM A COLUMN ON
 
@@ -49,3 +35,24 @@ ends_both a b n m next end =
     let rest : List ℕ = cells_from (0 + length (cells_from 0 a)) b in
     let sum : length (cells (a ++ b)) ≡ length (cells_from 0 a) + length rest = ap length (cells_from-append 0 a b) ∙ length-append (cells_from 0 a) rest in
     end ∙ rw (next) (omega (arith, sum))
+
+-- THE PIECES OF A TEXT
+
+piece_more : (xs p : List ℕ) (s i k : ℕ) → s ≤ i → k ≤ length p → drop i xs ≡ p ++ drop (i + length p) xs → slice_range xs s (i + k) ≡ slice_range xs s i ++ take k p
+piece_more xs p s i k from within is =
+    let sum : i + k - s ≡ (i - s) + k = omega arith in
+    let at : s + (i - s) ≡ i = omega arith in
+    ap (λ n. take n (drop s xs)) sum
+    ∙ take-add (i - s) k (drop s xs)
+    ∙ ap (λ (l : List ℕ). take (i - s) (drop s xs) ++ take k l) (drop-drop (i - s) s xs ∙ ap (λ j. drop j xs) at ∙ is)
+    ∙ ap (λ (l : List ℕ). take (i - s) (drop s xs) ++ l) (take-append-le k p (drop (i + length p) xs) within)
+
+pub drawn_more : (xs p first row new : List ℕ) (shift s i n k : ℕ) → s ≤ i → k ≤ length p → drop i xs ≡ p ++ drop (i + length p) xs → row ≡ over first shift 0 (cells (slice_range xs s i)) → n ≡ length (cells (slice_range xs s i)) → new ≡ over row shift n (cells_from n (take k p)) → new ≡ over first shift 0 (cells (slice_range xs s (i + k)))
+drawn_more xs p first row new shift s i n k from within is so_far col put =
+    chars_both (slice_range xs s i) (take k p) first row new shift n so_far (col ∙ sym (zero-add (length (cells (slice_range xs s i))))) put
+    ∙ sym (ap (λ (l : List ℕ). over first shift 0 (cells l)) (piece_more xs p s i k from within is))
+
+pub columns_more : (xs p : List ℕ) (s i n m k : ℕ) → s ≤ i → k ≤ length p → drop i xs ≡ p ++ drop (i + length p) xs → n ≡ length (cells (slice_range xs s i)) → m ≡ n + length (cells_from n (take k p)) → m ≡ length (cells (slice_range xs s (i + k)))
+columns_more xs p s i n m k from within is col end =
+    ends_both (slice_range xs s i) (take k p) n m (col ∙ sym (zero-add (length (cells (slice_range xs s i))))) end
+    ∙ sym (ap (λ (l : List ℕ). length (cells l)) (piece_more xs p s i k from within is))

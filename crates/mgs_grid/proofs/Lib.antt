@@ -5,6 +5,7 @@ pub mod CellLemmas
 pub mod Plain
 pub mod Fits
 pub mod Drawn
+pub mod Runs
 pub mod Cuts
 pub mod Ends
 pub mod OneRow

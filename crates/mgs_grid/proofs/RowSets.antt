@@ -1,11 +1,12 @@
 -- Rows in sets, and rows that are the same apart from those of a set.
 use Rattle.std.proofs.Common.{◌≡◌, ℕ, zero, suc, ◌+◌, ◌<◌, ◌≤◌, Bool, true, false, inl, inr, List, [], ◌∷◌, length, take, drop, set, replicate, refl, sym, ap, ◌∙◌, arith}
-use Rattle.std.specs.Prelude.{slice_get}
+use Rattle.std.specs.Prelude.{Option, slice_get, unwrap_or}
 use Rattle.std.proofs.lemmas.Bool.{cases_Bool, cases_lt, cases_eq}
-use Rattle.std.proofs.lemmas.Option.{slice_get_past}
+use Rattle.std.proofs.lemmas.List.{same_lists}
+use Rattle.std.proofs.lemmas.Option.{slice_get_past, unwrap_or-slice_get}
 use Rattle.mgs_model.specs.Rows.{Row, rows_put}
 use Rattle.mgs_grid.proofs.Panes.{above_put, below_put}
-use Rattle.mgs_grid.specs.RowSets.{has_row, AreIn, AreSameApart}
+use Rattle.mgs_grid.specs.RowSets.{has_row, AreIn, AreSameApart, IsNone}
 
 -- ROWS OF A SET
 
@@ -64,6 +65,11 @@ same_all rows olds news all size = record {
     | inr past ↦ slice_get_past news i (omega arith) ∙ sym (slice_get_past olds i past)
   ];
 }
+
+-- in a set that has none, no row may differ
+pub none_apart : (rows : List Bool) (olds news : List Row) → IsNone rows → AreSameApart rows olds news → length olds ≡ length news → olds ≡ news
+none_apart rows olds news none same size =
+    same_lists olds news size (λ k d within. sym (unwrap_or-slice_get olds k d) ∙ ap (λ (o : Option Row). unwrap_or o d) (sym (same.each k (none.each k))) ∙ unwrap_or-slice_get news k d)
 
 -- more rows may differ
 pub same_more : (s t : List Bool) (olds news : List Row) → AreIn s t → AreSameApart s olds news → AreSameApart t olds news

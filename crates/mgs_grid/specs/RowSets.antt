@@ -10,6 +10,10 @@ told_in (Some b) = b
 abbrev pub has_row : ℕ → List Bool → Bool
 has_row i set = told_in (slice_get set i)
 
+-- it has none
+pub record IsNone (set : List Bool) : Type 0 where
+  pub each : (i : ℕ) → has_row i set ≡ false
+
 -- each row of a set is in another one
 pub record AreIn (inner outer : List Bool) : Type 0 where
   pub each : (i : ℕ) → has_row i inner ≡ true → has_row i outer ≡ true

@@ -1,9 +1,9 @@
 // Cells written into a row one after another.
-ghost use Rattle.std.specs.Prelude.{◌≡◌, ◌+◌, ◌-◌, ◌*◌, ◌%◌, ◌<◌, ◌≤◌, ◌^◌, length, map, replicate, decimal, slice_range, IsTrue};
+ghost use Rattle.std.specs.Prelude.{◌≡◌, ◌+◌, ◌-◌, ◌*◌, ◌%◌, ◌<◌, ◌≤◌, ◌^◌, length, take, map, replicate, decimal, slice_range, All, IsTrue};
 ghost use Rattle.std.specs.List.{list_all};
 ghost use Rattle.std.specs.Int.Digits.{digits_of};
 ghost use Rattle.std.specs.Char.{digit_char};
-ghost use Rattle.mgs_model.specs.Cells.{glyph, escape, own_cells, cells, cells_from};
+ghost use Rattle.mgs_model.specs.Cells.{glyph, escape, own_cells, cells, cells_from, IsPrintable};
 ghost use Rattle.mgs_grid.specs.Cells.{put, over, first_signed, last_signed, finished, is_plain, Wrote};
 
 use itoa::Buffer;
@@ -59,6 +59,7 @@ pub(crate) fn finish(row: &mut [char], shift: usize, column: usize)
     }
 }
 
+#[inline(always)]
 pub(crate) fn put(row: &mut [char], shift: usize, column: usize, c: char)
     ensures { row.new ≡ put row.old shift column c }
 {
@@ -124,6 +125,7 @@ pub(crate) fn put_bytes(row: &mut [char], column: usize, bytes: &[u8]) -> usize
 /// Writes the cells of a character, which stands in a column of its line, below 2^62, into a row that shows the line
 /// from column `shift` on, and tells the column after them, at most 12 further. Cells that are not in sight are
 /// passed over.
+#[inline(always)]
 pub(crate) fn put_glyph(row: &mut [char], shift: usize, column: usize, c: char) -> usize
     requires { column < 2 ^ 62 }
     ensures row { row.new ≡ over row.old shift column (glyph column c) }
@@ -210,20 +212,66 @@ pub(crate) fn put_chars(row: &mut [char], shift: usize, column: usize, chars: &[
     at
 }
 
-/// Writes the cells of a pattern's characters, of which the first begins in a column of its line, into a row that shows the line from
+// How many characters, from the first on, are visible ASCII or spaces.
+fn plain_len(chars: &[char]) -> usize
+    ensures within { result ≤ length chars.now }
+    ensures plain { All IsPrintable (take result chars.now) }
+{
+    for (i, c) in chars.iter().enumerate() {
+        if *c < ' ' || '\x7f' <= *c {
+            return i;
+        }
+    }
+    chars.len()
+}
+
+// Writes characters into one cell each. Those that are not in sight are passed over.
+fn put_plain(row: &mut [char], shift: usize, column: usize, chars: &[char])
+    ensures { row.new ≡ over row.old shift column chars.now }
+{
+    let skip = shift.saturating_sub(column).min(chars.len());
+    let first = column.saturating_sub(shift).min(row.len());
+    let count = (chars.len() - skip).min(row.len() - first);
+    row[first..first + count].copy_from_slice(&chars[skip..skip + count]);
+}
+
+// Writes the cells of some characters, from the first on: of those that are visible ASCII or spaces, or else of one. Tells
+// how many they are, and the column after them.
+fn put_some(row: &mut [char], shift: usize, column: usize, chars: &[char]) -> (usize, usize)
+    requires some { 0 < length chars.now }
+    requires column { column < 2 ^ 62 }
+    requires short { length chars.now < 2 ^ 32 }
+    ensures some { 0 < result.0 }
+    ensures within { result.0 ≤ length chars.now }
+    ensures row { row.new ≡ over row.old shift column (cells_from column (take result.0 chars.now)) }
+    ensures next { result.1 ≡ column + length (cells_from column (take result.0 chars.now)) }
+    ensures few { result.1 ≤ column + 12 * result.0 }
+{
+    let count = plain_len(chars);
+    if count == 0 {
+        return (1, put_glyph(row, shift, column, chars[0]));
+    }
+    put_plain(row, shift, column, &chars[..count]);
+    (count, column + count)
+}
+
+/// Writes the cells of characters, of which the first begins in a column of its line, into a row that shows the line from
 /// column `shift` on, and tells the column after them. Cells that are not in sight are passed over.
-pub(crate) fn put_pattern(row: &mut [char], shift: usize, column: usize, chars: &[char]) -> usize
-    requires column { column < 2 ^ 32 }
+pub(crate) fn put_text(row: &mut [char], shift: usize, column: usize, chars: &[char]) -> usize
+    requires column { column < 2 ^ 36 }
     requires short { length chars.now < 2 ^ 32 }
     ensures row { row.new ≡ over row.old shift column (cells_from column chars.now) }
     ensures next { result ≡ column + length (cells_from column chars.now) }
     ensures few { result ≤ column + 12 * length chars.now }
 {
-    let mut at = column;
-    for c in chars {
-        at = put_glyph(row, shift, at, *c);
+    let mut next = column;
+    let mut at = 0;
+    while at < chars.len() {
+        let (count, behind) = put_some(row, shift, next, &chars[at..]);
+        at += count;
+        next = behind;
     }
-    at
+    next
 }
 
 /// Writes the cells of the line that stands in `start..end` of a text into a row that shows it from column `shift` on,
@@ -242,8 +290,12 @@ pub(crate) fn put_line<T: Text>(
     ensures next { result ≡ length (cells (slice_range (T.text text.now) start end)) }
 {
     let mut column = 0;
-    for i in start..end {
-        column = put_glyph(row, shift, column, text.at(i));
+    let mut at = start;
+    while at < end {
+        let piece = text.piece(at);
+        let count = piece.len().min(end - at);
+        column = put_text(row, shift, column, &piece[..count]);
+        at += count;
     }
     column
 }

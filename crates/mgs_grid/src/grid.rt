@@ -10,7 +10,7 @@ ghost use Rattle.mgs_grid.specs.RowSets.{AreSameApart};
 
 use crate::line::Line;
 use crate::row_set::RowSet;
-use crate::window::{clear_rows, draw_rows, take_rows};
+use crate::window::{clear_rows, draw_rows, take_some};
 use mgs_model::{Decision, Direction, Message, Name, Owners, Question, Short};
 use mgs_text::Text;
 use std::alloc::Global;
@@ -110,7 +110,7 @@ impl Grid {
         ensures { self.new ≡ from.now }
     {
         let cols = self.cols;
-        take_rows(&mut self.lines, cols, &from.lines, rows);
+        take_some(&mut self.lines, cols, &from.lines, rows);
         self.row = from.row;
         self.col = from.col;
     }

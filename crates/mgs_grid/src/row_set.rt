@@ -1,6 +1,6 @@
 // Some of the rows of a screen.
 ghost use Rattle.std.specs.Prelude.{◌≡◌, ◌+◌, ◌<◌, ◌≤◌, ℕ, true, false, slice_set};
-ghost use Rattle.mgs_grid.specs.RowSets.{has_row, AreIn};
+ghost use Rattle.mgs_grid.specs.RowSets.{has_row, AreIn, IsNone};
 
 use mgs_model::ROWS_MAX;
 use std::marker::Model;
@@ -9,14 +9,19 @@ use std::marker::Model;
 #[derive(Drop)]
 pub struct RowSet {
     has: [bool; ROWS_MAX],
+    // Whether it may have one.
+    some: bool,
 }
 
 impl Model for RowSet {
-    ghost use Rattle.std.specs.Prelude.{Bool, List};
+    ghost use Rattle.std.specs.Prelude.{◌≡◌, Bool, false, List};
+    ghost use Rattle.mgs_grid.specs.RowSets.{IsNone};
 
     ghost Value = { List Bool };
 
     ghost view = { λ s. s.has };
+
+    ghost invariant = { λ s. s.some ≡ false → IsNone s.has };
 }
 
 impl RowSet {
@@ -26,6 +31,7 @@ impl RowSet {
     {
         RowSet {
             has: [false; ROWS_MAX],
+            some: false,
         }
     }
 
@@ -35,7 +41,15 @@ impl RowSet {
     {
         RowSet {
             has: [true; ROWS_MAX],
+            some: true,
         }
+    }
+
+    /// Whether it is known that there is none.
+    pub fn is_none(&self) -> bool
+        ensures { result ≡ true → IsNone self.now }
+    {
+        !self.some
     }
 
     /// Whether the row is one of them.
@@ -55,6 +69,7 @@ impl RowSet {
         ensures others { (i : ℕ) → (i ≡ row → ⊥) → has_row i self.new ≡ has_row i self.old }
     {
         self.has[row] = true;
+        self.some = true;
     }
 
     /// More rows: `count` of them, from row `first` on.

@@ -56,7 +56,7 @@ fn take_row(line: &mut Line, from: &Line, may_differ: bool)
 }
 
 // Copies rows of the same width: those of a set, where the others are the same.
-pub(crate) fn take_rows(lines: &mut [Line], cols: usize, from: &[Line], rows: &RowSet)
+fn take_rows(lines: &mut [Line], cols: usize, from: &[Line], rows: &RowSet)
     requires count { length lines.old ≡ length from.now }
     requires few { length from.now ≤ ROWS_MAX }
     requires each { All (HasWidth cols) lines.old }
@@ -66,5 +66,20 @@ pub(crate) fn take_rows(lines: &mut [Line], cols: usize, from: &[Line], rows: &R
 {
     for (i, line) in lines.iter_mut().enumerate() {
         take_row(line, &from[i], rows.has(i));
+    }
+}
+
+// Copies rows of the same width, where a set has any: those of the set. The others are the same.
+#[tactic(auto, using(crate::proofs::RowSets::none_apart))]
+pub(crate) fn take_some(lines: &mut [Line], cols: usize, from: &[Line], rows: &RowSet)
+    requires count { length lines.old ≡ length from.now }
+    requires few { length from.now ≤ ROWS_MAX }
+    requires each { All (HasWidth cols) lines.old }
+    requires each_from { All (HasWidth cols) from.now }
+    requires same { AreSameApart rows.now lines.old from.now }
+    ensures { lines.new ≡ from.now }
+{
+    if !rows.is_none() {
+        take_rows(lines, cols, from, rows);
     }
 }

@@ -7,7 +7,7 @@ ghost use Rattle.mgs_model.specs.Cells.{cells};
 ghost use Rattle.mgs_model.specs.Prompts.{prompt_text, prompt_line, search_text};
 ghost use Rattle.mgs_grid.specs.Cells.{over, Wrote};
 
-use crate::cells::{put_bytes, put_chars, put_decimal, put_pattern};
+use crate::cells::{put_bytes, put_chars, put_decimal, put_text};
 use mgs_model::{CursorPosition, Decision, Direction, EntryFault, Message, Name, Question, Right};
 
 #[tactic(auto, using(crate::proofs::Plain::name_plain, crate::proofs::Plain::name_short))]
@@ -258,7 +258,7 @@ pub(crate) fn put_prompt(
     ensures few { result < 2 ^ 40 }
 {
     let start = put_chars(row, shift, 0, prompt_text(question));
-    put_pattern(row, shift, start, input)
+    put_text(row, shift, start, input)
 }
 
 /// How many cells a prompt's line has.
@@ -306,7 +306,7 @@ pub(crate) fn put_search(
     ensures few { result < 2 ^ 40 }
 {
     let start = put_chars(row, shift, 0, search_text(direction, failing));
-    put_pattern(row, shift, start, pattern)
+    put_text(row, shift, start, pattern)
 }
 
 /// Writes the cells of a query-replace's line into a row that shows the line from column `shift` on, and tells the column after

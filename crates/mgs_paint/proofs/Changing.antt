@@ -3,11 +3,13 @@ use Rattle.std.proofs.Common.{◌≡◌, ℕ, zero, suc, ◌+◌, ◌-◌, ◌*�
 use Rattle.std.specs.Prelude.{slice_range, slice_get, Some, nat_eq, nat_lt, ◌&&◌}
 use Rattle.std.specs.List.{AllByRecursion, flat_map}
 use Rattle.std.proofs.lemmas.Bool.{ltb-true, cases_Bool, cases_eq, and_parts, eqb-true, eqb-false, eq-eqb}
-use Rattle.std.proofs.lemmas.List.{take_at, drop_at, length-append, length-map, length-drop, length-take-le, take-take, take-append-drop, take-map, drop-map, drop-drop, drop-replicate}
+use Rattle.std.proofs.lemmas.List.{append-nil, take_at, drop_at, length-append, length-map, length-drop, length-take-le, take-take, take-append-drop, take-map, drop-map, drop-drop, drop-replicate}
 use Rattle.std.proofs.lemmas.List.Elements.{recursion_from_All}
 use Rattle.std.proofs.lemmas.Slice.{between_is}
 use Rattle.mgs_model.specs.Rows.{Row}
 use Rattle.mgs_model.specs.Picture.{Picture, IsRow, IsPicture}
+use Rattle.mgs_grid.specs.RowSets.{AreSameApart, IsNone}
+use Rattle.mgs_grid.proofs.RowSets.{none_apart}
 use Rattle.mgs_term.specs.Screen.{Screen, blank_cell, parted}
 use Rattle.mgs_term.specs.Sequences.{after}
 use Rattle.mgs_term.specs.Drawing.{Leads, Draws, IsFaithful}
@@ -327,6 +329,18 @@ no_rows cols at i [] = refl
 no_rows cols at i (r ∷ rs) =
     let none : row_changes at i r r ≡ [] = rw (same_columns r r refl) refl in
     rw none (no_rows cols at (i + 1) rs)
+
+none_changes : (cols : ℕ) (at : ℕ × ℕ) (set : List Bool) (olds news : List Row) → IsNone set → AreSameApart set olds news → length olds ≡ length news → rows_changes cols at 0 olds news ≡ []
+none_changes cols at set olds news none same size = ap (λ (ls : List Row). rows_changes cols at 0 ls news) (none_apart set olds news none same size) ∙ no_rows cols at 0 news
+
+-- nor where a set has none of the rows that may differ
+pub none_items : (out : List ℕ) (cols : ℕ) (at : ℕ × ℕ) (set : List Bool) (olds news : List Row) → IsNone set → AreSameApart set olds news → length olds ≡ length news
+    → out ≡ out ++ bytes_of (rows_changes cols at 0 olds news)
+none_items out cols at set olds news none same size = sym (ap (λ os. out ++ bytes_of os) (none_changes cols at set olds news none same size) ∙ append-nil out)
+
+pub none_moved : (cols : ℕ) (at : ℕ × ℕ) (set : List Bool) (olds news : List Row) → IsNone set → AreSameApart set olds news → length olds ≡ length news
+    → at ≡ moved cols at (rows_changes cols at 0 olds news)
+none_moved cols at set olds news none same size = sym (ap (moved cols at) (none_changes cols at set olds news none same size))
 
 pub changes_same : (p q : Picture) → p ≡ q → bytes_of (changes p q) ≡ []
 changes_same p q same =

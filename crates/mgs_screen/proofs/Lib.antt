@@ -8,3 +8,4 @@ pub mod Redrawn
 mod TabStops
 mod TabRows
 mod Blanks
+mod Granted

@@ -100,7 +100,7 @@ stands_moved bs p q d wide long same last s = record {
   fits = omega (arith, s.fits, long);
   rows = same ∙ s.rows ∙ ap (λ n. text_rows n (shift_at d.row d.shift) 0 d.height (drop d.start s.drawn.text)) (sym wide);
   stop = s.stop;
-  mode = last ∙ s.mode ∙ ap (λ n. mode_row n (mode_text d.mode) ∷ []) (sym wide);
+  mode = last ∙ s.mode ∙ ap (λ n. mode_row n (mode_text d.name d.mode) ∷ []) (sym wide);
   now = s.now;
   found = s.found;
   follows = s.follows;
@@ -182,7 +182,7 @@ above_pushed k m bs p ds o lower s more = record {
 
 -- it stands
 pub stands_drawn : (bs : List Buffer) (q : Picture) (d : DrawnText) (b : Buffer) → find_buffer d.name bs ≡ Some b → d.serial ≡ b.serial → d.size ≡ length b.text → d.start ≤ length b.text → d.first + d.height < length q.lines
-    → DoesShow d d.row d.shift b.text q → IsTabStop b.text d.stop d.stop_column → DoesShowMode (d.first + d.height) d.mode q → Stands bs q d
+    → DoesShow d d.row d.shift b.text q → IsTabStop b.text d.stop d.stop_column → DoesShowMode (d.first + d.height) d.name d.mode q → Stands bs q d
 stands_drawn bs q d b found serial size start fits rows stop mode = record {
   drawn = b;
   serial = sym serial;
@@ -208,12 +208,12 @@ texts_passed bs p q first k new ds es put lower is s =
 
 -- it shows a text
 pub texts_kept : (bs : List Buffer) (p q : Picture) (d : DrawnText) (b : Buffer) (text : List ℕ) (ds es : List (Option DrawnText))
-    → IsPut d.first (text_rows p.cols (shift_at d.row d.shift) 0 d.height (drop d.start text) ++ mode_row p.cols (mode_text d.mode) ∷ []) p q
+    → IsPut d.first (text_rows p.cols (shift_at d.row d.shift) 0 d.height (drop d.start text) ++ mode_row p.cols (mode_text d.name d.mode) ∷ []) p q
     → find_buffer d.name bs ≡ Some b → d.serial ≡ b.serial → d.size ≡ length text → d.start ≤ length text → IsTabStop text d.stop d.stop_column → text ≡ b.text → es ≡ pushed (Some d) ds
     → AreStandingAbove d.first bs p ds → AreStandingAbove (d.first + (d.height + 1)) bs q es
 texts_kept bs p q d b text ds es put found serial size start stop same is s =
     let pane : List Row = text_rows p.cols (shift_at d.row d.shift) 0 d.height (drop d.start text) in
-    let mode : Row = mode_row p.cols (mode_text d.mode) in
+    let mode : Row = mode_row p.cols (mode_text d.name d.mode) in
     let high : length pane ≡ d.height = length-text_rows p.cols (shift_at d.row d.shift) 0 d.height (drop d.start text) in
     let long : ℕ = length q.lines in
     let fits : d.first + d.height < long = omega (arith, put_long d.first (pane ++ mode ∷ []) p q put, put.fits, length-append pane (mode ∷ []), high) in
@@ -227,7 +227,7 @@ texts_kept bs p q d b text ds es put found serial size start stop same is s =
     ∙ ap (λ n. text_rows n (shift_at d.row d.shift) 0 d.height (drop d.start text)) (sym put.wide)
     ∙ ap (λ (ys : List ℕ). text_rows q.cols (shift_at d.row d.shift) 0 d.height (drop d.start ys)) same)
     (subst (λ (ys : List ℕ). IsTabStop ys d.stop d.stop_column) same stop)
-    (last ∙ ap (λ n. mode_row n (mode_text d.mode) ∷ []) (sym put.wide)) in
+    (last ∙ ap (λ n. mode_row n (mode_text d.name d.mode) ∷ []) (sym put.wide)) in
     let k : ℕ = d.first + (d.height + 1) in
     let inside : d.first + d.height < k = omega arith in
     subst (λ (xs : List (Option DrawnText)). AreStandingAbove k bs q xs) (sym is) (
@@ -237,16 +237,16 @@ texts_kept bs p q d b text ds es put found serial size start stop same is s =
 -- THE MODE LINE
 
 -- rows that are put above it leave it
-pub mode_stays : (row first : ℕ) (new : List Row) (p q : Picture) (o : Option Earlier) → IsPut first new p q → first + length new ≤ row → IfSome o (λ e. DoesShowMode row e.mode p) → IfSome o (λ e. DoesShowMode row e.mode q)
-mode_stays row first new p q None put below is = is
-mode_stays row first new p q (Some e) put below is =
-    ap (rows_at row 1) put.lines ∙ rows_below row 1 first new p.lines below (omega (arith, put.fits)) ∙ is ∙ ap (λ n. mode_row n (mode_text e.mode) ∷ []) (sym put.wide)
+pub mode_stays : (row first : ℕ) (name : List ℕ) (new : List Row) (p q : Picture) (o : Option Earlier) → IsPut first new p q → first + length new ≤ row → IfSome o (λ e. DoesShowMode row name e.mode p) → IfSome o (λ e. DoesShowMode row name e.mode q)
+mode_stays row first name new p q None put below is = is
+mode_stays row first name new p q (Some e) put below is =
+    ap (rows_at row 1) put.lines ∙ rows_below row 1 first new p.lines below (omega (arith, put.fits)) ∙ is ∙ ap (λ n. mode_row n (mode_text name e.mode) ∷ []) (sym put.wide)
 
-pub mode_stands : (bs : List Buffer) (p : Picture) (name : List ℕ) (first height : ℕ) (o : Option Earlier) → IfSome o (λ e. Stands bs p (text_then name first height e)) → IfSome o (λ e. DoesShowMode (first + height) e.mode p)
+pub mode_stands : (bs : List Buffer) (p : Picture) (name : List ℕ) (first height : ℕ) (o : Option Earlier) → IfSome o (λ e. Stands bs p (text_then name first height e)) → IfSome o (λ e. DoesShowMode (first + height) name e.mode p)
 mode_stands bs p name first height None is = is
 mode_stands bs p name first height (Some e) is = is.mode
 
 -- it is drawn already
-pub mode_there : (row : ℕ) (m : ModeLine) (p : Picture) → row < length p.lines → DoesShowMode row m p → p ≡ record p { lines = rows_put row (mode_row p.cols (mode_text m) ∷ []) p.lines }
-mode_there row m p within is =
+pub mode_there : (row : ℕ) (name : List ℕ) (m : ModeLine) (p : Picture) → row < length p.lines → DoesShowMode row name m p → p ≡ record p { lines = rows_put row (mode_row p.cols (mode_text name m) ∷ []) p.lines }
+mode_there row name m p within is =
     ap (λ (ls : List Row). record p { lines = ls }) (sym (put_same row 1 p.lines (omega (arith, within))) ∙ ap (λ (rows : List Row). rows_put row rows p.lines) is)

@@ -2,12 +2,17 @@
 use Rattle.std.specs.Prelude.{◌≡◌, ℕ, List, ◌++◌, Option, drop, count_by, length}
 use Rattle.mgs_model.specs.Apart.{Follows, IsEditedOnce}
 use Rattle.mgs_model.specs.Lines.{is_feed}
+use Rattle.mgs_model.specs.Picture.{Picture}
+use Rattle.mgs_model.specs.Rows.{Row, shift_at, text_rows}
 use Rattle.mgs_model.specs.World.{Buffer}
+use Rattle.mgs_grid.specs.Panes.{AreSameBut}
 use Rattle.mgs_undo.specs.Numbered.{item_of}
 use Rattle.mgs_undo.specs.declared.Edit.{Edit}
 use Rattle.mgs_screen.specs.TabStops.{IsKnown, IsTabStop}
 use Rattle.mgs_screen.specs.declared.change.Change.{Change}
 use Rattle.mgs_screen.specs.declared.change.Change.TheVariants.{Nothing, Line, Anything}
+use Rattle.mgs_screen.specs.Sketches.{DoesShow, rows_at, showing}
+use Rattle.mgs_screen.specs.declared.sketch.DrawnText.{DrawnText}
 use Rattle.mgs_screen.specs.declared.sketch.Earlier.{Earlier}
 use Rattle.mgs_screen.specs.declared.tab_stops.TabStop.{TabStop}
 
@@ -28,6 +33,30 @@ abbrev pub IsChange : Change → ℕ → ℕ → List ℕ → List ℕ → Type 
 IsChange Nothing from start old new = drop from old ≡ drop start new
 IsChange (Line down) from start old new = IsLineEdited down from start old new
 IsChange Anything from start old new = Unit {0}
+
+-- WHAT A PANE SHOWS OF A TEXT WHEN SOME ROWS ARE DRAWN
+
+-- one row, shown from a column, where the others show it already
+abbrev pub CompletesRow : DrawnText → ℕ → ℕ → List ℕ → Picture → Picture → Type 0
+CompletesRow d row shift text p q =
+    (top from : ℕ) (olds : List Row) → shift ≡ shift_at top from row → rows_at d.first d.height p.lines ≡ olds
+    → AreSameBut row olds (text_rows p.cols (shift_at top from) 0 d.height (drop d.start text)) → q ≡ showing d top from text p
+
+-- the line that was edited: row `row` was shown from a column, and is shown from another one then
+abbrev pub CompletesLine : DrawnText → ℕ → ℕ → ℕ → ℕ → List ℕ → Picture → Picture → Type 0
+CompletesLine d down row was shift text p q =
+    (from : ℕ) (old : List ℕ) → DoesShow (record d { start = from }) row was old p → IsLineEdited down from d.start old text → q ≡ showing d row shift text p
+
+-- rows that are shifted
+abbrev pub CompletesShifts : DrawnText → ℕ → ℕ → List ℕ → Picture → Picture → Type 0
+CompletesShifts d row shift text p q = DoesShow d row shift text p → q ≡ showing d d.row d.shift text p
+
+-- all that a change calls for
+abbrev pub CompletesChange : Change → Earlier → DrawnText → List ℕ → Picture → Picture → Type 0
+CompletesChange change e d text p q =
+    (old : List ℕ) → DoesShow (record d { start = e.start }) e.row e.shift old p → IsChange change e.start d.start old text → q ≡ showing d d.row d.shift text p
+
+-- WHAT WAS EDITED
 
 -- what an edit made of a text that had so many characters
 abbrev pub IsChangeBy : Edit → ℕ → ℕ → ℕ → List ℕ → Change → Type 0

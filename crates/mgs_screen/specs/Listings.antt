@@ -1,5 +1,5 @@
 -- The listing of all buffers and an access list, as a screen shows them of the kept buffers.
-use Rattle.std.specs.Prelude.{ℕ, Bool, ◌+◌, ◌-◌, nat_le, nat_lt, ◌&&◌, List, [], ◌∷◌, map, Option, Some, None, if◌then◌else◌}
+use Rattle.std.specs.Prelude.{◌≡◌, ℕ, Bool, ◌+◌, ◌-◌, nat_le, nat_lt, ◌&&◌, List, [], ◌∷◌, map, Option, Some, None, if◌then◌else◌}
 use Rattle.std.specs.List.{flat_map}
 use Rattle.mgs_model.specs.Access.{Directory, decider, decision_by}
 use Rattle.mgs_model.specs.World.{Buffer, may}
@@ -7,7 +7,7 @@ use Rattle.mgs_model.specs.Picture.{Picture}
 use Rattle.mgs_model.specs.Rows.{rows_put, plain_row}
 use Rattle.mgs_model.specs.View.{BufferSeen, buffer_seen, find_seen}
 use Rattle.mgs_model.specs.Seen.{Pane, No_pane, Attributes, EntriesSeen, Listed, Unlisted, attributes_of, if_granted, listing_pane, entries_pane}
-use Rattle.mgs_model.specs.Draw.{rows_from, listing_text}
+use Rattle.mgs_model.specs.Draw.{pane_rows, rows_from, listing_text}
 use Rattle.mgs_model.specs.declared.right.Right.TheVariants.{ReadAcl, ReadAttributes}
 use Rattle.mgs_buffers.specs.MarkedBuffer.{MarkedBuffer, marked_at}
 use Rattle.mgs_windows.specs.declared.RowPane.{RowPane}
@@ -27,6 +27,11 @@ abbrev pub rows_to : Directory → List ℕ → List MarkedBuffer → RowPane �
 rows_to directory user ks NoRows = No_pane
 rows_to directory user ks (Buffers row) = listing_to directory user ks row
 rows_to directory user ks (Entries name row) = entries_to directory user ks name row
+
+-- in its rows
+abbrev pub IsPaneDrawn : ℕ → ℕ → Pane → Picture → Picture → Type 0
+IsPaneDrawn first height pane old new =
+    (selected : Bool) → new ≡ record old { lines = rows_put first (pane_rows selected old.cols height pane) old.lines }
 
 -- a buffer's entries, where its access list may be read, and else why not
 abbrev pub entries_told : Directory → List ℕ → Buffer → EntriesSeen

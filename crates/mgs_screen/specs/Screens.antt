@@ -1,25 +1,29 @@
 -- What a screen shows of the kept buffers.
 use Rattle.std.specs.Prelude.{◌≡◌, ℕ, ◌-◌, min, Bool, true, false, List, [], ◌∷◌, ◌++◌, ◌==◌, not, map, Option, Some, None, if◌then◌else◌, codes}
 use Rattle.mgs_model.specs.Access.{Directory}
-use Rattle.mgs_model.specs.World.{Own, may}
+use Rattle.mgs_model.specs.World.{Buffer, Own, may}
 use Rattle.mgs_model.specs.Lines.{column, line_of, line_start}
 use Rattle.mgs_model.specs.Picture.{Picture}
 use Rattle.mgs_model.specs.Prompts.{line_in_mode, prompt_line, search_text}
 use Rattle.mgs_model.specs.declared.message.Message.{Message}
+use Rattle.mgs_model.specs.declared.message.Message.TheVariants.{Silent}
 use Rattle.mgs_model.specs.declared.session.Mode.{Mode}
+use Rattle.mgs_model.specs.declared.session.Mode.TheVariants.{Plain}
 use Rattle.mgs_model.specs.Rows.{Row, rows_put, mode_row, echo_row, line_row, line_end_column, shift_for, buffer_mode, unless_told}
 use Rattle.mgs_model.specs.View.{buffer_seen, window_seen, reads}
 use Rattle.mgs_model.specs.Seen.{WindowPane, window_pane}
-use Rattle.mgs_model.specs.Draw.{read_rows, place_of, point_row, cursor_in_mode}
-use Rattle.mgs_model.specs.declared.right.Right.TheVariants.{ReadAttributes}
+use Rattle.mgs_model.specs.Draw.{read_rows, place_of, point_row, cursor_in_mode, window_rows}
+use Rattle.mgs_model.specs.declared.right.Right.TheVariants.{ReadAttributes, ReadData}
 use Rattle.mgs_mini.specs.Typing.{PromptInput}
 use Rattle.mgs_marks.specs.Marks.{position_in}
+use Rattle.mgs_buffers.specs.Found.{Named}
 use Rattle.mgs_buffers.specs.MarkedBuffer.{MarkedBuffer, marked_at}
 use Rattle.mgs_windows.specs.declared.WindowMarks.{WindowMarks}
 use Rattle.mgs_windows.specs.declared.Window.{Window}
 use Rattle.mgs_session.specs.declared.search.Aim.{Aim}
 use Rattle.mgs_session.specs.declared.search.Aim.TheVariants.{Find, Replace}
 use Rattle.mgs_world.specs.Worlds.{buffers_of, window_of}
+use Rattle.mgs_screen.specs.Sketches.{told_as}
 
 -- the column from which the point's line is shown
 abbrev pub screen_shift : Bool → ℕ → ℕ → ℕ
@@ -40,6 +44,10 @@ abbrev pub heading_to : Directory → List ℕ → List MarkedBuffer → List �
 heading_to directory user ks name =
     if may directory user ReadAttributes (marked_at name ks).buffer then Some (name, (marked_at name ks).buffer.modified) else None
 
+-- one who may read both its attributes and its text
+abbrev pub ReadsAll : Directory → List ℕ → Buffer → Type 0
+ReadsAll directory user b = (may directory user ReadAttributes b ≡ true) × (may directory user ReadData b ≡ true)
+
 -- the numbers that were taken from a text
 pub record IsMeasured (text : List ℕ) (point top line row place start : ℕ) : Type 0 where
   pub line_is : line ≡ line_of text point
@@ -47,11 +55,23 @@ pub record IsMeasured (text : List ℕ) (point top line row place start : ℕ) :
   pub place_is : place ≡ column text point
   pub start_is : start ≡ line_start text top
 
+-- from a text with these marks, for a window with some of them
+abbrev pub IsMeasuredBy : List ℕ → List (Option ℕ) → WindowMarks → ℕ → ℕ → ℕ → ℕ → Type 0
+IsMeasuredBy text marks x line row place start = IsMeasured text (position_in marks x.point) (position_in marks x.top) line row place start
+
 -- the rows of a text that may be read, and its mode line
 abbrev pub window_marks_rows : Bool → ℕ → ℕ → MarkedBuffer → Option (List ℕ × Bool) → WindowMarks → List Row
 window_marks_rows selected cols height k heading x =
     read_rows selected cols height k.buffer.text (position_in k.marks x.top) (position_in k.marks x.point)
     ++ mode_row cols (buffer_mode heading (place_of k.buffer.text (position_in k.marks x.point))) ∷ []
+
+-- of a buffer that was found, whose flag may be told or not
+abbrev pub found_rows : Bool → ℕ → ℕ → Named → Option Bool → WindowMarks → List Row
+found_rows selected cols height f heading x = window_marks_rows selected cols height (marked_at f.name f.all) (told_as f.name heading) x
+
+-- the rows of a window, as its user sees them
+abbrev pub user_rows : Bool → ℕ → Directory → List ℕ → List MarkedBuffer → Window → List Row
+user_rows selected cols directory user ks x = window_rows selected cols (window_to directory user ks x)
 
 -- where the selected window's cursor is in such a text
 abbrev pub window_marks_cursor : ℕ → ℕ → MarkedBuffer → WindowMarks → ℕ × ℕ
@@ -85,6 +105,10 @@ row_in_mode mode input echo row point p =
 -- of one who holds this
 abbrev pub last_row_drawn : Own → ℕ → ℕ × ℕ → Picture → Picture
 last_row_drawn own row point p = row_in_mode own.mode own.input own.echo row point p
+
+-- nothing is told, no search goes on and no prompt waits
+abbrev pub IsAtRest : Own → Type 0
+IsAtRest own = (row : ℕ) (point : ℕ × ℕ) (p : Picture) → last_row_drawn own row point p ≡ row_in_mode Plain [] Silent row point p
 
 -- the line of a search in a row, and the cursor at the point
 abbrev pub search_line : Aim → List ℕ

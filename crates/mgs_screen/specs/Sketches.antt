@@ -19,15 +19,20 @@ rows_at first height lines = take height (drop first lines)
 abbrev pub DoesShow : DrawnText → ℕ → ℕ → List ℕ → Picture → Type 0
 DoesShow d row shift text p = rows_at d.first d.height p.lines ≡ text_rows p.cols (shift_at row shift) 0 d.height (drop d.start text)
 
--- what a mode line says, and that it is in a row
-abbrev pub heading_of : ModeLine → Option (List ℕ × Bool)
-heading_of m = if m.tells then Some (m.name, m.modified) else None
+-- a buffer of this name, whose flag may be told or not
+abbrev pub told_as : List ℕ → Option Bool → Option (List ℕ × Bool)
+told_as name None = None
+told_as name (Some modified) = Some (name, modified)
 
-abbrev pub mode_text : ModeLine → List ℕ
-mode_text m = buffer_mode (heading_of m) (Some (m.line, m.column))
+-- what a mode line says of it, and that it is in a row
+abbrev pub heading_of : List ℕ → ModeLine → Option (List ℕ × Bool)
+heading_of name m = if m.tells then Some (name, m.modified) else None
 
-abbrev pub DoesShowMode : ℕ → ModeLine → Picture → Type 0
-DoesShowMode row m p = rows_at row 1 p.lines ≡ mode_row p.cols (mode_text m) ∷ []
+abbrev pub mode_text : List ℕ → ModeLine → List ℕ
+mode_text name m = buffer_mode (heading_of name m) (Some (m.line, m.column))
+
+abbrev pub DoesShowMode : ℕ → List ℕ → ModeLine → Picture → Type 0
+DoesShowMode row name m p = rows_at row 1 p.lines ≡ mode_row p.cols (mode_text name m) ∷ []
 
 -- a picture that shows it there
 abbrev pub showing : DrawnText → ℕ → ℕ → List ℕ → Picture → Picture
@@ -58,7 +63,7 @@ pub record Stands (bs : List Buffer) (p : Picture) (d : DrawnText) : Type 0 wher
   pub fits : d.first + d.height < length p.lines
   pub rows : DoesShow d d.row d.shift drawn.text p
   pub stop : IsTabStop drawn.text d.stop d.stop_column
-  pub mode : DoesShowMode (d.first + d.height) d.mode p
+  pub mode : DoesShowMode (d.first + d.height) d.name d.mode p
   pub now : Buffer
   pub found : find_buffer d.name bs ≡ Some now
   pub follows : Follows drawn now

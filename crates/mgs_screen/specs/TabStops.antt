@@ -25,3 +25,7 @@ IsKnown text known = IfSome known (λ s. IsTabStop text s.place s.column)
 -- what a row shows of the line from a place on, from a column of that on
 abbrev pub shown_from : ℕ → ℕ → ℕ → List ℕ → List ℕ
 shown_from cols shift place text = shown_row cols shift (cells (before_first is_feed (drop place text)))
+
+-- rows that show the same, each from a column of what stands from a place on
+abbrev pub AreShownAlike : List ℕ → ℕ → ℕ → ℕ → ℕ → Type 0
+AreShownAlike text shift place other start = (cols : ℕ) → shown_from cols shift place text ≡ shown_from cols other start text

@@ -1,12 +1,11 @@
 // The last row of a screen, and the cursor.
-ghost use Rattle.std.specs.Prelude.{◌≡◌, ◌+◌, ◌<◌, ℕ, [], ◌∷◌, None, true, length, count_by};
-ghost use Rattle.mgs_model.specs.Picture.{Picture};
+ghost use Rattle.std.specs.Prelude.{◌≡◌, ◌+◌, ◌<◌, ◌≤◌, [], ◌∷◌, None, true, length, count_by, take};
 ghost use Rattle.mgs_model.specs.Rows.{is_silent, plain_row, rows_put};
 ghost use Rattle.mgs_model.specs.declared.message.Message.TheVariants.{Silent};
 ghost use Rattle.mgs_model.specs.declared.session.Mode.TheVariants.{Plain};
 ghost use Rattle.mgs_grid.specs.RowSets.{AreIn, AreSameApart};
 ghost use Rattle.mgs_world.specs.Worlds.{input_in, mode_in, own_of};
-ghost use Rattle.mgs_screen.specs.Screens.{is_ink, prompt_drawn, last_row_drawn, row_in_mode, search_drawn};
+ghost use Rattle.mgs_screen.specs.Screens.{IsAtRest, is_ink, prompt_drawn, last_row_drawn, row_in_mode, search_drawn};
 
 use mgs_grid::{Grid, Line, RowSet};
 use mgs_mini::Prompt;
@@ -18,6 +17,9 @@ fn is_silent(message: &Message) -> bool
 {
     matches!(message, Message::Silent)
 }
+
+/// How many cells are compared at a time.
+const STRIDE: usize = 8;
 
 /// Draws the line of a prompt, and puts the cursor behind it.
 fn draw_prompt(prompt: &Prompt, row: usize, grid: &mut Grid)
@@ -110,7 +112,7 @@ fn is_unprompted(prompt: &Option<Prompt>, echo: &Message) -> bool
 
 /// Whether nothing is told, no search goes on and no prompt waits: the last row is blank, and the cursor is at the point.
 fn is_at_rest(own: &Own) -> bool
-    ensures { result ≡ true → (row : ℕ) (point : ℕ × ℕ) (p : Picture) → last_row_drawn (own_of own.now) row point p ≡ row_in_mode Plain [] Silent row point p }
+    ensures { result ≡ true → IsAtRest (own_of own.now) }
 {
     match &own.search {
         Some(_) => false,
@@ -118,11 +120,39 @@ fn is_at_rest(own: &Own) -> bool
     }
 }
 
+/// Whether so many characters as are compared at a time are all blanks. That costs no call.
+fn are_blanks(cells: &[char]) -> bool
+    requires { length cells.now ≡ 8 }
+    ensures { result ≡ true → count_by is_ink cells.now ≡ 0 }
+{
+    cells.starts_with(&[' '; STRIDE])
+}
+
+/// How many characters are blanks at the start, by strides: there may be some more.
+fn skip_blanks(cells: &[char]) -> usize
+    ensures within { result ≤ length cells.now }
+    ensures blank { count_by is_ink (take result cells.now) ≡ 0 }
+{
+    let mut i = 0;
+    while STRIDE <= cells.len() - i && are_blanks(&cells[i..i + STRIDE]) {
+        i += STRIDE;
+    }
+    i
+}
+
+/// Whether characters are all blanks, one by one.
+fn are_plain_blanks(cells: &[char]) -> bool
+    ensures { result ≡ true → count_by is_ink cells.now ≡ 0 }
+{
+    cells.iter().filter(|c| **c != ' ').count() == 0
+}
+
 /// Whether characters are all blanks.
 fn has_no_ink(cells: &[char]) -> bool
     ensures { result ≡ true → count_by is_ink cells.now ≡ 0 }
 {
-    cells.iter().filter(|c| **c != ' ').count() == 0
+    let from = skip_blanks(cells);
+    are_plain_blanks(&cells[from..])
 }
 
 /// Whether a row shows plain blanks.

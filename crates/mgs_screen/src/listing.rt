@@ -1,13 +1,13 @@
 // What a window shows in place of a text, drawn into its rows: nothing, the listing of all buffers, or an access list.
-ghost use Rattle.std.specs.Prelude.{◌≡◌, ◌+◌, ◌<◌, ◌≤◌, ◌^◌, [], ◌∷◌, ◌++◌, Bool, map, length, decimal, codes};
+ghost use Rattle.std.specs.Prelude.{◌≡◌, ◌+◌, ◌<◌, ◌≤◌, ◌^◌, [], ◌∷◌, ◌++◌, map, length, decimal, codes};
 ghost use Rattle.std.specs.Option.{option_map};
 ghost use Rattle.mgs_model.specs.Rows.{rows_put, cause_text, blank_rows, mode_row, none_mode};
 ghost use Rattle.mgs_model.specs.Seen.{if_granted};
-ghost use Rattle.mgs_model.specs.Draw.{pane_rows, listing_text, entry_text, entries_texts, entries_shown};
+ghost use Rattle.mgs_model.specs.Draw.{listing_text, entry_text, entries_texts, entries_shown};
 ghost use Rattle.mgs_buffers.specs.MarkedBuffer.{HasBuffer, marked_at};
 ghost use Rattle.mgs_buffers.specs.Judging.{AreJudged, rules_kept};
 ghost use Rattle.mgs_buffers.specs.Told.{attributes_read};
-ghost use Rattle.mgs_screen.specs.Listings.{listing_to, entries_to, rows_to, entries_told, name_to, place_in, past_sight, row_drawn, buffer_drawn, drawn, listed};
+ghost use Rattle.mgs_screen.specs.Listings.{IsPaneDrawn, listing_to, entries_to, rows_to, entries_told, name_to, place_in, past_sight, row_drawn, buffer_drawn, drawn, listed};
 
 use mgs_acl::{Entry, print_entry};
 use mgs_buffers::{Attributes, Buffers, Found};
@@ -126,7 +126,7 @@ pub fn draw_listing<T: Marked + Drop>(
 )
     requires room { first + height < grid.old.rows }
     requires judged { AreJudged directory.now (rules_kept buffers.now) judge.old }
-    ensures grid { (selected : Bool) → grid.new ≡ record grid.old { lines = rows_put first (pane_rows selected grid.old.cols height (listing_to directory.now user.now buffers.now row)) grid.old.lines } }
+    ensures grid { IsPaneDrawn first height (listing_to directory.now user.now buffers.now row) grid.old grid.new }
     ensures judged { AreJudged directory.now (rules_kept buffers.now) judge.new }
 {
     let _rows = grid.rows();
@@ -243,7 +243,7 @@ pub fn draw_entries<T: Marked + Drop>(
     requires room { first + height < grid.old.rows }
     requires judged { AreJudged directory.now (rules_kept buffers.now) judge.old }
     ensures judged { AreJudged directory.now (rules_kept buffers.now) judge.new }
-    ensures grid { (selected : Bool) → grid.new ≡ record grid.old { lines = rows_put first (pane_rows selected grid.old.cols height (entries_to directory.now user.now buffers.now name.now row)) grid.old.lines } }
+    ensures grid { IsPaneDrawn first height (entries_to directory.now user.now buffers.now name.now row) grid.old grid.new }
 {
     let _rows = grid.rows();
     let sight = Sight { first, height, row };
@@ -277,7 +277,7 @@ pub fn draw_rows<T: Marked + Drop>(
     requires room { first + height < grid.old.rows }
     requires judged { AreJudged directory.now (rules_kept buffers.now) judge.old }
     ensures judged { AreJudged directory.now (rules_kept buffers.now) judge.new }
-    ensures grid { (selected : Bool) → grid.new ≡ record grid.old { lines = rows_put first (pane_rows selected grid.old.cols height (rows_to directory.now user.now buffers.now rows.now)) grid.old.lines } }
+    ensures grid { IsPaneDrawn first height (rows_to directory.now user.now buffers.now rows.now) grid.old grid.new }
 {
     match rows {
         RowPane::NoRows => draw_none(first, height, grid),

@@ -2,8 +2,8 @@
 ghost use Rattle.std.specs.Prelude.{◌≡◌, ◌-◌, ◌<◌, ◌≤◌, ◌^◌, true, length, IsSome};
 ghost use Rattle.mgs_model.specs.Lines.{line_of, start_of};
 ghost use Rattle.mgs_model.specs.Rows.{shift_for};
-ghost use Rattle.mgs_marks.specs.Marks.{mark_in, position_in};
-ghost use Rattle.mgs_screen.specs.Screens.{IsMeasured, screen_shift};
+ghost use Rattle.mgs_marks.specs.Marks.{mark_in};
+ghost use Rattle.mgs_screen.specs.Screens.{IsMeasuredBy, screen_shift};
 ghost use Rattle.mgs_screen.specs.TabStops.{IsKnown, IsTabStop};
 
 use crate::tab_stops::{TabStop, cells_to, first_stop, near_stop};
@@ -65,7 +65,7 @@ pub(crate) fn measure<T: Marked>(
     requires cols { 20 ≤ cols }
     requires narrow { cols < 2 ^ 32 }
     requires known { IsKnown (T.text text.now) known }
-    ensures is { IsMeasured (T.text text.now) (position_in (T.marks text.now) window_marks.now.point) (position_in (T.marks text.now) window_marks.now.top) result.line result.row result.column result.start }
+    ensures is { IsMeasuredBy (T.text text.now) (T.marks text.now) window_marks.now result.line result.row result.column result.start }
     ensures shift { result.shift ≡ screen_shift selected cols result.column }
     ensures cursor { selected ≡ true → result.col ≡ result.column - shift_for cols result.column }
     ensures above { line_of (T.text text.now) result.start ≡ result.above }

@@ -1,13 +1,12 @@
 // The rows of a text, drawn where those of an earlier one stand.
-ghost use Rattle.std.specs.Prelude.{◌≡◌, ◌+◌, ◌≤◌, ◌<◌, ◌^◌, ℕ, List, length, drop};
+ghost use Rattle.std.specs.Prelude.{◌≡◌, ◌+◌, ◌≤◌, ◌<◌, ◌^◌, length};
 ghost use Rattle.mgs_model.specs.Lines.{line_of, start_of};
-ghost use Rattle.mgs_model.specs.Rows.{Row, text_rows, shift_at};
+ghost use Rattle.mgs_model.specs.Rows.{shift_at};
 ghost use Rattle.mgs_world.specs.Worlds.{buffers_of};
 ghost use Rattle.mgs_buffers.specs.MarkedBuffer.{HasBuffer, marked_at};
-ghost use Rattle.mgs_grid.specs.Panes.{AreSameBut};
 ghost use Rattle.mgs_grid.specs.RowSets.{AreIn, AreSameApart};
-ghost use Rattle.mgs_screen.specs.Changes.{IsChange, IsLineEdited};
-ghost use Rattle.mgs_screen.specs.Sketches.{DoesShow, MayStand, rows_at, showing};
+ghost use Rattle.mgs_screen.specs.Changes.{CompletesChange, CompletesLine, CompletesRow, CompletesShifts};
+ghost use Rattle.mgs_screen.specs.Sketches.{DoesShow, MayStand, showing};
 ghost use Rattle.mgs_screen.specs.TabStops.{IsTabStop};
 
 use crate::change::{Change, change_since};
@@ -57,7 +56,7 @@ fn draw_row_of<T: Text>(
     requires start { start_of above (T.text text.now) ≡ drawn.now.start }
     requires stop { IsTabStop (T.text text.now) drawn.now.stop drawn.now.stop_column }
     requires shift { shift < 2 ^ 62 }
-    ensures grid { (top from : ℕ) (olds : List Row) → shift ≡ shift_at top from row → rows_at drawn.now.first drawn.now.height grid.old.lines ≡ olds → AreSameBut row olds (text_rows grid.old.cols (shift_at top from) 0 drawn.now.height (drop drawn.now.start (T.text text.now))) → grid.new ≡ showing drawn.now top from (T.text text.now) grid.old }
+    ensures grid { CompletesRow drawn.now row shift (T.text text.now) grid.old grid.new }
     ensures size { grid.new.rows ≡ grid.old.rows }
     ensures rows { AreIn rows.old rows.new }
     ensures apart { AreSameApart rows.new grid.old.lines grid.new.lines }
@@ -120,7 +119,7 @@ fn shift_rows<T: Text>(
     requires start { start_of above (T.text text.now) ≡ drawn.now.start }
     requires stop { IsTabStop (T.text text.now) drawn.now.stop drawn.now.stop_column }
     requires shift { drawn.now.shift < 2 ^ 62 }
-    ensures grid { DoesShow drawn.now row shift (T.text text.now) grid.old → grid.new ≡ showing drawn.now drawn.now.row drawn.now.shift (T.text text.now) grid.old }
+    ensures grid { CompletesShifts drawn.now row shift (T.text text.now) grid.old grid.new }
     ensures rows { AreIn rows.old rows.new }
     ensures apart { AreSameApart rows.new grid.old.lines grid.new.lines }
 {
@@ -160,7 +159,7 @@ fn draw_line_of<T: Text>(
     requires start { start_of above (T.text text.now) ≡ drawn.now.start }
     requires stop { IsTabStop (T.text text.now) drawn.now.stop drawn.now.stop_column }
     requires shift { drawn.now.shift < 2 ^ 62 }
-    ensures grid { (from : ℕ) (old : List ℕ) → DoesShow (record drawn.now { start = from }) row shift old grid.old → IsLineEdited down from drawn.now.start old (T.text text.now) → grid.new ≡ showing drawn.now row result (T.text text.now) grid.old }
+    ensures grid { CompletesLine drawn.now down row shift result (T.text text.now) grid.old grid.new }
     ensures size { grid.new.rows ≡ grid.old.rows }
     ensures rows { AreIn rows.old rows.new }
     ensures apart { AreSameApart rows.new grid.old.lines grid.new.lines }
@@ -191,7 +190,7 @@ fn redraw_rows<T: Text>(
     requires start { start_of above (T.text text.now) ≡ drawn.now.start }
     requires stop { IsTabStop (T.text text.now) drawn.now.stop drawn.now.stop_column }
     requires shift { drawn.now.shift < 2 ^ 62 }
-    ensures grid { (old : List ℕ) → DoesShow (record drawn.now { start = earlier.now.start }) earlier.now.row earlier.now.shift old grid.old → IsChange change earlier.now.start drawn.now.start old (T.text text.now) → grid.new ≡ showing drawn.now drawn.now.row drawn.now.shift (T.text text.now) grid.old }
+    ensures grid { CompletesChange change earlier.now drawn.now (T.text text.now) grid.old grid.new }
     ensures rows { AreIn rows.old rows.new }
     ensures apart { AreSameApart rows.new grid.old.lines grid.new.lines }
 {

@@ -1,6 +1,6 @@
 // The screen of a session, drawn into a grid that is there.
 ghost use Rattle.std.specs.Prelude.{◌≡◌, ◌+◌, ◌<◌, ◌≤◌, ℕ, true, List, [], ◌∷◌, Option, None, Some, IfSome};
-ghost use Rattle.mgs_model.specs.Draw.{screen, window_rows, window_cursor};
+ghost use Rattle.mgs_model.specs.Draw.{screen, window_cursor};
 ghost use Rattle.mgs_model.specs.Rows.{rows_put, mode_row, buffer_mode};
 ghost use Rattle.mgs_session.specs.declared.Session.{Session};
 ghost use Rattle.mgs_world.specs.Worlds.{buffers_of, world_of, session_of};
@@ -8,8 +8,10 @@ ghost use Rattle.mgs_world.specs.Sound.{IsSessionSound, IsWindowSound};
 ghost use Rattle.mgs_buffers.specs.Judging.{AreJudged, rules_kept};
 ghost use Rattle.mgs_buffers.specs.MarkedBuffer.{HasBuffer, IsMark, marked_at};
 ghost use Rattle.mgs_grid.specs.RowSets.{has_row, AreIn, AreSameApart};
-ghost use Rattle.mgs_screen.specs.Screens.{window_to, heading_to, window_marks_rows, window_marks_cursor};
-ghost use Rattle.mgs_screen.specs.Sketches.{AreStanding, AreStandingAbove, AreStandingFrom, DoesShowMode, IsStopOf, heading_of, mode_text, pushed};
+ghost use Rattle.mgs_model.specs.World.{may};
+ghost use Rattle.mgs_model.specs.declared.right.Right.TheVariants.{ReadData};
+ghost use Rattle.mgs_screen.specs.Screens.{ReadsAll, found_rows, heading_to, user_rows, window_marks_cursor, window_to};
+ghost use Rattle.mgs_screen.specs.Sketches.{AreStanding, AreStandingAbove, AreStandingFrom, DoesShowMode, IsStopOf, heading_of, mode_text, pushed, told_as};
 
 use crate::change::stop_since;
 use crate::last_row::redraw_last_row;
@@ -19,10 +21,10 @@ use crate::redrawing::redraw_pane;
 use crate::sketch::{DrawnText, Earlier, ModeLine, Sketch};
 use crate::tab_stops::TabStop;
 use mgs_buffers::{Buffers, Found};
-use mgs_cache::Judge;
+use mgs_cache::{Judge, OUTRIGHT_LIMIT};
 use mgs_grid::{Grid, RowSet};
 use mgs_marks::Marked;
-use mgs_model::{Name, ROWS_MAX, Right};
+use mgs_model::{Decision, Mask, Name, ROWS_MAX, Right};
 use mgs_policy::Directory;
 use mgs_session::Session;
 use mgs_text::Text;
@@ -36,22 +38,69 @@ struct Place {
     selected: bool,
 }
 
-/// The buffer's name and flag, where its attributes may be read.
+/// Whether the buffer is modified, where its attributes may be read.
 fn heading<T: Marked + Drop>(
     found: &Found<T>,
     judge: &mut Judge,
     directory: &Directory,
     user: &Name,
-) -> Option<(Name, bool)>
+) -> Option<bool>
     requires { AreJudged directory.now (rules_kept found.now.all) judge.old }
-    ensures value { result ≡ heading_to directory.now user.now found.now.all found.now.name }
+    ensures value { told_as found.now.name result ≡ heading_to directory.now user.now found.now.all found.now.name }
     ensures judged { AreJudged directory.now (rules_kept found.now.all) judge.new }
 {
     if found.grants_by(judge, directory, user, Right::ReadAttributes) {
-        Some((*found.name(), found.is_modified()))
+        Some(found.is_modified())
     } else {
         None
     }
+}
+
+/// A buffer's name and flag, where they may be told.
+fn named(name: &Name, heading: Option<bool>) -> Option<(Name, bool)>
+    ensures { result ≡ told_as name.now heading }
+{
+    match heading {
+        Some(modified) => Some((*name, modified)),
+        None => None,
+    }
+}
+
+/// READ_DATA and READ_ATTRIBUTES.
+const READS: u32 = 0x81;
+
+/// Whether one walk over a list, of which a judge keeps nothing, tells that both a buffer's text and its attributes may be read.
+fn reads_all<T: Marked + Drop>(found: &Found<T>, directory: &Directory, user: &Name) -> bool
+    ensures { result ≡ true → ReadsAll directory.now user.now (marked_at found.now.name found.now.all).buffer }
+{
+    if found.entries().len() > OUTRIGHT_LIMIT {
+        return false;
+    }
+    let reads = Mask::from_bits(READS);
+    match found.decide_all(directory, user, reads) {
+        Decision::Granted => true,
+        _ => false,
+    }
+}
+
+/// What may be seen of a buffer: whether it is modified, where its attributes may be read, and whether its text may be.
+fn seen<T: Marked + Drop>(
+    found: &Found<T>,
+    judge: &mut Judge,
+    directory: &Directory,
+    user: &Name,
+) -> (Option<bool>, bool)
+    requires { AreJudged directory.now (rules_kept found.now.all) judge.old }
+    ensures heading { told_as found.now.name result.0 ≡ heading_to directory.now user.now found.now.all found.now.name }
+    ensures reads { result.1 ≡ may directory.now user.now ReadData (marked_at found.now.name found.now.all).buffer }
+    ensures judged { AreJudged directory.now (rules_kept found.now.all) judge.new }
+{
+    if reads_all(found, directory, user) {
+        return (Some(found.is_modified()), true);
+    }
+    let heading = heading(found, judge, directory, user);
+    let reads = found.grants_by(judge, directory, user, Right::ReadData);
+    (heading, reads)
 }
 
 /// The tab stop that is known of a text that was drawn earlier.
@@ -65,21 +114,19 @@ fn known_stop<T: Marked + Drop>(found: &Found<T>, earlier: &Option<Earlier>) -> 
     }
 }
 
-/// What the mode line of a buffer of this name is drawn from.
-fn mode_of(heading: Option<(Name, bool)>, name: &Name, line: usize, column: usize) -> ModeLine
-    ensures { mode_text result ≡ buffer_mode heading (Some (line, column)) }
+/// What a buffer's mode line is drawn from.
+fn mode_of(heading: Option<bool>, line: usize, column: usize) -> ModeLine
+    ensures { (name : List ℕ) → mode_text name result ≡ buffer_mode (told_as name heading) (Some (line, column)) }
 {
     match heading {
-        Some((name, modified)) => ModeLine {
+        Some(modified) => ModeLine {
             tells: true,
-            name,
             modified,
             line,
             column,
         },
         None => ModeLine {
             tells: false,
-            name: *name,
             modified: false,
             line,
             column,
@@ -87,12 +134,12 @@ fn mode_of(heading: Option<(Name, bool)>, name: &Name, line: usize, column: usiz
     }
 }
 
-/// The buffer's name and flag in a mode line.
-fn heading_of(mode: &ModeLine) -> Option<(Name, bool)>
-    ensures { result ≡ heading_of mode.now }
+/// The buffer's name and flag in its mode line.
+fn heading_of(name: &Name, mode: &ModeLine) -> Option<(Name, bool)>
+    ensures { result ≡ heading_of name.now mode.now }
 {
     if mode.tells {
-        Some((mode.name, mode.modified))
+        Some((*name, mode.modified))
     } else {
         None
     }
@@ -102,15 +149,12 @@ fn heading_of(mode: &ModeLine) -> Option<(Name, bool)>
 fn is_same_mode(a: &ModeLine, b: &ModeLine) -> bool
     ensures { result ≡ true → a.now ≡ b.now }
 {
-    a.line == b.line
-        && a.column == b.column
-        && a.tells == b.tells
-        && a.modified == b.modified
-        && a.name == b.name
+    a.line == b.line && a.column == b.column && a.tells == b.tells && a.modified == b.modified
 }
 
 /// Draws the mode line of a text that may be read, where it is not there already.
 fn redraw_mode(
+    name: &Name,
     mode: &ModeLine,
     earlier: &Option<Earlier>,
     row: usize,
@@ -118,8 +162,8 @@ fn redraw_mode(
     grid: &mut Grid,
 )
     requires room { row < grid.old.rows }
-    requires stands { IfSome earlier.now (λ e. DoesShowMode row e.mode grid.old) }
-    ensures grid { grid.new ≡ record grid.old { lines = rows_put row (mode_row grid.old.cols (mode_text mode.now) ∷ []) grid.old.lines } }
+    requires stands { IfSome earlier.now (λ e. DoesShowMode row name.now e.mode grid.old) }
+    ensures grid { grid.new ≡ record grid.old { lines = rows_put row (mode_row grid.old.cols (mode_text name.now mode.now) ∷ []) grid.old.lines } }
     ensures more { AreIn rows.old rows.new }
     ensures apart { AreSameApart rows.new grid.old.lines grid.new.lines }
 {
@@ -129,7 +173,8 @@ fn redraw_mode(
             return;
         }
     }
-    grid.draw_mode(row, heading_of(mode), Some((mode.line, mode.column)));
+    let place = Some((mode.line, mode.column));
+    grid.draw_mode(row, heading_of(name, mode), place);
     rows.insert(row);
 }
 
@@ -137,7 +182,7 @@ fn redraw_mode(
 /// selected one.
 fn redraw_text<T: Marked + Drop>(
     found: &Found<T>,
-    heading: Option<(Name, bool)>,
+    heading: Option<bool>,
     window_marks: &WindowMarks,
     height: usize,
     place: Place,
@@ -154,7 +199,7 @@ fn redraw_text<T: Marked + Drop>(
     requires above { AreStandingAbove place.first (buffers_of found.now.all) grid.old texts.old }
     ensures rows { grid.new.rows ≡ grid.old.rows }
     ensures cols { grid.new.cols ≡ grid.old.cols }
-    ensures lines { grid.new.lines ≡ rows_put place.first (window_marks_rows place.selected grid.old.cols height (marked_at found.now.name found.now.all) heading window_marks.now) grid.old.lines }
+    ensures lines { grid.new.lines ≡ rows_put place.first (found_rows place.selected grid.old.cols height found.now heading window_marks.now) grid.old.lines }
     ensures cursor { place.selected ≡ true → result ≡ window_marks_cursor grid.old.cols height (marked_at found.now.name found.now.all) window_marks.now }
     ensures row { result.0 < height }
     ensures col { result.1 < grid.old.cols }
@@ -168,7 +213,7 @@ fn redraw_text<T: Marked + Drop>(
     let earlier = sketch.drawn(place.index, name, place.first, height);
     let known = known_stop(found, &earlier);
     let measures = measure(text, window_marks, place.selected, cols, known);
-    let mode = mode_of(heading, name, measures.line + 1, measures.column);
+    let mode = mode_of(heading, measures.line + 1, measures.column);
     let drawn = DrawnText {
         name: *name,
         serial: found.serial(),
@@ -183,7 +228,7 @@ fn redraw_text<T: Marked + Drop>(
         mode,
     };
     redraw_pane(found, text, &drawn, measures.above, &earlier, rows, grid);
-    redraw_mode(&mode, &earlier, place.first + height, rows, grid);
+    redraw_mode(name, &mode, &earlier, place.first + height, rows, grid);
     texts.push_text(&drawn);
     (measures.row.min(height - 1), measures.col)
 }
@@ -222,7 +267,7 @@ fn redraw_window<T: Marked + Drop>(
     ensures judged { AreJudged directory.now (rules_kept buffers.now) judge.new }
     ensures rows { grid.new.rows ≡ grid.old.rows }
     ensures cols { grid.new.cols ≡ grid.old.cols }
-    ensures lines { grid.new.lines ≡ rows_put place.first (window_rows place.selected grid.old.cols (window_to directory.now user.now buffers.now window.now)) grid.old.lines }
+    ensures lines { grid.new.lines ≡ rows_put place.first (user_rows place.selected grid.old.cols directory.now user.now buffers.now window.now) grid.old.lines }
     ensures cursor { place.selected ≡ true → result ≡ window_cursor grid.old.cols (Some (window_to directory.now user.now buffers.now window.now)) }
     ensures row { result.0 < window.now.height }
     ensures col { result.1 < grid.old.cols }
@@ -247,8 +292,8 @@ fn redraw_window<T: Marked + Drop>(
         return (0, 0);
     };
     let found = buffers.find(&window_marks.name);
-    let heading = heading(&found, judge, directory, user);
-    if found.grants_by(judge, directory, user, Right::ReadData) {
+    let (heading, reads) = seen(&found, judge, directory, user);
+    if reads {
         return redraw_text(
             &found,
             heading,
@@ -263,6 +308,7 @@ fn redraw_window<T: Marked + Drop>(
     }
     let decision = found.decide_by(judge, directory, user, Right::ReadData);
     grid.draw_unread(place.first, height, decision);
+    let heading = named(found.name(), heading);
     grid.draw_mode(place.first + height, heading, None);
     note_rows(place.first, height, texts, rows);
     (0, 0)

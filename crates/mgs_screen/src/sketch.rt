@@ -6,13 +6,11 @@ use arrayvec::ArrayVec;
 use mgs_model::Name;
 use std::marker::Model;
 
-/// What a mode line is drawn from.
+/// What a mode line is drawn from, but for the buffer's name.
 #[derive(Clone, Copy)]
 pub(crate) struct ModeLine {
     /// Whether the buffer's name and flag may be told.
     pub(crate) tells: bool,
-    /// The buffer's name.
-    pub(crate) name: Name,
     /// Whether the buffer is modified.
     pub(crate) modified: bool,
     /// The point's line, from 1.

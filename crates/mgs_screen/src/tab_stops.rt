@@ -2,7 +2,7 @@
 ghost use Rattle.std.specs.Prelude.{◌≡◌, ℕ, List, ◌*◌, ◌≤◌, ◌<◌, ◌^◌, length, slice_range};
 ghost use Rattle.mgs_model.specs.Cells.{cells};
 ghost use Rattle.mgs_model.specs.Lines.{line_start, start_of};
-ghost use Rattle.mgs_screen.specs.TabStops.{IsKnown, IsOn, IsTabStop, shown_from};
+ghost use Rattle.mgs_screen.specs.TabStops.{AreShownAlike, IsKnown, IsOn, IsTabStop};
 
 use mgs_lines::width;
 use mgs_text::Text;
@@ -26,7 +26,7 @@ pub(crate) struct Begin {
 pub(crate) fn begin_at<T: Text>(text: &T, line: usize, shift: usize, stop: TabStop) -> Begin
     requires stop { IsTabStop (T.text text.now) stop.place stop.column }
     requires shift { shift < 2 ^ 62 }
-    ensures row { (cols : ℕ) → shown_from cols result.shift result.place (T.text text.now) ≡ shown_from cols shift (start_of line (T.text text.now)) (T.text text.now) }
+    ensures row { AreShownAlike (T.text text.now) result.shift result.place shift (start_of line (T.text text.now)) }
     ensures within { result.place ≤ length (T.text text.now) }
     ensures shift { result.shift < 2 ^ 62 }
 {

@@ -1,4 +1,4 @@
-use Rattle.std.proofs.Common.{◌≡◌, ℕ, [], ◌∷◌, refl, ap, subst, arith}
+use Rattle.std.proofs.Common.{◌≡◌, ℕ, List, [], ◌∷◌, refl, ap, subst, arith}
 use Rattle.std.specs.Prelude.{Option, Some, IfSome}
 use Rattle.mgs_model.specs.Picture.{Picture}
 use Rattle.mgs_model.specs.Rows.{buffer_mode, mode_row}
@@ -13,9 +13,10 @@ pub returns-then-is_same_mode-clause-grid : goal.returns-then-is_same_mode-claus
 returns-then-is_same_mode-clause-grid c =
     let p : Picture = c.args.grid.now in
     let row : ℕ = c.args.row in
-    let stand : DoesShowMode row c.in-Some.earlier.mode p = subst (λ (o : Option Earlier). IfSome o (λ x. DoesShowMode row x.mode p)) c.in-Some.is c.requires.stands in
+    let name : List ℕ = c.args.name.now in
+    let stand : DoesShowMode row name c.in-Some.earlier.mode p = subst (λ (o : Option Earlier). IfSome o (λ x. DoesShowMode row name x.mode p)) c.in-Some.is c.requires.stands in
     let same : c.in-Some.earlier.mode ≡ c.args.mode.now = c.is_same_mode.ensures c.if-is_same_mode.true in
-    mode_there row c.args.mode.now p (omega (arith, c.requires.room, c.rows-rows.ensures.picture.count)) (subst (λ (m : ModeLine). DoesShowMode row m p) same stand)
+    mode_there row name c.args.mode.now p (omega (arith, c.requires.room, c.rows-rows.ensures.picture.count)) (subst (λ (m : ModeLine). DoesShowMode row name m p) same stand)
 
 pub returns-clause-apart : goal.returns-clause-apart
 returns-clause-apart c =

@@ -1,4 +1,4 @@
-use Rattle.std.proofs.Common.{◌≡◌, ◌+◌, ◌++◌, ℕ, List, [], ◌∷◌, Some, length, drop, sym, ap, subst, ◌∙◌, arith, length-append}
+use Rattle.std.proofs.Common.{◌≡◌, ◌+◌, ◌++◌, ℕ, Bool, List, [], ◌∷◌, Some, length, drop, sym, ap, subst, ◌∙◌, arith, length-append}
 use Rattle.std.specs.Prelude.{Option, IfSome}
 use Rattle.mgs_model.specs.Picture.{Picture}
 use Rattle.mgs_model.specs.World.{Buffer, find_buffer}
@@ -10,7 +10,7 @@ use Rattle.mgs_grid.proofs.RowSets.{same_then}
 use Rattle.mgs_world.specs.Worlds.{buffers_of}
 use Rattle.mgs_world.proofs.Found.{found_buffer}
 use Rattle.mgs_screen.specs.Screens as screens
-use Rattle.mgs_screen.specs.Sketches.{Stands, mode_text, text_then}
+use Rattle.mgs_screen.specs.Sketches.{DoesShowMode, Stands, mode_text, text_then, told_as}
 use Rattle.mgs_screen.specs.TabStops.{IsTabStop}
 use Rattle.mgs_screen.specs.declared.sketch.DrawnText.{DrawnText}
 use Rattle.mgs_screen.specs.declared.sketch.Earlier.{Earlier}
@@ -54,12 +54,16 @@ returns-clause-lines g c =
     let rest : List ℕ = drop m.start text in
     let pane : List Row = text_rows cols (shift_at m.row m.shift) 0 height rest in
     let shifted : m.shift ≡ screens.screen_shift c.args.place.selected cols m.column = c.measure-measures.ensures.shift ∙ ap (λ (n : ℕ). screens.screen_shift c.args.place.selected n m.column) c.cols-cols.ensures.value in
-    pane_put c.args.place.first height pane (buffer_mode c.args.heading (Some (m.line + 1, m.column))) p c.redraw_pane.new.grid c.redraw_mode.new.grid
+    let name : List ℕ = c.args.found.now.name in
+    let heading : Option (List ℕ × Bool) = told_as name c.args.heading in
+    let said : mode_text c.name-name.result.now c.mode_of-mode.result ≡ buffer_mode heading (Some (m.line + 1, m.column)) =
+    ap (λ (n : List ℕ). mode_text n c.mode_of-mode.result) c.name-name.ensures.value ∙ c.mode_of-mode.ensures name in
+    pane_put c.args.place.first height pane (buffer_mode heading (Some (m.line + 1, m.column))) p c.redraw_pane.new.grid c.redraw_mode.new.grid
     c.requires.room c.cols-cols.ensures.picture.count (length-text_rows cols (shift_at m.row m.shift) 0 height rest) c.redraw_pane.ensures.grid
-    (c.redraw_mode.ensures.grid ∙ ap (λ (said : List ℕ). record between { lines = rows_put (c.args.place.first + height) (mode_row between.cols said ∷ []) between.lines }) c.mode_of-mode.ensures)
+    (c.redraw_mode.ensures.grid ∙ ap (λ (said : List ℕ). record between { lines = rows_put (c.args.place.first + height) (mode_row between.cols said ∷ []) between.lines }) said)
     ∙ ap (λ (rows : List Row). rows_put c.args.place.first rows p.lines) (
-    text_drawn c.args.place.selected cols height c.args.heading text (position_in marks x.point) (position_in marks x.top) m.line m.row m.column m.start m.shift c.measure-measures.ensures.is shifted
-    ∙ window_marks_drawn c.args.place.selected cols height k c.args.heading x text (position_in marks x.point) (position_in marks x.top) c.text-text.ensures.text
+    text_drawn c.args.place.selected cols height heading text (position_in marks x.point) (position_in marks x.top) m.line m.row m.column m.start m.shift c.measure-measures.ensures.is shifted
+    ∙ window_marks_drawn c.args.place.selected cols height k heading x text (position_in marks x.point) (position_in marks x.top) c.text-text.ensures.text
     (ap (λ ms. position_in ms x.point) c.text-text.ensures.marks) (ap (λ ms. position_in ms x.top) c.text-text.ensures.marks))
 
 pub returns-clause-texts : goal.returns-clause-texts
@@ -75,7 +79,7 @@ returns-clause-texts g c =
     let d : DrawnText = record { name = c.name-name.result.now; serial = c.serial.result; size = c.len.result; start = m.start; first = first; height = height; row = m.row; shift = m.shift; stop = m.stop; stop_column = m.stop_column; mode = c.mode_of-mode.result } in
     let rest : List ℕ = drop m.start text in
     let pane : List Row = text_rows p.cols (shift_at m.row m.shift) 0 height rest in
-    let mode : List ℕ = mode_text c.mode_of-mode.result in
+    let mode : List ℕ = mode_text c.name-name.result.now c.mode_of-mode.result in
     let size : length pane ≡ height = length-text_rows p.cols (shift_at m.row m.shift) 0 height rest in
     let put : IsPut first (pane ++ mode_row p.cols mode ∷ []) p q = record {
       lines = pane_put first height pane mode p c.redraw_pane.new.grid q c.requires.room c.cols-cols.ensures.picture.count size c.redraw_pane.ensures.grid c.redraw_mode.ensures.grid;
@@ -104,7 +108,9 @@ redraw_mode-requires-clause-stands g c =
       fits = omega (arith, size, c.requires.room, c.cols-cols.ensures.picture.count);
     } in
     let stands = found_stands bs p c.args.sketch.now c.args.place.index c.name-name.result.now name first height o c.requires.stands c.name-name.ensures.value c.drawn-earlier.ensures in
-    mode_stays (first + height) first pane p c.redraw_pane.new.grid o put (omega (arith, size)) (mode_stands bs p name first height o stands)
+    let there : IfSome o (λ e. DoesShowMode (first + height) name e.mode c.redraw_pane.new.grid) =
+    mode_stays (first + height) first name pane p c.redraw_pane.new.grid o put (omega (arith, size)) (mode_stands bs p name first height o stands) in
+    subst (λ (n : List ℕ). IfSome o (λ e. DoesShowMode (first + height) n e.mode c.redraw_pane.new.grid)) (sym c.name-name.ensures.value) there
 
 pub returns-clause-apart : goal.returns-clause-apart
 returns-clause-apart g c =

@@ -19,7 +19,7 @@ use Rattle.mgs_screen.proofs.Redrawn.{lines_apart}
 use Rattle.mgs_screen.proofs.RowPanes.{length_rows}
 use Rattle.mgs_screen.proofs.Sketches.{IsPut, texts_passed}
 use Rattle.mgs_screen.specs.Screens.{heading_to, window_marks_cursor, window_marks_rows}
-use Rattle.mgs_screen.specs.Sketches.{AreStandingAbove, AreStandingFrom}
+use Rattle.mgs_screen.specs.Sketches.{AreStandingAbove, AreStandingFrom, told_as}
 use Rattle.mgs_screen.proofs.Drawings.{pane_put, shown_kept, window_read, window_top, window_unread, window_cursor_read, window_cursor_unread}
 use Rattle.mgs_screen.proofs.screen.redraw_window.Goals as goal
 
@@ -27,8 +27,8 @@ pub find-found-requires : goal.find-found-requires
 find-found-requires g c =
     shown_kept c.args.buffers.now c.args.window.now c.in-Some.window_marks c.requires.sound c.in-Some.is
 
-pub heading-heading-requires : goal.heading-heading-requires
-heading-heading-requires g c = subst (λ (f : Named). AreJudged c.args.directory.now (rules_kept f.all) c.args.judge.now) (sym c.find-found.ensures) c.requires.judged
+pub seen-heading-requires : goal.seen-heading-requires
+seen-heading-requires g c = subst (λ (f : Named). AreJudged c.args.directory.now (rules_kept f.all) c.args.judge.now) (sym c.find-found.ensures) c.requires.judged
 
 pub redraw_text-requires-clause-point : goal.redraw_text-requires-clause-point
 redraw_text-requires-clause-point g c =
@@ -46,15 +46,15 @@ redraw_text-requires-clause-stands g c = subst (λ (f : Named). AreStandingFrom 
 pub redraw_text-requires-clause-above : goal.redraw_text-requires-clause-above
 redraw_text-requires-clause-above g c = subst (λ (f : Named). AreStandingAbove c.args.place.first (buffers_of f.all) c.args.grid.now c.args.texts.now) (sym c.find-found.ensures) c.requires.above
 
-pub returns-then-grants_by-clause-judged : goal.returns-then-grants_by-clause-judged
-returns-then-grants_by-clause-judged g c = subst (λ (f : Named). AreJudged c.args.directory.now (rules_kept f.all) c.grants_by.new.judge) c.find-found.ensures c.grants_by.ensures.judged
+pub returns-then-reads-clause-judged : goal.returns-then-reads-clause-judged
+returns-then-reads-clause-judged g c = subst (λ (f : Named). AreJudged c.args.directory.now (rules_kept f.all) c.seen-heading.new.judge) c.find-found.ensures c.seen-heading.ensures.judged
 
-pub returns-then-grants_by-clause-texts : goal.returns-then-grants_by-clause-texts
-returns-then-grants_by-clause-texts g c =
+pub returns-then-reads-clause-texts : goal.returns-then-reads-clause-texts
+returns-then-reads-clause-texts g c =
     subst (λ (f : Named). AreStandingAbove (c.args.place.first + (c.args.window.now.height + 1)) (buffers_of f.all) c.redraw_text.new.grid c.redraw_text.new.texts) c.find-found.ensures c.redraw_text.ensures.texts
 
-pub returns-then-grants_by-clause-lines : goal.returns-then-grants_by-clause-lines
-returns-then-grants_by-clause-lines g c =
+pub returns-then-reads-clause-lines : goal.returns-then-reads-clause-lines
+returns-then-reads-clause-lines g c =
     let x : WindowMarks = c.in-Some.window_marks in
     let ks : List MarkedBuffer = c.args.buffers.now in
     let w : Window = c.args.window.now in
@@ -62,23 +62,23 @@ returns-then-grants_by-clause-lines g c =
     let user : List ℕ = c.args.user.now in
     let kept : HasBuffer x.name ks = shown_kept ks w x c.requires.sound c.in-Some.is in
     let can : may c.args.directory.now user ReadData (marked_at x.name ks).buffer ≡ true =
-    sym (ap (λ (f : Named). may c.args.directory.now user ReadData (marked_at f.name f.all).buffer) c.find-found.ensures) ∙ sym c.grants_by.ensures.value ∙ c.if-grants_by.true in
+    sym (ap (λ (f : Named). may c.args.directory.now user ReadData (marked_at f.name f.all).buffer) c.find-found.ensures) ∙ sym c.seen-heading.ensures.reads ∙ c.if-reads.true in
     let drawn : Named → Option (List ℕ × Bool) → List Row = λ (f : Named) (h : Option (List ℕ × Bool)).
     rows_put c.args.place.first (window_marks_rows c.args.place.selected cols w.height (marked_at f.name f.all) h x) c.args.grid.now.lines in
     c.redraw_text.ensures.lines
-    ∙ ap (drawn c.find-found.result) c.heading-heading.ensures.value
+    ∙ ap (drawn c.find-found.result) c.seen-heading.ensures.heading
     ∙ ap (λ (f : Named). drawn f (heading_to c.args.directory.now user f.all f.name)) c.find-found.ensures
     ∙ ap (λ (rows : List Row). rows_put c.args.place.first rows c.args.grid.now.lines) (sym (window_read c.args.place.selected cols c.args.directory.now user ks w x c.in-Some.is kept can))
 
-pub returns-then-grants_by-clause-cursor : goal.returns-then-grants_by-clause-cursor
-returns-then-grants_by-clause-cursor g c = λ selected.
+pub returns-then-reads-clause-cursor : goal.returns-then-reads-clause-cursor
+returns-then-reads-clause-cursor g c = λ selected.
     let x : WindowMarks = c.in-Some.window_marks in
     let ks : List MarkedBuffer = c.args.buffers.now in
     let w : Window = c.args.window.now in
     let user : List ℕ = c.args.user.now in
     let kept : HasBuffer x.name ks = shown_kept ks w x c.requires.sound c.in-Some.is in
     let can : may c.args.directory.now user ReadData (marked_at x.name ks).buffer ≡ true =
-    sym (ap (λ (f : Named). may c.args.directory.now user ReadData (marked_at f.name f.all).buffer) c.find-found.ensures) ∙ sym c.grants_by.ensures.value ∙ c.if-grants_by.true in
+    sym (ap (λ (f : Named). may c.args.directory.now user ReadData (marked_at f.name f.all).buffer) c.find-found.ensures) ∙ sym c.seen-heading.ensures.reads ∙ c.if-reads.true in
     c.redraw_text.ensures.cursor selected
     ∙ ap (λ (f : Named). window_marks_cursor c.args.grid.now.cols w.height (marked_at f.name f.all) x) c.find-found.ensures
     ∙ sym (window_cursor_read c.args.grid.now.cols c.args.directory.now user ks w x c.in-Some.is kept can)
@@ -95,14 +95,14 @@ returns-clause-lines g c =
     let user : List ℕ = c.args.user.now in
     let kept : HasBuffer x.name ks = shown_kept ks w x c.requires.sound c.in-Some.is in
     let cannot : may c.args.directory.now user ReadData (marked_at x.name ks).buffer ≡ false =
-    sym (ap (λ (f : Named). may c.args.directory.now user ReadData (marked_at f.name f.all).buffer) c.find-found.ensures) ∙ sym c.grants_by.ensures.value ∙ c.if-grants_by.false in
+    sym (ap (λ (f : Named). may c.args.directory.now user ReadData (marked_at f.name f.all).buffer) c.find-found.ensures) ∙ sym c.seen-heading.ensures.reads ∙ c.if-reads.false in
     let head : Named → Option (List ℕ × Bool) = λ (f : Named). heading_to c.args.directory.now user f.all f.name in
     let why : Named → Decision = λ (f : Named). decision_by (decider c.args.directory.now (marked_at f.name f.all).buffer.owners user (marked_at f.name f.all).buffer.entries) (ReadData ∷ []) in
     let drawn : Option (List ℕ × Bool) → Decision → List Row = λ (h : Option (List ℕ × Bool)) (d : Decision).
     rows_put c.args.place.first (unread_rows cols w.height d ++ mode_row cols (buffer_mode h None) ∷ []) c.args.grid.now.lines in
-    pane_put c.args.place.first w.height (unread_rows cols w.height c.decide_by-decision.result) (buffer_mode c.heading-heading.result None) c.args.grid.now c.draw_unread.new.self c.draw_mode.new.self
+    pane_put c.args.place.first w.height (unread_rows cols w.height c.decide_by-decision.result) (buffer_mode c.named-heading.result None) c.args.grid.now c.draw_unread.new.self c.draw_mode.new.self
     c.requires.room c.cols-cols.ensures.picture.count (length-unread_rows cols w.height c.decide_by-decision.result) c.draw_unread.ensures c.draw_mode.ensures
-    ∙ ap (λ (h : Option (List ℕ × Bool)). drawn h c.decide_by-decision.result) c.heading-heading.ensures.value
+    ∙ ap (λ (h : Option (List ℕ × Bool)). drawn h c.decide_by-decision.result) (c.named-heading.ensures ∙ ap (λ (n : List ℕ). told_as n c.seen-heading.result.0) c.name.ensures.value ∙ c.seen-heading.ensures.heading)
     ∙ ap (drawn (head c.find-found.result)) c.decide_by-decision.ensures.value
     ∙ ap (λ (f : Named). drawn (head f) (why f)) c.find-found.ensures
     ∙ ap (λ (rows : List Row). rows_put c.args.place.first rows c.args.grid.now.lines) (sym (window_unread c.args.place.selected cols c.args.directory.now user ks w x c.in-Some.is kept cannot))
@@ -115,7 +115,7 @@ returns-clause-cursor g c = λ selected.
     let user : List ℕ = c.args.user.now in
     let kept : HasBuffer x.name ks = shown_kept ks w x c.requires.sound c.in-Some.is in
     let cannot : may c.args.directory.now user ReadData (marked_at x.name ks).buffer ≡ false =
-    sym (ap (λ (f : Named). may c.args.directory.now user ReadData (marked_at f.name f.all).buffer) c.find-found.ensures) ∙ sym c.grants_by.ensures.value ∙ c.if-grants_by.false in
+    sym (ap (λ (f : Named). may c.args.directory.now user ReadData (marked_at f.name f.all).buffer) c.find-found.ensures) ∙ sym c.seen-heading.ensures.reads ∙ c.if-reads.false in
     sym (window_cursor_unread c.args.grid.now.cols c.args.directory.now user ks w x c.in-Some.is kept cannot)
 
 pub returns-in_default-clause-rows : goal.returns-in_default-clause-rows
@@ -156,7 +156,7 @@ returns-clause-texts g c =
     let first : ℕ = c.args.place.first in
     let pane : List Row = unread_rows p.cols w.height c.decide_by-decision.result in
     let size : length pane ≡ w.height = length-unread_rows p.cols w.height c.decide_by-decision.result in
-    let mode : List ℕ = buffer_mode c.heading-heading.result None in
+    let mode : List ℕ = buffer_mode c.named-heading.result None in
     let put : IsPut first (pane ++ mode_row p.cols mode ∷ []) p c.draw_mode.new.self = record {
       lines = pane_put first w.height pane mode p c.draw_unread.new.self c.draw_mode.new.self c.requires.room c.cols-cols.ensures.picture.count size c.draw_unread.ensures c.draw_mode.ensures;
       wide = ap (λ (q : Picture). q.cols) c.draw_mode.ensures ∙ ap (λ (q : Picture). q.cols) c.draw_unread.ensures;
@@ -171,7 +171,7 @@ returns-clause-apart g c =
     let first : ℕ = c.args.place.first in
     let pane : List Row = unread_rows p.cols w.height c.decide_by-decision.result in
     let size : length pane ≡ w.height = length-unread_rows p.cols w.height c.decide_by-decision.result in
-    let mode : List ℕ = buffer_mode c.heading-heading.result None in
+    let mode : List ℕ = buffer_mode c.named-heading.result None in
     lines_apart c.note_rows-2.new.rows first (w.height + 1) (pane ++ mode_row p.cols mode ∷ []) p c.draw_mode.new.self
     (pane_put first w.height pane mode p c.draw_unread.new.self c.draw_mode.new.self c.requires.room c.cols-cols.ensures.picture.count size c.draw_unread.ensures c.draw_mode.ensures)
     (omega (arith, length-append pane (mode_row p.cols mode ∷ []), size))
