@@ -3,24 +3,25 @@ use Rattle.std.proofs.Common.{◌≡◌, ℕ, ◌<◌, Bool, true, false, cond, 
 use Rattle.std.specs.Prelude.{find, is_some}
 use Rattle.std.specs.List.{position_or_len}
 use Rattle.std.proofs.lemmas.List.{map-append}
-use Rattle.mgs_model.specs.Access.{Directory}
+use Rattle.mgs_model.specs.Access.{Directory, decision}
 use Rattle.mgs_model.specs.Names.{same_name}
 use Rattle.mgs_model.specs.World.{Buffer, World, find_buffer, find_session, has_id, is_named}
 use Rattle.mgs_model.specs.World as model
 use Rattle.mgs_model.specs.Apply.{change_first, new_buffer, remove_first}
+use Rattle.mgs_model.specs.declared.entry.Decision.TheVariants.{Granted}
+use Rattle.mgs_buffers.proofs.Permitting.{owner_may_kill}
 use Rattle.mgs_marks.specs.Marks.{mark_in, position_in}
 use Rattle.mgs_buffers.specs.MarkedBuffer.{HasBuffer, MarkedBuffer, has_buffer, marked_at, marked_created, marked_named, marked_or_none, without_marked}
 use Rattle.mgs_session.specs.declared.Session.{Session}
 use Rattle.mgs_arrange.specs.Arranged.{run_ended}
 use Rattle.mgs_arrange.specs.Showing.{shown_in, window_shows}
-use Rattle.mgs_act.specs.Switching.{created_in}
 use Rattle.mgs_world.specs.Sound.{IsSound, in_use, one_if}
 use Rattle.mgs_world.specs.WindowMarks.{MarksStay, SizesStay, WindowMarksDropped}
 use Rattle.mgs_world.specs.Worlds.{buffers_of, id_after, session_id, session_of, size_found, size_named, world_of}
 use Rattle.mgs_world.proofs.Marks.{false_from, is_same, not_both, same_is}
 use Rattle.mgs_world.proofs.Sessions.{session_some}
 use Rattle.mgs_world.proofs.Soundness.{sound_in_use, sound_same}
-use Rattle.mgs_world.proofs.WindowMarks.{session_local, sessions_stay}
+use Rattle.mgs_world.proofs.WindowMarks.{buffer_same, session_local, sessions_stay}
 use Rattle.mgs_world.proofs.Worlds.{same_world}
 
 -- LISTS
@@ -163,6 +164,31 @@ module _ (name owner : List ℕ) (ks cs ls ms : List MarkedBuffer) (ys : List Se
   unmade_world xs directory next same =
       ap (λ bs. world_of directory bs ys next) ms_is
       ∙ gone_world name ks ls (marked_created name owner) free (is_same name name refl) refl refl dropped_so gone_so xs ys directory next sound (same ∙ ap (λ bs. world_of directory bs xs next) cs_is)
+
+-- it may be killed by its owner, where no more than marks came and went since
+pub made_last : (name : List ℕ) (ks : List MarkedBuffer) (k : MarkedBuffer) → has_buffer name ks ≡ false → marked_named name k ≡ true → find (marked_named name) (ks ++ k ∷ []) ≡ Some k
+made_last name [] k free is = ap (λ b. cond b (Some k) None) is
+made_last name (x ∷ xs) k free is = by (marked_named name x) free (λ rest. made_last name xs k rest is)
+  where
+    by : (b : Bool) → is_some (cond b (Some x) (find (marked_named name) xs)) ≡ false → (has_buffer name xs ≡ false → find (marked_named name) (xs ++ k ∷ []) ≡ Some k) → cond b (Some x) (find (marked_named name) (xs ++ k ∷ [])) ≡ Some k
+    by true none later = cc
+    by false none later = later none
+
+pub made_kept : (name owner : List ℕ) (ks cs ls : List MarkedBuffer) → has_buffer name ks ≡ false → cs ≡ ks ++ marked_created name owner ∷ [] → WindowMarksDropped None cs ls → HasBuffer name ls × ((marked_at name ls).buffer ≡ new_buffer name owner)
+made_kept name owner ks cs ls free cs_is dropped =
+    let k = marked_created name owner in
+    let kept : HasBuffer name cs = subst (HasBuffer name) (sym cs_is) (created_kept ks name owner) in
+    let same = buffer_same name cs ls kept dropped.buffers in
+    let last = ap (find (marked_named name)) cs_is ∙ made_last name ks k free (is_same name name refl) in
+    (same.0, same.1 ∙ ap (λ (o : Option MarkedBuffer). (marked_or_none o).buffer) last)
+
+pub made_granted : (d : Directory) (name owner : List ℕ) (ks cs ls : List MarkedBuffer) → has_buffer name ks ≡ false → cs ≡ ks ++ marked_created name owner ∷ [] → WindowMarksDropped None cs ls → (let b = (marked_at name ls).buffer in decision d b.owners owner b.entries 65536 ≡ Granted)
+made_granted d name owner ks cs ls free cs_is dropped =
+    ap (λ (b : Buffer). decision d b.owners owner b.entries 65536) (made_kept name owner ks cs ls free cs_is dropped).1 ∙ owner_may_kill d name owner
+
+-- the world in which a session of an id shows a buffer that was made for its user
+abbrev pub created_in : ℕ → List ℕ → model.Session → World → World
+created_in id name x w = record (shown_in id name x w) { buffers = w.buffers ++ new_buffer name x.user ∷ [] }
 
 -- where it is shown
 pub made_world : (directory : Directory) (ks cs ls : List MarkedBuffer) (xs ys : List Session) (next : Option ℕ) (id at : ℕ) (name : List ℕ) (h : Session) (x : model.Session) → cs ≡ ks ++ marked_created name h.user ∷ [] → at ≡ position_or_len (session_id id) xs → at < length xs → h ≡ get_or xs at h → find_session id (world_of directory ks xs next).sessions ≡ Some x

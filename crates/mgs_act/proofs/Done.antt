@@ -1,51 +1,52 @@
 -- What is done for the session at an index, by what was decided for it.
-use Rattle.std.proofs.Common.{◌≡◌, ℕ, zero, suc, ◌<◌, true, List, [], ◌∷◌, length, Option, Some, None, get_or, refl, sym, ap, subst, ◌∙◌, arith}
-use Rattle.std.specs.Prelude.{slice_get, IfSome, Result, Ok, Err}
-use Rattle.std.specs.List.{position_or_len}
+use Rattle.std.proofs.Common.{◌≡◌, ℕ, zero, suc, ◌<◌, Bool, true, List, [], ◌∷◌, length, Option, Some, None, get_or, refl, sym, ap, subst, ◌∙◌, append-nil, arith}
+use Rattle.std.specs.Prelude.{slice_get, IfSome, OnOk, Result, Ok, Err}
+use Rattle.std.specs.List.{flat_map, position_or_len}
 use Rattle.std.specs.Option.{option_and_then}
 use Rattle.std.proofs.lemmas.List.{get_or_default}
 use Rattle.std.proofs.lemmas.Option.{get_or_from_slice_get, slice_get-get_or}
 use Rattle.mgs_model.specs.Access.{Directory}
-use Rattle.mgs_model.specs.Apply.{apply}
-use Rattle.mgs_model.specs.Outcome.{takes_memory}
+use Rattle.mgs_model.specs.Apart.{touched_by}
+use Rattle.mgs_model.specs.Apply.{applied, apply, outcome_in}
+use Rattle.mgs_model.specs.Events.{Saved, effect_in, may_be_refused, saved_by}
+use Rattle.mgs_model.specs.Outcome.{Act, Effect, No_effect, Edit, Unmodified, Relist, Reown, Create, Kill, Save, Quit, takes_memory}
+use Rattle.mgs_model.specs.Outcome as outcomes
 use Rattle.mgs_model.specs.World.{Own}
-use Rattle.mgs_buffers.specs.MarkedBuffer.{MarkedBuffer, marked_at}
+use Rattle.mgs_model.specs.declared.session.Question.{Question}
+use Rattle.mgs_model.specs.declared.entry.Decision.{Decision}
+use Rattle.mgs_model.specs.declared.entry.Decision.TheVariants.{Granted}
+use Rattle.mgs_model.specs.declared.touched.Touched.{Touched}
+use Rattle.mgs_model.specs.declared.touched.Touched.TheVariants.{Nowhere}
+use Rattle.mgs_store.specs.Stores.{StoreTold, told_more}
+use Rattle.mgs_store.proofs.Told.{told_none}
+use Rattle.mgs_buffers.specs.MarkedBuffer.{MarkedBuffer}
+use Rattle.mgs_buffers.specs.Permitting.{PermitAnswers}
 use Rattle.mgs_session.specs.Sessions.{window_marks_of}
 use Rattle.mgs_session.specs.declared.Session.{Session}
 use Rattle.mgs_windows.specs.declared.WindowMarks.{WindowMarks}
-use Rattle.mgs_plan.specs.Actions.{AreMarks, CanBeDone, kill_at, kill_or_none, outcome_through}
-use Rattle.mgs_plan.specs.Deciding.{CanPerform}
-use Rattle.mgs_plan.specs.declared.action.Action.{Action}
+use Rattle.mgs_plan.specs.Actions.{AreMarks}
+use Rattle.mgs_plan.specs.Deciding.{CanPerform, IsOutcome, outcome_read, view_at}
+use Rattle.mgs_plan.specs.Searching.{answer_act}
 use Rattle.mgs_plan.specs.declared.outcome.Outcome.{Outcome}
-use Rattle.mgs_plan.specs.declared.outcome.Outcome.TheVariants.{Acts, Copies}
-use Rattle.mgs_plan.specs.Inserting.{CanCopy, insertion_of, put_outcome}
-use Rattle.mgs_model.specs.Acts.{edit_of}
+use Rattle.mgs_plan.proofs.Commands.{outcome_answered}
 use Rattle.mgs_plan.proofs.Deeds.{acting_marks}
+use Rattle.mgs_plan.proofs.Tells.{tells_known}
 use Rattle.mgs_world.specs.Sound.{IsSound}
-use Rattle.mgs_act.proofs.Marked.{finish_takes}
-use Rattle.mgs_act.specs.Doing.{CanDo, IsDone, TakesMemory}
+use Rattle.mgs_act.specs.Doing.{CanDo, DoneBy, IsDone, IsQuietlyDone}
 use Rattle.mgs_world.specs.Worlds.{own_at, own_of, own_or_first, session_id, world_of}
 
 -- the session at an index within
 pub here_is : (xs : List Session) (at : ℕ) (r h : Session) → at < length xs → slice_get xs at ≡ Some h → get_or xs at r ≡ h
 here_is xs at r h within found = get_or_default xs at r h within ∙ get_or_from_slice_get xs at h h found
 
-got : (xs : List Session) (at : ℕ) → at < length xs → (h : Session) × (slice_get xs at ≡ Some h)
+pub got : (xs : List Session) (at : ℕ) → at < length xs → (h : Session) × (slice_get xs at ≡ Some h)
 got [] at within = absurd (omega (arith, within))
 got (x ∷ xs) zero within = (x, refl)
 got (x ∷ xs) (suc at) within = got xs at (omega (arith, within))
 
 -- what can be done for the session that is there
-pub can_here : (at : ℕ) (ks : List MarkedBuffer) (xs : List Session) (r : Session) (o : Outcome) → at < length xs → CanPerform ks (get_or xs at r) o → CanDo at ks xs o
-can_here at ks xs r o within can = λ h found. subst (λ x. CanPerform ks x o) (here_is xs at r h within found) can
-
-pub can_there : (at : ℕ) (ks : List MarkedBuffer) (xs : List Session) (o p : Outcome) → o ≡ p → at < length xs → CanDo at ks xs o → (h : Session) × CanPerform ks h p
-can_there at ks xs o p is within can =
-    let there = got xs at within in
-    (there.0, subst (CanPerform ks there.0) is (can there.0 there.1))
-
-pub done_as : (at : ℕ) (ks ls : List MarkedBuffer) (xs ys : List Session) (o p : Outcome) → o ≡ p → IsDone at ks ls xs ys p → IsDone at ks ls xs ys o
-done_as at ks ls xs ys o p is done = subst (IsDone at ks ls xs ys) (sym is) done
+pub can_here : (directory : Directory) (at : ℕ) (ks : List MarkedBuffer) (xs : List Session) (r : Session) (o : Outcome) → at < length xs → CanPerform directory ks (get_or xs at r) o → CanDo directory at ks xs o
+can_here directory at ks xs r o within can = λ h found. subst (λ x. CanPerform directory ks x o) (here_is xs at r h within found) can
 
 -- the marks of its selected window are there
 pub marks_here : (ks : List MarkedBuffer) (xs : List Session) (at : ℕ) (r : Session) → at < length xs → IsSound ks xs → IfSome (window_marks_of (get_or xs at r)) (AreMarks ks)
@@ -55,6 +56,12 @@ marks_here ks xs at r within sound = go (window_marks_of (get_or xs at r)) refl
     go None is = tt
     go (Some x) is = acting_marks ks xs at x sound (ap (option_and_then window_marks_of) (slice_get-get_or xs at r within) ∙ is)
 
+-- the answer to a question, by what the session at an index holds
+pub asked_at : (directory : Directory) (ks : List MarkedBuffer) (xs : List Session) (at : ℕ) (r : Session) (q : Question) (n : Option ℕ) (typed : List ℕ) (o : Outcome) → at < length xs → ((next : Option ℕ) → IsOutcome directory ks xs next (get_or xs at r) (answer_act q n typed (own_of (get_or xs at r).own)) o)
+    → (next : Option ℕ) → IsOutcome directory ks xs next (get_or xs at r) (answer_act q n typed (own_at at xs)) o
+asked_at directory ks xs at r q n typed o within planned =
+    subst (λ (own : Own). (next : Option ℕ) → IsOutcome directory ks xs next (get_or xs at r) (answer_act q n typed own) o) (sym (ap own_or_first (slice_get-get_or xs at r within))) planned
+
 -- RESULTS
 
 pub ok_same : {A E : Type 0} {a b : A} → Path (Result A E) (Ok a) (Ok b) → a ≡ b
@@ -63,38 +70,68 @@ ok_same e = cc
 pub no_failure : {A E : Type 0} {e : E} {a : A} → Path (Result A E) (Err e) (Ok a) → ⊥
 no_failure e = cc
 
--- THROUGH A WINDOW'S MARKS
+-- what is granted is done
+pub granted_done : {P : Type 0} (r : Result (Unit {0}) Decision) (due : Decision) → PermitAnswers r due → due ≡ Granted → OnOk r P → P
+granted_done (Ok done) due answer granted ok = ok
+granted_done (Err d) due answer granted ok = absurd (answer.1 (sym answer.0 ∙ granted))
 
-module _ (at : ℕ) (ks ls : List MarkedBuffer) (xs ys : List Session) (x : WindowMarks) (action : Action) where
-  pub through_done : ((directory : Directory) (id : ℕ) (next : Option ℕ) → at ≡ position_or_len (session_id id) xs → world_of directory ls ys next ≡ apply (world_of directory ks xs next) id (outcome_through (own_at at xs) x ks (kill_at at xs) action)) → IsDone at ks ls xs ys (Acts x action)
-  through_done done = λ directory id next h place found.
-      done directory id next place ∙ ap (λ s. apply (world_of directory ks xs next) id (outcome_through (own_or_first s) x ks (kill_or_none s) action)) found
+-- WHAT ASKS NO STORE
 
-module _ (at : ℕ) (ks : List MarkedBuffer) (xs : List Session) (x : WindowMarks) (action : Action) where
-  pub through_takes : ((own : Own) → takes_memory (outcome_through own x ks (kill_at at xs) action) ≡ true) → TakesMemory at ks xs (Acts x action)
-  through_takes takes = λ directory next h found. subst (λ s. takes_memory (outcome_through (own_or_first s) x ks (kill_or_none s) action) ≡ true) found (takes (own_at at xs))
+pub quietly : (directory : Directory) (at : ℕ) (o : Outcome) (ks ls : List MarkedBuffer) (xs ys : List Session) (touched : Touched)
+    → ((id : ℕ) (next : Option ℕ) (h : Session) → at ≡ position_or_len (session_id id) xs → slice_get xs at ≡ Some h
+    → (let p = outcome_read ks (view_at directory ks xs next h) o true in (world_of directory ls ys next ≡ apply (world_of directory ks xs next) id p) × (touched ≡ touched_by p.effect) × (saved_by p.effect ≡ [])))
+    → IsQuietlyDone directory at o ks xs ls ys touched
+quietly directory at o ks ls xs ys touched does = λ t. record {
+  stored = true;
+  fault = λ e. cc;
+  does = λ id next h place found.
+      let it = does id next h place found in
+      record { world = it.0; touches = it.1; saves = told_none t.accepted (saved_by (outcome_read ks (view_at directory ks xs next h) o true).effect) it.2 };
+}
 
-  pub can_through : at < length xs → CanDo at ks xs (Acts x action) → (option_and_then window_marks_of (slice_get xs at) ≡ Some x) × CanBeDone ks x (kill_at at xs) action
-  can_through within can =
-      let there = got xs at within in
-      let found = there.1 in
-      let through = can there.0 found in
-      (ap (option_and_then window_marks_of) found ∙ through.selected, subst (λ s. CanBeDone ks x (kill_or_none s) action) (sym found) through.can)
+pub done_as : (directory : Directory) (at : ℕ) (o p : Outcome) (ks ls : List MarkedBuffer) (xs ys : List Session) (s t : StoreTold) (touched : Touched) → o ≡ p → IsDone directory at p ks xs s ls ys t touched → IsDone directory at o ks xs s ls ys t touched
+done_as directory at o p ks ls xs ys s t touched is done = subst (λ q. IsDone directory at q ks xs s ls ys t touched) (sym is) done
 
--- A COPY THROUGH THEM
+-- what touches nothing saves nothing
+pub nowhere_saves_none : (e : Effect) → touched_by e ≡ Nowhere → saved_by e ≡ []
+nowhere_saves_none No_effect is = refl
+nowhere_saves_none (Edit name a b put) is = refl
+nowhere_saves_none (Unmodified name) is = refl
+nowhere_saves_none (Relist name entries) is = refl
+nowhere_saves_none (Reown name new) is = refl
+nowhere_saves_none (Create name owner) is = refl
+nowhere_saves_none (Kill name) is = refl
+nowhere_saves_none (Save name text) is = cc
+nowhere_saves_none Quit is = refl
 
-module _ (at : ℕ) (ks : List MarkedBuffer) (xs : List Session) (x : WindowMarks) (source : List ℕ) (place : ℕ) where
-  pub can_copy : at < length xs → CanDo at ks xs (Copies x source place) → (option_and_then window_marks_of (slice_get xs at) ≡ Some x) × CanCopy ks x.name source place
-  can_copy within can =
-      let there = got xs at within in
-      let put = can there.0 there.1 in
-      (ap (option_and_then window_marks_of) there.1 ∙ put.selected, put.copy)
+-- THE ACT
 
-  pub copy_done : (ls : List MarkedBuffer) (ys : List Session) → ((directory : Directory) (id : ℕ) (next : Option ℕ) → at ≡ position_or_len (session_id id) xs → world_of directory ls ys next ≡ apply (world_of directory ks xs next) id (put_outcome (own_at at xs) x.name place (marked_at source ks).buffer.text)) → IsDone at ks ls xs ys (Copies x source place)
-  copy_done ls ys done = λ directory id next h here found.
-      done directory id next here ∙ ap (λ s. apply (world_of directory ks xs next) id (put_outcome (own_or_first s) x.name place (marked_at source ks).buffer.text)) found
+module _ (directory : Directory) (at : ℕ) (c : Act) (ks : List MarkedBuffer) (xs : List Session) (within : at < length xs) where
+  module _ (o : Outcome) (r : Session) (planned : (next : Option ℕ) → IsOutcome directory ks xs next (get_or xs at r) c o) where
+    found : slice_get xs at ≡ Some (get_or xs at r)
+    found = slice_get-get_or xs at r within
 
-  pub copy_takes : TakesMemory at ks xs (Copies x source place)
-  copy_takes = λ directory next h found.
-      let c = insertion_of place (marked_at source ks).buffer.text in
-      finish_takes (own_of h.own) c.finish (edit_of x.name c) place refl refl
+    decided_in : (id : ℕ) (next : Option ℕ) (stored : Bool) → at ≡ position_or_len (session_id id) xs → outcome_in (world_of directory ks xs next) id c stored ≡ Some (outcome_read ks (view_at directory ks xs next (get_or xs at r)) o stored)
+    decided_in id next stored place = outcome_answered directory ks xs next id at (get_or xs at r) c stored place within found ∙ ap (λ (p : outcomes.Outcome). Some p) (planned next stored)
+
+    pub did : (ls : List MarkedBuffer) (ys : List Session) (before after : StoreTold) (touched : Touched) → IsDone directory at o ks xs before ls ys after touched → (id : ℕ) (next : Option ℕ) → at ≡ position_or_len (session_id id) xs → DoneBy touched (world_of directory ks xs next) (world_of directory ls ys next) before after id c
+    did ls ys before after touched done id next place =
+        let w = world_of directory ks xs next in
+        let p = outcome_read ks (view_at directory ks xs next (get_or xs at r)) o done.stored in
+        let known = decided_in id next done.stored place in
+        let does = done.does id next (get_or xs at r) place found in
+        record {
+          acted = record {
+            stored = done.stored;
+            world = does.world ∙ sym (ap (applied w id) known);
+            fault = done.fault;
+            saves =
+                does.saves
+                ∙ ap (λ (more : List Saved). told_more more before.accepted) (sym (append-nil (saved_by p.effect)))
+                ∙ sym (ap (λ q. told_more (flat_map saved_by (effect_in q)) before.accepted) known);
+          };
+          tells = tells_known _ p touched known does.touches;
+        }
+
+    pub may_decided : ((directory : Directory) (id : ℕ) (next : Option ℕ) (h : Session) → at ≡ position_or_len (session_id id) xs → slice_get xs at ≡ Some h → takes_memory (outcome_read ks (view_at directory ks xs next h) o true) ≡ true) → (id : ℕ) (next : Option ℕ) → at ≡ position_or_len (session_id id) xs → may_be_refused (outcome_in (world_of directory ks xs next) id c true) ≡ true
+    may_decided takes id next place = ap may_be_refused (decided_in id next true place) ∙ takes directory id next (get_or xs at r) place found

@@ -1,5 +1,5 @@
 -- What is done where a text is inserted into a window's buffer, and the mark set.
-use Rattle.std.proofs.Common.{◌≡◌, ℕ, ◌+◌, ◌<◌, ◌≤◌, List, [], length, map, Option, Some, None, refl, sym, ap, ◌∙◌, arith}
+use Rattle.std.proofs.Common.{◌≡◌, ℕ, ◌+◌, ◌<◌, ◌≤◌, ◌==◌, Bool, true, false, cond, List, [], length, map, Option, Some, None, refl, sym, ap, ◌∙◌, arith}
 use Rattle.std.specs.Prelude.{slice_get, slice_set, Result, Ok, Err, OnOk, OnErr}
 use Rattle.std.specs.List.{position_or_len}
 use Rattle.std.specs.Option.{option_and_then}
@@ -10,7 +10,8 @@ use Rattle.mgs_buffers.specs.MarkedBuffer.{HasBuffer, IsMark, MarkedBuffer, mark
 use Rattle.mgs_windows.specs.declared.WindowMarks.{WindowMarks}
 use Rattle.mgs_session.specs.Sessions.{window_marks_of}
 use Rattle.mgs_session.specs.declared.Session.{Session}
-use Rattle.mgs_plan.specs.Actions.{AreMarks, edited_by}
+use Rattle.mgs_buffers.specs.Changing.{writes}
+use Rattle.mgs_plan.specs.Actions.{AreMarks, edited_by, insertion_mask}
 use Rattle.mgs_plan.specs.Following.{edit_told, followed}
 use Rattle.mgs_plan.specs.Inserting.{IsInserted, buffers_inserted, insertion_of, leaving, put_outcome}
 use Rattle.mgs_world.specs.Sound.{IsSound}
@@ -35,6 +36,14 @@ place_inserted x place put ks kept within =
 
 pub mark_inserted : (x : WindowMarks) (mid place : ℕ) (put : List ℕ) (ks : List MarkedBuffer) → IsMark x.name mid ks → AreMarks ks x → IsMark x.name mid (buffers_inserted x place put ks)
 mark_inserted x mid place put ks mark marks = mark_there x mid (insertion_of place put) (insertion_of place put).finish ks mark marks
+
+-- an insertion writes
+pub insertion_writes : (mask place size : ℕ) → mask ≡ insertion_mask place size → writes mask ≡ true
+insertion_writes mask place size is = ap writes is ∙ by (place == size)
+  where
+    by : (b : Bool) → writes (cond b 4 2) ≡ true
+    by true = refl
+    by false = refl
 
 -- THE WORLD
 

@@ -1,13 +1,12 @@
 pub mod Created
 pub mod Marked
-pub mod Saves
+mod Saves
 pub mod Settings
 pub mod Kills
 pub mod Switches
+mod Through
 mod Insertions
-mod Lines
 mod Rulings
 mod Listings
 pub mod Scrolls
 mod Done
-mod Asked

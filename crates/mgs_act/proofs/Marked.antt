@@ -4,7 +4,7 @@ use Rattle.std.specs.Prelude.{find, is_some, slice_get, slice_set, Result, Ok, E
 use Rattle.std.specs.List.{position_or_len}
 use Rattle.std.specs.Option.{option_and_then, option_map}
 use Rattle.std.proofs.lemmas.Option.{get_or_from_slice_get}
-use Rattle.mgs_model.specs.Access.{Directory}
+use Rattle.mgs_model.specs.Access.{Directory, decision}
 use Rattle.mgs_model.specs.World.{Buffer, Item, has_id}
 use Rattle.mgs_model.specs.World as model
 use Rattle.mgs_model.specs.Outcome.{Effect, No_effect, Keep, Keep_mark, Mark_at, effect_takes_memory, takes_memory}
@@ -20,6 +20,7 @@ use Rattle.mgs_session.specs.Sessions.{window_marks_of}
 use Rattle.mgs_session.specs.declared.Session.{Session}
 use Rattle.mgs_edit.specs.Reading.{IsWithin, change_read, finish_read, kill_read, mark_read, put_read, undone_read}
 use Rattle.mgs_edit.specs.declared.plan.Finish.{Finish}
+use Rattle.mgs_plan.specs.Deciding.{IsActionGranted}
 use Rattle.mgs_plan.specs.declared.action.Action.{Action}
 use Rattle.mgs_plan.specs.declared.action.Action.TheVariants.{Fails, Edits, Undoes, Moves, Clears}
 use Rattle.mgs_plan.specs.Following.{edit_through, edit_told, followed}
@@ -59,6 +60,14 @@ reserved_buffer n None id ks ls r =
     ∙ ap (λ (o : Option MarkedBuffer). (marked_or_none o).buffer) (found_same n n (with_marks r.marks) ks (λ k. refl) (is_same n n refl))
     ∙ same_buffer r.marks (find (marked_named n) ks)
 reserved_buffer n (Some m) id ks ls r = ap (λ (s : List MarkedBuffer). (marked_at n s).buffer) r.1
+
+-- and what is granted in it
+pub granted_still : (directory : Directory) (ks ls : List MarkedBuffer) (user name : List ℕ) (action : Action) → (marked_at name ls).buffer ≡ (marked_at name ks).buffer → IsActionGranted directory ks user name action → IsActionGranted directory ls user name action
+granted_still directory ks ls user name (Fails message) same granted = tt
+granted_still directory ks ls user name (Edits mask c) same granted = (ap (λ (b : Buffer). decision directory b.owners user b.entries mask) same ∙ granted.0, granted.1)
+granted_still directory ks ls user name (Undoes u) same granted = ap (λ (b : Buffer). decision directory b.owners user b.entries 3) same ∙ granted
+granted_still directory ks ls user name (Moves f) same granted = tt
+granted_still directory ks ls user name Clears same granted = ap (λ (b : Buffer). decision directory b.owners user b.entries 3) same ∙ granted
 
 -- and the mark is in use
 pub reserved_in_use : (o : Option ℕ) (x : WindowMarks) (id : ℕ) (ks ls : List MarkedBuffer) → x.mark ≡ o → HasBuffer x.name ks → AreMarks ks x → IsReserved x.name o id ks ls → IsMark x.name id ls
@@ -120,7 +129,7 @@ mark_there x mid c f ls mark marks =
 
 pub mark_after_action : (x : WindowMarks) (mid : ℕ) (text : List ℕ) (items : List Item) (kill : List ℕ) (action : Action) (ls : List MarkedBuffer) → IsMark x.name mid ls → AreMarks ls x → IsMark x.name mid (marked_after x text items kill action ls)
 mark_after_action x mid text items kill (Fails message) ls mark marks = mark
-mark_after_action x mid text items kill (Edits c) ls mark marks = mark_there x mid (change_read text kill c) (change_read text kill c).finish ls mark marks
+mark_after_action x mid text items kill (Edits mask c) ls mark marks = mark_there x mid (change_read text kill c) (change_read text kill c).finish ls mark marks
 mark_after_action x mid text items kill (Undoes u) ls mark marks =
     let c = undone_read text kill (removed_by u.serial items) u in
     mark_there x mid c c.finish ls mark marks
@@ -136,7 +145,7 @@ told_within n p mark is within = subst (IsWithin n) is within
 
 pub within_after : (x : WindowMarks) (p : ℕ) (kill : List ℕ) (action : Action) (ls : List MarkedBuffer) → HasBuffer x.name ls → CanBeDone ls x kill action → mark_told action ≡ Some p → p ≤ length (marked_at x.name (marked_after x (marked_at x.name ls).buffer.text (marked_at x.name ls).buffer.items kill action ls)).buffer.text
 within_after x p kill (Fails message) ls kept can told = cc
-within_after x p kill (Edits c) ls kept can told =
+within_after x p kill (Edits mask c) ls kept can told =
     let text = (marked_at x.name ls).buffer.text in
     let change = change_read text kill c in
     let w = can.within in
@@ -200,7 +209,7 @@ marked_so directory ks ls xs next id at mid p h x c behind text f order room sou
 
 acted_so : (directory : Directory) (ks ls : List MarkedBuffer) (xs : List Session) (next : Option ℕ) (id at p : ℕ) (x : WindowMarks) (h y : Session) (action : Action) → IsSound ks xs → at ≡ position_or_len (session_id id) xs → at < length xs → slice_get xs at ≡ Some h → window_marks_of h ≡ Some x → AreMarks ks x → own_of h.own ≡ idle (own_of h.own) → CanBeDone ks x h.kill action → mark_told action ≡ Some p → IsMarked x p action ks ls h y → world_of directory ls (followed x.name (edit_through x ks h.kill action) (slice_set xs at y)) next ≡ apply (world_of directory ks xs next) id (outcome_through (own_of h.own) x ks h.kill action)
 acted_so directory ks ls xs next id at p x h y (Fails message) sound place within is sel marks fresh can told m = cc
-acted_so directory ks ls xs next id at p x h y (Edits c) sound place within is sel marks fresh can told m =
+acted_so directory ks ls xs next id at p x h y (Edits mask c) sound place within is sel marks fresh can told m =
     let text = (marked_at x.name ks).buffer.text in
     rw (m.buffers, m.session)
     (marked_so directory ks m.between xs next id at m.id p h x (change_read text h.kill c) (c.from + length (put_read text h.kill c.put)) text c.finish can.within.order can.within.within sound (mark_is_kept x.name x.point ks marks.point) m.reserved place within is sel marks fresh told can.small)
@@ -213,7 +222,7 @@ acted_so directory ks ls xs next id at p x h y Clears sound place within is sel 
 
 sound_then : (ks ls : List MarkedBuffer) (xs : List Session) (at p : ℕ) (x : WindowMarks) (h y : Session) (action : Action) → IsSound ks xs → slice_get xs at ≡ Some h → window_marks_of h ≡ Some x → AreMarks ks x → mark_told action ≡ Some p → IsMarked x p action ks ls h y → IsSound ls (slice_set xs at y)
 sound_then ks ls xs at p x h y (Fails message) sound is sel marks told m = cc
-sound_then ks ls xs at p x h y (Edits c) sound is sel marks told m =
+sound_then ks ls xs at p x h y (Edits mask c) sound is sel marks told m =
     let text = (marked_at x.name ks).buffer.text in
     let change = change_read text h.kill c in
     let kept = mark_is_kept x.name x.point ks marks.point in
@@ -263,7 +272,7 @@ finish_takes own f e p small told =
 
 pub marking_takes : (own : model.Own) (x : WindowMarks) (ks : List MarkedBuffer) (kill : List ℕ) (action : Action) (p : ℕ) → CanBeDone ks x kill action → mark_told action ≡ Some p → takes_memory (outcome_through own x ks kill action) ≡ true
 marking_takes own x ks kill (Fails message) p can told = cc
-marking_takes own x ks kill (Edits c) p can told =
+marking_takes own x ks kill (Edits mask c) p can told =
     let text = (marked_at x.name ks).buffer.text in
     finish_takes own (change_read text kill c).finish (edit_of x.name (change_read text kill c)) p can.small (ap mark_read told)
 marking_takes own x ks kill (Undoes u) p can told = cc

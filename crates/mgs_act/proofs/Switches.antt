@@ -1,6 +1,6 @@
 -- What is done where a buffer is shown.
 use Rattle.std.proofs.Common.{◌≡◌, ℕ, ◌<◌, true, List, [], ◌∷◌, ◌++◌, length, map, Option, Some, None, sym, ap, subst, ◌∙◌, arith}
-use Rattle.std.specs.Prelude.{slice_get, IfOk, IfSome, OnOk, Result, Ok, Err}
+use Rattle.std.specs.Prelude.{slice_get, IfOk, IfSome, Result, Ok, Err}
 use Rattle.std.specs.List.{position_or_len}
 use Rattle.std.proofs.lemmas.List.{length-map, map-id}
 use Rattle.std.proofs.lemmas.Option.{get_or_from_slice_get}
@@ -21,12 +21,8 @@ use Rattle.mgs_plan.specs.Deciding.{view_at}
 use Rattle.mgs_world.specs.Worlds.{buffers_of, idle, own_at, session_id, session_of, window_of, world_of}
 use Rattle.mgs_world.proofs.Owns.{no_search_at_rest}
 use Rattle.mgs_world.proofs.Sessions.{session_some}
-use Rattle.mgs_act.specs.Switching.{created_in}
+use Rattle.mgs_act.proofs.Created.{created_in}
 use Rattle.mgs_plan.proofs.Deeds.{fresh_own}
-
-pub OnOk-both : {A E P Q R : Type 0} (r : Result A E) → (P → Q → R) → OnOk r P → OnOk r Q → OnOk r R
-OnOk-both (Ok x) f p q = f p q
-OnOk-both (Err e) f p q = tt
 
 pub when_ok : {A E : Type 0} {P Q : A → Type 0} (r : Result A E) → ((x : A) → P x → Q x) → IfOk r P → IfOk r Q
 when_ok (Ok x) f p = f x p

@@ -1,45 +1,87 @@
 -- What is done for the session at an index, by what was decided for it.
-use Rattle.std.specs.Prelude.{◌≡◌, ℕ, true, List, Option, Some, slice_get}
-use Rattle.std.specs.List.{position_or_len}
+use Rattle.std.specs.Prelude.{◌≡◌, ℕ, Bool, true, false, List, Option, Some, Ok, slice_get}
+use Rattle.std.specs.List.{flat_map, position_or_len}
 use Rattle.mgs_model.specs.Access.{Directory}
-use Rattle.mgs_model.specs.Apply.{act, apply, outcome_in}
-use Rattle.mgs_model.specs.Events.{may_be_refused}
+use Rattle.mgs_model.specs.Apart.{touched_by}
+use Rattle.mgs_model.specs.Apply.{act, apply, change_first, outcome_in}
+use Rattle.mgs_model.specs.Events.{Saved, act_effects, may_be_refused, saved_by}
 use Rattle.mgs_model.specs.Outcome.{Act, takes_memory}
+use Rattle.mgs_model.specs.Outcome as outcomes
+use Rattle.mgs_model.specs.World.{World}
+use Rattle.mgs_model.specs.declared.entry.Entry.{Entry}
+use Rattle.mgs_model.specs.declared.session.Question.{Question}
 use Rattle.mgs_model.specs.declared.touched.Touched.{Touched}
-use Rattle.mgs_buffers.specs.MarkedBuffer.{MarkedBuffer}
+use Rattle.mgs_store.specs.Stores.{IsCounted, StoreTold, store_told, told_more}
+use Rattle.mgs_buffers.specs.MarkedBuffer.{MarkedBuffer, marked_at, marked_named, marked_relisted}
 use Rattle.mgs_session.specs.declared.Session.{Session}
-use Rattle.mgs_plan.specs.Deciding.{CanPerform, IsOutcome, outcome_read, view_at}
+use Rattle.mgs_plan.specs.Deciding.{CanPerform, outcome_read, view_at}
+use Rattle.mgs_plan.specs.Searching.{answer_act}
 use Rattle.mgs_plan.specs.Tells.{touched_in}
+use Rattle.mgs_plan.specs.Listed.{entries_planned}
+use Rattle.mgs_plan.specs.declared.outcome.EntryPlan.{EntryPlan}
 use Rattle.mgs_plan.specs.declared.outcome.Outcome.{Outcome}
-use Rattle.mgs_world.specs.Worlds.{session_id, world_of}
+use Rattle.mgs_world.specs.Worlds.{own_at, session_id, world_of}
 
 -- that it can be done
-abbrev pub CanDo : ℕ → List MarkedBuffer → List Session → Outcome → Type 0
-CanDo at ks xs o = (h : Session) → slice_get xs at ≡ Some h → CanPerform ks h o
+abbrev pub CanDo : Directory → ℕ → List MarkedBuffer → List Session → Outcome → Type 0
+CanDo directory at ks xs o = (h : Session) → slice_get xs at ≡ Some h → CanPerform directory ks h o
 
--- that the world is what the outcome makes of it
-abbrev pub IsDone : ℕ → List MarkedBuffer → List MarkedBuffer → List Session → List Session → Outcome → Type 0
-IsDone at ks ls xs ys o =
-    (directory : Directory) (id : ℕ) (next : Option ℕ) (h : Session) → at ≡ position_or_len (session_id id) xs → slice_get xs at ≡ Some h
-    → world_of directory ls ys next ≡ apply (world_of directory ks xs next) id (outcome_read ks (view_at directory ks xs next h) o)
+-- AN OUTCOME OF THE MODEL IS DONE, and it tells what it touched; what it saves was accepted
+pub record Does (old new : World) (before after : StoreTold) (id : ℕ) (o : outcomes.Outcome) (touched : Touched) : Type 0 where
+  pub world : new ≡ apply old id o
+  pub touches : touched ≡ touched_by o.effect
+  pub saves : after.accepted ≡ told_more (saved_by o.effect) before.accepted
+
+-- WHAT WAS DECIDED IS DONE: the store's answer to a save was a refusal only where a fault was counted
+pub record IsDone (directory : Directory) (at : ℕ) (o : Outcome) (ks : List MarkedBuffer) (xs : List Session) (before : StoreTold) (ls : List MarkedBuffer) (ys : List Session) (after : StoreTold) (touched : Touched) : Type 0 where
+  pub stored : Bool
+  pub fault : stored ≡ false → IsCounted before.failed after.failed
+  pub does : (id : ℕ) (next : Option ℕ) (h : Session) → at ≡ position_or_len (session_id id) xs → slice_get xs at ≡ Some h → Does (world_of directory ks xs next) (world_of directory ls ys next) before after id (outcome_read ks (view_at directory ks xs next h) o stored) touched
+
+-- by what a store tells
+abbrev pub IsDoneIn : {S : Type 0} → (S → ℕ) → (S → Option (List Saved)) → Directory → ℕ → Outcome → List MarkedBuffer → List Session → S → List MarkedBuffer → List Session → S → Touched → Type 0
+IsDoneIn failed accepted directory at o ks xs s ls ys t touched = IsDone directory at o ks xs (store_told failed accepted s) ls ys (store_told failed accepted t) touched
+
+-- without a store that is asked
+abbrev pub IsQuietlyDone : Directory → ℕ → Outcome → List MarkedBuffer → List Session → List MarkedBuffer → List Session → Touched → Type 0
+IsQuietlyDone directory at o ks xs ls ys touched = (t : StoreTold) → IsDone directory at o ks xs t ls ys t touched
+
+-- that the access list of the buffer of a name is as it was planned
+abbrev pub IsRelisted : List ℕ → EntryPlan → List MarkedBuffer → List MarkedBuffer → Type 0
+IsRelisted name plan ks ls =
+    (entries : List Entry) → entries_planned plan (marked_at name ks).buffer.entries ≡ Ok entries → ls ≡ change_first (marked_named name) (marked_relisted entries) ks
+
+-- that nothing is done
+abbrev pub IsUnchanged : List MarkedBuffer → List Session → List MarkedBuffer → List Session → Type 0
+IsUnchanged ks xs ls ys = (directory : Directory) (next : Option ℕ) → world_of directory ls ys next ≡ world_of directory ks xs next
 
 -- that it takes memory
-abbrev pub TakesMemory : ℕ → List MarkedBuffer → List Session → Outcome → Type 0
-TakesMemory at ks xs o =
-    (directory : Directory) (next : Option ℕ) (h : Session) → slice_get xs at ≡ Some h → takes_memory (outcome_read ks (view_at directory ks xs next h) o) ≡ true
+abbrev pub TakesMemory : ℕ → Outcome → List MarkedBuffer → List Session → Type 0
+TakesMemory at o ks xs =
+    (directory : Directory) (id : ℕ) (next : Option ℕ) (h : Session) → at ≡ position_or_len (session_id id) xs → slice_get xs at ≡ Some h → takes_memory (outcome_read ks (view_at directory ks xs next h) o true) ≡ true
 
--- THE ACT of which it is the outcome is done, touches this, or may be refused
-abbrev pub IsActed : ℕ → List MarkedBuffer → List MarkedBuffer → List Session → List Session → Outcome → Type 0
-IsActed at ks ls xs ys o =
-    (directory : Directory) (id : ℕ) (next : Option ℕ) (h : Session) (c : Act) → at ≡ position_or_len (session_id id) xs → slice_get xs at ≡ Some h → IsOutcome directory ks xs next h c o
-    → world_of directory ls ys next ≡ act (world_of directory ks xs next) id c true
+-- AN ACT: the store's answer to a save was a refusal only where a fault was counted, and what the act saves was accepted
+pub record ActedBy (old new : World) (before after : StoreTold) (id : ℕ) (c : Act) : Type 0 where
+  pub stored : Bool
+  pub world : new ≡ act old id c stored
+  pub fault : stored ≡ false → IsCounted before.failed after.failed
+  pub saves : after.accepted ≡ told_more (flat_map saved_by (act_effects old id c stored)) before.accepted
 
-abbrev pub IsTold : ℕ → List MarkedBuffer → List Session → Outcome → Touched → Type 0
-IsTold at ks xs o touched =
-    (directory : Directory) (id : ℕ) (next : Option ℕ) (h : Session) (c : Act) → at ≡ position_or_len (session_id id) xs → slice_get xs at ≡ Some h → IsOutcome directory ks xs next h c o
-    → touched ≡ touched_in (outcome_in (world_of directory ks xs next) id c true)
+-- and it tells what it touched
+pub record DoneBy (touched : Touched) (old new : World) (before after : StoreTold) (id : ℕ) (c : Act) : Type 0 where
+  pub acted : ActedBy old new before after id c
+  pub tells : touched ≡ touched_in (outcome_in old id c acted.stored)
 
-abbrev pub IsRefusable : ℕ → List MarkedBuffer → List Session → Outcome → Type 0
-IsRefusable at ks xs o =
-    (directory : Directory) (id : ℕ) (next : Option ℕ) (h : Session) (c : Act) → at ≡ position_or_len (session_id id) xs → slice_get xs at ≡ Some h → IsOutcome directory ks xs next h c o
-    → may_be_refused (outcome_in (world_of directory ks xs next) id c true) ≡ true
+-- by the session at an index
+abbrev pub IsActed : {S : Type 0} → (S → ℕ) → (S → Option (List Saved)) → Directory → ℕ → Act → List MarkedBuffer → List Session → S → List MarkedBuffer → List Session → S → Touched → Type 0
+IsActed failed accepted directory at c ks xs s ls ys t touched =
+    (id : ℕ) (next : Option ℕ) → at ≡ position_or_len (session_id id) xs → DoneBy touched (world_of directory ks xs next) (world_of directory ls ys next) (store_told failed accepted s) (store_told failed accepted t) id c
+
+-- that it may be refused
+abbrev pub IsRefusable : Directory → ℕ → Act → List MarkedBuffer → List Session → Type 0
+IsRefusable directory at c ks xs =
+    (id : ℕ) (next : Option ℕ) → at ≡ position_or_len (session_id id) xs → may_be_refused (outcome_in (world_of directory ks xs next) id c true) ≡ true
+
+-- the answer to a question
+abbrev pub Answers : {S : Type 0} → (S → ℕ) → (S → Option (List Saved)) → Directory → ℕ → Question → Option ℕ → List ℕ → List MarkedBuffer → List Session → S → List MarkedBuffer → List Session → S → Touched → Type 0
+Answers failed accepted directory at question argument typed ks xs s ls ys t touched = IsActed failed accepted directory at (answer_act question argument typed (own_at at xs)) ks xs s ls ys t touched

@@ -1,4 +1,2 @@
-pub mod Saving
-pub mod Switching
-pub mod Searching
 pub mod Doing
+pub mod Performing

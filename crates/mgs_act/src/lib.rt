@@ -2,16 +2,10 @@
 #![tactic(auto)]
 
 mod acts;
-mod answering;
 mod doing;
 mod inserting;
 mod performing;
-mod rows;
-mod saving;
-mod searching;
 mod setting;
 mod switching;
 
-pub use acts::act;
-pub use answering::answer;
-pub use saving::save;
+pub use acts::{act, answer};

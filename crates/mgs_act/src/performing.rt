@@ -1,33 +1,31 @@
 // An action is done: in the buffers, and to the session that acts.
-ghost use Rattle.std.specs.Prelude.{IsSome, ◌≡◌, ◌+◌, ◌++◌, ◌<◌, ◌≤◌, ℕ, List, [], length, Option, Some, None, IfOk, OnOk, OnErr, slice_get, true, false};
-ghost use Rattle.std.specs.List.{position_or_len};
-ghost use Rattle.std.specs.Option.{option_and_then};
-ghost use Rattle.mgs_model.specs.Access.{Directory};
-ghost use Rattle.mgs_model.specs.Acts.{is_full};
-ghost use Rattle.mgs_model.specs.Apart.{touched_by};
-ghost use Rattle.mgs_model.specs.Apply.{apply, change_first, kill_after};
-ghost use Rattle.mgs_model.specs.Outcome.{kill_takes_memory, takes_memory};
-ghost use Rattle.mgs_model.specs.Text.{is_edit};
-ghost use Rattle.mgs_model.specs.World.{Own};
-ghost use Rattle.mgs_buffers.specs.MarkedBuffer.{HasBuffer, IsMark, MarkedBuffer, marked_at, marked_edited, marked_named, marked_placed};
+ghost use Rattle.std.specs.Prelude.{IsSome, ◌≡◌, ◌+◌, ◌-◌, ◌^◌, ◌++◌, ◌<◌, ◌≤◌, ℕ, List, [], length, Option, Some, None, IfOk, OnOk, OnErr, true};
+ghost use Rattle.mgs_model.specs.Apply.{change_first, kill_after};
+ghost use Rattle.mgs_model.specs.Outcome.{kill_takes_memory};
+ghost use Rattle.mgs_buffers.specs.Changing.{writes};
+ghost use Rattle.mgs_buffers.specs.MarkedBuffer.{HasBuffer, MarkedBuffer, marked_at, marked_edited, marked_named};
 ghost use Rattle.mgs_marks.specs.Marks.{mark_in};
 ghost use Rattle.mgs_buffers.specs.Placing.{CanStand, placed_if};
-ghost use Rattle.mgs_edit.specs.Reading.{ChangeWithin, GoesWithin, IsWithin, PieceWithin, change_read, kill_read, point_read, put_read, top_read, undone_read};
-ghost use Rattle.mgs_session.specs.Sessions.{acted, told, window_marks_of};
+ghost use Rattle.mgs_edit.specs.Reading.{ChangeWithin, GoesWithin, IsWithin, PieceWithin, kill_read, point_read, put_read, top_read};
+ghost use Rattle.mgs_session.specs.Sessions.{acted, told};
 ghost use Rattle.mgs_plan.specs.declared.action.Action.TheVariants.{Edits, Moves, Undoes};
-ghost use Rattle.mgs_plan.specs.Actions.{AreMarks, CanBeDone, CanUndo, IsMarked, kill_at, edited_by, kill_set, mark_gone, mark_told, marked_after, outcome_through, removed_by, session_acted};
-ghost use Rattle.mgs_plan.specs.Following.{edit_through, followed};
+ghost use Rattle.mgs_plan.specs.declared.outcome.Outcome.TheVariants.{Acts};
+ghost use Rattle.mgs_plan.specs.Actions.{AreMarks, CanBeDone, IsMarked, edited_by, kill_at, kill_set, mark_gone, mark_told, removed_by};
+ghost use Rattle.mgs_plan.specs.Deciding.{IsActionGranted, IsGranted};
+ghost use Rattle.mgs_act.specs.Doing.{CanDo, IsQuietlyDone, IsUnchanged, TakesMemory};
+ghost use Rattle.mgs_act.specs.Performing.{CanComeBack, HasRoom, IsEdit, IsFollowed, IsTouched, MayBeShort, acted_in, back_in, buffers_acted, buffers_edited, change_in, marks_left, undone_in};
 ghost use Rattle.mgs_world.specs.Sound.{IsSound};
 ghost use Rattle.mgs_world.specs.WindowMarks.{WindowMarksDropped};
-ghost use Rattle.mgs_world.specs.Worlds.{idle, own_at, session_id, world_of};
+ghost use Rattle.mgs_world.specs.Worlds.{idle, own_at};
 
-use mgs_buffers::Buffers;
+use mgs_buffers::{Buffers, EditFault};
 use mgs_edit::{
     Change, Finish, Goes, Joins, Piece, Put, Undone, is_edit, is_undo_an_edit, put_chars,
 };
 use mgs_marks::Marked;
-use mgs_model::{Kind, MarkId, Message, Name, Short, Touched};
+use mgs_model::{Kind, MarkId, Mask, Message, Name, Right, Short, Touched};
 use mgs_plan::{Action, edit_of, follow};
+use mgs_policy::Directory;
 use mgs_session::{Session, fail, finish, set_kill};
 use mgs_text::Text;
 use mgs_windows::WindowMarks;
@@ -87,52 +85,93 @@ fn killed_if<T: Text>(
     }
 }
 
+/// The edit of a user, by rights that were granted him when it was planned. `Short`: memory was refused, and nothing was done.
+pub fn edit_by<T: Marked + Drop>(
+    buffers: &mut Buffers<T>,
+    directory: &Directory,
+    user: &Name,
+    name: &Name,
+    mask: Mask,
+    from: usize,
+    to: usize,
+    put: &[char],
+) -> Result<(), Short>
+    requires kept { HasBuffer name.now buffers.old }
+    requires writes { writes mask ≡ true }
+    requires granted { IsGranted directory.now buffers.old user.now name.now mask }
+    requires order { from ≤ to }
+    requires within { to ≤ length (marked_at name.now buffers.old).buffer.text }
+    requires serial { (marked_at name.now buffers.old).buffer.serial < 2 ^ 64 - 1 }
+    requires room { length (marked_at name.now buffers.old).buffer.text + length put.now ≤ 1048576 + (to - from) }
+    ensures ok { OnOk result (buffers.new ≡ change_first (marked_named name.now) (marked_edited from to put.now) buffers.old) }
+    ensures err { OnErr result (buffers.new ≡ buffers.old) }
+{
+    match buffers.edit_as(directory, user, name, mask, from, to, put) {
+        Ok(()) => Ok(()),
+        Err(EditFault::Short) => Err(Short),
+        // It was planned where that is granted.
+        Err(EditFault::Denied(_)) => unreachable!(),
+    }
+}
+
 /// Edits a buffer, and tells where what is put in ends. `Short`: memory was refused, and nothing was done.
 fn edit<T: Marked + Drop>(
     alloc: Global,
     buffers: &mut Buffers<T>,
+    directory: &Directory,
+    user: &Name,
     name: &Name,
     kill: &[char],
+    mask: Mask,
     change: &Change,
 ) -> Result<usize, Short>
+    requires writes { writes mask ≡ true }
+    requires granted { IsGranted directory.now buffers.old user.now name.now mask }
     requires kept { HasBuffer name.now buffers.old }
     requires within { ChangeWithin (marked_at name.now buffers.old).buffer.text kill.now change.now }
-    requires edit { is_edit change.now.from change.now.to (put_read (marked_at name.now buffers.old).buffer.text kill.now change.now.put) ≡ true }
-    requires room { is_full (length (marked_at name.now buffers.old).buffer.text) (marked_at name.now buffers.old).buffer.serial (change_read (marked_at name.now buffers.old).buffer.text kill.now change.now) ≡ false }
-    ensures ok { OnOk result (buffers.new ≡ change_first (marked_named name.now) (marked_edited change.now.from change.now.to (put_read (marked_at name.now buffers.old).buffer.text kill.now change.now.put)) buffers.old) }
+    requires edit { IsEdit (change_in name.now buffers.old kill.now change.now) }
+    requires room { HasRoom name.now buffers.old (change_in name.now buffers.old kill.now change.now) }
+    ensures ok { OnOk result (buffers.new ≡ buffers_edited name.now (change_in name.now buffers.old kill.now change.now) buffers.old) }
     ensures end { IfOk result (λ end. end ≡ change.now.from + length (put_read (marked_at name.now buffers.old).buffer.text kill.now change.now.put)) }
     ensures err { OnErr result (buffers.new ≡ buffers.old) }
 {
     // For the range of a serial.
     let _serial = buffers.serial(name);
+    let from = change.from;
+    let to = change.to;
     // One character is the common case, and takes no room beside the text's.
     if let Put::Character { put, times: 1 } = change.put {
-        buffers.edit(name, change.from, change.to, &[put])?;
-        return Ok(change.from + 1);
+        edit_by(buffers, directory, user, name, mask, from, to, &[put])?;
+        return Ok(from + 1);
     }
     let chars = put_chars(alloc, buffers.text(name), kill, &change.put)?;
-    buffers.edit(name, change.from, change.to, &chars)?;
-    Ok(change.from + chars.len())
+    edit_by(buffers, directory, user, name, mask, from, to, &chars)?;
+    Ok(from + chars.len())
 }
 
 /// The same, where the change takes out or puts in anything.
 fn edit_if<T: Marked + Drop>(
     alloc: Global,
     buffers: &mut Buffers<T>,
+    directory: &Directory,
+    user: &Name,
     name: &Name,
     kill: &[char],
+    mask: Mask,
     change: &Change,
 ) -> Result<usize, Short>
+    requires writes { writes mask ≡ true }
+    requires granted { IsGranted directory.now buffers.old user.now name.now mask }
     requires kept { HasBuffer name.now buffers.old }
     requires within { ChangeWithin (marked_at name.now buffers.old).buffer.text kill.now change.now }
-    requires room { is_full (length (marked_at name.now buffers.old).buffer.text) (marked_at name.now buffers.old).buffer.serial (change_read (marked_at name.now buffers.old).buffer.text kill.now change.now) ≡ false }
-    ensures ok { OnOk result (buffers.new ≡ edited_by name.now (change_read (marked_at name.now buffers.old).buffer.text kill.now change.now) buffers.old) }
+    requires room { HasRoom name.now buffers.old (change_in name.now buffers.old kill.now change.now) }
+    ensures ok { OnOk result (buffers.new ≡ edited_by name.now (change_in name.now buffers.old kill.now change.now) buffers.old) }
     ensures end { IfOk result (λ end. end ≡ change.now.from + length (put_read (marked_at name.now buffers.old).buffer.text kill.now change.now.put)) }
     ensures err { OnErr result (buffers.new ≡ buffers.old) }
-    ensures may { OnErr result (is_edit change.now.from change.now.to (put_read (marked_at name.now buffers.old).buffer.text kill.now change.now.put) ≡ true) }
+    ensures may { OnErr result (IsEdit (change_in name.now buffers.old kill.now change.now)) }
 {
     if is_edit(change, kill.len()) {
-        return edit(alloc, buffers, name, kill, change);
+        return edit(alloc, buffers, directory, user, name, kill, mask, change);
     }
     Ok(change.from)
 }
@@ -157,45 +196,61 @@ fn removed_by<T: Marked + Drop>(
     }
 }
 
+/// READ_DATA and WRITE_DATA, which an undo needs.
+fn read_and_write() -> Mask
+    ensures { result ≡ 3 }
+{
+    Mask::from_bits(Right::ReadData.bit() + Right::WriteData.bit())
+}
+
 /// Takes an edit back, and tells where what comes back ends. `Short`: memory was refused, and nothing was done.
 fn put_back<T: Marked + Drop>(
     alloc: Global,
     buffers: &mut Buffers<T>,
+    directory: &Directory,
+    user: &Name,
     name: &Name,
     undone: &Undone,
 ) -> Result<usize, Short>
     requires kept { HasBuffer name.now buffers.old }
+    requires granted { IsGranted directory.now buffers.old user.now name.now 3 }
     requires within { undone.now.from + undone.now.gone ≤ length (marked_at name.now buffers.old).buffer.text }
-    requires edit { is_edit undone.now.from (undone.now.from + undone.now.gone) (removed_by undone.now.serial (marked_at name.now buffers.old).buffer.items) ≡ true }
-    requires room { is_full (length (marked_at name.now buffers.old).buffer.text) (marked_at name.now buffers.old).buffer.serial (undone_read (marked_at name.now buffers.old).buffer.text [] (removed_by undone.now.serial (marked_at name.now buffers.old).buffer.items) undone.now) ≡ false }
-    ensures ok { OnOk result (buffers.new ≡ change_first (marked_named name.now) (marked_edited undone.now.from (undone.now.from + undone.now.gone) (removed_by undone.now.serial (marked_at name.now buffers.old).buffer.items)) buffers.old) }
-    ensures end { IfOk result (λ end. end ≡ undone.now.from + length (removed_by undone.now.serial (marked_at name.now buffers.old).buffer.items)) }
+    requires edit { IsEdit (undone_in name.now buffers.old [] undone.now) }
+    requires room { HasRoom name.now buffers.old (undone_in name.now buffers.old [] undone.now) }
+    ensures ok { OnOk result (buffers.new ≡ buffers_edited name.now (undone_in name.now buffers.old [] undone.now) buffers.old) }
+    ensures end { IfOk result (λ end. end ≡ undone.now.from + length (back_in name.now buffers.old undone.now)) }
     ensures err { OnErr result (buffers.new ≡ buffers.old) }
 {
     // For the ranges of a serial and of a place.
     let _serial = buffers.serial(name);
     let _size = buffers.text_len(name);
     let back = removed_by(alloc, buffers, name, undone.serial)?;
-    buffers.edit(name, undone.from, undone.from + undone.gone, &back)?;
-    Ok(undone.from + back.len())
+    let from = undone.from;
+    let to = from + undone.gone;
+    let mask = read_and_write();
+    edit_by(buffers, directory, user, name, mask, from, to, &back)?;
+    Ok(from + back.len())
 }
 
 /// The same, where that takes out or puts in anything.
 fn restore<T: Marked + Drop>(
     alloc: Global,
     buffers: &mut Buffers<T>,
+    directory: &Directory,
+    user: &Name,
     name: &Name,
     undone: &Undone,
 ) -> Result<usize, Short>
     requires kept { HasBuffer name.now buffers.old }
-    requires can { (kill : List ℕ) → CanUndo (marked_at name.now buffers.old).buffer.text (marked_at name.now buffers.old).buffer.items kill (marked_at name.now buffers.old).buffer.serial undone.now }
-    ensures ok { (kill : List ℕ) → OnOk result (buffers.new ≡ edited_by name.now (undone_read (marked_at name.now buffers.old).buffer.text kill (removed_by undone.now.serial (marked_at name.now buffers.old).buffer.items) undone.now) buffers.old) }
-    ensures end { IfOk result (λ end. end ≡ undone.now.from + length (removed_by undone.now.serial (marked_at name.now buffers.old).buffer.items)) }
+    requires granted { IsGranted directory.now buffers.old user.now name.now 3 }
+    requires can { CanComeBack name.now buffers.old undone.now }
+    ensures ok { (kill : List ℕ) → OnOk result (buffers.new ≡ edited_by name.now (undone_in name.now buffers.old kill undone.now) buffers.old) }
+    ensures end { IfOk result (λ end. end ≡ undone.now.from + length (back_in name.now buffers.old undone.now)) }
     ensures err { OnErr result (buffers.new ≡ buffers.old) }
-    ensures may { OnErr result (is_edit undone.now.from (undone.now.from + undone.now.gone) (removed_by undone.now.serial (marked_at name.now buffers.old).buffer.items) ≡ true) }
+    ensures may { OnErr result (IsEdit (undone_in name.now buffers.old [] undone.now)) }
 {
     if is_undo_an_edit(undone) {
-        return put_back(alloc, buffers, name, undone);
+        return put_back(alloc, buffers, directory, user, name, undone);
     }
     Ok(undone.from)
 }
@@ -246,7 +301,7 @@ pub fn leave<T: Marked + Drop>(
     requires point { GoesWithin (length (marked_at window_marks.now.name buffers.old).buffer.text) left.now.point }
     requires top { IsWithin (length (marked_at window_marks.now.name buffers.old).buffer.text) left.now.top }
     requires behind { behind ≤ length (marked_at window_marks.now.name buffers.old).buffer.text }
-    ensures marks { buffers.new ≡ mark_gone window_marks.now.name window_marks.now.top (top_read left.now.top) (mark_gone window_marks.now.name window_marks.now.point (point_read behind left.now.point) buffers.old) }
+    ensures marks { buffers.new ≡ marks_left window_marks.now left.now behind buffers.old }
     ensures session { session.new ≡ told left.now.told (acted left.now.kind (record session.old { kill = kill_set kill session.old.kill })) }
 {
     let point = point_target(window_marks, &left.point, behind);
@@ -260,17 +315,20 @@ pub fn leave<T: Marked + Drop>(
 fn change_text<T: Marked + Drop>(
     alloc: Global,
     buffers: &mut Buffers<T>,
+    directory: &Directory,
     session: &mut Session,
     window_marks: &WindowMarks,
+    mask: Mask,
     change: &Change,
 ) -> Result<(), Short>
     requires marks { AreMarks buffers.old window_marks.now }
-    requires can { CanBeDone buffers.old window_marks.now session.old.kill (Edits change.now) }
-    ensures ok { OnOk result (buffers.new ≡ marked_after window_marks.now (marked_at window_marks.now.name buffers.old).buffer.text (marked_at window_marks.now.name buffers.old).buffer.items session.old.kill (Edits change.now) buffers.old) }
-    ensures acted { OnOk result (session.new ≡ session_acted (marked_at window_marks.now.name buffers.old).buffer.text (Edits change.now) session.old) }
+    requires can { CanBeDone buffers.old window_marks.now session.old.kill (Edits mask change.now) }
+    requires granted { IsActionGranted directory.now buffers.old session.old.user window_marks.now.name (Edits mask change.now) }
+    ensures ok { OnOk result (buffers.new ≡ buffers_acted window_marks.now session.old.kill (Edits mask change.now) buffers.old) }
+    ensures acted { OnOk result (session.new ≡ acted_in window_marks.now buffers.old (Edits mask change.now) session.old) }
     ensures err { OnErr result (buffers.new ≡ buffers.old) }
     ensures same { OnErr result (session.new ≡ session.old) }
-    ensures may { OnErr result ((own : Own) → takes_memory (outcome_through own window_marks.now buffers.old session.old.kill (Edits change.now)) ≡ true) }
+    ensures may { OnErr result (MayBeShort window_marks.now buffers.old session.old.kill (Edits mask change.now)) }
 {
     let name = &window_marks.name;
     let kill = killed_if(
@@ -279,7 +337,17 @@ fn change_text<T: Marked + Drop>(
         session.kill.as_slice(),
         &change.finish.kill,
     )?;
-    let behind = edit_if(alloc, buffers, name, session.kill.as_slice(), change)?;
+    let held = session.kill.as_slice();
+    let behind = edit_if(
+        alloc,
+        buffers,
+        directory,
+        &session.user,
+        name,
+        held,
+        mask,
+        change,
+    )?;
     leave(buffers, session, window_marks, &change.finish, behind, kill);
     Ok(())
 }
@@ -288,20 +356,22 @@ fn change_text<T: Marked + Drop>(
 fn take_back<T: Marked + Drop>(
     alloc: Global,
     buffers: &mut Buffers<T>,
+    directory: &Directory,
     session: &mut Session,
     window_marks: &WindowMarks,
     undone: &Undone,
 ) -> Result<(), Short>
     requires marks { AreMarks buffers.old window_marks.now }
     requires can { CanBeDone buffers.old window_marks.now session.old.kill (Undoes undone.now) }
-    ensures ok { OnOk result (buffers.new ≡ marked_after window_marks.now (marked_at window_marks.now.name buffers.old).buffer.text (marked_at window_marks.now.name buffers.old).buffer.items session.old.kill (Undoes undone.now) buffers.old) }
-    ensures acted { OnOk result (session.new ≡ session_acted (marked_at window_marks.now.name buffers.old).buffer.text (Undoes undone.now) session.old) }
+    requires granted { IsActionGranted directory.now buffers.old session.old.user window_marks.now.name (Undoes undone.now) }
+    ensures ok { OnOk result (buffers.new ≡ buffers_acted window_marks.now session.old.kill (Undoes undone.now) buffers.old) }
+    ensures acted { OnOk result (session.new ≡ acted_in window_marks.now buffers.old (Undoes undone.now) session.old) }
     ensures err { OnErr result (buffers.new ≡ buffers.old) }
     ensures same { OnErr result (session.new ≡ session.old) }
-    ensures may { OnErr result ((own : Own) → takes_memory (outcome_through own window_marks.now buffers.old session.old.kill (Undoes undone.now)) ≡ true) }
+    ensures may { OnErr result (MayBeShort window_marks.now buffers.old session.old.kill (Undoes undone.now)) }
 {
     let name = &window_marks.name;
-    let behind = restore(alloc, buffers, name, undone)?;
+    let behind = restore(alloc, buffers, directory, &session.user, name, undone)?;
     leave(buffers, session, window_marks, &undone.finish, behind, None);
     Ok(())
 }
@@ -316,11 +386,11 @@ fn move_point<T: Marked + Drop>(
 ) -> Result<(), Short>
     requires marks { AreMarks buffers.old window_marks.now }
     requires can { CanBeDone buffers.old window_marks.now session.old.kill (Moves left.now) }
-    ensures ok { OnOk result (buffers.new ≡ marked_after window_marks.now (marked_at window_marks.now.name buffers.old).buffer.text (marked_at window_marks.now.name buffers.old).buffer.items session.old.kill (Moves left.now) buffers.old) }
-    ensures acted { OnOk result (session.new ≡ session_acted (marked_at window_marks.now.name buffers.old).buffer.text (Moves left.now) session.old) }
+    ensures ok { OnOk result (buffers.new ≡ buffers_acted window_marks.now session.old.kill (Moves left.now) buffers.old) }
+    ensures acted { OnOk result (session.new ≡ acted_in window_marks.now buffers.old (Moves left.now) session.old) }
     ensures err { OnErr result (buffers.new ≡ buffers.old) }
     ensures same { OnErr result (session.new ≡ session.old) }
-    ensures may { OnErr result ((own : Own) → takes_memory (outcome_through own window_marks.now buffers.old session.old.kill (Moves left.now)) ≡ true) }
+    ensures may { OnErr result (MayBeShort window_marks.now buffers.old session.old.kill (Moves left.now)) }
 {
     let kill = killed_if(
         alloc,
@@ -336,28 +406,43 @@ fn move_point<T: Marked + Drop>(
 fn carry_out<T: Marked + Drop>(
     alloc: Global,
     buffers: &mut Buffers<T>,
+    directory: &Directory,
     session: &mut Session,
     window_marks: &WindowMarks,
     action: &Action,
 ) -> Result<(), Short>
     requires marks { AreMarks buffers.old window_marks.now }
     requires can { CanBeDone buffers.old window_marks.now session.old.kill action.now }
-    ensures ok { OnOk result (buffers.new ≡ marked_after window_marks.now (marked_at window_marks.now.name buffers.old).buffer.text (marked_at window_marks.now.name buffers.old).buffer.items session.old.kill action.now buffers.old) }
-    ensures acted { OnOk result (session.new ≡ session_acted (marked_at window_marks.now.name buffers.old).buffer.text action.now session.old) }
+    requires granted { IsActionGranted directory.now buffers.old session.old.user window_marks.now.name action.now }
+    ensures ok { OnOk result (buffers.new ≡ buffers_acted window_marks.now session.old.kill action.now buffers.old) }
+    ensures acted { OnOk result (session.new ≡ acted_in window_marks.now buffers.old action.now session.old) }
     ensures err { OnErr result (buffers.new ≡ buffers.old) }
     ensures same { OnErr result (session.new ≡ session.old) }
-    ensures may { OnErr result ((own : Own) → takes_memory (outcome_through own window_marks.now buffers.old session.old.kill action.now) ≡ true) }
+    ensures may { OnErr result (MayBeShort window_marks.now buffers.old session.old.kill action.now) }
 {
     match action {
         Action::Fails(message) => {
             fail(session, *message);
             Ok(())
         }
-        Action::Edits(change) => change_text(alloc, buffers, session, window_marks, change),
-        Action::Undoes(undone) => take_back(alloc, buffers, session, window_marks, undone),
+        Action::Edits(mask, change) => {
+            change_text(
+                alloc,
+                buffers,
+                directory,
+                session,
+                window_marks,
+                *mask,
+                change,
+            )
+        }
+        Action::Undoes(undone) => {
+            take_back(alloc, buffers, directory, session, window_marks, undone)
+        }
         Action::Moves(left) => move_point(alloc, buffers, session, window_marks, left),
         Action::Clears => {
-            buffers.unmodify(&window_marks.name);
+            // It was granted when it was planned.
+            let _done = buffers.unmodify_as(directory, &session.user, &window_marks.name);
             finish(session, Kind::Other, Message::Silent);
             Ok(())
         }
@@ -370,7 +455,7 @@ fn mark_of(action: &Action) -> Option<usize>
 {
     match action {
         Action::Fails(_) | Action::Undoes(_) | Action::Clears => None,
-        Action::Edits(change) => change.finish.mark,
+        Action::Edits(_, change) => change.finish.mark,
         Action::Moves(left) => left.mark,
     }
 }
@@ -379,6 +464,7 @@ fn mark_of(action: &Action) -> Option<usize>
 fn carry_out_marked<T: Marked + Drop>(
     alloc: Global,
     buffers: &mut Buffers<T>,
+    directory: &Directory,
     session: &mut Session,
     window_marks: &WindowMarks,
     action: &Action,
@@ -386,13 +472,14 @@ fn carry_out_marked<T: Marked + Drop>(
 ) -> Result<(), Short>
     requires marks { AreMarks buffers.old window_marks.now }
     requires can { CanBeDone buffers.old window_marks.now session.old.kill action.now }
+    requires granted { IsActionGranted directory.now buffers.old session.old.user window_marks.now.name action.now }
     requires told { mark_told action.now ≡ Some position }
     ensures ok { OnOk result (IsMarked window_marks.now position action.now buffers.old buffers.new session.old session.new) }
     ensures err { OnErr result (WindowMarksDropped None buffers.old buffers.new) }
     ensures same { OnErr result (session.new ≡ session.old) }
 {
     let mark = reserve_mark(buffers, window_marks)?;
-    match carry_out(alloc, buffers, session, window_marks, action) {
+    match carry_out(alloc, buffers, directory, session, window_marks, action) {
         Ok(()) => {
             set_mark(buffers, session, window_marks, mark, position);
             Ok(())
@@ -408,6 +495,7 @@ fn carry_out_marked<T: Marked + Drop>(
 fn perform_plain<T: Marked + Drop>(
     alloc: Global,
     buffers: &mut Buffers<T>,
+    directory: &Directory,
     sessions: &mut [Session],
     at: usize,
     window_marks: &WindowMarks,
@@ -415,22 +503,29 @@ fn perform_plain<T: Marked + Drop>(
 ) -> Result<(), Short>
     requires sound { IsSound buffers.old sessions.old }
     requires within { at < length sessions.old }
-    requires window_marks { option_and_then window_marks_of (slice_get sessions.old at) ≡ Some window_marks.now }
     requires fresh { own_at at sessions.old ≡ idle (own_at at sessions.old) }
-    requires can { CanBeDone buffers.old window_marks.now (kill_at at sessions.old) action.now }
+    requires can { CanDo directory.now at buffers.old sessions.old (Acts window_marks.now action.now) }
     requires unmarked { mark_told action.now ≡ None }
     ensures sound { IsSound buffers.new sessions.new }
-    ensures ok { OnOk result ((directory : Directory) (id : ℕ) (next : Option ℕ) → at ≡ position_or_len (session_id id) sessions.old → world_of directory buffers.new (followed window_marks.now.name (edit_through window_marks.now buffers.old (kill_at at sessions.old) action.now) sessions.new) next ≡ apply (world_of directory buffers.old sessions.old next) id (outcome_through (own_at at sessions.old) window_marks.now buffers.old (kill_at at sessions.old) action.now)) }
-    ensures err { OnErr result ((directory : Directory) (next : Option ℕ) → world_of directory buffers.new sessions.new next ≡ world_of directory buffers.old sessions.old next) }
-    ensures may { OnErr result ((own : Own) → takes_memory (outcome_through own window_marks.now buffers.old (kill_at at sessions.old) action.now) ≡ true) }
+    ensures ok { OnOk result (IsFollowed at window_marks.now action.now buffers.old sessions.old buffers.new sessions.new) }
+    ensures err { OnErr result (IsUnchanged buffers.old sessions.old buffers.new sessions.new) }
+    ensures may { OnErr result (MayBeShort window_marks.now buffers.old (kill_at at sessions.old) action.now) }
 {
-    carry_out(alloc, buffers, &mut sessions[at], window_marks, action)
+    carry_out(
+        alloc,
+        buffers,
+        directory,
+        &mut sessions[at],
+        window_marks,
+        action,
+    )
 }
 
 /// Does what was planned and sets the mark, as `perform` says; the positions of searches stay.
 fn perform_marked<T: Marked + Drop>(
     alloc: Global,
     buffers: &mut Buffers<T>,
+    directory: &Directory,
     sessions: &mut [Session],
     at: usize,
     window_marks: &WindowMarks,
@@ -439,18 +534,18 @@ fn perform_marked<T: Marked + Drop>(
 ) -> Result<(), Short>
     requires sound { IsSound buffers.old sessions.old }
     requires within { at < length sessions.old }
-    requires window_marks { option_and_then window_marks_of (slice_get sessions.old at) ≡ Some window_marks.now }
     requires fresh { own_at at sessions.old ≡ idle (own_at at sessions.old) }
-    requires can { CanBeDone buffers.old window_marks.now (kill_at at sessions.old) action.now }
+    requires can { CanDo directory.now at buffers.old sessions.old (Acts window_marks.now action.now) }
     requires told { mark_told action.now ≡ Some position }
     ensures sound { IsSound buffers.new sessions.new }
-    ensures ok { OnOk result ((directory : Directory) (id : ℕ) (next : Option ℕ) → at ≡ position_or_len (session_id id) sessions.old → world_of directory buffers.new (followed window_marks.now.name (edit_through window_marks.now buffers.old (kill_at at sessions.old) action.now) sessions.new) next ≡ apply (world_of directory buffers.old sessions.old next) id (outcome_through (own_at at sessions.old) window_marks.now buffers.old (kill_at at sessions.old) action.now)) }
-    ensures err { OnErr result ((directory : Directory) (next : Option ℕ) → world_of directory buffers.new sessions.new next ≡ world_of directory buffers.old sessions.old next) }
-    ensures may { OnErr result ((own : Own) → takes_memory (outcome_through own window_marks.now buffers.old (kill_at at sessions.old) action.now) ≡ true) }
+    ensures ok { OnOk result (IsFollowed at window_marks.now action.now buffers.old sessions.old buffers.new sessions.new) }
+    ensures err { OnErr result (IsUnchanged buffers.old sessions.old buffers.new sessions.new) }
+    ensures may { OnErr result (MayBeShort window_marks.now buffers.old (kill_at at sessions.old) action.now) }
 {
     carry_out_marked(
         alloc,
         buffers,
+        directory,
         &mut sessions[at],
         window_marks,
         action,
@@ -462,6 +557,7 @@ fn perform_marked<T: Marked + Drop>(
 fn perform_unfollowed<T: Marked + Drop>(
     alloc: Global,
     buffers: &mut Buffers<T>,
+    directory: &Directory,
     sessions: &mut [Session],
     at: usize,
     window_marks: &WindowMarks,
@@ -469,19 +565,27 @@ fn perform_unfollowed<T: Marked + Drop>(
 ) -> Result<(), Short>
     requires sound { IsSound buffers.old sessions.old }
     requires within { at < length sessions.old }
-    requires window_marks { option_and_then window_marks_of (slice_get sessions.old at) ≡ Some window_marks.now }
     requires fresh { own_at at sessions.old ≡ idle (own_at at sessions.old) }
-    requires can { CanBeDone buffers.old window_marks.now (kill_at at sessions.old) action.now }
+    requires can { CanDo directory.now at buffers.old sessions.old (Acts window_marks.now action.now) }
     ensures sound { IsSound buffers.new sessions.new }
-    ensures ok { OnOk result ((directory : Directory) (id : ℕ) (next : Option ℕ) → at ≡ position_or_len (session_id id) sessions.old → world_of directory buffers.new (followed window_marks.now.name (edit_through window_marks.now buffers.old (kill_at at sessions.old) action.now) sessions.new) next ≡ apply (world_of directory buffers.old sessions.old next) id (outcome_through (own_at at sessions.old) window_marks.now buffers.old (kill_at at sessions.old) action.now)) }
-    ensures err { OnErr result ((directory : Directory) (next : Option ℕ) → world_of directory buffers.new sessions.new next ≡ world_of directory buffers.old sessions.old next) }
-    ensures may { OnErr result ((own : Own) → takes_memory (outcome_through own window_marks.now buffers.old (kill_at at sessions.old) action.now) ≡ true) }
+    ensures ok { OnOk result (IsFollowed at window_marks.now action.now buffers.old sessions.old buffers.new sessions.new) }
+    ensures err { OnErr result (IsUnchanged buffers.old sessions.old buffers.new sessions.new) }
+    ensures may { OnErr result (MayBeShort window_marks.now buffers.old (kill_at at sessions.old) action.now) }
 {
     match mark_of(action) {
-        None => perform_plain(alloc, buffers, sessions, at, window_marks, action),
+        None => perform_plain(
+            alloc,
+            buffers,
+            directory,
+            sessions,
+            at,
+            window_marks,
+            action,
+        ),
         Some(position) => perform_marked(
             alloc,
             buffers,
+            directory,
             sessions,
             at,
             window_marks,
@@ -491,38 +595,12 @@ fn perform_unfollowed<T: Marked + Drop>(
     }
 }
 
-/// Does what was planned, for the session at `at`. The positions of all searches go by it. `Short`: memory was refused, and nothing was done.
-pub fn perform<T: Marked + Drop>(
-    alloc: Global,
-    buffers: &mut Buffers<T>,
-    sessions: &mut [Session],
-    at: usize,
-    window_marks: &WindowMarks,
-    action: &Action,
-) -> Result<(), Short>
-    requires sound { IsSound buffers.old sessions.old }
-    requires within { at < length sessions.old }
-    requires window_marks { option_and_then window_marks_of (slice_get sessions.old at) ≡ Some window_marks.now }
-    requires fresh { own_at at sessions.old ≡ idle (own_at at sessions.old) }
-    requires can { CanBeDone buffers.old window_marks.now (kill_at at sessions.old) action.now }
-    ensures sound { IsSound buffers.new sessions.new }
-    ensures ok { OnOk result ((directory : Directory) (id : ℕ) (next : Option ℕ) → at ≡ position_or_len (session_id id) sessions.old → world_of directory buffers.new sessions.new next ≡ apply (world_of directory buffers.old sessions.old next) id (outcome_through (own_at at sessions.old) window_marks.now buffers.old (kill_at at sessions.old) action.now)) }
-    ensures err { OnErr result ((directory : Directory) (next : Option ℕ) → world_of directory buffers.new sessions.new next ≡ world_of directory buffers.old sessions.old next) }
-    ensures may { OnErr result ((own : Own) → takes_memory (outcome_through own window_marks.now buffers.old (kill_at at sessions.old) action.now) ≡ true) }
-{
-    let name = &window_marks.name;
-    let edit = edit_of(buffers, name, sessions[at].kill.as_slice(), action);
-    perform_unfollowed(alloc, buffers, sessions, at, window_marks, action)?;
-    follow(sessions, name, &edit);
-    Ok(())
-}
-
 /// What an action through a window's marks touches, by a session whose kill buffer has `killed` characters.
-pub fn touched_by(window_marks: &WindowMarks, action: &Action, killed: usize) -> Touched
-    ensures { (own : Own) (ks : List MarkedBuffer) (kill : List ℕ) → length kill ≡ killed → CanBeDone ks window_marks.now kill action.now → result ≡ touched_by (outcome_through own window_marks.now ks kill action.now).effect }
+fn touched_by(window_marks: &WindowMarks, action: &Action, killed: usize) -> Touched
+    ensures { IsTouched window_marks.now action.now killed result }
 {
     match action {
-        Action::Edits(change) => {
+        Action::Edits(_, change) => {
             if is_edit(change, killed) {
                 Touched::In(window_marks.name)
             } else {
@@ -539,4 +617,41 @@ pub fn touched_by(window_marks: &WindowMarks, action: &Action, killed: usize) ->
         Action::Clears => Touched::In(window_marks.name),
         Action::Fails(_) | Action::Moves(_) => Touched::Nowhere,
     }
+}
+
+/// Does what was planned, for the session at `at`, and tells what it touched. The positions of all searches go by it. `Short`:
+/// memory was refused, and nothing was done.
+pub fn perform<T: Marked + Drop>(
+    alloc: Global,
+    buffers: &mut Buffers<T>,
+    directory: &Directory,
+    sessions: &mut [Session],
+    at: usize,
+    window_marks: &WindowMarks,
+    action: &Action,
+) -> Result<Touched, Short>
+    requires sound { IsSound buffers.old sessions.old }
+    requires within { at < length sessions.old }
+    requires fresh { own_at at sessions.old ≡ idle (own_at at sessions.old) }
+    requires can { CanDo directory.now at buffers.old sessions.old (Acts window_marks.now action.now) }
+    ensures sound { IsSound buffers.new sessions.new }
+    ensures done { IfOk result (IsQuietlyDone directory.now at (Acts window_marks.now action.now) buffers.old sessions.old buffers.new sessions.new) }
+    ensures err { OnErr result (IsUnchanged buffers.old sessions.old buffers.new sessions.new) }
+    ensures may { OnErr result (TakesMemory at (Acts window_marks.now action.now) buffers.old sessions.old) }
+{
+    let name = &window_marks.name;
+    let kill = sessions[at].kill.as_slice();
+    let touched = touched_by(window_marks, action, kill.len());
+    let edit = edit_of(buffers, name, kill, action);
+    perform_unfollowed(
+        alloc,
+        buffers,
+        directory,
+        sessions,
+        at,
+        window_marks,
+        action,
+    )?;
+    follow(sessions, name, &edit);
+    Ok(touched)
 }

@@ -1,7 +1,7 @@
 -- What takes out nothing and puts in nothing changes nothing; what does is an edit.
 use Rattle.std.proofs.Common.{◌≡◌, ℕ, suc, Bool, true, false, ◌||◌, ◌==◌, List, [], ◌∷◌, length, Option, Some, None, refl, sym, ap, ◌∙◌, nat_lt, nat_eq, eqb-true, arith}
 use Rattle.std.proofs.lemmas.Bool.Decides.{nat_tests}
-use Rattle.mgs_model.specs.Text.{is_edit, shift, shift_all}
+use Rattle.mgs_model.specs.Text.{shift, shift_all}
 use Rattle.mgs_model.specs.Apply.{buffer_edited_if}
 use Rattle.mgs_buffers.specs.MarkedBuffer.{MarkedBuffer, marked_edited}
 
@@ -24,6 +24,3 @@ nothing_edited a b [] k e f =
 nothing_edited a b (c ∷ cs) k e f =
     let some : true ≡ nat_eq (suc (length cs)) 0 = f in
     absurd (omega (arith, eqb-true (suc (length cs)) 0 (sym some)))
-
-pub is_edited : (a b : ℕ) (put : List ℕ) (k : MarkedBuffer) → is_edit a b put ≡ true → marked_edited a b put k ≡ record { buffer = buffer_edited_if true a b put k.buffer; marks = shift_all a b (length put) k.marks }
-is_edited a b put k e = ap (λ f. record { buffer = buffer_edited_if f a b put k.buffer; marks = shift_all a b (length put) k.marks }) e

@@ -9,3 +9,5 @@ pub mod Told
 pub mod Finds
 pub mod Placing
 pub mod Permitting
+mod Updates
+pub mod Spelled

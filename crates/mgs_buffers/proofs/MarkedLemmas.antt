@@ -129,23 +129,11 @@ module _ {T : Type 0} (text : T → List ℕ) (marks : T → List (Option ℕ)) 
       ap (λ b. cond b (Some (marked_of text marks n s).buffer) (find p (map (λ (k : MarkedBuffer). k.buffer) (marked_all text marks rest)))) fails
       ∙ sym (ap (λ es. find p (map (λ (k : MarkedBuffer). k.buffer) (marked_all text marks es))) head) ∙ same
 
-pub some_place : (b : Bool) (i p : ℕ) → Some i ≡ cond b (Some p) None → i ≡ p
-some_place true i p h = cc
-some_place false i p h = cc
-
 pub none_of : {X : Type 0} (o : Option X) → is_some o ≡ false → o ≡ None
 none_of None h = refl
 none_of (Some x) h = cc
 
 -- WHAT FOLLOWS IN ONE CASE OF A RESULT
-
-pub OnOk-at : {A E P : Type 0} (r : Result A E) → P → OnOk r P
-OnOk-at (Ok x) p = p
-OnOk-at (Err e) p = tt
-
-pub OnOk-err : {A E : Type 0} (P : Type 0) (r : Result A E) (e : E) → r ≡ Err e → OnOk r P
-OnOk-err P (Ok x) e h = cc
-OnOk-err P (Err d) e h = tt
 
 pub OnOk-map : {A E P Q : Type 0} (r : Result A E) → (P → Q) → OnOk r P → OnOk r Q
 OnOk-map (Ok x) f p = f p

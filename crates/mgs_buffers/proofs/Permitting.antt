@@ -1,21 +1,14 @@
--- What an answer of a judged change says of the outcome of an act.
-use Rattle.std.proofs.Common.{◌≡◌, refl, ap, ◌∙◌}
-use Rattle.std.specs.Prelude.{◌≢◌, Ok, Err}
+-- What is granted whatever else is.
+use Rattle.std.proofs.Common.{◌≡◌, ℕ, Bool, ◌&&◌, cond, List, ap}
 use Rattle.mgs_model.specs.declared.entry.Decision.{Decision}
-use Rattle.mgs_model.specs.declared.entry.Decision.TheVariants.{Granted, DeniedBy, NotGranted}
-use Rattle.mgs_model.specs.declared.message.Message.TheVariants.{Denied}
-use Rattle.mgs_model.specs.Acts.{fails, permitted}
-use Rattle.mgs_model.specs.Outcome.{Outcome}
-use Rattle.mgs_model.specs.World.{Own}
-use Rattle.mgs_buffers.specs.Permitting.{PermitAnswers}
+use Rattle.mgs_model.specs.declared.entry.Decision.TheVariants.{Granted}
+use Rattle.mgs_model.specs.Access.{Directory, Nobody, Allows, decision, decision_by}
+use Rattle.mgs_model.specs.Apply.{new_buffer}
+use Rattle.mgs_model.specs.Rights.{has_right, rights_in}
+use Rattle.mgs_model.proofs.Blind.{is_name}
 
-pub permitted_done : (own : Own) (due : Decision) (done : Unit {0}) (o : Outcome) → PermitAnswers (Ok done) due → permitted own due o ≡ o
-permitted_done own due done o granted = ap (λ d. permitted own d o) granted
-
-pub permitted_denied : (own : Own) (due decision : Decision) (o : Outcome) → PermitAnswers (Err decision) due → permitted own due o ≡ fails own (Denied decision)
-permitted_denied own due decision o denied = ap (λ d. permitted own d o) denied.0 ∙ by decision denied.1
-  where
-    by : (d : Decision) → d ≢ Granted → permitted own d o ≡ fails own (Denied d)
-    by Granted not = absurd (not refl)
-    by (DeniedBy n right) not = refl
-    by (NotGranted right) not = refl
+-- who created a buffer is granted to kill it
+pub owner_may_kill : (directory : Directory) (name owner : List ℕ) → decision directory (new_buffer name owner).owners owner (new_buffer name owner).entries 65536 ≡ Granted
+owner_may_kill directory name owner =
+    let by : Bool → Decision = λ same. decision_by (λ right. cond (same && has_right 983175 right) (Allows 1) Nobody) (rights_in 65536) in
+    ap by (is_name owner)

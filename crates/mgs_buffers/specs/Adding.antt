@@ -34,6 +34,6 @@ AddAnswers (Ok done) due = due ≡ None
 AddAnswers (Err fault) due = IsAddDue fault due
 
 -- what is answered where a buffer is checked and not yet added: its name and its owners
-abbrev pub NamesToAdd : Result (List ℕ × Owners) AddFault → List ℕ → List ℕ → Option (List ℕ) → Option AddFault → Type 0
-NamesToAdd (Ok names) name owner group due = (names ≡ (name, owners_of owner group)) × (due ≡ None)
-NamesToAdd (Err fault) name owner group due = IsAddDue fault due
+abbrev pub NamesToAdd : Result (List ℕ × Owners) AddFault → List ℕ → List ℕ → Option (List ℕ) → ℕ → List MarkedBuffer → Type 0
+NamesToAdd (Ok names) name owner group size ks = (names ≡ (name, owners_of owner group)) × (add_fault name owner group size ks ≡ None)
+NamesToAdd (Err fault) name owner group size ks = IsAddDue fault (add_fault name owner group size ks)

@@ -1,9 +1,11 @@
 pub mod Adding
 pub mod MarkedBuffer
+pub mod Changing
 pub mod Contents
 pub mod Completed
 pub mod Found
 pub mod Judging
 pub mod Permitting
 pub mod Placing
+pub mod Saving
 pub mod Told

@@ -2,17 +2,15 @@
 ghost use Rattle.std.specs.Prelude.{◌≡◌, ◌≢◌, ℕ, ◌-◌, ◌<◌, ◌≤◌, ◌^◌, ◌∷◌, [], List, Some, None, length, IsSome, OnOk, OnErr, IfOk};
 ghost use Rattle.mgs_model.specs.Access.{decider, decision, decision_by};
 ghost use Rattle.mgs_model.specs.Apply.{first_entries};
-ghost use Rattle.mgs_model.specs.declared.owners.NewOwner.TheVariants.{ToUser, ToGroup};
 ghost use Rattle.mgs_model.specs.World.{may};
 ghost use Rattle.mgs_marks.specs.Marks.{mark_in};
-ghost use Rattle.mgs_buffers.specs.MarkedBuffer.{marked_new, marked_edited, marked_placed, marked_relisted, marked_reowned, marked_unmodified, with_marks};
+ghost use Rattle.mgs_buffers.specs.MarkedBuffer.{marked_new, marked_edited, marked_placed, with_marks};
 ghost use Rattle.mgs_buffers.specs.Contents.{Changed, marked_of};
 ghost use Rattle.mgs_buffers.specs.Judging.{StaysRight};
-ghost use Rattle.mgs_buffers.specs.Permitting.{EditAnswers, PermitAnswers};
+ghost use Rattle.mgs_buffers.specs.Permitting.{PermitAnswers};
 ghost use Rattle.mgs_buffers.specs.Placing.{CanStand, marked_placed_if};
 ghost use Rattle.mgs_cache.specs.Kept.{AreRight};
 
-use crate::fault::EditFault;
 use crate::judging::judged;
 use mgs_acl::{Entry, EntryType, Who};
 use mgs_cache::Judge;
@@ -43,8 +41,12 @@ pub struct Buffer<T: Marked + Drop> {
 // The bits of every right.
 const ALL_RIGHTS: u32 = 983_175;
 
-// The bits of READ_DATA and WRITE_DATA.
-const READ_AND_WRITE: u32 = 3;
+// READ_DATA and WRITE_DATA.
+pub(crate) fn read_and_write() -> Mask
+    ensures { result ≡ 3 }
+{
+    Mask::from_bits(Right::ReadData.bit() + Right::WriteData.bit())
+}
 
 // An access list that grants the owner every right, and nobody else any.
 pub(crate) fn owners_list() -> mgs_acl::List
@@ -214,12 +216,12 @@ impl<T: Marked + Drop> Buffer<T> {
     /// Puts characters in place of those from `a` up to `b` of the text, moves its marks, records the edit under the next
     /// serial, and sets the buffer's modified flag. Where nothing is taken out and nothing put in, all stays as it is.
     /// `Short`: memory was refused, and all is as it was.
-    pub fn edit(&mut self, a: usize, b: usize, put: &[char]) -> Result<(), Short>
+    pub(crate) fn edit(&mut self, a: usize, b: usize, put: &[char]) -> Result<(), Short>
         requires order { a ≤ b }
         requires within { b ≤ length (T.text self.old.text) }
         requires serial { self.old.record.serial < 2 ^ 64 - 1 }
-        ensures ok { OnOk result ((name : List ℕ) → marked_of T.text T.marks name self.new ≡ marked_edited a b put.now (marked_of T.text T.marks name self.old)) }
-        ensures err { OnErr result ((name : List ℕ) → marked_of T.text T.marks name self.new ≡ marked_of T.text T.marks name self.old) }
+        ensures ok { OnOk result (Changed T.text T.marks (marked_edited a b put.now) self.old self.new) }
+        ensures err { OnErr result (Changed T.text T.marks (λ k. k) self.old self.new) }
     {
         if a == b && put.is_empty() {
             return Ok(());
@@ -232,119 +234,6 @@ impl<T: Marked + Drop> Buffer<T> {
             added: put.len(),
         });
         self.modified = true;
-        Ok(())
-    }
-
-    /// Takes back that the buffer was edited: its modified flag is not set any more.
-    pub fn unmodify(&mut self)
-        ensures { (name : List ℕ) → marked_of T.text T.marks name self.new ≡ marked_unmodified (marked_of T.text T.marks name self.old) }
-    {
-        self.modified = false;
-    }
-
-    /// Another user owns the buffer.
-    pub fn reown(&mut self, owner: Name)
-        ensures { (name : List ℕ) → marked_of T.text T.marks name self.new ≡ marked_reowned (ToUser owner) (marked_of T.text T.marks name self.old) }
-    {
-        self.owners.owner = owner;
-    }
-
-    /// Another group owns the buffer, or none does.
-    pub fn set_group(&mut self, group: Option<Name>)
-        ensures { (name : List ℕ) → marked_of T.text T.marks name self.new ≡ marked_reowned (ToGroup group) (marked_of T.text T.marks name self.old) }
-    {
-        self.owners.group = group;
-    }
-
-    /// Another access list takes the place of the buffer's.
-    pub fn relist(&mut self, list: mgs_acl::List)
-        ensures { (name : List ℕ) → marked_of T.text T.marks name self.new ≡ marked_relisted list (marked_of T.text T.marks name self.old) }
-    {
-        self.list = list;
-    }
-    /// The edit of a user, where the list grants him the rights of a mask. They are judged before memory is taken.
-    pub fn edit_as(
-        &mut self,
-        directory: &Directory,
-        user: &Name,
-        mask: Mask,
-        a: usize,
-        b: usize,
-        put: &[char],
-    ) -> Result<(), EditFault>
-        requires order { a ≤ b }
-        requires within { b ≤ length (T.text self.old.text) }
-        requires serial { self.old.record.serial < 2 ^ 64 - 1 }
-        ensures answer { EditAnswers result (decision directory.now self.old.owners user.now self.old.list mask) }
-        ensures ok { OnOk result (Changed T.text T.marks (marked_edited a b put.now) self.old self.new) }
-        ensures err { OnErr result (Changed T.text T.marks (λ k. k) self.old self.new) }
-    {
-        match self.permit(directory, user, mask) {
-            Ok(()) => {}
-            Err(decision) => return Err(EditFault::Denied(decision)),
-        }
-        match self.edit(a, b, put) {
-            Ok(()) => Ok(()),
-            Err(Short) => Err(EditFault::Short),
-        }
-    }
-
-    /// Clears the modified flag for a user to whom READ_DATA and WRITE_DATA are granted.
-    pub fn unmodify_as(&mut self, directory: &Directory, user: &Name) -> Result<(), Decision>
-        ensures answer { PermitAnswers result (decision directory.now self.old.owners user.now self.old.list 3) }
-        ensures ok { OnOk result (Changed T.text T.marks marked_unmodified self.old self.new) }
-        ensures err { OnErr result (Changed T.text T.marks (λ k. k) self.old self.new) }
-    {
-        self.permit(directory, user, Mask::from_bits(READ_AND_WRITE))?;
-        self.unmodify();
-        Ok(())
-    }
-
-    /// Another user owns the buffer, where WRITE_OWNER is granted to the user who acts.
-    pub fn reown_as(
-        &mut self,
-        directory: &Directory,
-        user: &Name,
-        owner: Name,
-    ) -> Result<(), Decision>
-        ensures answer { PermitAnswers result (decision directory.now self.old.owners user.now self.old.list 524288) }
-        ensures ok { OnOk result (Changed T.text T.marks (marked_reowned (ToUser owner)) self.old self.new) }
-        ensures err { OnErr result (Changed T.text T.marks (λ k. k) self.old self.new) }
-    {
-        self.permit(directory, user, Mask::of(Right::WriteOwner))?;
-        self.reown(owner);
-        Ok(())
-    }
-
-    /// Another group owns the buffer, or none does, where WRITE_OWNER is granted to the user who acts.
-    pub fn set_group_as(
-        &mut self,
-        directory: &Directory,
-        user: &Name,
-        group: Option<Name>,
-    ) -> Result<(), Decision>
-        ensures answer { PermitAnswers result (decision directory.now self.old.owners user.now self.old.list 524288) }
-        ensures ok { OnOk result (Changed T.text T.marks (marked_reowned (ToGroup group)) self.old self.new) }
-        ensures err { OnErr result (Changed T.text T.marks (λ k. k) self.old self.new) }
-    {
-        self.permit(directory, user, Mask::of(Right::WriteOwner))?;
-        self.set_group(group);
-        Ok(())
-    }
-
-    /// Another access list takes the place of the buffer's, where WRITE_ACL is granted to the user who acts.
-    pub fn relist_as(
-        &mut self,
-        directory: &Directory,
-        user: &Name,
-        list: mgs_acl::List,
-    ) -> Result<(), Decision>
-        ensures answer { PermitAnswers result (decision directory.now self.old.owners user.now self.old.list 262144) }
-        ensures ok { OnOk result (Changed T.text T.marks (marked_relisted list) self.old self.new) }
-        ensures err { OnErr result (Changed T.text T.marks (λ k. k) self.old self.new) }
-    {
-        self.permit(directory, user, Mask::of(Right::WriteAcl))?;
-        self.relist(list);
         Ok(())
     }
 }

@@ -1,28 +1,27 @@
 // All buffers, by name and in order of creation.
-ghost use Rattle.std.specs.Prelude.{◌≡◌, ◌+◌, ◌-◌, ◌<◌, ◌≤◌, ◌^◌, ◌∷◌, [], ◌++◌, List, map, find, length, OnOk, OnErr, IfOk, IfSome, None, false, count_by, is_some, slice_get};
+ghost use Rattle.std.specs.Prelude.{◌≡◌, ◌+◌, ◌-◌, ◌<◌, ◌≤◌, ◌∷◌, [], ◌++◌, List, map, find, length, OnOk, OnErr, IfOk, IfSome, None, false, count_by, is_some, slice_get};
 ghost use Rattle.std.specs.Option.{option_copied, option_map};
 ghost use Rattle.mgs_undo.specs.History.{has_serial};
 ghost use Rattle.mgs_undo.specs.Numbered.{item_of};
-ghost use Rattle.std.specs.Map.{lookup, remove_entry};
+ghost use Rattle.std.specs.Map.{lookup};
 ghost use Rattle.mgs_model.specs.Names.{IsName, same_name};
 ghost use Rattle.std.specs.List.{position_or_len};
-ghost use Rattle.mgs_model.specs.Access.{decider, decision, decision_by, owners_of};
+ghost use Rattle.mgs_model.specs.Access.{owners_of};
 ghost use Rattle.mgs_model.specs.Apply.{change_first};
 ghost use Rattle.mgs_model.specs.Completion.{completion, granted_names};
-ghost use Rattle.mgs_model.specs.declared.owners.NewOwner.TheVariants.{ToUser, ToGroup};
 ghost use Rattle.mgs_model.specs.World.{may};
 ghost use Rattle.mgs_buffers.specs.Adding.{add_fault, AddAnswers, NamesToAdd};
 ghost use Rattle.mgs_buffers.specs.Completed.{IsWithinName};
 ghost use Rattle.mgs_buffers.specs.Contents.{marked_of};
 ghost use Rattle.mgs_buffers.specs.Judging.{AreJudged, IsRuled, rules_kept};
-ghost use Rattle.mgs_buffers.specs.Permitting.{EditAnswers, PermitAnswers};
+ghost use Rattle.mgs_buffers.specs.Permitting.{PermitAnswers, mask_decision, right_decision};
 ghost use Rattle.mgs_buffers.specs.Placing.{CanStand, placed_if};
 ghost use Rattle.mgs_buffers.specs.Told.{attributes_read, attributes_found};
-ghost use Rattle.mgs_buffers.specs.MarkedBuffer.{AreUnmarked, AreWithinLimit, marked_named, marked_at, has_buffer, HasBuffer, IsMark, mark_at, marked_created, marked_new, marked_edited, marked_placed, marked_relisted, marked_reowned, marked_unmodified, without_marked, MarkAdded, MarkDropped};
+ghost use Rattle.mgs_buffers.specs.MarkedBuffer.{AreUnmarked, AreWithinLimit, marked_named, marked_at, has_buffer, HasBuffer, IsMark, mark_at, marked_created, marked_new, marked_placed, MarkAdded, MarkDropped};
 
 use crate::buffer::{Buffer, new_buffer, owners_list};
 use crate::completing::completion;
-use crate::fault::{AddFault, EditFault};
+use crate::fault::AddFault;
 use crate::found::Found;
 use crate::naming::name_typed;
 use crate::telling::{Attributes, is_shown, told};
@@ -42,7 +41,7 @@ use std::marker::Model;
 /// A call that takes a name is about the buffer of that name, and the caller sees that there is one.
 #[derive(Drop)]
 pub struct Buffers<T: Marked + Drop> {
-    all: IndexMap<Name, Buffer<T>>,
+    pub(crate) all: IndexMap<Name, Buffer<T>>,
     alloc: Global,
 }
 
@@ -78,14 +77,6 @@ fn put_last<T: Marked + Drop>(
         }
         Err(_) => Err(Short),
     }
-}
-
-// Takes a buffer out. The others keep their order.
-fn take_out<T: Marked + Drop>(all: &mut IndexMap<Name, Buffer<T>>, name: &Name)
-    ensures entries { all.new.entries ≡ remove_entry (same_name name.now) all.old.entries }
-    ensures gone { lookup (same_name name.now) all.new.entries ≡ None }
-{
-    all.shift_remove(name);
 }
 
 impl<T: Marked + Drop> Buffers<T> {
@@ -167,14 +158,6 @@ impl<T: Marked + Drop> Buffers<T> {
         self.add_last(name, owners, owners_list(), &[], false)
     }
 
-    /// Takes the buffer of a name out, with its marks. The others keep their order and their marks.
-    pub fn kill(&mut self, name: &Name)
-        ensures value { self.new ≡ without_marked name.now self.old }
-        ensures gone { has_buffer name.now self.new ≡ false }
-    {
-        take_out(&mut self.all, name);
-    }
-
     // Adds a buffer as the last. `Short`: memory was refused, and all is as it was.
     fn add_last(
         &mut self,
@@ -201,7 +184,7 @@ impl<T: Marked + Drop> Buffers<T> {
         group: Option<&str>,
         size: usize,
     ) -> Result<(Name, Owners), AddFault>
-        ensures answer { NamesToAdd result name.now owner.now (option_copied group.entry) (add_fault name.now owner.now (option_copied group.entry) size self.now) }
+        ensures answer { NamesToAdd result name.now owner.now (option_copied group.entry) size self.now }
         ensures free { IfOk result (λ names. has_buffer names.0 self.now ≡ false) }
         ensures room { IfOk result (λ names. size ≤ 1048576) }
     {
@@ -228,7 +211,7 @@ impl<T: Marked + Drop> Buffers<T> {
 
     // The place of a buffer.
     #[tactic(auto, using(crate::proofs::MarkedLemmas::place_kept))]
-    fn place_of(&self, name: &Name) -> usize
+    pub(crate) fn place_of(&self, name: &Name) -> usize
         requires { HasBuffer name.now self.now }
         ensures value { result ≡ position_or_len (marked_named name.now) self.now }
         ensures within { result < length self.now }
@@ -271,7 +254,7 @@ impl<T: Marked + Drop> Buffers<T> {
     /// What the buffer's access list decides on one right of a user (RFC 8881, section 6.2.1).
     pub fn decide(&self, directory: &Directory, name: &Name, user: &Name, right: Right) -> Decision
         requires { HasBuffer name.now self.now }
-        ensures { let b = (marked_at name.now self.now).buffer in result ≡ decision_by (decider directory.now b.owners user.now b.entries) (right ∷ []) }
+        ensures { result ≡ right_decision directory.now (marked_at name.now self.now).buffer user.now right }
     {
         self.buffer(name).decide(directory, user, right)
     }
@@ -285,7 +268,7 @@ impl<T: Marked + Drop> Buffers<T> {
         mask: Mask,
     ) -> Decision
         requires { HasBuffer name.now self.now }
-        ensures { let b = (marked_at name.now self.now).buffer in result ≡ decision directory.now b.owners user.now b.entries mask }
+        ensures { result ≡ mask_decision directory.now (marked_at name.now self.now).buffer user.now mask }
     {
         self.buffer(name).decide_all(directory, user, mask)
     }
@@ -299,7 +282,7 @@ impl<T: Marked + Drop> Buffers<T> {
     }
 
     // Whether a user is granted all rights of a mask on the buffer, and if not, what its access list decides.
-    fn permit(
+    pub(crate) fn permit(
         &self,
         directory: &Directory,
         user: &Name,
@@ -307,7 +290,7 @@ impl<T: Marked + Drop> Buffers<T> {
         mask: Mask,
     ) -> Result<(), Decision>
         requires { HasBuffer name.now self.now }
-        ensures { let b = (marked_at name.now self.now).buffer in PermitAnswers result (decision directory.now b.owners user.now b.entries mask) }
+        ensures { PermitAnswers result (mask_decision directory.now (marked_at name.now self.now).buffer user.now mask) }
     {
         self.buffer(name).permit(directory, user, mask)
     }
@@ -498,184 +481,5 @@ impl<T: Marked + Drop> Buffers<T> {
         ensures { result ≡ count_by is_some (marked_at name.now self.now).marks }
     {
         self.buffer(name).text.mark_count()
-    }
-
-    /// Puts characters in place of those from `a` up to `b` of the buffer's text, moves its marks, records the edit under the
-    /// next serial, and sets the buffer's modified flag. Where nothing is taken out and nothing put in, all stays as it
-    /// is. `Short`: memory was refused, and all is as it was.
-    pub fn edit(&mut self, name: &Name, a: usize, b: usize, put: &[char]) -> Result<(), Short>
-        requires kept { HasBuffer name.now self.old }
-        requires order { a ≤ b }
-        requires within { b ≤ length (marked_at name.now self.old).buffer.text }
-        requires serial { (marked_at name.now self.old).buffer.serial < 2 ^ 64 - 1 }
-        requires room { length (marked_at name.now self.old).buffer.text + length put.now ≤ 1048576 + (b - a) }
-        ensures ok { OnOk result (self.new ≡ change_first (marked_named name.now) (marked_edited a b put.now) self.old) }
-        ensures err { OnErr result (self.new ≡ self.old) }
-    {
-        let at = self.place_of(name);
-        let (_, buffer) = self.all.pair_mut(at);
-        buffer.edit(a, b, put)
-    }
-
-    /// Clears the buffer's modified flag.
-    pub fn unmodify(&mut self, name: &Name)
-        requires { HasBuffer name.now self.old }
-        ensures { self.new ≡ change_first (marked_named name.now) marked_unmodified self.old }
-    {
-        let at = self.place_of(name);
-        let (_, buffer) = self.all.pair_mut(at);
-        buffer.unmodify();
-    }
-
-    /// Another user owns the buffer. That it is a user of the directory is for the caller to see.
-    pub fn reown(&mut self, name: &Name, owner: Name)
-        requires { HasBuffer name.now self.old }
-        ensures { self.new ≡ change_first (marked_named name.now) (marked_reowned (ToUser owner)) self.old }
-    {
-        let at = self.place_of(name);
-        let (_, buffer) = self.all.pair_mut(at);
-        buffer.reown(owner);
-    }
-
-    /// Another group owns the buffer, or none does. That it is a group of the directory is for the caller to see.
-    pub fn set_group(&mut self, name: &Name, group: Option<Name>)
-        requires { HasBuffer name.now self.old }
-        ensures { self.new ≡ change_first (marked_named name.now) (marked_reowned (ToGroup group)) self.old }
-    {
-        let at = self.place_of(name);
-        let (_, buffer) = self.all.pair_mut(at);
-        buffer.set_group(group);
-    }
-
-    /// Another access list takes the place of the buffer's.
-    pub fn relist(&mut self, name: &Name, list: mgs_acl::List)
-        requires { HasBuffer name.now self.old }
-        ensures { self.new ≡ change_first (marked_named name.now) (marked_relisted list) self.old }
-    {
-        let at = self.place_of(name);
-        let (_, buffer) = self.all.pair_mut(at);
-        buffer.relist(list);
-    }
-    /// The edit of a user, as `edit` does it, where all rights of a mask are granted to him. `Denied`: what the buffer's access list
-    /// decides, which is not `Granted`. `Short`: they are granted, and memory was refused. Both leave all as it was.
-    pub fn edit_as(
-        &mut self,
-        directory: &Directory,
-        user: &Name,
-        name: &Name,
-        mask: Mask,
-        a: usize,
-        b: usize,
-        put: &[char],
-    ) -> Result<(), EditFault>
-        requires kept { HasBuffer name.now self.old }
-        requires order { a ≤ b }
-        requires within { b ≤ length (marked_at name.now self.old).buffer.text }
-        requires serial { (marked_at name.now self.old).buffer.serial < 2 ^ 64 - 1 }
-        requires room { length (marked_at name.now self.old).buffer.text + length put.now ≤ 1048576 + (b - a) }
-        ensures answer { let k = (marked_at name.now self.old).buffer in EditAnswers result (decision directory.now k.owners user.now k.entries mask) }
-        ensures ok { OnOk result (self.new ≡ change_first (marked_named name.now) (marked_edited a b put.now) self.old) }
-        ensures err { OnErr result (self.new ≡ self.old) }
-    {
-        let at = self.place_of(name);
-        let (_, buffer) = self.all.pair_mut(at);
-        buffer.edit_as(directory, user, mask, a, b, put)
-    }
-
-    /// Clears the buffer's modified flag, where READ_DATA and WRITE_DATA are granted to the user. Else the answer is what the
-    /// buffer's access list decides, which is not `Granted`, and all is as it was. It takes no memory.
-    pub fn unmodify_as(
-        &mut self,
-        directory: &Directory,
-        user: &Name,
-        name: &Name,
-    ) -> Result<(), Decision>
-        requires { HasBuffer name.now self.old }
-        ensures answer { let b = (marked_at name.now self.old).buffer in PermitAnswers result (decision directory.now b.owners user.now b.entries 3) }
-        ensures ok { OnOk result (self.new ≡ change_first (marked_named name.now) marked_unmodified self.old) }
-        ensures err { OnErr result (self.new ≡ self.old) }
-    {
-        let at = self.place_of(name);
-        let (_, buffer) = self.all.pair_mut(at);
-        buffer.unmodify_as(directory, user)
-    }
-
-    /// Another user owns the buffer, where WRITE_OWNER is granted to the user who acts. Else the answer is what the buffer's access
-    /// list decides, which is not `Granted`, and all is as it was. It takes no memory. That the owner is a user of the directory is
-    /// for the caller to see.
-    pub fn reown_as(
-        &mut self,
-        directory: &Directory,
-        user: &Name,
-        name: &Name,
-        owner: Name,
-    ) -> Result<(), Decision>
-        requires { HasBuffer name.now self.old }
-        ensures answer { let b = (marked_at name.now self.old).buffer in PermitAnswers result (decision directory.now b.owners user.now b.entries 524288) }
-        ensures ok { OnOk result (self.new ≡ change_first (marked_named name.now) (marked_reowned (ToUser owner)) self.old) }
-        ensures err { OnErr result (self.new ≡ self.old) }
-    {
-        let at = self.place_of(name);
-        let (_, buffer) = self.all.pair_mut(at);
-        buffer.reown_as(directory, user, owner)
-    }
-
-    /// Another group owns the buffer, or none does, where WRITE_OWNER is granted to the user who acts. Else the answer is what the
-    /// buffer's access list decides, which is not `Granted`, and all is as it was. It takes no memory. That it is a group of the
-    /// directory is for the caller to see.
-    pub fn set_group_as(
-        &mut self,
-        directory: &Directory,
-        user: &Name,
-        name: &Name,
-        group: Option<Name>,
-    ) -> Result<(), Decision>
-        requires { HasBuffer name.now self.old }
-        ensures answer { let b = (marked_at name.now self.old).buffer in PermitAnswers result (decision directory.now b.owners user.now b.entries 524288) }
-        ensures ok { OnOk result (self.new ≡ change_first (marked_named name.now) (marked_reowned (ToGroup group)) self.old) }
-        ensures err { OnErr result (self.new ≡ self.old) }
-    {
-        let at = self.place_of(name);
-        let (_, buffer) = self.all.pair_mut(at);
-        buffer.set_group_as(directory, user, group)
-    }
-
-    /// Another access list takes the place of the buffer's, where WRITE_ACL is granted to the user who acts. Else the answer is
-    /// what the buffer's access list decides, which is not `Granted`, and all is as it was. It takes no memory.
-    pub fn relist_as(
-        &mut self,
-        directory: &Directory,
-        user: &Name,
-        name: &Name,
-        list: mgs_acl::List,
-    ) -> Result<(), Decision>
-        requires { HasBuffer name.now self.old }
-        ensures answer { let b = (marked_at name.now self.old).buffer in PermitAnswers result (decision directory.now b.owners user.now b.entries 262144) }
-        ensures ok { OnOk result (self.new ≡ change_first (marked_named name.now) (marked_relisted list) self.old) }
-        ensures err { OnErr result (self.new ≡ self.old) }
-    {
-        let at = self.place_of(name);
-        let (_, buffer) = self.all.pair_mut(at);
-        buffer.relist_as(directory, user, list)
-    }
-
-    /// Takes the buffer of a name out, with its marks, where DELETE is granted to the user. Else the answer is what the buffer's
-    /// access list decides, which is not `Granted`, and all is as it was. It takes no memory. The others keep their order and their
-    /// marks.
-    pub fn kill_as(
-        &mut self,
-        directory: &Directory,
-        user: &Name,
-        name: &Name,
-    ) -> Result<(), Decision>
-        requires { HasBuffer name.now self.old }
-        ensures answer { let b = (marked_at name.now self.old).buffer in PermitAnswers result (decision directory.now b.owners user.now b.entries 65536) }
-        ensures ok { OnOk result (self.new ≡ without_marked name.now self.old) }
-        ensures gone { OnOk result (has_buffer name.now self.new ≡ false) }
-        ensures err { OnErr result (self.new ≡ self.old) }
-    {
-        self.permit(directory, user, name, Mask::of(Right::Delete))?;
-        self.kill(name);
-        Ok(())
     }
 }

@@ -1,9 +1,8 @@
 // What is typed as the name of a buffer, completed.
-ghost use Rattle.std.specs.Prelude.{◌≡◌, ◌+◌, map, cond};
-ghost use Rattle.std.specs.Option.{option_map};
-ghost use Rattle.mgs_model.specs.World.{may};
-ghost use Rattle.mgs_model.specs.Completion.{completion, narrowed, granted_names};
-ghost use Rattle.mgs_buffers.specs.Completed.{IsWithinName, found_from};
+ghost use Rattle.std.specs.Prelude.{◌≡◌};
+ghost use Rattle.std.specs.Option.{option_copied};
+ghost use Rattle.mgs_model.specs.Completion.{completion};
+ghost use Rattle.mgs_buffers.specs.Completed.{IsFoundNext, IsFoundWith, IsWithinName, found_with_name, names_shown};
 ghost use Rattle.mgs_buffers.specs.Contents.{marked_of, marked_all};
 ghost use Rattle.mgs_buffers.specs.Judging.{AreJudged, StaysRight, rules_kept};
 ghost use Rattle.mgs_cache.specs.Kept.{AreRight};
@@ -23,7 +22,7 @@ fn with_name<'a>(
     name: &'a [u8],
     counts: bool,
 ) -> Option<&'a [u8]>
-    ensures { option_map (λ t. t.now) result ≡ cond counts (narrowed input.now (option_map (λ t. t.now) found.entry) name.now) (option_map (λ t. t.now) found.entry) }
+    ensures { option_copied result ≡ found_with_name counts input.now (option_copied found.entry) name.now }
 {
     if counts {
         narrowed(input, found, name)
@@ -44,8 +43,8 @@ fn with_buffer<'a, T: Marked + Drop>(
     buffer: &Buffer<T>,
 ) -> Option<&'a [u8]>
     requires { AreRight place directory.now buffer.now.owners buffer.now.list judge.old }
-    ensures within { IsWithinName (option_map (λ t. t.now) found.entry) → IsWithinName (option_map (λ t. t.now) result) }
-    ensures value { option_map (λ t. t.now) result ≡ cond (may directory.now user.now Right.ReadAttributes (marked_of T.text T.marks name.now buffer.now).buffer) (narrowed input.now (option_map (λ t. t.now) found.entry) name.now) (option_map (λ t. t.now) found.entry) }
+    ensures within { IsWithinName (option_copied found.entry) → IsWithinName (option_copied result) }
+    ensures value { IsFoundWith directory.now user.now input.now (marked_of T.text T.marks name.now buffer.now).buffer found.entry result }
     ensures stays { StaysRight place directory.now buffer.now.owners buffer.now.list judge.old judge.new }
 {
     let counts = buffer.grants_by(judge, place, directory, user, Right::ReadAttributes);
@@ -63,8 +62,8 @@ fn with_place<'a, T: Marked + Drop>(
     input: &[char],
 ) -> Option<&'a [u8]>
     requires { AreJudged directory.now (rules_kept (marked_all T.text T.marks all.now.entries)) judge.old }
-    ensures within { IsWithinName (option_map (λ t. t.now) found.entry) → IsWithinName (option_map (λ t. t.now) result) }
-    ensures same { let ks = marked_all T.text T.marks all.now.entries in found_from directory.now user.now input.now (option_map (λ t. t.now) found.entry) ks place ≡ found_from directory.now user.now input.now (option_map (λ t. t.now) result) ks (place + 1) }
+    ensures within { IsWithinName (option_copied found.entry) → IsWithinName (option_copied result) }
+    ensures same { IsFoundNext directory.now user.now input.now (marked_all T.text T.marks all.now.entries) place found.entry result }
     ensures judged { AreJudged directory.now (rules_kept (marked_all T.text T.marks all.now.entries)) judge.new }
 {
     match all.get_index(place) {
@@ -84,8 +83,8 @@ pub(crate) fn completion<'a, T: Marked + Drop>(
     input: &[char],
 ) -> Option<&'a [u8]>
     requires { AreJudged directory.now (rules_kept (marked_all T.text T.marks all.now.entries)) judge.old }
-    ensures within { IsWithinName (option_map (λ t. t.now) result) }
-    ensures value { option_map (λ t. t.now) result ≡ completion (granted_names directory.now user.now (map (λ k. k.buffer) (marked_all T.text T.marks all.now.entries))) input.now }
+    ensures within { IsWithinName (option_copied result) }
+    ensures value { option_copied result ≡ completion (names_shown directory.now user.now (marked_all T.text T.marks all.now.entries)) input.now }
     ensures judged { AreJudged directory.now (rules_kept (marked_all T.text T.marks all.now.entries)) judge.new }
 {
     let mut found = None;

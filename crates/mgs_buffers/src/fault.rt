@@ -1,4 +1,4 @@
-// Why a buffer was not added, and why one was not edited.
+// Why a buffer was not added, why one was not edited, and why one was not saved.
 use mgs_model::Decision;
 use thiserror::Error;
 
@@ -30,4 +30,17 @@ pub enum EditFault {
     Denied(Decision),
     /// Memory was refused.
     Short,
+}
+
+/// Why a user did not save a buffer, in the order in which the faults are checked.
+#[derive(Clone, Copy, PartialEq, Eq)]
+pub enum SaveFault {
+    /// The buffer's access list does not grant READ_DATA and WRITE_DATA: what it decides, which is not `Granted`.
+    Denied(Decision),
+    /// The buffer has no file.
+    NoFile,
+    /// Memory was refused, and the store was not asked.
+    Short,
+    /// The store could not save the text, and counted the fault.
+    Store,
 }

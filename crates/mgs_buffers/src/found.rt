@@ -1,13 +1,13 @@
 // One buffer that was looked up by its name, and what is asked of it.
-ghost use Rattle.std.specs.Prelude.{◌≡◌, ◌≤◌, ◌∷◌, [], find, length};
+ghost use Rattle.std.specs.Prelude.{◌≡◌, ◌≤◌, find, length};
 ghost use Rattle.std.specs.Option.{option_copied, option_map};
-ghost use Rattle.mgs_model.specs.Access.{decider, decision, decision_by};
 ghost use Rattle.mgs_model.specs.World.{may};
 ghost use Rattle.mgs_undo.specs.History.{has_serial};
 ghost use Rattle.mgs_undo.specs.Numbered.{item_of};
 ghost use Rattle.mgs_buffers.specs.Contents.{marked_of};
 ghost use Rattle.mgs_buffers.specs.Judging.{AreJudged, rules_kept};
 ghost use Rattle.mgs_buffers.specs.MarkedBuffer.{HasBuffer, IsMark, mark_at, marked_at};
+ghost use Rattle.mgs_buffers.specs.Permitting.{mask_decision, right_decision};
 
 use crate::buffer::Buffer;
 use crate::buffers::Buffers;
@@ -61,14 +61,14 @@ impl<'a, T: Marked + Drop> Found<'a, T> {
 
     /// What the buffer's access list decides on one right of a user (RFC 8881, section 6.2.1).
     pub fn decide(&self, directory: &Directory, user: &Name, right: Right) -> Decision
-        ensures { let b = (marked_at self.now.name self.now.all).buffer in result ≡ decision_by (decider directory.now b.owners user.now b.entries) (right ∷ []) }
+        ensures { result ≡ right_decision directory.now (marked_at self.now.name self.now.all).buffer user.now right }
     {
         self.buffer().decide(directory, user, right)
     }
 
     /// What the buffer's access list decides on all rights of a mask, in one walk (RFC 8881, section 6.2.1).
     pub fn decide_all(&self, directory: &Directory, user: &Name, mask: Mask) -> Decision
-        ensures { let b = (marked_at self.now.name self.now.all).buffer in result ≡ decision directory.now b.owners user.now b.entries mask }
+        ensures { result ≡ mask_decision directory.now (marked_at self.now.name self.now.all).buffer user.now mask }
     {
         self.buffer().decide_all(directory, user, mask)
     }
@@ -90,7 +90,7 @@ impl<'a, T: Marked + Drop> Found<'a, T> {
         right: Right,
     ) -> Decision
         requires { AreJudged directory.now (rules_kept self.now.all) judge.old }
-        ensures value { let b = (marked_at self.now.name self.now.all).buffer in result ≡ decision_by (decider directory.now b.owners user.now b.entries) (right ∷ []) }
+        ensures value { result ≡ right_decision directory.now (marked_at self.now.name self.now.all).buffer user.now right }
         ensures judged { AreJudged directory.now (rules_kept self.now.all) judge.new }
     {
         self.buffer

@@ -3,15 +3,17 @@
 
 mod buffer;
 mod buffers;
+mod changing;
 mod completing;
 mod fault;
 mod found;
 mod judging;
 mod naming;
+mod saving;
 mod telling;
 
-pub use buffer::{Buffer, new_buffer};
 pub use buffers::Buffers;
-pub use fault::{AddFault, EditFault};
+pub use fault::{AddFault, EditFault, SaveFault};
 pub use found::Found;
+pub use mgs_store::Store;
 pub use telling::Attributes;

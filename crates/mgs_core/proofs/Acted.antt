@@ -23,7 +23,8 @@ use Rattle.mgs_world.proofs.Worlds.{map-change_first_same}
 use Rattle.mgs_core.specs.declared.deeds.Before.{Before}
 use Rattle.mgs_core.specs.declared.deeds.Deed.{Deed}
 use Rattle.mgs_core.specs.declared.deeds.Deed.TheVariants as deeds
-use Rattle.mgs_core.specs.Steps.{DoneBy, started_by, started_world}
+use Rattle.mgs_act.specs.Doing.{DoneBy}
+use Rattle.mgs_core.specs.Steps.{started_by, started_world}
 use Rattle.mgs_core.specs.Stepped.{asked_of, deed_world}
 use Rattle.mgs_core.proofs.Sizes.{place_sized}
 

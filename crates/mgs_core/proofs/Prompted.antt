@@ -1,5 +1,5 @@
 -- A byte of a session at a prompt.
-use Rattle.std.proofs.Common.{◌≡◌, ℕ, Bool, true, false, cond, List, [], Option, Some, None, refl, sym, ap, subst, ◌∙◌}
+use Rattle.std.proofs.Common.{◌≡◌, ℕ, Bool, true, cond, List, [], Option, Some, None, refl, sym, ap, subst, ◌∙◌}
 use Rattle.mgs_model.specs.Access.{Directory}
 use Rattle.mgs_model.specs.Commands.{command_names, find_command}
 use Rattle.mgs_model.specs.Keys.{value_of}
@@ -7,7 +7,7 @@ use Rattle.mgs_model.specs.World.{World}
 use Rattle.mgs_model.specs.World as model
 use Rattle.mgs_model.specs.View.{View}
 use Rattle.mgs_model.specs.Outcome.{Act, Run}
-use Rattle.mgs_model.specs.Apply.{act, outcome_in}
+use Rattle.mgs_model.specs.Apply.{outcome_in}
 use Rattle.mgs_model.specs.Completion.{completion, granted_names, shown_names}
 use Rattle.mgs_model.specs.Turns.{Keep, Do, command_turn, answer_turn, answered, completed, named_turn, names_buffers, names_commands, names_completed, plain_own, prompt_turn, unbound_own}
 use Rattle.mgs_model.specs.Events.{may_be_refused, refused_own}
@@ -17,7 +17,6 @@ use Rattle.mgs_model.specs.declared.session.Mode.TheVariants.{Prompt}
 use Rattle.mgs_model.specs.declared.session.Question.{Question}
 use Rattle.mgs_model.specs.declared.session.Question.TheVariants.{SwitchTo, RunWhich, ReplaceWhat, ReplaceWith}
 use Rattle.mgs_laws.proofs.LeftToDo.{is_single}
-use Rattle.mgs_laws.proofs.Saves.{is_save}
 use Rattle.mgs_mini.specs.Typing.{PromptInput, keys_of, stepped, typed_own}
 use Rattle.mgs_mini.specs.Typing as prompts
 use Rattle.mgs_mini.specs.declared.Step.{Step}
@@ -25,9 +24,8 @@ use Rattle.mgs_mini.specs.declared.Step.TheVariants.{GoesOn, Answered, Quit, Com
 use Rattle.mgs_mini.specs.declared.Waiting.{Waiting}
 use Rattle.mgs_mini.specs.declared.Waiting.TheVariants.{NoKey}
 use Rattle.mgs_plan.specs.Actions.{is_answered}
-use Rattle.mgs_plan.specs.Tells.{touched_in}
 use Rattle.mgs_model.specs.declared.touched.Touched.{Touched}
-use Rattle.mgs_act.specs.Searching.{meant}
+use Rattle.mgs_plan.specs.Searching.{meant}
 use Rattle.mgs_model.specs.Plans.{failed_own}
 use Rattle.mgs_buffers.specs.MarkedBuffer.{MarkedBuffer}
 use Rattle.mgs_session.specs.declared.Session.{Session}
@@ -37,8 +35,7 @@ use Rattle.mgs_session.specs.declared.search.Search.{Search}
 use Rattle.mgs_session.specs.Sessions.{failed, prompting, resting, unbound, unprompted}
 use Rattle.mgs_session.specs.Seeking.{unsearched}
 use Rattle.mgs_store.specs.Stores.{StoreTold}
-use Rattle.mgs_core.specs.Steps.{DoneBy}
-use Rattle.mgs_core.proofs.Told.{quietly}
+use Rattle.mgs_act.specs.Doing.{DoneBy}
 use Rattle.mgs_world.specs.Worlds.{aim_mode, buffers_of, idle, mode_in, own_of}
 use Rattle.mgs_world.proofs.Owns.{prompt_fed}
 use Rattle.mgs_core.specs.declared.deeds.Deed.{Deed}
@@ -65,10 +62,6 @@ asked_turn _ h own = refl
 pub answered_single : (c : Question) (n : Option ℕ) (typed : List ℕ) → is_single (Run (answered c) n typed) ≡ true
 answered_single SwitchTo n typed = refl
 answered_single _ n typed = refl
-
-answered_saves_none : (c : Question) (n : Option ℕ) (typed : List ℕ) → is_save (Run (answered c) n typed) ≡ false
-answered_saves_none SwitchTo n typed = refl
-answered_saves_none _ n typed = refl
 
 -- A TURN
 
@@ -261,14 +254,11 @@ answer_act f own b deed p n c typed is asked question input =
     ∙ ap (λ (q : PromptInput). f (Run (answered q.question) n (meant q.question own.pattern q.input))) asked
     ∙ sym (ap (λ (d : Deed). f (deed_act own b d)) is)
 
-pub answer_quietly : (touched : Touched) (old new : World) (t : StoreTold) (id : ℕ) (own : model.Own) (b : Before) (deed : Deed) (p : PromptInput) (n : Option ℕ) (c : Question) (typed : List ℕ) → deed ≡ deeds.Answer n → p ≡ asked_of b → c ≡ p.question → typed ≡ p.input
-    → new ≡ act old id (Run (answered c) n (meant c own.pattern typed)) true → touched ≡ touched_in (outcome_in old id (Run (answered c) n (meant c own.pattern typed)) true) → DoneBy touched (deed_world b deed id old) new t t id (deed_act own b deed)
-answer_quietly touched old new t id own b deed p n c typed is asked question input world tells =
-    let this : Deed = deeds.Answer n in
-    let a : Act = Run (answered c) n (meant c own.pattern typed) in
-    subst (λ (e : Deed). DoneBy touched (deed_world b e id old) new t t id (deed_act own b e)) (sym is)
-    (subst (DoneBy touched old new t t id) (answer_act (λ (e : Act). e) own b this p n c typed refl asked question input)
-    (quietly touched old new t id a (answered_saves_none c n (meant c own.pattern typed)) world tells))
+pub answer_done : (touched : Touched) (old new : World) (before after : StoreTold) (id : ℕ) (own : model.Own) (b : Before) (deed : Deed) (p : PromptInput) (n : Option ℕ) (c : Question) (typed : List ℕ) → deed ≡ deeds.Answer n → p ≡ asked_of b → c ≡ p.question → typed ≡ p.input
+    → DoneBy touched old new before after id (Run (answered c) n (meant c own.pattern typed)) → DoneBy touched (deed_world b deed id old) new before after id (deed_act own b deed)
+answer_done touched old new before after id own b deed p n c typed is asked question input did =
+    subst (λ (e : Deed). DoneBy touched (deed_world b e id old) new before after id (deed_act own b e)) (sym is)
+    (subst (DoneBy touched old new before after id) (answer_act (λ (e : Act). e) own b (deeds.Answer n) p n c typed refl asked question input) did)
 
 pub answer_may : (w : World) (id : ℕ) (own : model.Own) (b : Before) (deed : Deed) (p : PromptInput) (n : Option ℕ) (c : Question) (typed : List ℕ) → deed ≡ deeds.Answer n → p ≡ asked_of b → c ≡ p.question → typed ≡ p.input → may_be_refused (outcome_in w id (Run (answered c) n (meant c own.pattern typed)) true) ≡ true → may_be_refused (outcome_in w id (deed_act own b deed) true) ≡ true
 answer_may w id own b deed p n c typed is asked question input may = sym (answer_act (λ (a : Act). may_be_refused (outcome_in w id a true)) own b deed p n c typed is asked question input) ∙ may

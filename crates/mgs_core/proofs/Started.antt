@@ -22,7 +22,8 @@ use Rattle.mgs_plan.specs.declared.key_act.KeyAct.{KeyAct}
 use Rattle.mgs_plan.specs.declared.key_act.KeyAct.TheVariants as acts
 use Rattle.mgs_plan.specs.Actions.{act_of}
 use Rattle.mgs_plan.specs.Beginning.{searching_own}
-use Rattle.mgs_core.specs.Steps.{ActedBy, started_by, started_own, started_world}
+use Rattle.mgs_act.specs.Doing.{ActedBy}
+use Rattle.mgs_core.specs.Steps.{started_by, started_own, started_world}
 
 -- THE ACT, by a session that holds this and has these positions of a search
 module _ (w : World) (id : ℕ) (o : Own) (d : Direction) (n : Option ℕ) (x : Session) (found : find_session id w.sessions ≡ Some x) (stored : Bool) where

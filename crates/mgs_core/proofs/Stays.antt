@@ -4,13 +4,13 @@ use Rattle.std.specs.Prelude.{is_some, nat_eq, All}
 use Rattle.std.proofs.lemmas.Bool.{lt-ltb}
 use Rattle.std.proofs.lemmas.List.{map-append}
 use Rattle.mgs_model.specs.Access.{Directory}
-use Rattle.mgs_model.specs.Apply.{remove_first, without_session}
+use Rattle.mgs_model.specs.Apply.{change_first, remove_first, without_session}
 use Rattle.mgs_world.specs.declared.size.Size.{Size}
 use Rattle.mgs_world.specs.Worlds.{IsUnique, session_size, sizes}
 use Rattle.std.proofs.lemmas.List.Elements.{All-head, All-tail}
 use Rattle.mgs_model.specs.Lines.{line_of, start_of, settled_top}
-use Rattle.mgs_model.specs.World.{World, Buffer, Session, Window, Shows, Nothing, Buffer_of, Listing, List_of, has_id, find_session, find_buffer, may}
-use Rattle.mgs_model.specs.Events.{Close, top_settled, window_top, session_settled, settled, new_window, new_session, opened, step}
+use Rattle.mgs_model.specs.World.{World, Buffer, Own, Session, Window, Shows, Nothing, Buffer_of, Listing, List_of, has_id, find_session, find_buffer, may}
+use Rattle.mgs_model.specs.Events.{Close, own_set, with_own, top_settled, window_top, session_settled, settled, new_window, new_session, opened, step}
 use Rattle.mgs_model.specs.declared.right.Right.TheVariants.{ReadData}
 use Rattle.mgs_core.specs.Steps.{closed}
 use Rattle.mgs_core.proofs.Ids.{differ, remove_none}
@@ -48,6 +48,23 @@ opened_rests w id user rows cols some rests =
     (map-append (session_settled w.directory w.buffers) w.sessions (x ∷ [])
     ∙ ap (λ (v : World). v.sessions ++ session_settled w.directory w.buffers x ∷ []) rests
     ∙ ap (λ (y : Session). w.sessions ++ y ∷ []) (new_stays w.directory w.buffers id user rows cols some))
+
+-- WHAT A SESSION HOLDS CHANGES
+
+fixed_changed : {A : Type 0} (g f : A → A) (p : A → Bool) → ((x : A) → g (f x) ≡ f (g x)) → (xs : List A) → map g xs ≡ xs → map g (change_first p f xs) ≡ change_first p f xs
+fixed_changed g f p alike [] e = refl
+fixed_changed g f p alike (x ∷ xs) e =
+    let head : g x ≡ x = cons_head _ _ _ _ e in
+    let tail : map g xs ≡ xs = cons_tail _ _ _ _ e in
+    elim (p x) as (λ b. map g (cond b (f x ∷ xs) (x ∷ change_first p f xs)) ≡ cond b (f x ∷ xs) (x ∷ change_first p f xs)) [
+      | true ↦ λ i. (alike x ∙ ap f head) i ∷ tail i
+      | false ↦ λ i. head i ∷ fixed_changed g f p alike xs tail i
+    ]
+
+pub own_rests : (w : World) (id : ℕ) (f : Own → Own) → settled w ≡ w → settled (with_own id f w) ≡ with_own id f w
+own_rests w id f rests =
+    ap (λ (ss : List Session). let v : World = record w { sessions = ss } in v)
+    (fixed_changed (session_settled w.directory w.buffers) (own_set f) (has_id id) (λ x. refl) w.sessions (ap (λ (v : World). v.sessions) rests))
 
 -- A SESSION CLOSES
 

@@ -12,7 +12,7 @@ use Rattle.mgs_model.specs.Apply.{act, change_first, outcome_in, searches}
 use Rattle.mgs_model.specs.Acts.{without_all}
 use Rattle.mgs_model.specs.View.{View, view}
 use Rattle.mgs_model.specs.Turns.{Turn, Keep, Do, todo_turn}
-use Rattle.mgs_model.specs.Events.{act_effects, may_be_refused, own_set, refused_own, saved_by, turn_in, with_own}
+use Rattle.mgs_model.specs.Events.{act_effects, may_be_refused, own_set, refused_own, saved_by, settled, turn_in, with_own}
 use Rattle.mgs_model.specs.declared.errors.Keyed.{Keyed}
 use Rattle.mgs_model.specs.declared.errors.Keyed.TheVariants as keyed
 use Rattle.mgs_model.specs.declared.search.Direction.{Direction}
@@ -43,7 +43,7 @@ use Rattle.mgs_plan.specs.Actions.{act_of}
 use Rattle.mgs_plan.specs.declared.key_act.KeyAct.{KeyAct}
 use Rattle.mgs_plan.specs.Tells.{touched_in}
 use Rattle.mgs_plan.proofs.Quiet.{quiet_leaving, quiet_motion}
-use Rattle.mgs_act.specs.Searching.{meant}
+use Rattle.mgs_plan.specs.Searching.{meant}
 use Rattle.mgs_buffers.specs.MarkedBuffer.{AreWithinLimit, MarkedBuffer}
 use Rattle.mgs_session.specs.declared.Session.{Session}
 use Rattle.mgs_session.specs.declared.search.Search.{Search}
@@ -56,7 +56,8 @@ use Rattle.mgs_core.specs.declared.deeds.Deed.TheVariants as deeds
 use Rattle.mgs_core.specs.declared.deeds.Before.{Before}
 use Rattle.mgs_core.specs.declared.deeds.Before.TheVariants as befores
 use Rattle.mgs_core.specs.declared.keying.ByteStep.TheVariants.{Kept, Failed, Ends, Acts}
-use Rattle.mgs_core.specs.Steps.{ActedBy, DoneBy, closed, started_by, started_own, started_world}
+use Rattle.mgs_act.specs.Doing.{ActedBy, DoneBy}
+use Rattle.mgs_core.specs.Steps.{closed, started_by, started_own, started_world}
 use Rattle.mgs_core.specs.Stepped.{CanDo, IsReady, IsTurnStep, SearchStays, SeesNames, TurnLeft, asked_of, before_of, deed_act, deed_own, deed_world, finds, is_finding, is_replacement, is_replacing, keys_left, may_want_memory, put_back, refused, search_again, search_before, seek_act, starts_replacing}
 use Rattle.mgs_core.specs.Turned.{DeedBy, DeedRefused, IsLess, IsWithin, TurnDone, TurnEnds, TurnRefused, TurnedBy, IsFit, has_all, is_played, is_quiet, weight}
 use Rattle.mgs_core.proofs.Begun.{closed_own, search_still}
@@ -64,6 +65,7 @@ use Rattle.mgs_core.proofs.Keyed.{acted_single}
 use Rattle.mgs_core.proofs.Prompted.{answered_single}
 use Rattle.mgs_core.proofs.Sizes.{place_same}
 use Rattle.mgs_core.proofs.Started.{begun_act}
+use Rattle.mgs_core.proofs.Stays.{own_rests, settled_as}
 use Rattle.mgs_core.proofs.Steps.{session_changed, session_there, set_there, world_changed}
 use Rattle.mgs_core.proofs.Turned.{AllLeft, all_less, all_none, all_same, all_without, more_weight, none_weight, some_left, without_same, without_within}
 use Rattle.mgs_core.proofs.Fitting.{replaced_fits}
@@ -370,6 +372,9 @@ module _ (d : Directory) (ks : List MarkedBuffer) (xs : List Session) (next : Op
 
   pub step_apart : (t : Touched) → y ≡ record h { own = y.own } → SearchStays h.own y.own → Apart t id (world_of d ks xs next) (world_of d ks (slice_set xs at y) next)
   step_apart t e stays = subst (Apart t id (world_of d ks xs next)) (sym (changed e stays)) (apart_own t id (λ was. own_of y.own) (world_of d ks xs next))
+
+  pub step_stands : y ≡ record h { own = y.own } → SearchStays h.own y.own → settled old ≡ old → settled begun ≡ begun
+  step_stands e stays rests = settled_as (with_own id (λ was. own_of y.own) old) begun (changed e stays) (own_rests old id (λ was. own_of y.own) rests)
 
   next_turn : (t : Turn) → ((v : View) → SeesNames d ks h.user v → todo_turn v (own_of h.own) h.own.player.todo ≡ t) → turn_in old id ≡ t
   next_turn t turn =

@@ -1,14 +1,14 @@
 -- What the store tells of an act, of one that saves and of one that does not.
-use Rattle.std.proofs.Common.{◌≡◌, ◌||◌, ℕ, Bool, true, false, [], Option, Some, refl, sym, ap, ◌∙◌, subst}
+use Rattle.std.proofs.Common.{◌≡◌, ℕ, true, false, [], Option, Some, refl, sym, subst}
 use Rattle.std.specs.List.{flat_map}
 use Rattle.mgs_model.specs.World.{World}
 use Rattle.mgs_model.specs.Outcome as outcomes
 use Rattle.mgs_model.specs.Outcome.{Act}
 use Rattle.mgs_model.specs.Apply.{act, outcome_in}
-use Rattle.mgs_model.specs.Events.{act_effects, may_be_refused, saved_by, with_own}
+use Rattle.mgs_model.specs.Events.{act_effects, saved_by, with_own}
 use Rattle.mgs_model.specs.declared.errors.Keyed.{Keyed}
 use Rattle.mgs_model.specs.declared.search.Direction.{Direction}
-use Rattle.mgs_model.specs.declared.session.Command.TheVariants.{Move, SaveBuffer}
+use Rattle.mgs_model.specs.declared.session.Command.TheVariants.{Move}
 use Rattle.mgs_model.specs.declared.session.Motion.{Motion}
 use Rattle.mgs_model.specs.declared.session.Motion.TheVariants.{StartSearch}
 use Rattle.mgs_model.specs.declared.touched.Touched.{Touched}
@@ -18,19 +18,13 @@ use Rattle.mgs_store.specs.Stores.{StoreTold}
 use Rattle.mgs_store.proofs.Told.{told_none}
 use Rattle.mgs_plan.specs.declared.key_act.KeyAct.{KeyAct}
 use Rattle.mgs_plan.specs.declared.key_act.KeyAct.TheVariants.{Unbound, Run}
-use Rattle.mgs_plan.specs.Actions.{act_of, is_done_here}
+use Rattle.mgs_plan.specs.Actions.{act_of}
 use Rattle.mgs_plan.specs.Beginning.{searching_own}
 use Rattle.mgs_plan.specs.Tells.{touched_in}
 use Rattle.mgs_plan.proofs.Quiet.{quiet_motion}
-use Rattle.mgs_act.specs.Saving.{SavedBy}
 use Rattle.mgs_core.specs.Kept.{Kept}
-use Rattle.mgs_core.specs.Steps.{DoneBy, KeyedBy, asks_store, is_plain_act, started_by, started_in_motion, started_world}
-
--- what is done by the act is no save
-done_saves_none : (a : KeyAct) → is_done_here a ≡ true → is_save (act_of a) ≡ false
-done_saves_none Unbound h = refl
-done_saves_none (Run SaveBuffer n) h = cc
-done_saves_none (Run _ n) h = refl
+use Rattle.mgs_act.specs.Doing.{DoneBy}
+use Rattle.mgs_core.specs.Steps.{KeyedBy, started_by, started_in_motion, started_world}
 
 -- an act that is no save leaves the store
 pub quietly : (touched : Touched) (old new : World) (t : StoreTold) (id : ℕ) (c : Act) → is_save c ≡ false → new ≡ act old id c true → touched ≡ touched_in (outcome_in old id c true) → DoneBy touched old new t t id c
@@ -38,13 +32,6 @@ quietly touched old new t id c other world tells = record {
   acted = record { stored = true; world = world; fault = λ e. cc; saves = told_none t.accepted (flat_map saved_by (act_effects old id c true)) (act_saves_none old id c true other) };
   tells = tells;
 }
-
-pub acted_quietly : (touched : Touched) (old new : World) (t : StoreTold) (id : ℕ) (a : KeyAct) → is_done_here a ≡ true → new ≡ act old id (act_of a) true → touched ≡ touched_in (outcome_in old id (act_of a) true) → DoneBy touched old new t t id (act_of a)
-acted_quietly touched old new t id a here = quietly touched old new t id (act_of a) (done_saves_none a here)
-
--- what does not ask it is done as any other act
-pub done_else : (a : KeyAct) → is_plain_act a ≡ true → asks_store a ≡ false → is_done_here a ≡ true
-done_else a acts none = sym (ap (λ (b : Bool). b || is_done_here a) none) ∙ acts
 
 -- a search that starts, whatever the argument of its act
 started_motion : (old new : World) (t : StoreTold) (id : ℕ) (c : Motion) (n : Option ℕ) (d : Direction) → started_in_motion c ≡ Some d
@@ -61,18 +48,6 @@ pub started_quietly : (old new : World) (t : StoreTold) (id : ℕ) (a : KeyAct) 
 started_quietly old new t id Unbound d is world = cc
 started_quietly old new t id (Run (Move c) n) d is world = started_motion old new t id c n d is world
 started_quietly old new t id (Run _ n) d is world = cc
-
--- a save, whatever its argument
-pub acted_saving : (touched : Touched) (old new : World) (before after : StoreTold) (id : ℕ) (a : KeyAct) → asks_store a ≡ true → ((n : Option ℕ) → SavedBy old new before after id n touched) → DoneBy touched old new before after id (act_of a)
-acted_saving touched old new before after id Unbound h saved = cc
-acted_saving touched old new before after id (Run SaveBuffer n) h saved =
-    let by = saved n in record { acted = record { stored = by.stored; world = by.world; fault = by.fault; saves = by.saves }; tells = by.tells }
-acted_saving touched old new before after id (Run _ n) h saved = cc
-
-pub may_saving : (w : World) (id : ℕ) (a : KeyAct) → asks_store a ≡ true → ((n : Option ℕ) → may_be_refused (outcome_in w id (outcomes.Run SaveBuffer n []) true) ≡ true) → may_be_refused (outcome_in w id (act_of a) true) ≡ true
-may_saving w id Unbound h may = cc
-may_saving w id (Run SaveBuffer n) h may = may n
-may_saving w id (Run _ n) h may = cc
 
 -- what is seen of a server
 pub keyed_seen : (k l : Kept) (v : World) (t : StoreTold) (id byte : ℕ) (result : Keyed) → k ≡ l → KeyedBy k.world v k.store t id byte result → KeyedBy l.world v l.store t id byte result

@@ -21,7 +21,8 @@ use Rattle.mgs_laws.proofs.Plays.{act_saves_nothing}
 use Rattle.mgs_laws.proofs.Turned.{act_short, leads_played, saves_done, saves_short, step_done, step_short, turn_todo}
 use Rattle.mgs_store.specs.Stores.{StoreTold, IsCounted, told_more}
 use Rattle.mgs_store.proofs.Told.{told_none, told_twice}
-use Rattle.mgs_core.specs.Steps.{ActedBy, KeyedBy}
+use Rattle.mgs_act.specs.Doing.{ActedBy}
+use Rattle.mgs_core.specs.Steps.{KeyedBy}
 use Rattle.mgs_session.specs.Playing.{is_nothing}
 use Rattle.mgs_core.specs.Turned.{EventBy, IsLess, IsTurnDone, IsWithin, TurnDone, TurnEnds, TurnRefused, TurnedBy, asks, goes_on, has_all, is_played, is_quiet, left_to_do, turn_to, weight}
 use Rattle.mgs_core.proofs.Steps.{not_found}

@@ -6,3 +6,4 @@ pub mod Kept
 pub mod Prompted
 pub mod Turned
 pub mod Stepped
+pub mod Calls

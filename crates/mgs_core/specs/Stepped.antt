@@ -34,7 +34,7 @@ use Rattle.mgs_maps.specs.Held.{is_bound, nothing_held}
 use Rattle.mgs_buffers.specs.MarkedBuffer.{MarkedBuffer}
 use Rattle.mgs_plan.specs.Actions.{act_of, is_answered}
 use Rattle.mgs_seek.specs.Replacing.{replacement, replacing_own}
-use Rattle.mgs_act.specs.Searching.{meant}
+use Rattle.mgs_plan.specs.Searching.{meant}
 use Rattle.mgs_session.specs.declared.Own.{Own}
 use Rattle.mgs_session.specs.declared.Session.{Session}
 use Rattle.mgs_session.specs.declared.search.Aim.{Aim}

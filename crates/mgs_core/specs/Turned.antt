@@ -14,7 +14,8 @@ use Rattle.mgs_model.specs.declared.session.Command.TheVariants.{Exit, SaveBuffe
 use Rattle.mgs_model.specs.declared.session.Mode.TheVariants.{Replacing}
 use Rattle.mgs_store.specs.Stores.{StoreTold}
 use Rattle.mgs_session.specs.Playing.{is_nothing}
-use Rattle.mgs_core.specs.Steps.{ActedBy, KeyedBy, closed}
+use Rattle.mgs_act.specs.Doing.{ActedBy}
+use Rattle.mgs_core.specs.Steps.{KeyedBy, closed}
 
 -- A MEASURE of what is to be done, where so many characters are left of the text that is replaced in: a further replacement leaves fewer of
 -- them, a byte of a macro may call for all further ones, of at most 1,048,576 characters, and a byte that was typed for all that can be

@@ -1,19 +1,15 @@
 // What a byte asks for: the act of a key, or of the answer to a prompt.
-ghost use Rattle.std.specs.Prelude.{◌≡◌, ◌<◌, ℕ, Option, Some, None, IfOk, OnOk, OnErr, length, true};
-ghost use Rattle.std.specs.List.{position_or_len};
-ghost use Rattle.mgs_model.specs.Apply.{outcome_in};
-ghost use Rattle.mgs_model.specs.Events.{may_be_refused};
+ghost use Rattle.std.specs.Prelude.{◌≡◌, ◌<◌, None, IfOk, OnOk, OnErr, length, true};
+ghost use Rattle.mgs_act.specs.Doing.{IsRefusable};
 ghost use Rattle.mgs_plan.specs.Actions.{act_of};
 ghost use Rattle.mgs_plan.specs.Beginning.{search_held};
-ghost use Rattle.mgs_seek.specs.Replacing.{remaining_at};
-ghost use Rattle.mgs_session.specs.declared.search.Search.{Search};
-ghost use Rattle.mgs_store.specs.Stores.{store_told};
 ghost use Rattle.mgs_world.specs.Sound.{IsSound};
-ghost use Rattle.mgs_world.specs.Worlds.{aim_old, idle, own_at, session_id, world_of};
-ghost use Rattle.mgs_core.specs.Steps.{DoneBy, asks_store, is_acted, is_plain_act, started_by, started_in_motion, started_world};
-ghost use Rattle.mgs_core.specs.Stepped.{CanDo, IsReady, asked_of, before_of, deed_act, deed_world, is_asked, is_replacement, may_want_memory};
+ghost use Rattle.mgs_world.specs.Worlds.{idle, own_at};
+ghost use Rattle.mgs_core.specs.Calls.{IsActDone, IsDeedDone, IsSameWorld, LeavesFewer};
+ghost use Rattle.mgs_core.specs.Steps.{is_acted, started_by, started_in_motion};
+ghost use Rattle.mgs_core.specs.Stepped.{CanDo, IsReady, asked_of, before_of, deed_act, is_asked, may_want_memory};
 
-use mgs_act::{act, answer, save};
+use mgs_act::{act, answer};
 use mgs_buffers::Buffers;
 use mgs_marks::Marked;
 use mgs_mini::Prompt;
@@ -81,16 +77,6 @@ fn asked(before: &Before) -> &Prompt
     }
 }
 
-/// Whether an act asks the store.
-fn asks_store(done: KeyAct) -> bool
-    ensures { result ≡ asks_store done }
-{
-    match done {
-        KeyAct::Run(command, _) => command == Command::SaveBuffer,
-        KeyAct::Unbound => false,
-    }
-}
-
 /// The direction of a search that a motion starts.
 fn started_in_motion(motion: Motion) -> Option<Direction>
     ensures { result ≡ started_in_motion motion }
@@ -114,38 +100,6 @@ fn started_by(done: KeyAct) -> Option<Direction>
     }
 }
 
-/// Does an act of the session at `at` that starts no search: a save as `save` says, and any other as `act` says.
-fn do_plain_act<T: Marked + Drop, S: Store>(
-    alloc: Global,
-    buffers: &mut Buffers<T>,
-    directory: &Directory,
-    sessions: &mut [Session],
-    at: usize,
-    store: &mut S,
-    done: KeyAct,
-) -> Result<Touched, Short>
-    requires sound { IsSound buffers.old sessions.old }
-    requires within { at < length sessions.old }
-    requires fresh { own_at at sessions.old ≡ idle (own_at at sessions.old) }
-    requires here { is_plain_act done ≡ true }
-    ensures sound { IsSound buffers.new sessions.new }
-    ensures ok { IfOk result (λ touched. (id : ℕ) (next : Option ℕ) → at ≡ position_or_len (session_id id) sessions.old → DoneBy touched (world_of directory.now buffers.old sessions.old next) (world_of directory.now buffers.new sessions.new next) (store_told S.failed S.accepted store.old) (store_told S.failed S.accepted store.new) id (act_of done)) }
-    ensures err { OnErr result ((next : Option ℕ) → world_of directory.now buffers.new sessions.new next ≡ world_of directory.now buffers.old sessions.old next) }
-    ensures unasked { OnErr result (store.new ≡ store.old) }
-    ensures may { OnErr result ((id : ℕ) (next : Option ℕ) → at ≡ position_or_len (session_id id) sessions.old → may_be_refused (outcome_in (world_of directory.now buffers.old sessions.old next) id (act_of done) true) ≡ true) }
-{
-    if asks_store(done) {
-        return match save(buffers, directory, sessions, at, store) {
-            Ok(touched) => Ok(touched),
-            Err(Short) => Err(Short),
-        };
-    }
-    match act(alloc, buffers, directory, sessions, at, done) {
-        Ok(touched) => Ok(touched),
-        Err(Short) => Err(Short),
-    }
-}
-
 /// Does an act of the session at `at`: a search that starts takes no memory.
 fn do_act<T: Marked + Drop, S: Store>(
     alloc: Global,
@@ -161,18 +115,18 @@ fn do_act<T: Marked + Drop, S: Store>(
     requires fresh { own_at at sessions.old ≡ idle (own_at at sessions.old) }
     requires here { is_acted done ≡ true }
     ensures sound { IsSound buffers.new sessions.new }
-    ensures ok { IfOk result (λ touched. (id : ℕ) (next : Option ℕ) → at ≡ position_or_len (session_id id) sessions.old → DoneBy touched (started_world (started_by done) id (world_of directory.now buffers.old sessions.old next)) (world_of directory.now buffers.new sessions.new next) (store_told S.failed S.accepted store.old) (store_told S.failed S.accepted store.new) id (act_of done)) }
+    ensures ok { IfOk result (IsActDone S.failed S.accepted directory.now at done buffers.old sessions.old store.old buffers.new sessions.new store.new) }
     ensures wants { OnErr result (started_by done ≡ None) }
-    ensures err { OnErr result ((next : Option ℕ) → world_of directory.now buffers.new sessions.new next ≡ world_of directory.now buffers.old sessions.old next) }
+    ensures err { OnErr result (IsSameWorld directory.now buffers.old buffers.new sessions.old sessions.new) }
     ensures unasked { OnErr result (store.new ≡ store.old) }
-    ensures may { OnErr result ((id : ℕ) (next : Option ℕ) → at ≡ position_or_len (session_id id) sessions.old → may_be_refused (outcome_in (world_of directory.now buffers.old sessions.old next) id (act_of done) true) ≡ true) }
+    ensures may { OnErr result (IsRefusable directory.now at (act_of done) buffers.old sessions.old) }
 {
     match started_by(done) {
         Some(direction) => {
             start_search(buffers, directory, sessions, at, direction);
             Ok(Touched::Nowhere)
         }
-        None => do_plain_act(alloc, buffers, directory, sessions, at, store, done),
+        None => act(alloc, buffers, directory, sessions, at, store, done),
     }
 }
 
@@ -192,12 +146,12 @@ pub fn do_deed<T: Marked + Drop, S: Store>(
     requires ready { IsReady deed (search_held at sessions.old) (own_at at sessions.old) }
     requires here { CanDo before.now deed }
     ensures sound { IsSound buffers.new sessions.new }
-    ensures ok { IfOk result (λ touched. (id : ℕ) (next : Option ℕ) → at ≡ position_or_len (session_id id) sessions.old → DoneBy touched (deed_world before.now deed id (world_of directory.now buffers.old sessions.old next)) (world_of directory.now buffers.new sessions.new next) (store_told S.failed S.accepted store.old) (store_told S.failed S.accepted store.new) id (deed_act (own_at at sessions.old) before.now deed)) }
+    ensures ok { IsDeedDone S.failed S.accepted directory.now at deed before.now buffers.old sessions.old store.old buffers.new sessions.new store.new result }
     ensures wants { OnErr result (may_want_memory deed ≡ true) }
-    ensures err { OnErr result ((next : Option ℕ) → world_of directory.now buffers.new sessions.new next ≡ world_of directory.now buffers.old sessions.old next) }
+    ensures err { OnErr result (IsSameWorld directory.now buffers.old buffers.new sessions.old sessions.new) }
     ensures unasked { OnErr result (store.new ≡ store.old) }
-    ensures may { OnErr result ((id : ℕ) (next : Option ℕ) → at ≡ position_or_len (session_id id) sessions.old → may_be_refused (outcome_in (world_of directory.now buffers.old sessions.old next) id (deed_act (own_at at sessions.old) before.now deed) true) ≡ true) }
-    ensures further { OnOk result ((s t : Search) → is_replacement deed ≡ true → search_held at sessions.old ≡ Some s → search_held at sessions.new ≡ Some t → 0 < length (aim_old s.aim) → remaining_at at buffers.new sessions.new < remaining_at at buffers.old sessions.old) }
+    ensures may { OnErr result (IsRefusable directory.now at (deed_act (own_at at sessions.old) before.now deed) buffers.old sessions.old) }
+    ensures further { OnOk result (LeavesFewer deed at buffers.old buffers.new sessions.old sessions.new) }
 {
     match deed {
         Deed::Act(done) => do_act(alloc, buffers, directory, sessions, at, store, done),
@@ -205,12 +159,9 @@ pub fn do_deed<T: Marked + Drop, S: Store>(
             let prompt = asked(before);
             let question = prompt.question();
             let input = prompt.input();
-            match answer(
-                alloc, buffers, directory, sessions, at, question, argument, input,
-            ) {
-                Ok(touched) => Ok(touched),
-                Err(Short) => Err(Short),
-            }
+            answer(
+                alloc, buffers, directory, sessions, at, store, question, argument, input,
+            )
         }
         Deed::Seek(step) => {
             search_on(buffers, directory, sessions, at, step);

@@ -1,23 +1,21 @@
 // Of what a session has still to do in an event, one after another is done until nothing is left.
 ghost use Rattle.std.specs.Prelude.{◌≡◌, ◌<◌, ◌≤◌, ℕ, [], Option, Some, length, false, true};
 ghost use Rattle.std.specs.List.{position_or_len};
-ghost use Rattle.mgs_model.specs.Apart.{Apart};
 ghost use Rattle.mgs_model.specs.World as model;
 ghost use Rattle.mgs_model.specs.declared.errors.Keyed.TheVariants.{Done, Quit};
 ghost use Rattle.mgs_buffers.specs.Judging.{AreJudged, rules_kept};
 ghost use Rattle.mgs_session.specs.Playing.{are_played};
 ghost use Rattle.mgs_store.specs.Stores.{store_told};
 ghost use Rattle.mgs_plan.specs.Beginning.{search_held};
-ghost use Rattle.mgs_seek.specs.Replacing.{remaining_at};
 ghost use Rattle.mgs_session.specs.declared.search.Search.{Search};
 ghost use Rattle.mgs_world.specs.Sound.{IsSound};
-ghost use Rattle.mgs_world.specs.Worlds.{IsUnique, aim_old, buffers_of, own_at, own_of, session_id, sizes_in, world_of};
+ghost use Rattle.mgs_world.specs.Worlds.{IsUnique, buffers_of, own_at, own_of, session_id, sizes_in, world_of};
+ghost use Rattle.mgs_core.specs.Calls.{AreApart, IsBare, IsEvent, IsSameBut, IsTurned, IsTyped, LeavesFewer, LeavesLess, OwnAlone, SettlesApart, StaySettled, StaysStill};
 ghost use Rattle.mgs_core.specs.declared.deeds.Before.TheVariants.{Plain};
 ghost use Rattle.mgs_core.specs.Held.{AreSettled};
 ghost use Rattle.mgs_core.specs.Judged.{judged_touched};
-ghost use Rattle.mgs_core.specs.Stepped.{CanDo, IsFirstStep, IsReady, IsTurnStep, before_of, deed_act, deed_world, is_replacement, may_want_memory, own_before, put_back, refused};
-ghost use Rattle.mgs_core.specs.Steps.{TypedBy, closed};
-ghost use Rattle.mgs_core.specs.Turned.{DeedBy, EventBy, IsFit, IsLess, TurnedBy, goes_on, has_all, is_played, touched_both, weight};
+ghost use Rattle.mgs_core.specs.Stepped.{CanDo, IsFirstStep, IsReady, IsTurnStep, before_of, deed_act, deed_world, may_want_memory, own_before, put_back, refused};
+ghost use Rattle.mgs_core.specs.Turned.{DeedBy, IsFit, goes_on, has_all, touched_both, weight};
 
 use crate::deeds::{Before, Deed, do_deed, take_before};
 use crate::keying::ByteStep;
@@ -186,8 +184,8 @@ fn act_turn<T: Marked + Drop, S: Store>(
     ensures sound { IsSound buffers.new sessions.new }
     ensures sizes { sizes_in sessions.new ≡ sizes_in sessions.old }
     ensures acted { (next : Option ℕ) → DeedBy (world_of directory.now buffers.old sessions.old next) (deed_world before.old deed id (world_of directory.now buffers.old sessions.old next)) (world_of directory.now buffers.new sessions.new next) (store_told S.failed S.accepted store.old) (store_told S.failed S.accepted store.new) id (may_want_memory deed) (deed_act (own_at at sessions.old) before.old deed) (put_back (buffers_of buffers.old) (before_of before.old deed) kind is_playing) result.0 }
-    ensures further { result.0 ≡ Done → (s t : Search) → is_replacement deed ≡ true → search_held at sessions.old ≡ Some s → search_held at sessions.new ≡ Some t → 0 < length (aim_old s.aim) → remaining_at at buffers.new sessions.new < remaining_at at buffers.old sessions.old }
-    ensures touched { (next : Option ℕ) → Apart result.1 id (world_of directory.now buffers.old sessions.old next) (world_of directory.now buffers.new sessions.new next) }
+    ensures further { result.0 ≡ Done → LeavesFewer deed at buffers.old buffers.new sessions.old sessions.new }
+    ensures touched { AreApart result.1 id directory.now buffers.old buffers.new sessions.old sessions.new }
 {
     match do_deed(alloc, buffers, directory, sessions, at, store, deed, before) {
         Ok(touched) => {
@@ -207,7 +205,7 @@ fn act_turn<T: Marked + Drop, S: Store>(
 }
 
 /// The next of what the session at `at` has still to do is done, or refused for want of memory, or ends its session, which is then to be
-/// taken out. It tells what it touched. No window settles.
+/// taken out. It tells what it touched, and whether it changed so little that each window stands where it stood. No window settles.
 fn take_turn<T: Marked + Drop, S: Store>(
     alloc: Global,
     buffers: &mut Buffers<T>,
@@ -217,7 +215,7 @@ fn take_turn<T: Marked + Drop, S: Store>(
     at: usize,
     store: &mut S,
     id: SessionId,
-) -> (Keyed, Touched)
+) -> (Keyed, Touched, bool)
     requires sound { IsSound buffers.old sessions.old }
     requires place { at ≡ position_or_len (session_id id) sessions.old }
     requires within { at < length sessions.old }
@@ -227,10 +225,12 @@ fn take_turn<T: Marked + Drop, S: Store>(
     ensures judged { AreJudged directory.now (rules_kept buffers.new) judge.new }
     ensures sound { IsSound buffers.new sessions.new }
     ensures sizes { sizes_in sessions.new ≡ sizes_in sessions.old }
-    ensures less { result.0 ≡ Done → IsLess (remaining_at at buffers.old sessions.old) (remaining_at at buffers.new sessions.new) (own_at at sessions.old).todo (own_at at sessions.new).todo }
+    ensures less { result.0 ≡ Done → LeavesLess at buffers.old buffers.new sessions.old sessions.new }
     ensures fit { result.0 ≡ Done → IsFit (own_at at sessions.new) }
-    ensures turned { (next : Option ℕ) → TurnedBy (is_played (own_at at sessions.old).todo) (own_at at sessions.new).todo (world_of directory.now buffers.old sessions.old next) (world_of directory.now buffers.new sessions.new next) (store_told S.failed S.accepted store.old) (store_told S.failed S.accepted store.new) id result.0 }
-    ensures touched { (next : Option ℕ) → Apart result.1 id (world_of directory.now buffers.old sessions.old next) (world_of directory.now buffers.new sessions.new next) }
+    ensures turned { IsTurned S.failed S.accepted directory.now at id buffers.old sessions.old store.old buffers.new sessions.new store.new result.0 }
+    ensures stands { result.2 ≡ true → StaySettled directory.now buffers.old buffers.new sessions.old sessions.new }
+    ensures alone { result.2 ≡ true → OwnAlone at buffers.old buffers.new sessions.old sessions.new }
+    ensures touched { AreApart result.1 id directory.now buffers.old buffers.new sessions.old sessions.new }
 {
     // Tells the prover that each text is within the limit.
     let _count = buffers.len();
@@ -238,9 +238,9 @@ fn take_turn<T: Marked + Drop, S: Store>(
     let is_playing = sessions[at].own.player.is_playing();
     let mut before = Before::Plain;
     match next_step(buffers, judge, directory, &mut sessions[at], &mut before) {
-        ByteStep::Kept => (Keyed::Done, Touched::Nowhere),
-        ByteStep::Failed => (Keyed::Done, Touched::Nowhere),
-        ByteStep::Ends => (Keyed::Quit, Touched::Anywhere),
+        ByteStep::Kept => (Keyed::Done, Touched::Nowhere, true),
+        ByteStep::Failed => (Keyed::Done, Touched::Nowhere, true),
+        ByteStep::Ends => (Keyed::Quit, Touched::Anywhere, true),
         ByteStep::Acts(deed) => {
             let done = act_turn(
                 alloc,
@@ -257,7 +257,7 @@ fn take_turn<T: Marked + Drop, S: Store>(
                 is_playing,
             );
             let _later = buffers.len();
-            done
+            (done.0, done.1, false)
         }
     }
 }
@@ -273,7 +273,8 @@ fn goes_on(keyed: Keyed, sessions: &[Session], at: usize) -> bool
     }
 }
 
-/// Turn after turn is taken until nothing is left to do, or memory is refused, or the session is to be taken out. No window settles.
+/// Turn after turn is taken until nothing is left to do, or memory is refused, or the session is to be taken out. No window settles; it tells whether
+/// each stands where it stood.
 pub fn take_turns<T: Marked + Drop, S: Store>(
     alloc: Global,
     buffers: &mut Buffers<T>,
@@ -283,7 +284,7 @@ pub fn take_turns<T: Marked + Drop, S: Store>(
     at: usize,
     store: &mut S,
     id: SessionId,
-) -> (Keyed, Touched)
+) -> (Keyed, Touched, bool)
     requires sound { IsSound buffers.old sessions.old }
     requires place { at ≡ position_or_len (session_id id) sessions.old }
     requires within { at < length sessions.old }
@@ -293,17 +294,57 @@ pub fn take_turns<T: Marked + Drop, S: Store>(
     ensures judged { AreJudged directory.now (rules_kept buffers.new) judge.new }
     ensures sound { IsSound buffers.new sessions.new }
     ensures sizes { sizes_in sessions.new ≡ sizes_in sessions.old }
-    ensures event { (next : Option ℕ) → EventBy id (world_of directory.now buffers.old sessions.old next) (world_of directory.now buffers.new sessions.new next) (store_told S.failed S.accepted store.old) (store_told S.failed S.accepted store.new) result.0 }
-    ensures touched { (next : Option ℕ) → Apart result.1 id (world_of directory.now buffers.old sessions.old next) (world_of directory.now buffers.new sessions.new next) }
+    ensures event { IsEvent S.failed S.accepted directory.now id buffers.old sessions.old store.old buffers.new sessions.new store.new result.0 }
+    ensures stands { result.2 ≡ true → StaySettled directory.now buffers.old buffers.new sessions.old sessions.new }
+    ensures alone { result.2 ≡ true → OwnAlone at buffers.old buffers.new sessions.old sessions.new }
+    ensures touched { AreApart result.1 id directory.now buffers.old buffers.new sessions.old sessions.new }
 {
     let mut keyed = Keyed::Done;
     let mut touched = Touched::Nowhere;
+    let mut stands = true;
     while goes_on(keyed, sessions, at) {
-        let (next, more) = take_turn(alloc, buffers, judge, directory, sessions, at, store, id);
+        let (next, more, still) = take_turn(
+            alloc, buffers, judge, directory, sessions, at, store, id,
+        );
         keyed = next;
         touched = touched_both(touched, more);
+        stands = stands & still;
     }
-    (keyed, touched)
+    (keyed, touched, stands)
+}
+
+/// Settles the windows of the sessions that an event of the session `id` can have changed, where not each of all stands where it settles.
+fn settle_unless<T: Marked + Drop>(
+    stands: bool,
+    buffers: &mut Buffers<T>,
+    directory: &Directory,
+    sessions: &[Session],
+    id: SessionId,
+    touched: &Touched,
+)
+    requires sound { IsSound buffers.old sessions.now }
+    requires stands { stands ≡ true → AreSettled directory.now buffers.old sessions.now }
+    ensures sound { IsSound buffers.new sessions.now }
+    ensures world { SettlesApart touched.now id directory.now buffers.old buffers.new sessions.now }
+    ensures still { stands ≡ true → buffers.new ≡ buffers.old }
+{
+    if stands {
+        return;
+    }
+    settle_apart(buffers, directory, sessions, id, touched);
+}
+
+/// Whether a screen shows nothing of what its session holds: there is no prompt and no search, and the echo line is empty.
+fn is_bare(session: &Session) -> bool
+    ensures { result ≡ true → IsBare session.now.own }
+{
+    if session.own.search.is_some() || session.own.prompt.is_some() {
+        return false;
+    }
+    match session.own.echo {
+        Message::Silent => true,
+        _ => false,
+    }
 }
 
 /// A byte of the session at `at`, as `Core::key` says, but that `Quit` changes what the session holds alone: it is to be taken out.
@@ -317,7 +358,7 @@ pub fn type_in<T: Marked + Drop, S: Store>(
     store: &mut S,
     id: SessionId,
     byte: u8,
-) -> (Keyed, Touched)
+) -> (Keyed, Touched, bool)
     requires sound { IsSound buffers.old sessions.old }
     requires settles { AreSettled directory.now buffers.old sessions.old }
     requires place { at ≡ position_or_len (session_id id) sessions.old }
@@ -327,18 +368,23 @@ pub fn type_in<T: Marked + Drop, S: Store>(
     ensures judged { AreJudged directory.now (rules_kept buffers.new) judge.new }
     ensures sound { IsSound buffers.new sessions.new }
     ensures sizes { sizes_in sessions.new ≡ sizes_in sessions.old }
-    ensures gone { (next : Option ℕ) → result.0 ≡ Quit → closed (world_of directory.now buffers.new sessions.new next) id ≡ closed (world_of directory.now buffers.old sessions.old next) id }
+    ensures gone { result.0 ≡ Quit → IsSameBut id directory.now buffers.old buffers.new sessions.old sessions.new }
     ensures left { result.0 ≡ Quit → store_told S.failed S.accepted store.new ≡ store_told S.failed S.accepted store.old }
-    ensures keyed { (next : Option ℕ) → TypedBy (world_of directory.now buffers.old sessions.old next) (world_of directory.now buffers.new sessions.new next) (store_told S.failed S.accepted store.old) (store_told S.failed S.accepted store.new) id byte result.0 }
-    ensures touched { (next : Option ℕ) → Apart result.1 id (world_of directory.now buffers.old sessions.old next) (world_of directory.now buffers.new sessions.new next) }
+    ensures keyed { IsTyped S.failed S.accepted directory.now id byte buffers.old sessions.old store.old buffers.new sessions.new store.new result.0 }
+    ensures touched { AreApart result.1 id directory.now buffers.old buffers.new sessions.old sessions.new }
+    ensures still { result.2 ≡ true → StaysStill id directory.now buffers.old buffers.new sessions.old sessions.new }
 {
+    let was = is_bare(&sessions[at]);
     begin(&mut sessions[at], byte);
-    let (keyed, touched) = take_turns(alloc, buffers, judge, directory, sessions, at, store, id);
+    let (keyed, touched, stands) = take_turns(
+        alloc, buffers, judge, directory, sessions, at, store, id,
+    );
     match keyed {
-        Keyed::Quit => (keyed, touched),
+        Keyed::Quit => (keyed, touched, false),
         _ => {
-            settle_apart(buffers, directory, sessions, id, &touched);
-            (keyed, touched)
+            settle_unless(stands, buffers, directory, sessions, id, &touched);
+            let now = is_bare(&sessions[at]);
+            (keyed, touched, stands & (was & now))
         }
     }
 }

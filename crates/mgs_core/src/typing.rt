@@ -4,7 +4,6 @@ ghost use Rattle.std.specs.Option.{option_map};
 ghost use Rattle.mgs_model.specs.Access.{Directory};
 ghost use Rattle.mgs_model.specs.Keys.{is_character_byte};
 ghost use Rattle.mgs_model.specs.Searching.{read_byte};
-ghost use Rattle.mgs_model.specs.Turns.{completed};
 ghost use Rattle.mgs_model.specs.Completion.{completion};
 ghost use Rattle.mgs_model.specs.declared.search.SearchStep.TheVariants.{Leaves};
 ghost use Rattle.mgs_buffers.specs.Judging.{AreJudged, rules_kept};
@@ -17,7 +16,7 @@ ghost use Rattle.mgs_model.specs.Commands.{find_command};
 ghost use Rattle.mgs_model.specs.declared.message.Message.TheVariants.{Replaced, Silent};
 ghost use Rattle.mgs_session.specs.Sessions.{playing_as, prompting, told, unbound, unprompted};
 ghost use Rattle.mgs_world.specs.Worlds.{own_of};
-ghost use Rattle.mgs_core.specs.Prompted.{names_for};
+ghost use Rattle.mgs_core.specs.Prompted.{names_for, own_completed};
 ghost use Rattle.mgs_core.specs.declared.deeds.Before.{Before};
 ghost use Rattle.mgs_core.specs.declared.deeds.Before.TheVariants.{Plain};
 ghost use Rattle.mgs_core.specs.Stepped.{IsAlone, IsAnswerStep, IsByteStep, IsNamedStep, IsSearchStep, finding, replace_key, replacing_at};
@@ -87,7 +86,7 @@ fn complete<T: Marked + Drop>(
     requires judged { AreJudged directory.now (rules_kept buffers.now) judge.old }
     requires still { session.old ≡ unsearched session.old }
     ensures judged { AreJudged directory.now (rules_kept buffers.now) judge.new }
-    ensures own { own_of session.new.own ≡ completed (own_of (prompting prompt session.old).own) (completion (names_for directory.now session.old.user buffers.now prompt.question) prompt.input) }
+    ensures own { own_of session.new.own ≡ own_completed directory.now buffers.now prompt session.old }
     ensures rest { session.new ≡ record session.old { own = session.new.own } }
 {
     let mut prompt = prompt;

@@ -54,7 +54,7 @@ handles_quit w v id byte k xs ys es fs h is step world store size next items tol
 
 -- IT DID NOT
 
-never_quit : (k : Keyed) → sameb the_type k keyed.Quit ≡ false → k ≡ keyed.Quit → ⊥
+pub never_quit : (k : Keyed) → sameb the_type k keyed.Quit ≡ false → k ≡ keyed.Quit → ⊥
 never_quit keyed.Quit e q = cc
 never_quit keyed.Done e q = cc
 never_quit keyed.Short e q = cc

@@ -156,6 +156,12 @@ painted_opened w v xs ys es fs z is e od nd = λ id x y fx fy.
     let f : find (screen_id id) ys ≡ Some s.0 = ap (find (screen_id id)) is ∙ find-append (screen_id id) xs (z ∷ []) ∙ ap (λ o. option_or o (find (screen_id id) (z ∷ []))) s.1 in
     painted_pair w v xs ys es fs id x y s.0 s.0 od nd s.1 f (no_repaint s.0) fx fy
 
+-- each shows what it showed
+pub painted_same : (w v : Kept) (xs : List Screen) (es fs : List (ℕ × Cause)) → map shown_size xs ≡ sizes w.world → All (IsDrawn w.world) xs → All (IsDrawn v.world) xs → Painted (serving_of w xs es) (serving_of v xs fs)
+painted_same w v xs es fs e od nd = λ id x y fx fy.
+    let s = screen_known w.world xs id x e fx in
+    painted_pair w v xs xs es fs id x y s.0 s.0 od nd s.1 s.1 (no_repaint s.0) fx fy
+
 -- one is taken out
 pub painted_closed : (w v : Kept) (k : ℕ) (xs ys : List Screen) (es fs : List (ℕ × Cause)) → ys ≡ remove_first (screen_id k) xs → IsUnique (map shown_size xs) → map shown_size ys ≡ sizes v.world → All (IsDrawn w.world) xs → All (IsDrawn v.world) ys → Painted (serving_of w xs es) (serving_of v ys fs)
 painted_closed w v k xs ys es fs is u e od nd = λ id x y fx fy.

@@ -10,3 +10,4 @@ pub mod Waiting
 pub mod Tapes
 pub mod Drives
 pub mod Driven
+pub mod Due

@@ -6,6 +6,7 @@
 
 mod draw;
 mod driving;
+mod due;
 mod end;
 mod ending;
 mod engine;

@@ -1,5 +1,5 @@
 // The bytes that wait for a terminal.
-ghost use Rattle.std.specs.Prelude.{◌≡◌, ℕ, ◌+◌, ◌≤◌, List, [], ◌++◌, drop, length, IfOk};
+ghost use Rattle.std.specs.Prelude.{◌≡◌, ◌==◌, ℕ, ◌+◌, ◌≤◌, List, [], ◌++◌, drop, length, IfOk};
 ghost use Rattle.mgs_paint.specs.Painting.{bound_of, Paints};
 ghost use Rattle.mgs_paint.specs.Repainting.{Repaints};
 ghost use Rattle.mgs_grid.specs.RowSets.{AreSameApart};
@@ -101,6 +101,13 @@ impl ByteQueue {
         ensures few { result ≤ QUEUE_LIMIT }
     {
         self.bytes.len() - self.taken
+    }
+
+    /// Whether no bytes wait.
+    pub(crate) fn is_empty(&self) -> bool
+        ensures { result ≡ (length self.now == 0) }
+    {
+        self.bytes.len() == self.taken
     }
 
     /// Appends the bytes that paint the whole of a grid.

@@ -39,4 +39,8 @@ impl<T: Marked + Drop, S: Store + Drop> Sessions for Engine<T, S> {
     fn took(&mut self, id: SessionId, n: usize) {
         Engine::took(self, id, n);
     }
+
+    fn next_due(&self, after: SessionId) -> Option<SessionId> {
+        Engine::next_due(self, after)
+    }
 }

@@ -3,7 +3,7 @@ use super::fixtures::list_of;
 use mgs_buffers::Buffers;
 use mgs_grid::{Grid, Line};
 use mgs_marks::PlainMarked;
-use mgs_model::Name;
+use mgs_model::{Mask, Name, Right};
 use mgs_policy::Directory;
 use mgs_screen::{draw_entries, draw_listing};
 use std::alloc::Global;
@@ -28,7 +28,9 @@ fn two(alloc: Global, group: Option<&str>, rt: &impl Abort) -> Buffers<PlainMark
     assert!(rt; all.has(&notes));
     assert!(rt; all.text_len(&notes) == 1);
     assert!(rt; all.serial(&notes) == 0);
-    assert!(rt; all.edit(&notes, 1, 1, &['c']).is_ok());
+    let (directory, ann) = (Directory::new(alloc), named(rt, "ann"));
+    let mask = Mask::of(Right::WriteData);
+    assert!(rt; all.edit_as(&directory, &ann, &notes, mask, 1, 1, &['c']) == Ok(()));
     all
 }
 

@@ -5,33 +5,26 @@ use Rattle.std.specs.List.{position_or_len}
 use Rattle.std.specs.Option.{option_map}
 use Rattle.std.proofs.lemmas.Option.{get_or_from_slice_get}
 use Rattle.mgs_model.specs.Access.{Directory}
-use Rattle.mgs_model.specs.World.{World, find_session, has_id}
+use Rattle.mgs_model.specs.World.{find_session, has_id}
 use Rattle.mgs_model.specs.World as model
 use Rattle.mgs_model.specs.View.{view}
-use Rattle.mgs_model.specs.Outcome.{takes_memory}
 use Rattle.mgs_model.specs.Outcome as outcomes
 use Rattle.mgs_model.specs.Acts.{asks, fails, outcome, owns, sets}
-use Rattle.mgs_model.specs.Apply.{act, applied, apply, change_first, outcome_in, searches, session_arranged}
+use Rattle.mgs_model.specs.Apply.{apply, change_first, outcome_in, searches, session_arranged}
 use Rattle.mgs_model.specs.Plans.{acted_own, failed_own, setting}
-use Rattle.mgs_model.specs.declared.session.Command.{Command}
-use Rattle.mgs_model.specs.declared.session.Command.TheVariants.{Ask, Set, Rearrange}
-use Rattle.mgs_model.specs.declared.session.Arrangement.{Arrangement}
+use Rattle.mgs_model.specs.declared.session.Command.TheVariants.{Ask, Set}
 use Rattle.mgs_model.specs.declared.session.Question.{Question}
 use Rattle.mgs_model.specs.declared.session.Setting.{Setting}
 use Rattle.mgs_model.specs.declared.session.Setting.TheVariants.{SetFillColumn, KeyboardQuit, StartMacro, EndMacro, CallMacro}
 use Rattle.mgs_model.specs.declared.message.Message.{Message}
-use Rattle.mgs_model.specs.declared.message.Message.TheVariants.{BadColumn, InMacro, KeyNotBound, NoArgument, NotInMacro, Quitting}
+use Rattle.mgs_model.specs.declared.message.Message.TheVariants.{BadColumn, InMacro, NoArgument, NotInMacro, Quitting}
 use Rattle.mgs_model.specs.declared.session.Kind.TheVariants.{Other}
 use Rattle.mgs_model.proofs.Firsts.{position_or_len-map, written_first}
 use Rattle.mgs_buffers.specs.MarkedBuffer.{MarkedBuffer}
-use Rattle.mgs_windows.specs.declared.WindowMarks.{WindowMarks}
 use Rattle.mgs_session.specs.Sessions.{acted, asking, failed, filling, macro_ended, macro_given_up, macro_started}
 use Rattle.mgs_session.specs.declared.Own.{Own}
 use Rattle.mgs_session.specs.declared.Session.{Session}
-use Rattle.mgs_plan.specs.declared.key_act.KeyAct.{KeyAct}
-use Rattle.mgs_plan.specs.declared.key_act.KeyAct.TheVariants.{Unbound, Run}
-use Rattle.mgs_plan.specs.declared.action.Action.{Action}
-use Rattle.mgs_plan.specs.Actions.{act_of, is_done_here, is_setting_done, outcome_through, plan_in, selected_height}
+use Rattle.mgs_plan.specs.Actions.{is_setting_done}
 use Rattle.mgs_plan.specs.Setting.{session_set}
 use Rattle.mgs_world.specs.Worlds.{id_after, idle, own_at, own_of, session_id, session_of, world_of}
 use Rattle.mgs_world.proofs.Sessions.{session_some}
@@ -44,31 +37,13 @@ session_known directory ks xs next id at h place within is =
     session_some directory ks xs next id at h place within (sym (get_or_from_slice_get xs at h h is))
 
 -- what an act comes to, by the session that does it
+pub outcome_answered : (directory : Directory) (ks : List MarkedBuffer) (xs : List Session) (next : Option ℕ) (id at : ℕ) (h : Session) (c : outcomes.Act) (stored : Bool) → at ≡ position_or_len (session_id id) xs → at < length xs → slice_get xs at ≡ Some h → outcome_in (world_of directory ks xs next) id c stored ≡ Some (outcome (view (world_of directory ks xs next) (session_of ks h)) c stored)
+outcome_answered directory ks xs next id at h c stored place within is =
+    let w = world_of directory ks xs next in
+    ap (λ o. option_map (λ v. outcome v c stored) (option_map (view w) o)) (session_known directory ks xs next id at h place within is)
+
 pub outcome_known : (directory : Directory) (ks : List MarkedBuffer) (xs : List Session) (next : Option ℕ) (id at : ℕ) (h : Session) (c : outcomes.Act) → at ≡ position_or_len (session_id id) xs → at < length xs → slice_get xs at ≡ Some h → outcome_in (world_of directory ks xs next) id c true ≡ Some (outcome (view (world_of directory ks xs next) (session_of ks h)) c true)
-outcome_known directory ks xs next id at h c place within is =
-    let w = world_of directory ks xs next in
-    ap (λ o. option_map (λ v. outcome v c true) (option_map (view w) o)) (session_known directory ks xs next id at h place within is)
-
--- PLANNED
-
--- that what is planned for a session is the command's plan
-abbrev pub IsPlanned : Directory → List MarkedBuffer → Session → WindowMarks → Command → Option ℕ → List ℕ → Action → Type 0
-IsPlanned directory ks h x c n typed action =
-    outcome_through (idle (own_of h.own)) x ks h.kill action ≡ plan_in directory ks (idle (own_of h.own)) h.user x (selected_height h) c n typed h.kill
-
--- FAILED BEFORE ANYTHING IS PLANNED
-
-pub act_failed : (directory : Directory) (ks : List MarkedBuffer) (xs : List Session) (next : Option ℕ) (id at : ℕ) (h : Session) (c : outcomes.Act) (message : Message) → at ≡ position_or_len (session_id id) xs → at < length xs → slice_get xs at ≡ Some h → own_at at xs ≡ idle (own_at at xs) → outcome (view (world_of directory ks xs next) (session_of ks h)) c true ≡ fails (own_of h.own) message → world_of directory ks (slice_set xs at (failed message h)) next ≡ act (world_of directory ks xs next) id c true
-act_failed directory ks xs next id at h c message place within is fresh known =
-    let w = world_of directory ks xs next in
-    failed_so directory ks xs next id at h message place within is (fresh_own xs at h is fresh)
-    ∙ ap (apply w id) (sym known)
-    ∙ sym (ap (applied w id) (outcome_known directory ks xs next id at h c place within is))
-
-pub act_unbound : (directory : Directory) (ks : List MarkedBuffer) (xs : List Session) (next : Option ℕ) (id at : ℕ) (h : Session) → at ≡ position_or_len (session_id id) xs → at < length xs → slice_get xs at ≡ Some h → own_at at xs ≡ idle (own_at at xs) → world_of directory ks (slice_set xs at (failed KeyNotBound h)) next ≡ act (world_of directory ks xs next) id (act_of Unbound) true
-unfolding outcome
-act_unbound directory ks xs next id at h place within is fresh =
-    act_failed directory ks xs next id at h (act_of Unbound) KeyNotBound place within is fresh refl
+outcome_known directory ks xs next id at h c place within is = outcome_answered directory ks xs next id at h c true place within is
 
 -- A SETTING
 
@@ -137,18 +112,12 @@ module _ (directory : Directory) (ks : List MarkedBuffer) (xs : List Session) (n
       ended_so h.own.recorder.recording (recorded_so (macro_ended h) ends NotInMacro (acted_so (macro_ended h) ends (λ own. refl) refl kept) h.own.recorder.recording) h.own.player.playing
   set_so CallMacro n here = cc
 
-  set_known : (s : Setting) (n : Option ℕ) → outcome (view (world_of directory ks xs next) (session_of ks h)) (act_of (Run (Set s) n)) true ≡ sets (own_of h.own) (setting s (acted_own (own_of h.own)) n)
+  set_known : (s : Setting) (n : Option ℕ) (stored : Bool) → outcome (view (world_of directory ks xs next) (session_of ks h)) (outcomes.Run (Set s) n []) stored ≡ sets (own_of h.own) (setting s (acted_own (own_of h.own)) n)
   unfolding outcome
-  set_known s n = refl
+  set_known s n stored = refl
 
-  pub act_set : (a : KeyAct) (c : Command) (s : Setting) (n : Option ℕ) → a ≡ Run c n → c ≡ Set s → is_done_here a ≡ true → world_of directory ks (slice_set xs at (session_set s n h)) next ≡ act (world_of directory ks xs next) id (act_of a) true
-  act_set a c s n is set here =
-      let same : a ≡ Run (Set s) n = is ∙ ap (λ (k : Command). Run k n) set in
-      let w = world_of directory ks xs next in
-      set_so s n (sym (ap is_done_here same) ∙ here)
-      ∙ ap (apply w id) (sym (set_known s n))
-      ∙ sym (ap (applied w id) (outcome_known directory ks xs next id at h (act_of (Run (Set s) n)) place within found))
-      ∙ ap (λ (k : KeyAct). act w id (act_of k) true) (sym same)
+  pub set_done : (s : Setting) (n : Option ℕ) (stored : Bool) → is_setting_done s ≡ true → world_of directory ks (slice_set xs at (session_set s n h)) next ≡ apply (world_of directory ks xs next) id (outcome (view (world_of directory ks xs next) (session_of ks h)) (outcomes.Run (Set s) n []) stored)
+  set_done s n stored here = set_so s n here ∙ ap (apply (world_of directory ks xs next) id) (sym (set_known s n stored))
 
 -- A QUESTION
 
@@ -161,19 +130,9 @@ module _ (directory : Directory) (ks : List MarkedBuffer) (xs : List Session) (n
       (λ i. record (session_of ks h) { own = own_asking c n h (search_at_rest h.own (fresh_own xs at h found fresh)) (fresh_own xs at h found fresh) i; search = no_search_at_rest ks h (fresh_own xs at h found fresh) i })
       ∙ ap (change_first (has_id id) f) (sym (map-id (map (session_of ks) xs))))
 
-  ask_known : (c : Question) (n : Option ℕ) → outcome (view (world_of directory ks xs next) (session_of ks h)) (act_of (Run (Ask c) n)) true ≡ owns (asks c n (own_of h.own))
+  ask_known : (c : Question) (n : Option ℕ) (stored : Bool) → outcome (view (world_of directory ks xs next) (session_of ks h)) (outcomes.Run (Ask c) n []) stored ≡ owns (asks c n (own_of h.own))
   unfolding outcome
-  ask_known c n = refl
+  ask_known c n stored = refl
 
-  pub act_asked : (a : KeyAct) (k : Command) (c : Question) (n : Option ℕ) → a ≡ Run k n → k ≡ Ask c → world_of directory ks (slice_set xs at (asking c n h)) next ≡ act (world_of directory ks xs next) id (act_of a) true
-  act_asked a k c n is asks_it =
-      let same : a ≡ Run (Ask c) n = is ∙ ap (λ (k : Command). Run k n) asks_it in
-      let w = world_of directory ks xs next in
-      asked_so c n
-      ∙ ap (apply w id) (sym (ask_known c n))
-      ∙ sym (ap (applied w id) (outcome_known directory ks xs next id at h (act_of (Run (Ask c) n)) place within found))
-      ∙ ap (λ (k : KeyAct). act w id (act_of k) true) (sym same)
-
--- an act that arranges windows
-pub rearranging : (a : KeyAct) (c : Command) (k : Arrangement) (n : Option ℕ) → a ≡ Run c n → c ≡ Rearrange k → act_of a ≡ outcomes.Run (Rearrange k) n []
-rearranging a c k n a_is c_is = ap act_of a_is ∙ ap (λ (x : Command). outcomes.Run x n []) c_is
+  pub asked_done : (c : Question) (n : Option ℕ) (stored : Bool) → world_of directory ks (slice_set xs at (asking c n h)) next ≡ apply (world_of directory ks xs next) id (outcome (view (world_of directory ks xs next) (session_of ks h)) (outcomes.Run (Ask c) n []) stored)
+  asked_done c n stored = asked_so c n ∙ ap (apply (world_of directory ks xs next) id) (sym (ask_known c n stored))

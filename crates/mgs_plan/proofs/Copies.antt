@@ -33,10 +33,11 @@ use Rattle.mgs_world.specs.Worlds.{buffers_of, own_of, session_of, world_of}
 use Rattle.mgs_world.proofs.Found.{found_buffer, found_seen, name_kept, unseen}
 use Rattle.mgs_world.proofs.Marks.{not_both}
 use Rattle.mgs_plan.proofs.Outcomes.{any_append, any_read, first_granted, judged_here, permitted_same, selected_none, selected_some, target_at}
+use Rattle.mgs_plan.proofs.Stored.{unstored}
 
 -- DECISIONS
 
-granted_both : (d e : Decision) → or_else d e ≡ Granted → (d ≡ Granted) × (e ≡ Granted)
+pub granted_both : (d e : Decision) → or_else d e ≡ Granted → (d ≡ Granted) × (e ≡ Granted)
 granted_both Granted e h = (refl, h)
 granted_both (DeniedBy n right) e h = cc
 granted_both (NotGranted right) e h = cc
@@ -146,14 +147,17 @@ module _ (directory : Directory) (ks : List MarkedBuffer) (xs : List Session) (n
   -- FOR A SESSION
 
   pub insert_unshown : window_marks_of h ≡ None → IsOutcome directory ks xs next h (Run (Named InsertBuffer) n typed) (Fails NoBuffer)
-  insert_unshown none = insertion_known (rw none tt) ∙ ap (insertion_outcome directory ks (own_of h.own) h.user typed) none
+  insert_unshown none = λ stored.
+      unstored seen (Run (Named InsertBuffer) n typed) stored refl
+      ∙ insertion_known (rw none tt) ∙ ap (insertion_outcome directory ks (own_of h.own) h.user typed) none
 
   pub insert_planned : (x : WindowMarks) (inserted : Inserted) (o : code.Outcome) → window_marks_of h ≡ Some x → AreMarks ks x
       → ((own : Own) → decided_outcome ks own x.name inserted ≡ outcome_from directory ks own h.user typed x (has_buffer typed ks))
-      → ((v : View) → decided_outcome ks v.session.own x.name inserted ≡ outcome_read ks v o)
+      → ((v : View) (stored : Bool) → decided_outcome ks v.session.own x.name inserted ≡ outcome_read ks v o stored)
       → IsOutcome directory ks xs next h (Run (Named InsertBuffer) n typed) o
-  insert_planned x inserted o sel marks decided read =
-      insertion_known (rw sel (mark_is_kept x.name x.point ks marks.point))
+  insert_planned x inserted o sel marks decided read = λ stored.
+      unstored seen (Run (Named InsertBuffer) n typed) stored refl
+      ∙ insertion_known (rw sel (mark_is_kept x.name x.point ks marks.point))
       ∙ ap (insertion_outcome directory ks (own_of h.own) h.user typed) sel
       ∙ sym (decided (own_of h.own))
-      ∙ read seen
+      ∙ read seen stored

@@ -228,16 +228,13 @@ finished_so directory ks xs next id at h x c behind text f order room sound plac
     ∙ ap (λ b. apply (world_of directory ks xs next) id (cond b (fails own KillTooLarge) (ended left (edit_of x.name c) own))) (sym small)
 
 -- a failure ends any mode
-pub failed_always : (directory : Directory) (ks : List MarkedBuffer) (xs : List Session) (next : Option ℕ) (id at : ℕ) (h : Session) (message : Message) → at ≡ position_or_len (session_id id) xs → at < length xs → slice_get xs at ≡ Some h → world_of directory ks (slice_set xs at (failed message h)) next ≡ apply (world_of directory ks xs next) id (fails (own_of h.own) message)
-failed_always directory ks xs next id at h message place within is =
+pub failed_so : (directory : Directory) (ks : List MarkedBuffer) (xs : List Session) (next : Option ℕ) (id at : ℕ) (h : Session) (message : Message) → at ≡ position_or_len (session_id id) xs → at < length xs → slice_get xs at ≡ Some h → own_of h.own ≡ idle (own_of h.own) → world_of directory ks (slice_set xs at (failed message h)) next ≡ apply (world_of directory ks xs next) id (fails (own_of h.own) message)
+failed_so directory ks xs next id at h message place within is fresh =
     let f = session_arranged (fails (own_of h.own) message) in
     same_world directory _ _ _ _ (id_after next) refl
     (written_first (session_of ks) (has_id id) f xs at h (failed message h) (place ∙ sym (position_or_len-map (session_of ks) (has_id id) xs)) within (sym (get_or_from_slice_get xs at h h is))
     refl
     ∙ ap (change_first (has_id id) f) (sym (map-id (map (session_of ks) xs))))
-
-pub failed_so : (directory : Directory) (ks : List MarkedBuffer) (xs : List Session) (next : Option ℕ) (id at : ℕ) (h : Session) (message : Message) → at ≡ position_or_len (session_id id) xs → at < length xs → slice_get xs at ≡ Some h → own_of h.own ≡ idle (own_of h.own) → world_of directory ks (slice_set xs at (failed message h)) next ≡ apply (world_of directory ks xs next) id (fails (own_of h.own) message)
-failed_so directory ks xs next id at h message place within is fresh = failed_always directory ks xs next id at h message place within is
 
 -- a flag is cleared
 fresh_cleared : (o : Own) → own_of o ≡ idle (own_of o) → own_of (record o { echo = Silent; kind = Other }) ≡ acted_own (own_of o)
@@ -258,7 +255,7 @@ done_so : (directory : Directory) (ks : List MarkedBuffer) (xs : List Session) (
     → (let text = (marked_at x.name ks).buffer.text in let items = (marked_at x.name ks).buffer.items in world_of directory (marked_after x text items h.kill action ks) (followed x.name (edit_through x ks h.kill action) (slice_set xs at (session_acted text action h))) next ≡ apply (world_of directory ks xs next) id (outcome_through (own_of h.own) x ks h.kill action))
 done_so directory ks xs next id at x h (Fails message) sound place within is sel marks fresh can none =
     failed_so directory ks xs next id at h message place within is fresh
-done_so directory ks xs next id at x h (Edits c) sound place within is sel marks fresh can none =
+done_so directory ks xs next id at x h (Edits mask c) sound place within is sel marks fresh can none =
     let text = (marked_at x.name ks).buffer.text in
     finished_so directory ks xs next id at h x (change_read text h.kill c) (c.from + length (put_read text h.kill c.put)) text c.finish can.within.order can.within.within sound place within is sel marks fresh none can.small
 done_so directory ks xs next id at x h (Undoes u) sound place within is sel marks fresh can none =
@@ -273,7 +270,7 @@ done_so directory ks xs next id at x h Clears sound place within is sel marks fr
 
 pub kept_sound : (ks : List MarkedBuffer) (xs : List Session) (x : WindowMarks) (text : List ℕ) (items : List Item) (kill : List ℕ) (action : Action) → AreMarks ks x → IsSound ks xs → IsSound (marked_after x text items kill action ks) xs
 kept_sound ks xs x text items kill (Fails message) marks sound = sound
-kept_sound ks xs x text items kill (Edits c) marks sound =
+kept_sound ks xs x text items kill (Edits mask c) marks sound =
     let change = change_read text kill c in
     let ks1 = edited_by x.name change ks in
     let point = mark_edited_by x.name change ks x.point marks.point in
@@ -292,7 +289,7 @@ kept_sound ks xs x text items kill Clears marks sound = sound_unmodified x.name 
 
 pub uses_after : (text : List ℕ) (action : Action) (h : Session) (n : List ℕ) (i : ℕ) → session_uses n i (session_acted text action h) ≡ session_uses n i h
 uses_after text (Fails message) h n i = refl
-uses_after text (Edits c) h n i = refl
+uses_after text (Edits mask c) h n i = refl
 uses_after text (Undoes u) h n i = refl
 uses_after text (Moves f) h n i = refl
 uses_after text Clears h n i = refl

@@ -79,7 +79,7 @@ told_follows size serial c order within small room = go (is_edit c.a c.b c.put) 
 
 pub action_follows : (text : List ℕ) (items : List Item) (kill : List ℕ) (serial : ℕ) (action : Action) → CanDo text items kill serial action → length text ≤ 1048576 → CanFollow (action_edit text items kill action)
 action_follows text items kill serial (Fails message) can small = tt
-action_follows text items kill serial (Edits c) can small = told_follows (length text) serial (change_read text kill c) can.within.order can.within.within small can.room
+action_follows text items kill serial (Edits mask c) can small = told_follows (length text) serial (change_read text kill c) can.within.order can.within.within small can.room
 action_follows text items kill serial (Undoes u) can small =
     told_follows (length text) serial (undone_read text kill (removed_by u.serial items) u) (omega arith) can.within small can.room
 action_follows text items kill serial (Moves f) can small = tt

@@ -23,13 +23,14 @@ use Rattle.mgs_windows.specs.declared.RowPane.{RowPane}
 use Rattle.mgs_windows.specs.declared.RowPane.TheVariants.{NoRows, Buffers, Entries}
 use Rattle.mgs_session.specs.Sessions.{subject_in, subject_of}
 use Rattle.mgs_session.specs.declared.Session.{Session}
-use Rattle.mgs_plan.specs.Deciding.{IsOutcome, outcome_read, view_at}
+use Rattle.mgs_plan.specs.Deciding.{IsJudged, IsOutcome, view_at}
 use Rattle.mgs_plan.specs.Inserting.{rights_decision}
 use Rattle.mgs_plan.specs.Killing.{kill_decision, kill_granted, kill_named, kill_outcome, name_in, name_meant}
 use Rattle.mgs_plan.specs.declared.outcome.Outcome.{Outcome}
 use Rattle.mgs_plan.specs.declared.outcome.Outcome.TheVariants.{Fails, Kills}
 use Rattle.mgs_world.specs.Worlds.{buffers_of, own_of, session_of, window_of, window_shown, world_of}
 use Rattle.mgs_plan.proofs.Outcomes.{only_one}
+use Rattle.mgs_plan.proofs.Stored.{unstored}
 
 -- WHAT IT COMES TO
 
@@ -104,14 +105,18 @@ kill_there directory ks own user (c ∷ cs) kept form = go (find (marked_named (
     go (Some k) e = refl
 
 module _ (directory : Directory) (ks : List MarkedBuffer) (xs : List Session) (next n : Option ℕ) (h : Session) (typed : List ℕ) where
-  pub kill_planned : (name : List ℕ) (mask : ℕ) (o : Outcome) → name ≡ name_meant (subject_of h) typed → HasBuffer name ks → IsName name → mask ≡ 65536 → ((v : View) → permitted v.session.own (rights_decision directory ks h.user name mask) (outcome_read ks v (Kills name)) ≡ outcome_read ks v o) → IsOutcome directory ks xs next h (Run (Named KillBuffer) n typed) o
-  kill_planned name mask o name_is kept form mask_is planned =
+  pub kill_planned : (name : List ℕ) (mask : ℕ) (o : Outcome) → name ≡ name_meant (subject_of h) typed → HasBuffer name ks → IsName name → mask ≡ 65536 → IsJudged directory ks h.user name mask (Kills name) o → IsOutcome directory ks xs next h (Run (Named KillBuffer) n typed) o
+  kill_planned name mask o name_is kept form mask_is planned = λ stored.
       let own = own_of h.own in
-      kill_known directory ks xs next h n typed
+      unstored (view_at directory ks xs next h) (Run (Named KillBuffer) n typed) stored refl
+      ∙ kill_known directory ks xs next h n typed
       ∙ ap (kill_named directory ks own h.user) (sym name_is)
       ∙ sym (kill_there directory ks own h.user name kept form)
       ∙ ap (λ (m : ℕ). permitted own (rights_decision directory ks h.user name m) (effects own (Ok (Kill name)))) (sym mask_is)
-      ∙ planned (view_at directory ks xs next h)
+      ∙ planned (view_at directory ks xs next h) stored
 
   pub kill_refused : (message : Message) → ((directory : Directory) (own : Own) (user : List ℕ) → kill_outcome directory ks own user (subject_of h) typed ≡ fails own message) → IsOutcome directory ks xs next h (Run (Named KillBuffer) n typed) (Fails message)
-  kill_refused message none = kill_known directory ks xs next h n typed ∙ none directory (own_of h.own) h.user
+  kill_refused message none = λ stored.
+      unstored (view_at directory ks xs next h) (Run (Named KillBuffer) n typed) stored refl
+      ∙ kill_known directory ks xs next h n typed
+      ∙ none directory (own_of h.own) h.user

@@ -13,4 +13,9 @@ pub mod Subjects
 pub mod Rulings
 pub mod Listings
 pub mod Switches
-pub mod Texts
+pub mod Lines
+pub mod Stored
+pub mod Saves
+pub mod Scrolls
+pub mod Unbound
+pub mod Granted

@@ -1,5 +1,5 @@
 -- What it comes to that an access list is to be shown.
-use Rattle.std.proofs.Common.{◌≡◌, ℕ, true, false, List, [], map, Option, Some, None, sym, ap, ◌∙◌}
+use Rattle.std.proofs.Common.{◌≡◌, ℕ, true, false, List, [], map, Option, Some, None, refl, sym, ap, ◌∙◌}
 use Rattle.std.specs.Prelude.{IfSome}
 use Rattle.mgs_model.specs.Access.{Directory, decision_by}
 use Rattle.mgs_model.specs.Rights.{rights_in}
@@ -7,15 +7,11 @@ use Rattle.mgs_model.specs.View.{BufferSeen, View, buffer_seen, find_seen, view}
 use Rattle.mgs_model.specs.Outcome.{Run}
 use Rattle.mgs_model.specs.Acts.{about, deciders_found, judged, lists, outcome, permitted, subject}
 use Rattle.mgs_model.specs.declared.message.Message.TheVariants.{NoBuffer}
-use Rattle.mgs_model.specs.declared.session.Command.{Command}
 use Rattle.mgs_model.specs.declared.session.Command.TheVariants.{ListEntries}
 use Rattle.mgs_buffers.specs.MarkedBuffer.{HasBuffer, MarkedBuffer, has_buffer, marked_at}
 use Rattle.mgs_session.specs.Sessions.{subject_of}
 use Rattle.mgs_session.specs.declared.Session.{Session}
-use Rattle.mgs_plan.specs.declared.key_act.KeyAct.{KeyAct}
-use Rattle.mgs_plan.specs.declared.key_act.KeyAct.TheVariants as acts
-use Rattle.mgs_plan.specs.Actions.{act_of}
-use Rattle.mgs_plan.specs.Deciding.{IsOutcome, outcome_read, view_at}
+use Rattle.mgs_plan.specs.Deciding.{IsJudged, IsOutcome, view_at}
 use Rattle.mgs_plan.specs.Inserting.{rights_decision}
 use Rattle.mgs_plan.specs.Listing.{list_outcome, lists_named}
 use Rattle.mgs_plan.specs.Subjects.{subject_kept}
@@ -25,6 +21,7 @@ use Rattle.mgs_world.specs.Worlds.{buffers_of, session_of, world_of}
 use Rattle.mgs_world.proofs.Found.{found_seen, name_kept}
 use Rattle.mgs_plan.proofs.Outcomes.{only_one}
 use Rattle.mgs_plan.proofs.Subjects.{kept_subject, subject_seen, subject_told}
+use Rattle.mgs_plan.proofs.Stored.{unstored}
 
 list_seen : (directory : Directory) (ks : List MarkedBuffer) (xs : List Session) (next n : Option ℕ) (h : Session) → has_buffer [] ks ≡ false
     → (let v = view (world_of directory ks xs next) (session_of ks h) in outcome v (Run ListEntries n []) true ≡ list_outcome directory ks h.user (subject_kept ks (subject_of h)) v)
@@ -51,18 +48,17 @@ list_seen directory ks xs next n h unnamed = go (subject_kept ks (subject_of h))
 
 module _ (directory : Directory) (ks : List MarkedBuffer) (xs : List Session) (next n : Option ℕ) (h : Session) (unnamed : has_buffer [] ks ≡ false) where
   pub list_unshown : None ≡ subject_kept ks (subject_of h) → IsOutcome directory ks xs next h (Run ListEntries n []) (Fails NoBuffer)
-  list_unshown none = list_seen directory ks xs next n h unnamed ∙ ap (λ s. list_outcome directory ks h.user s (view_at directory ks xs next h)) (sym none)
+  list_unshown none = λ stored.
+      unstored (view_at directory ks xs next h) (Run ListEntries n []) stored refl
+      ∙ list_seen directory ks xs next n h unnamed ∙ ap (λ s. list_outcome directory ks h.user s (view_at directory ks xs next h)) (sym none)
 
   pub list_planned : (name : List ℕ) (mask : ℕ) (o : Outcome) → Some name ≡ subject_kept ks (subject_of h) → mask ≡ 131072
-      → ((v : View) → permitted v.session.own (rights_decision directory ks h.user name mask) (outcome_read ks v (Lists name)) ≡ outcome_read ks v o)
+      → IsJudged directory ks h.user name mask (Lists name) o
       → IsOutcome directory ks xs next h (Run ListEntries n []) o
-  list_planned name mask o shown mask_is planned =
+  list_planned name mask o shown mask_is planned = λ stored.
       let v = view_at directory ks xs next h in
-      list_seen directory ks xs next n h unnamed
+      unstored v (Run ListEntries n []) stored refl
+      ∙ list_seen directory ks xs next n h unnamed
       ∙ ap (λ s. list_outcome directory ks h.user s v) (sym shown)
       ∙ ap (λ (m : ℕ). permitted v.session.own (rights_decision directory ks h.user name m) (lists_named v name)) (sym mask_is)
-      ∙ planned v
-
--- it is shown by a word of keys, or by its name
-pub list_run : (a : KeyAct) (c : Command) (n : Option ℕ) → a ≡ acts.Run c n → c ≡ ListEntries → act_of a ≡ Run ListEntries n []
-list_run a c n a_is c_is = ap act_of a_is ∙ ap (λ (x : Command). Run x n []) c_is
+      ∙ planned v stored

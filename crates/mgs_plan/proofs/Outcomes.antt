@@ -8,19 +8,17 @@ use Rattle.mgs_model.specs.Access.{Directory, Decider, decider, decision_by, all
 use Rattle.mgs_model.specs.Rights.{all_rights, rights_in}
 use Rattle.mgs_model.specs.World.{Item, Buffer, Own, Shows, Nothing, Buffer_of, Listing, List_of}
 use Rattle.mgs_model.specs.World as model
-use Rattle.mgs_model.specs.View.{View, BufferSeen, WindowSeen, find_seen, view, reads, reads_found, buffer_seen, search_seen, window_seen, positions_if, told_if, full_if, size_told, serial_told, text_in}
+use Rattle.mgs_model.specs.View.{View, BufferSeen, WindowSeen, find_seen, view, reads, reads_found, buffer_seen, window_seen, positions_if, told_if, full_if, size_told, serial_told, text_in}
 use Rattle.mgs_model.specs.Outcome.{Effect, Outcome, Unmodified}
 use Rattle.mgs_model.specs.Outcome as outcomes
 use Rattle.mgs_model.specs.Plans.{Around, Change, Finish, alteration, insertion, motion, reading_insertion, scrolling, undo}
-use Rattle.mgs_model.specs.Acts.{Target, about, acts_at, anchor_in, around, deciders_found, edited_by, edits, effects, fails, has_rows, here, insertion_right, is_rows, is_sought_in, items_in, judged, mark_in, moved_by, moves, or_else, outcome, permitted, row_in, rules, scrolls_rows, selected_seen, shown, target, target_in}
+use Rattle.mgs_model.specs.Acts.{Target, about, acts_at, around, deciders_found, edited_by, edits, effects, fails, has_rows, here, insertion_right, is_rows, items_in, judged, mark_in, moved_by, moves, or_else, outcome, permitted, row_in, rules, scrolls_rows, selected_seen, shown, target, target_in}
 use Rattle.mgs_model.specs.declared.right.Right.{Right}
 use Rattle.mgs_model.specs.declared.right.Right.TheVariants.{ReadData, WriteData, AppendData}
 use Rattle.mgs_model.specs.declared.entry.Decision.{Decision}
 use Rattle.mgs_model.specs.declared.entry.Decision.TheVariants.{Granted, DeniedBy, NotGranted}
 use Rattle.mgs_model.specs.declared.message.Message.{Message}
 use Rattle.mgs_model.specs.declared.message.Message.TheVariants.{NoBuffer}
-use Rattle.mgs_model.specs.declared.search.SearchPlaces.{SearchPlaces}
-use Rattle.mgs_model.specs.declared.session.Motion.{Motion}
 use Rattle.mgs_model.specs.declared.session.Command.{Command}
 use Rattle.mgs_model.specs.declared.session.Command.TheVariants.{Insert, InsertReading, Move, Alter, Scroll, UndoEdit, NotModified}
 use Rattle.mgs_laws.proofs.Outcomes.{granted_each}
@@ -33,13 +31,11 @@ use Rattle.mgs_windows.specs.Panes.{rows_in}
 use Rattle.mgs_session.specs.Sessions.{window_marks_of}
 use Rattle.mgs_session.specs.declared.Session.{Session}
 use Rattle.mgs_model.specs.declared.session.Scrolling.{Scrolling}
-use Rattle.mgs_model.specs.Names.{same_name}
-use Rattle.mgs_plan.specs.Beginning.{seeking}
 use Rattle.mgs_plan.specs.Rows.{outcome_without, scroll_in, scroll_outcome}
 use Rattle.mgs_plan.specs.Actions.{edit_outcome, granted_outcome, height_or_none, is_on_text, mark_if, outcome_at, place_in, plan_in, selected_height}
 use Rattle.mgs_world.specs.Worlds.{buffers_of, own_of, session_of, window_of, window_shown, world_of}
 use Rattle.mgs_world.proofs.Found.{found_buffer, found_seen, name_kept}
-use Rattle.mgs_world.proofs.Marks.{is_same, not_both}
+use Rattle.mgs_world.proofs.Marks.{not_both}
 use Rattle.mgs_world.proofs.Worlds.{selected_window}
 
 -- RIGHTS
@@ -392,73 +388,3 @@ off_seen directory ks xs next h (Some s) none =
 pub outcome_none : (directory : Directory) (ks : List MarkedBuffer) (xs : List Session) (next : Option ℕ) (h : Session) (c : Command) (n : Option ℕ) (typed : List ℕ) → is_of_text c ≡ true → window_marks_of h ≡ None → outcome (view (world_of directory ks xs next) (session_of ks h)) (outcomes.Run c n typed) true ≡ outcome_without (own_of h.own) (scroll_in c) (slice_get h.windows.windows h.windows.selected)
 outcome_none directory ks xs next h c n typed on none =
     off_target (view (world_of directory ks xs next) (session_of ks h)) c n typed on (selected_none directory ks xs next h none) ∙ off_seen directory ks xs next h (scroll_in c) none
-
--- A SEARCH THAT GOES ON: a motion by a session that has this record and these positions of a search
-module _ (directory : Directory) (ks : List MarkedBuffer) (xs : List Session) (next : Option ℕ) (h : Session) (own : Own) (n : Option ℕ) (typed : List ℕ) (m : Motion) where
-  abbrev pub come_to : Option model.Search → Outcome
-  come_to search = let y : model.Session = record (session_of ks h) { search = search; own = own } in outcome (view (world_of directory ks xs next) y) (outcomes.Run (Move m) n typed) true
-
-  pub moved_off : (search : Option model.Search) → window_marks_of h ≡ None → come_to search ≡ fails own NoBuffer
-  moved_off search none =
-      let y : model.Session = record (session_of ks h) { search = search; own = own } in
-      off_target (view (world_of directory ks xs next) y) (Move m) n typed refl (selected_none directory ks xs next h none)
-
-  module _ (x : WindowMarks) (sel : window_marks_of h ≡ Some x) (kept : HasBuffer x.name ks) where
-    abbrev b : Buffer
-    b = (marked_at x.name ks).buffer
-
-    abbrev d : Right → Decider
-    d = decider directory b.owners h.user b.entries
-
-    abbrev seen : Option model.Search → Around
-    seen search = let y : model.Session = record (session_of ks h) { search = search; own = own } in around (view (world_of directory ks xs next) y).session n typed (target_at directory ks h.user (selected_height h) x)
-
-    moved_on : (search : Option model.Search) → come_to search ≡ outcome_at own (Move m) d (text_in (full_if (allows (d ReadData)) b)) (items_in (full_if (allows (d ReadData)) b)) (seen search)
-    moved_on search =
-        let y : model.Session = record (session_of ks h) { search = search; own = own } in
-        let v = view (world_of directory ks xs next) y in
-        let some = selected_some directory ks xs next h x sel kept in
-        on_target v (target_at directory ks h.user some.0 x) (Move m) n typed refl some.1
-        (ap (λ name. find_seen name (map (buffer_seen directory h.user) (buffers_of ks))) (name_kept x.name ks kept) ∙ found_seen directory h.user x.name ks kept)
-        ∙ ap (λ (height : ℕ). outcome_at own (Move m) d (text_in (full_if (allows (d ReadData)) b)) (items_in (full_if (allows (d ReadData)) b)) (around v.session n typed (target_at directory ks h.user height x))) (sym some.2)
-
-    pub moved_denied : (search : Option model.Search) (message : Message) → ((own : Own) (o : Outcome) → permitted own (decision_by d (rights_in 1)) o ≡ fails own message) → come_to search ≡ fails own message
-    moved_denied search message told = moved_on search ∙ told own (moved_by own (motion m (text_in (full_if (allows (d ReadData)) b)) (seen search)))
-
-    -- where reading is granted
-    module _ (granted : decision_by d (rights_in 1) ≡ Granted) where
-      -- the search is in another buffer, or there is none
-      pub moved_elsewhere : (search : Option model.Search) → is_sought_in b.name (search_seen (reads directory (buffers_of ks) h.user) search) ≡ false → come_to search ≡ moved_by own (motion m (text_in (full_if (allows (d ReadData)) b)) (record (seen search) { sought_here = false }))
-      moved_elsewhere search away =
-          moved_on search
-          ∙ ap (λ (q : Bool). outcome_at own (Move m) d (text_in (full_if (allows (d ReadData)) b)) (items_in (full_if (allows (d ReadData)) b)) (record (seen search) { sought_here = q })) away
-          ∙ ap (λ (g : Decision). permitted own g (moved_by own (motion m (text_in (full_if (allows (d ReadData)) b)) (record (seen search) { sought_here = false })))) granted
-
-      -- it is in this one
-      module _ (places : SearchPlaces) (point_is : places.point ≡ mark_at x.name ks x.point) where
-        abbrev mark : Option ℕ
-        mark = option_map (mark_at x.name ks) x.mark
-
-        abbrev top : ℕ
-        top = mark_at x.name ks x.top
-
-        abbrev seen_so : Bool → Bool → List ℕ → Bool → Around
-        seen_so told read name here =
-            record (surroundings told read b name (mark_at x.name ks x.point) mark top (selected_height h) n typed h.kill own) {
-              origin = acts_at (positions_if read places.origin (Some places.anchor) 0) 0;
-              anchor = anchor_in (Some (record { name = x.name; positions = positions_if read places.origin (Some places.anchor) 0 }));
-              sought_here = here;
-            }
-
-        pub moved_here : (f : Finish) → ((rest : Around) → rest.old ≡ own.old → Path (Result Finish Message) (Ok f) (motion m b.text (seeking rest places typed))) → come_to (Some (record { name = x.name; origin = places.origin; anchor = places.anchor })) ≡ moved_by own (Ok f)
-        moved_here f planned =
-            let reads = first_granted d [] granted in
-            moved_on (Some (record { name = x.name; origin = places.origin; anchor = places.anchor }))
-            ∙ ap (λ (r : Bool). outcome_at own (Move m) d (text_in (full_if (allows (d ReadData)) b)) (items_in (full_if (allows (d ReadData)) b)) (seen_so (any_right d) r b.name (same_name b.name x.name))) (ap (reads_found directory h.user) (found_buffer x.name ks kept))
-            ∙ ap (λ (r : Bool). outcome_at own (Move m) d (text_in (full_if r b)) (items_in (full_if r b)) (seen_so (any_right d) r b.name (same_name b.name x.name))) reads
-            ∙ ap (λ (t : Bool). outcome_at own (Move m) d b.text b.items (seen_so t true b.name (same_name b.name x.name))) (any_read d reads)
-            ∙ ap (λ (name : List ℕ). outcome_at own (Move m) d b.text b.items (seen_so true true name (same_name name x.name))) (name_kept x.name ks kept)
-            ∙ ap (λ (q : Bool). outcome_at own (Move m) d b.text b.items (seen_so true true x.name q)) (is_same x.name x.name refl)
-            ∙ ap (λ (g : Decision). permitted own g (moved_by own (motion m b.text (seen_so true true x.name true)))) granted
-            ∙ ap (λ (p : ℕ). moved_by own (motion m b.text (record (seen_so true true x.name true) { place = p }))) (sym point_is)
-            ∙ ap (moved_by own) (sym (planned (seen_so true true x.name true) refl))

@@ -23,14 +23,9 @@ use Rattle.mgs_laws.proofs.Outcomes.{granted_each}
 use Rattle.mgs_buffers.specs.MarkedBuffer.{HasBuffer, MarkedBuffer, has_buffer, marked_at}
 use Rattle.mgs_session.specs.Sessions.{subject_of}
 use Rattle.mgs_session.specs.declared.Session.{Session}
-use Rattle.mgs_model.specs.declared.session.Command.{Command}
-use Rattle.mgs_model.specs.declared.session.Command.TheVariants as commands
-use Rattle.mgs_plan.specs.declared.key_act.KeyAct.{KeyAct}
-use Rattle.mgs_plan.specs.declared.key_act.KeyAct.TheVariants as acts
-use Rattle.mgs_plan.specs.Actions.{act_of}
 use Rattle.mgs_plan.specs.Subjects.{subject_kept}
 use Rattle.mgs_plan.specs.Ruling.{command_of, ruling_in, ruling_mask, ruling_outcome, ruling_plan}
-use Rattle.mgs_plan.specs.Deciding.{IsOutcome, outcome_read, view_at}
+use Rattle.mgs_plan.specs.Deciding.{IsJudged, IsOutcome, IsRuled, view_at}
 use Rattle.mgs_plan.specs.Inserting.{rights_decision}
 use Rattle.mgs_plan.specs.declared.outcome.Outcome.{Outcome}
 use Rattle.mgs_plan.specs.declared.outcome.Outcome.TheVariants.{Fails}
@@ -41,6 +36,7 @@ use Rattle.mgs_world.proofs.Found.{found_seen, name_kept}
 use Rattle.mgs_world.proofs.Marks.{same_is}
 use Rattle.mgs_plan.proofs.Outcomes.{only_one, permitted_same}
 use Rattle.mgs_plan.proofs.Subjects.{kept_subject, subject_seen, subject_told}
+use Rattle.mgs_plan.proofs.Stored.{is_save, unstored}
 
 -- A USER'S NAME
 
@@ -164,31 +160,33 @@ ruling_known directory ks xs next h c n typed unnamed = go (subject_kept ks (sub
 
 -- FOR A SESSION
 
+no_save : (c : Ruling) (n : Option ℕ) (typed : List ℕ) → is_save (Run (command_of c) n typed) ≡ false
+no_save Owner n typed = refl
+no_save Group n typed = refl
+no_save (Entries c) n typed = refl
+
 module _ (directory : Directory) (ks : List MarkedBuffer) (xs : List Session) (next : Option ℕ) (h : Session) (c : Ruling) (n : Option ℕ) (typed : List ℕ) (unnamed : has_buffer [] ks ≡ false) where
   pub rule_unshown : None ≡ subject_kept ks (subject_of h) → IsOutcome directory ks xs next h (Run (command_of c) n typed) (Fails NoBuffer)
-  rule_unshown none =
-      ruling_known directory ks xs next h c n typed unnamed ∙ ap (λ s. ruling_outcome directory ks (own_of h.own) h.user s c n typed) (sym none)
+  rule_unshown none = λ stored.
+      unstored (view_at directory ks xs next h) (Run (command_of c) n typed) stored (no_save c n typed)
+      ∙ ruling_known directory ks xs next h c n typed unnamed ∙ ap (λ s. ruling_outcome directory ks (own_of h.own) h.user s c n typed) (sym none)
 
   pub rule_planned : (name : List ℕ) (mask : ℕ) (ruled o : Outcome) → Some name ≡ subject_kept ks (subject_of h) → mask ≡ ruling_mask c
-      → ((v : View) → outcome_read ks v ruled ≡ effects v.session.own (ruling_plan directory name (marked_at name ks).buffer.entries c n typed))
-      → ((v : View) → permitted v.session.own (rights_decision directory ks h.user name mask) (outcome_read ks v ruled) ≡ outcome_read ks v o)
+      → IsRuled ks (ruling_plan directory name (marked_at name ks).buffer.entries c n typed) ruled → IsJudged directory ks h.user name mask ruled o
       → IsOutcome directory ks xs next h (Run (command_of c) n typed) o
-  rule_planned name mask ruled o shown mask_is does planned =
+  rule_planned name mask ruled o shown mask_is does planned = λ stored.
       let own = own_of h.own in
       let v = view_at directory ks xs next h in
       let done = effects own (ruling_plan directory name (marked_at name ks).buffer.entries c n typed) in
-      ruling_known directory ks xs next h c n typed unnamed
+      unstored v (Run (command_of c) n typed) stored (no_save c n typed)
+      ∙ ruling_known directory ks xs next h c n typed unnamed
       ∙ ap (λ s. ruling_outcome directory ks own h.user s c n typed) (sym shown)
       ∙ ap (λ (m : ℕ). permitted own (rights_decision directory ks h.user name m) done) (sym mask_is)
-      ∙ ap (permitted own (rights_decision directory ks h.user name mask)) (sym (does v))
-      ∙ planned v
+      ∙ ap (permitted own (rights_decision directory ks h.user name mask)) (sym (does v stored))
+      ∙ planned v stored
 
 -- an empty name is none
 pub no_empty_name : (ks : List MarkedBuffer) (o : Option (List ℕ)) → IfSome o (λ n. n ≡ []) → IfSome o (λ n. IsName n) → is_some o ≡ has_buffer [] ks → has_buffer [] ks ≡ false
 no_empty_name ks None empty form there = sym there
 no_empty_name ks (Some n) empty form there =
     let never : IsName [] = subst IsName empty form in cc
-
--- an entry is deleted by a word of keys
-pub entries_run : (a : KeyAct) (c : Command) (k : EntryChange) (n : Option ℕ) → a ≡ acts.Run c n → c ≡ commands.Entries k → act_of a ≡ Run (command_of (Entries k)) n []
-entries_run a c k n a_is c_is = ap act_of a_is ∙ ap (λ (x : Command). Run x n []) c_is

@@ -1,5 +1,5 @@
 -- What a switch to a buffer comes to.
-use Rattle.std.proofs.Common.{◌≡◌, ℕ, true, false, List, [], ◌∷◌, length, Option, Some, None, refl, sym, ap, ◌∙◌}
+use Rattle.std.proofs.Common.{◌≡◌, ℕ, Bool, true, false, List, [], ◌∷◌, length, Option, Some, None, refl, sym, ap, ◌∙◌}
 use Rattle.std.proofs.lemmas.List.{length-map}
 use Rattle.mgs_model.specs.Access.{Directory, decision_by}
 use Rattle.mgs_model.specs.Rights.{rights_in}
@@ -11,12 +11,14 @@ use Rattle.mgs_model.specs.declared.session.ByName.TheVariants.{SwitchToBuffer}
 use Rattle.mgs_model.specs.declared.session.Command.TheVariants.{Named}
 use Rattle.mgs_buffers.specs.MarkedBuffer.{HasBuffer, MarkedBuffer, has_buffer, marked_at}
 use Rattle.mgs_session.specs.declared.Session.{Session}
-use Rattle.mgs_plan.specs.Deciding.{IsOutcome, outcome_read, view_at}
+use Rattle.mgs_plan.specs.Deciding.{IsJudged, IsOutcome, outcome_read, view_at}
 use Rattle.mgs_plan.specs.Inserting.{rights_decision}
 use Rattle.mgs_plan.specs.declared.outcome.Outcome.{Outcome}
+use Rattle.mgs_plan.specs.declared.outcome.Outcome.TheVariants.{Shows}
 use Rattle.mgs_world.specs.Worlds.{buffers_of}
 use Rattle.mgs_world.proofs.Found.{found_seen, unseen}
 use Rattle.mgs_plan.proofs.Outcomes.{only_one}
+use Rattle.mgs_plan.proofs.Stored.{unstored}
 
 abbrev switch_in : View → List ℕ → Option BufferSeen → outcomes.Outcome
 switch_in v typed o =
@@ -32,23 +34,25 @@ request v typed b found = only_one (decision_by (deciders_found (find_seen typed
 module _ (directory : Directory) (ks : List MarkedBuffer) (xs : List Session) (next n : Option ℕ) (h : Session) (typed : List ℕ) where
   -- the buffer is there
   pub switch_kept : (name : List ℕ) (mask : ℕ) (o : Outcome) → name ≡ typed → HasBuffer typed ks → mask ≡ 128
-      → ((v : View) → permitted v.session.own (rights_decision directory ks h.user name mask) (shows_named v name No_effect) ≡ outcome_read ks v o)
+      → IsJudged directory ks h.user name mask (Shows name) o
       → IsOutcome directory ks xs next h (Run (Named SwitchToBuffer) n typed) o
-  switch_kept name mask o name_is kept mask_is planned =
+  switch_kept name mask o name_is kept mask_is planned = λ stored.
       let v = view_at directory ks xs next h in
       let b = buffer_seen directory h.user (marked_at typed ks).buffer in
       let found : find_seen typed v.buffers ≡ Some b = found_seen directory h.user typed ks kept in
-      switch_seen v typed n
+      unstored v (Run (Named SwitchToBuffer) n typed) stored refl
+      ∙ switch_seen v typed n
       ∙ ap (switch_in v typed) found
       ∙ ap (λ d. permitted v.session.own d (shows_named v typed No_effect)) (request v typed b found)
       ∙ ap (λ (m : ℕ). permitted v.session.own (rights_decision directory ks h.user typed m) (shows_named v typed No_effect)) (sym mask_is)
       ∙ ap (λ (m : List ℕ). permitted v.session.own (rights_decision directory ks h.user m mask) (shows_named v m No_effect)) (sym name_is)
-      ∙ planned v
+      ∙ planned v stored
 
   -- it is not
-  pub switch_free : (o : Outcome) → has_buffer typed ks ≡ false → ((v : View) → length v.buffers ≡ length ks → created v typed ≡ outcome_read ks v o) → IsOutcome directory ks xs next h (Run (Named SwitchToBuffer) n typed) o
-  switch_free o free planned =
+  pub switch_free : (o : Outcome) → has_buffer typed ks ≡ false → ((v : View) (stored : Bool) → length v.buffers ≡ length ks → created v typed ≡ outcome_read ks v o stored) → IsOutcome directory ks xs next h (Run (Named SwitchToBuffer) n typed) o
+  switch_free o free planned = λ stored.
       let v = view_at directory ks xs next h in
-      switch_seen v typed n
+      unstored v (Run (Named SwitchToBuffer) n typed) stored refl
+      ∙ switch_seen v typed n
       ∙ ap (switch_in v typed) (unseen directory h.user typed ks free)
-      ∙ planned v (length-map (buffers_of ks) (buffer_seen directory h.user) ∙ length-map ks (λ (k : MarkedBuffer). k.buffer))
+      ∙ planned v stored (length-map (buffers_of ks) (buffer_seen directory h.user) ∙ length-map ks (λ (k : MarkedBuffer). k.buffer))

@@ -18,18 +18,19 @@ use Rattle.mgs_model.specs.declared.right.Right.TheVariants.{ReadData}
 use Rattle.mgs_model.specs.declared.message.Message.{Message}
 use Rattle.mgs_model.specs.declared.message.Message.TheVariants.{KeyNotBound, BufferFull, Silent}
 use Rattle.mgs_model.specs.declared.session.Command.{Command}
-use Rattle.mgs_model.specs.declared.session.Command.TheVariants.{Insert, InsertReading, Move, Alter, Scroll, Set, Rearrange, Ask, Entries, ListEntries, UndoEdit, NotModified}
+use Rattle.mgs_model.specs.declared.session.Command.TheVariants.{Insert, InsertReading, Move, Alter, Scroll, Set, Rearrange, Ask, Entries, ListEntries, UndoEdit, NotModified, SaveBuffer}
 use Rattle.mgs_model.specs.declared.session.Kind.TheVariants.{Other}
 use Rattle.mgs_model.specs.declared.session.EntryChange.{EntryChange}
 use Rattle.mgs_model.specs.declared.session.EntryChange.TheVariants.{DeleteEntry}
 use Rattle.mgs_model.specs.declared.session.Setting.{Setting}
 use Rattle.mgs_model.specs.declared.session.Setting.TheVariants.{SetFillColumn, KeyboardQuit, StartMacro, EndMacro}
+use Rattle.mgs_buffers.specs.Changing.{writes}
 use Rattle.mgs_buffers.specs.MarkedBuffer.{IsMark, MarkedBuffer, marked_at, marked_edited, marked_named, marked_placed, marked_unmodified, mark_at}
 use Rattle.mgs_windows.specs.declared.WindowMarks.{WindowMarks}
 use Rattle.mgs_windows.specs.declared.Window.{Window}
 use Rattle.mgs_session.specs.Sessions.{acted, failed, told}
 use Rattle.mgs_session.specs.declared.Session.{Session}
-use Rattle.mgs_edit.specs.Reading.{ChangeWithin, FinishWithin, LeavesBehind, change_read, finish_read, is_alteration_planned, is_planned, kill_read, undone_read}
+use Rattle.mgs_edit.specs.Reading.{ChangeWithin, FinishWithin, LeavesBehind, change_read, edit_read, finish_read, is_alteration_planned, is_planned, kill_read, motion_read, undone_read}
 use Rattle.mgs_edit.specs.declared.plan.Around.{Around}
 use Rattle.mgs_edit.specs.declared.plan.Change.{Change}
 use Rattle.mgs_edit.specs.declared.plan.Finish.{Finish}
@@ -38,6 +39,7 @@ use Rattle.mgs_undo.specs.History.{has_serial}
 use Rattle.mgs_model.specs.declared.session.Question.{Question}
 use Rattle.mgs_model.specs.declared.session.Question.TheVariants.{RunWhich, ReplaceWhat, ReplaceWith}
 use Rattle.mgs_world.specs.Marking.{IsReserved, session_marked}
+use Rattle.mgs_world.specs.Worlds.{idle, own_of}
 use Rattle.mgs_plan.specs.declared.key_act.KeyAct.{KeyAct}
 use Rattle.mgs_plan.specs.declared.key_act.KeyAct.TheVariants.{Unbound, Run}
 use Rattle.mgs_plan.specs.declared.given.Given.{Given}
@@ -80,6 +82,7 @@ is_command_done (Rearrange c) = true
 is_command_done (Ask c) = true
 is_command_done (Entries c) = is_entry_done c
 is_command_done ListEntries = true
+is_command_done SaveBuffer = true
 is_command_done c = is_on_text c
 
 -- the questions whose answers are done here: a command's name is looked up elsewhere, and so is what is to be replaced
@@ -100,6 +103,10 @@ pub record AreMarks (ks : List MarkedBuffer) (x : WindowMarks) : Type 0 where
   pub point : IsMark x.name x.point ks
   pub mark : (id : ℕ) → x.mark ≡ Some id → IsMark x.name id ks
   pub top : IsMark x.name x.top ks
+
+-- the marks of a window in the buffer of a name
+abbrev pub marks_in : List ℕ → WindowMarks → WindowMarks
+marks_in name x = record x { name = name }
 
 -- where a user acts: at the point, or at the text's end where the text may not be read
 abbrev pub place_in : Bool → ℕ → ℕ → ℕ
@@ -181,19 +188,23 @@ pub record CanUndo (text : List ℕ) (items : List Item) (kill : List ℕ) (seri
 
 abbrev pub CanDo : List ℕ → List Item → List ℕ → ℕ → Action → Type 0
 CanDo text items kill serial (Fails message) = Unit {0}
-CanDo text items kill serial (Edits c) = CanChange text kill serial c
+CanDo text items kill serial (Edits mask c) = CanChange text kill serial c
 CanDo text items kill serial (Undoes u) = CanUndo text items kill serial u
 CanDo text items kill serial (Moves f) = CanFinish (length text) (length text) text kill f
 CanDo text items kill serial Clears = Unit {0}
 
+-- in the buffer of a name
+abbrev pub CanDoIn : List MarkedBuffer → List ℕ → List ℕ → Action → Type 0
+CanDoIn ks name kill action = let b = (marked_at name ks).buffer in CanDo b.text b.items kill b.serial action
+
 abbrev pub CanBeDone : List MarkedBuffer → WindowMarks → List ℕ → Action → Type 0
-CanBeDone ks x kill action = CanDo (marked_at x.name ks).buffer.text (marked_at x.name ks).buffer.items kill (marked_at x.name ks).buffer.serial action
+CanBeDone ks x kill action = CanDoIn ks x.name kill action
 
 -- the outcome that an action stands for, in the buffer of this name, text and items, by a session that holds this and has this kill
 -- buffer
 abbrev pub action_outcome : model.Own → List ℕ → List ℕ → List Item → List ℕ → Action → Outcome
 action_outcome own name text items kill (Fails message) = fails own message
-action_outcome own name text items kill (Edits c) = finished own (change_read text kill c).finish (edit_of name (change_read text kill c))
+action_outcome own name text items kill (Edits mask c) = finished own (change_read text kill c).finish (edit_of name (change_read text kill c))
 action_outcome own name text items kill (Undoes u) =
     let c = undone_read text kill (removed_by u.serial items) u in
     finished own c.finish (edit_of name c)
@@ -223,7 +234,7 @@ kill_at at xs = kill_or_none (slice_get xs at)
 -- where an action sets the mark, if it does
 abbrev pub mark_told : Action → Option ℕ
 mark_told (Fails message) = None
-mark_told (Edits c) = c.finish.mark
+mark_told (Edits mask c) = c.finish.mark
 mark_told (Undoes u) = None
 mark_told (Moves f) = f.mark
 mark_told Clears = None
@@ -247,7 +258,7 @@ edited_by name c ks = cond (is_edit c.a c.b c.put) (change_first (marked_named n
 -- the buffers, and the acting session, once an action is done, but for the mark
 abbrev pub marked_after : WindowMarks → List ℕ → List Item → List ℕ → Action → List MarkedBuffer → List MarkedBuffer
 marked_after x text items kill (Fails message) ks = ks
-marked_after x text items kill (Edits c) ks = marks_gone x (change_read text kill c).finish (edited_by x.name (change_read text kill c) ks)
+marked_after x text items kill (Edits mask c) ks = marks_gone x (change_read text kill c).finish (edited_by x.name (change_read text kill c) ks)
 marked_after x text items kill (Undoes u) ks =
     let c = undone_read text kill (removed_by u.serial items) u in
     marks_gone x c.finish (edited_by x.name c ks)
@@ -264,7 +275,7 @@ session_finished f h = told f.told (acted f.kind (record h { kill = kill_after f
 
 abbrev pub session_acted : List ℕ → Action → Session → Session
 session_acted text (Fails message) h = failed message h
-session_acted text (Edits c) h = session_finished (change_read text h.kill c).finish h
+session_acted text (Edits mask c) h = session_finished (change_read text h.kill c).finish h
 session_acted text (Undoes u) h = session_finished (finish_read text h.kill 0 u.finish) h
 session_acted text (Moves f) h = session_finished (finish_read text h.kill 0 f) h
 session_acted text Clears h = told Silent (acted Other h)
@@ -296,6 +307,14 @@ mask_at UndoEdit place size = 3
 mask_at NotModified place size = 3
 mask_at _ place size = 1
 
+-- that these rights are those by which an action is done
+abbrev pub IsDoneBy : ℕ → Action → Type 0
+IsDoneBy needed (Fails message) = Unit {0}
+IsDoneBy needed (Edits mask c) = (mask ≡ needed) × (writes mask ≡ true)
+IsDoneBy needed (Undoes u) = needed ≡ 3
+IsDoneBy needed (Moves f) = Unit {0}
+IsDoneBy needed Clears = needed ≡ 3
+
 -- what it does where they are granted
 abbrev pub granted_outcome : model.Own → Command → List ℕ → List Item → plans.Around → Outcome
 granted_outcome own (Insert c) text items a = edit_outcome own a.name a.size a.serial (insertion c a)
@@ -315,3 +334,24 @@ abbrev pub plan_in : Directory → List MarkedBuffer → model.Own → List ℕ 
 plan_in directory ks own user x height c n typed kill =
     let b = (marked_at x.name ks).buffer in
     outcome_at own c (decider directory b.owners user b.entries) b.text b.items (around_in directory ks user x height n typed kill own)
+
+-- WHAT PLANS SAY
+
+-- that an action is what a planned edit of a text of this serial comes to, or a planned motion
+abbrev pub IsEditOf : List ℕ → ℕ → List ℕ → Result Change Message → Action → Type 0
+IsEditOf text serial kill planned action =
+    (own : model.Own) (name : List ℕ) (items : List Item) → action_outcome own name text items kill action ≡ edit_outcome own name (length text) serial (edit_read text kill planned)
+
+abbrev pub IsMotionOf : List ℕ → List ℕ → Result Finish Message → Action → Type 0
+IsMotionOf text kill planned action =
+    (own : model.Own) (name : List ℕ) (items : List Item) → action_outcome own name text items kill action ≡ moved_by own (motion_read text kill planned)
+
+-- that it is what a command comes to through a window's marks, by a user who is given this and has this kill buffer
+abbrev pub IsActionFor : Directory → List MarkedBuffer → List ℕ → WindowMarks → Given → List ℕ → Command → List ℕ → Action → Type 0
+IsActionFor directory ks user x g kill c typed action =
+    (own : model.Own) → outcome_through (given_own g own) x ks kill action ≡ plan_in directory ks (given_own g own) user x g.height c g.argument typed kill
+
+-- and by a session at rest
+abbrev pub IsActionOf : Directory → List MarkedBuffer → Session → WindowMarks → Command → Option ℕ → List ℕ → Action → Type 0
+IsActionOf directory ks h x c n typed action =
+    let own = idle (own_of h.own) in outcome_through own x ks h.kill action ≡ plan_in directory ks own h.user x (selected_height h) c n typed h.kill

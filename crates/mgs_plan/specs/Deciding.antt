@@ -1,60 +1,140 @@
 -- What is decided, as the model has it.
-use Rattle.std.specs.Prelude.{◌≡◌, ℕ, false, true, List, Option, Some, Ok}
+use Rattle.std.specs.Prelude.{◌≡◌, ℕ, Bool, false, true, List, [], length, Option, Some, Result, Ok, slice_get}
 use Rattle.mgs_model.specs.Access.{Directory}
-use Rattle.mgs_model.specs.Acts.{effects, fails, outcome, relisted, shows_named}
-use Rattle.mgs_model.specs.Outcome.{Act, Create, Kill, No_effect, Reown}
+use Rattle.mgs_model.specs.Acts.{effects, fails, outcome, permitted, relisted, shows_named}
+use Rattle.mgs_model.specs.Outcome.{Act, Create, Effect, Kill, No_effect, Reown, Run}
 use Rattle.mgs_model.specs.Outcome as outcomes
 use Rattle.mgs_model.specs.View.{View, view}
+use Rattle.mgs_model.specs.World.{Own}
+use Rattle.mgs_model.specs.declared.entry.Decision.{Decision}
+use Rattle.mgs_model.specs.declared.entry.Decision.TheVariants.{Granted}
+use Rattle.mgs_model.specs.declared.message.Message.{Message}
+use Rattle.mgs_model.specs.declared.session.Command.TheVariants.{Ask, Rearrange, Set}
+use Rattle.mgs_model.specs.declared.session.Scrolling.{Scrolling}
+use Rattle.mgs_buffers.specs.Changing.{writes}
 use Rattle.mgs_buffers.specs.MarkedBuffer.{HasBuffer, MarkedBuffer, has_buffer, marked_at}
 use Rattle.mgs_session.specs.Sessions.{window_marks_of}
 use Rattle.mgs_session.specs.declared.Session.{Session}
 use Rattle.mgs_windows.specs.declared.WindowMarks.{WindowMarks}
-use Rattle.mgs_plan.specs.Actions.{CanBeDone, outcome_through}
-use Rattle.mgs_plan.specs.Inserting.{CanCopy, put_outcome}
+use Rattle.mgs_plan.specs.Actions.{CanBeDone, insertion_mask, is_setting_done, outcome_through}
+use Rattle.mgs_plan.specs.Inserting.{CanCopy, put_outcome, rights_decision}
 use Rattle.mgs_plan.specs.Listed.{CanRelist, entries_planned}
 use Rattle.mgs_plan.specs.Listing.{lists_named}
+use Rattle.mgs_plan.specs.Rows.{CanScroll, outcome_without, rows_outcome}
+use Rattle.mgs_plan.specs.Saving.{save_answered}
 use Rattle.mgs_plan.specs.declared.action.Action.{Action}
+use Rattle.mgs_plan.specs.declared.action.Action.TheVariants as actions
+use Rattle.mgs_plan.specs.declared.outcome.EntryPlan.{EntryPlan}
 use Rattle.mgs_plan.specs.declared.outcome.Outcome.{Outcome}
-use Rattle.mgs_plan.specs.declared.outcome.Outcome.TheVariants.{Fails, Acts, Kills, Reowns, Relists, Lists, Shows, Creates, Copies}
+use Rattle.mgs_plan.specs.declared.outcome.Outcome.TheVariants.{Fails, Acts, Kills, Reowns, Relists, Lists, Shows, Creates, Copies, Saves, Scrolls, Sets, Asks, Arranges}
 use Rattle.mgs_world.specs.Worlds.{session_of, world_of}
 
 -- the view of a session
 abbrev pub view_at : Directory → List MarkedBuffer → List Session → Option ℕ → Session → View
 view_at directory ks xs next h = view (world_of directory ks xs next) (session_of ks h)
 
--- what an outcome is in a view, by the buffers
-abbrev pub outcome_read : List MarkedBuffer → View → Outcome → outcomes.Outcome
-outcome_read ks v (Fails message) = fails v.session.own message
-outcome_read ks v (Acts x action) = outcome_through v.session.own x ks v.session.kill action
-outcome_read ks v (Kills name) = effects v.session.own (Ok (Kill name))
-outcome_read ks v (Reowns name new) = effects v.session.own (Ok (Reown name new))
-outcome_read ks v (Relists name plan) = effects v.session.own (relisted name (entries_planned plan (marked_at name ks).buffer.entries))
-outcome_read ks v (Lists name) = lists_named v name
-outcome_read ks v (Shows name) = shows_named v name No_effect
-outcome_read ks v (Creates name) = shows_named v name (Create name v.session.user)
-outcome_read ks v (Copies x source place) = put_outcome v.session.own x.name place (marked_at source ks).buffer.text
+-- what an outcome is in a view, by the buffers and by whether the store saved
+abbrev pub outcome_read : List MarkedBuffer → View → Outcome → Bool → outcomes.Outcome
+outcome_read ks v (Fails message) stored = fails v.session.own message
+outcome_read ks v (Acts x action) stored = outcome_through v.session.own x ks v.session.kill action
+outcome_read ks v (Kills name) stored = effects v.session.own (Ok (Kill name))
+outcome_read ks v (Reowns name new) stored = effects v.session.own (Ok (Reown name new))
+outcome_read ks v (Relists name plan) stored = effects v.session.own (relisted name (entries_planned plan (marked_at name ks).buffer.entries))
+outcome_read ks v (Lists name) stored = lists_named v name
+outcome_read ks v (Shows name) stored = shows_named v name No_effect
+outcome_read ks v (Creates name) stored = shows_named v name (Create name v.session.user)
+outcome_read ks v (Copies x source place) stored = put_outcome v.session.own x.name place (marked_at source ks).buffer.text
+outcome_read ks v (Saves name) stored = save_answered v.session.own name (marked_at name ks).buffer.text stored
+outcome_read ks v (Scrolls rows) stored = rows_outcome v.session.own rows
+outcome_read ks v (Sets c n) stored = outcome v (Run (Set c) n []) stored
+outcome_read ks v (Asks c n) stored = outcome v (Run (Ask c) n []) stored
+outcome_read ks v (Arranges c n) stored = outcome v (Run (Rearrange c) n []) stored
+
+-- THAT IT CAN BE DONE
+
+-- a user is granted these rights on the buffer of a name
+abbrev pub IsGranted : Directory → List MarkedBuffer → List ℕ → List ℕ → ℕ → Type 0
+IsGranted directory ks user name mask = rights_decision directory ks user name mask ≡ Granted
+
+-- those by which an action is done
+abbrev pub IsActionGranted : Directory → List MarkedBuffer → List ℕ → List ℕ → Action → Type 0
+IsActionGranted directory ks user name (actions.Fails message) = Unit {0}
+IsActionGranted directory ks user name (actions.Edits mask c) = IsGranted directory ks user name mask × (writes mask ≡ true)
+IsActionGranted directory ks user name (actions.Undoes u) = IsGranted directory ks user name 3
+IsActionGranted directory ks user name (actions.Moves f) = Unit {0}
+IsActionGranted directory ks user name actions.Clears = IsGranted directory ks user name 3
 
 -- through the marks of the window that a session has selected
-pub record CanAct (ks : List MarkedBuffer) (h : Session) (x : WindowMarks) (action : Action) : Type 0 where
+pub record CanAct (directory : Directory) (ks : List MarkedBuffer) (h : Session) (x : WindowMarks) (action : Action) : Type 0 where
   pub selected : window_marks_of h ≡ Some x
   pub can : CanBeDone ks x h.kill action
+  pub granted : IsActionGranted directory ks h.user x.name action
 
-pub record CanPut (ks : List MarkedBuffer) (h : Session) (x : WindowMarks) (source : List ℕ) (place : ℕ) : Type 0 where
+pub record CanPut (directory : Directory) (ks : List MarkedBuffer) (h : Session) (x : WindowMarks) (source : List ℕ) (place : ℕ) : Type 0 where
   pub selected : window_marks_of h ≡ Some x
   pub copy : CanCopy ks x.name source place
+  pub granted : IsGranted directory ks h.user x.name (insertion_mask place (length (marked_at x.name ks).buffer.text))
+
+-- the buffer of a name is there, and a user is granted these rights on it
+pub record CanRule (directory : Directory) (ks : List MarkedBuffer) (user name : List ℕ) (mask : ℕ) : Type 0 where
+  pub kept : HasBuffer name ks
+  pub granted : IsGranted directory ks user name mask
+
+pub record CanList (directory : Directory) (ks : List MarkedBuffer) (user name : List ℕ) (plan : EntryPlan) : Type 0 where
+  pub can : CanRelist ks name plan
+  pub granted : IsGranted directory ks user name 262144
+
+pub record CanSave (directory : Directory) (ks : List MarkedBuffer) (user name : List ℕ) : Type 0 where
+  pub kept : HasBuffer name ks
+  pub granted : IsGranted directory ks user name 3
+  pub file : (marked_at name ks).buffer.file ≡ true
 
 -- what an outcome asks of the buffers, and of the session that acts
-abbrev pub CanPerform : List MarkedBuffer → Session → Outcome → Type 0
-CanPerform ks h (Fails message) = Unit {0}
-CanPerform ks h (Acts x action) = CanAct ks h x action
-CanPerform ks h (Kills name) = HasBuffer name ks
-CanPerform ks h (Reowns name new) = HasBuffer name ks
-CanPerform ks h (Relists name plan) = CanRelist ks name plan
-CanPerform ks h (Lists name) = Unit {0}
-CanPerform ks h (Shows name) = HasBuffer name ks
-CanPerform ks h (Creates name) = has_buffer name ks ≡ false
-CanPerform ks h (Copies x source place) = CanPut ks h x source place
+abbrev pub CanPerform : Directory → List MarkedBuffer → Session → Outcome → Type 0
+CanPerform directory ks h (Fails message) = Unit {0}
+CanPerform directory ks h (Acts x action) = CanAct directory ks h x action
+CanPerform directory ks h (Kills name) = CanRule directory ks h.user name 65536
+CanPerform directory ks h (Reowns name new) = CanRule directory ks h.user name 524288
+CanPerform directory ks h (Relists name plan) = CanList directory ks h.user name plan
+CanPerform directory ks h (Lists name) = Unit {0}
+CanPerform directory ks h (Shows name) = HasBuffer name ks
+CanPerform directory ks h (Creates name) = has_buffer name ks ≡ false
+CanPerform directory ks h (Copies x source place) = CanPut directory ks h x source place
+CanPerform directory ks h (Saves name) = CanSave directory ks h.user name
+CanPerform directory ks h (Scrolls rows) = CanScroll h rows
+CanPerform directory ks h (Sets c n) = is_setting_done c ≡ true
+CanPerform directory ks h (Asks c n) = Unit {0}
+CanPerform directory ks h (Arranges c n) = Unit {0}
 
--- that this is what an act of a session comes to
+-- the same, once these rights are granted
+abbrev pub MayPerform : Directory → List MarkedBuffer → List ℕ → List ℕ → ℕ → Session → Outcome → Type 0
+MayPerform directory ks user name mask h o = IsGranted directory ks user name mask → CanPerform directory ks h o
+
+-- THAT IT IS WHAT AN ACT COMES TO
+
+-- by a session, whatever the store answers
 abbrev pub IsOutcome : Directory → List MarkedBuffer → List Session → Option ℕ → Session → Act → Outcome → Type 0
-IsOutcome directory ks xs next h c o = outcome (view_at directory ks xs next h) c true ≡ outcome_read ks (view_at directory ks xs next h) o
+IsOutcome directory ks xs next h c o =
+    let v = view_at directory ks xs next h in (stored : Bool) → outcome v c stored ≡ outcome_read ks v o stored
+
+-- and whichever sessions there are beside it
+abbrev pub IsPlanned : Directory → List MarkedBuffer → Session → Act → Outcome → Type 0
+IsPlanned directory ks h c o = (xs : List Session) (next : Option ℕ) → IsOutcome directory ks xs next h c o
+
+-- that this is told in place of whatever was to be done
+abbrev pub Refuses : Decision → Message → Type 0
+Refuses d message = (own : Own) (o : outcomes.Outcome) → permitted own d o ≡ fails own message
+
+-- that it is the one, where these rights are granted a user on the buffer of a name, and else what is told of that
+abbrev pub IsJudged : Directory → List MarkedBuffer → List ℕ → List ℕ → ℕ → Outcome → Outcome → Type 0
+IsJudged directory ks user name mask granted o =
+    (v : View) (stored : Bool) → permitted v.session.own (rights_decision directory ks user name mask) (outcome_read ks v granted stored) ≡ outcome_read ks v o stored
+
+-- that it has this effect, or tells why there is none
+abbrev pub IsRuled : List MarkedBuffer → Result Effect Message → Outcome → Type 0
+IsRuled ks effect o = (v : View) (stored : Bool) → outcome_read ks v o stored ≡ effects v.session.own effect
+
+-- that it is what scrolling comes to, or any other command on a text, in a session whose selected window shows none
+abbrev pub IsUnshown : Session → Option Scrolling → Outcome → Type 0
+IsUnshown h scrolling o =
+    (ks : List MarkedBuffer) (v : View) (stored : Bool) → outcome_without v.session.own scrolling (slice_get h.windows.windows h.windows.selected) ≡ outcome_read ks v o stored

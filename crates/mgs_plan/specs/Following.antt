@@ -20,7 +20,7 @@ edit_told size c = cond (is_edit c.a c.b c.put) (Some (record { size = size; fro
 -- the edit that an action is
 abbrev pub action_edit : List ℕ → List Item → List ℕ → Action → Option Edited
 action_edit text items kill (Fails message) = None
-action_edit text items kill (Edits c) = edit_told (length text) (change_read text kill c)
+action_edit text items kill (Edits mask c) = edit_told (length text) (change_read text kill c)
 action_edit text items kill (Undoes u) = edit_told (length text) (undone_read text kill (removed_by u.serial items) u)
 action_edit text items kill (Moves f) = None
 action_edit text items kill Clears = None

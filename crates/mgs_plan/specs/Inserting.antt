@@ -7,6 +7,7 @@ use Rattle.mgs_model.specs.Plans as plans
 use Rattle.mgs_model.specs.Acts.{edit_of, fails, finished, is_full, or_else, permitted}
 use Rattle.mgs_model.specs.Apply.{change_first}
 use Rattle.mgs_model.specs.declared.entry.Decision.{Decision}
+use Rattle.mgs_model.specs.declared.entry.Decision.TheVariants.{Granted}
 use Rattle.mgs_model.specs.declared.message.Message.TheVariants.{NoBuffer, NoSuchBuffer, Silent}
 use Rattle.mgs_model.specs.declared.right.Right.TheVariants.{ReadData}
 use Rattle.mgs_model.specs.declared.session.Kind.TheVariants.{Other}
@@ -90,6 +91,11 @@ pub record CanCopy (ks : List MarkedBuffer) (name source : List ℕ) (place : �
 abbrev pub CanInsert : List MarkedBuffer → List ℕ → Inserted → Type 0
 CanInsert ks name (Fails message) = Unit {0}
 CanInsert ks name (Copies source place) = CanCopy ks name source place
+
+-- that the right of an insertion at its place is granted
+abbrev pub IsInsertionGranted : Directory → List MarkedBuffer → List ℕ → List ℕ → Inserted → Type 0
+IsInsertionGranted directory ks user name (Fails message) = Unit {0}
+IsInsertionGranted directory ks user name (Copies source place) = target_decision directory ks user name place ≡ Granted
 
 -- WHAT IS DONE, but for the mark
 abbrev pub buffers_inserted : WindowMarks → ℕ → List ℕ → List MarkedBuffer → List MarkedBuffer

@@ -11,3 +11,5 @@ pub mod Listed
 pub mod Ruling
 pub mod Subjects
 pub mod Listing
+pub mod Saving
+pub mod Searching

@@ -1,5 +1,5 @@
 -- What a command on a text does in a window that shows none.
-use Rattle.std.specs.Prelude.{ℕ, Option, Some, None, slice_get}
+use Rattle.std.specs.Prelude.{◌≡◌, ℕ, Option, Some, None, slice_get}
 use Rattle.mgs_model.specs.World.{Own}
 use Rattle.mgs_model.specs.Outcome.{Outcome}
 use Rattle.mgs_model.specs.Plans.{row_scrolled}
@@ -14,7 +14,7 @@ use Rattle.mgs_windows.specs.declared.Window.{Window}
 use Rattle.mgs_windows.specs.declared.RowPane.{RowPane}
 use Rattle.mgs_windows.specs.declared.RowPane.TheVariants.{NoRows, Buffers, Entries}
 use Rattle.mgs_windows.specs.Panes.{rows_in, rows_set}
-use Rattle.mgs_session.specs.Sessions.{acted, failed}
+use Rattle.mgs_session.specs.Sessions.{acted, failed, window_marks_of}
 use Rattle.mgs_session.specs.declared.Session.{Session}
 use Rattle.mgs_plan.specs.Actions.{height_or_none}
 
@@ -28,6 +28,11 @@ abbrev pub pane_scrolled : Scrolling → ℕ → RowPane → Option RowPane
 pane_scrolled c height NoRows = None
 pane_scrolled c height (Buffers row) = Some (Buffers (row_scrolled c row height))
 pane_scrolled c height (Entries name row) = Some (Entries name (row_scrolled c row height))
+
+-- what a command leaves of the rows of a window, if it scrolls any
+abbrev pub rows_scrolled : Option Scrolling → Option Window → Option RowPane
+rows_scrolled None o = None
+rows_scrolled (Some c) o = pane_scrolled c (height_or_none o) (rows_in o)
 
 -- the selected window has these rows
 abbrev pub session_rows : RowPane → Session → Session
@@ -45,7 +50,19 @@ abbrev pub without_text : Option Scrolling → Session → Session
 without_text None h = failed NoBuffer h
 without_text (Some c) h = scrolled_at c (slice_get h.windows.windows h.windows.selected) h
 
+-- that the selected window shows no text, and comes to these rows by some scrolling
+pub record CanScroll (h : Session) (rows : RowPane) : Type 0 where
+  pub by : Option Scrolling
+  pub unshown : window_marks_of h ≡ None
+  pub scrolled : rows_scrolled by (slice_get h.windows.windows h.windows.selected) ≡ Some rows
+
 -- OUTCOMES
+
+-- what it comes to that a window comes to rows
+abbrev pub rows_outcome : Own → RowPane → Outcome
+rows_outcome own NoRows = fails own NoBuffer
+rows_outcome own (Buffers row) = scrolls_rows own (Some row)
+rows_outcome own (Entries name row) = scrolls_rows own (Some row)
 
 abbrev pub scroll_outcome : Own → Scrolling → ℕ → RowPane → Outcome
 scroll_outcome own c height NoRows = fails own NoBuffer

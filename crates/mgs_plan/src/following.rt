@@ -2,7 +2,7 @@
 ghost use Rattle.std.specs.Prelude.{◌≡◌, ◌+◌, length};
 ghost use Rattle.mgs_buffers.specs.MarkedBuffer.{HasBuffer, marked_at};
 ghost use Rattle.mgs_edit.specs.Reading.{change_read, undone_read};
-ghost use Rattle.mgs_plan.specs.Actions.{CanChange, CanDo, CanUndo, removed_by};
+ghost use Rattle.mgs_plan.specs.Actions.{CanChange, CanDoIn, CanUndo, removed_by};
 ghost use Rattle.mgs_plan.specs.Following.{CanFollow, action_edit, edit_told, followed};
 ghost use Rattle.mgs_plan.specs.Inserting.{CanPut, insertion_of};
 
@@ -72,14 +72,14 @@ pub fn edit_of<T: Marked + Drop>(
     action: &Action,
 ) -> Option<Edited>
     requires kept { HasBuffer name.now buffers.now }
-    requires can { CanDo (marked_at name.now buffers.now).buffer.text (marked_at name.now buffers.now).buffer.items kill.now (marked_at name.now buffers.now).buffer.serial action.now }
+    requires can { CanDoIn buffers.now name.now kill.now action.now }
     ensures value { result ≡ action_edit (marked_at name.now buffers.now).buffer.text (marked_at name.now buffers.now).buffer.items kill.now action.now }
     ensures can { CanFollow result }
 {
     // For the limit of a text.
     let _size = buffers.text_len(name);
     match action {
-        Action::Edits(change) => edit_of_change(buffers, name, kill, change),
+        Action::Edits(_, change) => edit_of_change(buffers, name, kill, change),
         Action::Undoes(undone) => edit_of_undo(buffers, name, kill, undone),
         Action::Fails(_) => None,
         Action::Moves(_) => None,

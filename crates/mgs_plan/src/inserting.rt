@@ -1,8 +1,7 @@
 // What the insertion of a buffer's text into the one that is shown comes to.
 ghost use Rattle.std.specs.Prelude.{◌≡◌, ◌<◌, ◌≤◌, ℕ, List, length, Option, Some, None, IfSome};
 ghost use Rattle.mgs_model.specs.Access.{Directory};
-ghost use Rattle.mgs_model.specs.Acts.{fails, is_full, permitted};
-ghost use Rattle.mgs_model.specs.Outcome as model;
+ghost use Rattle.mgs_model.specs.Acts.{is_full};
 ghost use Rattle.mgs_model.specs.Outcome.{Run};
 ghost use Rattle.mgs_model.specs.World.{Own};
 ghost use Rattle.mgs_model.specs.declared.entry.Decision.TheVariants.{Granted};
@@ -11,10 +10,9 @@ ghost use Rattle.mgs_plan.specs.declared.inserting.Inserted.TheVariants.{Copies}
 ghost use Rattle.mgs_model.specs.declared.session.ByName.TheVariants.{InsertBuffer};
 ghost use Rattle.mgs_model.specs.declared.session.Command.TheVariants.{Named};
 ghost use Rattle.mgs_session.specs.Sessions.{window_marks_of};
-ghost use Rattle.mgs_session.specs.declared.Session as code;
 ghost use Rattle.mgs_plan.specs.Actions.{AreMarks};
-ghost use Rattle.mgs_plan.specs.Deciding.{CanPerform, IsOutcome};
-ghost use Rattle.mgs_plan.specs.Inserting.{CanInsert, acting_place, copied_at, copy_decision, copy_outcome, decided_outcome, insertion_of, outcome_from, rights_decision, target_decision};
+ghost use Rattle.mgs_plan.specs.Deciding.{CanPerform, IsGranted, IsPlanned, Refuses};
+ghost use Rattle.mgs_plan.specs.Inserting.{CanInsert, IsInsertionGranted, acting_place, copied_at, copy_decision, copy_outcome, decided_outcome, insertion_of, outcome_from, rights_decision, target_decision};
 
 use crate::outcome::Outcome;
 use crate::planning::{denial, insertion_bit};
@@ -36,15 +34,15 @@ pub enum Inserted {
 }
 
 /// Why a user may not read the buffer whose text is to come in, if there is a reason.
-pub fn source_refusal<T: Marked + Drop>(
+fn source_refusal<T: Marked + Drop>(
     buffers: &Buffers<T>,
     directory: &Directory,
     user: &Name,
     source: &Name,
 ) -> Option<Message>
     requires { HasBuffer source.now buffers.now }
-    ensures refused { IfSome result (λ message. (own : Own) (o : model.Outcome) → permitted own (rights_decision directory.now buffers.now user.now source.now 1) o ≡ fails own message) }
-    ensures none { result ≡ None → rights_decision directory.now buffers.now user.now source.now 1 ≡ Granted }
+    ensures refused { IfSome result (Refuses (rights_decision directory.now buffers.now user.now source.now 1)) }
+    ensures none { result ≡ None → IsGranted directory.now buffers.now user.now source.now 1 }
 {
     let mask = Mask::from_bits(Right::ReadData.bit());
     denial(buffers.decide_all(directory, source, user, mask))
@@ -59,7 +57,7 @@ fn target_refusal<T: Marked + Drop>(
     place: usize,
 ) -> Option<Message>
     requires { HasBuffer name.now buffers.now }
-    ensures refused { IfSome result (λ message. (own : Own) (o : model.Outcome) → permitted own (target_decision directory.now buffers.now user.now name.now place) o ≡ fails own message) }
+    ensures refused { IfSome result (Refuses (target_decision directory.now buffers.now user.now name.now place)) }
     ensures none { result ≡ None → target_decision directory.now buffers.now user.now name.now place ≡ Granted }
 {
     let mask = Mask::from_bits(insertion_bit(place, buffers.text_len(name)));
@@ -77,8 +75,9 @@ fn refusal<T: Marked + Drop>(
 ) -> Option<Message>
     requires source { HasBuffer source.now buffers.now }
     requires target { HasBuffer name.now buffers.now }
-    ensures refused { IfSome result (λ message. (own : Own) (o : model.Outcome) → permitted own (copy_decision directory.now buffers.now user.now source.now name.now place) o ≡ fails own message) }
+    ensures refused { IfSome result (Refuses (copy_decision directory.now buffers.now user.now source.now name.now place)) }
     ensures none { result ≡ None → copy_decision directory.now buffers.now user.now source.now name.now place ≡ Granted }
+    ensures target { result ≡ None → target_decision directory.now buffers.now user.now name.now place ≡ Granted }
 {
     match source_refusal(buffers, directory, user, source) {
         Some(message) => Some(message),
@@ -128,6 +127,7 @@ fn copied_at<T: Marked + Drop>(
     requires within { place ≤ length (marked_at name.now buffers.now).buffer.text }
     ensures value { (own : Own) → decided_outcome buffers.now own name.now result ≡ copied_at buffers.now own source name.now place }
     ensures can { CanInsert buffers.now name.now result }
+    ensures granted { (directory : Directory) (user : List ℕ) → target_decision directory buffers.now user name.now place ≡ Granted → IsInsertionGranted directory buffers.now user name.now result }
 {
     if is_full(buffers, &source, name) {
         return Inserted::Fails(Message::BufferFull);
@@ -148,6 +148,7 @@ fn copied<T: Marked + Drop>(
     requires marks { AreMarks buffers.now window_marks.now }
     ensures value { (own : Own) → decided_outcome buffers.now own window_marks.now.name result ≡ copy_outcome directory.now buffers.now own user.now source window_marks.now }
     ensures can { CanInsert buffers.now window_marks.now.name result }
+    ensures granted { IsInsertionGranted directory.now buffers.now user.now window_marks.now.name result }
 {
     let name = &window_marks.name;
     let place = acting_place(buffers, directory, user, window_marks);
@@ -169,6 +170,7 @@ fn decide_insertion<T: Marked + Drop>(
     requires marks { AreMarks buffers.now window_marks.now }
     ensures value { (own : Own) → decided_outcome buffers.now own window_marks.now.name result ≡ outcome_from directory.now buffers.now own user.now typed.now window_marks.now (has_buffer typed.now buffers.now) }
     ensures can { CanInsert buffers.now window_marks.now.name result }
+    ensures granted { IsInsertionGranted directory.now buffers.now user.now window_marks.now.name result }
 {
     match buffers.name_typed(typed) {
         None => Inserted::Fails(Message::NoSuchBuffer),
@@ -177,15 +179,15 @@ fn decide_insertion<T: Marked + Drop>(
 }
 
 /// What it comes to for a session.
-pub fn plan_insertion<T: Marked + Drop>(
+pub(crate) fn plan_insertion<T: Marked + Drop>(
     buffers: &Buffers<T>,
     directory: &Directory,
     session: &Session,
     typed: &[char],
 ) -> Outcome
     requires marks { IfSome (window_marks_of session.now) (AreMarks buffers.now) }
-    ensures value { (xs : List code.Session) (next n : Option ℕ) → IsOutcome directory.now buffers.now xs next session.now (Run (Named InsertBuffer) n typed.now) result }
-    ensures can { CanPerform buffers.now session.now result }
+    ensures value { (n : Option ℕ) → IsPlanned directory.now buffers.now session.now (Run (Named InsertBuffer) n typed.now) result }
+    ensures can { CanPerform directory.now buffers.now session.now result }
 {
     let Some(window_marks) = selected_window_marks(session) else {
         return Outcome::Fails(Message::NoBuffer);

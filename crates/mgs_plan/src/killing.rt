@@ -9,8 +9,7 @@ ghost use Rattle.mgs_model.specs.World.{Own};
 ghost use Rattle.mgs_model.specs.declared.session.ByName.TheVariants.{KillBuffer};
 ghost use Rattle.mgs_model.specs.declared.session.Command.TheVariants.{Named};
 ghost use Rattle.mgs_buffers.specs.MarkedBuffer.{HasBuffer};
-ghost use Rattle.mgs_session.specs.declared.Session as code;
-ghost use Rattle.mgs_plan.specs.Deciding.{CanPerform, IsOutcome};
+ghost use Rattle.mgs_plan.specs.Deciding.{CanPerform, IsPlanned};
 ghost use Rattle.mgs_plan.specs.Killing.{kill_outcome, name_meant};
 
 use crate::judging::judged;
@@ -53,14 +52,14 @@ fn meant<T: Marked + Drop>(
 }
 
 /// What it comes to for a session.
-pub fn plan_kill<T: Marked + Drop>(
+pub(crate) fn plan_kill<T: Marked + Drop>(
     buffers: &Buffers<T>,
     directory: &Directory,
     session: &Session,
     typed: &[char],
 ) -> Outcome
-    ensures value { (xs : List code.Session) (next n : Option ℕ) → IsOutcome directory.now buffers.now xs next session.now (Run (Named KillBuffer) n typed.now) result }
-    ensures can { CanPerform buffers.now session.now result }
+    ensures value { (n : Option ℕ) → IsPlanned directory.now buffers.now session.now (Run (Named KillBuffer) n typed.now) result }
+    ensures can { CanPerform directory.now buffers.now session.now result }
 {
     match meant(buffers, subject(session), typed) {
         Err(message) => Outcome::Fails(message),

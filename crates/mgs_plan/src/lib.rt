@@ -2,6 +2,8 @@
 #![tactic(auto)]
 
 mod action;
+mod acts;
+mod answering;
 mod following;
 mod given;
 mod inserting;
@@ -10,22 +12,21 @@ mod key_act;
 mod killing;
 mod listing;
 mod naming;
+mod on_text;
 mod outcome;
 mod planning;
+mod rows;
 mod ruling;
+mod saving;
+mod searching;
 mod subject;
 mod switching;
 
 pub use action::Action;
+pub use acts::plan_act;
+pub use answering::plan_answer;
 pub use following::{edit_of, edit_of_insertion, follow};
-pub use given::Given;
-pub use inserting::{plan_insertion, source_refusal};
-pub use judging::{judged, refusal};
 pub use key_act::KeyAct;
-pub use killing::plan_kill;
-pub use listing::plan_list;
 pub use outcome::{EntryPlan, Outcome};
-pub use planning::{around, denial, moves, needs, plan};
-pub use ruling::{Ruling, changed, plan_rule};
-pub use subject::subject_in;
-pub use switching::plan_switch;
+pub use planning::denial;
+pub use ruling::changed;

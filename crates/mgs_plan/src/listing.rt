@@ -1,9 +1,8 @@
 // What it comes to that an access list is to be shown: that of the buffer whose text or access list the selected window shows.
-ghost use Rattle.std.specs.Prelude.{◌≡◌, ℕ, List, [], Option};
+ghost use Rattle.std.specs.Prelude.{◌≡◌, ℕ, [], Option};
 ghost use Rattle.mgs_model.specs.Outcome.{Run};
 ghost use Rattle.mgs_model.specs.declared.session.Command.TheVariants.{ListEntries};
-ghost use Rattle.mgs_session.specs.declared.Session as code;
-ghost use Rattle.mgs_plan.specs.Deciding.{CanPerform, IsOutcome};
+ghost use Rattle.mgs_plan.specs.Deciding.{CanPerform, IsPlanned};
 
 use crate::judging::judged;
 use crate::outcome::Outcome;
@@ -22,13 +21,13 @@ fn right_to_list() -> Mask
 }
 
 /// What it comes to for a session: its selected window comes to the list from its first entry on.
-pub fn plan_list<T: Marked + Drop>(
+pub(crate) fn plan_list<T: Marked + Drop>(
     buffers: &Buffers<T>,
     directory: &Directory,
     session: &Session,
 ) -> Outcome
-    ensures value { (xs : List code.Session) (next n : Option ℕ) → IsOutcome directory.now buffers.now xs next session.now (Run ListEntries n []) result }
-    ensures can { CanPerform buffers.now session.now result }
+    ensures value { (n : Option ℕ) → IsPlanned directory.now buffers.now session.now (Run ListEntries n []) result }
+    ensures can { CanPerform directory.now buffers.now session.now result }
 {
     // Tells the prover that no buffer has an empty name.
     let _unnamed = buffers.name_typed(&[]);

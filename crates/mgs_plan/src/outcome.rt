@@ -1,7 +1,7 @@
 // What an act of a session comes to.
 use crate::action::Action;
-use mgs_model::{Entry, Message, Name, NewOwner};
-use mgs_windows::WindowMarks;
+use mgs_model::{Arrangement, Entry, Message, Name, NewOwner, Question, Setting};
+use mgs_windows::{RowPane, WindowMarks};
 
 /// What becomes of an access list.
 #[derive(Clone, Copy)]
@@ -35,4 +35,14 @@ pub enum Outcome {
     Creates(Name),
     /// The text of the buffer of a name comes in at a place, through the window's marks.
     Copies(WindowMarks, Name, usize),
+    /// The text of the buffer of a name is saved, if its store does so.
+    Saves(Name),
+    /// The selected window, which shows a list, comes to these rows.
+    Scrolls(RowPane),
+    /// The session is set otherwise, by an argument.
+    Sets(Setting, Option<usize>),
+    /// A question is asked, which keeps the argument for its command.
+    Asks(Question, Option<usize>),
+    /// The windows are arranged anew, by an argument.
+    Arranges(Arrangement, Option<usize>),
 }

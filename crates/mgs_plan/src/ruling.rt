@@ -1,16 +1,16 @@
 // What a change of the rules of a buffer comes to: of its owner, its owning group, or an entry of its access list.
 ghost use Rattle.std.specs.Prelude.{◌≡◌, ◌<◌, ◌-◌, ℕ, List as Items, length, Option, None, IfSome, true, false};
-ghost use Rattle.mgs_model.specs.Acts.{effects, relisted};
+ghost use Rattle.mgs_model.specs.Acts.{relisted};
 ghost use Rattle.mgs_model.specs.Outcome.{Run};
 ghost use Rattle.mgs_model.specs.Plans.{count_of, entries_changed, entry_inserted, entry_replaced, has_entry, new_number};
 ghost use Rattle.mgs_model.specs.Rights.{bit_of};
-ghost use Rattle.mgs_model.specs.View.{View};
+ghost use Rattle.mgs_model.specs.Access.{Directory};
 ghost use Rattle.mgs_model.specs.declared.entry.Entry.{Entry};
 ghost use Rattle.mgs_model.specs.declared.session.EntryChange.TheVariants.{DeleteEntry};
 ghost use Rattle.mgs_buffers.specs.MarkedBuffer.{HasBuffer, MarkedBuffer, marked_at};
 ghost use Rattle.mgs_session.specs.declared.Session as code;
 ghost use Rattle.mgs_plan.specs.declared.ruling.Ruling.TheVariants.{Group, Owner};
-ghost use Rattle.mgs_plan.specs.Deciding.{CanPerform, IsOutcome, outcome_read};
+ghost use Rattle.mgs_plan.specs.Deciding.{CanPerform, CanRule, IsGranted, IsPlanned, IsRuled};
 ghost use Rattle.mgs_plan.specs.Listed.{entries_planned};
 ghost use Rattle.mgs_plan.specs.Ruling.{command_of, ruling_mask, ruling_plan};
 
@@ -47,8 +47,8 @@ fn right_for(ruling: Ruling) -> Right
 
 /// The buffer gets the owner whose name was typed, where that is a user.
 fn owner_ruled(directory: &Directory, name: Name, typed: &[char]) -> Outcome
-    ensures value { (ks : Items MarkedBuffer) (v : View) (entries : Items Entry) (n : Option ℕ) → outcome_read ks v result ≡ effects v.session.own (ruling_plan directory.now name entries Owner n typed.now) }
-    ensures can { (ks : Items MarkedBuffer) (h : code.Session) → HasBuffer name ks → CanPerform ks h result }
+    ensures value { (ks : Items MarkedBuffer) (entries : Items Entry) (n : Option ℕ) → IsRuled ks (ruling_plan directory.now name entries Owner n typed.now) result }
+    ensures can { (ks : Items MarkedBuffer) (h : code.Session) → CanRule directory.now ks h.user name 524288 → CanPerform directory.now ks h result }
 {
     match directory.user_typed(typed) {
         Some(owner) => Outcome::Reowns(name, NewOwner::ToUser(owner)),
@@ -58,8 +58,8 @@ fn owner_ruled(directory: &Directory, name: Name, typed: &[char]) -> Outcome
 
 /// The buffer gets the owning group whose name was typed, where that is a group of the directory, or none, where nothing was typed.
 fn group_ruled(directory: &Directory, name: Name, typed: &[char]) -> Outcome
-    ensures value { (ks : Items MarkedBuffer) (v : View) (entries : Items Entry) (n : Option ℕ) → outcome_read ks v result ≡ effects v.session.own (ruling_plan directory.now name entries Group n typed.now) }
-    ensures can { (ks : Items MarkedBuffer) (h : code.Session) → HasBuffer name ks → CanPerform ks h result }
+    ensures value { (ks : Items MarkedBuffer) (entries : Items Entry) (n : Option ℕ) → IsRuled ks (ruling_plan directory.now name entries Group n typed.now) result }
+    ensures can { (ks : Items MarkedBuffer) (h : code.Session) → CanRule directory.now ks h.user name 524288 → CanPerform directory.now ks h result }
 {
     if typed.is_empty() {
         return Outcome::Reowns(name, NewOwner::ToGroup(None));
@@ -157,8 +157,8 @@ pub fn changed(list: List, plan: &EntryPlan) -> Result<List, Message>
 /// The list of the buffer is to change, where it can.
 fn relists<T: Marked + Drop>(buffers: &Buffers<T>, name: Name, plan: EntryPlan) -> Outcome
     requires { HasBuffer name buffers.now }
-    ensures value { (v : View) → outcome_read buffers.now v result ≡ effects v.session.own (relisted name (entries_planned plan (marked_at name buffers.now).buffer.entries)) }
-    ensures can { (h : code.Session) → CanPerform buffers.now h result }
+    ensures value { IsRuled buffers.now (relisted name (entries_planned plan (marked_at name buffers.now).buffer.entries)) result }
+    ensures can { (directory : Directory) (h : code.Session) → IsGranted directory buffers.now h.user name 262144 → CanPerform directory buffers.now h result }
 {
     match changed(buffers.copy_list(&name), &plan) {
         Ok(_) => Outcome::Relists(name, plan),
@@ -175,8 +175,8 @@ fn entries_ruled<T: Marked + Drop>(
     typed: &[char],
 ) -> Outcome
     requires { HasBuffer name buffers.now }
-    ensures value { (v : View) → outcome_read buffers.now v result ≡ effects v.session.own (relisted name (entries_changed change (marked_at name buffers.now).buffer.entries argument typed.now)) }
-    ensures can { (h : code.Session) → CanPerform buffers.now h result }
+    ensures value { IsRuled buffers.now (relisted name (entries_changed change (marked_at name buffers.now).buffer.entries argument typed.now)) result }
+    ensures can { (directory : Directory) (h : code.Session) → IsGranted directory buffers.now h.user name 262144 → CanPerform directory buffers.now h result }
 {
     if let EntryChange::DeleteEntry = change {
         return relists(buffers, name, EntryPlan::Delete(argument));
@@ -201,8 +201,8 @@ fn granted<T: Marked + Drop>(
     typed: &[char],
 ) -> Outcome
     requires { HasBuffer name buffers.now }
-    ensures value { (v : View) → outcome_read buffers.now v result ≡ effects v.session.own (ruling_plan directory.now name (marked_at name buffers.now).buffer.entries ruling argument typed.now) }
-    ensures can { (h : code.Session) → CanPerform buffers.now h result }
+    ensures value { IsRuled buffers.now (ruling_plan directory.now name (marked_at name buffers.now).buffer.entries ruling argument typed.now) result }
+    ensures can { (h : code.Session) → IsGranted directory.now buffers.now h.user name (ruling_mask ruling) → CanPerform directory.now buffers.now h result }
 {
     match ruling {
         Ruling::Owner => owner_ruled(directory, name, typed),
@@ -213,7 +213,7 @@ fn granted<T: Marked + Drop>(
 
 /// What a command comes to for a session: the owner, the owning group or the access list changes of the buffer whose text or access list
 /// its selected window shows. `typed` is the owner's name, the group's, which is empty for none, or the new entry.
-pub fn plan_rule<T: Marked + Drop>(
+pub(crate) fn plan_rule<T: Marked + Drop>(
     buffers: &Buffers<T>,
     directory: &Directory,
     session: &Session,
@@ -221,8 +221,8 @@ pub fn plan_rule<T: Marked + Drop>(
     argument: Option<usize>,
     typed: &[char],
 ) -> Outcome
-    ensures value { (xs : Items code.Session) (next : Option ℕ) → IsOutcome directory.now buffers.now xs next session.now (Run (command_of ruling) argument typed.now) result }
-    ensures can { CanPerform buffers.now session.now result }
+    ensures value { IsPlanned directory.now buffers.now session.now (Run (command_of ruling) argument typed.now) result }
+    ensures can { CanPerform directory.now buffers.now session.now result }
 {
     // Tells the prover that no buffer has an empty name.
     let _unnamed = buffers.name_typed(&[]);

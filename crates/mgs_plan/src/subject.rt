@@ -10,7 +10,7 @@ use mgs_model::Name;
 use mgs_session::{Session, subject};
 
 /// The buffer whose text or access list the selected window of a session shows, where it is there.
-pub fn subject_in<T: Marked + Drop>(buffers: &Buffers<T>, session: &Session) -> Option<Name>
+pub(crate) fn subject_in<T: Marked + Drop>(buffers: &Buffers<T>, session: &Session) -> Option<Name>
     ensures value { result ≡ subject_kept buffers.now (subject_of session.now) }
     ensures kept { IfSome result (λ name. HasBuffer name buffers.now) }
 {

@@ -1,5 +1,6 @@
 // What a switch to the buffer of a typed name comes to.
-ghost use Rattle.std.specs.Prelude.{◌≡◌, ℕ, List, length, Option, false};
+ghost use Rattle.std.specs.Prelude.{◌≡◌, ℕ, Bool, length, Option, false};
+ghost use Rattle.mgs_model.specs.Access.{Directory};
 ghost use Rattle.mgs_model.specs.Acts.{created};
 ghost use Rattle.mgs_model.specs.Outcome.{Run};
 ghost use Rattle.mgs_model.specs.View.{View};
@@ -7,7 +8,7 @@ ghost use Rattle.mgs_model.specs.declared.session.ByName.TheVariants.{SwitchToBu
 ghost use Rattle.mgs_model.specs.declared.session.Command.TheVariants.{Named};
 ghost use Rattle.mgs_buffers.specs.MarkedBuffer.{has_buffer};
 ghost use Rattle.mgs_session.specs.declared.Session as code;
-ghost use Rattle.mgs_plan.specs.Deciding.{CanPerform, IsOutcome, outcome_read};
+ghost use Rattle.mgs_plan.specs.Deciding.{CanPerform, IsPlanned, outcome_read};
 
 use crate::judging::judged;
 use crate::naming::name_typed;
@@ -28,8 +29,8 @@ fn right_to_come() -> Mask
 /// What a switch to a buffer that is not there comes to: the name is judged first, and then whether there is room.
 fn switch_new<T: Marked + Drop>(buffers: &Buffers<T>, typed: &[char]) -> Outcome
     requires { has_buffer typed.now buffers.now ≡ false }
-    ensures value { (v : View) → length v.buffers ≡ length buffers.now → created v typed.now ≡ outcome_read buffers.now v result }
-    ensures can { (h : code.Session) → CanPerform buffers.now h result }
+    ensures value { (v : View) (stored : Bool) → length v.buffers ≡ length buffers.now → created v typed.now ≡ outcome_read buffers.now v result stored }
+    ensures can { (directory : Directory) (h : code.Session) → CanPerform directory buffers.now h result }
 {
     let Some(name) = name_typed(typed) else {
         return Outcome::Fails(Message::BadName);
@@ -41,14 +42,14 @@ fn switch_new<T: Marked + Drop>(buffers: &Buffers<T>, typed: &[char]) -> Outcome
 }
 
 /// What it comes to for a session.
-pub fn plan_switch<T: Marked + Drop>(
+pub(crate) fn plan_switch<T: Marked + Drop>(
     buffers: &Buffers<T>,
     directory: &Directory,
     session: &Session,
     typed: &[char],
 ) -> Outcome
-    ensures value { (xs : List code.Session) (next n : Option ℕ) → IsOutcome directory.now buffers.now xs next session.now (Run (Named SwitchToBuffer) n typed.now) result }
-    ensures can { CanPerform buffers.now session.now result }
+    ensures value { (n : Option ℕ) → IsPlanned directory.now buffers.now session.now (Run (Named SwitchToBuffer) n typed.now) result }
+    ensures can { CanPerform directory.now buffers.now session.now result }
 {
     match buffers.name_typed(typed) {
         None => switch_new(buffers, typed),

@@ -74,7 +74,7 @@ touched_is n size c = by (is_change c)
     by true = refl
     by false = refl
 
-module _ (ks ls : List MarkedBuffer) (h : Session) (p : Planned) (can : CanPerform ks h p) (put : List ℕ) (put_is : put ≡ put_of p.plan.replaces h.own.search) (edit : ls ≡ edited_by p.window_marks.name (taken p.edit.from p.edit.to put) ks) where
+module _ {d : Directory} (ks ls : List MarkedBuffer) (h : Session) (p : Planned) (can : CanPerform d ks h p) (put : List ℕ) (put_is : put ≡ put_of p.plan.replaces h.own.search) (edit : ls ≡ edited_by p.window_marks.name (taken p.edit.from p.edit.to put) ks) where
   abbrev called : List ℕ
   called = p.window_marks.name
 
@@ -364,8 +364,8 @@ module _ (d : Directory) (ks : List MarkedBuffer) (xs : List Session) (at : ℕ)
 
 -- THE SESSION, as it is found there
 
-pub can_at : (d : Directory) (ks : List MarkedBuffer) (xs : List Session) (at : ℕ) (h : Session) (last : Bool) (p : Planned) → IsPlanned d ks h last p → h ≡ get_or xs at h → at < length xs → (g : Session) → slice_get xs at ≡ Some g → CanPerform ks g p
-can_at d ks xs at h last p planned is within g found = subst (λ (z : Session). CanPerform ks z p) (some_same h g (sym (found_at xs at h is within) ∙ found)) planned.can
+pub can_at : (d : Directory) (ks : List MarkedBuffer) (xs : List Session) (at : ℕ) (h : Session) (last : Bool) (p : Planned) → IsPlanned d ks h last p → h ≡ get_or xs at h → at < length xs → (g : Session) → slice_get xs at ≡ Some g → CanPerform d ks g p
+can_at d ks xs at h last p planned is within g found = subst (λ (z : Session). CanPerform d ks z p) (some_same h g (sym (found_at xs at h is within) ∙ found)) planned.can
 
 -- WHERE IT FAILS
 

@@ -150,6 +150,7 @@ plans_it d ks h s r last p sought held planned =
     record {
       sought = sought;
       can = record {
+        granted = sought.target.granted;
         mark = sought.target.marks.point;
         order = omega (arith, from, to, order_by d ks h x s r last sought held p planned p.plan.replaces);
         within = omega (arith, to, within_text last (anchor_at x ks s.anchor) r (marked_at x.name ks).buffer.text p.plan (anchored d ks h x s r last sought held) planned.plan);

@@ -1,16 +1,20 @@
 -- A replacement: as it is planned, and what is done.
-use Rattle.std.specs.Prelude.{◌≡◌, ℕ, ◌+◌, ◌-◌, ◌<◌, ◌≤◌, ◌^◌, min, Bool, true, false, cond, List, [], length, Option, Some, None, Result, Ok, IfSome, slice_set}
+use Rattle.std.specs.Prelude.{◌≡◌, ℕ, ◌+◌, ◌-◌, ◌<◌, ◌≤◌, ◌^◌, min, Bool, true, false, cond, List, [], length, Option, Some, None, Result, Ok, IfSome, slice_get, slice_set}
+use Rattle.std.specs.List.{position_or_len}
 use Rattle.mgs_model.specs.Access.{Directory}
 use Rattle.mgs_model.specs.Acts.{edit_of, fails, finished, is_full, outcome}
 use Rattle.mgs_model.specs.Apart.{touched_by}
+use Rattle.mgs_model.specs.Apply.{act, outcome_in}
+use Rattle.mgs_model.specs.Events.{may_be_refused, with_own}
 use Rattle.mgs_model.specs.Outcome.{Run}
 use Rattle.mgs_model.specs.Plans as plans
 use Rattle.mgs_model.specs.Plans.{alteration}
 use Rattle.mgs_model.specs.View.{view}
+use Rattle.mgs_model.specs.declared.entry.Decision.TheVariants.{Granted}
 use Rattle.mgs_model.specs.declared.message.Message.{Message}
 use Rattle.mgs_model.specs.declared.message.Message.TheVariants.{BufferFull}
 use Rattle.mgs_model.specs.declared.session.Command.TheVariants.{Alter, Move}
-use Rattle.mgs_model.specs.declared.session.Motion.TheVariants.{SkipMatch}
+use Rattle.mgs_model.specs.declared.session.Motion.TheVariants.{SkipMatch, StartReplace}
 use Rattle.mgs_model.specs.declared.touched.Touched.{Touched}
 use Rattle.mgs_model.specs.declared.touched.Touched.TheVariants.{In, Nowhere}
 use Rattle.mgs_buffers.specs.MarkedBuffer.{IsMark, MarkedBuffer, marked_at}
@@ -24,10 +28,13 @@ use Rattle.mgs_session.specs.declared.search.Edited.{Edited}
 use Rattle.mgs_session.specs.declared.search.Search.{Search}
 use Rattle.mgs_windows.specs.declared.WindowMarks.{WindowMarks}
 use Rattle.mgs_plan.specs.Actions.{edited_by, mark_gone}
+use Rattle.mgs_plan.specs.Beginning.{search_held}
 use Rattle.mgs_plan.specs.Following.{edit_told, followed}
-use Rattle.mgs_world.specs.Worlds.{aim_input, aim_old, own_of, session_of, world_of}
+use Rattle.mgs_plan.specs.Inserting.{rights_decision}
+use Rattle.mgs_plan.specs.Tells.{touched_in}
+use Rattle.mgs_world.specs.Worlds.{aim_input, aim_old, own_of, session_id, session_of, world_of}
 use Rattle.mgs_seek.specs.Acting.{Does, IsSought, as_is}
-use Rattle.mgs_seek.specs.Replacing.{finish_met, point_met, replacement, search_counted, session_met, taken}
+use Rattle.mgs_seek.specs.Replacing.{finish_met, point_met, remaining_at, replacement, replacing_own, search_counted, session_met, taken}
 use Rattle.mgs_seek.specs.declared.replacing.Planned.{Planned}
 
 -- WHAT IS TAKEN OUT, AND PUT IN, where there is a match or none
@@ -61,6 +68,10 @@ change_planned p o = taken p.edit.from p.edit.to (put_of p.plan.replaces o)
 abbrev pub SkipDone : Directory → List MarkedBuffer → List MarkedBuffer → Session → Session → Type 0
 SkipDone d ks ls x y = (s : Search) (r : Replacing) → x.own.search ≡ Some s → s.aim ≡ Replace r → Does d ks ls x y as_is (Run (Move SkipMatch) None r.put)
 
+-- whether a change finds the buffer of a name full
+abbrev pub is_full_in : List MarkedBuffer → List ℕ → plans.Change → Bool
+is_full_in ks name c = is_full (length (marked_at name ks).buffer.text) (marked_at name ks).buffer.serial c
+
 -- PLANNED at an anchor, by what the model plans there
 abbrev pub IsPlan : List ℕ → ℕ → Replacing → Bool → Replacement → Type 0
 IsPlan text a r last plan = (rest : plans.Around)
@@ -72,7 +83,7 @@ anchor_at x ks anchor = min anchor (length (marked_at x.name ks).buffer.text)
 pub record PlannedAt (ks : List MarkedBuffer) (x : WindowMarks) (anchor : ℕ) (r : Replacing) (last : Bool) (p : Planned) : Type 0 where
   pub edit : p.edit ≡ edit_planned (length (marked_at x.name ks).buffer.text) (anchor_at x ks anchor) r p.plan.replaces
   pub plan : IsPlan (marked_at x.name ks).buffer.text (anchor_at x ks anchor) r last p.plan
-  pub room : is_full (length (marked_at x.name ks).buffer.text) (marked_at x.name ks).buffer.serial (taken p.edit.from p.edit.to (put_by p.plan.replaces r.put)) ≡ false
+  pub room : is_full_in ks x.name (taken p.edit.from p.edit.to (put_by p.plan.replaces r.put)) ≡ false
   pub few : p.edit.added ≤ 120
   pub count : r.count < 2 ^ 64
 
@@ -81,21 +92,26 @@ pub record FullAt (ks : List MarkedBuffer) (x : WindowMarks) (anchor : ℕ) (r :
   pub told : message ≡ BufferFull
   pub done : Replacement
   pub plan : IsPlan (marked_at x.name ks).buffer.text (anchor_at x ks anchor) r last done
-  pub full : (let a = anchor_at x ks anchor in is_full (length (marked_at x.name ks).buffer.text) (marked_at x.name ks).buffer.serial (taken a (to_by done.replaces a r.pattern) (put_by done.replaces r.put)) ≡ true)
+  pub full : (let a = anchor_at x ks anchor in is_full_in ks x.name (taken a (to_by done.replaces a r.pattern) (put_by done.replaces r.put)) ≡ true)
 
 -- how many characters the text has then
 abbrev pub size_then : Planned → ℕ → ℕ
 size_then p size = size - (p.edit.to - p.edit.from) + p.edit.added
 
+-- a user may read and write a buffer
+abbrev pub MayWrite : Directory → List MarkedBuffer → List ℕ → List ℕ → Type 0
+MayWrite d ks user name = rights_decision d ks user name 3 ≡ Granted
+
 -- it can be done
-pub record CanPerform (ks : List MarkedBuffer) (h : Session) (p : Planned) : Type 0 where
+pub record CanPerform (d : Directory) (ks : List MarkedBuffer) (h : Session) (p : Planned) : Type 0 where
+  pub granted : MayWrite d ks h.user p.window_marks.name
   pub mark : IsMark p.window_marks.name p.window_marks.point ks
   pub order : p.edit.from ≤ p.edit.to
   pub within : p.edit.to ≤ length (marked_at p.window_marks.name ks).buffer.text
   pub size : p.edit.size ≡ length (marked_at p.window_marks.name ks).buffer.text
   pub added : length (put_of p.plan.replaces h.own.search) ≡ p.edit.added
   pub few : p.edit.added ≤ 120
-  pub room : is_full (length (marked_at p.window_marks.name ks).buffer.text) (marked_at p.window_marks.name ks).buffer.serial (change_planned p h.own.search) ≡ false
+  pub room : is_full_in ks p.window_marks.name (change_planned p h.own.search) ≡ false
   pub next : IfSome p.plan.next (λ m. m + length (old_of h.own.search) ≤ size_then p (length (marked_at p.window_marks.name ks).buffer.text))
 
 -- where the point is without a next match
@@ -113,13 +129,28 @@ IsLess p size a = IfSome p.plan.next (λ m. size_then p size - min m (size_then 
 -- by a session that may write, and has this query-replace there: what its act comes to
 pub record IsPlanned (d : Directory) (ks : List MarkedBuffer) (h : Session) (last : Bool) (p : Planned) : Type 0 where
   pub sought : IsSought d ks h true p.window_marks
-  pub can : CanPerform ks h p
+  pub can : CanPerform d ks h p
   pub s : Search
   pub r : Replacing
   pub held : (let t : Search = record s { aim = Replace r } in h.own.search ≡ Some t)
   pub count : r.count < 2 ^ 64
   pub known : (xs : List Session) (next : Option ℕ) → outcome (view (world_of d ks xs next) (session_of ks h)) (Run (Alter (replacement last)) None r.put) true ≡ finished (own_of h.own) (finish_met (length r.pattern) p.plan.next (left_at p) (one_met p.plan.replaces)) (edit_of p.window_marks.name (change_planned p h.own.search))
   pub less : 0 < length r.pattern → (let size = length (marked_at p.window_marks.name ks).buffer.text in IsLess p size (min s.anchor size))
+
+-- the next match lies within the text
+abbrev pub NextFits : List MarkedBuffer → Option Search → Planned → Type 0
+NextFits ks o p = IfSome p.plan.next (λ m. m + length (old_of o) ≤ length (marked_at p.window_marks.name ks).buffer.text)
+
+-- THE ACTS by which a query-replace begins, and skips a match
+abbrev pub IsStarted : Directory → List MarkedBuffer → List MarkedBuffer → List Session → List Session → ℕ → List ℕ → List ℕ → Type 0
+IsStarted d ks ls xs ys at pattern put =
+    (id : ℕ) (next : Option ℕ) → at ≡ position_or_len (session_id id) xs
+    → world_of d ls ys next ≡ act (with_own id (replacing_own pattern put) (world_of d ks xs next)) id (Run (Move StartReplace) None put) true
+
+abbrev pub IsSkipped : Directory → List MarkedBuffer → List MarkedBuffer → List Session → List Session → ℕ → Type 0
+IsSkipped d ks ls xs ys at =
+    (id : ℕ) (next : Option ℕ) (s : Search) (r : Replacing) → at ≡ position_or_len (session_id id) xs → search_held at xs ≡ Some s → s.aim ≡ Replace r
+    → world_of d ls ys next ≡ act (world_of d ks xs next) id (Run (Move SkipMatch) None r.put) true
 
 -- what is typed is what its query-replace puts
 abbrev pub IsTyped : Option Search → List ℕ → Type 0
@@ -159,3 +190,34 @@ pub record IsDone (at : ℕ) (p : Planned) (h : Session) (ks ls : List MarkedBuf
   pub done : (s : Search) → h.own.search ≡ Some s → IsLeft p (search_after p.window_marks.name (edit_of_plan p h) s) (edited_by p.window_marks.name (change_planned p h.own.search) ks) ls (session_after p.window_marks.name (edit_of_plan p h) h) left
   pub sessions : ys ≡ slice_set (followed p.window_marks.name (edit_of_plan p h) xs) at left
   pub tells : touched ≡ touched_by (edit_of p.window_marks.name (change_planned p h.own.search))
+
+-- and the same of the session at an index
+abbrev pub IsDoneAt : ℕ → Planned → List MarkedBuffer → List MarkedBuffer → List Session → List Session → Touched → Type 0
+IsDoneAt at p ks ls xs ys touched = (h : Session) → slice_get xs at ≡ Some h → IsDone at p h ks ls xs ys touched
+
+-- THE ACT of the query-replace that the session at an index has, or of none
+abbrev pub IsReplaced : Directory → List MarkedBuffer → List MarkedBuffer → List Session → List Session → ℕ → Bool → Type 0
+IsReplaced d ks ls xs ys at last =
+    (id : ℕ) (next : Option ℕ) (s : Search) (r : Replacing) → at ≡ position_or_len (session_id id) xs → search_held at xs ≡ Some s → s.aim ≡ Replace r
+    → world_of d ls ys next ≡ act (world_of d ks xs next) id (Run (Alter (replacement last)) None r.put) true
+
+abbrev pub IsUnsought : Directory → List MarkedBuffer → List MarkedBuffer → List Session → List Session → ℕ → Bool → Type 0
+IsUnsought d ks ls xs ys at last =
+    (id : ℕ) (next : Option ℕ) (typed : List ℕ) → at ≡ position_or_len (session_id id) xs → search_held at xs ≡ None
+    → world_of d ls ys next ≡ act (world_of d ks xs next) id (Run (Alter (replacement last)) None typed) true
+
+-- what it touches, and that it may be refused
+abbrev pub IsToldBy : Directory → List MarkedBuffer → List Session → ℕ → Bool → Touched → Type 0
+IsToldBy d ks xs at last touched =
+    (id : ℕ) (next : Option ℕ) (s : Search) (r : Replacing) → at ≡ position_or_len (session_id id) xs → search_held at xs ≡ Some s → s.aim ≡ Replace r
+    → touched ≡ touched_in (outcome_in (world_of d ks xs next) id (Run (Alter (replacement last)) None r.put) true)
+
+abbrev pub IsRefusable : Directory → List MarkedBuffer → List Session → ℕ → Bool → Type 0
+IsRefusable d ks xs at last =
+    (id : ℕ) (next : Option ℕ) (s : Search) (r : Replacing) → at ≡ position_or_len (session_id id) xs → search_held at xs ≡ Some s → s.aim ≡ Replace r
+    → may_be_refused (outcome_in (world_of d ks xs next) id (Run (Alter (replacement last)) None r.put) true) ≡ true
+
+-- what is left of the text behind it becomes less
+abbrev pub IsFurther : List MarkedBuffer → List MarkedBuffer → List Session → List Session → ℕ → Type 0
+IsFurther ks ls xs ys at =
+    (s t : Search) → search_held at xs ≡ Some s → search_held at ys ≡ Some t → 0 < length (aim_old s.aim) → remaining_at at ls ys < remaining_at at ks xs

@@ -1,15 +1,19 @@
 -- An incremental search by itself: a step of it, and what its session and the buffers are then.
-use Rattle.std.specs.Prelude.{◌≡◌, ℕ, min, List, length, Option, None, Some, Result, Ok, cond}
+use Rattle.std.specs.Prelude.{◌≡◌, ℕ, true, min, List, [], length, Option, None, Some, Result, Ok, cond}
+use Rattle.std.specs.List.{position_or_len}
 use Rattle.mgs_model.specs.Access.{Directory}
+use Rattle.mgs_model.specs.Apply.{act}
+use Rattle.mgs_model.specs.Events.{own_set, with_own}
 use Rattle.mgs_model.specs.Names.{same_name}
 use Rattle.mgs_model.specs.Outcome.{PointPlan, Keep, At, Run}
 use Rattle.mgs_model.specs.Plans.{Around, Finish, motion}
 use Rattle.mgs_model.specs.Searching.{Sought, places_after, sought_after}
 use Rattle.mgs_model.specs.declared.message.Message.{Message}
-use Rattle.mgs_model.specs.declared.session.Command.TheVariants.{Move}
-use Rattle.mgs_model.specs.declared.session.Motion.TheVariants.{SearchOn}
+use Rattle.mgs_model.specs.declared.search.Direction.{Direction}
+use Rattle.mgs_model.specs.declared.session.Command.TheVariants.{LeaveSearch, Move}
+use Rattle.mgs_model.specs.declared.session.Motion.TheVariants.{SearchOn, StartSearch}
 use Rattle.mgs_search.specs.Planned.{stepped}
-use Rattle.mgs_plan.specs.Beginning.{seeking}
+use Rattle.mgs_plan.specs.Beginning.{search_held, searching_own, seeking}
 use Rattle.mgs_seek.specs.Acting.{Does, as_is}
 use Rattle.mgs_model.specs.declared.search.SearchPlaces.{SearchPlaces}
 use Rattle.mgs_model.specs.declared.search.SearchStep.{SearchStep}
@@ -23,6 +27,7 @@ use Rattle.mgs_session.specs.declared.Session.{Session}
 use Rattle.mgs_session.specs.declared.search.Aim.{Aim}
 use Rattle.mgs_session.specs.declared.search.Aim.TheVariants.{Find, Replace}
 use Rattle.mgs_session.specs.declared.search.Search.{Search}
+use Rattle.mgs_world.specs.Worlds.{session_id, world_of}
 use Rattle.mgs_seek.specs.declared.seeking.Seeker.{Seeker}
 
 -- an incremental search by itself, and as its session holds it
@@ -73,7 +78,34 @@ abbrev pub origin_plan : List ℕ → ℕ → Option Search → PointPlan
 origin_plan name size None = Keep
 origin_plan name size (Some s) = cond (same_name s.name name) (At (min s.origin size)) Keep
 
--- and the buffers then, by what the selected window shows
+-- and the buffers then, in a window, and in what the selected window shows
+abbrev pub gone_back_in : WindowMarks → Option Search → List MarkedBuffer → List MarkedBuffer
+gone_back_in x search ks = mark_gone x.name x.point (origin_plan x.name (length (marked_at x.name ks).buffer.text) search) ks
+
 abbrev pub gone_back : Option WindowMarks → Option Search → List MarkedBuffer → List MarkedBuffer
 gone_back None search ks = ks
-gone_back (Some x) search ks = mark_gone x.name x.point (origin_plan x.name (length (marked_at x.name ks).buffer.text) search) ks
+gone_back (Some x) search ks = gone_back_in x search ks
+
+-- the buffers once a step ended there
+abbrev pub point_sought : WindowMarks → Seeker → SearchStep → List MarkedBuffer → List MarkedBuffer
+point_sought x s step ks = mark_gone x.name x.point (At (step_ends ks x s step).point) ks
+
+-- THE ACTS by which an incremental search begins: in a session, and in the world
+abbrev pub Begins : Directory → List MarkedBuffer → Session → Session → Direction → Type 0
+Begins d ks x y direction = (n : Option ℕ) → Does d ks ks x y (own_set (searching_own direction)) (Run (Move (StartSearch direction)) n [])
+
+abbrev pub IsBegun : Directory → List MarkedBuffer → List Session → List Session → ℕ → Direction → Type 0
+IsBegun d ks xs ys at direction =
+    (id : ℕ) (next n : Option ℕ) → at ≡ position_or_len (session_id id) xs
+    → world_of d ks ys next ≡ act (with_own id (searching_own direction) (world_of d ks xs next)) id (Run (Move (StartSearch direction)) n []) true
+
+-- and by which it goes on, and is quit
+abbrev pub IsSoughtOn : Directory → List MarkedBuffer → List MarkedBuffer → List Session → List Session → ℕ → SearchStep → Type 0
+IsSoughtOn d ks ls xs ys at step =
+    (id : ℕ) (next : Option ℕ) (s : Search) (f : Sought) → at ≡ position_or_len (session_id id) xs → search_held at xs ≡ Some s → s.aim ≡ Find f
+    → world_of d ls ys next ≡ act (world_of d ks xs next) id (Run (Move (SearchOn f.direction step)) None f.pattern) true
+
+abbrev pub IsQuit : List MarkedBuffer → List MarkedBuffer → List Session → List Session → ℕ → Type 0
+IsQuit ks ls xs ys at =
+    (directory : Directory) (id : ℕ) (next : Option ℕ) → at ≡ position_or_len (session_id id) xs
+    → world_of directory ls ys next ≡ act (world_of directory ks xs next) id (Run LeaveSearch None []) true

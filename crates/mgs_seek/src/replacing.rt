@@ -1,13 +1,11 @@
 // A query-replace: it begins, a match is skipped or replaced, and it is over where no match is left.
 ghost use Rattle.std.specs.Prelude.{IfErr, Ok, ◌≡◌, ℕ, ◌+◌, ◌<◌, ◌≤◌, ◌^◌, List, length, Option, Some, None, IfOk, IfSome, OnOk, OnErr, true, false, slice_get};
-ghost use Rattle.std.specs.List.{position_or_len};
 ghost use Rattle.mgs_model.specs.Acts.{is_full};
-ghost use Rattle.mgs_model.specs.Apply.{act, outcome_in};
-ghost use Rattle.mgs_model.specs.Events.{may_be_refused, own_set, with_own};
+ghost use Rattle.mgs_model.specs.Events.{own_set};
 ghost use Rattle.mgs_model.specs.Outcome.{Run};
 ghost use Rattle.mgs_model.specs.Text.{is_edit};
-ghost use Rattle.mgs_model.specs.declared.session.Command.TheVariants.{Alter, Move};
-ghost use Rattle.mgs_model.specs.declared.session.Motion.TheVariants.{SkipMatch, StartReplace};
+ghost use Rattle.mgs_model.specs.declared.session.Command.TheVariants.{Move};
+ghost use Rattle.mgs_model.specs.declared.session.Motion.TheVariants.{StartReplace};
 ghost use Rattle.mgs_model.specs.declared.touched.Touched.TheVariants.{Nowhere};
 ghost use Rattle.mgs_buffers.specs.MarkedBuffer.{HasBuffer, IsMark, marked_at};
 ghost use Rattle.mgs_session.specs.Seeking.{unsearched};
@@ -18,17 +16,15 @@ ghost use Rattle.mgs_session.specs.declared.search.Search.{Search};
 ghost use Rattle.mgs_plan.specs.Actions.{edited_by, mark_gone};
 ghost use Rattle.mgs_plan.specs.Beginning.{search_held};
 ghost use Rattle.mgs_plan.specs.Following.{CanFollow, edit_told};
-ghost use Rattle.mgs_plan.specs.Tells.{touched_in};
-ghost use Rattle.mgs_seek.specs.Replacing.{if_replaces, is_change, point_met, remaining_at, replacement, replacing_of, replacing_own, search_counted, session_met, session_over, taken};
-ghost use Rattle.mgs_seek.specs.Planning.{CanPerform, FullAt, IsDone, IsLeft, IsPlan, IsPlanned, PlannedAt, ReplacementFails, SkipDone, change_planned, counted_if, edit_planned, old_of, put_of, touched_edit};
-ghost use Rattle.mgs_model.specs.Plans as plans;
+ghost use Rattle.mgs_seek.specs.Replacing.{if_replaces, is_change, point_met, replacing_of, replacing_own, search_counted, session_met, session_over, taken};
+ghost use Rattle.mgs_seek.specs.Planning.{CanPerform, FullAt, IsDoneAt, IsFurther, IsLeft, IsRefusable, IsReplaced, IsSkipped, IsStarted, IsToldBy, IsUnsought, MayWrite, NextFits, IsPlan, IsPlanned, PlannedAt, ReplacementFails, SkipDone, change_planned, counted_if, edit_planned, is_full_in, put_of, touched_edit};
 ghost use Rattle.mgs_seek.specs.Acting.{Does};
 ghost use Rattle.mgs_world.specs.Only.{OnlyThis, nothing_held};
 ghost use Rattle.mgs_world.specs.Sound.{IsSessionSound, IsSound};
-ghost use Rattle.mgs_world.specs.Worlds.{aim_count, aim_input, aim_old, idle, own_at, own_of, session_id, world_of};
+ghost use Rattle.mgs_world.specs.Worlds.{aim_count, aim_input, aim_old, idle, own_at, own_of, world_of};
 
-use crate::target::{go_on, sought, target};
-use mgs_buffers::Buffers;
+use crate::target::{go_on, mask, sought, target};
+use mgs_buffers::{Buffers, EditFault};
 use mgs_marks::Marked;
 use mgs_model::{Kind, Message, Name, Short, TEXT_LIMIT, Touched};
 use mgs_plan::follow;
@@ -206,7 +202,7 @@ fn is_full<T: Marked + Drop>(buffers: &Buffers<T>, name: &Name, edit: &Edited) -
     requires order { edit.now.from ≤ edit.now.to }
     requires within { edit.now.to ≤ length (marked_at name.now buffers.now).buffer.text }
     requires added { edit.now.added ≤ 120 }
-    ensures { (put : List ℕ) → length put ≡ edit.now.added → result ≡ is_full (length (marked_at name.now buffers.now).buffer.text) (marked_at name.now buffers.now).buffer.serial (taken edit.now.from edit.now.to put) }
+    ensures { (put : List ℕ) → length put ≡ edit.now.added → result ≡ is_full_in buffers.now name.now (taken edit.now.from edit.now.to put) }
 {
     let size = buffers.text_len(name);
     let serial = buffers.serial(name);
@@ -269,18 +265,21 @@ fn plan_in<T: Marked + Drop>(
     }
 }
 
-/// Edits a buffer, if that is an edit. `Short`: memory was refused, and nothing was done.
+/// Edits a buffer for a user, if that is an edit. `Short`: memory was refused, and nothing was done.
 fn edit<T: Marked + Drop>(
     buffers: &mut Buffers<T>,
+    directory: &Directory,
+    user: &Name,
     name: &Name,
     from: usize,
     to: usize,
     put: &[char],
 ) -> Result<(), Short>
     requires kept { HasBuffer name.now buffers.old }
+    requires granted { MayWrite directory.now buffers.old user.now name.now }
     requires order { from ≤ to }
     requires within { to ≤ length (marked_at name.now buffers.old).buffer.text }
-    requires room { is_full (length (marked_at name.now buffers.old).buffer.text) (marked_at name.now buffers.old).buffer.serial (taken from to put.now) ≡ false }
+    requires room { is_full_in buffers.old name.now (taken from to put.now) ≡ false }
     ensures ok { OnOk result (buffers.new ≡ edited_by name.now (taken from to put.now) buffers.old) }
     ensures err { OnErr result (buffers.new ≡ buffers.old) }
     ensures may { OnErr result (is_edit from to put.now ≡ true) }
@@ -291,7 +290,12 @@ fn edit<T: Marked + Drop>(
     if from == to && put.is_empty() {
         return Ok(());
     }
-    buffers.edit(name, from, to, put)
+    match buffers.edit_as(directory, user, name, mask(true), from, to, put) {
+        Ok(()) => Ok(()),
+        Err(EditFault::Short) => Err(Short),
+        // It was planned where that is granted.
+        Err(EditFault::Denied(_)) => unreachable!(),
+    }
 }
 
 /// An edit, if it is one.
@@ -333,7 +337,7 @@ fn count_if(search: Search, replaces: bool) -> Search
 fn leave<T: Marked + Drop>(buffers: &mut Buffers<T>, session: &mut Session, planned: &Planned)
     requires mark { IsMark planned.now.window_marks.name planned.now.window_marks.point buffers.old }
     requires behind { planned.now.edit.from + planned.now.edit.added ≤ length (marked_at planned.now.window_marks.name buffers.old).buffer.text }
-    requires next { IfSome planned.now.plan.next (λ m. m + length (old_of session.old.own.search) ≤ length (marked_at planned.now.window_marks.name buffers.old).buffer.text) }
+    requires next { NextFits buffers.old session.old.own.search planned.now }
     ensures { (s : Search) → session.old.own.search ≡ Some s → IsLeft planned.now s buffers.old buffers.new session.old session.new }
 {
     // For the limit of a text.
@@ -364,6 +368,7 @@ fn touched(name: &Name, edit: &Option<Edited>) -> Touched
 /// A replacement that the session at `at` planned is done. `Short`: memory was refused, and nothing was done.
 fn perform<T: Marked + Drop>(
     buffers: &mut Buffers<T>,
+    directory: &Directory,
     sessions: &mut [Session],
     at: usize,
     planned: &Planned,
@@ -372,16 +377,18 @@ fn perform<T: Marked + Drop>(
     requires mark { IsMark planned.now.window_marks.name planned.now.window_marks.point buffers.old }
     requires order { planned.now.edit.from ≤ planned.now.edit.to }
     requires inside { planned.now.edit.to ≤ length (marked_at planned.now.window_marks.name buffers.old).buffer.text }
-    requires can { (h : Session) → slice_get sessions.old at ≡ Some h → CanPerform buffers.old h planned.now }
-    ensures done { IfOk result (λ touched. (h : Session) → slice_get sessions.old at ≡ Some h → IsDone at planned.now h buffers.old buffers.new sessions.old sessions.new touched) }
+    requires can { (h : Session) → slice_get sessions.old at ≡ Some h → CanPerform directory.now buffers.old h planned.now }
+    ensures done { IfOk result (IsDoneAt at planned.now buffers.old buffers.new sessions.old sessions.new) }
     ensures err { OnErr result ((buffers.new ≡ buffers.old) × (sessions.new ≡ sessions.old)) }
     ensures may { OnErr result ((h : Session) → slice_get sessions.old at ≡ Some h → is_change (change_planned planned.now h.own.search) ≡ true) }
 {
     let name = &planned.window_marks.name;
     // For the limit of a text.
     let _size = buffers.text_len(name);
-    let put = put_of(&sessions[at], planned.plan.replaces);
-    match edit(buffers, name, planned.edit.from, planned.edit.to, put) {
+    let session = &sessions[at];
+    let put = put_of(session, planned.plan.replaces);
+    let (from, to) = (planned.edit.from, planned.edit.to);
+    match edit(buffers, directory, &session.user, name, from, to, put) {
         Ok(()) => {}
         Err(short) => return Err(short),
     }
@@ -440,7 +447,7 @@ pub fn start_replacing<T: Marked + Drop>(
     requires within { at < length sessions.old }
     requires fresh { own_at at sessions.old ≡ idle (own_at at sessions.old) }
     ensures sound { IsSound buffers.new sessions.new }
-    ensures world { (id : ℕ) (next : Option ℕ) → at ≡ position_or_len (session_id id) sessions.old → world_of directory.now buffers.new sessions.new next ≡ act (with_own id (replacing_own pattern put) (world_of directory.now buffers.old sessions.old next)) id (Run (Move StartReplace) None put) true }
+    ensures world { IsStarted directory.now buffers.old buffers.new sessions.old sessions.new at pattern put }
 {
     start_in(buffers, directory, &mut sessions[at], pattern, put);
 }
@@ -478,7 +485,7 @@ pub fn skip<T: Marked + Drop>(
     requires sound { IsSound buffers.old sessions.old }
     requires within { at < length sessions.old }
     ensures sound { IsSound buffers.new sessions.new }
-    ensures world { (id : ℕ) (next : Option ℕ) (s : Search) (r : Replacing) → at ≡ position_or_len (session_id id) sessions.old → search_held at sessions.old ≡ Some s → s.aim ≡ Replace r → world_of directory.now buffers.new sessions.new next ≡ act (world_of directory.now buffers.old sessions.old next) id (Run (Move SkipMatch) None r.put) true }
+    ensures world { IsSkipped directory.now buffers.old buffers.new sessions.old sessions.new at }
 {
     skip_in(buffers, directory, &mut sessions[at]);
 }
@@ -497,17 +504,17 @@ pub fn replace<T: Marked + Drop>(
     requires sound { IsSound buffers.old sessions.old }
     requires within { at < length sessions.old }
     ensures sound { IsSound buffers.new sessions.new }
-    ensures ok { OnOk result ((id : ℕ) (next : Option ℕ) (s : Search) (r : Replacing) → at ≡ position_or_len (session_id id) sessions.old → search_held at sessions.old ≡ Some s → s.aim ≡ Replace r → world_of directory.now buffers.new sessions.new next ≡ act (world_of directory.now buffers.old sessions.old next) id (Run (Alter (replacement last)) None r.put) true) }
-    ensures none { OnOk result ((id : ℕ) (next : Option ℕ) (typed : List ℕ) → at ≡ position_or_len (session_id id) sessions.old → search_held at sessions.old ≡ None → world_of directory.now buffers.new sessions.new next ≡ act (world_of directory.now buffers.old sessions.old next) id (Run (Alter (replacement last)) None typed) true) }
-    ensures tells { IfOk result (λ touched. (id : ℕ) (next : Option ℕ) (s : Search) (r : Replacing) → at ≡ position_or_len (session_id id) sessions.old → search_held at sessions.old ≡ Some s → s.aim ≡ Replace r → touched ≡ touched_in (outcome_in (world_of directory.now buffers.old sessions.old next) id (Run (Alter (replacement last)) None r.put) true)) }
+    ensures ok { OnOk result (IsReplaced directory.now buffers.old buffers.new sessions.old sessions.new at last) }
+    ensures none { OnOk result (IsUnsought directory.now buffers.old buffers.new sessions.old sessions.new at last) }
+    ensures tells { IfOk result (IsToldBy directory.now buffers.old sessions.old at last) }
     ensures quiet { IfOk result (λ touched. search_held at sessions.old ≡ None → touched ≡ Nowhere) }
     ensures err { OnErr result ((next : Option ℕ) → world_of directory.now buffers.new sessions.new next ≡ world_of directory.now buffers.old sessions.old next) }
-    ensures may { OnErr result ((id : ℕ) (next : Option ℕ) (s : Search) (r : Replacing) → at ≡ position_or_len (session_id id) sessions.old → search_held at sessions.old ≡ Some s → s.aim ≡ Replace r → may_be_refused (outcome_in (world_of directory.now buffers.old sessions.old next) id (Run (Alter (replacement last)) None r.put) true) ≡ true) }
+    ensures may { OnErr result (IsRefusable directory.now buffers.old sessions.old at last) }
     ensures held { OnErr result (search_held at sessions.old ≡ None → ⊥) }
-    ensures further { OnOk result ((s t : Search) → search_held at sessions.old ≡ Some s → search_held at sessions.new ≡ Some t → 0 < length (aim_old s.aim) → remaining_at at buffers.new sessions.new < remaining_at at buffers.old sessions.old) }
+    ensures further { OnOk result (IsFurther buffers.old buffers.new sessions.old sessions.new at) }
 {
     match plan_in(buffers, directory, &sessions[at], last) {
-        Ok(planned) => match perform(buffers, sessions, at, &planned) {
+        Ok(planned) => match perform(buffers, directory, sessions, at, &planned) {
             Ok(touched) => Ok(touched),
             Err(short) => Err(short),
         },

@@ -1,29 +1,21 @@
 // Incremental searches: one begins, goes on, or is quit.
-ghost use Rattle.std.specs.Prelude.{◌≡◌, ◌<◌, ◌≤◌, ℕ, [], length, Option, Some, None, Ok, true};
-ghost use Rattle.std.specs.List.{position_or_len};
+ghost use Rattle.std.specs.Prelude.{◌≡◌, ◌<◌, ◌≤◌, [], length, Option, Some, None, Ok};
 ghost use Rattle.mgs_model.specs.Access.{Directory};
-ghost use Rattle.mgs_model.specs.Apply.{act};
-ghost use Rattle.mgs_model.specs.Events.{own_set, with_own};
 ghost use Rattle.mgs_model.specs.Outcome.{Run};
-ghost use Rattle.mgs_model.specs.Plans as plans;
-ghost use Rattle.mgs_model.specs.declared.session.Command.TheVariants.{LeaveSearch, Move};
-ghost use Rattle.mgs_model.specs.declared.session.Motion.TheVariants.{SearchOn, StartSearch};
+ghost use Rattle.mgs_model.specs.declared.session.Command.TheVariants.{LeaveSearch};
 ghost use Rattle.mgs_buffers.specs.MarkedBuffer.{marked_at};
 ghost use Rattle.mgs_edit.specs.Reading.{IsWithin, top_read};
 ghost use Rattle.mgs_session.specs.Seeking.{unsearched};
 ghost use Rattle.mgs_session.specs.Sessions.{window_marks_of};
-ghost use Rattle.mgs_model.specs.Searching.{Sought};
 ghost use Rattle.mgs_session.specs.declared.search.Aim.TheVariants.{Find};
 ghost use Rattle.mgs_session.specs.declared.search.Search.{Search};
 ghost use Rattle.mgs_windows.specs.declared.WindowMarks.{WindowMarks};
-ghost use Rattle.mgs_plan.specs.Actions.{AreMarks, mark_gone};
-ghost use Rattle.mgs_plan.specs.Beginning.{search_held, searching_own};
-ghost use Rattle.mgs_model.specs.Outcome.{At};
-ghost use Rattle.mgs_seek.specs.Seekers.{gone_back, origin_plan, IsStep, StepDone, seek_in, seeker_of, session_sought, step_ends, step_search};
+ghost use Rattle.mgs_plan.specs.Actions.{AreMarks};
+ghost use Rattle.mgs_seek.specs.Seekers.{Begins, IsBegun, IsQuit, IsSoughtOn, gone_back, gone_back_in, point_sought, origin_plan, IsStep, StepDone, seek_in, seeker_of, session_sought, step_ends, step_search};
 ghost use Rattle.mgs_seek.specs.Acting.{Does, as_is};
 ghost use Rattle.mgs_world.specs.Only.{OnlyThis, nothing_held};
 ghost use Rattle.mgs_world.specs.Sound.{IsSessionSound, IsSound};
-ghost use Rattle.mgs_world.specs.Worlds.{idle, own_at, own_of, session_id, world_of};
+ghost use Rattle.mgs_world.specs.Worlds.{idle, own_at, own_of};
 
 use crate::target::{go_on, sought, target};
 use mgs_buffers::Buffers;
@@ -53,7 +45,7 @@ fn begin_in<T: Marked + Drop>(
     requires sound { IsSessionSound buffers.now session.old }
     requires fresh { own_of session.old.own ≡ idle (own_of session.old.own) }
     ensures only { OnlyThis nothing_held buffers.now buffers.now session.old session.new }
-    ensures does { (n : Option ℕ) → Does directory.now buffers.now buffers.now session.old session.new (own_set (searching_own direction)) (Run (Move (StartSearch direction)) n []) }
+    ensures does { Begins directory.now buffers.now session.old session.new direction }
 {
     match target(buffers, directory, session, false) {
         Err(message) => fail(session, message),
@@ -79,7 +71,7 @@ pub fn start_search<T: Marked + Drop>(
     requires within { at < length sessions.old }
     requires fresh { own_at at sessions.old ≡ idle (own_at at sessions.old) }
     ensures sound { IsSound buffers.now sessions.new }
-    ensures world { (id : ℕ) (next n : Option ℕ) → at ≡ position_or_len (session_id id) sessions.old → world_of directory.now buffers.now sessions.new next ≡ act (with_own id (searching_own direction) (world_of directory.now buffers.now sessions.old next)) id (Run (Move (StartSearch direction)) n []) true }
+    ensures world { IsBegun directory.now buffers.now sessions.old sessions.new at direction }
 {
     begin_in(buffers, directory, &mut sessions[at], direction);
 }
@@ -119,7 +111,7 @@ fn seek<T: Marked + Drop>(
     step: SearchStep,
 )
     requires { AreMarks buffers.old window_marks.now }
-    ensures buffers { buffers.new ≡ mark_gone window_marks.now.name window_marks.now.point (At (step_ends buffers.old window_marks.now search step).point) buffers.old }
+    ensures buffers { buffers.new ≡ point_sought window_marks.now search step buffers.old }
     ensures plan { IsStep buffers.old window_marks.now search step }
     ensures within { (step_ends buffers.old window_marks.now search step).anchor ≤ length (marked_at window_marks.now.name buffers.old).buffer.text }
     ensures session { session.new ≡ session_sought (step_search buffers.old window_marks.now search step) session.old }
@@ -201,7 +193,7 @@ pub fn search_on<T: Marked + Drop>(
     requires sound { IsSound buffers.old sessions.old }
     requires within { at < length sessions.old }
     ensures sound { IsSound buffers.new sessions.new }
-    ensures world { (id : ℕ) (next : Option ℕ) (s : Search) (f : Sought) → at ≡ position_or_len (session_id id) sessions.old → search_held at sessions.old ≡ Some s → s.aim ≡ Find f → world_of directory.now buffers.new sessions.new next ≡ act (world_of directory.now buffers.old sessions.old next) id (Run (Move (SearchOn f.direction step)) None f.pattern) true }
+    ensures world { IsSoughtOn directory.now buffers.old buffers.new sessions.old sessions.new at step }
 {
     step_on(buffers, directory, &mut sessions[at], step);
 }
@@ -229,7 +221,7 @@ fn go_back_in<T: Marked + Drop>(
     window_marks: &WindowMarks,
 )
     requires { AreMarks buffers.old window_marks.now }
-    ensures { buffers.new ≡ mark_gone window_marks.now.name window_marks.now.point (origin_plan window_marks.now.name (length (marked_at window_marks.now.name buffers.old).buffer.text) session.now.own.search) buffers.old }
+    ensures { buffers.new ≡ gone_back_in window_marks.now session.now.own.search buffers.old }
 {
     let name = &window_marks.name;
     match origin(session, name, buffers.text_len(name)) {
@@ -265,7 +257,7 @@ pub fn quit_search<T: Marked + Drop>(buffers: &mut Buffers<T>, sessions: &mut [S
     requires sound { IsSound buffers.old sessions.old }
     requires within { at < length sessions.old }
     ensures sound { IsSound buffers.new sessions.new }
-    ensures world { (directory : Directory) (id : ℕ) (next : Option ℕ) → at ≡ position_or_len (session_id id) sessions.old → world_of directory buffers.new sessions.new next ≡ act (world_of directory buffers.old sessions.old next) id (Run LeaveSearch None []) true }
+    ensures world { IsQuit buffers.old buffers.new sessions.old sessions.new at }
 {
     quit_in(buffers, &mut sessions[at]);
 }

@@ -15,7 +15,7 @@ use mgs_session::{Search, Session, hold_search, rest, selected_window_marks, set
 use mgs_windows::WindowMarks;
 
 /// The rights that are wanted: to read the text, or to write it too.
-fn mask(writes: bool) -> Mask
+pub(crate) fn mask(writes: bool) -> Mask
     ensures { result ≡ mask_of writes }
 {
     if writes {

@@ -1,6 +1,6 @@
 -- What is done with connections, one thing after another.
-use Rattle.std.proofs.Common.{◌≡◌, ℕ, zero, suc, map, Bool, true, false, List, [], ◌∷◌, ◌++◌, Option, Some, None, refl, sym, ap, subst, ◌∙◌, ◌==◌, length, eqb-true, arith}
-use Rattle.std.specs.Prelude.{option_map, slice_index_or, Result, Ok, Err, IfOk, OnErr, IsSome, not}
+use Rattle.std.proofs.Common.{◌≡◌, ℕ, zero, suc, map, Bool, true, false, List, [], ◌∷◌, ◌++◌, Option, Some, None, refl, sym, ap, subst, ◌∙◌}
+use Rattle.std.specs.Prelude.{option_map, slice_index_or, Result, Ok, Err, IfOk, OnErr, IsSome}
 use Rattle.slab.specs.Slab.{Slab, get, Updates, with_value}
 use Rattle.slab.proofs.SlabLemmas.{Updates-with_value}
 use Rattle.mgs_wire.specs.declared.pump.PumpedIn.{PumpedIn}
@@ -8,7 +8,7 @@ use Rattle.mgs_wire.specs.declared.pump.PumpedIn.TheVariants.{Took, Idle, Finish
 use Rattle.mgs_wire.specs.declared.pump.PumpedOut.{PumpedOut}
 use Rattle.mgs_wire.specs.declared.pump.PumpedOut.TheVariants as out
 use Rattle.mgs_wire.specs.Calls.{Call}
-use Rattle.mgs_wire.specs.Connections.{Connection, Logging_in, Serving, Refused, Over, waiting, session_of, is_logging_in, is_reading, stopped, Breaks, Ends, Writes}
+use Rattle.mgs_wire.specs.Connections.{Connection, Logging_in, Serving, Refused, Over, waiting, is_logging_in, is_reading, stopped, Breaks, Ends, Writes}
 use Rattle.mgs_wire.specs.Pumps.{PumpsIn, Finishes, Leaves, WritesFirst}
 use Rattle.mgs_server.specs.declared.peer.Peer.{Peer}
 use Rattle.mgs_server.specs.Calls.{Calls}
@@ -85,22 +85,6 @@ closing_leaves does out.Failed n conn next old new c p = closing_broken does p.0
 -- nothing more is read of one that was stopped
 pub closing_stopped_as : (conn mid : Connection) → mid ≡ stopped conn → is_closing mid ≡ true
 closing_stopped_as conn mid e = ap is_closing e ∙ closing_stopped conn
-
--- WHEN NOTHING WAITS FOR ONE
-
-none_in : (xs : List ℕ) (empty : Bool) → empty ≡ (length xs == 0) → not empty ≡ false → xs ≡ []
-none_in [] empty e f = refl
-none_in (x ∷ xs) true e f = absurd (omega (arith, eqb-true (length (x ∷ xs)) 0 (sym e)))
-none_in (x ∷ xs) false e f = absurd cc
-
--- its session has nothing
-pub none_waits : {E : Type 0} (pending : ℕ → E → List ℕ) (conn : Connection) (id : ℕ) (s : E) (xs : List ℕ) (empty : Bool) → session_of conn ≡ Some id → xs ≡ pending id s → empty ≡ (length xs == 0) → not empty ≡ false → waiting pending conn s ≡ []
-none_waits pending (Logging_in line) id s xs empty session is e f = refl
-none_waits pending (Serving own) id s xs empty session is e f =
-    let same : own ≡ id = cc in
-    ap (λ i. pending i s) same ∙ sym is ∙ none_in xs empty e f
-none_waits pending (Refused left) id s xs empty session is e f = absurd cc
-none_waits pending (Over had) id s xs empty session is e f = refl
 
 -- WHEN NOTHING WAS READ OF ONE
 

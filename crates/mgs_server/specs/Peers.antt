@@ -119,3 +119,7 @@ module _ {E : Type 0} (does : E → Call → E → Type 0) (live : ℕ → E →
   pub record Moved (old new : Desk E) : Type 0 where
     pub moves : List Move
     pub made : AreMoves old moves new
+
+-- whatever the tickets are
+abbrev pub MovedByAny : {E : Type 0} → (E → Call → E → Type 0) → (ℕ → E → Bool) → (ℕ → E → List ℕ) → Desk E → Desk E → Type 0
+MovedByAny does live pending old new = (tickets : List (List ℕ × List ℕ)) → Moved does live pending tickets old new

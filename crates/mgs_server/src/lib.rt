@@ -7,9 +7,8 @@ mod accept;
 mod fault;
 mod peer;
 mod server;
-mod sips;
 mod sockets;
 
 pub use fault::{ListenFault, PollFailed};
+pub use peer::BYTES_AT_ONCE;
 pub use server::Server;
-pub use sips::BYTES_AT_ONCE;

@@ -1,19 +1,22 @@
 // Connections with their streams.
 ghost use Rattle.std.specs.Prelude.{◌≡◌, ◌<◌, ℕ, [], true, false, List, IfOk, IfSome};
-ghost use Rattle.mgs_wire.specs.Connections.{Breaks, Logging_in, is_over, is_reading, waiting};
+ghost use Rattle.mgs_wire.specs.Connections.{Breaks, Logging_in, is_over, is_reading};
 ghost use Rattle.mgs_wire.specs.Pumps.{PumpsIn, Finishes};
-ghost use Rattle.mgs_server.specs.declared.sips.TheConstants.{BYTES_AT_ONCE};
+ghost use Rattle.mgs_server.specs.declared.peer.TheConstants.{BYTES_AT_ONCE};
 ghost use Rattle.mgs_server.specs.Peers.{IsUnread, Stepped, is_closing, is_taking};
 
 use crate::accept::both_ways;
-use crate::sips::{BYTES_AT_ONCE, Sips};
-use mgs_model::{Short, Tickets};
-use mgs_wire::{Conn, PumpedIn, Sessions, pump_in, pump_out};
+use mgs_model::{SessionId, Short, Tickets};
+use mgs_wire::{Conn, PumpedIn, Sessions, pump_in_by, pump_out};
 use mio::event::Source;
 use mio::{Registry, Token};
 use std::alloc::Global;
 use std::io::{Read, Write};
 use std::time::{Duration, Instant};
+
+/// The most bytes of one read. What so many keys paint has room in the queue of the largest screen, so that no session falls
+/// behind within one read whose terminal takes all that is written to it.
+pub const BYTES_AT_ONCE: usize = 6;
 
 // The seconds in which a connection's login line has to end.
 const LOGIN_SECS: u64 = 60;
@@ -29,19 +32,9 @@ pub(crate) struct Reported {
 #[derive(Drop)]
 pub(crate) struct Peer<S: Drop> {
     conn: Conn,
-    stream: Sips<S>,
+    stream: S,
     // When it came. None: no clock has been read since.
     came: Option<Instant>,
-}
-
-// Whether bytes may wait for a connection. Of a session that has none the engine need not take any.
-fn may_wait<E: Sessions>(conn: &Conn, engine: &E) -> bool
-    ensures { result ≡ false → waiting E.pending conn.now engine.now ≡ [] }
-{
-    match conn.session() {
-        Some(id) => !engine.pending(id).is_empty(),
-        None => true,
-    }
 }
 
 impl<S: Read + Write + Drop> Peer<S> {
@@ -50,7 +43,6 @@ impl<S: Read + Write + Drop> Peer<S> {
         ensures { IfOk result (λ p. p.conn ≡ Logging_in []) }
     {
         let conn = Conn::new(alloc)?;
-        let stream = Sips::new(stream);
         Ok(Peer {
             conn,
             stream,
@@ -60,22 +52,13 @@ impl<S: Read + Write + Drop> Peer<S> {
 
     /// Reads its stream once, at most `BYTES_AT_ONCE` bytes, and hands them on, as `pump_in` does.
     pub(crate) fn read<E: Sessions>(&mut self, engine: &mut E, tickets: &Tickets) -> PumpedIn
-        ensures read { PumpsIn E.does E.live tickets.now result (S.remaining self.old.stream.stream) (S.remaining self.new.stream.stream) self.old.conn engine.old self.new.conn engine.new }
+        ensures read { PumpsIn E.does E.live tickets.now result (S.remaining self.old.stream) (S.remaining self.new.stream) self.old.conn engine.old self.new.conn engine.new }
         ensures finished { Finishes E.live result self.old.conn engine.old self.new.conn engine.new }
         ensures steps { Stepped E.does E.live E.pending tickets.now self.old.conn engine.old self.new.conn engine.new }
         ensures unread { is_taking result ≡ false → IsUnread self.old.conn engine.old self.new.conn engine.new }
     {
-        pump_in(&mut self.conn, engine, tickets, &mut self.stream)
-    }
-
-    // Writes what waits for its stream, as far as that takes it.
-    fn write_waiting<E: Sessions>(&mut self, engine: &mut E)
-        ensures steps { (tickets : List (List ℕ × List ℕ)) → Stepped E.does E.live E.pending tickets self.old.conn engine.old self.new.conn engine.new }
-        ensures closing { is_closing self.old.conn ≡ true → is_closing self.new.conn ≡ true }
-    {
-        if may_wait(&self.conn, engine) {
-            let _ = pump_out(&mut self.conn, engine, &mut self.stream);
-        }
+        let mut buf = [0u8; BYTES_AT_ONCE];
+        pump_in_by(&mut self.conn, engine, tickets, &mut self.stream, &mut buf)
     }
 
     /// Writes what waits for its stream, as far as that takes it. True: the connection is over, and its stream can be closed. That is
@@ -86,12 +69,22 @@ impl<S: Read + Write + Drop> Peer<S> {
         ensures closing { is_reading E.live self.old.conn engine.old ≡ false → is_closing self.new.conn ≡ true }
     {
         let _ = self.conn.is_finished(engine);
-        self.write_waiting(engine);
+        let _ = pump_out(&mut self.conn, engine, &mut self.stream);
         self.conn.is_over()
     }
 }
 
 impl<S: Drop> Peer<S> {
+    /// Whether its login opened this session.
+    pub(crate) fn is_of(&self, id: SessionId) -> bool {
+        self.conn.session() == Some(id)
+    }
+
+    /// Whether its login line has not ended.
+    pub(crate) fn is_logging_in(&self) -> bool {
+        self.conn.is_logging_in()
+    }
+
     /// Gives the connection up, as where reading fails: its session is closed, and nothing more is read or written.
     pub(crate) fn give_up<E: Sessions>(&mut self, engine: &mut E)
         ensures breaks { Breaks E.does self.old.conn engine.old self.new.conn engine.new }
@@ -145,7 +138,7 @@ impl<S: Source + Drop> Peer<S> {
         if taken < BYTES_AT_ONCE && !is_closed {
             return Some(Reported { is_asked: false });
         }
-        match registry.reregister(&mut self.stream.stream, token, both_ways()) {
+        match registry.reregister(&mut self.stream, token, both_ways()) {
             Ok(()) => Some(Reported { is_asked: true }),
             Err(_) => None,
         }

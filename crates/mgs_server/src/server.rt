@@ -18,7 +18,7 @@ use mgs_store::Store;
 use std::alloc::Global;
 use std::marker::Model;
 use std::net::Net;
-use std::time::{Clock, Instant};
+use std::time::Clock;
 
 /// A server of terminals: its world with the store where buffers are saved, and its connections on the loopback address.
 #[derive(Drop)]
@@ -111,8 +111,7 @@ impl<S: Store + Drop> Server<S> {
     {
         self.sockets.wait()?;
         self.sockets.serve(&mut self.engine, &self.tickets);
-        let now = Instant::now(clock).ok();
-        self.sockets.expire(&mut self.engine, now);
+        self.sockets.expire(&mut self.engine, clock);
         hear_ended(&mut self.engine);
         Ok(())
     }

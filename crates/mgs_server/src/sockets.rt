@@ -1,11 +1,11 @@
 // The sockets of a server.
-ghost use Rattle.std.specs.Prelude.{◌≡◌, ◌≢◌, ℕ, [], true, List, IfOk, IsNone};
-ghost use Rattle.mgs_server.specs.Peers.{IsOverAt, IsUnread, Moved, Stepped, Taken, desk, peers_of, slots_of};
+ghost use Rattle.std.specs.Prelude.{◌≡◌, ◌≢◌, [], true, IfOk, IsNone};
+ghost use Rattle.mgs_server.specs.Peers.{IsOverAt, IsUnread, Moved, MovedByAny, Stepped, Taken, desk, peers_of, slots_of};
 
 use crate::accept::accept_all;
 use crate::fault::{ListenFault, PollFailed};
 use crate::peer::{Peer, Reported};
-use mgs_model::{SESSION_LIMIT, Tickets};
+use mgs_model::{SESSION_LIMIT, SessionId, Tickets};
 use mgs_wire::{PumpedIn, Sessions};
 use mio::event::Event;
 use mio::net::{TcpListener, TcpStream};
@@ -14,7 +14,7 @@ use slab::Slab;
 use std::alloc::Global;
 use std::io::{self, ErrorKind};
 use std::net::{Ipv4Addr, Net, SocketAddr};
-use std::time::{Duration, Instant};
+use std::time::{Clock, Duration, Instant};
 
 // The longest wait of one turn.
 const WAIT_MILLIS: u64 = 50;
@@ -33,6 +33,8 @@ pub(crate) struct Sockets {
     listener: TcpListener,
     // Whether connections may wait of which the listener is not reported again.
     are_left: bool,
+    // Whether there may be connections whose login line has not ended.
+    are_new: bool,
     poll: Poll,
     events: Events,
 }
@@ -126,7 +128,7 @@ fn read_peer<E: Sessions>(
 
 // Whether a connection is there that is done with, once what waits for its stream was written.
 fn is_done<E: Sessions>(engine: &mut E, peers: &mut Slab<Peer<TcpStream>>, key: usize) -> bool
-    ensures moved { (tickets : List (List ℕ × List ℕ)) → Moved E.does E.live E.pending tickets (desk engine.old (peers_of peers.old)) (desk engine.new (peers_of peers.new)) }
+    ensures moved { MovedByAny E.does E.live E.pending (desk engine.old (peers_of peers.old)) (desk engine.new (peers_of peers.new)) }
     ensures over { result ≡ true → IsOverAt key (peers_of peers.new) }
 {
     match peers.get_mut(key) {
@@ -137,19 +139,53 @@ fn is_done<E: Sessions>(engine: &mut E, peers: &mut Slab<Peer<TcpStream>>, key: 
 
 // Writes what waits for a connection, and closes it where it is done with.
 fn write_one<E: Sessions>(engine: &mut E, peers: &mut Slab<Peer<TcpStream>>, key: usize)
-    ensures { (tickets : List (List ℕ × List ℕ)) → Moved E.does E.live E.pending tickets (desk engine.old (peers_of peers.old)) (desk engine.new (peers_of peers.new)) }
+    ensures { MovedByAny E.does E.live E.pending (desk engine.old (peers_of peers.old)) (desk engine.new (peers_of peers.new)) }
 {
     if is_done(engine, peers, key) {
         let _ = peers.try_remove(key);
     }
 }
 
-// Writes what waits for each connection, and closes those that are done with.
-fn write_all<E: Sessions>(engine: &mut E, peers: &mut Slab<Peer<TcpStream>>)
-    ensures { (tickets : List (List ℕ × List ℕ)) → Moved E.does E.live E.pending tickets (desk engine.old (peers_of peers.old)) (desk engine.new (peers_of peers.new)) }
+// Whether the connection under a key is that of a session.
+fn is_of(peers: &Slab<Peer<TcpStream>>, key: usize, id: SessionId) -> bool {
+    match peers.get(key) {
+        Some(peer) => peer.is_of(id),
+        None => false,
+    }
+}
+
+// The key of the connection of a session, which is looked for from this key on and then below it. Where there is none it is one that no
+// connection has.
+fn key_of(peers: &Slab<Peer<TcpStream>>, id: SessionId, from: usize) -> usize {
+    for key in from..peers.capacity() {
+        if is_of(peers, key, id) {
+            return key;
+        }
+    }
+    for key in 0..from {
+        if is_of(peers, key, id) {
+            return key;
+        }
+    }
+    peers.capacity()
+}
+
+// Writes what waits for the connections of sessions, and closes those that are done with. No more than 64 sessions are open, or ended and
+// not told.
+fn write_due<E: Sessions>(engine: &mut E, peers: &mut Slab<Peer<TcpStream>>)
+    ensures { MovedByAny E.does E.live E.pending (desk engine.old (peers_of peers.old)) (desk engine.new (peers_of peers.new)) }
 {
-    for key in 0..peers.capacity() {
-        write_one(engine, peers, key);
+    let mut id = 0;
+    let mut key = 0;
+    for _ in 0..SESSION_LIMIT {
+        match engine.next_due(id) {
+            Some(next) => {
+                id = next;
+                key = key_of(peers, id, key);
+                write_one(engine, peers, key);
+            }
+            None => return,
+        }
     }
 }
 
@@ -168,7 +204,7 @@ fn read_one<E: Sessions>(
     }
 }
 
-// Reads the connection of which this was reported once, if there is one, and writes to each what it made wait.
+// Reads the connection of which this was reported once, if there is one, and writes what waits for it, and for the others.
 fn serve_one<E: Sessions>(
     registry: &Registry,
     engine: &mut E,
@@ -179,7 +215,8 @@ fn serve_one<E: Sessions>(
     ensures { Moved E.does E.live E.pending tickets.now (desk engine.old (peers_of peers.old)) (desk engine.new (peers_of peers.new)) }
 {
     read_one(registry, engine, tickets, peers, event);
-    write_all(engine, peers);
+    write_one(engine, peers, event.token().0);
+    write_due(engine, peers);
 }
 
 // Serves each connection that is ready.
@@ -204,7 +241,7 @@ fn is_expired<E: Sessions>(
     key: usize,
     now: Instant,
 ) -> bool
-    ensures moved { (tickets : List (List ℕ × List ℕ)) → Moved E.does E.live E.pending tickets (desk engine.old (peers_of peers.old)) (desk engine.new (peers_of peers.new)) }
+    ensures moved { MovedByAny E.does E.live E.pending (desk engine.old (peers_of peers.old)) (desk engine.new (peers_of peers.new)) }
     ensures over { result ≡ true → IsOverAt key (peers_of peers.new) }
 {
     match peers.get_mut(key) {
@@ -220,20 +257,31 @@ fn expire_one<E: Sessions>(
     key: usize,
     now: Instant,
 )
-    ensures { (tickets : List (List ℕ × List ℕ)) → Moved E.does E.live E.pending tickets (desk engine.old (peers_of peers.old)) (desk engine.new (peers_of peers.new)) }
+    ensures { MovedByAny E.does E.live E.pending (desk engine.old (peers_of peers.old)) (desk engine.new (peers_of peers.new)) }
 {
     if is_expired(engine, peers, key, now) {
         let _ = peers.try_remove(key);
     }
 }
 
-// Closes each connection whose login line has not ended in time.
-fn expire_all<E: Sessions>(engine: &mut E, peers: &mut Slab<Peer<TcpStream>>, now: Instant)
-    ensures { (tickets : List (List ℕ × List ℕ)) → Moved E.does E.live E.pending tickets (desk engine.old (peers_of peers.old)) (desk engine.new (peers_of peers.new)) }
+// Whether a connection is there whose login line has not ended.
+fn is_logging_in(peers: &Slab<Peer<TcpStream>>, key: usize) -> bool {
+    match peers.get(key) {
+        Some(peer) => peer.is_logging_in(),
+        None => false,
+    }
+}
+
+// Closes each connection whose login line has not ended in time. True: there are others whose line has not ended yet.
+fn expire_all<E: Sessions>(engine: &mut E, peers: &mut Slab<Peer<TcpStream>>, now: Instant) -> bool
+    ensures { MovedByAny E.does E.live E.pending (desk engine.old (peers_of peers.old)) (desk engine.new (peers_of peers.new)) }
 {
+    let mut are_left = false;
     for key in 0..peers.capacity() {
         expire_one(engine, peers, key, now);
+        are_left |= is_logging_in(peers, key);
     }
+    are_left
 }
 
 impl Sockets {
@@ -260,6 +308,7 @@ impl Sockets {
             peers,
             listener,
             are_left: false,
+            are_new: false,
             poll,
             events,
         };
@@ -282,6 +331,7 @@ impl Sockets {
         ensures { Moved E.does E.live E.pending tickets.now (desk engine.old (peers_of self.old.peers)) (desk engine.new (peers_of self.new.peers)) }
     {
         let registry = self.poll.registry();
+        let before = self.peers.len();
         self.are_left = accept_reported(
             self.alloc,
             registry,
@@ -290,16 +340,21 @@ impl Sockets {
             &self.events,
             self.are_left,
         );
+        self.are_new |= self.peers.len() > before;
         serve_ready(registry, engine, tickets, &mut self.peers, &self.events);
     }
 
-    /// Closes each connection whose login line has not ended 60 seconds after it came, if the clock was read.
-    pub(crate) fn expire<E: Sessions>(&mut self, engine: &mut E, now: Option<Instant>)
-        ensures { (tickets : List (List ℕ × List ℕ)) → Moved E.does E.live E.pending tickets (desk engine.old (peers_of self.old.peers)) (desk engine.new (peers_of self.new.peers)) }
+    /// Closes each connection whose login line has not ended 60 seconds after it came, by the clock. One that cannot be read closes
+    /// none, and none is read where each login line has ended.
+    pub(crate) fn expire<E: Sessions, C: Clock>(&mut self, engine: &mut E, clock: &C)
+        ensures { MovedByAny E.does E.live E.pending (desk engine.old (peers_of self.old.peers)) (desk engine.new (peers_of self.new.peers)) }
     {
-        match now {
-            Some(now) => expire_all(engine, &mut self.peers, now),
-            None => {}
+        if !self.are_new {
+            return;
+        }
+        match Instant::now(clock) {
+            Ok(now) => self.are_new = expire_all(engine, &mut self.peers, now),
+            Err(_) => {}
         }
     }
 }

@@ -2,9 +2,9 @@
 ghost use Rattle.std.specs.Prelude.{◌+◌, ◌<◌, ◌≤◌, ◌^◌, length};
 ghost use Rattle.mgs_buffers.specs.MarkedBuffer.{HasBuffer, marked_at};
 
-use crate::people::{list_of, named};
+use crate::people::{list_of, named, with_entry};
 use mgs_acl::List;
-use mgs_buffers::{AddFault, Buffers};
+use mgs_buffers::{AddFault, Buffers, EditFault};
 use mgs_marks::{Marked, PlainMarked};
 use mgs_model::{Decision, Mask, Name, Right, Short};
 use mgs_policy::Directory;
@@ -24,23 +24,28 @@ fn two(alloc: Global, rt: &impl Abort) -> Buffers<PlainMarked> {
     all
 }
 
-// Where a mark at `p` is after characters were put in at the front.
+// Where a mark at `p` is after a user put characters in at the front, where he could.
 fn moved<T: Marked + Drop>(
     all: &mut Buffers<T>,
+    directory: &Directory,
+    user: &Name,
     name: &Name,
     p: usize,
     put: &[char],
-) -> Result<usize, Short>
+) -> Result<Option<usize>, Short>
     requires kept { HasBuffer name.now all.old }
     requires within { p ≤ length (marked_at name.now all.old).buffer.text }
     requires serial { (marked_at name.now all.old).buffer.serial < 2 ^ 63 }
     requires room { length (marked_at name.now all.old).buffer.text + length put.now ≤ 1048576 }
 {
     let id = all.add_mark(name, p)?;
-    all.edit(name, 0, 0, put)?;
+    match all.edit_as(directory, user, name, Mask::of(Right::WriteData), 0, 0, put) {
+        Ok(()) => {}
+        Err(_) => return Ok(None),
+    }
     let now = all.pos(name, id);
     all.drop_mark(name, id);
-    Ok(now)
+    Ok(Some(now))
 }
 
 // Where a mark at `p` is after it was placed at `q`.
@@ -139,10 +144,11 @@ pub(crate) fn has_text<T: Marked + Drop>(
     Ok(is_counted && now.as_slice() == text)
 }
 
-// Replaces what stands in a buffer from one place up to another.
+// ann replaces what stands in a buffer from one place up to another.
 pub(crate) fn change(
     rt: &impl Abort,
     all: &mut Buffers<PlainMarked>,
+    directory: &Directory,
     name: &Name,
     from: usize,
     to: usize,
@@ -152,14 +158,23 @@ pub(crate) fn change(
     let size = all.text_len(name);
     assert!(rt; from <= to && to <= size && size < 1000);
     assert!(rt; all.serial(name) < 1000 && put.len() < 1000);
-    all.edit(name, from, to, put)
+    let (ann, mask) = (named(rt, "ann"), Mask::of(Right::WriteData));
+    match all.edit_as(directory, &ann, name, mask, from, to, put) {
+        Ok(()) => Ok(()),
+        Err(EditFault::Short) => Err(Short),
+        Err(EditFault::Denied(_)) => panic!(rt; "ann is denied"),
+    }
 }
 
-fn edit_second(rt: &impl Abort, all: &mut Buffers<PlainMarked>) -> Result<(), Short> {
+fn edit_second(
+    rt: &impl Abort,
+    all: &mut Buffers<PlainMarked>,
+    directory: &Directory,
+) -> Result<(), Short> {
     let (first, second) = (named(rt, "first"), named(rt, "second"));
     assert!(rt; !all.has(&named(rt, "third")));
     assert!(rt; has_text(all, &second, &['c', 'd', 'e'], 0)?);
-    change(rt, all, &second, 1, 2, &['x', 'y'])?;
+    change(rt, all, directory, &second, 1, 2, &['x', 'y'])?;
     assert!(rt; has_text(all, &second, &['c', 'x', 'y', 'e'], 1)?);
     assert!(rt; has_text(all, &first, &['a', 'b'], 0)?);
     Ok(())
@@ -168,24 +183,28 @@ fn edit_second(rt: &impl Abort, all: &mut Buffers<PlainMarked>) -> Result<(), Sh
 #[test]
 fn the_buffer_of_the_name_is_edited(rt: HostRuntime) -> Result<(), Short> {
     let mut all = two(rt.alloc(), &rt);
-    edit_second(&rt, &mut all)
+    edit_second(&rt, &mut all, &Directory::new(rt.alloc()))
 }
 
-fn mark_second(rt: &impl Abort, all: &mut Buffers<PlainMarked>) -> Result<(), Short> {
-    let second = named(rt, "second");
+fn mark_second(
+    rt: &impl Abort,
+    all: &mut Buffers<PlainMarked>,
+    directory: &Directory,
+) -> Result<(), Short> {
+    let (second, ann) = (named(rt, "second"), named(rt, "ann"));
     assert!(rt; all.has(&second));
     assert!(rt; all.text_len(&second) == 3 && all.serial(&second) == 0);
     assert!(rt; placed(all, &second, 0, 3)? == 3);
     assert!(rt; all.has(&second));
     assert!(rt; all.text_len(&second) == 3 && all.serial(&second) == 0);
-    assert!(rt; moved(all, &second, 2, &['u', 'v'])? == 4);
+    assert!(rt; moved(all, directory, &ann, &second, 2, &['u', 'v'])? == Some(4));
     Ok(())
 }
 
 #[test]
 fn marks_follow_edits(rt: HostRuntime) -> Result<(), Short> {
     let mut all = two(rt.alloc(), &rt);
-    mark_second(&rt, &mut all)
+    mark_second(&rt, &mut all, &Directory::new(rt.alloc()))
 }
 
 const NO_WRITING: Decision = Decision::NotGranted {
@@ -227,19 +246,19 @@ fn bob_writes(rt: &impl Abort, all: &Buffers<PlainMarked>, directory: &Directory
     all.has(&name) && all.grants(directory, &name, &bob, Right::WriteData)
 }
 
-// A buffer of ann, which its owning group may write, belongs to the staff, to none, and to the staff again.
+// A buffer of ann, which its owning group may write, belongs to the staff, and by her to none, and to the staff again.
 fn regroup(
     rt: &impl Abort,
     all: &mut Buffers<PlainMarked>,
     directory: &Directory,
 ) -> Result<(), Fail> {
-    let (shared, staff) = (named(rt, "shared"), named(rt, "staff"));
+    let (shared, staff, ann) = (named(rt, "shared"), named(rt, "staff"), named(rt, "ann"));
     assert!(rt; bob_writes(rt, all, directory));
     assert!(rt; all.has(&shared));
-    all.set_group(&shared, None);
+    assert!(rt; all.set_group_as(directory, &ann, &shared, None) == Ok(()));
     assert!(rt; !bob_writes(rt, all, directory));
     assert!(rt; all.has(&shared));
-    all.set_group(&shared, Some(staff));
+    assert!(rt; all.set_group_as(directory, &ann, &shared, Some(staff)) == Ok(()));
     assert!(rt; bob_writes(rt, all, directory));
     Ok(())
 }
@@ -248,7 +267,7 @@ fn regroup(
 fn the_owning_group_decides(rt: HostRuntime) -> Result<(), Fail> {
     let directory = staffed(&rt, rt.alloc());
     let mut all = Buffers::new(rt.alloc());
-    let list = list_of(&rt, "ALLOW GROUP@ w");
+    let list = with_entry(&rt, list_of(&rt, "ALLOW GROUP@ w"), "ALLOW OWNER@ o");
     assert!(rt; all.add("shared", "ann", Some("staff"), list, &[], false) == Ok(()));
     regroup(&rt, &mut all, &directory)
 }

@@ -18,6 +18,8 @@ mod people;
 #[cfg(test)]
 mod plans;
 #[cfg(test)]
+mod saving;
+#[cfg(test)]
 mod taking_back;
 #[cfg(test)]
 mod terminal;

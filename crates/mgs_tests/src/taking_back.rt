@@ -1,11 +1,11 @@
 // An edit of a buffer is taken back by the plan of its undo.
 use crate::buffers::{change, has_text};
-use crate::people::named;
-use mgs_acl::List;
+use crate::people::{list_of, named};
 use mgs_buffers::Buffers;
 use mgs_edit::{Goes, is_undo_an_edit, is_undo_too_long, undo, undo_target};
 use mgs_marks::PlainMarked;
 use mgs_model::{Kind, Name, Short};
+use mgs_policy::Directory;
 use std::process::Abort;
 use std::test::Fail;
 
@@ -33,11 +33,12 @@ fn plan_of(
 fn take_back(
     rt: &impl Abort,
     all: &mut Buffers<PlainMarked>,
+    directory: &Directory,
     name: &Name,
     kind: Kind,
 ) -> Result<Kind, Fail> {
     let (from, to, removed, left) = plan_of(rt, all, name, kind)?;
-    change(rt, all, name, from, to, &removed)?;
+    change(rt, all, directory, name, from, to, &removed)?;
     Ok(left)
 }
 
@@ -49,11 +50,14 @@ fn undid(buffer: Name, target: u64, last: u64) -> Kind {
     }
 }
 
-// Takes back that a buffer was edited.
-fn unmodify(all: &mut Buffers<PlainMarked>, name: &Name) {
-    if all.has(name) {
-        all.unmodify(name);
-    }
+// ann takes back that a buffer was edited.
+fn unmodify(
+    rt: &impl Abort,
+    all: &mut Buffers<PlainMarked>,
+    directory: &Directory,
+    name: &Name,
+) -> bool {
+    all.has(name) && all.unmodify_as(directory, &named(rt, "ann"), name) == Ok(())
 }
 
 // Whether there is a buffer of a name that was not edited.
@@ -67,11 +71,16 @@ fn is_not_kept(all: &Buffers<PlainMarked>, name: &Name, serial: u64) -> bool {
 }
 
 // Two edits of a buffer.
-fn edit_twice(rt: &impl Abort, all: &mut Buffers<PlainMarked>, name: &Name) -> Result<(), Short> {
-    change(rt, all, name, 1, 2, &['x', 'y'])?;
-    change(rt, all, name, 3, 4, &[])?;
+fn edit_twice(
+    rt: &impl Abort,
+    all: &mut Buffers<PlainMarked>,
+    directory: &Directory,
+    name: &Name,
+) -> Result<(), Short> {
+    change(rt, all, directory, name, 1, 2, &['x', 'y'])?;
+    change(rt, all, directory, name, 3, 4, &[])?;
     assert!(rt; has_text(all, name, &['a', 'x', 'y'], 2)?);
-    unmodify(all, name);
+    assert!(rt; unmodify(rt, all, directory, name));
     assert!(rt; is_unmodified(all, name));
     Ok(())
 }
@@ -80,12 +89,13 @@ fn edit_twice(rt: &impl Abort, all: &mut Buffers<PlainMarked>, name: &Name) -> R
 fn take_both_back(
     rt: &impl Abort,
     all: &mut Buffers<PlainMarked>,
+    directory: &Directory,
     name: &Name,
 ) -> Result<(), Fail> {
-    edit_twice(rt, all, name)?;
-    let first = take_back(rt, all, name, Kind::Other)?;
+    edit_twice(rt, all, directory, name)?;
+    let first = take_back(rt, all, directory, name, Kind::Other)?;
     assert!(rt; first == undid(*name, 2, 3));
-    let second = take_back(rt, all, name, first)?;
+    let second = take_back(rt, all, directory, name, first)?;
     assert!(rt; second == undid(*name, 1, 4));
     assert!(rt; has_text(all, name, &['a', 'b', 'c'], 4)?);
     assert!(rt; is_not_kept(all, name, 0));
@@ -95,6 +105,12 @@ fn take_both_back(
 #[test]
 fn two_undos_in_a_row(rt: HostRuntime) -> Result<(), Fail> {
     let mut all = Buffers::<PlainMarked>::new(rt.alloc());
-    assert!(rt; all.add("notes", "ann", None, List::new(), &['a', 'b', 'c'], false) == Ok(()));
-    take_both_back(&rt, &mut all, &named(&rt, "notes"))
+    let list = list_of(&rt, "ALLOW OWNER@ rw");
+    assert!(rt; all.add("notes", "ann", None, list, &['a', 'b', 'c'], false) == Ok(()));
+    take_both_back(
+        &rt,
+        &mut all,
+        &Directory::new(rt.alloc()),
+        &named(&rt, "notes"),
+    )
 }

@@ -1,7 +1,7 @@
 -- CALLS: what connections ask of a server. A server is a type `E` of states with three words: `does old call new` says that
 -- the call may lead from one state to another with its answer, `live id state` whether a session is open, and
 -- `pending id state` the bytes that wait for its terminal.
-use Rattle.std.specs.Prelude.{◌≡◌, ℕ, Bool, MatchBool, List, [], ◌∷◌, Result}
+use Rattle.std.specs.Prelude.{◌≡◌, ℕ, ◌<◌, ◌^◌, Bool, MatchBool, List, [], ◌∷◌, Option, Some, None, Result}
 use Rattle.mgs_model.specs.declared.errors.OpenFault.{OpenFault}
 use Rattle.mgs_model.specs.declared.errors.Keyed.{Keyed}
 
@@ -20,3 +20,12 @@ abbrev pub Typed : {E : Type 0} → (E → Call → E → Type 0) → (ℕ → E
 Typed does live id [] old new = new ≡ old
 Typed {E = E} does live id (b ∷ bs) old new =
     MatchBool (live id old) ((answer : Keyed) × (mid : E) × does old (Byte id b answer) mid × Typed does live id bs mid new) (new ≡ old)
+
+-- an id is below the next one; each is, where there is none
+abbrev pub IsBefore : ℕ → Option ℕ → Type 0
+IsBefore id None = Unit {0}
+IsBefore id (Some next) = id < next
+
+-- for no session between one and the next bytes wait
+abbrev pub PassesNone : {E : Type 0} → (ℕ → E → List ℕ) → ℕ → Option ℕ → E → Type 0
+PassesNone pending after next s = (id : ℕ) → id < 2 ^ 64 → after < id → IsBefore id next → pending id s ≡ []

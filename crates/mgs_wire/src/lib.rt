@@ -16,6 +16,6 @@ mod sessions;
 pub use conn::Conn;
 pub use law::reads_in_pieces;
 pub use limits::{LOGIN_LIMIT, READ_LIMIT};
-pub use pump::{PumpedIn, PumpedOut, pump_in, pump_out};
+pub use pump::{PumpedIn, PumpedOut, pump_in, pump_in_by, pump_out};
 pub use refusal::Refusal;
 pub use sessions::Sessions;

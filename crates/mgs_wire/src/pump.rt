@@ -1,5 +1,6 @@
 // Reads and writes connections.
-ghost use Rattle.std.specs.Prelude.{◌≡◌, ◌<◌, length, take, false};
+ghost use Rattle.std.specs.Prelude.{◌≡◌, ◌<◌, ◌≤◌, length, take, false};
+ghost use Rattle.mgs_wire.specs.declared.limits.TheConstants.{READ_LIMIT};
 ghost use Rattle.std.specs.Io.{ReadsAtMost};
 ghost use Rattle.std.specs.Io.KnownBytes.{Appends};
 ghost use Rattle.std.specs.IoError.{error_kind};
@@ -87,12 +88,29 @@ pub fn pump_in<E: Sessions, R: Read>(
     ensures finished { Finishes E.live result conn.old engine.old conn.new engine.new }
     ensures unread { is_reading E.live conn.old engine.old ≡ false → reader.new ≡ reader.old }
 {
+    let mut buf = [0u8; READ_LIMIT];
+    pump_in_by(conn, engine, tickets, reader, &mut buf)
+}
+
+/// Does as [`pump_in`] by a buffer of at least one byte and at most 4,096: it reads no more than that takes.
+pub fn pump_in_by<E: Sessions, R: Read>(
+    conn: &mut Conn,
+    engine: &mut E,
+    tickets: &Tickets,
+    reader: &mut R,
+    buf: &mut [u8],
+) -> PumpedIn
+    requires some { 1 ≤ length buf.old }
+    requires limit { length buf.old ≤ READ_LIMIT }
+    ensures read { PumpsIn E.does E.live tickets.now result (R.remaining reader.old) (R.remaining reader.new) conn.old engine.old conn.new engine.new }
+    ensures finished { Finishes E.live result conn.old engine.old conn.new engine.new }
+    ensures unread { is_reading E.live conn.old engine.old ≡ false → reader.new ≡ reader.old }
+{
     if conn.is_finished(engine) {
         return PumpedIn::Finished;
     }
-    let mut buf = [0u8; READ_LIMIT];
-    let read = reader.read(&mut buf);
-    hear(conn, engine, tickets, read, &buf)
+    let read = reader.read(buf);
+    hear(conn, engine, tickets, read, buf)
 }
 
 // How a writing ends by an error of the writer.

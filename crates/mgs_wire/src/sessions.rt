@@ -6,7 +6,8 @@ use mgs_model::{Keyed, OpenFault, SessionId};
 /// Each call is one event, or takes bytes that were written. What a call may do is the server's own word, `does`.
 pub trait Sessions {
     ghost use Rattle.std.specs.Prelude.{◌≡◌, ℕ, ◌≤◌, Bool, List, length};
-    ghost use Rattle.mgs_wire.specs.Calls.{Call, Open, Byte, Close, Took};
+    ghost use Rattle.std.specs.Prelude.{◌<◌, IfSome};
+    ghost use Rattle.mgs_wire.specs.Calls.{Call, Open, Byte, Close, Took, PassesNone};
 
     // The call may lead from one state to another, with its answer.
     ghost does: { Self → Call → Self → Type 0 };
@@ -41,4 +42,13 @@ pub trait Sessions {
     fn took(&mut self, id: SessionId, n: usize)
         requires { n ≤ length (pending id self.old) }
         ensures { does self.old (Took id n) self.new };
+
+    /// A session above this one whose connection is to be written to, or closed: bytes wait for its terminal, or it ended. None: there is
+    /// no more. For the sessions between no bytes wait. This body passes over no session; a server that knows its queues has a better one.
+    fn next_due(&self, after: SessionId) -> Option<SessionId>
+        ensures above { IfSome result (λ id. after < id) }
+        ensures passed { PassesNone pending after result self.now }
+    {
+        after.checked_add(1)
+    }
 }

@@ -19,7 +19,7 @@ use Rattle.mgs_session.specs.declared.search.Search.{Search}
 use Rattle.mgs_session.specs.declared.Session.{Session}
 use Rattle.mgs_session.specs.Seeking.{moved, search_edited, session_edited}
 use Rattle.mgs_world.specs.Sound.{IsSound, session_uses, uses}
-use Rattle.mgs_world.specs.Worlds.{buffers_of, own_of, place_of, search_at, search_of, session_of, size_found, size_in, size_named, sizes_in, window_of}
+use Rattle.mgs_world.specs.Worlds.{buffers_of, own_of, place_of, search_at, search_of, session_of, size_found, size_named, window_of}
 use Rattle.mgs_world.proofs.Found.{found_buffer}
 use Rattle.mgs_world.proofs.Marks.{other_name, same_is}
 use Rattle.mgs_world.proofs.Worlds.{buffers_edited, mapped_twice, place_edited, same_positions, window_edited}
@@ -135,10 +135,6 @@ uses_followed n e m i (x ∷ xs) = omega (arith, session_edited_uses n e m i x, 
 
 pub sound_followed : (n : List ℕ) (e : Edited) (ks : List MarkedBuffer) (xs : List Session) → IsSound ks xs → IsSound ks (map (session_edited n e) xs)
 sound_followed n e ks xs sound = record { once = λ m i. uses_followed n e m i xs ∙ sound.once m i }
-
-pub sizes_followed : (n : List ℕ) (e : Edited) (xs : List Session) → sizes_in (map (session_edited n e) xs) ≡ sizes_in xs
-sizes_followed n e [] = refl
-sizes_followed n e (x ∷ xs) = ap (λ ss. size_in x ∷ ss) (sizes_followed n e xs)
 
 -- one session may be written before the walk or behind it
 pub followed_set : (n : List ℕ) (e : Edited) (xs : List Session) (at : ℕ) (y : Session) → map (session_edited n e) (slice_set xs at y) ≡ slice_set (map (session_edited n e) xs) at (session_edited n e y)

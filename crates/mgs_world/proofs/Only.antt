@@ -5,7 +5,7 @@ use Rattle.std.specs.Option.{option_map}
 use Rattle.std.specs.List.{position_or_len}
 use Rattle.mgs_model.specs.Access.{Directory}
 use Rattle.mgs_model.specs.Apply.{change_at, change_first}
-use Rattle.mgs_model.specs.World.{World, has_id}
+use Rattle.mgs_model.specs.World.{has_id}
 use Rattle.mgs_model.specs.World as model
 use Rattle.mgs_model.proofs.Basics.{cons_head, cons_tail}
 use Rattle.mgs_model.proofs.Firsts.{change_first_found, find-map, position_or_len-map}
@@ -103,9 +103,6 @@ only_unseen held d ks ls xs next at x y sound is within h same =
 
 pub sound_but : (ks : List MarkedBuffer) (xs : List Session) → IsSound ks xs → IsSoundBut nothing_held ks xs
 sound_but ks xs sound = record { once = λ m i. omega (arith, sound.once m i) }
-
-pub only_same : (ks : List MarkedBuffer) (x : Session) → OnlyThis nothing_held ks ks x x
-only_same ks x = record { buffers = refl; uses = λ m i. omega arith; stay = λ m i own used after. refl; size = refl }
 
 -- one change after another
 pub only_twice : (ks ls ms : List MarkedBuffer) (x y z : Session) → OnlyThis nothing_held ks ls x y → OnlyThis nothing_held ls ms y z → OnlyThis nothing_held ks ms x z

@@ -1,21 +1,39 @@
 use Rattle.std.proofs.Common.{get_or, refl, ap, ◌∙◌}
+use Rattle.std.proofs.lemmas.Option.{slice_get-get_or}
 use Rattle.mgs_model.specs.declared.session.Kind.TheVariants.{Other}
+use Rattle.mgs_model.specs.declared.touched.Touched.TheVariants.{Anywhere}
 use Rattle.mgs_session.specs.Sessions.{acted}
+use Rattle.mgs_plan.specs.declared.outcome.Outcome.TheVariants.{Reowns}
 use Rattle.mgs_world.proofs.Soundness.{sound_set}
 use Rattle.mgs_plan.proofs.Deeds.{fresh_own}
-use Rattle.mgs_act.proofs.Done.{here_is}
+use Rattle.mgs_act.proofs.Done.{here_is, quietly}
 use Rattle.mgs_act.proofs.Rulings.{reowned_so, reowned_sound}
 use Rattle.mgs_act.proofs.doing.reown.Goals as goal
+
+pub set_owner-requires-clause-kept : goal.set_owner-requires-clause-kept
+set_owner-requires-clause-kept g c =
+    let xs = c.args.sessions.now in
+    let r = c.index-sessions-at.result in
+    (c.requires.can (get_or xs c.args.at r) (slice_get-get_or xs c.args.at r c.requires.within)).kept
+
+pub set_owner-requires-clause-granted : goal.set_owner-requires-clause-granted
+set_owner-requires-clause-granted g c =
+    let xs = c.args.sessions.now in
+    let r = c.index-sessions-at.result in
+    (c.requires.can (get_or xs c.args.at r) (slice_get-get_or xs c.args.at r c.requires.within)).granted
 
 pub returns-clause-sound : goal.returns-clause-sound
 returns-clause-sound g c =
     let ks = c.args.buffers.now in
     let xs = c.args.sessions.now in
-    rw (c.set_owner.ensures, c.set_kind.ensures) (reowned_sound c.args.name.now c.args.new ks _ (sound_set ks xs c.args.at (get_or xs c.args.at c.index-sessions-at.result) _ (ap (get_or xs c.args.at) c.index-sessions-at.is) (λ n i. refl) c.requires.sound))
+    rw (c.set_owner.ensures, c.set_kind.ensures) (reowned_sound c.args.name.now c.args.new ks _ (sound_set ks xs c.args.at (get_or xs c.args.at c.index-sessions-at-2.result) _ (ap (get_or xs c.args.at) c.index-sessions-at-2.is) (λ n i. refl) c.requires.sound))
 
 pub returns-clause-done : goal.returns-clause-done
-returns-clause-done g c = λ directory id next h place found.
+returns-clause-done g c =
+    let d = c.args.directory.now in
     let ks = c.args.buffers.now in
     let xs = c.args.sessions.now in
-    let same = c.set_kind.ensures ∙ ap (acted Other) (here_is xs c.args.at c.index-sessions-at.result h c.requires.within found) in
-    rw (c.set_owner.ensures, same) (reowned_so directory ks xs next id c.args.at h place c.requires.within found (fresh_own xs c.args.at h found c.requires.fresh) c.args.name.now c.args.new)
+    quietly d c.args.at (Reowns c.args.name.now c.args.new) ks _ xs _ Anywhere
+    (λ id next h place found.
+    let same = c.set_kind.ensures ∙ ap (acted Other) (here_is xs c.args.at c.index-sessions-at-2.result h c.requires.within found) in
+    (rw (c.set_owner.ensures, same) (reowned_so d ks xs next id c.args.at h place c.requires.within found (fresh_own xs c.args.at h found c.requires.fresh) c.args.name.now c.args.new), refl, refl))

@@ -1,4 +1,6 @@
-use Rattle.std.proofs.Common.{List, refl, sym, subst}
+use Rattle.std.proofs.Common.{List, length, refl, sym, ap, subst, ◌∙◌}
+use Rattle.mgs_model.specs.Access.{decision}
+use Rattle.mgs_plan.specs.Actions.{insertion_mask}
 use Rattle.mgs_model.specs.World.{Buffer}
 use Rattle.mgs_buffers.specs.MarkedBuffer.{MarkedBuffer}
 use Rattle.mgs_world.specs.Marking.{IsGivenUp}
@@ -19,6 +21,14 @@ pub insert_chars-requires-clause-can : goal.insert_chars-requires-clause-can
 insert_chars-requires-clause-can g c =
     let x = c.args.window_marks.now in
     subst (λ (b : Buffer). CanPut b c.args.put.now c.args.place) (sym (reserved_buffer x.name x.mark c.in_ok-mark.mark c.args.buffers.now c.reserve_mark.new.buffers c.in_ok-mark.ensures.ok)) c.requires.can
+
+pub insert_chars-requires-clause-granted : goal.insert_chars-requires-clause-granted
+insert_chars-requires-clause-granted g c =
+    let x = c.args.window_marks.now in
+    let h = c.args.session.now in
+    ap (λ (b : Buffer). decision c.args.directory.now b.owners h.user b.entries (insertion_mask c.args.place (length b.text)))
+    (reserved_buffer x.name x.mark c.in_ok-mark.mark c.args.buffers.now c.reserve_mark.new.buffers c.in_ok-mark.ensures.ok)
+    ∙ c.requires.granted
 
 pub set_mark-requires-clause-mark : goal.set_mark-requires-clause-mark
 set_mark-requires-clause-mark g c =

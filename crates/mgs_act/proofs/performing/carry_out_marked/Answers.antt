@@ -6,7 +6,7 @@ use Rattle.mgs_world.specs.Marking.{IsGivenUp, session_marked}
 use Rattle.mgs_world.proofs.SelectedMark.{reserved_given_up}
 use Rattle.mgs_world.proofs.Soundness.{mark_is_kept}
 use Rattle.mgs_plan.specs.Actions.{CanDo, marked_after, session_acted}
-use Rattle.mgs_act.proofs.Marked.{mark_after_action, reserved_buffer, reserved_in_use, reserved_marks, within_after}
+use Rattle.mgs_act.proofs.Marked.{granted_still, mark_after_action, reserved_buffer, reserved_in_use, reserved_marks, within_after}
 use Rattle.mgs_act.proofs.performing.carry_out_marked.Goals as goal
 
 pub carry_out-requires-clause-marks : goal.carry_out-requires-clause-marks
@@ -27,6 +27,11 @@ carry_out-requires-clause-can g c =
     let mid = c.in_ok-mark.mark in
     let r = c.in_ok-mark.ensures.ok in
     subst (λ (b : Buffer). CanDo b.text b.items c.args.session.now.kill b.serial c.args.action.now) (sym (reserved_buffer x.name x.mark mid ks ls r)) c.requires.can
+
+pub carry_out-requires-clause-granted : goal.carry_out-requires-clause-granted
+carry_out-requires-clause-granted g c =
+    let x = c.args.window_marks.now in
+    granted_still c.args.directory.now c.args.buffers.now c.reserve_mark.new.buffers c.args.session.now.user x.name c.args.action.now (reserved_buffer x.name x.mark c.in_ok-mark.mark c.args.buffers.now c.reserve_mark.new.buffers c.in_ok-mark.ensures.ok) c.requires.granted
 
 pub set_mark-requires-clause-mark : goal.set_mark-requires-clause-mark
 set_mark-requires-clause-mark g c =

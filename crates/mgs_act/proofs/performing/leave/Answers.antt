@@ -1,7 +1,5 @@
 use Rattle.std.proofs.Common.{ap, ◌∙◌}
 use Rattle.mgs_buffers.specs.MarkedBuffer.{marked_at}
-use Rattle.mgs_plan.specs.Actions.{mark_gone}
-use Rattle.mgs_edit.specs.Reading.{top_read}
 use Rattle.mgs_buffers.specs.Placing.{placed_if}
 use Rattle.mgs_act.proofs.performing.leave.Goals as goal
 

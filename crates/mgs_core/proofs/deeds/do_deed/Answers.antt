@@ -5,7 +5,7 @@ use Rattle.mgs_model.specs.Events.{may_be_refused}
 use Rattle.mgs_world.specs.Worlds.{own_at, world_of}
 use Rattle.mgs_core.specs.declared.deeds.Deed.{Deed}
 use Rattle.mgs_core.specs.Stepped.{deed_act}
-use Rattle.mgs_core.proofs.Prompted.{answer_may, answer_quietly}
+use Rattle.mgs_core.proofs.Prompted.{answer_done, answer_may}
 use Rattle.mgs_core.proofs.Taken.{acted_deed, quit_quietly, replaced_may, replaced_quietly, skipped_quietly, sought_quietly, started_replacing}
 use Rattle.mgs_core.proofs.deeds.do_deed.Goals as goal
 
@@ -22,15 +22,19 @@ returns-in-Act-clause-may g c =
     ∙ may id next place)
     c.do_act.ensures.may
 
-pub returns-in-Ok-clause-ok : goal.returns-in-Ok-clause-ok
-returns-in-Ok-clause-ok g c id next place =
-    answer_quietly c.in-Ok.touched _ _ _ id (own_at c.args.at c.args.sessions.now) c.args.before.now c.args.deed c.asked-prompt.result.now c.in-Answer.argument c.question-question.result c.input-input.result.now
-    c.in-Answer.is c.asked-prompt.ensures c.question-question.ensures c.input-input.ensures.value (c.in-Ok.ensures.ok id next place) (c.in-Ok.ensures.tells id next place)
+pub returns-in-Answer-clause-ok : goal.returns-in-Answer-clause-ok
+returns-in-Answer-clause-ok g c =
+    IfOk-weaker c.answer.result _ _
+    (λ touched did id next place. answer_done touched _ _ _ _ id (own_at c.args.at c.args.sessions.now) c.args.before.now c.args.deed c.asked-prompt.result.now c.in-Answer.argument c.question-question.result c.input-input.result.now
+    c.in-Answer.is c.asked-prompt.ensures c.question-question.ensures c.input-input.ensures.value (did id next place)) c.answer.ensures.ok
 
-pub returns-in-Err-clause-may : goal.returns-in-Err-clause-may
-returns-in-Err-clause-may g c id next place =
+pub returns-in-Answer-clause-may : goal.returns-in-Answer-clause-may
+returns-in-Answer-clause-may g c =
+    on_err_weaker c.answer.result
+    (λ may id next place.
     answer_may (world_of c.args.directory.now c.args.buffers.now c.args.sessions.now next) id (own_at c.args.at c.args.sessions.now) c.args.before.now c.args.deed c.asked-prompt.result.now c.in-Answer.argument c.question-question.result c.input-input.result.now
-    c.in-Answer.is c.asked-prompt.ensures c.question-question.ensures c.input-input.ensures.value (c.in-Err.ensures.may id next place)
+    c.in-Answer.is c.asked-prompt.ensures c.question-question.ensures c.input-input.ensures.value (may id next place))
+    c.answer.ensures.may
 
 pub returns-in-Seek-clause-ok : goal.returns-in-Seek-clause-ok
 returns-in-Seek-clause-ok g c id next place =
@@ -45,17 +49,17 @@ returns-in-StartReplacing-clause-ok g c id next place =
     started_replacing _ _ _ id (own_at c.args.at c.args.sessions.now) c.args.before.now c.args.deed c.asked-prompt-in-StartReplacing.result.now c.of-pattern.result c.of-put.result c.in-StartReplacing.is c.asked-prompt-in-StartReplacing.ensures
     (c.of-pattern.ensures ∙ c.first.ensures.value) (c.of-put.ensures ∙ c.input.ensures.value) (c.start_replacing.ensures.world id next place)
 
-pub returns-in-Ok-replace-clause-ok : goal.returns-in-Ok-replace-clause-ok
-returns-in-Ok-replace-clause-ok g c id next place =
-    replaced_quietly c.in-Ok-replace.touched _ _ _ id c.args.sessions.now c.args.at c.args.before.now c.args.deed c.in-Replace.last c.in-Replace.is c.requires.ready (λ s r held aim. c.in-Ok-replace.ensures.ok id next s r place held aim) (λ s r held aim. c.in-Ok-replace.ensures.tells id next s r place held aim)
+pub returns-in-Ok-clause-ok : goal.returns-in-Ok-clause-ok
+returns-in-Ok-clause-ok g c id next place =
+    replaced_quietly c.in-Ok.touched _ _ _ id c.args.sessions.now c.args.at c.args.before.now c.args.deed c.in-Replace.last c.in-Replace.is c.requires.ready (λ s r held aim. c.in-Ok.ensures.ok id next s r place held aim) (λ s r held aim. c.in-Ok.ensures.tells id next s r place held aim)
 
-pub returns-in-Err-replace-clause-may : goal.returns-in-Err-replace-clause-may
-returns-in-Err-replace-clause-may g c id next place =
-    replaced_may (world_of c.args.directory.now c.args.buffers.now c.args.sessions.now next) id c.args.sessions.now c.args.at c.args.before.now c.args.deed c.in-Replace.last c.in-Replace.is c.requires.ready (λ s r held aim. c.in-Err-replace.ensures.may id next s r place held aim)
+pub returns-in-Err-clause-may : goal.returns-in-Err-clause-may
+returns-in-Err-clause-may g c id next place =
+    replaced_may (world_of c.args.directory.now c.args.buffers.now c.args.sessions.now next) id c.args.sessions.now c.args.at c.args.before.now c.args.deed c.in-Replace.last c.in-Replace.is c.requires.ready (λ s r held aim. c.in-Err.ensures.may id next s r place held aim)
 
 pub returns-in-Skip-clause-ok : goal.returns-in-Skip-clause-ok
 returns-in-Skip-clause-ok g c id next place =
     skipped_quietly _ _ _ id c.args.sessions.now c.args.at c.args.before.now c.args.deed c.in-Skip.is c.requires.ready (λ s r held aim. c.skip.ensures.world id next s r place held aim)
 
-pub returns-in-Ok-replace-clause-further : goal.returns-in-Ok-replace-clause-further
-returns-in-Ok-replace-clause-further g c s t is old new some = c.in-Ok-replace.ensures.further s t old new some
+pub returns-in-Ok-clause-further : goal.returns-in-Ok-clause-further
+returns-in-Ok-clause-further g c s t is old new some = c.in-Ok.ensures.further s t old new some

@@ -8,7 +8,8 @@ use Rattle.mgs_world.specs.Sound.{session_uses}
 use Rattle.mgs_world.specs.Worlds.{size_in, world_of}
 use Rattle.mgs_world.proofs.Soundness.{sound_set, sizes_set}
 use Rattle.mgs_core.proofs.Sizes.{place_same}
-use Rattle.mgs_core.proofs.Taken.{acted_fit, acts_less, deed_turned, ends_turn, failed_fit, failed_less, failed_turn, kept_fit, kept_less, kept_turn, left_within, ready_put, some_there, step_apart, within_still}
+use Rattle.mgs_core.proofs.Still.{alone_written}
+use Rattle.mgs_core.proofs.Taken.{acted_fit, acts_less, deed_turned, ends_turn, failed_fit, failed_less, failed_turn, kept_fit, kept_less, kept_turn, left_within, ready_put, some_there, step_apart, step_stands, within_still}
 use Rattle.mgs_core.proofs.turning.take_turn.Goals as goal
 
 pub next_step-requires-clause-some : goal.next_step-requires-clause-some
@@ -37,6 +38,8 @@ returns-in-Kept g c =
       less = λ e. kept_less d ks xs None id at h y place within is_h b _ _ (left_within at ks (slice_set xs at y) c.len-count.ensures.limits) s;
       fit = λ e. kept_fit d ks xs None id at h y place within is_h b s;
       turned = λ next. kept_turn d ks xs next id at h y place within is_h b _ s;
+      stands = λ still rests next. step_stands d ks xs next id at h y place within is_h s.own s.stays (rests next);
+      alone = λ still. alone_written at ks xs h y is_h s.own;
       touched = λ next. step_apart d ks xs next id at h y place within is_h Nowhere s.own s.stays;
     }
 
@@ -61,6 +64,8 @@ returns-in-Failed g c =
       less = λ e. failed_less d ks xs None id at h y place within is_h b _ _ s c.requires.some;
       fit = λ e. failed_fit d ks xs None id at h y place within is_h b s;
       turned = λ next. failed_turn d ks xs next id at h y place within is_h b _ s;
+      stands = λ still rests next. step_stands d ks xs next id at h y place within is_h s.own s.stays (rests next);
+      alone = λ still. alone_written at ks xs h y is_h s.own;
       touched = λ next. step_apart d ks xs next id at h y place within is_h Nowhere s.own s.stays;
     }
 
@@ -84,6 +89,8 @@ returns-in-Ends g c =
       less = λ e. cc;
       fit = λ e. cc;
       turned = λ next. ends_turn d ks xs next id at h y place within is_h c.next_step.new.before _ s;
+      stands = λ still rests next. step_stands d ks xs next id at h y place within is_h s.own s.stays (rests next);
+      alone = λ still. alone_written at ks xs h y is_h s.own;
       touched = λ next. step_apart d ks xs next id at h y place within is_h Anywhere s.own s.stays;
     }
 
@@ -136,6 +143,8 @@ returns-in-Acts g c =
           (ap (λ (x : Session). x.own.kind) (get_or_default xs at c.index-sessions-at.result c.index-sessions-at-3.result within))
           (c.is_playing-is_playing.ensures ∙ ap (λ (x : Session). x.own.player.playing) (get_or_default xs at c.index-sessions-at-2.result c.index-sessions-at-3.result within))
           same (did.ensures.acted next);
+      stands = λ still. cc;
+      alone = λ still. cc;
       touched = λ next.
           apart_then did.result.1 id (world_of d ks xs next) (world_of d ks (slice_set xs at y) next) (world_of d ls ys next)
           (step_apart d ks xs next id at h y place within is_h did.result.1 s.own s.stays) (did.ensures.touched next);

@@ -1,4 +1,5 @@
 use Rattle.std.proofs.Common.{◌∙◌, ℕ, ◌≤◌, ◌<◌, length, refl, sym, subst, arith}
+use Rattle.std.proofs.lemmas.Bool.{and_parts}
 use Rattle.mgs_model.specs.declared.touched.Touched.{Touched}
 use Rattle.mgs_model.specs.declared.touched.Touched.TheVariants.{Nowhere}
 use Rattle.mgs_model.specs.Apart.{Apart}
@@ -6,6 +7,7 @@ use Rattle.mgs_laws.proofs.Apart.{apart_same}
 use Rattle.mgs_world.specs.Worlds.{own_at, world_of}
 use Rattle.mgs_core.proofs.Joined.{apart_both}
 use Rattle.mgs_core.proofs.Sizes.{place_same}
+use Rattle.mgs_core.proofs.Still.{alone_none, alone_then}
 use Rattle.mgs_core.proofs.Taken.{open_at}
 use Rattle.mgs_core.proofs.Turned.{event_next, event_over, goes_done, none_on, none_weight, starts}
 use Rattle.mgs_core.proofs.Stepped.{fit_none}
@@ -19,6 +21,8 @@ loop-keyed-init g c = record {
   sizes = refl;
   event = λ next. starts c.args.id _ _ (remaining_at c.args.at c.args.buffers.now c.args.sessions.now) _ (subst (λ (w : ℕ). w ≤ 53689341958) (none_weight 0 (remaining_at c.args.at c.args.buffers.now c.args.sessions.now) (own_at c.args.at c.args.sessions.now).todo c.requires.none) c.requires.weight);
   fit = λ e. fit_none (own_at c.args.at c.args.sessions.now) c.requires.none;
+  stands = λ still rests. rests;
+  alone = λ still. alone_none c.args.at c.args.buffers.now c.args.sessions.now c.requires.within;
   touched = λ next. apart_same Nowhere c.args.id _;
 }
 
@@ -44,6 +48,10 @@ loop-keyed-preserved g c =
           let x = open_at d l.buffers l.sessions next c.args.id c.args.at place within in
           event_next c.args.id _ _ _ _ _ _ (remaining_at c.args.at l.buffers l.sessions) (remaining_at c.args.at t.new.buffers t.new.sessions) _ _ x.0 x.1 l.keyed t.result.0 on (l.invariant.event next) (t.ensures.turned next) t.ensures.less;
       fit = t.ensures.fit;
+      stands = λ still rests. (let both = and_parts l.stands t.result.2 still in t.ensures.stands both.1 (l.invariant.stands both.0 rests));
+      alone = λ still.
+          let both = and_parts l.stands t.result.2 still in
+          alone_then c.args.at c.args.buffers.now l.buffers t.new.buffers c.args.sessions.now l.sessions t.new.sessions (l.invariant.alone both.0) (t.ensures.alone both.1);
       touched = λ next.
           subst (λ (s : Touched). Apart s c.args.id (world_of d c.args.buffers.now c.args.sessions.now next) (world_of d t.new.buffers t.new.sessions next)) (sym c.touched_both-touched.ensures)
           (apart_both l.touched t.result.1 c.args.id (world_of d c.args.buffers.now c.args.sessions.now next) (world_of d l.buffers l.sessions next) (world_of d t.new.buffers t.new.sessions next) (l.invariant.touched next) (t.ensures.touched next));

@@ -1,21 +1,27 @@
 use Rattle.std.proofs.Common.{◌≡◌, ◌∙◌, ℕ, List, Option, None, get_or, refl, sym, ap, subst}
-use Rattle.std.specs.Prelude.{is_some, slice_set}
+use Rattle.std.specs.Prelude.{◌&&◌, is_some, slice_set}
+use Rattle.std.proofs.lemmas.Bool.{and_parts}
+use Rattle.std.proofs.lemmas.List.{get_or_default}
 use Rattle.mgs_buffers.specs.Judging.{AreJudged}
 use Rattle.mgs_model.specs.Apart.{Apart, Rules, rules_in}
 use Rattle.mgs_model.specs.Events.{begun_own, with_own}
 use Rattle.mgs_model.specs.World.{World}
 use Rattle.mgs_laws.proofs.Apart.{apart_own, apart_then}
+use Rattle.mgs_session.specs.declared.Session.{Session}
 use Rattle.mgs_world.specs.Sound.{session_uses}
 use Rattle.mgs_world.specs.Worlds.{IsUnique, session_of, size_in, world_of}
 use Rattle.mgs_world.proofs.Sessions.{session_some}
 use Rattle.mgs_world.proofs.Sizes.{sizes_of_world}
 use Rattle.mgs_world.proofs.Soundness.{sound_set, sizes_set}
+use Rattle.mgs_core.specs.Calls.{IsBare, OwnAlone}
 use Rattle.mgs_core.specs.Steps.{closed}
 use Rattle.mgs_core.proofs.Apart.{apart_rests}
 use Rattle.mgs_core.proofs.Begun.{begun_none, begun_same, begun_weight, begun_world, closed_own}
 use Rattle.mgs_core.proofs.Quits.{event_ends, event_keyed, event_quits, typed_ends}
 use Rattle.mgs_core.proofs.Sizes.{place_same}
+use Rattle.mgs_core.proofs.Stays.{own_rests, settled_as}
 use Rattle.mgs_core.proofs.Steps.{open_still}
+use Rattle.mgs_core.proofs.Still.{alone_then, alone_written, begun_alone, still_again}
 use Rattle.mgs_core.proofs.Taken.{within_still}
 use Rattle.mgs_core.proofs.turning.type_in.Goals as goal
 
@@ -24,8 +30,8 @@ take_turns-keyed-requires g c =
     let xs = c.args.sessions.now in
     let at = c.args.at in
     let byte = c.args.byte in
-    let h = get_or xs at c.index-sessions-at.result in
-    let is_h = ap (get_or xs at) c.index-sessions-at.is in
+    let h = get_or xs at c.index-sessions-at-2.result in
+    let is_h = ap (get_or xs at) c.index-sessions-at-2.is in
     let y = c.begin.new.session in
     let same = sizes_set xs at h y is_h (begun_same size_in byte h y refl refl c.begin.ensures) in
     record {
@@ -37,6 +43,22 @@ take_turns-keyed-requires g c =
       none = begun_none xs at byte h y c.requires.within c.begin.ensures;
     }
 
+pub settle_unless-requires : goal.settle_unless-requires
+settle_unless-requires g c =
+    let d = c.args.directory.now in
+    let ks = c.args.buffers.now in
+    let xs = c.args.sessions.now in
+    let id = c.args.id in
+    let at = c.args.at in
+    let h = get_or xs at c.index-sessions-at-2.result in
+    let y = c.begin.new.session in
+    let begun : (next : Option ℕ) → world_of d ks (slice_set xs at y) next ≡ with_own id (begun_own c.args.byte) (world_of d ks xs next) =
+    λ next. begun_world d ks xs next id at c.args.byte h y c.requires.place c.requires.within (ap (get_or xs at) c.index-sessions-at-2.is) c.begin.ensures in
+    record {
+      sound = c.take_turns-keyed.ensures.sound;
+      stands = λ still. c.take_turns-keyed.ensures.stands still (λ next. settled_as _ _ (begun next) (own_rests (world_of d ks xs next) id (begun_own c.args.byte) (c.requires.settles next)));
+    }
+
 pub returns-in-Quit : goal.returns-in-Quit
 returns-in-Quit g c =
     let d = c.args.directory.now in
@@ -45,8 +67,8 @@ returns-in-Quit g c =
     let id = c.args.id in
     let at = c.args.at in
     let byte = c.args.byte in
-    let h = get_or xs at c.index-sessions-at.result in
-    let is_h = ap (get_or xs at) c.index-sessions-at.is in
+    let h = get_or xs at c.index-sessions-at-2.result in
+    let is_h = ap (get_or xs at) c.index-sessions-at-2.is in
     let y = c.begin.new.session in
     let ys = slice_set xs at y in
     let t = c.take_turns-keyed in
@@ -56,7 +78,8 @@ returns-in-Quit g c =
       judged = t.ensures.judged;
       sound = t.ensures.sound;
       sizes = t.ensures.sizes ∙ same;
-      gone = λ next quits. (event_quits id _ _ _ _ t.result.0 quits (t.ensures.event next)).gone ∙ ap (λ (v : World). closed v id) (begun next) ∙ closed_own (world_of d ks xs next) id (begun_own byte);
+      gone = λ quits next. (event_quits id _ _ _ _ t.result.0 quits (t.ensures.event next)).gone ∙ ap (λ (v : World). closed v id) (begun next) ∙ closed_own (world_of d ks xs next) id (begun_own byte);
+      still = λ stays. cc;
       left = λ quits. (event_quits id _ _ _ _ t.result.0 quits (t.ensures.event None)).left;
       keyed = λ next.
           typed_ends (world_of d ks xs next) _ _ _ id byte t.result.0 c.in-Quit.is
@@ -72,11 +95,11 @@ returns-in_default g c =
     let d = c.args.directory.now in
     let ks = c.args.buffers.now in
     let xs = c.args.sessions.now in
-    let h = get_or xs c.args.at c.index-sessions-at.result in
-    let is_h = ap (get_or xs c.args.at) c.index-sessions-at.is in
+    let h = get_or xs c.args.at c.index-sessions-at-2.result in
+    let is_h = ap (get_or xs c.args.at) c.index-sessions-at-2.is in
     let ys = slice_set xs c.args.at c.begin.new.session in
     let t = c.take_turns-keyed in
-    let L = c.settle_apart.new.buffers in
+    let L = c.settle_unless.new.buffers in
     let sizes = t.ensures.sizes ∙ sizes_set xs c.args.at h c.begin.new.session is_h (begun_same size_in c.args.byte h c.begin.new.session refl refl c.begin.ensures) in
     let apart = λ (next : Option _).
     let w = world_of d ks xs next in
@@ -85,12 +108,12 @@ returns-in_default g c =
     (apart_then t.result.1 c.args.id w (world_of d ks ys next) (world_of d t.new.buffers t.new.sessions next)
     (subst (Apart t.result.1 c.args.id w) (sym begun) (apart_own t.result.1 c.args.id (begun_own c.args.byte) w))
     (t.ensures.touched next))
-    (c.settle_apart.ensures.world next) in
+    (c.settle_unless.ensures.world next) in
     record {
-      judged = subst (λ (rs : List Rules). AreJudged d rs t.new.judge) (sym (ap (λ (w : World). rules_in w.buffers) (c.settle_apart.ensures.world None))) t.ensures.judged;
-      sound = c.settle_apart.ensures.sound;
+      judged = subst (λ (rs : List Rules). AreJudged d rs t.new.judge) (sym (ap (λ (w : World). rules_in w.buffers) (c.settle_unless.ensures.world None))) t.ensures.judged;
+      sound = c.settle_unless.ensures.sound;
       sizes = sizes;
-      gone = λ next quits. absurd (c.in_default.not-Quit quits);
+      gone = λ quits next. absurd (c.in_default.not-Quit quits);
       left = λ quits. absurd (c.in_default.not-Quit quits);
       keyed = λ next.
           let found = session_some d ks xs next c.args.id c.args.at h c.requires.place c.requires.within is_h in
@@ -99,4 +122,12 @@ returns-in_default g c =
           (begun_world d ks xs next c.args.id c.args.at c.args.byte h c.begin.new.session c.requires.place c.requires.within is_h c.begin.ensures)
           (apart next).0;
       touched = λ next. (apart next).1;
+      still = λ stays next.
+          let both = and_parts t.result.2 (c.is_bare-was.result && c.is_bare-now.result) stays in
+          let bare = and_parts c.is_bare-was.result c.is_bare-now.result both.1 in
+          let a : OwnAlone c.args.at ks t.new.buffers xs t.new.sessions = alone_then c.args.at ks ks t.new.buffers xs ys t.new.sessions (alone_written c.args.at ks xs h c.begin.new.session is_h (begun_alone c.args.byte h c.begin.new.session c.begin.ensures)) (t.ensures.alone both.0) in
+          let b : OwnAlone c.args.at ks L xs t.new.sessions = record { buffers = c.settle_unless.ensures.still both.0 ∙ a.buffers; own = a.own; is = a.is } in
+          let was : IsBare h.own = subst (λ (s : Session). IsBare s.own) (get_or_default xs c.args.at c.index-sessions-at.result c.index-sessions-at-2.result c.requires.within) (c.is_bare-was.ensures bare.0) in
+          let z = get_or t.new.sessions c.args.at c.index-sessions-at-in_default.result in
+          still_again d ks L xs t.new.sessions next c.args.id c.args.at h z c.requires.place c.requires.within is_h b (ap (get_or t.new.sessions c.args.at) c.index-sessions-at-in_default.is) was (c.is_bare-now.ensures bare.1);
     }

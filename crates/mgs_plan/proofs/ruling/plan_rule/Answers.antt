@@ -1,4 +1,5 @@
-use Rattle.std.proofs.Common.{sym, ◌∙◌}
+use Rattle.std.proofs.Common.{sym, subst, ◌∙◌}
+use Rattle.mgs_plan.specs.Deciding.{IsGranted}
 use Rattle.mgs_plan.proofs.Rulings.{no_empty_name, rule_planned, rule_unshown}
 use Rattle.mgs_plan.proofs.ruling.plan_rule.Goals as goal
 
@@ -16,4 +17,7 @@ returns-clause-value g c = λ xs next.
     c.in-Some.name c.of-mask.result c.granted-ruled.result c.judged.result (sym c.in-Some.is ∙ c.subject_in.ensures.value) (c.of-mask.ensures ∙ c.right_for.ensures) c.granted-ruled.ensures.value c.judged.ensures.value
 
 pub returns-clause-can : goal.returns-clause-can
-returns-clause-can g c = c.judged.ensures.can c.args.session.now (c.granted-ruled.ensures.can c.args.session.now)
+returns-clause-can g c =
+    let h = c.args.session.now in
+    let mask = c.of-mask.ensures ∙ c.right_for.ensures in
+    c.judged.ensures.can h (λ granted. c.granted-ruled.ensures.can h (subst (IsGranted c.args.directory.now c.args.buffers.now h.user c.in-Some.name) mask granted))

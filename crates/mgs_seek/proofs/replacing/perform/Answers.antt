@@ -10,6 +10,10 @@ use Rattle.mgs_seek.specs.Planning.{put_of, session_after}
 use Rattle.mgs_seek.proofs.Done.{behind_then, done_by, mark_then, next_then, put_len, after_at}
 use Rattle.mgs_seek.proofs.replacing.perform.Goals as goal
 
+pub edit-requires-clause-granted : goal.edit-requires-clause-granted
+edit-requires-clause-granted g c =
+    (c.requires.can _ (slice_get-get_or c.args.sessions.now c.args.at c.index-sessions-at.result c.requires.within)).granted
+
 pub edit-requires-clause-room : goal.edit-requires-clause-room
 edit-requires-clause-room g c =
     let p = c.args.planned.now in

@@ -1,0 +1,7 @@
+use Rattle.mgs_engine.proofs.due.with_ended.Goals as goal
+
+pub loop-id-preserved : goal.loop-id-preserved
+loop-id-preserved c = record {
+  above = λ h. c.lesser-least.ensures.above (c.loop-id.invariant.above h);
+  before = λ x h. c.loop-id.invariant.before x (c.lesser-least.ensures.before x h);
+}

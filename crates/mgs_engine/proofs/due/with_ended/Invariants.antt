@@ -1,0 +1,11 @@
+use Rattle.std.proofs.Common.{◌<◌, ℕ}
+use Rattle.std.specs.Prelude.{IfSome}
+use Rattle.mgs_wire.specs.Calls.{IsBefore}
+use Rattle.mgs_engine.proofs.due.with_ended.Given as goal
+
+-- the least so far
+abbrev pub invariant-loop-id : goal.invariant-loop-id
+invariant-loop-id l = record {
+  above : IfSome l.fn.least (λ x. l.after < x) → IfSome l.least (λ x. l.after < x);
+  before : (x : ℕ) → IsBefore x l.least → IsBefore x l.fn.least;
+}

@@ -1,0 +1,80 @@
+// What a command on a text comes to for a session.
+ghost use Rattle.std.specs.Prelude.{◌≡◌, [], IfSome, true};
+ghost use Rattle.mgs_model.specs.Outcome.{Run};
+ghost use Rattle.mgs_session.specs.Sessions.{window_marks_of};
+ghost use Rattle.mgs_plan.specs.Actions.{AreMarks, CanBeDone, IsActionOf, is_on_text};
+ghost use Rattle.mgs_plan.specs.Deciding.{CanPerform, IsActionGranted, IsPlanned};
+ghost use Rattle.mgs_world.specs.Worlds.{idle, own_of};
+
+use crate::action::Action;
+use crate::given::Given;
+use crate::outcome::Outcome;
+use crate::planning::plan;
+use crate::rows::plan_rows;
+use mgs_buffers::Buffers;
+use mgs_marks::Marked;
+use mgs_model::Command;
+use mgs_policy::Directory;
+use mgs_session::{Session, selected_window_marks};
+use mgs_windows::WindowMarks;
+
+/// What a command comes to in the window that a session has selected.
+fn plan_for<T: Marked + Drop>(
+    buffers: &Buffers<T>,
+    directory: &Directory,
+    session: &Session,
+    window_marks: &WindowMarks,
+    command: Command,
+    argument: Option<usize>,
+) -> Action
+    requires marks { AreMarks buffers.now window_marks.now }
+    requires here { is_on_text command ≡ true }
+    ensures value { IsActionOf directory.now buffers.now session.now window_marks.now command argument [] result }
+    ensures can { CanBeDone buffers.now window_marks.now session.now.kill result }
+    ensures granted { IsActionGranted directory.now buffers.now session.now.user window_marks.now.name result }
+{
+    let given = Given {
+        argument,
+        kind: session.own.kind,
+        height: session.windows.selected_window().height,
+        fill: session.own.fill,
+    };
+    plan(
+        buffers,
+        directory,
+        &session.user,
+        window_marks,
+        &given,
+        session.kill.as_slice(),
+        command,
+    )
+}
+
+/// What a command on a text comes to for a session at rest: in the text that its selected window shows, or in the rows of the list
+/// there.
+pub(crate) fn plan_text<T: Marked + Drop>(
+    buffers: &Buffers<T>,
+    directory: &Directory,
+    session: &Session,
+    command: Command,
+    argument: Option<usize>,
+) -> Outcome
+    requires marks { IfSome (window_marks_of session.now) (AreMarks buffers.now) }
+    requires fresh { own_of session.now.own ≡ idle (own_of session.now.own) }
+    requires here { is_on_text command ≡ true }
+    ensures value { IsPlanned directory.now buffers.now session.now (Run command argument []) result }
+    ensures can { CanPerform directory.now buffers.now session.now result }
+{
+    let Some(window_marks) = selected_window_marks(session) else {
+        return plan_rows(session, command);
+    };
+    let action = plan_for(
+        buffers,
+        directory,
+        session,
+        &window_marks,
+        command,
+        argument,
+    );
+    Outcome::Acts(window_marks, action)
+}
