@@ -13,8 +13,8 @@ use Rattle.std.proofs.lemmas.Nat.{le_or_l, le_or_r}
 use Rattle.std.proofs.lemmas.List.{at_drop_more}
 use Rattle.std.proofs.lemmas.List.Sums.{AllPass-from_list_all}
 use Rattle.mgs_model.proofs.Firsts.{found_passes}
-use Rattle.mgs_model.specs.Names.{is_space, is_user_char, is_user_name}
-use Rattle.mgs_model.specs.Rights.{bit_of, letter_of, has_right, rights_in, all_rights}
+use Rattle.mgs_model.specs.Names.{is_filled, is_space, is_user_char, is_user_name}
+use Rattle.mgs_model.specs.Rights.{bit_of, letter_of, has_right, rights_in, all_rights, mask_of}
 use Rattle.mgs_model.specs.Draw.{type_text, who_text, entry_text}
 use Rattle.mgs_model.specs.declared.right.Right.{Right}
 use Rattle.mgs_model.specs.declared.right.Right.TheVariants.{ReadData, WriteData, AppendData, ReadAttributes, Delete, ReadAcl, WriteAcl, WriteOwner}
@@ -23,9 +23,9 @@ use Rattle.mgs_model.specs.declared.entry.EntryType.TheVariants.{Allow, Deny}
 use Rattle.mgs_model.specs.declared.entry.Who.{Who}
 use Rattle.mgs_model.specs.declared.entry.Who.TheVariants.{Owner, OwningGroup, Everyone, User, Group}
 use Rattle.mgs_model.specs.declared.entry.Entry.{Entry}
-use Rattle.mgs_model.specs.Spelling.{is_filled, words, type_named, after_group, named_who, who_named, right_lettered, is_letter, bit_or_none, with_letter, mask_lettered, said, checked, entry_of_words, entry_in}
-use Rattle.mgs_acl.specs.Written.{is_writable_who, mask_of, IsWritable}
-use Rattle.mgs_acl.proofs.Masks.{with_right, mask_of-rights_in}
+use Rattle.mgs_model.specs.Spelling.{words, type_named, after_group, named_who, who_named, right_lettered, is_letter, bit_or_none, with_letter, mask_lettered, said, checked, entry_of_words, entry_in}
+use Rattle.mgs_acl.specs.Written.{is_writable_who, IsWritable}
+use Rattle.mgs_acl.proofs.Masks.{with_right, union, union-rights_in, union-adds}
 
 -- LETTERS
 
@@ -52,12 +52,12 @@ bits_of_letters mask [] = refl
 bits_of_letters mask (right ∷ rights) =
     ap (λ r. fold with_letter (bit_or mask (bit_or_none r)) (letters rights)) (right_lettered-letter_of right) ∙ bits_of_letters (bit_or mask (bit_of right)) rights
 
-some_letters : (rights : List Right) → 0 < mask_of rights → is_filled (letters rights) ≡ true
+some_letters : (rights : List Right) → 0 < union rights → is_filled (letters rights) ≡ true
 some_letters [] h = absurd (omega arith)
 some_letters (right ∷ rights) h = grind (arith, nat_tests)
 
 -- letters say the mask of their rights
-mask_lettered-letters : (rights : List Right) → 0 < mask_of rights → mask_lettered (letters rights) ≡ Some (mask_of rights)
+mask_lettered-letters : (rights : List Right) → 0 < union rights → mask_lettered (letters rights) ≡ Some (union rights)
 mask_lettered-letters rights h =
     ap (λ b. cond b (Some (fold with_letter 0 (letters rights))) None) (and_from (is_filled (letters rights)) (list_all is_letter (letters rights)) (some_letters rights h) (all_letters rights))
     ∙ ap Some (bits_of_letters 0 rights)
@@ -182,10 +182,11 @@ spelled_apart a b c = simp append_assoc
 pub entry_in-entry_text : (e : Entry) → IsWritable e → entry_in (entry_text e) ≡ Ok e
 entry_in-entry_text e h =
     let rights = rights_in e.mask in
-    let some : 0 < mask_of rights = omega (arith, h.some, h.rights) in
+    let same : union rights ≡ e.mask = union-adds e.mask ∙ h.rights in
+    let some : 0 < union rights = omega (arith, h.some, same) in
     ap entry_in (spelled_apart (type_text e.entry_type) (who_text e.who) (letters rights))
     ∙ ap entry_of_words (words_apart (type_text e.entry_type) (who_text e.who) (letters rights) (unspaced_type e.entry_type) (unspaced_who e.who h.who) (unspaced_letters rights) (word_type e.entry_type) (word_who e.who h.who) (some_letters rights some))
-    ∙ entry_of_words-three (type_text e.entry_type) (who_text e.who) (letters rights) e.entry_type e.who e.mask (type_named-type_text e.entry_type) (who_named-who_text e.who h.who) (mask_lettered-letters rights some ∙ ap Some h.rights)
+    ∙ entry_of_words-three (type_text e.entry_type) (who_text e.who) (letters rights) e.entry_type e.who e.mask (type_named-type_text e.entry_type) (who_named-who_text e.who h.who) (mask_lettered-letters rights some ∙ ap Some same)
 
 -- WHAT IS READ CAN BE WRITTEN
 
@@ -236,7 +237,7 @@ some_bit ReadAcl = omega arith
 some_bit WriteAcl = omega arith
 some_bit WriteOwner = omega arith
 
-some_mask : (rights : List Right) → is_filled (letters rights) ≡ true → 0 < mask_of rights
+some_mask : (rights : List Right) → is_filled (letters rights) ≡ true → 0 < union rights
 some_mask [] h = absurd (cc)
 some_mask (right ∷ rights) h = omega (arith, grows rights (bit_or 0 (bit_of right)), le_or_r 0 (bit_of right), some_bit right)
 
@@ -249,9 +250,9 @@ made_of word mask h = by (is_filled word && list_all is_letter word) refl h
         let (rights, are) = rights_of word (and_parts (is_filled word) (list_all is_letter word) is).1 in
         let filled : is_filled (letters rights) ≡ true = ap is_filled (sym are) ∙ (and_parts (is_filled word) (list_all is_letter word) is).0 in
         let same : mask ≡ fold with_letter 0 word = cc in
-        let made : mask ≡ mask_of rights = same ∙ ap (fold with_letter 0) are ∙ bits_of_letters 0 rights in
-        let some : 0 < mask_of rights = some_mask rights filled in
-        (omega (arith, made, some), ap (λ m. mask_of (rights_in m)) made ∙ mask_of-rights_in rights ∙ sym made)
+        let made : mask ≡ union rights = same ∙ ap (fold with_letter 0) are ∙ bits_of_letters 0 rights in
+        let some : 0 < union rights = some_mask rights filled in
+        (omega (arith, made, some), sym (union-adds mask) ∙ ap (λ m. union (rights_in m)) made ∙ union-rights_in rights ∙ sym made)
 
 word_said : {X : Type 0} (reading : List ℕ → Option X) (word : Option (List ℕ)) (x : X) → option_and_then reading word ≡ Some x → (w : List ℕ) × (reading w ≡ Some x)
 word_said reading None x h = absurd (cc)

@@ -7,7 +7,8 @@ use Rattle.std.proofs.lemmas.List.Sums.{fails_before_first}
 use Rattle.std.proofs.lemmas.List.{take_all, drop_all, take-map, drop-map, length-map}
 use Rattle.std.proofs.lemmas.Bool.{cases_lt}
 use Rattle.mgs_model.specs.Names.{is_space}
-use Rattle.mgs_model.specs.Spelling.{is_filled, words}
+use Rattle.mgs_model.specs.Names.{is_filled}
+use Rattle.mgs_model.specs.Spelling.{words}
 
 -- the first piece of a text, and the words after it
 first_word : (text : List ℕ) → words text ≡ filter is_filled (before_first is_space text ∷ slice_split is_space (after_first is_space text))

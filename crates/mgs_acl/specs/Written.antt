@@ -1,9 +1,7 @@
 -- What entries can be written.
-use Rattle.std.specs.Prelude.{◌≡◌, ℕ, ◌<◌, Bool, true, List, fold}
-use Rattle.std.specs.Int.Bits.{bit_or}
+use Rattle.std.specs.Prelude.{◌≡◌, ◌<◌, Bool, true}
 use Rattle.mgs_model.specs.Names.{is_user_name, IsName}
-use Rattle.mgs_model.specs.Rights.{bit_of, rights_in}
-use Rattle.mgs_model.specs.declared.right.Right.{Right}
+use Rattle.mgs_model.specs.Rights.{mask_of, rights_in}
 use Rattle.mgs_model.specs.declared.entry.Who.{Who}
 use Rattle.mgs_model.specs.declared.entry.Who.TheVariants.{Owner, OwningGroup, Everyone, User, Group}
 use Rattle.mgs_model.specs.declared.entry.Entry.{Entry}
@@ -15,10 +13,6 @@ is_writable_who OwningGroup = true
 is_writable_who Everyone = true
 is_writable_who (User name) = is_user_name name
 is_writable_who (Group name) = is_user_name name
-
--- the mask of these rights
-abbrev pub mask_of : List Right → ℕ
-mask_of rights = fold (λ mask right. bit_or mask (bit_of right)) 0 rights
 
 -- a name that an entry has is a name
 abbrev pub HasName : Who → Type 0

@@ -4,7 +4,8 @@ ghost use Rattle.std.specs.Option.{option_map};
 ghost use Rattle.std.specs.List.{before_first, after_first};
 ghost use Rattle.mgs_model.specs.Names.{IsName, is_group_or_none, is_space};
 ghost use Rattle.mgs_model.specs.Rights.{letter_of};
-ghost use Rattle.mgs_model.specs.Spelling.{words, words_cut, type_named, user_named, after_group, named_who, who_named, right_lettered, mask_lettered, entry_in};
+ghost use Rattle.mgs_model.specs.Spelling.{words, type_named, user_named, after_group, named_who, who_named, right_lettered, mask_lettered, entry_in};
+ghost use Rattle.mgs_acl.specs.Spelling.{words_cut};
 
 use crate::characters::Character;
 use arrayvec::ArrayString;

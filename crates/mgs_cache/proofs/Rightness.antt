@@ -1,5 +1,5 @@
 -- What is kept stays right when a decision is made: for the crates above.
-use Rattle.std.proofs.Common.{◌≡◌, ℕ, inl, inr, List, [], ◌∷◌, Contains, Option, Some, None, IfSome, refl, subst}
+use Rattle.std.proofs.Common.{◌≡◌, ℕ, inl, inr, List, [], ◌∷◌, Contains, refl, subst}
 use Rattle.lru.proofs.Splits.{Contains-cons, Contains-nil}
 use Rattle.mgs_model.specs.Access.{Directory, decision}
 use Rattle.mgs_model.specs.declared.owners.Owners.{Owners}
@@ -31,11 +31,6 @@ right_elsewhere place other user mask d directory owners entries now before amon
 -- where nothing is kept
 pub right_none : (place : ℕ) (directory : Directory) (owners : Owners) (entries : List Entry) → AreRight place directory owners entries []
 right_none place directory owners entries = record { each = λ user mask d h. absurd (Contains-nil (kept place user mask d) h) }
-
--- what is kept for a request is its decision
-pub recalled_right : (place : ℕ) (directory : Directory) (owners : Owners) (user : List ℕ) (entries : List Entry) (mask : ℕ) (o : Option Decision) (keeps : List Kept) → AreRight place directory owners entries keeps → IfSome o (λ d. Contains keeps (kept place user mask d)) → IfSome o (λ d. d ≡ decision directory owners user entries mask)
-recalled_right place directory owners user entries mask None keeps right h = tt
-recalled_right place directory owners user entries mask (Some d) keeps right h = right.each user mask d h
 
 -- what closes the goals of `decide`
 pub ruleset deciding = (among_one, among_more, among_after)

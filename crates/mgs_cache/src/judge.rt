@@ -1,9 +1,7 @@
 // Decisions of access lists, and what is kept of them.
-ghost use Rattle.std.specs.Prelude.{List as Items, ◌≡◌, ◌≤◌, ◌∷◌, [], length, IfOk, IfSome};
+ghost use Rattle.std.specs.Prelude.{◌≡◌, ◌≤◌, ◌∷◌, [], length, Contains, IfOk, IfSome};
 ghost use Rattle.std.specs.Option.{option_copied};
-ghost use Rattle.mgs_model.specs.Access.{Directory as Users, decision, owners_of};
-ghost use Rattle.mgs_model.specs.declared.owners.Owners.{Owners};
-ghost use Rattle.mgs_model.specs.declared.entry.Entry.{Entry};
+ghost use Rattle.mgs_model.specs.Access.{decision, owners_of};
 ghost use Rattle.mgs_cache.specs.Kept.{AreAmong, AreRight, kept};
 
 use crate::request::Request;
@@ -75,7 +73,7 @@ impl Judge {
 
     /// What is kept for a request. It is then the last to go.
     fn recall(&mut self, buffer: usize, user: &Name, mask: Mask) -> Option<Decision>
-        ensures value { (directory : Users) (owners : Owners) (entries : Items Entry) → AreRight buffer directory owners entries self.old → IfSome result (λ d. d ≡ decision directory owners user.now entries mask) }
+        ensures value { IfSome result (λ d. Contains self.old (kept buffer user.now mask d)) }
         ensures stays { AreAmong self.new self.old }
     {
         let request = Request::new(buffer, user, mask);

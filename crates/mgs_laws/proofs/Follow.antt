@@ -6,9 +6,11 @@ use Rattle.std.proofs.lemmas.List.{take-append-drop, take_all, drop_all, drop-dr
 use Rattle.mgs_model.specs.Names.{same_name}
 use Rattle.mgs_model.specs.Text.{edited, removed, is_edit}
 use Rattle.mgs_model.specs.World.{Item, Buffer, is_named, find_buffer}
-use Rattle.mgs_model.specs.Outcome.{Effect, No_effect, Edit, Unmodified, Relist, Reown, Create, Kill, Save, Quit}
-use Rattle.mgs_model.specs.Apply.{change_first, buffer_edited_if, buffer_edited, buffer_unmodified, buffers_after}
-use Rattle.mgs_model.specs.Apart.{is_anywhere, IsEditedOnce, Follows, AreFollowed, touched_by}
+use Rattle.mgs_model.specs.Outcome.{Effect, No_effect, Edit, Unmodified, SetList, SetOwners, Create, Kill, Save, Quit}
+use Rattle.mgs_model.specs.Apply.{change_first, buffer_edited, item_for, buffer_unmodified, buffers_after}
+use Rattle.mgs_model.proofs.Moved.{edited_name, of_either}
+use Rattle.mgs_laws.proofs.Edits.{buffer_made}
+use Rattle.mgs_laws.specs.Apart.{is_anywhere, IsEditedOnce, Follows, AreFollowed, touched_by}
 
 -- ONE BUFFER
 
@@ -63,13 +65,12 @@ follows_then b c d p q = record {
       ];
 }
 
-follows_edited_if : (f : Bool) (a u : ℕ) (put : List ℕ) (b : Buffer) → Follows b (buffer_edited_if f a u put b)
-follows_edited_if false a u put b = follows_kept b _ refl refl refl
-follows_edited_if true a u put b = record {
+follows_made : (a u : ℕ) (put : List ℕ) (b : Buffer) → Follows b (buffer_made a u put b)
+follows_made a u put b = record {
   later = omega arith;
   same = λ e. absurd (omega arith);
   once = λ e. record {
-    item = record { serial = b.serial + 1; place = a; removed = removed a u b.text; put = length put };
+    item = item_for a u put b;
     older = take 999 b.items;
     items = refl;
     serial = refl;
@@ -82,7 +83,7 @@ follows_edited_if true a u put b = record {
 }
 
 follows_edited : (a u : ℕ) (put : List ℕ) (b : Buffer) → Follows b (buffer_edited a u put b)
-follows_edited a u put b = follows_edited_if (is_edit a u put) a u put b
+follows_edited a u put b = of_either (Follows b) (is_edit a u put) (buffer_made a u put b) b (follows_made a u put b) (follows_same b)
 
 follows_unmodified : (b : Buffer) → Follows b (buffer_unmodified b)
 follows_unmodified b = follows_kept b (buffer_unmodified b) refl refl refl
@@ -121,10 +122,10 @@ followed_first p f name follows (x ∷ xs) m b found =
 
 pub followed_after : (e : Effect) → is_anywhere (touched_by e) ≡ false → (bs : List Buffer) → AreFollowed bs (buffers_after e bs)
 followed_after No_effect h bs = followed_same bs
-followed_after (Edit name a u put) h bs = followed_first (is_named name) (buffer_edited a u put) (λ b. refl) (follows_edited a u put) bs
+followed_after (Edit name a u put) h bs = followed_first (is_named name) (buffer_edited a u put) (edited_name a u put) (follows_edited a u put) bs
 followed_after (Unmodified name) h bs = followed_first (is_named name) buffer_unmodified (λ b. refl) follows_unmodified bs
-followed_after (Relist name entries) h bs = cc
-followed_after (Reown name new) h bs = cc
+followed_after (SetList name entries) h bs = cc
+followed_after (SetOwners name new) h bs = cc
 followed_after (Create name owner) h bs = cc
 followed_after (Kill name) h bs = cc
 followed_after (Save name text) h bs = followed_first (is_named name) buffer_unmodified (λ b. refl) follows_unmodified bs

@@ -6,10 +6,10 @@ use Rattle.std.specs.Prelude.{nat_le, length, Result, Ok, Err}
 use Rattle.mgs_model.specs.Names.{is_name}
 use Rattle.mgs_model.specs.Access.{group_answered, is_among, is_group_answer}
 use Rattle.mgs_model.specs.Text.{is_edit}
-use Rattle.mgs_model.specs.World.{World, Session, Own, has_id, find_session}
+use Rattle.mgs_model.specs.World.{World, Session, State, has_id, find_session}
 use Rattle.mgs_model.specs.View.{View, BufferSeen, find_seen, size_told, serial_told, text_in, view_of}
-use Rattle.mgs_model.specs.Plans.{acted_own, Finish, Change, insertion, reading_insertion, motion, alteration, scrolling, setting, arrangement, undo, entries_changed, inserted}
-use Rattle.mgs_model.specs.Acts.{Target, target, around, name_meant, needs, judged, fails, is_too_large, is_full, finished_own, finished, edit_of, edited_by, edits, moved_by, moves, sets, arranges, effects, has_file, has_rows, row_in, scrolls_rows, selected_seen, shown, entries_told, items_in, relisted, shows_named, created, killed, by_name, subject, rules, lists, saves, allowed, permitted, outcome}
+use Rattle.mgs_model.specs.Plans.{acted_state, Finish, Change, insertion, reading_insertion, motion, alteration, scrolling, setting, arrangement, undo, entries_changed, inserted}
+use Rattle.mgs_model.specs.Acts.{Target, target, around, name_meant, needs, judged, fails, is_too_large, is_full, finished_state, finished, edit_of, edited_by, edits, moved_by, moves, sets, arranges, effects, has_file, has_rows, row_in, scrolls_rows, selected_seen, shown, entries_told, items_in, list_set, shows_named, created, killed, by_name, subject, rules, lists, saves, allowed, permitted, outcome}
 use Rattle.mgs_model.specs.declared.owners.NewOwner.TheVariants.{ToUser, ToGroup}
 use Rattle.mgs_model.specs.declared.entry.Decision.{Decision}
 use Rattle.mgs_model.specs.declared.entry.Decision.TheVariants.{Granted, DeniedBy, NotGranted}
@@ -18,11 +18,12 @@ use Rattle.mgs_model.specs.declared.message.Message.TheVariants.{BufferFull, Kil
 use Rattle.mgs_model.specs.declared.session.ByName.{ByName}
 use Rattle.mgs_model.specs.declared.session.ByName.TheVariants.{SwitchToBuffer, KillBuffer, InsertBuffer}
 use Rattle.mgs_model.specs.declared.session.Command.TheVariants.{Insert, InsertReading, Move, Alter, Scroll, Set, Rearrange, Ask, Named, Entries, ListEntries, SetOwner, SetGroup, UndoEdit, NotModified, SaveBuffer, LeaveSearch, Exit}
-use Rattle.mgs_model.specs.Outcome.{Act, Unbound, Run, Stay, Adjust, Arrange, Outcome, Keep_kill, Effect, No_effect, Edit, Unmodified, Reown, Create, Kill, Save, Quit}
+use Rattle.mgs_model.specs.Outcome.{Act, Unbound, Run, Stay, Adjust, Arrange, Outcome, Keep_kill, Effect, No_effect, Edit, Unmodified, SetOwners, Create, Kill, Save, Quit}
 use Rattle.mgs_model.specs.Apply.{apply, applied, kill_after, outcome_in, act, change_first, session_after, session_arranged, after_quit, without_session}
 use Rattle.mgs_model.specs.Turns.{Turn, Rest, Keep, Do}
-use Rattle.mgs_model.specs.Events.{Event, Open, Byte, Close, own_set, with_own, begun_own, refused_own, Doing, rests, turn_in, turn, turn_done, turns, most_turns, begun, session_settled, settled, new_session, opened, can_open, is_open, step, effect_in}
-use Rattle.mgs_model.specs.Holder.{kill_of, kill_in, session_in, KillStays, is_rule, RulesKeepKills}
+use Rattle.mgs_model.specs.Events.{Event, Open, Byte, Close, state_set, with_state, begun_state, refused_state, Doing, turn_in, turn_done, turns, most_turns, begun, session_settled, settled, new_session, opened, can_open, is_open, step, effect_in}
+use Rattle.mgs_model.proofs.Paths.{all_turns}
+use Rattle.mgs_laws.specs.Holder.{kill_of, kill_in, session_in, KillStays, is_rule, RulesKeepKills}
 use Rattle.mgs_model.proofs.Firsts.{find-change_first_other, find-map}
 use Rattle.mgs_laws.proofs.After.{find_moved}
 
@@ -50,8 +51,8 @@ after_end : (id other : ℕ) → (id == other) ≡ false → (e : Effect) (xs : 
 after_end id other d Quit xs = find_others id other d xs
 after_end id other d _ xs = refl
 
-own_keeps : (id other : ℕ) → (id == other) ≡ false → (f : Own → Own) (w : World) → kill_in (with_own id f w) other ≡ kill_in w other
-own_keeps id other d f w = ap kill_of (find-change_first_other (has_id id) (has_id other) (own_set f) (λ x. refl) (apart id other d) w.sessions)
+state_keeps : (id other : ℕ) → (id == other) ≡ false → (f : State → State) (w : World) → kill_in (with_state id f w) other ≡ kill_in w other
+state_keeps id other d f w = ap kill_of (find-change_first_other (has_id id) (has_id other) (state_set f) (λ x. refl) (apart id other d) w.sessions)
 
 applied_keeps : (id other : ℕ) → (id == other) ≡ false → (w : World) (o : Option Outcome) → kill_in (applied w id o) other ≡ kill_in w other
 applied_keeps id other d w None = refl
@@ -61,28 +62,22 @@ applied_keeps id other d w (Some o) =
     ∙ ap kill_of (find_moved other o.effect w.sessions)
     ∙ moved o.effect (find_session other w.sessions)
 
-act_keeps : (id other : ℕ) → (id == other) ≡ false → (stored : Bool) (own : Own) (c : Act) (w : World) → kill_in (act (with_own id (λ old. own) w) id c stored) other ≡ kill_in w other
-act_keeps id other d stored own c w =
-    applied_keeps id other d (with_own id (λ old. own) w) (outcome_in (with_own id (λ old. own) w) id c stored) ∙ own_keeps id other d (λ old. own) w
+act_keeps : (id other : ℕ) → (id == other) ≡ false → (stored : Bool) (state : State) (c : Act) (w : World) → kill_in (act (with_state id (λ old. state) w) id c stored) other ≡ kill_in w other
+act_keeps id other d stored state c w =
+    applied_keeps id other d (with_state id (λ old. state) w) (outcome_in (with_state id (λ old. state) w) id c stored) ∙ state_keeps id other d (λ old. state) w
 
 turn_keeps : (id other : ℕ) → (id == other) ≡ false → (stored : Bool) (t : Turn) (w : World) (memory : Option ℕ) → kill_in (turn_done id stored t w memory).world other ≡ kill_in w other
 turn_keeps id other d stored Rest w memory = refl
-turn_keeps id other d stored (Keep own) w memory = own_keeps id other d (λ old. own) w
-turn_keeps id other d stored (Do own c) w None = act_keeps id other d stored own c w
-turn_keeps id other d stored (Do own c) w (Some zero) = own_keeps id other d refused_own w
-turn_keeps id other d stored (Do own c) w (Some (suc n)) = act_keeps id other d stored own c w
+turn_keeps id other d stored (Keep state) w memory = state_keeps id other d (λ old. state) w
+turn_keeps id other d stored (Do state c) w None = act_keeps id other d stored state c w
+turn_keeps id other d stored (Do state c) w (Some zero) = state_keeps id other d refused_state w
+turn_keeps id other d stored (Do state c) w (Some (suc n)) = act_keeps id other d stored state c w
 
 -- EVENTS
 
 turns_keep : (n id other : ℕ) → (id == other) ≡ false → (stored : Bool) (d : Doing) → kill_in (turns n id stored d).world other ≡ kill_in d.world other
-unfolding turns
-turns_keep zero id other e stored d = refl
-turns_keep (suc n) id other e stored d =
-    choose (rests (turn_in d.world id)) (turns_keep n id other e stored (turn id stored d) ∙ turn_keeps id other e stored (turn_in d.world id) d.world d.memory)
-  where
-    choose : (b : Bool) → kill_in (turns n id stored (turn id stored d)).world other ≡ kill_in d.world other → (let after : Doing = elim b [ true ↦ d | false ↦ turns n id stored (turn id stored d) ] in kill_in after.world other) ≡ kill_in d.world other
-    choose true ih = refl
-    choose false ih = ih
+turns_keep n id other e stored d =
+    all_turns (λ f. kill_in f.world other ≡ kill_in d.world other) id stored (λ f same. turn_keeps id other e stored (turn_in f.world id) f.world f.memory ∙ same) n d refl
 
 settled_keeps : (w : World) (other : ℕ) → kill_in (settled w) other ≡ kill_in w other
 settled_keeps w other =
@@ -108,7 +103,7 @@ step_keeps w (Byte id byte stored stop) other d =
     if_done (is_open id w) other (settled (turns most_turns id stored (begun w id byte stop)).world) w
     (settled_keeps (turns most_turns id stored (begun w id byte stop)).world other
     ∙ turns_keep most_turns id other d stored (begun w id byte stop)
-    ∙ own_keeps id other d (begun_own byte) w)
+    ∙ state_keeps id other d (begun_state byte) w)
 step_keeps w (Close id) other d =
     if_done (is_open id w) other (settled (record w { sessions = without_session id w.sessions })) w
     (settled_keeps (record w { sessions = without_session id w.sessions }) other ∙ ap kill_of (find_others id other d w.sessions))
@@ -126,9 +121,9 @@ if_keeps : (b : Bool) (o p : Outcome) → Keeps o → Keeps p → Keeps (cond b 
 if_keeps true o p h k = h
 if_keeps false o p h k = k
 
-finish_keeps : (own : Own) (f : Finish) (e : Effect) → is_rule e ≡ false → Keeps (finished own f e)
-finish_keeps own f e n =
-    if_keeps (is_too_large f.kill) (fails own KillTooLarge) (record { own = finished_own f own; kill = f.kill; arrange = Adjust f.point f.mark f.top None f.sought; effect = e })
+finish_keeps : (state : State) (f : Finish) (e : Effect) → is_rule e ≡ false → Keeps (finished state f e)
+finish_keeps state f e n =
+    if_keeps (is_too_large f.kill) (fails state KillTooLarge) (record { state = finished_state f state; kill = f.kill; arrange = Adjust f.point f.mark f.top None f.sought; effect = e })
     (λ h. refl) (λ h. let z : true ≡ false = sym h ∙ n in cc)
 
 edit_rules : (name : List ℕ) (c : Change) → is_rule (edit_of name c) ≡ false
@@ -138,44 +133,44 @@ edit_rules name c = choose (is_edit c.a c.b c.put)
     choose true = refl
     choose false = refl
 
-change_keeps : (own : Own) (b : BufferSeen) (r : Result Change Message) → Keeps (edited_by own b r)
-change_keeps own b (Err message) = λ h. refl
-change_keeps own b (Ok c) =
-    if_keeps (is_full (size_told b.told) (serial_told b.told) c) (fails own BufferFull) (finished own c.finish (edit_of b.name c)) (λ h. refl)
-    (finish_keeps own c.finish (edit_of b.name c) (edit_rules b.name c))
+change_keeps : (state : State) (b : BufferSeen) (r : Result Change Message) → Keeps (edited_by state b r)
+change_keeps state b (Err message) = λ h. refl
+change_keeps state b (Ok c) =
+    if_keeps (is_full (size_told b.told) (serial_told b.told) c) (fails state BufferFull) (finished state c.finish (edit_of b.name c)) (λ h. refl)
+    (finish_keeps state c.finish (edit_of b.name c) (edit_rules b.name c))
 
-edits_keep : (own : Own) (t : Option Target) (plan : Target → Result Change Message) → Keeps (edits own t plan)
-edits_keep own None plan = λ h. refl
-edits_keep own (Some t) plan = change_keeps own t.buffer (plan t)
+edits_keep : (state : State) (t : Option Target) (plan : Target → Result Change Message) → Keeps (edits state t plan)
+edits_keep state None plan = λ h. refl
+edits_keep state (Some t) plan = change_keeps state t.buffer (plan t)
 
-move_keeps : (own : Own) (r : Result Finish Message) → Keeps (moved_by own r)
-move_keeps own (Err message) = λ h. refl
-move_keeps own (Ok f) = finish_keeps own f No_effect refl
+move_keeps : (state : State) (r : Result Finish Message) → Keeps (moved_by state r)
+move_keeps state (Err message) = λ h. refl
+move_keeps state (Ok f) = finish_keeps state f No_effect refl
 
-moves_keep : (own : Own) (t : Option Target) (plan : Target → Result Finish Message) → Keeps (moves own t plan)
-moves_keep own None plan = λ h. refl
-moves_keep own (Some t) plan = move_keeps own (plan t)
+moves_keep : (state : State) (t : Option Target) (plan : Target → Result Finish Message) → Keeps (moves state t plan)
+moves_keep state None plan = λ h. refl
+moves_keep state (Some t) plan = move_keeps state (plan t)
 
-sets_keep : (own : Own) (r : Result Own Message) → Keeps (sets own r)
-sets_keep own (Err message) = λ h. refl
-sets_keep own (Ok after) = λ h. refl
+sets_keep : (state : State) (r : Result State Message) → Keeps (sets state r)
+sets_keep state (Err message) = λ h. refl
+sets_keep state (Ok after) = λ h. refl
 
-arranges_keep : (own : Own) (e : Effect) (r : Result Arrange Message) → Keeps (arranges own e r)
-arranges_keep own e (Err message) = λ h. refl
-arranges_keep own e (Ok plan) = λ h. refl
+arranges_keep : (state : State) (e : Effect) (r : Result Arrange Message) → Keeps (arranges state e r)
+arranges_keep state e (Err message) = λ h. refl
+arranges_keep state e (Ok plan) = λ h. refl
 
-effects_keep : (own : Own) (r : Result Effect Message) → Keeps (effects own r)
-effects_keep own (Err message) = λ h. refl
-effects_keep own (Ok e) = λ h. refl
+effects_keep : (state : State) (r : Result Effect Message) → Keeps (effects state r)
+effects_keep state (Err message) = λ h. refl
+effects_keep state (Ok e) = λ h. refl
 
-rules_keep : (own : Own) (b : Option BufferSeen) (plan : BufferSeen → Result Effect Message) → Keeps (rules own b plan)
-rules_keep own None plan = λ h. refl
-rules_keep own (Some b) plan = effects_keep own (plan b)
+rules_keep : (state : State) (b : Option BufferSeen) (plan : BufferSeen → Result Effect Message) → Keeps (rules state b plan)
+rules_keep state None plan = λ h. refl
+rules_keep state (Some b) plan = effects_keep state (plan b)
 
 created_keeps : (v : View) (name : List ℕ) → Keeps (created v name)
 created_keeps v name =
-    if_keeps (not (is_name name)) (fails v.session.own BadName) (cond (nat_le 256 (length v.buffers)) (fails v.session.own TooManyBuffers) (shows_named v name (Create name v.session.user))) (λ h. refl)
-    (if_keeps (nat_le 256 (length v.buffers)) (fails v.session.own TooManyBuffers) (shows_named v name (Create name v.session.user)) (λ h. refl) (λ h. refl))
+    if_keeps (not (is_name name)) (fails v.session.state BadName) (cond (nat_le 256 (length v.buffers)) (fails v.session.state TooManyBuffers) (shows_named v name (Create name v.session.user))) (λ h. refl)
+    (if_keeps (nat_le 256 (length v.buffers)) (fails v.session.state TooManyBuffers) (shows_named v name (Create name v.session.user)) (λ h. refl) (λ h. refl))
 
 killed_keeps : (v : View) (name : List ℕ) (found : Option BufferSeen) → Keeps (killed v name found)
 killed_keeps v [] found = λ h. refl
@@ -189,20 +184,20 @@ switch_keeps v typed (Some b) = λ h. refl
 named_keep : (v : View) (c : ByName) (n : Option ℕ) (typed : List ℕ) → Keeps (by_name v c n typed)
 named_keep v SwitchToBuffer n typed = switch_keeps v typed (find_seen typed v.buffers)
 named_keep v KillBuffer n typed = killed_keeps v (name_meant v typed) (find_seen (name_meant v typed) v.buffers)
-named_keep v InsertBuffer n typed = edits_keep v.session.own (target v) (λ t. inserted (option_map (λ b. text_in b.full) (find_seen typed v.buffers)) (around v.session n typed t))
+named_keep v InsertBuffer n typed = edits_keep v.session.state (target v) (λ t. inserted (option_map (λ b. text_in b.full) (find_seen typed v.buffers)) (around v.session n typed t))
 
 lists_keep : (v : View) (o : Option BufferSeen) → Keeps (lists v o)
 lists_keep v None = λ h. refl
 lists_keep v (Some b) = λ h. refl
 
-saves_keep : (own : Own) (t : Option Target) (stored : Bool) → Keeps (saves own t stored)
-saves_keep own None stored = λ h. refl
-saves_keep own (Some t) stored = choose own.playing (not (has_file t.buffer.told)) (not stored)
+saves_keep : (state : State) (t : Option Target) (stored : Bool) → Keeps (saves state t stored)
+saves_keep state None stored = λ h. refl
+saves_keep state (Some t) stored = choose state.playing (not (has_file t.buffer.told)) (not stored)
   where
     done : Outcome
-    done = record { own = record (acted_own own) { echo = Wrote t.buffer.name }; kill = Keep_kill; arrange = Stay; effect = Save t.buffer.name (text_in t.buffer.full) }
+    done = record { state = record (acted_state state) { echo = Wrote t.buffer.name }; kill = Keep_kill; arrange = Stay; effect = Save t.buffer.name (text_in t.buffer.full) }
 
-    choose : (p q r : Bool) → Keeps (cond p (fails own InMacro) (cond q (fails own NoFile) (cond r (fails own SaveFailed) done)))
+    choose : (p q r : Bool) → Keeps (cond p (fails state InMacro) (cond q (fails state NoFile) (cond r (fails state SaveFailed) done)))
     choose true q r = λ h. refl
     choose false true r = λ h. refl
     choose false false true = λ h. refl
@@ -210,38 +205,38 @@ saves_keep own (Some t) stored = choose own.playing (not (has_file t.buffer.told
 
 allowed_keep : (v : View) (c : Act) (stored : Bool) → Keeps (allowed v c stored)
 allowed_keep v Unbound stored = λ h. refl
-allowed_keep v (Run (Insert c) n typed) stored = edits_keep v.session.own (target v) (λ t. insertion c (around v.session n typed t))
-allowed_keep v (Run (InsertReading c) n typed) stored = edits_keep v.session.own (target v) (λ t. reading_insertion c (text_in t.buffer.full) (around v.session n typed t))
-allowed_keep v (Run (Move c) n typed) stored = moves_keep v.session.own (target v) (λ t. motion c (text_in t.buffer.full) (around v.session n typed t))
-allowed_keep v (Run (Alter c) n typed) stored = edits_keep v.session.own (target v) (λ t. alteration c (text_in t.buffer.full) (around v.session n typed t))
+allowed_keep v (Run (Insert c) n typed) stored = edits_keep v.session.state (target v) (λ t. insertion c (around v.session n typed t))
+allowed_keep v (Run (InsertReading c) n typed) stored = edits_keep v.session.state (target v) (λ t. reading_insertion c (text_in t.buffer.full) (around v.session n typed t))
+allowed_keep v (Run (Move c) n typed) stored = moves_keep v.session.state (target v) (λ t. motion c (text_in t.buffer.full) (around v.session n typed t))
+allowed_keep v (Run (Alter c) n typed) stored = edits_keep v.session.state (target v) (λ t. alteration c (text_in t.buffer.full) (around v.session n typed t))
 allowed_keep v (Run (Scroll c) n typed) stored =
-    if_keeps (has_rows (selected_seen v)) (scrolls_rows v.session.own (row_in c (selected_seen v))) (moves v.session.own (target v) (λ t. scrolling c (text_in t.buffer.full) (around v.session n typed t))) (λ h. refl)
-    (moves_keep v.session.own (target v) (λ t. scrolling c (text_in t.buffer.full) (around v.session n typed t)))
-allowed_keep v (Run (Set c) n typed) stored = sets_keep v.session.own (setting c (acted_own v.session.own) n)
-allowed_keep v (Run (Rearrange c) n typed) stored = arranges_keep v.session.own No_effect (arrangement c v.session.windows v.session.selected n)
+    if_keeps (has_rows (selected_seen v)) (scrolls_rows v.session.state (row_in c (selected_seen v))) (moves v.session.state (target v) (λ t. scrolling c (text_in t.buffer.full) (around v.session n typed t))) (λ h. refl)
+    (moves_keep v.session.state (target v) (λ t. scrolling c (text_in t.buffer.full) (around v.session n typed t)))
+allowed_keep v (Run (Set c) n typed) stored = sets_keep v.session.state (setting c (acted_state v.session.state) n)
+allowed_keep v (Run (Rearrange c) n typed) stored = arranges_keep v.session.state No_effect (arrangement c v.session.windows v.session.selected n)
 allowed_keep v (Run (Ask c) n typed) stored = λ h. refl
 allowed_keep v (Run (Named c) n typed) stored = named_keep v c n typed
-allowed_keep v (Run (Entries c) n typed) stored = rules_keep v.session.own (subject v) (λ b. relisted b.name (entries_changed c (entries_told b.told) n typed))
+allowed_keep v (Run (Entries c) n typed) stored = rules_keep v.session.state (subject v) (λ b. list_set b.name (entries_changed c (entries_told b.told) n typed))
 allowed_keep v (Run ListEntries n typed) stored = lists_keep v (subject v)
 allowed_keep v (Run SetOwner n typed) stored =
-    rules_keep v.session.own (subject v) (λ b. cond (is_among typed v.directory.users) (Ok (Reown b.name (ToUser typed))) (Err NoSuchUser))
+    rules_keep v.session.state (subject v) (λ b. cond (is_among typed v.directory.users) (Ok (SetOwners b.name (ToUser typed))) (Err NoSuchUser))
 allowed_keep v (Run SetGroup n typed) stored =
-    rules_keep v.session.own (subject v) (λ b. cond (is_group_answer v.directory.groups typed) (Ok (Reown b.name (ToGroup (group_answered typed)))) (Err NoSuchGroup))
-allowed_keep v (Run UndoEdit n typed) stored = edits_keep v.session.own (target v) (λ t. undo (items_in t.buffer.full) (around v.session n typed t))
-allowed_keep v (Run NotModified n typed) stored = rules_keep v.session.own (shown v) (λ b. Ok (Unmodified b.name))
-allowed_keep v (Run SaveBuffer n typed) stored = saves_keep v.session.own (target v) stored
+    rules_keep v.session.state (subject v) (λ b. cond (is_group_answer v.directory.groups typed) (Ok (SetOwners b.name (ToGroup (group_answered typed)))) (Err NoSuchGroup))
+allowed_keep v (Run UndoEdit n typed) stored = edits_keep v.session.state (target v) (λ t. undo (items_in t.buffer.full) (around v.session n typed t))
+allowed_keep v (Run NotModified n typed) stored = rules_keep v.session.state (shown v) (λ b. Ok (Unmodified b.name))
+allowed_keep v (Run SaveBuffer n typed) stored = saves_keep v.session.state (target v) stored
 allowed_keep v (Run LeaveSearch n typed) stored = λ h. refl
 allowed_keep v (Run Exit n typed) stored =
-    if_keeps v.session.own.playing (fails v.session.own InMacro) (record { own = acted_own v.session.own; kill = Keep_kill; arrange = Stay; effect = Quit }) (λ h. refl) (λ h. refl)
+    if_keeps v.session.state.playing (fails v.session.state InMacro) (record { state = acted_state v.session.state; kill = Keep_kill; arrange = Stay; effect = Quit }) (λ h. refl) (λ h. refl)
 
-permitted_keep : (own : Own) (d : Decision) (o : Outcome) → Keeps o → Keeps (permitted own d o)
-permitted_keep own Granted o h = h
-permitted_keep own (DeniedBy n right) o h = λ k. refl
-permitted_keep own (NotGranted right) o h = λ k. refl
+permitted_keep : (state : State) (d : Decision) (o : Outcome) → Keeps o → Keeps (permitted state d o)
+permitted_keep state Granted o h = h
+permitted_keep state (DeniedBy n right) o h = λ k. refl
+permitted_keep state (NotGranted right) o h = λ k. refl
 
 outcome_keeps : (v : View) (c : Act) (stored : Bool) → Keeps (outcome v c stored)
 unfolding outcome
-outcome_keeps v c stored = permitted_keep v.session.own (judged v (needs v c)) (allowed v c stored) (allowed_keep v c stored)
+outcome_keeps v c stored = permitted_keep v.session.state (judged v (needs v c)) (allowed v c stored) (allowed_keep v c stored)
 
 -- AND THE WORLD AFTER THEM
 

@@ -3,30 +3,28 @@ use Rattle.std.proofs.Common.{◌≡◌, ℕ, zero, suc, ◌+◌, ◌≤◌, ◌
 use Rattle.std.specs.Prelude.{◌-◌}
 use Rattle.std.specs.List.{flat_map}
 use Rattle.std.proofs.lemmas.Grind.{flat_map-append}
-use Rattle.mgs_model.specs.World.{World, Session, Own, find_session}
-use Rattle.mgs_model.specs.Outcome.{Act, Outcome, Effect}
+use Rattle.mgs_model.specs.World.{World, Session, State, find_session}
+use Rattle.mgs_model.specs.Outcome.{Act, Effect}
 use Rattle.mgs_model.specs.Apply.{act, outcome_in}
 use Rattle.mgs_model.specs.Turns.{Turn, Keep, Do}
-use Rattle.mgs_model.specs.Events.{Doing, with_own, turn_in, rests, turn, turn_done, turns, most_turns, refused_own, act_effects, turn_effects, turns_effects, is_used_up, refused_of, refused_in, Saved, saved_by}
-use Rattle.mgs_laws.proofs.LeftToDo.{over, one_turn, one_effects, no_effects, rests_with_own}
+use Rattle.mgs_model.specs.Events.{Doing, with_state, turn_in, rests, turn, turn_done, turns, most_turns, refused_state, act_effects, turn_effects, turns_effects, is_used_up, Saved, saved_by}
+use Rattle.mgs_model.proofs.Paths.{effects_next, effects_rest, turns_next, turns_rest}
+use Rattle.mgs_laws.specs.Refusals.{refused_in}
+use Rattle.mgs_laws.proofs.LeftToDo.{rests_with_state}
+use Rattle.mgs_laws.proofs.Paths.{refused_next, refused_of}
 
--- ONE TURN MORE
+-- ONE TURN
 
-turns_next : (n id : ℕ) (stored : Bool) (d : Doing) → rests (turn_in d.world id) ≡ false → turns (suc n) id stored d ≡ turns n id stored (turn id stored d)
-unfolding turns
-turns_next n id stored d goes = ap (λ (b : Bool). elim b [ true ↦ d | false ↦ turns n id stored (turn id stored d) ]) goes
+one_turn : (n id : ℕ) (stored : Bool) (d : Doing) → 1 ≤ n → rests (turn_in d.world id) ≡ false → rests (turn_in (turn id stored d).world id) ≡ true → turns n id stored d ≡ turn id stored d
+one_turn zero id stored d h e f = absurd (omega (arith, h))
+one_turn (suc n) id stored d h e f = turns_next n id stored d e ∙ turns_rest n id stored (turn id stored d) f
 
-effects_next : (n id : ℕ) (stored : Bool) (d : Doing) → rests (turn_in d.world id) ≡ false → turns_effects (suc n) id stored d ≡ turn_effects id stored (turn_in d.world id) d.world d.memory ++ turns_effects n id stored (turn id stored d)
-unfolding turns_effects
-effects_next n id stored d goes =
-    let first : List Effect = turn_effects id stored (turn_in d.world id) d.world d.memory in
-    ap (λ (b : Bool). elim b [ true ↦ [] | false ↦ first ++ turns_effects n id stored (turn id stored d) ]) goes
-
-refused_next : (n id : ℕ) (stored : Bool) (d : Doing) → rests (turn_in d.world id) ≡ false → refused_in (suc n) id stored d ≡ refused_of id stored (turn_in d.world id) d.world d.memory (refused_in n id stored (turn id stored d))
-unfolding refused_in
-refused_next n id stored d goes =
-    let later : Option Outcome = refused_of id stored (turn_in d.world id) d.world d.memory (refused_in n id stored (turn id stored d)) in
-    ap (λ (b : Bool). elim b [ true ↦ None | false ↦ later ]) goes
+one_effects : (n id : ℕ) (stored : Bool) (d : Doing) → 1 ≤ n → rests (turn_in d.world id) ≡ false → rests (turn_in (turn id stored d).world id) ≡ true → turns_effects n id stored d ≡ turn_effects id stored (turn_in d.world id) d.world d.memory
+one_effects zero id stored d h e f = absurd (omega (arith, h))
+one_effects (suc n) id stored d h e f =
+    effects_next n id stored d e
+    ∙ ap (λ es. turn_effects id stored (turn_in d.world id) d.world d.memory ++ es) (effects_rest n id stored (turn id stored d) f)
+    ∙ append-nil (turn_effects id stored (turn_in d.world id) d.world d.memory)
 
 -- MEMORY for so many acts more
 abbrev pub memory_behind : ℕ → Option ℕ → Option ℕ
@@ -73,10 +71,10 @@ leads_nowhere id stored w = record {
   refused = λ n m. ap (λ (k : ℕ). refused_in k id stored (doing w (memory_behind 0 m))) (none_more n) ∙ ap (λ (k : Option ℕ). refused_in n id stored (doing w k)) (behind_none m);
 }
 
--- a turn that changes the session's own record alone
-pub leads_kept : (id : ℕ) (stored : Bool) (w v : World) (own : Own) → turn_in w id ≡ Keep own → v ≡ with_own id (λ old. own) w → Leads id stored 1 [] w v
-leads_kept id stored w v own is does =
-    let u : World = with_own id (λ old. own) w in
+-- a turn that changes the session's state alone
+pub leads_kept : (id : ℕ) (stored : Bool) (w v : World) (state : State) → turn_in w id ≡ Keep state → v ≡ with_state id (λ old. state) w → Leads id stored 1 [] w v
+leads_kept id stored w v state is does =
+    let u : World = with_state id (λ old. state) w in
     record {
       acts = 0;
       world = λ n m.
@@ -100,15 +98,15 @@ leads_kept id stored w v own is does =
     }
 
 -- an act for which there is memory
-module _ (id : ℕ) (stored : Bool) (w v : World) (own : Own) (c : Act) (is : turn_in w id ≡ Do own c) (does : v ≡ act (with_own id (λ old. own) w) id c stored) where
-  acted_turn : (m : Option ℕ) → turn_done id stored (Do own c) w (memory_behind 1 m) ≡ doing v m
+module _ (id : ℕ) (stored : Bool) (w v : World) (state : State) (c : Act) (is : turn_in w id ≡ Do state c) (does : v ≡ act (with_state id (λ old. state) w) id c stored) where
+  acted_turn : (m : Option ℕ) → turn_done id stored (Do state c) w (memory_behind 1 m) ≡ doing v m
   acted_turn None = ap (λ (u : World). doing u None) (sym does)
-  acted_turn (Some m) = ap (λ (n : ℕ). turn_done id stored (Do own c) w (Some n)) (one_more m) ∙ ap (λ (u : World). doing u (Some m)) (sym does)
+  acted_turn (Some m) = ap (λ (n : ℕ). turn_done id stored (Do state c) w (Some n)) (one_more m) ∙ ap (λ (u : World). doing u (Some m)) (sym does)
 
-  acted_effects : (m : Option ℕ) → turn_effects id stored (Do own c) w (memory_behind 1 m) ≡ act_effects (with_own id (λ old. own) w) id c stored
-  acted_effects m = ap (λ (b : Bool). cond b [] (act_effects (with_own id (λ old. own) w) id c stored)) (one_is_there m)
+  acted_effects : (m : Option ℕ) → turn_effects id stored (Do state c) w (memory_behind 1 m) ≡ act_effects (with_state id (λ old. state) w) id c stored
+  acted_effects m = ap (λ (b : Bool). cond b [] (act_effects (with_state id (λ old. state) w) id c stored)) (one_is_there m)
 
-  pub leads_acted : Leads id stored 1 (flat_map saved_by (act_effects (with_own id (λ old. own) w) id c stored)) w v
+  pub leads_acted : Leads id stored 1 (flat_map saved_by (act_effects (with_state id (λ old. state) w) id c stored)) w v
   leads_acted = record {
     acts = 1;
     world = λ n m.
@@ -120,18 +118,18 @@ module _ (id : ℕ) (stored : Bool) (w v : World) (own : Own) (c : Act) (is : tu
         ap (λ (k : ℕ). flat_map saved_by (turns_effects k id stored (doing w (memory_behind 1 m)))) (one_more n)
         ∙ ap (flat_map saved_by) (effects_next n id stored (doing w (memory_behind 1 m)) (ap rests is))
         ∙ ap (λ (t : Turn). flat_map saved_by (turn_effects id stored t w (memory_behind 1 m) ++ turns_effects n id stored (turn_done id stored t w (memory_behind 1 m)))) is
-        ∙ flat_map-append saved_by (turn_effects id stored (Do own c) w (memory_behind 1 m)) (turns_effects n id stored (turn_done id stored (Do own c) w (memory_behind 1 m)))
-        ∙ ap (λ (es : List Effect). flat_map saved_by es ++ flat_map saved_by (turns_effects n id stored (turn_done id stored (Do own c) w (memory_behind 1 m)))) (acted_effects m)
-        ∙ ap (λ (d : Doing). flat_map saved_by (act_effects (with_own id (λ old. own) w) id c stored) ++ flat_map saved_by (turns_effects n id stored d)) (acted_turn m);
+        ∙ flat_map-append saved_by (turn_effects id stored (Do state c) w (memory_behind 1 m)) (turns_effects n id stored (turn_done id stored (Do state c) w (memory_behind 1 m)))
+        ∙ ap (λ (es : List Effect). flat_map saved_by es ++ flat_map saved_by (turns_effects n id stored (turn_done id stored (Do state c) w (memory_behind 1 m)))) (acted_effects m)
+        ∙ ap (λ (d : Doing). flat_map saved_by (act_effects (with_state id (λ old. state) w) id c stored) ++ flat_map saved_by (turns_effects n id stored d)) (acted_turn m);
     refused = λ n m.
         ap (λ (k : ℕ). refused_in k id stored (doing w (memory_behind 1 m))) (one_more n)
         ∙ refused_next n id stored (doing w (memory_behind 1 m)) (ap rests is)
         ∙ ap (λ (t : Turn). refused_of id stored t w (memory_behind 1 m) (refused_in n id stored (turn_done id stored t w (memory_behind 1 m)))) is
-        ∙ ap (λ (b : Bool). cond b (outcome_in (with_own id (λ old. own) w) id c stored) (refused_in n id stored (turn_done id stored (Do own c) w (memory_behind 1 m)))) (one_is_there m)
+        ∙ ap (λ (b : Bool). cond b (outcome_in (with_state id (λ old. state) w) id c stored) (refused_in n id stored (turn_done id stored (Do state c) w (memory_behind 1 m)))) (one_is_there m)
         ∙ ap (refused_in n id stored) (acted_turn m);
   }
 
-  pub leads_once : LeadsOnce id stored (flat_map saved_by (act_effects (with_own id (λ old. own) w) id c stored)) w v
+  pub leads_once : LeadsOnce id stored (flat_map saved_by (act_effects (with_state id (λ old. state) w) id c stored)) w v
   unfolding leads_acted
   leads_once = (leads_acted, refl)
 
@@ -178,24 +176,24 @@ at_most a b h = omega (arith, h)
 -- WHERE IT ENDS: nothing is left to do
 module _ (id : ℕ) (stored : Bool) (used : ℕ) (saved : List Saved) (v w : World) (l : Leads id stored used saved v w) (within : used ≤ most_turns) (stops : rests (turn_in w id) ≡ true) where
   pub led_world : turns most_turns id stored (doing v None) ≡ doing w None
-  led_world = ap (λ (n : ℕ). turns n id stored (doing v None)) (all_of used most_turns within) ∙ l.world (most_turns - used) None ∙ over (most_turns - used) id stored (doing w None) stops
+  led_world = ap (λ (n : ℕ). turns n id stored (doing v None)) (all_of used most_turns within) ∙ l.world (most_turns - used) None ∙ turns_rest (most_turns - used) id stored (doing w None) stops
 
   pub led_saves : flat_map saved_by (turns_effects most_turns id stored (doing v None)) ≡ saved
   led_saves =
       ap (λ (n : ℕ). flat_map saved_by (turns_effects n id stored (doing v None))) (all_of used most_turns within)
       ∙ l.saves (most_turns - used) None
-      ∙ ap (λ (es : List Effect). saved ++ flat_map saved_by es) (no_effects (most_turns - used) id stored (doing w None) stops)
+      ∙ ap (λ (es : List Effect). saved ++ flat_map saved_by es) (effects_rest (most_turns - used) id stored (doing w None) stops)
       ∙ append-nil saved
 
 -- or memory is refused to an act
-module _ (id : ℕ) (stored : Bool) (used : ℕ) (saved : List Saved) (v w : World) (l : Leads id stored used saved v w) (within : used < most_turns) (own : Own) (c : Act) (x : Session) (found : find_session id w.sessions ≡ Some x) (is : turn_in w id ≡ Do own c) where
-  told : turn id stored (doing w (Some 0)) ≡ doing (with_own id refused_own w) (Some 0)
+module _ (id : ℕ) (stored : Bool) (used : ℕ) (saved : List Saved) (v w : World) (l : Leads id stored used saved v w) (within : used < most_turns) (state : State) (c : Act) (x : Session) (found : find_session id w.sessions ≡ Some x) (is : turn_in w id ≡ Do state c) where
+  told : turn id stored (doing w (Some 0)) ≡ doing (with_state id refused_state w) (Some 0)
   told = ap (λ (t : Turn). turn_done id stored t w (Some 0)) is
 
   told_rests : rests (turn_in (turn id stored (doing w (Some 0))).world id) ≡ true
-  told_rests = ap (λ (d : Doing). rests (turn_in d.world id)) told ∙ rests_with_own w id refused_own x found refl
+  told_rests = ap (λ (d : Doing). rests (turn_in d.world id)) told ∙ rests_with_state w id refused_state x found refl
 
-  pub led_short : turns most_turns id stored (doing v (memory_behind l.acts (Some 0))) ≡ doing (with_own id refused_own w) (Some 0)
+  pub led_short : turns most_turns id stored (doing v (memory_behind l.acts (Some 0))) ≡ doing (with_state id refused_state w) (Some 0)
   led_short =
       ap (λ (n : ℕ). turns n id stored (doing v (memory_behind l.acts (Some 0)))) (all_of used most_turns (at_most used most_turns within))
       ∙ l.world (most_turns - used) (Some 0)
@@ -210,13 +208,13 @@ module _ (id : ℕ) (stored : Bool) (used : ℕ) (saved : List Saved) (v w : Wor
       ∙ ap (λ (t : Turn). saved ++ flat_map saved_by (turn_effects id stored t w (Some 0))) is
       ∙ append-nil saved
 
-  first_refused : (n : ℕ) → 1 ≤ n → refused_in n id stored (doing w (Some 0)) ≡ outcome_in (with_own id (λ old. own) w) id c stored
+  first_refused : (n : ℕ) → 1 ≤ n → refused_in n id stored (doing w (Some 0)) ≡ outcome_in (with_state id (λ old. state) w) id c stored
   first_refused zero h = absurd (omega (arith, h))
   first_refused (suc n) h =
       refused_next n id stored (doing w (Some 0)) (ap rests is)
       ∙ ap (λ (t : Turn). refused_of id stored t w (Some 0) (refused_in n id stored (turn id stored (doing w (Some 0))))) is
 
-  pub led_refused : refused_in most_turns id stored (doing v (memory_behind l.acts (Some 0))) ≡ outcome_in (with_own id (λ old. own) w) id c stored
+  pub led_refused : refused_in most_turns id stored (doing v (memory_behind l.acts (Some 0))) ≡ outcome_in (with_state id (λ old. state) w) id c stored
   led_refused =
       ap (λ (n : ℕ). refused_in n id stored (doing v (memory_behind l.acts (Some 0)))) (all_of used most_turns (at_most used most_turns within))
       ∙ l.refused (most_turns - used) (Some 0)

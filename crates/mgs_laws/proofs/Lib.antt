@@ -1,9 +1,11 @@
 pub mod After
+mod Edits
 pub mod Hide
-pub mod Veil
+pub mod Redacted
 pub mod Acting
 pub mod Outcomes
 pub mod Turning
+pub mod Paths
 pub mod LeftToDo
 pub mod Ends
 pub mod Led

@@ -4,12 +4,14 @@ use Rattle.std.specs.List.{list_any}
 use Rattle.std.specs.Option.{option_map}
 use Rattle.mgs_model.specs.Names.{same_name}
 use Rattle.mgs_model.specs.Text.{shift, is_edit}
-use Rattle.mgs_model.specs.World.{World, Buffer, Session, Window, Place, Search, first_own, Shows, Nothing, Buffer_of, Listing, List_of, is_named, has_id}
-use Rattle.mgs_model.specs.Outcome.{Outcome, PointPlan, Keep, At, At_origin, MarkPlan, Keep_mark, Mark_at, SearchPlan, Keep_search, No_search, Begin, Anchor_at, Source, Old, Come, Slot, is_old, Arrange, Stay, Adjust, Slots, Effect, No_effect, Edit, Unmodified, Relist, Reown, Create, Kill, Save, Quit}
-use Rattle.mgs_model.specs.Apply.{owners_after, change_first, buffers_after, buffer_edited_if, buffer_edited, buffer_unmodified, new_buffer, is_in, is_of, window_moved_if, window_moved, place_moved, search_moved, session_moved, window_bereft_if, window_bereft, is_searched, bereft_own, session_bereft, session_after, set_place, left_places, places_left, place_in, place_point, place_mark, comer, window_at, source_window, has_positions, origin_or, point_after, mark_after, row_after, window_adjusted, window_put, windows_arranged, places_arranged, selected_arranged, search_after, search_arranged, searches, kill_after, session_arranged, after_quit, sessions_after, apply}
+use Rattle.mgs_model.specs.World.{World, Buffer, Session, Window, Place, Search, first_state, Shows, Nothing, Buffer_of, Listing, List_of, is_named, has_id}
+use Rattle.mgs_model.specs.Outcome.{Outcome, PointPlan, Keep, At, At_origin, MarkPlan, Keep_mark, Mark_at, SearchPlan, Keep_search, No_search, Begin, Anchor_at, Source, Old, Come, Slot, is_old, Arrange, Stay, Adjust, Slots, Effect, No_effect, Edit, Unmodified, SetList, SetOwners, Create, Kill, Save, Quit}
+use Rattle.mgs_model.specs.Apply.{owners_after, change_first, buffers_after, buffer_edited, buffer_unmodified, new_buffer, is_in, is_of, window_moved, place_moved, search_moved, session_moved, empty_window, window_without_buffer, is_searched, state_without_search, session_without_buffer, session_after, set_place, left_places, places_left, place_in, place_point, place_mark, comer, window_at, source_window, has_positions, origin_or, point_after, mark_after, row_after, window_adjusted, window_put, windows_arranged, places_arranged, selected_arranged, search_after, search_arranged, searches, kill_after, session_arranged, after_quit, sessions_after, apply}
 use Rattle.mgs_model.specs.declared.owners.Owners.{Owners}
 use Rattle.mgs_model.specs.declared.entry.Entry.{Entry}
 use Rattle.mgs_laws.proofs.After.{user_after}
+use Rattle.mgs_laws.proofs.Edits.{buffer_made, place_made, search_made, window_made}
+use Rattle.mgs_model.proofs.Moved.{same_choice}
 use Rattle.mgs_model.proofs.Blind.{Blind-map, Blind-change, Blind-change_at, Blind-append, Blind-remove, Blind-filter, map_both, map_fixed, same_names}
 
 -- THE OUTLINE
@@ -58,7 +60,7 @@ forget_if o shut x =
       places = cond o (map (forget_place shut) x.places) [];
       search = cond o (forget_search shut x.search) None;
       kill = cond o x.kill [];
-      own = cond o x.own first_own;
+      state = cond o x.state first_state;
     }
 
 abbrev pub forget : (List ℕ → Bool) → (List ℕ → Bool) → Session → Session
@@ -76,30 +78,32 @@ erase_erase false x = refl
 pub erase_same : (shut : List ℕ → Bool) (x : Buffer) → erase shut (erase shut x) ≡ erase shut x
 erase_same shut x = erase_erase (shut x.name) x
 
-erase_edited : (h f : Bool) (a b : ℕ) (put : List ℕ) (x : Buffer) → erase_if h (buffer_edited_if f a b put x) ≡ erase_if h (buffer_edited_if f a b put (erase_if h x))
-erase_edited true true a b put x = refl
-erase_edited true false a b put x = refl
-erase_edited false true a b put x = refl
-erase_edited false false a b put x = refl
+erase_made : (h : Bool) (a b : ℕ) (put : List ℕ) (x : Buffer) → erase_if h (buffer_made a b put x) ≡ erase_if h (buffer_made a b put (erase_if h x))
+erase_made true a b put x = refl
+erase_made false a b put x = refl
+
+erase_edited : (shut : List ℕ → Bool) (a b : ℕ) (put : List ℕ) (x : Buffer) → erase shut (buffer_edited a b put x) ≡ erase shut (buffer_edited a b put (erase shut x))
+erase_edited shut a b put x =
+    same_choice (erase shut) (is_edit a b put) (buffer_made a b put x) x (buffer_made a b put (erase shut x)) (erase shut x) (erase_made (shut x.name) a b put x) (sym (erase_same shut x))
 
 erase_unmodified : (h : Bool) (x : Buffer) → erase_if h (buffer_unmodified x) ≡ erase_if h (buffer_unmodified (erase_if h x))
 erase_unmodified true x = refl
 erase_unmodified false x = refl
 
-erase_relisted : (h : Bool) (entries : List Entry) (x : Buffer) → erase_if h (record x { entries = entries }) ≡ erase_if h (record (erase_if h x) { entries = entries })
-erase_relisted true entries x = refl
-erase_relisted false entries x = refl
+erase_list_set : (h : Bool) (entries : List Entry) (x : Buffer) → erase_if h (record x { entries = entries }) ≡ erase_if h (record (erase_if h x) { entries = entries })
+erase_list_set true entries x = refl
+erase_list_set false entries x = refl
 
-erase_reowned : (h : Bool) (owners : Owners) (x : Buffer) → erase_if h (record x { owners = owners }) ≡ erase_if h (record (erase_if h x) { owners = owners })
-erase_reowned true owners x = refl
-erase_reowned false owners x = refl
+erase_owners_set : (h : Bool) (owners : Owners) (x : Buffer) → erase_if h (record x { owners = owners }) ≡ erase_if h (record (erase_if h x) { owners = owners })
+erase_owners_set true owners x = refl
+erase_owners_set false owners x = refl
 
 pub erase_effect : (shut : List ℕ → Bool) (e : Effect) (xs : List Buffer) → map (erase shut) (buffers_after e xs) ≡ map (erase shut) (buffers_after e (map (erase shut) xs))
 erase_effect shut No_effect xs = map_fixed (erase shut) (erase_same shut) xs
-erase_effect shut (Edit name a b put) xs = Blind-change (erase shut) (erase_same shut) (is_named name) (λ x. refl) (buffer_edited a b put) (λ x. erase_edited (shut x.name) (is_edit a b put) a b put x) xs
+erase_effect shut (Edit name a b put) xs = Blind-change (erase shut) (erase_same shut) (is_named name) (λ x. refl) (buffer_edited a b put) (erase_edited shut a b put) xs
 erase_effect shut (Unmodified name) xs = Blind-change (erase shut) (erase_same shut) (is_named name) (λ x. refl) buffer_unmodified (λ x. erase_unmodified (shut x.name) x) xs
-erase_effect shut (Relist name entries) xs = Blind-change (erase shut) (erase_same shut) (is_named name) (λ x. refl) (λ x. record x { entries = entries }) (λ x. erase_relisted (shut x.name) entries x) xs
-erase_effect shut (Reown name new) xs = Blind-change (erase shut) (erase_same shut) (is_named name) (λ x. refl) (λ x. record x { owners = owners_after new x.owners }) (λ x. erase_reowned (shut x.name) (owners_after new x.owners) x) xs
+erase_effect shut (SetList name entries) xs = Blind-change (erase shut) (erase_same shut) (is_named name) (λ x. refl) (λ x. record x { entries = entries }) (λ x. erase_list_set (shut x.name) entries x) xs
+erase_effect shut (SetOwners name new) xs = Blind-change (erase shut) (erase_same shut) (is_named name) (λ x. refl) (λ x. record x { owners = owners_after new x.owners }) (λ x. erase_owners_set (shut x.name) (owners_after new x.owners) x) xs
 erase_effect shut (Create name owner) xs = Blind-append (erase shut) (erase_same shut) xs (new_buffer name owner) (new_buffer name owner) refl
 erase_effect shut (Kill name) xs = Blind-remove (erase shut) (erase_same shut) (is_named name) (λ x. refl) xs
 erase_effect shut (Save name text) xs = Blind-change (erase shut) (erase_same shut) (is_named name) (λ x. refl) buffer_unmodified (λ x. erase_unmodified (shut x.name) x) xs
@@ -149,67 +153,71 @@ forget_same users shut x = sym (forget_twice (users x.user) shut x)
 
 -- POSITIONS THAT GO BY AN EFFECT
 
-forget_moved : (h f : Bool) (move : ℕ → ℕ) (x : Window) → forget_window_if h (window_moved_if f move x) ≡ forget_window_if h (window_moved_if f move (forget_window_if h x))
-forget_moved true f move x = refl
-forget_moved false f move x = refl
+forget_made : (h : Bool) (move : ℕ → ℕ) (x : Window) → forget_window_if h (window_made move x) ≡ forget_window_if h (window_made move (forget_window_if h x))
+forget_made true move x = refl
+forget_made false move x = refl
 
-abbrev pub place_moved_if : Bool → (ℕ → ℕ) → Place → Place
-place_moved_if f move x = record { name = x.name; point = cond f (move x.point) x.point; mark = cond f (option_map move x.mark) x.mark }
+forget_moved : (shut : List ℕ → Bool) (name : List ℕ) (move : ℕ → ℕ) (x : Window) → forget_window shut (window_moved name move x) ≡ forget_window shut (window_moved name move (forget_window shut x))
+forget_moved shut name move x =
+    same_choice (forget_window shut) (is_in name x.shows) (window_made move x) x (window_made move (forget_window shut x)) (forget_window shut x) (forget_made (shows_shut shut x.shows) move x) (sym (forget_window_same shut x))
 
-forget_place_moved : (h f : Bool) (move : ℕ → ℕ) (x : Place) → forget_place_if h (place_moved_if f move x) ≡ forget_place_if h (place_moved_if f move (forget_place_if h x))
-forget_place_moved true f move x = refl
-forget_place_moved false f move x = refl
+forget_place_made : (h : Bool) (move : ℕ → ℕ) (x : Place) → forget_place_if h (place_made move x) ≡ forget_place_if h (place_made move (forget_place_if h x))
+forget_place_made true move x = refl
+forget_place_made false move x = refl
 
-abbrev pub search_moved_if : Bool → (ℕ → ℕ) → Search → Search
-search_moved_if f move x = record { name = x.name; origin = cond f (move x.origin) x.origin; anchor = cond f (move x.anchor) x.anchor }
+forget_place_moved : (shut : List ℕ → Bool) (name : List ℕ) (move : ℕ → ℕ) (x : Place) → forget_place shut (place_moved name move x) ≡ forget_place shut (place_moved name move (forget_place shut x))
+forget_place_moved shut name move x =
+    same_choice (forget_place shut) (same_name name x.name) (place_made move x) x (place_made move (forget_place shut x)) (forget_place shut x) (forget_place_made (shut x.name) move x) (sym (forget_place_same shut x))
 
-forget_search_moved_if : (h f : Bool) (move : ℕ → ℕ) (x : Search) → forget_search_if h (search_moved_if f move x) ≡ forget_search_if h (search_moved_if f move (forget_search_if h x))
-forget_search_moved_if true f move x = refl
-forget_search_moved_if false f move x = refl
+forget_search_made : (h : Bool) (move : ℕ → ℕ) (x : Search) → forget_search_if h (search_made move x) ≡ forget_search_if h (search_made move (forget_search_if h x))
+forget_search_made true move x = refl
+forget_search_made false move x = refl
 
 forget_search_moved : (shut : List ℕ → Bool) (name : List ℕ) (move : ℕ → ℕ) (o : Option Search) → forget_search shut (option_map (search_moved name move) o) ≡ forget_search shut (option_map (search_moved name move) (forget_search shut o))
 forget_search_moved shut name move None = refl
-forget_search_moved shut name move (Some x) = ap Some (forget_search_moved_if (shut x.name) (same_name name x.name) move x)
+forget_search_moved shut name move (Some x) =
+    let kept : Search = forget_search_if (shut x.name) x in
+    same_choice (λ y. forget_search shut (Some y)) (same_name name x.name) (search_made move x) x (search_made move kept) kept (ap Some (forget_search_made (shut x.name) move x)) (sym (forget_search_same shut (Some x)))
 
 -- a window whose buffer is gone shows nothing
-forget_bereft : (shut : List ℕ → Bool) (f : Bool) (x : Window) → forget_window shut (window_bereft_if f x) ≡ forget_window shut (window_bereft_if f (forget_window shut x))
-forget_bereft shut true x = refl
-forget_bereft shut false x = sym (forget_window_same shut x)
+forget_without_buffer : (shut : List ℕ → Bool) (name : List ℕ) (x : Window) → forget_window shut (window_without_buffer name x) ≡ forget_window shut (window_without_buffer name (forget_window shut x))
+forget_without_buffer shut name x =
+    same_choice (forget_window shut) (is_of name x.shows) (record empty_window { height = x.height }) x (record empty_window { height = x.height }) (forget_window shut x) refl (sym (forget_window_same shut x))
 
 searched_forget : (shut : List ℕ → Bool) (name : List ℕ) (o : Option Search) → is_searched name o ≡ is_searched name (forget_search shut o)
 searched_forget shut name None = refl
 searched_forget shut name (Some x) = refl
 
-forget_search_bereft : (shut : List ℕ → Bool) (f : Bool) (o : Option Search) → forget_search shut (cond f None o) ≡ forget_search shut (cond f None (forget_search shut o))
-forget_search_bereft shut true o = refl
-forget_search_bereft shut false o = sym (forget_search_same shut o)
+forget_search_without_buffer : (shut : List ℕ → Bool) (f : Bool) (o : Option Search) → forget_search shut (cond f None o) ≡ forget_search shut (cond f None (forget_search shut o))
+forget_search_without_buffer shut true o = refl
+forget_search_without_buffer shut false o = sym (forget_search_same shut o)
 
 forget_moved_session : (o : Bool) (shut : List ℕ → Bool) (name : List ℕ) (move : ℕ → ℕ) (x : Session) → forget_if o shut (session_moved name move x) ≡ forget_if o shut (session_moved name move (forget_if o shut x))
 forget_moved_session false shut name move x = refl
 forget_moved_session true shut name move x =
     λ i. record x {
-      windows = Blind-map (forget_window shut) (forget_window shut) (window_moved name move) (λ y. forget_moved (shows_shut shut y.shows) (is_in name y.shows) move y) x.windows i;
-      places = Blind-map (forget_place shut) (forget_place shut) (place_moved name move) (λ y. forget_place_moved (shut y.name) (same_name name y.name) move y) x.places i;
+      windows = Blind-map (forget_window shut) (forget_window shut) (window_moved name move) (forget_moved shut name move) x.windows i;
+      places = Blind-map (forget_place shut) (forget_place shut) (place_moved name move) (forget_place_moved shut name move) x.places i;
       search = forget_search_moved shut name move x.search i;
     }
 
-forget_bereft_session : (o : Bool) (shut : List ℕ → Bool) (name : List ℕ) (x : Session) → forget_if o shut (session_bereft name x) ≡ forget_if o shut (session_bereft name (forget_if o shut x))
-forget_bereft_session false shut name x = refl
-forget_bereft_session true shut name x =
+forget_session_without_buffer : (o : Bool) (shut : List ℕ → Bool) (name : List ℕ) (x : Session) → forget_if o shut (session_without_buffer name x) ≡ forget_if o shut (session_without_buffer name (forget_if o shut x))
+forget_session_without_buffer false shut name x = refl
+forget_session_without_buffer true shut name x =
     λ i. record x {
-      windows = Blind-map (forget_window shut) (forget_window shut) (window_bereft name) (λ y. forget_bereft shut (is_of name y.shows) y) x.windows i;
+      windows = Blind-map (forget_window shut) (forget_window shut) (window_without_buffer name) (forget_without_buffer shut name) x.windows i;
       places = Blind-filter (forget_place shut) (forget_place_same shut) (λ p. not (same_name name p.name)) (λ p. refl) x.places i;
-      search = (forget_search_bereft shut (is_searched name x.search) x.search ∙ ap (λ f. forget_search shut (cond f None (forget_search shut x.search))) (searched_forget shut name x.search)) i;
-      own = bereft_own (searched_forget shut name x.search i) x.own;
+      search = (forget_search_without_buffer shut (is_searched name x.search) x.search ∙ ap (λ f. forget_search shut (cond f None (forget_search shut x.search))) (searched_forget shut name x.search)) i;
+      state = cond (searched_forget shut name x.search i) (state_without_search x.state) x.state;
     }
 
 forget_after : (o : Bool) (shut : List ℕ → Bool) (e : Effect) (x : Session) → forget_if o shut (session_after e x) ≡ forget_if o shut (session_after e (forget_if o shut x))
 forget_after o shut (Edit name a b put) x = forget_moved_session o shut name (shift a b (length put)) x
-forget_after o shut (Kill name) x = forget_bereft_session o shut name x
+forget_after o shut (Kill name) x = forget_session_without_buffer o shut name x
 forget_after o shut No_effect x = forget_twice o shut x
 forget_after o shut (Unmodified name) x = forget_twice o shut x
-forget_after o shut (Relist name entries) x = forget_twice o shut x
-forget_after o shut (Reown name new) x = forget_twice o shut x
+forget_after o shut (SetList name entries) x = forget_twice o shut x
+forget_after o shut (SetOwners name new) x = forget_twice o shut x
 forget_after o shut (Create name owner) x = forget_twice o shut x
 forget_after o shut (Save name text) x = forget_twice o shut x
 forget_after o shut Quit x = forget_twice o shut x
@@ -399,9 +407,9 @@ forget_arranged true shut p x =
       windows = windows_forget shut p.arrange x i;
       selected = selected_forget shut p.arrange x i;
       places = places_forget shut p.arrange x i;
-      search = search_if_forget (searches p.own.mode) shut (search_arranged p.arrange x) (search_arranged p.arrange (forget_if true shut x)) (search_arranged_forget shut p.arrange x) i;
+      search = search_if_forget (searches p.state.mode) shut (search_arranged p.arrange x) (search_arranged p.arrange (forget_if true shut x)) (search_arranged_forget shut p.arrange x) i;
       kill = kill_after p.kill x.kill;
-      own = p.own;
+      state = p.state;
     }
 
 -- EVERY SESSION
@@ -433,10 +441,3 @@ forget_sessions users shut id o xs =
 
 pub outline_apply : (users shut : List ℕ → Bool) (w : World) (id : ℕ) (o : Outcome) → outline users shut (apply w id o) ≡ outline users shut (apply (outline users shut w) id o)
 outline_apply users shut w id o = λ i. record w { buffers = erase_effect shut o.effect w.buffers i; sessions = forget_sessions users shut id o w.sessions i }
-
-pub outline_same : (users shut : List ℕ → Bool) (w : World) → outline users shut w ≡ outline users shut (outline users shut w)
-outline_same users shut w =
-    λ i. record w {
-      buffers = map_fixed (erase shut) (erase_same shut) w.buffers i;
-      sessions = map_fixed (forget users shut) (forget_same users shut) w.sessions i;
-    }

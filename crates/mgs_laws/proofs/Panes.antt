@@ -1,7 +1,7 @@
 -- Worked panes: no name but by READ_ATTRIBUTES, no text but by READ_DATA, no entries but by READ_ACL.
 use Rattle.std.proofs.Common.{◌≡◌, ℕ, false, List, [], ◌∷◌, Some, None, refl}
 use Rattle.std.specs.Prelude.{codes}
-use Rattle.mgs_model.specs.World.{Buffer, Session, Shows, Buffer_of, Listing, List_of, first_own}
+use Rattle.mgs_model.specs.World.{Buffer, Session, Shows, Buffer_of, Listing, List_of, first_state}
 use Rattle.mgs_model.specs.Seen.{WindowPane, Text_pane, Listing_pane, Entries_pane, Readable, Unreadable, Listed, Unlisted, Attributes, seen}
 use Rattle.mgs_model.specs.declared.right.Right.TheVariants.{ReadData, ReadAcl}
 use Rattle.mgs_model.specs.declared.entry.Decision.TheVariants.{NotGranted}
@@ -28,7 +28,7 @@ bob_at shows =
       places = [];
       search = None;
       kill = [];
-      own = first_own;
+      state = first_state;
     }
 
 -- the panes of bob's one window

@@ -1,7 +1,7 @@
 -- Worked positions: where those of others go by an edit, and what a window leaves behind.
 use Rattle.std.proofs.Common.{◌≡◌, ℕ, false, List, [], ◌∷◌, map, Some, None, refl}
 use Rattle.std.specs.Prelude.{codes}
-use Rattle.mgs_model.specs.World.{World, Session, Window, Place, Buffer_of, first_own}
+use Rattle.mgs_model.specs.World.{World, Session, Window, Place, Buffer_of, first_state}
 use Rattle.mgs_model.specs.Outcome.{Run}
 use Rattle.mgs_model.specs.Acts.{outcome}
 use Rattle.mgs_model.specs.Apply.{act}
@@ -15,7 +15,7 @@ abbrev window_at : ℕ → Window
 window_at point = record { shows = Buffer_of (codes "notes"); point = point; mark = Some 2; top = 0; row = 0; height = 4 }
 
 abbrev session : ℕ → List Window → Session
-session id windows = record { id = id; user = codes "ann"; rows = 6; cols = 20; windows = windows; selected = 0; places = []; search = None; kill = []; own = first_own }
+session id windows = record { id = id; user = codes "ann"; rows = 6; cols = 20; windows = windows; selected = 0; places = []; search = None; kill = []; state = first_state }
 
 abbrev world_of : List Session → World
 world_of sessions =

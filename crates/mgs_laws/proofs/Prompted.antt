@@ -3,7 +3,7 @@ use Rattle.std.proofs.Common.{◌≡◌, ℕ, true, false, List, [], ◌∷◌, 
 use Rattle.std.specs.Prelude.{codes}
 use Rattle.mgs_model.specs.Cells.{glyph}
 use Rattle.mgs_model.specs.Rows.{Row, fitted, line_shown, shown_row}
-use Rattle.mgs_model.specs.World.{first_own}
+use Rattle.mgs_model.specs.World.{first_state}
 use Rattle.mgs_model.specs.Seen.{Readable, Text_pane}
 use Rattle.mgs_model.specs.Picture.{Picture}
 use Rattle.mgs_model.specs.Draw.{draw}
@@ -31,7 +31,7 @@ screen_of mode input echo =
       cols = 20;
       windows = record { height = 4; pane = Text_pane (Readable (codes "ab") 2 0) None } ∷ [];
       selected = 0;
-      own = record first_own { mode = mode; input = input; echo = echo };
+      state = record first_state { mode = mode; input = input; echo = echo };
     })
 
 -- the echo row, and the cursor

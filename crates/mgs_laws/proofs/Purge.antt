@@ -7,77 +7,67 @@ use Rattle.std.specs.Prelude.{if◌then◌else◌}
 use Rattle.mgs_model.specs.declared.errors.OpenFault.TheVariants.{NoUser, Size, Full}
 use Rattle.mgs_model.specs.declared.limits.TheConstants.{SESSION_LIMIT}
 use Rattle.mgs_model.specs.Access.{Directory, is_among}
-use Rattle.mgs_model.specs.World.{World, Buffer, Session, Own, may, has_id, find_session, find_buffer}
-use Rattle.mgs_model.specs.View.{view_of}
+use Rattle.mgs_model.specs.World.{World, Buffer, Session, State, may, has_id, find_session, find_buffer}
 use Rattle.mgs_model.specs.Apply.{searches, without_session}
-use Rattle.mgs_model.specs.Events.{Event, Open, Byte, Close, settled, first_shows, new_session, is_open, is_size, can_open, session_fault, opened, Doing, turn_seen, turn_in, rests, own_set, with_own, turn, turns, most_turns, begun_own, begun, byte_done, step, run, turns_effects}
-use Rattle.mgs_model.specs.Secrecy.{IsOf}
-use Rattle.mgs_model.specs.Purging.{InsideAll, Closed, is_other, is_outside, purge, Inside, OthersInside, Purged}
+use Rattle.mgs_model.specs.Events.{Event, Open, Byte, Close, settled, first_shows, new_session, is_open, is_size, can_open, session_fault, opened, Doing, turn_seen, turn_in, rests, state_set, with_state, turn, turns, most_turns, begun_state, begun, byte_done, step, run, turns_effects}
+use Rattle.mgs_model.proofs.Paths.{all_turns, turns_none, turns_step}
+use Rattle.mgs_laws.specs.Secrecy.{IsOf}
+use Rattle.mgs_laws.specs.Purging.{InsideAll, Closed, is_other, is_outside, purge, Inside, OthersInside, Purged}
 use Rattle.mgs_model.specs.declared.right.Right.TheVariants.{ReadAttributes}
 use Rattle.mgs_model.proofs.Blind.{Blind-change, Blind-filter, Blind-append, map_fixed, is_some_map}
 use Rattle.mgs_model.proofs.Firsts.{find-map}
 use Rattle.mgs_laws.proofs.Outline.{erase, forget_if, forget, outline, erase_same, forget_windows, forget_places, forget_search, forget_search_same, search_if_forget, forget_same, outline_apply}
-use Rattle.mgs_laws.proofs.Turning.{Erasure, own_same, SameDoings, turn_same}
+use Rattle.mgs_laws.proofs.Turning.{Erasure, state_same, SameDoings, turn_same}
 use Rattle.mgs_laws.proofs.Stepping.{the_world, at_rest, of_next, of_begun, closed, screens_seen}
 use Rattle.mgs_laws.proofs.Unseen.{Like, closed_like, find_forget, view_of_like, like_by}
-use Rattle.mgs_laws.proofs.Closing.{closed_with_own, closed_turn}
-use Rattle.mgs_laws.proofs.Inside.{other_with_own, with_own_inside, turns_inside}
+use Rattle.mgs_laws.proofs.Closing.{closed_with_state, closed_turn}
+use Rattle.mgs_laws.proofs.Inside.{other_with_state, with_state_inside, turns_inside}
 use Rattle.mgs_laws.proofs.Settling.{find_not_shut, settled_like, settled_step}
 
 -- THE TURNS OF THE USERS
 
-forget_own : (o : Bool) (shut : List ℕ → Bool) (f : Own → Own) (x : Session) → forget_if o shut (own_set f x) ≡ forget_if o shut (own_set f (forget_if o shut x))
-forget_own false shut f x = refl
-forget_own true shut f x =
-    λ i. record (own_set f x) {
+forget_state : (o : Bool) (shut : List ℕ → Bool) (f : State → State) (x : Session) → forget_if o shut (state_set f x) ≡ forget_if o shut (state_set f (forget_if o shut x))
+forget_state false shut f x = refl
+forget_state true shut f x =
+    λ i. record (state_set f x) {
       windows = forget_windows shut x.windows i;
       places = forget_places shut x.places i;
-      search = search_if_forget (searches (f x.own).mode) shut x.search (forget_search shut x.search) (sym (forget_search_same shut x.search)) i;
+      search = search_if_forget (searches (f x.state).mode) shut x.search (forget_search shut x.search) (sym (forget_search_same shut x.search)) i;
     }
 
-outline_with_own : (users shut : List ℕ → Bool) (w : World) (id : ℕ) (f : Own → Own) → outline users shut (with_own id f w) ≡ outline users shut (with_own id f (outline users shut w))
-outline_with_own users shut w id f =
+outline_with_state : (users shut : List ℕ → Bool) (w : World) (id : ℕ) (f : State → State) → outline users shut (with_state id f w) ≡ outline users shut (with_state id f (outline users shut w))
+outline_with_state users shut w id f =
     λ i. record w {
       buffers = map_fixed (erase shut) (erase_same shut) w.buffers i;
-      sessions = Blind-change (forget users shut) (forget_same users shut) (has_id id) (λ x. refl) (own_set f) (λ x. forget_own (users x.user) shut f x) w.sessions i;
+      sessions = Blind-change (forget users shut) (forget_same users shut) (has_id id) (λ x. refl) (state_set f) (λ x. forget_state (users x.user) shut f x) w.sessions i;
     }
 
 outlines : (users shut : List ℕ → Bool) → Erasure (outline users shut)
-outlines users shut = record { applies = outline_apply users shut; keeps = outline_with_own users shut }
+outlines users shut = record { applies = outline_apply users shut; keeps = outline_with_state users shut }
 
 abbrev LikeDoings : (List ℕ → Bool) → (List ℕ → Bool) → Doing → Doing → Type 0
 LikeDoings users shut d e = SameDoings (outline users shut) d e
 
 turns_like : (n : ℕ) (users shut : List ℕ → Bool) (id : ℕ) (stored : Bool) (d e : Doing) → LikeDoings users shut d e → Closed users shut d.world → IsOf users (find_session id d.world.sessions) → Like users shut (turns n id stored d).world (turns n id stored e).world
-unfolding turns
-turns_like zero users shut id stored d e p h g = p.0
+turns_like zero users shut id stored d e p h g =
+    ap (λ (f : Doing). outline users shut f.world) (turns_none id stored d) ∙ p.0 ∙ sym (ap (λ (f : Doing). outline users shut f.world) (turns_none id stored e))
 turns_like (suc n) users shut id stored d e p h g =
-    go (at_rest id d) (at_rest id e) (ap (λ v. rests (turn_seen v)) q) (turns_like n users shut id stored (turn id stored d) (turn id stored e))
+    ap (λ (f : Doing). outline users shut f.world) (turns_step n id stored d)
+    ∙ go (at_rest id d) (at_rest id e) (ap (λ v. rests (turn_seen v)) (view_of_like users shut d.world e.world id p.0 h g))
+    (turns_like n users shut id stored (turn id stored d) (turn id stored e)
+    (turn_same (outline users shut) (outlines users shut) id stored d e p (view_of_like users shut d.world e.world id p.0 h g)) (closed_turn users shut id stored (turn_in d.world id) d.world d.memory g h) (of_next users id stored d g))
+    ∙ sym (ap (λ (f : Doing). outline users shut f.world) (turns_step n id stored e))
   where
-    q : view_of d.world id ≡ view_of e.world id
-    q = view_of_like users shut d.world e.world id p.0 h g
-
-    go : (c k : Bool) → c ≡ k
-        → (LikeDoings users shut (turn id stored d) (turn id stored e) → Closed users shut (turn id stored d).world → IsOf users (find_session id (turn id stored d).world.sessions)
-        → Like users shut (turns n id stored (turn id stored d)).world (turns n id stored (turn id stored e)).world)
-        → Like users shut (the_world (elim c as (λ _. Doing) [ true ↦ d | false ↦ turns n id stored (turn id stored d) ]))
-        (the_world (elim k as (λ _. Doing) [ true ↦ e | false ↦ turns n id stored (turn id stored e) ]))
+    go : (c k : Bool) → c ≡ k → Like users shut (turns n id stored (turn id stored d)).world (turns n id stored (turn id stored e)).world → Like users shut (the_world (cond c d (turns n id stored (turn id stored d)))) (the_world (cond k e (turns n id stored (turn id stored e))))
     go true true r ih = p.0
-    go false false r ih =
-        ih (turn_same (outline users shut) (outlines users shut) id stored d e p (view_of_like users shut d.world e.world id p.0 h g)) (closed_turn users shut id stored (turn_in d.world id) d.world d.memory g h) (of_next users id stored d g)
+    go false false r ih = ih
     go true false r ih = cc
     go false true r ih = cc
 
 turns_closed : (n : ℕ) (users shut : List ℕ → Bool) (id : ℕ) (stored : Bool) (d : Doing) → Closed users shut d.world → IsOf users (find_session id d.world.sessions) → Closed users shut (turns n id stored d).world
-unfolding turns
-turns_closed zero users shut id stored d h g = h
-turns_closed (suc n) users shut id stored d h g = go (at_rest id d) (turns_closed n users shut id stored (turn id stored d))
-  where
-    go : (c : Bool)
-        → (Closed users shut (turn id stored d).world → IsOf users (find_session id (turn id stored d).world.sessions) → Closed users shut (turns n id stored (turn id stored d)).world)
-        → Closed users shut (the_world (elim c as (λ _. Doing) [ true ↦ d | false ↦ turns n id stored (turn id stored d) ]))
-    go true ih = h
-    go false ih = ih (closed_turn users shut id stored (turn_in d.world id) d.world d.memory g h) (of_next users id stored d g)
+turns_closed n users shut id stored d h g =
+    (all_turns (λ e. Closed users shut e.world × IsOf users (find_session id e.world.sessions)) id stored
+    (λ e p. (closed_turn users shut id stored (turn_in e.world id) e.world e.memory p.1 p.0, of_next users id stored e p.1)) n d (h, g)).0
 
 -- A STEP OF THE USERS
 
@@ -124,7 +114,7 @@ can_open_like users shut w v id user rows cols e =
     λ i. not (is_some (session_fault_like users shut w v user rows cols e i)) && not (is_open_like users shut w v id e i)
 
 begun_like : (users shut : List ℕ → Bool) (id byte : ℕ) (stop : Option ℕ) (w v : World) → Like users shut w v → LikeDoings users shut (begun w id byte stop) (begun v id byte stop)
-begun_like users shut id byte stop w v e = (own_same (outline users shut) (outlines users shut) w v id (begun_own byte) e, refl)
+begun_like users shut id byte stop w v e = (state_same (outline users shut) (outlines users shut) w v id (begun_state byte) e, refl)
 
 of_inside : (users : List ℕ → Bool) (o : Option Session) → is_other users o ≡ false → IsOf users o
 of_inside users None e = tt
@@ -137,7 +127,7 @@ of_inside users (Some x) e = choose (users x.user) e
 byte_like : (users shut : List ℕ → Bool) (w v : World) (id byte : ℕ) (stored : Bool) (stop : Option ℕ) → Like users shut w v → Closed users shut w → IsOf users (find_session id w.sessions) → Like users shut (settled (byte_done w id byte stored stop)) (settled (byte_done v id byte stored stop))
 byte_like users shut w v id byte stored stop e h g =
     settled_like users shut (byte_done w id byte stored stop) (byte_done v id byte stored stop)
-    (turns_like most_turns users shut id stored (begun w id byte stop) (begun v id byte stop) (begun_like users shut id byte stop w v e) (closed_with_own users shut id (begun_own byte) w h) (of_begun users id byte stop w g))
+    (turns_like most_turns users shut id stored (begun w id byte stop) (begun v id byte stop) (begun_like users shut id byte stop w v e) (closed_with_state users shut id (begun_state byte) w h) (of_begun users id byte stop w g))
 
 step_like : (users shut : List ℕ → Bool) (w v : World) (e : Event) → Like users shut w v → Closed users shut w → is_outside users w e ≡ false → Like users shut (step w e) (step v e)
 step_like users shut w v (Open id user rows cols) p h g =
@@ -175,7 +165,7 @@ closed_step : (users shut : List ℕ → Bool) (w : World) (e : Event) → Close
 closed_step users shut w (Open id user rows cols) h g = closed_cond (can_open w id user rows cols) users shut w (opened w id user rows cols) h (record { there = h.there; no_rights = h.no_rights })
 closed_step users shut w (Byte id byte stored stop) h g =
     closed_cond (is_open id w) users shut w (byte_done w id byte stored stop) h
-    (turns_closed most_turns users shut id stored (begun w id byte stop) (closed_with_own users shut id (begun_own byte) w h) (of_begun users id byte stop w (of_inside users (find_session id w.sessions) g)))
+    (turns_closed most_turns users shut id stored (begun w id byte stop) (closed_with_state users shut id (begun_state byte) w h) (of_begun users id byte stop w (of_inside users (find_session id w.sessions) g)))
 closed_step users shut w (Close id) h g = closed_cond (is_open id w) users shut w (record w { sessions = without_session id w.sessions }) h (record { there = h.there; no_rights = h.no_rights })
 
 -- A STEP OF OTHERS
@@ -187,7 +177,7 @@ step_inside users shut w (Byte id byte stored stop) q o p = choose (is_open id w
   where
     choose : (c : Bool) → InsideAll shut (cond c (turns_effects most_turns id stored (begun w id byte stop)) []) → Like users shut (cond c (settled (byte_done w id byte stored stop)) w) w
     choose true p =
-        settled_like users shut (byte_done w id byte stored stop) w (turns_inside most_turns users shut id stored (begun w id byte stop) p (other_with_own users id (begun_own byte) w o) ∙ with_own_inside users shut id (begun_own byte) w o)
+        settled_like users shut (byte_done w id byte stored stop) w (turns_inside most_turns users shut id stored (begun w id byte stop) p (other_with_state users id (begun_state byte) w o) ∙ with_state_inside users shut id (begun_state byte) w o)
         ∙ ap (outline users shut) q
     choose false p = refl
 

@@ -2,10 +2,10 @@
 use Rattle.std.proofs.Common.{ℕ, false, true, List, [], ◌∷◌, map, Option, Some, None}
 use Rattle.std.specs.Prelude.{codes}
 use Rattle.std.specs.Option.{option_map}
-use Rattle.mgs_model.specs.World.{World, Buffer, Session, Window, Own, first_own, Shows, find_session}
+use Rattle.mgs_model.specs.World.{World, Buffer, Session, Window, State, first_state, Shows, find_session}
 use Rattle.mgs_model.specs.Turns.{command_turn}
-use Rattle.mgs_model.specs.Events.{Open, Byte, step, begun_own, settled, turns, turn_done, with_own, most_turns}
-use Rattle.mgs_model.specs.Draw.{own_line}
+use Rattle.mgs_model.specs.Events.{Open, Byte, step, begun_state, settled, turns, turn_done, with_state, most_turns}
+use Rattle.mgs_model.specs.Draw.{state_line}
 use Rattle.mgs_model.specs.declared.message.Message.{Message}
 use Rattle.mgs_model.specs.declared.message.Message.TheVariants.{Silent}
 use Rattle.mgs_model.specs.declared.session.Mode.{Mode}
@@ -35,19 +35,19 @@ pub data Doing : Type 0 where
   -- a macro that it has
   M : (bytes : List ℕ) → Doing
 
-abbrev pub own_in : World → Own
-own_in w = elim (find_session 1 w.sessions) [ None ↦ first_own | Some x ↦ x.own ]
+abbrev pub state_in : World → State
+state_in w = elim (find_session 1 w.sessions) [ None ↦ first_state | Some x ↦ x.state ]
 
 abbrev pub commanded : World → Command → Option ℕ → Option ℕ → World
-commanded w c n stop = settled (turns most_turns 1 true (turn_done 1 true (command_turn (record (own_in w) { echo = Silent }) n c) w stop)).world
+commanded w c n stop = settled (turns most_turns 1 true (turn_done 1 true (command_turn (record (state_in w) { echo = Silent }) n c) w stop)).world
 
 abbrev pub does : World → Doing → World
 does w (B byte) = step w (Byte 1 byte true None)
 does w (S byte acts) = step w (Byte 1 byte true (Some acts))
 does w (C c n) = commanded w c n None
 does w (R c n acts) = commanded w c n (Some acts)
-does w (X byte c n) = commanded (with_own 1 (λ own. record (begun_own byte own) { keys = []; todo = [] }) (step w (Byte 1 24 true None))) c n None
-does w (M bytes) = with_own 1 (λ own. record own { macro = bytes }) w
+does w (X byte c n) = commanded (with_state 1 (λ state. record (begun_state byte state) { keys = []; todo = [] }) (step w (Byte 1 24 true None))) c n None
+does w (M bytes) = with_state 1 (λ state. record state { macro = bytes }) w
 
 abbrev pub all_done : World → List Doing → World
 all_done w [] = w
@@ -73,7 +73,7 @@ abbrev pub of_one : {A : Type 0} → (Session → A) → World → Option A
 of_one f w = option_map f (find_session 1 w.sessions)
 
 abbrev pub echo : World → Option Message
-echo w = of_one (λ (x : Session). x.own.echo) w
+echo w = of_one (λ (x : Session). x.state.echo) w
 
 abbrev pub kill : World → Option (List ℕ)
 kill w = of_one (λ (x : Session). x.kill) w
@@ -88,11 +88,11 @@ abbrev pub shown : World → Option (List Shows)
 shown w = of_one (λ (x : Session). map (λ (y : Window). y.shows) x.windows) w
 
 abbrev pub modes : World → Option Mode
-modes w = of_one (λ (x : Session). x.own.mode) w
+modes w = of_one (λ (x : Session). x.state.mode) w
 
 -- the line of the session's mode, if it has one
 abbrev pub lines : World → Option (Option (List ℕ))
-lines w = of_one (λ (x : Session). own_line x.own) w
+lines w = of_one (λ (x : Session). state_line x.state) w
 
 abbrev pub recorded : World → Option (List ℕ)
-recorded w = of_one (λ (x : Session). x.own.macro) w
+recorded w = of_one (λ (x : Session). x.state.macro) w

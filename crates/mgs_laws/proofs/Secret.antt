@@ -6,9 +6,9 @@ use Rattle.mgs_model.specs.World.{World, Buffer, may}
 use Rattle.mgs_model.specs.Acts.{outcome}
 use Rattle.mgs_model.specs.Keys.{key_read}
 use Rattle.mgs_model.specs.Turns.{next}
-use Rattle.mgs_model.specs.Events.{Event, Open, Byte, run, run_saves, turns, turns_effects, most_turns}
-use Rattle.mgs_model.specs.Secrecy.{Alike, HiddenThrough, turn_worlds, run_worlds, still_through, AllBy, Same, has_name}
-use Rattle.mgs_model.specs.Purging.{Closed, OthersInside, Untouched, purge}
+use Rattle.mgs_model.specs.Events.{Event, Open, Byte, run, run_saves, turns, turns_effects, most_turns, path}
+use Rattle.mgs_laws.specs.Secrecy.{Alike, HiddenThrough, turn_worlds, run_worlds, still_through, AllBy, Same, has_name}
+use Rattle.mgs_laws.specs.Purging.{Closed, OthersInside, Untouched, purge}
 use Rattle.mgs_model.specs.declared.right.Right.TheVariants.{ReadData}
 use Rattle.mgs_model.specs.declared.entry.Entry.{Entry}
 use Rattle.mgs_model.specs.declared.entry.EntryType.TheVariants.{Allow}
@@ -44,13 +44,13 @@ may_not_read : (text : List ℕ) (u : List ℕ) → bob u ≡ true → may direc
 may_not_read text u e = subst (λ x. may directory x ReadData (buffer_with text appends) ≡ false) (same_names (codes "bob") u e) refl
 
 never_read : HiddenThrough bob notes (run_worlds (world_with (codes "abc") appends) typed)
-unfolding turn_worlds turns most_turns outcome next key_read
+unfolding turn_worlds turns path most_turns outcome next key_read
 never_read =
     let h : (u : List ℕ) → bob u ≡ true → may directory u ReadData (buffer_with (codes "abc") appends) ≡ false = may_not_read (codes "abc") in
     ((λ e. h, tt), ((λ e. h, tt), ((λ e. h, tt), ((λ e. h, tt), ((λ e. h, tt), tt)))))
 
 his : AllBy bob (world_with (codes "abc") appends) typed
-unfolding turns most_turns outcome next key_read
+unfolding turns path most_turns outcome next key_read
 his = (refl, (refl, tt))
 
 other_text : Alike bob notes (world_with (codes "abc") appends) (world_with (codes "xyz") appends)
@@ -78,12 +78,12 @@ no_right = record {
 }
 
 she_stays_inside : OthersInside bob notes ann_there writes
-unfolding turns_effects turns most_turns outcome next key_read
+unfolding turns_effects turns path most_turns outcome next key_read
 she_stays_inside = (λ e. let z : false ≡ true = e in cc, (λ e. (refl, tt), (λ e. let z : false ≡ true = e in cc, tt)))
 
 -- bob is left with his own events
 purged_of_ann : purge bob ann_there writes ≡ Open 2 (codes "bob") 6 20 ∷ Byte 2 6 true None ∷ []
-unfolding turns most_turns outcome next key_read
+unfolding turns path most_turns outcome next key_read
 purged_of_ann = refl
 
 untouched : Untouched bob notes (run ann_there writes) (run ann_there (purge bob ann_there writes))

@@ -9,26 +9,28 @@ use Rattle.mgs_model.specs.declared.errors.OpenFault.TheVariants.{NoUser, Size, 
 use Rattle.mgs_model.specs.declared.limits.TheConstants.{SESSION_LIMIT}
 use Rattle.mgs_model.specs.Access.{Directory, is_among}
 use Rattle.mgs_model.specs.Lines.{settled_top}
-use Rattle.mgs_model.specs.World.{World, Buffer, Session, Window, Own, Shows, Buffer_of, may, has_id, find_session, find_buffer}
+use Rattle.mgs_model.specs.World.{World, Buffer, Session, Window, State, Shows, Buffer_of, may, has_id, find_session, find_buffer}
 use Rattle.mgs_model.specs.View.{view, view_of}
 use Rattle.mgs_model.specs.Apply.{act, without_session}
-use Rattle.mgs_model.specs.Events.{Event, Open, Byte, Close, top_settled, window_top, window_settled, session_settled, settled, first_shows, new_session, is_open, is_size, can_open, session_fault, opened, Doing, turn_seen, turn_in, rests, own_set, with_own, turn, turns, most_turns, begun_own, begun, byte_done, step, run, saved_by, turn_effects, turns_effects, event_effects, run_effects}
+use Rattle.mgs_model.specs.Events.{Event, Open, Byte, Close, top_settled, window_top, window_settled, session_settled, settled, first_shows, new_session, is_open, is_size, can_open, session_fault, opened, Doing, turn_seen, turn_in, rests, state_set, with_state, turn, turns, most_turns, begun_state, begun, byte_done, step, run, saved_by, turn_effects, turns_effects, event_effects, run_effects, path}
+use Rattle.mgs_model.proofs.Paths.{effects_step, turns_step}
 use Rattle.mgs_model.specs.Outcome.{Effect}
 use Rattle.std.specs.List.{flat_map}
 use Rattle.mgs_model.specs.Seen.{seen_in}
 use Rattle.mgs_model.specs.Draw.{draw, screen}
-use Rattle.mgs_model.specs.Secrecy.{screen_of, hide, hide_if, blank_if, veil, veil_if, veil_window, blur, Alike, HiddenAmong, Hidden, IsOf, has_name, still, HiddenAct, IsBy, AllBy, turn_worlds, event_worlds, run_worlds, still_through, HiddenThrough, Same, HiddenText}
+use Rattle.mgs_laws.specs.Secrecy.{screen_of, hide, hide_if, blank_if, session_redacted, session_redacted_if, window_redacted, redacted, Alike, HiddenAmong, Hidden, IsOf, has_name, still, HiddenAct, IsBy, AllBy, turn_worlds, event_worlds, run_worlds, still_through, HiddenThrough, Same, HiddenText}
 use Rattle.mgs_model.specs.declared.right.Right.TheVariants.{ReadData, ReadAttributes}
 use Rattle.mgs_model.proofs.Blind.{Blind-change, Blind-filter, Blind-append, map_fixed, is_some_map, same_names, is_name}
 use Rattle.mgs_model.proofs.Firsts.{find-map}
 use Rattle.mgs_laws.proofs.Hide.{hide_same}
-use Rattle.mgs_laws.proofs.Veil.{veil_same}
-use Rattle.mgs_laws.proofs.Acting.{blur_apply, view_of_blur, find_hide, find_veil}
-use Rattle.mgs_laws.proofs.Turning.{Erasure, own_same, act_same, turn_same, effects_seen, effects_same, of_with_own, of_turn}
+use Rattle.mgs_laws.proofs.Redacted.{session_redacted_same}
+use Rattle.mgs_laws.proofs.Acting.{redacted_apply, view_of_redacted, find_hide, find_redacted}
+use Rattle.mgs_laws.proofs.Paths.{worlds_step}
+use Rattle.mgs_laws.proofs.Turning.{Erasure, state_same, act_same, turn_same, effects_seen, effects_same, of_with_state, of_turn}
 
--- what is blind to the blur keeps worlds alike
-alike_by : (users shut : List ℕ → Bool) (f : World → World) (w v : World) → Alike users shut w v → blur users shut (f w) ≡ blur users shut (f (blur users shut w)) → blur users shut (f v) ≡ blur users shut (f (blur users shut v)) → Alike users shut (f w) (f v)
-alike_by users shut f w v e p q = p ∙ ap (λ x. blur users shut (f x)) e ∙ sym q
+-- what is blind to the redaction keeps worlds alike
+alike_by : (users shut : List ℕ → Bool) (f : World → World) (w v : World) → Alike users shut w v → redacted users shut (f w) ≡ redacted users shut (f (redacted users shut w)) → redacted users shut (f v) ≡ redacted users shut (f (redacted users shut v)) → Alike users shut (f w) (f v)
+alike_by users shut f w v e p q = p ∙ ap (λ x. redacted users shut (f x)) e ∙ sym q
 
 -- WHICH BUFFERS ARE STILL THERE
 
@@ -65,21 +67,21 @@ unfolding Within
 hide_still shut w [] h = refl
 hide_still shut w (b ∷ bs) h = λ i. hide_if (and_true (shut b.name) (has_name b.name w.buffers) h.0 i) b ∷ hide_still shut w bs h.1 i
 
-blur_still : (users shut : List ℕ → Bool) (w : World) → blur users (still shut w) w ≡ blur users shut w
-blur_still users shut w = λ i. record w { buffers = hide_still shut w w.buffers (within_all w.buffers) i; sessions = map (veil users) w.sessions }
+redacted_still : (users shut : List ℕ → Bool) (w : World) → redacted users (still shut w) w ≡ redacted users shut w
+redacted_still users shut w = λ i. record w { buffers = hide_still shut w w.buffers (within_all w.buffers) i; sessions = map (session_redacted users) w.sessions }
 
 has_hide : (shut : List ℕ → Bool) (name : List ℕ) (bs : List Buffer) → has_name name (map (hide shut) bs) ≡ has_name name bs
 has_hide shut name bs = ap is_some (find_hide shut name bs) ∙ is_some_map (hide shut) (find_buffer name bs)
 
-still_blur : (users shut : List ℕ → Bool) (w : World) → still shut (blur users shut w) ≡ still shut w
-still_blur users shut w = λ i name. shut name && has_hide shut name w.buffers i
+still_redacted : (users shut : List ℕ → Bool) (w : World) → still shut (redacted users shut w) ≡ still shut w
+still_redacted users shut w = λ i name. shut name && has_hide shut name w.buffers i
 
 shrink : (users shut : List ℕ → Bool) (w v : World) → Alike users shut w v → Alike users (still shut w) w v
 shrink users shut w v e =
-    blur_still users shut w
+    redacted_still users shut w
     ∙ e
-    ∙ sym (blur_still users shut v)
-    ∙ ap (λ f. blur users f v) (sym (still_blur users shut v) ∙ ap (still shut) (sym e) ∙ still_blur users shut w)
+    ∙ sym (redacted_still users shut v)
+    ∙ ap (λ f. redacted users f v) (sym (still_redacted users shut v) ∙ ap (still shut) (sym e) ∙ still_redacted users shut w)
 
 and_first : (a b : Bool) → (a && b) ≡ true → a ≡ true
 and_first true b e = refl
@@ -105,17 +107,17 @@ hidden_back users shut d (b ∷ bs) h = (h.0, hidden_back users shut d bs h.1)
 hidden_alike : (users shut : List ℕ → Bool) (w v : World) → Alike users shut w v → Hidden users shut w → Hidden users shut v
 hidden_alike users shut w v e h = hidden_back users shut v.directory v.buffers (subst (Hidden users shut) e (hidden_there users shut w.directory w.buffers h))
 
-of_there : (users : List ℕ → Bool) (o : Option Session) → IsOf users o → IsOf users (option_map (veil users) o)
+of_there : (users : List ℕ → Bool) (o : Option Session) → IsOf users o → IsOf users (option_map (session_redacted users) o)
 of_there users None h = h
 of_there users (Some x) h = h
 
-of_back : (users : List ℕ → Bool) (o : Option Session) → IsOf users (option_map (veil users) o) → IsOf users o
+of_back : (users : List ℕ → Bool) (o : Option Session) → IsOf users (option_map (session_redacted users) o) → IsOf users o
 of_back users None h = h
 of_back users (Some x) h = h
 
 -- the two worlds' sessions of one id
-found_alike : (users shut : List ℕ → Bool) (w v : World) (id : ℕ) → Alike users shut w v → option_map (veil users) (find_session id w.sessions) ≡ option_map (veil users) (find_session id v.sessions)
-found_alike users shut w v id e = sym (find_veil users id w.sessions) ∙ ap (λ x. find_session id x.sessions) e ∙ find_veil users id v.sessions
+found_alike : (users shut : List ℕ → Bool) (w v : World) (id : ℕ) → Alike users shut w v → option_map (session_redacted users) (find_session id w.sessions) ≡ option_map (session_redacted users) (find_session id v.sessions)
+found_alike users shut w v id e = sym (find_redacted users id w.sessions) ∙ ap (λ x. find_session id x.sessions) e ∙ find_redacted users id v.sessions
 
 of_alike : (users shut : List ℕ → Bool) (w v : World) (id : ℕ) → Alike users shut w v → IsOf users (find_session id w.sessions) → IsOf users (find_session id v.sessions)
 of_alike users shut w v id e h =
@@ -123,32 +125,32 @@ of_alike users shut w v id e h =
 
 view_of_alike : (users shut : List ℕ → Bool) (w v : World) (id : ℕ) → Alike users shut w v → Hidden users shut w → IsOf users (find_session id w.sessions) → view_of w id ≡ view_of v id
 view_of_alike users shut w v id e h g =
-    sym (view_of_blur users shut w id g h)
+    sym (view_of_redacted users shut w id g h)
     ∙ ap (λ x. view_of x id) e
-    ∙ view_of_blur users shut v id (of_alike users shut w v id e g) (hidden_alike users shut w v e h)
+    ∙ view_of_redacted users shut v id (of_alike users shut w v id e g) (hidden_alike users shut w v e h)
 
--- THE BLUR
+-- REDACTION
 
-veil_own : (o : Bool) (f : Own → Own) (x : Session) → veil_if o (own_set f x) ≡ veil_if o (own_set f (veil_if o x))
-veil_own true f x = λ i. record (own_set f x) { windows = map_fixed (veil_window true) (λ y. refl) x.windows i }
-veil_own false f x = λ i. record (own_set f x) { windows = map_fixed (veil_window false) (λ y. refl) x.windows i }
+redacted_state : (o : Bool) (f : State → State) (x : Session) → session_redacted_if o (state_set f x) ≡ session_redacted_if o (state_set f (session_redacted_if o x))
+redacted_state true f x = λ i. record (state_set f x) { windows = map_fixed (window_redacted true) (λ y. refl) x.windows i }
+redacted_state false f x = λ i. record (state_set f x) { windows = map_fixed (window_redacted false) (λ y. refl) x.windows i }
 
-blur_with_own : (users shut : List ℕ → Bool) (w : World) (id : ℕ) (f : Own → Own) → blur users shut (with_own id f w) ≡ blur users shut (with_own id f (blur users shut w))
-blur_with_own users shut w id f =
+redacted_with_state : (users shut : List ℕ → Bool) (w : World) (id : ℕ) (f : State → State) → redacted users shut (with_state id f w) ≡ redacted users shut (with_state id f (redacted users shut w))
+redacted_with_state users shut w id f =
     λ i. record w {
       buffers = map_fixed (hide shut) (hide_same shut) w.buffers i;
-      sessions = Blind-change (veil users) (veil_same users) (has_id id) (λ x. refl) (own_set f) (λ x. veil_own (users x.user) f x) w.sessions i;
+      sessions = Blind-change (session_redacted users) (session_redacted_same users) (has_id id) (λ x. refl) (state_set f) (λ x. redacted_state (users x.user) f x) w.sessions i;
     }
 
-blurs : (users shut : List ℕ → Bool) → Erasure (blur users shut)
-blurs users shut = record { applies = blur_apply users shut; keeps = blur_with_own users shut }
+redacts : (users shut : List ℕ → Bool) → Erasure (redacted users shut)
+redacts users shut = record { applies = redacted_apply users shut; keeps = redacted_with_state users shut }
 
 -- ONE ACT
 
 pub hidden_act : HiddenAct
 hidden_act users shut w v id c stored e h g =
     let q : view_of w id ≡ view_of v id = view_of_alike users shut w v id e h g in
-    (shrink users shut (act w id c stored) (act v id c stored) (act_same (blur users shut) (blurs users shut) w v id c stored e q), effects_seen id stored c w v q)
+    (shrink users shut (act w id c stored) (act v id c stored) (act_same (redacted users shut) (redacts users shut) w v id c stored e q), effects_seen id stored c w v q)
 
 -- TURNS
 
@@ -160,7 +162,7 @@ abbrev pub at_rest : ℕ → Doing → Bool
 at_rest id d = rests (turn_in d.world id)
 
 turn_alike : (users shut : List ℕ → Bool) (id : ℕ) (stored : Bool) (d e : Doing) → AlikeDoings users shut d e → Hidden users shut d.world → IsOf users (find_session id d.world.sessions) → AlikeDoings users shut (turn id stored d) (turn id stored e)
-turn_alike users shut id stored d e p h g = turn_same (blur users shut) (blurs users shut) id stored d e p (view_of_alike users shut d.world e.world id p.0 h g)
+turn_alike users shut id stored d e p h g = turn_same (redacted users shut) (redacts users shut) id stored d e p (view_of_alike users shut d.world e.world id p.0 h g)
 
 pub of_next : (users : List ℕ → Bool) (id : ℕ) (stored : Bool) (d : Doing) → IsOf users (find_session id d.world.sessions) → IsOf users (find_session id (turn id stored d).world.sessions)
 of_next users id stored d h = of_turn users id stored (turn_in d.world id) d.world d.memory h
@@ -179,21 +181,28 @@ now_alike users shut d e p = (shrink users shut d.world e.world p.0, p.1)
 abbrev Leads : (List ℕ → Bool) → (List ℕ → Bool) → List World → World → World → List Effect → List Effect → Type 0
 Leads users shut ws w v s t = Alike users (still_through shut ws) w v × Hidden users (still_through shut ws) w × (s ≡ t)
 
+-- the same told of what is equal
+leads_by : (users shut : List ℕ → Bool) {ws us : List World} {d f e g : Doing} {s t p q : List Effect} → ws ≡ us → d ≡ f → e ≡ g → s ≡ t → p ≡ q → Leads users shut us f.world g.world t q → Leads users shut ws d.world e.world s p
+leads_by users shut {ws} {us} {d} {f} {e} {g} {s} {t} {p} {q} a b c h k l =
+    subst (λ (vs : List World). Leads users shut vs d.world e.world s p) (sym a)
+    (subst (λ (x : Doing). Leads users shut us x.world e.world s p) (sym b)
+    (subst (λ (x : Doing). Leads users shut us f.world x.world s p) (sym c) (l.0, l.1, h ∙ l.2 ∙ sym k)))
+
 turns_alike : (n : ℕ) (users shut : List ℕ → Bool) (id : ℕ) (stored : Bool) (d e : Doing) → AlikeDoings users shut d e → IsOf users (find_session id d.world.sessions) → HiddenThrough users shut (turn_worlds n id stored d) → Leads users shut (turn_worlds n id stored d) (turns n id stored d).world (turns n id stored e).world (turns_effects n id stored d) (turns_effects n id stored e)
-unfolding turns turn_worlds turns_effects
+unfolding turns path turn_worlds turns_effects
 turns_alike zero users shut id stored d e p g h = (shrink users shut d.world e.world p.0, hidden_still users shut d.world h.0, refl)
 turns_alike (suc n) users shut id stored d e p g h =
-    go (at_rest id d) (at_rest id e) (λ k. rest_alike users shut id d e p k g) h (turns_alike n users (still shut d.world) id stored (turn id stored d) (turn id stored e))
+    leads_by users shut (worlds_step n id stored d) (turns_step n id stored d) (turns_step n id stored e) (effects_step n id stored d) (effects_step n id stored e)
+    (go (at_rest id d) (at_rest id e) (λ k. rest_alike users shut id d e p k g) (subst (HiddenThrough users shut) (worlds_step n id stored d) h) (turns_alike n users (still shut d.world) id stored (turn id stored d) (turn id stored e)))
   where
     go : (c k : Bool) → (Hidden users shut d.world → c ≡ k)
-        → HiddenThrough users shut (elim c as (λ _. List World) [ true ↦ d.world ∷ [] | false ↦ d.world ∷ turn_worlds n id stored (turn id stored d) ])
+        → HiddenThrough users shut (d.world ∷ cond c [] (turn_worlds n id stored (turn id stored d)))
         → (AlikeDoings users (still shut d.world) (turn id stored d) (turn id stored e) → IsOf users (find_session id (turn id stored d).world.sessions) → HiddenThrough users (still shut d.world) (turn_worlds n id stored (turn id stored d))
         → Leads users (still shut d.world) (turn_worlds n id stored (turn id stored d)) (turns n id stored (turn id stored d)).world (turns n id stored (turn id stored e)).world (turns_effects n id stored (turn id stored d)) (turns_effects n id stored (turn id stored e)))
-        → Leads users shut (elim c as (λ _. List World) [ true ↦ d.world ∷ [] | false ↦ d.world ∷ turn_worlds n id stored (turn id stored d) ])
-        (the_world (elim c as (λ _. Doing) [ true ↦ d | false ↦ turns n id stored (turn id stored d) ]))
-        (the_world (elim k as (λ _. Doing) [ true ↦ e | false ↦ turns n id stored (turn id stored e) ]))
-        (elim c as (λ _. List Effect) [ true ↦ [] | false ↦ turn_effects id stored (turn_in d.world id) d.world d.memory ++ turns_effects n id stored (turn id stored d) ])
-        (elim k as (λ _. List Effect) [ true ↦ [] | false ↦ turn_effects id stored (turn_in e.world id) e.world e.memory ++ turns_effects n id stored (turn id stored e) ])
+        → Leads users shut (d.world ∷ cond c [] (turn_worlds n id stored (turn id stored d)))
+        (the_world (cond c d (turns n id stored (turn id stored d)))) (the_world (cond k e (turns n id stored (turn id stored e))))
+        (cond c [] (turn_effects id stored (turn_in d.world id) d.world d.memory ++ turns_effects n id stored (turn id stored d)))
+        (cond k [] (turn_effects id stored (turn_in e.world id) e.world e.memory ++ turns_effects n id stored (turn id stored e)))
     go true true q b ih = (shrink users shut d.world e.world p.0, hidden_still users shut d.world b.0, refl)
     go false false q b ih = (rest.0, rest.1, λ i. effects_same id stored d e p.1 (view_of_alike users shut d.world e.world id p.0 b.0 g) i ++ rest.2 i)
       where
@@ -205,10 +214,10 @@ turns_alike (suc n) users shut id stored d e p g h =
 -- A BYTE COMES
 
 begun_alike : (users shut : List ℕ → Bool) (id byte : ℕ) (stop : Option ℕ) (w v : World) → Alike users shut w v → AlikeDoings users shut (begun w id byte stop) (begun v id byte stop)
-begun_alike users shut id byte stop w v e = (own_same (blur users shut) (blurs users shut) w v id (begun_own byte) e, refl)
+begun_alike users shut id byte stop w v e = (state_same (redacted users shut) (redacts users shut) w v id (begun_state byte) e, refl)
 
 pub of_begun : (users : List ℕ → Bool) (id byte : ℕ) (stop : Option ℕ) (w : World) → IsOf users (find_session id w.sessions) → IsOf users (find_session id (begun w id byte stop).world.sessions)
-of_begun users id byte stop w h = of_with_own users id (begun_own byte) w h
+of_begun users id byte stop w h = of_with_state users id (begun_state byte) w h
 
 -- SETTLING
 
@@ -230,38 +239,38 @@ top_hide : (users shut : List ℕ → Bool) (d : Directory) (u : List ℕ) → u
 top_hide users shut d u g bs h (Buffer_of name) height top point = sym (top_found users shut d u g bs h name height top point)
 top_hide users shut d u g bs h _ height top point = refl
 
-veil_window_settled : (users shut : List ℕ → Bool) (d : Directory) (bs : List Buffer) → HiddenAmong users shut d bs → (u : List ℕ) (o : Bool) → (o ≡ true → users u ≡ true) → (x : Window) → veil_window o (window_settled d bs u x) ≡ veil_window o (window_settled d (map (hide shut) bs) u (veil_window o x))
-veil_window_settled users shut d bs h u true g x = λ i. record x { top = top_hide users shut d u (g refl) bs h x.shows x.height x.top x.point i }
-veil_window_settled users shut d bs h u false g x = refl
+window_redacted_settled : (users shut : List ℕ → Bool) (d : Directory) (bs : List Buffer) → HiddenAmong users shut d bs → (u : List ℕ) (o : Bool) → (o ≡ true → users u ≡ true) → (x : Window) → window_redacted o (window_settled d bs u x) ≡ window_redacted o (window_settled d (map (hide shut) bs) u (window_redacted o x))
+window_redacted_settled users shut d bs h u true g x = λ i. record x { top = top_hide users shut d u (g refl) bs h x.shows x.height x.top x.point i }
+window_redacted_settled users shut d bs h u false g x = refl
 
-veil_settled : (users shut : List ℕ → Bool) (d : Directory) (bs : List Buffer) → HiddenAmong users shut d bs → (x : Session) → veil users (session_settled d bs x) ≡ veil users (session_settled d (map (hide shut) bs) (veil users x))
-veil_settled users shut d bs h x = λ i. record x { windows = all x.windows i }
+session_redacted_settled : (users shut : List ℕ → Bool) (d : Directory) (bs : List Buffer) → HiddenAmong users shut d bs → (x : Session) → session_redacted users (session_settled d bs x) ≡ session_redacted users (session_settled d (map (hide shut) bs) (session_redacted users x))
+session_redacted_settled users shut d bs h x = λ i. record x { windows = all x.windows i }
   where
-    all : (xs : List Window) → map (veil_window (users x.user)) (map (window_settled d bs x.user) xs) ≡ map (veil_window (users x.user)) (map (window_settled d (map (hide shut) bs) x.user) (map (veil_window (users x.user)) xs))
+    all : (xs : List Window) → map (window_redacted (users x.user)) (map (window_settled d bs x.user) xs) ≡ map (window_redacted (users x.user)) (map (window_settled d (map (hide shut) bs) x.user) (map (window_redacted (users x.user)) xs))
     all [] = refl
-    all (y ∷ ys) = λ i. veil_window_settled users shut d bs h x.user (users x.user) (λ e. e) y i ∷ all ys i
+    all (y ∷ ys) = λ i. window_redacted_settled users shut d bs h x.user (users x.user) (λ e. e) y i ∷ all ys i
 
-veil_settled_all : (users shut : List ℕ → Bool) (d : Directory) (bs : List Buffer) → HiddenAmong users shut d bs → (xs : List Session) → map (veil users) (map (session_settled d bs) xs) ≡ map (veil users) (map (session_settled d (map (hide shut) bs)) (map (veil users) xs))
-veil_settled_all users shut d bs h [] = refl
-veil_settled_all users shut d bs h (x ∷ xs) = λ i. veil_settled users shut d bs h x i ∷ veil_settled_all users shut d bs h xs i
+sessions_redacted_settled : (users shut : List ℕ → Bool) (d : Directory) (bs : List Buffer) → HiddenAmong users shut d bs → (xs : List Session) → map (session_redacted users) (map (session_settled d bs) xs) ≡ map (session_redacted users) (map (session_settled d (map (hide shut) bs)) (map (session_redacted users) xs))
+sessions_redacted_settled users shut d bs h [] = refl
+sessions_redacted_settled users shut d bs h (x ∷ xs) = λ i. session_redacted_settled users shut d bs h x i ∷ sessions_redacted_settled users shut d bs h xs i
 
-blur_settled : (users shut : List ℕ → Bool) (w : World) → Hidden users shut w → blur users shut (settled w) ≡ blur users shut (settled (blur users shut w))
-blur_settled users shut w h =
-    λ i. record w { buffers = map_fixed (hide shut) (hide_same shut) w.buffers i; sessions = veil_settled_all users shut w.directory w.buffers h w.sessions i }
+redacted_settled : (users shut : List ℕ → Bool) (w : World) → Hidden users shut w → redacted users shut (settled w) ≡ redacted users shut (settled (redacted users shut w))
+redacted_settled users shut w h =
+    λ i. record w { buffers = map_fixed (hide shut) (hide_same shut) w.buffers i; sessions = sessions_redacted_settled users shut w.directory w.buffers h w.sessions i }
 
 settled_alike : (users shut : List ℕ → Bool) (w v : World) → Alike users shut w v → Hidden users shut w → Alike users shut (settled w) (settled v)
-settled_alike users shut w v e h = alike_by users shut settled w v e (blur_settled users shut w h) (blur_settled users shut v (hidden_alike users shut w v e h))
+settled_alike users shut w v e h = alike_by users shut settled w v e (redacted_settled users shut w h) (redacted_settled users shut v (hidden_alike users shut w v e h))
 
 -- OPENING AND CLOSING
 
 abbrev pub closed : ℕ → World → World
 closed id w = record w { sessions = without_session id w.sessions }
 
-blur_closed : (users shut : List ℕ → Bool) (id : ℕ) (w : World) → blur users shut (closed id w) ≡ blur users shut (closed id (blur users shut w))
-blur_closed users shut id w =
+redacted_closed : (users shut : List ℕ → Bool) (id : ℕ) (w : World) → redacted users shut (closed id w) ≡ redacted users shut (closed id (redacted users shut w))
+redacted_closed users shut id w =
     λ i. record w {
       buffers = map_fixed (hide shut) (hide_same shut) w.buffers i;
-      sessions = Blind-filter (veil users) (veil_same users) (λ x. not (has_id id x)) (λ x. refl) w.sessions i;
+      sessions = Blind-filter (session_redacted users) (session_redacted_same users) (λ x. not (has_id id x)) (λ x. refl) w.sessions i;
     }
 
 shows_hide : (shut : List ℕ → Bool) (o : Option Buffer) → first_shows (option_map (hide shut) o) ≡ first_shows o
@@ -274,22 +283,22 @@ new_hide shut d bs id user rows cols =
       windows = record { shows = sym (ap first_shows (find-map (hide shut) (may d user ReadAttributes) (may d user ReadAttributes) (λ b. refl) bs) ∙ shows_hide shut (find (may d user ReadAttributes) bs)) i; point = 0; mark = None; top = 0; row = 0; height = rows - 2 } ∷ [];
     }
 
-blur_opened : (users shut : List ℕ → Bool) (id : ℕ) (user : List ℕ) (rows cols : ℕ) (w : World) → blur users shut (opened w id user rows cols) ≡ blur users shut (opened (blur users shut w) id user rows cols)
-blur_opened users shut id user rows cols w =
+redacted_opened : (users shut : List ℕ → Bool) (id : ℕ) (user : List ℕ) (rows cols : ℕ) (w : World) → redacted users shut (opened w id user rows cols) ≡ redacted users shut (opened (redacted users shut w) id user rows cols)
+redacted_opened users shut id user rows cols w =
     λ i. record w {
       buffers = map_fixed (hide shut) (hide_same shut) w.buffers i;
-      sessions = Blind-append (veil users) (veil_same users) w.sessions (new_session w.directory w.buffers id user rows cols) (new_session w.directory (map (hide shut) w.buffers) id user rows cols) (ap (veil users) (new_hide shut w.directory w.buffers id user rows cols)) i;
+      sessions = Blind-append (session_redacted users) (session_redacted_same users) w.sessions (new_session w.directory w.buffers id user rows cols) (new_session w.directory (map (hide shut) w.buffers) id user rows cols) (ap (session_redacted users) (new_hide shut w.directory w.buffers id user rows cols)) i;
       next_id = max w.next_id (id + 1);
     }
 
 is_open_alike : (users shut : List ℕ → Bool) (w v : World) (id : ℕ) → Alike users shut w v → is_open id w ≡ is_open id v
 is_open_alike users shut w v id e = sym (one w) ∙ ap (λ x. is_open id x) e ∙ one v
   where
-    one : (x : World) → is_some (find_session id (map (veil users) x.sessions)) ≡ is_open id x
-    one x = ap is_some (find_veil users id x.sessions) ∙ is_some_map (veil users) (find_session id x.sessions)
+    one : (x : World) → is_some (find_session id (map (session_redacted users) x.sessions)) ≡ is_open id x
+    one x = ap is_some (find_redacted users id x.sessions) ∙ is_some_map (session_redacted users) (find_session id x.sessions)
 
 length_alike : (users shut : List ℕ → Bool) (w v : World) → Alike users shut w v → length w.sessions ≡ length v.sessions
-length_alike users shut w v e = sym (length-map w.sessions (veil users)) ∙ ap (λ x. length x.sessions) e ∙ length-map v.sessions (veil users)
+length_alike users shut w v e = sym (length-map w.sessions (session_redacted users)) ∙ ap (λ x. length x.sessions) e ∙ length-map v.sessions (session_redacted users)
 
 session_fault_alike : (users shut : List ℕ → Bool) (w v : World) (user : List ℕ) (rows cols : ℕ) → Alike users shut w v → session_fault w user rows cols ≡ session_fault v user rows cols
 session_fault_alike users shut w v user rows cols e =
@@ -323,7 +332,7 @@ step_alike users shut w v (Open id user rows cols) p g k h =
     choose : (c l : Bool) → c ≡ l → Alike users shut (cond c (settled (opened w id user rows cols)) w) (cond l (settled (opened v id user rows cols)) v)
     choose true true e =
         settled_alike users shut (opened w id user rows cols) (opened v id user rows cols)
-        (alike_by users shut (λ x. opened x id user rows cols) w v p (blur_opened users shut id user rows cols w) (blur_opened users shut id user rows cols v))
+        (alike_by users shut (λ x. opened x id user rows cols) w v p (redacted_opened users shut id user rows cols w) (redacted_opened users shut id user rows cols v))
         k
     choose false false e = p
     choose true false e = cc
@@ -332,7 +341,7 @@ step_alike users shut w v (Close id) p g k h =
     (choose (is_open id w) (is_open id v) (is_open_alike users shut w v id p), hidden_cond users shut (is_open id w) w (closed id w) k k, refl)
   where
     choose : (c l : Bool) → c ≡ l → Alike users shut (cond c (settled (closed id w)) w) (cond l (settled (closed id v)) v)
-    choose true true e = settled_alike users shut (closed id w) (closed id v) (alike_by users shut (closed id) w v p (blur_closed users shut id w) (blur_closed users shut id v)) k
+    choose true true e = settled_alike users shut (closed id w) (closed id v) (alike_by users shut (closed id) w v p (redacted_closed users shut id w) (redacted_closed users shut id v)) k
     choose false false e = p
     choose true false e = cc
     choose false true e = cc

@@ -5,14 +5,14 @@ use Rattle.mgs_model.specs.Names.{same_name}
 use Rattle.mgs_model.specs.Access.{Directory, Decider, decider, allows, any_right}
 use Rattle.mgs_model.specs.World.{World, Buffer, Session, Window, Place, Search, Shows, Buffer_of, may, is_named, has_id, find_session, find_buffer}
 use Rattle.mgs_model.specs.View.{view, view_of, reads, reads_found, session_seen, buffer_seen, window_seen, place_seen, search_seen, in_readable, positions_if, told_if, full_if}
-use Rattle.mgs_model.specs.Secrecy.{IsOf, has_name}
-use Rattle.mgs_model.specs.Purging.{NoRightsAmong, Closed}
+use Rattle.mgs_laws.specs.Secrecy.{IsOf, has_name}
+use Rattle.mgs_laws.specs.Purging.{NoRightsAmong, Closed}
 use Rattle.mgs_model.specs.declared.right.Right.{Right}
 use Rattle.mgs_model.specs.declared.right.Right.TheVariants.{ReadData, WriteData, AppendData, ReadAttributes, Delete, ReadAcl, WriteAcl, WriteOwner}
 use Rattle.mgs_model.proofs.Basics.{or_left, or_right}
 use Rattle.mgs_model.proofs.Blind.{is_some_map, same_names}
 use Rattle.mgs_model.proofs.Firsts.{find-map}
-use Rattle.mgs_model.specs.Lawful.{granted_found}
+use Rattle.mgs_laws.specs.Lawful.{granted_found}
 use Rattle.mgs_laws.proofs.Outline.{erase_if, erase, shows_shut, forget_window, forget_place, forget_search, forget_if, forget, outline}
 
 -- two worlds are the same to the users
@@ -132,7 +132,7 @@ module _ (shut can : List ℕ → Bool) (unseen : (n : List ℕ) → shut n ≡ 
         places = places_same x.places i;
         search = search_same x.search i;
         kill = x.kill;
-        own = x.own;
+        state = x.state;
       }
   session_same false e x = cc
 

@@ -13,7 +13,7 @@ use Rattle.mgs_model.proofs.Worked.{unicode_width}
 use Rattle.mgs_model.specs.Picture.{Picture}
 use Rattle.mgs_model.specs.World.{World, Buffer, find_session}
 use Rattle.mgs_model.specs.Acts.{outcome}
-use Rattle.mgs_model.specs.Events.{Event, Open, Byte, run, turns, most_turns}
+use Rattle.mgs_model.specs.Events.{Event, Open, Byte, run, turns, most_turns, path}
 use Rattle.mgs_model.specs.Draw.{draw, entry_text, listing_text, screen}
 use Rattle.std.specs.Option.{option_map}
 use Rattle.std.specs.Fmt.{digits}
@@ -53,7 +53,7 @@ stored_run : screen_after (world_with (buffer_with [] full ∷ [])) (Open 1 (cod
       row = 0;
       col = 2;
     })
-unfolding digits draw outcome turns most_turns next key_read glyph fitted shown_row
+unfolding digits draw outcome turns path most_turns next key_read glyph fitted shown_row
 stored_run = refl
 
 abbrev reversed : List ℕ → Row
@@ -62,54 +62,54 @@ reversed xs = record { text = xs; reversed = true }
 -- five line feeds: the point is on line 6, the top on line 3
 five_lines : screen_after (world_with (buffer_with [] full ∷ [])) (Open 1 (codes "ann") 6 20 ∷ Byte 1 13 true None ∷ Byte 1 13 true None ∷ Byte 1 13 true None ∷ Byte 1 13 true None ∷ Byte 1 13 true None ∷ []) 1 ≡
     Some (record { rows = 6; cols = 20; lines = blank ∷ blank ∷ blank ∷ blank ∷ reversed (codes "-**-notes-L6-C0-----") ∷ blank ∷ []; row = 3; col = 0 })
-unfolding digits draw outcome turns most_turns next key_read glyph fitted shown_row
+unfolding digits draw outcome turns path most_turns next key_read glyph fitted shown_row
 five_lines = refl
 
 -- a reader who may neither write nor append
 refused_insertion : screen_after (world_with (buffer_with [] (record { entry_type = Allow; who = User (codes "ann"); mask = 129 } ∷ []) ∷ [])) (Open 1 (codes "ann") 6 20 ∷ Byte 1 120 true None ∷ []) 1 ≡
     Some (record { rows = 6; cols = 20; lines = blank ∷ blank ∷ blank ∷ blank ∷ reversed (codes "----notes-L1-C0-----") ∷ row (codes "Denied: no entry gr$") ∷ []; row = 0; col = 0 })
-unfolding digits draw outcome turns most_turns next key_read glyph fitted shown_row
+unfolding digits draw outcome turns path most_turns next key_read glyph fitted shown_row
 refused_insertion = refl
 
 -- C-f at the end, and C-b
 at_the_end : screen_after (world_with (buffer_with (codes "hi") full ∷ [])) (Open 1 (codes "ann") 6 20 ∷ Byte 1 6 true None ∷ Byte 1 6 true None ∷ Byte 1 6 true None ∷ []) 1 ≡
     Some (record { rows = 6; cols = 20; lines = row (codes "hi                  ") ∷ blank ∷ blank ∷ blank ∷ reversed (codes "----notes-L1-C2-----") ∷ row (codes "End of buffer       ") ∷ []; row = 0; col = 2 })
-unfolding digits draw outcome turns most_turns next key_read glyph fitted shown_row
+unfolding digits draw outcome turns path most_turns next key_read glyph fitted shown_row
 at_the_end = refl
 
 back_once : screen_after (world_with (buffer_with (codes "hi") full ∷ [])) (Open 1 (codes "ann") 6 20 ∷ Byte 1 6 true None ∷ Byte 1 6 true None ∷ Byte 1 2 true None ∷ []) 1 ≡
     Some (record { rows = 6; cols = 20; lines = row (codes "hi                  ") ∷ blank ∷ blank ∷ blank ∷ reversed (codes "----notes-L1-C1-----") ∷ blank ∷ []; row = 0; col = 1 })
-unfolding digits draw outcome turns most_turns next key_read glyph fitted shown_row
+unfolding digits draw outcome turns path most_turns next key_read glyph fitted shown_row
 back_once = refl
 
 -- no memory for the act: it is not done, and the session is told
 no_memory : screen_after (world_with (buffer_with [] full ∷ [])) (Open 1 (codes "ann") 6 20 ∷ Byte 1 104 true (Some 0) ∷ Byte 1 105 true None ∷ Byte 1 104 true (Some 0) ∷ []) 1 ≡
     Some (record { rows = 6; cols = 20; lines = row (codes "i                   ") ∷ blank ∷ blank ∷ blank ∷ reversed (codes "-**-notes-L1-C1-----") ∷ row (codes "No memory           ") ∷ []; row = 0; col = 1 })
-unfolding digits draw outcome turns most_turns next key_read glyph fitted shown_row
+unfolding digits draw outcome turns path most_turns next key_read glyph fitted shown_row
 no_memory = refl
 
 -- one who may only append sees no text, acts at its end, and sees no position
 append_without_reading : screen_after (world_with (buffer_with (codes "abc") (record { entry_type = Allow; who = User (codes "bob"); mask = 132 } ∷ []) ∷ [])) (Open 1 (codes "bob") 6 20 ∷ Byte 1 120 true None ∷ []) 1 ≡
     Some (record { rows = 6; cols = 20; lines = row (codes "[no read: no entry] ") ∷ blank ∷ blank ∷ blank ∷ reversed (codes "-**-notes-(no read)-") ∷ blank ∷ []; row = 0; col = 0 })
-unfolding digits draw outcome turns most_turns next key_read glyph fitted shown_row
+unfolding digits draw outcome turns path most_turns next key_read glyph fitted shown_row
 append_without_reading = refl
 
 -- an entry denies the reading, and a motion
 denied_reading : screen_after (world_with (buffer_with [] (record { entry_type = Deny; who = User (codes "bob"); mask = 1 } ∷ record { entry_type = Allow; who = User (codes "bob"); mask = 132 } ∷ []) ∷ [])) (Open 1 (codes "bob") 6 20 ∷ Byte 1 6 true None ∷ []) 1 ≡
     Some (record { rows = 6; cols = 20; lines = row (codes "[no read: entry 1]  ") ∷ blank ∷ blank ∷ blank ∷ reversed (codes "----notes-(no read)-") ∷ row (codes "Denied: entry 1 den$") ∷ []; row = 0; col = 0 })
-unfolding digits draw outcome turns most_turns next key_read glyph fitted shown_row
+unfolding digits draw outcome turns path most_turns next key_read glyph fitted shown_row
 denied_reading = refl
 
 -- a user to whom no buffer is shown
 no_buffer : screen_after (world_with (buffer_with (codes "abc") [] ∷ [])) (Open 1 (codes "bob") 6 20 ∷ Byte 1 120 true None ∷ []) 1 ≡
     Some (record { rows = 6; cols = 20; lines = blank ∷ blank ∷ blank ∷ blank ∷ reversed (codes "-None---------------") ∷ row (codes "No buffer           ") ∷ []; row = 0; col = 0 })
-unfolding digits draw outcome turns most_turns next key_read glyph fitted shown_row
+unfolding digits draw outcome turns path most_turns next key_read glyph fitted shown_row
 no_buffer = refl
 
 -- a control character, DEL and a character past ASCII, and a TAB that is typed before them
 tab_and_controls : screen_after (world_with (buffer_with (120 ∷ 1 ∷ 127 ∷ 233 ∷ []) full ∷ [])) (Open 1 (codes "ann") 6 20 ∷ Byte 1 9 true None ∷ []) 1 ≡
     Some (record { rows = 6; cols = 20; lines = row (codes "        x^A^?" ++ 233 ∷ codes "      ") ∷ blank ∷ blank ∷ blank ∷ reversed (codes "-**-notes-L1-C8-----") ∷ blank ∷ []; row = 0; col = 8 })
-unfolding digits draw outcome turns most_turns next key_read glyph own_columns unicode_width fitted shown_row
+unfolding digits draw outcome turns path most_turns next key_read glyph own_columns unicode_width fitted shown_row
 tab_and_controls = refl
 
 -- DECISIONS

@@ -9,8 +9,9 @@ use Rattle.std.proofs.lemmas.List.Folds.{find-append}
 use Rattle.mgs_model.specs.Names.{same_name}
 use Rattle.mgs_model.specs.Keys.{KeyRow, key_rows}
 use Rattle.mgs_model.specs.Commands.{keyless_rows, has_name, command_rows, find_command, command_names}
-use Rattle.mgs_model.specs.Completion.{completion, narrowed}
-use Rattle.mgs_model.proofs.Completing.{completion_by_names, completion_within}
+use Rattle.mgs_model.specs.Completion.{completion}
+use Rattle.mgs_mini.specs.Narrowing.{narrowed}
+use Rattle.mgs_mini.proofs.Completions.{completion_by_names, completion_within}
 use Rattle.mgs_model.specs.declared.session.Command.{Command}
 use Rattle.mgs_maps.specs.declared.table.Binding.{Binding}
 use Rattle.mgs_maps.specs.Held.{is_bound}

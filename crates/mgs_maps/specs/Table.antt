@@ -4,7 +4,7 @@ use Rattle.std.specs.Option.{option_map}
 use Rattle.mgs_model.specs.Names.{same_name}
 use Rattle.mgs_model.specs.Keys.{KeyRow, find_row}
 use Rattle.mgs_model.specs.Commands.{has_name}
-use Rattle.mgs_model.specs.Completion.{narrowed}
+use Rattle.mgs_mini.specs.Narrowing.{narrowed}
 use Rattle.mgs_model.specs.declared.session.Command.{Command}
 use Rattle.mgs_maps.specs.declared.table.Binding.{Binding}
 

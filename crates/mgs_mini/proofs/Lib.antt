@@ -1,3 +1,4 @@
+pub mod Completions
 mod Names
 mod Questions
 mod Characters

@@ -1,13 +1,13 @@
 -- The input of a prompt, and what a byte comes to in it.
-use Rattle.std.specs.Prelude.{◌≡◌, ◌≤◌, ℕ, Bool, true, false, List, [], ◌∷◌, length, take, ◌-◌}
-use Rattle.mgs_model.specs.World.{Own}
+use Rattle.std.specs.Prelude.{◌≡◌, ◌≤◌, ℕ, Bool, true, false, List, [], ◌∷◌, length, take, ◌-◌, Option}
+use Rattle.mgs_model.specs.World.{State}
 use Rattle.mgs_model.specs.View.{View}
 use Rattle.mgs_model.specs.Completion.{completion}
 use Rattle.mgs_model.specs.Searching.{lengthened}
-use Rattle.mgs_model.specs.Turns.{Turn, Keep, answer_turn, completed, names_completed, unbound_own}
+use Rattle.mgs_model.specs.Turns.{Turn, Keep, answer_turn, completed, names_completed, prompt_turn, unbound_state}
 use Rattle.mgs_model.specs.declared.sequence.Sequence.{Sequence}
 use Rattle.mgs_model.specs.declared.sequence.Sequence.TheVariants.{Whole, Begun, Broken}
-use Rattle.mgs_model.specs.Plans.{failed_own}
+use Rattle.mgs_model.specs.Plans.{failed_state}
 use Rattle.mgs_model.specs.declared.message.Message.TheVariants.{Quitting, NoMatch}
 use Rattle.mgs_model.specs.declared.session.Question.{Question}
 use Rattle.mgs_model.specs.declared.session.Question.TheVariants.{ReplaceWith}
@@ -53,32 +53,41 @@ IsWaiting (Three a b c) = 128 ≤ a
 IsWaiting _ = Unit {0}
 
 -- the session's own record with this prompt's input
-abbrev pub typed_own : Own → List ℕ → Waiting → Own
-typed_own own input waiting = record own { input = input; keys = keys_of waiting }
+abbrev pub typed_state : State → List ℕ → Waiting → State
+typed_state state input waiting = record state { input = input; keys = keys_of waiting }
 
 -- what comes next, by what the byte came to and the record that it left
-abbrev pub stepped : View → Question → Own → Step → Turn
-stepped v c own GoesOn = Keep own
-stepped v c own Answered = answer_turn c own
-stepped v c own Quit = Keep (failed_own Quitting own)
-stepped v c own Completes = Keep (completed own (completion (names_completed v c) own.input))
-stepped v c own Unbound = Keep (unbound_own own)
+abbrev pub stepped : View → Question → State → Step → Turn
+stepped v c state GoesOn = Keep state
+stepped v c state Answered = answer_turn c state
+stepped v c state Quit = Keep (failed_state Quitting state)
+stepped v c state Completes = Keep (completed state (completion (names_completed v c) state.input))
+stepped v c state Unbound = Keep (unbound_state state)
 
 -- a turn is what the byte came to, with the input and the half-read keys that it left
-abbrev pub IsTurn : (View → Question → Own → Turn) → List ℕ → Step → Waiting → Type 0
-IsTurn turn input step waiting = (v : View) → (c : Question) → (own : Own) → turn v c own ≡ stepped v c (typed_own own input waiting) step
+abbrev pub IsTurn : (View → Question → State → Turn) → List ℕ → Step → Waiting → Type 0
+IsTurn turn input step waiting = (v : View) → (c : Question) → (state : State) → turn v c state ≡ stepped v c (typed_state state input waiting) step
 
 -- what the bytes of a character come to, which wait so where they are some first bytes of one
-abbrev pub typed_turn : Own → List ℕ → Waiting → Sequence → Turn
-typed_turn own input waiting (Whole c) = Keep (typed_own own (lengthened input c) NoKey)
-typed_turn own input waiting Begun = Keep (typed_own own input waiting)
-typed_turn own input waiting Broken = Keep (unbound_own (typed_own own input NoKey))
+abbrev pub typed_turn : State → List ℕ → Waiting → Sequence → Turn
+typed_turn state input waiting (Whole c) = Keep (typed_state state (lengthened input c) NoKey)
+typed_turn state input waiting Begun = Keep (typed_state state input waiting)
+typed_turn state input waiting Broken = Keep (unbound_state (typed_state state input NoKey))
 
 -- the last character is dropped
 abbrev pub last_dropped : List ℕ → List ℕ
 last_dropped input = take (length input - 1) input
 
 -- the record that a completion leaves: where there was none, the session is told
-abbrev pub told : Bool → Own → Own
-told true own = own
-told false own = record own { echo = NoMatch }
+abbrev pub told : Bool → State → State
+told true state = state
+told false state = record state { echo = NoMatch }
+
+-- that a byte leads from one input of a prompt to another, and a completion, where there is one
+abbrev pub IsPromptTurn : PromptInput → ℕ → PromptInput → Step → Type 0
+IsPromptTurn old byte new step =
+    (v : View) → (state : State) → prompt_turn v old.question (typed_state state old.input old.waiting) byte ≡ stepped v old.question (typed_state state new.input new.waiting) step
+
+abbrev pub IsCompletion : PromptInput → Option (List ℕ) → PromptInput → Bool → Type 0
+IsCompletion old completion new is_there =
+    (state : State) → completed (typed_state state old.input old.waiting) completion ≡ told is_there (typed_state state new.input new.waiting)

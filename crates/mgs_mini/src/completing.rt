@@ -2,7 +2,8 @@
 ghost use Rattle.std.specs.Prelude.{◌≡◌, ◌≤◌, ◌==◌, length, map, IfSome};
 ghost use Rattle.std.specs.List.{common_prefix_len};
 ghost use Rattle.std.specs.Option.{option_map};
-ghost use Rattle.mgs_model.specs.Completion.{common, narrowed, completion, candidates, IsCompletion};
+ghost use Rattle.mgs_model.specs.Completion.{common, completion, candidates};
+ghost use Rattle.mgs_mini.specs.Narrowing.{narrowed, IsCompletion};
 
 use mgs_model::begins_typed;
 

@@ -6,12 +6,12 @@ ghost use Rattle.std.specs.Option.{option_map};
 ghost use Rattle.mgs_model.specs.Keys.{is_graphic};
 ghost use Rattle.mgs_model.specs.Searching.{lengthened};
 ghost use Rattle.mgs_model.specs.Sequences.{sequence_read};
-ghost use Rattle.mgs_model.specs.World.{Own};
+ghost use Rattle.mgs_model.specs.World.{State};
 ghost use Rattle.mgs_model.specs.View.{View};
 ghost use Rattle.mgs_model.specs.declared.session.Question.{Question};
 ghost use Rattle.mgs_model.specs.Turns.{prompt_turn, prompt_keys, prompt_key, completed, names_buffers, names_commands};
 ghost use Rattle.mgs_model.specs.declared.session.Question.TheVariants.{ReplaceWith};
-ghost use Rattle.mgs_mini.specs.Typing.{IsFirst, IsTurn, IsWaiting, is_within, keys_of, typed_own, typed_turn, stepped, last_dropped, told};
+ghost use Rattle.mgs_mini.specs.Typing.{IsCompletion, IsFirst, IsPromptTurn, IsTurn, IsWaiting, is_within, keys_of, typed_state, typed_turn, last_dropped};
 ghost use Rattle.mgs_mini.specs.declared.Waiting.TheVariants.{NoKey};
 ghost use Rattle.mgs_mini.specs.declared.Step.TheVariants.{Answered, Unbound};
 
@@ -171,7 +171,7 @@ fn feed_key(input: &mut ArrayVec<char, 120>, byte: u8) -> (Step, Waiting)
     ensures answered { result.0 ≡ Answered → (input.new.items ≡ input.old.items) × (result.1 ≡ NoKey) }
     ensures unbound { result.0 ≡ Unbound → result.1 ≡ NoKey }
     ensures waits { IsWaiting result.1 }
-    ensures turn { IsTurn (λ v c own. prompt_key v c (typed_own own input.old.items NoKey) byte) input.new.items result.0 result.1 }
+    ensures turn { IsTurn (λ v c state. prompt_key v c (typed_state state input.old.items NoKey) byte) input.new.items result.0 result.1 }
 {
     if byte == b'\r' {
         (Step::Answered, Waiting::NoKey)
@@ -198,7 +198,7 @@ fn feed_character(
     ensures answered { result.0 ≡ Answered → ⊥ }
     ensures unbound { result.0 ≡ Unbound → result.1 ≡ NoKey }
     ensures waits { IsWaiting result.1 }
-    ensures turn { IsTurn (λ v c own. typed_turn own input.old.items waiting (sequence_read bytes.now)) input.new.items result.0 result.1 }
+    ensures turn { IsTurn (λ v c state. typed_turn state input.old.items waiting (sequence_read bytes.now)) input.new.items result.0 result.1 }
 {
     match read_sequence(bytes) {
         Sequence::Whole(c) => {
@@ -218,7 +218,7 @@ fn feed_word(waiting: Waiting, byte: u8) -> (Step, Waiting)
     ensures answered { result.0 ≡ Answered → ⊥ }
     ensures unbound { result.0 ≡ Unbound → result.1 ≡ NoKey }
     ensures waits { IsWaiting result.1 }
-    ensures turn { (input : List ℕ) → IsTurn (λ v c own. prompt_turn v c (typed_own own input waiting) byte) input result.0 result.1 }
+    ensures turn { (input : List ℕ) → IsTurn (λ v c state. prompt_turn v c (typed_state state input waiting) byte) input result.0 result.1 }
 {
     if byte < 0x80 {
         (Step::GoesOn, waiting_after(waiting, byte))
@@ -233,7 +233,7 @@ fn feed_first(input: &mut ArrayVec<char, 120>, byte: u8) -> (Step, Waiting)
     ensures answered { result.0 ≡ Answered → (input.new.items ≡ input.old.items) × (result.1 ≡ NoKey) }
     ensures unbound { result.0 ≡ Unbound → result.1 ≡ NoKey }
     ensures waits { IsWaiting result.1 }
-    ensures turn { IsTurn (λ v c own. prompt_turn v c (typed_own own input.old.items NoKey) byte) input.new.items result.0 result.1 }
+    ensures turn { IsTurn (λ v c state. prompt_turn v c (typed_state state input.old.items NoKey) byte) input.new.items result.0 result.1 }
 {
     if byte < 0x80 {
         feed_key(input, byte)
@@ -248,7 +248,7 @@ fn feed_byte(input: &mut ArrayVec<char, 120>, waiting: Waiting, byte: u8) -> (St
     ensures answered { result.0 ≡ Answered → (input.new.items ≡ input.old.items) × (result.1 ≡ waiting) × (waiting ≡ NoKey) }
     ensures unbound { result.0 ≡ Unbound → result.1 ≡ NoKey }
     ensures waits { IsWaiting result.1 }
-    ensures turn { IsTurn (λ v c own. prompt_turn v c (typed_own own input.old.items waiting) byte) input.new.items result.0 result.1 }
+    ensures turn { IsTurn (λ v c state. prompt_turn v c (typed_state state input.old.items waiting) byte) input.new.items result.0 result.1 }
 {
     if byte == QUIT {
         return (Step::Quit, Waiting::NoKey);
@@ -317,7 +317,7 @@ impl Prompt {
         ensures first { self.new.first ≡ self.old.first }
         ensures answered { result ≡ Answered → (self.new ≡ self.old) × (self.old.waiting ≡ NoKey) }
         ensures unbound { result ≡ Unbound → self.new.waiting ≡ NoKey }
-        ensures turn { (v : View) → (own : Own) → prompt_turn v self.old.question (typed_own own self.old.input self.old.waiting) byte ≡ stepped v self.old.question (typed_own own self.new.input self.new.waiting) result }
+        ensures turn { IsPromptTurn self.old byte self.new result }
     {
         let (step, waiting) = feed_byte(&mut self.input, self.waiting, byte);
         self.waiting = waiting;
@@ -330,7 +330,7 @@ impl Prompt {
         requires { IfSome completion (λ text. length text.now ≤ 120) }
         ensures question { self.new.question ≡ self.old.question }
         ensures first { self.new.first ≡ self.old.first }
-        ensures input { (own : Own) → completed (typed_own own self.old.input self.old.waiting) (option_map (λ text. text.now) completion.entry) ≡ told result (typed_own own self.new.input self.new.waiting) }
+        ensures input { IsCompletion self.old (option_map (λ text. text.now) completion.entry) self.new result }
     {
         let Some(text) = completion else {
             return false;

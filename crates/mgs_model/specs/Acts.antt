@@ -1,20 +1,22 @@
--- What each act needs, and what it does: functions of the view, with one equation for each family of commands.
+-- What each act needs, and what it does: functions of the view, in one table with an equation for each family of commands.
 use Rattle.std.specs.Prelude.{ℕ, ◌+◌, ◌-◌, min, nat_lt, nat_le, ◌==◌, Bool, true, false, not, ◌&&◌, ◌||◌, List, [], ◌∷◌, length, Option, Some, None, Result, Ok, Err, slice_get, cond, if◌then◌else◌}
 use Rattle.std.specs.Option.{option_and_then, option_map}
 use Rattle.mgs_model.specs.Names.{is_name, same_name}
-use Rattle.mgs_model.specs.Rights.{rights_in}
+use Rattle.mgs_model.specs.Rights.{bit_of, mask_of, rights_in}
 use Rattle.mgs_model.specs.Access.{Decider, Nobody, decision_by, group_answered, is_among, is_group_answer}
 use Rattle.mgs_model.specs.Text.{is_edit}
-use Rattle.mgs_model.specs.World.{Own, Shows, Buffer_of, Listing, List_of}
+use Rattle.mgs_model.specs.World.{State, Shows, Buffer_of, Listing, List_of}
 use Rattle.mgs_model.specs.View.{View, SessionSeen, BufferSeen, WindowSeen, SearchSeen, Told, Full, Positions, find_seen, size_told, serial_told, text_in}
-use Rattle.mgs_model.specs.World.{Item, Todo, Typed, Played, Replace_all, Play}
+use Rattle.mgs_model.specs.World.{Item, Todo, Replace_all, Play}
 use Rattle.mgs_model.specs.declared.entry.Entry.{Entry}
-use Rattle.mgs_model.specs.Outcome.{Act, Unbound, Run, KillPlan, Keep_kill, Kill_is, Arrange, Stay, Adjust, At_origin, Keep, Keep_mark, Keep_search, No_search, Effect, No_effect, Edit, Unmodified, Relist, Reown, Create, Kill, Save, Quit, Outcome}
+use Rattle.mgs_model.specs.Outcome.{Act, Unbound, Run, KillPlan, Keep_kill, Kill_is, Arrange, Stay, Adjust, At_origin, Keep, Keep_mark, Keep_search, No_search, Effect, No_effect, Edit, Unmodified, SetList, SetOwners, Create, Kill, Save, Quit, Outcome, u64_max}
 use Rattle.mgs_model.specs.declared.owners.NewOwner.TheVariants.{ToUser, ToGroup}
-use Rattle.mgs_model.specs.Plans.{failed_own, acted_own, Around, ModePlan, Goes_on, Over, Failing, Finish, Change, insertion, reading_insertion, motion, alteration, scrolling, row_scrolled, setting, arrangement, undo, entries_changed, comes, inserted}
+use Rattle.mgs_model.specs.Plans.{failed_state, acted_state, Around, ModePlan, Goes_on, Over, Failing, Finish, Change, insertion, reading_insertion, motion, alteration, scrolling, row_scrolled, setting, arrangement, undo, entries_changed, comes, inserted}
+use Rattle.mgs_model.specs.declared.limits.TheConstants.{BUFFER_LIMIT, TEXT_LIMIT}
 use Rattle.mgs_model.specs.declared.right.Right.{Right}
+use Rattle.mgs_model.specs.declared.right.Right.TheVariants.{ReadData, WriteData, AppendData, ReadAttributes, Delete, ReadAcl, WriteAcl, WriteOwner}
 use Rattle.mgs_model.specs.declared.entry.Decision.{Decision}
-use Rattle.mgs_model.specs.declared.entry.Decision.TheVariants.{Granted, DeniedBy, NotGranted}
+use Rattle.mgs_model.specs.declared.entry.Decision.TheVariants.{Granted}
 use Rattle.mgs_model.specs.declared.message.Message.{Message}
 use Rattle.mgs_model.specs.declared.message.Message.TheVariants.{Denied, KeyNotBound, NoBuffer, BufferFull, KillTooLarge, InMacro, NoSuchBuffer, BadName, TooManyBuffers, NoSuchUser, NoSuchGroup, NoFile, SaveFailed, Wrote, Quitting, Replaced}
 use Rattle.mgs_model.specs.declared.session.Mode.{Mode}
@@ -82,20 +84,20 @@ around x argument typed t =
       origin = origin_in x.search;
       anchor = anchor_in x.search;
       sought_here = is_sought_in t.buffer.name x.search;
-      old = x.own.old;
+      old = x.state.old;
       argument = argument;
       typed = typed;
       kill = x.kill;
-      kind = x.own.kind;
+      kind = x.state.kind;
       height = t.window.height;
-      fill = x.own.fill;
+      fill = x.state.fill;
     }
 
 -- the buffer that the selected window shows
 abbrev pub shown : View → Option BufferSeen
 shown v = option_map (λ (t : Target). t.buffer) (target v)
 
--- NEEDS: what an act asks for, on which buffer, in the order in which it is judged
+-- REQUESTS: rights on a buffer, as a mask
 pub record Request : Type 0 where
   pub buffer : List ℕ
   pub rights : ℕ
@@ -105,7 +107,11 @@ is_at_text_end t = acts_at t.window.positions (size_told t.buffer.told) == size_
 
 -- an insertion at the text's end appends, one elsewhere writes
 abbrev pub insertion_right : Target → ℕ
-insertion_right t = cond (is_at_text_end t) 4 2
+insertion_right t = cond (is_at_text_end t) (bit_of AppendData) (bit_of WriteData)
+
+-- who changes or saves what is there has to read it too
+abbrev pub read_write : ℕ
+read_write = mask_of (ReadData ∷ WriteData ∷ [])
 
 -- one request on the selected window's buffer
 abbrev pub here : Option Target → (Target → ℕ) → List Request
@@ -138,33 +144,7 @@ name_meant v typed =
 -- a buffer's text is read, and then put into another, which may be the same; where there is no source nothing is judged
 abbrev pub copy_needs : Option BufferSeen → List ℕ → Target → List Request
 copy_needs None source t = []
-copy_needs (Some b) source t = record { buffer = source; rights = 1 } ∷ here (Some t) insertion_right
-
-abbrev pub needs_by_name : View → ByName → List ℕ → List Request
-needs_by_name v SwitchToBuffer typed = there v typed 128
-needs_by_name v KillBuffer typed = there v (name_meant v typed) 65536
-needs_by_name v InsertBuffer typed = elim (target v) [ None ↦ [] | Some t ↦ copy_needs (find_seen typed v.buffers) typed t ]
-
-abbrev pub needs : View → Act → List Request
-needs v Unbound = []
-needs v (Run (Insert c) n typed) = here (target v) insertion_right
-needs v (Run (InsertReading c) n typed) = here (target v) (λ t. 1 + insertion_right t)
-needs v (Run (Move c) n typed) = here (target v) (λ t. 1)
-needs v (Run (Alter c) n typed) = here (target v) (λ t. 3)
-needs v (Run (Scroll c) n typed) = here (target v) (λ t. 1)
-needs v (Run (Set c) n typed) = []
-needs v (Run (Rearrange c) n typed) = []
-needs v (Run (Ask c) n typed) = []
-needs v (Run (Named c) n typed) = needs_by_name v c typed
-needs v (Run (Entries c) n typed) = about (subject v) 262144
-needs v (Run ListEntries n typed) = about (subject v) 131072
-needs v (Run SetOwner n typed) = about (subject v) 524288
-needs v (Run SetGroup n typed) = about (subject v) 524288
-needs v (Run UndoEdit n typed) = here (target v) (λ t. 3)
-needs v (Run NotModified n typed) = about (shown v) 3
-needs v (Run SaveBuffer n typed) = here (target v) (λ t. 3)
-needs v (Run LeaveSearch n typed) = []
-needs v (Run Exit n typed) = []
+copy_needs (Some b) source t = record { buffer = source; rights = bit_of ReadData } ∷ here (Some t) insertion_right
 
 -- who decides what on the buffer of that name; nobody where there is none
 abbrev pub deciders_found : Option BufferSeen → Right → Decider
@@ -175,39 +155,36 @@ abbrev pub request_judged : View → Request → Decision
 request_judged v r = decision_by (deciders_found (find_seen r.buffer v.buffers)) (rights_in r.rights)
 
 abbrev pub or_else : Decision → Decision → Decision
-or_else Granted d = d
-or_else (DeniedBy n right) d = DeniedBy n right
-or_else (NotGranted right) d = NotGranted right
+or_else Granted next = next
+or_else denied next = denied
 
 -- the first request that is not granted
 abbrev pub judged : View → List Request → Decision
 judged v [] = Granted
 judged v (r ∷ rs) = or_else (request_judged v r) (judged v rs)
 
--- WHAT IT DOES, where its needs are granted
+-- WHAT IS DONE, where all requests are granted
 
-abbrev pub fails : Own → Message → Outcome
-fails own message = record { own = failed_own message own; kill = Keep_kill; arrange = Stay; effect = No_effect }
+abbrev pub fails : State → Message → Outcome
+fails state message = record { state = failed_state message state; kill = Keep_kill; arrange = Stay; effect = No_effect }
 
 -- only the session's own record changes
-abbrev pub owns : Own → Outcome
-owns own = record { own = own; kill = Keep_kill; arrange = Stay; effect = No_effect }
+abbrev pub owns : State → Outcome
+owns state = record { state = state; kill = Keep_kill; arrange = Stay; effect = No_effect }
 
 abbrev pub is_too_large : KillPlan → Bool
 is_too_large Keep_kill = false
-is_too_large (Kill_is text) = nat_lt 1048576 (length text)
+is_too_large (Kill_is text) = nat_lt TEXT_LIMIT (length text)
 
--- no room: the text would have more than 1,048,576 characters, or the edit a serial past the last u64
+-- no room: the text would be longer than a text may be, or the edit's serial is past the last one
 abbrev pub is_full : ℕ → ℕ → Change → Bool
 is_full size serial c =
-    is_edit c.a c.b c.put && (nat_lt 1048576 (size - (c.b - c.a) + length c.put) || (serial == 18446744073709551615))
+    is_edit c.a c.b c.put && (nat_lt TEXT_LIMIT (size - (c.b - c.a) + length c.put) || (serial == u64_max))
 
 abbrev pub without_all : List Todo → List Todo
-without_all [] = []
 without_all (Replace_all ∷ todo) = todo
-without_all (Typed byte ∷ todo) = Typed byte ∷ todo
-without_all (Played byte ∷ todo) = Played byte ∷ todo
 without_all (Play ∷ todo) = Play ∷ without_all todo
+without_all todo = todo
 
 abbrev pub failing_in : Bool → Mode → Mode
 failing_in failing (Searching d was) = Searching d failing
@@ -215,55 +192,55 @@ failing_in failing mode = mode
 
 -- how many were replaced; the largest number stands for all that are larger
 abbrev pub counted : ℕ → ℕ → ℕ
-counted n more = min (n + more) 18446744073709551615
+counted n more = min (n + more) u64_max
 
 -- where the last match was met, its mode ends and so does the replacing of all
-abbrev pub mode_left : ModePlan → ℕ → List Todo → Own → Own
-mode_left Goes_on n todo own = record own { count = n }
-mode_left Over n todo own = record own { echo = Replaced n; mode = Plain; input = []; old = []; count = 0; todo = without_all todo }
-mode_left (Failing failing) n todo own = record own { mode = failing_in failing own.mode }
+abbrev pub mode_left : ModePlan → ℕ → List Todo → State → State
+mode_left Goes_on n todo state = record state { count = n }
+mode_left Over n todo state = record state { echo = Replaced n; mode = Plain; input = []; old = []; count = 0; todo = without_all todo }
+mode_left (Failing failing) n todo state = record state { mode = failing_in failing state.mode }
 
-abbrev pub finished_own : Finish → Own → Own
-finished_own f own = mode_left f.mode (counted own.count f.replaced) own.todo (record (acted_own own) { echo = f.told; kind = f.kind })
+abbrev pub finished_state : Finish → State → State
+finished_state f state = mode_left f.mode (counted state.count f.replaced) state.todo (record (acted_state state) { echo = f.told; kind = f.kind })
 
-abbrev pub finished : Own → Finish → Effect → Outcome
-finished own f effect =
-    if is_too_large f.kill then fails own KillTooLarge
-    else record { own = finished_own f own; kill = f.kill; arrange = Adjust f.point f.mark f.top None f.sought; effect = effect }
+abbrev pub finished : State → Finish → Effect → Outcome
+finished state f effect =
+    if is_too_large f.kill then fails state KillTooLarge
+    else record { state = finished_state f state; kill = f.kill; arrange = Adjust f.point f.mark f.top None f.sought; effect = effect }
 
 abbrev pub edit_of : List ℕ → Change → Effect
 edit_of name c = if is_edit c.a c.b c.put then Edit name c.a c.b c.put else No_effect
 
-abbrev pub edited_by : Own → BufferSeen → Result Change Message → Outcome
-edited_by own b (Err message) = fails own message
-edited_by own b (Ok c) = if is_full (size_told b.told) (serial_told b.told) c then fails own BufferFull else finished own c.finish (edit_of b.name c)
+abbrev pub edited_by : State → BufferSeen → Result Change Message → Outcome
+edited_by state b (Err message) = fails state message
+edited_by state b (Ok c) = if is_full (size_told b.told) (serial_told b.told) c then fails state BufferFull else finished state c.finish (edit_of b.name c)
 
 -- a family that edits the selected window's buffer
-abbrev pub edits : Own → Option Target → (Target → Result Change Message) → Outcome
-edits own None plan = fails own NoBuffer
-edits own (Some t) plan = edited_by own t.buffer (plan t)
+abbrev pub edits : State → Option Target → (Target → Result Change Message) → Outcome
+edits state None plan = fails state NoBuffer
+edits state (Some t) plan = edited_by state t.buffer (plan t)
 
-abbrev pub moved_by : Own → Result Finish Message → Outcome
-moved_by own (Err message) = fails own message
-moved_by own (Ok f) = finished own f No_effect
+abbrev pub moved_by : State → Result Finish Message → Outcome
+moved_by state (Err message) = fails state message
+moved_by state (Ok f) = finished state f No_effect
 
 -- a family that cannot
-abbrev pub moves : Own → Option Target → (Target → Result Finish Message) → Outcome
-moves own None plan = fails own NoBuffer
-moves own (Some t) plan = moved_by own (plan t)
+abbrev pub moves : State → Option Target → (Target → Result Finish Message) → Outcome
+moves state None plan = fails state NoBuffer
+moves state (Some t) plan = moved_by state (plan t)
 
-abbrev pub sets : Own → Result Own Message → Outcome
-sets own (Err message) = fails own message
-sets own (Ok after) = owns after
+abbrev pub sets : State → Result State Message → Outcome
+sets state (Err message) = fails state message
+sets state (Ok after) = owns after
 
-abbrev pub arranges : Own → Effect → Result Arrange Message → Outcome
-arranges own e (Err message) = fails own message
-arranges own e (Ok plan) = record { own = acted_own own; kill = Keep_kill; arrange = plan; effect = e }
+abbrev pub arranges : State → Effect → Result Arrange Message → Outcome
+arranges state e (Err message) = fails state message
+arranges state e (Ok plan) = record { state = acted_state state; kill = Keep_kill; arrange = plan; effect = e }
 
 -- one effect, and no window or position changes
-abbrev pub effects : Own → Result Effect Message → Outcome
-effects own (Err message) = fails own message
-effects own (Ok e) = record { own = acted_own own; kill = Keep_kill; arrange = Stay; effect = e }
+abbrev pub effects : State → Result Effect Message → Outcome
+effects state (Err message) = fails state message
+effects state (Ok e) = record { state = acted_state state; kill = Keep_kill; arrange = Stay; effect = e }
 
 abbrev pub has_file : Option Told → Bool
 has_file None = false
@@ -277,52 +254,46 @@ abbrev pub items_in : Option Full → List Item
 items_in None = []
 items_in (Some f) = f.items
 
-abbrev pub relisted : List ℕ → Result (List Entry) Message → Result Effect Message
-relisted name (Err message) = Err message
-relisted name (Ok entries) = Ok (Relist name entries)
+abbrev pub list_set : List ℕ → Result (List Entry) Message → Result Effect Message
+list_set name (Err message) = Err message
+list_set name (Ok entries) = Ok (SetList name entries)
 
 -- a prompt keeps the argument for its command
-abbrev pub asks : Question → Option ℕ → Own → Own
-asks c n own = record (acted_own own) { argument = option_map (λ k. record { value = k; extends = false }) n; mode = Prompt c; input = [] }
+abbrev pub asks : Question → Option ℕ → State → State
+asks c n state = record (acted_state state) { argument = option_map (λ k. record { value = k; extends = false }) n; mode = Prompt c; input = [] }
 
 -- the selected window shows the buffer of that name
 abbrev pub shows_named : View → List ℕ → Effect → Outcome
-shows_named v name effect = arranges v.session.own effect (Ok (comes v.session.windows v.session.selected (Buffer_of name)))
+shows_named v name effect = arranges v.session.state effect (Ok (comes v.session.windows v.session.selected (Buffer_of name)))
 
 abbrev pub created : View → List ℕ → Outcome
 created v name =
-    if not (is_name name) then fails v.session.own BadName
-    else if nat_le 256 (length v.buffers) then fails v.session.own TooManyBuffers
+    if not (is_name name) then fails v.session.state BadName
+    else if nat_le BUFFER_LIMIT (length v.buffers) then fails v.session.state TooManyBuffers
     else shows_named v name (Create name v.session.user)
 
 abbrev pub killed : View → List ℕ → Option BufferSeen → Outcome
-killed v [] found = fails v.session.own NoBuffer
-killed v (c ∷ cs) None = fails v.session.own NoSuchBuffer
-killed v (c ∷ cs) (Some b) = record { own = acted_own v.session.own; kill = Keep_kill; arrange = Stay; effect = Kill (c ∷ cs) }
-
-abbrev pub by_name : View → ByName → Option ℕ → List ℕ → Outcome
-by_name v SwitchToBuffer n typed = elim (find_seen typed v.buffers) [ None ↦ created v typed | Some b ↦ shows_named v typed No_effect ]
-by_name v KillBuffer n typed = killed v (name_meant v typed) (find_seen (name_meant v typed) v.buffers)
-by_name v InsertBuffer n typed =
-    edits v.session.own (target v) (λ t. inserted (option_map (λ b. text_in b.full) (find_seen typed v.buffers)) (around v.session n typed t))
+killed v [] found = fails v.session.state NoBuffer
+killed v (c ∷ cs) None = fails v.session.state NoSuchBuffer
+killed v (c ∷ cs) (Some b) = record { state = acted_state v.session.state; kill = Keep_kill; arrange = Stay; effect = Kill (c ∷ cs) }
 
 -- one effect on the buffer that is shown, or whose list is
-abbrev pub rules : Own → Option BufferSeen → (BufferSeen → Result Effect Message) → Outcome
-rules own None plan = fails own NoBuffer
-rules own (Some b) plan = effects own (plan b)
+abbrev pub rules : State → Option BufferSeen → (BufferSeen → Result Effect Message) → Outcome
+rules state None plan = fails state NoBuffer
+rules state (Some b) plan = effects state (plan b)
 
 -- the selected window comes to the access list of the buffer that it shows, or whose list it shows
 abbrev pub lists : View → Option BufferSeen → Outcome
-lists v None = fails v.session.own NoBuffer
-lists v (Some b) = arranges v.session.own No_effect (Ok (comes v.session.windows v.session.selected (List_of b.name)))
+lists v None = fails v.session.state NoBuffer
+lists v (Some b) = arranges v.session.state No_effect (Ok (comes v.session.windows v.session.selected (List_of b.name)))
 
-abbrev pub saves : Own → Option Target → Bool → Outcome
-saves own None stored = fails own NoBuffer
-saves own (Some t) stored =
-    if own.playing then fails own InMacro
-    else if not (has_file t.buffer.told) then fails own NoFile
-    else if not stored then fails own SaveFailed
-    else record { own = record (acted_own own) { echo = Wrote t.buffer.name }; kill = Keep_kill; arrange = Stay; effect = Save t.buffer.name (text_in t.buffer.full) }
+abbrev pub saves : State → Option Target → Bool → Outcome
+saves state None stored = fails state NoBuffer
+saves state (Some t) stored =
+    if state.playing then fails state InMacro
+    else if not (has_file t.buffer.told) then fails state NoFile
+    else if not stored then fails state SaveFailed
+    else record { state = record (acted_state state) { echo = Wrote t.buffer.name }; kill = Keep_kill; arrange = Stay; effect = Save t.buffer.name (text_in t.buffer.full) }
 
 -- a listing or an access list goes by rows, and a text by lines
 abbrev pub has_rows : Option WindowSeen → Bool
@@ -332,47 +303,79 @@ has_rows (Some x) = is_rows x.shows
 abbrev pub row_in : Scrolling → Option WindowSeen → Option ℕ
 row_in c o = option_map (λ (x : WindowSeen). row_scrolled c x.row x.height) o
 
-abbrev pub scrolls_rows : Own → Option ℕ → Outcome
-scrolls_rows own row = record { own = acted_own own; kill = Keep_kill; arrange = Adjust Keep Keep_mark Keep row Keep_search; effect = No_effect }
+abbrev pub scrolls_rows : State → Option ℕ → Outcome
+scrolls_rows state row = record { state = acted_state state; kill = Keep_kill; arrange = Adjust Keep Keep_mark Keep row Keep_search; effect = No_effect }
 
 abbrev pub scrolls : View → Scrolling → Option ℕ → List ℕ → Outcome
 scrolls v c n typed =
-    if has_rows (selected_seen v) then scrolls_rows v.session.own (row_in c (selected_seen v))
-    else moves v.session.own (target v) (λ t. scrolling c (text_in t.buffer.full) (around v.session n typed t))
+    if has_rows (selected_seen v) then scrolls_rows v.session.state (row_in c (selected_seen v))
+    else moves v.session.state (target v) (λ t. scrolling c (text_in t.buffer.full) (around v.session n typed t))
+
+-- NEEDS AND ALLOWED in one table: what each act asks for, in the order in which it is judged, and what it does where all of
+-- that is granted
+pub record Meaning : Type 0 where
+  pub needs : List Request
+  pub does : Outcome
+
+abbrev asking : List Request → Outcome → Meaning
+asking needs does = record { needs = needs; does = does }
+
+-- a family that edits the selected window's buffer
+abbrev editing : View → Option ℕ → List ℕ → (Target → ℕ) → (BufferSeen → Around → Result Change Message) → Meaning
+editing v n typed rights plan = asking (here (target v) rights) (edits v.session.state (target v) (λ t. plan t.buffer (around v.session n typed t)))
+
+-- one that has another effect on a buffer
+abbrev ruling : View → Option BufferSeen → ℕ → (BufferSeen → Result Effect Message) → Meaning
+ruling v b rights plan = asking (about b rights) (rules v.session.state b plan)
+
+-- on the buffer of the name that was typed
+abbrev pub meaning_by_name : View → ByName → Option ℕ → List ℕ → Meaning
+meaning_by_name v SwitchToBuffer n typed =
+    asking (there v typed (bit_of ReadAttributes)) (elim (find_seen typed v.buffers) [ None ↦ created v typed | Some b ↦ shows_named v typed No_effect ])
+meaning_by_name v KillBuffer n typed = asking (there v (name_meant v typed) (bit_of Delete)) (killed v (name_meant v typed) (find_seen (name_meant v typed) v.buffers))
+meaning_by_name v InsertBuffer n typed =
+    asking (elim (target v) [ None ↦ [] | Some t ↦ copy_needs (find_seen typed v.buffers) typed t ])
+    (edits v.session.state (target v) (λ t. inserted (option_map (λ b. text_in b.full) (find_seen typed v.buffers)) (around v.session n typed t)))
+
+-- the store's answer to a save decides what that does; what is asked for does not go by it
+abbrev pub meaning : View → Act → Bool → Meaning
+meaning v Unbound stored = asking [] (fails v.session.state KeyNotBound)
+meaning v (Run (Insert c) n typed) stored = editing v n typed insertion_right (λ b x. insertion c x)
+meaning v (Run (InsertReading c) n typed) stored = editing v n typed (λ t. bit_of ReadData + insertion_right t) (λ b x. reading_insertion c (text_in b.full) x)
+meaning v (Run (Move c) n typed) stored =
+    asking (here (target v) (λ t. bit_of ReadData)) (moves v.session.state (target v) (λ t. motion c (text_in t.buffer.full) (around v.session n typed t)))
+meaning v (Run (Alter c) n typed) stored = editing v n typed (λ t. read_write) (λ b x. alteration c (text_in b.full) x)
+meaning v (Run (Scroll c) n typed) stored = asking (here (target v) (λ t. bit_of ReadData)) (scrolls v c n typed)
+meaning v (Run (Set c) n typed) stored = asking [] (sets v.session.state (setting c (acted_state v.session.state) n))
+meaning v (Run (Rearrange c) n typed) stored = asking [] (arranges v.session.state No_effect (arrangement c v.session.windows v.session.selected n))
+meaning v (Run (Ask c) n typed) stored = asking [] (owns (asks c n v.session.state))
+meaning v (Run (Named c) n typed) stored = meaning_by_name v c n typed
+meaning v (Run (Entries c) n typed) stored = ruling v (subject v) (bit_of WriteAcl) (λ b. list_set b.name (entries_changed c (entries_told b.told) n typed))
+meaning v (Run ListEntries n typed) stored = asking (about (subject v) (bit_of ReadAcl)) (lists v (subject v))
+meaning v (Run SetOwner n typed) stored = ruling v (subject v) (bit_of WriteOwner) (λ b. if is_among typed v.directory.users then Ok (SetOwners b.name (ToUser typed)) else Err NoSuchUser)
+meaning v (Run SetGroup n typed) stored = ruling v (subject v) (bit_of WriteOwner)
+    (λ b. if is_group_answer v.directory.groups typed then Ok (SetOwners b.name (ToGroup (group_answered typed))) else Err NoSuchGroup)
+meaning v (Run UndoEdit n typed) stored = editing v n typed (λ t. read_write) (λ b x. undo (items_in b.full) x)
+meaning v (Run NotModified n typed) stored = ruling v (shown v) read_write (λ b. Ok (Unmodified b.name))
+meaning v (Run SaveBuffer n typed) stored = asking (here (target v) (λ t. read_write)) (saves v.session.state (target v) stored)
+meaning v (Run LeaveSearch n typed) stored =
+    asking [] (record { state = failed_state Quitting v.session.state; kill = Keep_kill; arrange = Adjust At_origin Keep_mark Keep None No_search; effect = No_effect })
+meaning v (Run Exit n typed) stored =
+    asking [] (if v.session.state.playing then fails v.session.state InMacro else record { state = acted_state v.session.state; kill = Keep_kill; arrange = Stay; effect = Quit })
+
+abbrev pub needs : View → Act → List Request
+needs v c = (meaning v c false).needs
 
 abbrev pub allowed : View → Act → Bool → Outcome
-allowed v Unbound stored = fails v.session.own KeyNotBound
-allowed v (Run (Insert c) n typed) stored = edits v.session.own (target v) (λ t. insertion c (around v.session n typed t))
-allowed v (Run (InsertReading c) n typed) stored =
-    edits v.session.own (target v) (λ t. reading_insertion c (text_in t.buffer.full) (around v.session n typed t))
-allowed v (Run (Move c) n typed) stored = moves v.session.own (target v) (λ t. motion c (text_in t.buffer.full) (around v.session n typed t))
-allowed v (Run (Alter c) n typed) stored =
-    edits v.session.own (target v) (λ t. alteration c (text_in t.buffer.full) (around v.session n typed t))
-allowed v (Run (Scroll c) n typed) stored = scrolls v c n typed
-allowed v (Run (Set c) n typed) stored = sets v.session.own (setting c (acted_own v.session.own) n)
-allowed v (Run (Rearrange c) n typed) stored = arranges v.session.own No_effect (arrangement c v.session.windows v.session.selected n)
-allowed v (Run (Ask c) n typed) stored = owns (asks c n v.session.own)
-allowed v (Run (Named c) n typed) stored = by_name v c n typed
-allowed v (Run (Entries c) n typed) stored = rules v.session.own (subject v) (λ b. relisted b.name (entries_changed c (entries_told b.told) n typed))
-allowed v (Run ListEntries n typed) stored = lists v (subject v)
-allowed v (Run SetOwner n typed) stored =
-    rules v.session.own (subject v) (λ b. if is_among typed v.directory.users then Ok (Reown b.name (ToUser typed)) else Err NoSuchUser)
-allowed v (Run SetGroup n typed) stored =
-    rules v.session.own (subject v) (λ b. if is_group_answer v.directory.groups typed then Ok (Reown b.name (ToGroup (group_answered typed))) else Err NoSuchGroup)
-allowed v (Run UndoEdit n typed) stored = edits v.session.own (target v) (λ t. undo (items_in t.buffer.full) (around v.session n typed t))
-allowed v (Run NotModified n typed) stored = rules v.session.own (shown v) (λ b. Ok (Unmodified b.name))
-allowed v (Run SaveBuffer n typed) stored = saves v.session.own (target v) stored
-allowed v (Run LeaveSearch n typed) stored =
-    record { own = failed_own Quitting v.session.own; kill = Keep_kill; arrange = Adjust At_origin Keep_mark Keep None No_search; effect = No_effect }
-allowed v (Run Exit n typed) stored =
-    if v.session.own.playing then fails v.session.own InMacro
-    else record { own = acted_own v.session.own; kill = Keep_kill; arrange = Stay; effect = Quit }
+allowed v c stored = (meaning v c stored).does
 
-abbrev pub permitted : Own → Decision → Outcome → Outcome
-permitted own Granted o = o
-permitted own (DeniedBy n right) o = fails own (Denied (DeniedBy n right))
-permitted own (NotGranted right) o = fails own (Denied (NotGranted right))
+abbrev pub by_name : View → ByName → Option ℕ → List ℕ → Outcome
+by_name v c n typed = (meaning_by_name v c n typed).does
+
+abbrev pub permitted : State → Decision → Outcome → Outcome
+permitted state Granted o = o
+permitted state denied o = fails state (Denied denied)
 
 -- OUTCOME of an act, by the view and the store's answer to a save: first the rights, then what its family does
 unfoldable pub outcome : View → Act → Bool → Outcome
-outcome v c stored = permitted v.session.own (judged v (needs v c)) (allowed v c stored)
+outcome v c stored = permitted v.session.state (judged v (needs v c)) (allowed v c stored)

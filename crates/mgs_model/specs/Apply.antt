@@ -1,14 +1,15 @@
 -- ACT: what is decided from the view is done to the world.
-use Rattle.std.specs.Prelude.{ℕ, zero, suc, ◌+◌, Bool, true, false, not, List, [], ◌∷◌, ◌++◌, map, filter, find, length, take, Option, Some, None, cond, if◌then◌else◌}
+use Rattle.std.specs.Prelude.{ℕ, zero, suc, ◌+◌, Bool, true, false, not, List, [], ◌∷◌, ◌++◌, map, filter, find, length, take, Option, Some, None, if◌then◌else◌}
 use Rattle.std.specs.List.{list_any}
 use Rattle.std.specs.Option.{option_map}
 use Rattle.mgs_model.specs.Names.{same_name}
 use Rattle.mgs_model.specs.Text.{edited, removed, shift, is_edit}
+use Rattle.mgs_model.specs.Rights.{all_rights, mask_of}
 use Rattle.mgs_model.specs.Access.{owners_of}
 use Rattle.mgs_model.specs.declared.owners.Owners.{Owners}
-use Rattle.mgs_model.specs.World.{World, Buffer, Own, Session, Window, Place, Search, Shows, Nothing, Buffer_of, List_of, is_named, has_id}
+use Rattle.mgs_model.specs.World.{World, Item, Buffer, most_items, State, Session, Window, Place, Search, Shows, Nothing, Buffer_of, List_of, is_named, has_id}
 use Rattle.mgs_model.specs.View.{view_of}
-use Rattle.mgs_model.specs.Outcome.{Act, Outcome, PointPlan, Keep, At, At_origin, MarkPlan, Keep_mark, Mark_at, SearchPlan, Keep_search, No_search, Begin, Anchor_at, KillPlan, Keep_kill, Kill_is, Source, Old, Come, Slot, is_old, Arrange, Stay, Adjust, Slots, Effect, No_effect, Edit, Unmodified, Relist, Reown, Create, Kill, Save, Quit}
+use Rattle.mgs_model.specs.Outcome.{Act, Outcome, PointPlan, Keep, At, At_origin, MarkPlan, Keep_mark, Mark_at, SearchPlan, Keep_search, No_search, Begin, Anchor_at, KillPlan, Keep_kill, Kill_is, Source, Old, Come, Slot, is_old, Arrange, Stay, Adjust, Slots, Effect, No_effect, Edit, Unmodified, SetList, SetOwners, Create, Kill, Save, Quit}
 use Rattle.mgs_model.specs.declared.owners.NewOwner.{NewOwner}
 use Rattle.mgs_model.specs.declared.owners.NewOwner.TheVariants.{ToUser, ToGroup}
 use Rattle.mgs_model.specs.Acts.{outcome}
@@ -36,18 +37,20 @@ change_at (suc n) f (x ∷ xs) = x ∷ change_at n f xs
 
 -- BUFFERS
 
-abbrev pub buffer_edited_if : Bool → ℕ → ℕ → List ℕ → Buffer → Buffer
-buffer_edited_if f a b put x =
-    record x {
-      text = cond f (edited a b put x.text) x.text;
-      items = cond f (record { serial = x.serial + 1; place = a; removed = removed a b x.text; put = length put } ∷ take 999 x.items) x.items;
-      serial = cond f (x.serial + 1) x.serial;
-      modified = cond f true x.modified;
-    }
+abbrev pub item_for : ℕ → ℕ → List ℕ → Buffer → Item
+item_for a b put x = record { serial = x.serial + 1; place = a; removed = removed a b x.text; put = length put }
 
--- what takes out nothing and puts in nothing is no edit; at most 1,000 items are kept
+-- what takes out nothing and puts in nothing is no edit
 abbrev pub buffer_edited : ℕ → ℕ → List ℕ → Buffer → Buffer
-buffer_edited a b put x = buffer_edited_if (is_edit a b put) a b put x
+buffer_edited a b put x =
+    if is_edit a b put
+    then record x {
+      text = edited a b put x.text;
+      items = take most_items (item_for a b put x ∷ x.items);
+      serial = x.serial + 1;
+      modified = true;
+    }
+    else x
 
 abbrev pub buffer_unmodified : Buffer → Buffer
 buffer_unmodified x = record x { modified = false }
@@ -58,7 +61,7 @@ owners_after (ToGroup group) owners = record owners { group = group }
 
 -- everything to the owner; there is no owning group
 abbrev pub first_entries : List Entry
-first_entries = record { entry_type = Allow; who = Owner; mask = 983175 } ∷ []
+first_entries = record { entry_type = Allow; who = Owner; mask = mask_of all_rights } ∷ []
 
 abbrev pub new_buffer : List ℕ → List ℕ → Buffer
 new_buffer name owner = record { name = name; owners = owners_of owner None; entries = first_entries; text = []; items = []; serial = 0; modified = false; file = false }
@@ -70,8 +73,8 @@ abbrev pub buffers_after : Effect → List Buffer → List Buffer
 buffers_after No_effect buffers = buffers
 buffers_after (Edit name a b put) buffers = change_first (is_named name) (buffer_edited a b put) buffers
 buffers_after (Unmodified name) buffers = change_first (is_named name) buffer_unmodified buffers
-buffers_after (Relist name entries) buffers = change_first (is_named name) (λ x. record x { entries = entries }) buffers
-buffers_after (Reown name new) buffers = change_first (is_named name) (λ x. record x { owners = owners_after new x.owners }) buffers
+buffers_after (SetList name entries) buffers = change_first (is_named name) (λ x. record x { entries = entries }) buffers
+buffers_after (SetOwners name new) buffers = change_first (is_named name) (λ x. record x { owners = owners_after new x.owners }) buffers
 buffers_after (Create name owner) buffers = buffers ++ new_buffer name owner ∷ []
 buffers_after (Kill name) buffers = without_buffer name buffers
 buffers_after (Save name text) buffers = change_first (is_named name) buffer_unmodified buffers
@@ -83,20 +86,15 @@ abbrev pub is_in : List ℕ → Shows → Bool
 is_in name (Buffer_of other) = same_name name other
 is_in name _ = false
 
-abbrev pub window_moved_if : Bool → (ℕ → ℕ) → Window → Window
-window_moved_if f move x =
-    record { shows = x.shows; point = cond f (move x.point) x.point; mark = cond f (option_map move x.mark) x.mark; top = cond f (move x.top) x.top; row = x.row; height = x.height }
-
 abbrev pub window_moved : List ℕ → (ℕ → ℕ) → Window → Window
-window_moved name move x = window_moved_if (is_in name x.shows) move x
+window_moved name move x =
+    if is_in name x.shows then record x { point = move x.point; mark = option_map move x.mark; top = move x.top } else x
 
 abbrev pub place_moved : List ℕ → (ℕ → ℕ) → Place → Place
-place_moved name move x =
-    record { name = x.name; point = cond (same_name name x.name) (move x.point) x.point; mark = cond (same_name name x.name) (option_map move x.mark) x.mark }
+place_moved name move x = if same_name name x.name then record x { point = move x.point; mark = option_map move x.mark } else x
 
 abbrev pub search_moved : List ℕ → (ℕ → ℕ) → Search → Search
-search_moved name move x =
-    record { name = x.name; origin = cond (same_name name x.name) (move x.origin) x.origin; anchor = cond (same_name name x.name) (move x.anchor) x.anchor }
+search_moved name move x = if same_name name x.name then record x { origin = move x.origin; anchor = move x.anchor } else x
 
 -- every position in the buffer goes by the shift
 abbrev pub session_moved : List ℕ → (ℕ → ℕ) → Session → Session
@@ -113,43 +111,41 @@ is_of name (Buffer_of other) = same_name name other
 is_of name (List_of other) = same_name name other
 is_of name _ = false
 
-abbrev pub window_bereft_if : Bool → Window → Window
-window_bereft_if f x =
-    record { shows = cond f Nothing x.shows; point = cond f 0 x.point; mark = cond f None x.mark; top = cond f 0 x.top; row = cond f 0 x.row; height = x.height }
+abbrev pub empty_window : Window
+empty_window = record { shows = Nothing; point = 0; mark = None; top = 0; row = 0; height = 0 }
 
-abbrev pub window_bereft : List ℕ → Window → Window
-window_bereft name x = window_bereft_if (is_of name x.shows) x
+abbrev pub window_without_buffer : List ℕ → Window → Window
+window_without_buffer name x = if is_of name x.shows then record empty_window { height = x.height } else x
 
 abbrev pub is_searched : List ℕ → Option Search → Bool
 is_searched name None = false
 is_searched name (Some x) = same_name name x.name
 
 -- the mode of a search ends, and what was typed in it is forgotten
-abbrev pub bereft_own : Bool → Own → Own
-bereft_own f own =
-    record own { mode = cond f Plain own.mode; input = cond f [] own.input; old = cond f [] own.old; count = cond f 0 own.count }
+abbrev pub state_without_search : State → State
+state_without_search state = record state { mode = Plain; input = []; old = []; count = 0 }
 
 -- the buffer is gone: windows that show it or its list show nothing, places in it go, a search in it ends
-abbrev pub session_bereft : List ℕ → Session → Session
-session_bereft name x =
+abbrev pub session_without_buffer : List ℕ → Session → Session
+session_without_buffer name x =
     record x {
-      windows = map (window_bereft name) x.windows;
+      windows = map (window_without_buffer name) x.windows;
       places = filter (λ p. not (same_name name p.name)) x.places;
-      search = cond (is_searched name x.search) None x.search;
-      own = bereft_own (is_searched name x.search) x.own;
+      search = if is_searched name x.search then None else x.search;
+      state = if is_searched name x.search then state_without_search x.state else x.state;
     }
 
 -- what an effect does to each session, the acting one too
 abbrev pub session_after : Effect → Session → Session
 session_after (Edit name a b put) x = session_moved name (shift a b (length put)) x
-session_after (Kill name) x = session_bereft name x
+session_after (Kill name) x = session_without_buffer name x
 session_after _ x = x
 
 -- THE ACTING SESSION
 
 abbrev pub set_place : Place → List Place → List Place
 set_place p [] = p ∷ []
-set_place p (q ∷ qs) = cond (same_name p.name q.name) (p ∷ qs) (q ∷ set_place p qs)
+set_place p (q ∷ qs) = if same_name p.name q.name then p ∷ qs else q ∷ set_place p qs
 
 -- a window that leaves a buffer leaves its point and mark as the session's place there
 abbrev pub left_places : Shows → ℕ → Option ℕ → List Place → List Place
@@ -160,7 +156,7 @@ left_places _ point mark places = places
 abbrev pub places_left : ℕ → List Slot → List Window → List Place → List Place
 places_left i slots [] places = places
 places_left i slots (x ∷ xs) places =
-    places_left (suc i) slots xs (cond (list_any (is_old i) slots) places (left_places x.shows x.point x.mark places))
+    places_left (suc i) slots xs (if list_any (is_old i) slots then places else left_places x.shows x.point x.mark places)
 
 abbrev pub place_in : List ℕ → List Place → Option Place
 place_in name places = find (λ p. same_name name p.name) places
@@ -176,11 +172,8 @@ place_mark (Some p) = p.mark
 -- a window that comes to a buffer takes the session's place there
 abbrev pub comer : Shows → List Place → Window
 comer (Buffer_of name) places =
-    record { shows = Buffer_of name; point = place_point (place_in name places); mark = place_mark (place_in name places); top = 0; row = 0; height = 0 }
-comer shows places = record { shows = shows; point = 0; mark = None; top = 0; row = 0; height = 0 }
-
-abbrev pub empty_window : Window
-empty_window = record { shows = Nothing; point = 0; mark = None; top = 0; row = 0; height = 0 }
+    record empty_window { shows = Buffer_of name; point = place_point (place_in name places); mark = place_mark (place_in name places) }
+comer shows places = record empty_window { shows = shows }
 
 abbrev pub window_at : ℕ → List Window → Window
 window_at i [] = empty_window
@@ -198,16 +191,16 @@ has_positions _ = false
 
 abbrev pub origin_or : Shows → Option Search → ℕ → ℕ
 origin_or shows None old = old
-origin_or shows (Some x) old = cond (is_in x.name shows) x.origin old
+origin_or shows (Some x) old = if is_in x.name shows then x.origin else old
 
 abbrev pub point_after : Shows → Option Search → PointPlan → ℕ → ℕ
 point_after shows search Keep old = old
-point_after shows search (At p) old = cond (has_positions shows) p old
+point_after shows search (At p) old = if has_positions shows then p else old
 point_after shows search At_origin old = origin_or shows search old
 
 abbrev pub mark_after : Shows → MarkPlan → Option ℕ → Option ℕ
 mark_after shows Keep_mark old = old
-mark_after shows (Mark_at p) old = cond (has_positions shows) (Some p) old
+mark_after shows (Mark_at p) old = if has_positions shows then Some p else old
 
 abbrev pub row_after : Option ℕ → ℕ → ℕ
 row_after None old = old
@@ -215,25 +208,15 @@ row_after (Some r) old = r
 
 abbrev pub window_adjusted : Option Search → PointPlan → MarkPlan → PointPlan → Option ℕ → Window → Window
 window_adjusted search point mark top row x =
-    record {
-      shows = x.shows;
+    record x {
       point = point_after x.shows search point x.point;
       mark = mark_after x.shows mark x.mark;
       top = point_after x.shows search top x.top;
       row = row_after row x.row;
-      height = x.height;
     }
 
 abbrev pub window_put : Slot → Option Search → Window → Window
-window_put slot search x =
-    record {
-      shows = x.shows;
-      point = point_after x.shows search slot.point x.point;
-      mark = mark_after x.shows slot.mark x.mark;
-      top = point_after x.shows search slot.top x.top;
-      row = row_after slot.row x.row;
-      height = slot.height;
-    }
+window_put slot search x = record (window_adjusted search slot.point slot.mark slot.top slot.row x) { height = slot.height }
 
 abbrev pub windows_arranged : Arrange → Session → List Window
 windows_arranged Stay x = x.windows
@@ -273,17 +256,13 @@ kill_after (Kill_is text) old = text
 
 abbrev pub session_arranged : Outcome → Session → Session
 session_arranged o x =
-    record {
-      id = x.id;
-      user = x.user;
-      rows = x.rows;
-      cols = x.cols;
+    record x {
       windows = windows_arranged o.arrange x;
       selected = selected_arranged o.arrange x;
       places = places_arranged o.arrange x;
-      search = cond (searches o.own.mode) (search_arranged o.arrange x) None;
+      search = if searches o.state.mode then search_arranged o.arrange x else None;
       kill = kill_after o.kill x.kill;
-      own = o.own;
+      state = o.state;
     }
 
 -- THE WORLD

@@ -1,11 +1,11 @@
 -- EVENTS, one step of the world, and runs.
 use Rattle.std.specs.Prelude.{◌≡◌, ℕ, zero, suc, ◌+◌, ◌-◌, ◌^◌, max, nat_le, Bool, true, false, not, ◌&&◌, if◌then◌else◌, List, [], ◌∷◌, ◌++◌, map, find, length, Option, Some, None, is_some, cond}
-use Rattle.std.specs.List.{flat_map}
+use Rattle.std.specs.List.{flat_map, fold}
 use Rattle.std.specs.Option.{option_or}
 use Rattle.mgs_model.specs.Access.{Directory, is_among}
 use Rattle.mgs_model.specs.Lines.{settled_top}
-use Rattle.mgs_model.specs.World.{World, Buffer, Session, Window, Own, Typed, first_own, Shows, Nothing, Buffer_of, has_id, find_session, find_buffer, may}
-use Rattle.mgs_model.specs.Outcome.{Act, Outcome, Effect, Save, takes_memory}
+use Rattle.mgs_model.specs.World.{World, Buffer, Session, Window, State, Typed, first_state, Shows, Nothing, Buffer_of, has_id, find_session, find_buffer, may}
+use Rattle.mgs_model.specs.Outcome.{Act, Outcome, Effect, Save}
 use Rattle.mgs_model.specs.Apply.{searches, change_first, outcome_in, act, without_session}
 use Rattle.mgs_model.specs.View.{View, view_of}
 use Rattle.mgs_model.specs.Turns.{Turn, Rest, Keep, Do, next}
@@ -14,7 +14,7 @@ use Rattle.mgs_model.specs.declared.message.Message.TheVariants.{NoMemory, Macro
 use Rattle.mgs_model.specs.declared.session.Kind.TheVariants.{Other}
 use Rattle.mgs_model.specs.declared.errors.OpenFault.{OpenFault}
 use Rattle.mgs_model.specs.declared.errors.OpenFault.TheVariants.{NoUser, Size, Full}
-use Rattle.mgs_model.specs.declared.limits.TheConstants.{MACRO_LIMIT, SESSION_LIMIT}
+use Rattle.mgs_model.specs.declared.limits.TheConstants.{COLS_MAX, COLS_MIN, MACRO_LIMIT, ROWS_MAX, ROWS_MIN, SESSION_LIMIT}
 
 pub data Event : Type 0 where
   Open : (id : ℕ) → (user : List ℕ) → (rows : ℕ) → (cols : ℕ) → Event
@@ -65,16 +65,16 @@ new_session directory buffers id user rows cols =
       places = [];
       search = None;
       kill = [];
-      own = first_own;
+      state = first_state;
     }
 
 abbrev pub is_size : ℕ → ℕ → Bool
-is_size rows cols = nat_le 6 rows && (nat_le rows 64 && (nat_le 20 cols && nat_le cols 160))
+is_size rows cols = nat_le ROWS_MIN rows && (nat_le rows ROWS_MAX && (nat_le COLS_MIN cols && nat_le cols COLS_MAX))
 
 abbrev pub is_open : ℕ → World → Bool
 is_open id w = is_some (find_session id w.sessions)
 
--- why the world takes no such session: no user of the directory, no size of a screen, or 64 sessions are open
+-- why the world takes no such session: no user of the directory, no size of a screen, or as many sessions are open as can be
 abbrev pub session_fault : World → List ℕ → ℕ → ℕ → Option OpenFault
 session_fault w user rows cols =
     if not (is_among user w.directory.users) then Some NoUser
@@ -86,10 +86,13 @@ session_fault w user rows cols =
 abbrev pub can_open : World → ℕ → List ℕ → ℕ → ℕ → Bool
 can_open w id user rows cols = not (is_some (session_fault w user rows cols)) && not (is_open id w)
 
--- why an open is refused that takes the next id: the session's own fault, or that no u64 is left
+abbrev pub id_end : ℕ
+id_end = 2 ^ 64
+
+-- why an open is refused that takes the next id: the session's own fault, or that no id is left
 abbrev pub open_fault : World → List ℕ → ℕ → ℕ → Option OpenFault
 open_fault w user rows cols =
-    option_or (session_fault w user rows cols) (if nat_le (2 ^ 64) w.next_id then Some Full else None)
+    option_or (session_fault w user rows cols) (if nat_le id_end w.next_id then Some Full else None)
 
 abbrev pub opened : World → ℕ → List ℕ → ℕ → ℕ → World
 opened w id user rows cols =
@@ -97,15 +100,15 @@ opened w id user rows cols =
 
 -- A BYTE'S TURNS
 
--- a session's own record alone changes; the positions of a search go with its mode
-abbrev pub own_set : (Own → Own) → Session → Session
-own_set f x = record x { search = cond (searches (f x.own).mode) x.search None; own = f x.own }
+-- a session's state alone changes; the positions of a search go with its mode
+abbrev pub state_set : (State → State) → Session → Session
+state_set f x = record x { search = cond (searches (f x.state).mode) x.search None; state = f x.state }
 
-abbrev pub with_own : ℕ → (Own → Own) → World → World
-with_own id f w = record w { sessions = change_first (has_id id) (own_set f) w.sessions }
+abbrev pub with_state : ℕ → (State → State) → World → World
+with_state id f w = record w { sessions = change_first (has_id id) (state_set f) w.sessions }
 
--- an event half done: the world, and for how many acts there is memory (none: for all). What is still to be done stands in
--- the session's own record
+-- an event half done: the world, and for how many acts there is memory (none: for all). The session's
+-- state tells what is still to be done
 pub record Doing : Type 0 where
   pub world : World
   pub memory : Option ℕ
@@ -120,57 +123,55 @@ turn_in w id = turn_seen (view_of w id)
 
 abbrev pub rests : Turn → Bool
 rests Rest = true
-rests (Keep own) = false
-rests (Do before c) = false
+rests _ = false
 
 -- memory was refused: this is told, what was half read is forgotten, and nothing more is done
-abbrev pub refused_own : Own → Own
-refused_own own = record own { echo = NoMemory; argument = None; keys = []; todo = [] }
+abbrev pub refused_state : State → State
+refused_state state = record state { echo = NoMemory; argument = None; keys = []; todo = [] }
 
--- an act is decided with the record that it begins from; a refused one leaves the record that was there before
-abbrev pub act_done : ℕ → Bool → Own → Act → World → Option ℕ → Doing
-act_done id stored own c w None = record { world = act (with_own id (λ old. own) w) id c stored; memory = None }
-act_done id stored own c w (Some zero) = record { world = with_own id refused_own w; memory = Some zero }
-act_done id stored own c w (Some (suc n)) = record { world = act (with_own id (λ old. own) w) id c stored; memory = Some n }
+-- an act is decided with the state that it begins from; a refused one leaves the state that was there before
+abbrev pub act_done : ℕ → Bool → State → Act → World → Option ℕ → Doing
+act_done id stored state c w None = record { world = act (with_state id (λ old. state) w) id c stored; memory = None }
+act_done id stored state c w (Some zero) = record { world = with_state id refused_state w; memory = Some zero }
+act_done id stored state c w (Some (suc n)) = record { world = act (with_state id (λ old. state) w) id c stored; memory = Some n }
 
 abbrev pub turn_done : ℕ → Bool → Turn → World → Option ℕ → Doing
 turn_done id stored Rest w memory = record { world = w; memory = memory }
-turn_done id stored (Keep own) w memory = record { world = with_own id (λ old. own) w; memory = memory }
-turn_done id stored (Do own c) w memory = act_done id stored own c w memory
+turn_done id stored (Keep state) w memory = record { world = with_state id (λ old. state) w; memory = memory }
+turn_done id stored (Do state c) w memory = act_done id stored state c w memory
 
 abbrev pub turn : ℕ → Bool → Doing → Doing
 turn id stored d = turn_done id stored (turn_in d.world id) d.world d.memory
 
--- all that is to be done (`elim`, since its cases wait: a run ends when nothing is left, and not after all its turns)
+-- how an event stands before each turn, until nothing is left to do (`elim`, since its cases wait: it ends there, not after n turns)
+unfoldable pub path : ℕ → ℕ → Bool → Doing → List Doing
+path zero id stored d = []
+path (suc n) id stored d = elim (rests (turn_in d.world id)) [ true ↦ [] | false ↦ d ∷ path n id stored (turn id stored d) ]
+
+-- all that is to be done: how it stands after the last turn
 unfoldable pub turns : ℕ → ℕ → Bool → Doing → Doing
-turns zero id stored d = d
-turns (suc n) id stored d = elim (rests (turn_in d.world id)) [ true ↦ d | false ↦ turns n id stored (turn id stored d) ]
+turns n id stored d = fold (λ _ e. turn id stored e) d (path n id stored d)
 
 -- more than one event can have: 51,200 bytes of a macro, with as many replacements each as a text has characters
 unfoldable pub most_turns : ℕ
 most_turns = 2 ^ 40
 
 -- a macro that is recorded has its most bytes
-abbrev pub is_macro_full : Own → Bool
-is_macro_full own = own.recording && nat_le MACRO_LIMIT (length own.macro)
+abbrev pub is_macro_full : State → Bool
+is_macro_full state = state.recording && nat_le MACRO_LIMIT (length state.macro)
 
 -- a byte comes: it is what is to be done, and where a macro is recorded it is kept. One too many for the macro is not handled, and
 -- ends the recording
-abbrev pub begun_if : Bool → ℕ → Own → Own
-begun_if too_long byte own =
-    record own {
-      echo = cond too_long MacroTooLong own.echo;
-      macro = cond too_long [] (cond own.recording (own.macro ++ byte ∷ []) own.macro);
-      recording = cond too_long false own.recording;
-      kind = cond too_long Other own.kind;
-      todo = cond too_long [] (Typed byte ∷ []);
-    }
+abbrev pub begun_if : Bool → ℕ → State → State
+begun_if too_long byte state =
+    if too_long then record state { echo = MacroTooLong; macro = []; recording = false; kind = Other; todo = [] }
+    else record state { macro = if state.recording then state.macro ++ byte ∷ [] else state.macro; todo = Typed byte ∷ [] }
 
-abbrev pub begun_own : ℕ → Own → Own
-begun_own byte own = begun_if (is_macro_full own) byte own
+abbrev pub begun_state : ℕ → State → State
+begun_state byte state = begun_if (is_macro_full state) byte state
 
 abbrev pub begun : World → ℕ → ℕ → Option ℕ → Doing
-begun w id byte stop = record { world = with_own id (begun_own byte) w; memory = stop }
+begun w id byte stop = record { world = with_state id (begun_state byte) w; memory = stop }
 
 abbrev pub byte_done : World → ℕ → ℕ → Bool → Option ℕ → World
 byte_done w id byte stored stop = (turns most_turns id stored (begun w id byte stop)).world
@@ -201,19 +202,16 @@ abbrev pub act_effects : World → ℕ → Act → Bool → List Effect
 act_effects w id c stored = effect_in (outcome_in w id c stored)
 
 abbrev pub is_used_up : Option ℕ → Bool
-is_used_up None = false
 is_used_up (Some zero) = true
-is_used_up (Some (suc n)) = false
+is_used_up _ = false
 
 -- an act that is refused does nothing
 abbrev pub turn_effects : ℕ → Bool → Turn → World → Option ℕ → List Effect
-turn_effects id stored (Do own c) w memory = cond (is_used_up memory) [] (act_effects (with_own id (λ old. own) w) id c stored)
+turn_effects id stored (Do state c) w memory = cond (is_used_up memory) [] (act_effects (with_state id (λ old. state) w) id c stored)
 turn_effects id stored _ w memory = []
 
 unfoldable pub turns_effects : ℕ → ℕ → Bool → Doing → List Effect
-turns_effects zero id stored d = []
-turns_effects (suc n) id stored d =
-    elim (rests (turn_in d.world id)) [ true ↦ [] | false ↦ turn_effects id stored (turn_in d.world id) d.world d.memory ++ turns_effects n id stored (turn id stored d) ]
+turns_effects n id stored d = flat_map (λ e. turn_effects id stored (turn_in e.world id) e.world e.memory) (path n id stored d)
 
 abbrev pub event_effects : World → Event → List Effect
 event_effects w (Byte id byte stored stop) = cond (is_open id w) (turns_effects most_turns id stored (begun w id byte stop)) []
@@ -239,21 +237,3 @@ event_saves w e = flat_map saved_by (event_effects w e)
 
 abbrev pub run_saves : World → List Event → List Saved
 run_saves w es = flat_map saved_by (run_effects w es)
-
--- WHERE MEMORY IS REFUSED: the outcome that the refused act would have had
-
-abbrev pub refused_of : ℕ → Bool → Turn → World → Option ℕ → Option Outcome → Option Outcome
-refused_of id stored (Do own c) w memory later = cond (is_used_up memory) (outcome_in (with_own id (λ old. own) w) id c stored) later
-refused_of id stored _ w memory later = later
-
-unfoldable pub refused_in : ℕ → ℕ → Bool → Doing → Option Outcome
-refused_in zero id stored d = None
-refused_in (suc n) id stored d =
-    elim (rests (turn_in d.world id)) [ true ↦ None | false ↦ refused_of id stored (turn_in d.world id) d.world d.memory (refused_in n id stored (turn id stored d)) ]
-
-abbrev pub refused_act : World → ℕ → ℕ → Bool → Option ℕ → Option Outcome
-refused_act w id byte stored stop = refused_in most_turns id stored (begun w id byte stop)
-
-abbrev pub may_be_refused : Option Outcome → Bool
-may_be_refused None = false
-may_be_refused (Some o) = takes_memory o

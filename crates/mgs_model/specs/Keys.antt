@@ -122,6 +122,10 @@ begins_with text start = starts_with (λ a b. a == b) text start
 abbrev pub is_prefix : List ℕ → Bool
 is_prefix word = list_any (λ (r : KeyRow). begins_with r.keys word) key_rows
 
+-- the most characters of what is typed for a prompt or a search
+abbrev pub input_limit : ℕ
+input_limit = 120
+
 -- visible ASCII and the space
 abbrev pub is_graphic : ℕ → Bool
 is_graphic byte = nat_le 32 byte && nat_le byte 126

@@ -5,16 +5,17 @@ use Rattle.std.specs.List.{flat_map, list_all, repeat}
 use Rattle.std.specs.Char.{is_ascii_digit}
 use Rattle.mgs_model.specs.Names.{same_name}
 use Rattle.mgs_model.specs.Text.{edited}
-use Rattle.mgs_model.specs.Lines.{line_of, line_start, line_end, start_of, column}
+use Rattle.mgs_model.specs.Lines.{line_feed, is_feed, space, line_of, line_start, line_end, start_of, column}
 use Rattle.mgs_model.specs.Walks.{forward_words, backward_words, is_first_line, is_last_line, lines_down, lines_up, forward_paragraphs, backward_paragraphs, column_place, indent_end, kill_line_end}
 use Rattle.mgs_model.specs.Cases.{uppercased, lowercased, capitalized}
 use Rattle.mgs_model.specs.Whites.{white_start, white_end, is_blank_at, blanks_start, blanks_end, paragraph_start, paragraph_end, refilled}
 use Rattle.mgs_model.specs.Searching.{matches_at, first_match, match_once, match_point, Sought, is_looking, places_after, sought_after}
 use Rattle.mgs_model.specs.Spelling.{entry_in}
-use Rattle.mgs_model.specs.World.{Own, Item, Played, Play, Shows, Listing}
+use Rattle.mgs_model.specs.World.{State, Item, Played, Play, Shows, Listing}
 use Rattle.mgs_model.specs.View.{WindowSeen}
 use Rattle.mgs_model.specs.Outcome.{PointPlan, Keep, At, MarkPlan, Keep_mark, Mark_at, KillPlan, Keep_kill, Kill_is, SearchPlan, Keep_search, Begin, Anchor_at, Old, Come, Slot, Arrange, Slots}
 use Rattle.mgs_model.specs.declared.search.Direction.{Direction}
+use Rattle.mgs_model.specs.declared.search.Direction.TheVariants.{Forward, Backward}
 use Rattle.mgs_model.specs.declared.search.SearchPlaces.{SearchPlaces}
 use Rattle.mgs_model.specs.declared.search.SearchStep.{SearchStep}
 use Rattle.mgs_model.specs.declared.message.CursorPosition.{CursorPosition}
@@ -45,23 +46,18 @@ use Rattle.mgs_model.specs.declared.limits.TheConstants.{ENTRY_LIMIT, REPETITION
 
 -- THE SESSION'S OWN RECORD AFTERWARDS
 
--- that there is nothing more to undo breaks no run of undos
-abbrev pub kind_left : Kind → Kind
-kind_left (Undo buffer target last) = Undo buffer target last
-kind_left _ = Other
-
--- any other failure breaks a run of kills, of lines or of undos
+-- a failure breaks a run of kills, of lines or of undos; that there is nothing more to undo breaks none of undos
 abbrev pub kind_failed : Message → Kind → Kind
-kind_failed NoFurtherUndo kind = kind_left kind
+kind_failed NoFurtherUndo (Undo buffer target last) = Undo buffer target last
 kind_failed _ kind = Other
 
 -- a command has failed, or was denied: this is told, its mode ends, and what was half read or still to be done is forgotten
-abbrev pub failed_own : Message → Own → Own
-failed_own message own = record own { echo = message; argument = None; keys = []; kind = kind_failed message own.kind; mode = Plain; input = []; old = []; count = 0; todo = [] }
+abbrev pub failed_state : Message → State → State
+failed_state message state = record state { echo = message; argument = None; keys = []; kind = kind_failed message state.kind; mode = Plain; input = []; old = []; count = 0; todo = [] }
 
 -- a command was done
-abbrev pub acted_own : Own → Own
-acted_own own = record own { argument = None; keys = []; kind = Other }
+abbrev pub acted_state : State → State
+acted_state state = record state { argument = None; keys = []; kind = Other }
 
 -- PLANS OVER A TEXT
 
@@ -118,8 +114,16 @@ stays = record { point = Keep; mark = Keep_mark; top = Keep; sought = Keep_searc
 abbrev pub goes : ℕ → Finish
 goes p = record stays { point = At p }
 
-abbrev pub puts : ℕ → List ℕ → Result Change Message
-puts p put = Ok (record { a = p; b = p; put = put; finish = goes (p + length put) })
+-- takes out what stands from a up to b, puts this there, and leaves that
+abbrev pub replaces : ℕ → ℕ → List ℕ → Finish → Change
+replaces a b put finish = record { a = a; b = b; put = put; finish = finish }
+
+-- the point goes to where it stood, or behind what is put there
+abbrev pub deletes : ℕ → ℕ → Change
+deletes a b = replaces a b [] (goes a)
+
+abbrev pub puts : ℕ → ℕ → List ℕ → Change
+puts a b put = replaces a b put (goes (a + length put))
 
 -- the argument, or 1
 abbrev pub count_of : Option ℕ → ℕ
@@ -129,6 +133,11 @@ count_of (Some n) = n
 abbrev pub times : Around → ℕ
 times x = count_of x.argument
 
+-- FAILURES: this one where there is nothing of the kind
+abbrev pub fails_without : {A B : Type 0} → Message → Option A → (A → B) → Result B Message
+fails_without message None f = Err message
+fails_without message (Some x) f = Ok (f x)
+
 -- a command that is to go on at the text's end, or back at its start
 abbrev pub is_at_end : Around → Bool
 is_at_end x = nat_le x.size x.place && nat_lt 0 (times x)
@@ -136,47 +145,59 @@ is_at_end x = nat_le x.size x.place && nat_lt 0 (times x)
 abbrev pub is_at_start : Around → Bool
 is_at_start x = (x.place == 0) && nat_lt 0 (times x)
 
--- KILLS: a piece goes behind the last one where that was killed or copied just before, and is the kill buffer elsewhere
-abbrev pub kill_behind : Kind → List ℕ → List ℕ → List ℕ
-kill_behind Kill kill piece = kill ++ piece
-kill_behind _ kill piece = piece
+abbrev pub fails_at_end : {A : Type 0} → Around → A → Result A Message
+fails_at_end x plan = if is_at_end x then Err EndOfBuffer else Ok plan
 
--- one that is killed backwards goes in front of it
-abbrev pub kill_in_front : Kind → List ℕ → List ℕ → List ℕ
-kill_in_front Kill kill piece = piece ++ kill
-kill_in_front _ kill piece = piece
+abbrev pub fails_at_start : {A : Type 0} → Around → A → Result A Message
+fails_at_start x plan = if is_at_start x then Err BeginningOfBuffer else Ok plan
 
-abbrev pub joined : Around → List ℕ → KillPlan
-joined x piece = Kill_is (kill_behind x.kind x.kill piece)
+-- the region lies between the mark and the place
+abbrev pub in_region : {A : Type 0} → Around → (ℕ → ℕ → A) → Result A Message
+in_region x f = fails_without NoMark x.mark (λ m. f (min m x.place) (max m x.place))
 
-abbrev pub joined_front : Around → List ℕ → KillPlan
-joined_front x piece = Kill_is (kill_in_front x.kind x.kill piece)
+-- KILLS: a piece joins what was killed or copied just before, behind it, or in front of it where it is killed backwards; else it
+-- is the kill buffer
+abbrev pub killed : Direction → Kind → List ℕ → List ℕ → List ℕ
+killed Forward Kill kill piece = kill ++ piece
+killed Backward Kill kill piece = piece ++ kill
+killed d kind kill piece = piece
+
+abbrev pub with_kill : Direction → List ℕ → Around → ℕ → ℕ → Finish → Finish
+with_kill d text x a b f = record f { kill = Kill_is (killed d x.kind x.kill (slice_range text a b)); kind = Kill }
+
+abbrev pub kills : Direction → List ℕ → Around → ℕ → ℕ → Change
+kills d text x a b = replaces a b [] (with_kill d text x a b (goes a))
 
 -- INSERTIONS see the length alone
+
+-- the mark stays before a text that comes in whole
 abbrev pub yanked : Around → List ℕ → Change
-yanked x put = record { a = x.place; b = x.place; put = put; finish = record (goes (x.place + length put)) { mark = Mark_at x.place } }
+yanked x put = replaces x.place x.place put (record (goes (x.place + length put)) { mark = Mark_at x.place })
 
 -- the point stays before what open-line puts in
 abbrev pub insertion : Insertion → Around → Result Change Message
-insertion (SelfInsert c) x = puts x.place (replicate (times x) c)
-insertion Newline x = puts x.place (replicate (times x) 10)
-insertion OpenLine x = Ok (record { a = x.place; b = x.place; put = replicate (times x) 10; finish = goes x.place })
+insertion (SelfInsert c) x = Ok (puts x.place x.place (replicate (times x) c))
+insertion Newline x = Ok (puts x.place x.place (replicate (times x) line_feed))
+insertion OpenLine x = Ok (replaces x.place x.place (replicate (times x) line_feed) (goes x.place))
 insertion Yank x = if length x.kill == 0 then Err NothingToYank else Ok (yanked x (repeat (times x) x.kill))
 
 -- line feeds, and the white that begins the place's line, as far as it stands before the place
 abbrev pub reading_insertion : ReadingInsertion → List ℕ → Around → Result Change Message
 reading_insertion NewlineAndIndent text x =
-    puts x.place (replicate (times x) 10 ++ slice_range text (line_start text x.place) (indent_end text x.place))
+    Ok (puts x.place x.place (replicate (times x) line_feed ++ slice_range text (line_start text x.place) (indent_end text x.place)))
+
+-- BY NAME: the text of another buffer, where there is one
+abbrev pub inserted : Option (List ℕ) → Around → Result Change Message
+inserted text x = fails_without NoSuchBuffer text (yanked x)
 
 -- MOTIONS cannot edit
 
-abbrev pub copied : List ℕ → Around → Option ℕ → Result Finish Message
-copied text x None = Err NoMark
-copied text x (Some m) = Ok (record stays { kill = joined x (slice_range text (min m x.place) (max m x.place)); kind = Kill })
+-- so many lines down, or up
+abbrev pub down : List ℕ → Around → ℕ → (ℕ → Finish) → Result Finish Message
+down text x n leaves = if is_last_line text x.place && nat_lt 0 n then Err EndOfBuffer else Ok (leaves (lines_down text x.place n))
 
-abbrev pub exchanged : Around → Option ℕ → Result Finish Message
-exchanged x None = Err NoMark
-exchanged x (Some m) = Ok (record (goes m) { mark = Mark_at x.place })
+abbrev pub up : List ℕ → Around → ℕ → (ℕ → Finish) → Result Finish Message
+up text x n leaves = if is_first_line text x.place && nat_lt 0 n then Err BeginningOfBuffer else Ok (leaves (lines_up text x.place n))
 
 -- the column that a motion by lines goes for: that of the last one in a run of them, else the place's
 abbrev pub goal_in : Kind → ℕ → ℕ
@@ -190,12 +211,9 @@ goal_of text x = goal_in x.kind (column text x.place)
 abbrev pub lined : List ℕ → Around → ℕ → Finish
 lined text x start = record (goes (column_place text start (goal_of text x))) { kind = Line (goal_of text x) }
 
-abbrev pub position_of : List ℕ → Around → CursorPosition
-position_of text x = record { point = x.place; size = x.size; line = line_of text x.place + 1; column = column text x.place }
-
-abbrev pub position_told : List ℕ → Around → Option ℕ → Message
-position_told text x None = EndAt (position_of text x)
-position_told text x (Some c) = CharacterAt c (position_of text x)
+abbrev pub position_told : CursorPosition → Option ℕ → Message
+position_told position None = EndAt position
+position_told position (Some c) = CharacterAt c position
 
 -- SEARCHES
 
@@ -207,22 +225,18 @@ searched_on step s text x =
       mode = cond (is_looking step) (Failing (sought_after step s text x).failing) Goes_on;
     }
 
-abbrev pub places_of : Around → SearchPlaces
-places_of x = record { origin = x.origin; anchor = x.anchor; point = x.place }
-
 -- a search by a prompt
-abbrev pub goes_to_match : Direction → List ℕ → Option ℕ → Result Finish Message
-goes_to_match d pattern None = Err NotFound
-goes_to_match d pattern (Some m) = Ok (goes (match_point d pattern m))
-
 abbrev pub searches_for : Direction → List ℕ → List ℕ → ℕ → Result Finish Message
-searches_for d pattern text p = if length pattern == 0 then Err NoPattern else goes_to_match d pattern (match_once d pattern text p)
+searches_for d pattern text p =
+    if length pattern == 0 then Err NoPattern
+    else fails_without NotFound (match_once d pattern text p) (λ m. goes (match_point d pattern m))
 
 -- A LINE BY ITS NUMBER: 1 to 7 digits of ASCII, where it is typed
 
 abbrev pub is_number : List ℕ → Bool
 is_number typed = nat_le 1 (length typed) && (nat_le (length typed) 7 && list_all is_ascii_digit typed)
 
+-- 48 is `0`
 abbrev pub number_typed : List ℕ → ℕ
 number_typed typed = fold (λ n c. n * 10 + (c - 48)) 0 typed
 
@@ -232,45 +246,50 @@ line_wanted (Some n) typed = Some n
 
 -- lines count from 1 here; 0 is the first one too, and what is past the last one is the last one
 abbrev pub goes_to_line : List ℕ → Option ℕ → Result Finish Message
-goes_to_line text None = Err NotANumber
-goes_to_line text (Some n) = Ok (goes (lines_down text 0 (n - 1)))
+goes_to_line text line = fails_without NotANumber line (λ n. goes (lines_down text 0 (n - 1)))
 
 -- QUERY-REPLACE
 
 abbrev pub is_match : List ℕ → Around → Bool
 is_match text x = matches_at x.old text x.anchor
 
--- on to the next match from a place on; where there is none it is over
+-- on to a match of a pattern of so many characters; where there is none it is over
+abbrev pub met : ℕ → Finish → Option ℕ → Finish
+met len f None = record f { mode = Over }
+met len f (Some m) = record f { point = At (m + len); sought = Anchor_at m }
+
+-- to the next one from a place on
 abbrev pub next_match : Around → ℕ → Finish → List ℕ → Finish
-next_match x from f text =
-    elim (first_match x.old text from) [ None ↦ record f { mode = Over } | Some m ↦ record f { point = At (m + length x.old); sought = Anchor_at m } ]
+next_match x from f text = met (length x.old) f (first_match x.old text from)
 
 abbrev pub motion : Motion → List ℕ → Around → Result Finish Message
-motion ForwardChar text x = if is_at_end x then Err EndOfBuffer else Ok (goes (min (x.place + times x) x.size))
-motion BackwardChar text x = if is_at_start x then Err BeginningOfBuffer else Ok (goes (x.place - times x))
+motion ForwardChar text x = fails_at_end x (goes (min (x.place + times x) x.size))
+motion BackwardChar text x = fails_at_start x (goes (x.place - times x))
 motion BeginningOfLine text x = Ok (goes (line_start text x.place))
 motion EndOfLine text x = Ok (goes (line_end text x.place))
-motion NextLine text x =
-    if is_last_line text x.place && nat_lt 0 (times x) then Err EndOfBuffer else Ok (lined text x (lines_down text x.place (times x)))
-motion PreviousLine text x =
-    if is_first_line text x.place && nat_lt 0 (times x) then Err BeginningOfBuffer else Ok (lined text x (lines_up text x.place (times x)))
+motion NextLine text x = down text x (times x) (lined text x)
+motion PreviousLine text x = up text x (times x) (lined text x)
 motion BufferStart text x = Ok (goes 0)
 motion BufferEnd text x = Ok (goes x.size)
 motion GoToLine text x = goes_to_line text (line_wanted x.argument x.typed)
-motion ForwardWord text x = if is_at_end x then Err EndOfBuffer else Ok (goes (forward_words text x.place (times x)))
-motion BackwardWord text x = if is_at_start x then Err BeginningOfBuffer else Ok (goes (backward_words text x.place (times x)))
-motion ForwardParagraph text x = if is_at_end x then Err EndOfBuffer else Ok (goes (forward_paragraphs text x.place (times x)))
-motion BackwardParagraph text x = if is_at_start x then Err BeginningOfBuffer else Ok (goes (backward_paragraphs text x.place (times x)))
+motion ForwardWord text x = fails_at_end x (goes (forward_words text x.place (times x)))
+motion BackwardWord text x = fails_at_start x (goes (backward_words text x.place (times x)))
+motion ForwardParagraph text x = fails_at_end x (goes (forward_paragraphs text x.place (times x)))
+motion BackwardParagraph text x = fails_at_start x (goes (backward_paragraphs text x.place (times x)))
 motion Recenter text x = Ok (record stays { top = At (start_of (line_of text x.place - x.height / 2) text) })
-motion WhatCursorPosition text x = Ok (record stays { told = position_told text x (slice_get text x.place) })
+motion WhatCursorPosition text x =
+    let position : CursorPosition = record { point = x.place; size = x.size; line = line_of text x.place + 1; column = column text x.place } in
+    Ok (record stays { told = position_told position (slice_get text x.place) })
 motion SetMark text x = Ok (record stays { mark = Mark_at x.place; told = MarkSet })
-motion ExchangePointAndMark text x = exchanged x x.mark
+motion ExchangePointAndMark text x = fails_without NoMark x.mark (λ m. record (goes m) { mark = Mark_at x.place })
 motion MarkWholeBuffer text x = Ok (record (goes 0) { mark = Mark_at x.size })
-motion CopyRegion text x = copied text x x.mark
+motion CopyRegion text x = in_region x (λ a b. with_kill Forward text x a b stays)
 motion (StartSearch d) text x = Ok (record stays { sought = Begin x.name x.place x.place })
 -- a search goes on in its own buffer; no key leads to a window that shows another
 motion (SearchOn d step) text x =
-    if x.sought_here then Ok (searched_on step (record { direction = d; pattern = x.typed; failing = false }) text (places_of x)) else Err NoBuffer
+    let s : Sought = record { direction = d; pattern = x.typed; failing = false } in
+    let places : SearchPlaces = record { origin = x.origin; anchor = x.anchor; point = x.place } in
+    if x.sought_here then Ok (searched_on step s text places) else Err NoBuffer
 motion (SearchFor d) text x = searches_for d x.typed text x.place
 motion StartReplace text x =
     if length x.old == 0 then Err NoPattern
@@ -284,148 +303,98 @@ abbrev pub lines_scrolled : Around → ℕ
 lines_scrolled x = elim x.argument [ None ↦ max (x.height - 2) 1 | Some n ↦ n ]
 
 abbrev pub scrolling : Scrolling → List ℕ → Around → Result Finish Message
-scrolling ScrollUp text x =
-    if is_last_line text x.place && nat_lt 0 (lines_scrolled x) then Err EndOfBuffer else Ok (goes (lines_down text x.place (lines_scrolled x)))
-scrolling ScrollDown text x =
-    if is_first_line text x.place && nat_lt 0 (lines_scrolled x) then Err BeginningOfBuffer else Ok (goes (lines_up text x.place (lines_scrolled x)))
+scrolling ScrollUp text x = down text x (lines_scrolled x) goes
+scrolling ScrollDown text x = up text x (lines_scrolled x) goes
 
--- the top row of a listing or of an access list, in a window of so many rows
+-- the last row that can be the top of a listing or of an access list
+abbrev pub last_top : ℕ
+last_top = 512
+
+-- their top row, in a window of so many rows
 abbrev pub row_scrolled : Scrolling → ℕ → ℕ → ℕ
-row_scrolled ScrollUp row height = min (row + height) 512
+row_scrolled ScrollUp row height = min (row + height) last_top
 row_scrolled ScrollDown row height = row - height
 
 -- ALTERATIONS take out and replace
 
-abbrev pub deletes : ℕ → ℕ → Result Change Message
-deletes a b = Ok (record { a = a; b = b; put = []; finish = goes a })
-
--- from the place on up to there, and from there up to the place
-abbrev pub kills : List ℕ → Around → ℕ → Result Change Message
-kills text x b =
-    Ok (record { a = x.place; b = b; put = []; finish = record (goes x.place) { kill = joined x (slice_range text x.place b); kind = Kill } })
-
-abbrev pub kills_back : List ℕ → Around → ℕ → Result Change Message
-kills_back text x a =
-    Ok (record { a = a; b = x.place; put = []; finish = record (goes a) { kill = joined_front x (slice_range text a x.place); kind = Kill } })
-
 -- an argument of 0 kills what is before the place in its line
-abbrev pub kills_line : List ℕ → Around → Result Change Message
-kills_line text x =
-    if times x == 0 then kills_back text x (kill_line_end text x.place x.argument)
-    else if is_at_end x then Err EndOfBuffer
-    else kills text x (kill_line_end text x.place x.argument)
-
-abbrev pub kills_region : List ℕ → Around → Option ℕ → Result Change Message
-kills_region text x None = Err NoMark
-kills_region text x (Some m) =
-    Ok (record {
-      a = min m x.place;
-      b = max m x.place;
-      put = [];
-      finish = record (goes (min m x.place)) { kill = joined x (slice_range text (min m x.place) (max m x.place)); kind = Kill };
-    })
+abbrev pub kills_line : List ℕ → Around → ℕ → Result Change Message
+kills_line text x end = if times x == 0 then Ok (kills Backward text x end x.place) else fails_at_end x (kills Forward text x x.place end)
 
 -- the second of two characters that are exchanged: the one after the place, or the one before it at a line's end
 abbrev pub exchanged_at : List ℕ → ℕ → ℕ
-exchanged_at text p = if (p == length text) || (slice_index text p == 10) then p - 1 else p
+exchanged_at text p = if (p == length text) || is_feed (slice_index text p) then p - 1 else p
 
 abbrev pub transposes : List ℕ → ℕ → Result Change Message
 transposes text q =
     if q == 0 then Err BeginningOfBuffer
-    else Ok (record { a = q - 1; b = q + 1; put = slice_range text q (q + 1) ++ slice_range text (q - 1) q; finish = goes (q + 1) })
+    else Ok (replaces (q - 1) (q + 1) (slice_range text q (q + 1) ++ slice_range text (q - 1) q) (goes (q + 1)))
 
--- CASE: the characters from the place on over words, or between the place and the mark, in another case. The point stays
--- where it is in a region.
+-- CASE: the characters from a up to b in another case, over words from the place on, or in the region, where the point stays
+abbrev pub cases : (List ℕ → List ℕ) → List ℕ → ℕ → ℕ → Change
+cases cased text a b = puts a b (cased (slice_range text a b))
+
 abbrev pub cases_words : (List ℕ → List ℕ) → List ℕ → Around → Result Change Message
-cases_words cased text x =
-    if is_at_end x then Err EndOfBuffer
-    else Ok (record {
-      a = x.place;
-      b = forward_words text x.place (times x);
-      put = cased (slice_range text x.place (forward_words text x.place (times x)));
-      finish = goes (x.place + length (cased (slice_range text x.place (forward_words text x.place (times x)))));
-    })
+cases_words cased text x = fails_at_end x (cases cased text x.place (forward_words text x.place (times x)))
 
-abbrev pub cases_region : (List ℕ → List ℕ) → List ℕ → Around → Option ℕ → Result Change Message
-cases_region cased text x None = Err NoMark
-cases_region cased text x (Some m) =
-    Ok (record { a = min m x.place; b = max m x.place; put = cased (slice_range text (min m x.place) (max m x.place)); finish = goes x.place })
+abbrev pub cases_region : (List ℕ → List ℕ) → List ℕ → Around → Result Change Message
+cases_region cased text x = in_region x (λ a b. record (cases cased text a b) { finish = goes x.place })
 
 -- WHITE: blank lines around a blank one become one that is empty; from another line those that directly follow go, and the
 -- point moves as any other position
-abbrev pub deletes_blank_lines : List ℕ → ℕ → Result Change Message
+abbrev pub deletes_blank_lines : List ℕ → ℕ → Change
 deletes_blank_lines text p =
     if is_blank_at text p then deletes (blanks_start text p) (blanks_end text p)
-    else Ok (record { a = line_end text p; b = blanks_end text p; put = []; finish = stays })
+    else replaces (line_end text p) (blanks_end text p) [] stays
 
 -- the line feed before the line that starts here, and the white around it
 abbrev pub joins_line : List ℕ → ℕ → Result Change Message
 joins_line text start =
     if start == 0 then Err BeginningOfBuffer
-    else Ok (record { a = white_start text (start - 1); b = white_end text start; put = 32 ∷ []; finish = goes (white_start text (start - 1)) })
+    else Ok (replaces (white_start text (start - 1)) (white_end text start) (space ∷ []) (goes (white_start text (start - 1))))
 
 -- FILLING: nothing in a blank line
-abbrev pub filling : List ℕ → Around → List ℕ
-filling text x = refilled x.fill (slice_range text (paragraph_start text x.place) (paragraph_end text x.place))
+abbrev pub fills : List ℕ → ℕ → ℕ → Change
+fills text fill p =
+    if is_blank_at text p then replaces p p [] stays
+    else puts (paragraph_start text p) (paragraph_end text p) (refilled fill (slice_range text (paragraph_start text p) (paragraph_end text p)))
 
-abbrev pub fills : List ℕ → Around → Result Change Message
-fills text x =
-    if is_blank_at text x.place then Ok (record { a = x.place; b = x.place; put = []; finish = stays })
-    else Ok (record {
-      a = paragraph_start text x.place;
-      b = paragraph_end text x.place;
-      put = filling text x;
-      finish = goes (paragraph_start text x.place + length (filling text x));
-    })
+-- REPLACING: a match that is no longer there is not replaced, which leaves something else
+abbrev pub replaces_match : List ℕ → Around → Finish → Finish → Result Change Message
+replaces_match text x done gone =
+    if not x.sought_here then Err NoBuffer
+    else Ok (if is_match text x then replaces x.anchor (x.anchor + length x.old) x.typed done else replaces x.anchor x.anchor [] gone)
+
+abbrev pub replaced_one : Around → Finish
+replaced_one x = record (goes (x.anchor + length x.typed)) { replaced = 1 }
 
 abbrev pub alteration : Alteration → List ℕ → Around → Result Change Message
-alteration DeleteChar text x = if is_at_end x then Err EndOfBuffer else deletes x.place (min (x.place + times x) x.size)
-alteration DeleteBackwardChar text x = if is_at_start x then Err BeginningOfBuffer else deletes (x.place - times x) x.place
-alteration KillLine text x = kills_line text x
-alteration KillWord text x = if is_at_end x then Err EndOfBuffer else kills text x (forward_words text x.place (times x))
-alteration BackwardKillWord text x = if is_at_start x then Err BeginningOfBuffer else kills_back text x (backward_words text x.place (times x))
-alteration KillRegion text x = kills_region text x x.mark
+alteration DeleteChar text x = fails_at_end x (deletes x.place (min (x.place + times x) x.size))
+alteration DeleteBackwardChar text x = fails_at_start x (deletes (x.place - times x) x.place)
+alteration KillLine text x = kills_line text x (kill_line_end text x.place x.argument)
+alteration KillWord text x = fails_at_end x (kills Forward text x x.place (forward_words text x.place (times x)))
+alteration BackwardKillWord text x = fails_at_start x (kills Backward text x (backward_words text x.place (times x)) x.place)
+alteration KillRegion text x = in_region x (kills Forward text x)
 alteration TransposeChars text x = transposes text (exchanged_at text x.place)
 alteration UpcaseWord text x = cases_words uppercased text x
 alteration DowncaseWord text x = cases_words lowercased text x
 alteration CapitalizeWord text x = cases_words capitalized text x
-alteration UpcaseRegion text x = cases_region uppercased text x x.mark
-alteration DowncaseRegion text x = cases_region lowercased text x x.mark
-alteration JustOneSpace text x =
-    Ok (record { a = white_start text x.place; b = white_end text x.place; put = 32 ∷ []; finish = goes (white_start text x.place + 1) })
-alteration DeleteHorizontalSpace text x = deletes (white_start text x.place) (white_end text x.place)
-alteration DeleteBlankLines text x = deletes_blank_lines text x.place
+alteration UpcaseRegion text x = cases_region uppercased text x
+alteration DowncaseRegion text x = cases_region lowercased text x
+alteration JustOneSpace text x = Ok (puts (white_start text x.place) (white_end text x.place) (space ∷ []))
+alteration DeleteHorizontalSpace text x = Ok (deletes (white_start text x.place) (white_end text x.place))
+alteration DeleteBlankLines text x = Ok (deletes_blank_lines text x.place)
 alteration JoinLine text x = joins_line text (line_start text x.place)
-alteration FillParagraph text x = fills text x
--- a match that is no longer there is not replaced
+alteration FillParagraph text x = Ok (fills text x.fill x.place)
 alteration ReplaceMatch text x =
-    if not x.sought_here then Err NoBuffer
-    else Ok (if is_match text x then record {
-      a = x.anchor;
-      b = x.anchor + length x.old;
-      put = x.typed;
-      finish = next_match x (x.anchor + length x.typed) (record (goes (x.anchor + length x.typed)) { replaced = 1 }) (edited x.anchor (x.anchor + length x.old) x.typed text);
-    }
-    else record { a = x.anchor; b = x.anchor; put = []; finish = next_match x x.anchor stays text })
-alteration ReplaceLast text x =
-    if not x.sought_here then Err NoBuffer
-    else Ok (if is_match text x then record {
-      a = x.anchor;
-      b = x.anchor + length x.old;
-      put = x.typed;
-      finish = record (goes (x.anchor + length x.typed)) { replaced = 1; mode = Over };
-    }
-    else record { a = x.anchor; b = x.anchor; put = []; finish = record stays { mode = Over } })
+    let behind : List ℕ = edited x.anchor (x.anchor + length x.old) x.typed text in
+    replaces_match text x (next_match x (x.anchor + length x.typed) (replaced_one x) behind) (next_match x x.anchor stays text)
+alteration ReplaceLast text x = replaces_match text x (record (replaced_one x) { mode = Over }) (record stays { mode = Over })
 
 -- UNDO: the item before the last one undone where nobody added one since, else the newest
 abbrev pub undo_target : Around → ℕ
 undo_target x =
-    elim x.kind [
-      | Undo buffer target last ↦ if same_name buffer x.name && (last == x.serial) then target - 1 else x.serial
-      | Other ↦ x.serial
-      | Kill ↦ x.serial
-      | Line goal ↦ x.serial
-    ]
+    elim x.kind [ Undo buffer target last ↦ if same_name buffer x.name && (last == x.serial) then target - 1 else x.serial | _ ↦ x.serial ]
 
 -- what an item put in, from here up to there, cut to a text of that size. An item that is undone lies in its text, since undos
 -- go back (mgs_undo); the cut lets the definition stand without that
@@ -438,17 +407,16 @@ undone_to size item = min (item.place + item.put) size
 -- what an item put in goes out, and what it took out comes back
 abbrev pub taken_back : Around → Item → Change
 taken_back x item =
-    record {
-      a = undone_from x.size item;
-      b = undone_to x.size item;
-      put = item.removed;
-      finish = record (goes (undone_from x.size item + length item.removed)) { kind = Undo x.name item.serial (x.serial + 1) };
-    }
+    let from : ℕ = undone_from x.size item in
+    replaces from (undone_to x.size item) item.removed (record (goes (from + length item.removed)) { kind = Undo x.name item.serial (x.serial + 1) })
 
 -- an undo is an edit, so a serial has to be left for it
+abbrev pub last_serial : ℕ
+last_serial = 18446744073709551615
+
 abbrev pub undone : Around → Option Item → Result Change Message
 undone x None = Err NoFurtherUndo
-undone x (Some item) = if x.serial == 18446744073709551615 then Err BufferFull else Ok (taken_back x item)
+undone x (Some item) = if x.serial == last_serial then Err BufferFull else Ok (taken_back x item)
 
 abbrev pub undo : List Item → Around → Result Change Message
 undo items x = undone x (find (λ (item : Item). item.serial == undo_target x) items)
@@ -484,23 +452,20 @@ entries_changed ReplaceEntry entries n typed = with_entry (entry_replaced entrie
 
 -- SETTINGS change the session's own record alone; this one is as after a command that was done
 
-abbrev pub filled : Own → Option ℕ → Result Own Message
-filled own None = Err NoArgument
-filled own (Some n) = if n == 0 then Err BadColumn else Ok (record own { fill = n })
-
-abbrev pub setting : Setting → Own → Option ℕ → Result Own Message
-setting SetFillColumn own n = filled own n
-setting KeyboardQuit own n = Ok (record (failed_own Quitting own) { recording = false; macro = cond own.recording [] own.macro })
-setting StartMacro own n = if own.recording || own.playing then Err InMacro else Ok (record own { recording = true; macro = [] })
-setting EndMacro own n =
-    if own.playing then Err InMacro
-    else if own.recording then Ok (record own { recording = false; macro = take (length own.macro - 2) own.macro })
+abbrev pub setting : Setting → State → Option ℕ → Result State Message
+setting SetFillColumn state None = Err NoArgument
+setting SetFillColumn state (Some n) = if n == 0 then Err BadColumn else Ok (record state { fill = n })
+setting KeyboardQuit state n = Ok (record (failed_state Quitting state) { recording = false; macro = cond state.recording [] state.macro })
+setting StartMacro state n = if state.recording || state.playing then Err InMacro else Ok (record state { recording = true; macro = [] })
+setting EndMacro state n =
+    if state.playing then Err InMacro
+    else if state.recording then Ok (record state { recording = false; macro = take (length state.macro - 2) state.macro })
     else Err NotInMacro
-setting CallMacro own n =
-    if own.recording || own.playing then Err InMacro
-    else if length own.macro == 0 then Err NoMacro
+setting CallMacro state n =
+    if state.recording || state.playing then Err InMacro
+    else if length state.macro == 0 then Err NoMacro
     else if nat_lt REPETITION_LIMIT (count_of n) then Err TooMany
-    else Ok (record own { todo = Play ∷ flat_map (λ (bytes : List ℕ). map Played bytes) (replicate (count_of n) own.macro) ++ own.todo })
+    else Ok (record state { todo = Play ∷ flat_map (λ (bytes : List ℕ). map Played bytes) (replicate (count_of n) state.macro) ++ state.todo })
 
 -- ARRANGEMENTS change the windows alone
 
@@ -517,12 +482,8 @@ abbrev pub slots_but : ℕ → (WindowSeen → List Slot) → ℕ → List Windo
 slots_but k other i [] = []
 slots_but k other i (x ∷ xs) = cond (i == k) (other x) (old_slot i x.height ∷ []) ++ slots_but k other (i + 1) xs
 
-abbrev pub height_of : Option WindowSeen → ℕ
-height_of None = 0
-height_of (Some x) = x.height
-
 abbrev pub height_at : ℕ → List WindowSeen → ℕ
-height_at k windows = height_of (slice_get windows k)
+height_at k windows = elim (slice_get windows k) [ None ↦ 0 | Some x ↦ x.height ]
 
 -- the rows of all windows and their mode lines
 abbrev pub rows_of : List WindowSeen → ℕ
@@ -568,8 +529,3 @@ arrangement EnlargeWindow windows k n =
 arrangement ShrinkWindow windows k n =
     if nat_lt (length windows) 2 then Err OnlyOneWindow else given windows k k (neighbor k (length windows)) (count_of n)
 arrangement ListBuffers windows k n = Ok (comes windows k Listing)
-
--- BY NAME: the text of another buffer, where there is one
-abbrev pub inserted : Option (List ℕ) → Around → Result Change Message
-inserted None x = Err NoSuchBuffer
-inserted (Some text) x = Ok (record { a = x.place; b = x.place; put = text; finish = record (goes (x.place + length text)) { mark = Mark_at x.place } })

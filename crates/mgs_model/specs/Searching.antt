@@ -10,7 +10,7 @@
 --   match_once               the match that a search by a prompt goes to
 --   read_byte                what a byte makes of an incremental search, and what is to be done
 --   looked_for, places_after the match that is looked for then, and the places afterwards
-use Rattle.std.specs.Prelude.{ℕ, zero, suc, ◌+◌, ◌-◌, ◌==◌, nat_lt, Bool, true, false, List, [], ◌∷◌, ◌++◌, length, take, drop, Option, None, Some, cond, if◌then◌else◌}
+use Rattle.std.specs.Prelude.{ℕ, zero, suc, ◌+◌, ◌-◌, ◌==◌, nat_lt, Bool, true, false, List, [], ◌∷◌, ◌++◌, length, take, drop, Option, None, Some, is_none, cond, if◌then◌else◌}
 use Rattle.std.specs.List.{starts_with}
 use Rattle.std.specs.Char.{eq_ignore_ascii_case}
 use Rattle.mgs_model.specs.Keys.{is_graphic}
@@ -123,16 +123,12 @@ places_after ToOrigin s text x = record x { anchor = x.origin; point = x.origin 
 places_after Quits s text x = record x { point = x.origin }
 places_after step s text x = found_places (looked_for step s text x) s x
 
--- whether the search is failing after a step
-abbrev pub is_none : Option ℕ → Bool
-is_none None = true
-is_none (Some p) = false
-
 abbrev pub is_looking : SearchStep → Bool
 is_looking FromAnchor = true
 is_looking PastAnchor = true
 is_looking FromOrigin = true
 is_looking _ = false
 
+-- whether the search is failing after a step
 abbrev pub sought_after : SearchStep → Sought → List ℕ → SearchPlaces → Sought
 sought_after step s text x = record s { failing = cond (is_looking step) (is_none (looked_for step s text x)) s.failing }

@@ -1,10 +1,10 @@
 -- How an entry is written: `TYPE WHO LETTERS`, its words separated by spaces.
-use Rattle.std.specs.Prelude.{ℕ, ◌==◌, nat_eq, nat_lt, not, Bool, true, false, ◌&&◌, List, [], ◌∷◌, length, filter, find, fold, codes, Option, Some, None, is_some, Result, Ok, Err, drop, slice_get, if◌then◌else◌}
+use Rattle.std.specs.Prelude.{ℕ, ◌==◌, nat_eq, nat_lt, Bool, true, false, ◌&&◌, List, length, find, fold, codes, Option, Some, None, is_some, Result, Ok, Err, drop, slice_get, if◌then◌else◌}
 use Rattle.std.specs.Int.Bits.{bit_or}
 use Rattle.std.specs.Option.{option_map, option_and_then}
-use Rattle.std.specs.List.{slice_split, list_all, starts_with}
+use Rattle.std.specs.List.{list_all, starts_with}
 use Rattle.std.specs.Str.{bytes_eq}
-use Rattle.mgs_model.specs.Names.{is_space, is_user_name}
+use Rattle.mgs_model.specs.Names.{is_filled, is_space, is_user_name, words_by}
 use Rattle.mgs_model.specs.Rights.{bit_of, letter_of, all_rights}
 use Rattle.mgs_model.specs.declared.right.Right.{Right}
 use Rattle.mgs_model.specs.declared.entry.EntryType.{EntryType}
@@ -17,18 +17,8 @@ use Rattle.mgs_model.specs.declared.entry.EntryFault.TheVariants as faults
 
 -- WORDS
 
--- there is a character
-abbrev pub is_filled : List ℕ → Bool
-is_filled piece = not (length piece == 0)
-
--- the words of a text: its pieces between spaces, without the empty ones
 abbrev pub words : List ℕ → List (List ℕ)
-words text = filter is_filled (slice_split is_space text)
-
--- the words of a text that was cut after its first word
-abbrev pub words_cut : Option (List ℕ × List ℕ) → List (List ℕ)
-words_cut None = []
-words_cut (Some (word, rest)) = word ∷ words rest
+words text = words_by is_space text
 
 -- WHAT EACH WORD SAYS
 

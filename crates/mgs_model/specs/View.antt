@@ -1,10 +1,10 @@
 -- VIEW: what a session's acts and its screen may depend on, and nothing else.
-use Rattle.std.specs.Prelude.{ℕ, Bool, true, false, List, [], map, find, length, Option, Some, None}
+use Rattle.std.specs.Prelude.{ℕ, Bool, false, List, [], map, find, length, Option, Some, None, if◌then◌else◌}
 use Rattle.std.specs.Option.{option_map}
 use Rattle.mgs_model.specs.Names.{same_name}
 use Rattle.mgs_model.specs.Access.{Directory, Decider, decider, allows, any_right}
 use Rattle.mgs_model.specs.declared.owners.Owners.{Owners}
-use Rattle.mgs_model.specs.World.{World, Buffer, Item, Session, Window, Place, Search, Own, Shows, Buffer_of, find_buffer, find_session, may}
+use Rattle.mgs_model.specs.World.{World, Buffer, Item, Session, Window, Place, Search, State, Shows, Buffer_of, find_buffer, find_session, may}
 use Rattle.mgs_model.specs.declared.right.Right.{Right}
 use Rattle.mgs_model.specs.declared.right.Right.TheVariants.{ReadData}
 use Rattle.mgs_model.specs.declared.entry.Entry.{Entry}
@@ -40,7 +40,7 @@ pub record SessionSeen : Type 0 where
   pub places : List PlaceSeen
   pub search : Option SearchSeen
   pub kill : List ℕ
-  pub own : Own
+  pub state : State
 
 -- what is told of a buffer on which any right is granted
 pub record Told : Type 0 where
@@ -77,8 +77,7 @@ abbrev pub reads : Directory → List Buffer → List ℕ → List ℕ → Bool
 reads directory buffers user name = reads_found directory user (find_buffer name buffers)
 
 abbrev pub positions_if : Bool → ℕ → Option ℕ → ℕ → Option Positions
-positions_if true point mark top = Some (record { point = point; mark = mark; top = top })
-positions_if false point mark top = None
+positions_if can point mark top = if can then Some (record { point = point; mark = mark; top = top }) else None
 
 abbrev pub in_readable : (List ℕ → Bool) → Shows → Bool
 in_readable can (Buffer_of name) = can name
@@ -106,16 +105,17 @@ session_seen can x =
       places = map (place_seen can) x.places;
       search = search_seen can x.search;
       kill = x.kill;
-      own = x.own;
+      state = x.state;
     }
 
 abbrev pub told_if : Bool → Buffer → Option Told
-told_if true b = Some (record { owners = b.owners; entries = b.entries; size = length b.text; serial = b.serial; modified = b.modified; file = b.file })
-told_if false b = None
+told_if can b =
+    if can
+    then Some (record { owners = b.owners; entries = b.entries; size = length b.text; serial = b.serial; modified = b.modified; file = b.file })
+    else None
 
 abbrev pub full_if : Bool → Buffer → Option Full
-full_if true b = Some (record { text = b.text; items = b.items })
-full_if false b = None
+full_if can b = if can then Some (record { text = b.text; items = b.items }) else None
 
 abbrev pub buffer_seen : Directory → List ℕ → Buffer → BufferSeen
 buffer_seen directory user b =

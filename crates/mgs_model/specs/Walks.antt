@@ -19,7 +19,7 @@ use Rattle.std.specs.Fn.{iterate}
 use Rattle.std.specs.List.{prefix_len, suffix_len, list_all, slice_split}
 use Rattle.std.specs.Char.{is_ascii_alphanumeric}
 use Rattle.mgs_model.specs.Cells.{glyph}
-use Rattle.mgs_model.specs.Lines.{is_feed, line_of, line_start, line_end, start_of}
+use Rattle.mgs_model.specs.Lines.{space, is_feed, line_of, line_start, line_end, start_of}
 
 -- past the elements from the k-th on that pass
 abbrev pub over : {A : Type 0} → (A → Bool) → List A → ℕ → ℕ
@@ -69,8 +69,9 @@ lines_up text p n = start_of (line_of text p - n) text
 
 -- PARAGRAPHS
 
+-- space and TAB
 abbrev pub is_white : ℕ → Bool
-is_white c = (c == 32) || (c == 9)
+is_white c = (c == space) || (c == 9)
 
 abbrev pub lines : List ℕ → List (List ℕ)
 lines text = slice_split is_feed text

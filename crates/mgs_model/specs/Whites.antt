@@ -7,10 +7,10 @@
 --   paragraph_start          where the lines that are not blank begin that stand directly above it, or that line
 --   paragraph_end            where the last of those ends that directly follow it, or that line
 --   refilled                 words with one space between, and a line feed where a line would pass the fill column
-use Rattle.std.specs.Prelude.{ℕ, ◌+◌, ◌-◌, ◌||◌, nat_le, nat_lt, Bool, List, [], ◌∷◌, ◌++◌, filter, length, slice_range, if◌then◌else◌}
-use Rattle.std.specs.List.{slice_split}
+use Rattle.std.specs.Prelude.{ℕ, ◌+◌, ◌-◌, ◌||◌, nat_le, Bool, List, [], ◌∷◌, ◌++◌, length, slice_range, if◌then◌else◌}
 use Rattle.mgs_model.specs.Cells.{cells}
-use Rattle.mgs_model.specs.Lines.{is_feed, line_of, line_start, line_end, start_of}
+use Rattle.mgs_model.specs.Lines.{line_feed, space, is_feed, line_of, line_start, line_end, start_of}
+use Rattle.mgs_model.specs.Names.{words_by}
 use Rattle.mgs_model.specs.Walks.{over, back, is_white, is_blank, is_written, lines}
 
 -- WHITE
@@ -51,18 +51,15 @@ paragraph_end text p = run_end is_written text p
 abbrev pub is_between : ℕ → Bool
 is_between c = is_white c || is_feed c
 
-abbrev pub has_any : List ℕ → Bool
-has_any word = nat_lt 0 (length word)
-
-abbrev pub words : List ℕ → List (List ℕ)
-words text = filter has_any (slice_split is_between text)
+abbrev pub text_words : List ℕ → List (List ℕ)
+text_words text = words_by is_between text
 
 -- words behind the first, where the line so far ends in a column
 abbrev pub filled_from : ℕ → ℕ → List (List ℕ) → List ℕ
 filled_from fill column [] = []
 filled_from fill column (word ∷ rest) =
-    if nat_le (column + 1 + length (cells word)) fill then 32 ∷ (word ++ filled_from fill (column + 1 + length (cells word)) rest)
-    else 10 ∷ (word ++ filled_from fill (length (cells word)) rest)
+    if nat_le (column + 1 + length (cells word)) fill then space ∷ (word ++ filled_from fill (column + 1 + length (cells word)) rest)
+    else line_feed ∷ (word ++ filled_from fill (length (cells word)) rest)
 
 -- a word that is longer than a line stands alone
 abbrev pub filled_words : ℕ → List (List ℕ) → List ℕ
@@ -70,4 +67,4 @@ filled_words fill [] = []
 filled_words fill (word ∷ rest) = word ++ filled_from fill (length (cells word)) rest
 
 abbrev pub refilled : ℕ → List ℕ → List ℕ
-refilled fill text = filled_words fill (words text)
+refilled fill text = filled_words fill (text_words text)

@@ -20,6 +20,10 @@ pub record Item : Type 0 where
   pub removed : List ℕ
   pub put : ℕ
 
+-- how many of them a buffer keeps
+abbrev pub most_items : ℕ
+most_items = 1000
+
 -- a buffer; its items are the latest first, and its serial is that of the last edit
 pub record Buffer : Type 0 where
   pub name : List ℕ
@@ -69,7 +73,7 @@ pub data Todo : Type 0 where
   Play : Todo
 
 -- all that a session holds beside its positions and its kill buffer
-pub record Own : Type 0 where
+pub record State : Type 0 where
   pub echo : Message
   pub pattern : List ℕ
   pub fill : ℕ
@@ -88,8 +92,8 @@ pub record Own : Type 0 where
   pub count : ℕ
   pub todo : List Todo
 
-abbrev pub first_own : Own
-first_own =
+abbrev pub first_state : State
+first_state =
     record {
       echo = Silent;
       pattern = [];
@@ -117,7 +121,7 @@ pub record Session : Type 0 where
   pub places : List Place
   pub search : Option Search
   pub kill : List ℕ
-  pub own : Own
+  pub state : State
 
 -- next_id is the id that the next session gets
 pub record World : Type 0 where

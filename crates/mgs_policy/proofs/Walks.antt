@@ -14,7 +14,8 @@ use Rattle.mgs_model.specs.declared.entry.EntryType.{EntryType}
 use Rattle.mgs_model.specs.declared.entry.EntryType.TheVariants.{Allow, Deny}
 use Rattle.mgs_model.specs.declared.entry.Decision.{Decision}
 use Rattle.mgs_model.specs.declared.entry.Decision.TheVariants.{Granted, DeniedBy, NotGranted}
-use Rattle.mgs_model.specs.Access.{Directory, Decider, Nobody, Allows, Denies, matches, concerns, decider, decider_of, decider_from, decision_by, with_denier, with_denial, with_gap, denial, gap, decision}
+use Rattle.mgs_model.specs.Access.{Directory, Decider, Nobody, Allows, Denies, matches, concerns, decider, decider_of, decider_from, decision_by, decision}
+use Rattle.mgs_model.proofs.Deciding.{with_denier, with_denial, with_gap, denial, gap, decision_by-walks}
 use Rattle.mgs_model.specs.declared.owners.Owners.{Owners}
 use Rattle.mgs_acl.proofs.Masks.{place, bit_of-place}
 use Rattle.mgs_policy.specs.Walk.{wanted}
@@ -43,8 +44,10 @@ gap-allowed p n rest (right ∷ rights) d =
 
 decision_by-allowed : (p : Right → Bool) (n : ℕ) (rest : Right → Decider) (rights : List Right) → decision_by (first p (Allows n) rest) rights ≡ decision_by rest (filter (λ right. not (p right)) rights)
 decision_by-allowed p n rest rights =
-    gap-allowed p n rest rights (denial (first p (Allows n) rest) rights Granted)
+    decision_by-walks (first p (Allows n) rest) rights
+    ∙ gap-allowed p n rest rights (denial (first p (Allows n) rest) rights Granted)
     ∙ ap (gap rest (filter (λ right. not (p right)) rights)) (denial-allowed p n rest rights Granted)
+    ∙ sym (decision_by-walks rest (filter (λ right. not (p right)) rights))
 
 -- AN ENTRY THAT HAS NO WANTED RIGHT DECIDES NOTHING
 
@@ -73,8 +76,10 @@ gap-unmet p x rest (right ∷ rights) d h =
 
 decision_by-unmet : (p : Right → Bool) (x : Decider) (rest : Right → Decider) (rights : List Right) → find p rights ≡ None → decision_by (first p x rest) rights ≡ decision_by rest rights
 decision_by-unmet p x rest rights h =
-    gap-unmet p x rest rights (denial (first p x rest) rights Granted) h
+    decision_by-walks (first p x rest) rights
+    ∙ gap-unmet p x rest rights (denial (first p x rest) rights Granted) h
     ∙ ap (gap rest rights) (denial-unmet p x rest rights Granted h)
+    ∙ sym (decision_by-walks rest rights)
 
 -- A DENIAL BY THE FIRST ENTRY IS THE LEAST
 
@@ -142,7 +147,8 @@ denial-met p n rest (right ∷ rights) d denied h k e =
 
 decision_by-met : (p : Right → Bool) (n : ℕ) (rest : Right → Decider) (rights : List Right) (denied : Right) → ((right : Right) → IsAfter n (rest right)) → find p rights ≡ Some denied → decision_by (first p (Denies n) rest) rights ≡ DeniedBy n denied
 decision_by-met p n rest rights denied h e =
-    ap (gap (first p (Denies n) rest) rights) (denial-met p n rest rights Granted denied h tt e) ∙ gap-kept (first p (Denies n) rest) rights n denied
+    decision_by-walks (first p (Denies n) rest) rights
+    ∙ ap (gap (first p (Denies n) rest) rights) (denial-met p n rest rights Granted denied h tt e) ∙ gap-kept (first p (Denies n) rest) rights n denied
 
 -- ONE ENTRY OF A LIST
 
@@ -226,7 +232,7 @@ undecided (right ∷ rights) = gap-nobody rights right
 
 pub decided-end : (n : ℕ) (directory : Directory) (owners : Owners) (user : List ℕ) (rights : List Right) → decided_from n directory owners user [] rights ≡ at_end (slice_get rights 0)
 unfolding decided_from
-decided-end n directory owners user rights = ap (gap (λ r. Nobody) rights) (denial-nobody rights Granted) ∙ undecided rights
+decided-end n directory owners user rights = decision_by-walks (λ r. Nobody) rights ∙ ap (gap (λ r. Nobody) rights) (denial-nobody rights Granted) ∙ undecided rights
 
 -- the first that passes is the first of all that pass
 find-first : {X : Type 0} (p : X → Bool) (xs : List X) → find p xs ≡ slice_get (filter p xs) 0

@@ -1,7 +1,8 @@
 use Rattle.std.proofs.Common.{◌≡◌, drop, map, List, Bor, ℕ}
 use Rattle.std.specs.Prelude.{fold}
 use Rattle.std.specs.Option.{option_map}
-use Rattle.mgs_model.specs.Completion.{narrowed, completion}
+use Rattle.mgs_model.specs.Completion.{completion}
+use Rattle.mgs_mini.specs.Narrowing.{narrowed}
 use Rattle.mgs_mini.proofs.completing.narrowed_by_all.Given as goal
 
 -- the names that are left, from here, come to what all do

@@ -7,7 +7,8 @@ use Rattle.mgs_model.specs.Access.{Directory}
 use Rattle.mgs_model.specs.Keys.{begins_with}
 use Rattle.mgs_model.specs.World.{World, Buffer, Session, may}
 use Rattle.mgs_model.specs.View.{BufferSeen, buffer_seen, is_granted, view}
-use Rattle.mgs_model.specs.Completion.{candidates, common, common_of, completion, shown_names, granted_names, narrowed, AllBegin, IsCompletion}
+use Rattle.mgs_model.specs.Completion.{candidates, common, common_of, completion, shown_names}
+use Rattle.mgs_mini.specs.Narrowing.{granted_names, narrowed, AllBegin, IsCompletion}
 use Rattle.mgs_model.specs.declared.right.Right.TheVariants.{ReadAttributes}
 
 -- THE GRANTED NAMES

@@ -2,7 +2,7 @@
 use Rattle.std.specs.Prelude.{◌≡◌, ℕ, ◌==◌, Bool, true, false, List, [], ◌∷◌, Option}
 use Rattle.std.specs.Option.{option_map}
 use Rattle.mgs_model.specs.World.{World, Session, find_session}
-use Rattle.mgs_model.specs.Outcome.{Act, Effect, Relist, Reown, Create, Kill}
+use Rattle.mgs_model.specs.Outcome.{Act, Effect, SetList, SetOwners, Create, Kill}
 use Rattle.mgs_model.specs.Apply.{act}
 use Rattle.mgs_model.specs.Events.{Event, Open, Byte, Close, act_effects, run}
 
@@ -30,8 +30,8 @@ KillStays = (w : World) (id : ℕ) (es : List Event) → AllOthers id es → kil
 
 -- a change of an access list, of an owner or of an owning group, a new buffer, or the end of one
 abbrev pub is_rule : Effect → Bool
-is_rule (Relist name entries) = true
-is_rule (Reown name new) = true
+is_rule (SetList name entries) = true
+is_rule (SetOwners name new) = true
 is_rule (Create name owner) = true
 is_rule (Kill name) = true
 is_rule _ = false

@@ -2,7 +2,7 @@
 use Rattle.std.specs.Prelude.{◌≡◌, Bool, true, not, ◌&&◌, ◌||◌, List, ℕ, Option, is_some}
 use Rattle.mgs_model.specs.Access.{allows}
 use Rattle.mgs_model.specs.View.{View, BufferSeen, find_seen}
-use Rattle.mgs_model.specs.Outcome.{Act, Effect, No_effect, Edit, Unmodified, Relist, Reown, Create, Kill, Save, Quit}
+use Rattle.mgs_model.specs.Outcome.{Act, Effect, No_effect, Edit, Unmodified, SetList, SetOwners, Create, Kill, Save, Quit}
 use Rattle.mgs_model.specs.Acts.{deciders_found, outcome}
 use Rattle.mgs_model.specs.declared.right.Right.{Right}
 use Rattle.mgs_model.specs.declared.right.Right.TheVariants.{ReadData, WriteData, AppendData, WriteAcl, WriteOwner, Delete}
@@ -19,8 +19,8 @@ abbrev pub lawful : View → Effect → Bool
 lawful v No_effect = true
 lawful v (Edit name a b put) = granted_on v name WriteData || granted_on v name AppendData
 lawful v (Unmodified name) = granted_on v name ReadData && granted_on v name WriteData
-lawful v (Relist name entries) = granted_on v name WriteAcl
-lawful v (Reown name new) = granted_on v name WriteOwner
+lawful v (SetList name entries) = granted_on v name WriteAcl
+lawful v (SetOwners name new) = granted_on v name WriteOwner
 lawful v (Create name owner) = not (is_some (find_seen name v.buffers))
 lawful v (Kill name) = granted_on v name Delete
 lawful v (Save name text) = granted_on v name ReadData && granted_on v name WriteData
