@@ -5,7 +5,8 @@ use Rattle.std.proofs.lemmas.List.Folds.{list_any-append}
 use Rattle.std.proofs.Math.Dec.{eqb-suc-zero, eqb-zero-suc, eqb-suc-suc}
 use Rattle.mgs_model.specs.World.{Buffer_of, Place, Search, Shows, Window}
 use Rattle.mgs_model.specs.View.{WindowSeen, window_seen}
-use Rattle.mgs_model.specs.Outcome.{Come, Slot, is_old, slots_take_memory}
+use Rattle.mgs_model.specs.Outcome.{Come, Slot, is_old}
+use Rattle.mgs_laws.specs.Refusals.{slots_take_memory}
 use Rattle.mgs_model.specs.Plans.{height_at, old_slot, resized, rows_of, slots_but}
 use Rattle.mgs_model.specs.Apply.{change_at, places_left, source_window, window_at, window_put}
 use Rattle.mgs_model.proofs.Basics.{or_true}

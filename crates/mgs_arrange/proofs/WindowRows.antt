@@ -60,7 +60,7 @@ module _ (ks ls : List MarkedBuffer) (rows : RowPane) (x : Session) (within : x.
 
   module _ (dropped : WindowMarksDropped (given_up x) ks ls) where
     pub rows_rearranged : Rearranged ks ls x (rows_session rows x)
-    rows_rearranged = record { buffers = dropped.buffers; uses = λ m i. omega (arith, came_uses m i rows x within, dropped.uses m i); stay = λ m i own. dropped.stay m i; size = refl }
+    rows_rearranged = record { buffers = dropped.buffers; uses = λ m i. omega (arith, came_uses m i rows x within, dropped.uses m i); stay = λ m i state. dropped.stay m i; size = refl }
 
     pub rows_seen : IsFromStart rows → session_of ls (rows_session rows x) ≡ window_lists (rows_shown rows) (session_of ks x)
     rows_seen start =

@@ -153,7 +153,7 @@ module _ (name : List ℕ) (p : ℕ) (q : Option ℕ) (capacity : ℕ) (y : Wind
     shown_rearranged = record {
       buffers = dropped.buffers ∙ added.buffers;
       uses = λ m i. omega (arith, added.uses m i, dropped.uses m i, came_uses m i capacity y x within);
-      stay = λ m i own before after. dropped.stay m i (omega (arith, before, added.uses m i)) after ∙ added.stay m i before (omega (arith, before, added.uses m i));
+      stay = λ m i state before after. dropped.stay m i (omega (arith, before, added.uses m i)) after ∙ added.stay m i before (omega (arith, before, added.uses m i));
       size = refl;
     }
 

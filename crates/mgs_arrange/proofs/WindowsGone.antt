@@ -143,7 +143,7 @@ pub rest_sound : (ks ls : List MarkedBuffer) (x : Session) (k to : ℕ) → k < 
 rest_sound ks ls x k to within sound h = record { once = λ m i. omega (arith, sound.once m i, gone_uses m i k to x within, h.uses m i) }
 
 pub rest_rearranged : (ks ls : List MarkedBuffer) (x : Session) (k to : ℕ) → k < length x.windows.windows → WindowMarksDropped (panes.left_by (shows_at k x.windows.windows) x.windows.places) ks ls → Rearranged ks ls x (record x { windows = window_removed k to x.windows })
-rest_rearranged ks ls x k to within h = record { buffers = h.buffers; uses = λ m i. omega (arith, gone_uses m i k to x within, h.uses m i); stay = λ m i own. h.stay m i; size = refl }
+rest_rearranged ks ls x k to within h = record { buffers = h.buffers; uses = λ m i. omega (arith, gone_uses m i k to x within, h.uses m i); stay = λ m i state. h.stay m i; size = refl }
 
 pub rest_gone : (ks ls : List MarkedBuffer) (x : Session) (k to : ℕ) → k < length x.windows.windows → IsSessionSound ks x → WindowMarksDropped (panes.left_by (shows_at k x.windows.windows) x.windows.places) ks ls → session_of ls (record x { windows = window_removed k to x.windows }) ≡ window_gone k to (session_of ks x)
 rest_gone ks ls x k to within sound h =

@@ -146,7 +146,7 @@ pub split_rearranged : (ks ls : List MarkedBuffer) (capacity : ℕ) (p : Option 
 split_rearranged ks ls capacity p x w e h = record {
   buffers = copied_buffers w.shows p ks ls h;
   uses = λ m i. omega (arith, copied_uses w.shows p ks ls h m i, split_uses m i x.windows.selected p x.windows.windows (some_within x.windows.windows x.windows.selected w e));
-  stay = λ m i own. copied_stay w.shows p ks ls h m i;
+  stay = λ m i state. copied_stay w.shows p ks ls h m i;
   size = refl;
 }
 

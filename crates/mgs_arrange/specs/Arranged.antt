@@ -1,5 +1,5 @@
 -- What each arrangement does to a session of the model that is in no mode.
-use Rattle.std.specs.Prelude.{ℕ, zero, suc, ◌+◌, ◌-◌, ◌/◌, nat_lt, nat_le, ◌==◌, cond, if◌then◌else◌, List, [], ◌∷◌, length, insert, remove, Option, None, Result, Ok, Err}
+use Rattle.std.specs.Prelude.{◌≡◌, ℕ, zero, suc, ◌+◌, ◌-◌, ◌/◌, nat_lt, nat_le, ◌==◌, cond, if◌then◌else◌, List, [], ◌∷◌, length, insert, remove, Option, None, Result, Ok, Err}
 use Rattle.mgs_model.specs.World.{Place, Window, Session, Shows, Listing}
 use Rattle.mgs_model.specs.Plans.{count_of, heir, neighbor}
 use Rattle.mgs_model.specs.Apply.{change_at, left_places, window_at}
@@ -129,8 +129,11 @@ rearranged ListBuffers n x = Ok (window_lists Listing x)
 -- the session afterwards in either case: a failure is told, and ends what is played
 abbrev pub arranged_or_told : Result Session Message → Session → Session
 arranged_or_told (Ok y) x = y
-arranged_or_told (Err message) x = record x { own = record x.own { echo = message; todo = [] } }
+arranged_or_told (Err message) x = record x { state = record x.state { echo = message; todo = [] } }
+
+abbrev pub IsLeftOrTold : (Session → Result Session Message) → Session → Session → Type 0
+IsLeftOrTold f x y = y ≡ arranged_or_told (f x) x
 
 -- and the run of kills, of lines or of undos that the last command may have been in is over
 abbrev pub run_ended : Session → Session
-run_ended x = record x { own = record x.own { kind = Other } }
+run_ended x = record x { state = record x.state { kind = Other } }

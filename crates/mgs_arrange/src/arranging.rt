@@ -1,15 +1,13 @@
 // The windows of one of the sessions are arranged anew.
-ghost use Rattle.std.specs.Prelude.{◌≡◌, ◌<◌, ℕ, Option, List, [], None, length, true, OnOk, OnErr};
-ghost use Rattle.std.specs.List.{position_or_len};
+ghost use Rattle.std.specs.Prelude.{◌≡◌, ◌<◌, Option, List, [], None, length, OnOk, OnErr};
 ghost use Rattle.mgs_model.specs.Access.{Directory};
-ghost use Rattle.mgs_model.specs.Apply.{act, outcome_in};
-ghost use Rattle.mgs_model.specs.Events.{may_be_refused};
 ghost use Rattle.mgs_model.specs.Outcome.{Run};
 ghost use Rattle.mgs_model.specs.declared.session.Command.TheVariants.{Rearrange};
 ghost use Rattle.mgs_buffers.specs.MarkedBuffer.{MarkedBuffer};
+ghost use Rattle.mgs_world.specs.Acted.{IsActedAt, IsRefusable, IsUnchanged};
 ghost use Rattle.mgs_world.specs.Sound.{IsSessionSound, IsSound};
 ghost use Rattle.mgs_world.specs.WindowMarks.{WindowMarksDropped};
-ghost use Rattle.mgs_world.specs.Worlds.{idle, own_at, session_id, session_of, world_of};
+ghost use Rattle.mgs_world.specs.Worlds.{idle, state_at, session_of};
 ghost use Rattle.mgs_arrange.specs.Arranging.{IsArranged, IsDone, IsResized, MayBeRefused, Rearranged};
 
 use crate::leaving::{delete, delete_others};
@@ -85,11 +83,11 @@ pub fn rearrange<T: Marked + Drop>(
 ) -> Result<(), Short>
     requires sound { IsSound buffers.old sessions.old }
     requires within { at < length sessions.old }
-    requires fresh { own_at at sessions.old ≡ idle (own_at at sessions.old) }
+    requires fresh { state_at at sessions.old ≡ idle (state_at at sessions.old) }
     ensures sound { IsSound buffers.new sessions.new }
-    ensures ok { OnOk result ((directory : Directory) (id : ℕ) (next : Option ℕ) → at ≡ position_or_len (session_id id) sessions.old → world_of directory buffers.new sessions.new next ≡ act (world_of directory buffers.old sessions.old next) id (Run (Rearrange arrangement) argument []) true) }
-    ensures err { OnErr result ((directory : Directory) (next : Option ℕ) → world_of directory buffers.new sessions.new next ≡ world_of directory buffers.old sessions.old next) }
-    ensures may { OnErr result ((directory : Directory) (id : ℕ) (next : Option ℕ) → at ≡ position_or_len (session_id id) sessions.old → may_be_refused (outcome_in (world_of directory buffers.old sessions.old next) id (Run (Rearrange arrangement) argument []) true) ≡ true) }
+    ensures ok { OnOk result (IsActedAt at (Run (Rearrange arrangement) argument []) buffers.old sessions.old buffers.new sessions.new) }
+    ensures err { OnErr result (IsUnchanged buffers.old sessions.old buffers.new sessions.new) }
+    ensures may { OnErr result ((directory : Directory) → IsRefusable directory at (Run (Rearrange arrangement) argument []) buffers.old sessions.old) }
 {
     rearrange_session(buffers, &mut sessions[at], arrangement, argument)
 }

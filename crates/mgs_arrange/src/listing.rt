@@ -1,12 +1,10 @@
 // A window comes to show rows: the list of all buffers, or the access list of one.
-ghost use Rattle.std.specs.Prelude.{◌≡◌, ◌<◌, ℕ, Option, Some, IfSome, length, slice_get};
-ghost use Rattle.std.specs.List.{position_or_len};
-ghost use Rattle.mgs_model.specs.Access.{Directory};
-ghost use Rattle.mgs_model.specs.World.{List_of, find_session};
-ghost use Rattle.mgs_model.specs.World as model;
+ghost use Rattle.std.specs.Prelude.{◌≡◌, ◌<◌, ℕ, Option, IfSome, length, slice_get};
+ghost use Rattle.mgs_model.specs.World.{List_of};
 ghost use Rattle.mgs_model.specs.declared.session.Arrangement.TheVariants.{ListBuffers};
+ghost use Rattle.mgs_world.specs.Acted.{IsLeftAt};
 ghost use Rattle.mgs_world.specs.Sound.{IsSessionSound, IsSound};
-ghost use Rattle.mgs_world.specs.Worlds.{rows_shown, session_id, session_of, world_of};
+ghost use Rattle.mgs_world.specs.Worlds.{rows_shown, session_of};
 ghost use Rattle.mgs_arrange.specs.Arranged.{run_ended, window_lists};
 ghost use Rattle.mgs_arrange.specs.Arranging.{IsArranged, Rearranged};
 ghost use Rattle.mgs_arrange.specs.Listing.{IsFromStart, listed_in};
@@ -72,7 +70,7 @@ pub fn show_entries<T: Marked + Drop>(
     requires within { at < length sessions.old }
     ensures selected { IfSome (slice_get sessions.old at) (λ x. x.windows.selected < length x.windows.windows) }
     ensures sound { IsSound buffers.new sessions.new }
-    ensures world { (directory : Directory) (id : ℕ) (next : Option ℕ) (x : model.Session) → at ≡ position_or_len (session_id id) sessions.old → find_session id (world_of directory buffers.old sessions.old next).sessions ≡ Some x → world_of directory buffers.new sessions.new next ≡ listed_in id (List_of name.now) x (world_of directory buffers.old sessions.old next) }
+    ensures world { IsLeftAt at (λ id. listed_in id (List_of name.now)) buffers.old sessions.old buffers.new sessions.new }
 {
     show_entries_in_session(buffers, &mut sessions[at], name);
 }

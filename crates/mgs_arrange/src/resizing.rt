@@ -4,7 +4,7 @@ ghost use Rattle.mgs_model.specs.Plans.{count_of, neighbor};
 ghost use Rattle.mgs_model.specs.declared.session.Arrangement.TheVariants.{NextWindow, PreviousWindow, EnlargeWindow, ShrinkWindow};
 ghost use Rattle.mgs_buffers.specs.MarkedBuffer.{MarkedBuffer};
 ghost use Rattle.mgs_world.specs.Worlds.{session_of};
-ghost use Rattle.mgs_arrange.specs.Arranged.{arranged_or_told, next_index, previous_index, rows_given_if};
+ghost use Rattle.mgs_arrange.specs.Arranged.{IsLeftOrTold, next_index, previous_index, rows_given_if};
 ghost use Rattle.mgs_arrange.specs.Arranging.{IsArranged, IsResized};
 
 use mgs_model::Message;
@@ -74,7 +74,7 @@ fn give(session: &mut Session, from: usize, to: usize, rows: usize)
     requires to { to < length session.old.windows.windows }
     requires apart { from ≢ to }
     ensures same { IsResized session.old session.new }
-    ensures given { (ks : List MarkedBuffer) → session_of ks session.new ≡ arranged_or_told (rows_given_if from to rows (session_of ks session.old)) (session_of ks session.old) }
+    ensures given { (ks : List MarkedBuffer) → IsLeftOrTold (rows_given_if from to rows) (session_of ks session.old) (session_of ks session.new) }
 {
     if session.windows.height(from) <= rows {
         break_off(session, Message::ImpossibleChange);

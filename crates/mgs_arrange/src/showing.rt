@@ -1,14 +1,11 @@
 // A window comes to show a buffer.
-ghost use Rattle.std.specs.Prelude.{◌≡◌, ◌<◌, ℕ, List, Option, None, Some, find, length, slice_get, IfOk, IfSome, OnOk, OnErr};
-ghost use Rattle.std.specs.List.{position_or_len};
-ghost use Rattle.mgs_model.specs.Access.{Directory};
-ghost use Rattle.mgs_model.specs.World.{find_session};
-ghost use Rattle.mgs_model.specs.World as model;
+ghost use Rattle.std.specs.Prelude.{◌≡◌, ◌<◌, List, Option, None, Some, find, length, slice_get, IfOk, IfSome, OnOk, OnErr};
 ghost use Rattle.mgs_buffers.specs.MarkedBuffer.{HasBuffer, MarkedBuffer};
 ghost use Rattle.mgs_windows.specs.Panes.{is_place_in};
+ghost use Rattle.mgs_world.specs.Acted.{IsLeftAt, IsUnchanged};
 ghost use Rattle.mgs_world.specs.Sound.{IsSessionSound, IsShownSound, IsSound};
 ghost use Rattle.mgs_world.specs.WindowMarks.{WindowMarksAdded, WindowMarksDropped};
-ghost use Rattle.mgs_world.specs.Worlds.{session_id, session_of, world_of};
+ghost use Rattle.mgs_world.specs.Worlds.{session_of};
 ghost use Rattle.mgs_arrange.specs.Arranged.{run_ended};
 ghost use Rattle.mgs_arrange.specs.Arranging.{IsResized, Rearranged};
 ghost use Rattle.mgs_arrange.specs.Showing.{is_shown, shown_in, standing, standing_mark, standing_point, window_shows};
@@ -117,8 +114,8 @@ pub fn show<T: Marked + Drop>(
     requires kept { HasBuffer name.now buffers.old }
     ensures selected { IfSome (slice_get sessions.old at) (λ x. x.windows.selected < length x.windows.windows) }
     ensures sound { IsSound buffers.new sessions.new }
-    ensures ok { OnOk result ((directory : Directory) (id : ℕ) (next : Option ℕ) (x : model.Session) → at ≡ position_or_len (session_id id) sessions.old → find_session id (world_of directory buffers.old sessions.old next).sessions ≡ Some x → world_of directory buffers.new sessions.new next ≡ shown_in id name.now x (world_of directory buffers.old sessions.old next)) }
-    ensures err { OnErr result ((directory : Directory) (next : Option ℕ) → world_of directory buffers.new sessions.new next ≡ world_of directory buffers.old sessions.old next) }
+    ensures ok { OnOk result (IsLeftAt at (λ id. shown_in id name.now) buffers.old sessions.old buffers.new sessions.new) }
+    ensures err { OnErr result (IsUnchanged buffers.old sessions.old buffers.new sessions.new) }
     ensures unmarked { OnErr result (WindowMarksDropped None buffers.old buffers.new) }
 {
     show_in_session(buffers, &mut sessions[at], name)

@@ -6,6 +6,7 @@ use Rattle.mgs_model.specs.Names.{same_name}
 use Rattle.mgs_model.specs.Text.{shift}
 use Rattle.mgs_model.specs.Apply.{change_first}
 use Rattle.mgs_model.proofs.Firsts.{find-change_first}
+use Rattle.mgs_model.proofs.Moved.{edited_name}
 use Rattle.mgs_marks.specs.Marks.{mark_in}
 use Rattle.mgs_marks.proofs.Moves.{mark_in-shift_all, mark_in-set}
 use Rattle.mgs_buffers.specs.MarkedBuffer.{MarkedBuffer, marked_named, marked_at, marked_or_none, with_marks, marked_edited, marked_placed, HasBuffer, IsMark, MarkAdded}
@@ -46,7 +47,7 @@ module _ (name : List ℕ) (p id : ℕ) (old new : List MarkedBuffer) (there : H
 pub IsMark-edited : (name : List ℕ) (id a b : ℕ) (put : List ℕ) (old new : List MarkedBuffer) → HasBuffer name old → IsMark name id old → new ≡ change_first (marked_named name) (marked_edited a b put) old → IsMark name id new
 IsMark-edited name id a b put old new there mark change =
     ap (λ (ks : List MarkedBuffer). is_some (mark_in (marked_at name ks).marks id)) change
-    ∙ ap (λ (k : MarkedBuffer). is_some (mark_in k.marks id)) (marked_at-changed name (marked_edited a b put) (λ k. refl) old there)
+    ∙ ap (λ (k : MarkedBuffer). is_some (mark_in k.marks id)) (marked_at-changed name (marked_edited a b put) (λ k. edited_name a b put k.buffer) old there)
     ∙ ap is_some (mark_in-shift_all a b (length put) (marked_at name old).marks id)
     ∙ at (mark_in (marked_at name old).marks id) mark
   where

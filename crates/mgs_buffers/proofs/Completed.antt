@@ -11,8 +11,9 @@ use Rattle.mgs_model.specs.Keys.{begins_with}
 use Rattle.mgs_model.specs.Access.{Directory}
 use Rattle.mgs_model.specs.World.{Buffer, may}
 use Rattle.mgs_model.specs.declared.right.Right.TheVariants.{ReadAttributes}
-use Rattle.mgs_model.specs.Completion.{completion, granted_names, narrowed}
-use Rattle.mgs_model.proofs.Completing.{completion_by_names}
+use Rattle.mgs_model.specs.Completion.{completion}
+use Rattle.mgs_mini.specs.Narrowing.{granted_names, narrowed}
+use Rattle.mgs_mini.proofs.Completions.{completion_by_names}
 use Rattle.mgs_buffers.specs.declared.buffer.Buffer as code
 use Rattle.mgs_buffers.specs.Contents.{marked_all, marked_of}
 use Rattle.mgs_buffers.specs.Completed.{IsWithinName, found_from}

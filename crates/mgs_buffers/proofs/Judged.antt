@@ -5,7 +5,7 @@ use Rattle.std.specs.Option.{option_map}
 use Rattle.std.proofs.lemmas.Option.{slice_get-map}
 use Rattle.mgs_model.specs.Access.{Directory, decider, decision, decision_by}
 use Rattle.mgs_model.specs.declared.owners.Owners.{Owners}
-use Rattle.mgs_model.specs.Apart.{Rules, rules_of}
+use Rattle.mgs_laws.specs.Apart.{Rules, rules_of}
 use Rattle.mgs_model.specs.Rights.{bit_of}
 use Rattle.mgs_model.specs.World as model
 use Rattle.mgs_model.specs.declared.entry.Decision.{Decision}

@@ -1,9 +1,8 @@
 -- No text passes its limit.
-use Rattle.std.proofs.Common.{◌≡◌, ◌+◌, ◌-◌, ◌≤◌, ℕ, Bool, true, false, cond, List, [], ◌∷◌, ◌++◌, take, drop, length, length-append, Some, ap, arith}
-use Rattle.std.proofs.lemmas.List.{length-take, length-drop}
+use Rattle.std.proofs.Common.{◌≡◌, ◌+◌, ◌-◌, ◌≤◌, ℕ, Bool, true, false, cond, List, [], ◌∷◌, ◌++◌, length, Some, ap, arith}
 use Rattle.std.specs.Prelude.{find, Result, Ok, Err, OnOk, OnErr}
-use Rattle.mgs_model.specs.Text.{is_edit, edited}
 use Rattle.mgs_model.specs.Apply.{change_first}
+use Rattle.mgs_buffers.proofs.Edits.{size_edited}
 use Rattle.mgs_buffers.specs.MarkedBuffer.{MarkedBuffer, marked_named, marked_at, marked_or_none, marked_edited, without_marked, AreWithinLimit}
 
 abbrev size : MarkedBuffer → ℕ
@@ -33,14 +32,7 @@ limit-same name f ks same h =
 -- an edit with room
 pub limit-edited : (name : List ℕ) (a b : ℕ) (put : List ℕ) (ks : List MarkedBuffer) → AreWithinLimit ks → a ≤ b → b ≤ size (marked_at name ks) → size (marked_at name ks) + length put ≤ 1048576 + (b - a) → AreWithinLimit (change_first (marked_named name) (marked_edited a b put) ks)
 limit-edited name a b put ks h order within room =
-    let t = (marked_at name ks).buffer.text in
-    let size_is : length (edited a b put t) ≤ 1048576 =
-    omega (arith, order, within, room, length-append (take a t ++ put) (drop b t), length-append (take a t) put, length-take a t, length-drop b t) in
-    limit-changed name (marked_edited a b put) ks h (by (is_edit a b put) t size_is (limit-at name ks h))
-  where
-    by : (f : Bool) (t : List ℕ) → length (edited a b put t) ≤ 1048576 → length t ≤ 1048576 → length (cond f (edited a b put t) t) ≤ 1048576
-    by true t p q = p
-    by false t p q = q
+    limit-changed name (marked_edited a b put) ks h (omega (arith, order, within, room, size_edited a b put (marked_at name ks).buffer order within))
 
 pub limit-added : (ks : List MarkedBuffer) (k : MarkedBuffer) → AreWithinLimit ks → size k ≤ 1048576 → AreWithinLimit (ks ++ k ∷ [])
 limit-added [] k h room = (room, tt)

@@ -3,7 +3,7 @@ use Rattle.std.specs.Borrow.{Bor}
 use Rattle.std.specs.Option.{option_copied}
 use Rattle.std.specs.Prelude.{◌≡◌, ℕ, ◌+◌, ◌≤◌, Bool, cond, List, length, drop, fold, map, Option, IfSome}
 use Rattle.mgs_model.specs.Access.{Directory}
-use Rattle.mgs_model.specs.Completion.{granted_names, narrowed}
+use Rattle.mgs_mini.specs.Narrowing.{granted_names, narrowed}
 use Rattle.mgs_model.specs.World.{Buffer, may}
 use Rattle.mgs_model.specs.declared.right.Right.TheVariants.{ReadAttributes}
 use Rattle.mgs_buffers.specs.MarkedBuffer.{MarkedBuffer}

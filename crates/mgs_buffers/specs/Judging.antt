@@ -2,7 +2,7 @@
 use Rattle.std.specs.Prelude.{◌≡◌, ℕ, List, Some, map, slice_get}
 use Rattle.mgs_model.specs.Access.{Directory}
 use Rattle.mgs_model.specs.declared.owners.Owners.{Owners}
-use Rattle.mgs_model.specs.Apart.{Rules, rules_in}
+use Rattle.mgs_laws.specs.Apart.{Rules, rules_in}
 use Rattle.mgs_model.specs.declared.entry.Entry.{Entry}
 use Rattle.mgs_cache.specs.Kept.{Kept, AreRight}
 use Rattle.mgs_buffers.specs.MarkedBuffer.{MarkedBuffer}

@@ -68,11 +68,11 @@ abbrev pub marked_unmodified : MarkedBuffer → MarkedBuffer
 marked_unmodified k = record { buffer = buffer_unmodified k.buffer; marks = k.marks }
 
 -- another owner or owning group, and another access list
-abbrev pub marked_reowned : NewOwner → MarkedBuffer → MarkedBuffer
-marked_reowned new k = record { buffer = record k.buffer { owners = owners_after new k.buffer.owners }; marks = k.marks }
+abbrev pub marked_owners_set : NewOwner → MarkedBuffer → MarkedBuffer
+marked_owners_set new k = record { buffer = record k.buffer { owners = owners_after new k.buffer.owners }; marks = k.marks }
 
-abbrev pub marked_relisted : List Entry → MarkedBuffer → MarkedBuffer
-marked_relisted entries k = record { buffer = record k.buffer { entries = entries }; marks = k.marks }
+abbrev pub marked_list_set : List Entry → MarkedBuffer → MarkedBuffer
+marked_list_set entries k = record { buffer = record k.buffer { entries = entries }; marks = k.marks }
 
 -- a mark put at a position
 abbrev pub marked_placed : ℕ → ℕ → MarkedBuffer → MarkedBuffer

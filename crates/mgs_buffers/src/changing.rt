@@ -7,7 +7,7 @@ ghost use Rattle.mgs_model.specs.Apply.{change_first};
 ghost use Rattle.mgs_model.specs.declared.owners.NewOwner.TheVariants.{ToUser, ToGroup};
 ghost use Rattle.mgs_buffers.specs.Changing.{marked_updated, update_mask, writes};
 ghost use Rattle.mgs_buffers.specs.Contents.{Changed};
-ghost use Rattle.mgs_buffers.specs.MarkedBuffer.{has_buffer, HasBuffer, marked_at, marked_edited, marked_named, marked_relisted, marked_reowned, marked_unmodified, without_marked};
+ghost use Rattle.mgs_buffers.specs.MarkedBuffer.{has_buffer, HasBuffer, marked_at, marked_edited, marked_named, marked_list_set, marked_owners_set, marked_unmodified, without_marked};
 ghost use Rattle.mgs_buffers.specs.Permitting.{EditAnswers, PermitAnswers, mask_decision};
 
 use crate::buffer::{Buffer, read_and_write};
@@ -24,11 +24,11 @@ pub(crate) enum Update {
     // Its modified flag is not set any more.
     Unmodify,
     // Another user owns it.
-    Reown(Name),
+    SetOwners(Name),
     // Another group owns it, or none does.
     Regroup(Option<Name>),
     // Another access list takes the place of its own.
-    Relist(mgs_acl::List),
+    SetList(mgs_acl::List),
 }
 
 impl Update {
@@ -38,9 +38,9 @@ impl Update {
     {
         match self {
             Update::Unmodify => read_and_write(),
-            Update::Reown(_) => Mask::of(Right::WriteOwner),
+            Update::SetOwners(_) => Mask::of(Right::WriteOwner),
             Update::Regroup(_) => Mask::of(Right::WriteOwner),
-            Update::Relist(_) => Mask::of(Right::WriteAcl),
+            Update::SetList(_) => Mask::of(Right::WriteAcl),
         }
     }
 }
@@ -53,20 +53,20 @@ impl<T: Marked + Drop> Buffer<T> {
         self.modified = false;
     }
 
-    fn reown(&mut self, owner: Name)
-        ensures { Changed T.text T.marks (marked_reowned (ToUser owner)) self.old self.new }
+    fn set_owners(&mut self, owner: Name)
+        ensures { Changed T.text T.marks (marked_owners_set (ToUser owner)) self.old self.new }
     {
         self.owners.owner = owner;
     }
 
     fn set_group(&mut self, group: Option<Name>)
-        ensures { Changed T.text T.marks (marked_reowned (ToGroup group)) self.old self.new }
+        ensures { Changed T.text T.marks (marked_owners_set (ToGroup group)) self.old self.new }
     {
         self.owners.group = group;
     }
 
-    fn relist(&mut self, list: mgs_acl::List)
-        ensures { Changed T.text T.marks (marked_relisted list) self.old self.new }
+    fn set_list(&mut self, list: mgs_acl::List)
+        ensures { Changed T.text T.marks (marked_list_set list) self.old self.new }
     {
         self.list = list;
     }
@@ -76,9 +76,9 @@ impl<T: Marked + Drop> Buffer<T> {
     {
         match update {
             Update::Unmodify => self.unmodify(),
-            Update::Reown(owner) => self.reown(owner),
+            Update::SetOwners(owner) => self.set_owners(owner),
             Update::Regroup(group) => self.set_group(group),
-            Update::Relist(list) => self.relist(list),
+            Update::SetList(list) => self.set_list(list),
         }
     }
 
@@ -201,7 +201,7 @@ impl<T: Marked + Drop> Buffers<T> {
     /// Another user owns the buffer, where WRITE_OWNER is granted to the user who acts. Else the answer is what the buffer's access
     /// list decides, which is not `Granted`, and all is as it was. It takes no memory. That the owner is a user of the directory is
     /// for the caller to see.
-    pub fn reown_as(
+    pub fn set_owner_as(
         &mut self,
         directory: &Directory,
         user: &Name,
@@ -210,10 +210,10 @@ impl<T: Marked + Drop> Buffers<T> {
     ) -> Result<(), Decision>
         requires { HasBuffer name.now self.old }
         ensures answer { let b = (marked_at name.now self.old).buffer in PermitAnswers result (decision directory.now b.owners user.now b.entries 524288) }
-        ensures ok { OnOk result (self.new ≡ change_first (marked_named name.now) (marked_reowned (ToUser owner)) self.old) }
+        ensures ok { OnOk result (self.new ≡ change_first (marked_named name.now) (marked_owners_set (ToUser owner)) self.old) }
         ensures err { OnErr result (self.new ≡ self.old) }
     {
-        self.update_as(directory, user, name, Update::Reown(owner))
+        self.update_as(directory, user, name, Update::SetOwners(owner))
     }
 
     /// Another group owns the buffer, or none does, where WRITE_OWNER is granted to the user who acts. Else the answer is what the
@@ -228,7 +228,7 @@ impl<T: Marked + Drop> Buffers<T> {
     ) -> Result<(), Decision>
         requires { HasBuffer name.now self.old }
         ensures answer { let b = (marked_at name.now self.old).buffer in PermitAnswers result (decision directory.now b.owners user.now b.entries 524288) }
-        ensures ok { OnOk result (self.new ≡ change_first (marked_named name.now) (marked_reowned (ToGroup group)) self.old) }
+        ensures ok { OnOk result (self.new ≡ change_first (marked_named name.now) (marked_owners_set (ToGroup group)) self.old) }
         ensures err { OnErr result (self.new ≡ self.old) }
     {
         self.update_as(directory, user, name, Update::Regroup(group))
@@ -236,7 +236,7 @@ impl<T: Marked + Drop> Buffers<T> {
 
     /// Another access list takes the place of the buffer's, where WRITE_ACL is granted to the user who acts. Else the answer is
     /// what the buffer's access list decides, which is not `Granted`, and all is as it was. It takes no memory.
-    pub fn relist_as(
+    pub fn set_list_as(
         &mut self,
         directory: &Directory,
         user: &Name,
@@ -245,10 +245,10 @@ impl<T: Marked + Drop> Buffers<T> {
     ) -> Result<(), Decision>
         requires { HasBuffer name.now self.old }
         ensures answer { let b = (marked_at name.now self.old).buffer in PermitAnswers result (decision directory.now b.owners user.now b.entries 262144) }
-        ensures ok { OnOk result (self.new ≡ change_first (marked_named name.now) (marked_relisted list) self.old) }
+        ensures ok { OnOk result (self.new ≡ change_first (marked_named name.now) (marked_list_set list) self.old) }
         ensures err { OnErr result (self.new ≡ self.old) }
     {
-        self.update_as(directory, user, name, Update::Relist(list))
+        self.update_as(directory, user, name, Update::SetList(list))
     }
 
     // Takes the buffer of a name out.

@@ -6,7 +6,8 @@ use Rattle.std.proofs.lemmas.Bool.{cases_Bool}
 use Rattle.std.proofs.lemmas.List.{drop_more}
 use Rattle.std.proofs.lemmas.List.Folds.{length-prefix_len}
 use Rattle.mgs_model.specs.Cells.{cells, cells_from, glyph}
-use Rattle.mgs_model.specs.Whites.{is_between, has_any, words, filled_from, filled_words, refilled}
+use Rattle.mgs_model.specs.Names.{is_filled}
+use Rattle.mgs_model.specs.Whites.{is_between, text_words, filled_from, filled_words, refilled}
 use Rattle.mgs_edit.specs.Reading.{filled_by, is_in_word}
 use Rattle.mgs_edit.proofs.Words.{behind, in_word_more, in_word_none, rest_of_words, words_here, words_past}
 
@@ -52,20 +53,20 @@ counted_new c cs word = rw word (omega arith)
 
 -- in a word: its rest, and then the words behind it
 abbrev CountsInWord : List ℕ → Type 0
-CountsInWord xs = filled_count true xs ≡ prefix_len is_in_word xs + parted_length (filter has_any (behind xs))
+CountsInWord xs = filled_count true xs ≡ prefix_len is_in_word xs + parted_length (filter is_filled (behind xs))
 
 abbrev CountsWords : List ℕ → Type 0
-CountsWords xs = filled_count false xs ≡ parted_length (words xs)
+CountsWords xs = filled_count false xs ≡ parted_length (text_words xs)
 
 counted_in_word : (c : ℕ) (cs : List ℕ) → CountsInWord cs → CountsWords cs → CountsInWord (c ∷ cs)
 counted_in_word c cs inside outside =
     elim (cases_Bool (is_between c)) [
       | inl e ↦
           let rest : behind (c ∷ cs) ≡ slice_split is_between cs = ap (λ b. cond b (slice_split is_between cs) (behind cs)) e in
-          omega (arith, counted_past true c cs e, outside, in_word_none c cs e, ap (λ ps. parted_length (filter has_any ps)) rest)
+          omega (arith, counted_past true c cs e, outside, in_word_none c cs e, ap (λ ps. parted_length (filter is_filled ps)) rest)
       | inr e ↦
           let rest : behind (c ∷ cs) ≡ behind cs = ap (λ b. cond b (slice_split is_between cs) (behind cs)) e in
-          omega (arith, counted_on c cs e, inside, in_word_more c cs e, ap (λ ps. parted_length (filter has_any ps)) rest)
+          omega (arith, counted_on c cs e, inside, in_word_more c cs e, ap (λ ps. parted_length (filter is_filled ps)) rest)
     ]
 
 counted_words : (c : ℕ) (cs : List ℕ) → CountsInWord cs → CountsWords cs → CountsWords (c ∷ cs)
@@ -74,9 +75,9 @@ counted_words c cs inside outside =
       | inl e ↦ counted_past false c cs e ∙ (outside ∙ sym (ap parted_length (words_past c cs e)))
       | inr e ↦
           let n : ℕ = prefix_len is_in_word (c ∷ cs) in
-          let here : parted_length (words (c ∷ cs)) ≡ 1 + length (take n (c ∷ cs)) + parted_length (words (drop n (c ∷ cs))) = ap parted_length (words_here c cs e) in
+          let here : parted_length (text_words (c ∷ cs)) ≡ 1 + length (take n (c ∷ cs)) + parted_length (text_words (drop n (c ∷ cs))) = ap parted_length (words_here c cs e) in
           let rest : behind (c ∷ cs) ≡ behind cs = ap (λ b. cond b (slice_split is_between cs) (behind cs)) e in
-          omega (arith, counted_new c cs e, inside, here, length-prefix_len is_in_word (c ∷ cs), in_word_more c cs e, ap parted_length (rest_of_words (c ∷ cs)), ap (λ ps. parted_length (filter has_any ps)) rest)
+          omega (arith, counted_new c cs e, inside, here, length-prefix_len is_in_word (c ∷ cs), in_word_more c cs e, ap parted_length (rest_of_words (c ∷ cs)), ap (λ ps. parted_length (filter is_filled ps)) rest)
     ]
 
 counted : (xs : List ℕ) → CountsInWord xs × CountsWords xs
@@ -86,7 +87,7 @@ counted (c ∷ cs) =
     (counted_in_word c cs rest.0 rest.1, counted_words c cs rest.0 rest.1)
 
 pub length_refilled : (fill : ℕ) (xs : List ℕ) → length (refilled fill xs) ≡ filled_count false xs - 1
-length_refilled fill xs = length_filled_words fill (words xs) ∙ sym (ap (λ n. n - 1) (counted xs).1)
+length_refilled fill xs = length_filled_words fill (text_words xs) ∙ sym (ap (λ n. n - 1) (counted xs).1)
 
 -- STRETCHES of a text, from the first character on
 

@@ -1,10 +1,12 @@
 -- What a plan says: each is read as a plan of the model, given the text and the kill buffer that it is for.
-use Rattle.std.specs.Prelude.{◌≡◌, ℕ, ◌+◌, ◌-◌, ◌≤◌, Bool, true, false, not, List, [], ◌++◌, length, replicate, slice_range, Option, Some, None, Result, Ok, Err, if◌then◌else◌}
+use Rattle.std.specs.Prelude.{◌≡◌, ℕ, ◌+◌, ◌-◌, ◌≤◌, Bool, true, false, not, List, [], ◌++◌, length, nat_lt, replicate, slice_range, Option, Some, None, Result, Ok, Err, if◌then◌else◌}
 use Rattle.std.specs.List.{repeat}
 use Rattle.mgs_model.specs.Outcome.{PointPlan, Keep, At, MarkPlan, Keep_mark, Mark_at, KillPlan, Keep_kill, Kill_is, Keep_search}
 use Rattle.mgs_model.specs.Whites.{is_between, refilled}
 use Rattle.mgs_model.specs.Cases.{uppercased, lowercased, capitalized}
 use Rattle.mgs_model.specs.Plans as model
+use Rattle.mgs_model.specs.World.{Item}
+use Rattle.mgs_model.specs.declared.limits.TheConstants.{TEXT_LIMIT}
 use Rattle.mgs_model.specs.declared.message.Message.{Message}
 use Rattle.mgs_model.specs.declared.message.Message.TheVariants.{Silent}
 use Rattle.mgs_model.specs.declared.session.Kind.{Kind}
@@ -113,6 +115,13 @@ edit_read text kill (Err message) = Err message
 abbrev pub gone : ℕ → Finish
 gone p = record { point = To p; mark = None; top = None; kill = None; kind = Other; told = Silent }
 
+-- it comes in at a position, and the point goes behind it; or the mark is set too
+abbrev pub coming : ℕ → Put → Change
+coming a put = record { from = a; to = a; put = put; finish = record (gone a) { point = Behind } }
+
+abbrev pub marked : ℕ → Change → Change
+marked m c = record c { finish = record c.finish { mark = Some m } }
+
 -- what stands between two positions is taken out, and is killed or not
 abbrev pub deleted : ℕ → ℕ → Change
 deleted a b = record { from = a; to = b; put = Nothing; finish = gone a }
@@ -158,6 +167,44 @@ pub record ChangeWithin (text kill : List ℕ) (c : Change) : Type 0 where
   pub within : c.to ≤ length text
   pub put : PutWithin text c.put
   pub finish : FinishWithin (length text) (length text - (c.to - c.from) + length (put_read text kill c.put)) c.finish
+
+-- PLANNERS: what each answers is that plan, whatever is given beside what is given here
+
+abbrev pub IsMotion : (List ℕ → model.Around → Result model.Finish Message) → Around → List ℕ → Result Finish Message → Type 0
+IsMotion plan x text answer = (rest : model.Around) → motion_read text rest.kill answer ≡ plan text (surrounded x (length text) rest)
+
+abbrev pub IsChange : (List ℕ → model.Around → Result model.Change Message) → Around → List ℕ → Result Change Message → Type 0
+IsChange plan x text answer = (rest : model.Around) → edit_read text rest.kill answer ≡ plan text (surrounded x (length text) rest)
+
+-- in any text of so many characters
+abbrev pub IsInsertion : (model.Around → Result model.Change Message) → Around → ℕ → Result Change Message → Type 0
+IsInsertion plan x size answer = (text : List ℕ) (rest : model.Around) → length rest.kill ≡ x.killed → edit_read text rest.kill answer ≡ plan (surrounded x size rest)
+
+-- an item of a buffer of that name, serial and size
+abbrev pub IsTakenBack : List ℕ → ℕ → ℕ → Item → Undone → Type 0
+IsTakenBack name serial size item u =
+    (text kill : List ℕ) (kind : Kind) (rest : model.Around) → undone_read text kill item.removed u ≡ model.taken_back (undoing kind name serial (record rest { size = size })) item
+
+-- SIZES: so is what comes in, or what the kill buffer becomes, in each text that has it, where the kill buffer has so many
+-- characters
+
+abbrev pub IsPut : Put → ℕ → (List ℕ → Type 0) → Type 0
+IsPut put killed P = (text kill : List ℕ) → PutWithin text put → length kill ≡ killed → P (put_read text kill put)
+
+abbrev pub IsKilled : Option Piece → ℕ → (KillPlan → Type 0) → Type 0
+IsKilled piece killed P = (text kill : List ℕ) → PieceWithin (length text) piece → length kill ≡ killed → P (kill_read text kill piece)
+
+-- a text of so many characters has more than a text may have when these come in place of those from a up to b
+abbrev pub is_long : ℕ → ℕ → ℕ → List ℕ → Bool
+is_long size a b put = nat_lt TEXT_LIMIT (size - (b - a) + length put)
+
+abbrev pub IsTooLong : ℕ → Change → ℕ → Bool → Type 0
+IsTooLong size c killed answer =
+    (text kill : List ℕ) → length text ≡ size → PutWithin text c.put → length kill ≡ killed → answer ≡ is_long size c.from c.to (put_read text kill c.put)
+
+-- whichever characters come back
+abbrev pub IsUndoTooLong : ℕ → Undone → Bool → Type 0
+IsUndoTooLong size u answer = (removed : List ℕ) → length removed ≡ u.len → answer ≡ is_long size u.from (u.from + u.gone) removed
 
 -- COMMANDS
 

@@ -1,9 +1,8 @@
 // Commands that take out characters of a text, and put in others.
 ghost use Rattle.std.specs.Prelude.{◌≡◌, ℕ, ◌≤◌, ◌<◌, ◌^◌, List, length, IfOk, true};
-ghost use Rattle.mgs_model.specs.Plans as model;
 ghost use Rattle.mgs_model.specs.Plans.{alteration, exchanged_at};
 ghost use Rattle.mgs_model.specs.declared.session.Alteration.TheVariants.{DeleteChar, DeleteBackwardChar, KillLine, KillWord, BackwardKillWord, KillRegion, TransposeChars};
-ghost use Rattle.mgs_edit.specs.Reading.{surrounded, edit_read, ChangeWithin, IsWithin, deleted, is_alteration_planned, killing};
+ghost use Rattle.mgs_edit.specs.Reading.{ChangeWithin, IsWithin, deleted, is_alteration_planned, killing, IsChange};
 
 use crate::around::{goes, is_at_end, is_at_start, joins_behind, joins_in_front, times};
 use crate::cases::{case_region, case_words};
@@ -44,7 +43,7 @@ fn kill(from: usize, to: usize, joins: Joins) -> Change
 
 fn delete_char<T: Text>(text: &T, around: &Around) -> Result<Change, Message>
     requires { around.now.place ≤ length (T.text text.now) }
-    ensures plan { (rest : model.Around) → edit_read (T.text text.now) rest.kill result ≡ alteration DeleteChar (T.text text.now) (surrounded around.now (length (T.text text.now)) rest) }
+    ensures plan { IsChange (alteration DeleteChar) around.now (T.text text.now) result }
     ensures within { (kill : List ℕ) → IfOk result (ChangeWithin (T.text text.now) kill) }
 {
     let size = text.len();
@@ -60,7 +59,7 @@ fn delete_char<T: Text>(text: &T, around: &Around) -> Result<Change, Message>
 
 fn delete_backward_char<T: Text>(text: &T, around: &Around) -> Result<Change, Message>
     requires { around.now.place ≤ length (T.text text.now) }
-    ensures plan { (rest : model.Around) → edit_read (T.text text.now) rest.kill result ≡ alteration DeleteBackwardChar (T.text text.now) (surrounded around.now (length (T.text text.now)) rest) }
+    ensures plan { IsChange (alteration DeleteBackwardChar) around.now (T.text text.now) result }
     ensures within { (kill : List ℕ) → IfOk result (ChangeWithin (T.text text.now) kill) }
 {
     if is_at_start(around) {
@@ -72,7 +71,7 @@ fn delete_backward_char<T: Text>(text: &T, around: &Around) -> Result<Change, Me
 /// An argument of 0 kills what is before the place in its line.
 fn kill_line<T: Text>(text: &T, around: &Around) -> Result<Change, Message>
     requires { around.now.place ≤ length (T.text text.now) }
-    ensures plan { (rest : model.Around) → edit_read (T.text text.now) rest.kill result ≡ alteration KillLine (T.text text.now) (surrounded around.now (length (T.text text.now)) rest) }
+    ensures plan { IsChange (alteration KillLine) around.now (T.text text.now) result }
     ensures within { (kill : List ℕ) → IfOk result (ChangeWithin (T.text text.now) kill) }
 {
     let at = around.place;
@@ -89,7 +88,7 @@ fn kill_line<T: Text>(text: &T, around: &Around) -> Result<Change, Message>
 
 fn kill_to_word_end<T: Text>(text: &T, around: &Around) -> Result<Change, Message>
     requires { around.now.place ≤ length (T.text text.now) }
-    ensures plan { (rest : model.Around) → edit_read (T.text text.now) rest.kill result ≡ alteration KillWord (T.text text.now) (surrounded around.now (length (T.text text.now)) rest) }
+    ensures plan { IsChange (alteration KillWord) around.now (T.text text.now) result }
     ensures within { (kill : List ℕ) → IfOk result (ChangeWithin (T.text text.now) kill) }
 {
     if is_at_end(around, text.len()) {
@@ -101,7 +100,7 @@ fn kill_to_word_end<T: Text>(text: &T, around: &Around) -> Result<Change, Messag
 
 fn kill_to_word_start<T: Text>(text: &T, around: &Around) -> Result<Change, Message>
     requires { around.now.place ≤ length (T.text text.now) }
-    ensures plan { (rest : model.Around) → edit_read (T.text text.now) rest.kill result ≡ alteration BackwardKillWord (T.text text.now) (surrounded around.now (length (T.text text.now)) rest) }
+    ensures plan { IsChange (alteration BackwardKillWord) around.now (T.text text.now) result }
     ensures within { (kill : List ℕ) → IfOk result (ChangeWithin (T.text text.now) kill) }
 {
     if is_at_start(around) {
@@ -114,7 +113,7 @@ fn kill_to_word_start<T: Text>(text: &T, around: &Around) -> Result<Change, Mess
 fn kill_region<T: Text>(text: &T, around: &Around) -> Result<Change, Message>
     requires place { around.now.place ≤ length (T.text text.now) }
     requires mark { IsWithin (length (T.text text.now)) around.now.mark }
-    ensures plan { (rest : model.Around) → edit_read (T.text text.now) rest.kill result ≡ alteration KillRegion (T.text text.now) (surrounded around.now (length (T.text text.now)) rest) }
+    ensures plan { IsChange (alteration KillRegion) around.now (T.text text.now) result }
     ensures within { (kill : List ℕ) → IfOk result (ChangeWithin (T.text text.now) kill) }
 {
     match around.mark {
@@ -129,7 +128,7 @@ fn kill_region<T: Text>(text: &T, around: &Around) -> Result<Change, Message>
 
 fn transpose_chars<T: Text>(text: &T, around: &Around) -> Result<Change, Message>
     requires { around.now.place ≤ length (T.text text.now) }
-    ensures plan { (rest : model.Around) → edit_read (T.text text.now) rest.kill result ≡ alteration TransposeChars (T.text text.now) (surrounded around.now (length (T.text text.now)) rest) }
+    ensures plan { IsChange (alteration TransposeChars) around.now (T.text text.now) result }
     ensures within { (kill : List ℕ) → IfOk result (ChangeWithin (T.text text.now) kill) }
 {
     let at = exchanged_at(text, around.place);
@@ -168,7 +167,7 @@ pub fn alteration<T: Text>(
     requires place { around.now.place ≤ length (T.text text.now) }
     requires mark { IsWithin (length (T.text text.now)) around.now.mark }
     requires planned { is_alteration_planned command ≡ true }
-    ensures plan { (rest : model.Around) → edit_read (T.text text.now) rest.kill result ≡ alteration command (T.text text.now) (surrounded around.now (length (T.text text.now)) rest) }
+    ensures plan { IsChange (alteration command) around.now (T.text text.now) result }
     ensures within { (kill : List ℕ) → IfOk result (ChangeWithin (T.text text.now) kill) }
 {
     match command {

@@ -1,6 +1,7 @@
 // What commands ask of what they are given.
 ghost use Rattle.std.specs.Prelude.{◌≡◌, ℕ, List, nat_le, nat_lt, ◌==◌, ◌&&◌};
-ghost use Rattle.mgs_model.specs.Plans.{count_of, goal_in, kill_behind, kill_in_front};
+ghost use Rattle.mgs_model.specs.Plans.{count_of, goal_in, killed};
+ghost use Rattle.mgs_model.specs.declared.search.Direction.TheVariants.{Backward, Forward};
 ghost use Rattle.mgs_edit.specs.Reading.{gone, kill_joined};
 
 use crate::plan::{Around, Finish, Goes, Joins, STAYS};
@@ -32,7 +33,7 @@ pub(crate) fn is_at_start(around: &Around) -> bool
 
 /// How a piece joins the kill buffer that is killed forwards, or copied, after a command of that kind.
 pub(crate) fn joins_behind(kind: Kind) -> Joins
-    ensures { (kill piece : List ℕ) → kill_joined result kill piece ≡ kill_behind kind kill piece }
+    ensures { (kill piece : List ℕ) → kill_joined result kill piece ≡ killed Forward kind kill piece }
 {
     match kind {
         Kind::Kill => Joins::Behind,
@@ -42,7 +43,7 @@ pub(crate) fn joins_behind(kind: Kind) -> Joins
 
 /// How one joins it that is killed backwards.
 pub(crate) fn joins_in_front(kind: Kind) -> Joins
-    ensures { (kill piece : List ℕ) → kill_joined result kill piece ≡ kill_in_front kind kill piece }
+    ensures { (kill piece : List ℕ) → kill_joined result kill piece ≡ killed Backward kind kill piece }
 {
     match kind {
         Kind::Kill => Joins::InFront,

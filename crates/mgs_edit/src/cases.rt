@@ -1,9 +1,8 @@
 // Letters in another case.
 ghost use Rattle.std.specs.Prelude.{◌≡◌, ℕ, ◌≤◌, List, length, IfOk};
 ghost use Rattle.mgs_model.specs.Cases.{begins_word, capitalized, lowercased, uppercased};
-ghost use Rattle.mgs_model.specs.Plans as model;
 ghost use Rattle.mgs_model.specs.Plans.{cases_region, cases_words};
-ghost use Rattle.mgs_edit.specs.Reading.{surrounded, cased, edit_read, ChangeWithin, IsWithin};
+ghost use Rattle.mgs_edit.specs.Reading.{cased, ChangeWithin, IsWithin, IsChange};
 
 use crate::around::{goes, is_at_end, times};
 use crate::plan::{Around, Case, Change, Finish, Goes, Put, STAYS};
@@ -14,7 +13,7 @@ use mgs_text::Text;
 /// The characters from the place on over words come in another case. `EndOfBuffer`: there are none.
 pub(crate) fn case_words<T: Text>(text: &T, around: &Around, case: Case) -> Result<Change, Message>
     requires { around.now.place ≤ length (T.text text.now) }
-    ensures plan { (rest : model.Around) → edit_read (T.text text.now) rest.kill result ≡ cases_words (cased case) (T.text text.now) (surrounded around.now (length (T.text text.now)) rest) }
+    ensures plan { IsChange (cases_words (cased case)) around.now (T.text text.now) result }
     ensures within { (kill : List ℕ) → IfOk result (ChangeWithin (T.text text.now) kill) }
 {
     if is_at_end(around, text.len()) {
@@ -37,7 +36,7 @@ pub(crate) fn case_words<T: Text>(text: &T, around: &Around, case: Case) -> Resu
 pub(crate) fn case_region<T: Text>(text: &T, around: &Around, case: Case) -> Result<Change, Message>
     requires place { around.now.place ≤ length (T.text text.now) }
     requires mark { IsWithin (length (T.text text.now)) around.now.mark }
-    ensures plan { (rest : model.Around) → edit_read (T.text text.now) rest.kill result ≡ cases_region (cased case) (T.text text.now) (surrounded around.now (length (T.text text.now)) rest) around.now.mark }
+    ensures plan { IsChange (cases_region (cased case)) around.now (T.text text.now) result }
     ensures within { (kill : List ℕ) → IfOk result (ChangeWithin (T.text text.now) kill) }
 {
     match around.mark {

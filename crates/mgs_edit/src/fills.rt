@@ -1,12 +1,11 @@
 // Paragraphs that are filled.
 ghost use Rattle.std.specs.Prelude.{◌≡◌, ℕ, ◌+◌, ◌≤◌, ◌++◌, ◌∷◌, List, length, min, nat_le, slice_range, Ok, IfOk, OnOk};
 ghost use Rattle.mgs_model.specs.Cells.{cells};
-ghost use Rattle.mgs_model.specs.Plans as model;
 ghost use Rattle.mgs_model.specs.Plans.{alteration};
 ghost use Rattle.mgs_model.specs.Walks.{over};
 ghost use Rattle.mgs_model.specs.Whites.{is_between, refilled};
 ghost use Rattle.mgs_model.specs.declared.session.Alteration.TheVariants.{FillParagraph};
-ghost use Rattle.mgs_edit.specs.Reading.{ChangeWithin, edit_read, filled_by, is_in_word, surrounded};
+ghost use Rattle.mgs_edit.specs.Reading.{ChangeWithin, filled_by, is_in_word, IsChange};
 
 use crate::plan::{Around, Change, Finish, Goes, Put, STAYS};
 use mgs_lines::{is_blank_at, paragraph_end, paragraph_start, width};
@@ -153,7 +152,7 @@ fn filled_len<T: Text>(text: &T, from: usize, to: usize) -> usize
 /// The paragraph around the place is filled, and the point goes behind it. In a blank line nothing is.
 pub(crate) fn fill_paragraph<T: Text>(text: &T, around: &Around) -> Change
     requires { around.now.place ≤ length (T.text text.now) }
-    ensures plan { (rest : model.Around) → edit_read (T.text text.now) rest.kill (Ok result) ≡ alteration FillParagraph (T.text text.now) (surrounded around.now (length (T.text text.now)) rest) }
+    ensures plan { IsChange (alteration FillParagraph) around.now (T.text text.now) (Ok result) }
     ensures within { (kill : List ℕ) → ChangeWithin (T.text text.now) kill result }
 {
     let at = around.place;

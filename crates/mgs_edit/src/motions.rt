@@ -1,12 +1,11 @@
 // Motions, which edit nothing.
-ghost use Rattle.std.specs.Prelude.{◌≡◌, ◌≤◌, ◌<◌, ◌^◌, length, IfOk, true};
-ghost use Rattle.mgs_model.specs.Plans as model;
+ghost use Rattle.std.specs.Prelude.{◌≡◌, ◌≤◌, ◌<◌, ◌^◌, length, IfOk, true, Ok};
 ghost use Rattle.mgs_model.specs.Plans.{lined, motion};
 ghost use Rattle.mgs_model.specs.declared.session.Motion.TheVariants.{ForwardChar, BackwardChar, GoToLine, NextLine, PreviousLine, ForwardWord, BackwardWord, ForwardParagraph, BackwardParagraph, Recenter, WhatCursorPosition, ExchangePointAndMark, CopyRegion};
-ghost use Rattle.mgs_edit.specs.Reading.{surrounded, finish_read, motion_read, FinishWithin, IsWithin, is_planned};
+ghost use Rattle.mgs_edit.specs.Reading.{FinishWithin, IsWithin, is_planned, IsMotion};
 
 use crate::around::{goal, goes, is_at_end, is_at_start, joins_behind, times};
-use crate::plan::{Around, Finish, Goes, Piece, STAYS};
+use crate::plan::{Around, Finish, Piece, STAYS};
 use mgs_lines::{
     backward_paragraph, backward_word, column, column_place, forward_paragraph, forward_word,
     is_first_line, is_last_line, line_end, line_start, lines_down, lines_up,
@@ -16,7 +15,7 @@ use mgs_text::Text;
 
 fn forward_char<T: Text>(text: &T, around: &Around) -> Result<Finish, Message>
     requires { around.now.place ≤ length (T.text text.now) }
-    ensures plan { (rest : model.Around) → motion_read (T.text text.now) rest.kill result ≡ motion ForwardChar (T.text text.now) (surrounded around.now (length (T.text text.now)) rest) }
+    ensures plan { IsMotion (motion ForwardChar) around.now (T.text text.now) result }
     ensures within { IfOk result (FinishWithin (length (T.text text.now)) (length (T.text text.now))) }
 {
     let size = text.len();
@@ -32,7 +31,7 @@ fn forward_char<T: Text>(text: &T, around: &Around) -> Result<Finish, Message>
 
 fn backward_char<T: Text>(text: &T, around: &Around) -> Result<Finish, Message>
     requires { around.now.place ≤ length (T.text text.now) }
-    ensures plan { (rest : model.Around) → motion_read (T.text text.now) rest.kill result ≡ motion BackwardChar (T.text text.now) (surrounded around.now (length (T.text text.now)) rest) }
+    ensures plan { IsMotion (motion BackwardChar) around.now (T.text text.now) result }
     ensures within { IfOk result (FinishWithin (length (T.text text.now)) (length (T.text text.now))) }
 {
     if is_at_start(around) {
@@ -46,7 +45,7 @@ fn lined<T: Text>(text: &T, around: &Around, start: usize) -> Finish
     requires place { around.now.place ≤ length (T.text text.now) }
     requires start { start ≤ length (T.text text.now) }
     requires short { length (T.text text.now) < 2 ^ 32 }
-    ensures plan { (rest : model.Around) → finish_read (T.text text.now) rest.kill 0 result ≡ lined (T.text text.now) (surrounded around.now (length (T.text text.now)) rest) start }
+    ensures plan { IsMotion (λ text x. Ok (lined text x start)) around.now (T.text text.now) (Ok result) }
     ensures within { FinishWithin (length (T.text text.now)) (length (T.text text.now)) result }
 {
     let goal = goal(around.kind, column(text, around.place));
@@ -59,7 +58,7 @@ fn lined<T: Text>(text: &T, around: &Around, start: usize) -> Finish
 fn next_line<T: Text>(text: &T, around: &Around) -> Result<Finish, Message>
     requires place { around.now.place ≤ length (T.text text.now) }
     requires short { length (T.text text.now) < 2 ^ 32 }
-    ensures plan { (rest : model.Around) → motion_read (T.text text.now) rest.kill result ≡ motion NextLine (T.text text.now) (surrounded around.now (length (T.text text.now)) rest) }
+    ensures plan { IsMotion (motion NextLine) around.now (T.text text.now) result }
     ensures within { IfOk result (FinishWithin (length (T.text text.now)) (length (T.text text.now))) }
 {
     let times = times(around);
@@ -73,7 +72,7 @@ fn next_line<T: Text>(text: &T, around: &Around) -> Result<Finish, Message>
 fn previous_line<T: Text>(text: &T, around: &Around) -> Result<Finish, Message>
     requires place { around.now.place ≤ length (T.text text.now) }
     requires short { length (T.text text.now) < 2 ^ 32 }
-    ensures plan { (rest : model.Around) → motion_read (T.text text.now) rest.kill result ≡ motion PreviousLine (T.text text.now) (surrounded around.now (length (T.text text.now)) rest) }
+    ensures plan { IsMotion (motion PreviousLine) around.now (T.text text.now) result }
     ensures within { IfOk result (FinishWithin (length (T.text text.now)) (length (T.text text.now))) }
 {
     let times = times(around);
@@ -86,7 +85,7 @@ fn previous_line<T: Text>(text: &T, around: &Around) -> Result<Finish, Message>
 
 fn to_word_end<T: Text>(text: &T, around: &Around) -> Result<Finish, Message>
     requires { around.now.place ≤ length (T.text text.now) }
-    ensures plan { (rest : model.Around) → motion_read (T.text text.now) rest.kill result ≡ motion ForwardWord (T.text text.now) (surrounded around.now (length (T.text text.now)) rest) }
+    ensures plan { IsMotion (motion ForwardWord) around.now (T.text text.now) result }
     ensures within { IfOk result (FinishWithin (length (T.text text.now)) (length (T.text text.now))) }
 {
     if is_at_end(around, text.len()) {
@@ -97,7 +96,7 @@ fn to_word_end<T: Text>(text: &T, around: &Around) -> Result<Finish, Message>
 
 fn to_word_start<T: Text>(text: &T, around: &Around) -> Result<Finish, Message>
     requires { around.now.place ≤ length (T.text text.now) }
-    ensures plan { (rest : model.Around) → motion_read (T.text text.now) rest.kill result ≡ motion BackwardWord (T.text text.now) (surrounded around.now (length (T.text text.now)) rest) }
+    ensures plan { IsMotion (motion BackwardWord) around.now (T.text text.now) result }
     ensures within { IfOk result (FinishWithin (length (T.text text.now)) (length (T.text text.now))) }
 {
     if is_at_start(around) {
@@ -108,7 +107,7 @@ fn to_word_start<T: Text>(text: &T, around: &Around) -> Result<Finish, Message>
 
 fn to_paragraph_end<T: Text>(text: &T, around: &Around) -> Result<Finish, Message>
     requires { around.now.place ≤ length (T.text text.now) }
-    ensures plan { (rest : model.Around) → motion_read (T.text text.now) rest.kill result ≡ motion ForwardParagraph (T.text text.now) (surrounded around.now (length (T.text text.now)) rest) }
+    ensures plan { IsMotion (motion ForwardParagraph) around.now (T.text text.now) result }
     ensures within { IfOk result (FinishWithin (length (T.text text.now)) (length (T.text text.now))) }
 {
     if is_at_end(around, text.len()) {
@@ -119,7 +118,7 @@ fn to_paragraph_end<T: Text>(text: &T, around: &Around) -> Result<Finish, Messag
 
 fn to_paragraph_start<T: Text>(text: &T, around: &Around) -> Result<Finish, Message>
     requires { around.now.place ≤ length (T.text text.now) }
-    ensures plan { (rest : model.Around) → motion_read (T.text text.now) rest.kill result ≡ motion BackwardParagraph (T.text text.now) (surrounded around.now (length (T.text text.now)) rest) }
+    ensures plan { IsMotion (motion BackwardParagraph) around.now (T.text text.now) result }
     ensures within { IfOk result (FinishWithin (length (T.text text.now)) (length (T.text text.now))) }
 {
     if is_at_start(around) {
@@ -130,7 +129,7 @@ fn to_paragraph_start<T: Text>(text: &T, around: &Around) -> Result<Finish, Mess
 
 fn recenter<T: Text>(text: &T, around: &Around) -> Result<Finish, Message>
     requires { around.now.place ≤ length (T.text text.now) }
-    ensures plan { (rest : model.Around) → motion_read (T.text text.now) rest.kill result ≡ motion Recenter (T.text text.now) (surrounded around.now (length (T.text text.now)) rest) }
+    ensures plan { IsMotion (motion Recenter) around.now (T.text text.now) result }
     ensures within { IfOk result (FinishWithin (length (T.text text.now)) (length (T.text text.now))) }
 {
     let line = text.line_of(around.place);
@@ -144,7 +143,7 @@ fn recenter<T: Text>(text: &T, around: &Around) -> Result<Finish, Message>
 fn what_cursor_position<T: Text>(text: &T, around: &Around) -> Result<Finish, Message>
     requires place { around.now.place ≤ length (T.text text.now) }
     requires short { length (T.text text.now) < 2 ^ 32 }
-    ensures plan { (rest : model.Around) → motion_read (T.text text.now) rest.kill result ≡ motion WhatCursorPosition (T.text text.now) (surrounded around.now (length (T.text text.now)) rest) }
+    ensures plan { IsMotion (motion WhatCursorPosition) around.now (T.text text.now) result }
     ensures within { IfOk result (FinishWithin (length (T.text text.now)) (length (T.text text.now))) }
 {
     let size = text.len();
@@ -165,7 +164,7 @@ fn what_cursor_position<T: Text>(text: &T, around: &Around) -> Result<Finish, Me
 fn exchange_point_and_mark<T: Text>(text: &T, around: &Around) -> Result<Finish, Message>
     requires place { around.now.place ≤ length (T.text text.now) }
     requires mark { IsWithin (length (T.text text.now)) around.now.mark }
-    ensures plan { (rest : model.Around) → motion_read (T.text text.now) rest.kill result ≡ motion ExchangePointAndMark (T.text text.now) (surrounded around.now (length (T.text text.now)) rest) }
+    ensures plan { IsMotion (motion ExchangePointAndMark) around.now (T.text text.now) result }
     ensures within { IfOk result (FinishWithin (length (T.text text.now)) (length (T.text text.now))) }
 {
     match around.mark {
@@ -180,7 +179,7 @@ fn exchange_point_and_mark<T: Text>(text: &T, around: &Around) -> Result<Finish,
 fn copy_region<T: Text>(text: &T, around: &Around) -> Result<Finish, Message>
     requires place { around.now.place ≤ length (T.text text.now) }
     requires mark { IsWithin (length (T.text text.now)) around.now.mark }
-    ensures plan { (rest : model.Around) → motion_read (T.text text.now) rest.kill result ≡ motion CopyRegion (T.text text.now) (surrounded around.now (length (T.text text.now)) rest) }
+    ensures plan { IsMotion (motion CopyRegion) around.now (T.text text.now) result }
     ensures within { IfOk result (FinishWithin (length (T.text text.now)) (length (T.text text.now))) }
 {
     match around.mark {
@@ -199,7 +198,7 @@ fn copy_region<T: Text>(text: &T, around: &Around) -> Result<Finish, Message>
 
 /// To the start of the line that the argument says, counted from 1, or of the last where there are fewer.
 fn go_to_line<T: Text>(text: &T, around: &Around) -> Result<Finish, Message>
-    ensures plan { (rest : model.Around) → motion_read (T.text text.now) rest.kill result ≡ motion GoToLine (T.text text.now) (surrounded around.now (length (T.text text.now)) rest) }
+    ensures plan { IsMotion (motion GoToLine) around.now (T.text text.now) result }
     ensures within { IfOk result (FinishWithin (length (T.text text.now)) (length (T.text text.now))) }
 {
     match around.argument {
@@ -215,7 +214,7 @@ pub fn motion<T: Text>(text: &T, around: &Around, command: Motion) -> Result<Fin
     requires mark { IsWithin (length (T.text text.now)) around.now.mark }
     requires short { length (T.text text.now) < 2 ^ 32 }
     requires planned { is_planned command ≡ true }
-    ensures plan { (rest : model.Around) → motion_read (T.text text.now) rest.kill result ≡ motion command (T.text text.now) (surrounded around.now (length (T.text text.now)) rest) }
+    ensures plan { IsMotion (motion command) around.now (T.text text.now) result }
     ensures within { IfOk result (FinishWithin (length (T.text text.now)) (length (T.text text.now))) }
 {
     match command {

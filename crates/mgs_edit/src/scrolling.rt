@@ -3,7 +3,7 @@ ghost use Rattle.std.specs.Prelude.{◌≡◌, ℕ, ◌≤◌, length, IfOk};
 ghost use Rattle.mgs_model.specs.Plans as model;
 ghost use Rattle.mgs_model.specs.Plans.{lines_scrolled, row_scrolled, scrolling};
 ghost use Rattle.mgs_model.specs.declared.session.Scrolling.TheVariants.{ScrollUp, ScrollDown};
-ghost use Rattle.mgs_edit.specs.Reading.{surrounded, motion_read, FinishWithin};
+ghost use Rattle.mgs_edit.specs.Reading.{surrounded, FinishWithin, IsMotion};
 
 use crate::around::goes;
 use crate::plan::{Around, Finish};
@@ -26,7 +26,7 @@ fn lines(around: &Around) -> usize
 
 fn scroll_up<T: Text>(text: &T, around: &Around) -> Result<Finish, Message>
     requires { around.now.place ≤ length (T.text text.now) }
-    ensures plan { (rest : model.Around) → motion_read (T.text text.now) rest.kill result ≡ scrolling ScrollUp (T.text text.now) (surrounded around.now (length (T.text text.now)) rest) }
+    ensures plan { IsMotion (scrolling ScrollUp) around.now (T.text text.now) result }
     ensures within { IfOk result (FinishWithin (length (T.text text.now)) (length (T.text text.now))) }
 {
     let lines = lines(around);
@@ -38,7 +38,7 @@ fn scroll_up<T: Text>(text: &T, around: &Around) -> Result<Finish, Message>
 
 fn scroll_down<T: Text>(text: &T, around: &Around) -> Result<Finish, Message>
     requires { around.now.place ≤ length (T.text text.now) }
-    ensures plan { (rest : model.Around) → motion_read (T.text text.now) rest.kill result ≡ scrolling ScrollDown (T.text text.now) (surrounded around.now (length (T.text text.now)) rest) }
+    ensures plan { IsMotion (scrolling ScrollDown) around.now (T.text text.now) result }
     ensures within { IfOk result (FinishWithin (length (T.text text.now)) (length (T.text text.now))) }
 {
     let lines = lines(around);
@@ -52,7 +52,7 @@ fn scroll_down<T: Text>(text: &T, around: &Around) -> Result<Finish, Message>
 /// first.
 pub fn scroll<T: Text>(text: &T, around: &Around, command: Scrolling) -> Result<Finish, Message>
     requires { around.now.place ≤ length (T.text text.now) }
-    ensures plan { (rest : model.Around) → motion_read (T.text text.now) rest.kill result ≡ scrolling command (T.text text.now) (surrounded around.now (length (T.text text.now)) rest) }
+    ensures plan { IsMotion (scrolling command) around.now (T.text text.now) result }
     ensures within { IfOk result (FinishWithin (length (T.text text.now)) (length (T.text text.now))) }
 {
     match command {

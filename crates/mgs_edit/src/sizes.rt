@@ -1,8 +1,8 @@
 // What an edit and a kill come to, and where that is too much.
-ghost use Rattle.std.specs.Prelude.{◌≡◌, ℕ, ◌≤◌, ◌-◌, ◌+◌, ◌^◌, List, length, nat_lt, IfSome, None};
+ghost use Rattle.std.specs.Prelude.{◌≡◌, ℕ, ◌≤◌, ◌+◌, ◌^◌, List, length, IfSome, None};
 ghost use Rattle.mgs_model.specs.Acts.{is_too_large};
 ghost use Rattle.mgs_model.specs.Text.{is_edit};
-ghost use Rattle.mgs_edit.specs.Reading.{kill_read, put_read, PieceWithin, PutWithin};
+ghost use Rattle.mgs_edit.specs.Reading.{IsKilled, IsPut, IsTooLong, IsUndoTooLong};
 
 use crate::plan::{Change, Finish, Joins, Put, Undone};
 use mgs_model::TEXT_LIMIT;
@@ -10,8 +10,8 @@ use mgs_model::TEXT_LIMIT;
 #[tactic(auto, using(crate::proofs::Lengths::length_killed))]
 /// How many characters come in, where the kill buffer has `killed`. `None`: more than a number can say.
 pub fn put_len(put: &Put, killed: usize) -> Option<usize>
-    ensures some { IfSome result (λ n. (text kill : List ℕ) → PutWithin text put.now → length kill ≡ killed → length (put_read text kill put.now) ≡ n) }
-    ensures none { result ≡ None → (text kill : List ℕ) → PutWithin text put.now → length kill ≡ killed → 2 ^ 64 ≤ length (put_read text kill put.now) }
+    ensures some { IfSome result (λ n. IsPut put.now killed (λ chars. length chars ≡ n)) }
+    ensures none { result ≡ None → IsPut put.now killed (λ chars. 2 ^ 64 ≤ length chars) }
 {
     match *put {
         Put::Nothing => Some(0),
@@ -31,7 +31,7 @@ pub fn put_len(put: &Put, killed: usize) -> Option<usize>
 
 /// Whether a change takes out or puts in anything, where the kill buffer has `killed` characters.
 pub fn is_edit(change: &Change, killed: usize) -> bool
-    ensures { (text kill : List ℕ) → PutWithin text change.now.put → length kill ≡ killed → result ≡ is_edit change.now.from change.now.to (put_read text kill change.now.put) }
+    ensures { IsPut change.now.put killed (λ chars. result ≡ is_edit change.now.from change.now.to chars) }
 {
     match put_len(&change.put, killed) {
         None => true,
@@ -43,7 +43,7 @@ pub fn is_edit(change: &Change, killed: usize) -> bool
 pub fn is_too_long(size: usize, change: &Change, killed: usize) -> bool
     requires order { change.now.from ≤ change.now.to }
     requires within { change.now.to ≤ size }
-    ensures { (text kill : List ℕ) → length text ≡ size → PutWithin text change.now.put → length kill ≡ killed → result ≡ nat_lt TEXT_LIMIT (size - (change.now.to - change.now.from) + length (put_read text kill change.now.put)) }
+    ensures { IsTooLong size change.now killed result }
 {
     let left = size - (change.to - change.from);
     match put_len(&change.put, killed) {
@@ -62,7 +62,7 @@ pub fn is_undo_an_edit(undone: &Undone) -> bool
 /// Whether an undo leaves a text of `size` characters with more than a text may have.
 pub fn is_undo_too_long(size: usize, undone: &Undone) -> bool
     requires { undone.now.from + undone.now.gone ≤ size }
-    ensures { (removed : List ℕ) → length removed ≡ undone.now.len → result ≡ nat_lt TEXT_LIMIT (size - ((undone.now.from + undone.now.gone) - undone.now.from) + length removed) }
+    ensures { IsUndoTooLong size undone.now result }
 {
     let left = size - undone.gone;
     left > TEXT_LIMIT || undone.len > TEXT_LIMIT - left
@@ -70,7 +70,7 @@ pub fn is_undo_too_long(size: usize, undone: &Undone) -> bool
 
 /// Whether a kill leaves a kill buffer of `killed` characters with more than it may have.
 pub fn is_kill_too_large(finish: &Finish, killed: usize) -> bool
-    ensures { (text kill : List ℕ) → PieceWithin (length text) finish.now.kill → length kill ≡ killed → result ≡ is_too_large (kill_read text kill finish.now.kill) }
+    ensures { IsKilled finish.now.kill killed (λ kill. result ≡ is_too_large kill) }
 {
     let Some(piece) = finish.kill else {
         return false;

@@ -1,9 +1,9 @@
 // Undo: which edit is taken back, and what that comes to.
-ghost use Rattle.std.specs.Prelude.{◌≡◌, ℕ, ◌<◌, ◌≤◌, ◌+◌, ◌-◌, ◌^◌, List, length};
+ghost use Rattle.std.specs.Prelude.{◌≡◌, ◌<◌, ◌≤◌, ◌+◌, ◌-◌, ◌^◌, length};
 ghost use Rattle.mgs_model.specs.Plans as model;
-ghost use Rattle.mgs_model.specs.Plans.{taken_back, undo_target};
+ghost use Rattle.mgs_model.specs.Plans.{undo_target};
 ghost use Rattle.mgs_undo.specs.Numbered.{item_of};
-ghost use Rattle.mgs_edit.specs.Reading.{LeavesBehind, undone_read, undoing};
+ghost use Rattle.mgs_edit.specs.Reading.{IsTakenBack, LeavesBehind, undoing};
 
 use crate::plan::{Finish, Goes, STAYS, Undone};
 use mgs_model::{Kind, Name};
@@ -35,7 +35,7 @@ pub fn undo_target(kind: Kind, name: &Name, serial: u64) -> u64
 /// buffer's, and an edit more can be counted. `size` is how many characters the buffer has: the undo lies within them.
 pub fn undo(edit: &Edit, name: &Name, target: u64, serial: u64, size: usize) -> Undone
     requires { serial < 2 ^ 64 - 1 }
-    ensures plan { (text kill : List ℕ) (kind : Kind) (rest : model.Around) → undone_read text kill edit.now.removed.items result ≡ taken_back (undoing kind name.now serial (record rest { size = size })) (item_of target edit.now) }
+    ensures plan { IsTakenBack name.now serial size (item_of target edit.now) result }
     ensures within { result.from + result.gone ≤ size }
     ensures serial { result.serial ≡ target }
     ensures len { result.len ≡ length edit.now.removed.items }

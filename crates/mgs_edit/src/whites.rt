@@ -1,9 +1,8 @@
 // Commands on white: spaces, tabs and blank lines.
 ghost use Rattle.std.specs.Prelude.{◌≡◌, ℕ, ◌≤◌, List, length, IfOk, Ok};
-ghost use Rattle.mgs_model.specs.Plans as model;
 ghost use Rattle.mgs_model.specs.Plans.{alteration, joins_line};
 ghost use Rattle.mgs_model.specs.declared.session.Alteration.TheVariants.{DeleteBlankLines, DeleteHorizontalSpace, JoinLine, JustOneSpace};
-ghost use Rattle.mgs_edit.specs.Reading.{surrounded, edit_read, ChangeWithin};
+ghost use Rattle.mgs_edit.specs.Reading.{edit_read, ChangeWithin, IsChange};
 
 use crate::alterations::deletion;
 use crate::around::goes;
@@ -19,7 +18,7 @@ const SPACE: Put = Put::Character { put: ' ', times: 1 };
 /// The white around the place becomes one space, and the point stands behind it.
 pub(crate) fn just_one_space<T: Text>(text: &T, around: &Around) -> Change
     requires { around.now.place ≤ length (T.text text.now) }
-    ensures plan { (rest : model.Around) → edit_read (T.text text.now) rest.kill (Ok result) ≡ alteration JustOneSpace (T.text text.now) (surrounded around.now (length (T.text text.now)) rest) }
+    ensures plan { IsChange (alteration JustOneSpace) around.now (T.text text.now) (Ok result) }
     ensures within { (kill : List ℕ) → ChangeWithin (T.text text.now) kill result }
 {
     Change {
@@ -36,7 +35,7 @@ pub(crate) fn just_one_space<T: Text>(text: &T, around: &Around) -> Change
 /// The white around the place is taken out.
 pub(crate) fn delete_horizontal_space<T: Text>(text: &T, around: &Around) -> Change
     requires { around.now.place ≤ length (T.text text.now) }
-    ensures plan { (rest : model.Around) → edit_read (T.text text.now) rest.kill (Ok result) ≡ alteration DeleteHorizontalSpace (T.text text.now) (surrounded around.now (length (T.text text.now)) rest) }
+    ensures plan { IsChange (alteration DeleteHorizontalSpace) around.now (T.text text.now) (Ok result) }
     ensures within { (kill : List ℕ) → ChangeWithin (T.text text.now) kill result }
 {
     deletion(
@@ -49,7 +48,7 @@ pub(crate) fn delete_horizontal_space<T: Text>(text: &T, around: &Around) -> Cha
 /// that directly follow it.
 pub(crate) fn delete_blank_lines<T: Text>(text: &T, around: &Around) -> Change
     requires { around.now.place ≤ length (T.text text.now) }
-    ensures plan { (rest : model.Around) → edit_read (T.text text.now) rest.kill (Ok result) ≡ alteration DeleteBlankLines (T.text text.now) (surrounded around.now (length (T.text text.now)) rest) }
+    ensures plan { IsChange (alteration DeleteBlankLines) around.now (T.text text.now) (Ok result) }
     ensures within { (kill : List ℕ) → ChangeWithin (T.text text.now) kill result }
 {
     let end = blanks_end(text, around.place);
@@ -83,7 +82,7 @@ fn joined<T: Text>(text: &T, start: usize) -> Change
 /// The place's line is joined to the one above. `BeginningOfBuffer`: there is none.
 pub(crate) fn join_line<T: Text>(text: &T, around: &Around) -> Result<Change, Message>
     requires { around.now.place ≤ length (T.text text.now) }
-    ensures plan { (rest : model.Around) → edit_read (T.text text.now) rest.kill result ≡ alteration JoinLine (T.text text.now) (surrounded around.now (length (T.text text.now)) rest) }
+    ensures plan { IsChange (alteration JoinLine) around.now (T.text text.now) result }
     ensures within { (kill : List ℕ) → IfOk result (ChangeWithin (T.text text.now) kill) }
 {
     let start = line_start(text, around.place);

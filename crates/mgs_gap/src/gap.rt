@@ -1,15 +1,16 @@
 // A text over a block with a gap. A mark is a raw place of the block: its number there, the gap counted.
-ghost use Rattle.std.specs.Prelude.{◌≡◌, ◌≢◌, ℕ, ◌+◌, ◌-◌, ◌<◌, ◌≤◌, ◌^◌, ◌++◌, ◌∷◌, [], List, Option, Some, None, length, map, take, drop, slice_set, slice_index, slice_range, IsSome, OnOk, OnErr, IfOk};
-ghost use Rattle.mgs_model.specs.Text.{edited, shift, shift_all};
-ghost use Rattle.mgs_marks.specs.Marks.{mark_in, position_in, or_zero};
+ghost use Rattle.std.specs.Prelude.{◌≡◌, ℕ, ◌+◌, ◌-◌, ◌<◌, ◌≤◌, ◌++◌, Option, Some, None, length, slice_range, IfOk};
+ghost use Rattle.mgs_marks.specs.Marks.{position_in};
 ghost use Rattle.mgs_gap.specs.Feeds.{AreFeeds};
-ghost use Rattle.mgs_gap.specs.Gapped.{Gapped, gapped, text_of};
-ghost use Rattle.mgs_gap.specs.RawPlaces.{text_place, raw_place, IsRaw, marks_at};
+ghost use Rattle.mgs_gap.specs.Gapped.{text_of};
+ghost use Rattle.mgs_gap.specs.RawPlaces.{text_place, IsRaw, marks_at};
 
 use crate::block::Block;
 use crate::feeds::Feeds;
 use crate::lined::edit_lined;
-use crate::places::{Edit, Gap, count_used, free_slot, leaves_marks, move_places, to_raw, to_text};
+use crate::places::{
+    Gap, Splice, count_used, free_slot, leaves_marks, move_places, to_raw, to_text,
+};
 use mgs_marks::Marked;
 use mgs_model::{MarkId, Short};
 use mgs_text::Text;
@@ -102,7 +103,7 @@ impl Text for GapText {
 
     fn replace(&mut self, a: usize, b: usize, put: &[char]) -> Result<(), Short> {
         let old = self.gap();
-        let edit = Edit {
+        let edit = Splice {
             from: a,
             to: b,
             count: put.len(),

@@ -1,7 +1,7 @@
 // A block and its line feeds, which are edited together.
 ghost use Rattle.std.specs.Prelude.{◌≡◌, ◌+◌, ◌-◌, ◌≤◌, ◌++◌, length, take, drop, OnOk, OnErr};
 ghost use Rattle.mgs_gap.specs.Feeds.{AreFeeds};
-ghost use Rattle.mgs_gap.specs.Gapped.{Gapped, gapped, text_of};
+ghost use Rattle.mgs_gap.specs.Gapped.{text_of};
 
 use crate::block::Block;
 use crate::feeds::{Feeds, count};

@@ -1,6 +1,6 @@
 // Longer steps of a block, in safe code.
 ghost use Rattle.std.specs.Prelude.{◌≡◌, ◌+◌, ◌-◌, ◌<◌, ◌≤◌, ◌++◌, [], length, take, drop, slice_index, IfOk, OnOk, OnErr};
-ghost use Rattle.mgs_gap.specs.Gapped.{Gapped, gapped, text_of};
+ghost use Rattle.mgs_gap.specs.Gapped.{gapped, text_of};
 
 use crate::block::Block;
 use mgs_model::Short;

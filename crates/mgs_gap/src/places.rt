@@ -1,5 +1,5 @@
 // Raw places and places in the text.
-ghost use Rattle.std.specs.Prelude.{◌≡◌, ℕ, ◌+◌, ◌-◌, ◌<◌, ◌≤◌, ◌^◌, ◌↔◌, List, Option, None, map, length, count_by, is_some, IsTrue, IfOk, OnErr};
+ghost use Rattle.std.specs.Prelude.{◌≡◌, ℕ, ◌+◌, ◌-◌, ◌<◌, ◌≤◌, ◌^◌, ◌↔◌, Option, None, map, length, count_by, is_some, IsTrue, IfOk, OnErr};
 ghost use Rattle.std.specs.Option.{option_map};
 ghost use Rattle.mgs_model.specs.Text.{shift};
 ghost use Rattle.mgs_marks.specs.Marks.{mark_in, position_in, or_zero};
@@ -16,7 +16,7 @@ pub(crate) struct Gap {
 
 // `count` characters come in place of those from `from` up to `to`.
 #[derive(Clone, Copy)]
-pub(crate) struct Edit {
+pub(crate) struct Splice {
     pub(crate) from: usize,
     pub(crate) to: usize,
     pub(crate) count: usize,
@@ -41,13 +41,13 @@ pub(crate) fn to_raw(gap: Gap, p: usize) -> usize
 }
 
 // Whether an edit is an insertion at the gap that the gap has room for: then each mark's place stays right.
-pub(crate) fn leaves_marks(edit: Edit, gap: Gap) -> bool
+pub(crate) fn leaves_marks(edit: Splice, gap: Gap) -> bool
     ensures { IsTrue result ↔ ((edit.from ≡ edit.to) × (edit.from ≡ gap.start) × (edit.count ≤ gap.width)) }
 {
     edit.from == edit.to && edit.from == gap.start && edit.count <= gap.width
 }
 
-fn shifted(p: usize, edit: Edit) -> usize
+fn shifted(p: usize, edit: Splice) -> usize
     requires order { edit.from ≤ edit.to }
     requires fits { p + edit.count < 2 ^ 64 }
     ensures { result ≡ shift edit.from edit.to edit.count p }
@@ -61,7 +61,7 @@ fn shifted(p: usize, edit: Edit) -> usize
     }
 }
 
-fn place_moved(place: Option<usize>, old: Gap, edit: Edit, new: Gap) -> Option<usize>
+fn place_moved(place: Option<usize>, old: Gap, edit: Splice, new: Gap) -> Option<usize>
     requires order { edit.from ≤ edit.to }
     requires raw { IsRaw old.start old.width (or_zero place) }
     requires fits { text_place old.start old.width (or_zero place) + edit.count < 2 ^ 64 }
@@ -72,7 +72,7 @@ fn place_moved(place: Option<usize>, old: Gap, edit: Edit, new: Gap) -> Option<u
 }
 
 // Moves every mark over an edit that took the gap from `old` to `new`.
-pub(crate) fn move_places(places: &mut [Option<usize>], old: Gap, edit: Edit, new: Gap)
+pub(crate) fn move_places(places: &mut [Option<usize>], old: Gap, edit: Splice, new: Gap)
     requires order { edit.from ≤ edit.to }
     requires raw { (i : ℕ) → IsRaw old.start old.width (position_in places.old i) }
     requires fits { (i : ℕ) → text_place old.start old.width (position_in places.old i) + edit.count < 2 ^ 64 }

@@ -1,6 +1,7 @@
 -- One row of a picture is drawn over.
 use Rattle.std.proofs.Common.{◌≡◌, ℕ, ◌<◌, [], ◌∷◌, length, get_or, set, sym, subst, ap, ◌∙◌, arith}
-use Rattle.mgs_model.specs.Rows.{Row, rows_put}
+use Rattle.mgs_model.specs.Rows.{Row}
+use Rattle.mgs_grid.specs.Cells.{rows_put}
 use Rattle.mgs_model.specs.Picture.{Picture, IsPicture, IsRow}
 use Rattle.mgs_grid.proofs.Pictures.{set_put, set_picture, row_width, with_lines}
 

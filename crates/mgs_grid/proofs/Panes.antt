@@ -6,7 +6,8 @@ use Rattle.std.proofs.lemmas.List.{drop_all, set-append_left, set-append_right, 
 use Rattle.std.proofs.Math.Seq.{drop-append-add}
 use Rattle.mgs_model.specs.Cells.{cells}
 use Rattle.mgs_model.specs.Lines.{is_feed, start_of}
-use Rattle.mgs_model.specs.Rows.{Row, shown_row, text_rows, rows_put, shift_at}
+use Rattle.mgs_model.specs.Rows.{Row, shown_row, text_rows, shift_at}
+use Rattle.mgs_grid.specs.Cells.{rows_put}
 use Rattle.mgs_model.specs.Picture.{Picture}
 use Rattle.mgs_grid.specs.Panes.{AreSameBut, IsDrawnBut, text_put}
 use Rattle.mgs_grid.proofs.Edited.{past_other}

@@ -7,7 +7,8 @@ use Rattle.std.proofs.lemmas.List.Elements.{All-nil, All-cons, All-append, All-t
 use Rattle.mgs_model.specs.declared.entry.Decision.{Decision}
 use Rattle.mgs_model.specs.Lines.{is_feed}
 use Rattle.std.specs.List.{after_first}
-use Rattle.mgs_model.specs.Rows.{Row, plain_row, mode_row, blank_rows, rows_put, text_rows, unread_rows, unread_text}
+use Rattle.mgs_model.specs.Rows.{Row, plain_row, mode_row, blank_rows, text_rows, unread_rows, unread_text}
+use Rattle.mgs_grid.specs.Cells.{rows_put}
 use Rattle.mgs_model.specs.Picture.{IsRow, IsSize, Picture, IsPicture, blank_picture}
 use Rattle.mgs_grid.proofs.Fits.{length-fitted, fitted_none}
 use Rattle.mgs_grid.proofs.Printable.{fitted_whole}

@@ -4,7 +4,8 @@ use Rattle.std.specs.Prelude.{Option, slice_get, unwrap_or}
 use Rattle.std.proofs.lemmas.Bool.{cases_Bool, cases_lt, cases_eq}
 use Rattle.std.proofs.lemmas.List.{same_lists}
 use Rattle.std.proofs.lemmas.Option.{slice_get_past, unwrap_or-slice_get}
-use Rattle.mgs_model.specs.Rows.{Row, rows_put}
+use Rattle.mgs_model.specs.Rows.{Row}
+use Rattle.mgs_grid.specs.Cells.{rows_put}
 use Rattle.mgs_grid.proofs.Panes.{above_put, below_put}
 use Rattle.mgs_grid.specs.RowSets.{has_row, AreIn, AreSameApart, IsNone}
 

@@ -1,8 +1,13 @@
--- Cells written into a row one after another.
-use Rattle.std.specs.Prelude.{◌≡◌, ℕ, ◌+◌, ◌-◌, nat_lt, nat_le, ◌==◌, Bool, ◌&&◌, All, length, List, [], ◌∷◌, slice_set, slice_index_or, if◌then◌else◌}
-use Rattle.mgs_model.specs.Cells.{right_half}
+-- The cells of a line, and cells written into a row one after another.
+use Rattle.std.specs.Prelude.{◌≡◌, ℕ, ◌+◌, ◌-◌, nat_lt, nat_le, ◌==◌, Bool, ◌&&◌, All, length, List, [], ◌∷◌, ◌++◌, take, drop, slice_set, slice_index_or, slice_range, if◌then◌else◌}
+use Rattle.mgs_model.specs.Cells.{right_half, cells}
+use Rattle.mgs_model.specs.Lines.{line_end}
 use Rattle.mgs_model.specs.Rows.{Row}
 use Rattle.mgs_model.specs.Picture.{IsPrintable}
+
+-- the cells of the line of a text that starts at a place
+abbrev pub line_cells : List ℕ → ℕ → List ℕ
+line_cells text start = cells (slice_range text start (line_end text start))
 
 -- a cell of a column, in a row that shows a line from column `shift`; one that is not in sight is passed over
 unfoldable pub put : List ℕ → ℕ → ℕ → ℕ → List ℕ
@@ -39,3 +44,7 @@ pub record Wrote (old : List ℕ) (column : ℕ) (xs : List ℕ) (new : List ℕ
 
 abbrev pub HasWidth : ℕ → Row → Type 0
 HasWidth cols r = length r.text ≡ cols
+
+-- rows in place of as many from the first on
+abbrev pub rows_put : ℕ → List Row → List Row → List Row
+rows_put first new old = take first old ++ new ++ drop (first + length new) old

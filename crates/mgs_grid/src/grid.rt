@@ -1,11 +1,10 @@
 // The rows of a screen, and a cursor.
-ghost use Rattle.std.specs.Prelude.{◌≡◌, ℕ, ◌+◌, ◌<◌, ◌≤◌, ◌^◌, [], ◌∷◌, ◌++◌, length, drop, decimal, codes, All, None, IfOk};
-ghost use Rattle.mgs_model.specs.Rows.{text_rows, shift_at, blank_rows, unread_rows, cause_text, plain_row, mode_row, buffer_mode, none_mode, echo_row, line_row, line_end_column, rows_put};
-ghost use Rattle.mgs_model.specs.Draw.{listing_text};
+ghost use Rattle.std.specs.Prelude.{◌≡◌, ◌+◌, ◌<◌, ◌≤◌, ◌^◌, [], ◌∷◌, ◌++◌, length, drop, decimal, codes, All, None, IfOk};
+ghost use Rattle.mgs_model.specs.Rows.{text_rows, shift_at, blank_rows, unread_rows, plain_row, mode_row, buffer_mode, none_mode, echo_row, line_row, line_end_column};
 ghost use Rattle.mgs_model.specs.Prompts.{prompt_line, search_text};
 ghost use Rattle.mgs_model.specs.Picture.{Picture, IsPicture, IsPrintable, IsSize, blank_picture};
-ghost use Rattle.mgs_grid.specs.Lists.{acl_mode};
-ghost use Rattle.mgs_grid.specs.Panes.{IsDrawnBut, text_put};
+ghost use Rattle.mgs_grid.specs.Lists.{acl_mode, listed_text, unlisted_text};
+ghost use Rattle.mgs_grid.specs.Panes.{CompletesPanes, text_put, with_rows};
 ghost use Rattle.mgs_grid.specs.RowSets.{AreSameApart};
 
 use crate::line::Line;
@@ -131,7 +130,7 @@ impl Grid {
         requires within { top ≤ length (T.text text.now) }
         requires short { length (T.text text.now) < 2 ^ 32 }
         requires shift { shift < 2 ^ 62 }
-        ensures { self.new ≡ record self.old { lines = rows_put first (text_rows self.old.cols (shift_at row shift) 0 height (drop top (T.text text.now))) self.old.lines } }
+        ensures { self.new ≡ with_rows first (text_rows self.old.cols (shift_at row shift) 0 height (drop top (T.text text.now))) self.old }
     {
         let cols = self.cols;
         let lines = &mut self.lines[first..first + height];
@@ -157,7 +156,7 @@ impl Grid {
         requires short { length (T.text text.now) < 2 ^ 32 }
         requires shift { shift < 2 ^ 62 }
         ensures row { self.new ≡ record self.old { lines = text_put at 1 0 shift (drop start (T.text text.now)) self.old } }
-        ensures pane { (i first height top row from : ℕ) → IsDrawnBut i at start shift first height (T.text text.now) top row from self.old → self.new ≡ record self.old { lines = text_put first height row from (drop top (T.text text.now)) self.old } }
+        ensures pane { CompletesPanes at start shift (T.text text.now) self.old self.new }
     {
         let _rows = self.rows();
         self.draw_line(at, text, start, shift);
@@ -167,7 +166,7 @@ impl Grid {
     pub fn draw_unread(&mut self, first: usize, height: usize, decision: Decision)
         requires rows { first + height ≤ self.old.rows }
         requires height { 0 < height }
-        ensures { self.new ≡ record self.old { lines = rows_put first (unread_rows self.old.cols height decision) self.old.lines } }
+        ensures { self.new ≡ with_rows first (unread_rows self.old.cols height decision) self.old }
     {
         self.draw_blank(first, height);
         self.lines[first].draw_unread(decision);
@@ -176,7 +175,7 @@ impl Grid {
     /// Clears `height` rows from row `first` on.
     pub fn draw_blank(&mut self, first: usize, height: usize)
         requires { first + height ≤ self.old.rows }
-        ensures { self.new ≡ record self.old { lines = rows_put first (blank_rows self.old.cols height) self.old.lines } }
+        ensures { self.new ≡ with_rows first (blank_rows self.old.cols height) self.old }
     {
         let cols = self.cols;
         clear_rows(&mut self.lines[first..first + height], cols);
@@ -191,7 +190,7 @@ impl Grid {
         place: Option<(usize, usize)>,
     )
         requires { row < self.old.rows }
-        ensures { self.new ≡ record self.old { lines = rows_put row (mode_row self.old.cols (buffer_mode heading place) ∷ []) self.old.lines } }
+        ensures { self.new ≡ with_rows row (mode_row self.old.cols (buffer_mode heading place) ∷ []) self.old }
     {
         self.lines[row].draw_mode(heading, place);
     }
@@ -199,7 +198,7 @@ impl Grid {
     /// Draws the mode line of a window that shows no buffer.
     pub fn draw_none_mode(&mut self, row: usize)
         requires { row < self.old.rows }
-        ensures { self.new ≡ record self.old { lines = rows_put row (mode_row self.old.cols none_mode ∷ []) self.old.lines } }
+        ensures { self.new ≡ with_rows row (mode_row self.old.cols none_mode ∷ []) self.old }
     {
         self.lines[row].draw_none_mode();
     }
@@ -207,7 +206,7 @@ impl Grid {
     /// Draws an echo text in the echo row.
     pub fn draw_echo(&mut self, row: usize, message: &Message)
         requires { row < self.old.rows }
-        ensures { self.new ≡ record self.old { lines = rows_put row (echo_row self.old.cols None message.now ∷ []) self.old.lines } }
+        ensures { self.new ≡ with_rows row (echo_row self.old.cols None message.now ∷ []) self.old }
     {
         self.lines[row].draw_echo(message);
     }
@@ -217,7 +216,7 @@ impl Grid {
     pub fn draw_prompt(&mut self, row: usize, question: Question, input: &[char]) -> usize
         requires row { row < self.old.rows }
         requires short { length input.now < 2 ^ 32 }
-        ensures grid { self.new ≡ record self.old { lines = rows_put row (line_row self.old.cols (prompt_line question input.now) ∷ []) self.old.lines } }
+        ensures grid { self.new ≡ with_rows row (line_row self.old.cols (prompt_line question input.now) ∷ []) self.old }
         ensures column { result ≡ line_end_column self.old.cols (prompt_line question input.now) }
         ensures within { result < self.old.cols }
     {
@@ -235,7 +234,7 @@ impl Grid {
     ) -> usize
         requires row { row < self.old.rows }
         requires short { length pattern.now < 2 ^ 32 }
-        ensures grid { self.new ≡ record self.old { lines = rows_put row (line_row self.old.cols (search_text direction failing ++ pattern.now) ∷ []) self.old.lines } }
+        ensures grid { self.new ≡ with_rows row (line_row self.old.cols (search_text direction failing ++ pattern.now) ∷ []) self.old }
         ensures column { result ≡ line_end_column self.old.cols (search_text direction failing ++ pattern.now) }
         ensures within { result < self.old.cols }
     {
@@ -246,7 +245,7 @@ impl Grid {
     /// the column behind it.
     pub fn draw_replacing(&mut self, row: usize) -> usize
         requires row { row < self.old.rows }
-        ensures grid { self.new ≡ record self.old { lines = rows_put row (line_row self.old.cols (codes "Replace? ") ∷ []) self.old.lines } }
+        ensures grid { self.new ≡ with_rows row (line_row self.old.cols (codes "Replace? ") ∷ []) self.old }
         ensures column { result ≡ line_end_column self.old.cols (codes "Replace? ") }
         ensures within { result < self.old.cols }
     {
@@ -263,7 +262,7 @@ impl Grid {
         owners: &Owners,
     )
         requires { row < self.old.rows }
-        ensures { self.new ≡ record self.old { lines = rows_put row (plain_row self.old.cols (listing_text (record { name = name.now; modified = modified; size = size; owners = owners.now })) ∷ []) self.old.lines } }
+        ensures { self.new ≡ with_rows row (plain_row self.old.cols (listed_text name.now modified size owners.now) ∷ []) self.old }
     {
         self.lines[row].draw_listed(modified, size, name, owners);
     }
@@ -273,7 +272,7 @@ impl Grid {
         requires row { row < self.old.rows }
         requires short { length entry.now < 2 ^ 32 }
         requires printable { All IsPrintable entry.now }
-        ensures { self.new ≡ record self.old { lines = rows_put row (plain_row self.old.cols (decimal number ++ 32 ∷ entry.now) ∷ []) self.old.lines } }
+        ensures { self.new ≡ with_rows row (plain_row self.old.cols (decimal number ++ 32 ∷ entry.now) ∷ []) self.old }
     {
         self.lines[row].draw_entry(number, entry);
     }
@@ -281,7 +280,7 @@ impl Grid {
     /// Draws a row that says why an access list may not be read.
     pub fn draw_unlisted(&mut self, row: usize, decision: Decision)
         requires { row < self.old.rows }
-        ensures { self.new ≡ record self.old { lines = rows_put row (plain_row self.old.cols (codes "[no acl: " ++ cause_text decision ++ codes "]") ∷ []) self.old.lines } }
+        ensures { self.new ≡ with_rows row (plain_row self.old.cols (unlisted_text decision) ∷ []) self.old }
     {
         self.lines[row].draw_unlisted(decision);
     }
@@ -289,7 +288,7 @@ impl Grid {
     /// Draws the mode line of the listing of all buffers.
     pub fn draw_buffers_mode(&mut self, row: usize)
         requires { row < self.old.rows }
-        ensures { self.new ≡ record self.old { lines = rows_put row (mode_row self.old.cols (codes "-Buffers") ∷ []) self.old.lines } }
+        ensures { self.new ≡ with_rows row (mode_row self.old.cols (codes "-Buffers") ∷ []) self.old }
     {
         self.lines[row].draw_buffers_mode();
     }
@@ -297,7 +296,7 @@ impl Grid {
     /// Draws the mode line of an access list: the buffer's name. `None` stands for what may not be told.
     pub fn draw_acl_mode(&mut self, row: usize, name: Option<Name>)
         requires { row < self.old.rows }
-        ensures { self.new ≡ record self.old { lines = rows_put row (mode_row self.old.cols (acl_mode name) ∷ []) self.old.lines } }
+        ensures { self.new ≡ with_rows row (mode_row self.old.cols (acl_mode name) ∷ []) self.old }
     {
         self.lines[row].draw_acl_mode(name);
     }

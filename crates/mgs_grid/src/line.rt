@@ -1,13 +1,12 @@
 // A row of a screen.
-ghost use Rattle.std.specs.Prelude.{◌≡◌, ◌+◌, ◌-◌, ◌<◌, ◌≤◌, ◌^◌, [], ◌∷◌, ◌++◌, length, slice_range, replicate, decimal, codes, All, false, IfOk};
-ghost use Rattle.mgs_model.specs.Cells.{cells};
+ghost use Rattle.std.specs.Prelude.{◌≡◌, ◌+◌, ◌-◌, ◌<◌, ◌≤◌, ◌^◌, [], ◌∷◌, ◌++◌, length, replicate, decimal, codes, All, false, IfOk};
 ghost use Rattle.mgs_model.specs.Lines.{line_end};
-ghost use Rattle.mgs_model.specs.Rows.{shown_row, plain_row, mode_row, line_row, line_end_column, unread_text, buffer_mode, none_mode, cause_text, Row};
-ghost use Rattle.mgs_model.specs.Draw.{listing_text};
+ghost use Rattle.mgs_model.specs.Rows.{shown_row, plain_row, mode_row, line_row, line_end_column, unread_text, buffer_mode, none_mode, Row};
 ghost use Rattle.mgs_model.specs.Prompts.{prompt_line, search_text};
 ghost use Rattle.mgs_model.specs.Messages.{message_text};
 ghost use Rattle.mgs_model.specs.Picture.{IsPrintable};
-ghost use Rattle.mgs_grid.specs.Lists.{acl_mode};
+ghost use Rattle.mgs_grid.specs.Lists.{acl_mode, listed_text, unlisted_text};
+ghost use Rattle.mgs_grid.specs.Cells.{line_cells};
 
 use crate::cells::{fill, finish, put_bytes, put_line};
 use crate::lists::{put_acl_mode, put_entry, put_listed, put_unlisted};
@@ -112,7 +111,7 @@ impl Line {
         requires within { start ≤ length (T.text text.now) }
         requires short { length (T.text text.now) < 2 ^ 32 }
         requires shift { shift < 2 ^ 62 }
-        ensures row { self.new ≡ record { text = shown_row (length self.old.text) shift (cells (slice_range (T.text text.now) start (line_end (T.text text.now) start))); reversed = false } }
+        ensures row { self.new ≡ record { text = shown_row (length self.old.text) shift (line_cells (T.text text.now) start); reversed = false } }
         ensures end { result ≡ line_end (T.text text.now) start }
         ensures within { result ≤ length (T.text text.now) }
     {
@@ -245,8 +244,8 @@ impl Line {
     pub(crate) fn draw_listed(&mut self, modified: bool, size: usize, name: &Name, owners: &Owners)
         requires some { 4 ≤ length self.old.text }
         requires width { length self.old.text < 2 ^ 62 }
-        ensures row { self.new ≡ plain_row (length self.old.text) (listing_text (record { name = name.now; modified = modified; size = size; owners = owners.now })) }
-        ensures printable { All IsPrintable (listing_text (record { name = name.now; modified = modified; size = size; owners = owners.now })) }
+        ensures row { self.new ≡ plain_row (length self.old.text) (listed_text name.now modified size owners.now) }
+        ensures printable { All IsPrintable (listed_text name.now modified size owners.now) }
     {
         self.reversed = false;
         let row = self.text.as_mut_slice();
@@ -275,8 +274,8 @@ impl Line {
     pub(crate) fn draw_unlisted(&mut self, decision: Decision)
         requires some { 4 ≤ length self.old.text }
         requires width { length self.old.text < 2 ^ 62 }
-        ensures row { self.new ≡ plain_row (length self.old.text) (codes "[no acl: " ++ cause_text decision ++ codes "]") }
-        ensures printable { All IsPrintable (codes "[no acl: " ++ cause_text decision ++ codes "]") }
+        ensures row { self.new ≡ plain_row (length self.old.text) (unlisted_text decision) }
+        ensures printable { All IsPrintable (unlisted_text decision) }
     {
         self.reversed = false;
         let row = self.text.as_mut_slice();

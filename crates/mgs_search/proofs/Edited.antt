@@ -1,20 +1,20 @@
 -- A match behind an edit, and what a step of an incremental search leaves.
-use Rattle.std.proofs.Common.{◌≡◌, ℕ, true, false, ◌+◌, ◌-◌, List, [], ◌∷◌, ◌++◌, Bool, cond, length, take, drop, Option, Some, None, refl, sym, ap, ◌∙◌, arith, length-append}
+use Rattle.std.proofs.Common.{◌≡◌, ℕ, true, false, ◌+◌, ◌-◌, List, [], ◌∷◌, ◌++◌, Bool, cond, length, take, drop, Option, Some, None, is_none, refl, sym, ap, ◌∙◌, arith, length-append}
 use Rattle.std.specs.Prelude.{Result, Ok}
 use Rattle.std.specs.Option.{option_map}
 use Rattle.std.proofs.Math.Seq.{drop-append_seam}
 use Rattle.mgs_model.specs.Outcome.{At, Anchor_at}
 use Rattle.mgs_model.specs.Text.{edited}
-use Rattle.mgs_model.specs.Searching.{begins, first_in, first_match, matches_at, match_from, match_past, is_none, found_places, Sought, places_after, sought_after}
+use Rattle.mgs_model.specs.Searching.{begins, first_in, first_match, matches_at, match_from, match_past, found_places, Sought, places_after, sought_after}
 use Rattle.mgs_model.specs.Plans as model
-use Rattle.mgs_model.specs.Plans.{alteration, motion, next_match, goes, stays}
+use Rattle.mgs_model.specs.Plans.{alteration, met, motion, next_match, goes, stays}
 use Rattle.mgs_model.specs.declared.message.Message.{Message}
 use Rattle.mgs_model.specs.declared.search.SearchPlaces.{SearchPlaces}
 use Rattle.mgs_model.specs.declared.search.SearchStep.{SearchStep}
 use Rattle.mgs_model.specs.declared.search.SearchStep.TheVariants.{Stays, FromAnchor, PastAnchor, FromOrigin, ToOrigin, Ends, Quits, Leaves}
 use Rattle.mgs_model.specs.declared.session.Alteration.TheVariants.{ReplaceMatch}
 use Rattle.mgs_model.specs.declared.session.Motion.TheVariants.{SearchOn}
-use Rattle.mgs_search.specs.Planned.{met, replacement_read, stepped}
+use Rattle.mgs_search.specs.Planned.{replacement_read, stepped}
 
 -- COUNTED FROM FURTHER ON
 first_moved : (ps ys : List ℕ) (i d : ℕ) → first_in ps (i + d) ys ≡ option_map (λ m. m + d) (first_in ps i ys)

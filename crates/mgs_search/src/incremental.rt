@@ -1,13 +1,9 @@
 // An incremental search, typed byte by byte.
-ghost use Rattle.std.specs.Prelude.{◌≡◌, ◌+◌, ◌≤◌, [], length, Bool, true, false, Ok, IfSome};
+ghost use Rattle.std.specs.Prelude.{◌≡◌, ◌+◌, ◌≤◌, [], length, false, is_none, IfSome};
 ghost use Rattle.mgs_model.specs.Keys.{is_graphic};
-ghost use Rattle.mgs_model.specs.Searching.{lengthened, shortened, directed, dropped, read_byte, match_point, found_places, is_none, places_after, sought_after};
-ghost use Rattle.mgs_model.specs.Plans as model;
-ghost use Rattle.mgs_model.specs.Plans.{motion};
-ghost use Rattle.mgs_model.specs.declared.search.Direction.{Direction};
+ghost use Rattle.mgs_model.specs.Searching.{lengthened, shortened, dropped, read_byte, match_point, found_places, places_after, sought_after};
 ghost use Rattle.mgs_model.specs.declared.search.SearchStep.TheVariants.{FromAnchor};
-ghost use Rattle.mgs_model.specs.declared.session.Motion.TheVariants.{SearchOn};
-ghost use Rattle.mgs_search.specs.Planned.{stepped};
+ghost use Rattle.mgs_search.specs.Planned.{IsDirected, IsStepPlan};
 
 use crate::{find_from, find_past};
 use arrayvec::ArrayVec;
@@ -63,7 +59,7 @@ fn shorten(pattern: &mut ArrayVec<char, 120>)
 // C-s or C-r.
 fn direct(pattern: &mut ArrayVec<char, 120>, last: &[char]) -> SearchStep
     requires { length last.now ≤ 120 }
-    ensures { (d was : Direction) → (failing : Bool) → directed last.now d (record { direction = was; pattern = pattern.old.items; failing = failing }) ≡ (record { direction = d; pattern = pattern.new.items; failing = failing }, result) }
+    ensures { IsDirected last.now pattern.old.items pattern.new.items result }
 {
     if !pattern.is_empty() {
         return SearchStep::PastAnchor;
@@ -231,7 +227,7 @@ impl IncrementalSearch {
     ) -> SearchPlaces
         requires origin { places.origin ≤ length (T.text text.now) }
         requires anchor { places.anchor ≤ length (T.text text.now) }
-        ensures plan { (rest : model.Around) → Ok (stepped step result self.new.failing) ≡ motion (SearchOn self.old.direction step) (T.text text.now) (record rest { origin = places.origin; anchor = places.anchor; sought_here = true; place = places.point; typed = self.old.pattern }) }
+        ensures plan { IsStepPlan step self.old.direction self.old.pattern (T.text text.now) places result self.new.failing }
         ensures sought { self.new ≡ sought_after step self.old (T.text text.now) places }
         ensures places { result ≡ places_after step self.old (T.text text.now) places }
         ensures origin { result.origin ≡ places.origin }

@@ -1,11 +1,10 @@
 //! Searches in a text: a pattern matches whatever the case of its ASCII letters.
 #![tactic(auto)]
 
-ghost use Rattle.std.specs.Prelude.{◌≡◌, ℕ, ◌+◌, ◌<◌, ◌≤◌, ◌++◌, List, length, drop, IfSome, true};
+ghost use Rattle.std.specs.Prelude.{◌≡◌, ℕ, ◌+◌, ◌<◌, ◌≤◌, length, IfSome, true};
 ghost use Rattle.std.specs.Char.{eq_ignore_ascii_case, to_ascii_lowercase, to_ascii_uppercase};
-ghost use Rattle.mgs_model.specs.Searching.{matches_at, first_in, first_match, last_match, last_match_before, match_from, match_past};
-ghost use Rattle.mgs_model.specs.declared.search.Direction.{Direction};
-ghost use Rattle.mgs_search.specs.Firsts.{IsFirst};
+ghost use Rattle.mgs_model.specs.Searching.{matches_at, first_match, last_match, last_match_before, match_from, match_past};
+ghost use Rattle.mgs_search.specs.Firsts.{IsFirst, IsNonePassed, IsSameMatch};
 
 mod incremental;
 mod prompted;
@@ -69,7 +68,7 @@ fn is_either(c: char, first: First) -> bool
 // How many characters stand before the first one that a pattern may begin with: all of them where there is none. No such
 // pattern is passed over, whatever follows.
 fn begun_in(piece: &[char], first: First) -> usize
-    ensures value { (chars rest : List ℕ) (p : ℕ) → IsFirst chars first → first_in chars (p + result) (drop result piece.now ++ rest) ≡ first_in chars p (piece.now ++ rest) }
+    ensures value { IsNonePassed first piece.now result }
     ensures within { result ≤ length piece.now }
 {
     for i in 0..piece.len() {
@@ -83,7 +82,7 @@ fn begun_in(piece: &[char], first: First) -> usize
 // The first place from `from` on where a character stands that a pattern may begin with, or the end. No such pattern is passed over.
 fn next_begun<T: Text>(text: &T, from: usize, first: First) -> usize
     requires { from ≤ length (T.text text.now) }
-    ensures value { (chars : List ℕ) → IsFirst chars first → first_match chars (T.text text.now) result ≡ first_match chars (T.text text.now) from }
+    ensures value { IsSameMatch first (λ chars. first_match chars (T.text text.now)) result from }
     ensures order { from ≤ result }
     ensures within { result ≤ length (T.text text.now) }
 {
@@ -102,7 +101,7 @@ fn next_begun<T: Text>(text: &T, from: usize, first: First) -> usize
 // The place behind the last one before `end` where a character stands that a pattern may begin with, or 0. No such pattern is passed over.
 fn last_begun<T: Text>(text: &T, end: usize, first: First) -> usize
     requires { end ≤ length (T.text text.now) }
-    ensures value { (chars : List ℕ) → IsFirst chars first → last_match_before chars (T.text text.now) result ≡ last_match_before chars (T.text text.now) end }
+    ensures value { IsSameMatch first (λ chars. last_match_before chars (T.text text.now)) result end }
     ensures order { result ≤ end }
 {
     let mut left = end;

@@ -3,7 +3,6 @@ ghost use Rattle.std.specs.Prelude.{◌≡◌, ◌+◌, ◌≤◌, length, IfSom
 ghost use Rattle.mgs_model.specs.Plans as model;
 ghost use Rattle.mgs_model.specs.Plans.{motion};
 ghost use Rattle.mgs_model.specs.Searching.{match_once};
-ghost use Rattle.mgs_model.specs.declared.search.Direction.{Direction};
 ghost use Rattle.mgs_model.specs.declared.session.Motion.TheVariants.{SearchFor};
 ghost use Rattle.mgs_search.specs.Planned.{went};
 

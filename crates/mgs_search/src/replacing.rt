@@ -1,11 +1,8 @@
 // Query-replace: where its matches are.
-ghost use Rattle.std.specs.Prelude.{◌≡◌, ℕ, ◌+◌, ◌-◌, ◌≤◌, ◌<◌, ◌^◌, List, length, true, Ok, IfSome, IfOk, OnOk};
+ghost use Rattle.std.specs.Prelude.{◌≡◌, ℕ, ◌+◌, ◌-◌, ◌≤◌, ◌<◌, ◌^◌, List, length, IfSome, IfOk, OnOk};
 ghost use Rattle.std.specs.Option.{option_map};
-ghost use Rattle.mgs_model.specs.Plans as model;
-ghost use Rattle.mgs_model.specs.Plans.{motion, alteration, stays};
 ghost use Rattle.mgs_model.specs.declared.session.Alteration.TheVariants.{ReplaceMatch, ReplaceLast};
-ghost use Rattle.mgs_model.specs.declared.session.Motion.TheVariants.{StartReplace, SkipMatch};
-ghost use Rattle.mgs_search.specs.Planned.{begun, met, replacement_read};
+ghost use Rattle.mgs_search.specs.Planned.{IsBegun, IsReplacement, IsSkipped};
 
 use crate::{find_forward, matches_at};
 use mgs_model::Message;
@@ -24,7 +21,7 @@ pub struct Replacement {
 /// nothing to replace.
 pub fn begin_replacing<T: Text>(text: &T, p: usize, old: &[char]) -> Result<Option<usize>, Message>
     requires { p ≤ length (T.text text.now) }
-    ensures plan { (rest : model.Around) → begun rest.name p (length old.now) result ≡ motion StartReplace (T.text text.now) (record rest { place = p; old = old.now }) }
+    ensures plan { IsBegun old.now (T.text text.now) p result }
     ensures within { IfOk result (λ o. IfSome o (λ m. m + length old.now ≤ length (T.text text.now))) }
     ensures some { OnOk result (0 < length old.now) }
 {
@@ -38,7 +35,7 @@ pub fn begin_replacing<T: Text>(text: &T, p: usize, old: &[char]) -> Result<Opti
 /// longer stands there.
 pub fn skip_match<T: Text>(text: &T, anchor: usize, old: &[char]) -> Option<usize>
     requires { anchor ≤ length (T.text text.now) }
-    ensures plan { (rest : model.Around) → Ok (met (length old.now) stays result) ≡ motion SkipMatch (T.text text.now) (record rest { anchor = anchor; sought_here = true; old = old.now }) }
+    ensures plan { IsSkipped old.now (T.text text.now) anchor result }
     ensures within { IfSome result (λ m. m + length old.now ≤ length (T.text text.now)) }
 {
     let _len = text.len();
@@ -67,7 +64,7 @@ pub fn replace_match<T: Text>(text: &T, anchor: usize, old: &[char], put: &[char
     requires anchor { anchor ≤ length (T.text text.now) }
     requires short { length (T.text text.now) < 2 ^ 32 }
     requires put { length put.now < 2 ^ 32 }
-    ensures { (rest : model.Around) → Ok (replacement_read anchor (length old.now) put.now result) ≡ alteration ReplaceMatch (T.text text.now) (record rest { anchor = anchor; sought_here = true; old = old.now; typed = put.now }) }
+    ensures { IsReplacement ReplaceMatch old.now put.now (T.text text.now) anchor result }
 {
     let _len = text.len();
     if !matches_at(text, anchor, old) {
@@ -87,7 +84,7 @@ pub fn replace_match<T: Text>(text: &T, anchor: usize, old: &[char], put: &[char
 /// Plans the last replacement, at an anchor: no next match is looked for.
 pub fn replace_last<T: Text>(text: &T, anchor: usize, old: &[char]) -> Replacement
     requires { anchor ≤ length (T.text text.now) }
-    ensures { (put : List ℕ) (rest : model.Around) → Ok (replacement_read anchor (length old.now) put result) ≡ alteration ReplaceLast (T.text text.now) (record rest { anchor = anchor; sought_here = true; old = old.now; typed = put }) }
+    ensures { (put : List ℕ) → IsReplacement ReplaceLast old.now put (T.text text.now) anchor result }
 {
     Replacement {
         replaces: matches_at(text, anchor, old),

@@ -1,8 +1,8 @@
 -- What a session has still to do in an event: a byte that was typed, all further replacements, and what is left of a macro that is played.
 use Rattle.std.specs.Prelude.{◌≡◌, ℕ, zero, suc, Bool, true, false, List, [], ◌∷◌, ◌++◌, drop, map, Option, None, Some, cond}
 use Rattle.mgs_model.specs.World.{Todo, Typed, Played, Replace_all, Play}
-use Rattle.mgs_session.specs.declared.playing.Task.{Task}
-use Rattle.mgs_session.specs.declared.playing.Task.TheVariants as tasks
+use Rattle.mgs_session.specs.declared.playing.Pending.{Pending}
+use Rattle.mgs_session.specs.declared.playing.Pending.TheVariants as tasks
 
 pub record Playing : Type 0 where
   -- the byte that is handled is a macro's
@@ -46,7 +46,7 @@ abbrev pub stopped : Playing → Playing
 stopped p = record p { todo = [] }
 
 -- what was to be done before this was taken, and these are left
-abbrev pub todo_before : Task → List Todo → List Todo
+abbrev pub todo_before : Pending → List Todo → List Todo
 todo_before (tasks.Typed byte) todo = Typed byte ∷ todo
 todo_before (tasks.Played byte) todo = Played byte ∷ todo
 todo_before (tasks.First byte) todo = Play ∷ Played byte ∷ todo
@@ -56,7 +56,7 @@ todo_before tasks.FirstReplacement todo = todo
 todo_before tasks.Nothing todo = todo
 
 -- whether a macro's byte is handled then
-abbrev pub playing_at : Task → Bool → Bool
+abbrev pub playing_at : Pending → Bool → Bool
 playing_at (tasks.Typed byte) playing = false
 playing_at (tasks.Played byte) playing = true
 playing_at (tasks.First byte) playing = true
@@ -81,7 +81,7 @@ are_behind (Replace_all ∷ todo) = are_played todo
 are_behind todo = are_played todo
 
 -- nothing is left behind a byte that was typed and behind a play's end, and bytes of the macro behind one of them
-abbrev pub IsTaken : Task → List Todo → Type 0
+abbrev pub IsTaken : Pending → List Todo → Type 0
 IsTaken (tasks.Typed byte) todo = todo ≡ []
 IsTaken (tasks.Played byte) todo = are_played todo ≡ true
 IsTaken (tasks.First byte) todo = are_played todo ≡ true
@@ -91,7 +91,7 @@ IsTaken tasks.Replacement todo = (more : List Todo) × (todo ≡ Replace_all ∷
 IsTaken tasks.FirstReplacement todo = (more : List Todo) × (todo ≡ Play ∷ Replace_all ∷ more) × (are_played more ≡ true)
 
 -- this was to be done next, and is handled now
-pub record IsNext (task : Task) (old new : Playing) : Type 0 where
+pub record IsNext (task : Pending) (old new : Playing) : Type 0 where
   pub todo : old.todo ≡ todo_before task new.todo
   pub playing : new.playing ≡ playing_at task old.playing
   pub taken : IsTaken task new.todo

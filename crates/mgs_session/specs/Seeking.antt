@@ -5,7 +5,7 @@ use Rattle.mgs_model.specs.Names.{same_name}
 use Rattle.mgs_model.specs.Text.{shift}
 use Rattle.mgs_model.specs.declared.message.Message.TheVariants.{Silent}
 use Rattle.mgs_model.specs.declared.search.Direction.{Direction}
-use Rattle.mgs_session.specs.declared.Own.{Own}
+use Rattle.mgs_session.specs.declared.State.{State}
 use Rattle.mgs_session.specs.declared.Session.{Session}
 use Rattle.mgs_session.specs.declared.search.Edited.{Edited}
 use Rattle.mgs_session.specs.declared.search.Aim.TheVariants.{Find, Replace}
@@ -28,20 +28,20 @@ abbrev pub search_edited : List ℕ → Edited → Search → Search
 search_edited name e s = record s { origin = cond (same_name name s.name) (moved e s.origin) s.origin; anchor = cond (same_name name s.name) (moved e s.anchor) s.anchor }
 
 abbrev pub session_edited : List ℕ → Edited → Session → Session
-session_edited name e x = record x { own = record x.own { search = option_map (search_edited name e) x.own.search } }
+session_edited name e x = record x { state = record x.state { search = option_map (search_edited name e) x.state.search } }
 
 -- IN A SESSION
 
 abbrev pub searching : Search → Session → Session
-searching s x = record x { own = record x.own { search = Some s } }
+searching s x = record x { state = record x.state { search = Some s } }
 
 abbrev pub unsearched : Session → Session
-unsearched x = record x { own = record x.own { search = None } }
+unsearched x = record x { state = record x.state { search = None } }
 
 -- one that looked for this is over: it is the search string then, unless it is nothing. No prompt is behind it
 abbrev pub search_left : List ℕ → Session → Session
 search_left sought x =
-    record x { own = record x.own { echo = Silent; pattern = cond (length sought == 0) x.own.pattern sought; prompt = None; search = None } }
+    record x { state = record x.state { echo = Silent; pattern = cond (length sought == 0) x.state.pattern sought; prompt = None; search = None } }
 
 -- one that goes on is in the buffer of this name
 abbrev pub is_search_in : List ℕ → Option Search → Bool
@@ -49,6 +49,6 @@ is_search_in name None = false
 is_search_in name (Some s) = same_name name s.name
 
 -- a search in a buffer that is gone is over
-abbrev pub own_bereft : List ℕ → Own → Own
-own_bereft name own =
-    record own { search = cond (is_search_in name own.search) None own.search; prompt = cond (is_search_in name own.search) None own.prompt }
+abbrev pub state_without_buffer : List ℕ → State → State
+state_without_buffer name state =
+    record state { search = cond (is_search_in name state.search) None state.search; prompt = cond (is_search_in name state.search) None state.prompt }

@@ -4,7 +4,7 @@ use Rattle.std.specs.Option.{option_and_then}
 use Rattle.mgs_model.specs.declared.message.Message.{Message}
 use Rattle.mgs_model.specs.declared.message.Message.TheVariants.{Silent, KeyNotBound, MacroTooLong}
 use Rattle.mgs_model.specs.Plans.{kind_failed}
-use Rattle.mgs_model.specs.World.{first_own}
+use Rattle.mgs_model.specs.World.{first_state}
 use Rattle.mgs_model.specs.declared.session.Kind.{Kind}
 use Rattle.mgs_model.specs.declared.session.Kind.TheVariants.{Other}
 use Rattle.mgs_model.specs.declared.session.Question.{Question}
@@ -26,23 +26,23 @@ session_opened id user rows cols shows capacity = record {
   cols = cols;
   windows = record { rows = rows; windows = record { height = rows - 2; shows = shows; rows = NoRows } ∷ []; selected = 0; places = []; capacity = capacity };
   kill = [];
-  own = record { echo = Silent; keyboard = nothing_held; kind = Other; fill = first_own.fill; prompt = None; pattern = []; recorder = nothing_recorded; player = nothing_played; search = None };
+  state = record { echo = Silent; keyboard = nothing_held; kind = Other; fill = first_state.fill; prompt = None; pattern = []; recorder = nothing_recorded; player = nothing_played; search = None };
 }
 
 abbrev pub told : Message → Session → Session
-told message x = record x { own = record x.own { echo = message } }
+told message x = record x { state = record x.state { echo = message } }
 
 -- a command of this kind was done
 abbrev pub acted : Kind → Session → Session
-acted kind x = record x { own = record x.own { kind = kind } }
+acted kind x = record x { state = record x.state { kind = kind } }
 
 -- the fill column is set
 abbrev pub filling : ℕ → Session → Session
-filling column x = record x { own = record x.own { fill = column } }
+filling column x = record x { state = record x.state { fill = column } }
 
 -- it holds what was read, and no prompt and no search, and its echo line is empty; what it keeps from command to command is the same
 abbrev pub holding : Held → Session → Session
-holding k x = record x { own = record x.own { echo = Silent; keyboard = k; prompt = None; search = None } }
+holding k x = record x { state = record x.state { echo = Silent; keyboard = k; prompt = None; search = None } }
 
 -- nothing is half read, and nothing is told
 abbrev pub resting : Session → Session
@@ -50,11 +50,11 @@ resting x = holding nothing_held x
 
 -- what is still to be done
 abbrev pub playing_as : Playing → Session → Session
-playing_as p x = record x { own = record x.own { player = p } }
+playing_as p x = record x { state = record x.state { player = p } }
 
 -- it is told what stands against what was to be done, and nothing more is to be done
 abbrev pub broken_off : Message → Session → Session
-broken_off message x = playing_as (stopped x.own.player) (told message x)
+broken_off message x = playing_as (stopped x.state.player) (told message x)
 
 -- typed bytes are no character and no key: this is told, and breaks a run of commands. A prompt and a search go on
 abbrev pub unbound : Session → Session
@@ -62,35 +62,35 @@ unbound x = broken_off KeyNotBound (acted Other x)
 
 -- what is half read changes alone
 abbrev pub reading : Held → Session → Session
-reading k x = record x { own = record x.own { keyboard = k } }
+reading k x = record x { state = record x.state { keyboard = k } }
 
 -- a command has failed: nothing more is to be done
 abbrev pub failed : Message → Session → Session
-failed message x = playing_as (stopped x.own.player) (told message (acted (kind_failed message x.own.kind) (resting x)))
+failed message x = playing_as (stopped x.state.player) (told message (acted (kind_failed message x.state.kind) (resting x)))
 
 -- MACROS
 
 abbrev pub recording_as : Recorded → Session → Session
-recording_as r x = record x { own = record x.own { recorder = r } }
+recording_as r x = record x { state = record x.state { recorder = r } }
 
 -- a byte comes: it is kept and is to be handled, or it is one too many for the macro, which is told and breaks a run of commands
 abbrev pub begun : ℕ → Session → Session
 begun byte x =
-    cond (is_full x.own.recorder) (playing_as (stopped x.own.player) (told MacroTooLong (acted Other (recording_as nothing_recorded x))))
-    (playing_as (byte_typed byte x.own.player) (recording_as (appended byte x.own.recorder) x))
+    cond (is_full x.state.recorder) (playing_as (stopped x.state.player) (told MacroTooLong (acted Other (recording_as nothing_recorded x))))
+    (playing_as (byte_typed byte x.state.player) (recording_as (appended byte x.state.recorder) x))
 
 abbrev pub macro_started : Session → Session
 macro_started x = acted Other (recording_as started x)
 
 abbrev pub macro_ended : Session → Session
-macro_ended x = acted Other (recording_as (ended x.own.recorder) x)
+macro_ended x = acted Other (recording_as (ended x.state.recorder) x)
 
 -- the macro is to be played so many times
 abbrev pub macro_called : ℕ → Session → Session
-macro_called n x = playing_as (called n x.own.recorder.macro x.own.player) x
+macro_called n x = playing_as (called n x.state.recorder.macro x.state.player) x
 
 abbrev pub macro_given_up : Session → Session
-macro_given_up x = recording_as (given_up x.own.recorder) x
+macro_given_up x = recording_as (given_up x.state.recorder) x
 
 -- PROMPTS
 
@@ -100,14 +100,14 @@ first_input c = record { question = c; first = []; input = []; waiting = NoKey }
 
 -- a question is asked, and the argument waits for the command that its answer is for
 abbrev pub asking : Question → Option ℕ → Session → Session
-asking c n x = acted Other (record x { own = record x.own { keyboard = argument_held n; prompt = Some (first_input c) } })
+asking c n x = acted Other (record x { state = record x.state { keyboard = argument_held n; prompt = Some (first_input c) } })
 
 abbrev pub unprompted : Session → Session
-unprompted x = record x { own = record x.own { prompt = None } }
+unprompted x = record x { state = record x.state { prompt = None } }
 
 -- it is at a prompt, and its echo line is empty
 abbrev pub prompting : PromptInput → Session → Session
-prompting p x = told Silent (record x { own = record x.own { prompt = Some p } })
+prompting p x = told Silent (record x { state = record x.state { prompt = Some p } })
 
 -- the buffer of the selected window
 abbrev pub window_marks_of : Session → Option WindowMarks

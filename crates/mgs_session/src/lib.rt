@@ -10,7 +10,7 @@ mod search_string;
 ghost use Rattle.std.specs.Prelude.{◌≡◌, ◌≤◌, ◌<◌, ◌+◌, ◌-◌, ◌^◌, [], vec_capacity};
 ghost use Rattle.mgs_model.specs.Plans.{kind_failed};
 ghost use Rattle.mgs_session.specs.Playing.{IsNext};
-ghost use Rattle.mgs_session.specs.Seeking.{is_search_in, own_bereft, search_left, searching, session_edited, unsearched};
+ghost use Rattle.mgs_session.specs.Seeking.{is_search_in, state_without_buffer, search_left, searching, session_edited, unsearched};
 ghost use Rattle.mgs_session.specs.Sessions.{session_opened, acted, asking, begun, broken_off, failed, filling, holding, macro_called, macro_ended, macro_given_up, macro_started, playing_as, prompting, reading, resting, told, unbound, subject_in, subject_of, unprompted, window_marks_of};
 
 pub use kill_buffer::KillBuffer;
@@ -19,7 +19,7 @@ use mgs_mini::Prompt;
 use mgs_model::{Kind, Message, Name, Question, SessionId};
 use mgs_search::IncrementalSearch;
 use mgs_windows::{RowPane, Window, WindowMarks, Windows};
-pub use playing::{Player, Task};
+pub use playing::{Pending, Player};
 pub use recording::Recorder;
 pub use search::{Aim, Edited, Replacing, Search};
 pub use search_string::SearchString;
@@ -34,7 +34,7 @@ pub const FILL_COLUMN: usize = 72;
 /// While there is a prompt, the keyboard holds the argument of the command that the prompt is for, and no keys; while an incremental
 /// search goes on, the bytes of a character that is not complete, which are those of a key when the search's buffer is killed.
 #[derive(Drop)]
-pub struct Own {
+pub struct State {
     pub echo: Message,
     pub keyboard: Keyboard,
     pub kind: Kind,
@@ -55,7 +55,7 @@ pub struct Session {
     pub cols: usize,
     pub windows: Windows,
     pub kill: KillBuffer,
-    pub own: Own,
+    pub state: State,
 }
 
 /// A session with one window. `places` is empty, and has room for one.
@@ -79,7 +79,7 @@ pub fn opened(
         cols,
         windows: Windows::one(rows, shows, places),
         kill: KillBuffer::new(alloc),
-        own: Own {
+        state: State {
             echo: Message::Silent,
             keyboard: Keyboard::new(),
             kind: Kind::Other,
@@ -97,7 +97,7 @@ pub fn opened(
 pub fn set_echo(session: &mut Session, message: Message)
     ensures { session.new ≡ told message session.old }
 {
-    session.own.echo = message;
+    session.state.echo = message;
 }
 
 /// The kind that a failure leaves: that there is nothing more to undo breaks no run of undos, and any other failure
@@ -118,7 +118,7 @@ fn kind_failed(message: &Message, kind: Kind) -> Kind
 pub fn fail(session: &mut Session, message: Message)
     ensures { session.new ≡ failed message session.old }
 {
-    let kind = kind_failed(&message, session.own.kind);
+    let kind = kind_failed(&message, session.state.kind);
     rest(session);
     set_kind(session, kind);
     break_off(session, message);
@@ -129,7 +129,7 @@ pub fn break_off(session: &mut Session, message: Message)
     ensures { session.new ≡ broken_off message session.old }
 {
     set_echo(session, message);
-    session.own.player.stop();
+    session.state.player.stop();
 }
 
 /// The bytes that were typed are no character and no key: this is told, it breaks a run of commands, and nothing more of a macro is
@@ -145,14 +145,14 @@ pub fn tell_unbound(session: &mut Session)
 pub fn set_kind(session: &mut Session, kind: Kind)
     ensures { session.new ≡ acted kind session.old }
 {
-    session.own.kind = kind;
+    session.state.kind = kind;
 }
 
 /// The fill column is set.
 pub fn set_fill(session: &mut Session, column: usize)
     ensures { session.new ≡ filling column session.old }
 {
-    session.own.fill = column;
+    session.state.fill = column;
 }
 
 /// A command of this kind was done, and tells this.
@@ -168,8 +168,8 @@ pub fn finish(session: &mut Session, kind: Kind, message: Message)
 pub fn begin(session: &mut Session, byte: u8)
     ensures { session.new ≡ begun byte session.old }
 {
-    if session.own.recorder.keep(byte) {
-        session.own.player.type_byte(byte);
+    if session.state.recorder.keep(byte) {
+        session.state.player.type_byte(byte);
         return;
     }
     set_kind(session, Kind::Other);
@@ -177,11 +177,11 @@ pub fn begin(session: &mut Session, byte: u8)
 }
 
 /// Takes what is to be done next, which is handled now.
-pub fn next_task(session: &mut Session) -> Task
-    ensures next { IsNext result session.old.own.player session.new.own.player }
-    ensures rest { session.new ≡ playing_as session.new.own.player session.old }
+pub fn next_task(session: &mut Session) -> Pending
+    ensures next { IsNext result session.old.state.player session.new.state.player }
+    ensures rest { session.new ≡ playing_as session.new.state.player session.old }
 {
-    session.own.player.next()
+    session.state.player.next()
 }
 
 /// These bytes of a macro are to be played so many times.
@@ -189,16 +189,16 @@ pub fn call_macro(session: &mut Session, times: usize)
     ensures { session.new ≡ macro_called times session.old }
 {
     session
-        .own
+        .state
         .player
-        .call(session.own.recorder.as_slice(), times);
+        .call(session.state.recorder.as_slice(), times);
 }
 
 /// A macro is recorded from here on.
 pub fn start_macro(session: &mut Session)
     ensures { session.new ≡ macro_started session.old }
 {
-    session.own.recorder.start();
+    session.state.recorder.start();
     set_kind(session, Kind::Other);
 }
 
@@ -206,7 +206,7 @@ pub fn start_macro(session: &mut Session)
 pub fn end_macro(session: &mut Session)
     ensures { session.new ≡ macro_ended session.old }
 {
-    session.own.recorder.end();
+    session.state.recorder.end();
     set_kind(session, Kind::Other);
 }
 
@@ -214,7 +214,7 @@ pub fn end_macro(session: &mut Session)
 pub fn give_up_macro(session: &mut Session)
     ensures { session.new ≡ macro_given_up session.old }
 {
-    session.own.recorder.give_up();
+    session.state.recorder.give_up();
 }
 
 /// The kill buffer holds other characters.
@@ -228,8 +228,8 @@ pub fn set_kill(session: &mut Session, text: Vec<char>)
 fn drop_prompt(session: &mut Session)
     ensures { session.new ≡ unprompted session.old }
 {
-    if session.own.prompt.is_some() {
-        session.own.prompt = None;
+    if session.state.prompt.is_some() {
+        session.state.prompt = None;
     }
 }
 
@@ -237,8 +237,8 @@ fn drop_prompt(session: &mut Session)
 fn drop_search(session: &mut Session)
     ensures { session.new ≡ unsearched session.old }
 {
-    if session.own.search.is_some() {
-        session.own.search = None;
+    if session.state.search.is_some() {
+        session.state.search = None;
     }
 }
 
@@ -246,8 +246,8 @@ fn drop_search(session: &mut Session)
 pub fn hold(session: &mut Session, keyboard: Keyboard)
     ensures { session.new ≡ holding keyboard session.old }
 {
-    session.own.echo = Message::Silent;
-    session.own.keyboard = keyboard;
+    session.state.echo = Message::Silent;
+    session.state.keyboard = keyboard;
     drop_prompt(session);
     drop_search(session);
 }
@@ -256,7 +256,7 @@ pub fn hold(session: &mut Session, keyboard: Keyboard)
 pub fn hold_keyboard(session: &mut Session, keyboard: Keyboard)
     ensures { session.new ≡ reading keyboard session.old }
 {
-    session.own.keyboard = keyboard;
+    session.state.keyboard = keyboard;
 }
 
 /// Nothing is half read, a prompt or a search is over, and the echo line is empty: an act can begin.
@@ -270,40 +270,40 @@ pub fn rest(session: &mut Session)
 pub fn ask(session: &mut Session, question: Question, argument: Option<usize>)
     ensures { session.new ≡ asking question argument session.old }
 {
-    session.own.keyboard = Keyboard::holding(argument);
-    session.own.prompt = Some(Prompt::new(question));
+    session.state.keyboard = Keyboard::holding(argument);
+    session.state.prompt = Some(Prompt::new(question));
     set_kind(session, Kind::Other);
 }
 
 /// The prompt, which is taken out. All else stays, and `hold_prompt` puts it back.
 pub fn take_prompt(session: &mut Session) -> Option<Prompt>
-    ensures prompt { result ≡ session.old.own.prompt }
+    ensures prompt { result ≡ session.old.state.prompt }
     ensures rest { session.new ≡ unprompted session.old }
 {
-    session.own.prompt.take()
+    session.state.prompt.take()
 }
 
 /// Holds what a prompt makes of a byte, and empties the echo line, as each byte does.
 pub fn hold_prompt(session: &mut Session, prompt: Prompt)
     ensures { session.new ≡ prompting prompt session.old }
 {
-    session.own.prompt = Some(prompt);
+    session.state.prompt = Some(prompt);
     set_echo(session, Message::Silent);
 }
 
 /// The search that goes on, which is taken out. All else stays, and `hold_search` puts it back.
 pub fn take_search(session: &mut Session) -> Option<Search>
-    ensures search { result ≡ session.old.own.search }
+    ensures search { result ≡ session.old.state.search }
     ensures rest { session.new ≡ unsearched session.old }
 {
-    session.own.search.take()
+    session.state.search.take()
 }
 
 /// Holds a search that goes on.
 pub fn hold_search(session: &mut Session, search: Search)
     ensures { session.new ≡ searching search session.old }
 {
-    session.own.search = Some(search);
+    session.state.search = Some(search);
 }
 
 /// An incremental search that was taken out is over: what it looked for is the search string, unless it looked for nothing. No prompt is
@@ -313,10 +313,10 @@ pub fn leave_search(session: &mut Session, sought: &IncrementalSearch)
 {
     let pattern = sought.pattern();
     if !pattern.is_empty() {
-        session.own.pattern = SearchString::of(pattern);
+        session.state.pattern = SearchString::of(pattern);
     }
-    session.own.prompt = None;
-    session.own.search = None;
+    session.state.prompt = None;
+    session.state.search = None;
     set_echo(session, Message::Silent);
 }
 
@@ -326,26 +326,26 @@ pub fn follow_edit(session: &mut Session, name: &Name, edit: &Edited)
     requires fits { edit.now.size + edit.now.added < 2 ^ 64 }
     ensures { session.new ≡ session_edited name.now edit.now session.old }
 {
-    if let Some(search) = &mut session.own.search {
+    if let Some(search) = &mut session.state.search {
         search.follow(name, edit);
     }
 }
 
 /// The buffer of this name is killed: a search in it is over.
 pub fn forget_search(session: &mut Session, name: &Name)
-    ensures { session.new ≡ record session.old { own = own_bereft name.now session.old.own } }
+    ensures { session.new ≡ record session.old { state = state_without_buffer name.now session.old.state } }
 {
-    if searches_in(&session.own, name) {
-        session.own.search = None;
-        session.own.prompt = None;
+    if searches_in(&session.state, name) {
+        session.state.search = None;
+        session.state.prompt = None;
     }
 }
 
 /// Whether a search goes on in the buffer of this name.
-fn searches_in(own: &Own, name: &Name) -> bool
-    ensures { result ≡ is_search_in name.now own.now.search }
+fn searches_in(state: &State, name: &Name) -> bool
+    ensures { result ≡ is_search_in name.now state.now.search }
 {
-    match &own.search {
+    match &state.search {
         Some(search) => *name == search.name,
         None => false,
     }

@@ -10,7 +10,7 @@ use std::marker::Model;
 
 /// What comes next in an event.
 #[derive(Clone, Copy)]
-pub enum Task {
+pub enum Pending {
     /// A byte that was typed.
     Typed(u8),
     /// A byte of a macro.
@@ -198,19 +198,19 @@ impl Player {
 
     /// Takes what comes next, which is handled now.
     #[tactic(auto, using(crate::proofs::Rounds::played_all))]
-    pub fn next(&mut self) -> Task
+    pub fn next(&mut self) -> Pending
         ensures { IsNext result self.old self.new }
     {
         if let Some(byte) = self.typed {
             self.stop();
             self.is_playing = false;
-            return Task::Typed(byte);
+            return Pending::Typed(byte);
         }
         if self.replaces_all {
             if self.begins {
-                return Task::FirstReplacement;
+                return Pending::FirstReplacement;
             }
-            return Task::Replacement;
+            return Pending::Replacement;
         }
         let begins = self.begins;
         self.begins = false;
@@ -219,12 +219,18 @@ impl Player {
                 self.left = left;
                 self.is_playing = true;
                 if begins {
-                    Task::First(byte)
+                    Pending::First(byte)
                 } else {
-                    Task::Played(byte)
+                    Pending::Played(byte)
                 }
             }
-            None => { if begins { Task::End } else { Task::Nothing } }
+            None => {
+                if begins {
+                    Pending::End
+                } else {
+                    Pending::Nothing
+                }
+            }
         }
     }
 }

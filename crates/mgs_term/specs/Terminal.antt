@@ -24,11 +24,19 @@ Continues t byte rest o =
     (t.refused ≡ false) × Accepts t.screen.rows t.screen.cols t.screen.wrapping o × (spelling o ≡ t.begun ++ byte ∷ rest)
     × (rest ≡ [] → has_room t.screen o ≡ true)
 
+-- no accepted sequence ends by the byte
+abbrev pub IsInner : Terminal → ℕ → Type 0
+IsInner t byte = (o : Operation) → Continues t byte [] o → ⊥
+
+-- the sequence that has begun goes on by it
+abbrev pub going_on : Terminal → ℕ → Terminal
+going_on t byte = record { screen = t.screen; begun = t.begun ++ byte ∷ []; refused = false }
+
 -- A byte is taken. The last of a sequence does what the sequence does, and any other changes no more than what has begun.
 pub record Takes (old : Terminal) (byte : ℕ) (new : Terminal) : Type 0 where
   pub some : (o : Operation) × (rest : List ℕ) × Continues old byte rest o
   pub last : (o : Operation) → Continues old byte [] o → new ≡ resting (after o old.screen)
-  pub inner : ((o : Operation) → Continues old byte [] o → ⊥) → new ≡ record { screen = old.screen; begun = old.begun ++ byte ∷ []; refused = false }
+  pub inner : IsInner old byte → new ≡ going_on old byte
 
 -- A byte is refused: no accepted sequence has it there. The screen stays.
 pub record Refuses (old : Terminal) (byte : ℕ) (new : Terminal) : Type 0 where

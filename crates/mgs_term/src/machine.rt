@@ -1,10 +1,10 @@
-ghost use Rattle.std.specs.Prelude.{◌≡◌, ℕ, ◌+◌, ◌-◌, ◌*◌, ◌<◌, ◌≤◌, ◌++◌, ◌↔◌, length, take, drop, replicate, true, false, IsOk, IfOk, OnOk, OnErr, List, [], ◌∷◌};
+ghost use Rattle.std.specs.Prelude.{◌≡◌, ℕ, ◌+◌, ◌-◌, ◌*◌, ◌<◌, ◌≤◌, ◌++◌, ◌↔◌, length, take, drop, replicate, true, false, IsOk, IfOk, OnOk, OnErr, List, []};
 ghost use Rattle.mgs_model.specs.Picture.{IsSize};
 ghost use Rattle.mgs_model.specs.Cells.{own_cells};
 ghost use Rattle.mgs_term.specs.declared.operation.Operation.TheVariants.{Print};
 ghost use Rattle.mgs_term.specs.Screen.{Screen, IsScreen, blank_cell, own_shown, parted, written};
 ghost use Rattle.mgs_term.specs.Sequences.{Accepts, has_room, after};
-ghost use Rattle.mgs_term.specs.Terminal.{Continues, Takes, TakesAll, RefusesSome, resting};
+ghost use Rattle.mgs_term.specs.Terminal.{Continues, IsInner, Takes, TakesAll, RefusesSome, resting, going_on};
 ghost use Rattle.mgs_term.specs.Drawing.{Draws, Anything};
 ghost use Rattle.mgs_term.specs.Automaton.{Automaton, IsPlace, stepped, new_automaton, terminal_of};
 ghost use Rattle.mgs_term.specs.declared.place.Place.TheVariants.{Ground, Refused};
@@ -167,7 +167,7 @@ impl Machine {
         ensures stepped { self.new ≡ stepped self.old byte }
         ensures taken { IsOk result ↔ (o : Operation) × (rest : List ℕ) × Continues (terminal_of self.old) byte rest o }
         ensures last { (o : Operation) → Continues (terminal_of self.old) byte [] o → self.new ≡ record { screen = after o self.old.screen; place = Ground } }
-        ensures inner { IsOk result → ((o : Operation) → Continues (terminal_of self.old) byte [] o → ⊥) → terminal_of self.new ≡ record { screen = self.old.screen; begun = (terminal_of self.old).begun ++ byte ∷ []; refused = false } }
+        ensures inner { IsOk result → IsInner (terminal_of self.old) byte → terminal_of self.new ≡ going_on (terminal_of self.old) byte }
         ensures refused { OnErr result (self.new ≡ record { screen = self.old.screen; place = Refused }) }
     {
         match next_of(self.rows, self.cols, self.wrapping, self.place, byte) {

@@ -1,9 +1,9 @@
-ghost use Rattle.std.specs.Prelude.{◌≡◌, ℕ, ◌+◌, ◌*◌, ◌++◌, ◌↔◌, false, IsOk, IfOk, OnOk, OnErr, List, [], ◌∷◌, length};
+ghost use Rattle.std.specs.Prelude.{◌≡◌, ℕ, ◌+◌, ◌*◌, ◌↔◌, IsOk, IfOk, OnOk, OnErr, List, [], length};
 ghost use Rattle.mgs_model.specs.Picture.{IsSize};
 ghost use Rattle.mgs_term.specs.Screen.{Screen, IsScreen, blank_screen};
 ghost use Rattle.mgs_term.specs.Sequences.{after};
 ghost use Rattle.mgs_term.specs.Drawing.{Draws, Anything};
-ghost use Rattle.mgs_term.specs.Terminal.{Terminal, Continues, TakesAll, RefusesSome, resting, refusing};
+ghost use Rattle.mgs_term.specs.Terminal.{Terminal, Continues, IsInner, TakesAll, RefusesSome, resting, refusing, going_on};
 ghost use Rattle.mgs_term.specs.Automaton.{terminal_of};
 ghost use Rattle.mgs_term.specs.declared.operation.Operation.{Operation};
 
@@ -56,7 +56,7 @@ impl Term {
         // The last byte of a sequence does what the sequence does.
         ensures last { (o : Operation) → Continues self.old byte [] o → self.new ≡ resting (after o self.old.screen) }
         // Any other byte that is taken changes nothing, and the next has to go on after it.
-        ensures inner { IsOk result → ((o : Operation) → Continues self.old byte [] o → ⊥) → self.new ≡ record { screen = self.old.screen; begun = self.old.begun ++ byte ∷ []; refused = false } }
+        ensures inner { IsOk result → IsInner self.old byte → self.new ≡ going_on self.old byte }
         // A byte that is refused changes nothing, and each later one is refused.
         ensures refused { OnErr result (self.new ≡ refusing self.old.screen) }
     {

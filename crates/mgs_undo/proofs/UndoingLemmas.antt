@@ -9,7 +9,7 @@ use Rattle.std.proofs.lemmas.List.Folds.{find-append}
 use Rattle.std.proofs.lemmas.Bool.{eq-eqb, ne_eqb, or_cases, or_left, or_right, lt-ltb, ltb-true, cases_Bool}
 use Rattle.mgs_model.specs.Text.{edited, removed, is_edit}
 use Rattle.mgs_model.specs.World.{Buffer, Item}
-use Rattle.mgs_model.specs.Apply.{buffer_edited}
+use Rattle.mgs_model.specs.Apply.{buffer_edited, item_for}
 use Rattle.mgs_undo.specs.declared.Edit.{Edit}
 use Rattle.mgs_undo.specs.Numbered.{item_of}
 use Rattle.mgs_undo.specs.History.{History, has_serial}
@@ -18,18 +18,18 @@ use Rattle.mgs_undo.proofs.NumberedLemmas.{history}
 
 -- ONE EDIT AND ITS INVERSE
 
--- the item of an edit of a buffer
-abbrev pub item_for : ℕ → ℕ → List ℕ → Buffer → Item
-item_for a b put x = record { serial = x.serial + 1; place = a; removed = removed a b x.text; put = length put }
+-- what an edit is there makes of a buffer
+edit_made : (a b : ℕ) (put : List ℕ) (x : Buffer) → is_edit a b put ≡ true → buffer_edited a b put x ≡ record x { text = edited a b put x.text; items = item_for a b put x ∷ take 999 x.items; serial = x.serial + 1; modified = true }
+edit_made a b put x e = ap (λ f. cond f (record x { text = edited a b put x.text; items = item_for a b put x ∷ take 999 x.items; serial = x.serial + 1; modified = true }) x) e
 
 pub text_edited : (a b : ℕ) (put : List ℕ) (x : Buffer) → is_edit a b put ≡ true → (buffer_edited a b put x).text ≡ edited a b put x.text
-text_edited a b put x e = ap (λ f. cond f (edited a b put x.text) x.text) e
+text_edited a b put x e = ap (λ (y : Buffer). y.text) (edit_made a b put x e)
 
 pub items_edited : (a b : ℕ) (put : List ℕ) (x : Buffer) → is_edit a b put ≡ true → (buffer_edited a b put x).items ≡ item_for a b put x ∷ take 999 x.items
-items_edited a b put x e = ap (λ f. cond f (item_for a b put x ∷ take 999 x.items) x.items) e
+items_edited a b put x e = ap (λ (y : Buffer). y.items) (edit_made a b put x e)
 
 pub serial_edited : (a b : ℕ) (put : List ℕ) (x : Buffer) → is_edit a b put ≡ true → (buffer_edited a b put x).serial ≡ x.serial + 1
-serial_edited a b put x e = ap (λ f. cond f (x.serial + 1) x.serial) e
+serial_edited a b put x e = ap (λ (y : Buffer). y.serial) (edit_made a b put x e)
 
 drop_on : (a b : ℕ) (text : List ℕ) → a ≤ b → drop (b - a) (drop a text) ≡ drop b text
 drop_on a b text order =

@@ -17,6 +17,11 @@ history_of x = record { items = x.items; serial = x.serial }
 abbrev pub IsEditOf : Edit → ℕ → ℕ → List ℕ → Buffer → Type 0
 IsEditOf e a b put x = (e.at ≡ a) × (e.removed.items ≡ removed a b x.text) × (e.added ≡ length put)
 
+-- of the record of any buffer with such an edit it makes that of the edited buffer
+abbrev pub IsEdited : History → History → Edit → Type 0
+IsEdited old new e =
+    (x : Buffer) (a b : ℕ) (put : List ℕ) → history_of x ≡ old → IsEditOf e a b put x → is_edit a b put ≡ true → new ≡ history_of (buffer_edited a b put x)
+
 -- the characters from a up to b go out, and others come in
 pub record Replacement : Type 0 where
   pub a : ℕ

@@ -1,15 +1,12 @@
 //! The latest edits of a text, each with its serial: what undo goes by.
 #![tactic(auto)]
 
-ghost use Rattle.std.specs.Prelude.{◌≡◌, ℕ, List, true, ◌+◌, ◌-◌, ◌<◌, ◌≤◌, ◌^◌, [], ◌∷◌, IfOk, find, slice_get, take};
+ghost use Rattle.std.specs.Prelude.{◌≡◌, ℕ, ◌+◌, ◌-◌, ◌<◌, ◌≤◌, ◌^◌, [], ◌∷◌, IfOk, find, slice_get, take};
 ghost use Rattle.std.specs.Option.{option_copied, option_map};
 ghost use Rattle.mgs_undo.specs.History.{has_serial};
 ghost use Rattle.mgs_undo.specs.Numbered.{item_of};
-ghost use Rattle.mgs_model.specs.World.{Buffer};
-ghost use Rattle.mgs_model.specs.Text.{is_edit};
-ghost use Rattle.mgs_model.specs.Apply.{buffer_edited};
 ghost use Rattle.mgs_model.specs.Plans.{undone_from, undone_to};
-ghost use Rattle.mgs_undo.specs.Undoing.{history_of, IsEditOf, UndosGoBack, TargetsAreKept};
+ghost use Rattle.mgs_undo.specs.Undoing.{IsEdited, UndosGoBack, TargetsAreKept};
 
 use circular_buffer::HeapCircularBuffer;
 use mgs_model::Short;
@@ -95,7 +92,7 @@ impl Record {
     pub fn push(&mut self, edit: Edit) -> Option<Edit>
         requires { self.old.serial < 2 ^ 64 - 1 }
         ensures kept { self.new ≡ record { items = item_of (self.old.serial + 1) edit ∷ take 999 self.old.items; serial = self.old.serial + 1 } }
-        ensures buffer { (x : Buffer) (a b : ℕ) (put : List ℕ) → history_of x ≡ self.old → IsEditOf edit a b put x → is_edit a b put ≡ true → self.new ≡ history_of (buffer_edited a b put x) }
+        ensures buffer { IsEdited self.old self.new edit }
         ensures oldest { option_map (item_of (self.old.serial - 999)) result ≡ slice_get self.old.items 999 }
     {
         self.serial += 1;

@@ -37,6 +37,11 @@ pub record IsWindowList (w : WindowList) : Type 0 where
   pub fill : room_of w.windows + 1 ≡ w.rows
   pub room : length w.places + shown_in w.windows ≤ w.capacity
 
+-- one window over all rows, and no place
+abbrev pub single_window : ℕ → Option WindowMarks → ℕ → WindowList
+single_window rows shows capacity =
+    record { rows = rows; windows = record { height = rows - 2; shows = shows; rows = NoRows } ∷ []; selected = 0; places = []; capacity = capacity }
+
 -- HEIGHTS
 
 abbrev pub height_in : Option Window → ℕ
@@ -154,9 +159,9 @@ rows_set rows x = record x { rows = rows }
 
 -- A BUFFER IS GONE: windows that show it or its access list show nothing, and places in it go
 
-abbrev pub shows_bereft : List ℕ → Option WindowMarks → Option WindowMarks
-shows_bereft name None = None
-shows_bereft name (Some x) = cond (same_name name x.name) None (Some x)
+abbrev pub shows_without_buffer : List ℕ → Option WindowMarks → Option WindowMarks
+shows_without_buffer name None = None
+shows_without_buffer name (Some x) = cond (same_name name x.name) None (Some x)
 
 abbrev pub without_entries : List ℕ → RowPane → RowPane
 without_entries name NoRows = NoRows
@@ -164,15 +169,15 @@ without_entries name (Buffers row) = Buffers row
 without_entries name (Entries other row) = cond (same_name name other) NoRows (Entries other row)
 
 -- rows beside a text did not count, and may not when it is gone
-abbrev pub rows_bereft : List ℕ → Option WindowMarks → RowPane → RowPane
-rows_bereft name None rows = without_entries name rows
-rows_bereft name (Some x) rows = NoRows
+abbrev pub rows_without_buffer : List ℕ → Option WindowMarks → RowPane → RowPane
+rows_without_buffer name None rows = without_entries name rows
+rows_without_buffer name (Some x) rows = NoRows
 
-abbrev pub window_bereft : List ℕ → Window → Window
-window_bereft name x = record x { shows = shows_bereft name x.shows; rows = rows_bereft name x.shows x.rows }
+abbrev pub window_without_buffer : List ℕ → Window → Window
+window_without_buffer name x = record x { shows = shows_without_buffer name x.shows; rows = rows_without_buffer name x.shows x.rows }
 
-abbrev pub places_bereft : List ℕ → List WindowMarks → List WindowMarks
-places_bereft name places = filter (λ p. not (is_place_in name p)) places
+abbrev pub places_without_buffer : List ℕ → List WindowMarks → List WindowMarks
+places_without_buffer name places = filter (λ p. not (is_place_in name p)) places
 
-abbrev pub list_bereft : List ℕ → WindowList → WindowList
-list_bereft name w = record w { windows = map (window_bereft name) w.windows; places = places_bereft name w.places }
+abbrev pub list_without_buffer : List ℕ → WindowList → WindowList
+list_without_buffer name w = record w { windows = map (window_without_buffer name) w.windows; places = places_without_buffer name w.places }

@@ -2,17 +2,17 @@
 //! where the session was in buffers that its windows left.
 #![tactic(auto)]
 
-mod bereft;
 mod places;
+mod without_buffer;
 
 ghost use Rattle.std.specs.Prelude.{◌≡◌, ◌≢◌, ◌-◌, ◌/◌, ◌+◌, ◌<◌, ◌≤◌, [], ◌∷◌, length, slice_get, vec_capacity, Some, OnOk, ◌^◌};
 ghost use Rattle.mgs_model.specs.Apply.{change_at};
 ghost use Rattle.std.specs.Option.{option_map};
-ghost use Rattle.mgs_windows.specs.Panes.{WindowList, IsWindowList, closer, given, grown, height_at, left_by, list_bereft, mark_set, marked, one_shown, places_after, rows_at, rows_set, showing, showing_rows, shown_in, shows_at, shrunk, split_at, window_removed, window_rows_shown, window_shown, window_split, windows_without};
+ghost use Rattle.mgs_windows.specs.Panes.{WindowList, IsWindowList, closer, given, grown, height_at, left_by, list_without_buffer, mark_set, marked, one_shown, places_after, rows_at, rows_set, showing, showing_rows, shown_in, shows_at, shrunk, single_window, split_at, window_removed, window_rows_shown, window_shown, window_split, windows_without};
 ghost use Rattle.mgs_windows.specs.declared.RowPane.TheVariants.{NoRows};
 
-use crate::bereft::{leave_places, leave_windows};
 use crate::places::put_place;
+use crate::without_buffer::{leave_places, leave_windows};
 use arrayvec::ArrayVec;
 use mgs_model::{MarkId, Name, Short};
 use std::marker::Model;
@@ -313,7 +313,7 @@ impl Windows {
         requires rows { 3 ≤ rows }
         requires none { places.items ≡ [] }
         requires room { 1 ≤ vec_capacity places }
-        ensures { result ≡ record { rows = rows; windows = record { height = rows - 2; shows = shows; rows = NoRows } ∷ []; selected = 0; places = []; capacity = vec_capacity places } }
+        ensures { result ≡ single_window rows shows (vec_capacity places) }
     {
         let height = rows - 2;
         Windows {
@@ -466,7 +466,7 @@ impl Windows {
     /// The buffer of this name is gone: windows that show it or its access list show nothing from now on, and the place in it is taken out. Their
     /// marks go with the buffer. It takes no memory.
     pub fn forget(&mut self, name: &Name)
-        ensures { self.new ≡ list_bereft name.now self.old }
+        ensures { self.new ≡ list_without_buffer name.now self.old }
     {
         leave_windows(&mut self.list, name);
         leave_places(&mut self.places, name);

@@ -4,22 +4,23 @@ use Rattle.std.proofs.Math.Nat.{min-eq_left, min-le_right}
 use Rattle.std.specs.Option.{option_map}
 use Rattle.std.specs.Prelude.{slice_get, slice_set}
 use Rattle.std.proofs.lemmas.Option.{slice_get-map}
-use Rattle.std.proofs.lemmas.Bool.Decides.{nat_tests}
 use Rattle.mgs_model.specs.Names.{same_name}
-use Rattle.mgs_model.specs.Text.{edited, is_edit, shift}
+use Rattle.mgs_model.specs.Text.{shift}
 use Rattle.mgs_model.specs.World.{Buffer, find_buffer, is_named}
 use Rattle.mgs_model.specs.World as model
 use Rattle.mgs_model.specs.Apply.{buffer_edited, change_first, place_moved, search_moved, session_moved, window_moved}
 use Rattle.mgs_model.proofs.Firsts.{find-change_first, find-change_first_other}
-use Rattle.mgs_marks.proofs.Moves.{length-edited, shift_bound}
+use Rattle.mgs_model.proofs.Moved.{edited_name}
+use Rattle.mgs_marks.proofs.Moves.{shift_bound}
 use Rattle.mgs_buffers.specs.MarkedBuffer.{HasBuffer, MarkedBuffer, marked_at, marked_edited, marked_named}
+use Rattle.mgs_buffers.proofs.Edits.{size_edited}
 use Rattle.mgs_windows.specs.declared.Window.{Window}
 use Rattle.mgs_session.specs.declared.search.Edited.{Edited}
 use Rattle.mgs_session.specs.declared.search.Search.{Search}
 use Rattle.mgs_session.specs.declared.Session.{Session}
 use Rattle.mgs_session.specs.Seeking.{moved, search_edited, session_edited}
 use Rattle.mgs_world.specs.Sound.{IsSound, session_uses, uses}
-use Rattle.mgs_world.specs.Worlds.{buffers_of, own_of, place_of, search_at, search_of, session_of, size_found, size_named, window_of}
+use Rattle.mgs_world.specs.Worlds.{buffers_of, state_of, place_of, search_at, search_of, session_of, size_found, size_named, window_of}
 use Rattle.mgs_world.proofs.Found.{found_buffer}
 use Rattle.mgs_world.proofs.Marks.{other_name, same_is}
 use Rattle.mgs_world.proofs.Worlds.{buffers_edited, mapped_twice, place_edited, same_positions, window_edited}
@@ -29,20 +30,13 @@ use Rattle.mgs_world.proofs.Worlds.{buffers_edited, mapped_twice, place_edited, 
 pub size_kept : (n : List ℕ) (ks : List MarkedBuffer) → HasBuffer n ks → size_named n (buffers_of ks) ≡ length (marked_at n ks).buffer.text
 size_kept n ks kept = ap size_found (found_buffer n ks kept)
 
-text_size : (a b : ℕ) (put : List ℕ) (x : Buffer) → a ≤ b → b ≤ length x.text → length (buffer_edited a b put x).text ≡ length x.text - (b - a) + length put
-text_size a b put x order within = by (is_edit a b put) refl
-  where
-    by : (f : Bool) → is_edit a b put ≡ f → length (cond f (edited a b put x.text) x.text) ≡ length x.text - (b - a) + length put
-    by true e = length-edited a b put x.text order within
-    by false e = grind (arith, nat_tests)
-
 size_here : (n : List ℕ) (a b : ℕ) (put : List ℕ) (bs : List Buffer) (x : Buffer) → find_buffer n bs ≡ Some x → a ≤ b → b ≤ length x.text → size_named n (change_first (is_named n) (buffer_edited a b put) bs) ≡ length x.text - (b - a) + length put
 size_here n a b put bs x found order within =
-    ap size_found (find-change_first (is_named n) (buffer_edited a b put) (λ y. refl) bs ∙ ap (option_map (buffer_edited a b put)) found) ∙ text_size a b put x order within
+    ap size_found (find-change_first (is_named n) (buffer_edited a b put) (λ y. ap (same_name n) (edited_name a b put y)) bs ∙ ap (option_map (buffer_edited a b put)) found) ∙ size_edited a b put x order within
 
 size_there : (n m : List ℕ) (a b : ℕ) (put : List ℕ) (bs : List Buffer) → same_name n m ≡ false → size_named m (change_first (is_named n) (buffer_edited a b put) bs) ≡ size_named m bs
 size_there n m a b put bs apart =
-    ap size_found (find-change_first_other (is_named n) (is_named m) (buffer_edited a b put) (λ x. refl) (λ x e. other_name n m x.name apart e) bs)
+    ap size_found (find-change_first_other (is_named n) (is_named m) (buffer_edited a b put) (λ x. ap (same_name m) (edited_name a b put x)) (λ x e. other_name n m x.name apart e) bs)
 
 -- POSITIONS OF SEARCHES
 
@@ -73,7 +67,7 @@ search_went n a b put ks s order within kept = by (same_name n s.name) refl
     goal : Bool → Type 0
     goal r =
         Path model.Search (record { name = s.name; origin = min (cond r (moved e s.origin) s.origin) (size_named s.name cs); anchor = min (cond r (moved e s.anchor) s.anchor) (size_named s.name cs) })
-        (record { name = s.name; origin = cond r (shift a b (length put) (min s.origin (size_named s.name bs))) (min s.origin (size_named s.name bs)); anchor = cond r (shift a b (length put) (min s.anchor (size_named s.name bs))) (min s.anchor (size_named s.name bs)) })
+        (cond r (record { name = s.name; origin = shift a b (length put) (min s.origin (size_named s.name bs)); anchor = shift a b (length put) (min s.anchor (size_named s.name bs)) }) (search_at bs s))
 
     by : (r : Bool) → same_name n s.name ≡ r → goal r
     by true is =
@@ -94,10 +88,10 @@ searches_went n a b put ks None order within kept = refl
 searches_went n a b put ks (Some s) order within kept = ap (λ (q : model.Search). Some q) (search_went n a b put ks s order within kept)
 
 -- which changes nothing else that a session holds
-pub own_went : (n : List ℕ) (e : Edited) (x : Session) → own_of (session_edited n e x).own ≡ own_of x.own
-own_went n e x = by x.own.search
+pub state_went : (n : List ℕ) (e : Edited) (x : Session) → state_of (session_edited n e x).state ≡ state_of x.state
+state_went n e x = by x.state.search
   where
-    by : (o : Option Search) → own_of (record x.own { search = option_map (search_edited n e) o }) ≡ own_of (record x.own { search = o })
+    by : (o : Option Search) → state_of (record x.state { search = option_map (search_edited n e) o }) ≡ state_of (record x.state { search = o })
     by None = refl
     by (Some s) = refl
 
@@ -109,11 +103,11 @@ session_went n a b put ks x order within kept =
     let ls = change_first (marked_named n) (marked_edited a b put) ks in
     let e = edit_in ks n a b (length put) in
     let move = shift a b (length put) in
-    (λ i. record (session_of ls (session_edited n e x)) { own = own_went n e x i })
+    (λ i. record (session_of ls (session_edited n e x)) { state = state_went n e x i })
     ∙ same_positions (session_of ks x) _ _ _ _ _ _
     (mapped_twice (window_of ls) (window_moved n move) (window_of ks) (λ (w : Window). window_edited n a b put ks w.height w.shows w.rows) x.windows.windows)
     (mapped_twice (place_of ls) (place_moved n move) (place_of ks) (place_edited n a b put ks) x.windows.places)
-    (ap (λ (bs : List Buffer). search_of bs (option_map (search_edited n e) x.own.search)) (buffers_edited n a b put ks) ∙ searches_went n a b put ks x.own.search order within kept)
+    (ap (λ (bs : List Buffer). search_of bs (option_map (search_edited n e) x.state.search)) (buffers_edited n a b put ks) ∙ searches_went n a b put ks x.state.search order within kept)
 
 -- every position goes by the edit
 pub sessions_edited : (n : List ℕ) (a b : ℕ) (put : List ℕ) (ks : List MarkedBuffer) (xs : List Session) → a ≤ b → b ≤ length (marked_at n ks).buffer.text → HasBuffer n ks

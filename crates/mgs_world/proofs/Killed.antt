@@ -5,7 +5,7 @@ use Rattle.mgs_model.specs.Access.{Directory}
 use Rattle.mgs_model.specs.Names.{same_name}
 use Rattle.mgs_model.specs.World.{Buffer, Buffer_of, is_named}
 use Rattle.mgs_model.specs.World as model
-use Rattle.mgs_model.specs.Apply.{bereft_own, remove_first, session_bereft, window_bereft_if, without_buffer}
+use Rattle.mgs_model.specs.Apply.{state_without_search, remove_first, session_without_buffer, empty_window, without_buffer}
 use Rattle.mgs_model.specs.Apply as model_apply
 use Rattle.mgs_buffers.specs.MarkedBuffer.{MarkedBuffer, has_buffer, mark_at, marked_at, marked_named, marked_or_none, without_marked}
 use Rattle.mgs_marks.specs.Marks.{mark_in, position_in}
@@ -13,13 +13,13 @@ use Rattle.mgs_windows.specs.declared.WindowMarks.{WindowMarks}
 use Rattle.mgs_windows.specs.declared.Window.{Window}
 use Rattle.mgs_windows.specs.declared.RowPane.{RowPane}
 use Rattle.mgs_windows.specs.declared.RowPane.TheVariants.{NoRows, Buffers, Entries}
-use Rattle.mgs_windows.specs.Panes.{is_place_in, places_bereft, rows_bereft, shows_bereft, window_bereft}
+use Rattle.mgs_windows.specs.Panes.{is_place_in, places_without_buffer, rows_without_buffer, shows_without_buffer, window_without_buffer}
 use Rattle.mgs_session.specs.declared.search.Search.{Search}
 use Rattle.mgs_session.specs.declared.Session.{Session}
 use Rattle.mgs_session.specs.Seeking.{unsearched}
 use Rattle.mgs_world.specs.Killing.{session_forgetting, world_without}
 use Rattle.mgs_world.specs.Sound.{IsSound, in_use, one_if, option_uses, place_uses, session_uses, sum_of, uses, window_marks_uses, window_uses}
-use Rattle.mgs_world.specs.Worlds.{buffers_of, own_of, place_of, search_at, search_of, session_of, size_found, size_named, window_of, window_shown, world_of}
+use Rattle.mgs_world.specs.Worlds.{buffers_of, state_of, place_of, search_at, search_of, session_of, size_found, size_named, window_of, window_shown, world_of}
 use Rattle.mgs_world.proofs.Marks.{other_name, same_is}
 use Rattle.mgs_world.proofs.Worlds.{option_mapped, same_place, same_positions, same_window, same_world}
 
@@ -51,43 +51,43 @@ buffers_killed n ks = map_removed (λ (k : MarkedBuffer). k.buffer) (is_named n)
 
 -- WHAT THE SESSIONS SHOW
 
-window_killed : (n : List ℕ) (ks : List MarkedBuffer) (height : ℕ) (o : Option WindowMarks) (rows : RowPane) → window_shown (without_marked n ks) height (shows_bereft n o) (rows_bereft n o rows) ≡ model_apply.window_bereft n (window_shown ks height o rows)
+window_killed : (n : List ℕ) (ks : List MarkedBuffer) (height : ℕ) (o : Option WindowMarks) (rows : RowPane) → window_shown (without_marked n ks) height (shows_without_buffer n o) (rows_without_buffer n o rows) ≡ model_apply.window_without_buffer n (window_shown ks height o rows)
 window_killed n ks height None NoRows = refl
 window_killed n ks height None (Buffers row) = refl
 window_killed n ks height None (Entries name row) = go (same_name n name)
   where
-    go : (r : Bool) → window_shown (without_marked n ks) height None (cond r NoRows (Entries name row)) ≡ window_bereft_if r (window_shown ks height None (Entries name row))
+    go : (r : Bool) → window_shown (without_marked n ks) height None (cond r NoRows (Entries name row)) ≡ cond r (record empty_window { height = height }) (window_shown ks height None (Entries name row))
     go true = refl
     go false = refl
 window_killed n ks height (Some x) rows = go (same_name n x.name) refl
   where
-    go : (r : Bool) → same_name n x.name ≡ r → window_shown (without_marked n ks) height (cond r None (Some x)) NoRows ≡ window_bereft_if r (window_shown ks height (Some x) NoRows)
+    go : (r : Bool) → same_name n x.name ≡ r → window_shown (without_marked n ks) height (cond r None (Some x)) NoRows ≡ cond r (record empty_window { height = height }) (window_shown ks height (Some x) NoRows)
     go true e = refl
     go false e =
         let there : (id : ℕ) → mark_at x.name (without_marked n ks) id ≡ mark_at x.name ks id =
         λ id. ap (λ (k : MarkedBuffer). position_in k.marks id) (kept_other n x.name ks e) in
         same_window (Buffer_of x.name) _ _ _ _ _ _ 0 height (there x.point) (option_mapped _ _ there x.mark) (there x.top)
 
-places_killed : (n : List ℕ) (ks : List MarkedBuffer) (ps : List WindowMarks) → map (place_of (without_marked n ks)) (places_bereft n ps) ≡ filter (λ (p : model.Place). not (same_name n p.name)) (map (place_of ks) ps)
+places_killed : (n : List ℕ) (ks : List MarkedBuffer) (ps : List WindowMarks) → map (place_of (without_marked n ks)) (places_without_buffer n ps) ≡ filter (λ (p : model.Place). not (same_name n p.name)) (map (place_of ks) ps)
 places_killed n ks [] = refl
 places_killed n ks (x ∷ xs) = go (same_name n x.name) refl (places_killed n ks xs)
   where
     left : List model.Place
     left = filter (λ (p : model.Place). not (same_name n p.name)) (map (place_of ks) xs)
 
-    go : (r : Bool) → same_name n x.name ≡ r → map (place_of (without_marked n ks)) (places_bereft n xs) ≡ left → map (place_of (without_marked n ks)) (cond (not r) (x ∷ places_bereft n xs) (places_bereft n xs)) ≡ cond (not r) (place_of ks x ∷ left) left
+    go : (r : Bool) → same_name n x.name ≡ r → map (place_of (without_marked n ks)) (places_without_buffer n xs) ≡ left → map (place_of (without_marked n ks)) (cond (not r) (x ∷ places_without_buffer n xs) (places_without_buffer n xs)) ≡ cond (not r) (place_of ks x ∷ left) left
     go true e more = more
     go false e more =
         let there : (id : ℕ) → mark_at x.name (without_marked n ks) id ≡ mark_at x.name ks id =
         λ id. ap (λ (k : MarkedBuffer). position_in k.marks id) (kept_other n x.name ks e) in
-        ap (λ p. p ∷ map (place_of (without_marked n ks)) (places_bereft n xs)) (same_place x.name _ _ _ _ (there x.point) (option_mapped _ _ there x.mark))
+        ap (λ p. p ∷ map (place_of (without_marked n ks)) (places_without_buffer n xs)) (same_place x.name _ _ _ _ (there x.point) (option_mapped _ _ there x.mark))
         ∙ ap (λ ps. place_of ks x ∷ ps) more
 
-windows_killed : (n : List ℕ) (ks : List MarkedBuffer) (ws : List Window) → map (window_of (without_marked n ks)) (map (window_bereft n) ws) ≡ map (model_apply.window_bereft n) (map (window_of ks) ws)
+windows_killed : (n : List ℕ) (ks : List MarkedBuffer) (ws : List Window) → map (window_of (without_marked n ks)) (map (window_without_buffer n) ws) ≡ map (model_apply.window_without_buffer n) (map (window_of ks) ws)
 windows_killed n ks [] = refl
 windows_killed n ks (w ∷ ws) =
-    ap (λ y. y ∷ map (window_of (without_marked n ks)) (map (window_bereft n) ws)) (window_killed n ks w.height w.shows w.rows)
-    ∙ ap (λ ys. model_apply.window_bereft n (window_of ks w) ∷ ys) (windows_killed n ks ws)
+    ap (λ y. y ∷ map (window_of (without_marked n ks)) (map (window_without_buffer n) ws)) (window_killed n ks w.height w.shows w.rows)
+    ∙ ap (λ ys. model_apply.window_without_buffer n (window_of ks w) ∷ ys) (windows_killed n ks ws)
 
 search_elsewhere : (n : List ℕ) (bs : List Buffer) (s : Search) → same_name n s.name ≡ false → search_at (without_buffer n bs) s ≡ search_at bs s
 search_elsewhere n bs s e =
@@ -96,39 +96,39 @@ search_elsewhere n bs s e =
     λ i. record { name = s.name; origin = min s.origin (same i); anchor = min s.anchor (same i) }
 
 -- a session that has this search, or none
-session_searching_killed : (n : List ℕ) (ks : List MarkedBuffer) (x : Session) (o : Option Search) → (let y : Session = record x { own = record x.own { search = o } } in session_of (without_marked n ks) (session_forgetting n y) ≡ session_bereft n (session_of ks y))
+session_searching_killed : (n : List ℕ) (ks : List MarkedBuffer) (x : Session) (o : Option Search) → (let y : Session = record x { state = record x.state { search = o } } in session_of (without_marked n ks) (session_forgetting n y) ≡ session_without_buffer n (session_of ks y))
 session_searching_killed n ks x None =
     same_positions (session_of ks (unsearched x)) _ _ _ _ _ _ (windows_killed n ks x.windows.windows) (places_killed n ks x.windows.places) refl
 session_searching_killed n ks x (Some s) = go (same_name n s.name) refl
   where
-    left : Bool → model.Own
-    left r = own_of (record x.own { search = cond r None (Some s); prompt = cond r None x.own.prompt })
+    left : Bool → model.State
+    left r = state_of (record x.state { search = cond r None (Some s); prompt = cond r None x.state.prompt })
 
-    before : model.Own
-    before = own_of (record x.own { search = Some s })
+    before : model.State
+    before = state_of (record x.state { search = Some s })
 
     ws : List model.Window
-    ws = map (model_apply.window_bereft n) (map (window_of ks) x.windows.windows)
+    ws = map (model_apply.window_without_buffer n) (map (window_of ks) x.windows.windows)
 
     ps : List model.Place
     ps = filter (λ (p : model.Place). not (same_name n p.name)) (map (place_of ks) x.windows.places)
 
     go : (r : Bool) → same_name n s.name ≡ r
-        → Path model.Session (record (session_of ks x) { windows = map (window_of (without_marked n ks)) (map (window_bereft n) x.windows.windows); places = map (place_of (without_marked n ks)) (places_bereft n x.windows.places); search = search_of (buffers_of (without_marked n ks)) (cond r None (Some s)); own = left r })
-        (record (session_of ks x) { windows = ws; places = ps; search = cond r None (Some (search_at (buffers_of ks) s)); own = bereft_own r before })
-    go true e = same_positions (record (session_of ks x) { own = left true }) _ _ _ _ _ _ (windows_killed n ks x.windows.windows) (places_killed n ks x.windows.places) refl
+        → Path model.Session (record (session_of ks x) { windows = map (window_of (without_marked n ks)) (map (window_without_buffer n) x.windows.windows); places = map (place_of (without_marked n ks)) (places_without_buffer n x.windows.places); search = search_of (buffers_of (without_marked n ks)) (cond r None (Some s)); state = left r })
+        (record (session_of ks x) { windows = ws; places = ps; search = cond r None (Some (search_at (buffers_of ks) s)); state = cond r (state_without_search before) before })
+    go true e = same_positions (record (session_of ks x) { state = left true }) _ _ _ _ _ _ (windows_killed n ks x.windows.windows) (places_killed n ks x.windows.places) refl
     go false e =
-        same_positions (record (session_of ks x) { own = left false }) _ _ _ _ _ _ (windows_killed n ks x.windows.windows) (places_killed n ks x.windows.places)
+        same_positions (record (session_of ks x) { state = left false }) _ _ _ _ _ _ (windows_killed n ks x.windows.windows) (places_killed n ks x.windows.places)
         (ap (λ (bs : List Buffer). search_of bs (Some s)) (buffers_killed n ks) ∙ ap (λ (q : model.Search). Some q) (search_elsewhere n (buffers_of ks) s e))
 
-session_killed : (n : List ℕ) (ks : List MarkedBuffer) (x : Session) → session_of (without_marked n ks) (session_forgetting n x) ≡ session_bereft n (session_of ks x)
-session_killed n ks x = session_searching_killed n ks x x.own.search
+session_killed : (n : List ℕ) (ks : List MarkedBuffer) (x : Session) → session_of (without_marked n ks) (session_forgetting n x) ≡ session_without_buffer n (session_of ks x)
+session_killed n ks x = session_searching_killed n ks x x.state.search
 
-sessions_killed : (n : List ℕ) (ks : List MarkedBuffer) (xs : List Session) → map (session_of (without_marked n ks)) (map (session_forgetting n) xs) ≡ map (session_bereft n) (map (session_of ks) xs)
+sessions_killed : (n : List ℕ) (ks : List MarkedBuffer) (xs : List Session) → map (session_of (without_marked n ks)) (map (session_forgetting n) xs) ≡ map (session_without_buffer n) (map (session_of ks) xs)
 sessions_killed n ks [] = refl
 sessions_killed n ks (x ∷ xs) =
     ap (λ y. y ∷ map (session_of (without_marked n ks)) (map (session_forgetting n) xs)) (session_killed n ks x)
-    ∙ ap (λ ys. session_bereft n (session_of ks x) ∷ ys) (sessions_killed n ks xs)
+    ∙ ap (λ ys. session_without_buffer n (session_of ks x) ∷ ys) (sessions_killed n ks xs)
 
 pub world_killed : (directory : Directory) (n : List ℕ) (ks : List MarkedBuffer) (xs : List Session) (next : Option ℕ) → world_of directory (without_marked n ks) (map (session_forgetting n) xs) next ≡ world_without n (world_of directory ks xs next)
 world_killed directory n ks xs next = same_world directory _ _ _ _ _ (buffers_killed n ks) (sessions_killed n ks xs)
@@ -165,7 +165,7 @@ elsewhere : (n : List ℕ) (i : ℕ) (x : WindowMarks) → same_name n x.name �
 elsewhere n i x apart =
     ap (λ b. cond b (one_if (nat_eq x.point i) + option_uses i x.mark + one_if (nat_eq x.top i)) 0) apart
 
-shown_none : (n : List ℕ) (i : ℕ) (o : Option WindowMarks) → window_marks_uses n i (shows_bereft n o) ≡ 0
+shown_none : (n : List ℕ) (i : ℕ) (o : Option WindowMarks) → window_marks_uses n i (shows_without_buffer n o) ≡ 0
 shown_none n i None = refl
 shown_none n i (Some x) = go (same_name n x.name) refl
   where
@@ -173,7 +173,7 @@ shown_none n i (Some x) = go (same_name n x.name) refl
     go true e = refl
     go false e = elsewhere n i x e
 
-shown_same : (n m : List ℕ) (i : ℕ) (o : Option WindowMarks) → same_name n m ≡ false → window_marks_uses m i (shows_bereft n o) ≡ window_marks_uses m i o
+shown_same : (n m : List ℕ) (i : ℕ) (o : Option WindowMarks) → same_name n m ≡ false → window_marks_uses m i (shows_without_buffer n o) ≡ window_marks_uses m i o
 shown_same n m i None apart = refl
 shown_same n m i (Some x) apart = go (same_name n x.name) refl
   where
@@ -193,7 +193,7 @@ session_none : (n : List ℕ) (i : ℕ) (x : Session) → session_uses n i (sess
 session_none n i x =
     omega (
       arith,
-      sum_none (window_uses n i) (window_bereft n) (λ w. shown_none n i w.shows) x.windows.windows,
+      sum_none (window_uses n i) (window_without_buffer n) (λ w. shown_none n i w.shows) x.windows.windows,
       sum_filtered_none (place_uses n i) (λ p. not (is_place_in n p)) (λ p e. elsewhere n i p (not_true _ e)) x.windows.places,
     )
 
@@ -201,7 +201,7 @@ session_same : (n m : List ℕ) (i : ℕ) (x : Session) → same_name n m ≡ fa
 session_same n m i x apart =
     omega (
       arith,
-      sum_same (window_uses m i) (window_bereft n) (λ w. shown_same n m i w.shows apart) x.windows.windows,
+      sum_same (window_uses m i) (window_without_buffer n) (λ w. shown_same n m i w.shows apart) x.windows.windows,
       sum_filtered_same (place_uses m i) (λ p. not (is_place_in n p)) (λ p e. elsewhere m i p (other_name n m p.name apart (not_false _ e))) x.windows.places,
     )
 

@@ -7,6 +7,7 @@ use Rattle.mgs_model.specs.Names.{same_name}
 use Rattle.mgs_model.specs.Text.{shift}
 use Rattle.mgs_model.specs.Apply.{change_first}
 use Rattle.mgs_model.proofs.Firsts.{find-change_first, find-change_first_other}
+use Rattle.mgs_model.proofs.Moved.{edited_name}
 use Rattle.mgs_marks.specs.Marks.{mark_in, position_in, or_zero}
 use Rattle.mgs_marks.proofs.Moves.{shift-zero, position_in-shift_all, mark_in-set}
 use Rattle.mgs_buffers.specs.MarkedBuffer.{MarkedBuffer, marked_named, marked_at, marked_or_none, mark_at, marked_edited, marked_placed}
@@ -50,7 +51,7 @@ marked_shift a b put (Some k) id = position_in-shift_all a b (length put) k.mark
 
 pub mark_edited : (n m : List ℕ) (a b : ℕ) (put : List ℕ) (ks : List MarkedBuffer) (id : ℕ) → same_name n m ≡ true → mark_at m (change_first (marked_named n) (marked_edited a b put) ks) id ≡ shift a b (length put) (mark_at m ks id)
 mark_edited n m a b put ks id same =
-    ap (λ o. position_in (marked_or_none o).marks id) (found_same n m (marked_edited a b put) ks (λ k. refl) same)
+    ap (λ o. position_in (marked_or_none o).marks id) (found_same n m (marked_edited a b put) ks (λ k. edited_name a b put k.buffer) same)
     ∙ marked_shift a b put (find (marked_named m) ks) id
 
 pub mark_kept : (n m : List ℕ) (f : MarkedBuffer → MarkedBuffer) (ks : List MarkedBuffer) (id : ℕ) → ((k : MarkedBuffer) → (f k).buffer.name ≡ k.buffer.name) → same_name n m ≡ false → mark_at m (change_first (marked_named n) f ks) id ≡ mark_at m ks id

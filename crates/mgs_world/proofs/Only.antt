@@ -110,10 +110,10 @@ only_twice ks ls ms x y z h g = record {
   buffers = g.buffers ∙ h.buffers;
   uses = λ m i. omega (arith, h.uses m i, g.uses m i);
   stay =
-      λ m i own used after.
+      λ m i state used after.
       let most : in_use m i ls ≤ 1 = one_if_most (is_some (mark_in (marked_at m ls).marks i)) in
-      let mid : 1 ≤ in_use m i ls = omega (arith, own, used, h.uses m i) in
-      let own_mid : session_uses m i y ≡ 0 = omega (arith, own, used, most, h.uses m i) in
-      g.stay m i own_mid mid after ∙ h.stay m i own used mid;
+      let mid : 1 ≤ in_use m i ls = omega (arith, state, used, h.uses m i) in
+      let state_mid : session_uses m i y ≡ 0 = omega (arith, state, used, most, h.uses m i) in
+      g.stay m i state_mid mid after ∙ h.stay m i state used mid;
   size = g.size ∙ h.size;
 }

@@ -80,9 +80,9 @@ pub reserved_uses : (o : Option ℕ) (x : WindowMarks) (id : ℕ) (ks ls : List 
 reserved_uses None x id ks ls is kept h m i =
     omega (arith, in_use_added x.name 0 id ks ls m i kept h, with_mark_uses x.name m i id x refl is)
 reserved_uses (Some k) x id ks ls is kept h m i =
-    let own : x.mark ≡ Some id = is ∙ ap (λ (j : ℕ). Some j) (sym h.0) in
+    let state : x.mark ≡ Some id = is ∙ ap (λ (j : ℕ). Some j) (sym h.0) in
     let same : window_marks_uses m i (Some x) ≡ window_marks_uses m i (Some (mark_set id x)) =
-    ap (λ (q : Option ℕ). let y : WindowMarks = record x { mark = q } in window_marks_uses m i (Some y)) own in
+    ap (λ (q : Option ℕ). let y : WindowMarks = record x { mark = q } in window_marks_uses m i (Some y)) state in
     let uses : in_use m i ls ≡ in_use m i ks = ap (in_use m i) h.1 in
     omega (arith, same, uses)
 
@@ -91,8 +91,8 @@ reserved_more None x id ks ls is kept h m i = omega (arith, in_use_added x.name 
 reserved_more (Some k) x id ks ls is kept h m i = let uses : in_use m i ls ≡ in_use m i ks = ap (in_use m i) h.1 in omega (arith, uses)
 
 -- it is in use
-own_mark : (ks : List MarkedBuffer) (xs : List Session) (at : ℕ) (h : Session) (x : WindowMarks) (k : ℕ) → IsSound ks xs → slice_get xs at ≡ Some h → window_marks_of h ≡ Some x → x.mark ≡ Some k → IsMark x.name k ks
-own_mark ks xs at h x k sound there sel is =
+state_mark : (ks : List MarkedBuffer) (xs : List Session) (at : ℕ) (h : Session) (x : WindowMarks) (k : ℕ) → IsSound ks xs → slice_get xs at ≡ Some h → window_marks_of h ≡ Some x → x.mark ≡ Some k → IsMark x.name k ks
+state_mark ks xs at h x k sound there sel is =
     let got = selected_window (slice_get h.windows.windows h.windows.selected) x sel in
     let used : window_uses x.name k got.0 ≡ window_marks_uses x.name k (Some x) = ap (window_marks_uses x.name k) got.2 in
     in_use_mark ks x.name k (omega (arith, sound.once x.name k, sum_at (session_uses x.name k) h xs at there, sum_at (window_uses x.name k) got.0 h.windows.windows h.windows.selected got.1, used, mark_used x k is))
@@ -100,7 +100,7 @@ own_mark ks xs at h x k sound there sel is =
 pub reserved_mark : (o : Option ℕ) (id : ℕ) (ks ls : List MarkedBuffer) (xs : List Session) (at : ℕ) (h : Session) (x : WindowMarks) → x.mark ≡ o → IsSound ks xs → HasBuffer x.name ks → slice_get xs at ≡ Some h → window_marks_of h ≡ Some x → IsReserved x.name o id ks ls → IsMark x.name id ls
 reserved_mark None id ks ls xs at h x is sound kept there sel r = added_mark x.name 0 id ks ls kept r
 reserved_mark (Some k) id ks ls xs at h x is sound kept there sel r =
-    subst (IsMark x.name id) (sym r.1) (own_mark ks xs at h x id sound there sel (is ∙ ap (λ (j : ℕ). Some j) (sym r.0)))
+    subst (IsMark x.name id) (sym r.1) (state_mark ks xs at h x id sound there sel (is ∙ ap (λ (j : ℕ). Some j) (sym r.0)))
 
 -- the sessions are as before
 pub reserved_sessions : (x : WindowMarks) (id : ℕ) (ks ls : List MarkedBuffer) (xs : List Session) → IsSound ks xs → HasBuffer x.name ks → IsReserved x.name x.mark id ks ls → map (session_of ls) xs ≡ map (session_of ks) xs
@@ -188,7 +188,7 @@ session_mark_placed p id ks y x sel mark once =
     same_positions (session_of ks y) _ _ _ _ _ _
     (map_used_at (window_uses n id) (window_of ls) (window_of ks) f (window_unused n id p ks) w (omega (arith, used_is, u)) does y.windows.windows y.windows.selected got.1 (omega (arith, once)))
     (map_unused (place_uses n id) (place_of ls) (place_of ks) (place_unused n id p ks) y.windows.places (omega (arith, used_is, u, in_sum, once)))
-    (ap (λ (bs : List Buffer). search_of bs y.own.search) (buffers_placed n id p ks))
+    (ap (λ (bs : List Buffer). search_of bs y.state.search) (buffers_placed n id p ks))
 
 -- what the mark was does not matter
 windows_marked : (p id k : ℕ) (ks : List MarkedBuffer) (ws : List Window) → change_at k (window_adjusted None Keep (Mark_at p) Keep None) (map (window_of ks) (change_at k (marked id) ws)) ≡ change_at k (window_adjusted None Keep (Mark_at p) Keep None) (map (window_of ks) ws)

@@ -1,14 +1,15 @@
 -- Soundness: the marks in use are those that the sessions use, through edits, placements and changes of a session.
-use Rattle.std.proofs.Common.{◌≡◌, ℕ, zero, suc, ◌+◌, ◌-◌, ◌<◌, ◌≤◌, Bool, true, false, cond, ◌||◌, nat_lt, ltb-false, List, [], ◌∷◌, ◌++◌, take, drop, length, length-append, get_or, Option, Some, None, refl, sym, ap, subst, ◌∙◌, arith}
-use Rattle.std.proofs.lemmas.List.{length-take, length-drop}
+use Rattle.std.proofs.Common.{◌≡◌, ℕ, zero, suc, ◌+◌, ◌-◌, ◌<◌, ◌≤◌, Bool, true, false, List, [], ◌∷◌, length, get_or, Option, Some, None, refl, sym, ap, subst, ◌∙◌, arith}
 use Rattle.std.specs.Prelude.{find, slice_get, slice_set, IsSome, is_some}
 use Rattle.std.specs.Option.{option_map, option_and_then}
 use Rattle.std.proofs.lemmas.Option.{slice_get-get_or, slice_get-map}
 use Rattle.mgs_model.specs.Names.{same_name}
-use Rattle.mgs_model.specs.Text.{shift, shift_all, edited, is_edit}
+use Rattle.mgs_model.specs.Text.{shift, shift_all}
 use Rattle.mgs_model.specs.Apply.{change_first}
+use Rattle.mgs_model.proofs.Moved.{edited_name}
 use Rattle.mgs_marks.specs.Marks.{mark_in}
 use Rattle.mgs_buffers.specs.MarkedBuffer.{MarkedBuffer, marked_named, marked_at, marked_or_none, HasBuffer, IsMark, marked_edited, marked_placed}
+use Rattle.mgs_buffers.proofs.Edits.{size_edited}
 use Rattle.mgs_session.specs.Sessions.{window_marks_of}
 use Rattle.mgs_windows.specs.declared.WindowMarks.{WindowMarks}
 use Rattle.mgs_windows.specs.declared.Window.{Window}
@@ -103,7 +104,7 @@ placed_use (m ∷ ms) (suc id) p zero used = refl
 placed_use (m ∷ ms) (suc id) p (suc i) used = placed_use ms id p i used
 
 in_use_edited : (n : List ℕ) (a b : ℕ) (put : List ℕ) (ks : List MarkedBuffer) (m : List ℕ) (i : ℕ) → in_use m i (change_first (marked_named n) (marked_edited a b put) ks) ≡ in_use m i ks
-in_use_edited n a b put ks m i = in_use_kept n m i (marked_edited a b put) ks (λ k. refl) (λ k e. shifted_use a b (length put) k.marks i)
+in_use_edited n a b put ks m i = in_use_kept n m i (marked_edited a b put) ks (λ k. edited_name a b put k.buffer) (λ k e. shifted_use a b (length put) k.marks i)
 
 pub in_use_placed : (n : List ℕ) (id p : ℕ) (ks : List MarkedBuffer) (m : List ℕ) (i : ℕ) → IsMark n id ks → in_use m i (change_first (marked_named n) (marked_placed id p) ks) ≡ in_use m i ks
 in_use_placed n id p ks m i mark =
@@ -147,24 +148,13 @@ sound_set ks xs at h y is same sound = record {
   once = λ n i. omega (arith, sound.once n i, sum_set (session_uses n i) xs at h y is (same n i));
 }
 
--- the size of a text after an edit
-size_edited : (f : Bool) (a b : ℕ) (put t : List ℕ) → is_edit a b put ≡ f → a ≤ b → b ≤ length t → length (cond f (edited a b put t) t) ≡ length t - (b - a) + length put
-size_edited true a b put t e order within =
-    omega (arith, order, within, length-append (take a t ++ put) (drop b t), length-append (take a t) put, length-take a t, length-drop b t)
-size_edited false a b put t e order within = omega (arith, order, none (nat_lt a b) (nat_lt 0 (length put)) refl refl e)
-  where
-    none : (c d : Bool) → nat_lt a b ≡ c → nat_lt 0 (length put) ≡ d → (c || d) ≡ false → (b ≤ a) × (length put ≤ 0)
-    none true d p q r = cc
-    none false true p q r = cc
-    none false false p q r = (ltb-false a b p, ltb-false 0 (length put) q)
-
 pub text_edited : (n : List ℕ) (a b : ℕ) (put : List ℕ) (ks : List MarkedBuffer) → HasBuffer n ks → a ≤ b → b ≤ length (marked_at n ks).buffer.text → length (marked_at n (change_first (marked_named n) (marked_edited a b put) ks)).buffer.text ≡ length (marked_at n ks).buffer.text - (b - a) + length put
 text_edited n a b put ks kept order within =
     let k = some_from (find (marked_named n) ks) kept in
     let e : marked_at n (change_first (marked_named n) (marked_edited a b put) ks) ≡ marked_edited a b put (marked_at n ks) =
-    ap marked_or_none (found_same n n (marked_edited a b put) ks (λ k. refl) (is_same n n refl) ∙ ap (option_map (marked_edited a b put)) k.1)
+    ap marked_or_none (found_same n n (marked_edited a b put) ks (λ k. edited_name a b put k.buffer) (is_same n n refl) ∙ ap (option_map (marked_edited a b put)) k.1)
     ∙ ap (λ o. marked_edited a b put (marked_or_none o)) (sym k.1) in
-    ap (λ (k : MarkedBuffer). length k.buffer.text) e ∙ size_edited (is_edit a b put) a b put (marked_at n ks).buffer.text refl order within
+    ap (λ (k : MarkedBuffer). length k.buffer.text) e ∙ size_edited a b put (marked_at n ks).buffer order within
 
 -- the sizes stay where a session keeps its own
 pub sizes_set : (xs : List Session) (at : ℕ) (h y : Session) → h ≡ get_or xs at h → size_in y ≡ size_in h → sizes_in (slice_set xs at y) ≡ sizes_in xs

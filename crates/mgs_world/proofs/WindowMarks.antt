@@ -331,7 +331,7 @@ session_in_local bs ks ls x same =
     refl
 
 pub session_sized : (bs cs : List Buffer) (ks : List MarkedBuffer) (x : Session) → SizesStay bs cs → session_in cs ks x ≡ session_in bs ks x
-session_sized bs cs ks x sizes = λ i. record (session_in bs ks x) { search = search_same cs bs x.own.search sizes i }
+session_sized bs cs ks x sizes = λ i. record (session_in bs ks x) { search = search_same cs bs x.state.search sizes i }
 
 pub same_sizes : (ks ls : List MarkedBuffer) → buffers_of ls ≡ buffers_of ks → SizesStay (buffers_of ks) (buffers_of ls)
 same_sizes ks ls same = λ n. ap (size_named n) same

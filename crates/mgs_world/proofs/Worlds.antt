@@ -10,6 +10,7 @@ use Rattle.mgs_model.specs.World as model
 use Rattle.mgs_model.specs.Outcome.{At, Keep, Keep_mark}
 use Rattle.mgs_model.specs.Apply.{change_first, change_at, buffer_edited, window_moved, place_moved, window_adjusted}
 use Rattle.mgs_model.proofs.Firsts.{map-change_first}
+use Rattle.mgs_model.proofs.Moved.{edited_name}
 use Rattle.mgs_marks.specs.Marks.{mark_in}
 use Rattle.mgs_buffers.specs.MarkedBuffer.{MarkedBuffer, marked_named, marked_at, mark_at, marked_edited, marked_placed}
 use Rattle.mgs_windows.specs.declared.WindowMarks.{WindowMarks}
@@ -89,35 +90,48 @@ pub window_edited : (n : List ℕ) (a b : ℕ) (put : List ℕ) (ks : List Marke
 window_edited n a b put ks height None NoRows = refl
 window_edited n a b put ks height None (Buffers row) = refl
 window_edited n a b put ks height None (Entries name row) = refl
-window_edited n a b put ks height (Some x) rows =
-    let ks' = change_first (marked_named n) (marked_edited a b put) ks in
-    let move = shift a b (length put) in
-    let goal : Bool → Type 0 = λ r. window_shown ks' height (Some x) NoRows ≡ record (window_shown ks height (Some x) NoRows) {
-      point = cond r (move (mark_at x.name ks x.point)) (mark_at x.name ks x.point);
-      mark = cond r (option_map move (option_map (mark_at x.name ks) x.mark)) (option_map (mark_at x.name ks) x.mark);
-      top = cond r (move (mark_at x.name ks x.top)) (mark_at x.name ks x.top);
-    } in
-    let go : (r : Bool) → same_name n x.name ≡ r → goal r =
-    λ r. elim r as (λ r. same_name n x.name ≡ r → goal r) [
-      | true ↦ λ e. same_window (Buffer_of x.name) _ _ _ _ _ _ 0 height (mark_edited n x.name a b put ks x.point e) (option_mapped_twice (mark_at x.name ks') move (mark_at x.name ks) (λ id. mark_edited n x.name a b put ks id e) x.mark) (mark_edited n x.name a b put ks x.top e)
-      | false ↦ λ e. same_window (Buffer_of x.name) _ _ _ _ _ _ 0 height (mark_kept n x.name (marked_edited a b put) ks x.point (λ k. refl) e) (option_mapped (mark_at x.name ks') (mark_at x.name ks) (λ id. mark_kept n x.name (marked_edited a b put) ks id (λ k. refl) e) x.mark) (mark_kept n x.name (marked_edited a b put) ks x.top (λ k. refl) e)
-    ]
-    in go (same_name n x.name) refl
+window_edited n a b put ks height (Some x) rows = go (same_name n x.name) refl
+  where
+    ls : List MarkedBuffer
+    ls = change_first (marked_named n) (marked_edited a b put) ks
+
+    move : ℕ → ℕ
+    move = shift a b (length put)
+
+    was : model.Window
+    was = window_shown ks height (Some x) NoRows
+
+    moved : (id : ℕ) → same_name n x.name ≡ true → mark_at x.name ls id ≡ move (mark_at x.name ks id)
+    moved id e = mark_edited n x.name a b put ks id e
+
+    kept : (id : ℕ) → same_name n x.name ≡ false → mark_at x.name ls id ≡ mark_at x.name ks id
+    kept id e = mark_kept n x.name (marked_edited a b put) ks id (λ k. edited_name a b put k.buffer) e
+
+    go : (r : Bool) → same_name n x.name ≡ r → window_shown ls height (Some x) NoRows ≡ cond r (record was { point = move was.point; mark = option_map move was.mark; top = move was.top }) was
+    go true e = same_window (Buffer_of x.name) _ _ _ _ _ _ 0 height (moved x.point e) (option_mapped_twice (mark_at x.name ls) move (mark_at x.name ks) (λ id. moved id e) x.mark) (moved x.top e)
+    go false e = same_window (Buffer_of x.name) _ _ _ _ _ _ 0 height (kept x.point e) (option_mapped (mark_at x.name ls) (mark_at x.name ks) (λ id. kept id e) x.mark) (kept x.top e)
 
 pub place_edited : (n : List ℕ) (a b : ℕ) (put : List ℕ) (ks : List MarkedBuffer) (x : WindowMarks) → place_of (change_first (marked_named n) (marked_edited a b put) ks) x ≡ place_moved n (shift a b (length put)) (place_of ks x)
-place_edited n a b put ks x =
-    let ks' = change_first (marked_named n) (marked_edited a b put) ks in
-    let move = shift a b (length put) in
-    let goal : Bool → Type 0 = λ r. place_of ks' x ≡ record (place_of ks x) {
-      point = cond r (move (mark_at x.name ks x.point)) (mark_at x.name ks x.point);
-      mark = cond r (option_map move (option_map (mark_at x.name ks) x.mark)) (option_map (mark_at x.name ks) x.mark);
-    } in
-    let go : (r : Bool) → same_name n x.name ≡ r → goal r =
-    λ r. elim r as (λ r. same_name n x.name ≡ r → goal r) [
-      | true ↦ λ e. same_place x.name _ _ _ _ (mark_edited n x.name a b put ks x.point e) (option_mapped_twice (mark_at x.name ks') move (mark_at x.name ks) (λ id. mark_edited n x.name a b put ks id e) x.mark)
-      | false ↦ λ e. same_place x.name _ _ _ _ (mark_kept n x.name (marked_edited a b put) ks x.point (λ k. refl) e) (option_mapped (mark_at x.name ks') (mark_at x.name ks) (λ id. mark_kept n x.name (marked_edited a b put) ks id (λ k. refl) e) x.mark)
-    ]
-    in go (same_name n x.name) refl
+place_edited n a b put ks x = go (same_name n x.name) refl
+  where
+    ls : List MarkedBuffer
+    ls = change_first (marked_named n) (marked_edited a b put) ks
+
+    move : ℕ → ℕ
+    move = shift a b (length put)
+
+    was : model.Place
+    was = place_of ks x
+
+    moved : (id : ℕ) → same_name n x.name ≡ true → mark_at x.name ls id ≡ move (mark_at x.name ks id)
+    moved id e = mark_edited n x.name a b put ks id e
+
+    kept : (id : ℕ) → same_name n x.name ≡ false → mark_at x.name ls id ≡ mark_at x.name ks id
+    kept id e = mark_kept n x.name (marked_edited a b put) ks id (λ k. edited_name a b put k.buffer) e
+
+    go : (r : Bool) → same_name n x.name ≡ r → place_of ls x ≡ cond r (record was { point = move was.point; mark = option_map move was.mark }) was
+    go true e = same_place x.name _ _ _ _ (moved x.point e) (option_mapped_twice (mark_at x.name ls) move (mark_at x.name ks) (λ id. moved id e) x.mark)
+    go false e = same_place x.name _ _ _ _ (kept x.point e) (option_mapped (mark_at x.name ls) (mark_at x.name ks) (λ id. kept id e) x.mark)
 
 pub buffers_edited : (n : List ℕ) (a b : ℕ) (put : List ℕ) (ks : List MarkedBuffer) → buffers_of (change_first (marked_named n) (marked_edited a b put) ks) ≡ change_first (is_named n) (buffer_edited a b put) (buffers_of ks)
 buffers_edited n a b put ks =
@@ -152,7 +166,7 @@ session_unused n id p ks x none =
     same_positions (session_of ks x) _ _ _ _ _ _
     (map_unused (window_uses n id) (window_of ks') (window_of ks) (window_unused n id p ks) x.windows.windows (omega (arith, none)))
     (map_unused (place_uses n id) (place_of ks') (place_of ks) (place_unused n id p ks) x.windows.places (omega (arith, none)))
-    (ap (λ (bs : List Buffer). search_of bs x.own.search) (buffers_placed n id p ks))
+    (ap (λ (bs : List Buffer). search_of bs x.state.search) (buffers_placed n id p ks))
 
 -- A POINT IS PLACED: the selected window has it there
 
@@ -198,7 +212,7 @@ session_placed id p f ks h x sel u places once =
     same_positions (session_of ks h) _ _ _ _ _ _
     (map_used_at (window_uses n id) (window_of ks') (window_of ks) f (window_unused n id p ks) w (omega (arith, used_is, u)) does h.windows.windows h.windows.selected got.1 (omega (arith, once)))
     (map_unused (place_uses n id) (place_of ks') (place_of ks) (place_unused n id p ks) h.windows.places (omega (arith, used_is, u, in_sum, once)))
-    (ap (λ (bs : List Buffer). search_of bs h.own.search) (buffers_placed n id p ks))
+    (ap (λ (bs : List Buffer). search_of bs h.state.search) (buffers_placed n id p ks))
 
 -- a mark of a session's selected window is placed, and nothing else of the world moves
 pub sessions_placed : (id p : ℕ) (f : model.Window → model.Window) (ks : List MarkedBuffer) (xs : List Session) (sid : ℕ) (h : Session) (x : WindowMarks) → find (session_id sid) xs ≡ Some h → window_marks_of h ≡ Some x → 1 ≤ window_marks_uses x.name id (Some x) → PlacesBy id p f ks x → uses x.name id xs ≤ 1 → map (session_of (change_first (marked_named x.name) (marked_placed id p) ks)) xs ≡ change_first (has_id sid) (selected_at f) (map (session_of ks) xs)

@@ -5,14 +5,14 @@ use Rattle.mgs_model.specs.World.{World}
 use Rattle.mgs_model.specs.Apply.{buffers_after, session_after}
 use Rattle.mgs_model.specs.Outcome.{Kill}
 use Rattle.mgs_buffers.specs.MarkedBuffer.{MarkedBuffer}
-use Rattle.mgs_windows.specs.Panes.{list_bereft}
-use Rattle.mgs_session.specs.Seeking.{own_bereft}
+use Rattle.mgs_windows.specs.Panes.{list_without_buffer}
+use Rattle.mgs_session.specs.Seeking.{state_without_buffer}
 use Rattle.mgs_session.specs.declared.Session.{Session}
 use Rattle.mgs_world.specs.Worlds.{world_of}
 
 -- windows that show the buffer or its access list show nothing, places in it go, and a search in it is over
 abbrev pub session_forgetting : List ℕ → Session → Session
-session_forgetting name x = record x { windows = list_bereft name x.windows; own = own_bereft name x.own }
+session_forgetting name x = record x { windows = list_without_buffer name x.windows; state = state_without_buffer name x.state }
 
 -- the same of the model's world, where the buffer is gone
 abbrev pub world_without : List ℕ → World → World

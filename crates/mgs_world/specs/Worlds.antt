@@ -2,7 +2,7 @@
 use Rattle.std.specs.Prelude.{◌≡◌, ℕ, ◌^◌, min, Bool, false, nat_eq, slice_get, List, [], ◌∷◌, length, Option, Some, None, map, find, All}
 use Rattle.std.specs.Option.{option_map}
 use Rattle.mgs_model.specs.Access.{Directory}
-use Rattle.mgs_model.specs.World.{World, Buffer, Shows, find_buffer, first_own, Nothing, Buffer_of, Listing, List_of}
+use Rattle.mgs_model.specs.World.{World, Buffer, Shows, find_buffer, first_state, Nothing, Buffer_of, Listing, List_of}
 use Rattle.mgs_model.specs.World as model
 use Rattle.mgs_model.specs.declared.message.Message.TheVariants.{Silent}
 use Rattle.mgs_model.specs.declared.session.Mode.{Mode}
@@ -13,7 +13,7 @@ use Rattle.mgs_windows.specs.declared.WindowMarks.{WindowMarks}
 use Rattle.mgs_windows.specs.declared.Window.{Window}
 use Rattle.mgs_windows.specs.declared.RowPane.{RowPane}
 use Rattle.mgs_windows.specs.declared.RowPane.TheVariants.{NoRows, Buffers, Entries}
-use Rattle.mgs_session.specs.declared.Own.{Own}
+use Rattle.mgs_session.specs.declared.State.{State}
 use Rattle.mgs_session.specs.declared.search.Aim.{Aim}
 use Rattle.mgs_session.specs.declared.search.Aim.TheVariants.{Find, Replace}
 use Rattle.mgs_session.specs.declared.search.Search.{Search}
@@ -112,8 +112,8 @@ count_in (Some s) = aim_count s.aim
 count_in None = 0
 
 -- what a session holds
-abbrev pub own_of : Own → model.Own
-own_of x =
+abbrev pub state_of : State → model.State
+state_of x =
     record {
       echo = x.echo;
       pattern = x.pattern;
@@ -132,16 +132,16 @@ own_of x =
     }
 
 -- nothing is half read, and nothing is told
-abbrev pub idle : model.Own → model.Own
-idle own = record own { echo = Silent; argument = None; keys = []; mode = Plain; input = []; old = []; count = 0 }
+abbrev pub idle : model.State → model.State
+idle state = record state { echo = Silent; argument = None; keys = []; mode = Plain; input = []; old = []; count = 0 }
 
 -- what the session at an index holds
-abbrev pub own_or_first : Option Session → model.Own
-own_or_first None = first_own
-own_or_first (Some x) = own_of x.own
+abbrev pub state_or_first : Option Session → model.State
+state_or_first None = first_state
+state_or_first (Some x) = state_of x.state
 
-abbrev pub own_at : ℕ → List Session → model.Own
-own_at at xs = own_or_first (slice_get xs at)
+abbrev pub state_at : ℕ → List Session → model.State
+state_at at xs = state_or_first (slice_get xs at)
 
 abbrev pub buffers_of : List MarkedBuffer → List Buffer
 buffers_of ks = map (λ (k : MarkedBuffer). k.buffer) ks
@@ -156,9 +156,9 @@ session_in bs ks x = record {
   windows = map (window_of ks) x.windows.windows;
   selected = x.windows.selected;
   places = map (place_of ks) x.windows.places;
-  search = search_of bs x.own.search;
+  search = search_of bs x.state.search;
   kill = x.kill;
-  own = own_of x.own;
+  state = state_of x.state;
 }
 
 abbrev pub session_of : List MarkedBuffer → Session → model.Session

@@ -2,7 +2,7 @@ use Rattle.std.proofs.Common.{List, map, sym, ◌∙◌, arith}
 use Rattle.std.proofs.lemmas.List.{length-map}
 use Rattle.mgs_buffers.specs.Contents.{marked_all, marked_of}
 use Rattle.mgs_buffers.specs.MarkedBuffer.{MarkedBuffer}
-use Rattle.mgs_model.specs.Completion.{granted_names}
+use Rattle.mgs_mini.specs.Narrowing.{granted_names}
 use Rattle.mgs_buffers.proofs.Completed.{by_names, found_end}
 use Rattle.mgs_buffers.proofs.completing.completion.Goals as goal
 

@@ -1,6 +1,7 @@
 use Rattle.std.proofs.Common.{◌≡◌, ℕ, map, Bor, List}
 use Rattle.std.specs.Option.{option_map}
-use Rattle.mgs_model.specs.Completion.{completion, granted_names}
+use Rattle.mgs_model.specs.Completion.{completion}
+use Rattle.mgs_mini.specs.Narrowing.{granted_names}
 use Rattle.mgs_buffers.specs.MarkedBuffer.{MarkedBuffer}
 use Rattle.mgs_buffers.specs.Completed.{IsWithinName, found_from}
 use Rattle.mgs_buffers.specs.Contents.{marked_all}

@@ -1,6 +1,6 @@
 use Rattle.std.proofs.Common.{ℕ, List, ◌<◌, length, ap, sym, ◌∙◌, arith}
 use Rattle.std.proofs.lemmas.List.{drop_all}
-use Rattle.mgs_model.specs.Whites.{words, refilled}
+use Rattle.mgs_model.specs.Whites.{text_words, refilled}
 use Rattle.mgs_edit.proofs.Words.{no_word, word_is_some, filled_first, filled_on, filled_below, filled_end}
 use Rattle.mgs_edit.proofs.fills.refill.Goals as goal
 use Rattle.mgs_edit.proofs.fills.refill.Goals.{else-loop-at-test, then-loop-at-test+then-start-chars}
@@ -47,6 +47,6 @@ returns c =
     let xs : List ℕ = c.args.chars.now in
     let all : List ℕ = refilled c.args.fill xs in
     elim c.loop-at-test.branch [
-      | else-loop-at-test w ↦ filled_end c.args.fill c.loop-at.column c.loop-at.at xs c.loop-at.filled.items all (ap words (drop_all c.loop-at.at xs (omega arith))) c.loop-at.invariant.value
+      | else-loop-at-test w ↦ filled_end c.args.fill c.loop-at.column c.loop-at.at xs c.loop-at.filled.items all (ap text_words (drop_all c.loop-at.at xs (omega arith))) c.loop-at.invariant.value
       | then-loop-at-test+then-start-chars w ↦ filled_end c.args.fill c.loop-at.column c.loop-at.at xs c.loop-at.filled.items all (no_word xs c.loop-at.at w.over_between-start.result w.over_between-start.ensures.value (omega arith)) c.loop-at.invariant.value
     ]

@@ -1,5 +1,6 @@
 use Rattle.std.proofs.Common.{◌≡◌, ℕ, ◌<◌, [], ◌∷◌, length, arith, ap, ◌∙◌, None}
-use Rattle.mgs_model.specs.Rows.{echo_row, rows_put}
+use Rattle.mgs_model.specs.Rows.{echo_row}
+use Rattle.mgs_grid.specs.Cells.{rows_put}
 use Rattle.mgs_model.specs.Messages.{message_text}
 use Rattle.mgs_model.specs.Picture.{Picture, IsRow}
 use Rattle.mgs_grid.proofs.Pictures.{set_put, set_picture, row_width, with_lines, plain_is}

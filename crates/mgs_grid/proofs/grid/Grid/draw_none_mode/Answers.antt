@@ -1,5 +1,6 @@
 use Rattle.std.proofs.Common.{◌≡◌, ℕ, ◌<◌, [], ◌∷◌, length, arith, refl, ap, ◌∙◌}
-use Rattle.mgs_model.specs.Rows.{mode_row, none_mode, rows_put}
+use Rattle.mgs_model.specs.Rows.{mode_row, none_mode}
+use Rattle.mgs_grid.specs.Cells.{rows_put}
 use Rattle.mgs_model.specs.Picture.{Picture, IsRow}
 use Rattle.mgs_grid.proofs.Plain.{plain_printable}
 use Rattle.mgs_grid.proofs.Pictures.{set_put, set_picture, row_width, with_lines, mode_is}

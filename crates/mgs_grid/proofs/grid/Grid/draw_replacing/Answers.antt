@@ -1,7 +1,8 @@
 use Rattle.std.specs.Prelude.{codes}
 use Rattle.std.proofs.Common.{◌≡◌, ℕ, ◌<◌, ◌≤◌, List, [], ◌∷◌, length, arith, ap, ◌∙◌}
 use Rattle.mgs_model.specs.Cells.{cells}
-use Rattle.mgs_model.specs.Rows.{line_row, line_end_column, rows_put}
+use Rattle.mgs_model.specs.Rows.{line_row, line_end_column}
+use Rattle.mgs_grid.specs.Cells.{rows_put}
 use Rattle.mgs_model.specs.Picture.{Picture, IsRow}
 use Rattle.mgs_grid.proofs.Ends.{line_is, length-line_shown}
 use Rattle.mgs_grid.proofs.Pictures.{set_put, set_picture, row_width, with_lines}

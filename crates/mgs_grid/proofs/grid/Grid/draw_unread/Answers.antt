@@ -1,5 +1,6 @@
 use Rattle.std.proofs.Common.{◌≡◌, ℕ, ◌<◌, ◌≤◌, List, length, set, arith, refl, sym, ap, ◌∙◌}
-use Rattle.mgs_model.specs.Rows.{Row, plain_row, blank_rows, unread_text, rows_put}
+use Rattle.mgs_model.specs.Rows.{Row, plain_row, blank_rows, unread_text}
+use Rattle.mgs_grid.specs.Cells.{rows_put}
 use Rattle.mgs_model.specs.Picture.{Picture, IsRow}
 use Rattle.mgs_grid.proofs.Pictures.{set_picture, row_width, with_lines, plain_is, put_within, length-blank_rows, refused}
 use Rattle.mgs_grid.proofs.grid.Grid.draw_unread.Goals as goal

@@ -1,6 +1,6 @@
 use Rattle.std.proofs.Common.{subst}
 use Rattle.mgs_session.specs.Playing.{IsNext, Playing}
-use Rattle.mgs_session.specs.declared.playing.Task.TheVariants.{Replacement, FirstReplacement}
+use Rattle.mgs_session.specs.declared.playing.Pending.TheVariants.{Replacement, FirstReplacement}
 use Rattle.mgs_session.specs.Playing.{left_of}
 use Rattle.mgs_session.proofs.Rounds.{first_replacement, replacement_next}
 use Rattle.mgs_session.proofs.playing.Player.next.Goals as goal

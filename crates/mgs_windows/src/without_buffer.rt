@@ -1,14 +1,14 @@
 // A buffer is gone: no window shows it or its access list, and there is no place in it.
 ghost use Rattle.std.specs.Prelude.{◌≡◌, map, vec_capacity};
-ghost use Rattle.mgs_windows.specs.Panes.{places_bereft, rows_bereft, shows_bereft, window_bereft, without_entries};
+ghost use Rattle.mgs_windows.specs.Panes.{places_without_buffer, rows_without_buffer, shows_without_buffer, window_without_buffer, without_entries};
 
 use crate::{RowPane, Window, WindowMarks};
 use arrayvec::ArrayVec;
 use mgs_model::Name;
 
 /// What a window shows from now on.
-fn shows_bereft(shows: Option<WindowMarks>, name: &Name) -> Option<WindowMarks>
-    ensures { result ≡ shows_bereft name.now shows }
+fn shows_without_buffer(shows: Option<WindowMarks>, name: &Name) -> Option<WindowMarks>
+    ensures { result ≡ shows_without_buffer name.now shows }
 {
     match shows {
         Some(window_marks) => {
@@ -40,8 +40,8 @@ fn without_entries(rows: RowPane, name: &Name) -> RowPane
 }
 
 /// The rows of a window that showed this.
-fn rows_bereft(shows: Option<WindowMarks>, rows: RowPane, name: &Name) -> RowPane
-    ensures { result ≡ rows_bereft name.now shows rows }
+fn rows_without_buffer(shows: Option<WindowMarks>, rows: RowPane, name: &Name) -> RowPane
+    ensures { result ≡ rows_without_buffer name.now shows rows }
 {
     match shows {
         // They did not count, and would where the window shows the text no longer.
@@ -51,36 +51,36 @@ fn rows_bereft(shows: Option<WindowMarks>, rows: RowPane, name: &Name) -> RowPan
 }
 
 /// What becomes of a window.
-fn bereft(window: Window, name: &Name) -> Window
-    ensures { result ≡ window_bereft name.now window }
+fn window_without_buffer(window: Window, name: &Name) -> Window
+    ensures { result ≡ window_without_buffer name.now window }
 {
     Window {
         height: window.height,
-        shows: shows_bereft(window.shows, name),
-        rows: rows_bereft(window.shows, window.rows, name),
+        shows: shows_without_buffer(window.shows, name),
+        rows: rows_without_buffer(window.shows, window.rows, name),
     }
 }
 
 /// The windows that showed the buffer or its access list show nothing.
 fn leave_slice(windows: &mut [Window], name: &Name)
-    ensures { windows.new ≡ map (window_bereft name.now) windows.old }
+    ensures { windows.new ≡ map (window_without_buffer name.now) windows.old }
 {
     for window in windows.iter_mut() {
-        *window = bereft(*window, name);
+        *window = window_without_buffer(*window, name);
     }
 }
 
 /// The same in a list.
-#[tactic(auto, using(crate::proofs::BufferGone::length_bereft))]
+#[tactic(auto, using(crate::proofs::BufferGone::length_without_buffer))]
 pub fn leave_windows(list: &mut ArrayVec<Window, 8>, name: &Name)
-    ensures { list.new.items ≡ map (window_bereft name.now) list.old.items }
+    ensures { list.new.items ≡ map (window_without_buffer name.now) list.old.items }
 {
     leave_slice(list.as_mut_slice(), name);
 }
 
 /// The place in the buffer is taken out.
 pub fn leave_places(places: &mut Vec<WindowMarks>, name: &Name)
-    ensures places { places.new.items ≡ places_bereft name.now places.old.items }
+    ensures places { places.new.items ≡ places_without_buffer name.now places.old.items }
     ensures capacity { vec_capacity places.new ≡ vec_capacity places.old }
 {
     places.retain(|place| *name != place.name);
